@@ -1,0 +1,109 @@
+ghost use Rattle.std.specs.Prelude.{◌≡◌, ◌<◌, ℕ, IsTrue, IfSome, IfNone, nat_lt};
+ghost use Rattle.gic_base.specs.Shape.{IsShape};
+ghost use Rattle.gic_base.specs.Interrupt.{key_of as key_named, intid_of, is_of_vcpu, has_interrupt, interrupt_count as count_of, place_of as place_in, key_at as key_in, PlacesAreOrdered};
+
+use crate::shape::GuestShape;
+
+/// How many private interrupts a vCPU has: the SGIs 0 to 15 and the PPIs 16 to 31.
+pub const PRIVATE_COUNT: u32 = 32;
+/// The INTID of the first shared peripheral interrupt.
+pub const FIRST_SPI: u32 = 32;
+/// The INTID of the first LPI.
+pub const FIRST_LPI: u32 = 8192;
+
+/// One interrupt of a guest (IHI 0069, "INTIDs"). The order is: private ones by vCPU and INTID, then
+/// SPIs, then LPIs.
+#[derive(Clone, Copy, Debug, PartialEq, Eq, PartialOrd, Ord, Hash)]
+pub enum Key {
+    /// An SGI (INTID 0 to 15) or a PPI (16 to 31) of one vCPU.
+    Private { vcpu: u32, id: u32 },
+    /// A shared peripheral interrupt, by its INTID from 32.
+    Spi(u32),
+    /// A locality-specific peripheral interrupt, by its INTID from 8192.
+    Lpi(u32),
+}
+
+impl Key {
+    /// The INTID, which a CPU interface reads.
+    pub fn intid(self) -> u32
+        ensures { result ≡ intid_of self }
+    {
+        match self {
+            Key::Private { id, .. } | Key::Spi(id) | Key::Lpi(id) => id,
+        }
+    }
+}
+
+/// The interrupt that an INTID names at a vCPU. None exactly where the guest has no such interrupt:
+/// for an INTID below 32 also where it has no such vCPU, which a shared interrupt does not look at.
+pub fn key_of(id: u32, vcpu: u32, shape: &GuestShape) -> Option<Key>
+    requires { IsShape shape.now }
+    ensures value { result ≡ key_named id vcpu shape.now }
+    ensures found { IfSome result (λ key. IsTrue (has_interrupt shape.now key)) }
+    ensures none { IfNone result ((key : Key) → IsTrue (has_interrupt shape.now key) → IsTrue (is_of_vcpu vcpu key) → intid_of key ≡ id → ⊥) }
+{
+    let shape = *shape;
+    if id < PRIVATE_COUNT {
+        return (vcpu < shape.vcpus).then_some(Key::Private { vcpu, id });
+    }
+    if id < FIRST_SPI + shape.spis {
+        return Some(Key::Spi(id));
+    }
+    if id >= FIRST_LPI && id - FIRST_LPI < shape.lpis {
+        return Some(Key::Lpi(id));
+    }
+    None
+}
+
+/// How many interrupts a guest has, each vCPU's private ones counted.
+pub fn interrupt_count(shape: &GuestShape) -> usize
+    requires { IsShape shape.now }
+    ensures value { result ≡ count_of shape.now }
+    ensures small { result < 8192 }
+{
+    (PRIVATE_COUNT * shape.vcpus + shape.spis + shape.lpis) as usize
+}
+
+/// The place of an interrupt among all of the guest's, in key order from 0.
+pub fn place_of(key: Key, shape: &GuestShape) -> usize
+    requires shape { IsShape shape.now }
+    requires there { IsTrue (has_interrupt shape.now key) }
+    ensures value { result ≡ place_in shape.now key }
+    ensures within { result < count_of shape.now }
+    ensures inverse { key_in shape.now result ≡ key }
+{
+    let private = PRIVATE_COUNT * shape.vcpus;
+    let place = match key {
+        Key::Private { vcpu, id } => PRIVATE_COUNT * vcpu + id,
+        Key::Spi(id) => private + (id - FIRST_SPI),
+        Key::Lpi(id) => private + shape.spis + (id - FIRST_LPI),
+    };
+    place as usize
+}
+
+/// The interrupt at a place in key order.
+pub fn key_at(place: usize, shape: &GuestShape) -> Key
+    requires shape { IsShape shape.now }
+    requires within { place < count_of shape.now }
+    ensures value { result ≡ key_in shape.now place }
+    ensures there { IsTrue (has_interrupt shape.now result) }
+    ensures inverse { place_in shape.now result ≡ place }
+{
+    let place = place as u32;
+    let private = PRIVATE_COUNT * shape.vcpus;
+    if place < private {
+        return Key::Private {
+            vcpu: place / PRIVATE_COUNT,
+            id: place % PRIVATE_COUNT,
+        };
+    }
+    if place < private + shape.spis {
+        return Key::Spi(place - private + FIRST_SPI);
+    }
+    Key::Lpi(place - private - shape.spis + FIRST_LPI)
+}
+
+/// A law of every shape: places follow the order of the keys.
+pub fn places_are_ordered()
+    ensures { PlacesAreOrdered ⟦<Key as Ord>⟧.cmp }
+{}
