@@ -1,7 +1,7 @@
 //! A list that contracts see as a list: a `Vec` behind a model.
 #![tactic(auto)]
 
-ghost use Rattle.std.specs.Prelude.{◌≡◌, ◌↔◌, [], ◌∷◌, ◌++◌, length, IsTrue, OnOk, OnErr, slice_get, option_copied};
+ghost use Rattle.std.specs.Prelude.{◌≡◌, ◌<◌, ◌↔◌, [], ◌∷◌, ◌++◌, length, IsTrue, OnOk, OnErr, slice_get, slice_set, option_copied};
 ghost use Rattle.std.specs.Slice.Iter.{iter_rest};
 
 use std::alloc::{AllocError, Global};
@@ -75,6 +75,16 @@ impl<T> ListOf<T> {
         self.elements.iter()
     }
 
+    /// Puts an element in the place of the one at an index, which has to be there.
+    pub fn set(&mut self, index: usize, element: T)
+    where
+        T: Drop,
+        requires { index < length self.old }
+        ensures { self.new ≡ slice_set self.old index element }
+    {
+        self.elements[index] = element;
+    }
+
     /// Adds an element at the end. Without memory for it the list stays as it was.
     pub fn push(&mut self, element: T) -> Result<(), AllocError>
     where
@@ -110,6 +120,8 @@ mod tests {
         assert_eq!(rt; list.as_slice(), [7, 9].as_slice());
         assert_eq!(rt; list.get(1).copied(), Some(9));
         assert_eq!(rt; list.get(2).copied(), None);
+        list.set(0, 8);
+        assert_eq!(rt; list.get(0).copied(), Some(8));
         let again = ListOf::from(list.into_vec());
         assert_eq!(rt; again.len(), 2);
         assert_eq!(rt; again.iter().count(), 2);
