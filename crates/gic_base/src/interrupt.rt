@@ -4,6 +4,8 @@ ghost use Rattle.gic_base.specs.Interrupt.{key_of as key_named, intid_of, is_of_
 
 use crate::shape::GuestShape;
 
+/// How many SGIs a vCPU has: the INTIDs 0 to 15.
+pub const SGI_COUNT: u32 = 16;
 /// How many private interrupts a vCPU has: the SGIs 0 to 15 and the PPIs 16 to 31.
 pub const PRIVATE_COUNT: u32 = 32;
 /// The INTID of the first shared peripheral interrupt.

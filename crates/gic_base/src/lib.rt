@@ -8,7 +8,7 @@ mod shape;
 
 pub use icc::IccReg;
 pub use interrupt::{
-    FIRST_LPI, FIRST_SPI, Key, PRIVATE_COUNT, interrupt_count, key_at, key_of, place_of,
+    FIRST_LPI, FIRST_SPI, Key, PRIVATE_COUNT, SGI_COUNT, interrupt_count, key_at, key_of, place_of,
     places_are_ordered,
 };
 pub use operation::{Actor, DeviceOp, Frame, GuestOp, Kind, NoMemory, PeOp};
