@@ -1,0 +1,4 @@
+pub mod FirstLemmas
+pub mod LevelLemmas
+pub mod InterfaceLemmas
+pub mod EndLemmas

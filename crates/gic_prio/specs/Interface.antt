@@ -1,0 +1,72 @@
+-- The interrupts at one CPU interface, as list registers hold them, and what an access does to them
+-- (IHI 0069, "Virtual interrupt handling and prioritization").
+use Rattle.std.specs.Prelude.{ℕ, ◌&&◌, ◌==◌, Bool, false, not, Option, Some, None, if◌then◌else◌, List, map}
+use Rattle.std.specs.List.{filter_map}
+use Rattle.std.specs.Option.{option_map_or}
+use Rattle.gic_word.specs.declared.record.Group.{Group}
+use Rattle.gic_base.specs.declared.icc.IccReg.{IccReg}
+use Rattle.gic_base.specs.declared.interrupt.Key.{Key}
+use Rattle.gic_base.specs.Interrupt.{intid_of}
+use Rattle.gic_prio.specs.declared.cpu.CpuRec.{CpuRec}
+use Rattle.gic_prio.specs.declared.candidate.Candidate.{Candidate}
+use Rattle.gic_prio.specs.Delivery.{is_group_enabled}
+use Rattle.gic_prio.specs.Signal.{has_active_state}
+use Rattle.gic_prio.specs.Access.{taken_by, deactivated_by, answer_of, cpu_after}
+
+-- an interrupt at an interface, with its state there and the latched causes that it brought
+pub record AtInterface : Type 0 where
+  pub key : Key
+  pub prio : ℕ
+  pub group : Group
+  pub pending : Bool
+  pub active : Bool
+  pub rise : Bool
+  pub soft : Bool
+
+-- the record of a CPU interface with the interrupts that are there: none of them twice, nor private ones of another vCPU, so that
+-- an INTID names one of them at most
+pub record InterfaceState : Type 0 where
+  pub cpu : CpuRec
+  pub at : List AtInterface
+
+-- the interrupt as a candidate for delivery: pending there, not active, and of a group that the vCPU listens to
+abbrev pub candidate_of : CpuRec → AtInterface → Option Candidate
+candidate_of cpu entry =
+    if entry.pending && not entry.active && is_group_enabled entry.group cpu then Some (record { key = entry.key; prio = entry.prio; group = entry.group }) else None
+
+-- all candidates of an interface
+abbrev pub candidates_at : InterfaceState → List Candidate
+candidates_at interface = filter_map (candidate_of interface.cpu) interface.at
+
+-- the interrupt after its acknowledge: no longer pending, its causes consumed, and active where it can be
+-- (IHI 0069, "Interrupt handling state machine")
+abbrev pub acknowledged_entry : AtInterface → AtInterface
+acknowledged_entry entry = record entry { pending = false; active = has_active_state entry.key; rise = false; soft = false }
+
+-- the interrupt after its deactivation
+abbrev pub deactivated_entry : AtInterface → AtInterface
+deactivated_entry entry = record entry { active = false }
+
+-- the interrupts after a change of the one with this INTID
+abbrev pub changed_at : (AtInterface → AtInterface) → ℕ → List AtInterface → List AtInterface
+changed_at change id at = map (λ entry. if intid_of entry.key == id then change entry else entry) at
+
+-- the interrupts after an acknowledge of one, or of none
+abbrev pub acknowledged_at : Option Candidate → List AtInterface → List AtInterface
+acknowledged_at taken at = option_map_or (λ found. changed_at acknowledged_entry (intid_of found.key) at) taken at
+
+-- the interrupts after a deactivation by INTID, or of none
+abbrev pub deactivated_at : Option ℕ → List AtInterface → List AtInterface
+deactivated_at ended at = option_map_or (λ id. changed_at deactivated_entry id at) ended at
+
+-- the interface after an access of a register
+abbrev pub interface_after : IccReg → Option ℕ → InterfaceState → InterfaceState
+interface_after reg write interface =
+    record {
+      cpu = cpu_after reg write interface.cpu (candidates_at interface);
+      at = deactivated_at (deactivated_by reg write interface.cpu) (acknowledged_at (taken_by reg write interface.cpu (candidates_at interface)) interface.at);
+    }
+
+-- what the access reads
+abbrev pub interface_answer : IccReg → Option ℕ → InterfaceState → Option ℕ
+interface_answer reg write interface = answer_of reg write interface.cpu (candidates_at interface)

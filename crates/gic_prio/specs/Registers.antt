@@ -1,0 +1,105 @@
+-- The registers of a CPU interface, and what those read and write that stand for its record alone
+-- (IHI 0069, "AArch64 System register descriptions").
+use Rattle.std.specs.Prelude.{ℕ, ◌+◌, ◌*◌, ◌/◌, ◌%◌, ◌^◌, ◌==◌, min, max, Bool, true, false, Option, Some, None, if◌then◌else◌}
+use Rattle.std.specs.Int.{bit_at}
+use Rattle.gic_base.specs.declared.icc.IccReg.{IccReg}
+use Rattle.gic_base.specs.declared.icc.IccReg.TheVariants.{Iar0, Iar1, Hppir0, Hppir1, Eoir0, Eoir1, Dir, Rpr, Pmr, Bpr0, Bpr1, Ctlr, Igrpen0, Igrpen1, Ap0r0, Ap1r0, Sgi1r, Sre}
+use Rattle.gic_prio.specs.declared.cpu.CpuRec.{CpuRec}
+use Rattle.gic_prio.specs.declared.priority.TheConstants.{PRIORITY_STEP}
+use Rattle.gic_prio.specs.declared.registers.TheConstants.{PRIORITY_VALUES, BINARY_POINTS, LAST_BINARY_POINT, LEAST_BPR0, LEAST_BPR1, CTLR_CBPR, CTLR_EOIMODE, CTLR_PRIBITS, PRIBITS, IGRPEN_ENABLE, SRE_VALUE}
+use Rattle.gic_prio.specs.Priority.{running_of}
+
+-- the register can be read
+abbrev pub is_readable : IccReg → Bool
+is_readable Iar0 = true
+is_readable Iar1 = true
+is_readable Hppir0 = true
+is_readable Hppir1 = true
+is_readable Eoir0 = false
+is_readable Eoir1 = false
+is_readable Dir = false
+is_readable Rpr = true
+is_readable Pmr = true
+is_readable Bpr0 = true
+is_readable Bpr1 = true
+is_readable Ctlr = true
+is_readable Igrpen0 = true
+is_readable Igrpen1 = true
+is_readable Ap0r0 = true
+is_readable Ap1r0 = true
+is_readable Sgi1r = false
+is_readable Sre = true
+
+-- the register can be written
+abbrev pub is_writable : IccReg → Bool
+is_writable Iar0 = false
+is_writable Iar1 = false
+is_writable Hppir0 = false
+is_writable Hppir1 = false
+is_writable Eoir0 = true
+is_writable Eoir1 = true
+is_writable Dir = true
+is_writable Rpr = false
+is_writable Pmr = true
+is_writable Bpr0 = true
+is_writable Bpr1 = true
+is_writable Ctlr = true
+is_writable Igrpen0 = true
+is_writable Igrpen1 = true
+is_writable Ap0r0 = true
+is_writable Ap1r0 = true
+is_writable Sgi1r = true
+is_writable Sre = true
+
+-- a flag as a bit
+abbrev pub bit_of : Bool → ℕ
+bit_of false = 0
+bit_of true = 1
+
+-- the bit at this place of a value
+abbrev pub has_bit : ℕ → ℕ → Bool
+has_bit value place = bit_at value place == 1
+
+-- what BPR1 reads: its binary point, or with CBPR that of group 0 and one more, at most 7 (IHI 0069, ICC_BPR1)
+abbrev pub bpr1_of : CpuRec → ℕ
+bpr1_of cpu = if cpu.cbpr then min (cpu.bpr0 + 1) LAST_BINARY_POINT else cpu.bpr1
+
+-- what CTLR reads: CBPR, EOImode, and one less than the number of priority bits (IHI 0069, ICC_CTLR)
+abbrev pub ctlr_of : CpuRec → ℕ
+ctlr_of cpu = bit_of cpu.cbpr * 2 ^ CTLR_CBPR + bit_of cpu.eoimode * 2 ^ CTLR_EOIMODE + PRIBITS * 2 ^ CTLR_PRIBITS
+
+-- what a plain register reads; none for the others, and for one that cannot be read
+abbrev pub plain_read : IccReg → CpuRec → Option ℕ
+plain_read Rpr cpu = Some (running_of cpu)
+plain_read Pmr cpu = Some cpu.pmr
+plain_read Bpr0 cpu = Some cpu.bpr0
+plain_read Bpr1 cpu = Some (bpr1_of cpu)
+plain_read Ctlr cpu = Some (ctlr_of cpu)
+plain_read Igrpen0 cpu = Some (bit_of cpu.en0)
+plain_read Igrpen1 cpu = Some (bit_of cpu.en1)
+plain_read Ap0r0 cpu = Some cpu.ap0
+plain_read Ap1r0 cpu = Some cpu.ap1
+plain_read Sre cpu = Some SRE_VALUE
+plain_read reg cpu = None
+
+-- the priority mask that a write of PMR leaves: bits [7:3], the others 0 (IHI 0069, ICC_PMR)
+abbrev pub pmr_written : ℕ → ℕ
+pmr_written value = value % PRIORITY_VALUES / PRIORITY_STEP * PRIORITY_STEP
+
+-- the binary point that a write leaves: bits [2:0], or the least that there is (IHI 0069, ICC_BPR0 and ICC_BPR1)
+abbrev pub binary_point_written : ℕ → ℕ → ℕ
+binary_point_written least value = max least (value % BINARY_POINTS)
+
+-- the record after a write of a plain register; none for the others, and for one that cannot be written.
+-- BPR1 ignores writes with CBPR (IHI 0069, ICC_BPR1); AP0R0, AP1R0 and SRE always do (own choice)
+abbrev pub plain_write : IccReg → ℕ → CpuRec → Option CpuRec
+plain_write Pmr value cpu = Some (record cpu { pmr = pmr_written value })
+plain_write Bpr0 value cpu = Some (record cpu { bpr0 = binary_point_written LEAST_BPR0 value })
+plain_write Bpr1 value cpu = Some (if cpu.cbpr then cpu else record cpu { bpr1 = binary_point_written LEAST_BPR1 value })
+plain_write Ctlr value cpu = Some (record cpu { cbpr = has_bit value CTLR_CBPR; eoimode = has_bit value CTLR_EOIMODE })
+plain_write Igrpen0 value cpu = Some (record cpu { en0 = has_bit value IGRPEN_ENABLE })
+plain_write Igrpen1 value cpu = Some (record cpu { en1 = has_bit value IGRPEN_ENABLE })
+plain_write Ap0r0 value cpu = Some cpu
+plain_write Ap1r0 value cpu = Some cpu
+plain_write Sre value cpu = Some cpu
+plain_write reg value cpu = None

@@ -1,0 +1,26 @@
+//! Priorities, and the record of a vCPU's CPU interface.
+#![tactic(auto)]
+
+mod candidate;
+mod cpu;
+mod laws;
+mod priority;
+mod registers;
+mod signal;
+
+pub use candidate::{Candidate, earlier};
+pub use cpu::CpuRec;
+pub use laws::{
+    acknowledged_once, end_undoes_acknowledge, first_is_least, first_is_there,
+    group_priority_is_prefix, interrupts_stay, last_point_keeps_no_bit, mask_is_monotone,
+    running_when_idle,
+};
+pub use priority::{
+    FIRST_SPECIAL, IDLE_PRIORITY, LEVELS, PRIORITY_STEP, SPURIOUS, group_priority, running,
+    signalled,
+};
+pub use registers::{is_readable, is_writable, read_plain, write_plain};
+pub use signal::{
+    dir_deactivates, highest_pending, irq_acknowledged, irq_deactivated, level_activated,
+    priority_dropped,
+};

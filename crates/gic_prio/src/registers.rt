@@ -1,0 +1,245 @@
+ghost use Rattle.std.specs.Prelude.{◌≡◌, ◌<◌, IsTrue, IsSome, IfSome};
+ghost use Rattle.gic_prio.specs.Priority.{HasBinaryPoints};
+ghost use Rattle.gic_prio.specs.Registers.{is_readable as can_be_read, is_writable as can_be_written, has_bit as bit_is_set, bpr1_of, ctlr_of, plain_read, pmr_written, binary_point_written as binary_point_after, plain_write};
+
+use crate::cpu::CpuRec;
+use crate::priority::{PRIORITY_STEP, running};
+use gic_base::IccReg;
+
+/// PMR has 8 bits.
+const PRIORITY_VALUES: u64 = 256;
+/// BPR0 and BPR1 have 3 bits.
+const BINARY_POINTS: u64 = 8;
+/// The greatest binary point.
+const LAST_BINARY_POINT: u8 = 7;
+/// The least binary point of group 0, where five bits of a priority are implemented.
+const LEAST_BPR0: u8 = 2;
+/// The least binary point of group 1.
+const LEAST_BPR1: u8 = 3;
+/// The place of ICC_CTLR.CBPR.
+const CTLR_CBPR: u32 = 0;
+/// The place of ICC_CTLR.EOImode.
+const CTLR_EOIMODE: u32 = 1;
+/// The lowest place of ICC_CTLR.PRIbits.
+const CTLR_PRIBITS: u32 = 8;
+/// ICC_CTLR.PRIbits: one less than the number of priority bits.
+const PRIBITS: u64 = 4;
+/// The place of ICC_IGRPEN0.Enable and of ICC_IGRPEN1.Enable.
+const IGRPEN_ENABLE: u32 = 0;
+/// ICC_SRE: SRE, DFB and DIB, which say that there are system registers alone and no bypass.
+const SRE_VALUE: u64 = 7;
+
+/// Whether the register can be read (IHI 0069, "AArch64 System register descriptions").
+pub fn is_readable(reg: IccReg) -> bool
+    ensures { result ≡ can_be_read reg }
+{
+    match reg {
+        IccReg::Iar0
+        | IccReg::Iar1
+        | IccReg::Hppir0
+        | IccReg::Hppir1
+        | IccReg::Rpr
+        | IccReg::Pmr
+        | IccReg::Bpr0
+        | IccReg::Bpr1
+        | IccReg::Ctlr
+        | IccReg::Igrpen0
+        | IccReg::Igrpen1
+        | IccReg::Ap0r0
+        | IccReg::Ap1r0
+        | IccReg::Sre => true,
+        IccReg::Eoir0 | IccReg::Eoir1 | IccReg::Dir | IccReg::Sgi1r => false,
+    }
+}
+
+/// Whether the register can be written (IHI 0069, "AArch64 System register descriptions").
+pub fn is_writable(reg: IccReg) -> bool
+    ensures { result ≡ can_be_written reg }
+{
+    match reg {
+        IccReg::Eoir0
+        | IccReg::Eoir1
+        | IccReg::Dir
+        | IccReg::Pmr
+        | IccReg::Bpr0
+        | IccReg::Bpr1
+        | IccReg::Ctlr
+        | IccReg::Igrpen0
+        | IccReg::Igrpen1
+        | IccReg::Ap0r0
+        | IccReg::Ap1r0
+        | IccReg::Sgi1r
+        | IccReg::Sre => true,
+        IccReg::Iar0 | IccReg::Iar1 | IccReg::Hppir0 | IccReg::Hppir1 | IccReg::Rpr => false,
+    }
+}
+
+fn has_bit(value: u64, place: u32) -> bool
+    requires { place < 64 }
+    ensures { result ≡ bit_is_set value place }
+{
+    (value >> place) % 2 == 1
+}
+
+fn read_bpr1(cpu: &CpuRec) -> u8
+    ensures { result ≡ bpr1_of cpu.now }
+{
+    if cpu.cbpr {
+        cpu.bpr0.saturating_add(1).min(LAST_BINARY_POINT)
+    } else {
+        cpu.bpr1
+    }
+}
+
+fn read_ctlr(cpu: &CpuRec) -> u64
+    ensures { result ≡ ctlr_of cpu.now }
+{
+    (u64::from(cpu.cbpr) << CTLR_CBPR)
+        + (u64::from(cpu.eoimode) << CTLR_EOIMODE)
+        + (PRIBITS << CTLR_PRIBITS)
+}
+
+/// Reads one of the registers that stand for the record alone: RPR, PMR, BPR0, BPR1, CTLR, IGRPEN0,
+/// IGRPEN1, AP0R0, AP1R0 and SRE. None for every other one.
+pub fn read_plain(cpu: &CpuRec, reg: IccReg) -> Option<u64>
+    ensures value { result ≡ plain_read reg cpu.now }
+    ensures readable { IsSome result → IsTrue (can_be_read reg) }
+{
+    match reg {
+        IccReg::Rpr => Some(u64::from(running(cpu))),
+        IccReg::Pmr => Some(u64::from(cpu.pmr)),
+        IccReg::Bpr0 => Some(u64::from(cpu.bpr0)),
+        IccReg::Bpr1 => Some(u64::from(read_bpr1(cpu))),
+        IccReg::Ctlr => Some(read_ctlr(cpu)),
+        IccReg::Igrpen0 => Some(u64::from(cpu.en0)),
+        IccReg::Igrpen1 => Some(u64::from(cpu.en1)),
+        IccReg::Ap0r0 => Some(u64::from(cpu.ap0)),
+        IccReg::Ap1r0 => Some(u64::from(cpu.ap1)),
+        IccReg::Sre => Some(SRE_VALUE),
+        IccReg::Iar0
+        | IccReg::Iar1
+        | IccReg::Hppir0
+        | IccReg::Hppir1
+        | IccReg::Eoir0
+        | IccReg::Eoir1
+        | IccReg::Dir
+        | IccReg::Sgi1r => None,
+    }
+}
+
+fn written_pmr(value: u64) -> u8
+    ensures { result ≡ pmr_written value }
+{
+    (value % PRIORITY_VALUES) as u8 / PRIORITY_STEP * PRIORITY_STEP
+}
+
+fn written_binary_point(least: u8, value: u64) -> u8
+    ensures { result ≡ binary_point_after least value }
+{
+    least.max((value % BINARY_POINTS) as u8)
+}
+
+/// The record after a write of any value to one of the registers that stand for the record alone: PMR,
+/// BPR0, BPR1, CTLR, IGRPEN0, IGRPEN1, AP0R0, AP1R0 and SRE. None for every other one.
+pub fn write_plain(cpu: &CpuRec, reg: IccReg, value: u64) -> Option<CpuRec>
+    ensures value { result ≡ plain_write reg value cpu.now }
+    ensures writable { IsSome result → IsTrue (can_be_written reg) }
+    ensures points { HasBinaryPoints cpu.now → IfSome result HasBinaryPoints }
+{
+    match reg {
+        IccReg::Pmr => Some(CpuRec {
+            pmr: written_pmr(value),
+            ..*cpu
+        }),
+        IccReg::Bpr0 => Some(CpuRec {
+            bpr0: written_binary_point(LEAST_BPR0, value),
+            ..*cpu
+        }),
+        IccReg::Bpr1 if cpu.cbpr => Some(*cpu),
+        IccReg::Bpr1 => Some(CpuRec {
+            bpr1: written_binary_point(LEAST_BPR1, value),
+            ..*cpu
+        }),
+        IccReg::Ctlr => Some(CpuRec {
+            cbpr: has_bit(value, CTLR_CBPR),
+            eoimode: has_bit(value, CTLR_EOIMODE),
+            ..*cpu
+        }),
+        IccReg::Igrpen0 => Some(CpuRec {
+            en0: has_bit(value, IGRPEN_ENABLE),
+            ..*cpu
+        }),
+        IccReg::Igrpen1 => Some(CpuRec {
+            en1: has_bit(value, IGRPEN_ENABLE),
+            ..*cpu
+        }),
+        IccReg::Ap0r0 | IccReg::Ap1r0 | IccReg::Sre => Some(*cpu),
+        IccReg::Iar0
+        | IccReg::Iar1
+        | IccReg::Hppir0
+        | IccReg::Hppir1
+        | IccReg::Eoir0
+        | IccReg::Eoir1
+        | IccReg::Dir
+        | IccReg::Rpr
+        | IccReg::Sgi1r => None,
+    }
+}
+
+#[cfg(test)]
+mod tests {
+    use super::{read_plain, write_plain};
+    use crate::cpu::CpuRec;
+    use gic_base::IccReg;
+
+    const OPENING: CpuRec = CpuRec {
+        pmr: 0,
+        bpr0: 2,
+        bpr1: 3,
+        cbpr: false,
+        eoimode: false,
+        en0: false,
+        en1: false,
+        lpis: false,
+        ap0: 0,
+        ap1: 0,
+    };
+
+    #[test]
+    fn registers_read_what_they_keep(rt: HostRuntime) {
+        let rows = [
+            (IccReg::Pmr, 0xFF, 0xF8),
+            (IccReg::Pmr, 0x1A7, 0xA0),
+            (IccReg::Bpr0, 0, 2),
+            (IccReg::Bpr0, 0xFF, 7),
+            (IccReg::Bpr1, 0, 3),
+            (IccReg::Bpr1, 0xC, 4),
+            (IccReg::Ctlr, 0, 0x400),
+            (IccReg::Ctlr, 2, 0x402),
+            (IccReg::Ctlr, u64::MAX, 0x403),
+            (IccReg::Igrpen0, 3, 1),
+            (IccReg::Igrpen1, 2, 0),
+            (IccReg::Ap0r0, 1, 0),
+            (IccReg::Ap1r0, 1, 0),
+            (IccReg::Sre, 0, 7),
+        ];
+        for (reg, value, want) in rows {
+            let after = write_plain(&OPENING, reg, value);
+            let read = after.and_then(|cpu| read_plain(&cpu, reg));
+            assert_eq!(rt; read, Some(want), "{} after {value:#x}", reg.name());
+        }
+    }
+
+    #[test]
+    fn common_binary_point_reads_one_more(rt: HostRuntime) {
+        for (bpr0, want) in [(2, 3), (6, 7), (7, 7)] {
+            let common = CpuRec {
+                bpr0,
+                cbpr: true,
+                ..OPENING
+            };
+            assert_eq!(rt; read_plain(&common, IccReg::Bpr1), Some(want));
+            assert_eq!(rt; write_plain(&common, IccReg::Bpr1, 5), Some(common));
+        }
+    }
+}
