@@ -1,0 +1,5 @@
+pub mod FieldLemmas
+pub mod GoodLemmas
+pub mod ListLemmas
+pub mod OpeningLemmas
+pub mod StepLemmas

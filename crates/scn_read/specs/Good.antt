@@ -1,0 +1,78 @@
+-- What holds of each scenario that has no fault (own choice).
+use Rattle.std.specs.Prelude.{◌≡◌, ℕ, ◌%◌, ◌<◌, ◌≤◌, ◌&&◌, List, length, All, Bool, true, false, IsTrue, nat_lt, if◌then◌else◌, Option, Some, None, map, unwrap_or, slice_get}
+use Rattle.gic_base.specs.declared.shape.GuestShape.{GuestShape}
+use Rattle.gic_base.specs.declared.interrupt.Key.{Key}
+use Rattle.gic_base.specs.declared.interrupt.Key.TheVariants.{Private, Spi}
+use Rattle.gic_base.specs.declared.interrupt.TheConstants.{PRIVATE_COUNT}
+use Rattle.gic_base.specs.declared.icc.IccReg.{IccReg}
+use Rattle.gic_base.specs.declared.icc.IccReg.TheVariants.{Iar1, Eoir1}
+use Rattle.gic_base.specs.declared.operation.GuestOp.{GuestOp}
+use Rattle.gic_base.specs.declared.operation.GuestOp.TheVariants.{Icc, Mem}
+use Rattle.gic_base.specs.declared.operation.DeviceOp.{DeviceOp}
+use Rattle.gic_base.specs.declared.operation.DeviceOp.TheVariants.{Message, Wire, Msi}
+use Rattle.gic_base.specs.Shape.{IsShape}
+use Rattle.gic_base.specs.Interrupt.{has_interrupt}
+use Rattle.scn_read.specs.declared.scenario.Scenario.{Scenario}
+use Rattle.scn_read.specs.declared.scenario.GuestSpec.{GuestSpec}
+use Rattle.scn_read.specs.declared.scenario.Preset.{Preset}
+use Rattle.scn_read.specs.declared.scenario.Step.{Step}
+use Rattle.scn_read.specs.declared.scenario.Step.TheVariants.{Vcpu, Device, Pe}
+use Rattle.scn_read.specs.declared.scenario.Mode.{Mode}
+use Rattle.scn_read.specs.declared.scenario.TheConstants.{MAX_PES, MAX_GUESTS, MAX_STEPS, MAX_LIST_REGISTERS}
+use Rattle.scn_read.specs.Field.{passes}
+
+-- the interrupt that a preset opens
+abbrev pub preset_key : Preset → Key
+preset_key preset = if nat_lt preset.id PRIVATE_COUNT then Private (unwrap_or preset.vcpu 0) preset.id else Spi preset.id
+
+-- a preset opens an interrupt of the guest, at a priority of five bits, in a group, for a vCPU of the guest
+pub record IsGoodPreset (shape : GuestShape) (preset : Preset) : Type 0 where
+  pub there : IsTrue (has_interrupt shape (preset_key preset))
+  pub prio : preset.prio ≤ 248
+  pub prio_bits : preset.prio % 8 ≡ 0
+  pub group : preset.group ≤ 1
+  pub target : unwrap_or preset.to 0 < shape.vcpus
+
+-- a guest's numbers are in range, and its presets are good
+pub record IsGoodGuest (guest : GuestSpec) : Type 0 where
+  pub shape : IsShape guest.shape
+  pub presets : All (IsGoodPreset guest.shape) guest.presets
+
+-- the register is read or written as a step that is built does it
+abbrev pub is_built_access : IccReg → Option ℕ → Bool
+is_built_access Iar1 None = true
+is_built_access Eoir1 (Some value) = true
+is_built_access reg write = false
+
+-- a vCPU's operation is of a form that is built
+abbrev pub is_built_op : GuestOp → Bool
+is_built_op (Icc reg write) = is_built_access reg write
+is_built_op (Mem frame offset size write) = false
+
+-- a device's operation is of a form that is built, on an interrupt of the guest
+abbrev pub is_built_event : GuestShape → DeviceOp → Bool
+is_built_event shape (Message spi) = has_interrupt shape (Spi spi)
+is_built_event shape (Wire key up) = false
+is_built_event shape (Msi device event) = false
+
+-- a step is of a form that is built, by an actor that is there
+abbrev pub is_good_step : List GuestShape → Step → Bool
+is_good_step shapes (Vcpu guest vcpu op) = passes (λ shape. nat_lt vcpu shape.vcpus) (slice_get shapes guest) && is_built_op op
+is_good_step shapes (Device guest device op) = passes (λ shape. nat_lt device shape.devices && is_built_event shape op) (slice_get shapes guest)
+is_good_step shapes (Pe pe op) = false
+
+-- what each guest has of each kind
+abbrev pub shapes_of : List GuestSpec → List GuestShape
+shapes_of guests = map (λ guest. guest.shape) guests
+
+-- the scenario has no fault in this mode; the forms that are built mean the same in both
+pub record IsGood (mode : Mode) (scenario : Scenario) : Type 0 where
+  pub some_pe : 1 ≤ scenario.pes
+  pub pes : scenario.pes ≤ MAX_PES
+  pub some_list_register : 1 ≤ scenario.lrs
+  pub list_registers : scenario.lrs ≤ MAX_LIST_REGISTERS
+  pub some_guest : 1 ≤ length scenario.guests
+  pub guests : length scenario.guests ≤ MAX_GUESTS
+  pub each_guest : All IsGoodGuest scenario.guests
+  pub steps : length scenario.steps ≤ MAX_STEPS
+  pub each_step : All (λ step. IsTrue (is_good_step (shapes_of scenario.guests) step)) scenario.steps

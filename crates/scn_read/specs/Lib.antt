@@ -1,0 +1,6 @@
+pub mod Field
+pub mod Guest
+pub mod Step
+pub mod Reading
+pub mod Good
+pub mod Shown

@@ -1,0 +1,171 @@
+//! What the fields of a JSON object hold.
+ghost use Rattle.std.specs.Prelude.{◌≡◌, ◌==◌, true, ◌<◌, ◌≤◌, IfSome, option_map, length, map, string_bytes};
+ghost use Rattle.std.specs.Bool.{OnTrue};
+ghost use Rattle.std.specs.List.{list_all, list_any};
+ghost use Rattle.std.specs.Str.{bytes_eq};
+ghost use Rattle.std.specs.BTreeMap.{keys};
+ghost use Rattle.serde_json.specs.View.{view};
+ghost use Rattle.scn_read.specs.Field.{passes, hex_digit as hex_digit_of, hex_digits as hex_digits_after, hex_number as hex_number_of, number_of as number_in, has_only as has_only_of, list_of as list_in, number_at as number_in_field, number_or as number_or_default, flag_or as flag_or_default, list_at as list_in_field, list_or_empty as list_or_none, pair_at as pair_in_field};
+
+use serde_json::{Map, Value};
+
+/// What a hexadecimal text begins with.
+const HEX_PREFIX: &str = "0x";
+/// The most digits of a hexadecimal text, which has at least one.
+const MAX_HEX_DIGITS: usize = 16;
+/// How many digits there are.
+const HEX_BASE: u32 = 16;
+
+/// The value of a hexadecimal digit of either case.
+fn hex_digit(byte: u8) -> Option<u64>
+    ensures value { result ≡ hex_digit_of byte }
+    ensures small { IfSome result (λ digit. digit < HEX_BASE) }
+{
+    char::from(byte).to_digit(HEX_BASE).map(u64::from)
+}
+
+/// The number that at most 16 digits spell.
+#[tactic(auto, using(crate::proofs::FieldLemmas::hex_step, crate::proofs::FieldLemmas::hex_fits))]
+fn hex_digits(digits: &[u8]) -> Option<u64>
+    requires { length digits.now ≤ MAX_HEX_DIGITS }
+    ensures { result ≡ hex_digits_after 0 digits.now }
+{
+    let mut number = 0;
+    for digit in digits {
+        number = u64::from(HEX_BASE) * number + hex_digit(*digit)?;
+    }
+    Some(number)
+}
+
+/// The number that a text spells: 0x and 1 to 16 hexadecimal digits.
+fn hex_number(text: &str) -> Option<u64>
+    ensures { result ≡ hex_number_of text.now }
+{
+    let bytes = text.as_bytes();
+    let start = HEX_PREFIX.len();
+    if bytes.len() <= start || bytes.len() > start + MAX_HEX_DIGITS {
+        return None;
+    }
+    if &bytes[..start] != HEX_PREFIX.as_bytes() {
+        return None;
+    }
+    hex_digits(&bytes[start..])
+}
+
+/// The number that a value spells: an unsigned integer, or a text of hexadecimal digits.
+pub(crate) fn number_of(value: &Value) -> Option<u64>
+    ensures { result ≡ number_in (view value.now) }
+{
+    match value {
+        Value::Number(number) => number.as_u64(),
+        Value::String(text) => hex_number(text.as_str()),
+        _ => None,
+    }
+}
+
+/// The elements of an array.
+#[tactic(auto, using(crate::proofs::FieldLemmas::list_of_array))]
+pub(crate) fn list_of(value: &Value) -> Option<&[Value]>
+    ensures { option_map (λ values. map view values.now) result ≡ list_in (view value.now) }
+{
+    value.as_array().map(Vec::as_slice)
+}
+
+/// The number in a field that has to be there.
+pub(crate) fn number_at(value: &Value, name: &str) -> Option<u64>
+    ensures { result ≡ number_in_field name.now (view value.now) }
+{
+    number_of(value.get(name)?)
+}
+
+/// The number in a field, or the default where there is no such field.
+pub(crate) fn number_or(value: &Value, name: &str, default: u64) -> Option<u64>
+    ensures { result ≡ number_or_default name.now default (view value.now) }
+{
+    match value.get(name) {
+        Some(field) => number_of(field),
+        None => Some(default),
+    }
+}
+
+/// Whether the number in a field is its default, or there is no such field.
+pub(crate) fn is_default(value: &Value, name: &str, default: u64) -> bool
+    ensures test { result
+        ≡ passes (λ number. number == default) (number_or_default name.now default (view value.now)) }
+    ensures value { OnTrue result (number_or_default name.now default (view value.now) ≡ Some default) }
+{
+    number_or(value, name, default) == Some(default)
+}
+
+/// The truth value in a field, or the default where there is no such field.
+pub(crate) fn flag_or(value: &Value, name: &str, default: bool) -> Option<bool>
+    ensures { result ≡ flag_or_default name.now default (view value.now) }
+{
+    match value.get(name) {
+        Some(field) => field.as_bool(),
+        None => Some(default),
+    }
+}
+
+/// Whether the truth value in a field, or the default where there is no such field, is true.
+pub(crate) fn is_set(value: &Value, name: &str, default: bool) -> bool
+    ensures test { result ≡ passes (λ flag. flag) (flag_or_default name.now default (view value.now)) }
+    ensures value { OnTrue result (flag_or_default name.now default (view value.now) ≡ Some true) }
+{
+    flag_or(value, name, default) == Some(true)
+}
+
+/// The elements in a field that has to be there.
+pub(crate) fn list_at<'v>(value: &'v Value, name: &str) -> Option<&'v [Value]>
+    ensures { option_map (λ values. map view values.now) result
+        ≡ list_in_field name.now (view value.now) }
+{
+    list_of(value.get(name)?)
+}
+
+/// The elements in a field, or none where there is no such field.
+pub(crate) fn list_or_empty<'v>(value: &'v Value, name: &str) -> Option<&'v [Value]>
+    ensures { option_map (λ values. map view values.now) result
+        ≡ list_or_none name.now (view value.now) }
+{
+    match value.get(name) {
+        Some(field) => list_of(field),
+        None => Some(&[]),
+    }
+}
+
+/// The pair of numbers in a field that has to be there.
+pub(crate) fn pair_at(value: &Value, name: &str) -> Option<(u64, u64)>
+    ensures { result ≡ pair_in_field name.now (view value.now) }
+{
+    match list_at(value, name)? {
+        [first, second] => Some((number_of(first)?, number_of(second)?)),
+        _ => None,
+    }
+}
+
+/// Whether a text is one of these names.
+fn is_among(text: &str, names: &[&str]) -> bool
+    ensures { result ≡ list_any (λ name. bytes_eq text.now name.now) names.now }
+{
+    names.iter().any(|name| text == *name)
+}
+
+/// Whether each name of a field is one of these.
+fn are_among(fields: &Map<String, Value>, allowed: &[&str]) -> bool
+    ensures { result
+        ≡ list_all (λ key. list_any (λ name. bytes_eq (string_bytes key) name.now) allowed.now) (keys fields.now) }
+{
+    fields.keys().all(|name| is_among(name.as_str(), allowed))
+}
+
+/// Whether the value is an object, each field of which has one of these names.
+#[tactic(auto, using(crate::proofs::FieldLemmas::has_only_other))]
+pub(crate) fn has_only(value: &Value, allowed: &[&str]) -> bool
+    ensures { result ≡ has_only_of (map (λ name. name.now) allowed.now) (view value.now) }
+{
+    match value.as_object() {
+        Some(fields) => are_among(fields, allowed),
+        None => false,
+    }
+}
