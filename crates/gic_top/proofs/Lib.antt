@@ -1,0 +1,4 @@
+pub mod RangeLemmas
+pub mod StateLemmas
+pub mod HexLemmas
+pub mod ReplyLemmas

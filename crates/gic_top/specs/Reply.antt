@@ -1,0 +1,58 @@
+-- What the tool has to write, inside the crate.
+use Rattle.std.specs.Prelude.{◌≡◌, ℕ, ◌+◌, List, Option, codes, String, ◌⊎◌, ⊤}
+use Rattle.std.specs.declared.alloc.Global.{Global}
+use Rattle.gic_io.specs.Faults.{HasRisen}
+use Rattle.gic_io.specs.Source.{HasReadCount}
+use Rattle.scn_read.specs.declared.scenario.Scenario.{Scenario}
+use Rattle.scn_read.specs.declared.scenario.Fault.{Fault}
+use Rattle.gic_top.specs.declared.tool.Reply.{Reply}
+use Rattle.gic_top.specs.declared.tool.Reply.TheVariants.{Ran, Usage, BadJson, BadScenario, ReadFault, TooLong, NoMemory}
+use Rattle.gic_top.specs.declared.tool.TheConstants.{MAX_INPUT, OK, USAGE, BAD_JSON, BAD_SCENARIO, READ_FAULT, TOO_LONG, NO_MEMORY}
+use Rattle.gic_top.specs.Tool.{IsRun, SpellsScenario, SpellsFault, IsNoJson, HasInput, run_text, fault_line, line}
+
+-- the status of a reply
+abbrev pub status_of : Reply → ℕ
+status_of (Ran text) = OK
+status_of Usage = USAGE
+status_of BadJson = BAD_JSON
+status_of (BadScenario text) = BAD_SCENARIO
+status_of ReadFault = READ_FAULT
+status_of TooLong = TOO_LONG
+status_of NoMemory = NO_MEMORY
+
+-- what is written of it
+abbrev pub text_of : Reply → List ℕ
+text_of (Ran text) = text
+text_of Usage = line (codes "usage")
+text_of BadJson = line (codes "bad json")
+text_of (BadScenario text) = text
+text_of ReadFault = line (codes "read fault")
+text_of TooLong = line (codes "too long")
+text_of NoMemory = line (codes "no memory")
+
+-- the reply is the one to these bytes
+abbrev pub IsReplyTo : List ℕ → Reply → Type 0
+IsReplyTo bytes (Ran text) = (scenario : Scenario) × SpellsScenario bytes scenario × (text ≡ run_text scenario)
+IsReplyTo bytes Usage = ⊥
+IsReplyTo bytes BadJson = IsNoJson bytes
+IsReplyTo bytes (BadScenario text) = (fault : Fault) × SpellsFault bytes fault × (text ≡ fault_line fault)
+IsReplyTo bytes ReadFault = ⊥
+IsReplyTo bytes TooLong = ⊥
+IsReplyTo bytes NoMemory = ⊤
+
+-- the reply is the one to what a source gave
+abbrev pub IsReplyOf : Option (List ℕ) → Option (List ℕ) → ℕ → ℕ → Reply → Type 0
+IsReplyOf before after faults_before faults_after (Ran text) =
+    (scenario : Scenario) × HasInput before after (λ bytes. SpellsScenario bytes scenario) × (text ≡ run_text scenario)
+IsReplyOf before after faults_before faults_after Usage = ⊥
+IsReplyOf before after faults_before faults_after BadJson = HasInput before after IsNoJson
+IsReplyOf before after faults_before faults_after (BadScenario text) =
+    (fault : Fault) × HasInput before after (λ bytes. SpellsFault bytes fault) × (text ≡ fault_line fault)
+IsReplyOf before after faults_before faults_after ReadFault = HasRisen faults_before faults_after
+IsReplyOf before after faults_before faults_after TooLong = HasReadCount before after (MAX_INPUT + 1)
+IsReplyOf before after faults_before faults_after NoMemory = ⊤
+
+-- the reply is the one to these words, and to what a source gave
+abbrev pub IsReplyFor : List (String Global) → Option (List ℕ) → Option (List ℕ) → ℕ → ℕ → Reply → Type 0
+IsReplyFor words before after faults_before faults_after reply =
+    (IsRun words × IsReplyOf before after faults_before faults_after reply) ⊎ ((¬ IsRun words) × (reply ≡ Usage))

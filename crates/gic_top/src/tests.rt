@@ -1,0 +1,147 @@
+use crate::{BAD_JSON, BAD_SCENARIO, OK, READ_FAULT, TOO_LONG, USAGE, WRITE_FAULT, run_tool};
+use gic_io::{MemSink, MemSource, SureSink, SureSource};
+use std::alloc::{AllocError, Global};
+use std::test::Fail;
+
+const FIRST: &str =
+    r#"{"pes":1,"lrs":4,"guests":[{"vcpus":1,"spis":32,"on":true,"irqs":[{"id":40}]}],"steps":[{"dev":[0,0],"message":40},{"vcpu":[0,0],"icc":"IAR1"},{"vcpu":[0,0],"icc":"EOIR1","write":40},{"vcpu":[0,0],"icc":"IAR1"}]}"#;
+
+const FIRST_TEXT: &str = "2 0x0000000000000028\n4 0x00000000000003ff\nend 4 2\n";
+
+/// Inputs of `run`, each with the status and all that is written.
+const RUNS: [(&str, u8, &str); 9] = [
+    (FIRST, OK, FIRST_TEXT),
+    (
+        r#"{"pes":1,"lrs":4,"guests":[{"vcpus":1,"spis":32,"on":true,"irqs":[{"id":40}]}],"steps":[]}"#,
+        OK,
+        "end 0 0\n",
+    ),
+    (
+        r#"{"guests":[{"on":true,"irqs":[{"id":40}]}],"steps":[{"dev":[0,0],"message":33}]}"#,
+        OK,
+        "irq 0 33 en=0 grp=0 prio=0x00 cfg=level line=0 rise=0 soft=1 act=- to=0\nend 1 0\n",
+    ),
+    (
+        r#"{"guests":[{"on":true,"irqs":[{"id":40},{"id":41}]}],"steps":[{"dev":[0,0],"message":40},{"dev":[0,0],"message":41},{"vcpu":[0,0],"icc":"IAR1"},{"vcpu":[0,0],"icc":"EOIR1","write":"0x28"},{"vcpu":[0,0],"icc":"IAR1"}]}"#,
+        OK,
+        "3 0x0000000000000028\n5 0x0000000000000029\ncpu 0 0 vmcr=0xf04c000a ap0=0x00000000 ap1=0x00100000 lpis=0\nirq 0 41 en=1 grp=1 prio=0xa0 cfg=edge line=0 rise=0 soft=0 act=0 to=0\nend 5 2\n",
+    ),
+    (
+        r#"{"guests":[{"on":true,"irqs":[{"id":40}]}],"steps":[{"dev":[0,0],"message":40},{"dev":[0,0],"message":40},{"vcpu":[0,0],"icc":"IAR1"},{"vcpu":[0,0],"icc":"EOIR1","write":40},{"vcpu":[0,0],"icc":"IAR1"}]}"#,
+        OK,
+        "3 0x0000000000000028\n5 0x00000000000003ff\nend 5 2\n",
+    ),
+    (r#"{"pes":1"#, BAD_JSON, "bad json\n"),
+    (
+        r#"{"guests":[{"on":true,"spis":0,"irqs":[{"id":40}]}],"steps":[]}"#,
+        BAD_SCENARIO,
+        "bad scenario: code 10 step 0\n",
+    ),
+    (
+        r#"{"guests":[{"on":true}],"steps":[{"dev":[0,0],"message":32},{"dev":[0,0],"message":64}]}"#,
+        BAD_SCENARIO,
+        "bad scenario: code 10 step 2\n",
+    ),
+    (
+        r#"{"guests":[{"on":true}],"steps":[{"vcpu":[0,0],"icc":"IAR0"}]}"#,
+        BAD_SCENARIO,
+        "bad scenario: code 10 step 1\n",
+    ),
+];
+
+/// Words that ask for nothing that is built.
+const NO_RUNS: [&[&str]; 5] = [
+    &["threads", "9", "1"],
+    &["run", "x"],
+    &["threads", "02", "1"],
+    &[],
+    &["Run"],
+];
+
+fn words_of(alloc: Global, words: &[&str]) -> Result<Vec<String>, AllocError> {
+    let mut all = Vec::new(alloc);
+    for word in words {
+        all.push(String::from_str(alloc, word)?)?;
+    }
+    Ok(all)
+}
+
+#[test]
+fn runs(rt: HostRuntime) -> Result<(), Fail> {
+    let alloc = rt.alloc();
+    let words = words_of(alloc, &["run"])?;
+    for (input, status, text) in RUNS {
+        let mut source = SureSource::of(Vec::from_slice(alloc, input.as_bytes())?);
+        let mut sink = SureSink::new(alloc);
+        assert_eq!(rt;
+            run_tool(alloc, words.as_slice(), &mut source, &mut sink),
+            status,
+            "{input}"
+        );
+        assert_eq!(rt; sink.taken(), Some(text.as_bytes()), "{input}");
+    }
+    Ok(())
+}
+
+#[test]
+fn other_words_are_refused(rt: HostRuntime) -> Result<(), Fail> {
+    let alloc = rt.alloc();
+    for words in NO_RUNS {
+        let words = words_of(alloc, words)?;
+        // A first read would be a fault.
+        let mut source = MemSource::of(Vec::new(alloc), vec![in alloc; 1]?, 1);
+        let mut sink = SureSink::new(alloc);
+        assert_eq!(rt;
+            run_tool(alloc, words.as_slice(), &mut source, &mut sink),
+            USAGE,
+            "{words:?}"
+        );
+        assert_eq!(rt; sink.taken(), Some(b"usage\n".as_slice()), "{words:?}");
+        assert_eq!(rt; source.faults(), 0, "{words:?}");
+    }
+    Ok(())
+}
+
+#[test]
+fn pieces_and_faults(rt: HostRuntime) -> Result<(), Fail> {
+    let alloc = rt.alloc();
+    let words = words_of(alloc, &["run"])?;
+    // How much a call moves, the calls of the source and of the sink that fail, the status, the text.
+    let cases: [(usize, u64, u64, u8, &str); 5] = [
+        (1, 0, 0, OK, FIRST_TEXT),
+        (7, 0, 0, OK, FIRST_TEXT),
+        (10, 2, 0, READ_FAULT, "read fault\n"),
+        (10, 0, 2, WRITE_FAULT, "2 0x000000"),
+        (10, 0, 1, WRITE_FAULT, ""),
+    ];
+    for (cut, source_fails, sink_fails, status, text) in cases {
+        let bytes = Vec::from_slice(alloc, FIRST.as_bytes())?;
+        let mut source = MemSource::of(bytes, vec![in alloc; source_fails]?, cut);
+        let mut sink = MemSink::of(alloc, vec![in alloc; sink_fails]?, cut);
+        assert_eq!(rt;
+            run_tool(alloc, words.as_slice(), &mut source, &mut sink),
+            status
+        );
+        assert_eq!(rt; sink.taken(), Some(text.as_bytes()));
+    }
+    Ok(())
+}
+
+#[test]
+fn long_inputs(rt: HostRuntime) -> Result<(), Fail> {
+    let alloc = rt.alloc();
+    let words = words_of(alloc, &["run"])?;
+    for (spaces, status, text) in [
+        (16_777_216, BAD_JSON, "bad json\n"),
+        (16_777_217, TOO_LONG, "too long\n"),
+    ] {
+        let mut source = SureSource::of(vec![in alloc; b' '; spaces]?);
+        let mut sink = SureSink::new(alloc);
+        assert_eq!(rt;
+            run_tool(alloc, words.as_slice(), &mut source, &mut sink),
+            status
+        );
+        assert_eq!(rt; sink.taken(), Some(text.as_bytes()));
+    }
+    Ok(())
+}

@@ -1,0 +1,189 @@
+ghost use Rattle.std.specs.Prelude.{◌≡◌, ◌⊎◌, ◌↔◌, ◌≤◌, IsTrue, IfOk, IfErr, IfSome, length, string_bytes};
+ghost use Rattle.gic_io.specs.Faults.{HasRisen};
+ghost use Rattle.gic_io.specs.Sink.{Grew, GrewByPrefix};
+ghost use Rattle.scn_read.specs.Good.{IsGood};
+ghost use Rattle.gic_top.specs.Tool.{run_text, fault_line as line_of, IsRun, IsOk, IsUsage, IsBadJson, IsBadScenario, IsReadFault, IsTooLong, IsNoMemory, IsSomeRow, HasItsAnswer};
+ghost use Rattle.gic_top.specs.Reply.{status_of, text_of, IsReplyTo, IsReplyOf, IsReplyFor};
+
+use crate::ideal::eager;
+use crate::report::text;
+use gic_base::NoMemory;
+use gic_io::{Bytes, ReadError, Sink, Source, read_all, write_all};
+use scn_read::{Fault, Mode, ReadRefusal, Scenario, read};
+use serde_json::Value;
+use std::alloc::{AllocError, Global};
+
+/// The most bytes of an input.
+pub const MAX_INPUT: usize = 16_777_216;
+
+/// The status of a run whose text was written.
+pub const OK: u8 = 0;
+/// The status where the words are none of the forms that are built.
+pub const USAGE: u8 = 2;
+/// The status where the input is no JSON.
+pub const BAD_JSON: u8 = 3;
+/// The status where the input is no scenario, or one with a fault.
+pub const BAD_SCENARIO: u8 = 4;
+/// The status where the input could not be read.
+pub const READ_FAULT: u8 = 5;
+/// The status where a text or a message was not taken whole.
+pub const WRITE_FAULT: u8 = 6;
+/// The status where the input is longer than the limit.
+pub const TOO_LONG: u8 = 7;
+/// The status where memory was refused.
+pub const NO_MEMORY: u8 = 9;
+
+/// What the tool has to write.
+#[derive(Drop)]
+enum Reply {
+    /// The text of a run.
+    Ran(Bytes),
+    Usage,
+    BadJson,
+    /// The line of a scenario's fault.
+    BadScenario(Bytes),
+    ReadFault,
+    TooLong,
+    NoMemory,
+}
+
+impl Reply {
+    fn status(&self) -> u8
+        ensures { result ≡ status_of self.now }
+    {
+        match self {
+            Reply::Ran(_) => OK,
+            Reply::Usage => USAGE,
+            Reply::BadJson => BAD_JSON,
+            Reply::BadScenario(_) => BAD_SCENARIO,
+            Reply::ReadFault => READ_FAULT,
+            Reply::TooLong => TOO_LONG,
+            Reply::NoMemory => NO_MEMORY,
+        }
+    }
+
+    fn as_bytes(&self) -> &[u8]
+        ensures { result.now ≡ text_of self.now }
+    {
+        match self {
+            Reply::Ran(text) | Reply::BadScenario(text) => text.as_slice(),
+            Reply::Usage => b"usage\n",
+            Reply::BadJson => b"bad json\n",
+            Reply::ReadFault => b"read fault\n",
+            Reply::TooLong => b"too long\n",
+            Reply::NoMemory => b"no memory\n",
+        }
+    }
+}
+
+/// Whether the words ask for a run to a schedule.
+fn is_run(words: &[String]) -> bool
+    ensures { IsTrue result ↔ IsRun words.now }
+{
+    match words {
+        [word] => word.as_str() == "run",
+        _ => false,
+    }
+}
+
+/// The line of a scenario's fault.
+fn fault_line(alloc: Global, fault: Fault) -> Result<Bytes, NoMemory>
+    ensures { IfOk result (λ line. line ≡ line_of fault) }
+{
+    let line = format!(in alloc; "bad scenario: {fault}\n")?;
+    Ok(Bytes::from(line.into_bytes()))
+}
+
+/// The text of a scenario's run.
+fn run(alloc: Global, scenario: &Scenario) -> Result<Bytes, NoMemory>
+    requires { IsGood Mode.Schedule scenario.now }
+    ensures { IfOk result (λ written. written ≡ run_text scenario.now) }
+{
+    let out = eager(alloc, scenario)?;
+    text(alloc, scenario, &out)
+}
+
+/// The reply to the bytes of an input.
+fn reply_to(alloc: Global, bytes: &[u8]) -> Result<Reply, NoMemory>
+    ensures { IfOk result (IsReplyTo bytes.now) }
+{
+    let value = match Value::from_slice(alloc, bytes) {
+        Ok(value) => value,
+        Err(error) if error.is_memory() => return Err(NoMemory),
+        Err(_) => return Ok(Reply::BadJson),
+    };
+    match read(alloc, &value, Mode::Schedule) {
+        Ok(scenario) => Ok(Reply::Ran(run(alloc, &scenario)?)),
+        Err(ReadRefusal::Bad(fault)) => Ok(Reply::BadScenario(fault_line(alloc, fault)?)),
+        Err(ReadRefusal::NoMemory) => Err(NoMemory),
+    }
+}
+
+/// The reply to what a source has left.
+fn reply_of<S: Source>(alloc: Global, source: &mut S) -> Reply
+    ensures reply { IsReplyOf (S.left source.old) (S.left source.new) (S.faults source.old) (S.faults source.new) result }
+{
+    match read_all(alloc, source, MAX_INPUT) {
+        Ok(bytes) => reply_to(alloc, bytes.as_slice()).unwrap_or(Reply::NoMemory),
+        Err(ReadError::ReadFault) => Reply::ReadFault,
+        Err(ReadError::TooLong) => Reply::TooLong,
+        Err(ReadError::NoMemory) => Reply::NoMemory,
+    }
+}
+
+/// The reply to words, and to what a source has left.
+fn reply_for<S: Source>(alloc: Global, words: &[String], source: &mut S) -> Reply
+    ensures reply { IsReplyFor words.now (S.left source.old) (S.left source.new) (S.faults source.old) (S.faults source.new) result }
+    ensures unread { ¬ IsRun words.now → source.new ≡ source.old }
+{
+    if is_run(words) {
+        return reply_of(alloc, source);
+    }
+    Reply::Usage
+}
+
+/// Does what the words ask for, and answers the status with which the program ends.
+///
+/// `run` reads a scenario from the source, in JSON, and writes the text of its run to the sink. A text or
+/// a message is built whole before its first byte is written. The words are those after the program's
+/// name.
+pub fn run_tool<S: Source, K: Sink>(
+    alloc: Global,
+    words: &[String],
+    source: &mut S,
+    sink: &mut K,
+) -> u8
+    // What the status says, and what was written.
+    ensures ok { result ≡ OK →
+        IsOk words.now (S.left source.old) (S.left source.new) (Grew (K.taken sink.old) (K.taken sink.new)) }
+    ensures usage { result ≡ USAGE → IsUsage words.now (Grew (K.taken sink.old) (K.taken sink.new)) }
+    ensures bad_json { result ≡ BAD_JSON →
+        IsBadJson words.now (S.left source.old) (S.left source.new) (Grew (K.taken sink.old) (K.taken sink.new)) }
+    ensures bad_scenario { result ≡ BAD_SCENARIO →
+        IsBadScenario words.now (S.left source.old) (S.left source.new) (Grew (K.taken sink.old) (K.taken sink.new)) }
+    ensures read_fault { result ≡ READ_FAULT →
+        IsReadFault words.now (S.faults source.old) (S.faults source.new) (Grew (K.taken sink.old) (K.taken sink.new)) }
+    ensures write_fault { result ≡ WRITE_FAULT → HasRisen (K.faults sink.old) (K.faults sink.new) }
+    ensures write_fault_takes_prefix { result ≡ WRITE_FAULT →
+        IsSomeRow words.now (S.left source.old) (S.left source.new) (S.faults source.old) (S.faults source.new)
+        (GrewByPrefix (K.taken sink.old) (K.taken sink.new)) }
+    ensures too_long { result ≡ TOO_LONG →
+        IsTooLong words.now (S.left source.old) (S.left source.new) (Grew (K.taken sink.old) (K.taken sink.new)) }
+    ensures no_memory { result ≡ NO_MEMORY → IsNoMemory (Grew (K.taken sink.old) (K.taken sink.new)) }
+
+    // Other words are refused, and nothing is read.
+    ensures usage_where_not_run { ¬ IsRun words.now → (result ≡ USAGE) ⊎ (result ≡ WRITE_FAULT) }
+    ensures unread_where_not_run { ¬ IsRun words.now → source.new ≡ source.old }
+
+    // Where no fault comes from outside, each input has its answer.
+    ensures complete { IsRun words.now
+        → ¬ HasRisen (S.faults source.old) (S.faults source.new)
+        → ¬ HasRisen (K.faults sink.old) (K.faults sink.new)
+        → IfSome (S.left source.old) (λ bytes. HasItsAnswer bytes result) }
+{
+    let reply = reply_for(alloc, words, source);
+    match write_all(sink, reply.as_bytes()) {
+        Ok(()) => reply.status(),
+        Err(_) => WRITE_FAULT,
+    }
+}
