@@ -3,53 +3,11 @@
 use Rattle.std.specs.Prelude.{ℕ, ◌+◌, ◌*◌, ◌/◌, ◌%◌, ◌^◌, ◌==◌, min, max, Bool, true, false, Option, Some, None, if◌then◌else◌}
 use Rattle.std.specs.Int.{bit_at}
 use Rattle.gic_base.specs.declared.icc.IccReg.{IccReg}
-use Rattle.gic_base.specs.declared.icc.IccReg.TheVariants.{Iar0, Iar1, Hppir0, Hppir1, Eoir0, Eoir1, Dir, Rpr, Pmr, Bpr0, Bpr1, Ctlr, Igrpen0, Igrpen1, Ap0r0, Ap1r0, Sgi1r, Sre}
+use Rattle.gic_base.specs.declared.icc.IccReg.TheVariants.{Rpr, Pmr, Bpr0, Bpr1, Ctlr, Igrpen0, Igrpen1, Ap0r0, Ap1r0, Sre}
 use Rattle.gic_prio.specs.declared.cpu.CpuRec.{CpuRec}
 use Rattle.gic_prio.specs.declared.priority.TheConstants.{PRIORITY_STEP}
 use Rattle.gic_prio.specs.declared.registers.TheConstants.{PRIORITY_VALUES, BINARY_POINTS, LAST_BINARY_POINT, LEAST_BPR0, LEAST_BPR1, CTLR_CBPR, CTLR_EOIMODE, CTLR_PRIBITS, PRIBITS, IGRPEN_ENABLE, SRE_VALUE}
 use Rattle.gic_prio.specs.Priority.{running_of}
-
--- the register can be read
-abbrev pub is_readable : IccReg → Bool
-is_readable Iar0 = true
-is_readable Iar1 = true
-is_readable Hppir0 = true
-is_readable Hppir1 = true
-is_readable Eoir0 = false
-is_readable Eoir1 = false
-is_readable Dir = false
-is_readable Rpr = true
-is_readable Pmr = true
-is_readable Bpr0 = true
-is_readable Bpr1 = true
-is_readable Ctlr = true
-is_readable Igrpen0 = true
-is_readable Igrpen1 = true
-is_readable Ap0r0 = true
-is_readable Ap1r0 = true
-is_readable Sgi1r = false
-is_readable Sre = true
-
--- the register can be written
-abbrev pub is_writable : IccReg → Bool
-is_writable Iar0 = false
-is_writable Iar1 = false
-is_writable Hppir0 = false
-is_writable Hppir1 = false
-is_writable Eoir0 = true
-is_writable Eoir1 = true
-is_writable Dir = true
-is_writable Rpr = false
-is_writable Pmr = true
-is_writable Bpr0 = true
-is_writable Bpr1 = true
-is_writable Ctlr = true
-is_writable Igrpen0 = true
-is_writable Igrpen1 = true
-is_writable Ap0r0 = true
-is_writable Ap1r0 = true
-is_writable Sgi1r = true
-is_writable Sre = true
 
 -- a flag as a bit
 abbrev pub bit_of : Bool → ℕ

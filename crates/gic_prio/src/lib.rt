@@ -1,6 +1,7 @@
 //! Priorities, and the record of a vCPU's CPU interface.
 #![tactic(auto)]
 
+mod access;
 mod candidate;
 mod cpu;
 mod laws;
@@ -8,6 +9,7 @@ mod priority;
 mod registers;
 mod signal;
 
+pub use access::{cpu_written, intid_deactivated};
 pub use candidate::{Candidate, earlier};
 pub use cpu::CpuRec;
 pub use laws::{
@@ -19,7 +21,7 @@ pub use priority::{
     FIRST_SPECIAL, IDLE_PRIORITY, LEVELS, PRIORITY_STEP, SPURIOUS, group_priority, running,
     signalled,
 };
-pub use registers::{is_readable, is_writable, read_plain, write_plain};
+pub use registers::{read_plain, write_plain};
 pub use signal::{
     dir_deactivates, highest_pending, irq_acknowledged, irq_deactivated, level_activated,
     priority_dropped,

@@ -1,6 +1,7 @@
 ghost use Rattle.std.specs.Prelude.{◌≡◌, ◌<◌, IsTrue, IsSome, IfSome};
 ghost use Rattle.gic_prio.specs.Priority.{HasBinaryPoints};
-ghost use Rattle.gic_prio.specs.Registers.{is_readable as can_be_read, is_writable as can_be_written, has_bit as bit_is_set, bpr1_of, ctlr_of, plain_read, pmr_written, binary_point_written as binary_point_after, plain_write};
+ghost use Rattle.gic_base.specs.Icc.{is_readable, is_writable};
+ghost use Rattle.gic_prio.specs.Registers.{has_bit as bit_is_set, bpr1_of, ctlr_of, plain_read, pmr_written, binary_point_written as binary_point_after, plain_write};
 
 use crate::cpu::CpuRec;
 use crate::priority::{PRIORITY_STEP, running};
@@ -28,51 +29,6 @@ const PRIBITS: u64 = 4;
 const IGRPEN_ENABLE: u32 = 0;
 /// ICC_SRE: SRE, DFB and DIB, which say that there are system registers alone and no bypass.
 const SRE_VALUE: u64 = 7;
-
-/// Whether the register can be read (IHI 0069, "AArch64 System register descriptions").
-pub fn is_readable(reg: IccReg) -> bool
-    ensures { result ≡ can_be_read reg }
-{
-    match reg {
-        IccReg::Iar0
-        | IccReg::Iar1
-        | IccReg::Hppir0
-        | IccReg::Hppir1
-        | IccReg::Rpr
-        | IccReg::Pmr
-        | IccReg::Bpr0
-        | IccReg::Bpr1
-        | IccReg::Ctlr
-        | IccReg::Igrpen0
-        | IccReg::Igrpen1
-        | IccReg::Ap0r0
-        | IccReg::Ap1r0
-        | IccReg::Sre => true,
-        IccReg::Eoir0 | IccReg::Eoir1 | IccReg::Dir | IccReg::Sgi1r => false,
-    }
-}
-
-/// Whether the register can be written (IHI 0069, "AArch64 System register descriptions").
-pub fn is_writable(reg: IccReg) -> bool
-    ensures { result ≡ can_be_written reg }
-{
-    match reg {
-        IccReg::Eoir0
-        | IccReg::Eoir1
-        | IccReg::Dir
-        | IccReg::Pmr
-        | IccReg::Bpr0
-        | IccReg::Bpr1
-        | IccReg::Ctlr
-        | IccReg::Igrpen0
-        | IccReg::Igrpen1
-        | IccReg::Ap0r0
-        | IccReg::Ap1r0
-        | IccReg::Sgi1r
-        | IccReg::Sre => true,
-        IccReg::Iar0 | IccReg::Iar1 | IccReg::Hppir0 | IccReg::Hppir1 | IccReg::Rpr => false,
-    }
-}
 
 fn has_bit(value: u64, place: u32) -> bool
     requires { place < 64 }
@@ -103,7 +59,7 @@ fn read_ctlr(cpu: &CpuRec) -> u64
 /// IGRPEN1, AP0R0, AP1R0 and SRE. None for every other one.
 pub fn read_plain(cpu: &CpuRec, reg: IccReg) -> Option<u64>
     ensures value { result ≡ plain_read reg cpu.now }
-    ensures readable { IsSome result → IsTrue (can_be_read reg) }
+    ensures readable { IsSome result → IsTrue (is_readable reg) }
 {
     match reg {
         IccReg::Rpr => Some(u64::from(running(cpu))),
@@ -143,7 +99,7 @@ fn written_binary_point(least: u8, value: u64) -> u8
 /// BPR0, BPR1, CTLR, IGRPEN0, IGRPEN1, AP0R0, AP1R0 and SRE. None for every other one.
 pub fn write_plain(cpu: &CpuRec, reg: IccReg, value: u64) -> Option<CpuRec>
     ensures value { result ≡ plain_write reg value cpu.now }
-    ensures writable { IsSome result → IsTrue (can_be_written reg) }
+    ensures writable { IsSome result → IsTrue (is_writable reg) }
     ensures points { HasBinaryPoints cpu.now → IfSome result HasBinaryPoints }
 {
     match reg {
