@@ -1,122 +1,246 @@
--- What the definitions accept is good.
-use Rattle.std.proofs.Common.{◌≡◌, ℕ, suc, is_none, subst, lit≤, ◌+◌, ◌≤◌, ◌&&◌, List, [], ◌∷◌, length, map, Bool, true, false, Option, Some, None, unwrap_or, ◌==◌, nat_lt, option_map, if◌then◌else◌, Result, Ok, Err, codes, inl, inr, ◌⊎◌, refl, ap, ◌∙◌, arith}
+-- What has no fault is good.
+use Rattle.std.proofs.Common.{◌≡◌, ℕ, suc, lit≤, ◌+◌, ◌≤◌, ◌%◌, ◌&&◌, ◌||◌, not, List, [], ◌∷◌, length, map, fold, find, get_or, Bool, true, false, Option, Some, None, option_and_then, is_some, unwrap_or, ◌==◌, min, nat_lt, nat_le, subst, if◌then◌else◌, Result, Ok, Err, codes, refl, ap, sym, ◌∙◌, arith}
 use Rattle.std.specs.Bool.{IsTrue}
-use Rattle.std.specs.List.{All, list_all}
-use Rattle.std.proofs.lemmas.Bool.{and_parts}
+use Rattle.std.specs.List.{All, list_any}
+use Rattle.std.specs.Result.{MatchResult}
+use Rattle.std.specs.Str.{bytes_eq}
+use Rattle.std.proofs.lemmas.Bool.{and_parts, or_parts}
+use Rattle.std.proofs.lemmas.Bool.Decides.{nat_tests}
 use Rattle.std.proofs.lemmas.List.Elements.{All-nil, All-cons, All-same}
 use Rattle.serde_json.specs.Data.{Data}
+use Rattle.serde_json.specs.Find.{get}
+use Rattle.gic_base.specs.declared.shape.GuestShape.{GuestShape}
+use Rattle.gic_base.specs.declared.shape.TheConstants.{MAX_SPIS, SPI_STEP, MAX_DEVICES}
+use Rattle.gic_base.specs.declared.interrupt.Key.TheVariants.{Private, Spi}
+use Rattle.gic_base.specs.declared.interrupt.TheConstants.{FIRST_SPI}
+use Rattle.gic_base.specs.declared.icc.IccReg.{IccReg}
+use Rattle.gic_base.specs.declared.icc.IccReg.TheVariants.{Iar0, Iar1, Hppir0, Hppir1, Eoir0, Eoir1, Dir, Rpr, Pmr, Bpr0, Bpr1, Ctlr, Igrpen0, Igrpen1, Ap0r0, Ap1r0, Sgi1r, Sre}
+use Rattle.gic_base.specs.declared.operation.GuestOp.TheVariants.{Icc}
+use Rattle.gic_base.specs.declared.operation.DeviceOp.TheVariants.{Message}
 use Rattle.gic_base.specs.Shape.{IsShape}
 use Rattle.gic_base.specs.Interrupt.{has_interrupt}
-use Rattle.gic_base.specs.declared.interrupt.Key.TheVariants.{Private, Spi}
-use Rattle.gic_base.specs.declared.operation.DeviceOp.TheVariants.{Message}
-use Rattle.scn_read.specs.declared.scenario.Step.TheVariants.{Vcpu, Device}
-use Rattle.scn_read.specs.declared.scenario.TheConstants.{DEFAULT_PRIORITY, DEFAULT_GROUP, NOT_BUILT, MAX_STEPS}
-use Rattle.std.specs.Option.{ok_or, option_or}
-use Rattle.gic_base.specs.declared.icc.IccReg.TheVariants.{Iar1, Eoir1}
-use Rattle.gic_base.specs.declared.operation.GuestOp.TheVariants.{Icc}
-use Rattle.std.proofs.lemmas.Bool.Decides.{nat_tests}
-use Rattle.gic_base.specs.declared.shape.GuestShape.{GuestShape}
+use Rattle.gic_base.specs.Icc.{name_of, registers, register_named}
 use Rattle.scn_read.specs.declared.scenario.GuestSpec.{GuestSpec}
 use Rattle.scn_read.specs.declared.scenario.Step.{Step}
+use Rattle.scn_read.specs.declared.scenario.Step.TheVariants.{Vcpu, Device}
 use Rattle.scn_read.specs.declared.scenario.Fault.{Fault}
-use Rattle.scn_read.specs.Field.{passes, has_only, number_at, number_or, flag_or, list_or_empty, pair_at}
 use Rattle.scn_read.specs.declared.scenario.Mode.{Mode}
-use Rattle.serde_json.specs.Find.{get}
-use Rattle.gic_base.specs.Icc.{name_of}
-use Rattle.scn_read.specs.Guest.{preset_fields, is_built_shape, is_built_preset, preset_of, is_built_guest, guest_of, shape_of}
-use Rattle.scn_read.specs.Step.{is_text, message_of, access_of, step_of}
+use Rattle.scn_read.specs.declared.scenario.TheConstants.{MAX_PRIORITY, PRIORITY_STEP, MAX_GROUP, DEFAULT_PRIORITY, DEFAULT_GROUP, DEFAULT_VCPUS, DEFAULT_SPIS, DEFAULT_DEVICES, MAX_STEPS}
+use Rattle.scn_read.specs.Field.{passes, number_at, number_or, flag_or, text_at, pair_at, elements_at}
+use Rattle.scn_read.specs.Fault.{first_code, first_of, ok_unless, both}
+use Rattle.scn_read.specs.Guest.{is_unbuilt_preset, is_preset, is_preset_in_range, is_spi, preset_fault, preset_of, is_unbuilt_guest, is_guest, is_guest_in_range, own_fault, spis_of, guest_fault, shape_of, guest_of}
+use Rattle.scn_read.specs.Step.{unbuilt_fields, is_unbuilt_step, is_message, has_sender, message_fault, message_of, is_access, register_at, is_usable, has_vcpu, access_fault, access_of, step_fault, step_value, step_of}
 use Rattle.scn_read.specs.Reading.{step_and_rest, steps_of}
-use Rattle.scn_read.specs.Good.{IsGoodPreset, IsGoodGuest, is_good_step, IsGood}
+use Rattle.scn_read.specs.Good.{IsGoodPreset, IsGoodGuest, is_built_access, is_good_step, IsGood}
+use Rattle.scn_read.proofs.ListLemmas.{ok_parts}
 
 -- the value that passes a test
 passes-unwrap_or : {X : Type 0} (p : X → Bool) (found : Option X) (default : X) → passes p found ≡ true → p (unwrap_or found default) ≡ true
 passes-unwrap_or p None default e = absurd cc
 passes-unwrap_or p (Some x) default e = e
 
--- a place, a number and names that pass are those of a message to an interrupt that is there, by a device that is there
-good_message : (shape : GuestShape) (named : Bool) (place : Option (ℕ × ℕ)) (id : Option ℕ) (step : Step)
-    → (if named && passes (λ place. place.0 == 0 && nat_lt place.1 shape.devices) place && passes (λ id. has_interrupt shape (Spi id)) id
-    then Some (Device 0 (unwrap_or (option_map (λ place. place.1) place) 0) (Message (unwrap_or id 0))) else None) ≡ Some step
-    → is_good_step (shape ∷ []) step ≡ true
-good_message shape false place id step e = absurd cc
-good_message shape true None id step e = absurd cc
-good_message shape true (Some place) None step e = grind (arith, nat_tests)
-good_message shape true (Some place) (Some id) step e = grind (arith, nat_tests)
+-- no first code, and no first row that is met
+first_code_none : (a b : Option ℕ) → first_code a b ≡ None → (a ≡ None) × (b ≡ None)
+first_code_none None b e = (refl, e)
+first_code_none (Some code) None e = absurd cc
+first_code_none (Some code) (Some other) e = absurd cc
 
--- an SPI that is there is one from 32 on
-spi_key : (shape : GuestShape) (id : ℕ) → has_interrupt shape (Spi id) ≡ true → has_interrupt shape (if nat_lt id 32 then Private 0 id else Spi id) ≡ true
+fold_none : (before : Option ℕ) (faults : List (Option ℕ)) → fold first_code before faults ≡ None → before ≡ None
+fold_none before [] e = e
+fold_none before (fault ∷ faults) e = (first_code_none before fault (fold_none (first_code before fault) faults e)).0
+
+unmet : (test : Bool) (code : ℕ) (rest : Option ℕ) → (if test then Some code else rest) ≡ None → (test ≡ false) × (rest ≡ None)
+unmet true code rest e = absurd cc
+unmet false code rest e = (refl, e)
+
+not_false : (b : Bool) → not b ≡ false → b ≡ true
+not_false true e = refl
+not_false false e = absurd cc
+
+-- ---- presets
+
+spi_key : (shape : GuestShape) (id : ℕ) → is_spi shape.spis id ≡ true → has_interrupt shape (if nat_lt id 32 then Private 0 id else Spi id) ≡ true
 spi_key shape id e = grind (arith, nat_tests)
 
-spi_there : (shape : GuestShape) (named : Bool) (id : Option ℕ) (rest : Bool) → (named && passes (λ id. has_interrupt shape (Spi id)) id && rest) ≡ true
-    → has_interrupt shape (if nat_lt (unwrap_or id 0) 32 then Private 0 (unwrap_or id 0) else Spi (unwrap_or id 0)) ≡ true
-spi_there shape false id rest e = absurd cc
-spi_there shape true None rest e = absurd cc
-spi_there shape true (Some id) rest e = grind (arith, nat_tests)
+zero_unless : (found : Option ℕ) → passes (λ n. not (n == 0)) found ≡ false → unwrap_or found 0 ≡ 0
+zero_unless None e = refl
+zero_unless (Some n) e = grind (arith, nat_tests)
 
--- the parts of a preset that pass are those of a good one
-good_parts : (shape : GuestShape) (named : Bool) (id prio : Option ℕ) (edge : Option Bool) (group to : Option ℕ) → IsShape shape
-    → (named && passes (λ id. has_interrupt shape (Spi id)) id && passes (λ prio. prio == DEFAULT_PRIORITY) prio && passes (λ edge. edge) edge && passes (λ group. group == DEFAULT_GROUP) group && passes (λ to. to == 0) to) ≡ true
-    → IsGoodPreset shape (record { id = unwrap_or id 0; prio = unwrap_or prio 0; edge = unwrap_or edge false; group = unwrap_or group 0; to = Some (unwrap_or to 0); vcpu = None })
-good_parts shape named id prio edge group to is built =
+-- the parts of a preset that has no fault are those of a good one
+good_parts : (shape : GuestShape) (id prio : Option ℕ) (edge : Bool) (group to : Option ℕ) → IsShape shape
+    → passes (λ prio. nat_le prio MAX_PRIORITY && prio % PRIORITY_STEP == 0) prio ≡ true → passes (λ group. nat_le group MAX_GROUP) group ≡ true
+    → passes (λ to. not (to == 0)) to ≡ false → passes (is_spi shape.spis) id ≡ true
+    → IsGoodPreset shape (record { id = unwrap_or id 0; prio = unwrap_or prio 0; edge = edge; group = unwrap_or group 0; to = Some (unwrap_or to 0); vcpu = None })
+good_parts shape id prio edge group to is prio_passes group_passes to_passes there =
+    let prio_test = passes-unwrap_or (λ prio. nat_le prio MAX_PRIORITY && prio % PRIORITY_STEP == 0) prio 0 prio_passes in
+    let group_test = passes-unwrap_or (λ group. nat_le group MAX_GROUP) group 0 group_passes in
+    let zero = zero_unless to to_passes in
     record {
-      there = grind (arith, nat_tests, spi_there, passes-unwrap_or);
-      prio = grind (arith, nat_tests, passes-unwrap_or);
-      prio_bits = grind (arith, nat_tests, passes-unwrap_or);
-      group = grind (arith, nat_tests, passes-unwrap_or);
-      target = grind (arith, nat_tests, passes-unwrap_or);
+      there = spi_key shape (unwrap_or id 0) (passes-unwrap_or (is_spi shape.spis) id 0 there);
+      prio = grind (arith, nat_tests);
+      prio_bits = grind (arith, nat_tests);
+      group = grind (arith, nat_tests);
+      target = rw zero is.some_vcpu;
     }
 
-good_preset : (shape : GuestShape) (d : Data) → IsShape shape → is_built_preset shape d ≡ true → IsGoodPreset shape (preset_of d)
-good_preset shape d is built =
-    good_parts shape (has_only preset_fields d) (number_at (codes "id") d) (number_or (codes "prio") DEFAULT_PRIORITY d) (flag_or (codes "edge") true d)
-    (number_or (codes "group") DEFAULT_GROUP d) (number_or (codes "to") 0 d) is built
+good_preset : (shape : GuestShape) (d : Data) → IsShape shape → preset_fault shape.spis d ≡ None → IsGoodPreset shape (preset_of d)
+good_preset shape d is e =
+    let built = unmet (is_unbuilt_preset d) 10 _ e in
+    let formed = unmet (not (is_preset d)) 1 _ built.1 in
+    let within = unmet (not (is_preset_in_range d)) 2 _ formed.1 in
+    let there = unmet (not (passes (is_spi shape.spis) (number_at (codes "id") d))) 4 _ within.1 in
+    let to = or_parts (passes not (flag_or (codes "edge") true d) || passes (λ id. nat_lt id FIRST_SPI) (number_at (codes "id") d)) (passes (λ to. not (to == 0)) (number_or (codes "to") 0 d)) built.0 in
+    let ranges =
+    and_parts (passes (λ prio. nat_le prio MAX_PRIORITY && prio % PRIORITY_STEP == 0) (number_or (codes "prio") DEFAULT_PRIORITY d))
+    (passes (λ group. nat_le group MAX_GROUP) (number_or (codes "group") DEFAULT_GROUP d)) (not_false (is_preset_in_range d) within.0) in
+    good_parts shape (number_at (codes "id") d) (number_or (codes "prio") DEFAULT_PRIORITY d) (unwrap_or (flag_or (codes "edge") true d) false) (number_or (codes "group") DEFAULT_GROUP d)
+    (number_or (codes "to") 0 d) is ranges.0 ranges.1 to.1 (not_false (passes (is_spi shape.spis) (number_at (codes "id") d)) there.0)
 
-good_presets : (shape : GuestShape) (ds : List Data) → IsShape shape → list_all (is_built_preset shape) ds ≡ true → All (IsGoodPreset shape) (map preset_of ds)
-good_presets shape [] is built = All-nil (IsGoodPreset shape)
-good_presets shape (d ∷ ds) is built =
-    let both = and_parts (is_built_preset shape d) (list_all (is_built_preset shape) ds) built in
-    All-cons (IsGoodPreset shape) (preset_of d) (map preset_of ds) (good_preset shape d is both.0) (good_presets shape ds is both.1)
+good_presets : (shape : GuestShape) (before : Option ℕ) (ds : List Data) → IsShape shape → fold first_code before (map (preset_fault shape.spis) ds) ≡ None → All (IsGoodPreset shape) (map preset_of ds)
+good_presets shape before [] is e = All-nil (IsGoodPreset shape)
+good_presets shape before (d ∷ ds) is e =
+    let first = first_code_none before (preset_fault shape.spis d) (fold_none (first_code before (preset_fault shape.spis d)) (map (preset_fault shape.spis) ds) e) in
+    All-cons (IsGoodPreset shape) (preset_of d) (map preset_of ds) (good_preset shape d is first.1) (good_presets shape (first_code before (preset_fault shape.spis d)) ds is e)
 
--- a guest of the form that is built
-good_guest : (d : Data) → IsShape (shape_of d) → is_built_guest d ≡ true → IsGoodGuest (guest_of d)
-good_guest d is built =
-    let presets = list_or_empty (codes "irqs") d in
-    let pass = and_parts (is_built_shape d && passes (λ on. on) (flag_or (codes "on") false d)) (passes (list_all (is_built_preset (shape_of d))) presets) built in
+-- ---- guests
+
+one_vcpu : (vcpus : Option ℕ) → passes (λ vcpus. nat_lt 1 vcpus) vcpus ≡ false → passes (λ vcpus. nat_le 1 vcpus) vcpus ≡ true → unwrap_or vcpus 0 ≡ 1
+one_vcpu None few some = absurd cc
+one_vcpu (Some n) few some = grind (arith, nat_tests)
+
+good_numbers : (vcpus spis devices lpis ram : Option ℕ) → unwrap_or vcpus 0 ≡ 1 → passes (λ spis. nat_le spis MAX_SPIS && spis % SPI_STEP == 0) spis ≡ true → passes (λ devices. nat_le devices MAX_DEVICES) devices ≡ true
+    → unwrap_or lpis 0 ≡ 0 → unwrap_or ram 0 ≡ 0
+    → IsShape (record { vcpus = unwrap_or vcpus 0; spis = unwrap_or spis 0; devices = unwrap_or devices 0; lpis = unwrap_or lpis 0; ram = unwrap_or ram 0 })
+good_numbers vcpus spis devices lpis ram one spis_pass devices_pass no_lpi no_ram =
+    let spis_test = passes-unwrap_or (λ spis. nat_le spis MAX_SPIS && spis % SPI_STEP == 0) spis 0 spis_pass in
+    let devices_test = passes-unwrap_or (λ devices. nat_le devices MAX_DEVICES) devices 0 devices_pass in
     record {
-      shape = is;
-      presets = good_presets (shape_of d) (unwrap_or presets []) is (passes-unwrap_or (list_all (is_built_preset (shape_of d))) presets [] pass.1);
+      some_vcpu = omega arith;
+      vcpus = omega arith;
+      spis = grind (arith, nat_tests);
+      spi_blocks = grind (arith, nat_tests);
+      devices = grind (arith, nat_tests);
+      lpis = omega arith;
+      ram = omega arith;
+      ram_words = rw no_ram refl;
     }
 
-good_if_built : (b : Bool) (d : Data) (guest : GuestSpec) → is_built_guest d ≡ b → Some guest ≡ (if b then Some (guest_of d) else None) → IsShape guest.shape → IsGoodGuest guest
-good_if_built false d guest built e is = absurd cc
-good_if_built true d guest built e is =
-    let same : guest_of d ≡ guest = cc in
-    let good : IsShape (guest_of d).shape → IsGoodGuest (guest_of d) = λ is. good_guest d is built in
-    subst (λ (g : GuestSpec). IsShape g.shape → IsGoodGuest g) same good is
+good_shape : (d : Data) → own_fault d ≡ None → IsShape (shape_of d)
+good_shape d e =
+    let built = unmet (is_unbuilt_guest d) 10 _ e in
+    let formed = unmet (not (is_guest d)) 1 _ built.1 in
+    let within = unmet (not (is_guest_in_range d)) 2 _ formed.1 in
+    let vcpus = number_or (codes "vcpus") DEFAULT_VCPUS d in
+    let spis = number_or (codes "spis") DEFAULT_SPIS d in
+    let devices = number_or (codes "devices") DEFAULT_DEVICES d in
+    let lpis = number_or (codes "lpis") 0 d in
+    let ram = number_or (codes "ram") 0 d in
+    let no_ram = or_parts (passes (λ vcpus. nat_lt 1 vcpus) vcpus || passes (λ lpis. not (lpis == 0)) lpis) (passes (λ ram. not (ram == 0)) ram) built.0 in
+    let no_lpi = or_parts (passes (λ vcpus. nat_lt 1 vcpus) vcpus) (passes (λ lpis. not (lpis == 0)) lpis) no_ram.0 in
+    let few_devices =
+    and_parts (passes (λ vcpus. nat_le 1 vcpus) vcpus && passes (λ spis. nat_le spis MAX_SPIS && spis % SPI_STEP == 0) spis) (passes (λ devices. nat_le devices MAX_DEVICES) devices)
+    (not_false (is_guest_in_range d) within.0) in
+    let few_spis = and_parts (passes (λ vcpus. nat_le 1 vcpus) vcpus) (passes (λ spis. nat_le spis MAX_SPIS && spis % SPI_STEP == 0) spis) few_devices.0 in
+    good_numbers vcpus spis devices lpis ram (one_vcpu vcpus no_lpi.0 few_spis.0) few_spis.1 few_devices.1 (zero_unless lpis no_lpi.1) (zero_unless ram no_ram.1)
 
--- an access, by its parts
-good_access : (shape : GuestShape) (is : 1 ≤ shape.vcpus) (named place iar eoir : Bool) (value : Option ℕ) (step : Step)
-    → (if named && place then (if iar then Some (Vcpu 0 0 (Icc Iar1 None)) else (if eoir then option_map (λ value. Vcpu 0 0 (Icc Eoir1 (Some value))) value else None)) else None) ≡ Some step
-    → is_good_step (shape ∷ []) step ≡ true
-good_access shape is false place iar eoir value step e = absurd cc
-good_access shape is true false iar eoir value step e = absurd cc
-good_access shape is true true true eoir value step e = grind (arith, nat_tests)
-good_access shape is true true false false value step e = absurd cc
-good_access shape is true true false true None step e = absurd cc
-good_access shape is true true false true (Some value) step e = grind (arith, nat_tests)
+all_spis : (n m : ℕ) → n ≤ m → min n m ≡ n
+all_spis n m within = omega arith
 
-either : (message access : Option Step) (step : Step) → ok_or (option_or message access) NOT_BUILT ≡ Ok step → (message ≡ Some step) ⊎ (access ≡ Some step)
-either None None step e = absurd cc
-either None (Some other) step e = inr cc
-either (Some other) access step e = inl cc
+good_guest : (d : Data) → guest_fault d ≡ None → IsGoodGuest (guest_of d)
+good_guest d e =
+    let both = first_code_none (own_fault d) (first_of (map (preset_fault (spis_of d)) (elements_at (codes "irqs") d))) e in
+    let is = good_shape d both.0 in
+    let presets = rw (all_spis (shape_of d).spis MAX_SPIS is.spis) at both.1 in
+    record { shape = is; presets = good_presets (shape_of d) None (elements_at (codes "irqs") d) is presets }
 
-good_step : (shape : GuestShape) (d : Data) (step : Step) → IsShape shape → step_of shape d ≡ Ok step → is_good_step (shape ∷ []) step ≡ true
-good_step shape d step is e =
-    elim (either (message_of shape d) (access_of d) step e) [
-      | inl message ↦ good_message shape (has_only (codes "dev" ∷ codes "message" ∷ []) d) (pair_at (codes "dev") d) (number_at (codes "message") d) step message
-      | inr access ↦ good_access shape is.some_vcpu (has_only (codes "vcpu" ∷ codes "icc" ∷ codes "write" ∷ []) d) (passes (λ place. place.0 == 0 && place.1 == 0) (pair_at (codes "vcpu") d))
-          (is_text (name_of Iar1) (get (codes "icc") d) && is_none (get (codes "write") d)) (is_text (name_of Eoir1) (get (codes "icc") d)) (number_at (codes "write") d) step access
-    ]
+-- the guest of a scenario that has one
+pub one_guest : (ds : List Data) (guests : List GuestSpec) (default : GuestSpec) → length ds ≡ 1 → first_of (map guest_fault ds) ≡ None → guests ≡ map guest_of ds
+    → (guests ≡ get_or guests 0 default ∷ []) × IsGoodGuest (get_or guests 0 default)
+one_guest [] guests default one none e = absurd (omega arith)
+one_guest (d ∷ []) guests default one none e = rw e (refl, good_guest d none)
+one_guest (d ∷ other ∷ ds) guests default one none e = absurd (omega arith)
+
+-- ---- steps
+
+good_message : (shape : GuestShape) (place : Option (ℕ × ℕ)) (id : Option ℕ)
+    → passes (λ place. place.0 == 0 && nat_lt place.1 shape.devices) place ≡ true → passes (λ id. has_interrupt shape (Spi id)) id ≡ true
+    → is_good_step (shape ∷ []) (Device (unwrap_or place (0, 0)).0 (unwrap_or place (0, 0)).1 (Message (unwrap_or id 0))) ≡ true
+good_message shape None id sender there = absurd cc
+good_message shape (Some place) None sender there = absurd cc
+good_message shape (Some place) (Some id) sender there = grind (arith, nat_tests)
+
+found_or : {X : Type 0} (p : X → Bool) (x y : X) (rest : Option X) (b : Bool) → p y ≡ b → (if b then Some y else rest) ≡ Some x → (rest ≡ Some x → p x ≡ true) → p x ≡ true
+found_or p x y rest true passed e later = let same : y ≡ x = cc in rw (← same) passed
+found_or p x y rest false failed e later = later e
+
+find_passes : {X : Type 0} (p : X → Bool) (xs : List X) (x : X) → find p xs ≡ Some x → p x ≡ true
+find_passes p [] x e = absurd cc
+find_passes p (y ∷ xs) x e = found_or p x y (find p xs) (p y) refl e (find_passes p xs x)
+
+-- a register that is not SGI1R by its name
+not_sgi1r : (text : Option (List ℕ)) → passes (bytes_eq (name_of Sgi1r)) text ≡ false → option_and_then register_named text ≡ Some Sgi1r → ⊥
+not_sgi1r None other e = cc
+not_sgi1r (Some text) other e = let named = find_passes (λ reg. bytes_eq (name_of reg) text) registers Sgi1r e in cc
+
+built : (reg : IccReg) (write : Option ℕ) → (reg ≡ Sgi1r → ⊥) → is_usable write reg ≡ true → is_built_access reg write ≡ true
+built reg None other e = e
+built Sgi1r (Some value) other e = absurd (other refl)
+built Iar0 (Some value) other e = e
+built Iar1 (Some value) other e = e
+built Hppir0 (Some value) other e = e
+built Hppir1 (Some value) other e = e
+built Eoir0 (Some value) other e = e
+built Eoir1 (Some value) other e = e
+built Dir (Some value) other e = e
+built Rpr (Some value) other e = e
+built Pmr (Some value) other e = e
+built Bpr0 (Some value) other e = e
+built Bpr1 (Some value) other e = e
+built Ctlr (Some value) other e = e
+built Igrpen0 (Some value) other e = e
+built Igrpen1 (Some value) other e = e
+built Ap0r0 (Some value) other e = e
+built Ap1r0 (Some value) other e = e
+built Sre (Some value) other e = e
+
+good_access : (shape : GuestShape) (place : Option (ℕ × ℕ)) (reg : Option IccReg) (write : Option ℕ)
+    → passes (λ place. place.0 == 0 && nat_lt place.1 shape.vcpus) place ≡ true → passes (is_usable write) reg ≡ true → (reg ≡ Some Sgi1r → ⊥)
+    → is_good_step (shape ∷ []) (Vcpu (unwrap_or place (0, 0)).0 (unwrap_or place (0, 0)).1 (Icc (unwrap_or reg Iar0) write)) ≡ true
+good_access shape None reg write there usable other = absurd cc
+good_access shape (Some place) None write there usable other = absurd cc
+good_access shape (Some place) (Some reg) write there usable other =
+    let ok = built reg write (λ (same : reg ≡ Sgi1r). other (ap Some same)) usable in
+    grind (arith, nat_tests)
+
+good_message_step : (shape : GuestShape) (d : Data) → message_fault shape d ≡ None → is_good_step (shape ∷ []) (message_of d) ≡ true
+good_message_step shape d e =
+    let formed = unmet (not (is_message d)) 1 _ e in
+    let there = unmet (not (has_sender shape d)) 4 _ formed.1 in
+    let both =
+    and_parts (passes (λ place. place.0 == 0 && nat_lt place.1 shape.devices) (pair_at (codes "dev") d)) (passes (λ id. has_interrupt shape (Spi id)) (number_at (codes "message") d))
+    (not_false (has_sender shape d) there.0) in
+    good_message shape (pair_at (codes "dev") d) (number_at (codes "message") d) both.0 both.1
+
+good_access_step : (shape : GuestShape) (d : Data) → is_unbuilt_step d ≡ false → access_fault shape d ≡ None → is_good_step (shape ∷ []) (access_of d) ≡ true
+good_access_step shape d is_built e =
+    let formed = unmet (not (is_access d)) 1 _ e in
+    let known = unmet (not (passes (is_usable (number_at (codes "write") d)) (register_at d))) 3 _ formed.1 in
+    let there = unmet (not (has_vcpu shape d)) 4 _ known.1 in
+    let named = or_parts (list_any (λ name. is_some (get name d)) unbuilt_fields) (passes (bytes_eq (name_of Sgi1r)) (text_at (codes "icc") d)) is_built in
+    good_access shape (pair_at (codes "vcpu") d) (register_at d) (number_at (codes "write") d) (not_false (has_vcpu shape d) there.0)
+    (not_false (passes (is_usable (number_at (codes "write") d)) (register_at d)) known.0) (not_sgi1r (text_at (codes "icc") d) named.1)
+
+-- by which form it is
+by_form : (shape : GuestShape) (d : Data) (is_message : Bool) → is_unbuilt_step d ≡ false → (if is_message then message_fault shape d else access_fault shape d) ≡ None
+    → is_good_step (shape ∷ []) (if is_message then message_of d else access_of d) ≡ true
+by_form shape d true is_built e = good_message_step shape d e
+by_form shape d false is_built e = good_access_step shape d is_built e
+
+good_step : (shape : GuestShape) (d : Data) (step : Step) → step_of shape d ≡ Ok step → is_good_step (shape ∷ []) step ≡ true
+good_step shape d step e =
+    let parts = ok_parts (step_fault shape d) (step_value d) step (sym e) in
+    let built = unmet (is_unbuilt_step d) 10 _ parts.0 in
+    rw parts.1 (by_form shape d (is_some (get (codes "message") d)) built.0 built.1)
 
 -- the first of the steps and the others, where there is no fault
 parts : (number : ℕ) (first : Result Step ℕ) (rest : Result (List Step) Fault) (read : List Step) → step_and_rest number first rest ≡ Ok read
@@ -132,13 +256,12 @@ read_none : (read : List Step) → steps_of_none ≡ Ok read → read ≡ []
 read_none read e = cc
 
 -- steps without a fault, of a guest that is there
-pub good_steps : (shape : GuestShape) (number : ℕ) (ds : List Data) (read : List Step) → IsShape shape → steps_of shape number ds ≡ Ok read
-    → All (λ step. IsTrue (is_good_step (shape ∷ []) step)) read
-good_steps shape number [] read is e = All-same (λ step. IsTrue (is_good_step (shape ∷ []) step)) read [] (read_none read e) (All-nil (λ step. IsTrue (is_good_step (shape ∷ []) step)))
-good_steps shape number (d ∷ ds) read is e =
+good_steps : (shape : GuestShape) (number : ℕ) (ds : List Data) (read : List Step) → steps_of shape number ds ≡ Ok read → All (λ step. IsTrue (is_good_step (shape ∷ []) step)) read
+good_steps shape number [] read e = All-same (λ step. IsTrue (is_good_step (shape ∷ []) step)) read [] (read_none read e) (All-nil (λ step. IsTrue (is_good_step (shape ∷ []) step)))
+good_steps shape number (d ∷ ds) read e =
     let p = parts number (step_of shape d) (steps_of shape (number + 1) ds) read e in
     All-same (λ step. IsTrue (is_good_step (shape ∷ []) step)) read (p.0 ∷ p.1) p.4
-    (All-cons (λ step. IsTrue (is_good_step (shape ∷ []) step)) p.0 p.1 (good_step shape d p.0 is p.2) (good_steps shape (number + 1) ds p.1 is p.3))
+    (All-cons (λ step. IsTrue (is_good_step (shape ∷ []) step)) p.0 p.1 (good_step shape d p.0 p.2) (good_steps shape (number + 1) ds p.1 p.3))
 
 length-steps_of : (shape : GuestShape) (number : ℕ) (ds : List Data) (read : List Step) → steps_of shape number ds ≡ Ok read → length read ≡ length ds
 length-steps_of shape number [] read e = ap length (read_none read e)
@@ -146,11 +269,12 @@ length-steps_of shape number (d ∷ ds) read e =
     let p = parts number (step_of shape d) (steps_of shape (number + 1) ds) read e in
     ap length p.4 ∙ ap suc (length-steps_of shape (number + 1) ds p.1 p.3)
 
--- a scenario of one guest of the form that is built, and of steps without a fault
-pub good_scenario : (mode : Mode) (lrs : ℕ) (d : Data) (guest : GuestSpec) (ds : List Data) (steps : List Step) → 1 ≤ lrs → lrs ≤ 16
-    → Some guest ≡ (if is_built_guest d then Some (guest_of d) else None) → IsShape guest.shape → length ds ≤ MAX_STEPS → steps_of guest.shape 1 ds ≡ Ok steps
-    → IsGood mode (record { pes = 1; lrs = lrs; guests = guest ∷ []; steps = steps })
-good_scenario mode lrs d guest ds steps some within is_guest is few read =
+-- a scenario of one good guest and of steps without a fault
+pub good_scenario : (mode : Mode) (lrs : ℕ) (guest : GuestSpec) (guests : List GuestSpec) (ds : List Data) (steps : List Step) → 1 ≤ lrs → lrs ≤ 16
+    → guests ≡ guest ∷ [] → IsGoodGuest guest → length ds ≤ MAX_STEPS → steps_of guest.shape 1 ds ≡ Ok steps
+    → IsGood mode (record { pes = 1; lrs = lrs; guests = guests; steps = steps })
+good_scenario mode lrs guest guests ds steps some within are good few read =
+    rw are
     record {
       some_pe = lit≤ tt;
       pes = lit≤ tt;
@@ -158,7 +282,20 @@ good_scenario mode lrs d guest ds steps some within is_guest is few read =
       list_registers = within;
       some_guest = lit≤ tt;
       guests = lit≤ tt;
-      each_guest = All-cons IsGoodGuest guest [] (good_if_built (is_built_guest d) d guest refl is_guest is) (All-nil IsGoodGuest);
+      each_guest = All-cons IsGoodGuest guest [] good (All-nil IsGoodGuest);
       steps = rw (length-steps_of guest.shape 1 ds steps read) few;
-      each_step = good_steps guest.shape 1 ds steps is read;
+      each_step = good_steps guest.shape 1 ds steps read;
     }
+
+-- ---- what is read of the parts of a scenario
+
+-- two parts that were both read
+pub read_parts : {X Y : Type 0} (Q : X → Type 0) (Bad : ℕ → Type 0) (first : Result X ℕ) (fault : Option ℕ) (second : Result Y ℕ) (y : Y) (both_read : X × Y)
+    → MatchResult first Q Bad → second ≡ ok_unless fault y → Ok both_read ≡ both first second → Q both_read.0 × (fault ≡ None) × (both_read.1 ≡ y)
+read_parts Q Bad (Err code) fault (Ok z) y both_read is e h = absurd cc
+read_parts Q Bad (Err code) fault (Err other) y both_read is e h = absurd cc
+read_parts Q Bad (Ok x) fault (Err other) y both_read is e h = absurd cc
+read_parts Q Bad (Ok x) fault (Ok z) y both_read is e h =
+    let same : both_read ≡ (x, z) = cc in
+    let second = ok_parts fault y z e in
+    (subst Q (sym (ap (λ p. p.0) same)) is, second.0, ap (λ p. p.1) same ∙ second.1)

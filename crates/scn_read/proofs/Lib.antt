@@ -1,5 +1,5 @@
 pub mod FieldLemmas
 pub mod GoodLemmas
+pub mod GuestLemmas
 pub mod ListLemmas
-pub mod OpeningLemmas
 pub mod StepLemmas

@@ -1,35 +1,55 @@
--- Steps of a loop that reads a list's elements one after the other, each where it passes a test.
-use Rattle.std.proofs.Common.{◌≡◌, ℕ, ◌+◌, ◌<◌, List, [], ◌∷◌, ◌++◌, length, get_or, drop, map, Bool, true, false, Some, None, if◌then◌else◌, append_assoc, refl, add-one, drop-cons}
-use Rattle.std.specs.List.{list_all}
+-- Steps of a loop that reads the elements of a list one after the other.
+use Rattle.std.proofs.Common.{◌≡◌, ℕ, ◌+◌, ◌<◌, List, [], ◌∷◌, ◌++◌, length, get_or, drop, map, fold, Option, Some, None, Ok, Err, refl, sym, ◌∙◌, append_assoc, add-one, drop-cons}
+use Rattle.scn_read.specs.Fault.{first_code, ok_unless}
 
 -- what is left at an element is the element and what is left after it
 pub drop_item : {X : Type 0} (xs : List X) (i : ℕ) (x : X) → i < length xs → x ≡ get_or xs i x → drop i xs ≡ x ∷ drop (i + 1) xs
 drop_item xs i x within is = rw (add-one, drop-cons xs i x within, ← is)
 
-failed : {Y : Type 0} (b : Bool) (y : Y) → None ≡ (if b then Some y else None) → b ≡ false
-failed true y e = cc
-failed false y e = refl
+-- what was read is the value, and there is no fault, or it is the fault
+pub ok_parts : {Y : Type 0} (fault : Option ℕ) (x y : Y) → Ok y ≡ ok_unless fault x → (fault ≡ None) × (y ≡ x)
+ok_parts None x y e = (refl, cc)
+ok_parts (Some code) x y e = absurd cc
 
-passed : {Y : Type 0} (b : Bool) (y z : Y) → Some z ≡ (if b then Some y else None) → (b ≡ true) × (z ≡ y)
-passed true y z e = (refl, cc)
-passed false y z e = absurd cc
+pub err_is : {Y : Type 0} (fault : Option ℕ) (x : Y) (code : ℕ) → Err code ≡ ok_unless fault x → fault ≡ Some code
+err_is None x code e = absurd cc
+err_is (Some other) x code e = cc
 
--- of values vs, whose data is read by f where it passes p; the one at i is v
-module _ {V X Y : Type 0} (data_of : V → X) (p : X → Bool) (f : X → Y) (vs : List V) (i : ℕ) (v : V) (within : i < length vs) (is : v ≡ get_or vs i v) where
-  -- it fails
-  pub none_from_failed : list_all p (map data_of (drop i vs)) ≡ list_all p (map data_of vs) → None ≡ (if p (data_of v) then Some (f (data_of v)) else None)
-      → None ≡ (if list_all p (map data_of vs) then Some (map f (map data_of vs)) else None)
-  none_from_failed built e = rw (← built, drop_item vs i v within is, failed (p (data_of v)) (f (data_of v)) e)
+first_code-none : (before : Option ℕ) → first_code before None ≡ before
+first_code-none None = refl
+first_code-none (Some code) = refl
 
-  -- it passes, and y was read after what was done
-  pub read_more : (done : List Y) (y : Y) → done ++ map f (map data_of (drop i vs)) ≡ map f (map data_of vs)
-      → Some y ≡ (if p (data_of v) then Some (f (data_of v)) else None) → (done ++ y ∷ []) ++ map f (map data_of (drop (i + 1) vs)) ≡ map f (map data_of vs)
-  read_more done y read e =
-      let at_it = rw (drop_item vs i v within is) at read in
-      rw ((passed (p (data_of v)) (f (data_of v)) y e).1, append_assoc) at_it
+first_code-some : (before : Option ℕ) (code : ℕ) → first_code before (Some code) ≡ None → ⊥
+first_code-some None code e = cc
+first_code-some (Some other) code e = cc
 
-  pub built_more : (y : Y) → list_all p (map data_of (drop i vs)) ≡ list_all p (map data_of vs) → Some y ≡ (if p (data_of v) then Some (f (data_of v)) else None)
-      → list_all p (map data_of (drop (i + 1) vs)) ≡ list_all p (map data_of vs)
-  built_more y built e =
-      let at_it = rw (drop_item vs i v within is) at built in
-      rw (passed (p (data_of v)) (f (data_of v)) y e).0 at at_it
+-- of values vs, whose data has a fault by `fault` and else is read by f; the one at i is v
+module _ {V X Y : Type 0} (data_of : V → X) (fault : X → Option ℕ) (f : X → Y) (vs : List V) (i : ℕ) (v : V) (within : i < length vs) (is : v ≡ get_or vs i v) where
+  -- what it has is joined to the fault before it
+  faults_more : (before : Option ℕ) (whole : Option ℕ) → fold first_code before (map fault (map data_of (drop i vs))) ≡ whole
+      → fold first_code (first_code before (fault (data_of v))) (map fault (map data_of (drop (i + 1) vs))) ≡ whole
+  faults_more before whole so_far = rw (drop_item vs i v within is) at so_far
+
+  -- it is read, and put after those before it
+  pub faults_ok : (before after whole : Option ℕ) (y : Y) → Ok y ≡ ok_unless (fault (data_of v)) (f (data_of v)) → after ≡ before → fold first_code before (map fault (map data_of (drop i vs))) ≡ whole
+      → fold first_code after (map fault (map data_of (drop (i + 1) vs))) ≡ whole
+  faults_ok before after whole y e same so_far =
+      let more = rw (first_code-none before) at (rw (ok_parts (fault (data_of v)) (f (data_of v)) y e).0 at faults_more before whole so_far) in
+      rw same more
+
+  pub read_ok : (before after : Option ℕ) (done longer whole : List Y) (y : Y) → Ok y ≡ ok_unless (fault (data_of v)) (f (data_of v)) → after ≡ before → longer ≡ done ++ y ∷ []
+      → (before ≡ None → done ++ map f (map data_of (drop i vs)) ≡ whole) → after ≡ None → longer ++ map f (map data_of (drop (i + 1) vs)) ≡ whole
+  read_ok before after done longer whole y e same added so_far none =
+      let more = rw (drop_item vs i v within is) at so_far (sym same ∙ none) in
+      rw (added, (ok_parts (fault (data_of v)) (f (data_of v)) y e).1, append_assoc) more
+
+  -- it has a fault, which is joined to the one before it
+  pub faults_err : (before after whole : Option ℕ) (code : ℕ) → Err code ≡ ok_unless (fault (data_of v)) (f (data_of v)) → after ≡ first_code before (Some code)
+      → fold first_code before (map fault (map data_of (drop i vs))) ≡ whole → fold first_code after (map fault (map data_of (drop (i + 1) vs))) ≡ whole
+  faults_err before after whole code e joined so_far =
+      let more = rw (err_is (fault (data_of v)) (f (data_of v)) code e) at faults_more before whole so_far in
+      rw joined more
+
+-- there is one then
+pub read_err : {P : Type 0} (before after : Option ℕ) (code : ℕ) → after ≡ first_code before (Some code) → after ≡ None → P
+read_err before after code joined none = absurd (first_code-some before code (sym joined ∙ none))

@@ -1,11 +1,11 @@
 -- What the fields of a JSON object hold, as scenarios use them (own choice).
-use Rattle.std.specs.Prelude.{ℕ, ◌+◌, ◌*◌, ◌&&◌, List, [], ◌∷◌, length, take, drop, Bool, false, nat_lt, nat_le, if◌then◌else◌, Option, Some, None, option_map, option_and_then, codes}
+use Rattle.std.specs.Prelude.{ℕ, ◌+◌, ◌*◌, ◌&&◌, List, [], ◌∷◌, length, take, drop, Bool, false, nat_lt, nat_le, if◌then◌else◌, Option, Some, None, option_map, option_and_then, unwrap_or, codes}
 use Rattle.std.specs.Option.{option_map_or, option_zip}
 use Rattle.std.specs.List.{list_all, list_any}
 use Rattle.std.specs.Char.{digit_value}
 use Rattle.std.specs.Str.{bytes_eq}
 use Rattle.serde_json.specs.Data.{Data, null, boolean, number, string, array, object, Items, no_items, item, Members, no_members, member}
-use Rattle.serde_json.specs.Find.{get, as_u64, as_bool, as_array, as_object}
+use Rattle.serde_json.specs.Find.{get, as_u64, as_bool, as_str, as_array, as_object}
 
 -- the value is there and passes a test
 abbrev pub passes : {X : Type 0} → (X → Bool) → Option X → Bool
@@ -71,9 +71,17 @@ number_or name default d = option_map_or number_of (get name d) (Some default)
 abbrev pub flag_or : List ℕ → Bool → Data → Option Bool
 flag_or name default d = option_map_or as_bool (get name d) (Some default)
 
+-- the text in a field that has to be there
+abbrev pub text_at : List ℕ → Data → Option (List ℕ)
+text_at name d = option_and_then as_str (get name d)
+
 -- the elements in a field that has to be there
 abbrev pub list_at : List ℕ → Data → Option (List Data)
 list_at name d = option_and_then list_of (get name d)
+
+-- the elements in a field, or none where there is no such list
+abbrev pub elements_at : List ℕ → Data → List Data
+elements_at name d = unwrap_or (list_at name d) []
 
 -- the elements in a field, or none where there is no such field
 abbrev pub list_or_empty : List ℕ → Data → Option (List Data)

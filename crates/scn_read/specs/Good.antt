@@ -1,17 +1,18 @@
 -- What holds of each scenario that has no fault (own choice).
-use Rattle.std.specs.Prelude.{◌≡◌, ℕ, ◌%◌, ◌<◌, ◌≤◌, ◌&&◌, List, length, All, Bool, true, false, IsTrue, nat_lt, if◌then◌else◌, Option, Some, None, map, unwrap_or, slice_get}
+use Rattle.std.specs.Prelude.{◌≡◌, ℕ, ◌%◌, ◌<◌, ◌≤◌, ◌&&◌, List, length, All, Bool, false, IsTrue, nat_lt, if◌then◌else◌, Option, Some, None, map, unwrap_or, slice_get}
 use Rattle.gic_base.specs.declared.shape.GuestShape.{GuestShape}
 use Rattle.gic_base.specs.declared.interrupt.Key.{Key}
 use Rattle.gic_base.specs.declared.interrupt.Key.TheVariants.{Private, Spi}
 use Rattle.gic_base.specs.declared.interrupt.TheConstants.{PRIVATE_COUNT}
 use Rattle.gic_base.specs.declared.icc.IccReg.{IccReg}
-use Rattle.gic_base.specs.declared.icc.IccReg.TheVariants.{Iar1, Eoir1}
+use Rattle.gic_base.specs.declared.icc.IccReg.TheVariants.{Sgi1r}
 use Rattle.gic_base.specs.declared.operation.GuestOp.{GuestOp}
 use Rattle.gic_base.specs.declared.operation.GuestOp.TheVariants.{Icc, Mem}
 use Rattle.gic_base.specs.declared.operation.DeviceOp.{DeviceOp}
 use Rattle.gic_base.specs.declared.operation.DeviceOp.TheVariants.{Message, Wire, Msi}
 use Rattle.gic_base.specs.Shape.{IsShape}
 use Rattle.gic_base.specs.Interrupt.{has_interrupt}
+use Rattle.gic_base.specs.Icc.{is_readable, is_writable}
 use Rattle.scn_read.specs.declared.scenario.Scenario.{Scenario}
 use Rattle.scn_read.specs.declared.scenario.GuestSpec.{GuestSpec}
 use Rattle.scn_read.specs.declared.scenario.Preset.{Preset}
@@ -38,11 +39,11 @@ pub record IsGoodGuest (guest : GuestSpec) : Type 0 where
   pub shape : IsShape guest.shape
   pub presets : All (IsGoodPreset guest.shape) guest.presets
 
--- the register is read or written as a step that is built does it
+-- a register that a step may read or write so: each one but SGI1R, as far as it can be read or written
 abbrev pub is_built_access : IccReg → Option ℕ → Bool
-is_built_access Iar1 None = true
-is_built_access Eoir1 (Some value) = true
-is_built_access reg write = false
+is_built_access reg None = is_readable reg
+is_built_access Sgi1r (Some value) = false
+is_built_access reg (Some value) = is_writable reg
 
 -- a vCPU's operation is of a form that is built
 abbrev pub is_built_op : GuestOp → Bool

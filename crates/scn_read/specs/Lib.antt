@@ -1,4 +1,5 @@
 pub mod Field
+pub mod Fault
 pub mod Guest
 pub mod Step
 pub mod Reading

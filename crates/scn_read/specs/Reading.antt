@@ -1,5 +1,5 @@
 -- The scenario that a JSON value is, or its fault (own choice).
-use Rattle.std.specs.Prelude.{◌≡◌, ℕ, ◌+◌, ◌≤◌, ◌&&◌, ◌==◌, ⊤, List, [], ◌∷◌, length, map, nat_le, if◌then◌else◌, Bool, false, unwrap_or, Some, Result, Ok, Err, codes}
+use Rattle.std.specs.Prelude.{◌≡◌, ℕ, ◌+◌, ◌≤◌, ◌&&◌, ◌||◌, not, ⊤, List, [], ◌∷◌, length, map, nat_lt, nat_le, Bool, is_some, unwrap_or, Option, Some, None, Result, Ok, Err, codes}
 use Rattle.std.specs.List.{slice_index_or}
 use Rattle.serde_json.specs.Data.{Data, null}
 use Rattle.gic_base.specs.declared.shape.GuestShape.{GuestShape}
@@ -9,33 +9,50 @@ use Rattle.scn_read.specs.declared.scenario.Mode.{Mode}
 use Rattle.scn_read.specs.declared.scenario.Fault.{Fault}
 use Rattle.scn_read.specs.declared.scenario.ReadRefusal.{ReadRefusal}
 use Rattle.scn_read.specs.declared.scenario.ReadRefusal.TheVariants.{Bad, NoMemory}
-use Rattle.scn_read.specs.declared.scenario.TheConstants.{MAX_STEPS, MAX_LIST_REGISTERS, DEFAULT_PES, DEFAULT_LIST_REGISTERS, NOT_BUILT}
-use Rattle.scn_read.specs.Field.{passes, has_only, number_or, list_at}
-use Rattle.scn_read.specs.Guest.{is_built_guest, guest_of, shape_of}
+use Rattle.scn_read.specs.declared.scenario.TheConstants.{MAX_STEPS, MAX_LIST_REGISTERS, DEFAULT_PES, DEFAULT_LIST_REGISTERS, SHAPE, LIMIT, NOT_BUILT}
+use Rattle.scn_read.specs.Field.{passes, has_only, number_or, list_at, elements_at}
+use Rattle.scn_read.specs.Fault.{first_code, first_of, first_met}
+use Rattle.scn_read.specs.Guest.{guest_fault, guest_of, shape_of}
 use Rattle.scn_read.specs.Step.{step_of}
 
 -- the fields of a scenario
 abbrev pub scenario_fields : List (List ℕ)
 scenario_fields = codes "pes" ∷ codes "lrs" ∷ codes "guests" ∷ codes "steps" ∷ []
 
--- one guest, of the form that is built
-abbrev pub is_one_guest : List Data → Bool
-is_one_guest [] = false
-is_one_guest (guest ∷ []) = is_built_guest guest
-is_one_guest (guest ∷ other ∷ rest) = false
+-- not built: more than one PE, and more than one guest
+abbrev pub is_unbuilt_scenario : Data → Bool
+is_unbuilt_scenario d =
+    passes (λ pes. nat_lt 1 pes) (number_or (codes "pes") DEFAULT_PES d)
+    || passes (λ guests. nat_lt 1 (length guests)) (list_at (codes "guests") d)
 
--- all that stands outside of the steps is of the form that is built, and there are not too many steps
-abbrev pub is_built_opening : Data → Bool
-is_built_opening d =
+-- each field of a scenario is one of its table, and of its kind
+abbrev pub is_scenario : Data → Bool
+is_scenario d =
     has_only scenario_fields d
-    && passes (λ pes. pes == 1) (number_or (codes "pes") DEFAULT_PES d)
+    && is_some (number_or (codes "pes") DEFAULT_PES d)
+    && is_some (number_or (codes "lrs") DEFAULT_LIST_REGISTERS d)
+    && is_some (list_at (codes "guests") d)
+    && is_some (list_at (codes "steps") d)
+
+-- each number of a scenario is in its range, the lengths of its lists among them
+abbrev pub is_scenario_in_range : Data → Bool
+is_scenario_in_range d =
+    passes (λ pes. nat_le 1 pes) (number_or (codes "pes") DEFAULT_PES d)
     && passes (λ lrs. nat_le 1 lrs && nat_le lrs MAX_LIST_REGISTERS) (number_or (codes "lrs") DEFAULT_LIST_REGISTERS d)
-    && passes is_one_guest (list_at (codes "guests") d)
+    && passes (λ guests. nat_le 1 (length guests)) (list_at (codes "guests") d)
     && passes (λ steps. nat_le (length steps) MAX_STEPS) (list_at (codes "steps") d)
+
+-- the fault of a scenario's own fields
+abbrev pub scenario_fault : Data → Option ℕ
+scenario_fault d = first_met ((is_unbuilt_scenario d, NOT_BUILT) ∷ (not (is_scenario d), SHAPE) ∷ (not (is_scenario_in_range d), LIMIT) ∷ [])
+
+-- the first fault of all that stands outside of the steps
+abbrev pub outside_fault : Data → Option ℕ
+outside_fault d = first_code (scenario_fault d) (first_of (map guest_fault (elements_at (codes "guests") d)))
 
 -- what guest 0 has of each kind
 abbrev pub first_shape : Data → GuestShape
-first_shape d = shape_of (slice_index_or (unwrap_or (list_at (codes "guests") d) []) 0 null)
+first_shape d = shape_of (slice_index_or (elements_at (codes "guests") d) 0 null)
 
 -- a step and those that follow it, or the first fault of them
 abbrev pub step_and_rest : ℕ → Result Step ℕ → Result (List Step) Fault → Result (List Step) Fault
@@ -54,7 +71,7 @@ scenario_with d steps =
     record {
       pes = unwrap_or (number_or (codes "pes") DEFAULT_PES d) 0;
       lrs = unwrap_or (number_or (codes "lrs") DEFAULT_LIST_REGISTERS d) 0;
-      guests = map guest_of (unwrap_or (list_at (codes "guests") d) []);
+      guests = map guest_of (elements_at (codes "guests") d);
       steps = steps;
     }
 
@@ -63,25 +80,28 @@ abbrev pub scenario_or_fault : Data → Result (List Step) Fault → Result Scen
 scenario_or_fault d (Ok steps) = Ok (scenario_with d steps)
 scenario_or_fault d (Err fault) = Err fault
 
--- the scenario that a value is, or its fault: the first by step, where 0 is the number of all outside of the steps.
--- The forms that are built mean the same in both modes.
+-- the scenario where nothing outside of its steps has a fault
+abbrev pub reading_inside : Option ℕ → Data → Result Scenario Fault
+reading_inside (Some code) d = Err (record { code = code; step = 0 })
+reading_inside None d = scenario_or_fault d (steps_of (first_shape d) 1 (elements_at (codes "steps") d))
+
+-- the scenario that a value is, or its fault: the first by step, where 0 is the number of all outside of the steps, and then
+-- by rank. The forms that are built mean the same in both modes.
 abbrev pub reading : Mode → Data → Result Scenario Fault
-reading mode d =
-    if is_built_opening d then scenario_or_fault d (steps_of (first_shape d) 1 (unwrap_or (list_at (codes "steps") d) []))
-    else Err (record { code = NOT_BUILT; step = 0 })
+reading mode d = reading_inside (outside_fault d) d
 
 -- the refusal is the fault of a reading, or for memory
 abbrev pub Refuses : {X : Type 0} → Result X Fault → ReadRefusal → Type 0
 Refuses read (Bad fault) = read ≡ Err fault
 Refuses read NoMemory = ⊤
 
--- the list registers, the one guest and the steps of a scenario, which is of the form that is built where that guest is
-pub record IsOpening (d : Data) (lrs : ℕ) (guest : Data) (steps : List Data) : Type 0 where
+-- the list registers and the steps of a scenario, the own fields of which have no fault
+pub record IsOpening (d : Data) (lrs : ℕ) (steps : List Data) : Type 0 where
+  pub own : scenario_fault d ≡ None
   pub pes_is : number_or (codes "pes") DEFAULT_PES d ≡ Some DEFAULT_PES
   pub lrs_is : number_or (codes "lrs") DEFAULT_LIST_REGISTERS d ≡ Some lrs
   pub some_list_register : 1 ≤ lrs
   pub list_registers : lrs ≤ MAX_LIST_REGISTERS
-  pub guest_is : list_at (codes "guests") d ≡ Some (guest ∷ [])
+  pub one_guest : length (elements_at (codes "guests") d) ≡ 1
   pub steps_are : list_at (codes "steps") d ≡ Some steps
   pub few : length steps ≤ MAX_STEPS
-  pub built : is_built_opening d ≡ is_built_guest guest

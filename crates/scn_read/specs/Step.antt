@@ -1,42 +1,96 @@
--- The steps of a scenario, of the forms that are built (own choice).
-use Rattle.std.specs.Prelude.{ℕ, ◌&&◌, ◌==◌, List, [], ◌∷◌, nat_lt, if◌then◌else◌, Bool, Option, Some, None, is_none, unwrap_or, option_map, option_and_then, Result, codes}
-use Rattle.std.specs.Option.{option_or, ok_or}
+-- The steps of a scenario: their faults, and what they say where they have none (own choice).
+use Rattle.std.specs.Prelude.{ℕ, ◌&&◌, ◌||◌, ◌==◌, not, List, [], ◌∷◌, nat_lt, if◌then◌else◌, Bool, Option, Some, None, is_some, unwrap_or, option_and_then, Result, codes}
+use Rattle.std.specs.List.{list_any}
 use Rattle.std.specs.Str.{bytes_eq}
 use Rattle.serde_json.specs.Data.{Data}
-use Rattle.serde_json.specs.Find.{get, as_str}
+use Rattle.serde_json.specs.Find.{get}
 use Rattle.gic_base.specs.declared.shape.GuestShape.{GuestShape}
 use Rattle.gic_base.specs.declared.interrupt.Key.TheVariants.{Spi}
-use Rattle.gic_base.specs.declared.icc.IccReg.TheVariants.{Iar1, Eoir1}
+use Rattle.gic_base.specs.declared.icc.IccReg.{IccReg}
+use Rattle.gic_base.specs.declared.icc.IccReg.TheVariants.{Iar0, Sgi1r}
 use Rattle.gic_base.specs.declared.operation.GuestOp.TheVariants.{Icc}
 use Rattle.gic_base.specs.declared.operation.DeviceOp.TheVariants.{Message}
 use Rattle.gic_base.specs.Interrupt.{has_interrupt}
-use Rattle.gic_base.specs.Icc.{name_of}
+use Rattle.gic_base.specs.Icc.{name_of, register_named, is_readable, is_writable}
 use Rattle.scn_read.specs.declared.scenario.Step.{Step}
 use Rattle.scn_read.specs.declared.scenario.Step.TheVariants.{Vcpu, Device}
-use Rattle.scn_read.specs.declared.scenario.TheConstants.{NOT_BUILT}
-use Rattle.scn_read.specs.Field.{passes, has_only, number_at, pair_at}
+use Rattle.scn_read.specs.declared.scenario.TheConstants.{SHAPE, UNKNOWN_REGISTER, UNKNOWN_ACTOR, NOT_BUILT}
+use Rattle.scn_read.specs.Field.{passes, has_only, number_at, number_or, text_at, pair_at}
+use Rattle.scn_read.specs.Fault.{first_met, ok_unless}
 
--- the value is there and is this text
-abbrev pub is_text : List ℕ → Option Data → Bool
-is_text text found = passes (bytes_eq text) (option_and_then as_str found)
+-- the fields of steps that are not built
+abbrev pub unbuilt_fields : List (List ℕ)
+unbuilt_fields = codes "gicd" ∷ codes "gicr" ∷ codes "gits" ∷ codes "ram" ∷ codes "wire" ∷ codes "msi" ∷ codes "pe" ∷ []
 
--- a device of guest 0 writes one of the guest's SPIs to SETSPI
-abbrev pub message_of : GuestShape → Data → Option Step
-message_of shape d =
-    if has_only (codes "dev" ∷ codes "message" ∷ []) d
-    && passes (λ place. place.0 == 0 && nat_lt place.1 shape.devices) (pair_at (codes "dev") d)
+-- not built: a step with a field of another form than messages and accesses have, and an access of SGI1R
+abbrev pub is_unbuilt_step : Data → Bool
+is_unbuilt_step d = list_any (λ name. is_some (get name d)) unbuilt_fields || passes (bytes_eq (name_of Sgi1r)) (text_at (codes "icc") d)
+
+-- a message has its fields, each of its kind
+abbrev pub is_message : Data → Bool
+is_message d = has_only (codes "dev" ∷ codes "message" ∷ []) d && is_some (pair_at (codes "dev") d) && is_some (number_at (codes "message") d)
+
+-- its device is one of guest 0, the only one, and its number that of one of the guest's SPIs
+abbrev pub has_sender : GuestShape → Data → Bool
+has_sender shape d =
+    passes (λ place. place.0 == 0 && nat_lt place.1 shape.devices) (pair_at (codes "dev") d)
     && passes (λ id. has_interrupt shape (Spi id)) (number_at (codes "message") d)
-    then Some (Device 0 (unwrap_or (option_map (λ place. place.1) (pair_at (codes "dev") d)) 0) (Message (unwrap_or (number_at (codes "message") d) 0)))
-    else None
 
--- the access of a CPU interface register of vCPU 0 of guest 0: a read of IAR1, or a write of EOIR1
-abbrev pub access_of : Data → Option Step
+-- the fault of a message
+abbrev pub message_fault : GuestShape → Data → Option ℕ
+message_fault shape d = first_met ((not (is_message d), SHAPE) ∷ (not (has_sender shape d), UNKNOWN_ACTOR) ∷ [])
+
+-- what a message without a fault says
+abbrev pub message_of : Data → Step
+message_of d =
+    let place = unwrap_or (pair_at (codes "dev") d) (0, 0) in
+    Device place.0 place.1 (Message (unwrap_or (number_at (codes "message") d) 0))
+
+-- an access has its fields, each of its kind
+abbrev pub is_access : Data → Bool
+is_access d =
+    has_only (codes "vcpu" ∷ codes "icc" ∷ codes "write" ∷ []) d
+    && is_some (pair_at (codes "vcpu") d)
+    && is_some (text_at (codes "icc") d)
+    && is_some (number_or (codes "write") 0 d)
+
+-- the register that an access names
+abbrev pub register_at : Data → Option IccReg
+register_at d = option_and_then register_named (text_at (codes "icc") d)
+
+-- a register can be written, where there is a value to write, or else read
+abbrev pub is_usable : Option ℕ → IccReg → Bool
+is_usable None reg = is_readable reg
+is_usable (Some value) reg = is_writable reg
+
+-- the vCPU is one of guest 0, the only one
+abbrev pub has_vcpu : GuestShape → Data → Bool
+has_vcpu shape d = passes (λ place. place.0 == 0 && nat_lt place.1 shape.vcpus) (pair_at (codes "vcpu") d)
+
+-- the fault of an access
+abbrev pub access_fault : GuestShape → Data → Option ℕ
+access_fault shape d =
+    first_met
+    ((not (is_access d), SHAPE)
+    ∷ (not (passes (is_usable (number_at (codes "write") d)) (register_at d)), UNKNOWN_REGISTER)
+    ∷ (not (has_vcpu shape d), UNKNOWN_ACTOR)
+    ∷ [])
+
+-- what an access without a fault says
+abbrev pub access_of : Data → Step
 access_of d =
-    if has_only (codes "vcpu" ∷ codes "icc" ∷ codes "write" ∷ []) d && passes (λ place. place.0 == 0 && place.1 == 0) (pair_at (codes "vcpu") d)
-    then (if is_text (name_of Iar1) (get (codes "icc") d) && is_none (get (codes "write") d) then Some (Vcpu 0 0 (Icc Iar1 None))
-    else (if is_text (name_of Eoir1) (get (codes "icc") d) then option_map (λ value. Vcpu 0 0 (Icc Eoir1 (Some value))) (number_at (codes "write") d) else None))
-    else None
+    let place = unwrap_or (pair_at (codes "vcpu") d) (0, 0) in
+    Vcpu place.0 place.1 (Icc (unwrap_or (register_at d) Iar0) (number_at (codes "write") d))
+
+-- the fault of a step, which counts as a message where it has that field, and else as an access
+abbrev pub step_fault : GuestShape → Data → Option ℕ
+step_fault shape d =
+    if is_unbuilt_step d then Some NOT_BUILT else (if is_some (get (codes "message") d) then message_fault shape d else access_fault shape d)
+
+-- what a step without a fault says
+abbrev pub step_value : Data → Step
+step_value d = if is_some (get (codes "message") d) then message_of d else access_of d
 
 -- what a step says, or the code of its fault
 abbrev pub step_of : GuestShape → Data → Result Step ℕ
-step_of shape d = ok_or (option_or (message_of shape d) (access_of d)) NOT_BUILT
+step_of shape d = ok_unless (step_fault shape d) (step_value d)

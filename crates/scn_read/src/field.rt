@@ -1,11 +1,11 @@
 //! What the fields of a JSON object hold.
-ghost use Rattle.std.specs.Prelude.{◌≡◌, ◌==◌, true, ◌<◌, ◌≤◌, IfSome, option_map, length, map, string_bytes};
-ghost use Rattle.std.specs.Bool.{OnTrue};
+ghost use Rattle.std.specs.Prelude.{◌≡◌, ◌<◌, ◌≤◌, IfSome, option_map, option_copied, is_some, length, map, string_bytes};
 ghost use Rattle.std.specs.List.{list_all, list_any};
 ghost use Rattle.std.specs.Str.{bytes_eq};
 ghost use Rattle.std.specs.BTreeMap.{keys};
 ghost use Rattle.serde_json.specs.View.{view};
-ghost use Rattle.scn_read.specs.Field.{passes, hex_digit as hex_digit_of, hex_digits as hex_digits_after, hex_number as hex_number_of, number_of as number_in, has_only as has_only_of, list_of as list_in, number_at as number_in_field, number_or as number_or_default, flag_or as flag_or_default, list_at as list_in_field, list_or_empty as list_or_none, pair_at as pair_in_field};
+ghost use Rattle.serde_json.specs.Find.{get};
+ghost use Rattle.scn_read.specs.Field.{hex_digit as hex_digit_of, hex_digits as hex_digits_after, hex_number as hex_number_of, number_of as number_in, has_only as has_only_of, list_of as list_in, number_at as number_in_field, number_or as number_or_default, flag_or as flag_or_default, text_at as text_in_field, list_at as list_in_field, elements_at as elements_in_field, list_or_empty as list_or_none, pair_at as pair_in_field};
 
 use serde_json::{Map, Value};
 
@@ -88,15 +88,6 @@ pub(crate) fn number_or(value: &Value, name: &str, default: u64) -> Option<u64>
     }
 }
 
-/// Whether the number in a field is its default, or there is no such field.
-pub(crate) fn is_default(value: &Value, name: &str, default: u64) -> bool
-    ensures test { result
-        ≡ passes (λ number. number == default) (number_or_default name.now default (view value.now)) }
-    ensures value { OnTrue result (number_or_default name.now default (view value.now) ≡ Some default) }
-{
-    number_or(value, name, default) == Some(default)
-}
-
 /// The truth value in a field, or the default where there is no such field.
 pub(crate) fn flag_or(value: &Value, name: &str, default: bool) -> Option<bool>
     ensures { result ≡ flag_or_default name.now default (view value.now) }
@@ -107,12 +98,11 @@ pub(crate) fn flag_or(value: &Value, name: &str, default: bool) -> Option<bool>
     }
 }
 
-/// Whether the truth value in a field, or the default where there is no such field, is true.
-pub(crate) fn is_set(value: &Value, name: &str, default: bool) -> bool
-    ensures test { result ≡ passes (λ flag. flag) (flag_or_default name.now default (view value.now)) }
-    ensures value { OnTrue result (flag_or_default name.now default (view value.now) ≡ Some true) }
+/// The text in a field that has to be there.
+pub(crate) fn text_at<'v>(value: &'v Value, name: &str) -> Option<&'v str>
+    ensures { option_copied result ≡ text_in_field name.now (view value.now) }
 {
-    flag_or(value, name, default) == Some(true)
+    value.get(name)?.as_str()
 }
 
 /// The elements in a field that has to be there.
@@ -121,6 +111,16 @@ pub(crate) fn list_at<'v>(value: &'v Value, name: &str) -> Option<&'v [Value]>
         ≡ list_in_field name.now (view value.now) }
 {
     list_of(value.get(name)?)
+}
+
+/// The elements in a field, or none where there is no such list.
+pub(crate) fn elements_at<'v>(value: &'v Value, name: &str) -> &'v [Value]
+    ensures { map view result.now ≡ elements_in_field name.now (view value.now) }
+{
+    match list_at(value, name) {
+        Some(values) => values,
+        None => &[],
+    }
 }
 
 /// The elements in a field, or none where there is no such field.
@@ -168,4 +168,11 @@ pub(crate) fn has_only(value: &Value, allowed: &[&str]) -> bool
         Some(fields) => are_among(fields, allowed),
         None => false,
     }
+}
+
+/// Whether the value is an object with a field that has one of these names.
+pub(crate) fn has_any(value: &Value, names: &[&str]) -> bool
+    ensures { result ≡ list_any (λ name. is_some (get name.now (view value.now))) names.now }
+{
+    names.iter().any(|name| value.get(*name).is_some())
 }

@@ -1,18 +1,17 @@
 //! Guests and presets.
-ghost use Rattle.std.specs.Prelude.{◌≡◌, IsTrue, IfSome, IfOk, MatchOption, false, map, if◌then◌else◌};
-ghost use Rattle.std.specs.List.{list_all};
+ghost use Rattle.std.specs.Prelude.{◌≡◌, ◌≤◌, IfOk, map};
 ghost use Rattle.serde_json.specs.View.{view};
-ghost use Rattle.gic_base.specs.Shape.{IsShape};
-ghost use Rattle.gic_base.specs.Interrupt.{has_interrupt};
-ghost use Rattle.scn_read.specs.Field.{passes, number_at as number_in_field};
-ghost use Rattle.scn_read.specs.Guest.{is_built_preset, preset_of, is_built_shape, shape_of, is_built_guest, guest_of};
+ghost use Rattle.scn_read.specs.Fault.{first_of, ok_unless};
+ghost use Rattle.scn_read.specs.Guest.{is_unbuilt_preset as is_unbuilt_preset_in, is_spi as is_spi_of, preset_fault, preset_of, is_unbuilt_guest as is_unbuilt_guest_in, own_fault, spis_of, guest_fault, shape_of, on_of, guest_of};
 
-use crate::field::{has_only, is_default, is_set, list_or_empty, number_at, number_or};
+use crate::fault::{both, first_code};
+use crate::field::{elements_at, flag_or, has_only, list_or_empty, number_at, number_or};
 use crate::scenario::{
     DEFAULT_DEVICES, DEFAULT_GROUP, DEFAULT_PRIORITY, DEFAULT_SPIS, DEFAULT_VCPUS, GuestSpec,
-    Preset, PresetList,
+    Guests, LIMIT, MAX_GROUP, MAX_PRIORITY, NOT_BUILT, PRIORITY_STEP, Preset, PresetList, SHAPE,
+    UNKNOWN_ACTOR,
 };
-use gic_base::{FIRST_SPI, GuestShape, Key, MAX_DEVICES, MAX_SPIS, SPI_STEP};
+use gic_base::{FIRST_SPI, GuestShape, MAX_DEVICES, MAX_SPIS, SPI_STEP};
 use serde_json::Value;
 use std::alloc::{AllocError, Global};
 
@@ -25,7 +24,7 @@ const EDGE: &str = "edge";
 const GROUP: &str = "group";
 
 const TO: &str = "to";
-/// The fields of a preset.
+/// The fields of a preset of an SPI.
 const PRESET_FIELDS: [&str; 5] = [ID, PRIO, EDGE, GROUP, TO];
 
 const VCPUS: &str = "vcpus";
@@ -44,114 +43,157 @@ const IRQS: &str = "irqs";
 /// The fields of a guest.
 const GUEST_FIELDS: [&str; 7] = [VCPUS, SPIS, DEVICES, LPIS, RAM, ON, IRQS];
 
-/// The SPI of the guest that a field names, which has to be there.
-pub(crate) fn spi_at(value: &Value, name: &str, shape: &GuestShape) -> Option<u32>
-    requires { IsShape shape.now }
-    ensures { let found = number_in_field name.now (view value.now) in MatchOption result
-        (passes (λ id. has_interrupt shape.now (Key.Spi id)) found ≡ false)
-        (λ id. (found ≡ Some id) × IsTrue (has_interrupt shape.now (Key.Spi id))) }
+/// Whether an INTID is that of an SPI of a guest with this many SPIs.
+pub(crate) fn is_spi(id: u64, spis: u32) -> bool
+    requires { spis ≤ MAX_SPIS }
+    ensures { result ≡ is_spi_of spis id }
 {
-    let id = number_at(value, name)?;
-    if id < u64::from(FIRST_SPI) || id >= u64::from(FIRST_SPI + shape.spis) {
-        return None;
-    }
-    Some(id as u32)
+    id >= u64::from(FIRST_SPI) && id < u64::from(FIRST_SPI + spis)
 }
 
-/// A preset: an SPI of the guest, and all else as by default.
-fn preset(value: &Value, shape: &GuestShape) -> Option<Preset>
-    requires { IsShape shape.now }
-    ensures { let d = view value.now in
-        result ≡ (if is_built_preset shape.now d then Some (preset_of d) else None) }
+/// Whether a preset is of a form that is not built: level-sensitive, private, or for another vCPU
+/// than 0.
+fn is_unbuilt_preset(value: &Value) -> bool
+    ensures { result ≡ is_unbuilt_preset_in (view value.now) }
 {
-    if !has_only(value, &PRESET_FIELDS) {
-        return None;
+    flag_or(value, EDGE, true) == Some(false)
+        || number_at(value, ID).is_some_and(|id| id < u64::from(FIRST_SPI))
+        || number_or(value, TO, 0).is_some_and(|to| to != 0)
+}
+
+/// A preset of a guest with this many SPIs, or its fault.
+fn preset(value: &Value, spis: u32) -> Result<Preset, u8>
+    requires { spis ≤ MAX_SPIS }
+    ensures { let d = view value.now in result ≡ ok_unless (preset_fault spis d) (preset_of d) }
+{
+    if is_unbuilt_preset(value) {
+        return Err(NOT_BUILT);
     }
-    let id = spi_at(value, ID, shape)?;
-    let is_built = is_default(value, PRIO, u64::from(DEFAULT_PRIORITY))
-        && is_set(value, EDGE, true)
-        && is_default(value, GROUP, u64::from(DEFAULT_GROUP))
-        && is_default(value, TO, 0);
-    is_built.then_some(Preset {
-        id,
-        prio: DEFAULT_PRIORITY,
-        edge: true,
-        group: DEFAULT_GROUP,
-        to: Some(0),
+    if !has_only(value, &PRESET_FIELDS) {
+        return Err(SHAPE);
+    }
+    let id = number_at(value, ID).ok_or(SHAPE)?;
+    let prio = number_or(value, PRIO, u64::from(DEFAULT_PRIORITY)).ok_or(SHAPE)?;
+    let edge = flag_or(value, EDGE, true).ok_or(SHAPE)?;
+    let group = number_or(value, GROUP, u64::from(DEFAULT_GROUP)).ok_or(SHAPE)?;
+    let to = number_or(value, TO, 0).ok_or(SHAPE)?;
+    if prio > u64::from(MAX_PRIORITY) || prio % u64::from(PRIORITY_STEP) != 0 {
+        return Err(LIMIT);
+    }
+    if group > u64::from(MAX_GROUP) {
+        return Err(LIMIT);
+    }
+    if !is_spi(id, spis) {
+        return Err(UNKNOWN_ACTOR);
+    }
+    Ok(Preset {
+        id: id as u32,
+        prio: prio as u8,
+        edge,
+        group: group as u8,
+        to: Some(to as u32),
         vcpu: None,
     })
 }
 
-/// The presets of a guest, or none where one is not of the form that is built.
-fn presets(
-    alloc: Global,
-    values: &[Value],
-    shape: &GuestShape,
-) -> Result<Option<PresetList>, AllocError>
-    requires { IsShape shape.now }
+/// The presets of a guest with this many SPIs, or the first of their faults.
+fn presets(alloc: Global, values: &[Value], spis: u32) -> Result<Result<PresetList, u8>, AllocError>
+    requires { spis ≤ MAX_SPIS }
     ensures { let ds = map view values.now in IfOk result (λ found. found
-        ≡ (if list_all (is_built_preset shape.now) ds then Some (map preset_of ds) else None)) }
+        ≡ ok_unless (first_of (map (preset_fault spis) ds)) (map preset_of ds)) }
 {
     let mut presets = PresetList::new(alloc);
+    let mut fault = None;
     for value in values {
-        let Some(preset) = preset(value, shape) else {
-            return Ok(None);
-        };
-        presets.push(preset)?;
+        match preset(value, spis) {
+            Ok(preset) => presets.push(preset)?,
+            Err(code) => fault = first_code(fault, Some(code)),
+        }
     }
-    Ok(Some(presets))
+    match fault {
+        Some(code) => Ok(Err(code)),
+        None => Ok(Ok(presets)),
+    }
 }
 
-/// What a guest has of each kind.
-fn shape(value: &Value) -> Option<GuestShape>
-    ensures value { let d = view value.now in
-        result ≡ (if is_built_shape d then Some (shape_of d) else None) }
-    ensures in_range { IfSome result IsShape }
+/// Whether a guest is of a form that is not built: with more vCPUs than one, with LPIs or with memory.
+fn is_unbuilt_guest(value: &Value) -> bool
+    ensures { result ≡ is_unbuilt_guest_in (view value.now) }
 {
-    if !has_only(value, &GUEST_FIELDS) || !is_default(value, VCPUS, u64::from(DEFAULT_VCPUS)) {
-        return None;
+    number_or(value, VCPUS, u64::from(DEFAULT_VCPUS)).is_some_and(|vcpus| vcpus > 1)
+        || number_or(value, LPIS, 0).is_some_and(|lpis| lpis != 0)
+        || number_or(value, RAM, 0).is_some_and(|ram| ram != 0)
+}
+
+/// What a guest has of each kind and whether it is on, or the fault of its own fields.
+fn head(value: &Value) -> Result<(GuestShape, bool), u8>
+    ensures { let d = view value.now in result ≡ ok_unless (own_fault d) (shape_of d, on_of d) }
+{
+    if is_unbuilt_guest(value) {
+        return Err(NOT_BUILT);
     }
-    let spis = number_or(value, SPIS, u64::from(DEFAULT_SPIS))?;
-    if spis > u64::from(MAX_SPIS) || spis % u64::from(SPI_STEP) != 0 {
-        return None;
+    if !has_only(value, &GUEST_FIELDS) {
+        return Err(SHAPE);
     }
-    let devices = number_or(value, DEVICES, u64::from(DEFAULT_DEVICES))?;
+    let vcpus = number_or(value, VCPUS, u64::from(DEFAULT_VCPUS)).ok_or(SHAPE)?;
+    let spis = number_or(value, SPIS, u64::from(DEFAULT_SPIS)).ok_or(SHAPE)?;
+    let devices = number_or(value, DEVICES, u64::from(DEFAULT_DEVICES)).ok_or(SHAPE)?;
+    let lpis = number_or(value, LPIS, 0).ok_or(SHAPE)?;
+    let ram = number_or(value, RAM, 0).ok_or(SHAPE)?;
+    let on = flag_or(value, ON, false).ok_or(SHAPE)?;
+    list_or_empty(value, IRQS).ok_or(SHAPE)?;
+    if vcpus < 1 || spis > u64::from(MAX_SPIS) || spis % u64::from(SPI_STEP) != 0 {
+        return Err(LIMIT);
+    }
     if devices > u64::from(MAX_DEVICES) {
-        return None;
+        return Err(LIMIT);
     }
-    if !is_default(value, LPIS, 0) || !is_default(value, RAM, 0) {
-        return None;
-    }
-    Some(GuestShape {
-        vcpus: DEFAULT_VCPUS,
+    let shape = GuestShape {
+        vcpus: vcpus as u32,
         spis: spis as u32,
         devices: devices as u32,
-        lpis: 0,
-        ram: 0,
-    })
+        lpis: lpis as u32,
+        ram: ram as u32,
+    };
+    Ok((shape, on))
 }
 
-/// A guest: one vCPU, no LPIs, no memory, and on. None where it is not of this form.
-pub(crate) fn guest(alloc: Global, value: &Value) -> Result<Option<GuestSpec>, AllocError>
-    ensures value { let d = view value.now in
-        IfOk result (λ found. found ≡ (if is_built_guest d then Some (guest_of d) else None)) }
-    ensures in_range { IfOk result (λ found. IfSome found (λ guest. IsShape guest.shape)) }
+/// How many SPIs a guest has, which is never more than there may be.
+fn spi_count(value: &Value) -> u32
+    ensures value { result ≡ spis_of (view value.now) }
+    ensures in_range { result ≤ MAX_SPIS }
 {
-    let Some(shape) = shape(value) else {
-        return Ok(None);
-    };
-    if !is_set(value, ON, false) {
-        return Ok(None);
+    let spis = number_or(value, SPIS, u64::from(DEFAULT_SPIS)).unwrap_or(0);
+    spis.min(u64::from(MAX_SPIS)) as u32
+}
+
+/// A guest, or the first fault of it and its presets.
+fn guest(alloc: Global, value: &Value) -> Result<Result<GuestSpec, u8>, AllocError>
+    ensures { let d = view value.now in
+        IfOk result (λ found. found ≡ ok_unless (guest_fault d) (guest_of d)) }
+{
+    let presets = presets(alloc, elements_at(value, IRQS), spi_count(value))?;
+    match both(head(value), presets) {
+        Ok(((shape, on), presets)) => Ok(Ok(GuestSpec { shape, on, presets })),
+        Err(code) => Ok(Err(code)),
     }
-    let Some(irqs) = list_or_empty(value, IRQS) else {
-        return Ok(None);
-    };
-    let Some(presets) = presets(alloc, irqs, &shape)? else {
-        return Ok(None);
-    };
-    Ok(Some(GuestSpec {
-        shape,
-        on: true,
-        presets,
-    }))
+}
+
+/// The guests of a scenario, or the first of their faults.
+pub(crate) fn guests(alloc: Global, values: &[Value]) -> Result<Result<Guests, u8>, AllocError>
+    ensures { let ds = map view values.now in
+        IfOk result (λ found. found ≡ ok_unless (first_of (map guest_fault ds)) (map guest_of ds)) }
+{
+    let mut guests = Guests::new(alloc);
+    let mut fault = None;
+    for value in values {
+        match guest(alloc, value)? {
+            Ok(guest) => guests.push(guest)?,
+            Err(code) => fault = first_code(fault, Some(code)),
+        }
+    }
+    match fault {
+        Some(code) => Ok(Err(code)),
+        None => Ok(Ok(guests)),
+    }
 }

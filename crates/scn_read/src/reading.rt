@@ -1,16 +1,16 @@
 //! The reading of a scenario.
-ghost use Rattle.std.specs.Prelude.{◌≡◌, ◌≤◌, MatchOption, IfOk, IfErr, Ok, false, [], ◌∷◌, length, map, codes};
+ghost use Rattle.std.specs.Prelude.{◌≡◌, ◌≤◌, MatchResult, IfOk, IfErr, Ok, Some, length, map};
 ghost use Rattle.serde_json.specs.View.{view};
 ghost use Rattle.gic_base.specs.Shape.{IsShape};
-ghost use Rattle.scn_read.specs.Field.{passes, list_at as list_in_field};
-ghost use Rattle.scn_read.specs.Reading.{is_one_guest, is_built_opening, steps_of, reading, Refuses, IsOpening};
+ghost use Rattle.scn_read.specs.Reading.{is_unbuilt_scenario as is_unbuilt_scenario_in, scenario_fault, steps_of, reading, Refuses, IsOpening};
 ghost use Rattle.scn_read.specs.Good.{IsGood};
 
-use crate::field::{has_only, is_default, list_at, number_or};
-use crate::guest::guest;
+use crate::fault::both;
+use crate::field::{elements_at, has_only, list_at, number_or};
+use crate::guest::guests;
 use crate::scenario::{
-    DEFAULT_LIST_REGISTERS, DEFAULT_PES, Fault, Guests, MAX_LIST_REGISTERS, MAX_STEPS, Mode,
-    NOT_BUILT, ReadRefusal, Scenario, Steps,
+    DEFAULT_LIST_REGISTERS, DEFAULT_PES, Fault, LIMIT, MAX_LIST_REGISTERS, MAX_STEPS, Mode,
+    NOT_BUILT, ReadRefusal, SHAPE, Scenario, Steps,
 };
 use crate::step::step;
 use gic_base::GuestShape;
@@ -32,49 +32,45 @@ const OUTSIDE: u32 = 0;
 /// The number of the first step.
 const FIRST_STEP: u32 = 1;
 
-/// What a scenario has beside its PEs, before its guest and its steps are read.
+/// What a scenario has beside its PEs and its guests, before its steps are read.
 #[derive(Clone, Copy)]
 struct Parts<'v> {
     lrs: u32,
-    guest: &'v Value,
     steps: &'v [Value],
 }
 
-/// The guest of a scenario that has one.
-#[tactic(auto, using(crate::proofs::OpeningLemmas::no_guest, crate::proofs::OpeningLemmas::more_guests))]
-fn one_guest(value: &Value) -> Option<&Value>
-    ensures { let guests = list_in_field (codes "guests") (view value.now) in MatchOption result
-        (passes is_one_guest guests ≡ false)
-        (λ guest. guests ≡ Some (view guest.now ∷ [])) }
+/// Whether a scenario is of a form that is not built: with more PEs than one, or more guests.
+fn is_unbuilt_scenario(value: &Value) -> bool
+    ensures { result ≡ is_unbuilt_scenario_in (view value.now) }
 {
-    match list_at(value, GUESTS)? {
-        [] => None,
-        [guest] => Some(guest),
-        [_, _, ..] => None,
-    }
+    number_or(value, PES, u64::from(DEFAULT_PES)).is_some_and(|pes| pes > 1)
+        || list_at(value, GUESTS).is_some_and(|guests| guests.len() > 1)
 }
 
-/// The parts of a scenario, or none where one of them is not of the form that is built whatever its
-/// guest is.
-fn opening(value: &Value) -> Option<Parts<'_>>
-    ensures { let d = view value.now in MatchOption result (is_built_opening d ≡ false)
-        (λ parts. IsOpening d parts.lrs (view parts.guest.now) (map view parts.steps.now)) }
+/// The list registers and the steps of a scenario, or the fault of its own fields.
+fn opening(value: &Value) -> Result<Parts<'_>, u8>
+    ensures { let d = view value.now in MatchResult result
+        (λ parts. IsOpening d parts.lrs (map view parts.steps.now))
+        (λ code. scenario_fault d ≡ Some code) }
 {
-    if !has_only(value, &SCENARIO_FIELDS) || !is_default(value, PES, u64::from(DEFAULT_PES)) {
-        return None;
+    if is_unbuilt_scenario(value) {
+        return Err(NOT_BUILT);
     }
-    let lrs = number_or(value, LRS, u64::from(DEFAULT_LIST_REGISTERS))?;
-    if lrs < 1 || lrs > u64::from(MAX_LIST_REGISTERS) {
-        return None;
+    if !has_only(value, &SCENARIO_FIELDS) {
+        return Err(SHAPE);
     }
-    let guest = one_guest(value)?;
-    let steps = list_at(value, STEPS)?;
-    if steps.len() > MAX_STEPS {
-        return None;
+    let pes = number_or(value, PES, u64::from(DEFAULT_PES)).ok_or(SHAPE)?;
+    let lrs = number_or(value, LRS, u64::from(DEFAULT_LIST_REGISTERS)).ok_or(SHAPE)?;
+    let guests = list_at(value, GUESTS).ok_or(SHAPE)?;
+    let steps = list_at(value, STEPS).ok_or(SHAPE)?;
+    if pes < 1 || lrs < 1 || lrs > u64::from(MAX_LIST_REGISTERS) {
+        return Err(LIMIT);
     }
-    Some(Parts {
+    if guests.is_empty() || steps.len() > MAX_STEPS {
+        return Err(LIMIT);
+    }
+    Ok(Parts {
         lrs: lrs as u32,
-        guest,
         steps,
     })
 }
@@ -104,30 +100,30 @@ fn steps(alloc: Global, values: &[Value], shape: &GuestShape) -> Result<Steps, R
 /// The scenario that a JSON value is.
 ///
 /// A number is an unsigned integer below 2^64, or a text of `0x` and 1 to 16 hexadecimal digits. A
-/// value of another form than those that are built is `Bad`, with the code 10 and the number of the
-/// first step that is not of this form, or 0 where something outside of the steps is not. Where memory
-/// is refused, the answer is `NoMemory`, whatever the value is.
+/// value that is no scenario of the forms that are built is `Bad`, with the first of its faults: that of
+/// the least step, where 0 is the number of all that stands outside of the steps, and of these the code
+/// 10, for a form that is not built, and then the least code. Where memory is refused, the answer is
+/// `NoMemory`, whatever the value is.
 pub fn read(alloc: Global, value: &Value, mode: Mode) -> Result<Scenario, ReadRefusal>
     ensures ok { IfOk result (λ scenario. reading mode (view value.now) ≡ Ok scenario) }
     ensures good { IfOk result (IsGood mode) }
     ensures bad { IfErr result (Refuses (reading mode (view value.now))) }
 {
-    let outside = ReadRefusal::Bad(Fault {
-        code: NOT_BUILT,
-        step: OUTSIDE,
-    });
-    let Some(parts) = opening(value) else {
-        return Err(outside);
+    let guests = guests(alloc, elements_at(value, GUESTS))?;
+    let (opening, guests) = match both(opening(value), guests) {
+        Ok(parts) => parts,
+        Err(code) => {
+            return Err(ReadRefusal::Bad(Fault {
+                code,
+                step: OUTSIDE,
+            }));
+        }
     };
-    let Some(guest) = guest(alloc, parts.guest)? else {
-        return Err(outside);
-    };
-    let steps = steps(alloc, parts.steps, &guest.shape)?;
-    let mut guests = Guests::new(alloc);
-    guests.push(guest)?;
+    let shape = guests.as_slice()[0].shape;
+    let steps = steps(alloc, opening.steps, &shape)?;
     Ok(Scenario {
         pes: DEFAULT_PES,
-        lrs: parts.lrs,
+        lrs: opening.lrs,
         guests,
         steps,
     })

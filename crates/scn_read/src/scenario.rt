@@ -29,6 +29,20 @@ pub const DEFAULT_DEVICES: u32 = 1;
 pub const DEFAULT_PRIORITY: u8 = 160;
 /// A preset's group where it does not say.
 pub const DEFAULT_GROUP: u8 = 1;
+/// The highest number of a preset's priority, the least urgent.
+pub const MAX_PRIORITY: u8 = 248;
+/// Priorities are multiples of this.
+pub const PRIORITY_STEP: u8 = 8;
+/// The highest number of a group.
+pub const MAX_GROUP: u8 = 1;
+/// The fault of a field that is missing, unknown or of the wrong kind, and of a step of no form.
+pub const SHAPE: u8 = 1;
+/// The fault of a number outside of its range.
+pub const LIMIT: u8 = 2;
+/// The fault of a register that is not there, or that cannot be read or written as asked.
+pub const UNKNOWN_REGISTER: u8 = 3;
+/// The fault of a guest, vCPU, device or interrupt that is not there.
+pub const UNKNOWN_ACTOR: u8 = 4;
 /// The fault of a form that is not built yet.
 pub const NOT_BUILT: u8 = 10;
 

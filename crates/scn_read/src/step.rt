@@ -1,13 +1,13 @@
 //! The steps of a scenario.
 ghost use Rattle.std.specs.Prelude.{◌≡◌};
 ghost use Rattle.serde_json.specs.View.{view};
-ghost use Rattle.serde_json.specs.Find.{get};
 ghost use Rattle.gic_base.specs.Shape.{IsShape};
-ghost use Rattle.scn_read.specs.Step.{is_text as is_text_in, message_of, access_of, step_of};
+ghost use Rattle.scn_read.specs.Fault.{ok_unless};
+ghost use Rattle.scn_read.specs.Step.{is_unbuilt_step as is_unbuilt_step_in, message_fault, message_of, is_usable as is_usable_for, access_fault, access_of, step_of};
 
-use crate::field::{has_only, number_at, pair_at};
-use crate::guest::spi_at;
-use crate::scenario::{NOT_BUILT, Step};
+use crate::field::{has_any, has_only, number_at, pair_at, text_at};
+use crate::guest::is_spi;
+use crate::scenario::{NOT_BUILT, SHAPE, Step, UNKNOWN_ACTOR, UNKNOWN_REGISTER};
 use gic_base::{DeviceOp, GuestOp, GuestShape, IccReg};
 use serde_json::Value;
 
@@ -25,56 +25,71 @@ const WRITE: &str = "write";
 /// The fields of an access of a CPU interface register.
 const ACCESS_FIELDS: [&str; 3] = [VCPU, ICC, WRITE];
 
-/// Whether a field is there and is this text.
-fn is_text(value: &Value, name: &str, text: &str) -> bool
-    ensures { result ≡ is_text_in text.now (get name.now (view value.now)) }
+/// The fields of steps that are not built.
+const UNBUILT_FIELDS: [&str; 7] = ["gicd", "gicr", "gits", "ram", "wire", "msi", "pe"];
+
+/// Whether a step is of a form that is not built: with a field of another form than messages and accesses
+/// have, or an access of SGI1R.
+fn is_unbuilt_step(value: &Value) -> bool
+    ensures { result ≡ is_unbuilt_step_in (view value.now) }
 {
-    value
-        .get(name)
-        .and_then(Value::as_str)
-        .is_some_and(|found| text == found)
+    has_any(value, &UNBUILT_FIELDS)
+        || text_at(value, ICC).is_some_and(|name| IccReg::Sgi1r.name() == name)
 }
 
-/// A device of guest 0 writes one of the guest's SPIs to SETSPI.
-fn message(value: &Value, shape: &GuestShape) -> Option<Step>
+/// A message of a device to an SPI of its guest, or its fault.
+fn message(value: &Value, shape: &GuestShape) -> Result<Step, u8>
     requires { IsShape shape.now }
-    ensures { result ≡ message_of shape.now (view value.now) }
+    ensures { let d = view value.now in result ≡ ok_unless (message_fault shape.now d) (message_of d) }
 {
     if !has_only(value, &MESSAGE_FIELDS) {
-        return None;
+        return Err(SHAPE);
     }
-    let (guest, device) = pair_at(value, DEV)?;
-    if guest != 0 || device >= u64::from(shape.devices) {
-        return None;
+    let (guest, device) = pair_at(value, DEV).ok_or(SHAPE)?;
+    let spi = number_at(value, MESSAGE).ok_or(SHAPE)?;
+    if guest != 0 || device >= u64::from(shape.devices) || !is_spi(spi, shape.spis) {
+        return Err(UNKNOWN_ACTOR);
     }
-    let spi = spi_at(value, MESSAGE, shape)?;
-    Some(Step::Device {
-        guest: 0,
+    Ok(Step::Device {
+        guest: guest as u32,
         device: device as u32,
-        op: DeviceOp::Message { spi },
+        op: DeviceOp::Message { spi: spi as u32 },
     })
 }
 
-/// VCPU 0 of guest 0 reads IAR1 or writes EOIR1.
-fn access(value: &Value) -> Option<Step>
-    ensures { result ≡ access_of (view value.now) }
+/// Whether a register can be written, where there is a value to write, or else read.
+fn is_usable(reg: IccReg, write: Option<u64>) -> bool
+    ensures { result ≡ is_usable_for write reg }
+{
+    match write {
+        Some(_) => reg.is_writable(),
+        None => reg.is_readable(),
+    }
+}
+
+/// An access of a vCPU to a register of its CPU interface, or its fault.
+fn access(value: &Value, shape: &GuestShape) -> Result<Step, u8>
+    ensures { let d = view value.now in result ≡ ok_unless (access_fault shape.now d) (access_of d) }
 {
     if !has_only(value, &ACCESS_FIELDS) {
-        return None;
+        return Err(SHAPE);
     }
-    let (0, 0) = pair_at(value, VCPU)? else {
-        return None;
-    };
-    let (reg, write) = if is_text(value, ICC, IccReg::Iar1.name()) && value.get(WRITE).is_none() {
-        (IccReg::Iar1, None)
-    } else if is_text(value, ICC, IccReg::Eoir1.name()) {
-        (IccReg::Eoir1, Some(number_at(value, WRITE)?))
-    } else {
-        return None;
-    };
-    Some(Step::Vcpu {
-        guest: 0,
-        vcpu: 0,
+    let (guest, vcpu) = pair_at(value, VCPU).ok_or(SHAPE)?;
+    let name = text_at(value, ICC).ok_or(SHAPE)?;
+    let write = number_at(value, WRITE);
+    if write.is_none() && value.get(WRITE).is_some() {
+        return Err(SHAPE);
+    }
+    let reg = IccReg::named(name).ok_or(UNKNOWN_REGISTER)?;
+    if !is_usable(reg, write) {
+        return Err(UNKNOWN_REGISTER);
+    }
+    if guest != 0 || vcpu >= u64::from(shape.vcpus) {
+        return Err(UNKNOWN_ACTOR);
+    }
+    Ok(Step::Vcpu {
+        guest: guest as u32,
+        vcpu: vcpu as u32,
         op: GuestOp::Icc { reg, write },
     })
 }
@@ -84,5 +99,12 @@ pub(crate) fn step(value: &Value, shape: &GuestShape) -> Result<Step, u8>
     requires { IsShape shape.now }
     ensures { result ≡ step_of shape.now (view value.now) }
 {
-    message(value, shape).or(access(value)).ok_or(NOT_BUILT)
+    if is_unbuilt_step(value) {
+        return Err(NOT_BUILT);
+    }
+    if value.get(MESSAGE).is_some() {
+        message(value, shape)
+    } else {
+        access(value, shape)
+    }
 }

@@ -1,22 +1,19 @@
-use Rattle.std.proofs.Common.{arith}
+use Rattle.std.proofs.Common.{◌∙◌, arith}
 use Rattle.serde_json.specs.View.{view}
-use Rattle.scn_read.specs.Guest.{is_built_preset, preset_of}
-use Rattle.scn_read.proofs.ListLemmas.{none_from_failed, read_more, built_more}
+use Rattle.scn_read.specs.Guest.{preset_fault, preset_of}
+use Rattle.scn_read.proofs.ListLemmas.{faults_ok, read_ok, faults_err, read_err}
 use Rattle.scn_read.proofs.guest.presets.Goals as goal
-
-pub returns-in_default : goal.returns-in_default
-returns-in_default c =
-    none_from_failed view (is_built_preset c.args.shape.now) preset_of c.args.values.now c.loop-value.value-index c.value-item.result (omega arith) c.value-item.is
-    c.loop-value.invariant.built c.in_default.ensures
+use Rattle.scn_read.proofs.guest.presets.Goals.{in-Ok+in_ok-push-in-Ok, in-Err}
 
 pub loop-value-preserved : goal.loop-value-preserved
 loop-value-preserved c =
-    record {
-      read =
-          rw c.in_ok-push.ensures.ok
-          (read_more view (is_built_preset c.args.shape.now) preset_of c.args.values.now c.loop-value.value-index c.value-item.result (omega arith) c.value-item.is
-          c.loop-value.presets c.in-Some.preset c.loop-value.invariant.read c.in-Some.ensures);
-      built =
-          built_more view (is_built_preset c.args.shape.now) preset_of c.args.values.now c.loop-value.value-index c.value-item.result (omega arith) c.value-item.is
-          c.in-Some.preset c.loop-value.invariant.built c.in-Some.ensures;
-    }
+    elim c.match-preset.branch [
+      | in-Ok+in_ok-push-in-Ok w ↦ record {
+        faults = faults_ok view (preset_fault c.args.spis) preset_of c.args.values.now c.loop-value.value-index c.value-item.result (omega arith) c.value-item.is c.loop-value.fault c.match-preset.fault _ w.in-Ok.preset w.in-Ok.ensures w.fault-is c.loop-value.invariant.faults;
+        read = read_ok view (preset_fault c.args.spis) preset_of c.args.values.now c.loop-value.value-index c.value-item.result (omega arith) c.value-item.is c.loop-value.fault c.match-preset.fault c.loop-value.presets c.match-preset.presets _ w.in-Ok.preset w.in-Ok.ensures w.fault-is (w.presets-is ∙ w.in_ok-push-in-Ok.ensures.ok) c.loop-value.invariant.read;
+      }
+      | in-Err w ↦ record {
+        faults = faults_err view (preset_fault c.args.spis) preset_of c.args.values.now c.loop-value.value-index c.value-item.result (omega arith) c.value-item.is c.loop-value.fault c.match-preset.fault _ w.in-Err.code w.in-Err.ensures (w.fault-is ∙ w.first_code-fault.ensures) c.loop-value.invariant.faults;
+        read = read_err c.loop-value.fault c.match-preset.fault w.in-Err.code (w.fault-is ∙ w.first_code-fault.ensures);
+      }
+    ]

@@ -1,13 +1,13 @@
-use Rattle.std.proofs.Common.{◌≡◌, ◌++◌, map, drop}
-use Rattle.std.specs.List.{list_all}
+use Rattle.std.proofs.Common.{◌≡◌, ◌++◌, map, drop, fold, None}
 use Rattle.serde_json.specs.View.{view}
-use Rattle.scn_read.specs.Guest.{is_built_preset, preset_of}
+use Rattle.scn_read.specs.Fault.{first_code, first_of}
+use Rattle.scn_read.specs.Guest.{preset_fault, preset_of}
 use Rattle.scn_read.proofs.guest.presets.Given as goal
 
--- the presets so far and those that are left are all, and where those that are left are of the form that is built, all are
+-- the first fault so far and those of the presets that are left give the first of all; without one, the presets so far and those that are left are all
 abbrev pub invariant-loop-value : goal.invariant-loop-value
 invariant-loop-value l =
     record {
-      read : l.presets ++ map preset_of (map view (drop l.value-index l.values)) ≡ map preset_of (map view l.values);
-      built : list_all (is_built_preset l.shape) (map view (drop l.value-index l.values)) ≡ list_all (is_built_preset l.shape) (map view l.values);
+      faults : fold first_code l.fault (map (preset_fault l.spis) (map view (drop l.value-index l.values))) ≡ first_of (map (preset_fault l.spis) (map view l.values));
+      read : l.fault ≡ None → l.presets ++ map preset_of (map view (drop l.value-index l.values)) ≡ map preset_of (map view l.values);
     }
