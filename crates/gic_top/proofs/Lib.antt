@@ -1,4 +1,1 @@
-pub mod RangeLemmas
-pub mod StateLemmas
-pub mod HexLemmas
 pub mod ReplyLemmas

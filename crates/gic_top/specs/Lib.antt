@@ -1,8 +1,2 @@
-pub mod Opening
-pub mod Ideal
-pub mod Sound
-pub mod Ends
-pub mod Eager
-pub mod Text
 pub mod Tool
 pub mod Reply

@@ -11,8 +11,8 @@ use Rattle.scn_read.specs.declared.scenario.Fault.{Fault}
 use Rattle.scn_read.specs.Reading.{reading}
 use Rattle.scn_read.specs.Shown.{fault_text}
 use Rattle.gic_top.specs.declared.tool.TheConstants.{MAX_INPUT, OK, BAD_JSON, BAD_SCENARIO, TOO_LONG, NO_MEMORY}
-use Rattle.gic_top.specs.Eager.{eager}
-use Rattle.gic_top.specs.Text.{text, newline}
+use Rattle.gic_ideal.specs.Eager.{eager}
+use Rattle.gic_report.specs.Text.{text, newline}
 
 -- the words ask for a run to a schedule, the one form that is built
 abbrev pub IsRun : List (String Global) → Type 0

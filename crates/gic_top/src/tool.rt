@@ -5,10 +5,10 @@ ghost use Rattle.scn_read.specs.Good.{IsGood};
 ghost use Rattle.gic_top.specs.Tool.{run_text, fault_line as line_of, IsRun, IsOk, IsUsage, IsBadJson, IsBadScenario, IsReadFault, IsTooLong, IsNoMemory, IsSomeRow, HasItsAnswer};
 ghost use Rattle.gic_top.specs.Reply.{status_of, text_of, IsReplyTo, IsReplyOf, IsReplyFor};
 
-use crate::ideal::eager;
-use crate::report::text;
 use gic_base::NoMemory;
+use gic_ideal::eager;
 use gic_io::{Bytes, ReadError, Sink, Source, read_all, write_all};
+use gic_report::text;
 use scn_read::{Fault, Mode, ReadRefusal, Scenario, read};
 use serde_json::Value;
 use std::alloc::{AllocError, Global};

@@ -1,0 +1,10 @@
+pub mod RangeLemmas
+pub mod StateLemmas
+pub mod KeyLemmas
+pub mod CandidateLemmas
+pub mod GuestLemmas
+pub mod EffectLemmas
+pub mod KeepLemmas
+pub mod LawLemmas
+pub mod AnswerLemmas
+pub mod SoundLemmas

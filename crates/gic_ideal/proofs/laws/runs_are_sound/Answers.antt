@@ -1,0 +1,5 @@
+use Rattle.gic_ideal.proofs.SoundLemmas.{runs_sound}
+use Rattle.gic_ideal.proofs.laws.runs_are_sound.Goals as goal
+
+pub returns : goal.returns
+returns c = runs_sound

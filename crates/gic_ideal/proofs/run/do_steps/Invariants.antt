@@ -1,0 +1,14 @@
+use Rattle.std.proofs.Common.{◌≡◌, ◌++◌, drop, All}
+use Rattle.gic_ideal.specs.Eager.{answers_of, after_steps}
+use Rattle.gic_ideal.specs.Sound.{IsSound, state_shapes}
+use Rattle.gic_ideal.proofs.run.do_steps.Given as goal
+
+-- the answers so far and those to what is left are those to all
+abbrev pub invariant-loop-step : goal.invariant-loop-step
+invariant-loop-step l =
+    record {
+      sound : All IsSound l.states.items;
+      shapes : state_shapes l.states.items ≡ state_shapes l.fn.states.items;
+      told : l.answers ++ answers_of (drop l.step-index l.step-items) l.states.items ≡ answers_of l.step-items l.fn.states.items;
+      left : after_steps (drop l.step-index l.step-items) l.states.items ≡ after_steps l.step-items l.fn.states.items;
+    }

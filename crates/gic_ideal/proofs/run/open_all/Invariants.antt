@@ -1,0 +1,12 @@
+use Rattle.std.proofs.Common.{◌≡◌, map, take, All}
+use Rattle.gic_ideal.specs.Opening.{opening}
+use Rattle.gic_ideal.specs.Sound.{IsSound}
+use Rattle.gic_ideal.proofs.run.open_all.Given as goal
+
+-- the states of the guests so far
+abbrev pub invariant-loop-guest : goal.invariant-loop-guest
+invariant-loop-guest l =
+    record {
+      sound : All IsSound l.states.items;
+      so_far : l.states.items ≡ map opening (take l.guest-index l.guest-items);
+    }

@@ -1,0 +1,96 @@
+-- The fields of the lines that tell how a guest ended (own choice).
+use Rattle.std.specs.Prelude.{ℕ, ◌+◌, ◌*◌, ◌^◌, ◌==◌, ◌&&◌, List, [], ◌∷◌, Bool, true, false, nat_lt, nat_eq, if◌then◌else◌, Option, Some, None}
+use Rattle.std.specs.Option.{option_eq}
+use Rattle.std.specs.Bool.{beq}
+use Rattle.std.specs.List.{range_with_len, filter_map}
+use Rattle.gic_word.specs.declared.record.Group.{Group}
+use Rattle.gic_word.specs.declared.record.Group.TheVariants.{G0, G1}
+use Rattle.gic_word.specs.declared.record.Route.{Route}
+use Rattle.gic_word.specs.declared.record.Route.TheVariants.{Affinity, Target}
+use Rattle.gic_base.specs.declared.shape.GuestShape.{GuestShape}
+use Rattle.gic_base.specs.Interrupt.{interrupt_count, key_at}
+use Rattle.gic_prio.specs.declared.cpu.CpuRec.{CpuRec}
+use Rattle.gic_ideal.specs.declared.guest.IdealGuest.{IdealGuest}
+use Rattle.scn_read.specs.declared.outcome.CpuEnd.{CpuEnd}
+use Rattle.scn_read.specs.declared.outcome.IrqEnd.{IrqEnd}
+use Rattle.scn_read.specs.declared.outcome.End.{End}
+use Rattle.gic_ideal.specs.Ideal.{cpu_at, irq_at}
+
+-- a bit
+abbrev pub bit : Bool → ℕ
+bit false = 0
+bit true = 1
+
+-- a CPU record as ICH_VMCR holds it (IHI 0069, ICH_VMCR_EL2): VENG0 at bit 0, VENG1 at 1, VFIQEn at 3, which is always 1,
+-- VCBPR at 4, VEOIM at 9, VBPR1 at 18, VBPR0 at 21 and VPMR at 24
+abbrev pub vmcr_of : CpuRec → ℕ
+vmcr_of cpu =
+    bit cpu.en0 + bit cpu.en1 * 2 ^ 1 + 2 ^ 3 + bit cpu.cbpr * 2 ^ 4 + bit cpu.eoimode * 2 ^ 9 + cpu.bpr1 * 2 ^ 18 + cpu.bpr0 * 2 ^ 21 + cpu.pmr * 2 ^ 24
+
+-- the end of a vCPU's CPU interface
+abbrev pub cpu_end : IdealGuest → ℕ → CpuEnd
+cpu_end guest vcpu = let cpu = cpu_at guest vcpu in
+    record { vcpu = vcpu; vmcr = vmcr_of cpu; ap0 = cpu.ap0; ap1 = cpu.ap1; lpis = cpu.lpis }
+
+-- the number of a group
+abbrev pub group_number : Group → ℕ
+group_number G0 = 0
+group_number G1 = 1
+
+-- the vCPU that an interrupt is for, if the guest has it
+abbrev pub target_in : GuestShape → Route → Option ℕ
+target_in shape (Affinity affinity) = if nat_lt affinity shape.vcpus then Some affinity else None
+target_in shape (Target target) = target
+
+-- the end of the interrupt at a place in key order
+abbrev pub irq_end : IdealGuest → ℕ → IrqEnd
+irq_end guest place = let key = key_at guest.shape place in let irq = irq_at guest key in
+    record {
+      key = key;
+      enabled = irq.enabled;
+      group = group_number irq.group;
+      prio = irq.prio;
+      edge = irq.edge;
+      line = irq.line;
+      rise = irq.rise;
+      soft = irq.soft;
+      act_by = irq.act_by;
+      to = target_in guest.shape irq.route;
+    }
+
+-- the lines of the two ends are alike
+abbrev pub is_same_cpu_end : CpuEnd → CpuEnd → Bool
+is_same_cpu_end a b = a.vmcr == b.vmcr && a.ap0 == b.ap0 && a.ap1 == b.ap1 && beq a.lpis b.lpis
+
+-- the same of two ends of one interrupt
+abbrev pub is_same_irq_end : IrqEnd → IrqEnd → Bool
+is_same_irq_end a b =
+    beq a.enabled b.enabled && a.group == b.group && a.prio == b.prio && beq a.edge b.edge && beq a.line b.line && beq a.rise b.rise && beq a.soft b.soft
+    && option_eq nat_eq a.act_by b.act_by && option_eq nat_eq a.to b.to
+
+-- the end of this number, if it is not as at the opening
+abbrev pub changed_at : {E : Type 0} → (E → E → Bool) → (ℕ → E) → (ℕ → E) → ℕ → Option E
+changed_at is_same opened closed n = if is_same (opened n) (closed n) then None else Some (closed n)
+
+-- the ends, by number from 0, that are not as at the opening
+abbrev pub changed : {E : Type 0} → (E → E → Bool) → (ℕ → E) → (ℕ → E) → ℕ → List E
+changed is_same opened closed count = filter_map (changed_at is_same opened closed) (range_with_len 0 count)
+
+-- how a guest that opened in the one state ended in the other; no form that is built changes GICD_CTLR or has an ITS
+abbrev pub end_of : IdealGuest → IdealGuest → End
+end_of opened closed =
+    record {
+      gicd = None;
+      cpus = changed is_same_cpu_end (cpu_end opened) (cpu_end closed) opened.shape.vcpus;
+      irqs = changed is_same_irq_end (irq_end opened) (irq_end closed) (interrupt_count opened.shape);
+      its = None;
+      devs = [];
+      evts = [];
+      cols = [];
+    }
+
+-- how each guest ended
+abbrev pub ends_of : List IdealGuest → List IdealGuest → List End
+ends_of [] closed = []
+ends_of (before ∷ opened) [] = []
+ends_of (before ∷ opened) (after ∷ closed) = end_of before after ∷ ends_of opened closed

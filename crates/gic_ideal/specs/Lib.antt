@@ -1,0 +1,6 @@
+pub mod Opening
+pub mod Ideal
+pub mod Sound
+pub mod Ends
+pub mod Eager
+pub mod Laws

@@ -1,0 +1,34 @@
+ghost use Rattle.gic_ideal.specs.Laws.{AcknowledgeTakesCause, AcknowledgeAnswers, AnswerAcknowledges, DeactivatedBetween, CausedBetween, RunsAreSound};
+
+/// A law of the ideal controller: an interrupt that is acknowledged had a cause, and has lost it.
+pub fn acknowledge_takes_cause()
+    ensures { AcknowledgeTakesCause }
+{}
+
+/// A law of the ideal controller: a step that acknowledges an interrupt answers its INTID.
+pub fn acknowledge_answers()
+    ensures { AcknowledgeAnswers }
+{}
+
+/// A law of the ideal controller: a read of IAR that answers another INTID than 1023 acknowledges an interrupt
+/// with it.
+pub fn answer_acknowledges()
+    ensures { AnswerAcknowledges }
+{}
+
+/// A law of the ideal controller: an active interrupt is not acknowledged again before it is deactivated.
+pub fn deactivated_between()
+    ensures { DeactivatedBetween }
+{}
+
+/// A law of the ideal controller: between two acknowledges of one interrupt there is a new cause, or a level
+/// line that is up.
+pub fn caused_between()
+    ensures { CausedBetween }
+{}
+
+/// A law of the ideal controller: each state that a guest reaches from its opening is sound, so the other laws
+/// hold in every run.
+pub fn runs_are_sound()
+    ensures { RunsAreSound }
+{}

@@ -1,0 +1,92 @@
+ghost use Rattle.std.specs.Prelude.{◌≡◌, IfOk, OnOk, IsTrue, All, map};
+ghost use Rattle.scn_read.specs.declared.scenario.Mode.{Mode};
+ghost use Rattle.scn_read.specs.Good.{IsGood, IsGoodGuest, is_good_step, shapes_of};
+ghost use Rattle.gic_ideal.specs.Opening.{opening};
+ghost use Rattle.gic_ideal.specs.Ends.{ends_of};
+ghost use Rattle.gic_ideal.specs.Eager.{step_answer, after_step, answers_of, after_steps, eager as eager_run};
+ghost use Rattle.gic_ideal.specs.Sound.{IsSound, state_shapes};
+
+use crate::ends::end_of;
+use crate::guest::IdealGuest;
+use gic_base::NoMemory;
+use gic_list::ListOf;
+use scn_read::{Answer, Answers, Ends, Guests, RunOut, Scenario, Step, Steps};
+use std::alloc::{AllocError, Global};
+
+/// The states in which the guests open.
+fn open_all(alloc: Global, guests: &Guests) -> Result<Vec<IdealGuest>, AllocError>
+    requires { All IsGoodGuest guests.now }
+    ensures value { IfOk result (λ states. states.items ≡ map opening guests.now) }
+    ensures sound { IfOk result (λ states. All IsSound states.items) }
+{
+    let mut states = Vec::new(alloc);
+    for guest in guests.as_slice() {
+        states.push(IdealGuest::open(alloc, guest)?)?;
+    }
+    Ok(states)
+}
+
+/// Does a step, and answers what it reads.
+fn do_step(states: &mut Vec<IdealGuest>, step: &Step) -> Answer
+    requires sound { All IsSound states.old.items }
+    requires good { IsTrue (is_good_step (state_shapes states.old.items) step.now) }
+    ensures answer { result ≡ step_answer step.now states.old.items }
+    ensures after { states.new.items ≡ after_step step.now states.old.items }
+    ensures sound { All IsSound states.new.items }
+    ensures shapes { state_shapes states.new.items ≡ state_shapes states.old.items }
+{
+    match *step {
+        Step::Vcpu { guest, vcpu, op } => states[guest as usize].operate(vcpu, op),
+        Step::Device { guest, op, .. } => {
+            states[guest as usize].receive(op);
+            Answer::Nothing
+        }
+        Step::Pe { .. } => unreachable!(),
+    }
+}
+
+/// Does the steps one after the other, and answers what each reads.
+fn do_steps(
+    alloc: Global,
+    states: &mut Vec<IdealGuest>,
+    steps: &Steps,
+) -> Result<Answers, AllocError>
+    requires sound { All IsSound states.old.items }
+    requires good { All (λ step. IsTrue (is_good_step (state_shapes states.old.items) step)) steps.now }
+    ensures answers { IfOk result (λ answers. answers ≡ answers_of steps.now states.old.items) }
+    ensures after { OnOk result (states.new.items ≡ after_steps steps.now states.old.items) }
+    ensures sound { All IsSound states.new.items }
+    ensures shapes { state_shapes states.new.items ≡ state_shapes states.old.items }
+{
+    let mut answers = ListOf::new(alloc);
+    for step in steps.as_slice() {
+        answers.push(do_step(states, step))?;
+    }
+    Ok(answers)
+}
+
+/// How each guest ended that opened as the scenario says.
+fn end_all(alloc: Global, guests: &Guests, closed: &[IdealGuest]) -> Result<Ends, AllocError>
+    requires good { All IsGoodGuest guests.now }
+    requires sound { All IsSound closed.now }
+    requires shapes { state_shapes closed.now ≡ shapes_of guests.now }
+    ensures { IfOk result (λ ends. ends ≡ ends_of (map opening guests.now) closed.now) }
+{
+    let mut ends = ListOf::new(alloc);
+    for (number, guest) in guests.as_slice().iter().enumerate() {
+        let opened = IdealGuest::open(alloc, guest)?;
+        ends.push(end_of(alloc, &opened, &closed[number])?)?;
+    }
+    Ok(ends)
+}
+
+/// The run of a scenario by the ideal controller.
+pub fn eager(alloc: Global, scenario: &Scenario) -> Result<RunOut, NoMemory>
+    requires { IsGood Mode.Schedule scenario.now }
+    ensures { IfOk result (λ out. out ≡ eager_run scenario.now) }
+{
+    let mut states = open_all(alloc, &scenario.guests)?;
+    let answers = do_steps(alloc, &mut states, &scenario.steps)?;
+    let ends = end_all(alloc, &scenario.guests, states.as_slice())?;
+    Ok(RunOut { answers, ends })
+}
