@@ -7,4 +7,5 @@ pub mod EffectLemmas
 pub mod KeepLemmas
 pub mod LawLemmas
 pub mod AnswerLemmas
+pub mod ReadLemmas
 pub mod SoundLemmas

@@ -1,5 +1,5 @@
 -- Laws of the ideal controller, over every list of steps.
-use Rattle.std.specs.Prelude.{◌≡◌, ◌≢◌, ℕ, ◌==◌, ◌&&◌, ◌⊎◌, Bool, IsTrue, true, false, not, if◌then◌else◌, Option, Some, None, option_and_then, List, [], ◌∷◌, slice_get, map, All}
+use Rattle.std.specs.Prelude.{◌≡◌, ◌≢◌, ℕ, ◌==◌, ◌&&◌, ◌⊎◌, Bool, IsTrue, true, false, not, nat_le, nat_lt, if◌then◌else◌, Option, Some, None, option_and_then, List, [], ◌∷◌, slice_get, map, All}
 use Rattle.std.specs.Option.{option_map, option_map_or}
 use Rattle.gic_word.specs.declared.record.Irq.{Irq}
 use Rattle.gic_word.specs.Record.{is_pending, is_number}
@@ -12,7 +12,8 @@ use Rattle.gic_base.specs.declared.operation.DeviceOp.TheVariants.{Message, Wire
 use Rattle.gic_base.specs.Interrupt.{intid_of}
 use Rattle.gic_base.specs.declared.icc.IccReg.{IccReg}
 use Rattle.gic_base.specs.declared.icc.IccReg.TheVariants.{Iar0, Iar1}
-use Rattle.gic_prio.specs.declared.priority.TheConstants.{SPURIOUS}
+use Rattle.gic_base.specs.declared.interrupt.TheConstants.{FIRST_SPI}
+use Rattle.gic_prio.specs.declared.priority.TheConstants.{SPURIOUS, FIRST_SPECIAL}
 use Rattle.gic_prio.specs.Signal.{has_active_state}
 use Rattle.gic_prio.specs.Access.{taken_by}
 use Rattle.scn_read.specs.declared.scenario.GuestSpec.{GuestSpec}
@@ -107,11 +108,15 @@ is_acknowledge Iar0 = true
 is_acknowledge Iar1 = true
 is_acknowledge reg = false
 
+-- the read of a register by a vCPU of the guest of this number
+abbrev pub read_by : ℕ → ℕ → IccReg → Step
+read_by n vcpu reg = Vcpu n vcpu (Icc reg None)
+
 -- a read of one of them that answers another INTID than 1023 acknowledges an interrupt with it (IHI 0069, ICC_IAR0 and ICC_IAR1)
 abbrev pub AnswerAcknowledges : Type 0
 AnswerAcknowledges =
     (guests : List IdealGuest) (n vcpu id : ℕ) (reg : IccReg) → IsTrue (is_acknowledge reg) → id ≢ SPURIOUS →
-    step_answer (Vcpu n vcpu (Icc reg None)) guests ≡ Value id → AcknowledgesId (Vcpu n vcpu (Icc reg None)) n id guests
+    step_answer (read_by n vcpu reg) guests ≡ Value id → AcknowledgesId (read_by n vcpu reg) n id guests
 
 -- between two acknowledges of an interrupt it is deactivated, if it is not an LPI, which has no active state: an active
 -- interrupt is not acknowledged again (IHI 0069, "Interrupt handling state machine")
@@ -129,6 +134,19 @@ CausedBetween =
     All (λ step. IsTrue (is_good_step (state_shapes guests) step)) between →
     Does acknowledges first n key guests → Does acknowledges next n key (after_steps (first ∷ between) guests) →
     OneDoes raises between n key (after_step first guests) ⊎ IsTrue (is_level_up (irq_of n key (after_steps (first ∷ between) guests)))
+
+-- an INTID that is an SPI's in some guests and no other interrupt's in any (IHI 0069, "INTIDs")
+abbrev pub is_spi_id : ℕ → Bool
+is_spi_id id = nat_le FIRST_SPI id && nat_lt id FIRST_SPECIAL
+
+-- the same of two reads of IAR, by any vCPUs of a guest, that answer the INTID of one SPI
+abbrev pub CausedBetweenReads : Type 0
+CausedBetweenReads =
+    (guests : List IdealGuest) (n vcpu other id : ℕ) (reg next : IccReg) (between : List Step) → All IsSound guests →
+    All (λ step. IsTrue (is_good_step (state_shapes guests) step)) between → IsTrue (is_spi_id id) →
+    IsTrue (is_acknowledge reg) → step_answer (read_by n vcpu reg) guests ≡ Value id →
+    IsTrue (is_acknowledge next) → step_answer (read_by n other next) (after_steps (read_by n vcpu reg ∷ between) guests) ≡ Value id →
+    OneDoes raises between n (Spi id) (after_step (read_by n vcpu reg) guests) ⊎ IsTrue (is_level_up (irq_of n (Spi id) (after_steps (read_by n vcpu reg ∷ between) guests)))
 
 -- each state that a guest reaches from its opening is sound, so the other laws hold in every run
 abbrev pub RunsAreSound : Type 0

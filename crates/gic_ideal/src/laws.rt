@@ -1,4 +1,4 @@
-ghost use Rattle.gic_ideal.specs.Laws.{AcknowledgeTakesCause, AcknowledgeAnswers, AnswerAcknowledges, DeactivatedBetween, CausedBetween, RunsAreSound};
+ghost use Rattle.gic_ideal.specs.Laws.{AcknowledgeTakesCause, AcknowledgeAnswers, AnswerAcknowledges, DeactivatedBetween, CausedBetween, CausedBetweenReads, RunsAreSound};
 
 /// A law of the ideal controller: an interrupt that is acknowledged had a cause, and has lost it.
 pub fn acknowledge_takes_cause()
@@ -25,6 +25,12 @@ pub fn deactivated_between()
 /// line that is up.
 pub fn caused_between()
     ensures { CausedBetween }
+{}
+
+/// A law of the ideal controller: between two reads of IAR that answer the INTID of one SPI there is a new
+/// cause, or a level line that is up.
+pub fn caused_between_reads()
+    ensures { CausedBetweenReads }
 {}
 
 /// A law of the ideal controller: each state that a guest reaches from its opening is sound, so the other laws

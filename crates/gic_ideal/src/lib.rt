@@ -12,6 +12,6 @@ mod run;
 pub use guest::IdealGuest;
 pub use laws::{
     acknowledge_answers, acknowledge_takes_cause, answer_acknowledges, caused_between,
-    deactivated_between, runs_are_sound,
+    caused_between_reads, deactivated_between, runs_are_sound,
 };
 pub use run::eager;

@@ -1,0 +1,5 @@
+use Rattle.gic_ideal.proofs.ReadLemmas.{caused_reads}
+use Rattle.gic_ideal.proofs.laws.caused_between_reads.Goals as goal
+
+pub returns : goal.returns
+returns c = caused_reads
