@@ -1,0 +1,57 @@
+-- A list register, as fields and as a word (IHI 0069, ICH_LR<n>_EL2).
+use Rattle.std.specs.Prelude.{ℕ, ◌≡◌, ◌<◌, ◌+◌, ◌*◌, ◌/◌, ◌%◌, ◌^◌, ◌==◌, ◌&&◌, not, Bool, true, false, if◌then◌else◌, Option, Some, None, IfSome}
+use Rattle.std.specs.Int.{bit_at}
+use Rattle.gic_word.specs.declared.record.Group.{Group}
+use Rattle.gic_word.specs.declared.record.Group.TheVariants.{G0, G1}
+use Rattle.gic_lr.specs.declared.entry.LrState.{LrState}
+use Rattle.gic_lr.specs.declared.entry.LrState.TheVariants.{Invalid, Pending, Active, Both}
+use Rattle.gic_lr.specs.declared.entry.LrEntry.{LrEntry}
+
+-- what a list register can hold: a physical INTID has 13 bits, and an entry with one has no EOI
+pub record IsEntry (entry : LrEntry) : Type 0 where
+  pub number : IfSome entry.hw (λ number. number < 2 ^ 13)
+  pub no_eoi : IfSome entry.hw (λ number. entry.eoi ≡ false)
+
+-- State
+abbrev pub state_number : LrState → ℕ
+state_number Invalid = 0
+state_number Pending = 1
+state_number Active = 2
+state_number Both = 3
+
+-- the state of this number
+abbrev pub state_at : ℕ → LrState
+state_at state = if state == 0 then Invalid else (if state == 1 then Pending else (if state == 2 then Active else Both))
+
+-- Group
+abbrev pub group_number : Group → ℕ
+group_number G0 = 0
+group_number G1 = 1
+
+-- HW at bit 61 with pINTID [44:32] where there is a physical interrupt, or else EOI at bit 41
+abbrev pub source_number : Option ℕ → Bool → ℕ
+source_number (Some number) eoi = number * 2 ^ 32 + 2 ^ 61
+source_number None false = 0
+source_number None true = 2 ^ 41
+
+-- the word: vINTID [31:0], Priority [55:48], Group at bit 60 and State [63:62] beside these
+abbrev pub packed : LrEntry → ℕ
+packed entry = entry.id + source_number entry.hw entry.eoi + entry.prio * 2 ^ 48 + group_number entry.group * 2 ^ 60 + state_number entry.state * 2 ^ 62
+
+-- the fields of any word
+abbrev pub unpacked : ℕ → LrEntry
+unpacked word = let is_hw = bit_at word 61 == 1 in
+    record {
+      id = word % 2 ^ 32;
+      prio = word / 2 ^ 48 % 2 ^ 8;
+      group = if bit_at word 60 == 1 then G1 else G0;
+      state = state_at (word / 2 ^ 62);
+      eoi = not is_hw && bit_at word 41 == 1;
+      hw = if is_hw then Some (word / 2 ^ 32 % 2 ^ 13) else None;
+    }
+
+-- each bit that belongs to no field is 0: [59:56], [47:45] where HW is 1, and [47:42] and [40:32] where it is 0
+abbrev pub has_only_fields : ℕ → Bool
+has_only_fields word =
+    word / 2 ^ 56 % 2 ^ 4 == 0
+    && (if bit_at word 61 == 1 then word / 2 ^ 45 % 2 ^ 3 == 0 else (word / 2 ^ 42 % 2 ^ 6 == 0 && word / 2 ^ 32 % 2 ^ 9 == 0))

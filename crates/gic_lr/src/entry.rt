@@ -1,0 +1,138 @@
+//! One list register, as fields and as a word.
+ghost use Rattle.std.specs.Prelude.{◌≡◌, IsTrue};
+ghost use Rattle.gic_lr.specs.Entry.{IsEntry, packed, unpacked, state_number, state_at, has_only_fields};
+
+use gic_word::Group;
+
+/// The place of vINTID: bits [31:0].
+const INTIDS: u64 = 1 << 32;
+/// The lowest bit of pINTID, where HW is 1: bits [44:32].
+const PINTID: u64 = 1 << 32;
+/// pINTID has 13 bits.
+const PINTIDS: u64 = 1 << 13;
+/// EOI, where HW is 0.
+const EOI: u64 = 1 << 41;
+/// The lowest bit of Priority: bits [55:48].
+const PRIORITY: u64 = 1 << 48;
+/// Priority has 8 bits.
+const PRIORITIES: u64 = 1 << 8;
+/// Group.
+const GROUP: u64 = 1 << 60;
+/// HW.
+const HW: u64 = 1 << 61;
+/// The lowest bit of State: bits [63:62].
+const STATE: u64 = 1 << 62;
+
+/// The state of the interrupt in a list register (IHI 0069, ICH_LR<n>_EL2.State).
+#[derive(Clone, Copy, Debug, PartialEq, Eq, Hash)]
+pub enum LrState {
+    Invalid,
+    Pending,
+    Active,
+    /// Pending and active.
+    Both,
+}
+
+/// What a list register holds (IHI 0069, ICH_LR<n>_EL2).
+#[derive(Clone, Copy, Debug, PartialEq, Eq, Hash)]
+pub struct LrEntry {
+    /// The INTID that the guest sees.
+    pub id: u32,
+    /// 0 to 255; lower is more urgent.
+    pub prio: u8,
+    pub group: Group,
+    pub state: LrState,
+    /// A deactivation raises a maintenance interrupt; false where `hw` is there.
+    pub eoi: bool,
+    /// The INTID of the physical interrupt that a deactivation deactivates, below 8192, or none.
+    pub hw: Option<u32>,
+}
+
+fn number_of(state: LrState) -> u64
+    ensures { result ≡ state_number state }
+{
+    match state {
+        LrState::Invalid => 0,
+        LrState::Pending => 1,
+        LrState::Active => 2,
+        LrState::Both => 3,
+    }
+}
+
+/// The list register that holds an entry.
+pub fn pack(entry: &LrEntry) -> u64
+    requires { IsEntry entry.now }
+    ensures value { result ≡ packed entry.now }
+    ensures back { unpacked result ≡ entry.now }
+{
+    let source = match entry.hw {
+        Some(number) => u64::from(number) * PINTID + HW,
+        None => u64::from(entry.eoi) * EOI,
+    };
+    let group = match entry.group {
+        Group::G0 => 0,
+        Group::G1 => GROUP,
+    };
+    u64::from(entry.id)
+        + source
+        + u64::from(entry.prio) * PRIORITY
+        + group
+        + number_of(entry.state) * STATE
+}
+
+/// What a list register holds, whatever its bits are.
+pub fn unpack(word: u64) -> LrEntry
+    ensures value { result ≡ unpacked word }
+    ensures entry { IsEntry result }
+    ensures back { IsTrue (has_only_fields word) → packed result ≡ word }
+{
+    let is_hw = word / HW % 2 == 1;
+    LrEntry {
+        id: (word % INTIDS) as u32,
+        prio: (word / PRIORITY % PRIORITIES) as u8,
+        group: if word / GROUP % 2 == 1 {
+            Group::G1
+        } else {
+            Group::G0
+        },
+        state: match word / STATE {
+            0 => LrState::Invalid,
+            1 => LrState::Pending,
+            2 => LrState::Active,
+            _ => LrState::Both,
+        },
+        eoi: !is_hw && word / EOI % 2 == 1,
+        hw: is_hw.then_some((word / PINTID % PINTIDS) as u32),
+    }
+}
+
+#[cfg(test)]
+mod tests {
+    use super::{LrEntry, LrState, pack, unpack};
+    use gic_word::Group;
+
+    /// The state, the INTID, the priority, whether EOI is set, and the list register, all in group 1.
+    const ROWS: [(LrState, u32, u8, bool, u64); 5] = [
+        (LrState::Pending, 40, 0xA0, false, 0x50a0_0000_0000_0028),
+        (LrState::Pending, 40, 0xA0, true, 0x50a0_0200_0000_0028),
+        (LrState::Both, 40, 0xA0, false, 0xd0a0_0000_0000_0028),
+        (LrState::Active, 40, 0xA0, true, 0x90a0_0200_0000_0028),
+        (LrState::Pending, 42, 0x20, false, 0x5020_0000_0000_002a),
+    ];
+
+    #[test]
+    fn list_registers(rt: HostRuntime) {
+        for (state, id, prio, eoi, word) in ROWS {
+            let entry = LrEntry {
+                id,
+                prio,
+                group: Group::G1,
+                state,
+                eoi,
+                hw: None,
+            };
+            assert_eq!(rt; pack(&entry), word);
+            assert_eq!(rt; unpack(word), entry);
+        }
+    }
+}

@@ -1,0 +1,8 @@
+//! The list registers of a PE, packed in words.
+#![tactic(auto)]
+
+mod entry;
+mod status;
+
+pub use entry::{LrEntry, LrState, pack, unpack};
+pub use status::{MAX_LIST_REGISTERS, eisr, elrsr};
