@@ -1,0 +1,3 @@
+pub mod Regs
+pub mod Status
+pub mod Vmcr

@@ -1,0 +1,31 @@
+-- The record of a CPU interface as registers hold it (IHI 0069, ICH_VMCR_EL2, ICH_AP0R0_EL2 and ICH_AP1R0_EL2).
+use Rattle.std.specs.Prelude.{ℕ, ◌≡◌, ◌+◌, ◌*◌, ◌/◌, ◌%◌, ◌^◌, Bool}
+use Rattle.gic_prio.specs.declared.cpu.CpuRec.{CpuRec}
+use Rattle.gic_prio.specs.Registers.{bit_of, has_bit}
+use Rattle.gic_ich.specs.declared.regs.IchRegs.{IchRegs}
+
+-- a CPU record as ICH_VMCR holds it: VENG0 at bit 0, VENG1 at 1, VFIQEn at 3, which is always 1, VCBPR at 4, VEOIM at 9,
+-- VBPR1 [20:18], VBPR0 [23:21] and VPMR [31:24]
+abbrev pub vmcr_of : CpuRec → ℕ
+vmcr_of cpu =
+    bit_of cpu.en0 + bit_of cpu.en1 * 2 ^ 1 + 2 ^ 3 + bit_of cpu.cbpr * 2 ^ 4 + bit_of cpu.eoimode * 2 ^ 9 + cpu.bpr1 * 2 ^ 18 + cpu.bpr0 * 2 ^ 21 + cpu.pmr * 2 ^ 24
+
+-- the CPU record that the registers hold, with EnableLPIs as given
+abbrev pub cpu_of : IchRegs → Bool → CpuRec
+cpu_of regs lpis =
+    record {
+      pmr = regs.vmcr / 2 ^ 24;
+      bpr0 = regs.vmcr / 2 ^ 21 % 2 ^ 3;
+      bpr1 = regs.vmcr / 2 ^ 18 % 2 ^ 3;
+      cbpr = has_bit regs.vmcr 4;
+      eoimode = has_bit regs.vmcr 9;
+      en0 = has_bit regs.vmcr 0;
+      en1 = has_bit regs.vmcr 1;
+      lpis = lpis;
+      ap0 = regs.ap0r;
+      ap1 = regs.ap1r;
+    }
+
+-- registers with this ICH_VMCR, and with the active levels of a CPU record, hold that record
+abbrev pub GivesBack : CpuRec → ℕ → Type 0
+GivesBack cpu vmcr = (regs : IchRegs) → regs.vmcr ≡ vmcr → regs.ap0r ≡ cpu.ap0 → regs.ap1r ≡ cpu.ap1 → cpu_of regs cpu.lpis ≡ cpu
