@@ -1,41 +1,24 @@
 -- The fields of the lines that tell how a guest ended (own choice).
-use Rattle.std.specs.Prelude.{ℕ, ◌+◌, ◌*◌, ◌^◌, ◌==◌, ◌&&◌, List, [], ◌∷◌, Bool, true, false, nat_lt, nat_eq, if◌then◌else◌, Option, Some, None}
+use Rattle.std.specs.Prelude.{ℕ, ◌==◌, ◌&&◌, List, [], ◌∷◌, Bool, nat_lt, nat_eq, if◌then◌else◌, Option, Some, None}
 use Rattle.std.specs.Option.{option_eq}
 use Rattle.std.specs.Bool.{beq}
 use Rattle.std.specs.List.{range_with_len, filter_map}
-use Rattle.gic_word.specs.declared.record.Group.{Group}
-use Rattle.gic_word.specs.declared.record.Group.TheVariants.{G0, G1}
 use Rattle.gic_word.specs.declared.record.Route.{Route}
 use Rattle.gic_word.specs.declared.record.Route.TheVariants.{Affinity, Target}
 use Rattle.gic_base.specs.declared.shape.GuestShape.{GuestShape}
 use Rattle.gic_base.specs.Interrupt.{interrupt_count, key_at}
-use Rattle.gic_prio.specs.declared.cpu.CpuRec.{CpuRec}
+use Rattle.gic_lr.specs.Entry.{group_number}
+use Rattle.gic_ich.specs.Vmcr.{vmcr_of}
 use Rattle.gic_ideal.specs.declared.guest.IdealGuest.{IdealGuest}
 use Rattle.scn_read.specs.declared.outcome.CpuEnd.{CpuEnd}
 use Rattle.scn_read.specs.declared.outcome.IrqEnd.{IrqEnd}
 use Rattle.scn_read.specs.declared.outcome.End.{End}
 use Rattle.gic_ideal.specs.Ideal.{cpu_at, irq_at}
 
--- a bit
-abbrev pub bit : Bool → ℕ
-bit false = 0
-bit true = 1
-
--- a CPU record as ICH_VMCR holds it (IHI 0069, ICH_VMCR_EL2): VENG0 at bit 0, VENG1 at 1, VFIQEn at 3, which is always 1,
--- VCBPR at 4, VEOIM at 9, VBPR1 at 18, VBPR0 at 21 and VPMR at 24
-abbrev pub vmcr_of : CpuRec → ℕ
-vmcr_of cpu =
-    bit cpu.en0 + bit cpu.en1 * 2 ^ 1 + 2 ^ 3 + bit cpu.cbpr * 2 ^ 4 + bit cpu.eoimode * 2 ^ 9 + cpu.bpr1 * 2 ^ 18 + cpu.bpr0 * 2 ^ 21 + cpu.pmr * 2 ^ 24
-
 -- the end of a vCPU's CPU interface
 abbrev pub cpu_end : IdealGuest → ℕ → CpuEnd
 cpu_end guest vcpu = let cpu = cpu_at guest vcpu in
     record { vcpu = vcpu; vmcr = vmcr_of cpu; ap0 = cpu.ap0; ap1 = cpu.ap1; lpis = cpu.lpis }
-
--- the number of a group
-abbrev pub group_number : Group → ℕ
-group_number G0 = 0
-group_number G1 = 1
 
 -- the vCPU that an interrupt is for, if the guest has it
 abbrev pub target_in : GuestShape → Route → Option ℕ

@@ -1,46 +1,15 @@
 ghost use Rattle.std.specs.Prelude.{◌≡◌, ◌<◌, IfOk};
 ghost use Rattle.gic_base.specs.Interrupt.{interrupt_count as count_of};
-ghost use Rattle.gic_ideal.specs.Ends.{vmcr_of, cpu_end as cpu_end_at, irq_end as irq_end_at, is_same_cpu_end, is_same_irq_end, changed_at, changed, end_of as end_between};
-ghost use Rattle.gic_prio.specs.Priority.{HasBinaryPoints};
+ghost use Rattle.gic_ideal.specs.Ends.{cpu_end as cpu_end_at, irq_end as irq_end_at, is_same_cpu_end, is_same_irq_end, changed_at, changed, end_of as end_between};
 ghost use Rattle.gic_ideal.specs.Sound.{IsSound};
 
 use crate::guest::IdealGuest;
 use gic_base::{interrupt_count, key_at};
+use gic_ich::vmcr_of;
 use gic_list::ListOf;
-use gic_prio::CpuRec;
 use gic_word::{Group, Route};
 use scn_read::{CpuEnd, CpuEnds, End, IrqEnd, IrqEnds};
 use std::alloc::{AllocError, Global};
-
-/// ICH_VMCR.VENG1.
-const VENG1: u32 = 1 << 1;
-/// ICH_VMCR.VFIQEn, which is always 1.
-const VFIQEN: u32 = 1 << 3;
-/// ICH_VMCR.VCBPR.
-const VCBPR: u32 = 1 << 4;
-/// ICH_VMCR.VEOIM.
-const VEOIM: u32 = 1 << 9;
-/// The lowest bit of ICH_VMCR.VBPR1.
-const VBPR1: u32 = 1 << 18;
-/// The lowest bit of ICH_VMCR.VBPR0.
-const VBPR0: u32 = 1 << 21;
-/// The lowest bit of ICH_VMCR.VPMR.
-const VPMR: u32 = 1 << 24;
-
-/// The record of a CPU interface as ICH_VMCR holds it.
-fn vmcr(cpu: &CpuRec) -> u32
-    requires { HasBinaryPoints cpu.now }
-    ensures { result ≡ vmcr_of cpu.now }
-{
-    u32::from(cpu.en0)
-        + u32::from(cpu.en1) * VENG1
-        + VFIQEN
-        + u32::from(cpu.cbpr) * VCBPR
-        + u32::from(cpu.eoimode) * VEOIM
-        + u32::from(cpu.bpr1) * VBPR1
-        + u32::from(cpu.bpr0) * VBPR0
-        + u32::from(cpu.pmr) * VPMR
-}
 
 fn is_same_cpu(a: &CpuEnd, b: &CpuEnd) -> bool
     ensures { result ≡ is_same_cpu_end a.now b.now }
@@ -71,7 +40,7 @@ impl IdealGuest {
         let cpu = self.cpu(vcpu);
         CpuEnd {
             vcpu,
-            vmcr: vmcr(&cpu),
+            vmcr: vmcr_of(&cpu),
             ap0: cpu.ap0,
             ap1: cpu.ap1,
             lpis: cpu.lpis,
