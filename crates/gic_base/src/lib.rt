@@ -1,17 +1,21 @@
 //! Which interrupts, registers, operations and actors a guest has.
 #![tactic(auto)]
 
+mod held;
 mod icc;
 mod interrupt;
+mod memory;
 mod operation;
 mod shape;
 
+pub use held::{Back, Held, HeldIrq, MAX_LIST_REGISTERS};
 pub use icc::IccReg;
 pub use interrupt::{
     FIRST_LPI, FIRST_SPI, Key, PRIVATE_COUNT, SGI_COUNT, interrupt_count, key_at, key_of, place_of,
     places_are_ordered,
 };
-pub use operation::{Actor, DeviceOp, Frame, GuestOp, Kind, NoMemory, PeOp};
+pub use memory::NoMemory;
+pub use operation::{Actor, DeviceOp, Frame, GuestOp, Kind, PeOp};
 pub use shape::{
     GuestShape, MAX_DEVICES, MAX_LPIS, MAX_RAM, MAX_SPIS, MAX_VCPUS, RAM_STEP, SPI_STEP,
 };

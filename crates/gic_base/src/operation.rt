@@ -1,26 +1,5 @@
 use crate::icc::IccReg;
 use crate::interrupt::Key;
-use std::alloc::AllocError;
-use std::error::Error;
-use std::fmt;
-
-/// Memory was refused.
-#[derive(Clone, Copy, Debug, PartialEq, Eq, Hash)]
-pub struct NoMemory;
-
-impl From<AllocError> for NoMemory {
-    fn from(_refused: AllocError) -> NoMemory {
-        NoMemory
-    }
-}
-
-impl fmt::Display for NoMemory {
-    fn fmt<W: fmt::Write>(&self, f: &mut fmt::Formatter<W>) -> fmt::Result {
-        f.write_str("no memory")
-    }
-}
-
-impl Error for NoMemory {}
 
 /// The registers that have a part for each interrupt (IHI 0069, "The Distributor register map").
 #[derive(Clone, Copy, Debug, PartialEq, Eq, Hash)]

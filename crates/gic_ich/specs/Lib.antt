@@ -1,3 +1,4 @@
+pub mod Hcr
 pub mod Regs
 pub mod Status
 pub mod Vmcr

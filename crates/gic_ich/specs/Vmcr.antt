@@ -1,8 +1,15 @@
 -- The record of a CPU interface as registers hold it (IHI 0069, ICH_VMCR_EL2, ICH_AP0R0_EL2 and ICH_AP1R0_EL2).
 use Rattle.std.specs.Prelude.{ℕ, ◌≡◌, ◌+◌, ◌*◌, ◌/◌, ◌%◌, ◌^◌, Bool}
 use Rattle.gic_prio.specs.declared.cpu.CpuRec.{CpuRec}
-use Rattle.gic_prio.specs.Registers.{bit_of, has_bit}
+use Rattle.gic_word.specs.Bits.{bit_of, has_bit}
 use Rattle.gic_ich.specs.declared.regs.IchRegs.{IchRegs}
+
+-- the weights of the two group enables in ICH_VMCR
+abbrev pub veng0 : ℕ
+veng0 = 2 ^ 0
+
+abbrev pub veng1 : ℕ
+veng1 = 2 ^ 1
 
 -- a CPU record as ICH_VMCR holds it: VENG0 at bit 0, VENG1 at 1, VFIQEn at 3, which is always 1, VCBPR at 4, VEOIM at 9,
 -- VBPR1 [20:18], VBPR0 [23:21] and VPMR [31:24]

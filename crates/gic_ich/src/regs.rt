@@ -1,7 +1,7 @@
 ghost use Rattle.std.specs.Prelude.{◌≡◌, ◌≤◌};
 ghost use Rattle.gic_ich.specs.Regs.{vtr_of};
 
-use gic_lr::MAX_LIST_REGISTERS;
+use gic_base::MAX_LIST_REGISTERS;
 
 /// ICH_VTR.TDS: DIR can be trapped by itself.
 const VTR_TDS: u32 = 1 << 19;

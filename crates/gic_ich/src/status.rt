@@ -1,29 +1,17 @@
 ghost use Rattle.std.specs.Prelude.{◌≡◌, ◌≤◌, length, filter};
 ghost use Rattle.std.specs.List.{list_any};
-ghost use Rattle.gic_prio.specs.Registers.{has_bit as bit_is_set};
+ghost use Rattle.gic_word.specs.Bits.{has_flag};
 ghost use Rattle.gic_ich.specs.Status.{misr_of, is_valid as is_valid_word, is_pending as is_pending_word, listed_of, asked, entries_part, groups_part};
 
+use crate::hcr::{
+    HCR_EN, HCR_EOICOUNT, HCR_LRENPIE, HCR_NPIE, HCR_UIE, HCR_VGRP0DIE, HCR_VGRP0EIE, HCR_VGRP1DIE,
+    HCR_VGRP1EIE,
+};
 use crate::regs::IchRegs;
-use gic_lr::{LrState, MAX_LIST_REGISTERS, eisr, unpack};
+use crate::vmcr::{VENG0, VENG1};
+use gic_base::MAX_LIST_REGISTERS;
+use gic_lr::{LrState, eisr, unpack};
 
-/// ICH_HCR.En.
-const HCR_EN: u32 = 0;
-/// ICH_HCR.UIE.
-const HCR_UIE: u32 = 1;
-/// ICH_HCR.LRENPIE.
-const HCR_LRENPIE: u32 = 2;
-/// ICH_HCR.NPIE.
-const HCR_NPIE: u32 = 3;
-/// ICH_HCR.VGrp0EIE.
-const HCR_VGRP0EIE: u32 = 4;
-/// ICH_HCR.VGrp0DIE.
-const HCR_VGRP0DIE: u32 = 5;
-/// ICH_HCR.VGrp1EIE.
-const HCR_VGRP1EIE: u32 = 6;
-/// ICH_HCR.VGrp1DIE.
-const HCR_VGRP1DIE: u32 = 7;
-/// The lowest bit of ICH_HCR.EOIcount.
-const HCR_EOICOUNT: u32 = 27;
 /// ICH_MISR.U.
 const MISR_U: u8 = 1 << 1;
 /// ICH_MISR.LRENP.
@@ -38,16 +26,12 @@ const MISR_VGRP0D: u8 = 1 << 5;
 const MISR_VGRP1E: u8 = 1 << 6;
 /// ICH_MISR.VGrp1D.
 const MISR_VGRP1D: u8 = 1 << 7;
-/// ICH_VMCR.VENG0.
-const VMCR_VENG0: u32 = 0;
-/// ICH_VMCR.VENG1.
-const VMCR_VENG1: u32 = 1;
-
-fn has_bit(value: u32, place: u32) -> bool
-    requires { place ≤ 31 }
-    ensures { result ≡ bit_is_set value place }
+/// Whether the bit of this weight is 1.
+fn has_bit(value: u32, weight: u32) -> bool
+    requires { 1 ≤ weight }
+    ensures { result ≡ has_flag value weight }
 {
-    (value >> place) % 2 == 1
+    value / weight % 2 == 1
 }
 
 fn is_valid(word: u64) -> bool
@@ -83,12 +67,12 @@ fn any_pending(words: &[u64]) -> bool
 }
 
 /// Whether ICH_HCR asks for a bit of ICH_MISR, and it happened.
-fn bit(hcr: u32, place: u32, happened: bool) -> u8
-    requires { place ≤ 31 }
-    ensures value { result ≡ asked hcr place happened }
+fn bit(hcr: u32, weight: u32, happened: bool) -> u8
+    requires { 1 ≤ weight }
+    ensures value { result ≡ asked hcr weight happened }
     ensures bound { result ≤ 1 }
 {
-    u8::from(has_bit(hcr, place) && happened)
+    u8::from(has_bit(hcr, weight) && happened)
 }
 
 /// The bits of ICH_MISR that the list registers and EOIcount make.
@@ -100,7 +84,7 @@ fn entries_status(regs: &IchRegs) -> u8
     let listed = listed(regs);
     u8::from(eisr(listed) != 0)
         + bit(regs.hcr, HCR_UIE, valid_count(listed) <= 1) * MISR_U
-        + bit(regs.hcr, HCR_LRENPIE, regs.hcr >> HCR_EOICOUNT != 0) * MISR_LRENP
+        + bit(regs.hcr, HCR_LRENPIE, regs.hcr / HCR_EOICOUNT != 0) * MISR_LRENP
         + bit(regs.hcr, HCR_NPIE, !any_pending(listed)) * MISR_NP
 }
 
@@ -109,8 +93,8 @@ fn groups_status(hcr: u32, vmcr: u32) -> u8
     ensures value { result ≡ groups_part hcr vmcr }
     ensures bound { result ≤ 240 }
 {
-    let group_0 = has_bit(vmcr, VMCR_VENG0);
-    let group_1 = has_bit(vmcr, VMCR_VENG1);
+    let group_0 = has_bit(vmcr, VENG0);
+    let group_1 = has_bit(vmcr, VENG1);
     bit(hcr, HCR_VGRP0EIE, group_0) * MISR_VGRP0E
         + bit(hcr, HCR_VGRP0DIE, !group_0) * MISR_VGRP0D
         + bit(hcr, HCR_VGRP1EIE, group_1) * MISR_VGRP1E
@@ -132,7 +116,7 @@ pub fn misr(regs: &IchRegs) -> u8
 mod tests {
     use super::misr;
     use crate::regs::IchRegs;
-    use gic_lr::MAX_LIST_REGISTERS;
+    use gic_base::MAX_LIST_REGISTERS;
 
     /// Pending 40, and pending 42 of a higher priority.
     const PENDING_40: u64 = 0x50a0_0000_0000_0028;

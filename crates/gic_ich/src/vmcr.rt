@@ -5,8 +5,10 @@ ghost use Rattle.gic_ich.specs.Vmcr.{vmcr_of as packed_vmcr, cpu_of as cpu_in, G
 use crate::regs::IchRegs;
 use gic_prio::CpuRec;
 
+/// ICH_VMCR.VENG0.
+pub const VENG0: u32 = 1 << 0;
 /// ICH_VMCR.VENG1.
-const VENG1: u32 = 1 << 1;
+pub const VENG1: u32 = 1 << 1;
 /// ICH_VMCR.VFIQEn, which is always 1.
 const VFIQEN: u32 = 1 << 3;
 /// ICH_VMCR.VCBPR.

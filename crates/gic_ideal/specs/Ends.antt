@@ -7,7 +7,7 @@ use Rattle.gic_word.specs.declared.record.Route.{Route}
 use Rattle.gic_word.specs.declared.record.Route.TheVariants.{Affinity, Target}
 use Rattle.gic_base.specs.declared.shape.GuestShape.{GuestShape}
 use Rattle.gic_base.specs.Interrupt.{interrupt_count, key_at}
-use Rattle.gic_lr.specs.Entry.{group_number}
+use Rattle.gic_word.specs.Record.{group_number}
 use Rattle.gic_ich.specs.Vmcr.{vmcr_of}
 use Rattle.gic_ideal.specs.declared.guest.IdealGuest.{IdealGuest}
 use Rattle.scn_read.specs.declared.outcome.CpuEnd.{CpuEnd}

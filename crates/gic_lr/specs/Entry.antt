@@ -1,8 +1,8 @@
 -- A list register, as fields and as a word (IHI 0069, ICH_LR<n>_EL2).
 use Rattle.std.specs.Prelude.{ℕ, ◌≡◌, ◌<◌, ◌+◌, ◌*◌, ◌/◌, ◌%◌, ◌^◌, ◌==◌, ◌&&◌, not, Bool, true, false, if◌then◌else◌, Option, Some, None, IfSome}
 use Rattle.std.specs.Int.{bit_at}
-use Rattle.gic_word.specs.declared.record.Group.{Group}
 use Rattle.gic_word.specs.declared.record.Group.TheVariants.{G0, G1}
+use Rattle.gic_word.specs.Record.{group_number}
 use Rattle.gic_lr.specs.declared.entry.LrState.{LrState}
 use Rattle.gic_lr.specs.declared.entry.LrState.TheVariants.{Invalid, Pending, Active, Both}
 use Rattle.gic_lr.specs.declared.entry.LrEntry.{LrEntry}
@@ -22,11 +22,6 @@ state_number Both = 3
 -- the state of this number
 abbrev pub state_at : ℕ → LrState
 state_at state = if state == 0 then Invalid else (if state == 1 then Pending else (if state == 2 then Active else Both))
-
--- Group
-abbrev pub group_number : Group → ℕ
-group_number G0 = 0
-group_number G1 = 1
 
 -- HW at bit 61 with pINTID [44:32] where there is a physical interrupt, or else EOI at bit 41
 abbrev pub source_number : Option ℕ → Bool → ℕ

@@ -5,4 +5,4 @@ mod entry;
 mod status;
 
 pub use entry::{LrEntry, LrState, pack, unpack};
-pub use status::{MAX_LIST_REGISTERS, eisr, elrsr};
+pub use status::{eisr, elrsr};

@@ -3,9 +3,7 @@ ghost use Rattle.std.specs.Prelude.{◌≡◌, ◌≤◌, length};
 ghost use Rattle.gic_lr.specs.Status.{bits_where, is_empty as is_empty_word, has_ended};
 
 use crate::entry::{LrState, unpack};
-
-/// The most list registers that a PE has.
-pub const MAX_LIST_REGISTERS: usize = 16;
+use gic_base::MAX_LIST_REGISTERS;
 
 fn is_empty(word: u64) -> bool
     ensures { result ≡ is_empty_word word }

@@ -4,7 +4,8 @@ use Rattle.std.specs.Int.{w32, trailing_zeros, bit_not}
 use Rattle.gic_word.specs.declared.record.Group.{Group}
 use Rattle.gic_word.specs.declared.record.Group.TheVariants.{G0, G1}
 use Rattle.gic_prio.specs.declared.cpu.CpuRec.{CpuRec}
-use Rattle.gic_prio.specs.declared.priority.TheConstants.{PRIORITY_STEP, LEVELS, IDLE_PRIORITY}
+use Rattle.gic_prio.specs.declared.priority.TheConstants.{LEVELS, IDLE_PRIORITY}
+use Rattle.gic_word.specs.declared.places.TheConstants.{PRIORITY_STEP}
 
 -- the binary points have three bits (IHI 0069, ICC_BPR0 and ICC_BPR1)
 pub record HasBinaryPoints (cpu : CpuRec) : Type 0 where

@@ -1,22 +1,13 @@
 -- The registers of a CPU interface, and what those read and write that stand for its record alone
 -- (IHI 0069, "AArch64 System register descriptions").
-use Rattle.std.specs.Prelude.{ℕ, ◌+◌, ◌*◌, ◌/◌, ◌%◌, ◌^◌, ◌==◌, min, max, Bool, true, false, Option, Some, None, if◌then◌else◌}
-use Rattle.std.specs.Int.{bit_at}
+use Rattle.std.specs.Prelude.{ℕ, ◌+◌, ◌*◌, ◌/◌, ◌%◌, ◌^◌, min, max, Option, Some, None, if◌then◌else◌}
+use Rattle.gic_word.specs.Bits.{bit_of, has_bit}
 use Rattle.gic_base.specs.declared.icc.IccReg.{IccReg}
 use Rattle.gic_base.specs.declared.icc.IccReg.TheVariants.{Rpr, Pmr, Bpr0, Bpr1, Ctlr, Igrpen0, Igrpen1, Ap0r0, Ap1r0, Sre}
 use Rattle.gic_prio.specs.declared.cpu.CpuRec.{CpuRec}
-use Rattle.gic_prio.specs.declared.priority.TheConstants.{PRIORITY_STEP}
+use Rattle.gic_word.specs.declared.places.TheConstants.{PRIORITY_STEP}
 use Rattle.gic_prio.specs.declared.registers.TheConstants.{PRIORITY_VALUES, BINARY_POINTS, LAST_BINARY_POINT, LEAST_BPR0, LEAST_BPR1, CTLR_CBPR, CTLR_EOIMODE, CTLR_PRIBITS, PRIBITS, IGRPEN_ENABLE, SRE_VALUE}
 use Rattle.gic_prio.specs.Priority.{running_of}
-
--- a flag as a bit
-abbrev pub bit_of : Bool → ℕ
-bit_of false = 0
-bit_of true = 1
-
--- the bit at this place of a value
-abbrev pub has_bit : ℕ → ℕ → Bool
-has_bit value place = bit_at value place == 1
 
 -- what BPR1 reads: its binary point, or with CBPR that of group 0 and one more, at most 7 (IHI 0069, ICC_BPR1)
 abbrev pub bpr1_of : CpuRec → ℕ

@@ -18,8 +18,7 @@ pub use laws::{
     running_when_idle,
 };
 pub use priority::{
-    FIRST_SPECIAL, IDLE_PRIORITY, LEVELS, PRIORITY_STEP, SPURIOUS, group_priority, running,
-    signalled,
+    FIRST_SPECIAL, IDLE_PRIORITY, LEVELS, SPURIOUS, group_priority, running, signalled,
 };
 pub use registers::{read_plain, write_plain};
 pub use signal::{

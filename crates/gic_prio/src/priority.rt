@@ -2,10 +2,8 @@ ghost use Rattle.std.specs.Prelude.{◌≡◌, ◌≤◌};
 ghost use Rattle.gic_prio.specs.Priority.{group_priority_of, running_of, is_signalled};
 
 use crate::cpu::CpuRec;
-use gic_word::Group;
+use gic_word::{Group, PRIORITY_STEP};
 
-/// Priorities are multiples of this: five bits of eight are implemented.
-pub const PRIORITY_STEP: u8 = 8;
 /// How many priority levels there are.
 pub const LEVELS: u32 = 32;
 /// The running priority where no level is active.

@@ -1,11 +1,13 @@
 ghost use Rattle.std.specs.Prelude.{◌≡◌, ◌<◌, IsTrue, IsSome, IfSome};
 ghost use Rattle.gic_prio.specs.Priority.{HasBinaryPoints};
 ghost use Rattle.gic_base.specs.Icc.{is_readable, is_writable};
-ghost use Rattle.gic_prio.specs.Registers.{has_bit as bit_is_set, bpr1_of, ctlr_of, plain_read, pmr_written, binary_point_written as binary_point_after, plain_write};
+ghost use Rattle.gic_word.specs.Bits.{has_bit as bit_is_set};
+ghost use Rattle.gic_prio.specs.Registers.{bpr1_of, ctlr_of, plain_read, pmr_written, binary_point_written as binary_point_after, plain_write};
 
 use crate::cpu::CpuRec;
-use crate::priority::{PRIORITY_STEP, running};
+use crate::priority::running;
 use gic_base::IccReg;
+use gic_word::PRIORITY_STEP;
 
 /// PMR has 8 bits.
 const PRIORITY_VALUES: u64 = 256;
@@ -147,6 +149,7 @@ mod tests {
     use super::{read_plain, write_plain};
     use crate::cpu::CpuRec;
     use gic_base::IccReg;
+    use gic_word::PRIORITY_STEP;
 
     const OPENING: CpuRec = CpuRec {
         pmr: 0,

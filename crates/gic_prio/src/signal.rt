@@ -6,9 +6,9 @@ ghost use Rattle.gic_prio.specs.Signal.{intid_read, highest_pending as highest_o
 
 use crate::candidate::Candidate;
 use crate::cpu::CpuRec;
-use crate::priority::{FIRST_SPECIAL, LEVELS, PRIORITY_STEP, SPURIOUS, group_priority};
+use crate::priority::{FIRST_SPECIAL, LEVELS, SPURIOUS, group_priority};
 use gic_base::Key;
-use gic_word::{Group, Irq};
+use gic_word::{Group, Irq, PRIORITY_STEP};
 
 /// The INTID that a read of HPPIR of a group answers, from the first of the candidates: that one if it is
 /// of the group, or else 1023 (IHI 0069, ICC_HPPIR0 and ICC_HPPIR1).

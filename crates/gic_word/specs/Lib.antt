@@ -1,1 +1,4 @@
+pub mod Bits
 pub mod Record
+pub mod Word
+pub mod Causes

@@ -6,6 +6,11 @@ use Rattle.gic_word.specs.declared.record.Route.{Route}
 use Rattle.gic_word.specs.declared.record.Route.TheVariants.{Affinity, Target}
 use Rattle.gic_word.specs.declared.record.Irq.{Irq}
 
+-- a group's bit (IHI 0069, GICD_IGROUPR)
+abbrev pub group_number : Group → ℕ
+group_number G0 = 0
+group_number G1 = 1
+
 -- pending: an edge interrupt rose, a level one has its line up, or either was pended by software
 -- (IHI 0069, "Interrupt handling state machine"; own choice: a level interrupt pended by software is acknowledged away)
 abbrev pub is_pending : Irq → Bool
