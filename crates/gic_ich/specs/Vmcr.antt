@@ -11,11 +11,26 @@ veng0 = 2 ^ 0
 abbrev pub veng1 : ℕ
 veng1 = 2 ^ 1
 
--- a CPU record as ICH_VMCR holds it: VENG0 at bit 0, VENG1 at 1, VFIQEn at 3, which is always 1, VCBPR at 4, VEOIM at 9,
--- VBPR1 [20:18], VBPR0 [23:21] and VPMR [31:24]
+-- the fields of a CPU record in ICH_VMCR: VENG0 at bit 0, VENG1 at 1, VCBPR at 4, VEOIM at 9, VBPR1 [20:18], VBPR0 [23:21]
+-- and VPMR [31:24]
+abbrev pub vmcr_fields : CpuRec → ℕ
+vmcr_fields cpu = bit_of cpu.en0 + bit_of cpu.en1 * 2 ^ 1 + bit_of cpu.cbpr * 2 ^ 4 + bit_of cpu.eoimode * 2 ^ 9 + cpu.bpr1 * 2 ^ 18 + cpu.bpr0 * 2 ^ 21 + cpu.pmr * 2 ^ 24
+
+-- VFIQEn, which is always 1
+abbrev pub vfiqen : ℕ
+vfiqen = 2 ^ 3
+
+-- a CPU record as ICH_VMCR holds it
 abbrev pub vmcr_of : CpuRec → ℕ
-vmcr_of cpu =
-    bit_of cpu.en0 + bit_of cpu.en1 * 2 ^ 1 + 2 ^ 3 + bit_of cpu.cbpr * 2 ^ 4 + bit_of cpu.eoimode * 2 ^ 9 + cpu.bpr1 * 2 ^ 18 + cpu.bpr0 * 2 ^ 21 + cpu.pmr * 2 ^ 24
+vmcr_of cpu = vmcr_fields cpu + vfiqen
+
+-- the bits of ICH_VMCR that belong to no field of a CPU record: [3:2], [8:5] and [17:10]
+abbrev pub other_bits : ℕ → ℕ
+other_bits vmcr = vmcr / 2 ^ 2 % 2 ^ 2 * 2 ^ 2 + vmcr / 2 ^ 5 % 2 ^ 4 * 2 ^ 5 + vmcr / 2 ^ 10 % 2 ^ 8 * 2 ^ 10
+
+-- ICH_VMCR with the fields of another record, and all other bits as they are
+abbrev pub vmcr_with : ℕ → CpuRec → ℕ
+vmcr_with vmcr cpu = vmcr_fields cpu + other_bits vmcr
 
 -- the CPU record that the registers hold, with EnableLPIs as given
 abbrev pub cpu_of : IchRegs → Bool → CpuRec

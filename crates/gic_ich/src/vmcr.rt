@@ -1,6 +1,6 @@
-ghost use Rattle.std.specs.Prelude.{◌≡◌};
+ghost use Rattle.std.specs.Prelude.{◌≡◌, ◌≤◌, ◌/◌, ◌%◌, ◌*◌};
 ghost use Rattle.gic_prio.specs.Priority.{HasBinaryPoints};
-ghost use Rattle.gic_ich.specs.Vmcr.{vmcr_of as packed_vmcr, cpu_of as cpu_in, GivesBack};
+ghost use Rattle.gic_ich.specs.Vmcr.{vmcr_fields, vfiqen, vmcr_of as packed_vmcr, vmcr_with as replaced_vmcr, other_bits, cpu_of as cpu_in, GivesBack};
 
 use crate::regs::IchRegs;
 use gic_prio::CpuRec;
@@ -21,8 +21,44 @@ const VBPR1: u32 = 1 << 18;
 const VBPR0: u32 = 1 << 21;
 /// The lowest bit of ICH_VMCR.VPMR.
 const VPMR: u32 = 1 << 24;
+/// The lowest of the bits [3:2], which hold no field but VFIQEn.
+const ABOVE_ENABLES: u32 = 1 << 2;
+
+const ABOVE_ENABLES_VALUES: u32 = 1 << 2;
+/// The lowest of the bits [8:5], which hold no field.
+const ABOVE_VCBPR: u32 = 1 << 5;
+
+const ABOVE_VCBPR_VALUES: u32 = 1 << 4;
+/// The lowest of the bits [17:10], which hold no field.
+const ABOVE_VEOIM: u32 = 1 << 10;
+
+const ABOVE_VEOIM_VALUES: u32 = 1 << 8;
 /// A binary point has 3 bits.
 const BINARY_POINTS: u32 = 8;
+
+/// The fields of a record in ICH_VMCR.
+fn fields_of(cpu: &CpuRec) -> u32
+    requires { HasBinaryPoints cpu.now }
+    ensures { result ≡ vmcr_fields cpu.now }
+{
+    u32::from(cpu.en0)
+        + u32::from(cpu.en1) * VENG1
+        + u32::from(cpu.cbpr) * VCBPR
+        + u32::from(cpu.eoimode) * VEOIM
+        + u32::from(cpu.bpr1) * VBPR1
+        + u32::from(cpu.bpr0) * VBPR0
+        + u32::from(cpu.pmr) * VPMR
+}
+
+/// The bits of a field that takes so many values, where they are.
+fn bits_at(vmcr: u32, weight: u32, values: u32) -> u32
+    requires weight { 1 ≤ weight }
+    requires values { 1 ≤ values }
+    ensures value { result ≡ vmcr / weight % values * weight }
+    ensures bound { result ≤ vmcr }
+{
+    vmcr / weight % values * weight
+}
 
 /// The record of a CPU interface as ICH_VMCR holds it.
 pub fn vmcr_of(cpu: &CpuRec) -> u32
@@ -30,14 +66,20 @@ pub fn vmcr_of(cpu: &CpuRec) -> u32
     ensures value { result ≡ packed_vmcr cpu.now }
     ensures back { GivesBack cpu.now result }
 {
-    u32::from(cpu.en0)
-        + u32::from(cpu.en1) * VENG1
-        + VFIQEN
-        + u32::from(cpu.cbpr) * VCBPR
-        + u32::from(cpu.eoimode) * VEOIM
-        + u32::from(cpu.bpr1) * VBPR1
-        + u32::from(cpu.bpr0) * VBPR0
-        + u32::from(cpu.pmr) * VPMR
+    fields_of(cpu) + VFIQEN
+}
+
+/// ICH_VMCR with the fields of another record, and all other bits as they are.
+pub fn vmcr_with(vmcr: u32, cpu: &CpuRec) -> u32
+    requires { HasBinaryPoints cpu.now }
+    ensures value { result ≡ replaced_vmcr vmcr cpu.now }
+    ensures back { GivesBack cpu.now result }
+    ensures packed { other_bits vmcr ≡ vfiqen → result ≡ packed_vmcr cpu.now }
+{
+    fields_of(cpu)
+        + bits_at(vmcr, ABOVE_ENABLES, ABOVE_ENABLES_VALUES)
+        + bits_at(vmcr, ABOVE_VCBPR, ABOVE_VCBPR_VALUES)
+        + bits_at(vmcr, ABOVE_VEOIM, ABOVE_VEOIM_VALUES)
 }
 
 /// The record of the CPU interface that the registers hold, with EnableLPIs as given.

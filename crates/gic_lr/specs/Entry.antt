@@ -45,6 +45,10 @@ unpacked word = let is_hw = bit_at word 61 == 1 in
       hw = if is_hw then Some (word / 2 ^ 32 % 2 ^ 13) else None;
     }
 
+-- the list register with another State, and all other bits as they are
+abbrev pub with_state : ℕ → LrState → ℕ
+with_state word state = word % 2 ^ 62 + state_number state * 2 ^ 62
+
 -- each bit that belongs to no field is 0: [59:56], [47:45] where HW is 1, and [47:42] and [40:32] where it is 0
 abbrev pub has_only_fields : ℕ → Bool
 has_only_fields word =

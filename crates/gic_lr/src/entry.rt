@@ -1,6 +1,6 @@
 //! One list register, as fields and as a word.
 ghost use Rattle.std.specs.Prelude.{◌≡◌, IsTrue};
-ghost use Rattle.gic_lr.specs.Entry.{IsEntry, packed, unpacked, state_number, state_at, has_only_fields};
+ghost use Rattle.gic_lr.specs.Entry.{IsEntry, packed, unpacked, state_number, state_at, has_only_fields, with_state as with_state_of};
 
 use gic_word::Group;
 
@@ -104,6 +104,14 @@ pub fn unpack(word: u64) -> LrEntry
         eoi: !is_hw && word / EOI % 2 == 1,
         hw: is_hw.then_some((word / PINTID % PINTIDS) as u32),
     }
+}
+
+/// A list register with another State, and all other bits as they are.
+pub fn with_state(word: u64, state: LrState) -> u64
+    ensures value { result ≡ with_state_of word state }
+    ensures entry { unpacked result ≡ record (unpacked word) { state = state } }
+{
+    word % STATE + number_of(state) * STATE
 }
 
 #[cfg(test)]

@@ -4,5 +4,5 @@
 mod entry;
 mod status;
 
-pub use entry::{LrEntry, LrState, pack, unpack};
+pub use entry::{LrEntry, LrState, pack, unpack, with_state};
 pub use status::{eisr, elrsr};
