@@ -1,5 +1,5 @@
 -- Why there is a maintenance interrupt (IHI 0069, ICH_MISR_EL2 and ICH_hcr_el2).
-use Rattle.std.specs.Prelude.{ℕ, ◌+◌, ◌*◌, ◌/◌, ◌^◌, ◌==◌, ◌&&◌, not, nat_le, Bool, true, false, if◌then◌else◌, List, length, filter, take}
+use Rattle.std.specs.Prelude.{ℕ, ◌+◌, ◌*◌, ◌/◌, ◌^◌, ◌==◌, ◌&&◌, not, nat_le, Bool, true, false, if◌then◌else◌, length, filter}
 use Rattle.std.specs.List.{list_any}
 use Rattle.gic_lr.specs.declared.entry.LrState.{LrState}
 use Rattle.gic_lr.specs.declared.entry.LrState.TheVariants.{Pending}
@@ -7,12 +7,9 @@ use Rattle.gic_lr.specs.Entry.{unpacked}
 use Rattle.gic_lr.specs.Status.{bits_where, has_ended, is_invalid}
 use Rattle.gic_word.specs.Bits.{bit_of, has_flag}
 use Rattle.gic_ich.specs.Hcr.{hcr_en, hcr_uie, hcr_lrenpie, hcr_npie, hcr_vgrp0eie, hcr_vgrp0die, hcr_vgrp1eie, hcr_vgrp1die, hcr_eoicount}
+use Rattle.gic_ich.specs.Regs.{listed_of}
 use Rattle.gic_ich.specs.Vmcr.{veng0, veng1}
 use Rattle.gic_ich.specs.declared.regs.IchRegs.{IchRegs}
-
--- the list registers that the PE has
-abbrev pub listed_of : IchRegs → List ℕ
-listed_of regs = take regs.n regs.lr
 
 -- State is not 0
 abbrev pub is_valid : ℕ → Bool

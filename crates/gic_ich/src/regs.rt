@@ -30,6 +30,18 @@ pub struct IchRegs {
     pub ap1r: u32,
 }
 
+impl IchRegs {
+    ghost use Rattle.gic_ich.specs.Regs.{listed_of};
+
+    /// The list registers that the PE has.
+    pub fn listed(&self) -> &[u64]
+        requires { self.now.n ≤ MAX_LIST_REGISTERS }
+        ensures { result.now ≡ listed_of self.now }
+    {
+        &self.lr[..self.n as usize]
+    }
+}
+
 /// ICH_VTR of a PE with `n` list registers, 1 to 16.
 pub fn vtr(n: u32) -> u32
     requires { 1 ≤ n × n ≤ MAX_LIST_REGISTERS }

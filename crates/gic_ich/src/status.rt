@@ -1,7 +1,7 @@
 ghost use Rattle.std.specs.Prelude.{◌≡◌, ◌≤◌, length, filter};
 ghost use Rattle.std.specs.List.{list_any};
 ghost use Rattle.gic_word.specs.Bits.{has_flag};
-ghost use Rattle.gic_ich.specs.Status.{misr_of, is_valid as is_valid_word, is_pending as is_pending_word, listed_of, asked, entries_part, groups_part};
+ghost use Rattle.gic_ich.specs.Status.{misr_of, is_valid as is_valid_word, is_pending as is_pending_word, asked, entries_part, groups_part};
 
 use crate::hcr::{
     HCR_EN, HCR_EOICOUNT, HCR_LRENPIE, HCR_NPIE, HCR_UIE, HCR_VGRP0DIE, HCR_VGRP0EIE, HCR_VGRP1DIE,
@@ -46,14 +46,6 @@ fn is_pending(word: u64) -> bool
     unpack(word).state == LrState::Pending
 }
 
-/// The list registers that the PE has.
-fn listed(regs: &IchRegs) -> &[u64]
-    requires { regs.now.n ≤ MAX_LIST_REGISTERS }
-    ensures { result.now ≡ listed_of regs.now }
-{
-    &regs.lr[..regs.n as usize]
-}
-
 fn valid_count(words: &[u64]) -> usize
     ensures { result ≡ length (filter is_valid_word words.now) }
 {
@@ -81,7 +73,7 @@ fn entries_status(regs: &IchRegs) -> u8
     ensures value { result ≡ entries_part regs.now }
     ensures bound { result ≤ 15 }
 {
-    let listed = listed(regs);
+    let listed = regs.listed();
     u8::from(eisr(listed) != 0)
         + bit(regs.hcr, HCR_UIE, valid_count(listed) <= 1) * MISR_U
         + bit(regs.hcr, HCR_LRENPIE, regs.hcr / HCR_EOICOUNT != 0) * MISR_LRENP
