@@ -1,0 +1,166 @@
+//! The register map of a redistributor.
+ghost use Rattle.std.specs.Prelude.{◌≡◌, ◌<◌, ◌≤◌, IsTrue};
+ghost use Rattle.gic_frame.specs.Line.{is_in_order};
+ghost use Rattle.gic_rmap.specs.Map.{lines, decoded, NamesIntids, register_at};
+
+use gic_base::Kind;
+use gic_frame::{Found, Half, Line, find, lines, parts_in};
+
+/// The bytes of the two frames of a redistributor: RD at 0 and SGI at 0x10000.
+const FRAME_BYTES: u32 = 0x20000;
+
+/// A register of a redistributor that has no part for each interrupt.
+#[derive(Clone, Copy, Debug, PartialEq, Eq, Hash)]
+pub enum Reg {
+    /// GICR_CTLR
+    Ctlr,
+    /// GICR_IIDR
+    Iidr,
+    /// GICR_TYPER
+    Typer,
+    /// GICR_PROPBASER
+    Propbaser,
+    /// GICR_PENDBASER
+    Pendbaser,
+    /// GICR_PIDR2
+    Pidr2,
+}
+
+/// What an access is to.
+#[derive(Clone, Copy, Debug, PartialEq, Eq, Hash)]
+pub enum RegRef {
+    /// The parts of `count` private interrupts from the INTID `first`, from the lowest bit on.
+    Bits { kind: Kind, first: u32, count: u32 },
+    /// A register, or a half of it.
+    Plain { reg: Reg, half: Half },
+    /// Nothing: it reads 0 and ignores writes.
+    Reserved,
+}
+
+/// What the registers of a line are.
+#[derive(Clone, Copy, Debug, PartialEq, Eq, Hash)]
+enum Content {
+    /// This register.
+    Register(Reg),
+    /// The parts of all private interrupts from INTID 0 on.
+    Interrupts(Kind),
+}
+
+/// The map, by rising offsets.
+const LINES: [Line<Content>; 15] = lines![
+    0x0000, 1, Word => Content::Register(Reg::Ctlr);
+    0x0004, 1, Word => Content::Register(Reg::Iidr);
+    0x0008, 1, Doubleword => Content::Register(Reg::Typer);
+    0x0070, 1, Doubleword => Content::Register(Reg::Propbaser);
+    0x0078, 1, Doubleword => Content::Register(Reg::Pendbaser);
+    0xFFE8, 1, Word => Content::Register(Reg::Pidr2);
+    0x10080, 1, Word => Content::Interrupts(Kind::Group);
+    0x10100, 1, Word => Content::Interrupts(Kind::SetEnable);
+    0x10180, 1, Word => Content::Interrupts(Kind::ClearEnable);
+    0x10200, 1, Word => Content::Interrupts(Kind::SetPending);
+    0x10280, 1, Word => Content::Interrupts(Kind::ClearPending);
+    0x10300, 1, Word => Content::Interrupts(Kind::SetActive);
+    0x10380, 1, Word => Content::Interrupts(Kind::ClearActive);
+    0x10400, 8, WordOrByte => Content::Interrupts(Kind::Priority);
+    0x10C00, 2, Word => Content::Interrupts(Kind::Config);
+];
+
+/// What a found access of `size` bytes is to.
+fn register_of(found: &Found<Content>, size: u32) -> RegRef
+    requires frame { found.now.byte < FRAME_BYTES }
+    requires small { size ≤ 8 }
+    ensures { result ≡ register_at found.now size }
+{
+    let Found {
+        content,
+        byte,
+        half,
+    } = *found;
+    match content {
+        Content::Register(reg) => RegRef::Plain { reg, half },
+        Content::Interrupts(kind) => RegRef::Bits {
+            kind,
+            first: parts_in(kind, byte),
+            count: parts_in(kind, size),
+        },
+    }
+}
+
+/// What an access of `size` bytes at a byte offset in a redistributor's two frames is to. Reserved exactly
+/// where the map has no register at the offset, or none that takes such an access, or where the offset is not
+/// a multiple of the size.
+pub fn decode(offset: u32, size: u32) -> RegRef
+    ensures value { result ≡ decoded offset size }
+    ensures intids { NamesIntids result }
+{
+    if offset >= FRAME_BYTES {
+        return RegRef::Reserved;
+    }
+    match find(&LINES, offset, size) {
+        Some(found) => register_of(&found, size),
+        None => RegRef::Reserved,
+    }
+}
+
+/// A law of the map: its lines are in the order of their offsets, within the frames and without overlap, and
+/// each register is at a multiple of its width.
+pub fn lines_are_in_order()
+    ensures { IsTrue (is_in_order 0 FRAME_BYTES lines) }
+{}
+
+#[cfg(test)]
+mod tests {
+    use super::{Reg, RegRef, decode};
+    use gic_base::Kind;
+    use gic_frame::Half;
+
+    /// The interrupts with a part in an access.
+    const BITS: [(u32, u32, Kind, u32, u32); 5] = [
+        (0x10080, 4, Kind::Group, 0, 32),
+        (0x10100, 4, Kind::SetEnable, 0, 32),
+        (0x10404, 4, Kind::Priority, 4, 4),
+        (0x1041F, 1, Kind::Priority, 31, 1),
+        (0x10C04, 4, Kind::Config, 16, 16),
+    ];
+
+    /// The other registers that are there.
+    const PLAIN: [(u32, u32, Reg, Half); 6] = [
+        (0x0000, 4, Reg::Ctlr, Half::Whole),
+        (0x0008, 8, Reg::Typer, Half::Whole),
+        (0x000C, 4, Reg::Typer, Half::High),
+        (0x0070, 8, Reg::Propbaser, Half::Whole),
+        (0x0078, 4, Reg::Pendbaser, Half::Low),
+        (0xFFE8, 4, Reg::Pidr2, Half::Whole),
+    ];
+
+    /// Accesses that are not aligned, of a size that the register does not take, or where no register is.
+    const RESERVED: [(u32, u32); 6] = [
+        (0x0014, 4),
+        (0x0074, 8),
+        (0x10084, 4),
+        (0x10100, 1),
+        (0x10420, 1),
+        (0x10C08, 4),
+    ];
+
+    #[test]
+    fn accesses(rt: HostRuntime) {
+        for (offset, size, kind, first, count) in BITS {
+            assert_eq!(rt;
+                decode(offset, size),
+                RegRef::Bits { kind, first, count },
+                "at {offset}"
+            );
+        }
+        for (offset, size, reg, half) in PLAIN {
+            assert_eq!(rt;
+                decode(offset, size),
+                RegRef::Plain { reg, half },
+                "at {offset}"
+            );
+        }
+        for (offset, size) in RESERVED {
+            assert_eq!(rt; decode(offset, size), RegRef::Reserved, "at {offset}");
+        }
+    }
+}
