@@ -1,0 +1,118 @@
+//! The register map of an ITS.
+ghost use Rattle.std.specs.Prelude.{◌≡◌, IsTrue};
+ghost use Rattle.gic_frame.specs.Line.{is_in_order};
+ghost use Rattle.gic_imap.specs.Map.{lines, decoded};
+
+use gic_frame::{Half, Line, find, lines};
+
+/// The bytes of the two frames of an ITS: the control frame at 0 and the translation frame at 0x10000.
+const FRAME_BYTES: u32 = 0x20000;
+
+/// A register of an ITS.
+#[derive(Clone, Copy, Debug, PartialEq, Eq, Hash)]
+pub enum Reg {
+    /// GITS_CTLR
+    Ctlr,
+    /// GITS_IIDR
+    Iidr,
+    /// GITS_TYPER
+    Typer,
+    /// GITS_CBASER
+    Cbaser,
+    /// GITS_CWRITER
+    Cwriter,
+    /// GITS_CREADR
+    Creadr,
+    /// GITS_BASER0, the devices
+    Baser0,
+    /// GITS_BASER1, the collections
+    Baser1,
+    /// GITS_PIDR2
+    Pidr2,
+}
+
+/// What an access is to.
+#[derive(Clone, Copy, Debug, PartialEq, Eq, Hash)]
+pub enum RegRef {
+    /// A register, or a half of it.
+    Plain { reg: Reg, half: Half },
+    /// Nothing: it reads 0 and ignores writes.
+    Reserved,
+}
+
+/// The map, by rising offsets.
+const LINES: [Line<Reg>; 9] = lines![
+    0x0000, 1, Word => Reg::Ctlr;
+    0x0004, 1, Word => Reg::Iidr;
+    0x0008, 1, Doubleword => Reg::Typer;
+    0x0080, 1, Doubleword => Reg::Cbaser;
+    0x0088, 1, Doubleword => Reg::Cwriter;
+    0x0090, 1, Doubleword => Reg::Creadr;
+    0x0100, 1, Doubleword => Reg::Baser0;
+    0x0108, 1, Doubleword => Reg::Baser1;
+    0xFFE8, 1, Word => Reg::Pidr2;
+];
+
+/// What an access of `size` bytes at a byte offset in the ITS's frames is to: the control frame at 0 and the
+/// translation frame at 0x10000. Reserved exactly where the map has no register at the offset, or none that
+/// takes such an access, or where the offset is not a multiple of the size.
+pub fn decode(offset: u32, size: u32) -> RegRef
+    ensures { result ≡ decoded offset size }
+{
+    match find(&LINES, offset, size) {
+        Some(found) => RegRef::Plain {
+            reg: found.content,
+            half: found.half,
+        },
+        None => RegRef::Reserved,
+    }
+}
+
+/// A law of the map: its lines are in the order of their offsets, within the frames and without overlap, and
+/// each register is at a multiple of its width.
+pub fn lines_are_in_order()
+    ensures { IsTrue (is_in_order 0 FRAME_BYTES lines) }
+{}
+
+#[cfg(test)]
+mod tests {
+    use super::{Reg, RegRef, decode};
+    use gic_frame::Half;
+
+    /// The registers that are there.
+    const PLAIN: [(u32, u32, Reg, Half); 9] = [
+        (0x0000, 4, Reg::Ctlr, Half::Whole),
+        (0x0004, 4, Reg::Iidr, Half::Whole),
+        (0x0008, 8, Reg::Typer, Half::Whole),
+        (0x0080, 8, Reg::Cbaser, Half::Whole),
+        (0x008C, 4, Reg::Cwriter, Half::High),
+        (0x0090, 4, Reg::Creadr, Half::Low),
+        (0x0100, 8, Reg::Baser0, Half::Whole),
+        (0x0108, 8, Reg::Baser1, Half::Whole),
+        (0xFFE8, 4, Reg::Pidr2, Half::Whole),
+    ];
+
+    /// Accesses that are not aligned, of a size that the register does not take, or where no register is.
+    const RESERVED: [(u32, u32); 6] = [
+        (0x0000, 8),
+        (0x0084, 8),
+        (0x0088, 2),
+        (0x0110, 8),
+        (0x0138, 4),
+        (0x10040, 4),
+    ];
+
+    #[test]
+    fn accesses(rt: HostRuntime) {
+        for (offset, size, reg, half) in PLAIN {
+            assert_eq!(rt;
+                decode(offset, size),
+                RegRef::Plain { reg, half },
+                "at {offset}"
+            );
+        }
+        for (offset, size) in RESERVED {
+            assert_eq!(rt; decode(offset, size), RegRef::Reserved, "at {offset}");
+        }
+    }
+}
