@@ -1,0 +1,2 @@
+pub mod Affinity
+pub mod Sgi
