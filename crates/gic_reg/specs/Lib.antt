@@ -1,0 +1,3 @@
+pub mod Router
+pub mod Condition
+pub mod Touch

@@ -1,0 +1,220 @@
+//! What the part of one interrupt reads, and what a write of it changes.
+ghost use Rattle.std.specs.Prelude.{◌≡◌, ◌<◌, ◌^◌, IsTrue, true, false};
+ghost use Rattle.gic_base.specs.Shape.{IsShape};
+ghost use Rattle.gic_base.specs.Interrupt.{has_interrupt};
+ghost use Rattle.gic_word.specs.Record.{is_pending};
+ghost use Rattle.gic_word.specs.Word.{IsIrq};
+ghost use Rattle.gic_frame.specs.Part.{part_bits};
+ghost use Rattle.gic_reg.specs.Condition.{has_part, is_routed, shows_route};
+ghost use Rattle.gic_reg.specs.Touch.{part_read, part_written, target_in, is_sgi as is_of_sgi};
+
+use crate::router::{affinity_in, router_with};
+use gic_aff::vcpu_of;
+use gic_base::{GuestShape, Key, Kind, SGI_COUNT};
+use gic_word::{Group, Irq, PRIORITY_STEP, Route, pending};
+
+/// What the part of an ICFGR reads for an edge-triggered interrupt; for a level-sensitive one it reads 0.
+const EDGE: u64 = 0b10;
+
+/// What an interrupt's part of a register of this kind reads: 0 or 1, but for IPRIORITYR (the priority),
+/// ICFGR (0 or 2) and IROUTER (Aff3 in bits [39:32], Aff2, Aff1 and Aff0 in bits [23:0]).
+pub fn read_part(kind: Kind, irq: &Irq) -> u64
+    requires irq { IsIrq irq.now }
+    requires route { IsTrue (shows_route kind irq.now.route) }
+    ensures value { result ≡ part_read kind irq.now }
+    ensures fits { result < 2 ^ part_bits kind }
+{
+    match (kind, irq.route) {
+        (Kind::Group, _) => match irq.group {
+            Group::G0 => 0,
+            Group::G1 => 1,
+        },
+        (Kind::SetEnable | Kind::ClearEnable, _) => u64::from(irq.enabled),
+        (Kind::SetPending | Kind::ClearPending, _) => u64::from(pending(irq)),
+        (Kind::SetActive | Kind::ClearActive, _) => u64::from(irq.act_by.is_some()),
+        (Kind::Priority, _) => u64::from(irq.prio),
+        (Kind::Config, _) => u64::from(irq.edge) * EDGE,
+        (Kind::Routing, Route::Affinity(affinity)) => router_with(affinity),
+        (Kind::Routing, Route::Target(_)) => unreachable!(),
+    }
+}
+
+/// The vCPU that an interrupt is for: of an affinity the one that has it, if the guest has one.
+fn target(route: Route, shape: &GuestShape) -> Option<u32>
+    requires { IsShape shape.now }
+    ensures { result ≡ target_in route shape.now }
+{
+    match route {
+        Route::Affinity(affinity) => vcpu_of(affinity, shape),
+        Route::Target(target) => target,
+    }
+}
+
+fn is_sgi(key: Key) -> bool
+    ensures { result ≡ is_of_sgi key }
+{
+    key.intid() < SGI_COUNT
+}
+
+/// The record of an interrupt after a write of its part of a register of this kind. What the register does
+/// not name stays. A write of 0 to a register that sets or clears changes nothing; nor does a write of
+/// ISACTIVER where the interrupt is active or has no target, or of an SGI's part of ICFGR.
+pub fn write_part(kind: Kind, key: Key, irq: &Irq, value: u64, shape: &GuestShape) -> Irq
+    requires irq { IsIrq irq.now }
+    requires shape { IsShape shape.now }
+    requires there { IsTrue (has_interrupt shape.now key) }
+    requires part { IsTrue (has_part kind key) }
+    requires fits { value < 2 ^ part_bits kind }
+    requires route { IsTrue (is_routed shape.now key irq.now.route) }
+    ensures value { result ≡ part_written kind key irq.now value shape.now }
+    ensures irq { IsIrq result }
+    ensures route { IsTrue (is_routed shape.now key result.route) }
+    ensures level_stays { kind ≡ Kind.ClearPending → irq.now.edge ≡ false → irq.now.line ≡ true → IsTrue (is_pending result) }
+{
+    let is_one = value == 1;
+    let mut after = *irq;
+    match kind {
+        Kind::Group => after.group = if is_one { Group::G1 } else { Group::G0 },
+        Kind::SetEnable if is_one => after.enabled = true,
+        Kind::ClearEnable if is_one => after.enabled = false,
+        Kind::SetPending if is_one => after.soft = true,
+        Kind::ClearPending if is_one => {
+            after.rise = false;
+            after.soft = false;
+        }
+        Kind::SetActive if is_one => after.act_by = irq.act_by.or(target(irq.route, shape)),
+        Kind::ClearActive if is_one => after.act_by = None,
+        Kind::Priority => after.prio = value as u8 / PRIORITY_STEP * PRIORITY_STEP,
+        Kind::Config if !is_sgi(key) => after.edge = value / EDGE == 1,
+        Kind::Routing => after.route = Route::Affinity(affinity_in(value)),
+        _ => {}
+    }
+    after
+}
+
+#[cfg(test)]
+mod tests {
+    use super::{read_part, write_part};
+    use gic_base::{GuestShape, Key, Kind};
+    use gic_word::{Group, Irq, Route};
+
+    const SHAPE: GuestShape = GuestShape {
+        vcpus: 2,
+        spis: 32,
+        devices: 1,
+        lpis: 0,
+        ram: 0,
+    };
+
+    const SPI: Key = Key::Spi(40);
+
+    const SGI: Key = Key::Private { vcpu: 1, id: 5 };
+
+    /// A level interrupt whose line is up and that is pended by software, for the affinity 1.
+    const LEVEL: Irq = Irq {
+        prio: 0xA0,
+        enabled: true,
+        group: Group::G1,
+        edge: false,
+        line: true,
+        rise: true,
+        soft: true,
+        act_by: None,
+        holder: None,
+        want: false,
+        en0: false,
+        en1: true,
+        route: Route::Affinity(1),
+    };
+
+    #[test]
+    fn reads(rt: HostRuntime) {
+        for (kind, value) in [
+            (Kind::Group, 1),
+            (Kind::ClearEnable, 1),
+            (Kind::SetPending, 1),
+            (Kind::SetActive, 0),
+            (Kind::Priority, 0xA0),
+            (Kind::Config, 0),
+            (Kind::Routing, 1),
+        ] {
+            assert_eq!(rt; read_part(kind, &LEVEL), value, "of {kind:?}");
+        }
+        let far = Irq {
+            route: Route::Affinity(0x1234_5678),
+            ..LEVEL
+        };
+        assert_eq!(rt; read_part(Kind::Routing, &far), 0x12_0034_5678);
+    }
+
+    #[test]
+    fn writes(rt: HostRuntime) {
+        assert_eq!(rt;
+            write_part(Kind::Group, SPI, &LEVEL, 0, &SHAPE),
+            Irq {
+                group: Group::G0,
+                ..LEVEL
+            }
+        );
+        assert_eq!(rt; write_part(Kind::SetEnable, SPI, &LEVEL, 0, &SHAPE), LEVEL);
+        assert_eq!(rt;
+            write_part(Kind::ClearEnable, SPI, &LEVEL, 1, &SHAPE),
+            Irq {
+                enabled: false,
+                ..LEVEL
+            }
+        );
+        let cleared = write_part(Kind::ClearPending, SPI, &LEVEL, 1, &SHAPE);
+        assert_eq!(rt;
+            cleared,
+            Irq {
+                rise: false,
+                soft: false,
+                ..LEVEL
+            }
+        );
+        assert_eq!(rt; read_part(Kind::ClearPending, &cleared), 1);
+        assert_eq!(rt;
+            write_part(Kind::SetActive, SPI, &LEVEL, 1, &SHAPE),
+            Irq {
+                act_by: Some(1),
+                ..LEVEL
+            }
+        );
+        let nowhere = Irq {
+            route: Route::Affinity(2),
+            ..LEVEL
+        };
+        assert_eq!(rt;
+            write_part(Kind::SetActive, SPI, &nowhere, 1, &SHAPE),
+            nowhere
+        );
+        assert_eq!(rt;
+            write_part(Kind::Priority, SPI, &LEVEL, 0x5F, &SHAPE),
+            Irq {
+                prio: 0x58,
+                ..LEVEL
+            }
+        );
+        assert_eq!(rt;
+            write_part(Kind::Config, SPI, &LEVEL, 3, &SHAPE),
+            Irq {
+                edge: true,
+                ..LEVEL
+            }
+        );
+        assert_eq!(rt;
+            write_part(Kind::Routing, SPI, &LEVEL, 0x12_8034_5678, &SHAPE),
+            Irq {
+                route: Route::Affinity(0x1234_5678),
+                ..LEVEL
+            }
+        );
+        let sgi = Irq {
+            edge: true,
+            route: Route::Target(Some(1)),
+            ..LEVEL
+        };
+        assert_eq!(rt; write_part(Kind::Config, SGI, &sgi, 0, &SHAPE), sgi);
+    }
+}
