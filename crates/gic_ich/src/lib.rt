@@ -13,4 +13,4 @@ pub use hcr::{
 };
 pub use regs::{IchRegs, vtr};
 pub use status::misr;
-pub use vmcr::{cpu_of, vmcr_of};
+pub use vmcr::{cpu_of, vmcr_of, vmcr_with};

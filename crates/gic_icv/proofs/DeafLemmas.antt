@@ -1,0 +1,111 @@
+-- An access does not depend on whether LPIs are enabled, and of the first candidate it asks but the INTID, the priority and the group.
+use Rattle.std.proofs.Common.{◌≡◌, ℕ, Bool, true, false, not, ◌&&◌, cond, if◌then◌else◌, Option, Some, None, is_some, unwrap_or, option_and_then, List, refl, ap, ◌∙◌, arith}
+use Rattle.std.specs.Option.{option_map}
+use Rattle.std.proofs.lemmas.Grind.{common_steps}
+use Rattle.gic_word.specs.declared.record.Group.{Group}
+use Rattle.gic_word.specs.declared.record.Group.TheVariants.{G0, G1}
+use Rattle.gic_base.specs.declared.icc.IccReg.{IccReg}
+use Rattle.gic_base.specs.declared.icc.IccReg.TheVariants.{Iar0, Iar1, Hppir0, Hppir1, Eoir0, Eoir1, Dir, Bpr1}
+use Rattle.gic_base.specs.Interrupt.{intid_of}
+use Rattle.gic_prio.specs.declared.cpu.CpuRec.{CpuRec}
+use Rattle.gic_prio.specs.declared.candidate.Candidate.{Candidate}
+use Rattle.gic_prio.specs.Priority.{is_signalled}
+use Rattle.gic_prio.specs.Delivery.{first_of}
+use Rattle.gic_prio.specs.Signal.{is_same_group, acknowledged, highest_pending, intid_read, intid_written, ended, eoir_deactivates}
+use Rattle.gic_prio.specs.Access.{taken_by, deactivated_by, answer_of, raised_by, written_by, cpu_after}
+use Rattle.gic_icv.specs.Entries.{key_shown}
+use Rattle.gic_icv.proofs.CpuLemmas.{deaf, signalled_deaf, raised_deaf}
+
+-- a candidate as list registers show it
+abbrev pub shown : Candidate → Candidate
+shown one = record one { key = key_shown (intid_of one.key) }
+
+pub id_shown : (id : ℕ) → intid_of (key_shown id) ≡ id
+id_shown id = grind (arith, common_steps)
+
+-- the candidate, if it is of the group and passes a test
+chosen : (b : Bool) (one : Candidate) → cond b (Some (shown one)) None ≡ option_map shown (cond b (Some one) None)
+chosen true one = refl
+chosen false one = refl
+
+acknowledged_shown : (group : Group) (cpu : CpuRec) (words at : List Candidate) → first_of words ≡ option_map shown (first_of at) → acknowledged group (deaf cpu) words ≡ option_map shown (acknowledged group cpu at)
+acknowledged_shown group cpu words at e =
+    ap (option_and_then (λ first. if is_same_group first.group group && is_signalled first.prio first.group (deaf cpu) then Some first else None)) e
+    ∙ of_first (first_of at)
+  where
+    of_first : (o : Option Candidate) → option_and_then (λ first. if is_same_group first.group group && is_signalled first.prio first.group (deaf cpu) then Some first else None) (option_map shown o)
+        ≡ option_map shown (option_and_then (λ first. if is_same_group first.group group && is_signalled first.prio first.group cpu then Some first else None) o)
+    of_first None = refl
+    of_first (Some one) =
+        ap (λ b. if is_same_group one.group group && b then Some (shown one) else None) (signalled_deaf one.prio one.group cpu)
+        ∙ chosen (is_same_group one.group group && is_signalled one.prio one.group cpu) one
+
+highest_shown : (group : Group) (words at : List Candidate) → first_of words ≡ option_map shown (first_of at) → highest_pending group words ≡ option_map shown (highest_pending group at)
+highest_shown group words at e =
+    ap (option_and_then (λ first. if is_same_group first.group group then Some first else None)) e
+    ∙ of_first (first_of at)
+  where
+    of_first : (o : Option Candidate) → option_and_then (λ first. if is_same_group first.group group then Some first else None) (option_map shown o)
+        ≡ option_map shown (option_and_then (λ first. if is_same_group first.group group then Some first else None) o)
+    of_first None = refl
+    of_first (Some one) = chosen (is_same_group one.group group) one
+
+intid_same : (o : Option Candidate) → intid_read (option_map shown o) ≡ intid_read o
+intid_same None = refl
+intid_same (Some one) = id_shown (intid_of one.key)
+
+-- what is acknowledged
+pub taken_shown : (reg : IccReg) (write : Option ℕ) (cpu : CpuRec) (words at : List Candidate) → first_of words ≡ option_map shown (first_of at) → taken_by reg write (deaf cpu) words ≡ option_map shown (taken_by reg write cpu at)
+taken_shown Iar0 None cpu words at e = acknowledged_shown G0 cpu words at e
+taken_shown Iar1 None cpu words at e = acknowledged_shown G1 cpu words at e
+taken_shown reg write cpu words at e = refl
+
+-- what is read
+pub answer_shown : (reg : IccReg) (write : Option ℕ) (cpu : CpuRec) (words at : List Candidate) → first_of words ≡ option_map shown (first_of at) → answer_of reg write (deaf cpu) words ≡ answer_of reg write cpu at
+answer_shown Iar0 None cpu words at e = ap Some (ap intid_read (acknowledged_shown G0 cpu words at e) ∙ intid_same (acknowledged G0 cpu at))
+answer_shown Iar1 None cpu words at e = ap Some (ap intid_read (acknowledged_shown G1 cpu words at e) ∙ intid_same (acknowledged G1 cpu at))
+answer_shown Hppir0 None cpu words at e = ap Some (ap intid_read (highest_shown G0 words at e) ∙ intid_same (highest_pending G0 at))
+answer_shown Hppir1 None cpu words at e = ap Some (ap intid_read (highest_shown G1 words at e) ∙ intid_same (highest_pending G1 at))
+answer_shown reg None cpu words at e = refl
+answer_shown reg (Some value) cpu words at e = refl
+
+-- an end of interrupt
+kept_or_deaf : (b : Bool) (cpu : CpuRec) → cond b None (Some (deaf cpu)) ≡ option_map deaf (cond b None (Some cpu))
+kept_or_deaf true cpu = refl
+kept_or_deaf false cpu = refl
+
+ended_deaf : (group : Group) (id : ℕ) (cpu : CpuRec) → ended group id (deaf cpu) ≡ option_map deaf (ended group id cpu)
+ended_deaf G0 id cpu = grind (arith, common_steps)
+ended_deaf G1 id cpu = grind (arith, common_steps)
+
+is_some_deaf : (o : Option CpuRec) → is_some (option_map deaf o) ≡ is_some o
+is_some_deaf None = refl
+is_some_deaf (Some cpu) = refl
+
+eoir_deaf : (group : Group) (id : ℕ) (cpu : CpuRec) → eoir_deactivates group id (deaf cpu) ≡ eoir_deactivates group id cpu
+eoir_deaf group id cpu = ap (λ b. b && not cpu.eoimode) (ap is_some (ended_deaf group id cpu) ∙ is_some_deaf (ended group id cpu))
+
+pub deactivated_deaf : (reg : IccReg) (write : Option ℕ) (cpu : CpuRec) → deactivated_by reg write (deaf cpu) ≡ deactivated_by reg write cpu
+deactivated_deaf Eoir0 (Some value) cpu = ap (λ b. if b then Some (intid_written value) else None) (eoir_deaf G0 (intid_written value) cpu)
+deactivated_deaf Eoir1 (Some value) cpu = ap (λ b. if b then Some (intid_written value) else None) (eoir_deaf G1 (intid_written value) cpu)
+deactivated_deaf Dir (Some value) cpu = refl
+deactivated_deaf reg write cpu = refl
+
+-- the record after the access
+raised_by_deaf : (o : Option Candidate) (cpu : CpuRec) → raised_by (option_map shown o) (deaf cpu) ≡ deaf (raised_by o cpu)
+raised_by_deaf None cpu = refl
+raised_by_deaf (Some one) cpu = raised_deaf one.prio one.group cpu
+
+written_deaf : (reg : IccReg) (value : ℕ) (cpu : CpuRec) → written_by reg value (deaf cpu) ≡ option_map deaf (written_by reg value cpu)
+written_deaf Eoir0 value cpu = ended_deaf G0 (intid_written value) cpu
+written_deaf Eoir1 value cpu = ended_deaf G1 (intid_written value) cpu
+written_deaf Bpr1 value cpu = grind (arith, common_steps)
+written_deaf reg value cpu = refl
+
+unwrapped_deaf : (o : Option CpuRec) (cpu : CpuRec) → unwrap_or (option_map deaf o) (deaf cpu) ≡ deaf (unwrap_or o cpu)
+unwrapped_deaf None cpu = refl
+unwrapped_deaf (Some after) cpu = refl
+
+pub cpu_after_deaf : (reg : IccReg) (write : Option ℕ) (cpu : CpuRec) (words at : List Candidate) → first_of words ≡ option_map shown (first_of at) → cpu_after reg write (deaf cpu) words ≡ deaf (cpu_after reg write cpu at)
+cpu_after_deaf reg None cpu words at e = ap (λ o. raised_by o (deaf cpu)) (taken_shown reg None cpu words at e) ∙ raised_by_deaf (taken_by reg None cpu at) cpu
+cpu_after_deaf reg (Some value) cpu words at e = ap (λ o. unwrap_or o (deaf cpu)) (written_deaf reg value cpu) ∙ unwrapped_deaf (written_by reg value cpu) cpu

@@ -1,0 +1,85 @@
+-- When the registers of a virtual CPU interface stand for a CPU record and the interrupts at its interface.
+use Rattle.std.specs.Prelude.{ℕ, ◌≡◌, ◌≤◌, ◌==◌, ◌&&◌, ◌||◌, Bool, true, false, nat_lt, not, if◌then◌else◌, Option, List, length, filter, map, find}
+use Rattle.std.specs.List.{list_all}
+use Rattle.gic_base.specs.declared.icc.IccReg.{IccReg}
+use Rattle.gic_base.specs.declared.interrupt.TheConstants.{FIRST_LPI}
+use Rattle.gic_base.specs.Interrupt.{intid_of}
+use Rattle.gic_word.specs.declared.record.Group.{Group}
+use Rattle.gic_word.specs.Bits.{has_flag}
+use Rattle.gic_lr.specs.declared.entry.LrState.{LrState}
+use Rattle.gic_lr.specs.declared.entry.LrState.TheVariants.{Invalid, Pending, Active, Both}
+use Rattle.gic_lr.specs.Entry.{unpacked}
+use Rattle.gic_prio.specs.Priority.{HasBinaryPoints}
+use Rattle.gic_prio.specs.Signal.{has_active_state}
+use Rattle.gic_prio.specs.Interface.{AtInterface, InterfaceState, interface_after, interface_answer}
+use Rattle.gic_ich.specs.declared.regs.IchRegs.{IchRegs}
+use Rattle.gic_ich.specs.Hcr.{hcr_en}
+use Rattle.gic_ich.specs.Regs.{listed_of}
+use Rattle.gic_ich.specs.Vmcr.{vmcr_of}
+use Rattle.gic_icv.specs.declared.registers.Outcome.{Outcome}
+use Rattle.gic_icv.specs.Entries.{is_active_state}
+use Rattle.gic_icv.specs.Registers.{answered}
+
+-- what there is to see of an interrupt at an interface
+pub record Seen : Type 0 where
+  pub id : ℕ
+  pub prio : ℕ
+  pub group : Group
+  pub pending : Bool
+  pub active : Bool
+
+-- State is 1 or 3
+abbrev pub has_pending_state : LrState → Bool
+has_pending_state Invalid = false
+has_pending_state Pending = true
+has_pending_state Active = false
+has_pending_state Both = true
+
+-- as a list register has it
+abbrev pub seen_in : ℕ → Seen
+seen_in word =
+    let entry = unpacked word in
+    record { id = entry.id; prio = entry.prio; group = entry.group; pending = has_pending_state entry.state; active = is_active_state entry.state }
+
+-- as it stands at the interface
+abbrev pub seen_of : AtInterface → Seen
+seen_of entry = record { id = intid_of entry.key; prio = entry.prio; group = entry.group; pending = entry.pending; active = entry.active }
+
+-- it is of this INTID, and pending or active
+abbrev pub is_live : ℕ → Seen → Bool
+is_live id seen = seen.id == id && (seen.pending || seen.active)
+
+-- what list registers show
+abbrev pub seen_words : List ℕ → List Seen
+seen_words words = map seen_in words
+
+-- what an interface shows
+abbrev pub seen_entries : List AtInterface → List Seen
+seen_entries at = map seen_of at
+
+-- the registers stand for the interface: ICH_HCR.En is 1, ICH_VMCR and the active levels are those of its record, each interrupt that
+-- is pending or active there has exactly one list register, with its INTID, priority, group and state, and no other list register has
+-- a State other than 0
+pub record Agrees (regs : IchRegs) (interface : InterfaceState) : Type 0 where
+  pub enabled : has_flag regs.hcr hcr_en ≡ true
+  pub vmcr : regs.vmcr ≡ vmcr_of interface.cpu
+  pub ap0 : regs.ap0r ≡ interface.cpu.ap0
+  pub ap1 : regs.ap1r ≡ interface.cpu.ap1
+  pub same : (id : ℕ) → find (is_live id) (seen_words (listed_of regs)) ≡ find (is_live id) (seen_entries interface.at)
+  pub once : (id : ℕ) → length (filter (is_live id) (seen_words (listed_of regs))) ≤ 1
+
+-- an interrupt has an active state exactly where its INTID is below those of LPIs
+abbrev pub has_its_kind : AtInterface → Bool
+has_its_kind entry = if nat_lt (intid_of entry.key) FIRST_LPI then has_active_state entry.key else not (has_active_state entry.key)
+
+-- an INTID names one interrupt of the interface at most, LPIs are those from 8192, and the binary points have three bits
+pub record IsInterface (interface : InterfaceState) : Type 0 where
+  pub points : HasBinaryPoints interface.cpu
+  pub once : (id : ℕ) → length (filter (λ entry. intid_of entry.key == id) interface.at) ≤ 1
+  pub kinds : list_all has_its_kind interface.at ≡ true
+
+-- an access answers and leaves what the rules of a CPU interface say
+pub record Follows (reg : IccReg) (write : Option ℕ) (interface : InterfaceState) (outcome : Outcome) (regs : IchRegs) : Type 0 where
+  pub answer : outcome ≡ answered (interface_answer reg write interface)
+  pub stays : IsInterface (interface_after reg write interface)
+  pub registers : Agrees regs (interface_after reg write interface)

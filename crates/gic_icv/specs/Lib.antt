@@ -1,0 +1,4 @@
+pub mod Trap
+pub mod Entries
+pub mod Registers
+pub mod Agree

@@ -1,0 +1,106 @@
+//! What the list registers hold for the guest's CPU interface.
+ghost use Rattle.std.specs.Prelude.{◌≡◌, ◌≤◌, position};
+ghost use Rattle.std.specs.List.{list_any};
+ghost use Rattle.gic_prio.specs.Delivery.{first_of};
+ghost use Rattle.gic_icv.specs.Entries.{key_shown as key_of_id, candidate_in as candidate_of_word, candidates_in, has_candidate as has_found, has_active as has_active_id, acknowledged_word, deactivated_word};
+
+use gic_base::{FIRST_LPI, Key, PRIVATE_COUNT};
+use gic_lr::{LrState, unpack, with_state};
+use gic_prio::{Candidate, CpuRec, earlier};
+use gic_word::Group;
+
+fn key_shown(id: u32) -> Key
+    ensures { result ≡ key_of_id id }
+{
+    if id < PRIVATE_COUNT {
+        Key::Private { vcpu: 0, id }
+    } else if id < FIRST_LPI {
+        Key::Spi(id)
+    } else {
+        Key::Lpi(id)
+    }
+}
+
+/// A list register as a candidate for delivery: State 1, and of a group that the vCPU listens to.
+fn candidate_in(cpu: &CpuRec, word: u64) -> Option<Candidate>
+    ensures { result ≡ candidate_of_word cpu.now word }
+{
+    let entry = unpack(word);
+    let listens = match entry.group {
+        Group::G0 => cpu.en0,
+        Group::G1 => cpu.en1,
+    };
+    let is_candidate = entry.state == LrState::Pending && listens;
+    is_candidate.then_some(Candidate {
+        key: key_shown(entry.id),
+        prio: entry.prio,
+        group: entry.group,
+    })
+}
+
+/// The first candidate that the list registers have.
+pub(crate) fn first_pending(cpu: &CpuRec, words: &[u64]) -> Option<Candidate>
+    ensures { result ≡ first_of (candidates_in cpu.now words.now) }
+{
+    let mut first = None;
+    for &word in words {
+        if let Some(next) = candidate_in(cpu, word) {
+            first = Some(earlier(first, next));
+        }
+    }
+    first
+}
+
+fn has_candidate(found: &Candidate, word: u64) -> bool
+    ensures { result ≡ has_found found.now word }
+{
+    let entry = unpack(word);
+    entry.state == LrState::Pending
+        && entry.id == found.key.intid()
+        && entry.prio == found.prio
+        && entry.group == found.group
+}
+
+/// The number of the first list register that has a candidate.
+pub(crate) fn place_of_candidate(found: &Candidate, words: &[u64]) -> Option<usize>
+    ensures { result ≡ position (has_found found.now) words.now }
+{
+    words.iter().position(|word| has_candidate(found, *word))
+}
+
+fn has_active(id: u32, word: u64) -> bool
+    ensures { result ≡ has_active_id id word }
+{
+    let entry = unpack(word);
+    entry.id == id && matches!(entry.state, LrState::Active | LrState::Both)
+}
+
+/// The number of the first list register that has the active interrupt of an INTID.
+pub(crate) fn place_of_active(id: u32, words: &[u64]) -> Option<usize>
+    ensures { result ≡ position (has_active_id id) words.now }
+{
+    words.iter().position(|word| has_active(id, *word))
+}
+
+/// A list register after its acknowledge.
+pub(crate) fn acknowledged(word: u64) -> u64
+    ensures { result ≡ acknowledged_word word }
+{
+    let state = if unpack(word).id < FIRST_LPI {
+        LrState::Active
+    } else {
+        LrState::Invalid
+    };
+    with_state(word, state)
+}
+
+/// A list register after its deactivation.
+pub(crate) fn deactivated(word: u64) -> u64
+    ensures { result ≡ deactivated_word word }
+{
+    let state = match unpack(word).state {
+        LrState::Invalid | LrState::Active => LrState::Invalid,
+        LrState::Pending | LrState::Both => LrState::Pending,
+    };
+    with_state(word, state)
+}

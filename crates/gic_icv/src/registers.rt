@@ -1,0 +1,244 @@
+//! One access of a CPU interface register by a guest.
+ghost use Rattle.std.specs.Prelude.{◌≡◌, ◌≤◌, true, None, Some, IsTrue};
+ghost use Rattle.gic_base.specs.Icc.{is_readable};
+ghost use Rattle.gic_word.specs.Bits.{has_flag};
+ghost use Rattle.gic_prio.specs.Signal.{acknowledged as acknowledged_of, highest_pending as highest_of_group, intid_read};
+ghost use Rattle.gic_prio.specs.Priority.{HasBinaryPoints};
+ghost use Rattle.gic_prio.specs.Interface.{InterfaceState};
+ghost use Rattle.gic_prio.specs.Access.{answer_of};
+ghost use Rattle.gic_prio.specs.Delivery.{first_of};
+ghost use Rattle.gic_ich.specs.Hcr.{hcr_en};
+ghost use Rattle.gic_icv.specs.Trap.{trap_cause as cause_of};
+ghost use Rattle.gic_icv.specs.Registers.{HasDirection, cpu_in, candidates_of, with_cpu, after_acknowledge, after_iar, after_deactivation_of, registers_after, outcome_of, after_access};
+ghost use Rattle.gic_icv.specs.Agree.{Agrees, IsInterface, Follows};
+
+use crate::entries::{
+    acknowledged, deactivated, first_pending, place_of_active, place_of_candidate,
+};
+use crate::trap::{TrapCause, trap_cause};
+use gic_base::{IccReg, MAX_LIST_REGISTERS};
+use gic_ich::{HCR_EOICOUNT, IchRegs, cpu_of, vmcr_with};
+use gic_prio::{
+    Candidate, CpuRec, FIRST_SPECIAL, SPURIOUS, cpu_written, highest_pending, intid_deactivated,
+    level_activated, read_plain, signalled,
+};
+use gic_word::Group;
+
+/// What an access answers.
+#[derive(Clone, Copy, Debug, PartialEq, Eq, Hash)]
+pub enum Outcome {
+    /// A read read this.
+    Value(u64),
+    /// A write was done.
+    Done,
+    /// The access is for the hypervisor to carry out, and nothing changed.
+    Trap(TrapCause),
+}
+
+fn set_cpu(regs: &mut IchRegs, cpu: &CpuRec)
+    requires { HasBinaryPoints cpu.now }
+    ensures { regs.new ≡ with_cpu cpu.now regs.old }
+{
+    regs.vmcr = vmcr_with(regs.vmcr, cpu);
+    regs.ap0r = cpu.ap0;
+    regs.ap1r = cpu.ap1;
+}
+
+fn first(regs: &IchRegs) -> Option<Candidate>
+    requires { regs.now.n ≤ MAX_LIST_REGISTERS }
+    ensures { result ≡ first_of (candidates_of regs.now) }
+{
+    first_pending(&cpu_of(regs, false), regs.listed())
+}
+
+/// The candidate that a read of IAR of a group acknowledges.
+fn taken(regs: &IchRegs, group: Group) -> Option<Candidate>
+    requires { regs.now.n ≤ MAX_LIST_REGISTERS }
+    ensures { result ≡ acknowledged_of group (cpu_in regs.now) (candidates_of regs.now) }
+{
+    let cpu = cpu_of(regs, false);
+    match first(regs) {
+        Some(first) if first.group == group && signalled(first.prio, first.group, &cpu) => {
+            Some(first)
+        }
+        _ => None,
+    }
+}
+
+/// The first list register that has a candidate is acknowledged.
+fn acknowledge(regs: &mut IchRegs, found: &Candidate)
+    requires { regs.old.n ≤ MAX_LIST_REGISTERS }
+    ensures { regs.new ≡ after_acknowledge (Some found.now) regs.old }
+{
+    if let Some(place) = place_of_candidate(found, regs.listed()) {
+        regs.lr[place] = acknowledged(regs.lr[place]);
+    }
+}
+
+/// A read of IAR of a group.
+fn read_iar(regs: &mut IchRegs, group: Group) -> u64
+    requires { regs.old.n ≤ MAX_LIST_REGISTERS }
+    ensures value { result ≡ intid_read (acknowledged_of group (cpu_in regs.old) (candidates_of regs.old)) }
+    ensures registers { regs.new ≡ after_iar group regs.old }
+{
+    let Some(found) = taken(regs, group) else {
+        return u64::from(SPURIOUS);
+    };
+    let cpu = level_activated(&cpu_of(regs, false), found.prio, found.group);
+    acknowledge(regs, &found);
+    set_cpu(regs, &cpu);
+    u64::from(found.key.intid())
+}
+
+/// A read of HPPIR of a group.
+fn read_hppir(regs: &IchRegs, group: Group) -> u64
+    requires { regs.now.n ≤ MAX_LIST_REGISTERS }
+    ensures { result ≡ intid_read (highest_of_group group (candidates_of regs.now)) }
+{
+    u64::from(highest_pending(first(regs), group))
+}
+
+/// A read of a register.
+#[tactic(auto, using(crate::proofs::RegisterLemmas::plain_answer, crate::proofs::RegisterLemmas::plain_kept))]
+fn read_register(regs: &mut IchRegs, reg: IccReg) -> u64
+    requires number { regs.old.n ≤ MAX_LIST_REGISTERS }
+    requires readable { IsTrue (is_readable reg) }
+    ensures value { answer_of reg None (cpu_in regs.old) (candidates_of regs.old) ≡ Some result }
+    ensures registers { regs.new ≡ registers_after reg None regs.old }
+{
+    match reg {
+        IccReg::Iar0 => read_iar(regs, Group::G0),
+        IccReg::Iar1 => read_iar(regs, Group::G1),
+        IccReg::Hppir0 => read_hppir(regs, Group::G0),
+        IccReg::Hppir1 => read_hppir(regs, Group::G1),
+        _ => read_plain(&cpu_of(regs, false), reg).unwrap_or(0),
+    }
+}
+
+/// The active interrupt of an INTID is deactivated in the first list register that has it, or counted where
+/// none has it.
+fn deactivate(regs: &mut IchRegs, id: u32)
+    requires { regs.old.n ≤ MAX_LIST_REGISTERS }
+    ensures { regs.new ≡ after_deactivation_of id regs.old }
+{
+    match place_of_active(id, regs.listed()) {
+        Some(place) => regs.lr[place] = deactivated(regs.lr[place]),
+        None if id < FIRST_SPECIAL => regs.hcr = regs.hcr.wrapping_add(HCR_EOICOUNT),
+        None => {}
+    }
+}
+
+/// A write of a value to a register.
+fn write_register(regs: &mut IchRegs, reg: IccReg, value: u64)
+    requires { regs.old.n ≤ MAX_LIST_REGISTERS }
+    ensures { regs.new ≡ registers_after reg (Some value) regs.old }
+{
+    let cpu = cpu_of(regs, false);
+    if let Some(id) = intid_deactivated(&cpu, reg, value) {
+        deactivate(regs, id);
+    }
+    set_cpu(regs, &cpu_written(&cpu, reg, value));
+}
+
+/// Carries out one access of a CPU interface register: a read, or a write of the value. The register has
+/// that direction, ICH_HCR.En is 1, and the PE has 1 to 16 list registers. `Trap` comes exactly where ICH_HCR
+/// asks for it, and then nothing changes; otherwise `Value` comes exactly for a read and `Done` for a write.
+pub fn access(regs: &mut IchRegs, reg: IccReg, write: Option<u64>) -> Outcome
+    requires number { 1 ≤ regs.old.n × regs.old.n ≤ MAX_LIST_REGISTERS }
+    requires direction { HasDirection reg write }
+    requires enabled { has_flag regs.old.hcr hcr_en ≡ true }
+    ensures outcome { result ≡ outcome_of reg write regs.old }
+    ensures registers { regs.new ≡ after_access reg write regs.old }
+    ensures follows { (interface : InterfaceState) → IsInterface interface → Agrees regs.old interface → cause_of regs.old.hcr reg ≡ None → Follows reg write interface result regs.new }
+{
+    if let Some(cause) = trap_cause(regs.hcr, reg) {
+        return Outcome::Trap(cause);
+    }
+    match write {
+        None => Outcome::Value(read_register(regs, reg)),
+        Some(value) => {
+            write_register(regs, reg, value);
+            Outcome::Done
+        }
+    }
+}
+
+#[cfg(test)]
+mod tests {
+    use super::{Outcome, access};
+    use crate::trap::TrapCause;
+    use gic_base::{IccReg, MAX_LIST_REGISTERS};
+    use gic_ich::{HCR_GROUP_1_ALONE, HCR_GROUP_1_TRAPPING, IchRegs};
+
+    /// A vCPU that listens to group 1 with the mask 0xF0.
+    const VMCR: u32 = 0xf04c_000a;
+    /// The level of priority 0xA0 active.
+    const LEVEL_A0: u32 = 0x0010_0000;
+
+    /// An access of a register, its value if it is a write, and what it answers.
+    type Row = (IccReg, Option<u64>, Outcome);
+
+    fn with(first: u64, second: u64, hcr: u32, ap1r: u32) -> IchRegs {
+        let mut lr = [0; MAX_LIST_REGISTERS];
+        lr[0] = first;
+        lr[1] = second;
+        IchRegs {
+            lr,
+            n: 2,
+            vmcr: VMCR,
+            hcr,
+            ap0r: 0,
+            ap1r,
+        }
+    }
+
+    #[test]
+    fn pending_and_active_is_delivered_after_its_end(rt: HostRuntime) {
+        let rows: [Row; 3] = [
+            (IccReg::Iar1, None, Outcome::Value(1023)),
+            (IccReg::Eoir1, Some(40), Outcome::Done),
+            (IccReg::Iar1, None, Outcome::Value(40)),
+        ];
+        let mut regs = with(0xd0a0_0000_0000_0028, 0, HCR_GROUP_1_ALONE, LEVEL_A0);
+        for (reg, write, want) in rows {
+            assert_eq!(rt; access(&mut regs, reg, write), want);
+        }
+        assert_eq!(rt; regs.lr[0], 0x90a0_0000_0000_0028);
+        assert_eq!(rt; regs.ap1r, LEVEL_A0);
+    }
+
+    #[test]
+    fn higher_priority_preempts(rt: HostRuntime) {
+        let rows: [Row; 4] = [
+            (IccReg::Hppir1, None, Outcome::Value(42)),
+            (IccReg::Iar1, None, Outcome::Value(42)),
+            (IccReg::Rpr, None, Outcome::Value(0x20)),
+            (IccReg::Iar1, None, Outcome::Value(1023)),
+        ];
+        let mut regs = with(
+            0x90a0_0200_0000_0028,
+            0x5020_0000_0000_002a,
+            HCR_GROUP_1_ALONE,
+            LEVEL_A0,
+        );
+        for (reg, write, want) in rows {
+            assert_eq!(rt; access(&mut regs, reg, write), want);
+        }
+    }
+
+    #[test]
+    fn every_access_but_sre_is_trapped(rt: HostRuntime) {
+        let rows: [Row; 6] = [
+            (IccReg::Iar0, None, Outcome::Trap(TrapCause::All0)),
+            (IccReg::Iar1, None, Outcome::Trap(TrapCause::All1)),
+            (IccReg::Pmr, Some(0), Outcome::Trap(TrapCause::Common)),
+            (IccReg::Dir, Some(40), Outcome::Trap(TrapCause::Dir)),
+            (IccReg::Sgi1r, Some(0), Outcome::Trap(TrapCause::Sgi)),
+            (IccReg::Sre, None, Outcome::Value(7)),
+        ];
+        let mut regs = with(0, 0, HCR_GROUP_1_TRAPPING, 0);
+        for (reg, write, want) in rows {
+            assert_eq!(rt; access(&mut regs, reg, write), want);
+        }
+    }
+}
