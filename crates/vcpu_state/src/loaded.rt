@@ -1,0 +1,149 @@
+//! A vCPU on a PE.
+ghost use Rattle.std.specs.Prelude.{◌≡◌, ◌≢◌, ◌<◌, ◌≤◌, ◌↔◌, [], IsTrue, IfSome, IfNone, All, is_none, position};
+ghost use Rattle.std.specs.List.{list_all};
+ghost use Rattle.gic_base.specs.Interrupt.{intid_of};
+ghost use Rattle.gic_prio.specs.Priority.{HasBinaryPoints};
+ghost use Rattle.vcpu_state.specs.Holding.{held_keys, shelved_keys, has_intid};
+ghost use Rattle.vcpu_state.specs.Moves.{loaded_of, shelved_of};
+
+use crate::shelved::Shelved;
+use gic_base::{Held, MAX_LIST_REGISTERS};
+use gic_ich::{HCR_EN, IchRegs, cpu_of, vmcr_of};
+
+/// A vCPU on a PE. The registers are its own; the words of interrupts stay shared, and others may act on
+/// them.
+#[derive(Debug, Drop)]
+pub struct Loaded {
+    /// The vCPU as it came from the shelf: its CPU record is in the registers from then on, but for
+    /// EnableLPIs.
+    pub base: Shelved,
+    /// The registers of the PE's virtual CPU interface.
+    pub regs: IchRegs,
+    /// The interrupts at its interface, each at the place of its list register.
+    pub held: Held,
+    /// Every access of the CPU interface is trapped.
+    pub trapping: bool,
+}
+
+/// Whether no list register has an interrupt.
+fn is_free(held: &Held) -> bool
+    ensures { result ≡ list_all is_none held.now }
+{
+    held.iter().all(|place| place.is_none())
+}
+
+/// The first place of an interrupt with this INTID.
+fn place_in(held: &Held, id: u32) -> Option<usize>
+    ensures { result ≡ position (has_intid id) held.now }
+{
+    held.iter().position(|place| match place {
+        Some(held) => held.key.intid() == id,
+        None => false,
+    })
+}
+
+impl Shelved {
+    /// The vCPU on a PE with this many list registers (1 to 16), before it takes an interrupt: the
+    /// registers have its CPU record, the list registers are 0 and ICH_HCR is En.
+    pub fn load(self, lrs: u32) -> Loaded
+        requires points { HasBinaryPoints self.cpu }
+        requires lrs { 1 ≤ lrs × lrs ≤ MAX_LIST_REGISTERS }
+        ensures value { result ≡ loaded_of self lrs }
+        ensures holds { held_keys result ≡ [] }
+        ensures back { shelved_of result ≡ self }
+    {
+        Loaded {
+            regs: IchRegs {
+                lr: [0; MAX_LIST_REGISTERS],
+                n: lrs,
+                vmcr: vmcr_of(&self.cpu),
+                hcr: HCR_EN,
+                ap0r: self.cpu.ap0,
+                ap1r: self.cpu.ap1,
+            },
+            held: [None; MAX_LIST_REGISTERS],
+            trapping: false,
+            base: self,
+        }
+    }
+}
+
+impl Loaded {
+    /// Whether the vCPU holds no interrupt.
+    pub fn holds_nothing(&self) -> bool
+        ensures { IsTrue result ↔ (held_keys self.now ≡ []) }
+    {
+        is_free(&self.held)
+    }
+
+    /// The vCPU off the PE, with the CPU record that the registers hold. It has to have given back what it
+    /// held.
+    pub fn shelve(self) -> Shelved
+        requires { held_keys self ≡ [] }
+        ensures value { result ≡ shelved_of self }
+        ensures holds { shelved_keys result ≡ held_keys self }
+        ensures points { HasBinaryPoints result.cpu }
+    {
+        Shelved {
+            cpu: cpu_of(&self.regs, self.base.cpu.lpis),
+            ..self.base
+        }
+    }
+
+    /// The list register of the interrupt with this INTID. None exactly where the vCPU holds none with it.
+    pub fn place_of(&self, id: u32) -> Option<usize>
+        ensures value { result ≡ position (has_intid id) self.now.held }
+        ensures within { IfSome result (λ place. place < MAX_LIST_REGISTERS) }
+        ensures none { IfNone result (All (λ key. intid_of key ≢ id) (held_keys self.now)) }
+    {
+        place_in(&self.held, id)
+    }
+}
+
+#[cfg(test)]
+mod tests {
+    use crate::shelved::Shelved;
+    use gic_base::{HeldIrq, Key};
+    use gic_prio::CpuRec;
+
+    const SHELVED: Shelved = Shelved {
+        guest: 0,
+        vcpu: 1,
+        cpu: CpuRec {
+            pmr: 0xF0,
+            bpr0: 2,
+            bpr1: 3,
+            cbpr: false,
+            eoimode: false,
+            en0: false,
+            en1: true,
+            lpis: true,
+            ap0: 0,
+            ap1: 0x0010_0000,
+        },
+        next: 7,
+    };
+
+    #[test]
+    fn registers_hold_the_record(rt: HostRuntime) {
+        let vcpu = SHELVED;
+        let mut loaded = vcpu.load(4);
+        assert_eq!(rt; loaded.regs.vmcr, 0xf04c_000a);
+        assert_eq!(rt; loaded.regs.ap1r, 0x0010_0000);
+        assert!(rt; loaded.holds_nothing());
+        loaded.held[2] = Some(HeldIrq {
+            key: Key::Spi(40),
+            rise: false,
+            soft: true,
+            edge: true,
+        });
+        assert!(rt; !loaded.holds_nothing());
+        assert_eq!(rt; loaded.place_of(40), Some(2));
+        assert_eq!(rt; loaded.place_of(41), None);
+        loaded.held[2] = None;
+        loaded.regs.vmcr = 0xf04c_0008;
+        let Shelved { cpu, next, .. } = loaded.shelve();
+        assert!(rt; !cpu.en1 && cpu.lpis);
+        assert_eq!(rt; next, 7);
+    }
+}
