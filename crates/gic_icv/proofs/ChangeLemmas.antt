@@ -7,11 +7,11 @@ use Rattle.gic_word.specs.declared.record.Group.TheVariants.{G0, G1}
 use Rattle.gic_base.specs.Interrupt.{intid_of}
 use Rattle.gic_lr.specs.declared.entry.LrState.{LrState}
 use Rattle.gic_lr.specs.declared.entry.LrState.TheVariants.{Invalid, Pending, Active, Both}
-use Rattle.gic_lr.specs.Entry.{unpacked, with_state, state_at, state_number}
+use Rattle.gic_lr.specs.Entry.{unpacked, with_state, state_at, state_number, state_has_pending, state_has_active}
 use Rattle.gic_prio.specs.Signal.{has_active_state}
 use Rattle.gic_prio.specs.Interface.{AtInterface, changed_at, acknowledged_entry, deactivated_entry}
-use Rattle.gic_icv.specs.Entries.{is_active_state, acknowledged_word, deactivated_word, inactive_state}
-use Rattle.gic_icv.specs.Agree.{Seen, has_pending_state, seen_in, seen_of, is_live, seen_words, seen_entries, has_its_kind}
+use Rattle.gic_icv.specs.Entries.{acknowledged_word, deactivated_word, inactive_state}
+use Rattle.gic_icv.specs.Agree.{Seen, seen_in, seen_of, is_live, seen_words, seen_entries, has_its_kind}
 
 -- an interrupt after its acknowledge, and after its deactivation
 abbrev pub seen_acknowledged : Seen → Seen
@@ -27,30 +27,30 @@ state_back Pending word = let is : (word % 2 ^ 62 + 1 * 2 ^ 62) / 2 ^ 62 ≡ 1 =
 state_back Active word = let is : (word % 2 ^ 62 + 2 * 2 ^ 62) / 2 ^ 62 ≡ 2 = omega arith in ap state_at is
 state_back Both word = let is : (word % 2 ^ 62 + 3 * 2 ^ 62) / 2 ^ 62 ≡ 3 = omega arith in ap state_at is
 
-seen_with_state : (word : ℕ) (state : LrState) → seen_in (with_state word state) ≡ record (seen_in word) { pending = has_pending_state state; active = is_active_state state }
+seen_with_state : (word : ℕ) (state : LrState) → seen_in (with_state word state) ≡ record (seen_in word) { pending = state_has_pending state; active = state_has_active state }
 seen_with_state word state =
     let after = with_state word state in
     let low : after % 2 ^ 62 ≡ word % 2 ^ 62 = omega arith in
     let id : after % 2 ^ 32 ≡ word % 2 ^ 32 = omega (arith, low) in
     let prio : after / 2 ^ 48 % 2 ^ 8 ≡ word / 2 ^ 48 % 2 ^ 8 = omega (arith, low) in
     let group : after / 2 ^ 60 % 2 ≡ word / 2 ^ 60 % 2 = omega (arith, low) in
-    ap (λ n. record { id = n; prio = after / 2 ^ 48 % 2 ^ 8; group = if nat_eq (after / 2 ^ 60 % 2) 1 then G1 else G0; pending = has_pending_state (state_at (after / 2 ^ 62)); active = is_active_state (state_at (after / 2 ^ 62)) }) id
-    ∙ ap (λ n. record { id = word % 2 ^ 32; prio = n; group = if nat_eq (after / 2 ^ 60 % 2) 1 then G1 else G0; pending = has_pending_state (state_at (after / 2 ^ 62)); active = is_active_state (state_at (after / 2 ^ 62)) }) prio
-    ∙ ap (λ n. record { id = word % 2 ^ 32; prio = word / 2 ^ 48 % 2 ^ 8; group = if nat_eq n 1 then G1 else G0; pending = has_pending_state (state_at (after / 2 ^ 62)); active = is_active_state (state_at (after / 2 ^ 62)) }) group
-    ∙ ap (λ state. record (seen_in word) { pending = has_pending_state state; active = is_active_state state }) (state_back state word)
+    ap (λ n. record { id = n; prio = after / 2 ^ 48 % 2 ^ 8; group = if nat_eq (after / 2 ^ 60 % 2) 1 then G1 else G0; pending = state_has_pending (state_at (after / 2 ^ 62)); active = state_has_active (state_at (after / 2 ^ 62)) }) id
+    ∙ ap (λ n. record { id = word % 2 ^ 32; prio = n; group = if nat_eq (after / 2 ^ 60 % 2) 1 then G1 else G0; pending = state_has_pending (state_at (after / 2 ^ 62)); active = state_has_active (state_at (after / 2 ^ 62)) }) prio
+    ∙ ap (λ n. record { id = word % 2 ^ 32; prio = word / 2 ^ 48 % 2 ^ 8; group = if nat_eq n 1 then G1 else G0; pending = state_has_pending (state_at (after / 2 ^ 62)); active = state_has_active (state_at (after / 2 ^ 62)) }) group
+    ∙ ap (λ state. record (seen_in word) { pending = state_has_pending state; active = state_has_active state }) (state_back state word)
 
 pub word_acknowledged : (word : ℕ) → seen_in (acknowledged_word word) ≡ seen_acknowledged (seen_in word)
 word_acknowledged word =
     seen_with_state word (if nat_lt (unpacked word).id 8192 then Active else Invalid) ∙ by_kind (nat_lt (unpacked word).id 8192)
   where
-    by_kind : (b : Bool) → record (seen_in word) { pending = has_pending_state (if b then Active else Invalid); active = is_active_state (if b then Active else Invalid) } ≡ record (seen_in word) { pending = false; active = b }
+    by_kind : (b : Bool) → record (seen_in word) { pending = state_has_pending (if b then Active else Invalid); active = state_has_active (if b then Active else Invalid) } ≡ record (seen_in word) { pending = false; active = b }
     by_kind true = refl
     by_kind false = refl
 
 pub word_deactivated : (word : ℕ) → seen_in (deactivated_word word) ≡ seen_deactivated (seen_in word)
 word_deactivated word = seen_with_state word (inactive_state (unpacked word).state) ∙ by_state (unpacked word).state
   where
-    by_state : (state : LrState) → record (seen_in word) { pending = has_pending_state (inactive_state state); active = is_active_state (inactive_state state) } ≡ record (seen_in word) { pending = has_pending_state state; active = false }
+    by_state : (state : LrState) → record (seen_in word) { pending = state_has_pending (inactive_state state); active = state_has_active (inactive_state state) } ≡ record (seen_in word) { pending = state_has_pending state; active = false }
     by_state Invalid = refl
     by_state Pending = refl
     by_state Active = refl

@@ -8,15 +8,15 @@ use Rattle.std.proofs.lemmas.List.Elements.{All-contains}
 use Rattle.gic_base.specs.Interrupt.{intid_of}
 use Rattle.gic_lr.specs.declared.entry.LrState.{LrState}
 use Rattle.gic_lr.specs.declared.entry.LrState.TheVariants.{Invalid, Pending, Active, Both}
-use Rattle.gic_lr.specs.Entry.{unpacked}
+use Rattle.gic_lr.specs.Entry.{unpacked, state_has_pending, state_has_active}
 use Rattle.gic_prio.specs.declared.cpu.CpuRec.{CpuRec}
 use Rattle.gic_prio.specs.declared.candidate.Candidate.{Candidate}
 use Rattle.gic_prio.specs.Delivery.{first_of, is_before, is_group_enabled}
 use Rattle.gic_prio.specs.Interface.{AtInterface, InterfaceState, candidate_of, candidates_at}
 use Rattle.gic_prio.proofs.FirstLemmas.{first_is, empty_or_first, found}
 use Rattle.gic_ich.specs.Status.{is_pending_state}
-use Rattle.gic_icv.specs.Entries.{key_shown, candidate_in, candidates_in, is_active_state}
-use Rattle.gic_icv.specs.Agree.{Seen, has_pending_state, seen_in, seen_of, is_live, seen_words, seen_entries}
+use Rattle.gic_icv.specs.Entries.{key_shown, candidate_in, candidates_in}
+use Rattle.gic_icv.specs.Agree.{Seen, seen_in, seen_of, is_live, seen_words, seen_entries}
 use Rattle.gic_icv.proofs.CpuLemmas.{deaf, enabled_deaf}
 use Rattle.gic_icv.proofs.DeafLemmas.{shown, id_shown}
 
@@ -27,7 +27,7 @@ candidate_seen cpu s = cond (s.pending && not s.active && is_group_enabled s.gro
 abbrev pub candidates_seen : CpuRec → List Seen → List Candidate
 candidates_seen cpu seen = filter_map (candidate_seen cpu) seen
 
-pub pending_alone : (state : LrState) → is_pending_state state ≡ (has_pending_state state && not (is_active_state state))
+pub pending_alone : (state : LrState) → is_pending_state state ≡ (state_has_pending state && not (state_has_active state))
 pending_alone Invalid = refl
 pending_alone Pending = refl
 pending_alone Active = refl
@@ -37,7 +37,7 @@ pending_alone Both = refl
 word_candidate : (cpu : CpuRec) (word : ℕ) → candidate_in (deaf cpu) word ≡ candidate_seen cpu (seen_in word)
 word_candidate cpu word =
     let entry = unpacked word in
-    same (is_pending_state entry.state) (has_pending_state entry.state) (is_active_state entry.state) (is_group_enabled entry.group (deaf cpu)) (is_group_enabled entry.group cpu)
+    same (is_pending_state entry.state) (state_has_pending entry.state) (state_has_active entry.state) (is_group_enabled entry.group (deaf cpu)) (is_group_enabled entry.group cpu)
     (record { key = key_shown entry.id; prio = entry.prio; group = entry.group }) (pending_alone entry.state) (enabled_deaf entry.group cpu)
   where
     same : (p q a g h : Bool) (one : Candidate) → p ≡ (q && not a) → g ≡ h → cond (p && g) (Some one) None ≡ cond (q && not a && h) (Some one) None

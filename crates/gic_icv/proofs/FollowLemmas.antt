@@ -13,7 +13,7 @@ use Rattle.gic_word.specs.Bits.{has_flag}
 use Rattle.gic_base.specs.declared.icc.IccReg.{IccReg}
 use Rattle.gic_base.specs.declared.icc.IccReg.TheVariants.{Iar0, Iar1, Eoir0, Eoir1, Pmr, Bpr0, Bpr1, Ctlr, Igrpen0, Igrpen1}
 use Rattle.gic_base.specs.Interrupt.{intid_of}
-use Rattle.gic_lr.specs.Entry.{unpacked}
+use Rattle.gic_lr.specs.Entry.{unpacked, state_has_pending, state_has_active}
 use Rattle.gic_prio.specs.declared.cpu.CpuRec.{CpuRec}
 use Rattle.gic_prio.specs.declared.candidate.Candidate.{Candidate}
 use Rattle.gic_prio.specs.Priority.{HasBinaryPoints, raised, dropped, is_signalled, running_level, least_level}
@@ -27,9 +27,9 @@ use Rattle.gic_ich.specs.Regs.{listed_of}
 use Rattle.gic_ich.specs.Status.{is_pending}
 use Rattle.gic_ich.specs.Vmcr.{vmcr_with}
 use Rattle.gic_icv.specs.declared.registers.Outcome.{Outcome}
-use Rattle.gic_icv.specs.Entries.{key_shown, is_active_state, candidate_in, candidates_in, has_candidate, has_active, acknowledged_word, deactivated_word}
+use Rattle.gic_icv.specs.Entries.{key_shown, candidate_in, candidates_in, has_candidate, has_active, acknowledged_word, deactivated_word}
 use Rattle.gic_icv.specs.Registers.{cpu_in, candidates_of, first_changed, after_acknowledge, counted, after_deactivation_of, after_deactivation, with_cpu, registers_after, answered}
-use Rattle.gic_icv.specs.Agree.{Seen, has_pending_state, seen_in, seen_of, is_live, seen_words, seen_entries, has_its_kind, Agrees, IsInterface, Follows}
+use Rattle.gic_icv.specs.Agree.{Seen, seen_in, seen_of, is_live, seen_words, seen_entries, has_its_kind, Agrees, IsInterface, Follows}
 use Rattle.gic_icv.proofs.CpuLemmas.{deaf, holds, vmcr_replaced}
 use Rattle.gic_icv.proofs.DeafLemmas.{shown, id_shown, taken_shown, answer_shown, deactivated_deaf, cpu_after_deaf}
 use Rattle.gic_icv.proofs.FirstLemmas.{ShowSame, source_of, first_agrees, find_once, find_among, cons_cases, head_is, in_tail, pending_alone}
@@ -203,14 +203,14 @@ has_it cpu f word e = by_test (is_pending word) (is_group_enabled (unpacked word
 candidate_live : (f : Candidate) (word : ℕ) → has_candidate (shown f) word ≡ true → is_live (intid_of f.key) (seen_in word) ≡ true
 candidate_live f word e =
     let state = (unpacked word).state in
-    by_test (is_pending word) (nat_eq (unpacked word).id (intid_of (shown f).key)) (nat_eq (unpacked word).prio f.prio) (is_same_group (unpacked word).group f.group) (has_pending_state state) (is_active_state state)
+    by_test (is_pending word) (nat_eq (unpacked word).id (intid_of (shown f).key)) (nat_eq (unpacked word).prio f.prio) (is_same_group (unpacked word).group f.group) (state_has_pending state) (state_has_active state)
     (nat_eq (unpacked word).id (intid_of f.key)) (pending_alone state) (ap (nat_eq (unpacked word).id) (id_shown (intid_of f.key))) e
   where
     by_test : (p id prio group pending active same : Bool) → p ≡ (pending && not active) → id ≡ same → (p && id && prio && group) ≡ true → (same && (pending || active)) ≡ true
     by_test p id prio group pending active same e f g = grind (arith, common_steps)
 
 active_live : (k word : ℕ) → has_active k word ≡ true → is_live k (seen_in word) ≡ true
-active_live k word e = by_test (nat_eq (unpacked word).id k) (has_pending_state (unpacked word).state) (is_active_state (unpacked word).state) e
+active_live k word e = by_test (nat_eq (unpacked word).id k) (state_has_pending (unpacked word).state) (state_has_active (unpacked word).state) e
   where
     by_test : (same pending active : Bool) → (same && active) ≡ true → (same && (pending || active)) ≡ true
     by_test same pending active e = grind (arith, common_steps)
@@ -256,7 +256,7 @@ none_active words k none (Some s) e =
     by_active s.active refl live (λ f. none_placed (has_active k) words found.0 found.1 (active found.0 s found.2 live f) none)
   where
     active : (word : ℕ) (s : Seen) → seen_in word ≡ s → is_live k s ≡ true → s.active ≡ true → has_active k word ≡ true
-    active word s is live f = both (nat_eq (unpacked word).id k) (is_active_state (unpacked word).state) s.pending (ap (λ x. nat_eq x.id k) is) (ap (λ x. x.active) is ∙ f) live
+    active word s is live f = both (nat_eq (unpacked word).id k) (state_has_active (unpacked word).state) s.pending (ap (λ x. nat_eq x.id k) is) (ap (λ x. x.active) is ∙ f) live
       where
         both : (same on pending : Bool) → same ≡ nat_eq s.id k → on ≡ true → (nat_eq s.id k && (pending || s.active)) ≡ true → (same && on) ≡ true
         both same on pending e f g = grind (arith, common_steps)

@@ -6,9 +6,7 @@ use Rattle.gic_base.specs.declared.interrupt.TheConstants.{FIRST_LPI}
 use Rattle.gic_base.specs.Interrupt.{intid_of}
 use Rattle.gic_word.specs.declared.record.Group.{Group}
 use Rattle.gic_word.specs.Bits.{has_flag}
-use Rattle.gic_lr.specs.declared.entry.LrState.{LrState}
-use Rattle.gic_lr.specs.declared.entry.LrState.TheVariants.{Invalid, Pending, Active, Both}
-use Rattle.gic_lr.specs.Entry.{unpacked}
+use Rattle.gic_lr.specs.Entry.{unpacked, state_has_pending, state_has_active}
 use Rattle.gic_prio.specs.Priority.{HasBinaryPoints}
 use Rattle.gic_prio.specs.Signal.{has_active_state}
 use Rattle.gic_prio.specs.Interface.{AtInterface, InterfaceState, interface_after, interface_answer}
@@ -17,7 +15,6 @@ use Rattle.gic_ich.specs.Hcr.{hcr_en}
 use Rattle.gic_ich.specs.Regs.{listed_of}
 use Rattle.gic_ich.specs.Vmcr.{vmcr_of}
 use Rattle.gic_icv.specs.declared.registers.Outcome.{Outcome}
-use Rattle.gic_icv.specs.Entries.{is_active_state}
 use Rattle.gic_icv.specs.Registers.{answered}
 
 -- what there is to see of an interrupt at an interface
@@ -28,18 +25,11 @@ pub record Seen : Type 0 where
   pub pending : Bool
   pub active : Bool
 
--- State is 1 or 3
-abbrev pub has_pending_state : LrState → Bool
-has_pending_state Invalid = false
-has_pending_state Pending = true
-has_pending_state Active = false
-has_pending_state Both = true
-
 -- as a list register has it
 abbrev pub seen_in : ℕ → Seen
 seen_in word =
     let entry = unpacked word in
-    record { id = entry.id; prio = entry.prio; group = entry.group; pending = has_pending_state entry.state; active = is_active_state entry.state }
+    record { id = entry.id; prio = entry.prio; group = entry.group; pending = state_has_pending entry.state; active = state_has_active entry.state }
 
 -- as it stands at the interface
 abbrev pub seen_of : AtInterface → Seen

@@ -7,7 +7,7 @@ use Rattle.gic_base.specs.declared.interrupt.TheConstants.{PRIVATE_COUNT, FIRST_
 use Rattle.gic_base.specs.Interrupt.{intid_of}
 use Rattle.gic_lr.specs.declared.entry.LrState.{LrState}
 use Rattle.gic_lr.specs.declared.entry.LrState.TheVariants.{Invalid, Pending, Active, Both}
-use Rattle.gic_lr.specs.Entry.{unpacked, with_state}
+use Rattle.gic_lr.specs.Entry.{unpacked, with_state, state_has_active}
 use Rattle.gic_prio.specs.declared.cpu.CpuRec.{CpuRec}
 use Rattle.gic_prio.specs.declared.candidate.Candidate.{Candidate}
 use Rattle.gic_prio.specs.Delivery.{is_group_enabled}
@@ -34,16 +34,9 @@ has_candidate found word =
     let entry = unpacked word in
     is_pending word && entry.id == intid_of found.key && entry.prio == found.prio && is_same_group entry.group found.group
 
--- State is 2 or 3
-abbrev pub is_active_state : LrState → Bool
-is_active_state Invalid = false
-is_active_state Pending = false
-is_active_state Active = true
-is_active_state Both = true
-
 -- the list register has the active interrupt of this INTID
 abbrev pub has_active : ℕ → ℕ → Bool
-has_active id word = (unpacked word).id == id && is_active_state (unpacked word).state
+has_active id word = (unpacked word).id == id && state_has_active (unpacked word).state
 
 -- an acknowledged list register: State 2, or 0 for an LPI, which has no active state
 abbrev pub acknowledged_word : ℕ → ℕ

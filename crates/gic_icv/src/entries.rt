@@ -72,7 +72,7 @@ fn has_active(id: u32, word: u64) -> bool
     ensures { result ≡ has_active_id id word }
 {
     let entry = unpack(word);
-    entry.id == id && matches!(entry.state, LrState::Active | LrState::Both)
+    entry.id == id && entry.state.has_active()
 }
 
 /// The number of the first list register that has the active interrupt of an INTID.

@@ -1,7 +1,7 @@
 -- The tables of LPIs in memory (IHI 0069, "LPI Configuration tables" and "LPI Pending tables").
 use Rattle.std.specs.Prelude.{ℕ, ◌+◌, ◌-◌, ◌*◌, ◌/◌, ◌%◌, ◌^◌, ◌==◌, Bool}
 use Rattle.std.specs.Int.{bit_at}
-use Rattle.gic_lpi.specs.declared.tables.TheConstants.{FIRST_LPI}
+use Rattle.gic_base.specs.declared.interrupt.TheConstants.{FIRST_LPI}
 
 -- a configuration byte enables its LPI: bit 0; bit 1 is ignored
 abbrev pub is_enabled : ℕ → Bool

@@ -1,8 +1,8 @@
 ghost use Rattle.std.specs.Prelude.{◌≡◌, ◌≤◌, ◌<◌, ◌%◌};
 ghost use Rattle.gic_lpi.specs.Tables.{is_enabled, priority_of, config_address as config_place, pending_address as pending_place};
 
-/// The first INTID of an LPI.
-pub const FIRST_LPI: u32 = 8192;
+use gic_base::FIRST_LPI;
+
 /// The last INTID that 16 bits of INTID name.
 pub const LAST_LPI: u32 = 65535;
 

@@ -19,6 +19,20 @@ state_number Pending = 1
 state_number Active = 2
 state_number Both = 3
 
+-- pending, be it active too or not: State is 1 or 3
+abbrev pub state_has_pending : LrState → Bool
+state_has_pending Invalid = false
+state_has_pending Pending = true
+state_has_pending Active = false
+state_has_pending Both = true
+
+-- active, be it pending too or not: State is 2 or 3
+abbrev pub state_has_active : LrState → Bool
+state_has_active Invalid = false
+state_has_active Pending = false
+state_has_active Active = true
+state_has_active Both = true
+
 -- the state of this number
 abbrev pub state_at : ℕ → LrState
 state_at state = if state == 0 then Invalid else (if state == 1 then Pending else (if state == 2 then Active else Both))

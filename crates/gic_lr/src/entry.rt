@@ -33,6 +33,24 @@ pub enum LrState {
     Both,
 }
 
+impl LrState {
+    ghost use Rattle.gic_lr.specs.Entry.{state_has_pending, state_has_active};
+
+    /// Pending, be it active too or not.
+    pub fn has_pending(self) -> bool
+        ensures { result ≡ state_has_pending self }
+    {
+        matches!(self, LrState::Pending | LrState::Both)
+    }
+
+    /// Active, be it pending too or not.
+    pub fn has_active(self) -> bool
+        ensures { result ≡ state_has_active self }
+    {
+        matches!(self, LrState::Active | LrState::Both)
+    }
+}
+
 /// What a list register holds (IHI 0069, ICH_LR<n>_EL2).
 #[derive(Clone, Copy, Debug, PartialEq, Eq, Hash)]
 pub struct LrEntry {

@@ -1,30 +1,10 @@
 //! What comes back from list registers.
 ghost use Rattle.std.specs.Prelude.{◌≡◌, ◌<◌};
-ghost use Rattle.vcpu_fold.specs.Fold.{has_causes as causes_are_left, is_active as is_active_there, back_of, back_at, folded};
+ghost use Rattle.vcpu_fold.specs.Fold.{back_of, back_at, folded};
 
 use gic_base::{Back, Held, HeldIrq, MAX_LIST_REGISTERS};
 use gic_ich::IchRegs;
-use gic_lr::{LrState, unpack};
-
-/// Whether the causes that the interrupt brought were not consumed.
-fn has_causes(state: LrState) -> bool
-    ensures { result ≡ causes_are_left state }
-{
-    match state {
-        LrState::Pending | LrState::Both => true,
-        LrState::Invalid | LrState::Active => false,
-    }
-}
-
-/// Whether the interrupt is active.
-fn is_active(state: LrState) -> bool
-    ensures { result ≡ is_active_there state }
-{
-    match state {
-        LrState::Active | LrState::Both => true,
-        LrState::Invalid | LrState::Pending => false,
-    }
-}
+use gic_lr::unpack;
 
 /// What an interrupt brings back from a list register.
 fn brought_back(word: u64, held: &HeldIrq) -> Back
@@ -32,9 +12,9 @@ fn brought_back(word: u64, held: &HeldIrq) -> Back
 {
     let state = unpack(word).state;
     Back {
-        rise: held.rise && has_causes(state),
-        soft: held.soft && has_causes(state),
-        active: is_active(state),
+        rise: held.rise && state.has_pending(),
+        soft: held.soft && state.has_pending(),
+        active: state.has_active(),
     }
 }
 
