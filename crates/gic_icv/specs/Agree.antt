@@ -1,5 +1,5 @@
 -- When the registers of a virtual CPU interface stand for a CPU record and the interrupts at its interface.
-use Rattle.std.specs.Prelude.{ℕ, ◌≡◌, ◌≤◌, ◌==◌, ◌&&◌, ◌||◌, Bool, true, false, nat_lt, not, if◌then◌else◌, Option, List, length, filter, map, find}
+use Rattle.std.specs.Prelude.{ℕ, ◌≡◌, ◌≤◌, ◌==◌, ◌&&◌, ◌||◌, Bool, true, nat_lt, not, if◌then◌else◌, Option, List, length, filter, map, find}
 use Rattle.std.specs.List.{list_all}
 use Rattle.gic_base.specs.declared.icc.IccReg.{IccReg}
 use Rattle.gic_base.specs.declared.interrupt.TheConstants.{FIRST_LPI}

@@ -1,5 +1,5 @@
 -- What the CPU interface finds in list registers, and what it does to one (IHI 0069, "Virtual interrupt handling and prioritization").
-use Rattle.std.specs.Prelude.{ℕ, ◌&&◌, ◌==◌, Bool, true, false, nat_lt, if◌then◌else◌, Option, Some, None, List}
+use Rattle.std.specs.Prelude.{ℕ, ◌&&◌, ◌==◌, Bool, nat_lt, if◌then◌else◌, Option, Some, None, List}
 use Rattle.std.specs.List.{filter_map}
 use Rattle.gic_base.specs.declared.interrupt.Key.{Key}
 use Rattle.gic_base.specs.declared.interrupt.Key.TheVariants.{Private, Spi, Lpi}

@@ -168,7 +168,7 @@ mod tests {
     use super::{Outcome, access};
     use crate::trap::TrapCause;
     use gic_base::{IccReg, MAX_LIST_REGISTERS};
-    use gic_ich::{HCR_GROUP_1_ALONE, HCR_GROUP_1_TRAPPING, IchRegs};
+    use gic_ich::{HCR_EN, HCR_GROUP_1_ALONE, HCR_GROUP_1_TRAPPING, IchRegs};
 
     /// A vCPU that listens to group 1 with the mask 0xF0.
     const VMCR: u32 = 0xf04c_000a;
@@ -192,6 +192,19 @@ mod tests {
         }
     }
 
+    /// The answer of an access whose conditions are met, or else none.
+    fn checked(regs: &mut IchRegs, reg: IccReg, write: Option<u64>) -> Option<Outcome> {
+        let has_direction = match write {
+            None => reg.is_readable(),
+            Some(_) => reg.is_writable(),
+        };
+        let has_registers = 1 <= regs.n && regs.n as usize <= MAX_LIST_REGISTERS;
+        if has_direction && has_registers && regs.hcr / HCR_EN % 2 == 1 {
+            return Some(access(regs, reg, write));
+        }
+        None
+    }
+
     #[test]
     fn pending_and_active_is_delivered_after_its_end(rt: HostRuntime) {
         let rows: [Row; 3] = [
@@ -201,7 +214,7 @@ mod tests {
         ];
         let mut regs = with(0xd0a0_0000_0000_0028, 0, HCR_GROUP_1_ALONE, LEVEL_A0);
         for (reg, write, want) in rows {
-            assert_eq!(rt; access(&mut regs, reg, write), want);
+            assert_eq!(rt; checked(&mut regs, reg, write), Some(want));
         }
         assert_eq!(rt; regs.lr[0], 0x90a0_0000_0000_0028);
         assert_eq!(rt; regs.ap1r, LEVEL_A0);
@@ -222,7 +235,7 @@ mod tests {
             LEVEL_A0,
         );
         for (reg, write, want) in rows {
-            assert_eq!(rt; access(&mut regs, reg, write), want);
+            assert_eq!(rt; checked(&mut regs, reg, write), Some(want));
         }
     }
 
@@ -238,7 +251,7 @@ mod tests {
         ];
         let mut regs = with(0, 0, HCR_GROUP_1_TRAPPING, 0);
         for (reg, write, want) in rows {
-            assert_eq!(rt; access(&mut regs, reg, write), want);
+            assert_eq!(rt; checked(&mut regs, reg, write), Some(want));
         }
     }
 }
