@@ -22,16 +22,17 @@ use Rattle.gic_base.specs.Interrupt.{has_interrupt}
 use Rattle.gic_base.specs.Icc.{name_of, registers, register_named}
 use Rattle.scn_read.specs.declared.scenario.GuestSpec.{GuestSpec}
 use Rattle.scn_read.specs.declared.scenario.Step.{Step}
-use Rattle.scn_read.specs.declared.scenario.Step.TheVariants.{Vcpu, Device}
+use Rattle.scn_read.specs.declared.scenario.Step.TheVariants.{Vcpu, Device, Pe}
+use Rattle.gic_base.specs.declared.operation.PeOp.TheVariants.{Lrs}
 use Rattle.scn_read.specs.declared.scenario.Fault.{Fault}
 use Rattle.scn_read.specs.declared.scenario.Mode.{Mode}
 use Rattle.scn_read.specs.declared.scenario.TheConstants.{MAX_PRIORITY, PRIORITY_STEP, MAX_GROUP, DEFAULT_PRIORITY, DEFAULT_GROUP, DEFAULT_VCPUS, DEFAULT_SPIS, DEFAULT_DEVICES, MAX_STEPS}
 use Rattle.scn_read.specs.Field.{passes, number_at, number_or, flag_or, text_at, pair_at, elements_at}
 use Rattle.scn_read.specs.Fault.{first_code, first_of, ok_unless, both}
 use Rattle.scn_read.specs.Guest.{is_unbuilt_preset, is_preset, is_preset_in_range, is_spi, preset_fault, preset_of, is_unbuilt_guest, is_guest, is_guest_in_range, own_fault, spis_of, guest_fault, shape_of, guest_of}
-use Rattle.scn_read.specs.Step.{unbuilt_fields, is_unbuilt_step, is_message, has_sender, message_fault, message_of, is_access, register_at, is_usable, has_vcpu, access_fault, access_of, step_fault, step_value, step_of}
+use Rattle.scn_read.specs.Step.{is_threads, is_lrs_step, has_pe, lrs_fault, lrs_of, unbuilt_fields, is_unbuilt_step, is_message, has_sender, message_fault, message_of, is_access, register_at, is_usable, has_vcpu, access_fault, access_of, step_fault, step_value, step_of}
 use Rattle.scn_read.specs.Reading.{step_and_rest, steps_of}
-use Rattle.scn_read.specs.Good.{IsGoodPreset, IsGoodGuest, is_built_access, is_good_step, IsGood}
+use Rattle.scn_read.specs.Good.{IsGoodPreset, IsGoodGuest, is_built_access, is_good_step, has_its_pe, IsGood}
 use Rattle.scn_read.proofs.ListLemmas.{ok_parts}
 
 -- the value that passes a test
@@ -230,17 +231,35 @@ good_access_step shape d is_built e =
     good_access shape (pair_at (codes "vcpu") d) (register_at d) (number_at (codes "write") d) (not_false (has_vcpu shape d) there.0)
     (not_false (passes (is_usable (number_at (codes "write") d)) (register_at d)) known.0) (not_sgi1r (text_at (codes "icc") d) named.1)
 
--- by which form it is
-by_form : (shape : GuestShape) (d : Data) (is_message : Bool) → is_unbuilt_step d ≡ false → (if is_message then message_fault shape d else access_fault shape d) ≡ None
-    → is_good_step (shape ∷ []) (if is_message then message_of d else access_of d) ≡ true
-by_form shape d true is_built e = good_message_step shape d e
-by_form shape d false is_built e = good_access_step shape d is_built e
+-- the step of a PE is of one that is there
+its_pe : (mode : Mode) (pe : Option ℕ) → is_threads mode ≡ false → passes (λ pe. nat_lt pe 1) pe ≡ true → has_its_pe mode 1 (Pe (unwrap_or pe 0) Lrs) ≡ true
+its_pe mode None scheduled there = absurd cc
+its_pe mode (Some pe) scheduled there = rw (scheduled, there) refl
 
-good_step : (shape : GuestShape) (d : Data) (step : Step) → step_of shape d ≡ Ok step → is_good_step (shape ∷ []) step ≡ true
-good_step shape d step e =
-    let parts = ok_parts (step_fault shape d) (step_value d) step (sym e) in
+good_lrs_step : (mode : Mode) (d : Data) → lrs_fault mode d ≡ None → has_its_pe mode 1 (lrs_of d) ≡ true
+good_lrs_step mode d e =
+    let formed = unmet (not (is_lrs_step d)) 1 _ e in
+    let scheduled = unmet (is_threads mode) 7 _ formed.1 in
+    let there = unmet (not (has_pe d)) 4 _ scheduled.1 in
+    its_pe mode (number_at (codes "pe") d) scheduled.0 (not_false (has_pe d) there.0)
+
+-- a step of a form that is built, and of a PE that is there if it is one of a PE
+abbrev is_fine : Mode → GuestShape → Step → Type 0
+is_fine mode shape step = (is_good_step (shape ∷ []) step ≡ true) × (has_its_pe mode 1 step ≡ true)
+
+-- by which form it is
+by_form : (mode : Mode) (shape : GuestShape) (d : Data) (is_pe is_message : Bool) → is_unbuilt_step d ≡ false
+    → (if is_pe then lrs_fault mode d else (if is_message then message_fault shape d else access_fault shape d)) ≡ None
+    → is_fine mode shape (if is_pe then lrs_of d else (if is_message then message_of d else access_of d))
+by_form mode shape d true is_message is_built e = (refl, good_lrs_step mode d e)
+by_form mode shape d false true is_built e = (good_message_step shape d e, refl)
+by_form mode shape d false false is_built e = (good_access_step shape d is_built e, refl)
+
+good_step : (mode : Mode) (shape : GuestShape) (d : Data) (step : Step) → step_of mode shape d ≡ Ok step → is_fine mode shape step
+good_step mode shape d step e =
+    let parts = ok_parts (step_fault mode shape d) (step_value d) step (sym e) in
     let built = unmet (is_unbuilt_step d) 10 _ parts.0 in
-    rw parts.1 (by_form shape d (is_some (get (codes "message") d)) built.0 built.1)
+    rw parts.1 (by_form mode shape d (is_some (get (codes "pe") d)) (is_some (get (codes "message") d)) built.0 built.1)
 
 -- the first of the steps and the others, where there is no fault
 parts : (number : ℕ) (first : Result Step ℕ) (rest : Result (List Step) Fault) (read : List Step) → step_and_rest number first rest ≡ Ok read
@@ -255,36 +274,35 @@ steps_of_none = Ok []
 read_none : (read : List Step) → steps_of_none ≡ Ok read → read ≡ []
 read_none read e = cc
 
--- steps without a fault, of a guest that is there
-good_steps : (shape : GuestShape) (number : ℕ) (ds : List Data) (read : List Step) → steps_of shape number ds ≡ Ok read → All (λ step. IsTrue (is_good_step (shape ∷ []) step)) read
-good_steps shape number [] read e = All-same (λ step. IsTrue (is_good_step (shape ∷ []) step)) read [] (read_none read e) (All-nil (λ step. IsTrue (is_good_step (shape ∷ []) step)))
-good_steps shape number (d ∷ ds) read e =
-    let p = parts number (step_of shape d) (steps_of shape (number + 1) ds) read e in
-    All-same (λ step. IsTrue (is_good_step (shape ∷ []) step)) read (p.0 ∷ p.1) p.4
-    (All-cons (λ step. IsTrue (is_good_step (shape ∷ []) step)) p.0 p.1 (good_step shape d p.0 p.2) (good_steps shape (number + 1) ds p.1 p.3))
+-- what holds of each step without a fault holds of all
+good_steps : (P : Step → Type 0) (mode : Mode) (shape : GuestShape) → ((step : Step) → is_fine mode shape step → P step) → (number : ℕ) (ds : List Data) (read : List Step) → steps_of mode shape number ds ≡ Ok read → All P read
+good_steps P mode shape each number [] read e = All-same P read [] (read_none read e) (All-nil P)
+good_steps P mode shape each number (d ∷ ds) read e =
+    let p = parts number (step_of mode shape d) (steps_of mode shape (number + 1) ds) read e in
+    All-same P read (p.0 ∷ p.1) p.4 (All-cons P p.0 p.1 (each p.0 (good_step mode shape d p.0 p.2)) (good_steps P mode shape each (number + 1) ds p.1 p.3))
 
-length-steps_of : (shape : GuestShape) (number : ℕ) (ds : List Data) (read : List Step) → steps_of shape number ds ≡ Ok read → length read ≡ length ds
-length-steps_of shape number [] read e = ap length (read_none read e)
-length-steps_of shape number (d ∷ ds) read e =
-    let p = parts number (step_of shape d) (steps_of shape (number + 1) ds) read e in
-    ap length p.4 ∙ ap suc (length-steps_of shape (number + 1) ds p.1 p.3)
+length-steps_of : (mode : Mode) (shape : GuestShape) (number : ℕ) (ds : List Data) (read : List Step) → steps_of mode shape number ds ≡ Ok read → length read ≡ length ds
+length-steps_of mode shape number [] read e = ap length (read_none read e)
+length-steps_of mode shape number (d ∷ ds) read e =
+    let p = parts number (step_of mode shape d) (steps_of mode shape (number + 1) ds) read e in
+    ap length p.4 ∙ ap suc (length-steps_of mode shape (number + 1) ds p.1 p.3)
 
 -- a scenario of one good guest and of steps without a fault
 pub good_scenario : (mode : Mode) (lrs : ℕ) (guest : GuestSpec) (guests : List GuestSpec) (ds : List Data) (steps : List Step) → 1 ≤ lrs → lrs ≤ 16
-    → guests ≡ guest ∷ [] → IsGoodGuest guest → length ds ≤ MAX_STEPS → steps_of guest.shape 1 ds ≡ Ok steps
+    → guests ≡ guest ∷ [] → IsGoodGuest guest → length ds ≤ MAX_STEPS → steps_of mode guest.shape 1 ds ≡ Ok steps
     → IsGood mode (record { pes = 1; lrs = lrs; guests = guests; steps = steps })
 good_scenario mode lrs guest guests ds steps some within are good few read =
     rw are
     record {
-      some_pe = lit≤ tt;
-      pes = lit≤ tt;
+      one_pe = refl;
       some_list_register = some;
       list_registers = within;
       some_guest = lit≤ tt;
       guests = lit≤ tt;
       each_guest = All-cons IsGoodGuest guest [] good (All-nil IsGoodGuest);
-      steps = rw (length-steps_of guest.shape 1 ds steps read) few;
-      each_step = good_steps guest.shape 1 ds steps read;
+      steps = rw (length-steps_of mode guest.shape 1 ds steps read) few;
+      each_step = good_steps (λ step. IsTrue (is_good_step (guest.shape ∷ []) step)) mode guest.shape (λ step fine. fine.0) 1 ds steps read;
+      each_pe = good_steps (λ step. IsTrue (has_its_pe mode 1 step)) mode guest.shape (λ step fine. fine.1) 1 ds steps read;
     }
 
 -- ---- what is read of the parts of a scenario

@@ -4,6 +4,7 @@ use Rattle.serde_json.specs.Data.{Data}
 use Rattle.gic_base.specs.declared.shape.GuestShape.{GuestShape}
 use Rattle.scn_read.specs.declared.scenario.Step.{Step}
 use Rattle.scn_read.specs.declared.scenario.Fault.{Fault}
+use Rattle.scn_read.specs.declared.scenario.Mode.{Mode}
 use Rattle.scn_read.specs.Step.{step_of}
 use Rattle.scn_read.specs.Reading.{step_and_rest, steps_of}
 use Rattle.scn_read.proofs.ListLemmas.{drop_item}
@@ -18,10 +19,10 @@ all_steps-step done number step (Ok rest) = rw append_assoc
 all_steps-step done number step (Err fault) = refl
 
 -- of values vs, from the one at i on, which is v
-module _ {V : Type 0} (data_of : V → Data) (shape : GuestShape) (vs : List V) (done : List Step) (i : ℕ) (v : V) (within : i < length vs) (is : v ≡ get_or vs i v)
-    (whole : Result (List Step) Fault) (so_far : all_steps done (steps_of shape (i + 1) (map data_of (drop i vs))) ≡ whole) where
+module _ {V : Type 0} (data_of : V → Data) (mode : Mode) (shape : GuestShape) (vs : List V) (done : List Step) (i : ℕ) (v : V) (within : i < length vs) (is : v ≡ get_or vs i v)
+    (whole : Result (List Step) Fault) (so_far : all_steps done (steps_of mode shape (i + 1) (map data_of (drop i vs))) ≡ whole) where
   -- it is a step
-  pub steps_more : (step : Step) → step_of shape (data_of v) ≡ Ok step → all_steps (done ++ step ∷ []) (steps_of shape (i + 1 + 1) (map data_of (drop (i + 1) vs))) ≡ whole
+  pub steps_more : (step : Step) → step_of mode shape (data_of v) ≡ Ok step → all_steps (done ++ step ∷ []) (steps_of mode shape (i + 1 + 1) (map data_of (drop (i + 1) vs))) ≡ whole
   steps_more step e =
       let at_it = rw (drop_item vs i v within is, e) at so_far in
-      rw (← all_steps-step done (i + 1) step (steps_of shape (i + 1 + 1) (map data_of (drop (i + 1) vs)))) at_it
+      rw (← all_steps-step done (i + 1) step (steps_of mode shape (i + 1 + 1) (map data_of (drop (i + 1) vs)))) at_it

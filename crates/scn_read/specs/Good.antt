@@ -1,5 +1,5 @@
 -- What holds of each scenario that has no fault (own choice).
-use Rattle.std.specs.Prelude.{◌≡◌, ℕ, ◌%◌, ◌<◌, ◌≤◌, ◌&&◌, List, length, All, Bool, false, IsTrue, nat_lt, if◌then◌else◌, Option, Some, None, map, unwrap_or, slice_get}
+use Rattle.std.specs.Prelude.{◌≡◌, ℕ, ◌%◌, ◌<◌, ◌≤◌, ◌&&◌, List, length, All, Bool, true, false, not, IsTrue, nat_lt, if◌then◌else◌, Option, Some, None, map, unwrap_or, slice_get}
 use Rattle.gic_base.specs.declared.shape.GuestShape.{GuestShape}
 use Rattle.gic_base.specs.declared.interrupt.Key.{Key}
 use Rattle.gic_base.specs.declared.interrupt.Key.TheVariants.{Private, Spi}
@@ -19,7 +19,11 @@ use Rattle.scn_read.specs.declared.scenario.Preset.{Preset}
 use Rattle.scn_read.specs.declared.scenario.Step.{Step}
 use Rattle.scn_read.specs.declared.scenario.Step.TheVariants.{Vcpu, Device, Pe}
 use Rattle.scn_read.specs.declared.scenario.Mode.{Mode}
-use Rattle.scn_read.specs.declared.scenario.TheConstants.{MAX_PES, MAX_GUESTS, MAX_STEPS, MAX_LIST_REGISTERS}
+use Rattle.scn_read.specs.declared.scenario.TheConstants.{DEFAULT_PES, MAX_GUESTS, MAX_STEPS}
+use Rattle.gic_base.specs.declared.held.TheConstants.{MAX_LIST_REGISTERS}
+use Rattle.gic_base.specs.declared.operation.PeOp.{PeOp}
+use Rattle.gic_base.specs.declared.operation.PeOp.TheVariants.{Enter, Exit, Lrs}
+use Rattle.scn_read.specs.Step.{is_threads}
 use Rattle.scn_read.specs.Field.{passes}
 
 -- the interrupt that a preset opens
@@ -56,20 +60,31 @@ is_built_event shape (Message spi) = has_interrupt shape (Spi spi)
 is_built_event shape (Wire key up) = false
 is_built_event shape (Msi device event) = false
 
+-- what is done to a PE is of a form that is built: its list registers are shown
+abbrev pub is_built_pe_op : PeOp → Bool
+is_built_pe_op (Enter guest vcpu) = false
+is_built_pe_op Exit = false
+is_built_pe_op Lrs = true
+
+-- a step of a PE is of one that is there, and not run on threads
+abbrev pub has_its_pe : Mode → ℕ → Step → Bool
+has_its_pe mode pes (Vcpu guest vcpu op) = true
+has_its_pe mode pes (Device guest device op) = true
+has_its_pe mode pes (Pe pe op) = not (is_threads mode) && nat_lt pe pes
+
 -- a step is of a form that is built, by an actor that is there
 abbrev pub is_good_step : List GuestShape → Step → Bool
 is_good_step shapes (Vcpu guest vcpu op) = passes (λ shape. nat_lt vcpu shape.vcpus) (slice_get shapes guest) && is_built_op op
 is_good_step shapes (Device guest device op) = passes (λ shape. nat_lt device shape.devices && is_built_event shape op) (slice_get shapes guest)
-is_good_step shapes (Pe pe op) = false
+is_good_step shapes (Pe pe op) = is_built_pe_op op
 
 -- what each guest has of each kind
 abbrev pub shapes_of : List GuestSpec → List GuestShape
 shapes_of guests = map (λ guest. guest.shape) guests
 
--- the scenario has no fault in this mode; the forms that are built mean the same in both
+-- the scenario has no fault in this mode
 pub record IsGood (mode : Mode) (scenario : Scenario) : Type 0 where
-  pub some_pe : 1 ≤ scenario.pes
-  pub pes : scenario.pes ≤ MAX_PES
+  pub one_pe : scenario.pes ≡ DEFAULT_PES
   pub some_list_register : 1 ≤ scenario.lrs
   pub list_registers : scenario.lrs ≤ MAX_LIST_REGISTERS
   pub some_guest : 1 ≤ length scenario.guests
@@ -77,3 +92,4 @@ pub record IsGood (mode : Mode) (scenario : Scenario) : Type 0 where
   pub each_guest : All IsGoodGuest scenario.guests
   pub steps : length scenario.steps ≤ MAX_STEPS
   pub each_step : All (λ step. IsTrue (is_good_step (shapes_of scenario.guests) step)) scenario.steps
+  pub each_pe : All (λ step. IsTrue (has_its_pe mode scenario.pes step)) scenario.steps

@@ -3,13 +3,14 @@ use Rattle.std.specs.Prelude.{◌≡◌, ℕ, ◌+◌, ◌≤◌, ◌&&◌, ◌|
 use Rattle.std.specs.List.{slice_index_or}
 use Rattle.serde_json.specs.Data.{Data, null}
 use Rattle.gic_base.specs.declared.shape.GuestShape.{GuestShape}
+use Rattle.gic_base.specs.declared.held.TheConstants.{MAX_LIST_REGISTERS}
 use Rattle.scn_read.specs.declared.scenario.Scenario.{Scenario}
 use Rattle.scn_read.specs.declared.scenario.Step.{Step}
 use Rattle.scn_read.specs.declared.scenario.Mode.{Mode}
 use Rattle.scn_read.specs.declared.scenario.Fault.{Fault}
 use Rattle.scn_read.specs.declared.scenario.ReadRefusal.{ReadRefusal}
 use Rattle.scn_read.specs.declared.scenario.ReadRefusal.TheVariants.{Bad, NoMemory}
-use Rattle.scn_read.specs.declared.scenario.TheConstants.{MAX_STEPS, MAX_LIST_REGISTERS, DEFAULT_PES, DEFAULT_LIST_REGISTERS, SHAPE, LIMIT, NOT_BUILT}
+use Rattle.scn_read.specs.declared.scenario.TheConstants.{MAX_STEPS, DEFAULT_PES, DEFAULT_LIST_REGISTERS, SHAPE, LIMIT, NOT_BUILT}
 use Rattle.scn_read.specs.Field.{passes, has_only, number_or, list_at, elements_at}
 use Rattle.scn_read.specs.Fault.{first_code, first_of, first_met}
 use Rattle.scn_read.specs.Guest.{guest_fault, guest_of, shape_of}
@@ -61,9 +62,9 @@ step_and_rest number (Ok step) (Err fault) = Err fault
 step_and_rest number (Ok step) (Ok steps) = Ok (step ∷ steps)
 
 -- the steps, the first of which has this number, or the first fault of them
-abbrev pub steps_of : GuestShape → ℕ → List Data → Result (List Step) Fault
-steps_of shape number [] = Ok []
-steps_of shape number (d ∷ ds) = step_and_rest number (step_of shape d) (steps_of shape (number + 1) ds)
+abbrev pub steps_of : Mode → GuestShape → ℕ → List Data → Result (List Step) Fault
+steps_of mode shape number [] = Ok []
+steps_of mode shape number (d ∷ ds) = step_and_rest number (step_of mode shape d) (steps_of mode shape (number + 1) ds)
 
 -- the scenario around its steps
 abbrev pub scenario_with : Data → List Step → Scenario
@@ -81,14 +82,14 @@ scenario_or_fault d (Ok steps) = Ok (scenario_with d steps)
 scenario_or_fault d (Err fault) = Err fault
 
 -- the scenario where nothing outside of its steps has a fault
-abbrev pub reading_inside : Option ℕ → Data → Result Scenario Fault
-reading_inside (Some code) d = Err (record { code = code; step = 0 })
-reading_inside None d = scenario_or_fault d (steps_of (first_shape d) 1 (elements_at (codes "steps") d))
+abbrev pub reading_inside : Mode → Option ℕ → Data → Result Scenario Fault
+reading_inside mode (Some code) d = Err (record { code = code; step = 0 })
+reading_inside mode None d = scenario_or_fault d (steps_of mode (first_shape d) 1 (elements_at (codes "steps") d))
 
 -- the scenario that a value is, or its fault: the first by step, where 0 is the number of all outside of the steps, and then
--- by rank. The forms that are built mean the same in both modes.
+-- by rank.
 abbrev pub reading : Mode → Data → Result Scenario Fault
-reading mode d = reading_inside (outside_fault d) d
+reading mode d = reading_inside mode (outside_fault d) d
 
 -- the refusal is the fault of a reading, or for memory
 abbrev pub Refuses : {X : Type 0} → Result X Fault → ReadRefusal → Type 0

@@ -1,5 +1,5 @@
 -- The steps of a scenario: their faults, and what they say where they have none (own choice).
-use Rattle.std.specs.Prelude.{ℕ, ◌&&◌, ◌||◌, ◌==◌, not, List, [], ◌∷◌, nat_lt, if◌then◌else◌, Bool, Option, Some, None, is_some, unwrap_or, option_and_then, Result, codes}
+use Rattle.std.specs.Prelude.{ℕ, ◌&&◌, ◌||◌, ◌==◌, not, List, [], ◌∷◌, nat_lt, if◌then◌else◌, Bool, true, false, Option, Some, None, is_some, unwrap_or, option_and_then, Result, codes}
 use Rattle.std.specs.List.{list_any}
 use Rattle.std.specs.Str.{bytes_eq}
 use Rattle.serde_json.specs.Data.{Data}
@@ -13,16 +13,19 @@ use Rattle.gic_base.specs.declared.operation.DeviceOp.TheVariants.{Message}
 use Rattle.gic_base.specs.Interrupt.{has_interrupt}
 use Rattle.gic_base.specs.Icc.{name_of, register_named, is_readable, is_writable}
 use Rattle.scn_read.specs.declared.scenario.Step.{Step}
-use Rattle.scn_read.specs.declared.scenario.Step.TheVariants.{Vcpu, Device}
-use Rattle.scn_read.specs.declared.scenario.TheConstants.{SHAPE, UNKNOWN_REGISTER, UNKNOWN_ACTOR, NOT_BUILT}
-use Rattle.scn_read.specs.Field.{passes, has_only, number_at, number_or, text_at, pair_at}
+use Rattle.scn_read.specs.declared.scenario.Step.TheVariants.{Vcpu, Device, Pe}
+use Rattle.scn_read.specs.declared.scenario.Mode.{Mode}
+use Rattle.scn_read.specs.declared.scenario.Mode.TheVariants.{Schedule, Threads}
+use Rattle.gic_base.specs.declared.operation.PeOp.TheVariants.{Lrs}
+use Rattle.scn_read.specs.declared.scenario.TheConstants.{DEFAULT_PES, SHAPE, UNKNOWN_REGISTER, UNKNOWN_ACTOR, PE_STEP, NOT_BUILT}
+use Rattle.scn_read.specs.Field.{passes, has_only, number_at, number_or, flag_or, text_at, pair_at}
 use Rattle.scn_read.specs.Fault.{first_met, ok_unless}
 
 -- the fields of steps that are not built
 abbrev pub unbuilt_fields : List (List ℕ)
-unbuilt_fields = codes "gicd" ∷ codes "gicr" ∷ codes "gits" ∷ codes "ram" ∷ codes "wire" ∷ codes "msi" ∷ codes "pe" ∷ []
+unbuilt_fields = codes "gicd" ∷ codes "gicr" ∷ codes "gits" ∷ codes "ram" ∷ codes "wire" ∷ codes "msi" ∷ codes "enter" ∷ codes "exit" ∷ []
 
--- not built: a step with a field of another form than messages and accesses have, and an access of SGI1R
+-- not built: a step with a field of another form than messages, accesses and the showing of list registers have, and an access of SGI1R
 abbrev pub is_unbuilt_step : Data → Bool
 is_unbuilt_step d = list_any (λ name. is_some (get name d)) unbuilt_fields || passes (bytes_eq (name_of Sgi1r)) (text_at (codes "icc") d)
 
@@ -82,15 +85,39 @@ access_of d =
     let place = unwrap_or (pair_at (codes "vcpu") d) (0, 0) in
     Vcpu place.0 place.1 (Icc (unwrap_or (register_at d) Iar0) (number_at (codes "write") d))
 
--- the fault of a step, which counts as a message where it has that field, and else as an access
-abbrev pub step_fault : GuestShape → Data → Option ℕ
-step_fault shape d =
-    if is_unbuilt_step d then Some NOT_BUILT else (if is_some (get (codes "message") d) then message_fault shape d else access_fault shape d)
+-- a step that shows the list registers of a PE has its fields, each of its kind, and says true
+abbrev pub is_lrs_step : Data → Bool
+is_lrs_step d =
+    has_only (codes "pe" ∷ codes "lrs" ∷ []) d && is_some (number_at (codes "pe") d) && passes (λ shown. shown) (flag_or (codes "lrs") false d)
+
+-- the scenario is run on threads
+abbrev pub is_threads : Mode → Bool
+is_threads Schedule = false
+is_threads Threads = true
+
+-- its PE is there: PE 0, the only one
+abbrev pub has_pe : Data → Bool
+has_pe d = passes (λ pe. nat_lt pe DEFAULT_PES) (number_at (codes "pe") d)
+
+-- the fault of a step that shows list registers
+abbrev pub lrs_fault : Mode → Data → Option ℕ
+lrs_fault mode d = first_met ((not (is_lrs_step d), SHAPE) ∷ (is_threads mode, PE_STEP) ∷ (not (has_pe d), UNKNOWN_ACTOR) ∷ [])
+
+-- what such a step without a fault says
+abbrev pub lrs_of : Data → Step
+lrs_of d = Pe (unwrap_or (number_at (codes "pe") d) 0) Lrs
+
+-- the fault of a step, which counts as one of a PE where it has that field, as a message where it has that one, and else as an access
+abbrev pub step_fault : Mode → GuestShape → Data → Option ℕ
+step_fault mode shape d =
+    if is_unbuilt_step d
+    then Some NOT_BUILT
+    else (if is_some (get (codes "pe") d) then lrs_fault mode d else (if is_some (get (codes "message") d) then message_fault shape d else access_fault shape d))
 
 -- what a step without a fault says
 abbrev pub step_value : Data → Step
-step_value d = if is_some (get (codes "message") d) then message_of d else access_of d
+step_value d = if is_some (get (codes "pe") d) then lrs_of d else (if is_some (get (codes "message") d) then message_of d else access_of d)
 
 -- what a step says, or the code of its fault
-abbrev pub step_of : GuestShape → Data → Result Step ℕ
-step_of shape d = ok_unless (step_fault shape d) (step_value d)
+abbrev pub step_of : Mode → GuestShape → Data → Result Step ℕ
+step_of mode shape d = ok_unless (step_fault mode shape d) (step_value d)

@@ -9,11 +9,11 @@ use crate::fault::both;
 use crate::field::{elements_at, has_only, list_at, number_or};
 use crate::guest::guests;
 use crate::scenario::{
-    DEFAULT_LIST_REGISTERS, DEFAULT_PES, Fault, LIMIT, MAX_LIST_REGISTERS, MAX_STEPS, Mode,
-    NOT_BUILT, ReadRefusal, SHAPE, Scenario, Steps,
+    DEFAULT_LIST_REGISTERS, DEFAULT_PES, Fault, LIMIT, MAX_STEPS, Mode, NOT_BUILT, ReadRefusal,
+    SHAPE, Scenario, Steps,
 };
 use crate::step::step;
-use gic_base::GuestShape;
+use gic_base::{GuestShape, MAX_LIST_REGISTERS};
 use serde_json::Value;
 use std::alloc::Global;
 
@@ -63,7 +63,7 @@ fn opening(value: &Value) -> Result<Parts<'_>, u8>
     let lrs = number_or(value, LRS, u64::from(DEFAULT_LIST_REGISTERS)).ok_or(SHAPE)?;
     let guests = list_at(value, GUESTS).ok_or(SHAPE)?;
     let steps = list_at(value, STEPS).ok_or(SHAPE)?;
-    if pes < 1 || lrs < 1 || lrs > u64::from(MAX_LIST_REGISTERS) {
+    if pes < 1 || lrs < 1 || lrs > MAX_LIST_REGISTERS as u64 {
         return Err(LIMIT);
     }
     if guests.is_empty() || steps.len() > MAX_STEPS {
@@ -76,15 +76,20 @@ fn opening(value: &Value) -> Result<Parts<'_>, u8>
 }
 
 /// The steps, or the first fault of them.
-fn steps(alloc: Global, values: &[Value], shape: &GuestShape) -> Result<Steps, ReadRefusal>
+fn steps(
+    alloc: Global,
+    values: &[Value],
+    mode: Mode,
+    shape: &GuestShape,
+) -> Result<Steps, ReadRefusal>
     requires shape { IsShape shape.now }
     requires few { length values.now ≤ MAX_STEPS }
-    ensures ok { IfOk result (λ steps. steps_of shape.now FIRST_STEP (map view values.now) ≡ Ok steps) }
-    ensures bad { IfErr result (Refuses (steps_of shape.now FIRST_STEP (map view values.now))) }
+    ensures ok { IfOk result (λ steps. steps_of mode shape.now FIRST_STEP (map view values.now) ≡ Ok steps) }
+    ensures bad { IfErr result (Refuses (steps_of mode shape.now FIRST_STEP (map view values.now))) }
 {
     let mut steps = Steps::new(alloc);
     for (index, value) in values.iter().enumerate() {
-        match step(value, shape) {
+        match step(value, mode, shape) {
             Ok(step) => steps.push(step)?,
             Err(code) => {
                 return Err(ReadRefusal::Bad(Fault {
@@ -120,7 +125,7 @@ pub fn read(alloc: Global, value: &Value, mode: Mode) -> Result<Scenario, ReadRe
         }
     };
     let shape = guests.as_slice()[0].shape;
-    let steps = steps(alloc, opening.steps, &shape)?;
+    let steps = steps(alloc, opening.steps, mode, &shape)?;
     Ok(Scenario {
         pes: DEFAULT_PES,
         lrs: opening.lrs,

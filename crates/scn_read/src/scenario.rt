@@ -13,8 +13,6 @@ pub const MAX_PES: u32 = 8;
 pub const MAX_GUESTS: usize = 4;
 /// The most steps of a scenario.
 pub const MAX_STEPS: usize = 100_000;
-/// The most list registers of a PE, which has at least one.
-pub const MAX_LIST_REGISTERS: u32 = 16;
 /// The list registers of a PE where the scenario does not say.
 pub const DEFAULT_LIST_REGISTERS: u32 = 4;
 /// The PEs where the scenario does not say.
@@ -43,6 +41,8 @@ pub const LIMIT: u8 = 2;
 pub const UNKNOWN_REGISTER: u8 = 3;
 /// The fault of a guest, vCPU, device or interrupt that is not there.
 pub const UNKNOWN_ACTOR: u8 = 4;
+/// The fault of a step of a PE where a scenario is run on threads.
+pub const PE_STEP: u8 = 7;
 /// The fault of a form that is not built yet.
 pub const NOT_BUILT: u8 = 10;
 

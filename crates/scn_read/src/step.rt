@@ -3,12 +3,14 @@ ghost use Rattle.std.specs.Prelude.{◌≡◌};
 ghost use Rattle.serde_json.specs.View.{view};
 ghost use Rattle.gic_base.specs.Shape.{IsShape};
 ghost use Rattle.scn_read.specs.Fault.{ok_unless};
-ghost use Rattle.scn_read.specs.Step.{is_unbuilt_step as is_unbuilt_step_in, message_fault, message_of, is_usable as is_usable_for, access_fault, access_of, step_of};
+ghost use Rattle.scn_read.specs.Step.{is_unbuilt_step as is_unbuilt_step_in, message_fault, message_of, is_usable as is_usable_for, access_fault, access_of, lrs_fault, lrs_of, step_of};
 
-use crate::field::{has_any, has_only, number_at, pair_at, text_at};
+use crate::field::{flag_or, has_any, has_only, number_at, pair_at, text_at};
 use crate::guest::is_spi;
-use crate::scenario::{NOT_BUILT, SHAPE, Step, UNKNOWN_ACTOR, UNKNOWN_REGISTER};
-use gic_base::{DeviceOp, GuestOp, GuestShape, IccReg};
+use crate::scenario::{
+    DEFAULT_PES, Mode, NOT_BUILT, PE_STEP, SHAPE, Step, UNKNOWN_ACTOR, UNKNOWN_REGISTER,
+};
+use gic_base::{DeviceOp, GuestOp, GuestShape, IccReg, PeOp};
 use serde_json::Value;
 
 const DEV: &str = "dev";
@@ -26,10 +28,18 @@ const WRITE: &str = "write";
 const ACCESS_FIELDS: [&str; 3] = [VCPU, ICC, WRITE];
 
 /// The fields of steps that are not built.
-const UNBUILT_FIELDS: [&str; 7] = ["gicd", "gicr", "gits", "ram", "wire", "msi", "pe"];
+const UNBUILT_FIELDS: [&str; 8] = [
+    "gicd", "gicr", "gits", "ram", "wire", "msi", "enter", "exit",
+];
 
-/// Whether a step is of a form that is not built: with a field of another form than messages and accesses
-/// have, or an access of SGI1R.
+const PE: &str = "pe";
+
+const LRS: &str = "lrs";
+/// The fields of a step that shows the list registers of a PE.
+const LRS_FIELDS: [&str; 2] = [PE, LRS];
+
+/// Whether a step is of a form that is not built: with a field of another form than messages, accesses and
+/// the showing of list registers have, or an access of SGI1R.
 fn is_unbuilt_step(value: &Value) -> bool
     ensures { result ≡ is_unbuilt_step_in (view value.now) }
 {
@@ -94,13 +104,39 @@ fn access(value: &Value, shape: &GuestShape) -> Result<Step, u8>
     })
 }
 
+/// A step that shows the list registers of a PE, or its fault. PE 0 is the only one.
+fn list_registers(value: &Value, mode: Mode) -> Result<Step, u8>
+    ensures { let d = view value.now in result ≡ ok_unless (lrs_fault mode d) (lrs_of d) }
+{
+    if !has_only(value, &LRS_FIELDS) {
+        return Err(SHAPE);
+    }
+    let pe = number_at(value, PE).ok_or(SHAPE)?;
+    if flag_or(value, LRS, false) != Some(true) {
+        return Err(SHAPE);
+    }
+    if mode == Mode::Threads {
+        return Err(PE_STEP);
+    }
+    if pe >= u64::from(DEFAULT_PES) {
+        return Err(UNKNOWN_ACTOR);
+    }
+    Ok(Step::Pe {
+        pe: pe as u32,
+        op: PeOp::Lrs,
+    })
+}
+
 /// What a step says, or the code of its fault.
-pub(crate) fn step(value: &Value, shape: &GuestShape) -> Result<Step, u8>
+pub(crate) fn step(value: &Value, mode: Mode, shape: &GuestShape) -> Result<Step, u8>
     requires { IsShape shape.now }
-    ensures { result ≡ step_of shape.now (view value.now) }
+    ensures { result ≡ step_of mode shape.now (view value.now) }
 {
     if is_unbuilt_step(value) {
         return Err(NOT_BUILT);
+    }
+    if value.get(PE).is_some() {
+        return list_registers(value, mode);
     }
     if value.get(MESSAGE).is_some() {
         message(value, shape)

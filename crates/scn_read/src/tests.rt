@@ -143,7 +143,7 @@ const PRESETS: [(&str, Want); 26] = [
     (r#"{"to":8,"low":1}"#, Some((10, 0))),
 ];
 /// Steps, each for a guest by default.
-const STEPS: [(&str, Want); 44] = [
+const STEPS: [(&str, Want); 55] = [
     (
         r#"{"dev":[0,0],"message":32},{"dev":[0,0],"message":63}"#,
         None,
@@ -195,7 +195,18 @@ const STEPS: [(&str, Want); 44] = [
     (r#"{"dev":[0,0],"wire":40,"up":true}"#, Some((10, 1))),
     (r#"{"dev":[9],"wire":"40"}"#, Some((10, 1))),
     (r#"{"vcpu":[0,0],"gicd":0}"#, Some((10, 1))),
-    (r#"{"pe":0,"lrs":true}"#, Some((10, 1))),
+    (r#"{"pe":0,"lrs":true}"#, None),
+    (r#"{"pe":"0x0","lrs":true}"#, None),
+    (r#"{"pe":0}"#, Some((1, 1))),
+    (r#"{"pe":0,"lrs":false}"#, Some((1, 1))),
+    (r#"{"pe":0,"lrs":1}"#, Some((1, 1))),
+    (r#"{"pe":0,"lrs":true,"exit":true}"#, Some((10, 1))),
+    (r#"{"pe":[0],"lrs":true}"#, Some((1, 1))),
+    (r#"{"pe":0,"lrs":true,"icc":"IAR1"}"#, Some((1, 1))),
+    (r#"{"lrs":true}"#, Some((1, 1))),
+    (r#"{"pe":1,"lrs":true}"#, Some((4, 1))),
+    (r#"{"pe":18446744073709551615,"lrs":true}"#, Some((4, 1))),
+    (r#"{"pe":0,"enter":[0,0]}"#, Some((10, 1))),
     (r#"{"vcpu":[0,0],"icc":"SGI1R","write":1}"#, Some((10, 1))),
     (r#"{"vcpu":[0,9],"icc":"SGI1R"}"#, Some((10, 1))),
     // The first step with a fault, whatever follows.
@@ -231,9 +242,9 @@ const REGISTERS: [(&str, bool, bool); 17] = [
 ];
 
 /// The fault of a text, or none where it is a scenario.
-fn fault_of(alloc: Global, text: &str) -> Result<Option<Fault>, Fail> {
+fn fault_of(alloc: Global, text: &str, mode: Mode) -> Result<Option<Fault>, Fail> {
     let value = Value::from_str(alloc, text)?;
-    match read(alloc, &value, Mode::Schedule) {
+    match read(alloc, &value, mode) {
         Ok(_) => Ok(None),
         Err(ReadRefusal::Bad(fault)) => Ok(Some(fault)),
         Err(refusal) => Err(refusal)?,
@@ -251,7 +262,7 @@ fn expect_faults(
     for (middle, want) in table {
         let text = format!(in alloc; "{before}{middle}{after}")?;
         let want = want.map(|(code, step)| Fault { code, step });
-        assert_eq!(rt; fault_of(alloc, &text)?, want, "at {text}");
+        assert_eq!(rt; fault_of(alloc, &text, Mode::Schedule)?, want, "at {text}");
     }
     Ok(())
 }
@@ -342,6 +353,17 @@ fn gives_codes_of_registers(rt: HostRuntime) -> Result<(), Fail> {
     Ok(())
 }
 
+/// On threads the steps of PEs are faults, whatever PE they name.
+#[test]
+fn gives_code_of_pe_step(rt: HostRuntime) -> Result<(), Fail> {
+    let text = r#"{"guests":[{}],"steps":[{"pe":9,"lrs":true}]}"#;
+    for (mode, code) in [(Mode::Schedule, 4), (Mode::Threads, 7)] {
+        let want = Some(Fault { code, step: 1 });
+        assert_eq!(rt; fault_of(rt.alloc(), text, mode)?, want);
+    }
+    Ok(())
+}
+
 /// One more step than there may be.
 #[test]
 fn counts_steps(rt: HostRuntime) -> Result<(), Fail> {
@@ -353,7 +375,7 @@ fn counts_steps(rt: HostRuntime) -> Result<(), Fail> {
     }
     text.push_str("]}")?;
     let want = Some(Fault { code: 2, step: 0 });
-    assert_eq!(rt; fault_of(alloc, text.as_str())?, want);
+    assert_eq!(rt; fault_of(alloc, text.as_str(), Mode::Schedule)?, want);
     Ok(())
 }
 

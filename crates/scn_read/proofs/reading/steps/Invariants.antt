@@ -7,4 +7,4 @@ use Rattle.scn_read.proofs.reading.steps.Given as goal
 -- the steps so far and those that are left are all
 abbrev pub invariant-loop-index : goal.invariant-loop-index
 invariant-loop-index l =
-    all_steps l.steps (steps_of l.shape (l.index + 1) (map view (drop l.index l.values))) ≡ steps_of l.shape 1 (map view l.values)
+    all_steps l.steps (steps_of l.mode l.shape (l.index + 1) (map view (drop l.index l.values))) ≡ steps_of l.mode l.shape 1 (map view l.values)
