@@ -1,0 +1,5 @@
+pub mod Order
+pub mod Ranking
+pub mod Chooser
+pub mod Plan
+pub mod Laws

@@ -1,0 +1,44 @@
+-- Interrupts in delivery order (IHI 0069, "Interrupt prioritization").
+use Rattle.std.specs.Prelude.{ℕ, List, [], ◌∷◌, fold, filter, Bool, if◌then◌else◌, None}
+use Rattle.gic_word.specs.Record.{is_number}
+use Rattle.gic_prio.specs.declared.candidate.Candidate.{Candidate}
+use Rattle.gic_prio.specs.declared.cpu.CpuRec.{CpuRec}
+use Rattle.gic_prio.specs.Delivery.{is_before, is_deliverable}
+use Rattle.vcpu_refill.specs.declared.offer.Offer.{Offer}
+
+-- an offered interrupt as a candidate, which the delivery order compares
+abbrev pub candidate_of : Offer → Candidate
+candidate_of offer = record { key = offer.key; prio = offer.irq.prio; group = offer.irq.group }
+
+-- one offered interrupt is delivered before another
+abbrev pub goes_before : Offer → Offer → Bool
+goes_before one other = is_before (candidate_of one) (candidate_of other)
+
+-- ordered interrupts with one more, which stands in front of those that it is delivered before
+abbrev pub inserted : Offer → List Offer → List Offer
+inserted one [] = one ∷ []
+inserted one (other ∷ others) = if goes_before one other then one ∷ other ∷ others else other ∷ inserted one others
+
+-- the interrupts in delivery order
+abbrev pub ordered : List Offer → List Offer
+ordered offers = fold (λ before one. inserted one before) [] offers
+
+-- the interrupt is active by the vCPU
+abbrev pub is_active_by : ℕ → Offer → Bool
+is_active_by vcpu offer = is_number vcpu offer.irq.act_by
+
+-- the interrupt is deliverable to the vCPU
+abbrev pub is_deliverable_to : ℕ → CpuRec → Offer → Bool
+is_deliverable_to vcpu cpu offer = is_deliverable offer.key offer.irq vcpu cpu
+
+-- the interrupt would be deliverable to the vCPU, were it not active
+abbrev pub is_deliverable_once_inactive : ℕ → CpuRec → Offer → Bool
+is_deliverable_once_inactive vcpu cpu offer = is_deliverable offer.key (record offer.irq { act_by = None }) vcpu cpu
+
+-- the interrupts that are active by the vCPU, in delivery order
+abbrev pub active_among : List Offer → ℕ → List Offer
+active_among offers vcpu = ordered (filter (is_active_by vcpu) offers)
+
+-- the interrupts that are deliverable to the vCPU, in delivery order
+abbrev pub deliverable_among : List Offer → ℕ → CpuRec → List Offer
+deliverable_among offers vcpu cpu = ordered (filter (is_deliverable_to vcpu cpu) offers)

@@ -1,0 +1,98 @@
+-- The plan: which interrupts stand in the list registers of a PE while a vCPU is loaded there, and what ICH_HCR asks for
+-- (own choice, over IHI 0069, "Usage model for the List registers", ICH_LR<n>_EL2 and ICH_HCR_EL2).
+use Rattle.std.specs.Prelude.{ℕ, ◌+◌, ◌-◌, ◌&&◌, ◌||◌, not, min, nat_lt, Bool, true, false, if◌then◌else◌, Option, None, List, [], ◌++◌, length, map, take, All, IfSome}
+use Rattle.std.specs.Option.{option_map_or}
+use Rattle.gic_word.specs.Record.{is_pending}
+use Rattle.gic_base.specs.Interrupt.{intid_of}
+use Rattle.gic_lr.specs.declared.entry.LrState.{LrState}
+use Rattle.gic_lr.specs.declared.entry.LrState.TheVariants.{Pending, Active, Both}
+use Rattle.gic_lr.specs.Entry.{IsEntry, packed}
+use Rattle.gic_prio.specs.declared.cpu.CpuRec.{CpuRec}
+use Rattle.gic_ich.specs.Hcr.{hcr_en, hcr_npie, hcr_vgrp0eie, hcr_vgrp0die, hcr_vgrp1eie, hcr_vgrp1die, hcr_tc, hcr_tall0, hcr_tall1, hcr_tdir}
+use Rattle.vcpu_refill.specs.declared.offer.Offer.{Offer}
+use Rattle.vcpu_refill.specs.declared.fill.Choice.{Choice}
+use Rattle.vcpu_refill.specs.declared.fill.Fill.{Fill}
+use Rattle.vcpu_refill.specs.Order.{is_deliverable_once_inactive, active_among, deliverable_among}
+use Rattle.vcpu_refill.specs.Ranking.{in_places}
+
+-- trap mode: the active interrupts do not all fit into n list registers, or fill them all while an interrupt is deliverable
+abbrev pub is_trapping : List Offer → List Offer → ℕ → Bool
+is_trapping active deliverable n = nat_lt n (length active + min 1 (length deliverable))
+
+-- cut, out of trap mode: the deliverable interrupts do not all fit beside the active ones
+abbrev pub is_cut : List Offer → List Offer → ℕ → Bool
+is_cut active deliverable n = not (is_trapping active deliverable n) && nat_lt (n - length active) (length deliverable)
+
+-- the State of an active interrupt: pending and active where it would be deliverable, were it not active, and nothing is cut off
+-- that it could hide; else active
+abbrev pub active_state : Bool → ℕ → CpuRec → Offer → LrState
+active_state cut vcpu cpu offer = if not cut && is_deliverable_once_inactive vcpu cpu offer then Both else Active
+
+-- State is active
+abbrev pub is_active_state : LrState → Bool
+is_active_state Active = true
+is_active_state state = false
+
+-- the end of the interrupt is to be seen: a level interrupt may have to come back, and one that is pending beside an active State
+-- has to
+abbrev pub sees_end : LrState → Offer → Bool
+sees_end state offer = not offer.irq.edge || (is_pending offer.irq && is_active_state state)
+
+-- an interrupt in a list register with this State
+abbrev pub chosen_as : LrState → Offer → Choice
+chosen_as state offer =
+    record {
+      key = offer.key;
+      irq = offer.irq;
+      entry = record { id = intid_of offer.key; prio = offer.irq.prio; group = offer.irq.group; state = state; eoi = sees_end state offer; hw = None };
+    }
+
+-- an active interrupt in its list register
+abbrev pub active_choice : Bool → ℕ → CpuRec → Offer → Choice
+active_choice cut vcpu cpu offer = chosen_as (active_state cut vcpu cpu offer) offer
+
+-- a deliverable interrupt in its list register
+abbrev pub pending_choice : Offer → Choice
+pending_choice offer = chosen_as Pending offer
+
+-- what stands in the list registers, from the first on: all active interrupts, then as many of the first deliverable ones as fit
+abbrev pub choices_of : List Offer → List Offer → Bool → ℕ → CpuRec → ℕ → List Choice
+choices_of active deliverable cut vcpu cpu n = map (active_choice cut vcpu cpu) active ++ map pending_choice (take (n - length active) deliverable)
+
+-- ICH_HCR: En; NPIE where something is cut off; the maintenance interrupt of a change of each group's enable; and in trap mode TC,
+-- TALL0, TALL1 and TDIR
+abbrev pub hcr_of : CpuRec → Bool → Bool → ℕ
+hcr_of cpu cut trapping =
+    hcr_en
+    + (if cut then hcr_npie else 0)
+    + (if cpu.en0 then hcr_vgrp0die else hcr_vgrp0eie)
+    + (if cpu.en1 then hcr_vgrp1die else hcr_vgrp1eie)
+    + (if trapping then hcr_tc + hcr_tall0 + hcr_tall1 + hcr_tdir else 0)
+
+-- the plan from the active and the deliverable interrupts, each in delivery order; in trap mode nothing stands in the list registers
+abbrev pub plan_from : List Offer → List Offer → ℕ → CpuRec → ℕ → Fill
+plan_from active deliverable vcpu cpu n =
+    let trapping = is_trapping active deliverable n in
+    let cut = is_cut active deliverable n in
+    record {
+      choice = in_places (if trapping then [] else choices_of active deliverable cut vcpu cpu n);
+      cut = cut;
+      trapping = trapping;
+      hcr = hcr_of cpu cut trapping;
+    }
+
+-- the plan for a vCPU with this CPU record and n list registers, from the records of interrupts
+abbrev pub plan : List Offer → ℕ → CpuRec → ℕ → Fill
+plan offers vcpu cpu n = plan_from (active_among offers vcpu) (deliverable_among offers vcpu cpu) vcpu cpu n
+
+-- the word of a list register: 0 where nothing was chosen for it
+abbrev pub word_of : Option Choice → ℕ
+word_of place = option_map_or (λ choice. packed choice.entry) place 0
+
+-- the words of n list registers
+abbrev pub words_of : Fill → ℕ → List ℕ
+words_of fill n = take n (map word_of fill.choice)
+
+-- each list register can hold what was chosen for it
+abbrev pub HasEntries : List (Option Choice) → Type 0
+HasEntries places = All (λ place. IfSome place (λ choice. IsEntry choice.entry)) places

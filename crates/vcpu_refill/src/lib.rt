@@ -1,0 +1,19 @@
+//! Which interrupts stand in a PE's list registers while a vCPU is loaded there.
+#![tactic(auto)]
+
+mod chooser;
+mod fill;
+mod laws;
+mod offer;
+mod ranking;
+#[cfg(test)]
+mod tests;
+
+pub use chooser::{Chooser, fresh};
+pub use fill::{Choice, Fill};
+pub use laws::{
+    both_leaves_nothing_out, every_active_is_planned, every_deliverable_is_planned,
+    left_out_comes_after,
+};
+pub use offer::Offer;
+pub use ranking::Ranking;

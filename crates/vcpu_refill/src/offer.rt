@@ -1,0 +1,67 @@
+//! An interrupt that may be chosen.
+ghost use Rattle.std.specs.Prelude.{◌≡◌};
+ghost use Rattle.gic_prio.specs.Delivery.{is_before, is_deliverable as can_be_delivered};
+ghost use Rattle.vcpu_refill.specs.Order.{goes_before as is_ahead, is_active_by, is_deliverable_to};
+
+use gic_base::Key;
+use gic_prio::{Candidate, CpuRec};
+use gic_word::{Group, Irq, ripe};
+
+/// An interrupt of the guest that may be chosen for a list register.
+#[derive(Clone, Copy, Debug, PartialEq, Eq)]
+pub struct Offer {
+    pub key: Key,
+    /// The interrupt's record.
+    pub irq: Irq,
+}
+
+impl Offer {
+    ghost use Rattle.std.specs.Prelude.{None};
+    ghost use Rattle.vcpu_refill.specs.Order.{candidate_of, is_deliverable_once_inactive};
+
+    fn candidate(&self) -> Candidate
+        ensures { result ≡ candidate_of self.now }
+    {
+        Candidate {
+            key: self.key,
+            prio: self.irq.prio,
+            group: self.irq.group,
+        }
+    }
+
+    /// Whether this interrupt is delivered before another.
+    pub(crate) fn goes_before(&self, other: &Offer) -> bool
+        ensures { result ≡ is_ahead self.now other.now }
+    {
+        self.candidate().is_before(&other.candidate())
+    }
+
+    /// Whether the interrupt is active by the vCPU.
+    pub(crate) fn is_active_by(&self, vcpu: u32) -> bool
+        ensures { result ≡ is_active_by vcpu self.now }
+    {
+        self.irq.act_by == Some(vcpu)
+    }
+
+    /// Whether the interrupt would be deliverable to the vCPU, were it not active.
+    pub(crate) fn would_be_deliverable(&self, vcpu: u32, cpu: &CpuRec) -> bool
+        ensures { result ≡ is_deliverable_once_inactive vcpu cpu.now self.now }
+    {
+        let listens = match self.irq.group {
+            Group::G0 => cpu.en0,
+            Group::G1 => cpu.en1,
+        };
+        let takes_kind = match self.key {
+            Key::Private { .. } | Key::Spi(_) => true,
+            Key::Lpi(_) => cpu.lpis,
+        };
+        ripe(&self.irq, vcpu) && listens && takes_kind
+    }
+
+    /// Whether the interrupt is deliverable to the vCPU.
+    pub(crate) fn is_deliverable_to(&self, vcpu: u32, cpu: &CpuRec) -> bool
+        ensures { result ≡ is_deliverable_to vcpu cpu.now self.now }
+    {
+        self.irq.act_by.is_none() && self.would_be_deliverable(vcpu, cpu)
+    }
+}
