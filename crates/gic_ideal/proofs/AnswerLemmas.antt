@@ -35,8 +35,8 @@ key_taken : (taken : Option Candidate) (id : ℕ) → id ≢ SPURIOUS → Value 
 key_taken None id h e = absurd (h (cc))
 key_taken (Some found) id h e = record { key = found.key; is = refl; intid = cc }
 
-pub answered : (guests : List IdealGuest) (n vcpu id : ℕ) (reg : IccReg) → IsTrue (is_acknowledge reg) → id ≢ SPURIOUS → step_answer (Vcpu n vcpu (Icc reg None)) guests ≡ Value id → AcknowledgesId (Vcpu n vcpu (Icc reg None)) n id guests
-answered guests n vcpu id reg acknowledge real h = of_guest (slice_get guests n) refl h
+pub answered : (guests : List IdealGuest) (n vcpu id lrs : ℕ) (reg : IccReg) → IsTrue (is_acknowledge reg) → id ≢ SPURIOUS → step_answer lrs (Vcpu n vcpu (Icc reg None)) guests ≡ Value id → AcknowledgesId (Vcpu n vcpu (Icc reg None)) n id guests
+answered guests n vcpu id lrs reg acknowledge real h = of_guest (slice_get guests n) refl h
   where
     of_guest : (o : Option IdealGuest) → slice_get guests n ≡ o → option_map_or (λ state. op_answer (Icc reg None) state vcpu) o Nothing ≡ Value id → AcknowledgesId (Vcpu n vcpu (Icc reg None)) n id guests
     of_guest None e g = absurd (cc)

@@ -33,11 +33,11 @@ spi_acknowledged step n id guests spi one =
     let there = (ready_before step n at.guest one.key at.done).there in
     subst (λ key. Does acknowledges step n key guests) (key_of_spi at.guest.shape one.key id there one.intid spi) one.done
 
-read_acknowledged : (guests : List IdealGuest) (n vcpu id : ℕ) (reg : IccReg) → IsTrue (is_spi_id id) → IsTrue (is_acknowledge reg) → step_answer (read_by n vcpu reg) guests ≡ Value id → Does acknowledges (read_by n vcpu reg) n (Spi id) guests
-read_acknowledged guests n vcpu id reg spi takes h = spi_acknowledged (read_by n vcpu reg) n id guests spi (answered guests n vcpu id reg takes (not_spurious id spi) h)
+read_acknowledged : (guests : List IdealGuest) (n vcpu id lrs : ℕ) (reg : IccReg) → IsTrue (is_spi_id id) → IsTrue (is_acknowledge reg) → step_answer lrs (read_by n vcpu reg) guests ≡ Value id → Does acknowledges (read_by n vcpu reg) n (Spi id) guests
+read_acknowledged guests n vcpu id lrs reg spi takes h = spi_acknowledged (read_by n vcpu reg) n id guests spi (answered guests n vcpu id lrs reg takes (not_spurious id spi) h)
 
-pub caused_reads : (guests : List IdealGuest) (n vcpu other id : ℕ) (reg next : IccReg) (between : List Step) → All IsSound guests → All (λ step. IsTrue (is_good_step (state_shapes guests) step)) between → IsTrue (is_spi_id id) → IsTrue (is_acknowledge reg) → step_answer (read_by n vcpu reg) guests ≡ Value id → IsTrue (is_acknowledge next) → step_answer (read_by n other next) (after_steps (read_by n vcpu reg ∷ between) guests) ≡ Value id → OneDoes raises between n (Spi id) (after_step (read_by n vcpu reg) guests) ⊎ IsTrue (is_level_up (irq_of n (Spi id) (after_steps (read_by n vcpu reg ∷ between) guests)))
-caused_reads guests n vcpu other id reg next between sound good spi takes h takes_too g =
+pub caused_reads : (guests : List IdealGuest) (n vcpu other id lrs : ℕ) (reg next : IccReg) (between : List Step) → All IsSound guests → All (λ step. IsTrue (is_good_step (state_shapes guests) step)) between → IsTrue (is_spi_id id) → IsTrue (is_acknowledge reg) → step_answer lrs (read_by n vcpu reg) guests ≡ Value id → IsTrue (is_acknowledge next) → step_answer lrs (read_by n other next) (after_steps (read_by n vcpu reg ∷ between) guests) ≡ Value id → OneDoes raises between n (Spi id) (after_step (read_by n vcpu reg) guests) ⊎ IsTrue (is_level_up (irq_of n (Spi id) (after_steps (read_by n vcpu reg ∷ between) guests)))
+caused_reads guests n vcpu other id lrs reg next between sound good spi takes h takes_too g =
     let first = read_by n vcpu reg in
-    caused guests n (Spi id) first between (read_by n other next) sound good (read_acknowledged guests n vcpu id reg spi takes h)
-    (read_acknowledged (after_steps (first ∷ between) guests) n other id next spi takes_too g)
+    caused guests n (Spi id) first between (read_by n other next) sound good (read_acknowledged guests n vcpu id lrs reg spi takes h)
+    (read_acknowledged (after_steps (first ∷ between) guests) n other id lrs next spi takes_too g)

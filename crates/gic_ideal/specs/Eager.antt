@@ -12,7 +12,10 @@ use Rattle.scn_read.specs.declared.scenario.Step.TheVariants.{Vcpu, Device, Pe}
 use Rattle.gic_ideal.specs.declared.guest.IdealGuest.{IdealGuest}
 use Rattle.scn_read.specs.declared.outcome.RunOut.{RunOut}
 use Rattle.scn_read.specs.declared.outcome.Answer.{Answer}
-use Rattle.scn_read.specs.declared.outcome.Answer.TheVariants.{Nothing, Value}
+use Rattle.scn_read.specs.declared.outcome.Answer.TheVariants.{Nothing, Value, Regs}
+use Rattle.gic_base.specs.declared.operation.PeOp.{PeOp}
+use Rattle.gic_base.specs.declared.operation.PeOp.TheVariants.{Enter, Exit, Lrs}
+use Rattle.gic_ideal.specs.Shown.{registers_of}
 use Rattle.gic_ideal.specs.Opening.{opening}
 use Rattle.gic_ideal.specs.Ideal.{after_access, access_answer, after_raise}
 use Rattle.gic_ideal.specs.Ends.{ends_of}
@@ -37,17 +40,23 @@ after_event (Msi device event) guest = guest
 abbrev pub at_guest : ℕ → (IdealGuest → IdealGuest) → List IdealGuest → List IdealGuest
 at_guest n change guests = option_map_or (λ guest. slice_set guests n (change guest)) (slice_get guests n) guests
 
--- the guests after a step
+-- the guests after a step; the list registers of a PE are only shown
 abbrev pub after_step : Step → List IdealGuest → List IdealGuest
 after_step (Vcpu guest vcpu op) guests = at_guest guest (λ state. after_op op state vcpu) guests
 after_step (Device guest device op) guests = at_guest guest (after_event op) guests
 after_step (Pe pe op) guests = guests
 
--- what a step answers
-abbrev pub step_answer : Step → List IdealGuest → Answer
-step_answer (Vcpu guest vcpu op) guests = option_map_or (λ state. op_answer op state vcpu) (slice_get guests guest) Nothing
-step_answer (Device guest device op) guests = Nothing
-step_answer (Pe pe op) guests = Nothing
+-- what is shown of a PE with n list registers. vCPU 0 of guest 0 stands on the only PE (own choice: no form that is built moves it)
+abbrev pub pe_answer : ℕ → PeOp → List IdealGuest → Answer
+pe_answer n Lrs guests = option_map_or (λ state. Regs (registers_of n state 0)) (slice_get guests 0) Nothing
+pe_answer n Exit guests = Nothing
+pe_answer n (Enter guest vcpu) guests = Nothing
+
+-- what a step answers, where a PE has n list registers
+abbrev pub step_answer : ℕ → Step → List IdealGuest → Answer
+step_answer n (Vcpu guest vcpu op) guests = option_map_or (λ state. op_answer op state vcpu) (slice_get guests guest) Nothing
+step_answer n (Device guest device op) guests = Nothing
+step_answer n (Pe pe op) guests = pe_answer n op guests
 
 -- the guests after some steps, one after the other
 abbrev pub after_steps : List Step → List IdealGuest → List IdealGuest
@@ -55,14 +64,14 @@ after_steps [] guests = guests
 after_steps (step ∷ steps) guests = after_steps steps (after_step step guests)
 
 -- what each of the steps answers
-abbrev pub answers_of : List Step → List IdealGuest → List Answer
-answers_of [] guests = []
-answers_of (step ∷ steps) guests = step_answer step guests ∷ answers_of steps (after_step step guests)
+abbrev pub answers_of : ℕ → List Step → List IdealGuest → List Answer
+answers_of n [] guests = []
+answers_of n (step ∷ steps) guests = step_answer n step guests ∷ answers_of n steps (after_step step guests)
 
 -- the run of a scenario by the ideal controller
 abbrev pub eager : Scenario → RunOut
 eager scenario = let guests = map opening scenario.guests in
     record {
-      answers = answers_of scenario.steps guests;
+      answers = answers_of scenario.lrs scenario.steps guests;
       ends = ends_of guests (after_steps scenario.steps guests);
     }

@@ -94,7 +94,7 @@ AcknowledgeTakesCause =
 -- a step that acknowledges an interrupt answers its INTID (IHI 0069, ICC_IAR0 and ICC_IAR1)
 abbrev pub AcknowledgeAnswers : Type 0
 AcknowledgeAnswers =
-    (guests : List IdealGuest) (step : Step) (n : ℕ) (key : Key) → Does acknowledges step n key guests → step_answer step guests ≡ Value (intid_of key)
+    (guests : List IdealGuest) (step : Step) (n : ℕ) (key : Key) (lrs : ℕ) → Does acknowledges step n key guests → step_answer lrs step guests ≡ Value (intid_of key)
 
 -- a step acknowledges an interrupt with this INTID
 pub record AcknowledgesId (step : Step) (n id : ℕ) (guests : List IdealGuest) : Type 0 where
@@ -115,8 +115,8 @@ read_by n vcpu reg = Vcpu n vcpu (Icc reg None)
 -- a read of one of them that answers another INTID than 1023 acknowledges an interrupt with it (IHI 0069, ICC_IAR0 and ICC_IAR1)
 abbrev pub AnswerAcknowledges : Type 0
 AnswerAcknowledges =
-    (guests : List IdealGuest) (n vcpu id : ℕ) (reg : IccReg) → IsTrue (is_acknowledge reg) → id ≢ SPURIOUS →
-    step_answer (read_by n vcpu reg) guests ≡ Value id → AcknowledgesId (read_by n vcpu reg) n id guests
+    (guests : List IdealGuest) (n vcpu id lrs : ℕ) (reg : IccReg) → IsTrue (is_acknowledge reg) → id ≢ SPURIOUS →
+    step_answer lrs (read_by n vcpu reg) guests ≡ Value id → AcknowledgesId (read_by n vcpu reg) n id guests
 
 -- between two acknowledges of an interrupt it is deactivated, if it is not an LPI, which has no active state: an active
 -- interrupt is not acknowledged again (IHI 0069, "Interrupt handling state machine")
@@ -142,10 +142,10 @@ is_spi_id id = nat_le FIRST_SPI id && nat_lt id FIRST_SPECIAL
 -- the same of two reads of IAR, by any vCPUs of a guest, that answer the INTID of one SPI
 abbrev pub CausedBetweenReads : Type 0
 CausedBetweenReads =
-    (guests : List IdealGuest) (n vcpu other id : ℕ) (reg next : IccReg) (between : List Step) → All IsSound guests →
+    (guests : List IdealGuest) (n vcpu other id lrs : ℕ) (reg next : IccReg) (between : List Step) → All IsSound guests →
     All (λ step. IsTrue (is_good_step (state_shapes guests) step)) between → IsTrue (is_spi_id id) →
-    IsTrue (is_acknowledge reg) → step_answer (read_by n vcpu reg) guests ≡ Value id →
-    IsTrue (is_acknowledge next) → step_answer (read_by n other next) (after_steps (read_by n vcpu reg ∷ between) guests) ≡ Value id →
+    IsTrue (is_acknowledge reg) → step_answer lrs (read_by n vcpu reg) guests ≡ Value id →
+    IsTrue (is_acknowledge next) → step_answer lrs (read_by n other next) (after_steps (read_by n vcpu reg ∷ between) guests) ≡ Value id →
     OneDoes raises between n (Spi id) (after_step (read_by n vcpu reg) guests) ⊎ IsTrue (is_level_up (irq_of n (Spi id) (after_steps (read_by n vcpu reg ∷ between) guests)))
 
 -- each state that a guest reaches from its opening is sound, so the other laws hold in every run

@@ -8,6 +8,7 @@ mod laws;
 mod opening;
 mod rules;
 mod run;
+mod shown;
 
 pub use guest::IdealGuest;
 pub use laws::{

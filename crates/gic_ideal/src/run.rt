@@ -1,14 +1,14 @@
-ghost use Rattle.std.specs.Prelude.{◌≡◌, IfOk, OnOk, IsTrue, All, map};
+ghost use Rattle.std.specs.Prelude.{◌≡◌, ◌≤◌, IfOk, OnOk, IsTrue, All, map};
 ghost use Rattle.scn_read.specs.declared.scenario.Mode.{Mode};
 ghost use Rattle.scn_read.specs.Good.{IsGood, IsGoodGuest, is_good_step, shapes_of};
 ghost use Rattle.gic_ideal.specs.Opening.{opening};
 ghost use Rattle.gic_ideal.specs.Ends.{ends_of};
-ghost use Rattle.gic_ideal.specs.Eager.{step_answer, after_step, answers_of, after_steps, eager as eager_run};
+ghost use Rattle.gic_ideal.specs.Eager.{pe_answer as pe_answer_of, step_answer, after_step, answers_of, after_steps, eager as eager_run};
 ghost use Rattle.gic_ideal.specs.Sound.{IsSound, state_shapes};
 
 use crate::ends::end_of;
 use crate::guest::IdealGuest;
-use gic_base::NoMemory;
+use gic_base::{MAX_LIST_REGISTERS, NoMemory, PeOp};
 use gic_list::ListOf;
 use scn_read::{Answer, Answers, Ends, Guests, RunOut, Scenario, Step, Steps};
 use std::alloc::{AllocError, Global};
@@ -26,22 +26,40 @@ fn open_all(alloc: Global, guests: &Guests) -> Result<Vec<IdealGuest>, AllocErro
     Ok(states)
 }
 
+/// What is shown of the only PE, on which vCPU 0 of guest 0 stands.
+fn pe_answer(alloc: Global, states: &[IdealGuest], lrs: u32, op: PeOp) -> Result<Answer, AllocError>
+    requires sound { All IsSound states.now }
+    requires lrs { 1 ≤ lrs × lrs ≤ MAX_LIST_REGISTERS }
+    ensures { IfOk result (λ answer. answer ≡ pe_answer_of lrs op states.now) }
+{
+    match (op, states.first()) {
+        (PeOp::Lrs, Some(guest)) => Ok(Answer::Regs(guest.registers(alloc, lrs, 0)?)),
+        _ => Ok(Answer::Nothing),
+    }
+}
+
 /// Does a step, and answers what it reads.
-fn do_step(states: &mut Vec<IdealGuest>, step: &Step) -> Answer
+fn do_step(
+    alloc: Global,
+    states: &mut Vec<IdealGuest>,
+    lrs: u32,
+    step: &Step,
+) -> Result<Answer, AllocError>
     requires sound { All IsSound states.old.items }
+    requires lrs { 1 ≤ lrs × lrs ≤ MAX_LIST_REGISTERS }
     requires good { IsTrue (is_good_step (state_shapes states.old.items) step.now) }
-    ensures answer { result ≡ step_answer step.now states.old.items }
+    ensures answer { IfOk result (λ answer. answer ≡ step_answer lrs step.now states.old.items) }
     ensures after { states.new.items ≡ after_step step.now states.old.items }
     ensures sound { All IsSound states.new.items }
     ensures shapes { state_shapes states.new.items ≡ state_shapes states.old.items }
 {
     match *step {
-        Step::Vcpu { guest, vcpu, op } => states[guest as usize].operate(vcpu, op),
+        Step::Vcpu { guest, vcpu, op } => Ok(states[guest as usize].operate(vcpu, op)),
         Step::Device { guest, op, .. } => {
             states[guest as usize].receive(op);
-            Answer::Nothing
+            Ok(Answer::Nothing)
         }
-        Step::Pe { .. } => unreachable!(),
+        Step::Pe { op, .. } => pe_answer(alloc, states, lrs, op),
     }
 }
 
@@ -49,18 +67,20 @@ fn do_step(states: &mut Vec<IdealGuest>, step: &Step) -> Answer
 fn do_steps(
     alloc: Global,
     states: &mut Vec<IdealGuest>,
+    lrs: u32,
     steps: &Steps,
 ) -> Result<Answers, AllocError>
     requires sound { All IsSound states.old.items }
+    requires lrs { 1 ≤ lrs × lrs ≤ MAX_LIST_REGISTERS }
     requires good { All (λ step. IsTrue (is_good_step (state_shapes states.old.items) step)) steps.now }
-    ensures answers { IfOk result (λ answers. answers ≡ answers_of steps.now states.old.items) }
+    ensures answers { IfOk result (λ answers. answers ≡ answers_of lrs steps.now states.old.items) }
     ensures after { OnOk result (states.new.items ≡ after_steps steps.now states.old.items) }
     ensures sound { All IsSound states.new.items }
     ensures shapes { state_shapes states.new.items ≡ state_shapes states.old.items }
 {
     let mut answers = ListOf::new(alloc);
     for step in steps.as_slice() {
-        answers.push(do_step(states, step))?;
+        answers.push(do_step(alloc, states, lrs, step)?)?;
     }
     Ok(answers)
 }
@@ -86,7 +106,7 @@ pub fn eager(alloc: Global, scenario: &Scenario) -> Result<RunOut, NoMemory>
     ensures { IfOk result (λ out. out ≡ eager_run scenario.now) }
 {
     let mut states = open_all(alloc, &scenario.guests)?;
-    let answers = do_steps(alloc, &mut states, &scenario.steps)?;
+    let answers = do_steps(alloc, &mut states, scenario.lrs, &scenario.steps)?;
     let ends = end_all(alloc, &scenario.guests, states.as_slice())?;
     Ok(RunOut { answers, ends })
 }

@@ -9,6 +9,6 @@ invariant-loop-step l =
     record {
       sound : All IsSound l.states.items;
       shapes : state_shapes l.states.items ≡ state_shapes l.fn.states.items;
-      told : l.answers ++ answers_of (drop l.step-index l.step-items) l.states.items ≡ answers_of l.step-items l.fn.states.items;
+      told : l.answers ++ answers_of l.lrs (drop l.step-index l.step-items) l.states.items ≡ answers_of l.lrs l.step-items l.fn.states.items;
       left : after_steps (drop l.step-index l.step-items) l.states.items ≡ after_steps l.step-items l.fn.states.items;
     }
