@@ -1,0 +1,4 @@
+mod MapLemmas
+mod TableLemmas
+mod SearchLemmas
+mod AfterLemmas

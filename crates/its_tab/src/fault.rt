@@ -1,0 +1,330 @@
+ghost use Rattle.std.specs.Prelude.{◌≡◌, ◌^◌, ◌∷◌, [], ◌&&◌, not, is_none, nat_lt, nat_le};
+ghost use Rattle.gic_base.specs.Shape.{IsShape};
+ghost use Rattle.gic_base.specs.Interrupt.{has_interrupt};
+ghost use Rattle.its_tab.specs.Maps.{target_of};
+ghost use Rattle.its_tab.specs.Fault.{number_of, first_fault, on_device, on_event, on_mapping, is_uncollected, is_no_vcpu, fault_of, fault_number as number_in};
+ghost use Rattle.its_cmd.specs.Command.{decoded};
+ghost use Rattle.its_tab.specs.After.{GoodCommandsKeepMaps};
+
+use crate::tables::ItsTables;
+use gic_base::{FIRST_LPI, GuestShape, Key};
+use its_cmd::{BadCommand, Command, decode};
+
+/// DeviceIDs are below this: 16 bits of DeviceID.
+pub const DEVICES: u32 = 65536;
+/// The greatest Size of a MAPD: 16 bits of EventID.
+pub const MAX_SIZE: u32 = 15;
+
+/// The number of the fault of doublewords that are no command.
+pub const UNKNOWN_NUMBER: u8 = 10;
+
+/// Why a command is not carried out, in the order of the faults' numbers (own choice).
+#[derive(Clone, Copy, Debug, PartialEq, Eq, Hash)]
+pub enum CmdFault {
+    /// The DeviceID is 65536 or more.
+    DeviceRange,
+    /// A MAPD with V = 1 has a Size above 15.
+    SizeRange,
+    /// The device is not mapped.
+    DeviceUnmapped,
+    /// The EventID is not below 2 to the device's EventID bits.
+    EventRange,
+    /// The event is not mapped.
+    EventUnmapped,
+    /// The INTID is no LPI of the guest, or another event has it.
+    IntIdRange,
+    /// The named collection, or that of the event, is not mapped.
+    CollectionUnmapped,
+    /// An RDbase is not a vCPU of the guest.
+    TargetRange,
+}
+
+impl CmdFault {
+    /// The fault's number, 1 to 8.
+    pub fn number(self) -> u8
+        ensures { result ≡ number_of self }
+    {
+        match self {
+            CmdFault::DeviceRange => 1,
+            CmdFault::SizeRange => 2,
+            CmdFault::DeviceUnmapped => 3,
+            CmdFault::EventRange => 4,
+            CmdFault::EventUnmapped => 5,
+            CmdFault::IntIdRange => 6,
+            CmdFault::CollectionUnmapped => 7,
+            CmdFault::TargetRange => 8,
+        }
+    }
+}
+
+impl ItsTables {
+    /// The first fault of a command, by number, with these tables in a guest of this shape. None exactly
+    /// where the command is good.
+    pub fn fault_in(&self, command: &Command, shape: &GuestShape) -> Option<CmdFault>
+        requires { IsShape shape.now }
+        ensures { result ≡ fault_of shape.now self.now command.now }
+    {
+        match *command {
+            Command::Mapd {
+                device,
+                size,
+                valid,
+                ..
+            } => mapd_fault(device, size, valid),
+            Command::Mapc { rdbase, valid, .. } => mapc_fault(rdbase, valid, shape),
+            Command::Mapti {
+                device,
+                event,
+                id,
+                icid,
+            } => self.mapping_fault(device, event, id, icid, shape),
+            Command::Mapi {
+                device,
+                event,
+                icid,
+            } => self.mapping_fault(device, event, event, icid, shape),
+            Command::Movi {
+                device,
+                event,
+                icid,
+            } => self
+                .event_fault(device, event)
+                .or_else(|| self.collection_fault(icid)),
+            Command::Int { device, event } | Command::Inv { device, event } => self.delivery_fault(
+                device, event,
+            ),
+            Command::Clear { device, event } | Command::Discard { device, event } =>
+                self.event_fault(device, event),
+            Command::Invall { icid } => self.collection_fault(icid),
+            Command::Movall { rdbase, second } => target_fault(rdbase, shape).or_else(
+                || target_fault(second, shape),
+            ),
+            Command::Sync { rdbase } => target_fault(rdbase, shape),
+        }
+    }
+
+    /// The number of the first fault of four doublewords, with these tables in a guest of this shape: 10 where
+    /// they are no command. None exactly where they are a good command.
+    pub fn fault_number(&self, words: [u64; 4], shape: &GuestShape) -> Option<u8>
+        requires { IsShape shape.now }
+        ensures { result ≡ number_in shape.now self.now (decoded words) }
+    {
+        match decode(words) {
+            Ok(command) => self.fault_in(&command, shape).map(CmdFault::number),
+            Err(BadCommand::UnknownNumber) => Some(UNKNOWN_NUMBER),
+        }
+    }
+
+    /// The first of the faults 1, 3 and 4 of a command on an event of a mapped device.
+    fn device_fault(&self, device: u32, event: u32) -> Option<CmdFault>
+        ensures { result ≡ first_fault (on_device self.now device event []) }
+    {
+        if device >= DEVICES {
+            return Some(CmdFault::DeviceRange);
+        }
+        let Some(bits) = self.bits_of(device) else {
+            return Some(CmdFault::DeviceUnmapped);
+        };
+        is_past(event, bits).then_some(CmdFault::EventRange)
+    }
+
+    /// The first of the faults 1, 3, 4 and 5 of a command on a mapped event.
+    fn event_fault(&self, device: u32, event: u32) -> Option<CmdFault>
+        ensures { result ≡ first_fault (on_event self.now device event []) }
+    {
+        if let Some(fault) = self.device_fault(device, event) {
+            return Some(fault);
+        }
+        self.find(device, event)
+            .is_none()
+            .then_some(CmdFault::EventUnmapped)
+    }
+
+    /// The first of these and 7, of a command for which the event's own collection has to be mapped.
+    fn delivery_fault(&self, device: u32, event: u32) -> Option<CmdFault>
+        ensures { result ≡ first_fault (on_event self.now device event ((is_uncollected self.now device event, CmdFault.CollectionUnmapped) ∷ [])) }
+    {
+        if let Some(fault) = self.event_fault(device, event) {
+            return Some(fault);
+        }
+        let (_, icid) = self.find(device, event)?;
+        self.collection_fault(icid)
+    }
+
+    /// Fault 7 of a named collection.
+    fn collection_fault(&self, icid: u16) -> Option<CmdFault>
+        ensures { result ≡ first_fault ((is_none (target_of self.now icid), CmdFault.CollectionUnmapped) ∷ []) }
+    {
+        self.target_of(icid)
+            .is_none()
+            .then_some(CmdFault::CollectionUnmapped)
+    }
+
+    /// The first of the faults 1, 3, 4, 6 and 7 of a command that maps an event to an INTID.
+    fn mapping_fault(
+        &self,
+        device: u32,
+        event: u32,
+        id: u32,
+        icid: u16,
+        shape: &GuestShape,
+    ) -> Option<CmdFault>
+        requires { IsShape shape.now }
+        ensures { result ≡ first_fault (on_mapping shape.now self.now device event id icid) }
+    {
+        if let Some(fault) = self.device_fault(device, event) {
+            return Some(fault);
+        }
+        if !is_lpi(id, shape)
+            || self
+                .owner_of(id)
+                .is_some_and(|owner| owner != (device, event))
+        {
+            return Some(CmdFault::IntIdRange);
+        }
+        self.collection_fault(icid)
+    }
+}
+
+/// Whether an EventID does not have this number of bits.
+fn is_past(event: u32, bits: u32) -> bool
+    ensures { result ≡ not (nat_lt event (2 ^ bits)) }
+{
+    bits < u32::BITS && event >> bits > 0
+}
+
+/// Whether the guest has this LPI.
+fn is_lpi(id: u32, shape: &GuestShape) -> bool
+    requires { IsShape shape.now }
+    ensures { result ≡ has_interrupt shape.now (Key.Lpi id) }
+{
+    id >= FIRST_LPI && id - FIRST_LPI < shape.lpis
+}
+
+/// The first of the faults 1 and 2 of MAPD.
+fn mapd_fault(device: u32, size: u32, valid: bool) -> Option<CmdFault>
+    ensures { result ≡ first_fault ((nat_le DEVICES device, CmdFault.DeviceRange) ∷ (valid && nat_lt MAX_SIZE size, CmdFault.SizeRange) ∷ []) }
+{
+    if device >= DEVICES {
+        return Some(CmdFault::DeviceRange);
+    }
+    (valid && size > MAX_SIZE).then_some(CmdFault::SizeRange)
+}
+
+/// Fault 8 of MAPC, which V = 0 has not.
+fn mapc_fault(rdbase: u64, valid: bool, shape: &GuestShape) -> Option<CmdFault>
+    ensures { result ≡ first_fault ((valid && is_no_vcpu shape.now rdbase, CmdFault.TargetRange) ∷ []) }
+{
+    if valid {
+        target_fault(rdbase, shape)
+    } else {
+        None
+    }
+}
+
+/// Fault 8 of an RDbase.
+fn target_fault(rdbase: u64, shape: &GuestShape) -> Option<CmdFault>
+    ensures { result ≡ first_fault ((is_no_vcpu shape.now rdbase, CmdFault.TargetRange) ∷ []) }
+{
+    (rdbase >= u64::from(shape.vcpus)).then_some(CmdFault::TargetRange)
+}
+
+/// A law of all maps and commands: a command without a fault keeps the maps of a guest's ITS valid.
+pub fn good_commands_keep_maps()
+    ensures { GoodCommandsKeepMaps }
+{}
+
+#[cfg(test)]
+mod tests {
+    use crate::tables::{ItsTables, empty};
+    use gic_base::{GuestShape, NoMemory};
+    use std::alloc::Global;
+
+    const SHAPE: GuestShape = GuestShape {
+        vcpus: 2,
+        spis: 32,
+        devices: 1,
+        lpis: 16,
+        ram: 65536,
+    };
+
+    const VALID: u64 = 1 << 63;
+
+    const DEVICE_8: u64 = 8 << 32;
+
+    const DEVICE_9: u64 = 9 << 32;
+
+    const LPI_8195: u64 = 8195 << 32;
+
+    /// Device 8 with 5 EventID bits, its event 3 with INTID 8195 in collection 1, and its event 4 with 8196 in
+    /// collection 3, which is not mapped; collection 1 is at vCPU 1.
+    fn tables(alloc: Global) -> Result<ItsTables, NoMemory> {
+        let mut tables = empty(alloc);
+        tables.map_device(8, 5)?;
+        tables.map_collection(1, 1)?;
+        map_free(&mut tables, 3, 8195, 1)?;
+        map_free(&mut tables, 4, 8196, 3)?;
+        Ok(tables)
+    }
+
+    /// Maps an event of device 8, where that can be.
+    fn map_free(tables: &mut ItsTables, event: u32, id: u32, icid: u16) -> Result<(), NoMemory> {
+        if tables.bits_of(8).is_none() || tables.owner_of(id).is_some() {
+            return Ok(());
+        }
+        tables.map_event(8, event, id, icid)
+    }
+
+    /// The doublewords of a command and the number of its fault.
+    const COMMANDS: [([u64; 4], Option<u8>); 33] = [
+        // MAPD
+        ([0x08 + DEVICE_8, 4, VALID + 0x2000, 0], None),
+        ([0x08 + DEVICE_9, 15, VALID, 0], None),
+        ([0x08 + (65535 << 32), 15, VALID, 0], None),
+        ([0x08 + (65536 << 32), 15, VALID, 0], Some(1)),
+        ([0x08 + (65536 << 32), 16, VALID, 0], Some(1)),
+        ([0x08 + DEVICE_8, 16, VALID, 0], Some(2)),
+        ([0x08 + DEVICE_8, 16, 0, 0], None),
+        // MAPC
+        ([0x09, 0, VALID + 0x10001, 0], None),
+        ([0x09, 0, VALID + 0x20001, 0], Some(8)),
+        ([0x09, 0, 0x20001, 0], None),
+        ([0x7f, 0, VALID + 0x10001, 0], Some(10)),
+        // MAPTI: its own INTID again, another's, and one past the last LPI
+        ([0x0a + DEVICE_8, LPI_8195 + 3, 1, 0], None),
+        ([0x0a + DEVICE_8, LPI_8195 + 5, 1, 0], Some(6)),
+        ([0x0a + DEVICE_8, (8207 << 32) + 5, 1, 0], None),
+        ([0x0a + DEVICE_8, (8208 << 32) + 5, 1, 0], Some(6)),
+        ([0x0a + DEVICE_8, LPI_8195 + 0x1f, 1, 0], Some(6)),
+        ([0x0a + DEVICE_8, LPI_8195 + 0x20, 1, 0], Some(4)),
+        ([0x0a + DEVICE_8, LPI_8195 + 3, 2, 0], Some(7)),
+        ([0x0a + DEVICE_9, LPI_8195 + 0x20, 2, 0], Some(3)),
+        // MAPI
+        ([0x0b + DEVICE_8, 3, 1, 0], Some(6)),
+        // MOVI
+        ([0x01 + DEVICE_8, 3, 1, 0], None),
+        ([0x01 + DEVICE_8, 3, 2, 0], Some(7)),
+        ([0x01 + DEVICE_8, 5, 2, 0], Some(5)),
+        // INT, CLEAR, DISCARD and INV, of an event whose collection is not mapped
+        ([0x03 + DEVICE_8, 3, 0, 0], None),
+        ([0x03 + DEVICE_8, 4, 0, 0], Some(7)),
+        ([0x04 + DEVICE_8, 4, 0, 0], None),
+        ([0x0f + DEVICE_8, 5, 0, 0], Some(5)),
+        ([0x0c + DEVICE_8, 4, 0, 0], Some(7)),
+        // INVALL, MOVALL and SYNC
+        ([0x0d, 0, 2, 0], Some(7)),
+        ([0x0e, 0, 0x10000, 0], None),
+        ([0x0e, 0, 0x10000, 0x20000], Some(8)),
+        ([0x05, 0, 0x10000, 0], None),
+        ([0x05, 0, 0x20000, 0], Some(8)),
+    ];
+
+    #[test]
+    fn faults(rt: HostRuntime) -> Result<(), NoMemory> {
+        let tables = tables(rt.alloc())?;
+        for (words, number) in COMMANDS {
+            assert_eq!(rt; tables.fault_number(words, &SHAPE), number);
+        }
+        Ok(())
+    }
+}

@@ -1,0 +1,8 @@
+//! The tables of an ITS: which devices, events and collections are mapped, and which commands they allow.
+#![tactic(auto)]
+
+mod fault;
+mod tables;
+
+pub use fault::{CmdFault, DEVICES, MAX_SIZE, UNKNOWN_NUMBER, good_commands_keep_maps};
+pub use tables::{ItsTables, empty};
