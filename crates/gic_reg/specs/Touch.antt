@@ -61,3 +61,16 @@ part_written ClearActive key irq value shape = if value == 1 then record irq { a
 part_written Priority key irq value shape = record irq { prio = value / PRIORITY_STEP * PRIORITY_STEP }
 part_written Config key irq value shape = if is_sgi key then irq else record irq { edge = has_bit value 1 }
 part_written Routing key irq value shape = record irq { route = Affinity (affinity_in value) }
+
+-- a record with the fields that a register of this kind names as they are in another
+abbrev pub with_named : Kind → Irq → Irq → Irq
+with_named Group other irq = record irq { group = other.group }
+with_named SetEnable other irq = record irq { enabled = other.enabled }
+with_named ClearEnable other irq = record irq { enabled = other.enabled }
+with_named SetPending other irq = record irq { soft = other.soft }
+with_named ClearPending other irq = record irq { rise = other.rise; soft = other.soft }
+with_named SetActive other irq = record irq { act_by = other.act_by }
+with_named ClearActive other irq = record irq { act_by = other.act_by }
+with_named Priority other irq = record irq { prio = other.prio }
+with_named Config other irq = record irq { edge = other.edge }
+with_named Routing other irq = record irq { route = other.route }

@@ -6,7 +6,7 @@ ghost use Rattle.gic_word.specs.Record.{is_pending};
 ghost use Rattle.gic_word.specs.Word.{IsIrq};
 ghost use Rattle.gic_frame.specs.Part.{part_bits};
 ghost use Rattle.gic_reg.specs.Condition.{has_part, is_routed, shows_route};
-ghost use Rattle.gic_reg.specs.Touch.{part_read, part_written, target_in, is_sgi as is_of_sgi};
+ghost use Rattle.gic_reg.specs.Touch.{part_read, part_written, with_named, target_in, is_sgi as is_of_sgi};
 
 use crate::router::{affinity_in, router_with};
 use gic_aff::vcpu_of;
@@ -69,6 +69,8 @@ pub fn write_part(kind: Kind, key: Key, irq: &Irq, value: u64, shape: &GuestShap
     ensures value { result ≡ part_written kind key irq.now value shape.now }
     ensures irq { IsIrq result }
     ensures route { IsTrue (is_routed shape.now key result.route) }
+    // With the fields that the register names put back, the record is the old one.
+    ensures others_stay { with_named kind irq.now result ≡ irq.now }
     ensures level_stays { kind ≡ Kind.ClearPending → irq.now.edge ≡ false → irq.now.line ≡ true → IsTrue (is_pending result) }
 {
     let is_one = value == 1;
