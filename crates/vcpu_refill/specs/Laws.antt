@@ -30,8 +30,8 @@ abbrev pub EveryDeliverableIsPlanned : Type 0
 EveryDeliverableIsPlanned =
     (offers : List Offer) (vcpu : ℕ) (cpu : CpuRec) (n : ℕ) (offer : Offer) → n ≤ MAX_LIST_REGISTERS → Contains offers offer → IsTrue (is_deliverable_to vcpu cpu offer) → (plan offers vcpu cpu n).trapping ≡ false → (plan offers vcpu cpu n).cut ≡ false → IsPlanned (plan offers vcpu cpu n) offer
 
--- an interrupt is not delivered before another, and after it where they have two INTIDs; two of one INTID are private ones of two
--- vCPUs, which are not deliverable to the same
+-- an interrupt is not delivered before another, and after it where they have two INTIDs (a guest's interrupts of one INTID are private
+-- to two vCPUs, and not deliverable to the same)
 pub record ComesAfter (left chosen : Offer) : Type 0 where
   pub not_before : goes_before left chosen ≡ false
   pub after : intid_of left.key ≢ intid_of chosen.key → IsTrue (goes_before chosen left)

@@ -1,12 +1,12 @@
 -- The plan: which interrupts stand in the list registers of a PE while a vCPU is loaded there, and what ICH_HCR asks for
 -- (own choice, over IHI 0069, "Usage model for the List registers", ICH_LR<n>_EL2 and ICH_HCR_EL2).
-use Rattle.std.specs.Prelude.{ℕ, ◌+◌, ◌-◌, ◌&&◌, ◌||◌, not, min, nat_lt, Bool, true, false, if◌then◌else◌, Option, None, List, [], ◌++◌, length, map, take, All, IfSome}
+use Rattle.std.specs.Prelude.{ℕ, ◌+◌, ◌-◌, ◌&&◌, ◌||◌, ◌==◌, not, min, nat_lt, Bool, if◌then◌else◌, Option, None, List, [], ◌++◌, length, map, take, All, IfSome}
 use Rattle.std.specs.Option.{option_map_or}
 use Rattle.gic_word.specs.Record.{is_pending}
 use Rattle.gic_base.specs.Interrupt.{intid_of}
 use Rattle.gic_lr.specs.declared.entry.LrState.{LrState}
 use Rattle.gic_lr.specs.declared.entry.LrState.TheVariants.{Pending, Active, Both}
-use Rattle.gic_lr.specs.Entry.{IsEntry, packed}
+use Rattle.gic_lr.specs.Entry.{IsEntry, packed, state_number}
 use Rattle.gic_prio.specs.declared.cpu.CpuRec.{CpuRec}
 use Rattle.gic_ich.specs.Hcr.{hcr_en, hcr_npie, hcr_vgrp0eie, hcr_vgrp0die, hcr_vgrp1eie, hcr_vgrp1die, hcr_tc, hcr_tall0, hcr_tall1, hcr_tdir}
 use Rattle.vcpu_refill.specs.declared.offer.Offer.{Offer}
@@ -28,15 +28,10 @@ is_cut active deliverable n = not (is_trapping active deliverable n) && nat_lt (
 abbrev pub active_state : Bool → ℕ → CpuRec → Offer → LrState
 active_state cut vcpu cpu offer = if not cut && is_deliverable_once_inactive vcpu cpu offer then Both else Active
 
--- State is active
-abbrev pub is_active_state : LrState → Bool
-is_active_state Active = true
-is_active_state state = false
-
--- the end of the interrupt is to be seen: a level interrupt may have to come back, and one that is pending beside an active State
--- has to
+-- the end of the interrupt is to be seen: that of a level interrupt, which may have to come back, and that of one which is pending
+-- while its State is 2, active alone
 abbrev pub sees_end : LrState → Offer → Bool
-sees_end state offer = not offer.irq.edge || (is_pending offer.irq && is_active_state state)
+sees_end state offer = not offer.irq.edge || (is_pending offer.irq && state_number state == 2)
 
 -- an interrupt in a list register with this State
 abbrev pub chosen_as : LrState → Offer → Choice

@@ -39,7 +39,7 @@ impl Model for Chooser {
     ghost invariant = { λ chooser. chooser.lrs ≤ MAX_LIST_REGISTERS };
 }
 
-/// The choice for a PE with this many list registers (1 to 16) and for this vCPU, before any offer.
+/// What is kept for a PE with this many list registers (1 to 16) and for this vCPU, before any offer.
 pub fn fresh(lrs: u32, vcpu: u32) -> Chooser
     requires { 1 ≤ lrs × lrs ≤ MAX_LIST_REGISTERS }
     ensures lrs { result.lrs ≡ lrs }
@@ -55,11 +55,13 @@ pub fn fresh(lrs: u32, vcpu: u32) -> Chooser
 }
 
 impl Chooser {
-    /// Offers an interrupt with its record to a vCPU with this CPU record. Each is to be offered once.
+    /// Offers an interrupt with its record to the vCPU, whose CPU record has to be the same at each offer.
+    /// Each interrupt is to be offered once.
     pub fn offer(&mut self, key: Key, irq: &Irq, cpu: &CpuRec)
         ensures lrs { self.new.lrs ≡ self.old.lrs }
         ensures vcpu { self.new.vcpu ≡ self.old.vcpu }
-        ensures stands { (offers : List Offer) → StandsFor self.old cpu.now offers → StandsFor self.new cpu.now (offers ++ record { key = key; irq = irq.now } ∷ []) }
+        ensures stands { (offers : List Offer) → StandsFor self.old cpu.now offers →
+            StandsFor self.new cpu.now (offers ++ record { key = key; irq = irq.now } ∷ []) }
     {
         let offer = Offer { key, irq: *irq };
         if offer.is_active_by(self.vcpu) {
@@ -94,7 +96,9 @@ impl Chooser {
     fn choice_at(&self, place: usize, active: usize, cut: bool, cpu: &CpuRec) -> Option<Choice>
         requires { place < MAX_LIST_REGISTERS }
         ensures entry { IfSome result (λ choice. IsEntry choice.entry) }
-        ensures value { (actives deliverables : List Offer) → Keeps self.now actives deliverables → length actives ≡ active → active ≤ self.now.lrs → result ≡ slice_get (choices_of actives deliverables cut self.now.vcpu cpu.now self.now.lrs) place }
+        ensures value { (actives deliverables : List Offer) → Keeps self.now actives deliverables →
+            length actives ≡ active → active ≤ self.now.lrs →
+            result ≡ slice_get (choices_of actives deliverables cut self.now.vcpu cpu.now self.now.lrs) place }
     {
         if place < active {
             return self.active_choice(place, cut, cpu);
@@ -107,7 +111,8 @@ impl Chooser {
 
     /// Whether the active interrupts do not all fit, or leave no list register for a deliverable one.
     fn is_trapping(&self) -> bool
-        ensures { (actives deliverables : List Offer) → Keeps self.now actives deliverables → result ≡ is_trapping actives deliverables self.now.lrs }
+        ensures { (actives deliverables : List Offer) → Keeps self.now actives deliverables →
+            result ≡ is_trapping actives deliverables self.now.lrs }
     {
         self.active.more
             || self.active.count() + self.deliverable.count().min(1) > self.lrs as usize
@@ -115,7 +120,8 @@ impl Chooser {
 
     /// Whether, out of trap mode, the deliverable interrupts do not all fit beside the active ones.
     fn is_cut(&self) -> bool
-        ensures { (actives deliverables : List Offer) → Keeps self.now actives deliverables → result ≡ is_cut actives deliverables self.now.lrs }
+        ensures { (actives deliverables : List Offer) → Keeps self.now actives deliverables →
+            result ≡ is_cut actives deliverables self.now.lrs }
     {
         !self.is_trapping()
             && (self.deliverable.more
@@ -130,7 +136,9 @@ impl Chooser {
         cpu: &CpuRec,
     ) -> [Option<Choice>; MAX_LIST_REGISTERS]
         ensures entries { HasEntries result }
-        ensures value { (actives deliverables : List Offer) → Keeps self.now actives deliverables → trapping ≡ is_trapping actives deliverables self.now.lrs → result ≡ in_places (if trapping then [] else choices_of actives deliverables cut self.now.vcpu cpu.now self.now.lrs) }
+        ensures value { (actives deliverables : List Offer) → Keeps self.now actives deliverables →
+            trapping ≡ is_trapping actives deliverables self.now.lrs →
+            result ≡ in_places (if trapping then [] else choices_of actives deliverables cut self.now.vcpu cpu.now self.now.lrs) }
     {
         let mut choices = [None; MAX_LIST_REGISTERS];
         if trapping {
@@ -143,10 +151,12 @@ impl Chooser {
         choices
     }
 
-    /// What is chosen for a vCPU with this CPU record, the one of all offers.
+    /// The plan for the vCPU: what stands in each list register, whether something is cut off or every
+    /// access is trapped, and ICH_HCR. The CPU record has to be the one of all offers.
     pub fn plan(&self, cpu: &CpuRec) -> Fill
         ensures entries { HasEntries result.choice }
-        ensures value { (offers : List Offer) → StandsFor self.now cpu.now offers → result ≡ plan_of offers self.now.vcpu cpu.now self.now.lrs }
+        ensures value { (offers : List Offer) → StandsFor self.now cpu.now offers →
+            result ≡ plan_of offers self.now.vcpu cpu.now self.now.lrs }
     {
         let trapping = self.is_trapping();
         let cut = self.is_cut();

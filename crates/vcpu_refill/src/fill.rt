@@ -23,15 +23,15 @@ pub struct Choice {
     pub entry: LrEntry,
 }
 
-/// What was chosen for a vCPU's stay on a PE.
+/// The plan for a vCPU's stay on a PE.
 #[derive(Clone, Copy, Debug, PartialEq, Eq)]
 pub struct Fill {
     /// What stands in each list register, from the first on.
     pub choice: [Option<Choice>; MAX_LIST_REGISTERS],
-    /// Some deliverable interrupts do not fit.
+    /// Some deliverable interrupts have no list register. False in trap mode.
     pub cut: bool,
-    /// Not even the active interrupts fit with a deliverable one: every access of the CPU interface is
-    /// trapped, and nothing was chosen.
+    /// Trap mode: the active interrupts do not all have a list register, or leave none for a deliverable
+    /// one. Every access of the CPU interface is trapped, and nothing was chosen.
     pub trapping: bool,
     /// ICH_HCR.
     pub hcr: u32,

@@ -74,7 +74,8 @@ impl Ranking {
 
     /// Takes one more interrupt into account.
     pub(crate) fn put(&mut self, offer: Offer)
-        ensures { (offers : List Offer) → self.old ≡ ranking_of offers → self.new ≡ ranking_of (inserted offer offers) }
+        ensures { (offers : List Offer) → self.old ≡ ranking_of offers →
+            self.new ≡ ranking_of (inserted offer offers) }
     {
         match place_for(&self.places, &offer) {
             Some(place) => {
@@ -87,7 +88,8 @@ impl Ranking {
 
     /// How many interrupts are kept.
     pub(crate) fn count(&self) -> usize
-        ensures value { (offers : List Offer) → self.now ≡ ranking_of offers → result ≡ min MAX_LIST_REGISTERS (length offers) }
+        ensures value { (offers : List Offer) → self.now ≡ ranking_of offers →
+            result ≡ min MAX_LIST_REGISTERS (length offers) }
         ensures bound { result ≤ MAX_LIST_REGISTERS }
     {
         taken(&self.places)
