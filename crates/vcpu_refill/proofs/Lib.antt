@@ -4,3 +4,4 @@ pub mod FillLemmas
 pub mod ElementLemmas
 pub mod OrderLemmas
 pub mod LawLemmas
+pub mod SortLemmas

@@ -44,7 +44,7 @@ pub Contains-ordered : (xs : List Offer) (y : Offer) → Contains xs y → Conta
 Contains-ordered xs y has = folded_in [] xs y (inr has)
 
 -- each comes after those that stand before it
-abbrev none_before : Offer → List Offer → Bool
+abbrev pub none_before : Offer → List Offer → Bool
 none_before x xs = list_all (λ y. not (goes_before y x)) xs
 
 abbrev pub in_order : List Offer → Bool
@@ -88,7 +88,7 @@ in_order-fold before (x ∷ xs) h = in_order-fold (inserted x before) xs (in_ord
 pub in_order-ordered : (xs : List Offer) → in_order (ordered xs) ≡ true
 in_order-ordered xs = in_order-fold [] xs refl
 
-none_before-Contains : (x : Offer) (xs : List Offer) (y : Offer) → none_before x xs ≡ true → Contains xs y → goes_before y x ≡ false
+pub none_before-Contains : (x : Offer) (xs : List Offer) (y : Offer) → none_before x xs ≡ true → Contains xs y → goes_before y x ≡ false
 none_before-Contains x [] y h has = absurd (Contains-nothing y has)
 none_before-Contains x (z ∷ xs) y h has =
     elim (Contains-cases z y xs has) [

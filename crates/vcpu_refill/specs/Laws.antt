@@ -1,5 +1,5 @@
 -- What every plan keeps.
-use Rattle.std.specs.Prelude.{ℕ, ◌≡◌, ◌≢◌, ◌≤◌, IsTrue, false, Some, List, Contains}
+use Rattle.std.specs.Prelude.{ℕ, ◌≡◌, ◌≢◌, ◌≤◌, IsTrue, false, Some, List, Contains, AllPairs, IsPermutation}
 use Rattle.gic_base.specs.declared.held.TheConstants.{MAX_LIST_REGISTERS}
 use Rattle.gic_base.specs.Interrupt.{intid_of}
 use Rattle.gic_lr.specs.declared.entry.LrState.TheVariants.{Pending, Both}
@@ -7,8 +7,17 @@ use Rattle.gic_prio.specs.declared.cpu.CpuRec.{CpuRec}
 use Rattle.vcpu_refill.specs.declared.offer.Offer.{Offer}
 use Rattle.vcpu_refill.specs.declared.fill.Choice.{Choice}
 use Rattle.vcpu_refill.specs.declared.fill.Fill.{Fill}
-use Rattle.vcpu_refill.specs.Order.{goes_before, is_active_by, is_deliverable_to}
+use Rattle.vcpu_refill.specs.Order.{goes_before, ordered, is_active_by, is_deliverable_to}
 use Rattle.vcpu_refill.specs.Plan.{plan}
+
+-- a list has the interrupts of another, and none of them is delivered before one that stands earlier
+pub record IsSortingOf (offers sorted : List Offer) : Type 0 where
+  pub same : IsPermutation offers sorted
+  pub in_order : AllPairs (λ one later. goes_before later one ≡ false) sorted
+
+-- the interrupts in delivery order are a sorting of them
+abbrev pub OrderedIsSorting : Type 0
+OrderedIsSorting = (offers : List Offer) → IsSortingOf offers (ordered offers)
 
 -- the interrupt that a choice is of
 abbrev pub offer_of : Choice → Offer

@@ -1,5 +1,11 @@
 //! Laws of the plan.
-ghost use Rattle.vcpu_refill.specs.Laws.{EveryActiveIsPlanned, EveryDeliverableIsPlanned, LeftOutComesAfter, BothLeavesNothingOut};
+ghost use Rattle.vcpu_refill.specs.Laws.{OrderedIsSorting, EveryActiveIsPlanned, EveryDeliverableIsPlanned, LeftOutComesAfter, BothLeavesNothingOut};
+
+/// A law of the delivery order: the ordered interrupts are the same ones, and none of them is delivered
+/// before one that stands earlier.
+pub fn ordered_is_sorting()
+    ensures { OrderedIsSorting }
+{}
 
 /// A law of the plan: out of trap mode it has every interrupt that is active by the vCPU.
 pub fn every_active_is_planned()

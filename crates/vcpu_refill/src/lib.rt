@@ -13,7 +13,7 @@ pub use chooser::{Chooser, fresh};
 pub use fill::{Choice, Fill};
 pub use laws::{
     both_leaves_nothing_out, every_active_is_planned, every_deliverable_is_planned,
-    left_out_comes_after,
+    left_out_comes_after, ordered_is_sorting,
 };
 pub use offer::Offer;
 pub use ranking::Ranking;
