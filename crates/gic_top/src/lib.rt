@@ -2,6 +2,8 @@
 #![tactic(auto)]
 
 #[cfg(test)]
+mod register_tests;
+#[cfg(test)]
 mod tests;
 mod tool;
 

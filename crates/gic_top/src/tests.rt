@@ -9,7 +9,7 @@ const FIRST: &str =
 const FIRST_TEXT: &str = "2 0x0000000000000028\n4 0x00000000000003ff\nend 4 2\n";
 
 /// Inputs of `run`, each with the status and all that is written.
-const RUNS: [(&str, u8, &str); 24] = [
+const RUNS: [(&str, u8, &str); 29] = [
     (FIRST, OK, FIRST_TEXT),
     (
         r#"{"pes":1,"lrs":4,"guests":[{"vcpus":1,"spis":32,"on":true,"irqs":[{"id":40}]}],"steps":[]}"#,
@@ -85,6 +85,31 @@ const RUNS: [(&str, u8, &str); 24] = [
         r#"{"lrs":16,"guests":[{"on":true,"irqs":[{"id":40},{"id":41},{"id":42,"prio":32}]}],"steps":[]}"#,
         OK,
         "end 0 0\n",
+    ),
+    (
+        r#"{"lrs":1,"guests":[{"on":true,"irqs":[{"id":40},{"id":41},{"id":42,"prio":32}]}],"steps":[{"dev":[0,0],"message":40},{"pe":0,"lrs":true}]}"#,
+        OK,
+        "2 lrs 0x0000000000000091 0x50a0000000000028\nirq 0 40 en=1 grp=1 prio=0xa0 cfg=edge line=0 rise=0 soft=1 act=- to=0\nend 2 0\n",
+    ),
+    (
+        r#"{"lrs":1,"guests":[{"on":true,"irqs":[{"id":40},{"id":41},{"id":42,"prio":32}]}],"steps":[{"dev":[0,0],"message":40},{"dev":[0,0],"message":41},{"pe":0,"lrs":true}]}"#,
+        OK,
+        "3 lrs 0x0000000000000099 0x50a0000000000028\nirq 0 40 en=1 grp=1 prio=0xa0 cfg=edge line=0 rise=0 soft=1 act=- to=0\nirq 0 41 en=1 grp=1 prio=0xa0 cfg=edge line=0 rise=0 soft=1 act=- to=0\nend 3 0\n",
+    ),
+    (
+        r#"{"lrs":1,"guests":[{"on":true,"irqs":[{"id":40},{"id":41},{"id":42,"prio":32}]}],"steps":[{"dev":[0,0],"message":40},{"vcpu":[0,0],"icc":"IAR1"},{"dev":[0,0],"message":42},{"pe":0,"lrs":true},{"vcpu":[0,0],"icc":"IAR1"},{"vcpu":[0,0],"icc":"RPR"},{"vcpu":[0,0],"icc":"EOIR1","write":42},{"vcpu":[0,0],"icc":"RPR"}]}"#,
+        OK,
+        "2 0x0000000000000028\n4 lrs 0x0000000000005c91 0x0000000000000000\n5 0x000000000000002a\n6 0x0000000000000020\n8 0x00000000000000a0\ncpu 0 0 vmcr=0xf04c000a ap0=0x00000000 ap1=0x00100000 lpis=0\nirq 0 40 en=1 grp=1 prio=0xa0 cfg=edge line=0 rise=0 soft=0 act=0 to=0\nend 8 4\n",
+    ),
+    (
+        r#"{"lrs":1,"guests":[{"on":true,"irqs":[{"id":40},{"id":41},{"id":42,"prio":32}]}],"steps":[{"dev":[0,0],"message":40},{"vcpu":[0,0],"icc":"IAR1"},{"dev":[0,0],"message":40},{"pe":0,"lrs":true},{"vcpu":[0,0],"icc":"IAR1"},{"vcpu":[0,0],"icc":"EOIR1","write":40},{"vcpu":[0,0],"icc":"IAR1"}]}"#,
+        OK,
+        "2 0x0000000000000028\n4 lrs 0x0000000000000091 0xd0a0000000000028\n5 0x00000000000003ff\n7 0x0000000000000028\ncpu 0 0 vmcr=0xf04c000a ap0=0x00000000 ap1=0x00100000 lpis=0\nirq 0 40 en=1 grp=1 prio=0xa0 cfg=edge line=0 rise=0 soft=0 act=0 to=0\nend 7 3\n",
+    ),
+    (
+        r#"{"lrs":2,"guests":[{"on":true,"irqs":[{"id":40},{"id":41},{"id":42,"prio":32}]}],"steps":[{"dev":[0,0],"message":40},{"vcpu":[0,0],"icc":"IAR1"},{"dev":[0,0],"message":40},{"dev":[0,0],"message":41},{"dev":[0,0],"message":42},{"pe":0,"lrs":true}]}"#,
+        OK,
+        "2 0x0000000000000028\n6 lrs 0x0000000000000099 0x90a0020000000028 0x502000000000002a\ncpu 0 0 vmcr=0xf04c000a ap0=0x00000000 ap1=0x00100000 lpis=0\nirq 0 40 en=1 grp=1 prio=0xa0 cfg=edge line=0 rise=0 soft=1 act=0 to=0\nirq 0 41 en=1 grp=1 prio=0xa0 cfg=edge line=0 rise=0 soft=1 act=- to=0\nirq 0 42 en=1 grp=1 prio=0x20 cfg=edge line=0 rise=0 soft=1 act=- to=0\nend 6 1\n",
     ),
     (
         r#"{"guests":[{"on":true,"irqs":[{"id":40}],"spis":0}],"steps":[]}"#,
