@@ -1,5 +1,5 @@
 -- The CPU record that registers hold, and what does not depend on whether LPIs are enabled.
-use Rattle.std.proofs.Common.{◌≡◌, ◌<◌, ◌+◌, ◌/◌, ◌%◌, ◌^◌, ℕ, Bool, true, false, nat_eq, refl, ap, ◌∙◌, arith}
+use Rattle.std.proofs.Common.{◌≡◌, ◌+◌, ◌/◌, ◌%◌, ◌^◌, ℕ, false, nat_eq, refl, ap, ◌∙◌, arith}
 use Rattle.gic_word.specs.declared.record.Group.{Group}
 use Rattle.gic_word.specs.declared.record.Group.TheVariants.{G0, G1}
 use Rattle.gic_word.specs.Bits.{bit_of}
@@ -9,18 +9,11 @@ use Rattle.gic_prio.specs.Delivery.{is_group_enabled}
 use Rattle.gic_ich.specs.declared.regs.IchRegs.{IchRegs}
 use Rattle.gic_ich.specs.Vmcr.{vmcr_of, vmcr_fields, other_bits, vmcr_with, vfiqen}
 use Rattle.gic_icv.specs.Registers.{cpu_in}
+use Rattle.gic_word.proofs.BitLemmas.{flag_back, flag_small}
 
 -- a record without LPIs
 abbrev pub deaf : CpuRec → CpuRec
 deaf cpu = record cpu { lpis = false }
-
-flag_back : (b : Bool) → nat_eq (bit_of b) 1 ≡ b
-flag_back false = refl
-flag_back true = refl
-
-flag_small : (b : Bool) → bit_of b < 2
-flag_small false = omega arith
-flag_small true = omega arith
 
 same_cpu : (a b : CpuRec) → a.pmr ≡ b.pmr → a.bpr0 ≡ b.bpr0 → a.bpr1 ≡ b.bpr1 → a.cbpr ≡ b.cbpr → a.eoimode ≡ b.eoimode → a.en0 ≡ b.en0 → a.en1 ≡ b.en1 → record { pmr = a.pmr; bpr0 = a.bpr0; bpr1 = a.bpr1; cbpr = a.cbpr; eoimode = a.eoimode; en0 = a.en0; en1 = a.en1; lpis = false; ap0 = b.ap0; ap1 = b.ap1 } ≡ deaf b
 same_cpu a b pmr bpr0 bpr1 cbpr eoimode en0 en1 = rw (pmr, bpr0, bpr1, cbpr, eoimode, en0, en1) refl

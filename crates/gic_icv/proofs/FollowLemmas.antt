@@ -1,5 +1,5 @@
 -- An access of registers that stand for an interface follows the rules of a CPU interface.
-use Rattle.std.proofs.Common.{◌≡◌, ◌≤◌, ◌<◌, ◌+◌, ◌/◌, ◌%◌, ◌^◌, ℕ, zero, suc, Bool, true, false, not, ◌&&◌, ◌||◌, cond, if◌then◌else◌, max, nat_eq, nat_lt, Option, Some, None, unwrap_or, option_and_then, List, [], ◌∷◌, ◌++◌, length, filter, find, get_or, set, take, position, Contains, ◌⊎◌, inl, inr, refl, sym, ap, ◌∙◌, subst, arith}
+use Rattle.std.proofs.Common.{◌≡◌, ◌≤◌, ◌<◌, ◌+◌, ◌/◌, ◌%◌, ◌^◌, ℕ, zero, suc, Bool, true, false, not, ◌&&◌, ◌||◌, cond, if◌then◌else◌, nat_eq, nat_lt, Option, Some, None, List, [], ◌∷◌, ◌++◌, length, filter, find, get_or, set, take, position, Contains, ◌⊎◌, inl, inr, refl, sym, ap, ◌∙◌, subst, arith}
 use Rattle.std.specs.List.{list_all, position_or_len}
 use Rattle.std.specs.Option.{option_map, option_map_or}
 use Rattle.std.proofs.Math.Seq.{take-set-lt}
@@ -11,17 +11,16 @@ use Rattle.gic_word.specs.declared.record.Group.{Group}
 use Rattle.gic_word.specs.declared.record.Group.TheVariants.{G0, G1}
 use Rattle.gic_word.specs.Bits.{has_flag}
 use Rattle.gic_base.specs.declared.icc.IccReg.{IccReg}
-use Rattle.gic_base.specs.declared.icc.IccReg.TheVariants.{Iar0, Iar1, Eoir0, Eoir1, Pmr, Bpr0, Bpr1, Ctlr, Igrpen0, Igrpen1}
 use Rattle.gic_base.specs.Interrupt.{intid_of}
 use Rattle.gic_lr.specs.Entry.{unpacked, state_has_pending, state_has_active}
 use Rattle.gic_prio.specs.declared.cpu.CpuRec.{CpuRec}
 use Rattle.gic_prio.specs.declared.candidate.Candidate.{Candidate}
-use Rattle.gic_prio.specs.Priority.{HasBinaryPoints, raised, dropped, is_signalled, running_level, least_level}
 use Rattle.gic_prio.specs.Delivery.{first_of, is_group_enabled}
-use Rattle.gic_prio.specs.Signal.{is_special, is_same_group, acknowledged, ended, intid_written}
-use Rattle.gic_prio.specs.Access.{taken_by, deactivated_by, answer_of, raised_by, written_by, cpu_after}
+use Rattle.gic_prio.specs.Signal.{is_same_group, ended}
+use Rattle.gic_prio.specs.Access.{taken_by, deactivated_by, answer_of, cpu_after}
 use Rattle.gic_prio.specs.Interface.{AtInterface, InterfaceState, candidates_at, changed_at, acknowledged_entry, deactivated_entry, acknowledged_at, deactivated_at, interface_after}
 use Rattle.gic_prio.proofs.FirstLemmas.{first_is}
+use Rattle.gic_prio.proofs.AccessLemmas.{taken_first, points_after}
 use Rattle.gic_ich.specs.declared.regs.IchRegs.{IchRegs}
 use Rattle.gic_ich.specs.Regs.{listed_of}
 use Rattle.gic_ich.specs.Status.{is_pending}
@@ -328,23 +327,6 @@ deactivation_keeps (Some k) regs = first_keeps (has_active k) deactivated_word r
         record { vmcr = refl; enabled = λ e. ap (λ n. nat_eq n 1) low ∙ e }
     by_id false = record { vmcr = refl; enabled = λ e. e }
 
--- what is acknowledged is the first candidate
-acknowledged_first : (group : Group) (cpu : CpuRec) (among : List Candidate) (f : Candidate) → acknowledged group cpu among ≡ Some f → first_of among ≡ Some f
-acknowledged_first group cpu among f h = by_first (first_of among) h
-  where
-    by_first : (o : Option Candidate) → option_and_then (λ first. if is_same_group first.group group && is_signalled first.prio first.group cpu then Some first else None) o ≡ Some f → o ≡ Some f
-    by_first None g = absurd (none-some f g)
-    by_first (Some one) g = chosen (is_same_group one.group group && is_signalled one.prio one.group cpu) g
-      where
-        chosen : (b : Bool) → cond b (Some one) None ≡ Some f → Some one ≡ Some f
-        chosen true g = g
-        chosen false g = absurd (none-some f g)
-
-taken_first : (reg : IccReg) (write : Option ℕ) (cpu : CpuRec) (among : List Candidate) (f : Candidate) → taken_by reg write cpu among ≡ Some f → first_of among ≡ Some f
-taken_first Iar0 None cpu among f h = acknowledged_first G0 cpu among f h
-taken_first Iar1 None cpu among f h = acknowledged_first G1 cpu among f h
-taken_first reg write cpu among f h = absurd (none-some f h)
-
 -- the list registers show what the interface shows after the access
 taken_shows : (regs : IchRegs) (at : List AtInterface) (cpu : CpuRec) (taken : Option Candidate) → Shows (listed_of regs) at → AreEntries at → ((f : Candidate) → taken ≡ Some f → first_of (candidates_in (deaf cpu) (listed_of regs)) ≡ Some (shown f)) → Shows (listed_of (after_acknowledge (option_map shown taken) regs)) (acknowledged_at taken at)
 taken_shows regs at cpu None shows are first = shows
@@ -353,48 +335,6 @@ taken_shows regs at cpu (Some f) shows are first = acknowledge_shows regs at cpu
 ended_shows : (regs : IchRegs) (at : List AtInterface) (ended : Option ℕ) → Shows (listed_of regs) at → AreEntries at → Shows (listed_of (after_deactivation ended regs)) (deactivated_at ended at)
 ended_shows regs at None shows are = shows
 ended_shows regs at (Some k) shows are = deactivation_shows regs at k shows are
-
--- binary points stay in range
-raised_points : (prio : ℕ) (group : Group) (cpu : CpuRec) → HasBinaryPoints cpu → HasBinaryPoints (raised prio group cpu)
-raised_points prio G0 cpu points = record { group_0 = points.group_0; group_1 = points.group_1 }
-raised_points prio G1 cpu points = record { group_0 = points.group_0; group_1 = points.group_1 }
-
-raised_by_points : (taken : Option Candidate) (cpu : CpuRec) → HasBinaryPoints cpu → HasBinaryPoints (raised_by taken cpu)
-raised_by_points None cpu points = points
-raised_by_points (Some f) cpu points = raised_points f.prio f.group cpu points
-
-kept_points : (b : Bool) (after cpu : CpuRec) → HasBinaryPoints after → HasBinaryPoints cpu → HasBinaryPoints (unwrap_or (cond b None (Some after)) cpu)
-kept_points true after cpu h points = points
-kept_points false after cpu h points = h
-
-written_points : (reg : IccReg) (value : ℕ) (cpu : CpuRec) → HasBinaryPoints cpu → HasBinaryPoints (unwrap_or (written_by reg value cpu) cpu)
-written_points Eoir0 value cpu points =
-    let id = intid_written value in
-    kept_points (is_special id || nat_eq (running_level cpu) 32 || nat_lt (running_level cpu) (least_level G0 cpu)) (dropped G0 cpu) cpu (record { group_0 = points.group_0; group_1 = points.group_1 }) points
-written_points Eoir1 value cpu points =
-    let id = intid_written value in
-    kept_points (is_special id || nat_eq (running_level cpu) 32 || nat_lt (running_level cpu) (least_level G1 cpu)) (dropped G1 cpu) cpu (record { group_0 = points.group_0; group_1 = points.group_1 }) points
-written_points Pmr value cpu points = record { group_0 = points.group_0; group_1 = points.group_1 }
-written_points Bpr0 value cpu points = record { group_0 = small 2 value (omega arith); group_1 = points.group_1 }
-  where
-    small : (least value : ℕ) → least ≤ 7 → max least (value % 8) ≤ 7
-    small least value h = grind arith
-written_points Bpr1 value cpu points = by_common cpu.cbpr
-  where
-    small : (least value : ℕ) → least ≤ 7 → max least (value % 8) ≤ 7
-    small least value h = grind arith
-
-    by_common : (b : Bool) → HasBinaryPoints (if b then cpu else record cpu { bpr1 = max 3 (value % 8) })
-    by_common true = points
-    by_common false = record { group_0 = points.group_0; group_1 = small 3 value (omega arith) }
-written_points Ctlr value cpu points = record { group_0 = points.group_0; group_1 = points.group_1 }
-written_points Igrpen0 value cpu points = record { group_0 = points.group_0; group_1 = points.group_1 }
-written_points Igrpen1 value cpu points = record { group_0 = points.group_0; group_1 = points.group_1 }
-written_points reg value cpu points = points
-
-cpu_points : (reg : IccReg) (write : Option ℕ) (cpu : CpuRec) (among : List Candidate) → HasBinaryPoints cpu → HasBinaryPoints (cpu_after reg write cpu among)
-cpu_points reg None cpu among points = raised_by_points (taken_by reg None cpu among) cpu points
-cpu_points reg (Some value) cpu among points = written_points reg value cpu points
 
 -- the registers after an access by a record that they hold
 abbrev registers_by : CpuRec → IccReg → Option ℕ → IchRegs → IchRegs
@@ -435,7 +375,7 @@ stays_interface reg write interface is =
     let taken = taken_by reg write cpu (candidates_at interface) in
     let are : AreEntries interface.at = record { once = is.once; kinds = is.kinds } in
     let after = deactivated_entries (deactivated_by reg write cpu) (acknowledged_at taken interface.at) (acknowledged_entries taken interface.at are) in
-    record { points = cpu_points reg write cpu (candidates_at interface) is.points; once = after.once; kinds = after.kinds }
+    record { points = points_after reg write cpu (candidates_at interface) is.points; once = after.once; kinds = after.kinds }
 
 -- with the record as the interface has it
 follows_deaf : (reg : IccReg) (write : Option ℕ) (regs : IchRegs) (interface : InterfaceState) → IsInterface interface → Agrees regs interface

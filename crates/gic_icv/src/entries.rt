@@ -6,8 +6,7 @@ ghost use Rattle.gic_icv.specs.Entries.{key_shown as key_of_id, candidate_in as 
 
 use gic_base::{FIRST_LPI, Key, PRIVATE_COUNT};
 use gic_lr::{LrState, unpack, with_state};
-use gic_prio::{Candidate, CpuRec, earlier};
-use gic_word::Group;
+use gic_prio::{Candidate, CpuRec, earlier, listens};
 
 fn key_shown(id: u32) -> Key
     ensures { result ≡ key_of_id id }
@@ -26,11 +25,7 @@ fn candidate_in(cpu: &CpuRec, word: u64) -> Option<Candidate>
     ensures { result ≡ candidate_of_word cpu.now word }
 {
     let entry = unpack(word);
-    let listens = match entry.group {
-        Group::G0 => cpu.en0,
-        Group::G1 => cpu.en1,
-    };
-    let is_candidate = entry.state == LrState::Pending && listens;
+    let is_candidate = entry.state == LrState::Pending && listens(cpu, entry.group);
     is_candidate.then_some(Candidate {
         key: key_shown(entry.id),
         prio: entry.prio,

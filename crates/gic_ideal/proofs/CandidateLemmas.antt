@@ -1,5 +1,5 @@
 -- What is acknowledged and what is named, at one guest.
-use Rattle.std.proofs.Common.{◌≡◌, ℕ, ◌+◌, ◌<◌, zero, suc, Bool, true, false, not, cond, if◌then◌else◌, ◌&&◌, IsTrue, Option, Some, None, List, find, refl, ◌∙◌, subst, arith}
+use Rattle.std.proofs.Common.{◌≡◌, ℕ, ◌+◌, ◌<◌, zero, suc, Bool, true, false, not, cond, IsTrue, Option, Some, None, List, find, refl, subst, arith}
 use Rattle.std.specs.List.{range_with_len, filter_map, cons_option, list_any}
 use Rattle.std.proofs.lemmas.Grind.{common_steps}
 use Rattle.std.proofs.lemmas.Option.{none-some, option_and_then_some}
@@ -13,12 +13,12 @@ use Rattle.gic_base.specs.Interrupt.{has_interrupt, interrupt_count, key_at, key
 use Rattle.gic_prio.specs.declared.cpu.CpuRec.{CpuRec}
 use Rattle.gic_prio.specs.declared.candidate.Candidate.{Candidate}
 use Rattle.gic_prio.specs.Delivery.{is_deliverable, is_before, first_of}
-use Rattle.gic_prio.specs.Signal.{acknowledged, is_same_group}
-use Rattle.gic_prio.specs.Priority.{is_signalled}
+use Rattle.gic_prio.specs.Signal.{acknowledged}
 use Rattle.gic_prio.specs.Access.{taken_by, deactivated_by}
 use Rattle.gic_ideal.specs.declared.guest.IdealGuest.{IdealGuest}
 use Rattle.gic_ideal.specs.Ideal.{irq_at, cpu_at, candidate_at, candidates, named_by}
 use Rattle.gic_ideal.proofs.KeyLemmas.{key_at_there}
+use Rattle.gic_prio.proofs.AccessLemmas.{acknowledged_first}
 
 -- the interrupt is there, and was deliverable
 pub record WasDeliverable (guest : IdealGuest) (vcpu : ℕ) (key : Key) : Type 0 where
@@ -65,16 +65,6 @@ first_was guest vcpu found h =
     let at : FoundAt (candidate_at guest vcpu) (interrupt_count guest.shape) found =
     found_at (candidate_at guest vcpu) (λ one. not (list_any (λ other. is_before other one) (candidates guest vcpu))) 0 (interrupt_count guest.shape) (interrupt_count guest.shape) found (omega arith) h in
     candidate_was guest vcpu at.place found at.within at.is
-
--- what a read of IAR acknowledges is the first
-acknowledged_first : (group : Group) (cpu : CpuRec) (among : List Candidate) (found : Candidate) → acknowledged group cpu among ≡ Some found → first_of among ≡ Some found
-acknowledged_first group cpu among found h =
-    option_and_then_some (λ first. if is_same_group first.group group && is_signalled first.prio first.group cpu then Some first else None) (first_of among) found h
-    (λ first e g. e ∙ chosen (is_same_group first.group group && is_signalled first.prio first.group cpu) first g)
-  where
-    chosen : (b : Bool) (first : Candidate) → cond b (Some first) None ≡ Some found → Some first ≡ Some found
-    chosen true first g = g
-    chosen false first g = absurd (none-some found g)
 
 acknowledged_was : (group : Group) (guest : IdealGuest) (vcpu : ℕ) (found : Candidate) → acknowledged group (cpu_at guest vcpu) (candidates guest vcpu) ≡ Some found → WasDeliverable guest vcpu found.key
 acknowledged_was group guest vcpu found h = first_was guest vcpu found (acknowledged_first group (cpu_at guest vcpu) (candidates guest vcpu) found h)

@@ -1,19 +1,15 @@
 -- Each state that is reached is sound.
-use Rattle.std.proofs.Common.{◌≡◌, ℕ, zero, suc, Bool, true, false, cond, Option, Some, None, unwrap_or, List, [], ◌∷◌, All, length, get_or, map, fold, refl, sym, ap, subst, ◌∙◌, arith}
+use Rattle.std.proofs.Common.{◌≡◌, ℕ, zero, suc, Bool, false, Option, Some, None, List, [], ◌∷◌, All, length, get_or, map, fold, refl, sym, ap, subst, ◌∙◌, arith}
 use Rattle.std.specs.List.{slice_get, slice_set}
 use Rattle.std.specs.Option.{option_map_or}
 use Rattle.std.proofs.lemmas.List.{length-set, length-replicate}
 use Rattle.std.proofs.lemmas.List.FromFn.{length-map-range_with_len}
 use Rattle.std.proofs.lemmas.List.Elements.{All-get_or, All-set, All-map, All-replicate}
 use Rattle.std.proofs.lemmas.Option.{get_or_from_slice_get, slice_get_within}
-use Rattle.gic_word.specs.declared.record.Group.{Group}
-use Rattle.gic_word.specs.declared.record.Group.TheVariants.{G0, G1}
 use Rattle.gic_word.specs.declared.record.Irq.{Irq}
 use Rattle.gic_base.specs.declared.shape.GuestShape.{GuestShape}
 use Rattle.gic_base.specs.declared.interrupt.Key.{Key}
 use Rattle.gic_base.specs.Shape.{IsShape}
-use Rattle.gic_base.specs.declared.icc.IccReg.{IccReg}
-use Rattle.gic_base.specs.declared.icc.IccReg.TheVariants.{Eoir0, Eoir1, Pmr, Bpr0, Bpr1, Ctlr, Igrpen0, Igrpen1}
 use Rattle.gic_base.specs.declared.operation.GuestOp.{GuestOp}
 use Rattle.gic_base.specs.declared.operation.GuestOp.TheVariants.{Icc, Mem}
 use Rattle.gic_base.specs.declared.operation.DeviceOp.{DeviceOp}
@@ -21,10 +17,8 @@ use Rattle.gic_base.specs.declared.operation.DeviceOp.TheVariants.{Message, Wire
 use Rattle.gic_base.specs.Interrupt.{interrupt_count, key_at}
 use Rattle.gic_prio.specs.declared.cpu.CpuRec.{CpuRec}
 use Rattle.gic_prio.specs.declared.candidate.Candidate.{Candidate}
-use Rattle.gic_prio.specs.Priority.{HasBinaryPoints, dropped, with_levels}
-use Rattle.gic_prio.specs.Signal.{ended, intid_written}
-use Rattle.gic_prio.specs.Registers.{plain_write}
-use Rattle.gic_prio.specs.Access.{taken_by, raised_by, cpu_after}
+use Rattle.gic_prio.specs.Priority.{HasBinaryPoints}
+use Rattle.gic_prio.specs.Access.{taken_by, cpu_after}
 use Rattle.scn_read.specs.declared.scenario.GuestSpec.{GuestSpec}
 use Rattle.scn_read.specs.declared.scenario.Preset.{Preset}
 use Rattle.scn_read.specs.declared.scenario.Step.{Step}
@@ -36,46 +30,12 @@ use Rattle.gic_ideal.specs.Ideal.{cpu_at, candidates, named_by, after_acknowledg
 use Rattle.gic_ideal.specs.Eager.{after_op, after_event, at_guest, after_step, after_steps}
 use Rattle.gic_ideal.specs.Sound.{IsSound}
 use Rattle.gic_ideal.proofs.GuestLemmas.{StaysWhole, whole_op, whole_event}
+use Rattle.gic_prio.proofs.AccessLemmas.{points_after}
 
 -- one of sound guests is sound
 pub sound_got : (guests : List IdealGuest) (n : ℕ) (guest : IdealGuest) → All IsSound guests → slice_get guests n ≡ Some guest → IsSound guest
 sound_got guests n guest sound h =
     subst IsSound (get_or_from_slice_get guests n guest guest h) (All-get_or IsSound guests n guest (slice_get_within guests n guest h) sound)
-
--- the record keeps its binary points in range
-points_levels : (group : Group) (levels : ℕ) (cpu : CpuRec) → HasBinaryPoints cpu → HasBinaryPoints (with_levels group levels cpu)
-points_levels G0 levels cpu h = record { group_0 = h.group_0; group_1 = h.group_1 }
-points_levels G1 levels cpu h = record { group_0 = h.group_0; group_1 = h.group_1 }
-
-points_raised : (taken : Option Candidate) (cpu : CpuRec) → HasBinaryPoints cpu → HasBinaryPoints (raised_by taken cpu)
-points_raised None cpu h = h
-points_raised (Some found) cpu h = points_levels found.group _ cpu h
-
-points_chosen : (b : Bool) (cpu next : CpuRec) → HasBinaryPoints cpu → HasBinaryPoints next → HasBinaryPoints (unwrap_or (cond b None (Some next)) cpu)
-points_chosen true cpu next h k = h
-points_chosen false cpu next h k = k
-
-points_kept : (b : Bool) (cpu next : CpuRec) → HasBinaryPoints cpu → HasBinaryPoints next → HasBinaryPoints (cond b cpu next)
-points_kept true cpu next h k = h
-points_kept false cpu next h k = k
-
-points_ended : (group : Group) (id : ℕ) (cpu : CpuRec) → HasBinaryPoints cpu → HasBinaryPoints (unwrap_or (ended group id cpu) cpu)
-points_ended group id cpu h = points_chosen _ cpu (dropped group cpu) h (points_levels group _ cpu h)
-
-points_plain : (reg : IccReg) (value : ℕ) (cpu : CpuRec) → HasBinaryPoints cpu → HasBinaryPoints (unwrap_or (plain_write reg value cpu) cpu)
-points_plain Pmr value cpu h = record { group_0 = h.group_0; group_1 = h.group_1 }
-points_plain Bpr0 value cpu h = record { group_0 = omega arith; group_1 = h.group_1 }
-points_plain Bpr1 value cpu h = points_kept cpu.cbpr cpu _ h (record { group_0 = h.group_0; group_1 = omega arith })
-points_plain Ctlr value cpu h = record { group_0 = h.group_0; group_1 = h.group_1 }
-points_plain Igrpen0 value cpu h = record { group_0 = h.group_0; group_1 = h.group_1 }
-points_plain Igrpen1 value cpu h = record { group_0 = h.group_0; group_1 = h.group_1 }
-points_plain reg value cpu h = h
-
-points_after : (reg : IccReg) (write : Option ℕ) (cpu : CpuRec) (among : List Candidate) → HasBinaryPoints cpu → HasBinaryPoints (cpu_after reg write cpu among)
-points_after reg None cpu among h = points_raised (taken_by reg None cpu among) cpu h
-points_after Eoir0 (Some value) cpu among h = points_ended G0 (intid_written value) cpu h
-points_after Eoir1 (Some value) cpu among h = points_ended G1 (intid_written value) cpu h
-points_after reg (Some value) cpu among h = points_plain reg value cpu h
 
 -- each record of a CPU interface has its binary points in range, also where there is none
 points_opening : (on : Bool) → HasBinaryPoints (opening_cpu on)

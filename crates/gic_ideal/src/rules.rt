@@ -12,10 +12,10 @@ ghost use Rattle.gic_ideal.specs.Sound.{IsSound};
 use crate::guest::IdealGuest;
 use gic_base::{DeviceOp, GuestOp, IccReg, Key, interrupt_count, key_at, key_of, place_of};
 use gic_prio::{
-    Candidate, CpuRec, SPURIOUS, cpu_written, earlier, highest_pending, intid_deactivated,
-    irq_acknowledged, irq_deactivated, level_activated, read_plain, signalled,
+    Candidate, CpuRec, SPURIOUS, cpu_written, deliverable, earlier, highest_pending,
+    intid_deactivated, irq_acknowledged, irq_deactivated, level_activated, read_plain, signalled,
 };
-use gic_word::{Group, Irq, ripe};
+use gic_word::{Group, Irq};
 use scn_read::Answer;
 
 impl IdealGuest {
@@ -68,16 +68,7 @@ impl IdealGuest {
         let key = key_at(place, &self.shape);
         let irq = self.irq(key);
         let cpu = self.cpu(vcpu);
-        let listens = match irq.group {
-            Group::G0 => cpu.en0,
-            Group::G1 => cpu.en1,
-        };
-        let takes_kind = match key {
-            Key::Private { .. } | Key::Spi(_) => true,
-            Key::Lpi(_) => cpu.lpis,
-        };
-        let is_deliverable = ripe(&irq, vcpu) && irq.act_by.is_none() && listens && takes_kind;
-        is_deliverable.then_some(Candidate {
+        deliverable(key, &irq, vcpu, &cpu).then_some(Candidate {
             key,
             prio: irq.prio,
             group: irq.group,

@@ -4,6 +4,7 @@
 mod access;
 mod candidate;
 mod cpu;
+mod delivery;
 mod laws;
 mod priority;
 mod registers;
@@ -12,6 +13,7 @@ mod signal;
 pub use access::{cpu_written, intid_deactivated};
 pub use candidate::{Candidate, earlier};
 pub use cpu::CpuRec;
+pub use delivery::{deliverable, listens};
 pub use laws::{
     acknowledged_once, end_undoes_acknowledge, first_is_least, first_is_there,
     group_priority_is_prefix, interrupts_stay, last_point_keeps_no_bit, mask_is_monotone,

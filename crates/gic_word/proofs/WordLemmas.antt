@@ -7,6 +7,7 @@ use Rattle.gic_word.specs.declared.record.Irq.{Irq}
 use Rattle.gic_word.specs.Word.{IsSeat, IsRoute, IsIrq, IsWord, seat_number, seat_at, route_field, route_number, flags_number, packed, HasFlags, route_of, irq_of}
 use Rattle.gic_word.specs.Bits.{bit_of, has_flag}
 use Rattle.gic_word.specs.Record.{group_number}
+use Rattle.gic_word.proofs.BitLemmas.{bit_back}
 
 -- records whose fields agree are one
 pub same_irq :
@@ -164,12 +165,7 @@ word_fits irq flags is has =
     zero_of : (kind : ℕ) → kind < 2 → nat_eq kind 1 ≡ false → kind ≡ 0
     zero_of kind small e = grind arith
 
--- a bit is its flag
-bit_back : (n : ℕ) → n < 2 → bit_of (nat_eq n 1) ≡ n
-bit_back zero small = refl
-bit_back (suc zero) small = refl
-bit_back (suc (suc n)) small = absurd (omega (arith, small))
-
+-- a group's bit is its group
 group_back : (n : ℕ) → n < 2 → group_number (if nat_eq n 1 then G1 else G0) ≡ n
 group_back zero small = refl
 group_back (suc zero) small = refl

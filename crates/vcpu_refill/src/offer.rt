@@ -4,8 +4,8 @@ ghost use Rattle.gic_prio.specs.Delivery.{is_before, is_deliverable as can_be_de
 ghost use Rattle.vcpu_refill.specs.Order.{goes_before as is_ahead, is_active_by, is_deliverable_to};
 
 use gic_base::Key;
-use gic_prio::{Candidate, CpuRec};
-use gic_word::{Group, Irq, ripe};
+use gic_prio::{Candidate, CpuRec, deliverable};
+use gic_word::Irq;
 
 /// An interrupt of the guest that may be chosen for a list register.
 #[derive(Clone, Copy, Debug, PartialEq, Eq)]
@@ -47,21 +47,17 @@ impl Offer {
     pub(crate) fn would_be_deliverable(&self, vcpu: u32, cpu: &CpuRec) -> bool
         ensures { result ≡ is_deliverable_once_inactive vcpu cpu.now self.now }
     {
-        let listens = match self.irq.group {
-            Group::G0 => cpu.en0,
-            Group::G1 => cpu.en1,
+        let inactive = Irq {
+            act_by: None,
+            ..self.irq
         };
-        let takes_kind = match self.key {
-            Key::Private { .. } | Key::Spi(_) => true,
-            Key::Lpi(_) => cpu.lpis,
-        };
-        ripe(&self.irq, vcpu) && listens && takes_kind
+        deliverable(self.key, &inactive, vcpu, cpu)
     }
 
     /// Whether the interrupt is deliverable to the vCPU.
     pub(crate) fn is_deliverable_to(&self, vcpu: u32, cpu: &CpuRec) -> bool
         ensures { result ≡ is_deliverable_to vcpu cpu.now self.now }
     {
-        self.irq.act_by.is_none() && self.would_be_deliverable(vcpu, cpu)
+        deliverable(self.key, &self.irq, vcpu, cpu)
     }
 }

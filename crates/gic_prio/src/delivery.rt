@@ -1,0 +1,29 @@
+//! Which interrupts can be delivered to a vCPU (IHI 0069, "Interrupt prioritization").
+ghost use Rattle.std.specs.Prelude.{◌≡◌};
+ghost use Rattle.gic_prio.specs.Delivery.{is_group_enabled, is_deliverable};
+
+use crate::cpu::CpuRec;
+use gic_base::Key;
+use gic_word::{Group, Irq, ripe};
+
+/// Whether the vCPU listens to a group (IHI 0069, ICC_IGRPEN0 and ICC_IGRPEN1).
+pub fn listens(cpu: &CpuRec, group: Group) -> bool
+    ensures { result ≡ is_group_enabled group cpu.now }
+{
+    match group {
+        Group::G0 => cpu.en0,
+        Group::G1 => cpu.en1,
+    }
+}
+
+/// Whether an interrupt can be delivered to a vCPU: it would be but for the vCPU, it is not active, and the
+/// vCPU listens to its group, and to LPIs where it is one.
+pub fn deliverable(key: Key, irq: &Irq, vcpu: u32, cpu: &CpuRec) -> bool
+    ensures { result ≡ is_deliverable key irq.now vcpu cpu.now }
+{
+    let takes_kind = match key {
+        Key::Private { .. } | Key::Spi(_) => true,
+        Key::Lpi(_) => cpu.lpis,
+    };
+    ripe(irq, vcpu) && irq.act_by.is_none() && listens(cpu, irq.group) && takes_kind
+}
