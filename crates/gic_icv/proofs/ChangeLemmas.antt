@@ -27,17 +27,19 @@ state_back Pending word = let is : (word % 2 ^ 62 + 1 * 2 ^ 62) / 2 ^ 62 ≡ 1 =
 state_back Active word = let is : (word % 2 ^ 62 + 2 * 2 ^ 62) / 2 ^ 62 ≡ 2 = omega arith in ap state_at is
 state_back Both word = let is : (word % 2 ^ 62 + 3 * 2 ^ 62) / 2 ^ 62 ≡ 3 = omega arith in ap state_at is
 
+-- what is seen of the fields of a list register
+abbrev made : ℕ → ℕ → ℕ → LrState → Seen
+made id prio group state = record { id = id; prio = prio; group = if nat_eq group 1 then G1 else G0; pending = state_has_pending state; active = state_has_active state }
+
+same_made : (id id' prio prio' group group' : ℕ) (state state' : LrState) → id ≡ id' → prio ≡ prio' → group ≡ group' → state ≡ state' → made id prio group state ≡ made id' prio' group' state'
+same_made id id' prio prio' group group' state state' e f g h = rw (e, f, g, h) refl
+
 seen_with_state : (word : ℕ) (state : LrState) → seen_in (with_state word state) ≡ record (seen_in word) { pending = state_has_pending state; active = state_has_active state }
 seen_with_state word state =
     let after = with_state word state in
     let low : after % 2 ^ 62 ≡ word % 2 ^ 62 = omega arith in
-    let id : after % 2 ^ 32 ≡ word % 2 ^ 32 = omega (arith, low) in
-    let prio : after / 2 ^ 48 % 2 ^ 8 ≡ word / 2 ^ 48 % 2 ^ 8 = omega (arith, low) in
-    let group : after / 2 ^ 60 % 2 ≡ word / 2 ^ 60 % 2 = omega (arith, low) in
-    ap (λ n. record { id = n; prio = after / 2 ^ 48 % 2 ^ 8; group = if nat_eq (after / 2 ^ 60 % 2) 1 then G1 else G0; pending = state_has_pending (state_at (after / 2 ^ 62)); active = state_has_active (state_at (after / 2 ^ 62)) }) id
-    ∙ ap (λ n. record { id = word % 2 ^ 32; prio = n; group = if nat_eq (after / 2 ^ 60 % 2) 1 then G1 else G0; pending = state_has_pending (state_at (after / 2 ^ 62)); active = state_has_active (state_at (after / 2 ^ 62)) }) prio
-    ∙ ap (λ n. record { id = word % 2 ^ 32; prio = word / 2 ^ 48 % 2 ^ 8; group = if nat_eq n 1 then G1 else G0; pending = state_has_pending (state_at (after / 2 ^ 62)); active = state_has_active (state_at (after / 2 ^ 62)) }) group
-    ∙ ap (λ state. record (seen_in word) { pending = state_has_pending state; active = state_has_active state }) (state_back state word)
+    same_made (after % 2 ^ 32) (word % 2 ^ 32) (after / 2 ^ 48 % 2 ^ 8) (word / 2 ^ 48 % 2 ^ 8) (after / 2 ^ 60 % 2) (word / 2 ^ 60 % 2) (state_at (after / 2 ^ 62)) state
+    (omega (arith, low)) (omega (arith, low)) (omega (arith, low)) (state_back state word)
 
 pub word_acknowledged : (word : ℕ) → seen_in (acknowledged_word word) ≡ seen_acknowledged (seen_in word)
 word_acknowledged word =
