@@ -150,7 +150,7 @@ mod tests {
     }
 
     #[test]
-    fn writes(rt: HostRuntime) {
+    fn writes_of_set_and_clear_registers(rt: HostRuntime) {
         assert_eq!(rt;
             write_part(Kind::Group, SPI, &LEVEL, 0, &SHAPE),
             Irq {
@@ -176,6 +176,10 @@ mod tests {
             }
         );
         assert_eq!(rt; read_part(Kind::ClearPending, &cleared), 1);
+    }
+
+    #[test]
+    fn isactiver_wants_a_target(rt: HostRuntime) {
         assert_eq!(rt;
             write_part(Kind::SetActive, SPI, &LEVEL, 1, &SHAPE),
             Irq {
@@ -191,6 +195,10 @@ mod tests {
             write_part(Kind::SetActive, SPI, &nowhere, 1, &SHAPE),
             nowhere
         );
+    }
+
+    #[test]
+    fn writes_of_fields(rt: HostRuntime) {
         assert_eq!(rt;
             write_part(Kind::Priority, SPI, &LEVEL, 0x5F, &SHAPE),
             Irq {

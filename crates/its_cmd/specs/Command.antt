@@ -41,6 +41,13 @@ FitsFields (Mapc icid rdbase valid) = rdbase < 2 ^ 35
 FitsFields (Movall rdbase second) = (rdbase < 2 ^ 35) × (second < 2 ^ 35)
 FitsFields command = Unit {0}
 
+-- the command maps a device, a collection, or an event to an INTID
+abbrev pub is_map : Command → Bool
+is_map (Mapd device size itt_addr valid) = true
+is_map (Mapc icid rdbase valid) = true
+is_map (Mapti device event id icid) = true
+is_map command = false
+
 -- V
 abbrev pub valid_number : Bool → ℕ
 valid_number false = 0

@@ -1,5 +1,7 @@
-ghost use Rattle.std.specs.Prelude.{◌≡◌, ◌<◌, ◌+◌, ◌*◌, ◌^◌, [], ◌∷◌, IfOk};
-ghost use Rattle.its_cmd.specs.Command.{FitsFields, decoded, encoded};
+ghost use Rattle.std.specs.Prelude.{◌≡◌, ◌==◌, ◌<◌, ◌+◌, ◌*◌, ◌^◌, [], ◌∷◌, IfOk, IsTrue};
+ghost use Rattle.its_cmd.specs.declared.command.Command.TheVariants.{Mapd, Mapc, Mapti};
+ghost use Rattle.its_cmd.specs.Field.{device_in, event_in, pintid_in, size_in, itt_addr_in, icid_in, rdbase_in, valid_in};
+ghost use Rattle.its_cmd.specs.Command.{FitsFields, is_map, decoded, encoded};
 ghost use Rattle.its_cmd.specs.Laws.{OnlyFieldsMatter};
 
 use crate::field::{DEVICE, EVENT, ICID, ITT_ADDR, NUMBER, PINTID, RDBASE, SECOND, SIZE, VALID};
@@ -118,13 +120,8 @@ pub fn decode(words: [u64; 4]) -> Result<Command, BadCommand>
 {
     let device = DEVICE.of(&words) as u32;
     let event = EVENT.of(&words) as u32;
-    let id = PINTID.of(&words) as u32;
-    let size = SIZE.of(&words) as u32;
-    let itt_addr = ITT_ADDR.of(&words);
     let icid = ICID.of(&words) as u16;
     let rdbase = RDBASE.of(&words);
-    let second = SECOND.of(&words);
-    let valid = VALID.of(&words) == 1;
     match NUMBER.of(&words) {
         MOVI => Ok(Command::Movi {
             device,
@@ -134,23 +131,9 @@ pub fn decode(words: [u64; 4]) -> Result<Command, BadCommand>
         INT => Ok(Command::Int { device, event }),
         CLEAR => Ok(Command::Clear { device, event }),
         SYNC => Ok(Command::Sync { rdbase }),
-        MAPD => Ok(Command::Mapd {
-            device,
-            size,
-            itt_addr,
-            valid,
-        }),
-        MAPC => Ok(Command::Mapc {
-            icid,
-            rdbase,
-            valid,
-        }),
-        MAPTI => Ok(Command::Mapti {
-            device,
-            event,
-            id,
-            icid,
-        }),
+        MAPD => Ok(mapd_of(&words)),
+        MAPC => Ok(mapc_of(&words)),
+        MAPTI => Ok(mapti_of(&words)),
         MAPI => Ok(Command::Mapi {
             device,
             event,
@@ -158,9 +141,54 @@ pub fn decode(words: [u64; 4]) -> Result<Command, BadCommand>
         }),
         INV => Ok(Command::Inv { device, event }),
         INVALL => Ok(Command::Invall { icid }),
-        MOVALL => Ok(Command::Movall { rdbase, second }),
+        MOVALL => Ok(Command::Movall {
+            rdbase,
+            second: SECOND.of(&words),
+        }),
         DISCARD => Ok(Command::Discard { device, event }),
         _ => Err(BadCommand::UnknownNumber),
+    }
+}
+
+/// V.
+fn is_valid(words: &[u64; 4]) -> bool
+    ensures { result ≡ (valid_in words.now == 1) }
+{
+    VALID.of(words) == 1
+}
+
+/// The MAPD of its doublewords.
+fn mapd_of(words: &[u64; 4]) -> Command
+    ensures { result ≡ Mapd (device_in words.now) (size_in words.now) (itt_addr_in words.now) (valid_in words.now == 1) }
+{
+    Command::Mapd {
+        device: DEVICE.of(words) as u32,
+        size: SIZE.of(words) as u32,
+        itt_addr: ITT_ADDR.of(words),
+        valid: is_valid(words),
+    }
+}
+
+/// The MAPC of its doublewords.
+fn mapc_of(words: &[u64; 4]) -> Command
+    ensures { result ≡ Mapc (icid_in words.now) (rdbase_in words.now) (valid_in words.now == 1) }
+{
+    Command::Mapc {
+        icid: ICID.of(words) as u16,
+        rdbase: RDBASE.of(words),
+        valid: is_valid(words),
+    }
+}
+
+/// The MAPTI of its doublewords.
+fn mapti_of(words: &[u64; 4]) -> Command
+    ensures { result ≡ Mapti (device_in words.now) (event_in words.now) (pintid_in words.now) (icid_in words.now) }
+{
+    Command::Mapti {
+        device: DEVICE.of(words) as u32,
+        event: EVENT.of(words) as u32,
+        id: PINTID.of(words) as u32,
+        icid: ICID.of(words) as u16,
     }
 }
 
@@ -179,6 +207,32 @@ pub fn encode(command: &Command) -> [u64; 4]
         Command::Int { device, event } => on_event(INT, device, event, 0),
         Command::Clear { device, event } => on_event(CLEAR, device, event, 0),
         Command::Sync { rdbase } => [SYNC, 0, rdbase * RDBASE.weight, 0],
+        Command::Mapd { .. } | Command::Mapc { .. } | Command::Mapti { .. } => encode_map(command),
+        Command::Mapi {
+            device,
+            event,
+            icid,
+        } => on_event(MAPI, device, event, icid),
+        Command::Inv { device, event } => on_event(INV, device, event, 0),
+        Command::Invall { icid } => [INVALL, 0, u64::from(icid), 0],
+        Command::Movall { rdbase, second } => [
+            MOVALL,
+            0,
+            rdbase * RDBASE.weight,
+            second * SECOND.weight,
+        ],
+        Command::Discard { device, event } => on_event(DISCARD, device, event, 0),
+    }
+}
+
+/// The doublewords of a command that maps a device, a collection, or an event to an INTID.
+fn encode_map(command: &Command) -> [u64; 4]
+    requires fits { FitsFields command.now }
+    requires maps { IsTrue (is_map command.now) }
+    ensures value { result ≡ encoded command.now }
+    ensures back { decoded result ≡ Ok command.now }
+{
+    match *command {
         Command::Mapd {
             device,
             size,
@@ -205,20 +259,7 @@ pub fn encode(command: &Command) -> [u64; 4]
             let numbers = u64::from(event) + u64::from(id) * PINTID.weight;
             [on_device(MAPTI, device), numbers, u64::from(icid), 0]
         }
-        Command::Mapi {
-            device,
-            event,
-            icid,
-        } => on_event(MAPI, device, event, icid),
-        Command::Inv { device, event } => on_event(INV, device, event, 0),
-        Command::Invall { icid } => [INVALL, 0, u64::from(icid), 0],
-        Command::Movall { rdbase, second } => [
-            MOVALL,
-            0,
-            rdbase * RDBASE.weight,
-            second * SECOND.weight,
-        ],
-        Command::Discard { device, event } => on_event(DISCARD, device, event, 0),
+        _ => unreachable!(),
     }
 }
 
