@@ -1,6 +1,8 @@
 -- The affinities of vCPUs (IHI 0069, "Affinity routing").
-use Rattle.std.specs.Prelude.{ℕ, nat_lt, if◌then◌else◌, Option, Some, None}
+use Rattle.std.specs.Prelude.{ℕ, Option}
 use Rattle.gic_base.specs.declared.shape.GuestShape.{GuestShape}
+use Rattle.gic_word.specs.declared.record.Route.TheVariants.{Affinity}
+use Rattle.gic_word.specs.Record.{target_in}
 
 -- the affinity of a vCPU: its number in Aff0, with Aff1, Aff2 and Aff3 0 (own choice)
 abbrev pub affinity_of : ℕ → ℕ
@@ -8,4 +10,4 @@ affinity_of vcpu = vcpu
 
 -- the vCPU of a guest that has this affinity
 abbrev pub vcpu_of : ℕ → GuestShape → Option ℕ
-vcpu_of affinity shape = if nat_lt affinity shape.vcpus then Some affinity else None
+vcpu_of affinity shape = target_in (Affinity affinity) shape

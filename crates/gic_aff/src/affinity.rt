@@ -4,6 +4,7 @@ ghost use Rattle.gic_base.specs.Shape.{IsShape};
 ghost use Rattle.gic_aff.specs.Affinity.{affinity_of, vcpu_of as vcpu_with};
 
 use gic_base::GuestShape;
+use gic_word::{Route, target_in};
 
 /// The vCPU that has an affinity, which is given as Aff3, Aff2, Aff1 and Aff0 from the highest byte. None
 /// exactly where no vCPU of the guest has it.
@@ -13,5 +14,5 @@ pub fn vcpu_of(affinity: u32, shape: &GuestShape) -> Option<u32>
     ensures found { IfSome result (λ vcpu. (vcpu < shape.now.vcpus) × (affinity_of vcpu ≡ affinity)) }
     ensures none { IfNone result ((vcpu : ℕ) → vcpu < shape.now.vcpus → affinity_of vcpu ≢ affinity) }
 {
-    (affinity < shape.vcpus).then_some(affinity)
+    target_in(Route::Affinity(affinity), shape)
 }

@@ -1,31 +1,41 @@
 //! The write of ICC_SGI1R (IHI 0069, ICC_SGI1R_EL1).
 ghost use Rattle.std.specs.Prelude.{◌≡◌, ◌&&◌, ◌<◌, ℕ, nat_lt};
 ghost use Rattle.gic_base.specs.Shape.{IsShape};
-ghost use Rattle.gic_word.specs.Bits.{has_bit};
-ghost use Rattle.gic_aff.specs.Sgi.{intid_of, is_to_all, is_to_aff0, is_target as is_target_of, targets_of};
+ghost use Rattle.gic_bits.specs.Bits.{has_bit as bit_is_set};
+ghost use Rattle.gic_aff.specs.Sgi.{intid_of, is_to_aff0, is_listed as is_listed_in, is_target as is_target_of, targets_of};
 
 use gic_base::GuestShape;
+use gic_bits::{Field, has_bit};
 
-/// TargetList: bits [15:0].
-const TARGETS: u64 = 1 << 16;
+/// TargetList has this many bits, from bit 0 on: one for each vCPU of a range.
+const TARGETS: u32 = 16;
 /// Aff1: bits [23:16].
-const AFF1: u64 = 1 << 16;
+const AFF1: Field = Field {
+    place: 16,
+    width: 8,
+};
 /// INTID: bits [27:24].
-const INTID: u64 = 1 << 24;
-/// INTID has 4 bits.
-const INTIDS: u64 = 1 << 4;
+const INTID: Field = Field {
+    place: 24,
+    width: 4,
+};
 /// Aff2: bits [39:32].
-const AFF2: u64 = 1 << 32;
-/// IRM: bit 40.
-const IRM: u64 = 1 << 40;
+const AFF2: Field = Field {
+    place: 32,
+    width: 8,
+};
+/// IRM.
+const IRM: u32 = 40;
 /// RS: bits [47:44].
-const RS: u64 = 1 << 44;
-/// RS has 4 bits.
-const RANGES: u64 = 1 << 4;
+const RS: Field = Field {
+    place: 44,
+    width: 4,
+};
 /// Aff3: bits [55:48].
-const AFF3: u64 = 1 << 48;
-/// Each of Aff1, Aff2 and Aff3 has 8 bits.
-const AFFINITIES: u64 = 1 << 8;
+const AFF3: Field = Field {
+    place: 48,
+    width: 8,
+};
 
 /// A set of vCPUs: bit k stands for vCPU k.
 #[derive(Clone, Copy, Debug, PartialEq, Eq, Hash)]
@@ -36,42 +46,39 @@ pub fn sgi_intid(value: u64) -> u32
     ensures value { result ≡ intid_of value }
     ensures is_sgi { result < 16 }
 {
-    (value / INTID % INTIDS) as u32
+    INTID.of(value) as u32
 }
 
-/// IRM is 1: the SGI goes to all vCPUs but the sender.
-fn goes_to_all(value: u64) -> bool
-    ensures { result ≡ is_to_all value }
-{
-    value / IRM % 2 == 1
-}
-
-/// Aff1, Aff2, Aff3 and RS are 0.
+/// Aff1, Aff2 and Aff3 are 0, as each vCPU's affinity has them.
 fn goes_to_aff0(value: u64) -> bool
     ensures { result ≡ is_to_aff0 value }
 {
-    value / AFF1 % AFFINITIES == 0
-        && value / AFF2 % AFFINITIES == 0
-        && value / AFF3 % AFFINITIES == 0
-        && value / RS % RANGES == 0
+    AFF1.of(value) == 0 && AFF2.of(value) == 0 && AFF3.of(value) == 0
+}
+
+/// RS names the vCPU's range of 16, and TargetList the vCPU in it.
+fn is_listed(value: u64, vcpu: u32) -> bool
+    ensures { result ≡ is_listed_in value vcpu }
+{
+    RS.of(value) == u64::from(vcpu / TARGETS) && has_bit(value, vcpu % TARGETS)
 }
 
 fn is_target(value: u64, sender: u32, vcpu: u32) -> bool
-    requires { vcpu < 64 }
     ensures { result ≡ is_target_of value sender vcpu }
 {
-    if goes_to_all(value) {
+    if has_bit(value, IRM) {
         vcpu != sender
     } else {
-        goes_to_aff0(value) && (value % TARGETS) >> vcpu & 1 == 1
+        goes_to_aff0(value) && is_listed(value, vcpu)
     }
 }
 
-/// The vCPUs of the guest to which a write by the vCPU `sender` sends the SGI.
+/// The vCPUs of the guest to which a write by the vCPU `sender` sends the SGI. With IRM 1 these are all but the
+/// sender; else, where Aff1, Aff2 and Aff3 are 0, each vCPU 16 * RS + t for a bit t of TargetList that is 1.
 pub fn sgi_targets(value: u64, sender: u32, shape: &GuestShape) -> Targets
     requires { IsShape shape.now }
     ensures value { result ≡ targets_of value sender shape.now }
-    ensures members { (vcpu : ℕ) → has_bit result.0 vcpu ≡ (nat_lt vcpu shape.now.vcpus && is_target_of value sender vcpu) }
+    ensures members { (vcpu : ℕ) → bit_is_set result.0 vcpu ≡ (nat_lt vcpu shape.now.vcpus && is_target_of value sender vcpu) }
 {
     let mut targets = 0;
     for vcpu in 0..shape.vcpus {
@@ -91,6 +98,16 @@ mod tests {
     const TWO_VCPUS: GuestShape = GuestShape {
         vcpus: 2,
         spis: 32,
+        espis: 0,
+        devices: 1,
+        lpis: 0,
+        ram: 0,
+    };
+
+    const TWENTY_VCPUS: GuestShape = GuestShape {
+        vcpus: 20,
+        spis: 32,
+        espis: 0,
         devices: 1,
         lpis: 0,
         ram: 0,
@@ -120,6 +137,11 @@ mod tests {
             );
             assert_eq!(rt; sgi_intid(value), 5);
         }
+        let second_range = 0x0000_1000_0500_0002;
+        assert_eq!(rt;
+            sgi_targets(second_range, 0, &TWENTY_VCPUS),
+            Targets(1 << 17)
+        );
         for (affinity, vcpu) in [(0, Some(0)), (1, Some(1)), (2, None), (0x100, None)] {
             assert_eq!(rt; vcpu_of(affinity, &TWO_VCPUS), vcpu, "of {affinity}");
         }

@@ -1,8 +1,17 @@
 //! What a vCPU holds at its interface, and what it brings back.
+ghost use Rattle.std.specs.Prelude.{◌≤◌, ◌↔◌, IsTrue};
+
 use crate::interrupt::Key;
 
-/// The most list registers that a PE has.
+/// The most list registers that a PE has (IHI 0069, ICH_VTR_EL2.ListRegs: own choice of 16).
 pub const MAX_LIST_REGISTERS: usize = 16;
+
+/// Whether a PE can have this many list registers: 1 to 16.
+pub fn is_list_register_count(count: u64) -> bool
+    ensures { IsTrue result ↔ ((1 ≤ count) × (count ≤ 16)) }
+{
+    (1..=MAX_LIST_REGISTERS as u64).contains(&count)
+}
 
 /// An interrupt at a vCPU's interface, with the latched causes that it brought.
 #[derive(Clone, Copy, Debug, PartialEq, Eq, Hash)]

@@ -1,3 +1,4 @@
+//! The registers of the CPU interface, and their names.
 ghost use Rattle.std.specs.Prelude.{◌≡◌, ◌≢◌, IfSome, IfNone};
 ghost use Rattle.gic_base.specs.Icc.{name_of, register_named, is_readable as can_be_read, is_writable as can_be_written};
 

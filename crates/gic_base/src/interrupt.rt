@@ -1,6 +1,7 @@
+//! The interrupts of a guest, and their numbering.
 ghost use Rattle.std.specs.Prelude.{◌≡◌, ◌<◌, ℕ, IsTrue, IfSome, IfNone, nat_lt};
 ghost use Rattle.gic_base.specs.Shape.{IsShape};
-ghost use Rattle.gic_base.specs.Interrupt.{key_of as key_named, intid_of, is_of_vcpu, has_interrupt, interrupt_count as count_of, place_of as place_in, key_at as key_in, PlacesAreOrdered};
+ghost use Rattle.gic_base.specs.Interrupt.{key_of as key_named, intid_of, is_sgi as is_of_sgi, is_within as is_one_of, is_of_vcpu, has_interrupt, interrupt_count as count_of, place_of as place_in, key_at as key_in, PlacesAreOrdered};
 
 use crate::shape::GuestShape;
 
@@ -10,6 +11,8 @@ pub const SGI_COUNT: u32 = 16;
 pub const PRIVATE_COUNT: u32 = 32;
 /// The INTID of the first shared peripheral interrupt.
 pub const FIRST_SPI: u32 = 32;
+/// The INTID of the first extended shared peripheral interrupt.
+pub const FIRST_ESPI: u32 = 4096;
 /// The INTID of the first LPI.
 pub const FIRST_LPI: u32 = 8192;
 
@@ -19,7 +22,7 @@ pub const FIRST_LPI: u32 = 8192;
 pub enum Key {
     /// An SGI (INTID 0 to 15) or a PPI (16 to 31) of one vCPU.
     Private { vcpu: u32, id: u32 },
-    /// A shared peripheral interrupt, by its INTID from 32.
+    /// A shared peripheral interrupt, by its INTID from 32, or an extended one, by its INTID from 4096.
     Spi(u32),
     /// A locality-specific peripheral interrupt, by its INTID from 8192.
     Lpi(u32),
@@ -34,6 +37,23 @@ impl Key {
             Key::Private { id, .. } | Key::Spi(id) | Key::Lpi(id) => id,
         }
     }
+
+    /// Whether this is an SGI, which is always edge-triggered.
+    pub fn is_sgi(self) -> bool
+        ensures { result ≡ is_of_sgi self }
+    {
+        match self {
+            Key::Private { id, .. } => id < SGI_COUNT,
+            Key::Spi(_) | Key::Lpi(_) => false,
+        }
+    }
+}
+
+/// Whether a number is one of so many from a first one on.
+fn is_within(first: u32, count: u32, n: u32) -> bool
+    ensures { result ≡ is_one_of first count n }
+{
+    n >= first && n - first < count
 }
 
 /// The interrupt that an INTID names at a vCPU. None exactly where the guest has no such interrupt:
@@ -48,13 +68,10 @@ pub fn key_of(id: u32, vcpu: u32, shape: &GuestShape) -> Option<Key>
     if id < PRIVATE_COUNT {
         return (vcpu < shape.vcpus).then_some(Key::Private { vcpu, id });
     }
-    if id < FIRST_SPI + shape.spis {
+    if is_within(FIRST_SPI, shape.spis, id) || is_within(FIRST_ESPI, shape.espis, id) {
         return Some(Key::Spi(id));
     }
-    if id >= FIRST_LPI && id - FIRST_LPI < shape.lpis {
-        return Some(Key::Lpi(id));
-    }
-    None
+    is_within(FIRST_LPI, shape.lpis, id).then_some(Key::Lpi(id))
 }
 
 /// How many interrupts a guest has, each vCPU's private ones counted.
@@ -63,7 +80,7 @@ pub fn interrupt_count(shape: &GuestShape) -> usize
     ensures value { result ≡ count_of shape.now }
     ensures small { result < 8192 }
 {
-    (PRIVATE_COUNT * shape.vcpus + shape.spis + shape.lpis) as usize
+    (PRIVATE_COUNT * shape.vcpus + shape.spis + shape.espis + shape.lpis) as usize
 }
 
 /// The place of an interrupt among all of the guest's, in key order from 0.
@@ -77,8 +94,9 @@ pub fn place_of(key: Key, shape: &GuestShape) -> usize
     let private = PRIVATE_COUNT * shape.vcpus;
     let place = match key {
         Key::Private { vcpu, id } => PRIVATE_COUNT * vcpu + id,
-        Key::Spi(id) => private + (id - FIRST_SPI),
-        Key::Lpi(id) => private + shape.spis + (id - FIRST_LPI),
+        Key::Spi(id) if id < FIRST_ESPI => private + (id - FIRST_SPI),
+        Key::Spi(id) => private + shape.spis + (id - FIRST_ESPI),
+        Key::Lpi(id) => private + shape.spis + shape.espis + (id - FIRST_LPI),
     };
     place as usize
 }
@@ -93,19 +111,24 @@ pub fn key_at(place: usize, shape: &GuestShape) -> Key
 {
     let place = place as u32;
     let private = PRIVATE_COUNT * shape.vcpus;
+    let espis_from = private + shape.spis;
+    let lpis_from = espis_from + shape.espis;
     if place < private {
         return Key::Private {
             vcpu: place / PRIVATE_COUNT,
             id: place % PRIVATE_COUNT,
         };
     }
-    if place < private + shape.spis {
+    if place < espis_from {
         return Key::Spi(place - private + FIRST_SPI);
     }
-    Key::Lpi(place - private - shape.spis + FIRST_LPI)
+    if place < lpis_from {
+        return Key::Spi(place - espis_from + FIRST_ESPI);
+    }
+    Key::Lpi(place - lpis_from + FIRST_LPI)
 }
 
-/// A law of every shape: places follow the order of the keys.
+/// A law of every shape in range: places follow the order of the keys.
 pub fn places_are_ordered()
     ensures { PlacesAreOrdered ⟦<Key as Ord>⟧.cmp }
 {}

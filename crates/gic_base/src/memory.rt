@@ -1,3 +1,4 @@
+//! The refusal of memory.
 use std::alloc::AllocError;
 use std::error::Error;
 use std::fmt;

@@ -1,3 +1,4 @@
+//! What vCPUs, devices and PEs do.
 use crate::icc::IccReg;
 use crate::interrupt::Key;
 

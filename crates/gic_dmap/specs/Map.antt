@@ -2,7 +2,6 @@
 -- for the INTIDs 0 to 1023, those with an IROUTER are 32 to 1019 (own choice).
 use Rattle.std.specs.Prelude.{ℕ, ◌+◌, ◌≤◌, ◌<◌, List, [], ◌∷◌, Option, Some, None}
 use Rattle.gic_base.specs.declared.operation.Kind.TheVariants.{Group, SetEnable, ClearEnable, SetPending, ClearPending, SetActive, ClearActive, Priority, Config, Routing}
-use Rattle.gic_base.specs.declared.interrupt.TheConstants.{FIRST_SPI}
 use Rattle.gic_frame.specs.declared.bank.Access.TheVariants.{Word, WordOrLowHalf, WordOrByte, Doubleword}
 use Rattle.gic_frame.specs.declared.bank.Half.{Half}
 use Rattle.gic_frame.specs.declared.bank.Half.TheVariants.{Whole}
@@ -49,7 +48,7 @@ register_at found size = of_content found.content
     of_content : Content → RegRef
     of_content (Register reg) = Plain reg found.half
     of_content (Interrupts kind) = Bits kind (parts_in kind found.byte) (parts_in kind size)
-    of_content Routers = router_at (FIRST_SPI + parts_in Routing found.byte) found.half
+    of_content Routers = router_at (32 + parts_in Routing found.byte) found.half
 
 -- what an access is to; Reserved where the map has no register that takes it
 abbrev pub decoded : ℕ → ℕ → RegRef
@@ -62,5 +61,5 @@ decoded offset size = of_found (found_at lines offset size)
 -- the INTIDs that an access names: one to 32 below 1024, or an SPI's that has an IROUTER
 abbrev pub NamesIntids : RegRef → Type 0
 NamesIntids (Bits kind first count) = AreBelow 1024 first count
-NamesIntids (Plain (Router id) half) = (FIRST_SPI ≤ id) × (id < 1020)
+NamesIntids (Plain (Router id) half) = (32 ≤ id) × (id < 1020)
 NamesIntids ref = Unit {0}

@@ -117,7 +117,7 @@ pub fn decode(offset: u32, size: u32) -> RegRef
 /// A law of the map: its lines are in the order of their offsets, within the frame and without overlap, and
 /// each register is at a multiple of its width.
 pub fn lines_are_in_order()
-    ensures { IsTrue (is_in_order 0 FRAME_BYTES lines) }
+    ensures { IsTrue (is_in_order 0 0x10000 lines) }
 {}
 
 #[cfg(test)]

@@ -1,45 +1,43 @@
-ghost use Rattle.std.specs.Prelude.{◌≡◌, ◌≤◌, length, filter};
+//! ICH_MISR (IHI 0069, ICH_MISR_EL2): why there is a maintenance interrupt.
+ghost use Rattle.std.specs.Prelude.{◌≡◌, ◌≤◌, ◌<◌, ◌*◌, ◌^◌, length, filter};
 ghost use Rattle.std.specs.List.{list_any};
-ghost use Rattle.gic_word.specs.Bits.{has_flag};
+ghost use Rattle.gic_lr.specs.Status.{max_list_registers};
 ghost use Rattle.gic_ich.specs.Status.{misr_of, is_valid as is_valid_word, is_pending as is_pending_word, asked, entries_part, groups_part};
 
 use crate::hcr::{
-    HCR_EN, HCR_EOICOUNT, HCR_LRENPIE, HCR_NPIE, HCR_UIE, HCR_VGRP0DIE, HCR_VGRP0EIE, HCR_VGRP1DIE,
-    HCR_VGRP1EIE,
+    HCR_EN_BIT, HCR_EOICOUNT_FIELD, HCR_LRENPIE_BIT, HCR_NPIE_BIT, HCR_UIE_BIT, HCR_VGRP0DIE_BIT,
+    HCR_VGRP0EIE_BIT, HCR_VGRP1DIE_BIT, HCR_VGRP1EIE_BIT,
 };
 use crate::regs::IchRegs;
 use crate::vmcr::{VENG0, VENG1};
-use gic_base::MAX_LIST_REGISTERS;
+use gic_bits::{has_bit, put_bit};
 use gic_lr::{LrState, eisr, unpack};
 
-/// ICH_MISR.U.
-const MISR_U: u8 = 1 << 1;
-/// ICH_MISR.LRENP.
-const MISR_LRENP: u8 = 1 << 2;
-/// ICH_MISR.NP.
-const MISR_NP: u8 = 1 << 3;
-/// ICH_MISR.VGrp0E.
-const MISR_VGRP0E: u8 = 1 << 4;
-/// ICH_MISR.VGrp0D.
-const MISR_VGRP0D: u8 = 1 << 5;
-/// ICH_MISR.VGrp1E.
-const MISR_VGRP1E: u8 = 1 << 6;
-/// ICH_MISR.VGrp1D.
-const MISR_VGRP1D: u8 = 1 << 7;
-/// Whether the bit of this weight is 1.
-fn has_bit(value: u32, weight: u32) -> bool
-    requires { 1 ≤ weight }
-    ensures { result ≡ has_flag value weight }
-{
-    value / weight % 2 == 1
-}
+/// EOI.
+const EOI: u32 = 0;
+/// U.
+const U: u32 = 1;
+/// LRENP.
+const LRENP: u32 = 2;
+/// NP.
+const NP: u32 = 3;
+/// VGrp0E.
+const VGRP0E: u32 = 4;
+/// VGrp0D.
+const VGRP0D: u32 = 5;
+/// VGrp1E.
+const VGRP1E: u32 = 6;
+/// VGrp1D.
+const VGRP1D: u32 = 7;
 
+/// The list register is in use.
 fn is_valid(word: u64) -> bool
     ensures { result ≡ is_valid_word word }
 {
     unpack(word).state != LrState::Invalid
 }
 
+/// The list register is pending, and not active.
 fn is_pending(word: u64) -> bool
     ensures { result ≡ is_pending_word word }
 {
@@ -58,50 +56,53 @@ fn any_pending(words: &[u64]) -> bool
     words.iter().any(|word| is_pending(*word))
 }
 
-/// Whether ICH_HCR asks for a bit of ICH_MISR, and it happened.
-fn bit(hcr: u32, weight: u32, happened: bool) -> u8
-    requires { 1 ≤ weight }
-    ensures value { result ≡ asked hcr weight happened }
-    ensures bound { result ≤ 1 }
+/// The bit of ICH_MISR at `place`: 1 where the bit of ICH_HCR at `asking` asks for it, and it happened.
+fn bit(hcr: u32, asking: u32, happened: bool, place: u32) -> u64
+    requires asking { asking < 64 }
+    requires place { place < 64 }
+    ensures value { result ≡ asked hcr asking happened * 2 ^ place }
+    ensures bound { result ≤ 2 ^ place }
 {
-    u8::from(has_bit(hcr, weight) && happened)
+    put_bit(has_bit(u64::from(hcr), asking) && happened, place)
 }
 
 /// The bits of ICH_MISR that the list registers and EOIcount make.
-fn entries_status(regs: &IchRegs) -> u8
-    requires { regs.now.n ≤ MAX_LIST_REGISTERS }
+fn entries_status(regs: &IchRegs) -> u64
+    requires { regs.now.n ≤ max_list_registers }
     ensures value { result ≡ entries_part regs.now }
-    ensures bound { result ≤ 15 }
+    ensures bound { result < 2 ^ 4 }
 {
+    let hcr = regs.hcr;
     let listed = regs.listed();
-    u8::from(eisr(listed) != 0)
-        + bit(regs.hcr, HCR_UIE, valid_count(listed) <= 1) * MISR_U
-        + bit(regs.hcr, HCR_LRENPIE, regs.hcr / HCR_EOICOUNT != 0) * MISR_LRENP
-        + bit(regs.hcr, HCR_NPIE, !any_pending(listed)) * MISR_NP
+    let is_counted = HCR_EOICOUNT_FIELD.of(u64::from(hcr)) != 0;
+    put_bit(eisr(listed) != 0, EOI)
+        + bit(hcr, HCR_UIE_BIT, valid_count(listed) <= 1, U)
+        + bit(hcr, HCR_LRENPIE_BIT, is_counted, LRENP)
+        + bit(hcr, HCR_NPIE_BIT, !any_pending(listed), NP)
 }
 
 /// The bits of ICH_MISR that the enables of the groups make.
-fn groups_status(hcr: u32, vmcr: u32) -> u8
+fn groups_status(hcr: u32, vmcr: u32) -> u64
     ensures value { result ≡ groups_part hcr vmcr }
     ensures bound { result ≤ 240 }
 {
-    let group_0 = has_bit(vmcr, VENG0);
-    let group_1 = has_bit(vmcr, VENG1);
-    bit(hcr, HCR_VGRP0EIE, group_0) * MISR_VGRP0E
-        + bit(hcr, HCR_VGRP0DIE, !group_0) * MISR_VGRP0D
-        + bit(hcr, HCR_VGRP1EIE, group_1) * MISR_VGRP1E
-        + bit(hcr, HCR_VGRP1DIE, !group_1) * MISR_VGRP1D
+    let group_0 = has_bit(u64::from(vmcr), VENG0);
+    let group_1 = has_bit(u64::from(vmcr), VENG1);
+    bit(hcr, HCR_VGRP0EIE_BIT, group_0, VGRP0E)
+        + bit(hcr, HCR_VGRP0DIE_BIT, !group_0, VGRP0D)
+        + bit(hcr, HCR_VGRP1EIE_BIT, group_1, VGRP1E)
+        + bit(hcr, HCR_VGRP1DIE_BIT, !group_1, VGRP1D)
 }
 
 /// ICH_MISR: why there is a maintenance interrupt. All bits are 0 while ICH_HCR.En is 0.
 pub fn misr(regs: &IchRegs) -> u8
-    requires { regs.now.n ≤ MAX_LIST_REGISTERS }
+    requires { regs.now.n ≤ max_list_registers }
     ensures { result ≡ misr_of regs.now }
 {
-    if !has_bit(regs.hcr, HCR_EN) {
+    if !has_bit(u64::from(regs.hcr), HCR_EN_BIT) {
         return 0;
     }
-    entries_status(regs) + groups_status(regs.hcr, regs.vmcr)
+    (entries_status(regs) + groups_status(regs.hcr, regs.vmcr)) as u8
 }
 
 #[cfg(test)]

@@ -1,63 +1,58 @@
-ghost use Rattle.std.specs.Prelude.{◌≡◌, ◌≤◌, ◌/◌, ◌%◌, ◌*◌};
+//! ICH_VMCR (IHI 0069, ICH_VMCR_EL2): the record of a CPU interface in a register.
+ghost use Rattle.std.specs.Prelude.{◌≡◌};
 ghost use Rattle.gic_prio.specs.Priority.{HasBinaryPoints};
 ghost use Rattle.gic_ich.specs.Vmcr.{vmcr_fields, vfiqen, vmcr_of as packed_vmcr, vmcr_with as replaced_vmcr, other_bits, cpu_of as cpu_in, GivesBack};
 
 use crate::regs::IchRegs;
+use gic_bits::{Field, has_bit, put_bit};
 use gic_prio::CpuRec;
 
-/// ICH_VMCR.VENG0.
-pub const VENG0: u32 = 1 << 0;
-/// ICH_VMCR.VENG1.
-pub const VENG1: u32 = 1 << 1;
-/// ICH_VMCR.VFIQEn, which is always 1.
-const VFIQEN: u32 = 1 << 3;
-/// ICH_VMCR.VCBPR.
-const VCBPR: u32 = 1 << 4;
-/// ICH_VMCR.VEOIM.
-const VEOIM: u32 = 1 << 9;
-/// The lowest bit of ICH_VMCR.VBPR1.
-const VBPR1: u32 = 1 << 18;
-/// The lowest bit of ICH_VMCR.VBPR0.
-const VBPR0: u32 = 1 << 21;
-/// The lowest bit of ICH_VMCR.VPMR.
-const VPMR: u32 = 1 << 24;
-/// The lowest of the bits [3:2], which hold no field but VFIQEn.
-const ABOVE_ENABLES: u32 = 1 << 2;
-
-const ABOVE_ENABLES_VALUES: u32 = 1 << 2;
-/// The lowest of the bits [8:5], which hold no field.
-const ABOVE_VCBPR: u32 = 1 << 5;
-
-const ABOVE_VCBPR_VALUES: u32 = 1 << 4;
-/// The lowest of the bits [17:10], which hold no field.
-const ABOVE_VEOIM: u32 = 1 << 10;
-
-const ABOVE_VEOIM_VALUES: u32 = 1 << 8;
-/// A binary point has 3 bits.
-const BINARY_POINTS: u32 = 8;
+/// VENG0.
+pub(crate) const VENG0: u32 = 0;
+/// VENG1.
+pub(crate) const VENG1: u32 = 1;
+/// VFIQEn, which is always 1.
+const VFIQEN: u32 = 3;
+/// VCBPR.
+const VCBPR: u32 = 4;
+/// VEOIM.
+const VEOIM: u32 = 9;
+/// VBPR1: bits [20:18].
+const VBPR1: Field = Field {
+    place: 18,
+    width: 3,
+};
+/// VBPR0: bits [23:21].
+const VBPR0: Field = Field {
+    place: 21,
+    width: 3,
+};
+/// VPMR: bits [31:24].
+const VPMR: Field = Field {
+    place: 24,
+    width: 8,
+};
+/// Bits [3:2], which hold no field but VFIQEn.
+const ABOVE_ENABLES: Field = Field { place: 2, width: 2 };
+/// Bits [8:5], which hold no field.
+const ABOVE_VCBPR: Field = Field { place: 5, width: 4 };
+/// Bits [17:10], which hold no field.
+const ABOVE_VEOIM: Field = Field {
+    place: 10,
+    width: 8,
+};
 
 /// The fields of a record in ICH_VMCR.
 fn fields_of(cpu: &CpuRec) -> u32
     requires { HasBinaryPoints cpu.now }
     ensures { result ≡ vmcr_fields cpu.now }
 {
-    u32::from(cpu.en0)
-        + u32::from(cpu.en1) * VENG1
-        + u32::from(cpu.cbpr) * VCBPR
-        + u32::from(cpu.eoimode) * VEOIM
-        + u32::from(cpu.bpr1) * VBPR1
-        + u32::from(cpu.bpr0) * VBPR0
-        + u32::from(cpu.pmr) * VPMR
-}
-
-/// The bits of a field that takes so many values, where they are.
-fn bits_at(vmcr: u32, weight: u32, values: u32) -> u32
-    requires weight { 1 ≤ weight }
-    requires values { 1 ≤ values }
-    ensures value { result ≡ vmcr / weight % values * weight }
-    ensures bound { result ≤ vmcr }
-{
-    vmcr / weight % values * weight
+    let flags = put_bit(cpu.en0, VENG0)
+        + put_bit(cpu.en1, VENG1)
+        + put_bit(cpu.cbpr, VCBPR)
+        + put_bit(cpu.eoimode, VEOIM);
+    let points = VBPR1.put(u64::from(cpu.bpr1)) + VBPR0.put(u64::from(cpu.bpr0));
+    (flags + points + VPMR.put(u64::from(cpu.pmr))) as u32
 }
 
 /// The record of a CPU interface as ICH_VMCR holds it.
@@ -66,7 +61,7 @@ pub fn vmcr_of(cpu: &CpuRec) -> u32
     ensures value { result ≡ packed_vmcr cpu.now }
     ensures back { GivesBack cpu.now result }
 {
-    fields_of(cpu) + VFIQEN
+    fields_of(cpu) + put_bit(true, VFIQEN) as u32
 }
 
 /// ICH_VMCR with the fields of another record, and all other bits as they are.
@@ -76,10 +71,11 @@ pub fn vmcr_with(vmcr: u32, cpu: &CpuRec) -> u32
     ensures back { GivesBack cpu.now result }
     ensures packed { other_bits vmcr ≡ vfiqen → result ≡ packed_vmcr cpu.now }
 {
-    fields_of(cpu)
-        + bits_at(vmcr, ABOVE_ENABLES, ABOVE_ENABLES_VALUES)
-        + bits_at(vmcr, ABOVE_VCBPR, ABOVE_VCBPR_VALUES)
-        + bits_at(vmcr, ABOVE_VEOIM, ABOVE_VEOIM_VALUES)
+    let vmcr = u64::from(vmcr);
+    let others = ABOVE_ENABLES.in_place(vmcr)
+        + ABOVE_VCBPR.in_place(vmcr)
+        + ABOVE_VEOIM.in_place(vmcr);
+    fields_of(cpu) + others as u32
 }
 
 /// The record of the CPU interface that the registers hold, with EnableLPIs as given.
@@ -87,14 +83,15 @@ pub fn cpu_of(regs: &IchRegs, lpis: bool) -> CpuRec
     ensures value { result ≡ cpu_in regs.now lpis }
     ensures points { HasBinaryPoints result }
 {
+    let vmcr = u64::from(regs.vmcr);
     CpuRec {
-        pmr: (regs.vmcr / VPMR) as u8,
-        bpr0: (regs.vmcr / VBPR0 % BINARY_POINTS) as u8,
-        bpr1: (regs.vmcr / VBPR1 % BINARY_POINTS) as u8,
-        cbpr: regs.vmcr / VCBPR % 2 == 1,
-        eoimode: regs.vmcr / VEOIM % 2 == 1,
-        en0: regs.vmcr % 2 == 1,
-        en1: regs.vmcr / VENG1 % 2 == 1,
+        pmr: VPMR.of(vmcr) as u8,
+        bpr0: VBPR0.of(vmcr) as u8,
+        bpr1: VBPR1.of(vmcr) as u8,
+        cbpr: has_bit(vmcr, VCBPR),
+        eoimode: has_bit(vmcr, VEOIM),
+        en0: has_bit(vmcr, VENG0),
+        en1: has_bit(vmcr, VENG1),
         lpis,
         ap0: regs.ap0r,
         ap1: regs.ap1r,

@@ -2,14 +2,14 @@
 use Rattle.std.proofs.Common.{◌≡◌, ◌+◌, ◌/◌, ◌%◌, ◌^◌, ℕ, false, nat_eq, refl, ap, ◌∙◌, arith}
 use Rattle.gic_word.specs.declared.record.Group.{Group}
 use Rattle.gic_word.specs.declared.record.Group.TheVariants.{G0, G1}
-use Rattle.gic_word.specs.Bits.{bit_of}
+use Rattle.gic_bits.specs.Bits.{bit_of}
 use Rattle.gic_prio.specs.declared.cpu.CpuRec.{CpuRec}
-use Rattle.gic_prio.specs.Priority.{HasBinaryPoints, is_signalled, raised}
+use Rattle.gic_prio.specs.Priority.{HasBinaryPoints, is_signalled, level_activated}
 use Rattle.gic_prio.specs.Delivery.{is_group_enabled}
 use Rattle.gic_ich.specs.declared.regs.IchRegs.{IchRegs}
 use Rattle.gic_ich.specs.Vmcr.{vmcr_of, vmcr_fields, other_bits, vmcr_with, vfiqen}
 use Rattle.gic_icv.specs.Registers.{cpu_in}
-use Rattle.gic_word.proofs.BitLemmas.{flag_back, flag_small}
+use Rattle.gic_bits.proofs.BitLemmas.{flag_back, flag_small}
 
 -- a record without LPIs
 abbrev pub deaf : CpuRec → CpuRec
@@ -60,6 +60,6 @@ pub enabled_deaf : (group : Group) (cpu : CpuRec) → is_group_enabled group (de
 enabled_deaf G0 cpu = refl
 enabled_deaf G1 cpu = refl
 
-pub raised_deaf : (prio : ℕ) (group : Group) (cpu : CpuRec) → raised prio group (deaf cpu) ≡ deaf (raised prio group cpu)
-raised_deaf prio G0 cpu = refl
-raised_deaf prio G1 cpu = refl
+pub level_deaf : (prio : ℕ) (group : Group) (cpu : CpuRec) → level_activated prio group (deaf cpu) ≡ deaf (level_activated prio group cpu)
+level_deaf prio G0 cpu = refl
+level_deaf prio G1 cpu = refl

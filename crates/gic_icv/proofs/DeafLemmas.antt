@@ -1,4 +1,4 @@
--- An access does not depend on whether LPIs are enabled, and of the first candidate it asks but the INTID, the priority and the group.
+-- An access does not depend on whether LPIs are enabled, and of the candidates it asks for the first alone.
 use Rattle.std.proofs.Common.{◌≡◌, ℕ, Bool, true, false, not, ◌&&◌, cond, if◌then◌else◌, Option, Some, None, is_some, unwrap_or, option_and_then, List, refl, ap, ◌∙◌, arith}
 use Rattle.std.specs.Option.{option_map}
 use Rattle.std.proofs.lemmas.Grind.{common_steps}
@@ -6,66 +6,39 @@ use Rattle.gic_word.specs.declared.record.Group.{Group}
 use Rattle.gic_word.specs.declared.record.Group.TheVariants.{G0, G1}
 use Rattle.gic_base.specs.declared.icc.IccReg.{IccReg}
 use Rattle.gic_base.specs.declared.icc.IccReg.TheVariants.{Iar0, Iar1, Hppir0, Hppir1, Eoir0, Eoir1, Dir, Bpr1}
-use Rattle.gic_base.specs.Interrupt.{intid_of}
 use Rattle.gic_prio.specs.declared.cpu.CpuRec.{CpuRec}
 use Rattle.gic_prio.specs.declared.candidate.Candidate.{Candidate}
 use Rattle.gic_prio.specs.Priority.{is_signalled}
 use Rattle.gic_prio.specs.Delivery.{first_of}
 use Rattle.gic_prio.specs.Signal.{is_same_group, acknowledged, highest_pending, intid_read, intid_written, ended, eoir_deactivates}
-use Rattle.gic_prio.specs.Access.{taken_by, deactivated_by, answer_of, raised_by, written_by, cpu_after}
-use Rattle.gic_icv.specs.Entries.{key_shown}
-use Rattle.gic_icv.proofs.CpuLemmas.{deaf, signalled_deaf, raised_deaf}
+use Rattle.gic_prio.specs.Access.{taken_by, deactivated_by, answer_of, activated_by, written_by, cpu_after}
+use Rattle.gic_icv.proofs.CpuLemmas.{deaf, signalled_deaf, level_deaf}
 
--- a candidate as list registers show it
-abbrev pub shown : Candidate → Candidate
-shown one = record one { key = key_shown (intid_of one.key) }
-
-pub id_shown : (id : ℕ) → intid_of (key_shown id) ≡ id
-id_shown id = grind (arith, common_steps)
-
--- the candidate, if it is of the group and passes a test
-chosen : (b : Bool) (one : Candidate) → cond b (Some (shown one)) None ≡ option_map shown (cond b (Some one) None)
-chosen true one = refl
-chosen false one = refl
-
-acknowledged_shown : (group : Group) (cpu : CpuRec) (words at : List Candidate) → first_of words ≡ option_map shown (first_of at) → acknowledged group (deaf cpu) words ≡ option_map shown (acknowledged group cpu at)
+acknowledged_shown : (group : Group) (cpu : CpuRec) (words at : List Candidate) → first_of words ≡ first_of at → acknowledged group (deaf cpu) words ≡ acknowledged group cpu at
 acknowledged_shown group cpu words at e =
     ap (option_and_then (λ first. if is_same_group first.group group && is_signalled first.prio first.group (deaf cpu) then Some first else None)) e
     ∙ of_first (first_of at)
   where
-    of_first : (o : Option Candidate) → option_and_then (λ first. if is_same_group first.group group && is_signalled first.prio first.group (deaf cpu) then Some first else None) (option_map shown o)
-        ≡ option_map shown (option_and_then (λ first. if is_same_group first.group group && is_signalled first.prio first.group cpu then Some first else None) o)
+    of_first : (o : Option Candidate) → option_and_then (λ first. if is_same_group first.group group && is_signalled first.prio first.group (deaf cpu) then Some first else None) o
+        ≡ option_and_then (λ first. if is_same_group first.group group && is_signalled first.prio first.group cpu then Some first else None) o
     of_first None = refl
-    of_first (Some one) =
-        ap (λ b. if is_same_group one.group group && b then Some (shown one) else None) (signalled_deaf one.prio one.group cpu)
-        ∙ chosen (is_same_group one.group group && is_signalled one.prio one.group cpu) one
+    of_first (Some one) = ap (λ b. if is_same_group one.group group && b then Some one else None) (signalled_deaf one.prio one.group cpu)
 
-highest_shown : (group : Group) (words at : List Candidate) → first_of words ≡ option_map shown (first_of at) → highest_pending group words ≡ option_map shown (highest_pending group at)
-highest_shown group words at e =
-    ap (option_and_then (λ first. if is_same_group first.group group then Some first else None)) e
-    ∙ of_first (first_of at)
-  where
-    of_first : (o : Option Candidate) → option_and_then (λ first. if is_same_group first.group group then Some first else None) (option_map shown o)
-        ≡ option_map shown (option_and_then (λ first. if is_same_group first.group group then Some first else None) o)
-    of_first None = refl
-    of_first (Some one) = chosen (is_same_group one.group group) one
-
-intid_same : (o : Option Candidate) → intid_read (option_map shown o) ≡ intid_read o
-intid_same None = refl
-intid_same (Some one) = id_shown (intid_of one.key)
+highest_shown : (group : Group) (words at : List Candidate) → first_of words ≡ first_of at → highest_pending group words ≡ highest_pending group at
+highest_shown group words at e = ap (option_and_then (λ first. if is_same_group first.group group then Some first else None)) e
 
 -- what is acknowledged
-pub taken_shown : (reg : IccReg) (write : Option ℕ) (cpu : CpuRec) (words at : List Candidate) → first_of words ≡ option_map shown (first_of at) → taken_by reg write (deaf cpu) words ≡ option_map shown (taken_by reg write cpu at)
+pub taken_shown : (reg : IccReg) (write : Option ℕ) (cpu : CpuRec) (words at : List Candidate) → first_of words ≡ first_of at → taken_by reg write (deaf cpu) words ≡ taken_by reg write cpu at
 taken_shown Iar0 None cpu words at e = acknowledged_shown G0 cpu words at e
 taken_shown Iar1 None cpu words at e = acknowledged_shown G1 cpu words at e
 taken_shown reg write cpu words at e = refl
 
 -- what is read
-pub answer_shown : (reg : IccReg) (write : Option ℕ) (cpu : CpuRec) (words at : List Candidate) → first_of words ≡ option_map shown (first_of at) → answer_of reg write (deaf cpu) words ≡ answer_of reg write cpu at
-answer_shown Iar0 None cpu words at e = ap Some (ap intid_read (acknowledged_shown G0 cpu words at e) ∙ intid_same (acknowledged G0 cpu at))
-answer_shown Iar1 None cpu words at e = ap Some (ap intid_read (acknowledged_shown G1 cpu words at e) ∙ intid_same (acknowledged G1 cpu at))
-answer_shown Hppir0 None cpu words at e = ap Some (ap intid_read (highest_shown G0 words at e) ∙ intid_same (highest_pending G0 at))
-answer_shown Hppir1 None cpu words at e = ap Some (ap intid_read (highest_shown G1 words at e) ∙ intid_same (highest_pending G1 at))
+pub answer_shown : (reg : IccReg) (write : Option ℕ) (cpu : CpuRec) (words at : List Candidate) → first_of words ≡ first_of at → answer_of reg write (deaf cpu) words ≡ answer_of reg write cpu at
+answer_shown Iar0 None cpu words at e = ap Some (ap intid_read (acknowledged_shown G0 cpu words at e))
+answer_shown Iar1 None cpu words at e = ap Some (ap intid_read (acknowledged_shown G1 cpu words at e))
+answer_shown Hppir0 None cpu words at e = ap Some (ap intid_read (highest_shown G0 words at e))
+answer_shown Hppir1 None cpu words at e = ap Some (ap intid_read (highest_shown G1 words at e))
 answer_shown reg None cpu words at e = refl
 answer_shown reg (Some value) cpu words at e = refl
 
@@ -92,9 +65,9 @@ deactivated_deaf Dir (Some value) cpu = refl
 deactivated_deaf reg write cpu = refl
 
 -- the record after the access
-raised_by_deaf : (o : Option Candidate) (cpu : CpuRec) → raised_by (option_map shown o) (deaf cpu) ≡ deaf (raised_by o cpu)
-raised_by_deaf None cpu = refl
-raised_by_deaf (Some one) cpu = raised_deaf one.prio one.group cpu
+activated_deaf : (o : Option Candidate) (cpu : CpuRec) → activated_by o (deaf cpu) ≡ deaf (activated_by o cpu)
+activated_deaf None cpu = refl
+activated_deaf (Some one) cpu = level_deaf one.prio one.group cpu
 
 written_deaf : (reg : IccReg) (value : ℕ) (cpu : CpuRec) → written_by reg value (deaf cpu) ≡ option_map deaf (written_by reg value cpu)
 written_deaf Eoir0 value cpu = ended_deaf G0 (intid_written value) cpu
@@ -106,6 +79,6 @@ unwrapped_deaf : (o : Option CpuRec) (cpu : CpuRec) → unwrap_or (option_map de
 unwrapped_deaf None cpu = refl
 unwrapped_deaf (Some after) cpu = refl
 
-pub cpu_after_deaf : (reg : IccReg) (write : Option ℕ) (cpu : CpuRec) (words at : List Candidate) → first_of words ≡ option_map shown (first_of at) → cpu_after reg write (deaf cpu) words ≡ deaf (cpu_after reg write cpu at)
-cpu_after_deaf reg None cpu words at e = ap (λ o. raised_by o (deaf cpu)) (taken_shown reg None cpu words at e) ∙ raised_by_deaf (taken_by reg None cpu at) cpu
+pub cpu_after_deaf : (reg : IccReg) (write : Option ℕ) (cpu : CpuRec) (words at : List Candidate) → first_of words ≡ first_of at → cpu_after reg write (deaf cpu) words ≡ deaf (cpu_after reg write cpu at)
+cpu_after_deaf reg None cpu words at e = ap (λ o. activated_by o (deaf cpu)) (taken_shown reg None cpu words at e) ∙ activated_deaf (taken_by reg None cpu at) cpu
 cpu_after_deaf reg (Some value) cpu words at e = ap (λ o. unwrap_or o (deaf cpu)) (written_deaf reg value cpu) ∙ unwrapped_deaf (written_by reg value cpu) cpu

@@ -1,11 +1,9 @@
 -- The first candidate of list registers is that of the interface for which they stand.
-use Rattle.std.proofs.Common.{◌≡◌, ◌≤◌, ℕ, zero, suc, Bool, true, false, not, ◌&&◌, ◌||◌, cond, nat_eq, nat_lt, Option, Some, None, List, [], ◌∷◌, map, length, filter, find, Contains, All, ◌⊎◌, inl, inr, refl, sym, ap, ◌∙◌, subst, arith}
-use Rattle.std.specs.List.{filter_map, cons_option, list_any}
-use Rattle.std.specs.Option.{option_map}
+use Rattle.std.proofs.Common.{◌≡◌, ◌≤◌, ℕ, zero, suc, Bool, true, false, not, ◌&&◌, cond, Option, Some, None, List, [], ◌∷◌, length, filter, find, Contains, All, ◌⊎◌, inl, inr, refl, sym, ap, ◌∙◌, subst, arith}
+use Rattle.std.specs.List.{filter_map, cons_option}
 use Rattle.std.proofs.lemmas.Grind.{common_steps}
 use Rattle.std.proofs.lemmas.Option.{none-some, same_Some}
 use Rattle.std.proofs.lemmas.List.Elements.{All-contains}
-use Rattle.gic_base.specs.Interrupt.{intid_of}
 use Rattle.gic_lr.specs.declared.entry.LrState.{LrState}
 use Rattle.gic_lr.specs.declared.entry.LrState.TheVariants.{Invalid, Pending, Active, Both}
 use Rattle.gic_lr.specs.Entry.{unpacked, state_has_pending, state_has_active}
@@ -15,14 +13,13 @@ use Rattle.gic_prio.specs.Delivery.{first_of, is_before, is_group_enabled}
 use Rattle.gic_prio.specs.Interface.{AtInterface, InterfaceState, candidate_of, candidates_at}
 use Rattle.gic_prio.proofs.FirstLemmas.{first_is, empty_or_first, found}
 use Rattle.gic_ich.specs.Status.{is_pending_state}
-use Rattle.gic_icv.specs.Entries.{key_shown, candidate_in, candidates_in}
-use Rattle.gic_icv.specs.Agree.{Seen, seen_in, seen_of, is_live, seen_words, seen_entries}
+use Rattle.gic_icv.specs.Entries.{candidate_in, candidates_in}
+use Rattle.gic_icv.specs.Agree.{Seen, seen_in, is_live, seen_words, seen_entries}
 use Rattle.gic_icv.proofs.CpuLemmas.{deaf, enabled_deaf}
-use Rattle.gic_icv.proofs.DeafLemmas.{shown, id_shown}
 
 -- a seen interrupt as a candidate
 abbrev pub candidate_seen : CpuRec → Seen → Option Candidate
-candidate_seen cpu s = cond (s.pending && not s.active && is_group_enabled s.group cpu) (Some (record { key = key_shown s.id; prio = s.prio; group = s.group })) None
+candidate_seen cpu s = cond (s.pending && not s.active && is_group_enabled s.group cpu) (Some (record { id = s.id; prio = s.prio; group = s.group })) None
 
 abbrev pub candidates_seen : CpuRec → List Seen → List Candidate
 candidates_seen cpu seen = filter_map (candidate_seen cpu) seen
@@ -38,7 +35,7 @@ word_candidate : (cpu : CpuRec) (word : ℕ) → candidate_in (deaf cpu) word �
 word_candidate cpu word =
     let entry = unpacked word in
     same (is_pending_state entry.state) (state_has_pending entry.state) (state_has_active entry.state) (is_group_enabled entry.group (deaf cpu)) (is_group_enabled entry.group cpu)
-    (record { key = key_shown entry.id; prio = entry.prio; group = entry.group }) (pending_alone entry.state) (enabled_deaf entry.group cpu)
+    (record { id = entry.id; prio = entry.prio; group = entry.group }) (pending_alone entry.state) (enabled_deaf entry.group cpu)
   where
     same : (p q a g h : Bool) (one : Candidate) → p ≡ (q && not a) → g ≡ h → cond (p && g) (Some one) None ≡ cond (q && not a && h) (Some one) None
     same p q a g h one e f = grind (arith, common_steps)
@@ -50,49 +47,10 @@ words_candidates cpu (word ∷ words) = consed (candidate_in (deaf cpu) word) (c
     consed : (o p : Option Candidate) (xs ys : List Candidate) → o ≡ p → xs ≡ ys → cons_option o xs ≡ cons_option p ys
     consed o p xs ys e f = cc
 
--- and so has an interface, as list registers show them
-entry_candidate : (cpu : CpuRec) (entry : AtInterface) → option_map shown (candidate_of cpu entry) ≡ candidate_seen cpu (seen_of entry)
-entry_candidate cpu entry =
-    chosen (entry.pending && not entry.active && is_group_enabled entry.group cpu) (record { key = entry.key; prio = entry.prio; group = entry.group })
-  where
-    chosen : (b : Bool) (one : Candidate) → option_map shown (cond b (Some one) None) ≡ cond b (Some (shown one)) None
-    chosen true one = refl
-    chosen false one = refl
-
-entries_candidates : (cpu : CpuRec) (at : List AtInterface) → map shown (filter_map (candidate_of cpu) at) ≡ candidates_seen cpu (seen_entries at)
+-- and so has an interface
+entries_candidates : (cpu : CpuRec) (at : List AtInterface) → filter_map (candidate_of cpu) at ≡ candidates_seen cpu (seen_entries at)
 entries_candidates cpu [] = refl
-entries_candidates cpu (entry ∷ at) = consed (candidate_of cpu entry) (candidate_seen cpu (seen_of entry)) (filter_map (candidate_of cpu) at) (candidates_seen cpu (seen_entries at)) (entry_candidate cpu entry) (entries_candidates cpu at)
-  where
-    consed : (o p : Option Candidate) (xs ys : List Candidate) → option_map shown o ≡ p → map shown xs ≡ ys → map shown (cons_option o xs) ≡ cons_option p ys
-    consed None p xs ys e f = rw (sym e) f
-    consed (Some one) p xs ys e f = rw (sym e) (ap (λ zs. shown one ∷ zs) f)
-
--- the order asks nothing of a key but its INTID
-before_shown : (a b : Candidate) → is_before (shown a) (shown b) ≡ is_before a b
-before_shown a b =
-    ap (λ id. nat_lt a.prio b.prio || (nat_eq a.prio b.prio && nat_lt id (intid_of (shown b).key))) (id_shown (intid_of a.key))
-    ∙ ap (λ id. nat_lt a.prio b.prio || (nat_eq a.prio b.prio && nat_lt (intid_of a.key) id)) (id_shown (intid_of b.key))
-
-any_shown : (one : Candidate) (xs : List Candidate) → list_any (λ other. is_before other (shown one)) (map shown xs) ≡ list_any (λ other. is_before other one) xs
-any_shown one [] = refl
-any_shown one (x ∷ xs) = or_same (is_before (shown x) (shown one)) (is_before x one) (list_any (λ other. is_before other (shown one)) (map shown xs)) (list_any (λ other. is_before other one) xs) (before_shown x one) (any_shown one xs)
-  where
-    or_same : (a b c d : Bool) → a ≡ b → c ≡ d → (a || c) ≡ (b || d)
-    or_same a b c d e f = cc
-
-find_shown : (p q : Candidate → Bool) → ((x : Candidate) → p (shown x) ≡ q x) → (xs : List Candidate) → find p (map shown xs) ≡ option_map shown (find q xs)
-find_shown p q same [] = refl
-find_shown p q same (x ∷ xs) =
-    of_test (p (shown x)) (q x) (find p (map shown xs)) (find q xs) (same x) (find_shown p q same xs)
-  where
-    of_test : (a b : Bool) (o o' : Option Candidate) → a ≡ b → o ≡ option_map shown o' → cond a (Some (shown x)) o ≡ option_map shown (cond b (Some x) o')
-    of_test a true o o' e f = rw e refl
-    of_test a false o o' e f = rw e f
-
-first_shown : (xs : List Candidate) → first_of (map shown xs) ≡ option_map shown (first_of xs)
-first_shown xs =
-    find_shown (λ one. not (list_any (λ other. is_before other one) (map shown xs))) (λ one. not (list_any (λ other. is_before other one) xs))
-    (λ x. ap not (any_shown x xs)) xs
+entries_candidates cpu (entry ∷ at) = ap (cons_option (candidate_of cpu entry)) (entries_candidates cpu at)
 
 -- an element of a longer list
 pub cons_cases : {X : Type 0} → (x y : X) (xs : List X) → Contains (x ∷ xs) y → (x ≡ y) ⊎ Contains xs y
@@ -176,7 +134,7 @@ find_among p (x ∷ seen) s e = by_head (find_among p seen s) (p x) e
 -- a candidate is live, and of its interrupt's INTID, priority and group
 pub record FromSeen (cpu : CpuRec) (s : Seen) (one : Candidate) : Type 0 where
   pub live : is_live s.id s ≡ true
-  pub id : intid_of one.key ≡ s.id
+  pub id : one.id ≡ s.id
   pub prio : one.prio ≡ s.prio
   pub group : one.group ≡ s.group
   pub pending : s.pending ≡ true
@@ -186,15 +144,15 @@ pub from_seen : (cpu : CpuRec) (s : Seen) (one : Candidate) → candidate_seen c
 from_seen cpu s one e =
     by_test (s.pending && not s.active && is_group_enabled s.group cpu) refl e
   where
-    by_test : (b : Bool) → (s.pending && not s.active && is_group_enabled s.group cpu) ≡ b → cond b (Some (record { key = key_shown s.id; prio = s.prio; group = s.group })) None ≡ Some one → FromSeen cpu s one
+    by_test : (b : Bool) → (s.pending && not s.active && is_group_enabled s.group cpu) ≡ b → cond b (Some (record { id = s.id; prio = s.prio; group = s.group })) None ≡ Some one → FromSeen cpu s one
     by_test false f g = absurd (none-some one g)
     by_test true f g =
-        let is : record { key = key_shown s.id; prio = s.prio; group = s.group } ≡ one = same_Some (record { key = key_shown s.id; prio = s.prio; group = s.group }) one g in
+        let is : record { id = s.id; prio = s.prio; group = s.group } ≡ one = same_Some (record { id = s.id; prio = s.prio; group = s.group }) one g in
         let pending : s.pending ≡ true = grind (arith, common_steps, f) in
         let active : s.active ≡ false = grind (arith, common_steps, f) in
         record {
           live = grind (arith, common_steps, pending);
-          id = sym (ap (λ c. intid_of c.key) is) ∙ id_shown s.id;
+          id = sym (ap (λ c. c.id) is);
           prio = sym (ap (λ c. c.prio) is);
           group = sym (ap (λ c. c.group) is);
           pending = pending;
@@ -226,14 +184,14 @@ tied cpu a once one two h k e f =
     let to = source_of (candidate_seen cpu) a two k in
     let seen = from_seen cpu from.of one from.is in
     let seen_two = from_seen cpu to.of two to.is in
-    let same_id : intid_of one.key ≡ intid_of two.key = neither one two e f in
+    let same_id : one.id ≡ two.id = neither one two e f in
     let id_is : to.of.id ≡ from.of.id = sym seen_two.id ∙ sym same_id ∙ seen.id in
     let there : find (is_live from.of.id) a ≡ Some from.of = find_once (is_live from.of.id) a from.of (once from.of.id) from.among seen.live in
     let there_two : find (is_live to.of.id) a ≡ Some to.of = find_once (is_live to.of.id) a to.of (once to.of.id) to.among seen_two.live in
     let same : from.of ≡ to.of = same_Some from.of to.of (sym there ∙ ap (λ id. find (is_live id) a) (sym id_is) ∙ there_two) in
     same_Some one two (sym from.is ∙ ap (candidate_seen cpu) same ∙ to.is)
   where
-    neither : (one two : Candidate) → is_before one two ≡ false → is_before two one ≡ false → intid_of one.key ≡ intid_of two.key
+    neither : (one two : Candidate) → is_before one two ≡ false → is_before two one ≡ false → one.id ≡ two.id
     neither one two e f = grind (arith, common_steps)
 
 -- the first of one is the first of the other
@@ -268,9 +226,8 @@ first_same cpu a b show = by_first (first_of (candidates_seen cpu a)) (first_of 
     by_first None None e f = e ∙ sym f
 
 -- list registers that show an interface have its first candidate
-pub first_agrees : (words : List ℕ) (interface : InterfaceState) → ShowSame (seen_words words) (seen_entries interface.at) → first_of (candidates_in (deaf interface.cpu) words) ≡ option_map shown (first_of (candidates_at interface))
+pub first_agrees : (words : List ℕ) (interface : InterfaceState) → ShowSame (seen_words words) (seen_entries interface.at) → first_of (candidates_in (deaf interface.cpu) words) ≡ first_of (candidates_at interface)
 first_agrees words interface show =
     ap first_of (words_candidates interface.cpu words)
     ∙ first_same interface.cpu (seen_words words) (seen_entries interface.at) show
     ∙ sym (ap first_of (entries_candidates interface.cpu interface.at))
-    ∙ first_shown (candidates_at interface)

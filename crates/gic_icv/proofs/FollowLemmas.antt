@@ -1,7 +1,7 @@
 -- An access of registers that stand for an interface follows the rules of a CPU interface.
 use Rattle.std.proofs.Common.{◌≡◌, ◌≤◌, ◌<◌, ◌+◌, ◌/◌, ◌%◌, ◌^◌, ℕ, zero, suc, Bool, true, false, not, ◌&&◌, ◌||◌, cond, if◌then◌else◌, nat_eq, nat_lt, Option, Some, None, List, [], ◌∷◌, ◌++◌, length, filter, find, get_or, set, take, position, Contains, ◌⊎◌, inl, inr, refl, sym, ap, ◌∙◌, subst, arith}
-use Rattle.std.specs.List.{list_all, position_or_len}
-use Rattle.std.specs.Option.{option_map, option_map_or}
+use Rattle.std.specs.List.{position_or_len}
+use Rattle.std.specs.Option.{option_map_or}
 use Rattle.std.proofs.Math.Seq.{take-set-lt}
 use Rattle.std.proofs.lemmas.Grind.{common_steps}
 use Rattle.std.proofs.lemmas.Option.{none-some, same_Some}
@@ -9,7 +9,7 @@ use Rattle.std.proofs.lemmas.List.{get_or-take}
 use Rattle.std.proofs.lemmas.List.Quantifiers.{position-Some}
 use Rattle.gic_word.specs.declared.record.Group.{Group}
 use Rattle.gic_word.specs.declared.record.Group.TheVariants.{G0, G1}
-use Rattle.gic_word.specs.Bits.{has_flag}
+use Rattle.gic_bits.specs.Bits.{has_bit}
 use Rattle.gic_base.specs.declared.icc.IccReg.{IccReg}
 use Rattle.gic_base.specs.Interrupt.{intid_of}
 use Rattle.gic_lr.specs.Entry.{unpacked, state_has_pending, state_has_active}
@@ -18,66 +18,22 @@ use Rattle.gic_prio.specs.declared.candidate.Candidate.{Candidate}
 use Rattle.gic_prio.specs.Delivery.{first_of, is_group_enabled}
 use Rattle.gic_prio.specs.Signal.{is_same_group, ended}
 use Rattle.gic_prio.specs.Access.{taken_by, deactivated_by, answer_of, cpu_after}
-use Rattle.gic_prio.specs.Interface.{AtInterface, InterfaceState, candidates_at, changed_at, acknowledged_entry, deactivated_entry, acknowledged_at, deactivated_at, interface_after}
+use Rattle.gic_prio.specs.Interface.{AtInterface, InterfaceState, candidates_at, changed_at, acknowledged_entry, deactivated_entry, acknowledged_at, deactivated_at, IsInterface, interface_after}
 use Rattle.gic_prio.proofs.FirstLemmas.{first_is}
-use Rattle.gic_prio.proofs.AccessLemmas.{taken_first, points_after}
+use Rattle.gic_prio.proofs.AccessLemmas.{taken_first}
+use Rattle.gic_prio.proofs.EntryLemmas.{AreEntries, acknowledged_entries, stays_interface}
 use Rattle.gic_ich.specs.declared.regs.IchRegs.{IchRegs}
 use Rattle.gic_ich.specs.Regs.{listed_of}
 use Rattle.gic_ich.specs.Status.{is_pending}
 use Rattle.gic_ich.specs.Vmcr.{vmcr_with}
 use Rattle.gic_icv.specs.declared.registers.Outcome.{Outcome}
-use Rattle.gic_icv.specs.Entries.{key_shown, candidate_in, candidates_in, has_candidate, has_active, acknowledged_word, deactivated_word}
-use Rattle.gic_icv.specs.Registers.{cpu_in, candidates_of, first_changed, after_acknowledge, counted, after_deactivation_of, after_deactivation, with_cpu, registers_after, answered}
-use Rattle.gic_icv.specs.Agree.{Seen, seen_in, seen_of, is_live, seen_words, seen_entries, has_its_kind, Agrees, IsInterface, Follows}
+use Rattle.gic_icv.specs.Entries.{candidate_in, candidates_in, has_candidate, has_active, acknowledged_word, deactivated_word}
+use Rattle.gic_icv.specs.Registers.{cpu_in, candidates_of, first_changed, after_acknowledge, is_counted, counted, after_deactivation_of, after_deactivation, with_cpu, registers_after, answered}
+use Rattle.gic_icv.specs.Agree.{Seen, seen_in, seen_of, is_live, seen_words, seen_entries, Agrees, Follows}
 use Rattle.gic_icv.proofs.CpuLemmas.{deaf, holds, vmcr_replaced}
-use Rattle.gic_icv.proofs.DeafLemmas.{shown, id_shown, taken_shown, answer_shown, deactivated_deaf, cpu_after_deaf}
+use Rattle.gic_icv.proofs.DeafLemmas.{taken_shown, answer_shown, deactivated_deaf, cpu_after_deaf}
 use Rattle.gic_icv.proofs.FirstLemmas.{ShowSame, source_of, first_agrees, find_once, find_among, cons_cases, head_is, in_tail, pending_alone}
 use Rattle.gic_icv.proofs.ChangeLemmas.{seen_acknowledged, seen_deactivated, word_acknowledged, word_deactivated, seen_after, split, seen_split, Replaced, found_replaced, once_replaced, IsEntryChange, found_changed, entry_acknowledged, entry_deactivated, deactivated_dead}
-
--- the interrupts of an interface, one of each INTID and each of its kind
-pub record AreEntries (at : List AtInterface) : Type 0 where
-  pub once : (id : ℕ) → length (filter (λ entry. nat_eq (intid_of entry.key) id) at) ≤ 1
-  pub kinds : list_all has_its_kind at ≡ true
-
--- a change that keeps keys keeps that
-filter_kept : (change : AtInterface → AtInterface) → ((entry : AtInterface) → (change entry).key ≡ entry.key) → (k id : ℕ) (at : List AtInterface) → length (filter (λ entry. nat_eq (intid_of entry.key) id) (changed_at change k at)) ≡ length (filter (λ entry. nat_eq (intid_of entry.key) id) at)
-filter_kept change keeps k id [] = refl
-filter_kept change keeps k id (entry ∷ at) = by_head (nat_eq (intid_of entry.key) k) (filter_kept change keeps k id at)
-  where
-    counted_one : (b c : Bool) (x y : AtInterface) (xs ys : List AtInterface) → b ≡ c → length xs ≡ length ys → length (cond b (x ∷ xs) xs) ≡ length (cond c (y ∷ ys) ys)
-    counted_one b true x y xs ys e f = rw e (ap suc f)
-    counted_one b false x y xs ys e f = rw e f
-
-    by_head : (b : Bool) → length (filter (λ entry. nat_eq (intid_of entry.key) id) (changed_at change k at)) ≡ length (filter (λ entry. nat_eq (intid_of entry.key) id) at) → length (filter (λ entry. nat_eq (intid_of entry.key) id) (cond b (change entry) entry ∷ changed_at change k at)) ≡ length (filter (λ entry. nat_eq (intid_of entry.key) id) (entry ∷ at))
-    by_head true g = counted_one (nat_eq (intid_of (change entry).key) id) (nat_eq (intid_of entry.key) id) (change entry) entry (filter (λ entry. nat_eq (intid_of entry.key) id) (changed_at change k at)) (filter (λ entry. nat_eq (intid_of entry.key) id) at) (ap (λ key. nat_eq (intid_of key) id) (keeps entry)) g
-    by_head false g = counted_one (nat_eq (intid_of entry.key) id) (nat_eq (intid_of entry.key) id) entry entry (filter (λ entry. nat_eq (intid_of entry.key) id) (changed_at change k at)) (filter (λ entry. nat_eq (intid_of entry.key) id) at) refl g
-
-kinds_kept : (change : AtInterface → AtInterface) → ((entry : AtInterface) → has_its_kind (change entry) ≡ has_its_kind entry) → (k : ℕ) (at : List AtInterface) → list_all has_its_kind (changed_at change k at) ≡ list_all has_its_kind at
-kinds_kept change keeps k [] = refl
-kinds_kept change keeps k (entry ∷ at) = by_head (nat_eq (intid_of entry.key) k) (kinds_kept change keeps k at)
-  where
-    both : (a b c d : Bool) → a ≡ b → c ≡ d → (a && c) ≡ (b && d)
-    both a b c d e f = cc
-
-    by_head : (b : Bool) → list_all has_its_kind (changed_at change k at) ≡ list_all has_its_kind at → list_all has_its_kind (cond b (change entry) entry ∷ changed_at change k at) ≡ list_all has_its_kind (entry ∷ at)
-    by_head true g = both (has_its_kind (change entry)) (has_its_kind entry) (list_all has_its_kind (changed_at change k at)) (list_all has_its_kind at) (keeps entry) g
-    by_head false g = ap (λ b. has_its_kind entry && b) g
-
-acknowledged_entries : (taken : Option Candidate) (at : List AtInterface) → AreEntries at → AreEntries (acknowledged_at taken at)
-acknowledged_entries None at are = are
-acknowledged_entries (Some f) at are =
-    record {
-      once = λ id. subst (λ n. n ≤ 1) (sym (filter_kept acknowledged_entry (λ entry. refl) (intid_of f.key) id at)) (are.once id);
-      kinds = kinds_kept acknowledged_entry (λ entry. refl) (intid_of f.key) at ∙ are.kinds;
-    }
-
-deactivated_entries : (ended : Option ℕ) (at : List AtInterface) → AreEntries at → AreEntries (deactivated_at ended at)
-deactivated_entries None at are = are
-deactivated_entries (Some k) at are =
-    record {
-      once = λ id. subst (λ n. n ≤ 1) (sym (filter_kept deactivated_entry (λ entry. refl) k id at)) (are.once id);
-      kinds = kinds_kept deactivated_entry (λ entry. refl) k at ∙ are.kinds;
-    }
 
 -- an interface shows each INTID once
 live_once : (id : ℕ) (at : List AtInterface) → length (filter (is_live id) (seen_entries at)) ≤ length (filter (λ entry. nat_eq (intid_of entry.key) id) at)
@@ -184,26 +140,26 @@ same_group G0 = refl
 same_group G1 = refl
 
 -- the list register in which a candidate was found has it
-has_it : (cpu : CpuRec) (f : Candidate) (word : ℕ) → candidate_in cpu word ≡ Some (shown f) → has_candidate (shown f) word ≡ true
+has_it : (cpu : CpuRec) (f : Candidate) (word : ℕ) → candidate_in cpu word ≡ Some f → has_candidate f word ≡ true
 has_it cpu f word e = by_test (is_pending word) (is_group_enabled (unpacked word).group cpu) e
   where
-    by_test : (b c : Bool) → cond (b && c) (Some (record { key = key_shown (unpacked word).id; prio = (unpacked word).prio; group = (unpacked word).group })) None ≡ Some (shown f) → (b && nat_eq (unpacked word).id (intid_of (shown f).key) && nat_eq (unpacked word).prio f.prio && is_same_group (unpacked word).group f.group) ≡ true
+    by_test : (b c : Bool) → cond (b && c) (Some (record { id = (unpacked word).id; prio = (unpacked word).prio; group = (unpacked word).group })) None ≡ Some f → (b && nat_eq (unpacked word).id f.id && nat_eq (unpacked word).prio f.prio && is_same_group (unpacked word).group f.group) ≡ true
     by_test true true g =
-        let one : Candidate = record { key = key_shown (unpacked word).id; prio = (unpacked word).prio; group = (unpacked word).group } in
-        let is : one ≡ shown f = same_Some one (shown f) g in
-        let id : (unpacked word).id ≡ intid_of (shown f).key = sym (id_shown (unpacked word).id) ∙ ap (λ c. intid_of c.key) is in
+        let one : Candidate = record { id = (unpacked word).id; prio = (unpacked word).prio; group = (unpacked word).group } in
+        let is : one ≡ f = same_Some one f g in
+        let id : (unpacked word).id ≡ f.id = ap (λ c. c.id) is in
         let prio : (unpacked word).prio ≡ f.prio = ap (λ c. c.prio) is in
         let group : (unpacked word).group ≡ f.group = ap (λ c. c.group) is in
         rw (id, prio, group, same_group f.group) (grind arith)
-    by_test true false g = absurd (none-some (shown f) g)
-    by_test false c g = absurd (none-some (shown f) g)
+    by_test true false g = absurd (none-some f g)
+    by_test false c g = absurd (none-some f g)
 
 -- a list register that has a candidate, or an active interrupt, is live
-candidate_live : (f : Candidate) (word : ℕ) → has_candidate (shown f) word ≡ true → is_live (intid_of f.key) (seen_in word) ≡ true
+candidate_live : (f : Candidate) (word : ℕ) → has_candidate f word ≡ true → is_live f.id (seen_in word) ≡ true
 candidate_live f word e =
     let state = (unpacked word).state in
-    by_test (is_pending word) (nat_eq (unpacked word).id (intid_of (shown f).key)) (nat_eq (unpacked word).prio f.prio) (is_same_group (unpacked word).group f.group) (state_has_pending state) (state_has_active state)
-    (nat_eq (unpacked word).id (intid_of f.key)) (pending_alone state) (ap (nat_eq (unpacked word).id) (id_shown (intid_of f.key))) e
+    by_test (is_pending word) (nat_eq (unpacked word).id f.id) (nat_eq (unpacked word).prio f.prio) (is_same_group (unpacked word).group f.group) (state_has_pending state) (state_has_active state)
+    (nat_eq (unpacked word).id f.id) (pending_alone state) refl e
   where
     by_test : (p id prio group pending active same : Bool) → p ≡ (pending && not active) → id ≡ same → (p && id && prio && group) ≡ true → (same && (pending || active)) ≡ true
     by_test p id prio group pending active same e f g = grind (arith, common_steps)
@@ -215,19 +171,19 @@ active_live k word e = by_test (nat_eq (unpacked word).id k) (state_has_pending 
     by_test same pending active e = grind (arith, common_steps)
 
 -- an acknowledge of the first candidate
-acknowledge_shows : (regs : IchRegs) (at : List AtInterface) (cpu : CpuRec) (f : Candidate) → Shows (listed_of regs) at → AreEntries at → first_of (candidates_in (deaf cpu) (listed_of regs)) ≡ Some (shown f) → Shows (listed_of (after_acknowledge (Some (shown f)) regs)) (acknowledged_at (Some f) at)
+acknowledge_shows : (regs : IchRegs) (at : List AtInterface) (cpu : CpuRec) (f : Candidate) → Shows (listed_of regs) at → AreEntries at → first_of (candidates_in (deaf cpu) (listed_of regs)) ≡ Some f → Shows (listed_of (after_acknowledge (Some f) regs)) (acknowledged_at (Some f) at)
 acknowledge_shows regs at cpu f shows are e =
     let words = listed_of regs in
-    let first = first_is (candidates_in (deaf cpu) words) (shown f) e in
-    let from = source_of (candidate_in (deaf cpu)) words (shown f) first.among in
-    by_place (position (has_candidate (shown f)) words) refl (none_placed (has_candidate (shown f)) words from.of from.among (has_it (deaf cpu) f from.of from.is))
+    let first = first_is (candidates_in (deaf cpu) words) f e in
+    let from = source_of (candidate_in (deaf cpu)) words f first.among in
+    by_place (position (has_candidate f) words) refl (none_placed (has_candidate f) words from.of from.among (has_it (deaf cpu) f from.of from.is))
   where
-    by_place : (o : Option ℕ) → position (has_candidate (shown f)) (listed_of regs) ≡ o → (position (has_candidate (shown f)) (listed_of regs) ≡ None → ⊥) → Shows (listed_of (after_acknowledge (Some (shown f)) regs)) (acknowledged_at (Some f) at)
+    by_place : (o : Option ℕ) → position (has_candidate f) (listed_of regs) ≡ o → (position (has_candidate f) (listed_of regs) ≡ None → ⊥) → Shows (listed_of (after_acknowledge (Some f) regs)) (acknowledged_at (Some f) at)
     by_place None i never = absurd (never i)
     by_place (Some place) i never =
-        let changed = changed_at_place (has_candidate (shown f)) acknowledged_word regs regs place i in
+        let changed = changed_at_place (has_candidate f) acknowledged_word regs regs place i in
         subst (λ words. Shows words (acknowledged_at (Some f) at)) (sym changed.listed)
-        (changed_shows (listed_of regs) at place (intid_of f.key) acknowledged_word acknowledged_entry seen_acknowledged shows are changed.within (candidate_live f (get_or (listed_of regs) place 0) changed.passes) word_acknowledged entry_acknowledged)
+        (changed_shows (listed_of regs) at place f.id acknowledged_word acknowledged_entry seen_acknowledged shows are changed.within (candidate_live f (get_or (listed_of regs) place 0) changed.passes) word_acknowledged entry_acknowledged)
 
 -- the list register in which something is seen
 word_of : (words : List ℕ) (s : Seen) → Contains (seen_words words) s → (word : ℕ) × Contains words word × (seen_in word ≡ s)
@@ -271,7 +227,7 @@ deactivation_shows : (regs : IchRegs) (at : List AtInterface) (k : ℕ) → Show
 deactivation_shows regs at k shows are = by_place (position (has_active k) (listed_of regs)) refl
   where
     otherwise : IchRegs
-    otherwise = if nat_lt k 1020 then counted regs else regs
+    otherwise = if is_counted k then counted regs else regs
 
     listed_otherwise : (b : Bool) → listed_of (if b then counted regs else regs) ≡ listed_of regs
     listed_otherwise true = refl
@@ -279,7 +235,7 @@ deactivation_shows regs at k shows are = by_place (position (has_active k) (list
 
     by_place : (o : Option ℕ) → position (has_active k) (listed_of regs) ≡ o → Shows (listed_of (after_deactivation_of k regs)) (deactivated_at (Some k) at)
     by_place None i =
-        let same : listed_of (after_deactivation_of k regs) ≡ listed_of regs = ap (λ o. listed_of (option_map_or (λ place. record regs { lr = set regs.lr place (deactivated_word (get_or regs.lr place 0)) }) o otherwise)) i ∙ listed_otherwise (nat_lt k 1020) in
+        let same : listed_of (after_deactivation_of k regs) ≡ listed_of regs = ap (λ o. listed_of (option_map_or (λ place. record regs { lr = set regs.lr place (deactivated_word (get_or regs.lr place 0)) }) o otherwise)) i ∙ listed_otherwise (is_counted k) in
         subst (λ words. Shows words (deactivated_at (Some k) at)) (sym same)
         (record {
           same = λ id. sym (found_changed deactivated_entry seen_deactivated entry_deactivated k at (are.once k) are.kinds (deactivated_dead k at) id ∙ unchanged (nat_eq id k) id refl i);
@@ -304,7 +260,7 @@ deactivation_shows regs at k shows are = by_place (position (has_active k) (list
 -- what an access keeps of the registers
 record Keeps (before after : IchRegs) : Type 0 where
   pub vmcr : after.vmcr ≡ before.vmcr
-  pub enabled : has_flag before.hcr 1 ≡ true → has_flag after.hcr 1 ≡ true
+  pub enabled : has_bit before.hcr 0 ≡ true → has_bit after.hcr 0 ≡ true
 
 first_keeps : (is_so : ℕ → Bool) (change : ℕ → ℕ) (regs otherwise : IchRegs) → Keeps regs otherwise → Keeps regs (first_changed is_so change regs otherwise)
 first_keeps is_so change regs otherwise keeps = by_place (position is_so (listed_of regs))
@@ -319,7 +275,7 @@ acknowledge_keeps (Some f) regs = first_keeps (has_candidate f) acknowledged_wor
 
 deactivation_keeps : (ended : Option ℕ) (regs : IchRegs) → Keeps regs (after_deactivation ended regs)
 deactivation_keeps None regs = record { vmcr = refl; enabled = λ e. e }
-deactivation_keeps (Some k) regs = first_keeps (has_active k) deactivated_word regs (if nat_lt k 1020 then counted regs else regs) (by_id (nat_lt k 1020))
+deactivation_keeps (Some k) regs = first_keeps (has_active k) deactivated_word regs (if is_counted k then counted regs else regs) (by_id (is_counted k))
   where
     by_id : (b : Bool) → Keeps regs (if b then counted regs else regs)
     by_id true =
@@ -328,7 +284,7 @@ deactivation_keeps (Some k) regs = first_keeps (has_active k) deactivated_word r
     by_id false = record { vmcr = refl; enabled = λ e. e }
 
 -- the list registers show what the interface shows after the access
-taken_shows : (regs : IchRegs) (at : List AtInterface) (cpu : CpuRec) (taken : Option Candidate) → Shows (listed_of regs) at → AreEntries at → ((f : Candidate) → taken ≡ Some f → first_of (candidates_in (deaf cpu) (listed_of regs)) ≡ Some (shown f)) → Shows (listed_of (after_acknowledge (option_map shown taken) regs)) (acknowledged_at taken at)
+taken_shows : (regs : IchRegs) (at : List AtInterface) (cpu : CpuRec) (taken : Option Candidate) → Shows (listed_of regs) at → AreEntries at → ((f : Candidate) → taken ≡ Some f → first_of (candidates_in (deaf cpu) (listed_of regs)) ≡ Some f) → Shows (listed_of (after_acknowledge (taken) regs)) (acknowledged_at taken at)
 taken_shows regs at cpu None shows are first = shows
 taken_shows regs at cpu (Some f) shows are first = acknowledge_shows regs at cpu f shows are (first f refl)
 
@@ -343,7 +299,7 @@ registers_by cpu reg write regs =
 
 -- the parts of an access of an interface
 abbrev access_by : CpuRec → Option ℕ → Option Candidate → IchRegs → IchRegs
-access_by cpu ended taken regs = with_cpu (deaf cpu) (after_deactivation ended (after_acknowledge (option_map shown taken) regs))
+access_by cpu ended taken regs = with_cpu (deaf cpu) (after_deactivation ended (after_acknowledge (taken) regs))
 
 agrees_after : (reg : IccReg) (write : Option ℕ) (regs : IchRegs) (interface : InterfaceState) → IsInterface interface → Agrees regs interface
     → Agrees (access_by (cpu_after reg write interface.cpu (candidates_at interface)) (deactivated_by reg write interface.cpu) (taken_by reg write interface.cpu (candidates_at interface)) regs) (interface_after reg write interface)
@@ -355,10 +311,10 @@ agrees_after reg write regs interface is agrees =
     let are : AreEntries interface.at = record { once = is.once; kinds = is.kinds } in
     let shows : Shows (listed_of regs) interface.at = record { same = agrees.same; once = agrees.once } in
     let first = first_agrees (listed_of regs) interface (both_once (listed_of regs) interface.at shows are) in
-    let acknowledged = after_acknowledge (option_map shown taken) regs in
-    let shows_taken = taken_shows regs interface.at cpu taken shows are (λ f e. first ∙ ap (option_map shown) (taken_first reg write cpu (candidates_at interface) f e)) in
+    let acknowledged = after_acknowledge (taken) regs in
+    let shows_taken = taken_shows regs interface.at cpu taken shows are (λ f e. first ∙ taken_first reg write cpu (candidates_at interface) f e) in
     let shows_ended = ended_shows acknowledged (acknowledged_at taken interface.at) ended shows_taken (acknowledged_entries taken interface.at are) in
-    let keeps_taken = acknowledge_keeps (option_map shown taken) regs in
+    let keeps_taken = acknowledge_keeps (taken) regs in
     let keeps_ended = deactivation_keeps ended acknowledged in
     record {
       enabled = keeps_ended.enabled (keeps_taken.enabled agrees.enabled);
@@ -368,14 +324,6 @@ agrees_after reg write regs interface is agrees =
       same = shows_ended.same;
       once = shows_ended.once;
     }
-
-stays_interface : (reg : IccReg) (write : Option ℕ) (interface : InterfaceState) → IsInterface interface → IsInterface (interface_after reg write interface)
-stays_interface reg write interface is =
-    let cpu = interface.cpu in
-    let taken = taken_by reg write cpu (candidates_at interface) in
-    let are : AreEntries interface.at = record { once = is.once; kinds = is.kinds } in
-    let after = deactivated_entries (deactivated_by reg write cpu) (acknowledged_at taken interface.at) (acknowledged_entries taken interface.at are) in
-    record { points = points_after reg write cpu (candidates_at interface) is.points; once = after.once; kinds = after.kinds }
 
 -- with the record as the interface has it
 follows_deaf : (reg : IccReg) (write : Option ℕ) (regs : IchRegs) (interface : InterfaceState) → IsInterface interface → Agrees regs interface
@@ -388,7 +336,7 @@ follows_deaf reg write regs interface is agrees =
     let shows : Shows (listed_of regs) interface.at = record { same = agrees.same; once = agrees.once } in
     let first = first_agrees (listed_of regs) interface (both_once (listed_of regs) interface.at shows are) in
     let parts : registers_by (deaf cpu) reg write regs ≡ access_by (cpu_after reg write cpu at) (deactivated_by reg write cpu) (taken_by reg write cpu at) regs =
-    joined (cpu_after reg write (deaf cpu) words) (deaf (cpu_after reg write cpu at)) (deactivated_by reg write (deaf cpu)) (deactivated_by reg write cpu) (taken_by reg write (deaf cpu) words) (option_map shown (taken_by reg write cpu at))
+    joined (cpu_after reg write (deaf cpu) words) (deaf (cpu_after reg write cpu at)) (deactivated_by reg write (deaf cpu)) (deactivated_by reg write cpu) (taken_by reg write (deaf cpu) words) (taken_by reg write cpu at)
     (cpu_after_deaf reg write cpu words at first) (deactivated_deaf reg write cpu) (taken_shown reg write cpu words at first) in
     record {
       answer = ap answered (answer_shown reg write cpu words at first);

@@ -1,6 +1,6 @@
 -- The registers and the record that they hold.
 use Rattle.std.proofs.Common.{◌≡◌, ◌<◌, ◌/◌, ◌%◌, ◌^◌, refl, sym, ap, List, Some, None, unwrap_or, IsTrue, arith}
-use Rattle.gic_word.specs.Bits.{bit_of, has_bit}
+use Rattle.gic_bits.specs.Bits.{bit_of, has_bit}
 use Rattle.gic_prio.specs.declared.cpu.CpuRec.{CpuRec}
 use Rattle.gic_ich.specs.declared.regs.IchRegs.{IchRegs}
 use Rattle.gic_ich.specs.Vmcr.{vmcr_with}
@@ -11,7 +11,7 @@ use Rattle.gic_prio.specs.declared.candidate.Candidate.{Candidate}
 use Rattle.gic_prio.specs.Registers.{plain_read}
 use Rattle.gic_prio.specs.Access.{answer_of}
 use Rattle.gic_icv.specs.Registers.{cpu_in, with_cpu, registers_after}
-use Rattle.gic_word.proofs.BitLemmas.{bit_back}
+use Rattle.gic_bits.proofs.BitLemmas.{bit_back}
 
 -- the record that ICH_VMCR holds, put there again, leaves it as it is
 same_vmcr : (regs : IchRegs) → regs.vmcr < 2 ^ 32 → vmcr_with regs.vmcr (cpu_in regs) ≡ regs.vmcr

@@ -1,15 +1,11 @@
 -- When the registers of a virtual CPU interface stand for a CPU record and the interrupts at its interface.
-use Rattle.std.specs.Prelude.{ℕ, ◌≡◌, ◌≤◌, ◌==◌, ◌&&◌, ◌||◌, Bool, true, nat_lt, not, if◌then◌else◌, Option, List, length, filter, map, find}
-use Rattle.std.specs.List.{list_all}
+use Rattle.std.specs.Prelude.{ℕ, ◌≡◌, ◌≤◌, ◌==◌, ◌&&◌, ◌||◌, Bool, true, Option, List, length, filter, map, find}
 use Rattle.gic_base.specs.declared.icc.IccReg.{IccReg}
-use Rattle.gic_base.specs.declared.interrupt.TheConstants.{FIRST_LPI}
 use Rattle.gic_base.specs.Interrupt.{intid_of}
 use Rattle.gic_word.specs.declared.record.Group.{Group}
-use Rattle.gic_word.specs.Bits.{has_flag}
+use Rattle.gic_bits.specs.Bits.{has_bit}
 use Rattle.gic_lr.specs.Entry.{unpacked, state_has_pending, state_has_active}
-use Rattle.gic_prio.specs.Priority.{HasBinaryPoints}
-use Rattle.gic_prio.specs.Signal.{has_active_state}
-use Rattle.gic_prio.specs.Interface.{AtInterface, InterfaceState, interface_after, interface_answer}
+use Rattle.gic_prio.specs.Interface.{AtInterface, InterfaceState, IsInterface, interface_after, interface_answer}
 use Rattle.gic_ich.specs.declared.regs.IchRegs.{IchRegs}
 use Rattle.gic_ich.specs.Hcr.{hcr_en}
 use Rattle.gic_ich.specs.Regs.{listed_of}
@@ -51,22 +47,12 @@ seen_entries at = map seen_of at
 -- is pending or active there has exactly one list register, with its INTID, priority, group and state, and no other list register has
 -- a State other than 0
 pub record Agrees (regs : IchRegs) (interface : InterfaceState) : Type 0 where
-  pub enabled : has_flag regs.hcr hcr_en ≡ true
+  pub enabled : has_bit regs.hcr hcr_en ≡ true
   pub vmcr : regs.vmcr ≡ vmcr_of interface.cpu
   pub ap0 : regs.ap0r ≡ interface.cpu.ap0
   pub ap1 : regs.ap1r ≡ interface.cpu.ap1
   pub same : (id : ℕ) → find (is_live id) (seen_words (listed_of regs)) ≡ find (is_live id) (seen_entries interface.at)
   pub once : (id : ℕ) → length (filter (is_live id) (seen_words (listed_of regs))) ≤ 1
-
--- an interrupt has an active state exactly where its INTID is below those of LPIs
-abbrev pub has_its_kind : AtInterface → Bool
-has_its_kind entry = if nat_lt (intid_of entry.key) FIRST_LPI then has_active_state entry.key else not (has_active_state entry.key)
-
--- an INTID names one interrupt of the interface at most, LPIs are those from 8192, and the binary points have three bits
-pub record IsInterface (interface : InterfaceState) : Type 0 where
-  pub points : HasBinaryPoints interface.cpu
-  pub once : (id : ℕ) → length (filter (λ entry. intid_of entry.key == id) interface.at) ≤ 1
-  pub kinds : list_all has_its_kind interface.at ≡ true
 
 -- an access answers and leaves what the rules of a CPU interface say
 pub record Follows (reg : IccReg) (write : Option ℕ) (interface : InterfaceState) (outcome : Outcome) (regs : IchRegs) : Type 0 where

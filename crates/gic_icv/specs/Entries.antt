@@ -1,10 +1,6 @@
 -- What the CPU interface finds in list registers, and what it does to one (IHI 0069, "Virtual interrupt handling and prioritization").
 use Rattle.std.specs.Prelude.{ℕ, ◌&&◌, ◌==◌, Bool, nat_lt, if◌then◌else◌, Option, Some, None, List}
 use Rattle.std.specs.List.{filter_map}
-use Rattle.gic_base.specs.declared.interrupt.Key.{Key}
-use Rattle.gic_base.specs.declared.interrupt.Key.TheVariants.{Private, Spi, Lpi}
-use Rattle.gic_base.specs.declared.interrupt.TheConstants.{PRIVATE_COUNT, FIRST_LPI}
-use Rattle.gic_base.specs.Interrupt.{intid_of}
 use Rattle.gic_lr.specs.declared.entry.LrState.{LrState}
 use Rattle.gic_lr.specs.declared.entry.LrState.TheVariants.{Invalid, Pending, Active, Both}
 use Rattle.gic_lr.specs.Entry.{unpacked, with_state, state_has_active}
@@ -14,15 +10,11 @@ use Rattle.gic_prio.specs.Delivery.{is_group_enabled}
 use Rattle.gic_prio.specs.Signal.{is_same_group}
 use Rattle.gic_ich.specs.Status.{is_pending}
 
--- an interrupt by the INTID that the guest sees: a list register does not say whose a private one is, and there is but one vCPU here
-abbrev pub key_shown : ℕ → Key
-key_shown id = if nat_lt id PRIVATE_COUNT then Private 0 id else (if nat_lt id FIRST_LPI then Spi id else Lpi id)
-
 -- a list register as a candidate for delivery: State 1, and of a group that the vCPU listens to
 abbrev pub candidate_in : CpuRec → ℕ → Option Candidate
 candidate_in cpu word =
     let entry = unpacked word in
-    if is_pending word && is_group_enabled entry.group cpu then Some (record { key = key_shown entry.id; prio = entry.prio; group = entry.group }) else None
+    if is_pending word && is_group_enabled entry.group cpu then Some (record { id = entry.id; prio = entry.prio; group = entry.group }) else None
 
 -- all candidates of some list registers
 abbrev pub candidates_in : CpuRec → List ℕ → List Candidate
@@ -32,7 +24,7 @@ candidates_in cpu words = filter_map (candidate_in cpu) words
 abbrev pub has_candidate : Candidate → ℕ → Bool
 has_candidate found word =
     let entry = unpacked word in
-    is_pending word && entry.id == intid_of found.key && entry.prio == found.prio && is_same_group entry.group found.group
+    is_pending word && entry.id == found.id && entry.prio == found.prio && is_same_group entry.group found.group
 
 -- the list register has the active interrupt of this INTID
 abbrev pub has_active : ℕ → ℕ → Bool
@@ -40,7 +32,7 @@ has_active id word = (unpacked word).id == id && state_has_active (unpacked word
 
 -- an acknowledged list register: State 2, or 0 for an LPI, which has no active state
 abbrev pub acknowledged_word : ℕ → ℕ
-acknowledged_word word = with_state word (if nat_lt (unpacked word).id FIRST_LPI then Active else Invalid)
+acknowledged_word word = with_state word (if nat_lt (unpacked word).id 8192 then Active else Invalid)
 
 -- the state after a deactivation: pending or not, as it was
 abbrev pub inactive_state : LrState → LrState

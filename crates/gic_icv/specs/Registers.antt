@@ -1,13 +1,12 @@
 -- What an access of a CPU interface register does to the registers of a virtual CPU interface (IHI 0069, "Virtual interrupt handling and
 -- prioritization"), by the rules that hold of every CPU interface.
-use Rattle.std.specs.Prelude.{ℕ, ◌≡◌, ◌+◌, ◌%◌, ◌^◌, Bool, false, IsTrue, IsSome, nat_lt, if◌then◌else◌, Option, Some, None, get_or, set, List, position}
+use Rattle.std.specs.Prelude.{ℕ, ◌≡◌, ◌+◌, ◌%◌, ◌^◌, Bool, false, IsTrue, IsSome, ◌&&◌, ◌||◌, nat_lt, nat_le, if◌then◌else◌, Option, Some, None, get_or, set, List, position}
 use Rattle.std.specs.Option.{option_map_or}
 use Rattle.gic_base.specs.declared.icc.IccReg.{IccReg}
 use Rattle.gic_base.specs.Icc.{is_readable, is_writable}
 use Rattle.gic_prio.specs.declared.cpu.CpuRec.{CpuRec}
 use Rattle.gic_prio.specs.declared.candidate.Candidate.{Candidate}
-use Rattle.gic_prio.specs.declared.priority.TheConstants.{FIRST_SPECIAL}
-use Rattle.gic_prio.specs.Access.{taken_by, deactivated_by, answer_of, raised_by, cpu_after}
+use Rattle.gic_prio.specs.Access.{taken_by, deactivated_by, answer_of, activated_by, cpu_after}
 use Rattle.gic_prio.specs.Signal.{acknowledged}
 use Rattle.gic_word.specs.declared.record.Group.{Group}
 use Rattle.gic_ich.specs.declared.regs.IchRegs.{IchRegs}
@@ -39,13 +38,17 @@ after_acknowledge taken regs = option_map_or (λ found. first_changed (has_candi
 
 -- one more end of interrupt for which there was no list register, modulo 32 (ICH_HCR.EOIcount)
 abbrev pub counted : IchRegs → IchRegs
-counted regs = record regs { hcr = (regs.hcr + hcr_eoicount) % 2 ^ 32 }
+counted regs = record regs { hcr = (regs.hcr + 2 ^ hcr_eoicount) % 2 ^ 32 }
+
+-- an end of interrupt with this INTID is counted: below 1020, and those of extended SPIs, 4096 to 5119
+abbrev pub is_counted : ℕ → Bool
+is_counted id = nat_lt id 1020 || (nat_le 4096 id && nat_le id 5119)
 
 -- after a deactivation of the interrupt with this INTID: where no list register has it active, it is counted, unless it is an LPI or
--- no interrupt (own choice)
+-- no interrupt
 abbrev pub after_deactivation_of : ℕ → IchRegs → IchRegs
 after_deactivation_of id regs =
-    first_changed (has_active id) deactivated_word regs (if nat_lt id FIRST_SPECIAL then counted regs else regs)
+    first_changed (has_active id) deactivated_word regs (if is_counted id then counted regs else regs)
 
 -- after a deactivation, or none
 abbrev pub after_deactivation : Option ℕ → IchRegs → IchRegs
@@ -59,7 +62,7 @@ with_cpu cpu regs = record regs { vmcr = vmcr_with regs.vmcr cpu; ap0r = cpu.ap0
 abbrev pub after_iar : Group → IchRegs → IchRegs
 after_iar group regs =
     let taken = acknowledged group (cpu_in regs) (candidates_of regs) in
-    with_cpu (raised_by taken (cpu_in regs)) (after_acknowledge taken regs)
+    with_cpu (activated_by taken (cpu_in regs)) (after_acknowledge taken regs)
 
 -- the registers after an access that is not trapped: a read (no value) or a write of a value
 abbrev pub registers_after : IccReg → Option ℕ → IchRegs → IchRegs

@@ -2,19 +2,19 @@
 use Rattle.std.specs.Prelude.{ℕ, Option, Some, None, if◌then◌else◌}
 use Rattle.gic_base.specs.declared.icc.IccReg.{IccReg}
 use Rattle.gic_base.specs.declared.icc.IccReg.TheVariants.{Iar0, Iar1, Hppir0, Hppir1, Eoir0, Eoir1, Dir, Rpr, Pmr, Bpr0, Bpr1, Ctlr, Igrpen0, Igrpen1, Ap0r0, Ap1r0, Sgi1r, Sre}
-use Rattle.gic_word.specs.Bits.{has_flag}
+use Rattle.gic_bits.specs.Bits.{has_bit}
 use Rattle.gic_ich.specs.Hcr.{hcr_tc, hcr_tall0, hcr_tall1, hcr_tdir}
 use Rattle.gic_icv.specs.declared.trap.TrapCause.{TrapCause}
 use Rattle.gic_icv.specs.declared.trap.TrapCause.TheVariants.{Sgi, Dir as DirAlone, Common, All0, All1}
 
--- the cause, where this bit of ICH_HCR is 1
+-- the cause, where the bit of ICH_HCR at this place is 1
 abbrev pub where_set : ℕ → ℕ → TrapCause → Option TrapCause
-where_set hcr weight cause = if has_flag hcr weight then Some cause else None
+where_set hcr place cause = if has_bit hcr place then Some cause else None
 
 -- why an access of a register is trapped, or none where it is not
 abbrev pub trap_cause : ℕ → IccReg → Option TrapCause
 trap_cause hcr Sgi1r = Some Sgi
-trap_cause hcr Dir = if has_flag hcr hcr_tdir then Some DirAlone else where_set hcr hcr_tc Common
+trap_cause hcr Dir = if has_bit hcr hcr_tdir then Some DirAlone else where_set hcr hcr_tc Common
 trap_cause hcr Ctlr = where_set hcr hcr_tc Common
 trap_cause hcr Pmr = where_set hcr hcr_tc Common
 trap_cause hcr Rpr = where_set hcr hcr_tc Common

@@ -1,24 +1,11 @@
 //! What the list registers hold for the guest's CPU interface.
-ghost use Rattle.std.specs.Prelude.{◌≡◌, ◌≤◌, position};
-ghost use Rattle.std.specs.List.{list_any};
+ghost use Rattle.std.specs.Prelude.{◌≡◌, position};
 ghost use Rattle.gic_prio.specs.Delivery.{first_of};
-ghost use Rattle.gic_icv.specs.Entries.{key_shown as key_of_id, candidate_in as candidate_of_word, candidates_in, has_candidate as has_found, has_active as has_active_id, acknowledged_word, deactivated_word};
+ghost use Rattle.gic_icv.specs.Entries.{candidate_in as candidate_of_word, candidates_in, has_candidate as has_found, has_active as has_active_id, acknowledged_word, deactivated_word};
 
-use gic_base::{FIRST_LPI, Key, PRIVATE_COUNT};
+use gic_base::FIRST_LPI;
 use gic_lr::{LrState, unpack, with_state};
 use gic_prio::{Candidate, CpuRec, earlier, listens};
-
-fn key_shown(id: u32) -> Key
-    ensures { result ≡ key_of_id id }
-{
-    if id < PRIVATE_COUNT {
-        Key::Private { vcpu: 0, id }
-    } else if id < FIRST_LPI {
-        Key::Spi(id)
-    } else {
-        Key::Lpi(id)
-    }
-}
 
 /// A list register as a candidate for delivery: State 1, and of a group that the vCPU listens to.
 fn candidate_in(cpu: &CpuRec, word: u64) -> Option<Candidate>
@@ -27,7 +14,7 @@ fn candidate_in(cpu: &CpuRec, word: u64) -> Option<Candidate>
     let entry = unpack(word);
     let is_candidate = entry.state == LrState::Pending && listens(cpu, entry.group);
     is_candidate.then_some(Candidate {
-        key: key_shown(entry.id),
+        id: entry.id,
         prio: entry.prio,
         group: entry.group,
     })
@@ -51,7 +38,7 @@ fn has_candidate(found: &Candidate, word: u64) -> bool
 {
     let entry = unpack(word);
     entry.state == LrState::Pending
-        && entry.id == found.key.intid()
+        && entry.id == found.id
         && entry.prio == found.prio
         && entry.group == found.group
 }

@@ -1,26 +1,26 @@
 //! One access of a CPU interface register by a guest.
 ghost use Rattle.std.specs.Prelude.{◌≡◌, ◌≤◌, true, None, Some, IsTrue};
 ghost use Rattle.gic_base.specs.Icc.{is_readable};
-ghost use Rattle.gic_word.specs.Bits.{has_flag};
+ghost use Rattle.gic_bits.specs.Bits.{has_bit};
 ghost use Rattle.gic_prio.specs.Signal.{acknowledged as acknowledged_of, highest_pending as highest_of_group, intid_read};
 ghost use Rattle.gic_prio.specs.Priority.{HasBinaryPoints};
-ghost use Rattle.gic_prio.specs.Interface.{InterfaceState};
+ghost use Rattle.gic_prio.specs.Interface.{InterfaceState, IsInterface};
 ghost use Rattle.gic_prio.specs.Access.{answer_of};
 ghost use Rattle.gic_prio.specs.Delivery.{first_of};
 ghost use Rattle.gic_ich.specs.Hcr.{hcr_en};
 ghost use Rattle.gic_icv.specs.Trap.{trap_cause as cause_of};
-ghost use Rattle.gic_icv.specs.Registers.{HasDirection, cpu_in, candidates_of, with_cpu, after_acknowledge, after_iar, after_deactivation_of, registers_after, outcome_of, after_access};
-ghost use Rattle.gic_icv.specs.Agree.{Agrees, IsInterface, Follows};
+ghost use Rattle.gic_icv.specs.Registers.{HasDirection, is_counted as is_counted_id, cpu_in, candidates_of, with_cpu, after_acknowledge, after_iar, after_deactivation_of, registers_after, outcome_of, after_access};
+ghost use Rattle.gic_icv.specs.Agree.{Agrees, Follows};
 
 use crate::entries::{
     acknowledged, deactivated, first_pending, place_of_active, place_of_candidate,
 };
 use crate::trap::{TrapCause, trap_cause};
-use gic_base::{IccReg, MAX_LIST_REGISTERS};
+use gic_base::{FIRST_ESPI, IccReg, MAX_ESPIS, MAX_LIST_REGISTERS};
 use gic_ich::{HCR_EOICOUNT, IchRegs, cpu_of, vmcr_with};
 use gic_prio::{
-    Candidate, CpuRec, FIRST_SPECIAL, SPURIOUS, cpu_written, highest_pending, intid_deactivated,
-    level_activated, read_plain, signalled,
+    Candidate, CpuRec, FIRST_SPECIAL, SPURIOUS, acknowledged as acknowledged_first, cpu_written,
+    highest_pending, intid_deactivated, level_activated, read_plain,
 };
 use gic_word::Group;
 
@@ -56,13 +56,7 @@ fn taken(regs: &IchRegs, group: Group) -> Option<Candidate>
     requires { regs.now.n ≤ MAX_LIST_REGISTERS }
     ensures { result ≡ acknowledged_of group (cpu_in regs.now) (candidates_of regs.now) }
 {
-    let cpu = cpu_of(regs, false);
-    match first(regs) {
-        Some(first) if first.group == group && signalled(first.prio, first.group, &cpu) => {
-            Some(first)
-        }
-        _ => None,
-    }
+    acknowledged_first(first(regs), group, &cpu_of(regs, false))
 }
 
 /// The first list register that has a candidate is acknowledged.
@@ -87,7 +81,7 @@ fn read_iar(regs: &mut IchRegs, group: Group) -> u64
     let cpu = level_activated(&cpu_of(regs, false), found.prio, found.group);
     acknowledge(regs, &found);
     set_cpu(regs, &cpu);
-    u64::from(found.key.intid())
+    u64::from(found.id)
 }
 
 /// A read of HPPIR of a group.
@@ -115,6 +109,14 @@ fn read_register(regs: &mut IchRegs, reg: IccReg) -> u64
     }
 }
 
+/// Whether an end of interrupt with an INTID is counted where no list register has it: below 1020, and for
+/// extended SPIs.
+fn is_counted(id: u32) -> bool
+    ensures { result ≡ is_counted_id id }
+{
+    id < FIRST_SPECIAL || (FIRST_ESPI..FIRST_ESPI + MAX_ESPIS).contains(&id)
+}
+
 /// The active interrupt of an INTID is deactivated in the first list register that has it, or counted where
 /// none has it.
 fn deactivate(regs: &mut IchRegs, id: u32)
@@ -123,7 +125,7 @@ fn deactivate(regs: &mut IchRegs, id: u32)
 {
     match place_of_active(id, regs.listed()) {
         Some(place) => regs.lr[place] = deactivated(regs.lr[place]),
-        None if id < FIRST_SPECIAL => regs.hcr = regs.hcr.wrapping_add(HCR_EOICOUNT),
+        None if is_counted(id) => regs.hcr = regs.hcr.wrapping_add(HCR_EOICOUNT),
         None => {}
     }
 }
@@ -146,7 +148,7 @@ fn write_register(regs: &mut IchRegs, reg: IccReg, value: u64)
 pub fn access(regs: &mut IchRegs, reg: IccReg, write: Option<u64>) -> Outcome
     requires number { 1 ≤ regs.old.n × regs.old.n ≤ MAX_LIST_REGISTERS }
     requires direction { HasDirection reg write }
-    requires enabled { has_flag regs.old.hcr hcr_en ≡ true }
+    requires enabled { has_bit regs.old.hcr hcr_en ≡ true }
     ensures outcome { result ≡ outcome_of reg write regs.old }
     ensures registers { regs.new ≡ after_access reg write regs.old }
     ensures follows { (interface : InterfaceState) → IsInterface interface → Agrees regs.old interface → cause_of regs.old.hcr reg ≡ None → Follows reg write interface result regs.new }

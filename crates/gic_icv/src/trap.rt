@@ -1,9 +1,11 @@
-ghost use Rattle.std.specs.Prelude.{◌≡◌, ◌≤◌};
-ghost use Rattle.gic_word.specs.Bits.{has_flag};
+//! Which accesses are trapped, and why.
+ghost use Rattle.std.specs.Prelude.{◌≡◌, ◌<◌};
+ghost use Rattle.gic_bits.specs.Bits.{has_bit as bit_is_set};
 ghost use Rattle.gic_icv.specs.Trap.{trap_cause as cause_of, where_set as cause_where};
 
 use gic_base::IccReg;
-use gic_ich::{HCR_TALL0, HCR_TALL1, HCR_TC, HCR_TDIR};
+use gic_bits::has_bit;
+use gic_ich::{HCR_TALL0_BIT, HCR_TALL1_BIT, HCR_TC_BIT, HCR_TDIR_BIT};
 
 /// Why an access was trapped to the hypervisor (IHI 0069, ICH_HCR_EL2).
 #[derive(Clone, Copy, Debug, PartialEq, Eq, Hash)]
@@ -20,18 +22,18 @@ pub enum TrapCause {
     All1,
 }
 
-fn is_set(hcr: u32, weight: u32) -> bool
-    requires { 1 ≤ weight }
-    ensures { result ≡ has_flag hcr weight }
+fn is_set(hcr: u32, place: u32) -> bool
+    requires { place < 64 }
+    ensures { result ≡ bit_is_set hcr place }
 {
-    hcr / weight % 2 == 1
+    has_bit(u64::from(hcr), place)
 }
 
-fn where_set(hcr: u32, weight: u32, cause: TrapCause) -> Option<TrapCause>
-    requires { 1 ≤ weight }
-    ensures { result ≡ cause_where hcr weight cause }
+fn where_set(hcr: u32, place: u32, cause: TrapCause) -> Option<TrapCause>
+    requires { place < 64 }
+    ensures { result ≡ cause_where hcr place cause }
 {
-    is_set(hcr, weight).then_some(cause)
+    is_set(hcr, place).then_some(cause)
 }
 
 /// Why an access of a register is trapped where ICH_HCR is this, or None where it is not.
@@ -40,22 +42,22 @@ pub(crate) fn trap_cause(hcr: u32, reg: IccReg) -> Option<TrapCause>
 {
     match reg {
         IccReg::Sgi1r => Some(TrapCause::Sgi),
-        IccReg::Dir if is_set(hcr, HCR_TDIR) => Some(TrapCause::Dir),
+        IccReg::Dir if is_set(hcr, HCR_TDIR_BIT) => Some(TrapCause::Dir),
         IccReg::Dir | IccReg::Ctlr | IccReg::Pmr | IccReg::Rpr => {
-            where_set(hcr, HCR_TC, TrapCause::Common)
+            where_set(hcr, HCR_TC_BIT, TrapCause::Common)
         }
         IccReg::Iar0
         | IccReg::Eoir0
         | IccReg::Hppir0
         | IccReg::Bpr0
         | IccReg::Ap0r0
-        | IccReg::Igrpen0 => where_set(hcr, HCR_TALL0, TrapCause::All0),
+        | IccReg::Igrpen0 => where_set(hcr, HCR_TALL0_BIT, TrapCause::All0),
         IccReg::Iar1
         | IccReg::Eoir1
         | IccReg::Hppir1
         | IccReg::Bpr1
         | IccReg::Ap1r0
-        | IccReg::Igrpen1 => where_set(hcr, HCR_TALL1, TrapCause::All1),
+        | IccReg::Igrpen1 => where_set(hcr, HCR_TALL1_BIT, TrapCause::All1),
         IccReg::Sre => None,
     }
 }

@@ -1,26 +1,12 @@
 -- One guest through the steps.
-use Rattle.std.proofs.Common.{◌≡◌, ◌≢◌, ℕ, zero, suc, ◌⊎◌, inl, inr, Bool, true, false, cond, eqb, Option, Some, None, List, [], ◌∷◌, length, refl, sym, ap, subst, ◌∙◌}
-use Rattle.std.specs.List.{slice_get, slice_set, AllByRecursion}
-use Rattle.std.specs.Option.{option_map_or, option_and_then}
-use Rattle.std.proofs.lemmas.List.{length-set}
+use Rattle.std.proofs.Common.{◌≡◌, ◌≢◌, ℕ, zero, suc, inl, inr, cond, eqb, Some, None, List, [], ◌∷◌, refl, sym, ap, subst, ◌∙◌}
+use Rattle.std.specs.List.{slice_get, slice_set}
+use Rattle.std.specs.Option.{option_map_or}
 use Rattle.std.proofs.lemmas.Bool.Decides.{eqb_tells}
-use Rattle.gic_word.specs.declared.record.Irq.{Irq}
-use Rattle.gic_base.specs.declared.shape.GuestShape.{GuestShape}
-use Rattle.gic_base.specs.declared.interrupt.Key.{Key}
-use Rattle.gic_base.specs.declared.operation.GuestOp.{GuestOp}
-use Rattle.gic_base.specs.declared.operation.GuestOp.TheVariants.{Icc, Mem}
-use Rattle.gic_base.specs.declared.operation.DeviceOp.{DeviceOp}
-use Rattle.gic_base.specs.declared.operation.DeviceOp.TheVariants.{Message, Wire, Msi}
-use Rattle.gic_base.specs.Interrupt.{interrupt_count}
-use Rattle.gic_prio.specs.declared.candidate.Candidate.{Candidate}
-use Rattle.gic_prio.specs.Access.{taken_by}
-use Rattle.scn_read.specs.declared.scenario.Step.{Step}
-use Rattle.scn_read.specs.declared.scenario.Step.TheVariants.{Vcpu, Device, Pe}
+use Rattle.scn_base.specs.declared.step.Step.{Step}
+use Rattle.scn_base.specs.declared.step.Step.TheVariants.{Vcpu, Device, Pe}
 use Rattle.gic_ideal.specs.declared.guest.IdealGuest.{IdealGuest}
-use Rattle.gic_ideal.specs.Ideal.{irq_at, cpu_at, candidates, named_by, after_acknowledge, after_deactivation}
 use Rattle.gic_ideal.specs.Eager.{after_op, after_event, at_guest, after_step, after_steps}
-use Rattle.gic_ideal.specs.Laws.{OneDoes}
-use Rattle.gic_ideal.proofs.KeyLemmas.{HasRecords}
 
 -- the guest of a number after a step
 abbrev pub guest_after : Step → ℕ → IdealGuest → IdealGuest
@@ -67,55 +53,3 @@ get_after (Pe pe op) guests n guest h = h
 pub get_afters : (steps : List Step) (guests : List IdealGuest) (n : ℕ) (guest : IdealGuest) → slice_get guests n ≡ Some guest → slice_get (after_steps steps guests) n ≡ Some (guest_afters steps n guest)
 get_afters [] guests n guest h = h
 get_afters (step ∷ steps) guests n guest h = get_afters steps (after_step step guests) n (guest_after step n guest) (get_after step guests n guest h)
-
--- the guest has the same numbers of each kind, and its records
-pub record StaysWhole (before after : IdealGuest) : Type 0 where
-  pub shape : after.shape ≡ before.shape
-  pub records : length after.irqs ≡ length before.irqs
-
-pub whole_acknowledged : (taken : Option Candidate) (guest : IdealGuest) (vcpu : ℕ) → StaysWhole guest (after_acknowledge taken guest vcpu)
-whole_acknowledged None guest vcpu = record { shape = refl; records = refl }
-whole_acknowledged (Some found) guest vcpu = record { shape = refl; records = length-set guest.irqs _ _ }
-
-pub whole_deactivated : (named : Option Key) (guest : IdealGuest) (vcpu : ℕ) → StaysWhole guest (after_deactivation named guest vcpu)
-whole_deactivated None guest vcpu = record { shape = refl; records = refl }
-whole_deactivated (Some key) guest vcpu = record { shape = refl; records = length-set guest.irqs _ _ }
-
-pub whole_op : (op : GuestOp) (guest : IdealGuest) (vcpu : ℕ) → StaysWhole guest (after_op op guest vcpu)
-whole_op (Icc reg write) guest vcpu =
-    let taken = taken_by reg write (cpu_at guest vcpu) (candidates guest vcpu) in
-    let first = whole_acknowledged taken guest vcpu in
-    let second = whole_deactivated (named_by reg write guest vcpu) (after_acknowledge taken guest vcpu) vcpu in
-    record { shape = second.shape ∙ first.shape; records = second.records ∙ first.records }
-whole_op (Mem frame offset size write) guest vcpu = record { shape = refl; records = refl }
-
-pub whole_event : (op : DeviceOp) (guest : IdealGuest) → StaysWhole guest (after_event op guest)
-whole_event (Message spi) guest = record { shape = refl; records = length-set guest.irqs _ _ }
-whole_event (Wire key up) guest = record { shape = refl; records = refl }
-whole_event (Msi device event) guest = record { shape = refl; records = refl }
-
-whole_chosen : (b : Bool) (guest next : IdealGuest) → StaysWhole guest next → StaysWhole guest (cond b next guest)
-whole_chosen true guest next h = h
-whole_chosen false guest next h = record { shape = refl; records = refl }
-
-pub whole_after : (step : Step) (n : ℕ) (guest : IdealGuest) → StaysWhole guest (guest_after step n guest)
-whole_after (Vcpu g vcpu op) n guest = whole_chosen (eqb g n) guest (after_op op guest vcpu) (whole_op op guest vcpu)
-whole_after (Device g device op) n guest = whole_chosen (eqb g n) guest (after_event op guest) (whole_event op guest)
-whole_after (Pe pe op) n guest = record { shape = refl; records = refl }
-
-pub records_stay : {before after : IdealGuest} → StaysWhole before after → HasRecords before → HasRecords after
-records_stay whole records = record { each = whole.records ∙ records.each ∙ ap interrupt_count (sym whole.shape) }
-
--- what holds of a record holds after each step that does not do a deed, so after steps of which none does
-pub unless_done : (deed : Step → ℕ → IdealGuest → Option Key) (n : ℕ) (key : Key) (shape : GuestShape) (Good : Step → Type 0) (P : Irq → Type 0) → ((step : Step) (guest : IdealGuest) → Good step → guest.shape ≡ shape → HasRecords guest → P (irq_at guest key) → (deed step n guest ≡ Some key) ⊎ P (irq_at (guest_after step n guest) key)) → (steps : List Step) (guests : List IdealGuest) (guest : IdealGuest) → AllByRecursion Good steps → guest.shape ≡ shape → HasRecords guest → slice_get guests n ≡ Some guest → P (irq_at guest key) → OneDoes deed steps n key guests ⊎ P (irq_at (guest_afters steps n guest) key)
-unless_done deed n key shape Good P each [] guests guest good e records h p = inr p
-unless_done deed n key shape Good P each (step ∷ steps) guests guest good e records h p =
-    let whole = whole_after step n guest in
-    elim (each step guest good.0 e records p) [
-      | inl done ↦ inl (inl (ap (option_and_then (deed step n)) h ∙ done))
-      | inr still ↦
-          elim (unless_done deed n key shape Good P each steps (after_step step guests) (guest_after step n guest) good.1 (whole.shape ∙ e) (records_stay whole records) (get_after step guests n guest h) still) [
-            | inl later ↦ inl (inr later)
-            | inr end ↦ inr end
-          ]
-    ]

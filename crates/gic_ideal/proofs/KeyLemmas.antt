@@ -1,59 +1,116 @@
--- The places of keys, and what a change of one record leaves of another.
-use Rattle.std.proofs.Common.{◌≡◌, ℕ, ◌<◌, ◌⊎◌, inl, inr, IsTrue, false, List, length, get_or, set, sym, ap, ◌∙◌, arith}
-use Rattle.std.proofs.lemmas.Bool.Decides.{eqb_tells}
-use Rattle.std.proofs.lemmas.Grind.{common_steps, get_or-set_at}
-use Rattle.std.proofs.lemmas.List.{get_or-set_other, get_or_default}
+-- What a change of the record of one interrupt leaves of another.
+use Rattle.std.proofs.Common.{◌≡◌, ◌≢◌, ℕ, Bool, true, false, cond, IsTrue, Option, Some, None, length, refl, sym, ap, ◌∙◌, arith}
+use Rattle.std.specs.Option.{option_map_or}
+use Rattle.std.proofs.lemmas.Grind.{common_steps}
 use Rattle.gic_word.specs.declared.record.Irq.{Irq}
 use Rattle.gic_base.specs.declared.shape.GuestShape.{GuestShape}
 use Rattle.gic_base.specs.declared.interrupt.Key.{Key}
 use Rattle.gic_base.specs.declared.interrupt.Key.TheVariants.{Private, Spi, Lpi}
-use Rattle.gic_base.specs.Interrupt.{has_interrupt, interrupt_count, place_of, key_at}
+use Rattle.gic_base.specs.Shape.{IsShape}
+use Rattle.gic_base.specs.Interrupt.{has_interrupt, interrupt_count, intid_of, is_same_key, key_of}
+use Rattle.gic_open.specs.Opening.{irq_in, with_irq_in}
+use Rattle.gic_open.proofs.KeyLemmas.{irq_same, irq_other, length-with_irq_in}
 use Rattle.gic_ideal.specs.declared.guest.IdealGuest.{IdealGuest}
-use Rattle.gic_ideal.specs.Opening.{opening_irq}
-use Rattle.gic_ideal.specs.Ideal.{irq_at, with_irq}
+use Rattle.gic_ideal.specs.Ideal.{irq_at, changed_irq, changed_at}
+use Rattle.gic_ideal.specs.Laws.{is_named}
 
--- an interrupt that is there has a place
-pub place_within : (shape : GuestShape) (key : Key) → IsTrue (has_interrupt shape key) → place_of shape key < interrupt_count shape
-place_within shape (Private vcpu id) h = grind (arith, common_steps)
-place_within shape (Spi id) h = grind (arith, common_steps)
-place_within shape (Lpi id) h = grind (arith, common_steps)
+-- the test of keys tells whether they are one
+pub same_key : (j k : Key) → is_same_key j k ≡ true → j ≡ k
+same_key (Private v i) (Private w j) h = both v w i j (grind (arith, common_steps, h)) (grind (arith, common_steps, h))
+  where
+    both : (v w i j : ℕ) → v ≡ w → i ≡ j → Private v i ≡ Private w j
+    both v w i j e f = cc
+same_key (Private v i) (Spi j) h = absurd (cc)
+same_key (Private v i) (Lpi j) h = absurd (cc)
+same_key (Spi i) (Private w j) h = absurd (cc)
+same_key (Spi i) (Spi j) h = ap Spi (grind (arith, common_steps, h))
+same_key (Spi i) (Lpi j) h = absurd (cc)
+same_key (Lpi i) (Private w j) h = absurd (cc)
+same_key (Lpi i) (Spi j) h = absurd (cc)
+same_key (Lpi i) (Lpi j) h = ap Lpi (grind (arith, common_steps, h))
 
--- at its place it stands
-pub key_at_place : (shape : GuestShape) (key : Key) → IsTrue (has_interrupt shape key) → key_at shape (place_of shape key) ≡ key
-key_at_place shape (Private vcpu id) h = grind (arith, common_steps)
-key_at_place shape (Spi id) h = grind (arith, common_steps)
-key_at_place shape (Lpi id) h = grind (arith, common_steps)
+pub same_itself : (k : Key) → is_same_key k k ≡ true
+same_itself (Private v i) = grind (arith, common_steps)
+same_itself (Spi i) = grind (arith, common_steps)
+same_itself (Lpi i) = grind (arith, common_steps)
 
--- at each place stands an interrupt that is there
-pub key_at_there : (shape : GuestShape) (place : ℕ) → place < interrupt_count shape → IsTrue (has_interrupt shape (key_at shape place))
-key_at_there shape place h = grind (arith, common_steps)
-
--- two interrupts at one place are one
-pub place_same : (shape : GuestShape) (j k : Key) → IsTrue (has_interrupt shape j) → IsTrue (has_interrupt shape k) → place_of shape j ≡ place_of shape k → j ≡ k
-place_same shape j k h i e = sym (key_at_place shape j h) ∙ ap (key_at shape) e ∙ key_at_place shape k i
+other_key : (j k : Key) → is_same_key j k ≡ false → j ≢ k
+other_key j k h e = absurd (differ (is_same_key j k) h (ap (is_same_key j) (sym e) ∙ same_itself j))
+  where
+    differ : (b : Bool) → b ≡ false → b ≡ true → ⊥
+    differ b f t = cc
 
 -- the guest has a record for each of its interrupts
-pub record HasRecords (guest : IdealGuest) : Type 0 where
+pub record IsWhole (guest : IdealGuest) : Type 0 where
+  pub shape : IsShape guest.shape
   pub each : length guest.irqs ≡ interrupt_count guest.shape
 
--- the record of one interrupt after another's changed: changed alike, where both stand at one place, or else as it was
-abbrev pub ChangedAlike : IdealGuest → Key → Key → (Irq → Irq) → Type 0
-ChangedAlike guest j k change =
-    let after = irq_at (with_irq guest j (change (irq_at guest j))) k in
-    ((place_of guest.shape j ≡ place_of guest.shape k) × (after ≡ change (irq_at guest k))) ⊎ (after ≡ irq_at guest k)
+pub whole_changed : (j : Key) (change : Irq → Irq) (guest : IdealGuest) → IsWhole guest → IsWhole (changed_irq j change guest)
+whole_changed j change guest whole = record { shape = whole.shape; each = length-with_irq_in guest.shape j (change (irq_at guest j)) guest.irqs ∙ whole.each }
 
--- a list read where it was written, or elsewhere
-written_same : (irqs : List Irq) (p q : ℕ) (change : Irq → Irq) (d e : Irq) → p ≡ q → q < length irqs → get_or (set irqs p (change (get_or irqs p d))) q e ≡ change (get_or irqs q e)
-written_same irqs p q change d e same within =
-    get_or-set_at irqs p q (change (get_or irqs p d)) e (sym same) (omega (arith, same, within))
-    ∙ ap change (ap (λ n. get_or irqs n d) same ∙ get_or_default irqs q d e within)
+-- the record of an interrupt that is there changes where the change is of it, and else stays
+pub irq_changed : (guest : IdealGuest) (j k : Key) (change : Irq → Irq) → IsWhole guest → IsTrue (has_interrupt guest.shape k) → irq_at (changed_irq j change guest) k ≡ cond (is_same_key k j) (change (irq_at guest k)) (irq_at guest k)
+irq_changed guest j k change whole there = by_test (is_same_key k j) refl
+  where
+    after : Irq
+    after = irq_at (changed_irq j change guest) k
 
-pub irq_changed : (guest : IdealGuest) (j k : Key) (change : Irq → Irq) → HasRecords guest → IsTrue (has_interrupt guest.shape k) → ChangedAlike guest j k change
-irq_changed guest j k change records there =
-    let p = place_of guest.shape j in
-    let q = place_of guest.shape k in
-    let within : q < length guest.irqs = omega (arith, records.each, place_within guest.shape k there) in
-    elim (eqb_tells p q) [
-      | inl same ↦ inl (same.1, written_same guest.irqs p q change (opening_irq false j) (opening_irq false k) same.1 within)
-      | inr differ ↦ inr (get_or-set_other guest.irqs p q (change (irq_at guest j)) (opening_irq false k) (λ e. differ.1 (sym e)))
-    ]
+    here : (j : Key) → k ≡ j → irq_in guest.shape (with_irq_in guest.shape j (change (irq_at guest j)) guest.irqs) k ≡ change (irq_at guest k)
+    here j e = rw (sym e) (irq_same guest.shape k (change (irq_at guest k)) guest.irqs whole.shape whole.each there)
+
+    by_test : (b : Bool) → is_same_key k j ≡ b → irq_in guest.shape (with_irq_in guest.shape j (change (irq_at guest j)) guest.irqs) k ≡ cond b (change (irq_at guest k)) (irq_at guest k)
+    by_test true e = here j (same_key k j e)
+    by_test false e = irq_other guest.shape j k (change (irq_at guest j)) guest.irqs whole.shape (λ same. other_key k j e (sym same))
+
+-- the same of the interrupt with an INTID
+pub irq_changed_at : (guest : IdealGuest) (id vcpu : ℕ) (k : Key) (change : Key → Irq → Irq) → IsWhole guest → IsTrue (has_interrupt guest.shape k) → irq_at (changed_at id vcpu change guest) k ≡ cond (is_named id vcpu guest.shape k) (change k (irq_at guest k)) (irq_at guest k)
+irq_changed_at guest id vcpu k change whole there = of (key_of id vcpu guest.shape)
+  where
+    as_named : (j : Key) (b : Bool) → is_same_key k j ≡ b → cond b (change j (irq_at guest k)) (irq_at guest k) ≡ cond b (change k (irq_at guest k)) (irq_at guest k)
+    as_named j true e = ap (λ key. change key (irq_at guest k)) (sym (same_key k j e))
+    as_named j false e = refl
+
+    of : (o : Option Key) → irq_at (option_map_or (λ key. changed_irq key (change key) guest) o guest) k ≡ cond (option_map_or (is_same_key k) o false) (change k (irq_at guest k)) (irq_at guest k)
+    of None = refl
+    of (Some j) = irq_changed guest j k (change j) whole there ∙ as_named j (is_same_key k j) refl
+
+pub whole_changed_at : (id vcpu : ℕ) (change : Key → Irq → Irq) (guest : IdealGuest) → IsWhole guest → IsWhole (changed_at id vcpu change guest)
+whole_changed_at id vcpu change guest whole = of (key_of id vcpu guest.shape)
+  where
+    of : (o : Option Key) → IsWhole (option_map_or (λ key. changed_irq key (change key) guest) o guest)
+    of None = whole
+    of (Some key) = whole_changed key (change key) guest whole
+
+-- nothing but records changes
+pub shape_changed_at : (id vcpu : ℕ) (change : Key → Irq → Irq) (guest : IdealGuest) → (changed_at id vcpu change guest).shape ≡ guest.shape
+shape_changed_at id vcpu change guest = of (key_of id vcpu guest.shape)
+  where
+    of : (o : Option Key) → (option_map_or (λ key. changed_irq key (change key) guest) o guest).shape ≡ guest.shape
+    of None = refl
+    of (Some key) = refl
+
+pub cpus_changed_at : (id vcpu : ℕ) (change : Key → Irq → Irq) (guest : IdealGuest) → (changed_at id vcpu change guest).cpus ≡ guest.cpus
+cpus_changed_at id vcpu change guest = of (key_of id vcpu guest.shape)
+  where
+    of : (o : Option Key) → (option_map_or (λ key. changed_irq key (change key) guest) o guest).cpus ≡ guest.cpus
+    of None = refl
+    of (Some key) = refl
+
+-- an interrupt that an INTID names has it, and is there
+pub key_intid : (id vcpu : ℕ) (shape : GuestShape) (key : Key) → key_of id vcpu shape ≡ Some key → intid_of key ≡ id
+key_intid id vcpu shape (Private v i) h = grind (arith, common_steps, h)
+key_intid id vcpu shape (Spi i) h = grind (arith, common_steps, h)
+key_intid id vcpu shape (Lpi i) h = grind (arith, common_steps, h)
+
+pub key_there : (id vcpu : ℕ) (shape : GuestShape) (key : Key) → key_of id vcpu shape ≡ Some key → IsTrue (has_interrupt shape key)
+key_there id vcpu shape key h = grind (arith, common_steps, h)
+
+pub named_is : (id vcpu : ℕ) (shape : GuestShape) (key : Key) → is_named id vcpu shape key ≡ true → key_of id vcpu shape ≡ Some key
+named_is id vcpu shape key h = of (key_of id vcpu shape) h
+  where
+    of : (o : Option Key) → option_map_or (is_same_key key) o false ≡ true → o ≡ Some key
+    of None e = absurd (cc)
+    of (Some j) e = ap Some (sym (same_key key j e))
+
+pub is_named_by : (id vcpu : ℕ) (shape : GuestShape) (key : Key) → key_of id vcpu shape ≡ Some key → is_named id vcpu shape key ≡ true
+is_named_by id vcpu shape key h = ap (λ o. option_map_or (is_same_key key) o false) h ∙ same_itself key

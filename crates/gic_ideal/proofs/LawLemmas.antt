@@ -1,212 +1,366 @@
--- The laws, of the guest of a number through the steps.
-use Rattle.std.proofs.Common.{◌≡◌, ℕ, suc, ◌⊎◌, inl, inr, Bool, true, false, cond, eqb, ◌&&◌, nat_lt, IsTrue, Option, Some, None, List, [], ◌∷◌, All, refl, sym, ap, subst, ◌∙◌, arith}
-use Rattle.std.specs.List.{slice_get, AllByRecursion}
-use Rattle.std.proofs.lemmas.Bool.{eqb-true}
-use Rattle.std.specs.Option.{option_map, option_map_or}
-use Rattle.std.proofs.lemmas.Option.{none-some, option_and_then_some, slice_get-map}
+-- The laws of causes, of the guest of a number through the steps.
+use Rattle.std.proofs.Common.{◌≡◌, ℕ, Bool, true, false, not, cond, eqb, ◌&&◌, ◌||◌, IsTrue, is_some, Option, Some, None, List, [], ◌∷◌, All, refl, sym, ap, subst, ◌∙◌, arith}
+use Rattle.std.specs.List.{slice_get}
+use Rattle.std.specs.Option.{option_map_or}
+use Rattle.std.proofs.lemmas.Grind.{common_steps}
+use Rattle.std.proofs.lemmas.Option.{same_Some}
 use Rattle.gic_word.specs.declared.record.Irq.{Irq}
-use Rattle.gic_word.specs.Record.{is_pending}
-use Rattle.gic_base.specs.declared.shape.GuestShape.{GuestShape}
+use Rattle.gic_word.specs.Record.{is_pending, is_number}
+use Rattle.gic_word.specs.Causes.{raised, acknowledged, deactivated, has_active_state}
+use Rattle.gic_base.specs.declared.icc.IccReg.{IccReg}
 use Rattle.gic_base.specs.declared.interrupt.Key.{Key}
 use Rattle.gic_base.specs.declared.interrupt.Key.TheVariants.{Spi}
+use Rattle.gic_base.specs.declared.operation.GuestOp.{GuestOp}
+use Rattle.gic_base.specs.declared.operation.GuestOp.TheVariants.{Icc, Mem}
 use Rattle.gic_base.specs.declared.operation.DeviceOp.{DeviceOp}
 use Rattle.gic_base.specs.declared.operation.DeviceOp.TheVariants.{Message, Wire, Msi}
-use Rattle.gic_base.specs.Interrupt.{has_interrupt}
-use Rattle.gic_prio.specs.Signal.{has_active_state}
-use Rattle.scn_read.specs.declared.scenario.Step.{Step}
-use Rattle.scn_read.specs.declared.scenario.Step.TheVariants.{Vcpu, Device, Pe}
-use Rattle.scn_read.specs.Field.{passes}
-use Rattle.scn_read.specs.Good.{is_good_step, is_built_event}
+use Rattle.gic_base.specs.Interrupt.{has_interrupt, is_same_key}
+use Rattle.gic_prio.specs.Access.{taken_by, deactivated_by}
+use Rattle.scn_base.specs.declared.step.Step.{Step}
+use Rattle.scn_base.specs.declared.step.Step.TheVariants.{Vcpu, Device, Pe}
 use Rattle.gic_ideal.specs.declared.guest.IdealGuest.{IdealGuest}
-use Rattle.gic_ideal.specs.Opening.{opening_irq}
-use Rattle.gic_ideal.specs.Ideal.{irq_at}
+use Rattle.gic_ideal.specs.Ideal.{irq_at, cpu_at, candidates, after_acknowledge}
 use Rattle.gic_ideal.specs.Eager.{after_op, after_event, after_step, after_steps}
-use Rattle.gic_ideal.specs.Sound.{IsSound, state_shapes}
-use Rattle.gic_ideal.specs.Laws.{irq_of, is_level_up, LosesCause, op_acknowledges, op_deactivates, event_raises, acknowledges, deactivates, raises, Does, OneDoes}
-use Rattle.gic_ideal.proofs.SoundLemmas.{sound_got}
-use Rattle.gic_ideal.proofs.KeyLemmas.{HasRecords}
-use Rattle.gic_ideal.proofs.GuestLemmas.{guest_after, guest_afters, get_after, get_afters, whole_after, records_stay, unless_done}
-use Rattle.gic_ideal.proofs.EffectLemmas.{WasReady, op_ready}
-use Rattle.gic_ideal.proofs.KeepLemmas.{IsSpent, spent_pending, op_keeps_spent, event_keeps_spent, op_keeps_active, event_keeps_active, op_takes_cause, op_activates}
+use Rattle.gic_ideal.specs.Sound.{IsSound}
+use Rattle.gic_ideal.specs.Laws.{at_guest_is, has_key, is_named, irq_of, op_acknowledges, op_deactivates, event_causes, acknowledges, deactivates, causes, consumes, does, one_does, is_latched, is_caused_since, is_level_up, LosesCause}
+use Rattle.gic_ideal.proofs.GuestLemmas.{guest_after, guest_afters, get_after, get_afters}
+use Rattle.gic_ideal.proofs.CandidateLemmas.{deliverable_pending, deliverable_inactive, taken_names_none, taken_named, taken_of}
+use Rattle.gic_ideal.proofs.EffectLemmas.{shape_acknowledged, shape_deactivated, is_ended, changed_by, caused_by, stepped, step_effect}
+use Rattle.gic_ideal.proofs.SoundLemmas.{sound_got, whole_of, sound_op, sound_event, sound_steps}
 
--- the guest of this number, of which a step does something
-pub record DoneAt (deed : Step → ℕ → IdealGuest → Option Key) (step : Step) (n : ℕ) (key : Key) (guests : List IdealGuest) : Type 0 where
+-- a sound guest with an interrupt
+pub record HasIt (guest : IdealGuest) (key : Key) : Type 0 where
+  pub sound : IsSound guest
+  pub there : IsTrue (has_interrupt guest.shape key)
+
+-- the guest of a number that passes a test
+pub record GuestAt (n : ℕ) (test : IdealGuest → Bool) (guests : List IdealGuest) : Type 0 where
   pub guest : IdealGuest
   pub at : slice_get guests n ≡ Some guest
-  pub done : deed step n guest ≡ Some key
+  pub passes : test guest ≡ true
 
-pub done_at : (deed : Step → ℕ → IdealGuest → Option Key) (step : Step) (n : ℕ) (key : Key) (guests : List IdealGuest) → Does deed step n key guests → DoneAt deed step n key guests
-done_at deed step n key guests h = option_and_then_some (deed step n) (slice_get guests n) key h (λ guest e g. record { guest = guest; at = e; done = g })
+pub guest_at : (n : ℕ) (test : IdealGuest → Bool) (guests : List IdealGuest) → at_guest_is n test guests ≡ true → GuestAt n test guests
+guest_at n test guests h = of (slice_get guests n) refl h
+  where
+    of : (o : Option IdealGuest) → slice_get guests n ≡ o → option_map_or test o false ≡ true → GuestAt n test guests
+    of None e g = absurd (cc)
+    of (Some guest) e g = record { guest = guest; at = e; passes = g }
 
--- a guest of sound ones has its records
-sound_records : (guests : List IdealGuest) (n : ℕ) (guest : IdealGuest) → All IsSound guests → slice_get guests n ≡ Some guest → HasRecords guest
-sound_records guests n guest sound h = let one : IsSound guest = sound_got guests n guest sound h in record { each = one.irqs }
+-- the guest stays sound, and keeps its interrupts
+pub shape_op : (op : GuestOp) (guest : IdealGuest) (vcpu : ℕ) → (after_op op guest vcpu).shape ≡ guest.shape
+shape_op (Icc reg write) guest vcpu =
+    let taken = taken_by reg write (cpu_at guest vcpu) (candidates guest vcpu) in
+    shape_deactivated (deactivated_by reg write (cpu_at guest vcpu)) (after_acknowledge taken guest vcpu) vcpu ∙ shape_acknowledged taken guest vcpu
+shape_op (Mem frame offset size write) guest vcpu = refl
 
--- a test that is chosen by a Bool
-chosen : {X : Type 0} (b : Bool) (o : Option X) (x : X) → cond b o None ≡ Some x → (b ≡ true) × (o ≡ Some x)
-chosen true o x h = (refl, h)
-chosen false o x h = absurd (none-some x h)
+shape_event : (op : DeviceOp) (guest : IdealGuest) → (after_event op guest).shape ≡ guest.shape
+shape_event (Message spi) guest = refl
+shape_event (Wire j up) guest = refl
+shape_event (Msi device event) guest = refl
 
--- what a step that acknowledges an interrupt of the guest found and left
-pub ready_before : (step : Step) (n : ℕ) (guest : IdealGuest) (key : Key) → acknowledges step n guest ≡ Some key → WasReady guest key
-ready_before (Vcpu g vcpu op) n guest key h = op_ready op guest vcpu key (chosen (eqb g n) (op_acknowledges op guest vcpu) key h).1
-ready_before (Device g device op) n guest key h = absurd (none-some key h)
-ready_before (Pe pe op) n guest key h = absurd (none-some key h)
+shape_after : (step : Step) (n : ℕ) (guest : IdealGuest) → (guest_after step n guest).shape ≡ guest.shape
+shape_after (Vcpu g vcpu op) n guest = of (eqb g n)
+  where
+    of : (b : Bool) → (cond b (after_op op guest vcpu) guest).shape ≡ guest.shape
+    of true = shape_op op guest vcpu
+    of false = refl
+shape_after (Device g device op) n guest = of (eqb g n)
+  where
+    of : (b : Bool) → (cond b (after_event op guest) guest).shape ≡ guest.shape
+    of true = shape_event op guest
+    of false = refl
+shape_after (Pe pe op) n guest = refl
 
-pub spent_after : (step : Step) (n : ℕ) (guest : IdealGuest) (key : Key) → HasRecords guest → acknowledges step n guest ≡ Some key → IsSpent (irq_at (guest_after step n guest) key)
-spent_after (Vcpu g vcpu op) n guest key records h =
-    let here = chosen (eqb g n) (op_acknowledges op guest vcpu) key h in
-    rw here.0 (op_takes_cause op guest vcpu key records here.1)
-spent_after (Device g device op) n guest key records h = absurd (none-some key h)
-spent_after (Pe pe op) n guest key records h = absurd (none-some key h)
+sound_after : (step : Step) (n : ℕ) (guest : IdealGuest) → IsSound guest → IsSound (guest_after step n guest)
+sound_after (Vcpu g vcpu op) n guest sound = of (eqb g n)
+  where
+    of : (b : Bool) → IsSound (cond b (after_op op guest vcpu) guest)
+    of true = sound_op op guest vcpu sound
+    of false = sound
+sound_after (Device g device op) n guest sound = of (eqb g n)
+  where
+    of : (b : Bool) → IsSound (cond b (after_event op guest) guest)
+    of true = sound_event op guest sound
+    of false = sound
+sound_after (Pe pe op) n guest sound = sound
 
--- the interrupt is active by some vCPU
-pub record IsActive (irq : Irq) : Type 0 where
-  pub by : ℕ
-  pub active : irq.act_by ≡ Some by
+pub has_after : (step : Step) (n : ℕ) (guest : IdealGuest) (key : Key) → HasIt guest key → HasIt (guest_after step n guest) key
+has_after step n guest key has =
+    record { sound = sound_after step n guest has.sound; there = ap (λ shape. has_interrupt shape key) (shape_after step n guest) ∙ has.there }
 
-pub active_after : (step : Step) (n : ℕ) (guest : IdealGuest) (key : Key) → HasRecords guest → IsTrue (has_active_state key) → acknowledges step n guest ≡ Some key → IsActive (irq_at (guest_after step n guest) key)
-active_after (Vcpu g vcpu op) n guest key records state h =
-    let here = chosen (eqb g n) (op_acknowledges op guest vcpu) key h in
-    rw here.0 (record { by = vcpu; active = op_activates op guest vcpu key records here.1 state })
-active_after (Device g device op) n guest key records state h = absurd (none-some key h)
-active_after (Pe pe op) n guest key records state h = absurd (none-some key h)
+-- the record after an operation and an event: what it is latched by
+latched_deactivated : (vcpu : ℕ) (irq : Irq) → is_latched (deactivated vcpu irq) ≡ is_latched irq
+latched_deactivated vcpu irq = of (is_number vcpu irq.act_by)
+  where
+    of : (b : Bool) → is_latched (cond b (record irq { act_by = None }) irq) ≡ is_latched irq
+    of true = refl
+    of false = refl
 
--- what a step on this guest, or on another, does or keeps
-done_or_kept : (b : Bool) (deed : Option Key) (key : Key) (P : Irq → Type 0) (guest next : IdealGuest) → P (irq_at guest key) → (deed ≡ Some key) ⊎ P (irq_at next key) → (cond b deed None ≡ Some key) ⊎ P (irq_at (cond b next guest) key)
-done_or_kept true deed key P guest next p h = h
-done_or_kept false deed key P guest next p h = inr p
+latched_op : (op : GuestOp) (guest : IdealGuest) (vcpu : ℕ) (key : Key) (irq : Irq) → is_latched (changed_by op guest vcpu key irq) ≡ (is_latched irq && not (op_acknowledges op guest vcpu key))
+latched_op (Icc reg write) guest vcpu key irq = ended (is_ended reg write guest vcpu key) (op_acknowledges (Icc reg write) guest vcpu key)
+  where
+    taken : (b : Bool) → is_latched (cond b (acknowledged key vcpu irq) irq) ≡ (is_latched irq && not b)
+    taken true = grind (arith, common_steps)
+    taken false = grind (arith, common_steps)
 
--- a step leaves an active interrupt active, or deactivates it
-pub keeps_active : (step : Step) (n : ℕ) (guest : IdealGuest) (key : Key) → HasRecords guest → IsTrue (has_interrupt guest.shape key) → IsActive (irq_at guest key) → (deactivates step n guest ≡ Some key) ⊎ IsActive (irq_at (guest_after step n guest) key)
-keeps_active (Vcpu g vcpu op) n guest key records there active =
-    done_or_kept (eqb g n) (op_deactivates op guest vcpu) key IsActive guest (after_op op guest vcpu) active
-    (elim (op_keeps_active op guest vcpu active.by key records there active.active) [
-      | inl done ↦ inl done
-      | inr still ↦ inr (record { by = active.by; active = still })
-    ])
-keeps_active (Device g device op) n guest key records there active =
-    elim (eqb g n) as (λ b. (None ≡ Some key) ⊎ IsActive (irq_at (cond b (after_event op guest) guest) key)) [
-      | true ↦ inr (record { by = active.by; active = event_keeps_active op guest active.by key records there active.active })
-      | false ↦ inr active
-    ]
-keeps_active (Pe pe op) n guest key records there active = inr active
+    ended : (b c : Bool) → is_latched (cond b (deactivated vcpu (cond c (acknowledged key vcpu irq) irq)) (cond c (acknowledged key vcpu irq) irq)) ≡ (is_latched irq && not c)
+    ended true c = latched_deactivated vcpu (cond c (acknowledged key vcpu irq) irq) ∙ taken c
+    ended false c = taken c
+latched_op (Mem frame offset size write) guest vcpu key irq = grind (arith, common_steps)
 
--- what a step raises of the guest of this number and shape is there
-abbrev pub RaisesKnown : ℕ → GuestShape → Step → Type 0
-RaisesKnown n shape step = (guest : IdealGuest) (key : Key) → raises step n guest ≡ Some key → IsTrue (has_interrupt shape key)
+latched_event : (op : DeviceOp) (key : Key) (irq : Irq) → is_latched (caused_by op key irq) ≡ (event_causes op key || is_latched irq)
+latched_event (Message spi) key irq = of (is_same_key key (Spi spi))
+  where
+    of : (b : Bool) → is_latched (cond b (raised irq) irq) ≡ (b || is_latched irq)
+    of true = grind (arith, common_steps)
+    of false = grind (arith, common_steps)
+latched_event (Wire j up) key irq = refl
+latched_event (Msi device event) key irq = refl
 
--- a step gives no cause to an interrupt that it does not raise
-pub keeps_spent : (step : Step) (n : ℕ) (guest : IdealGuest) (key : Key) → HasRecords guest → IsTrue (has_interrupt guest.shape key) → RaisesKnown n guest.shape step → IsSpent (irq_at guest key) → (raises step n guest ≡ Some key) ⊎ IsSpent (irq_at (guest_after step n guest) key)
-keeps_spent (Vcpu g vcpu op) n guest key records there known spent =
-    elim (eqb g n) as (λ b. (None ≡ Some key) ⊎ IsSpent (irq_at (cond b (after_op op guest vcpu) guest) key)) [
-      | true ↦ inr (op_keeps_spent op guest vcpu key records there spent)
-      | false ↦ inr spent
-    ]
-keeps_spent (Device g device op) n guest key records there known spent =
-    elim (eqb g n) as (λ b. ((j : Key) → cond b (event_raises op) None ≡ Some j → IsTrue (has_interrupt guest.shape j)) → (cond b (event_raises op) None ≡ Some key) ⊎ IsSpent (irq_at (cond b (after_event op guest) guest) key)) [
-      | true ↦ (λ known. event_keeps_spent op guest key records there known spent)
-      | false ↦ (λ known. inr spent)
-    ] (λ j h. known guest j h)
-keeps_spent (Pe pe op) n guest key records there known spent = inr spent
+latched_stepped : (step : Step) (n : ℕ) (guest : IdealGuest) (key : Key) (irq : Irq) → is_latched (stepped step n guest key irq) ≡ (causes step n guest key || (is_latched irq && not (consumes step n guest key)))
+latched_stepped (Vcpu g vcpu op) n guest key irq = of (eqb g n) (latched_op op guest vcpu key irq)
+  where
+    of : (b : Bool) → is_latched (changed_by op guest vcpu key irq) ≡ (is_latched irq && not (op_acknowledges op guest vcpu key)) → is_latched (cond b (changed_by op guest vcpu key irq) irq) ≡ (false || (is_latched irq && not (b && op_acknowledges op guest vcpu key)))
+    of true e = e
+    of false e = grind (arith, common_steps)
+latched_stepped (Device g device op) n guest key irq = of (eqb g n) (latched_event op key irq)
+  where
+    of : (b : Bool) → is_latched (caused_by op key irq) ≡ (event_causes op key || is_latched irq) → is_latched (cond b (caused_by op key irq) irq) ≡ ((b && event_causes op key) || (is_latched irq && true))
+    of true e = e ∙ grind (arith, common_steps)
+    of false e = grind (arith, common_steps)
+latched_stepped (Pe pe op) n guest key irq = grind (arith, common_steps)
 
--- a good step raises what is there
-event_known : (op : DeviceOp) (shape : GuestShape) (key : Key) → IsTrue (is_built_event shape op) → event_raises op ≡ Some key → IsTrue (has_interrupt shape key)
-event_known (Message spi) shape key good h = let is : Spi spi ≡ key = cc in subst (λ k. IsTrue (has_interrupt shape k)) is good
-event_known (Wire j up) shape key good h = absurd (none-some key h)
-event_known (Msi device event) shape key good h = absurd (none-some key h)
+latched_after : (step : Step) (n : ℕ) (guest : IdealGuest) (key : Key) → HasIt guest key → is_latched (irq_at (guest_after step n guest) key) ≡ (causes step n guest key || (is_latched (irq_at guest key) && not (consumes step n guest key)))
+latched_after step n guest key has = ap is_latched (step_effect step n guest key (whole_of guest has.sound) has.there) ∙ latched_stepped step n guest key (irq_at guest key)
 
-second : (a b : Bool) → (a && b) ≡ true → b ≡ true
-second true b h = h
-second false b h = absurd (cc)
+-- over all steps
+does_at : (deed : Step → ℕ → IdealGuest → Key → Bool) (step : Step) (n : ℕ) (key : Key) (guests : List IdealGuest) (guest : IdealGuest) → slice_get guests n ≡ Some guest → does deed step n key guests ≡ deed step n guest key
+does_at deed step n key guests guest h = ap (λ o. option_map_or (λ state. deed step n state key) o false) h
 
-pub good_known : (step : Step) (guests : List IdealGuest) (n : ℕ) (guest : IdealGuest) → slice_get guests n ≡ Some guest → IsTrue (is_good_step (state_shapes guests) step) → RaisesKnown n guest.shape step
-good_known (Vcpu g vcpu op) guests n guest at good other key h = absurd (none-some key h)
-good_known (Device g device op) guests n guest at good other key h =
-    let here = chosen (eqb g n) (event_raises op) key h in
-    let same : g ≡ n = eqb-true g n here.0 in
-    let test = λ (shape : GuestShape). nat_lt device shape.devices && is_built_event shape op in
-    let shape : slice_get (state_shapes guests) g ≡ Some guest.shape =
-    slice_get-map (λ (state : IdealGuest). state.shape) guests g ∙ ap (λ m. option_map (λ (state : IdealGuest). state.shape) (slice_get guests m)) same ∙ ap (option_map (λ (state : IdealGuest). state.shape)) at in
-    let passed : test guest.shape ≡ true = sym (ap (passes test) shape) ∙ good in
-    event_known op guest.shape key (second (nat_lt device guest.shape.devices) (is_built_event guest.shape op) passed) here.1
-good_known (Pe pe op) guests n guest at good other key h = absurd (none-some key h)
+latched_all : (steps : List Step) (n : ℕ) (guests : List IdealGuest) (guest : IdealGuest) (key : Key) (at_first : Bool) → slice_get guests n ≡ Some guest → HasIt guest key → is_latched (irq_at guest key) ≡ at_first → is_latched (irq_at (guest_afters steps n guest) key) ≡ is_caused_since at_first steps n key guests
+latched_all [] n guests guest key at_first h has e = e
+latched_all (step ∷ steps) n guests guest key at_first h has e =
+    latched_all steps n (after_step step guests) (guest_after step n guest) key (does causes step n key guests || (at_first && not (does consumes step n key guests))) (get_after step guests n guest h) (has_after step n guest key has)
+    (latched_after step n guest key has ∙ joined (causes step n guest key) (does causes step n key guests) (is_latched (irq_at guest key)) at_first (consumes step n guest key) (does consumes step n key guests)
+    (does_at causes step n key guests guest h) e (does_at consumes step n key guests guest h))
+  where
+    joined : (a b c d f g : Bool) → b ≡ a → c ≡ d → g ≡ f → (a || (c && not f)) ≡ (b || (d && not g))
+    joined a b c d f g i j k = cc
 
--- the same of all of some steps
-pub all_known : (steps : List Step) (guests : List IdealGuest) (n : ℕ) (guest : IdealGuest) → slice_get guests n ≡ Some guest → All (λ step. IsTrue (is_good_step (state_shapes guests) step)) steps → AllByRecursion (RaisesKnown n guest.shape) steps
-all_known [] guests n guest at good = tt
-all_known (step ∷ steps) guests n guest at good =
-    (good_known step guests n guest at (good 0 step (omega arith)), all_known steps guests n guest at (λ k d h. good (suc k) d (omega (arith, h))))
+-- the record at the guest of a number
+pub irq_got : (n : ℕ) (key : Key) (guests : List IdealGuest) (guest : IdealGuest) → slice_get guests n ≡ Some guest → irq_of n key guests ≡ irq_at guest key
+irq_got n key guests guest h = rw h refl
 
--- no premise on a step
-abbrev pub AnyStep : Step → Type 0
-AnyStep step = Unit {0}
+pub latched_exactly : (guests : List IdealGuest) (steps : List Step) (n : ℕ) (key : Key) → All IsSound guests → IsTrue (has_key n key guests) → is_latched (irq_of n key (after_steps steps guests)) ≡ is_caused_since (is_latched (irq_of n key guests)) steps n key guests
+latched_exactly guests steps n key sound has =
+    let at = guest_at n (λ guest. has_interrupt guest.shape key) guests has in
+    let it : HasIt at.guest key = record { sound = sound_got guests n at.guest sound at.at; there = at.passes } in
+    ap is_latched (irq_got n key (after_steps steps guests) (guest_afters steps n at.guest) (get_afters steps guests n at.guest at.at))
+    ∙ latched_all steps n guests at.guest key (is_latched (irq_of n key guests)) at.at it (ap is_latched (sym (irq_got n key guests at.guest at.at)))
 
-all_any : (steps : List Step) → AllByRecursion AnyStep steps
-all_any [] = tt
-all_any (step ∷ steps) = (tt, all_any steps)
+-- a cause that is there at last was there at first, or came
+pub came : (at_first : Bool) (steps : List Step) (n : ℕ) (key : Key) (guests : List IdealGuest) → is_caused_since at_first steps n key guests ≡ true → (at_first || one_does causes steps n key guests) ≡ true
+came at_first [] n key guests h = grind (arith, common_steps, h)
+came at_first (step ∷ steps) n key guests h =
+    joined at_first (does causes step n key guests) (does consumes step n key guests) (one_does causes steps n key (after_step step guests))
+    (came (does causes step n key guests || (at_first && not (does consumes step n key guests))) steps n key (after_step step guests) h)
+  where
+    joined : (a b c d : Bool) → ((b || (a && not c)) || d) ≡ true → (a || (b || d)) ≡ true
+    joined a b c d e = grind (arith, common_steps, e)
 
--- the guest of a number, found twice
-same_guest : (o : Option IdealGuest) (a b : IdealGuest) → o ≡ Some a → o ≡ Some b → a ≡ b
-same_guest o a b e f = cc
+-- an interrupt that a step acknowledges is there, pending and inactive
+pub record WasReady (guest : IdealGuest) (key : Key) : Type 0 where
+  pub there : IsTrue (has_interrupt guest.shape key)
+  pub pending : is_pending (irq_at guest key) ≡ true
+  pub inactive : (irq_at guest key).act_by ≡ None
 
--- an acknowledge takes the cause
-pub takes_cause : (guests : List IdealGuest) (step : Step) (n : ℕ) (key : Key) → All IsSound guests → Does acknowledges step n key guests → LosesCause (irq_of n key guests) (irq_of n key (after_step step guests))
+op_ready : (op : GuestOp) (guest : IdealGuest) (vcpu : ℕ) (key : Key) → IsSound guest → op_acknowledges op guest vcpu key ≡ true → WasReady guest key
+op_ready (Icc reg write) guest vcpu key sound h =
+    let of = taken_of reg write guest vcpu key sound (taken_named reg write guest vcpu key h) in
+    record {
+      there = of.there;
+      pending = deliverable_pending key (irq_at guest key) vcpu (cpu_at guest vcpu) guest.shape of.deliverable;
+      inactive = deliverable_inactive key (irq_at guest key) vcpu (cpu_at guest vcpu) guest.shape of.deliverable;
+    }
+op_ready (Mem frame offset size write) guest vcpu key sound h = absurd (cc)
+
+both : (a b : Bool) → (a && b) ≡ true → (a ≡ true) × (b ≡ true)
+both true b h = (refl, h)
+both false b h = absurd (cc)
+
+pub ready : (step : Step) (n : ℕ) (guest : IdealGuest) (key : Key) → IsSound guest → acknowledges step n guest key ≡ true → WasReady guest key
+ready (Vcpu g vcpu op) n guest key sound h = op_ready op guest vcpu key sound (both (eqb g n) (op_acknowledges op guest vcpu key) h).1
+ready (Device g device op) n guest key sound h = absurd (cc)
+ready (Pe pe op) n guest key sound h = absurd (cc)
+
+-- what has no latched cause is pending only while its level line is up
+pub unlatched_pending : (irq : Irq) → is_latched irq ≡ false → is_pending irq ≡ is_level_up irq
+unlatched_pending irq h = grind (arith, common_steps, h)
+
+consumed : (step : Step) (n : ℕ) (guest : IdealGuest) (key : Key) → acknowledges step n guest key ≡ true → causes step n guest key ≡ false
+consumed (Vcpu g vcpu op) n guest key h = refl
+consumed (Device g device op) n guest key h = absurd (cc)
+consumed (Pe pe op) n guest key h = absurd (cc)
+
+pub unlatched_after : (step : Step) (n : ℕ) (guest : IdealGuest) (key : Key) → IsSound guest → acknowledges step n guest key ≡ true → is_latched (irq_at (guest_after step n guest) key) ≡ false
+unlatched_after step n guest key sound h =
+    let was = ready step n guest key sound h in
+    latched_after step n guest key (record { sound = sound; there = was.there })
+    ∙ of (causes step n guest key) (is_latched (irq_at guest key)) (consumes step n guest key) (consumed step n guest key h) h
+  where
+    of : (a b c : Bool) → a ≡ false → c ≡ true → (a || (b && not c)) ≡ false
+    of a b c e g = grind (arith, common_steps, e, g)
+
+pub takes_cause : (guests : List IdealGuest) (step : Step) (n : ℕ) (key : Key) → All IsSound guests → IsTrue (does acknowledges step n key guests) → LosesCause (irq_of n key guests) (irq_of n key (after_step step guests))
 takes_cause guests step n key sound h =
-    let one = done_at acknowledges step n key guests h in
-    let records = sound_records guests n one.guest sound one.at in
-    let spent = spent_after step n one.guest key records one.done in
-    let record_of = λ (o : Option IdealGuest). option_map_or (λ guest. irq_at guest key) o (opening_irq false key) in
-    subst (λ o. LosesCause (record_of o) (irq_of n key (after_step step guests))) (sym one.at)
-    (subst (λ o. LosesCause (irq_at one.guest key) (record_of o)) (sym (get_after step guests n one.guest one.at))
-    (record {
-      had = (ready_before step n one.guest key one.done).pending;
-      no_rise = spent.no_rise;
-      no_soft = spent.no_soft;
-      left = spent_pending (irq_at (guest_after step n one.guest) key) spent;
-    }))
+    let at = guest_at n (λ state. acknowledges step n state key) guests h in
+    let one = sound_got guests n at.guest sound at.at in
+    let was = ready step n at.guest key one at.passes in
+    let none = unlatched_after step n at.guest key one at.passes in
+    subst (λ before. LosesCause before (irq_of n key (after_step step guests))) (sym (irq_got n key guests at.guest at.at))
+    (subst (LosesCause (irq_at at.guest key)) (sym (irq_got n key (after_step step guests) (guest_after step n at.guest) (get_after step guests n at.guest at.at)))
+    (record { had = was.pending; no_rise = first (irq_at (guest_after step n at.guest) key) none; no_soft = second (irq_at (guest_after step n at.guest) key) none; left = unlatched_pending (irq_at (guest_after step n at.guest) key) none }))
+  where
+    first : (irq : Irq) → is_latched irq ≡ false → irq.rise ≡ false
+    first irq e = grind (arith, common_steps, e)
 
--- between two acknowledges there is a deactivation
-pub deactivated : (guests : List IdealGuest) (n : ℕ) (key : Key) (first : Step) (between : List Step) (next : Step) → All IsSound guests → IsTrue (has_active_state key) → Does acknowledges first n key guests → Does acknowledges next n key (after_steps (first ∷ between) guests) → OneDoes deactivates between n key (after_step first guests)
-deactivated guests n key first between next sound state h g =
-    let one = done_at acknowledges first n key guests h in
-    let two = done_at acknowledges next n key (after_steps between (after_step first guests)) g in
-    let records = sound_records guests n one.guest sound one.at in
-    let there = (ready_before first n one.guest key one.done).there in
-    let whole = whole_after first n one.guest in
-    let at = get_after first guests n one.guest one.at in
-    let last = guest_afters between n (guest_after first n one.guest) in
-    let same : two.guest ≡ last = same_guest (slice_get (after_steps between (after_step first guests)) n) two.guest last two.at (get_afters between (after_step first guests) n (guest_after first n one.guest) at) in
-    elim
-    (unless_done deactivates n key one.guest.shape AnyStep IsActive
-    (λ step guest good e records active. keeps_active step n guest key records (subst (λ shape. IsTrue (has_interrupt shape key)) (sym e) there) active)
-    between (after_step first guests) (guest_after first n one.guest) (all_any between) whole.shape (records_stay whole records) at
-    (active_after first n one.guest key records state one.done)) [
-      | inl done ↦ done
-      | inr active ↦
-          let inactive : (irq_at last key).act_by ≡ None = ap (λ guest. (irq_at guest key).act_by) (sym same) ∙ (ready_before next n two.guest key two.done).inactive in
-          absurd (none-some active.by (sym inactive ∙ active.active))
-    ]
+    second : (irq : Irq) → is_latched irq ≡ false → irq.soft ≡ false
+    second irq e = grind (arith, common_steps, e)
 
--- between two acknowledges there is a new cause, or a level line that is up
-pub caused : (guests : List IdealGuest) (n : ℕ) (key : Key) (first : Step) (between : List Step) (next : Step) → All IsSound guests → All (λ step. IsTrue (is_good_step (state_shapes guests) step)) between → Does acknowledges first n key guests → Does acknowledges next n key (after_steps (first ∷ between) guests) → OneDoes raises between n key (after_step first guests) ⊎ IsTrue (is_level_up (irq_of n key (after_steps (first ∷ between) guests)))
-caused guests n key first between next sound good h g =
-    let one = done_at acknowledges first n key guests h in
-    let two = done_at acknowledges next n key (after_steps between (after_step first guests)) g in
-    let records = sound_records guests n one.guest sound one.at in
-    let there = (ready_before first n one.guest key one.done).there in
-    let whole = whole_after first n one.guest in
-    let at = get_after first guests n one.guest one.at in
-    let last = guest_afters between n (guest_after first n one.guest) in
-    let end = get_afters between (after_step first guests) n (guest_after first n one.guest) at in
-    let same : two.guest ≡ last = same_guest (slice_get (after_steps between (after_step first guests)) n) two.guest last two.at end in
-    elim
-    (unless_done raises n key one.guest.shape (RaisesKnown n one.guest.shape) IsSpent
-    (λ step guest good e records spent. keeps_spent step n guest key records (subst (λ shape. IsTrue (has_interrupt shape key)) (sym e) there) (subst (λ shape. RaisesKnown n shape step) (sym e) good) spent)
-    between (after_step first guests) (guest_after first n one.guest) (all_known between guests n one.guest one.at good) whole.shape (records_stay whole records) at
-    (spent_after first n one.guest key records one.done)) [
-      | inl done ↦ inl done
-      | inr spent ↦
-          let pending : is_pending (irq_at last key) ≡ true = ap (λ guest. is_pending (irq_at guest key)) (sym same) ∙ (ready_before next n two.guest key two.done).pending in
-          inr (ap (λ o. is_level_up (option_map_or (λ guest. irq_at guest key) o (opening_irq false key))) end ∙ sym (spent_pending (irq_at last key) spent) ∙ pending)
-    ]
+-- between two acknowledges there is a cause, or the level line is up
+pub caused : (guests : List IdealGuest) (n : ℕ) (key : Key) (first : Step) (between : List Step) (next : Step) → All IsSound guests → IsTrue (does acknowledges first n key guests) → IsTrue (does acknowledges next n key (after_steps (first ∷ between) guests)) → IsTrue (one_does causes between n key (after_step first guests) || is_level_up (irq_of n key (after_steps (first ∷ between) guests)))
+caused guests n key first between next sound h g =
+    let at = guest_at n (λ state. acknowledges first n state key) guests h in
+    let one = sound_got guests n at.guest sound at.at in
+    let was = ready first n at.guest key one at.passes in
+    let middle = guest_after first n at.guest in
+    let got = get_after first guests n at.guest at.at in
+    let it : HasIt middle key = has_after first n at.guest key (record { sound = one; there = was.there }) in
+    let last = guest_at n (λ state. acknowledges next n state key) (after_steps (first ∷ between) guests) g in
+    let late = ready next n last.guest key (sound_got (after_steps (first ∷ between) guests) n last.guest (sound_steps (first ∷ between) guests sound) last.at) last.passes in
+    let end : irq_of n key (after_steps (first ∷ between) guests) ≡ irq_at last.guest key = irq_got n key (after_steps (first ∷ between) guests) last.guest last.at in
+    let latched : is_latched (irq_of n key (after_steps between (after_step first guests))) ≡ is_caused_since false between n key (after_step first guests) =
+    ap is_latched (irq_got n key (after_steps between (after_step first guests)) (guest_afters between n middle) (get_afters between (after_step first guests) n middle got))
+    ∙ latched_all between n (after_step first guests) middle key false got it (unlatched_after first n at.guest key one at.passes) in
+    by_latch (is_caused_since false between n key (after_step first guests)) refl latched (ap is_pending end ∙ late.pending)
+  where
+    by_latch : (b : Bool) → is_caused_since false between n key (after_step first guests) ≡ b → is_latched (irq_of n key (after_steps (first ∷ between) guests)) ≡ is_caused_since false between n key (after_step first guests) → is_pending (irq_of n key (after_steps (first ∷ between) guests)) ≡ true → (one_does causes between n key (after_step first guests) || is_level_up (irq_of n key (after_steps (first ∷ between) guests))) ≡ true
+    by_latch true e f p = of (one_does causes between n key (after_step first guests)) (came false between n key (after_step first guests) e)
+      where
+        of : (b : Bool) → (false || b) ≡ true → (b || is_level_up (irq_of n key (after_steps (first ∷ between) guests))) ≡ true
+        of b e = grind (arith, common_steps, e)
+    by_latch false e f p = of (one_does causes between n key (after_step first guests)) (sym (unlatched_pending (irq_of n key (after_steps (first ∷ between) guests)) (f ∙ e)) ∙ p)
+      where
+        of : (b : Bool) → is_level_up (irq_of n key (after_steps (first ∷ between) guests)) ≡ true → (b || is_level_up (irq_of n key (after_steps (first ∷ between) guests))) ≡ true
+        of true u = refl
+        of false u = u
+
+-- an active interrupt stays active, or is deactivated
+active_deactivated : (vcpu : ℕ) (irq : Irq) → is_some irq.act_by ≡ true → (is_number vcpu irq.act_by || is_some (deactivated vcpu irq).act_by) ≡ true
+active_deactivated vcpu irq h = of (is_number vcpu irq.act_by)
+  where
+    of : (b : Bool) → (b || is_some (cond b (record irq { act_by = None }) irq).act_by) ≡ true
+    of true = refl
+    of false = h
+
+idle_or_active : (irq : Irq) → irq.act_by ≡ None → is_some irq.act_by ≡ true → ⊥
+idle_or_active irq e h = contradiction (ap is_some e) h
+  where
+    contradiction : {b : Bool} → b ≡ false → b ≡ true → ⊥
+    contradiction e f = cc
+
+active_op : (op : GuestOp) (guest : IdealGuest) (vcpu : ℕ) (key : Key) → IsSound guest → is_some (irq_at guest key).act_by ≡ true → (op_deactivates op guest vcpu key || is_some (changed_by op guest vcpu key (irq_at guest key)).act_by) ≡ true
+active_op (Icc reg write) guest vcpu key sound active = taken (op_acknowledges (Icc reg write) guest vcpu key) refl (is_ended reg write guest vcpu key)
+  where
+    irq : Irq
+    irq = irq_at guest key
+
+    taken : (b : Bool) → op_acknowledges (Icc reg write) guest vcpu key ≡ b → (e : Bool) → ((e && is_number vcpu irq.act_by) || is_some (cond e (deactivated vcpu (cond b (acknowledged key vcpu irq) irq)) (cond b (acknowledged key vcpu irq) irq)).act_by) ≡ true
+    taken true h e = absurd (idle_or_active irq (op_ready (Icc reg write) guest vcpu key sound h).inactive active)
+    taken false h true = active_deactivated vcpu irq active
+    taken false h false = active
+active_op (Mem frame offset size write) guest vcpu key sound active = active
+
+active_event : (op : DeviceOp) (key : Key) (irq : Irq) → is_some irq.act_by ≡ true → is_some (caused_by op key irq).act_by ≡ true
+active_event (Message spi) key irq active = of (is_same_key key (Spi spi))
+  where
+    of : (b : Bool) → is_some (cond b (raised irq) irq).act_by ≡ true
+    of true = active
+    of false = active
+active_event (Wire j up) key irq active = active
+active_event (Msi device event) key irq active = active
+
+active_after : (step : Step) (n : ℕ) (guest : IdealGuest) (key : Key) → HasIt guest key → is_some (irq_at guest key).act_by ≡ true → (deactivates step n guest key || is_some (irq_at (guest_after step n guest) key).act_by) ≡ true
+active_after step n guest key has active = ap (λ irq. deactivates step n guest key || is_some irq.act_by) (step_effect step n guest key (whole_of guest has.sound) has.there) ∙ of step
+  where
+    irq : Irq
+    irq = irq_at guest key
+
+    of : (step : Step) → (deactivates step n guest key || is_some (stepped step n guest key irq).act_by) ≡ true
+    of (Vcpu g vcpu op) = here (eqb g n) (active_op op guest vcpu key has.sound active)
+      where
+        here : (b : Bool) → (op_deactivates op guest vcpu key || is_some (changed_by op guest vcpu key irq).act_by) ≡ true → ((b && op_deactivates op guest vcpu key) || is_some (cond b (changed_by op guest vcpu key irq) irq).act_by) ≡ true
+        here true h = h
+        here false h = active
+    of (Device g device op) = here (eqb g n)
+      where
+        here : (b : Bool) → (false || is_some (cond b (caused_by op key irq) irq).act_by) ≡ true
+        here true = active_event op key irq active
+        here false = active
+    of (Pe pe op) = active
+
+active_all : (steps : List Step) (n : ℕ) (guests : List IdealGuest) (guest : IdealGuest) (key : Key) → slice_get guests n ≡ Some guest → HasIt guest key → is_some (irq_at guest key).act_by ≡ true → (one_does deactivates steps n key guests || is_some (irq_at (guest_afters steps n guest) key).act_by) ≡ true
+active_all [] n guests guest key h has active = active
+active_all (step ∷ steps) n guests guest key h has active =
+    joined (does deactivates step n key guests) (deactivates step n guest key) (one_does deactivates steps n key (after_step step guests)) (is_some (irq_at (guest_after step n guest) key).act_by) (is_some (irq_at (guest_afters steps n (guest_after step n guest)) key).act_by)
+    (does_at deactivates step n key guests guest h) (active_after step n guest key has active)
+    (λ still. active_all steps n (after_step step guests) (guest_after step n guest) key (get_after step guests n guest h) (has_after step n guest key has) still)
+  where
+    joined : (a d rest now at_end : Bool) → a ≡ d → (d || now) ≡ true → (now ≡ true → (rest || at_end) ≡ true) → ((a || rest) || at_end) ≡ true
+    joined a true rest now at_end e f g = rw e refl
+    joined a false rest now at_end e f g = rw e (g f)
+
+-- an acknowledge makes an interrupt active that has an active state
+unended : (reg : IccReg) (write : Option ℕ) (guest : IdealGuest) (vcpu : ℕ) (key : Key) → op_acknowledges (Icc reg write) guest vcpu key ≡ true → is_ended reg write guest vcpu key ≡ false
+unended reg write guest vcpu key h =
+    let was = taken_named reg write guest vcpu key h in
+    ap (λ o. option_map_or (λ id. is_named id vcpu guest.shape key) o false) (taken_names_none reg write (cpu_at guest vcpu) (candidates guest vcpu) was.found was.taken)
+
+activated_op : (op : GuestOp) (guest : IdealGuest) (vcpu : ℕ) (key : Key) (irq : Irq) → IsTrue (has_active_state key) → op_acknowledges op guest vcpu key ≡ true → is_some (changed_by op guest vcpu key irq).act_by ≡ true
+activated_op (Icc reg write) guest vcpu key irq state h = of (op_acknowledges (Icc reg write) guest vcpu key) (is_ended reg write guest vcpu key) h (unended reg write guest vcpu key h)
+  where
+    of : (b e : Bool) → b ≡ true → e ≡ false → is_some (cond e (deactivated vcpu (cond b (acknowledged key vcpu irq) irq)) (cond b (acknowledged key vcpu irq) irq)).act_by ≡ true
+    of b e f g = rw (f, g) (ap (λ s. is_some (cond s (Some vcpu) None)) state)
+activated_op (Mem frame offset size write) guest vcpu key irq state h = absurd (cc)
+
+activated : (step : Step) (n : ℕ) (guest : IdealGuest) (key : Key) → IsSound guest → IsTrue (has_active_state key) → acknowledges step n guest key ≡ true → is_some (irq_at (guest_after step n guest) key).act_by ≡ true
+activated step n guest key sound state h =
+    ap (λ irq. is_some irq.act_by) (step_effect step n guest key (whole_of guest sound) (ready step n guest key sound h).there) ∙ of step h
+  where
+    irq : Irq
+    irq = irq_at guest key
+
+    of : (step : Step) → acknowledges step n guest key ≡ true → is_some (stepped step n guest key irq).act_by ≡ true
+    of (Vcpu g vcpu op) h =
+        let tests = both (eqb g n) (op_acknowledges op guest vcpu key) h in
+        ap (λ b. is_some (cond b (changed_by op guest vcpu key irq) irq).act_by) tests.0 ∙ activated_op op guest vcpu key irq state tests.1
+    of (Device g device op) h = absurd (cc)
+    of (Pe pe op) h = absurd (cc)
+
+-- between two acknowledges an interrupt is deactivated
+pub deactivated_before : (guests : List IdealGuest) (n : ℕ) (key : Key) (first : Step) (between : List Step) (next : Step) → All IsSound guests → IsTrue (has_active_state key) → IsTrue (does acknowledges first n key guests) → IsTrue (does acknowledges next n key (after_steps (first ∷ between) guests)) → IsTrue (one_does deactivates between n key (after_step first guests))
+deactivated_before guests n key first between next sound state h g =
+    let at = guest_at n (λ guest. acknowledges first n guest key) guests h in
+    let one = sound_got guests n at.guest sound at.at in
+    let was = ready first n at.guest key one at.passes in
+    let middle = guest_after first n at.guest in
+    let got = get_after first guests n at.guest at.at in
+    let it : HasIt middle key = has_after first n at.guest key (record { sound = one; there = was.there }) in
+    let last = guest_at n (λ guest. acknowledges next n guest key) (after_steps (first ∷ between) guests) g in
+    let late = ready next n last.guest key (sound_got (after_steps (first ∷ between) guests) n last.guest (sound_steps (first ∷ between) guests sound) last.at) last.passes in
+    let same : guest_afters between n middle ≡ last.guest = same_Some (guest_afters between n middle) last.guest (sym (get_afters between (after_step first guests) n middle got) ∙ last.at) in
+    let idle : is_some (irq_at (guest_afters between n middle) key).act_by ≡ false = ap (λ guest. is_some (irq_at guest key).act_by) same ∙ ap is_some late.inactive in
+    of (one_does deactivates between n key (after_step first guests)) (is_some (irq_at (guest_afters between n middle) key).act_by) idle (active_all between n (after_step first guests) middle key got it (activated first n at.guest key one state at.passes))
+  where
+    of : (a b : Bool) → b ≡ false → (a || b) ≡ true → a ≡ true
+    of a b e f = grind (arith, common_steps, e, f)

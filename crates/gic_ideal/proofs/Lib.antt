@@ -4,8 +4,7 @@ pub mod KeyLemmas
 pub mod CandidateLemmas
 pub mod GuestLemmas
 pub mod EffectLemmas
-pub mod KeepLemmas
+pub mod OpeningLemmas
+pub mod SoundLemmas
 pub mod LawLemmas
 pub mod AnswerLemmas
-pub mod ReadLemmas
-pub mod SoundLemmas

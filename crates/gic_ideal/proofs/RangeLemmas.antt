@@ -1,7 +1,6 @@
 -- What is found at each number of a range, and at one more.
-use Rattle.std.proofs.Common.{◌≡◌, ℕ, zero, suc, ◌+◌, List, [], ◌∷◌, ◌++◌, Option, Some, None, refl, ap, ◌∙◌, arith, option_to_list, add-one, append-nil, map}
+use Rattle.std.proofs.Common.{◌≡◌, ℕ, zero, suc, ◌+◌, List, [], ◌∷◌, ◌++◌, Option, Some, None, refl, ap, ◌∙◌, arith, option_to_list, add-one, append-nil}
 use Rattle.std.specs.List.{range_with_len, filter_map, cons_option}
-use Rattle.std.proofs.lemmas.List.FromFn.{map-range_with_len_more}
 use Rattle.std.proofs.lemmas.List.Elements.{filter_map-append}
 
 pub range_with_len_more : (a n j : ℕ) → a + n ≡ j → range_with_len a (suc n) ≡ range_with_len a n ++ j ∷ []
@@ -25,11 +24,7 @@ filter_map_found f n x e = filter_map_more f n ∙ ap (λ o. filter_map f (range
 pub filter_map_none : {X : Type 0} (f : ℕ → Option X) (n : ℕ) → f n ≡ None → filter_map f (range_with_len 0 (n + 1)) ≡ filter_map f (range_with_len 0 n)
 filter_map_none f n e = filter_map_more f n ∙ ap (λ o. filter_map f (range_with_len 0 n) ++ option_to_list o) e ∙ append-nil (filter_map f (range_with_len 0 n))
 
--- a list of what stands at each number so far, with what stands at the next one pushed
-pub map_pushed : {X : Type 0} (f : ℕ → X) (n : ℕ) (old new : List X) (x : X) → old ≡ map f (range_with_len 0 n) → new ≡ old ++ x ∷ [] → x ≡ f n → new ≡ map f (range_with_len 0 (n + 1))
-map_pushed f n old new x so_far pushed here = let more = map-range_with_len_more f 0 n n (omega arith) in cc
-
--- the same of what is found at each number
+-- a list of what is found at each number so far, with what is found at the next one pushed
 pub filter_map_pushed : {X : Type 0} (f : ℕ → Option X) (n : ℕ) (old new : List X) (x : X) → old ≡ filter_map f (range_with_len 0 n) → new ≡ old ++ x ∷ [] → f n ≡ Some x → new ≡ filter_map f (range_with_len 0 (n + 1))
 filter_map_pushed f n old new x so_far pushed here = let more = filter_map_found f n x here in cc
 

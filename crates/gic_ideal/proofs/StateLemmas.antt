@@ -3,9 +3,9 @@ use Rattle.std.proofs.Common.{◌≡◌, ℕ, zero, suc, ◌<◌, List, [], ◌�
 use Rattle.std.specs.List.{slice_set, slice_get}
 use Rattle.std.proofs.lemmas.Option.{slice_get_read}
 use Rattle.gic_base.specs.declared.shape.GuestShape.{GuestShape}
-use Rattle.scn_read.specs.declared.scenario.GuestSpec.{GuestSpec}
-use Rattle.scn_read.specs.Field.{passes}
-use Rattle.scn_read.specs.Good.{shapes_of}
+use Rattle.scn_base.specs.declared.guest.GuestSpec.{GuestSpec}
+use Rattle.scn_base.specs.Good.{passes}
+use Rattle.scn_base.specs.Good.{shapes_of}
 use Rattle.gic_ideal.specs.declared.guest.IdealGuest.{IdealGuest}
 use Rattle.gic_ideal.specs.Opening.{opening}
 use Rattle.gic_ideal.specs.Eager.{at_guest}

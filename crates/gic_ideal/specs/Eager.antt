@@ -6,13 +6,13 @@ use Rattle.gic_base.specs.declared.operation.GuestOp.{GuestOp}
 use Rattle.gic_base.specs.declared.operation.GuestOp.TheVariants.{Icc, Mem}
 use Rattle.gic_base.specs.declared.operation.DeviceOp.{DeviceOp}
 use Rattle.gic_base.specs.declared.operation.DeviceOp.TheVariants.{Message, Wire, Msi}
-use Rattle.scn_read.specs.declared.scenario.Scenario.{Scenario}
-use Rattle.scn_read.specs.declared.scenario.Step.{Step}
-use Rattle.scn_read.specs.declared.scenario.Step.TheVariants.{Vcpu, Device, Pe}
+use Rattle.scn_base.specs.declared.scenario.Scenario.{Scenario}
+use Rattle.scn_base.specs.declared.step.Step.{Step}
+use Rattle.scn_base.specs.declared.step.Step.TheVariants.{Vcpu, Device, Pe}
 use Rattle.gic_ideal.specs.declared.guest.IdealGuest.{IdealGuest}
-use Rattle.scn_read.specs.declared.outcome.RunOut.{RunOut}
-use Rattle.scn_read.specs.declared.outcome.Answer.{Answer}
-use Rattle.scn_read.specs.declared.outcome.Answer.TheVariants.{Nothing, Value, Regs}
+use Rattle.scn_base.specs.declared.outcome.RunOut.{RunOut}
+use Rattle.scn_base.specs.declared.outcome.Answer.{Answer}
+use Rattle.scn_base.specs.declared.outcome.Answer.TheVariants.{Nothing, Value, Regs}
 use Rattle.gic_base.specs.declared.operation.PeOp.{PeOp}
 use Rattle.gic_base.specs.declared.operation.PeOp.TheVariants.{Enter, Exit, Lrs}
 use Rattle.gic_ideal.specs.Shown.{registers_of}

@@ -1,29 +1,21 @@
 -- The fields of the lines that tell how a guest ended (own choice).
-use Rattle.std.specs.Prelude.{ℕ, ◌==◌, ◌&&◌, List, [], ◌∷◌, Bool, nat_lt, nat_eq, if◌then◌else◌, Option, Some, None}
+use Rattle.std.specs.Prelude.{ℕ, ◌==◌, ◌&&◌, List, [], ◌∷◌, Bool, nat_eq, if◌then◌else◌, Option, Some, None}
 use Rattle.std.specs.Option.{option_eq}
 use Rattle.std.specs.Bool.{beq}
 use Rattle.std.specs.List.{range_with_len, filter_map}
-use Rattle.gic_word.specs.declared.record.Route.{Route}
-use Rattle.gic_word.specs.declared.record.Route.TheVariants.{Affinity, Target}
-use Rattle.gic_base.specs.declared.shape.GuestShape.{GuestShape}
 use Rattle.gic_base.specs.Interrupt.{interrupt_count, key_at}
-use Rattle.gic_word.specs.Record.{group_number}
+use Rattle.gic_word.specs.Record.{group_number, target_in}
 use Rattle.gic_ich.specs.Vmcr.{vmcr_of}
 use Rattle.gic_ideal.specs.declared.guest.IdealGuest.{IdealGuest}
-use Rattle.scn_read.specs.declared.outcome.CpuEnd.{CpuEnd}
-use Rattle.scn_read.specs.declared.outcome.IrqEnd.{IrqEnd}
-use Rattle.scn_read.specs.declared.outcome.End.{End}
+use Rattle.scn_base.specs.declared.outcome.CpuEnd.{CpuEnd}
+use Rattle.scn_base.specs.declared.outcome.IrqEnd.{IrqEnd}
+use Rattle.scn_base.specs.declared.outcome.End.{End}
 use Rattle.gic_ideal.specs.Ideal.{cpu_at, irq_at}
 
 -- the end of a vCPU's CPU interface
 abbrev pub cpu_end : IdealGuest → ℕ → CpuEnd
 cpu_end guest vcpu = let cpu = cpu_at guest vcpu in
     record { vcpu = vcpu; vmcr = vmcr_of cpu; ap0 = cpu.ap0; ap1 = cpu.ap1; lpis = cpu.lpis }
-
--- the vCPU that an interrupt is for, if the guest has it
-abbrev pub target_in : GuestShape → Route → Option ℕ
-target_in shape (Affinity affinity) = if nat_lt affinity shape.vcpus then Some affinity else None
-target_in shape (Target target) = target
 
 -- the end of the interrupt at a place in key order
 abbrev pub irq_end : IdealGuest → ℕ → IrqEnd
@@ -38,7 +30,7 @@ irq_end guest place = let key = key_at guest.shape place in let irq = irq_at gue
       rise = irq.rise;
       soft = irq.soft;
       act_by = irq.act_by;
-      to = target_in guest.shape irq.route;
+      to = target_in irq.route guest.shape;
     }
 
 -- the lines of the two ends are alike

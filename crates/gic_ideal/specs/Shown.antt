@@ -18,4 +18,4 @@ offers_of guest = map (offer_at guest) (range_with_len 0 (interrupt_count guest.
 
 -- ICH_HCR, and then each of n list registers, with this vCPU
 abbrev pub registers_of : ℕ → IdealGuest → ℕ → List ℕ
-registers_of n guest vcpu = let fill = plan (offers_of guest) vcpu (cpu_at guest vcpu) n in fill.hcr ∷ words_of fill n
+registers_of n guest vcpu = let fill = plan (offers_of guest) vcpu (cpu_at guest vcpu) guest.shape n in fill.hcr ∷ words_of fill n

@@ -1,17 +1,33 @@
 -- What holds of each state that the ideal controller reaches.
-use Rattle.std.specs.Prelude.{◌≡◌, List, length, map, All}
+use Rattle.std.specs.Prelude.{◌≡◌, List, IsTrue, length, map, All}
 use Rattle.gic_base.specs.declared.shape.GuestShape.{GuestShape}
+use Rattle.gic_base.specs.declared.interrupt.Key.{Key}
 use Rattle.gic_base.specs.Shape.{IsShape}
-use Rattle.gic_base.specs.Interrupt.{interrupt_count}
-use Rattle.gic_prio.specs.Priority.{HasBinaryPoints}
+use Rattle.gic_base.specs.Interrupt.{has_interrupt, interrupt_count}
+use Rattle.gic_word.specs.declared.record.Irq.{Irq}
+use Rattle.gic_word.specs.Valid.{IsRecordOf, IsHome}
+use Rattle.gic_prio.specs.declared.cpu.CpuRec.{CpuRec}
+use Rattle.gic_prio.specs.Priority.{HasBinaryPoints, HasLevels}
 use Rattle.gic_ideal.specs.declared.guest.IdealGuest.{IdealGuest}
+use Rattle.gic_ideal.specs.Ideal.{irq_at}
 
--- the guest has a record for each of its interrupts and vCPUs
+-- the record is one that this interrupt of the guest can have, and no interface holds it
+pub record IsIdealRecord (shape : GuestShape) (key : Key) (irq : Irq) : Type 0 where
+  pub valid : IsRecordOf shape key irq
+  pub home : IsHome irq
+
+-- the binary points have three bits, and there are 32 levels
+pub record IsIdealCpu (cpu : CpuRec) : Type 0 where
+  pub points : HasBinaryPoints cpu
+  pub levels : HasLevels cpu
+
+-- the guest has a record for each of its interrupts and vCPUs, each of which is valid
 pub record IsSound (guest : IdealGuest) : Type 0 where
   pub shape : IsShape guest.shape
   pub irqs : length guest.irqs ≡ interrupt_count guest.shape
   pub cpus : length guest.cpus ≡ guest.shape.vcpus
-  pub binary_points : All HasBinaryPoints guest.cpus
+  pub records : (key : Key) → IsTrue (has_interrupt guest.shape key) → IsIdealRecord guest.shape key (irq_at guest key)
+  pub interfaces : All IsIdealCpu guest.cpus
 
 -- what each guest has of each kind
 abbrev pub state_shapes : List IdealGuest → List GuestShape

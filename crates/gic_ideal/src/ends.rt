@@ -1,3 +1,4 @@
+//! How a guest ended.
 ghost use Rattle.std.specs.Prelude.{◌≡◌, ◌<◌, IfOk};
 ghost use Rattle.gic_base.specs.Interrupt.{interrupt_count as count_of};
 ghost use Rattle.gic_ideal.specs.Ends.{cpu_end as cpu_end_at, irq_end as irq_end_at, is_same_cpu_end, is_same_irq_end, changed_at, changed, end_of as end_between};
@@ -7,8 +8,8 @@ use crate::guest::IdealGuest;
 use gic_base::{interrupt_count, key_at};
 use gic_ich::vmcr_of;
 use gic_list::ListOf;
-use gic_word::{Group, Route};
-use scn_read::{CpuEnd, CpuEnds, End, IrqEnd, IrqEnds};
+use gic_word::{Group, target_in};
+use scn_base::{CpuEnd, CpuEnds, End, IrqEnd, IrqEnds};
 use std::alloc::{AllocError, Global};
 
 fn is_same_cpu(a: &CpuEnd, b: &CpuEnd) -> bool
@@ -67,10 +68,7 @@ impl IdealGuest {
             rise: irq.rise,
             soft: irq.soft,
             act_by: irq.act_by,
-            to: match irq.route {
-                Route::Affinity(affinity) => (affinity < self.shape.vcpus).then_some(affinity),
-                Route::Target(target) => target,
-            },
+            to: target_in(irq.route, &self.shape),
         }
     }
 }

@@ -1,3 +1,4 @@
+//! The state of one guest.
 use gic_base::GuestShape;
 use gic_list::ListOf;
 use gic_prio::CpuRec;

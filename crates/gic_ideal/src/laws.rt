@@ -1,4 +1,17 @@
-ghost use Rattle.gic_ideal.specs.Laws.{AcknowledgeTakesCause, AcknowledgeAnswers, AnswerAcknowledges, DeactivatedBetween, CausedBetween, CausedBetweenReads, RunsAreSound};
+//! Laws of the ideal controller.
+ghost use Rattle.gic_ideal.specs.Laws.{LatchedExactly, EdgePendingExactly, AcknowledgeTakesCause, AcknowledgeAnswers, AnswerAcknowledges, SpuriousReadExactly, AcknowledgeRuns, DeactivatedBetween, CausedBetween, CausedBetweenReads, RunsAreSound};
+
+/// A law of the ideal controller: after any steps, an interrupt has a latched cause exactly where one came since
+/// the last acknowledge, or was there at first and was not acknowledged.
+pub fn latched_exactly()
+    ensures { LatchedExactly }
+{}
+
+/// A law of the ideal controller: in every run, an edge-triggered interrupt is pending exactly where a cause came
+/// since the opening and since the last acknowledge.
+pub fn edge_pending_exactly()
+    ensures { EdgePendingExactly }
+{}
 
 /// A law of the ideal controller: an interrupt that is acknowledged had a cause, and has lost it.
 pub fn acknowledge_takes_cause()
@@ -14,6 +27,18 @@ pub fn acknowledge_answers()
 /// with it.
 pub fn answer_acknowledges()
     ensures { AnswerAcknowledges }
+{}
+
+/// A law of the ideal controller: a read of IAR answers 1023 exactly where nothing is deliverable to the vCPU, or
+/// the first interrupt that is deliverable is of the other group or is not signalled.
+pub fn spurious_read_exactly()
+    ensures { SpuriousReadExactly }
+{}
+
+/// A law of the ideal controller: after an acknowledge the running priority is the group priority of the
+/// interrupt, and nothing of an equal or lower one is signalled.
+pub fn acknowledge_runs()
+    ensures { AcknowledgeRuns }
 {}
 
 /// A law of the ideal controller: an active interrupt is not acknowledged again before it is deactivated.

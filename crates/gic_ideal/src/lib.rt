@@ -9,10 +9,13 @@ mod opening;
 mod rules;
 mod run;
 mod shown;
+#[cfg(test)]
+mod tests;
 
 pub use guest::IdealGuest;
 pub use laws::{
-    acknowledge_answers, acknowledge_takes_cause, answer_acknowledges, caused_between,
-    caused_between_reads, deactivated_between, runs_are_sound,
+    acknowledge_answers, acknowledge_runs, acknowledge_takes_cause, answer_acknowledges,
+    caused_between, caused_between_reads, deactivated_between, edge_pending_exactly,
+    latched_exactly, runs_are_sound, spurious_read_exactly,
 };
 pub use run::eager;

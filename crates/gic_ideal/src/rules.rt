@@ -1,22 +1,25 @@
-ghost use Rattle.std.specs.Prelude.{◌≡◌, ◌<◌, IsTrue, IfSome, Some, None};
-ghost use Rattle.gic_base.specs.Interrupt.{has_interrupt, interrupt_count, key_of as key_named};
+//! What the ideal controller does to one guest.
+ghost use Rattle.std.specs.Prelude.{◌≡◌, ◌<◌, IsTrue, Some, None};
+ghost use Rattle.gic_word.specs.Causes.{acknowledged as acknowledged_irq, deactivated as deactivated_irq};
+ghost use Rattle.gic_base.specs.Interrupt.{has_interrupt, interrupt_count};
 ghost use Rattle.gic_prio.specs.Priority.{HasBinaryPoints};
 ghost use Rattle.gic_prio.specs.Delivery.{first_of};
-ghost use Rattle.gic_prio.specs.Signal.{acknowledged, intid_read};
-ghost use Rattle.gic_prio.specs.Access.{raised_by};
-ghost use Rattle.scn_read.specs.Good.{is_built_op, is_built_event};
-ghost use Rattle.gic_ideal.specs.Ideal.{irq_at, with_irq, cpu_at, with_cpu, candidate_at, candidates, after_acknowledge, after_deactivation, after_access, access_answer, after_raise};
+ghost use Rattle.gic_prio.specs.Signal.{acknowledged as acknowledged_among, intid_read};
+ghost use Rattle.gic_prio.specs.Access.{activated_by};
+ghost use Rattle.gic_open.specs.Opening.{with_irq_in};
+ghost use Rattle.scn_base.specs.Good.{is_built_op, is_built_event};
+ghost use Rattle.gic_ideal.specs.Ideal.{irq_at, cpu_at, with_cpu, changed_at, candidate_at, candidates, after_acknowledge, after_access, access_answer, after_raise};
 ghost use Rattle.gic_ideal.specs.Eager.{op_answer, after_op, after_event};
-ghost use Rattle.gic_ideal.specs.Sound.{IsSound};
+ghost use Rattle.gic_ideal.specs.Sound.{IsIdealRecord, IsSound};
 
 use crate::guest::IdealGuest;
 use gic_base::{DeviceOp, GuestOp, IccReg, Key, interrupt_count, key_at, key_of, place_of};
 use gic_prio::{
-    Candidate, CpuRec, SPURIOUS, cpu_written, deliverable, earlier, highest_pending,
-    intid_deactivated, irq_acknowledged, irq_deactivated, level_activated, read_plain, signalled,
+    Candidate, CpuRec, SPURIOUS, acknowledged, cpu_written, deliverable, earlier, highest_pending,
+    intid_deactivated, level_activated, read_plain,
 };
 use gic_word::{Group, Irq};
-use scn_read::Answer;
+use scn_base::Answer;
 
 impl IdealGuest {
     /// The record of an interrupt.
@@ -28,10 +31,12 @@ impl IdealGuest {
         self.irqs.as_slice()[place_of(key, &self.shape)]
     }
 
+    #[tactic(auto, using(crate::proofs::SoundLemmas::sound_put))]
     fn set_irq(&mut self, key: Key, irq: Irq)
         requires sound { IsSound self.old }
         requires there { IsTrue (has_interrupt self.old.shape key) }
-        ensures value { self.new ≡ with_irq self.old key irq }
+        requires valid { IsIdealRecord self.old.shape key irq }
+        ensures value { self.new ≡ record self.old { irqs = with_irq_in self.old.shape key irq self.old.irqs } }
         ensures sound { IsSound self.new }
     {
         let place = place_of(key, &self.shape);
@@ -47,6 +52,7 @@ impl IdealGuest {
         self.cpus.as_slice()[vcpu as usize]
     }
 
+    #[tactic(auto, using(crate::proofs::SoundLemmas::sound_with_points))]
     fn set_cpu(&mut self, vcpu: u32, cpu: CpuRec)
         requires sound { IsSound self.old }
         requires there { vcpu < self.old.shape.vcpus }
@@ -62,14 +68,13 @@ impl IdealGuest {
         requires sound { IsSound self.now }
         requires there { vcpu < self.now.shape.vcpus }
         requires within { place < interrupt_count self.now.shape }
-        ensures value { result ≡ candidate_at self.now vcpu place }
-        ensures there { IfSome result (λ found. IsTrue (has_interrupt self.now.shape found.key)) }
+        ensures { result ≡ candidate_at self.now vcpu place }
     {
         let key = key_at(place, &self.shape);
         let irq = self.irq(key);
         let cpu = self.cpu(vcpu);
         deliverable(key, &irq, vcpu, &cpu).then_some(Candidate {
-            key,
+            id: key.intid(),
             prio: irq.prio,
             group: irq.group,
         })
@@ -79,8 +84,7 @@ impl IdealGuest {
     fn first(&self, vcpu: u32) -> Option<Candidate>
         requires sound { IsSound self.now }
         requires there { vcpu < self.now.shape.vcpus }
-        ensures value { result ≡ first_of (candidates self.now vcpu) }
-        ensures there { IfSome result (λ found. IsTrue (has_interrupt self.now.shape found.key)) }
+        ensures { result ≡ first_of (candidates self.now vcpu) }
     {
         let mut first = None;
         for place in 0..interrupt_count(&self.shape) {
@@ -91,26 +95,35 @@ impl IdealGuest {
         first
     }
 
-    /// The interrupt that a read of IAR of a group acknowledges.
+    /// The candidate that a read of IAR of a group acknowledges.
     fn answered(&self, group: Group, vcpu: u32) -> Option<Candidate>
         requires sound { IsSound self.now }
         requires there { vcpu < self.now.shape.vcpus }
-        ensures value { result ≡ acknowledged group (cpu_at self.now vcpu) (candidates self.now vcpu) }
-        ensures there { IfSome result (λ found. IsTrue (has_interrupt self.now.shape found.key)) }
+        ensures { result ≡ acknowledged_among group (cpu_at self.now vcpu) (candidates self.now vcpu) }
     {
-        let cpu = self.cpu(vcpu);
-        let first = self.first(vcpu)?;
-        let is_answered = first.group == group && signalled(first.prio, first.group, &cpu);
-        is_answered.then_some(first)
+        acknowledged(self.first(vcpu), group, &self.cpu(vcpu))
     }
 
-    /// Acknowledges an interrupt, or none, and answers its INTID or 1023.
+    /// The record of the interrupt with an INTID after this vCPU acknowledged it, where it is there.
+    #[tactic(auto, using(crate::proofs::SoundLemmas::ideal_acknowledged))]
+    fn take(&mut self, id: u32, vcpu: u32)
+        requires sound { IsSound self.old }
+        requires there { vcpu < self.old.shape.vcpus }
+        ensures after { self.new ≡ changed_at id vcpu (λ key irq. acknowledged_irq key vcpu irq) self.old }
+        ensures sound { IsSound self.new }
+    {
+        if let Some(key) = key_of(id, vcpu, &self.shape) {
+            let irq = self.irq(key);
+            self.set_irq(key, irq.acknowledged(key, vcpu));
+        }
+    }
+
+    /// Acknowledges a candidate, or none, and answers its INTID or 1023.
     fn acknowledge(&mut self, found: Option<Candidate>, vcpu: u32) -> u64
         requires sound { IsSound self.old }
         requires there { vcpu < self.old.shape.vcpus }
-        requires known { IfSome found (λ found. IsTrue (has_interrupt self.old.shape found.key)) }
         ensures value { result ≡ intid_read found }
-        ensures after { self.new ≡ with_cpu (after_acknowledge found self.old vcpu) vcpu (raised_by found (cpu_at self.old vcpu)) }
+        ensures after { self.new ≡ with_cpu (after_acknowledge found self.old vcpu) vcpu (activated_by found (cpu_at self.old vcpu)) }
         ensures sound { IsSound self.new }
     {
         let cpu = self.cpu(vcpu);
@@ -118,21 +131,21 @@ impl IdealGuest {
             self.set_cpu(vcpu, cpu);
             return u64::from(SPURIOUS);
         };
-        let irq = self.irq(found.key);
-        self.set_irq(found.key, irq_acknowledged(&irq, found.key, vcpu));
+        self.take(found.id, vcpu);
         self.set_cpu(vcpu, level_activated(&cpu, found.prio, found.group));
-        u64::from(found.key.intid())
+        u64::from(found.id)
     }
 
     /// Deactivates the interrupt of an INTID where it is there and active by this vCPU.
+    #[tactic(auto, using(crate::proofs::SoundLemmas::ideal_deactivated))]
     fn deactivate(&mut self, id: u32, vcpu: u32)
         requires { IsSound self.old }
-        ensures after { self.new ≡ after_deactivation (key_named id vcpu self.old.shape) self.old vcpu }
+        ensures after { self.new ≡ changed_at id vcpu (λ key irq. deactivated_irq vcpu irq) self.old }
         ensures sound { IsSound self.new }
     {
         if let Some(key) = key_of(id, vcpu, &self.shape) {
             let irq = self.irq(key);
-            self.set_irq(key, irq_deactivated(&irq, vcpu));
+            self.set_irq(key, irq.deactivated(vcpu));
         }
     }
 
@@ -174,6 +187,7 @@ impl IdealGuest {
     }
 
     /// Makes an interrupt pending, as software or a message does.
+    #[tactic(auto, using(crate::proofs::SoundLemmas::ideal_raised))]
     pub(crate) fn raise(&mut self, key: Key)
         requires sound { IsSound self.old }
         requires there { IsTrue (has_interrupt self.old.shape key) }
@@ -181,7 +195,7 @@ impl IdealGuest {
         ensures sound { IsSound self.new }
     {
         let irq = self.irq(key);
-        self.set_irq(key, Irq { soft: true, ..irq });
+        self.set_irq(key, irq.raised());
     }
 
     /// Does an operation of a vCPU, and answers what it reads.

@@ -1,6 +1,7 @@
+//! The run of a scenario.
 ghost use Rattle.std.specs.Prelude.{◌≡◌, ◌≤◌, IfOk, OnOk, IsTrue, All, map};
-ghost use Rattle.scn_read.specs.declared.scenario.Mode.{Mode};
-ghost use Rattle.scn_read.specs.Good.{IsGood, IsGoodGuest, is_good_step, shapes_of};
+ghost use Rattle.scn_base.specs.declared.step.Mode.{Mode};
+ghost use Rattle.scn_base.specs.Good.{IsGood, IsGoodGuest, is_good_step, shapes_of};
 ghost use Rattle.gic_ideal.specs.Opening.{opening};
 ghost use Rattle.gic_ideal.specs.Ends.{ends_of};
 ghost use Rattle.gic_ideal.specs.Eager.{pe_answer as pe_answer_of, step_answer, after_step, answers_of, after_steps, eager as eager_run};
@@ -10,7 +11,7 @@ use crate::ends::end_of;
 use crate::guest::IdealGuest;
 use gic_base::{MAX_LIST_REGISTERS, NoMemory, PeOp};
 use gic_list::ListOf;
-use scn_read::{Answer, Answers, Ends, Guests, RunOut, Scenario, Step, Steps};
+use scn_base::{Answer, Answers, Ends, Guests, RunOut, Scenario, Step, Steps};
 use std::alloc::{AllocError, Global};
 
 /// The states in which the guests open.

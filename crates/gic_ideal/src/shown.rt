@@ -7,7 +7,7 @@ ghost use Rattle.gic_ideal.specs.Sound.{IsSound};
 
 use crate::guest::IdealGuest;
 use gic_base::{MAX_LIST_REGISTERS, interrupt_count, key_at};
-use scn_read::LrList;
+use scn_base::LrList;
 use std::alloc::{AllocError, Global};
 use vcpu_refill::{Chooser, fresh};
 

@@ -5,3 +5,4 @@ pub mod Memory
 pub mod ReadError
 pub mod Sink
 pub mod Source
+pub mod Sure

@@ -1,4 +1,5 @@
-use Rattle.std.specs.Prelude.{ℕ, ◌+◌, ◌-◌, ◌^◌, min, List, Contains}
+use Rattle.std.specs.Prelude.{ℕ, List, Contains}
+use Rattle.gic_io.specs.Faults.{one_more}
 
 -- what a source or a sink in memory does at its calls
 pub record Script : Type 0 where
@@ -11,7 +12,7 @@ pub record Script : Type 0 where
 
 -- the script once a call more has begun
 abbrev pub after_call : Script → Script
-after_call script = record script { calls = min (script.calls + 1) (2 ^ 64 - 1) }
+after_call script = record script { calls = one_more script.calls }
 
 -- the call that has begun last is one that fails
 abbrev pub IsFailing : Script → Type 0

@@ -1,7 +1,7 @@
 //! A failed call, and the count of failed calls.
 
 ghost use Rattle.std.specs.Prelude.{Some, ◌≡◌, ℕ, ◌<◌, ◌≤◌, ◌^◌};
-ghost use Rattle.gic_io.specs.Faults.{HasRisen};
+ghost use Rattle.gic_io.specs.Faults.{HasRisen, one_more};
 
 use std::error::Error;
 use std::fmt;
@@ -44,6 +44,7 @@ impl FaultCount {
 
     /// Counts one failed call.
     pub(crate) fn rise(&mut self) -> Failed
+        ensures one_more { self.new.count ≡ one_more self.old.count }
         ensures never_falls { self.old.count ≤ self.new.count }
         ensures risen { HasRisen self.old.count self.new.count }
     {

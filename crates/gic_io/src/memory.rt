@@ -1,7 +1,7 @@
 //! A source and a sink in memory that fail at chosen calls.
 
 ghost use Rattle.std.specs.Prelude.{◌≡◌, ℕ, ◌<◌, ◌≤◌, ◌↔◌, [], Some, min, length, take, IsTrue, IsSomeAnd, IfOk, OnOk, OnErr, IsErr, ◌++◌};
-ghost use Rattle.gic_io.specs.Faults.{HasRisen};
+ghost use Rattle.gic_io.specs.Faults.{one_more};
 ghost use Rattle.gic_io.specs.Memory.{Script, after_call, IsFailing};
 
 use crate::fault::{Failed, FaultCount};
@@ -114,7 +114,7 @@ impl Source for MemSource {
         ensures end { result ≡ Ok 0 → 0 < length buf.old → bytes_left self.new ≡ [] }
         ensures faults_where_ok { OnOk result (source_faults self.new ≡ source_faults self.old) }
         ensures faults_where_failed { OnErr result
-            (HasRisen (source_faults self.old) (source_faults self.new)) }
+            (source_faults self.new ≡ one_more (source_faults self.old)) }
     {
         if self.plan.begin_call() {
             return Err(self.faults.rise());
@@ -186,7 +186,7 @@ impl Sink for MemSink {
         ensures some { IfOk result (λ count. 0 < length piece.now → 0 < count) }
         ensures faults_where_ok { OnOk result (sink_faults self.new ≡ sink_faults self.old) }
         ensures faults_where_failed { OnErr result
-            (HasRisen (sink_faults self.old) (sink_faults self.new)) }
+            (sink_faults self.new ≡ one_more (sink_faults self.old)) }
     {
         let count = self.plan.cut().min(piece.len());
         if self.plan.begin_call() || self.bytes.extend_from_slice(&piece[..count]).is_err() {

@@ -1,6 +1,7 @@
 //! A source and a sink in memory that never fail.
 
-ghost use Rattle.std.specs.Prelude.{◌≡◌, ℕ, [], Some, None, MatchOption};
+ghost use Rattle.std.specs.Prelude.{◌≡◌, ℕ, [], Some, None, MatchOption, Ok, min, length, take, ◌++◌, IfOk};
+ghost use Rattle.gic_io.specs.Sink.{Grew};
 
 use crate::fault::Failed;
 use crate::sinks::Sink;
@@ -33,8 +34,15 @@ impl Source for SureSource {
 
     ghost faults = { λ _. 0 };
 
-    fn read(&mut self, buf: &mut [u8]) -> Result<usize, Failed> {
-        Ok(self.unread.read(buf, usize::MAX))
+    ghost use Rattle.gic_io.specs.Sure.{sure_left};
+
+    // A call gives all that `buf` has room for, or all that is left, and never fails.
+    fn read(&mut self, buf: &mut [u8]) -> Result<usize, Failed>
+        ensures count { result ≡ Ok (min (length buf.old) (length (sure_left self.old))) }
+        ensures next { IfOk result (λ count.
+            sure_left self.old ≡ take count buf.new ++ sure_left self.new) }
+    {
+        Ok(self.unread.read(buf, buf.len()))
     }
 
     ghost in_range = { λ _. lit< tt };
@@ -79,7 +87,14 @@ impl Sink for SureSink {
 
     ghost faults = { λ _. 0 };
 
-    fn write(&mut self, piece: &[u8]) -> Result<usize, Failed> {
+    ghost use Rattle.gic_io.specs.Sure.{sure_taken};
+
+    // A call takes the whole piece, and never fails. A sink that no longer tells what it has taken never
+    // tells it again.
+    fn write(&mut self, piece: &[u8]) -> Result<usize, Failed>
+        ensures whole { result ≡ Ok (length piece.now) }
+        ensures grew { Grew (sure_taken self.old) (sure_taken self.new) piece.now }
+    {
         if let Some(bytes) = &mut self.bytes {
             if bytes.extend_from_slice(piece).is_err() {
                 self.bytes = None;

@@ -1,3 +1,5 @@
+//! The sources and sinks, with calls that fail, and with inputs at the limit.
+
 use super::*;
 use std::alloc::Allocator;
 use std::io::{BufRead, Input, Print, Read};

@@ -4,4 +4,4 @@
 
 mod tables;
 
-pub use tables::{LAST_LPI, config_address, config_of, pending_address};
+pub use tables::{config_address, config_of, pending_address};

@@ -1,23 +1,24 @@
+//! Where the tables of LPIs have an LPI's configuration byte and pending bit, and what the byte says.
 ghost use Rattle.std.specs.Prelude.{◌≡◌, ◌≤◌, ◌<◌, ◌%◌};
-ghost use Rattle.gic_lpi.specs.Tables.{is_enabled, priority_of, config_address as config_place, pending_address as pending_place};
+ghost use Rattle.gic_lpi.specs.Tables.{first_lpi, last_lpi, is_enabled, priority_of, config_address as config_place, pending_address as pending_place};
 
 use gic_base::FIRST_LPI;
-
-/// The last INTID that 16 bits of INTID name.
-pub const LAST_LPI: u32 = 65535;
+use gic_bits::{Field, has_bit};
 
 /// The enable bit of a configuration byte.
-const CONFIG_ENABLE: u8 = 1 << 0;
-/// The lowest bit of a configuration byte's priority that counts: bits [7:2] are the field, bit 2 is
-/// dropped.
-const CONFIG_PRIORITY: u8 = 1 << 3;
-
-/// The lowest bit of the address in GICR_PROPBASER: bits [51:12].
-const PROPBASER_ADDRESS: u64 = 1 << 12;
-/// The lowest bit of the address in GICR_PENDBASER: bits [51:16].
-const PENDBASER_ADDRESS: u64 = 1 << 16;
-/// Addresses are below this.
-const ADDRESSES: u64 = 1 << 52;
+const CONFIG_ENABLE: u32 = 0;
+/// The bits of a configuration byte's priority that count: [7:3] of the field [7:2].
+const CONFIG_PRIORITY: Field = Field { place: 3, width: 5 };
+/// The address in GICR_PROPBASER: bits [51:12].
+const PROPBASER_ADDRESS: Field = Field {
+    place: 12,
+    width: 40,
+};
+/// The address in GICR_PENDBASER: bits [51:16].
+const PENDBASER_ADDRESS: Field = Field {
+    place: 16,
+    width: 36,
+};
 
 /// How many pending bits a byte has.
 const BYTE_BITS: u32 = 8;
@@ -29,29 +30,30 @@ pub fn config_of(byte: u8) -> (bool, u8)
     ensures priority { result.1 ≡ priority_of byte }
     ensures multiple { result.1 % 8 ≡ 0 }
 {
-    let enabled = byte / CONFIG_ENABLE % 2 == 1;
-    (enabled, byte / CONFIG_PRIORITY * CONFIG_PRIORITY)
+    let byte = u64::from(byte);
+    let priority = CONFIG_PRIORITY.in_place(byte);
+    (has_bit(byte, CONFIG_ENABLE), priority as u8)
 }
 
 /// The byte address of an LPI's configuration byte, from GICR_PROPBASER and the INTID, 8192 to 65535. The
 /// register's other bits do not matter; IDbits has no effect (own choice).
 pub fn config_address(propbaser: u64, id: u32) -> u64
-    requires first { FIRST_LPI ≤ id }
-    requires last { id ≤ LAST_LPI }
+    requires first { first_lpi ≤ id }
+    requires last { id ≤ last_lpi }
     ensures { result ≡ config_place propbaser id }
 {
-    propbaser % ADDRESSES / PROPBASER_ADDRESS * PROPBASER_ADDRESS + u64::from(id - FIRST_LPI)
+    PROPBASER_ADDRESS.in_place(propbaser) + u64::from(id - FIRST_LPI)
 }
 
 /// The byte address of an LPI's pending bit and the bit in that byte, from GICR_PENDBASER and the INTID, 8192
 /// to 65535 (IHI 0069, "LPI Pending tables"). The register's other bits do not matter.
 pub fn pending_address(pendbaser: u64, id: u32) -> (u64, u32)
-    requires first { FIRST_LPI ≤ id }
-    requires last { id ≤ LAST_LPI }
+    requires first { first_lpi ≤ id }
+    requires last { id ≤ last_lpi }
     ensures value { result ≡ pending_place pendbaser id }
     ensures bit { result.1 < 8 }
 {
-    let table = pendbaser % ADDRESSES / PENDBASER_ADDRESS * PENDBASER_ADDRESS;
+    let table = PENDBASER_ADDRESS.in_place(pendbaser);
     (table + u64::from(id / BYTE_BITS), id % BYTE_BITS)
 }
 

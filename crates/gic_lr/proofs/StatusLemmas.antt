@@ -1,18 +1,15 @@
 -- One more register and its bit.
-use Rattle.std.proofs.Common.{◌≡◌, ◌≤◌, ◌<◌, ◌+◌, ◌*◌, ◌^◌, ◌%◌, ℕ, suc, Bool, true, false, List, ◌∷◌, length, drop, get_or, if◌then◌else◌, sym, ap, ◌∙◌, subst, arith}
+use Rattle.std.proofs.Common.{◌≡◌, ◌≤◌, ◌<◌, ◌+◌, ◌*◌, ◌^◌, ◌%◌, ℕ, suc, Bool, true, false, List, ◌∷◌, length, drop, get_or, sym, ap, ◌∙◌, subst, arith}
 use Rattle.std.proofs.Math.Seq.{drop-cons}
 use Rattle.std.proofs.Math.Pow.{pow_mono}
 use Rattle.std.proofs.Math.Nat.{pow-suc}
+use Rattle.gic_bits.specs.Bits.{bit_of}
 use Rattle.gic_lr.specs.Status.{bits_where}
 
 -- the bits of the registers before a place, with those from it on, give the bits of all
 pub record Kept (is_so : ℕ → Bool) (words : List ℕ) (place bits : ℕ) : Type 0 where
   pub read : bits + 2 ^ place * bits_where is_so (drop place words) ≡ bits_where is_so words
   pub few : bits < 2 ^ place
-
--- a bit
-abbrev bit_of : Bool → ℕ
-bit_of so = if so then 1 else 0
 
 -- the weight of a place
 twice : (place : ℕ) → 2 ^ (place + 1) ≡ 2 ^ place * 2

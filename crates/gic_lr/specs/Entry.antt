@@ -1,6 +1,6 @@
 -- A list register, as fields and as a word (IHI 0069, ICH_LR<n>_EL2).
 use Rattle.std.specs.Prelude.{ℕ, ◌≡◌, ◌<◌, ◌+◌, ◌*◌, ◌/◌, ◌%◌, ◌^◌, ◌==◌, ◌&&◌, not, Bool, true, false, if◌then◌else◌, Option, Some, None, IfSome}
-use Rattle.std.specs.Int.{bit_at}
+use Rattle.gic_bits.specs.Bits.{bit_of, has_bit, field_at}
 use Rattle.gic_word.specs.declared.record.Group.TheVariants.{G0, G1}
 use Rattle.gic_word.specs.Record.{group_number}
 use Rattle.gic_lr.specs.declared.entry.LrState.{LrState}
@@ -40,8 +40,7 @@ state_at state = if state == 0 then Invalid else (if state == 1 then Pending els
 -- HW at bit 61 with pINTID [44:32] where there is a physical interrupt, or else EOI at bit 41
 abbrev pub source_number : Option ℕ → Bool → ℕ
 source_number (Some number) eoi = number * 2 ^ 32 + 2 ^ 61
-source_number None false = 0
-source_number None true = 2 ^ 41
+source_number None eoi = bit_of eoi * 2 ^ 41
 
 -- the word: vINTID [31:0], Priority [55:48], Group at bit 60 and State [63:62] beside these
 abbrev pub packed : LrEntry → ℕ
@@ -49,14 +48,14 @@ packed entry = entry.id + source_number entry.hw entry.eoi + entry.prio * 2 ^ 48
 
 -- the fields of any word
 abbrev pub unpacked : ℕ → LrEntry
-unpacked word = let is_hw = bit_at word 61 == 1 in
+unpacked word = let is_hw = has_bit word 61 in
     record {
       id = word % 2 ^ 32;
-      prio = word / 2 ^ 48 % 2 ^ 8;
-      group = if bit_at word 60 == 1 then G1 else G0;
+      prio = field_at word 48 8;
+      group = if has_bit word 60 then G1 else G0;
       state = state_at (word / 2 ^ 62);
-      eoi = not is_hw && bit_at word 41 == 1;
-      hw = if is_hw then Some (word / 2 ^ 32 % 2 ^ 13) else None;
+      eoi = not is_hw && has_bit word 41;
+      hw = if is_hw then Some (field_at word 32 13) else None;
     }
 
 -- the list register with another State, and all other bits as they are
@@ -66,5 +65,5 @@ with_state word state = word % 2 ^ 62 + state_number state * 2 ^ 62
 -- each bit that belongs to no field is 0: [59:56], [47:45] where HW is 1, and [47:42] and [40:32] where it is 0
 abbrev pub has_only_fields : ℕ → Bool
 has_only_fields word =
-    word / 2 ^ 56 % 2 ^ 4 == 0
-    && (if bit_at word 61 == 1 then word / 2 ^ 45 % 2 ^ 3 == 0 else (word / 2 ^ 42 % 2 ^ 6 == 0 && word / 2 ^ 32 % 2 ^ 9 == 0))
+    field_at word 56 4 == 0
+    && (if has_bit word 61 then field_at word 45 3 == 0 else (field_at word 42 6 == 0 && field_at word 32 9 == 0))

@@ -1,13 +1,18 @@
 -- What the list registers tell together (IHI 0069, ICH_ELRSR_EL2 and ICH_EISR_EL2).
-use Rattle.std.specs.Prelude.{ℕ, ◌+◌, ◌*◌, ◌&&◌, ◌||◌, not, is_some, List, [], ◌∷◌, Bool, true, false, if◌then◌else◌}
+use Rattle.std.specs.Prelude.{ℕ, ◌+◌, ◌*◌, ◌&&◌, ◌||◌, not, is_some, List, [], ◌∷◌, Bool, true, false}
+use Rattle.gic_bits.specs.Bits.{bit_of}
 use Rattle.gic_lr.specs.declared.entry.LrState.{LrState}
 use Rattle.gic_lr.specs.declared.entry.LrState.TheVariants.{Invalid}
 use Rattle.gic_lr.specs.Entry.{unpacked}
 
+-- a PE has at most so many list registers (IHI 0069, ICH_VTR_EL2.ListRegs)
+abbrev pub max_list_registers : ℕ
+max_list_registers = 16
+
 -- the number whose bit n is 1 where the register of number n is so
 abbrev pub bits_where : (ℕ → Bool) → List ℕ → ℕ
 bits_where is_so [] = 0
-bits_where is_so (word ∷ words) = (if is_so word then 1 else 0) + 2 * bits_where is_so words
+bits_where is_so (word ∷ words) = bit_of (is_so word) + 2 * bits_where is_so words
 
 -- State is 0
 abbrev pub is_invalid : LrState → Bool

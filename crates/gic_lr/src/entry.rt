@@ -2,26 +2,40 @@
 ghost use Rattle.std.specs.Prelude.{◌≡◌, IsTrue};
 ghost use Rattle.gic_lr.specs.Entry.{IsEntry, packed, unpacked, state_number, state_at, has_only_fields, with_state as with_state_of};
 
+use gic_bits::{Field, has_bit, put_bit};
 use gic_word::Group;
 
-/// The place of vINTID: bits [31:0].
-const INTIDS: u64 = 1 << 32;
-/// The lowest bit of pINTID, where HW is 1: bits [44:32].
-const PINTID: u64 = 1 << 32;
-/// pINTID has 13 bits.
-const PINTIDS: u64 = 1 << 13;
+/// vINTID: bits [31:0].
+const VINTID: Field = Field {
+    place: 0,
+    width: 32,
+};
+/// pINTID, where HW is 1: bits [44:32].
+const PINTID: Field = Field {
+    place: 32,
+    width: 13,
+};
 /// EOI, where HW is 0.
-const EOI: u64 = 1 << 41;
-/// The lowest bit of Priority: bits [55:48].
-const PRIORITY: u64 = 1 << 48;
-/// Priority has 8 bits.
-const PRIORITIES: u64 = 1 << 8;
+const EOI: u32 = 41;
+/// Priority: bits [55:48].
+const PRIORITY: Field = Field {
+    place: 48,
+    width: 8,
+};
 /// Group.
-const GROUP: u64 = 1 << 60;
+const GROUP: u32 = 60;
 /// HW.
-const HW: u64 = 1 << 61;
-/// The lowest bit of State: bits [63:62].
-const STATE: u64 = 1 << 62;
+const HW: u32 = 61;
+/// State: bits [63:62].
+const STATE: Field = Field {
+    place: 62,
+    width: 2,
+};
+/// All that is not State: bits [61:0].
+const BELOW_STATE: Field = Field {
+    place: 0,
+    width: 62,
+};
 
 /// The state of the interrupt in a list register (IHI 0069, ICH_LR<n>_EL2.State).
 #[derive(Clone, Copy, Debug, PartialEq, Eq, Hash)]
@@ -66,6 +80,7 @@ pub struct LrEntry {
     pub hw: Option<u32>,
 }
 
+/// The number of a state in State.
 fn number_of(state: LrState) -> u64
     ensures { result ≡ state_number state }
 {
@@ -84,18 +99,18 @@ pub fn pack(entry: &LrEntry) -> u64
     ensures back { unpacked result ≡ entry.now }
 {
     let source = match entry.hw {
-        Some(number) => u64::from(number) * PINTID + HW,
-        None => u64::from(entry.eoi) * EOI,
+        Some(number) => PINTID.put(u64::from(number)) + put_bit(true, HW),
+        None => put_bit(entry.eoi, EOI),
     };
     let group = match entry.group {
         Group::G0 => 0,
-        Group::G1 => GROUP,
+        Group::G1 => put_bit(true, GROUP),
     };
     u64::from(entry.id)
         + source
-        + u64::from(entry.prio) * PRIORITY
+        + PRIORITY.put(u64::from(entry.prio))
         + group
-        + number_of(entry.state) * STATE
+        + STATE.put(number_of(entry.state))
 }
 
 /// What a list register holds, whatever its bits are.
@@ -104,23 +119,23 @@ pub fn unpack(word: u64) -> LrEntry
     ensures entry { IsEntry result }
     ensures back { IsTrue (has_only_fields word) → packed result ≡ word }
 {
-    let is_hw = word / HW % 2 == 1;
+    let is_hw = has_bit(word, HW);
     LrEntry {
-        id: (word % INTIDS) as u32,
-        prio: (word / PRIORITY % PRIORITIES) as u8,
-        group: if word / GROUP % 2 == 1 {
+        id: VINTID.of(word) as u32,
+        prio: PRIORITY.of(word) as u8,
+        group: if has_bit(word, GROUP) {
             Group::G1
         } else {
             Group::G0
         },
-        state: match word / STATE {
+        state: match STATE.of(word) {
             0 => LrState::Invalid,
             1 => LrState::Pending,
             2 => LrState::Active,
             _ => LrState::Both,
         },
-        eoi: !is_hw && word / EOI % 2 == 1,
-        hw: is_hw.then_some((word / PINTID % PINTIDS) as u32),
+        eoi: !is_hw && has_bit(word, EOI),
+        hw: is_hw.then_some(PINTID.of(word) as u32),
     }
 }
 
@@ -129,7 +144,7 @@ pub fn with_state(word: u64, state: LrState) -> u64
     ensures value { result ≡ with_state_of word state }
     ensures entry { unpacked result ≡ record (unpacked word) { state = state } }
 {
-    word % STATE + number_of(state) * STATE
+    BELOW_STATE.of(word) + STATE.put(number_of(state))
 }
 
 #[cfg(test)]

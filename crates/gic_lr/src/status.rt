@@ -1,9 +1,8 @@
 //! What the list registers tell together.
 ghost use Rattle.std.specs.Prelude.{◌≡◌, ◌≤◌, length};
-ghost use Rattle.gic_lr.specs.Status.{bits_where, is_empty as is_empty_word, has_ended};
+ghost use Rattle.gic_lr.specs.Status.{max_list_registers, bits_where, is_empty as is_empty_word, has_ended};
 
 use crate::entry::{LrState, unpack};
-use gic_base::MAX_LIST_REGISTERS;
 
 fn is_empty(word: u64) -> bool
     ensures { result ≡ is_empty_word word }
@@ -21,7 +20,7 @@ fn ended(word: u64) -> bool
 
 /// ICH_ELRSR: bit n is 1 where list register n is free: State 0, and HW 1 or EOI 0.
 pub fn elrsr(lrs: &[u64]) -> u16
-    requires { length lrs.now ≤ MAX_LIST_REGISTERS }
+    requires { length lrs.now ≤ max_list_registers }
     ensures { result ≡ bits_where is_empty_word lrs.now }
 {
     let mut bits = 0;
@@ -36,7 +35,7 @@ pub fn elrsr(lrs: &[u64]) -> u16
 /// ICH_EISR: bit n is 1 where list register n asks for an end of interrupt to be seen: State 0, HW 0 and
 /// EOI 1.
 pub fn eisr(lrs: &[u64]) -> u16
-    requires { length lrs.now ≤ MAX_LIST_REGISTERS }
+    requires { length lrs.now ≤ max_list_registers }
     ensures { result ≡ bits_where has_ended lrs.now }
 {
     let mut bits = 0;

@@ -27,7 +27,7 @@ keys_changed change keeps id (entry ∷ at) = ap2 (same (eqb (intid_of entry.key
 -- an acknowledge and a deactivation keep them
 pub keys_acknowledged : (taken : Option Candidate) (at : List AtInterface) → keys_of (acknowledged_at taken at) ≡ keys_of at
 keys_acknowledged None at = refl
-keys_acknowledged (Some found) at = keys_changed acknowledged_entry (λ entry. refl) (intid_of found.key) at
+keys_acknowledged (Some found) at = keys_changed acknowledged_entry (λ entry. refl) found.id at
 
 pub keys_deactivated : (ended : Option ℕ) (at : List AtInterface) → keys_of (deactivated_at ended at) ≡ keys_of at
 keys_deactivated None at = refl
@@ -38,7 +38,7 @@ abbrev is_pending_here : ℕ → AtInterface → Bool
 is_pending_here id entry = entry.pending && eqb (intid_of entry.key) id
 
 -- only a pending interrupt is a candidate
-pub no_candidate : (cpu : CpuRec) (id : ℕ) (at : List AtInterface) → list_any (is_pending_here id) at ≡ false → list_any (λ other. eqb (intid_of other.key) id) (filter_map (candidate_of cpu) at) ≡ false
+pub no_candidate : (cpu : CpuRec) (id : ℕ) (at : List AtInterface) → list_any (is_pending_here id) at ≡ false → list_any (λ other. eqb other.id id) (filter_map (candidate_of cpu) at) ≡ false
 no_candidate cpu id [] h = refl
 no_candidate cpu id (entry ∷ at) h = grind (arith, common_steps, no_candidate cpu id at)
 
@@ -57,7 +57,7 @@ none_deactivated id None at h = h
 none_deactivated id (Some other) at h = none_changed id other at h
 
 -- an acknowledge leaves no candidate with its INTID
-pub none_left : (cpu : CpuRec) (ended : Option ℕ) (taken : Option Candidate) (found : Candidate) (at : List AtInterface) → taken ≡ Some found → list_any (λ other. eqb (intid_of other.key) (intid_of found.key)) (filter_map (candidate_of cpu) (deactivated_at ended (acknowledged_at taken at))) ≡ false
+pub none_left : (cpu : CpuRec) (ended : Option ℕ) (taken : Option Candidate) (found : Candidate) (at : List AtInterface) → taken ≡ Some found → list_any (λ other. eqb other.id found.id) (filter_map (candidate_of cpu) (deactivated_at ended (acknowledged_at taken at))) ≡ false
 none_left cpu ended taken found at e =
-    let id = intid_of found.key in
+    let id = found.id in
     rw e (no_candidate cpu id (deactivated_at ended (changed_at acknowledged_entry id at)) (none_deactivated id ended (changed_at acknowledged_entry id at) (none_acknowledged id at)))

@@ -7,7 +7,7 @@ use Rattle.gic_base.specs.declared.icc.IccReg.{IccReg}
 use Rattle.gic_base.specs.declared.icc.IccReg.TheVariants.{Iar0, Iar1, Hppir0, Hppir1, Eoir0, Eoir1, Dir}
 use Rattle.gic_prio.specs.declared.cpu.CpuRec.{CpuRec}
 use Rattle.gic_prio.specs.declared.candidate.Candidate.{Candidate}
-use Rattle.gic_prio.specs.Priority.{raised}
+use Rattle.gic_prio.specs.Priority.{level_activated}
 use Rattle.gic_prio.specs.Signal.{acknowledged, highest_pending, intid_read, intid_written, ended, eoir_deactivates, dir_deactivates}
 use Rattle.gic_prio.specs.Registers.{plain_read, plain_write}
 
@@ -34,8 +34,8 @@ answer_of reg None cpu candidates = plain_read reg cpu
 answer_of reg (Some value) cpu candidates = None
 
 -- the record after an acknowledge of an interrupt, or of none: its level is active
-abbrev pub raised_by : Option Candidate → CpuRec → CpuRec
-raised_by taken cpu = option_map_or (λ found. raised found.prio found.group cpu) taken cpu
+abbrev pub activated_by : Option Candidate → CpuRec → CpuRec
+activated_by taken cpu = option_map_or (λ found. level_activated found.prio found.group cpu) taken cpu
 
 -- the record after a write, which is as it was where the write is ignored
 abbrev pub written_by : IccReg → ℕ → CpuRec → Option CpuRec
@@ -45,5 +45,5 @@ written_by reg value cpu = plain_write reg value cpu
 
 -- the record after the access
 abbrev pub cpu_after : IccReg → Option ℕ → CpuRec → List Candidate → CpuRec
-cpu_after reg None cpu candidates = raised_by (taken_by reg None cpu candidates) cpu
+cpu_after reg None cpu candidates = activated_by (taken_by reg None cpu candidates) cpu
 cpu_after reg (Some value) cpu candidates = unwrap_or (written_by reg value cpu) cpu

@@ -7,7 +7,7 @@ use Rattle.gic_word.specs.declared.record.Irq.{Irq}
 use Rattle.gic_word.specs.Record.{is_ripe}
 use Rattle.gic_base.specs.declared.interrupt.Key.{Key}
 use Rattle.gic_base.specs.declared.interrupt.Key.TheVariants.{Private, Spi, Lpi}
-use Rattle.gic_base.specs.Interrupt.{intid_of}
+use Rattle.gic_base.specs.declared.shape.GuestShape.{GuestShape}
 use Rattle.gic_prio.specs.declared.candidate.Candidate.{Candidate}
 use Rattle.gic_prio.specs.declared.cpu.CpuRec.{CpuRec}
 
@@ -22,13 +22,13 @@ takes_kind (Private vcpu id) cpu = true
 takes_kind (Spi id) cpu = true
 takes_kind (Lpi id) cpu = cpu.lpis
 
--- the interrupt can be delivered to the vCPU
-abbrev pub is_deliverable : Key → Irq → ℕ → CpuRec → Bool
-is_deliverable key irq vcpu cpu = is_ripe irq vcpu && is_none irq.act_by && is_group_enabled irq.group cpu && takes_kind key cpu
+-- the interrupt can be delivered to the vCPU of a guest
+abbrev pub is_deliverable : Key → Irq → ℕ → CpuRec → GuestShape → Bool
+is_deliverable key irq vcpu cpu shape = is_ripe irq vcpu shape && is_none irq.act_by && is_group_enabled irq.group cpu && takes_kind key cpu
 
 -- delivered before another: of lower priority value, or of the same and with a lower INTID (own choice at a tie)
 abbrev pub is_before : Candidate → Candidate → Bool
-is_before a b = nat_lt a.prio b.prio || (a.prio == b.prio && nat_lt (intid_of a.key) (intid_of b.key))
+is_before a b = nat_lt a.prio b.prio || (a.prio == b.prio && nat_lt a.id b.id)
 
 -- the first of some candidates: none of them is before it
 abbrev pub first_of : List Candidate → Option Candidate

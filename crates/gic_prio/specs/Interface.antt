@@ -1,7 +1,7 @@
 -- The interrupts at one CPU interface, as list registers hold them, and what an access does to them
 -- (IHI 0069, "Virtual interrupt handling and prioritization").
-use Rattle.std.specs.Prelude.{ℕ, ◌&&◌, ◌==◌, Bool, false, not, Option, Some, None, if◌then◌else◌, List, map}
-use Rattle.std.specs.List.{filter_map}
+use Rattle.std.specs.Prelude.{ℕ, ◌≡◌, ◌≤◌, ◌&&◌, ◌==◌, Bool, true, false, not, nat_lt, Option, Some, None, if◌then◌else◌, List, length, filter, map}
+use Rattle.std.specs.List.{filter_map, list_all}
 use Rattle.std.specs.Option.{option_map_or}
 use Rattle.gic_word.specs.declared.record.Group.{Group}
 use Rattle.gic_base.specs.declared.icc.IccReg.{IccReg}
@@ -10,10 +10,13 @@ use Rattle.gic_base.specs.Interrupt.{intid_of}
 use Rattle.gic_prio.specs.declared.cpu.CpuRec.{CpuRec}
 use Rattle.gic_prio.specs.declared.candidate.Candidate.{Candidate}
 use Rattle.gic_prio.specs.Delivery.{is_group_enabled}
-use Rattle.gic_prio.specs.Signal.{has_active_state}
+use Rattle.gic_word.specs.Causes.{has_active_state}
+use Rattle.gic_prio.specs.Priority.{HasBinaryPoints}
 use Rattle.gic_prio.specs.Access.{taken_by, deactivated_by, answer_of, cpu_after}
 
--- an interrupt at an interface, with its state there and the latched causes that it brought
+-- an interrupt at an interface, with its state there and the latched causes that it brought. Its priority and group are the copies that
+-- the interface took as the interrupt got there; no register changes the record of an interrupt that is at an interface, so they are
+-- the record's.
 pub record AtInterface : Type 0 where
   pub key : Key
   pub prio : ℕ
@@ -23,16 +26,26 @@ pub record AtInterface : Type 0 where
   pub rise : Bool
   pub soft : Bool
 
--- the record of a CPU interface with the interrupts that are there: none of them twice, nor private ones of another vCPU, so that
--- an INTID names one of them at most
+-- the record of a CPU interface with the interrupts that are there
 pub record InterfaceState : Type 0 where
   pub cpu : CpuRec
   pub at : List AtInterface
 
+-- an interrupt has an active state exactly where its INTID is below those of LPIs
+abbrev pub has_its_kind : AtInterface → Bool
+has_its_kind entry = if nat_lt (intid_of entry.key) 8192 then has_active_state entry.key else not (has_active_state entry.key)
+
+-- an INTID names one interrupt of the interface at most, since none is there twice, nor a private one of another vCPU; LPIs are those
+-- from 8192, and the binary points have three bits
+pub record IsInterface (interface : InterfaceState) : Type 0 where
+  pub points : HasBinaryPoints interface.cpu
+  pub once : (id : ℕ) → length (filter (λ entry. intid_of entry.key == id) interface.at) ≤ 1
+  pub kinds : list_all has_its_kind interface.at ≡ true
+
 -- the interrupt as a candidate for delivery: pending there, not active, and of a group that the vCPU listens to
 abbrev pub candidate_of : CpuRec → AtInterface → Option Candidate
 candidate_of cpu entry =
-    if entry.pending && not entry.active && is_group_enabled entry.group cpu then Some (record { key = entry.key; prio = entry.prio; group = entry.group }) else None
+    if entry.pending && not entry.active && is_group_enabled entry.group cpu then Some (record { id = intid_of entry.key; prio = entry.prio; group = entry.group }) else None
 
 -- all candidates of an interface
 abbrev pub candidates_at : InterfaceState → List Candidate
@@ -53,7 +66,7 @@ changed_at change id at = map (λ entry. if intid_of entry.key == id then change
 
 -- the interrupts after an acknowledge of one, or of none
 abbrev pub acknowledged_at : Option Candidate → List AtInterface → List AtInterface
-acknowledged_at taken at = option_map_or (λ found. changed_at acknowledged_entry (intid_of found.key) at) taken at
+acknowledged_at taken at = option_map_or (λ found. changed_at acknowledged_entry found.id at) taken at
 
 -- the interrupts after a deactivation by INTID, or of none
 abbrev pub deactivated_at : Option ℕ → List AtInterface → List AtInterface

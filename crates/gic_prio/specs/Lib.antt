@@ -1,3 +1,4 @@
+pub mod Levels
 pub mod Priority
 pub mod Delivery
 pub mod Signal

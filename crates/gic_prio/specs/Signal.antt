@@ -3,14 +3,8 @@ use Rattle.std.specs.Prelude.{ℕ, ◌%◌, ◌^◌, ◌&&◌, ◌||◌, ◌==�
 use Rattle.std.specs.Option.{option_map_or}
 use Rattle.gic_word.specs.declared.record.Group.{Group}
 use Rattle.gic_word.specs.declared.record.Group.TheVariants.{G0, G1}
-use Rattle.gic_word.specs.declared.record.Irq.{Irq}
-use Rattle.gic_word.specs.Record.{is_number}
-use Rattle.gic_base.specs.declared.interrupt.Key.{Key}
-use Rattle.gic_base.specs.declared.interrupt.Key.TheVariants.{Private, Spi, Lpi}
-use Rattle.gic_base.specs.Interrupt.{intid_of}
 use Rattle.gic_prio.specs.declared.cpu.CpuRec.{CpuRec}
-use Rattle.gic_prio.specs.declared.priority.TheConstants.{LEVELS, SPURIOUS, FIRST_SPECIAL}
-use Rattle.gic_prio.specs.Priority.{is_signalled, least_level, running_level, dropped}
+use Rattle.gic_prio.specs.Priority.{is_signalled, least_level, running_level, level_dropped}
 use Rattle.gic_prio.specs.declared.candidate.Candidate.{Candidate}
 use Rattle.gic_prio.specs.Delivery.{first_of}
 
@@ -31,38 +25,23 @@ acknowledged group cpu candidates =
 abbrev pub highest_pending : Group → List Candidate → Option Candidate
 highest_pending group candidates = option_and_then (λ first. if is_same_group first.group group then Some first else None) (first_of candidates)
 
--- an acknowledge makes the interrupt active: an LPI has no active state (IHI 0069, "Interrupt handling state machine")
-abbrev pub has_active_state : Key → Bool
-has_active_state (Private vcpu id) = true
-has_active_state (Spi id) = true
-has_active_state (Lpi id) = false
-
--- by which vCPU an interrupt is active that this one acknowledged
-abbrev pub active_by : Key → ℕ → Option ℕ
-active_by key vcpu = if has_active_state key then Some vcpu else None
-
--- the record of an interrupt after this vCPU acknowledged it: no latched cause, and active by the vCPU, or inactive for an LPI
--- (IHI 0069, "Interrupt handling state machine")
-abbrev pub acknowledged_irq : Key → ℕ → Irq → Irq
-acknowledged_irq key vcpu irq = record irq { rise = false; soft = false; act_by = active_by key vcpu }
-
 -- the INTID that a read answers, or 1023 for no interrupt (IHI 0069, "Special INTIDs")
 abbrev pub intid_read : Option Candidate → ℕ
-intid_read found = option_map_or (λ candidate. intid_of candidate.key) found SPURIOUS
+intid_read found = option_map_or (λ candidate. candidate.id) found 1023
 
--- the INTID in a value that is written to EOIR or DIR
+-- the INTID in a value that is written to EOIR or DIR: bits [23:0]
 abbrev pub intid_written : ℕ → ℕ
 intid_written value = value % 2 ^ 24
 
--- the INTIDs that name no interrupt
+-- the INTIDs that name no interrupt: 1020 to 1023 (IHI 0069, "Special INTIDs")
 abbrev pub is_special : ℕ → Bool
-is_special id = nat_le FIRST_SPECIAL id && nat_le id SPURIOUS
+is_special id = nat_le 1020 id && nat_le id 1023
 
 -- the record after a write of EOIR of this group with this INTID, or none where the write is ignored: for a special INTID,
 -- where no level is active, and where the least active level is not in this group (own choice)
 abbrev pub ended : Group → ℕ → CpuRec → Option CpuRec
 ended group id cpu =
-    if is_special id || running_level cpu == LEVELS || nat_lt (running_level cpu) (least_level group cpu) then None else Some (dropped group cpu)
+    if is_special id || running_level cpu == 32 || nat_lt (running_level cpu) (least_level group cpu) then None else Some (level_dropped group cpu)
 
 -- a write of EOIR of this group with this INTID deactivates the interrupt of that number, if it is active by this vCPU:
 -- where the write is not ignored and EOImode is 0 (IHI 0069, ICC_EOIR0 and ICC_EOIR1; own choice: whichever group it has)
@@ -73,7 +52,3 @@ eoir_deactivates group id cpu = is_some (ended group id cpu) && not cpu.eoimode
 -- and for no special INTID (IHI 0069, ICC_DIR; own choice: it is ignored otherwise)
 abbrev pub dir_deactivates : ℕ → CpuRec → Bool
 dir_deactivates id cpu = cpu.eoimode && not (is_special id)
-
--- the record of an interrupt after this vCPU deactivated it: inactive, if it was active by this vCPU
-abbrev pub deactivated_irq : ℕ → Irq → Irq
-deactivated_irq vcpu irq = if is_number vcpu irq.act_by then record irq { act_by = None } else irq

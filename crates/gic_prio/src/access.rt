@@ -1,3 +1,4 @@
+//! What an access of a register does to the record of a CPU interface.
 ghost use Rattle.std.specs.Prelude.{◌≡◌, ◌<◌, ◌^◌, List, Some, IfSome, unwrap_or};
 ghost use Rattle.gic_prio.specs.Priority.{HasBinaryPoints};
 ghost use Rattle.gic_prio.specs.Signal.{intid_written as intid_in};
@@ -7,16 +8,20 @@ use crate::cpu::CpuRec;
 use crate::registers::write_plain;
 use crate::signal::{dir_deactivates, priority_dropped};
 use gic_base::IccReg;
+use gic_bits::Field;
 use gic_word::Group;
 
-/// INTIDs that are written have 24 bits.
-const WRITTEN_INTIDS: u64 = 1 << 24;
+/// The INTID in a value that is written to EOIR or DIR: bits [23:0].
+const WRITTEN_INTID: Field = Field {
+    place: 0,
+    width: 24,
+};
 
 /// The INTID in a value that is written to EOIR or DIR: bits [23:0].
 fn intid_written(value: u64) -> u32
     ensures { result ≡ intid_in value }
 {
-    (value % WRITTEN_INTIDS) as u32
+    WRITTEN_INTID.of(value) as u32
 }
 
 /// The record after a write of any value to a register. It is as it was where the write is ignored, and for

@@ -1,14 +1,16 @@
+//! The order in which interrupts are delivered (IHI 0069, "Interrupt prioritization").
 ghost use Rattle.std.specs.Prelude.{◌≡◌, ◌⊎◌, Some, List, [], ◌∷◌, ◌++◌};
 ghost use Rattle.gic_prio.specs.declared.candidate.Candidate.{Candidate};
 ghost use Rattle.gic_prio.specs.Delivery.{is_before, first_of};
 
-use gic_base::Key;
 use gic_word::Group;
 
-/// An interrupt that a CPU interface may deliver.
+/// An interrupt that a CPU interface may deliver, by the INTID that the vCPU reads. At one vCPU an INTID names
+/// one interrupt.
 #[derive(Clone, Copy, Debug, PartialEq, Eq, Hash)]
 pub struct Candidate {
-    pub key: Key,
+    /// The INTID.
+    pub id: u32,
     /// A multiple of 8 from 0 to 248.
     pub prio: u8,
     pub group: Group,
@@ -19,7 +21,7 @@ impl Candidate {
     pub fn is_before(&self, other: &Candidate) -> bool
         ensures { result ≡ is_before self.now other.now }
     {
-        self.prio < other.prio || (self.prio == other.prio && self.key.intid() < other.key.intid())
+        self.prio < other.prio || (self.prio == other.prio && self.id < other.id)
     }
 }
 

@@ -1,3 +1,5 @@
+//! The record of a CPU interface.
+
 /// The record of one vCPU's CPU interface.
 #[derive(Clone, Copy, Debug, PartialEq, Eq, Hash)]
 pub struct CpuRec {

@@ -1,5 +1,6 @@
 //! Which interrupts can be delivered to a vCPU (IHI 0069, "Interrupt prioritization").
-ghost use Rattle.std.specs.Prelude.{◌≡◌};
+ghost use Rattle.std.specs.Prelude.{◌≡◌, ◌<◌};
+ghost use Rattle.gic_base.specs.declared.shape.GuestShape.{GuestShape};
 ghost use Rattle.gic_prio.specs.Delivery.{is_group_enabled, is_deliverable};
 
 use crate::cpu::CpuRec;
@@ -16,10 +17,10 @@ pub fn listens(cpu: &CpuRec, group: Group) -> bool
     }
 }
 
-/// Whether an interrupt can be delivered to a vCPU: it would be but for the vCPU, it is not active, and the
-/// vCPU listens to its group, and to LPIs where it is one.
+/// Whether an interrupt can be delivered to a vCPU of its guest: it would be but for the vCPU, it is not active,
+/// and the vCPU listens to its group, and to LPIs where it is one. The guest's shape does not matter.
 pub fn deliverable(key: Key, irq: &Irq, vcpu: u32, cpu: &CpuRec) -> bool
-    ensures { result ≡ is_deliverable key irq.now vcpu cpu.now }
+    ensures { (shape : GuestShape) → vcpu < shape.vcpus → result ≡ is_deliverable key irq.now vcpu cpu.now shape }
 {
     let takes_kind = match key {
         Key::Private { .. } | Key::Spi(_) => true,

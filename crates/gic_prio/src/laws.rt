@@ -1,4 +1,5 @@
-ghost use Rattle.gic_prio.specs.Laws.{GroupPriorityIsPrefix, LastPointKeepsNoBit, MaskIsMonotone, RunningWhenIdle, FirstIsLeast, FirstIsThere, EndUndoesAcknowledge, InterruptsStay, AcknowledgedOnce};
+//! Laws of priorities and of the CPU interface.
+ghost use Rattle.gic_prio.specs.Laws.{GroupPriorityIsPrefix, LastPointKeepsNoBit, MaskIsMonotone, RunningWhenIdle, FirstIsLeast, FirstIsThere, EndUndoesAcknowledge, SpuriousExactly, AcknowledgePreempts, InterruptsStay, InterfaceStays, AcknowledgedOnce};
 
 /// A law of priority grouping: a group priority is its priority without some low bits.
 pub fn group_priority_is_prefix()
@@ -35,9 +36,26 @@ pub fn end_undoes_acknowledge()
     ensures { EndUndoesAcknowledge }
 {}
 
+/// A law of IAR: it answers 1023 exactly where there is no candidate, or the first one is of the other group or
+/// is not signalled.
+pub fn spurious_exactly()
+    ensures { SpuriousExactly }
+{}
+
+/// A law of preemption: after an acknowledge the running priority is the group priority of the interrupt, and
+/// only what is more urgent is signalled.
+pub fn acknowledge_preempts()
+    ensures { AcknowledgePreempts }
+{}
+
 /// A law of the interface: an access neither brings an interrupt there nor takes one away.
 pub fn interrupts_stay()
     ensures { InterruptsStay }
+{}
+
+/// A law of the interface: what an access leaves of one is one, with at most one interrupt of each INTID.
+pub fn interface_stays()
+    ensures { InterfaceStays }
 {}
 
 /// A law of the interface: an interrupt that was acknowledged there cannot be acknowledged again.

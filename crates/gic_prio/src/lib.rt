@@ -6,6 +6,7 @@ mod candidate;
 mod cpu;
 mod delivery;
 mod laws;
+mod levels;
 mod priority;
 mod registers;
 mod signal;
@@ -15,15 +16,14 @@ pub use candidate::{Candidate, earlier};
 pub use cpu::CpuRec;
 pub use delivery::{deliverable, listens};
 pub use laws::{
-    acknowledged_once, end_undoes_acknowledge, first_is_least, first_is_there,
-    group_priority_is_prefix, interrupts_stay, last_point_keeps_no_bit, mask_is_monotone,
-    running_when_idle,
+    acknowledge_preempts, acknowledged_once, end_undoes_acknowledge, first_is_least,
+    first_is_there, group_priority_is_prefix, interface_stays, interrupts_stay,
+    last_point_keeps_no_bit, mask_is_monotone, running_when_idle, spurious_exactly,
 };
-pub use priority::{
-    FIRST_SPECIAL, IDLE_PRIORITY, LEVELS, SPURIOUS, group_priority, running, signalled,
-};
+pub use levels::LEVELS;
+pub use priority::{FIRST_SPECIAL, IDLE_PRIORITY, SPURIOUS, group_priority, running, signalled};
 pub use registers::{read_plain, write_plain};
 pub use signal::{
-    dir_deactivates, highest_pending, irq_acknowledged, irq_deactivated, level_activated,
+    acknowledged, dir_deactivates, highest_pending, intid_or_spurious, level_activated,
     priority_dropped,
 };

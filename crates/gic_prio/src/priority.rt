@@ -1,11 +1,12 @@
-ghost use Rattle.std.specs.Prelude.{◌≡◌, ◌≤◌};
-ghost use Rattle.gic_prio.specs.Priority.{group_priority_of, running_of, is_signalled};
+//! Group priority, running priority and what is signalled (IHI 0069, "Interrupt prioritization").
+ghost use Rattle.std.specs.Prelude.{◌≡◌};
+ghost use Rattle.gic_prio.specs.Priority.{HasBinaryPoints, group_priority_of, running_of, is_signalled};
 
 use crate::cpu::CpuRec;
-use gic_word::{Group, PRIORITY_STEP};
+use crate::levels::{LEVELS, least};
+use gic_base::PRIORITY_STEP;
+use gic_word::Group;
 
-/// How many priority levels there are.
-pub const LEVELS: u32 = 32;
 /// The running priority where no level is active.
 pub const IDLE_PRIORITY: u8 = 0xFF;
 /// The first INTID that names no interrupt.
@@ -16,8 +17,7 @@ pub const SPURIOUS: u32 = 1023;
 /// The group priority of an interrupt: the bits of its priority (0 to 255) that the binary point of its
 /// group keeps (IHI 0069, "Priority grouping").
 pub fn group_priority(prio: u8, group: Group, cpu: &CpuRec) -> u8
-    requires group_0 { cpu.now.bpr0 ≤ 7 }
-    requires group_1 { cpu.now.bpr1 ≤ 7 }
+    requires { HasBinaryPoints cpu.now }
     ensures { result ≡ group_priority_of prio group cpu.now }
 {
     let dropped = match group {
@@ -35,7 +35,7 @@ pub fn group_priority(prio: u8, group: Group, cpu: &CpuRec) -> u8
 pub fn running(cpu: &CpuRec) -> u8
     ensures { result ≡ running_of cpu.now }
 {
-    let level = cpu.ap0.trailing_zeros().min(cpu.ap1.trailing_zeros());
+    let level = least(cpu.ap0).min(least(cpu.ap1));
     if level == LEVELS {
         return IDLE_PRIORITY;
     }
@@ -45,8 +45,7 @@ pub fn running(cpu: &CpuRec) -> u8
 /// Whether an interrupt of this priority and group is signalled to the vCPU: its priority is above the
 /// mask, and its group priority above the running priority (IHI 0069, "Interrupt prioritization").
 pub fn signalled(prio: u8, group: Group, cpu: &CpuRec) -> bool
-    requires group_0 { cpu.now.bpr0 ≤ 7 }
-    requires group_1 { cpu.now.bpr1 ≤ 7 }
+    requires { HasBinaryPoints cpu.now }
     ensures { result ≡ is_signalled prio group cpu.now }
 {
     prio < cpu.pmr && group_priority(prio, group, cpu) < running(cpu)

@@ -1,43 +1,40 @@
-ghost use Rattle.std.specs.Prelude.{◌≡◌, ◌<◌, IsTrue, IsSome, IfSome};
+//! The registers that stand for the record of a CPU interface alone.
+ghost use Rattle.std.specs.Prelude.{◌≡◌, IsTrue, IsSome, IfSome};
 ghost use Rattle.gic_prio.specs.Priority.{HasBinaryPoints};
 ghost use Rattle.gic_base.specs.Icc.{is_readable, is_writable};
-ghost use Rattle.gic_word.specs.Bits.{has_bit as bit_is_set};
 ghost use Rattle.gic_prio.specs.Registers.{bpr1_of, ctlr_of, plain_read, pmr_written, binary_point_written as binary_point_after, plain_write};
 
 use crate::cpu::CpuRec;
 use crate::priority::running;
-use gic_base::IccReg;
-use gic_word::PRIORITY_STEP;
+use gic_base::{IccReg, PRIORITY_STEP};
+use gic_bits::{Field, has_bit, put_bit};
 
-/// PMR has 8 bits.
-const PRIORITY_VALUES: u64 = 256;
-/// BPR0 and BPR1 have 3 bits.
-const BINARY_POINTS: u64 = 8;
+/// The priority in PMR: bits [7:0].
+const PRIORITY: Field = Field { place: 0, width: 8 };
+/// The binary point in BPR0 and BPR1: bits [2:0].
+const BINARY_POINT: Field = Field { place: 0, width: 3 };
 /// The greatest binary point.
 const LAST_BINARY_POINT: u8 = 7;
 /// The least binary point of group 0, where five bits of a priority are implemented.
 const LEAST_BPR0: u8 = 2;
 /// The least binary point of group 1.
 const LEAST_BPR1: u8 = 3;
-/// The place of ICC_CTLR.CBPR.
+/// The bit of ICC_CTLR.CBPR.
 const CTLR_CBPR: u32 = 0;
-/// The place of ICC_CTLR.EOImode.
+/// The bit of ICC_CTLR.EOImode.
 const CTLR_EOIMODE: u32 = 1;
-/// The lowest place of ICC_CTLR.PRIbits.
-const CTLR_PRIBITS: u32 = 8;
+/// ICC_CTLR.PRIbits.
+const CTLR_PRIBITS: Field = Field { place: 8, width: 3 };
 /// ICC_CTLR.PRIbits: one less than the number of priority bits.
 const PRIBITS: u64 = 4;
-/// The place of ICC_IGRPEN0.Enable and of ICC_IGRPEN1.Enable.
+/// The bit of ICC_CTLR.RSS: SGIs have a range selector.
+const CTLR_RSS: u32 = 18;
+/// The bit of ICC_CTLR.ExtRange: there are extended SPIs.
+const CTLR_EXTRANGE: u32 = 19;
+/// The bit of ICC_IGRPEN0.Enable and of ICC_IGRPEN1.Enable.
 const IGRPEN_ENABLE: u32 = 0;
 /// ICC_SRE: SRE, DFB and DIB, which say that there are system registers alone and no bypass.
 const SRE_VALUE: u64 = 7;
-
-fn has_bit(value: u64, place: u32) -> bool
-    requires { place < 64 }
-    ensures { result ≡ bit_is_set value place }
-{
-    (value >> place) % 2 == 1
-}
 
 fn read_bpr1(cpu: &CpuRec) -> u8
     ensures { result ≡ bpr1_of cpu.now }
@@ -52,9 +49,11 @@ fn read_bpr1(cpu: &CpuRec) -> u8
 fn read_ctlr(cpu: &CpuRec) -> u64
     ensures { result ≡ ctlr_of cpu.now }
 {
-    (u64::from(cpu.cbpr) << CTLR_CBPR)
-        + (u64::from(cpu.eoimode) << CTLR_EOIMODE)
-        + (PRIBITS << CTLR_PRIBITS)
+    put_bit(cpu.cbpr, CTLR_CBPR)
+        + put_bit(cpu.eoimode, CTLR_EOIMODE)
+        + CTLR_PRIBITS.put(PRIBITS)
+        + put_bit(true, CTLR_RSS)
+        + put_bit(true, CTLR_EXTRANGE)
 }
 
 /// Reads one of the registers that stand for the record alone: RPR, PMR, BPR0, BPR1, CTLR, IGRPEN0,
@@ -88,13 +87,13 @@ pub fn read_plain(cpu: &CpuRec, reg: IccReg) -> Option<u64>
 fn written_pmr(value: u64) -> u8
     ensures { result ≡ pmr_written value }
 {
-    (value % PRIORITY_VALUES) as u8 / PRIORITY_STEP * PRIORITY_STEP
+    PRIORITY.of(value) as u8 / PRIORITY_STEP * PRIORITY_STEP
 }
 
 fn written_binary_point(least: u8, value: u64) -> u8
     ensures { result ≡ binary_point_after least value }
 {
-    least.max((value % BINARY_POINTS) as u8)
+    least.max(BINARY_POINT.of(value) as u8)
 }
 
 /// The record after a write of any value to one of the registers that stand for the record alone: PMR,
@@ -148,8 +147,7 @@ pub fn write_plain(cpu: &CpuRec, reg: IccReg, value: u64) -> Option<CpuRec>
 mod tests {
     use super::{read_plain, write_plain};
     use crate::cpu::CpuRec;
-    use gic_base::IccReg;
-    use gic_word::PRIORITY_STEP;
+    use gic_base::{IccReg, PRIORITY_STEP};
 
     const OPENING: CpuRec = CpuRec {
         pmr: 0,
@@ -173,9 +171,9 @@ mod tests {
             (IccReg::Bpr0, 0xFF, 7),
             (IccReg::Bpr1, 0, 3),
             (IccReg::Bpr1, 0xC, 4),
-            (IccReg::Ctlr, 0, 0x400),
-            (IccReg::Ctlr, 2, 0x402),
-            (IccReg::Ctlr, u64::MAX, 0x403),
+            (IccReg::Ctlr, 0, 0xc0400),
+            (IccReg::Ctlr, 2, 0xc0402),
+            (IccReg::Ctlr, u64::MAX, 0xc0403),
             (IccReg::Igrpen0, 3, 1),
             (IccReg::Igrpen1, 2, 0),
             (IccReg::Ap0r0, 1, 0),

@@ -1,3 +1,4 @@
+//! Accesses to a guest's memory of 64-bit words.
 ghost use Rattle.std.specs.Prelude.{◌≡◌, ◌<◌, ◌+◌, ◌/◌, ◌%◌, ◌^◌, IsTrue, IfSome};
 ghost use Rattle.gic_ram.specs.Access.{is_size, part_of, IsPart, is_within, extracted, inserted};
 ghost use Rattle.gic_ram.specs.Bytes.{ReadsAreBytes, WritesAreBytes, WritesReadBack};
@@ -27,7 +28,7 @@ pub fn split(address: u64, size: u32, ram: u32) -> Option<Part>
     requires words { ram % WORD_BYTES ≡ 0 }
     ensures value { result ≡ part_of address size ram }
     ensures part { IfSome result IsPart }
-    ensures inside { IfSome result (λ part. part.index < ram / WORD_BYTES) }
+    ensures inside { IfSome result (λ part. part.index < ram / 8) }
 {
     let bytes = u64::from(size);
     if address % bytes != 0 || address >= u64::from(ram) {

@@ -1,5 +1,5 @@
 -- Which interrupts have a part in which registers, and how they are routed.
-use Rattle.std.specs.Prelude.{Bool, true, false, nat_lt, Some, None}
+use Rattle.std.specs.Prelude.{Bool, true, false}
 use Rattle.gic_base.specs.declared.operation.Kind.{Kind}
 use Rattle.gic_base.specs.declared.operation.Kind.TheVariants.{SetPending, ClearPending, Routing}
 use Rattle.gic_base.specs.declared.interrupt.Key.{Key}
@@ -7,6 +7,7 @@ use Rattle.gic_base.specs.declared.interrupt.Key.TheVariants.{Spi, Lpi}
 use Rattle.gic_base.specs.declared.shape.GuestShape.{GuestShape}
 use Rattle.gic_word.specs.declared.record.Route.{Route}
 use Rattle.gic_word.specs.declared.record.Route.TheVariants.{Affinity, Target}
+use Rattle.gic_word.specs.Valid.{is_vcpu_or_none}
 
 -- the interrupt has a part that a register of this kind writes: an IROUTER is an SPI's, and an LPI is pended and cleared
 -- alone, as the ITS commands INT and CLEAR do
@@ -23,8 +24,7 @@ abbrev pub is_routed : GuestShape → Key → Route → Bool
 is_routed shape (Spi id) (Affinity affinity) = true
 is_routed shape (Spi id) (Target target) = false
 is_routed shape key (Affinity affinity) = false
-is_routed shape key (Target None) = true
-is_routed shape key (Target (Some vcpu)) = nat_lt vcpu shape.vcpus
+is_routed shape key (Target target) = is_vcpu_or_none shape target
 
 -- the register shows what the record has: an IROUTER an affinity
 abbrev pub shows_route : Kind → Route → Bool

@@ -1,26 +1,19 @@
 -- The touch of an interrupt by its part of a register: what a read answers, and the record after a write, one row a kind
 -- (IHI 0069, "The Distributor register map" and "The Redistributor register map").
-use Rattle.std.specs.Prelude.{ℕ, ◌*◌, ◌/◌, ◌==◌, Bool, true, false, nat_lt, is_some, if◌then◌else◌, Option, Some, None}
+use Rattle.std.specs.Prelude.{ℕ, ◌*◌, ◌/◌, ◌==◌, true, false, is_some, if◌then◌else◌, Option, Some, None}
 use Rattle.gic_base.specs.declared.operation.Kind.{Kind}
 use Rattle.gic_base.specs.declared.operation.Kind.TheVariants.{Group, SetEnable, ClearEnable, SetPending, ClearPending, SetActive, ClearActive, Priority, Config, Routing}
 use Rattle.gic_base.specs.declared.interrupt.Key.{Key}
-use Rattle.gic_base.specs.declared.interrupt.TheConstants.{SGI_COUNT}
 use Rattle.gic_base.specs.declared.shape.GuestShape.{GuestShape}
-use Rattle.gic_base.specs.Interrupt.{intid_of}
+use Rattle.gic_base.specs.Interrupt.{is_sgi}
 use Rattle.gic_word.specs.declared.record.Group.TheVariants.{G0, G1}
 use Rattle.gic_word.specs.declared.record.Irq.{Irq}
 use Rattle.gic_word.specs.declared.record.Route.{Route}
 use Rattle.gic_word.specs.declared.record.Route.TheVariants.{Affinity, Target}
-use Rattle.gic_word.specs.declared.places.TheConstants.{PRIORITY_STEP}
-use Rattle.gic_word.specs.Bits.{bit_of, has_bit}
-use Rattle.gic_word.specs.Record.{group_number, is_pending}
-use Rattle.gic_aff.specs.Affinity.{vcpu_of}
+use Rattle.gic_bits.specs.Bits.{bit_of, has_bit}
+use Rattle.gic_word.specs.Record.{group_number, is_pending, target_in}
+use Rattle.gic_word.specs.Causes.{raised, cleared}
 use Rattle.gic_reg.specs.Router.{router_of, affinity_in}
-
--- the vCPU that an interrupt is for: of an affinity the one that has it, if the guest has one
-abbrev pub target_in : Route → GuestShape → Option ℕ
-target_in (Affinity affinity) shape = vcpu_of affinity shape
-target_in (Target target) shape = target
 
 -- what an IROUTER reads
 abbrev pub route_read : Route → ℕ
@@ -40,10 +33,6 @@ part_read Priority irq = irq.prio
 part_read Config irq = if irq.edge then 2 else 0
 part_read Routing irq = route_read irq.route
 
--- an SGI, by its INTID
-abbrev pub is_sgi : Key → Bool
-is_sgi key = nat_lt (intid_of key) SGI_COUNT
-
 -- active by the vCPU that it is active by already, or else by its target, if any
 abbrev pub activated : Option ℕ → Option ℕ → Option ℕ
 activated (Some vcpu) target = Some vcpu
@@ -54,11 +43,11 @@ abbrev pub part_written : Kind → Key → Irq → ℕ → GuestShape → Irq
 part_written Group key irq value shape = record irq { group = if value == 1 then G1 else G0 }
 part_written SetEnable key irq value shape = if value == 1 then record irq { enabled = true } else irq
 part_written ClearEnable key irq value shape = if value == 1 then record irq { enabled = false } else irq
-part_written SetPending key irq value shape = if value == 1 then record irq { soft = true } else irq
-part_written ClearPending key irq value shape = if value == 1 then record irq { rise = false; soft = false } else irq
+part_written SetPending key irq value shape = if value == 1 then raised irq else irq
+part_written ClearPending key irq value shape = if value == 1 then cleared irq else irq
 part_written SetActive key irq value shape = if value == 1 then record irq { act_by = activated irq.act_by (target_in irq.route shape) } else irq
 part_written ClearActive key irq value shape = if value == 1 then record irq { act_by = None } else irq
-part_written Priority key irq value shape = record irq { prio = value / PRIORITY_STEP * PRIORITY_STEP }
+part_written Priority key irq value shape = record irq { prio = value / 8 * 8 }
 part_written Config key irq value shape = if is_sgi key then irq else record irq { edge = has_bit value 1 }
 part_written Routing key irq value shape = record irq { route = Affinity (affinity_in value) }
 

@@ -4,14 +4,14 @@ ghost use Rattle.gic_base.specs.Shape.{IsShape};
 ghost use Rattle.gic_base.specs.Interrupt.{has_interrupt};
 ghost use Rattle.gic_word.specs.Record.{is_pending};
 ghost use Rattle.gic_word.specs.Word.{IsIrq};
+ghost use Rattle.gic_word.specs.Valid.{IsRecordOf};
 ghost use Rattle.gic_frame.specs.Part.{part_bits};
 ghost use Rattle.gic_reg.specs.Condition.{has_part, is_routed, shows_route};
-ghost use Rattle.gic_reg.specs.Touch.{part_read, part_written, with_named, target_in, is_sgi as is_of_sgi};
+ghost use Rattle.gic_reg.specs.Touch.{part_read, part_written, with_named};
 
 use crate::router::{affinity_in, router_with};
-use gic_aff::vcpu_of;
-use gic_base::{GuestShape, Key, Kind, SGI_COUNT};
-use gic_word::{Group, Irq, PRIORITY_STEP, Route, pending};
+use gic_base::{GuestShape, Key, Kind, PRIORITY_STEP};
+use gic_word::{Group, Irq, Route, pending, target_in};
 
 /// What the part of an ICFGR reads for an edge-triggered interrupt; for a level-sensitive one it reads 0.
 const EDGE: u64 = 0b10;
@@ -39,23 +39,6 @@ pub fn read_part(kind: Kind, irq: &Irq) -> u64
     }
 }
 
-/// The vCPU that an interrupt is for: of an affinity the one that has it, if the guest has one.
-fn target(route: Route, shape: &GuestShape) -> Option<u32>
-    requires { IsShape shape.now }
-    ensures { result ≡ target_in route shape.now }
-{
-    match route {
-        Route::Affinity(affinity) => vcpu_of(affinity, shape),
-        Route::Target(target) => target,
-    }
-}
-
-fn is_sgi(key: Key) -> bool
-    ensures { result ≡ is_of_sgi key }
-{
-    key.intid() < SGI_COUNT
-}
-
 /// The record of an interrupt after a write of its part of a register of this kind. What the register does
 /// not name stays. A write of 0 to a register that sets or clears changes nothing; nor does a write of
 /// ISACTIVER where the interrupt is active or has no target, or of an SGI's part of ICFGR.
@@ -69,6 +52,7 @@ pub fn write_part(kind: Kind, key: Key, irq: &Irq, value: u64, shape: &GuestShap
     ensures value { result ≡ part_written kind key irq.now value shape.now }
     ensures irq { IsIrq result }
     ensures route { IsTrue (is_routed shape.now key result.route) }
+    ensures valid { IsRecordOf shape.now key irq.now → IsRecordOf shape.now key result }
     // With the fields that the register names put back, the record is the old one.
     ensures others_stay { with_named kind irq.now result ≡ irq.now }
     ensures level_stays { kind ≡ Kind.ClearPending → irq.now.edge ≡ false → irq.now.line ≡ true → IsTrue (is_pending result) }
@@ -79,15 +63,12 @@ pub fn write_part(kind: Kind, key: Key, irq: &Irq, value: u64, shape: &GuestShap
         Kind::Group => after.group = if is_one { Group::G1 } else { Group::G0 },
         Kind::SetEnable if is_one => after.enabled = true,
         Kind::ClearEnable if is_one => after.enabled = false,
-        Kind::SetPending if is_one => after.soft = true,
-        Kind::ClearPending if is_one => {
-            after.rise = false;
-            after.soft = false;
-        }
-        Kind::SetActive if is_one => after.act_by = irq.act_by.or(target(irq.route, shape)),
+        Kind::SetPending if is_one => after = irq.raised(),
+        Kind::ClearPending if is_one => after = irq.cleared(),
+        Kind::SetActive if is_one => after.act_by = irq.act_by.or(target_in(irq.route, shape)),
         Kind::ClearActive if is_one => after.act_by = None,
         Kind::Priority => after.prio = value as u8 / PRIORITY_STEP * PRIORITY_STEP,
-        Kind::Config if !is_sgi(key) => after.edge = value / EDGE == 1,
+        Kind::Config if !key.is_sgi() => after.edge = value / EDGE == 1,
         Kind::Routing => after.route = Route::Affinity(affinity_in(value)),
         _ => {}
     }
@@ -97,12 +78,13 @@ pub fn write_part(kind: Kind, key: Key, irq: &Irq, value: u64, shape: &GuestShap
 #[cfg(test)]
 mod tests {
     use super::{read_part, write_part};
-    use gic_base::{GuestShape, Key, Kind};
+    use gic_base::{GuestShape, Key, Kind, PRIORITY_STEP};
     use gic_word::{Group, Irq, Route};
 
     const SHAPE: GuestShape = GuestShape {
         vcpus: 2,
         spis: 32,
+        espis: 0,
         devices: 1,
         lpis: 0,
         ram: 0,

@@ -5,20 +5,20 @@ use Rattle.std.specs.Fmt.{digits}
 use Rattle.gic_base.specs.declared.interrupt.Key.{Key}
 use Rattle.gic_base.specs.declared.interrupt.Key.TheVariants.{Private, Spi, Lpi}
 use Rattle.gic_base.specs.declared.operation.GuestOp.TheVariants.{Icc, Mem}
-use Rattle.scn_read.specs.declared.scenario.Scenario.{Scenario}
-use Rattle.scn_read.specs.declared.scenario.Step.{Step}
-use Rattle.scn_read.specs.declared.scenario.Step.TheVariants.{Vcpu, Device, Pe}
-use Rattle.scn_read.specs.declared.outcome.RunOut.{RunOut}
-use Rattle.scn_read.specs.declared.outcome.Answer.{Answer}
-use Rattle.scn_read.specs.declared.outcome.Answer.TheVariants.{Nothing, Value, Regs}
+use Rattle.scn_base.specs.declared.scenario.Scenario.{Scenario}
+use Rattle.scn_base.specs.declared.step.Step.{Step}
+use Rattle.scn_base.specs.declared.step.Step.TheVariants.{Vcpu, Device, Pe}
+use Rattle.scn_base.specs.declared.outcome.RunOut.{RunOut}
+use Rattle.scn_base.specs.declared.outcome.Answer.{Answer}
+use Rattle.scn_base.specs.declared.outcome.Answer.TheVariants.{Nothing, Value, Regs}
 use Rattle.std.specs.Option.{option_map_or}
-use Rattle.scn_read.specs.declared.outcome.CpuEnd.{CpuEnd}
-use Rattle.scn_read.specs.declared.outcome.ItsEnd.{ItsEnd}
-use Rattle.scn_read.specs.declared.outcome.DevEnd.{DevEnd}
-use Rattle.scn_read.specs.declared.outcome.EvtEnd.{EvtEnd}
-use Rattle.scn_read.specs.declared.outcome.ColEnd.{ColEnd}
-use Rattle.scn_read.specs.declared.outcome.IrqEnd.{IrqEnd}
-use Rattle.scn_read.specs.declared.outcome.End.{End}
+use Rattle.scn_base.specs.declared.outcome.CpuEnd.{CpuEnd}
+use Rattle.scn_base.specs.declared.outcome.ItsEnd.{ItsEnd}
+use Rattle.scn_base.specs.declared.outcome.DevEnd.{DevEnd}
+use Rattle.scn_base.specs.declared.outcome.EvtEnd.{EvtEnd}
+use Rattle.scn_base.specs.declared.outcome.ColEnd.{ColEnd}
+use Rattle.scn_base.specs.declared.outcome.IrqEnd.{IrqEnd}
+use Rattle.scn_base.specs.declared.outcome.End.{End}
 
 -- the lower-case hexadecimal digits of a number, with zeros before them up to a width
 abbrev pub hex : ℕ → ℕ → List ℕ

@@ -1,3 +1,5 @@
+//! The lines of a run in their order: the answers, the end of each guest, the counts.
+
 ghost use Rattle.std.specs.Prelude.{◌≡◌, [], ◌++◌, OnOk, IfOk, string_bytes};
 ghost use Rattle.std.specs.List.{flat_map};
 ghost use Rattle.std.specs.Option.{option_map_or};
@@ -8,7 +10,7 @@ use crate::lines::{
 };
 use gic_base::{GuestOp, NoMemory};
 use gic_io::Bytes;
-use scn_read::{
+use scn_base::{
     Answers, ColEnds, CpuEnds, DevEnds, End, Ends, EvtEnds, IrqEnds, ItsEnd, RunOut, Scenario,
     Step, Steps,
 };

@@ -2,23 +2,22 @@
 use Rattle.std.specs.Prelude.{◌≡◌, ℕ, ◌+◌, List, Option, codes, String, ◌⊎◌, ⊤}
 use Rattle.std.specs.declared.alloc.Global.{Global}
 use Rattle.gic_io.specs.Faults.{HasRisen}
-use Rattle.gic_io.specs.Source.{HasReadCount}
-use Rattle.scn_read.specs.declared.scenario.Scenario.{Scenario}
-use Rattle.scn_read.specs.declared.scenario.Fault.{Fault}
+use Rattle.gic_io.specs.Source.{HasReadCount, HasReadAtMost}
+use Rattle.scn_base.specs.declared.scenario.Scenario.{Scenario}
+use Rattle.scn_base.specs.declared.fault.Fault.{Fault}
 use Rattle.gic_top.specs.declared.tool.Reply.{Reply}
 use Rattle.gic_top.specs.declared.tool.Reply.TheVariants.{Ran, Usage, BadJson, BadScenario, ReadFault, TooLong, NoMemory}
-use Rattle.gic_top.specs.declared.tool.TheConstants.{MAX_INPUT, OK, USAGE, BAD_JSON, BAD_SCENARIO, READ_FAULT, TOO_LONG, NO_MEMORY}
-use Rattle.gic_top.specs.Tool.{IsRun, SpellsScenario, SpellsFault, IsNoJson, HasInput, run_text, fault_line, line}
+use Rattle.gic_top.specs.Tool.{IsRun, SpellsScenario, SpellsFault, IsNoJson, HasInput, max_input, run_text, fault_line, line}
 
 -- the status of a reply
 abbrev pub status_of : Reply → ℕ
-status_of (Ran text) = OK
-status_of Usage = USAGE
-status_of BadJson = BAD_JSON
-status_of (BadScenario text) = BAD_SCENARIO
-status_of ReadFault = READ_FAULT
-status_of TooLong = TOO_LONG
-status_of NoMemory = NO_MEMORY
+status_of (Ran text) = 0
+status_of Usage = 2
+status_of BadJson = 3
+status_of (BadScenario text) = 4
+status_of ReadFault = 5
+status_of TooLong = 7
+status_of NoMemory = 9
 
 -- what is written of it
 abbrev pub text_of : Reply → List ℕ
@@ -49,8 +48,8 @@ IsReplyOf before after faults_before faults_after BadJson = HasInput before afte
 IsReplyOf before after faults_before faults_after (BadScenario text) =
     (fault : Fault) × HasInput before after (λ bytes. SpellsFault bytes fault) × (text ≡ fault_line fault)
 IsReplyOf before after faults_before faults_after ReadFault = HasRisen faults_before faults_after
-IsReplyOf before after faults_before faults_after TooLong = HasReadCount before after (MAX_INPUT + 1)
-IsReplyOf before after faults_before faults_after NoMemory = ⊤
+IsReplyOf before after faults_before faults_after TooLong = HasReadCount before after (max_input + 1)
+IsReplyOf before after faults_before faults_after NoMemory = HasReadAtMost before after max_input
 
 -- the reply is the one to these words, and to what a source gave
 abbrev pub IsReplyFor : List (String Global) → Option (List ℕ) → Option (List ℕ) → ℕ → ℕ → Reply → Type 0

@@ -4,13 +4,13 @@ use Rattle.std.specs.declared.alloc.Global.{Global}
 use Rattle.serde_json.specs.Data.{Data}
 use Rattle.serde_json.specs.Read.{read}
 use Rattle.gic_io.specs.Faults.{HasRisen}
-use Rattle.gic_io.specs.Source.{HasReadCount}
-use Rattle.scn_read.specs.declared.scenario.Scenario.{Scenario}
-use Rattle.scn_read.specs.declared.scenario.Mode.TheVariants.{Schedule}
-use Rattle.scn_read.specs.declared.scenario.Fault.{Fault}
+use Rattle.gic_io.specs.Sink.{Grew, GrewByPrefix}
+use Rattle.gic_io.specs.Source.{HasReadCount, HasReadAtMost}
+use Rattle.scn_base.specs.declared.scenario.Scenario.{Scenario}
+use Rattle.scn_base.specs.declared.step.Mode.TheVariants.{Schedule}
+use Rattle.scn_base.specs.declared.fault.Fault.{Fault}
 use Rattle.scn_read.specs.Reading.{reading}
-use Rattle.scn_read.specs.Shown.{fault_text}
-use Rattle.gic_top.specs.declared.tool.TheConstants.{MAX_INPUT, OK, BAD_JSON, BAD_SCENARIO, TOO_LONG, NO_MEMORY}
+use Rattle.scn_base.specs.Shown.{fault_text}
 use Rattle.gic_ideal.specs.Eager.{eager}
 use Rattle.gic_report.specs.Text.{text, newline}
 
@@ -51,13 +51,21 @@ line message = message ++ newline
 abbrev pub fault_line : Fault → List ℕ
 fault_line fault = line (codes "bad scenario: " ++ fault_text fault)
 
+-- the most bytes of an input
+abbrev pub max_input : ℕ
+max_input = 16777216
+
+-- the statuses of the table of answers, beside which there are none
+abbrev pub statuses : List ℕ
+statuses = 0 ∷ 2 ∷ 3 ∷ 4 ∷ 5 ∷ 6 ∷ 7 ∷ 9 ∷ []
+
 -- The rows of the table of answers. Where the source told the bytes that it had left before the call, they are `before`, and
 -- `after` those that it then has left; `wrote` says what the sink took.
 
 -- an input was read to its end, which is within the limit, and P holds of it, where it was told
 pub record HasInput (before after : Option (List ℕ)) (P : List ℕ → Type 0) : Type 0 where
   pub input : IfSome before P
-  pub within : IfSome before (λ bytes. length bytes ≤ MAX_INPUT)
+  pub within : IfSome before (λ bytes. length bytes ≤ max_input)
   pub to_end : OnSome before (after ≡ Some [])
 
 -- a scenario was read, and the text of its run written
@@ -94,22 +102,50 @@ pub record IsReadFault (words : List (String Global)) (faults_before faults_afte
 -- more bytes than the limit were taken from the source
 pub record IsTooLong (words : List (String Global)) (before after : Option (List ℕ)) (wrote : List ℕ → Type 0) : Type 0 where
   pub asked : IsRun words
-  pub taken : HasReadCount before after (MAX_INPUT + 1)
+  pub taken : HasReadCount before after (max_input + 1)
   pub written : wrote (line (codes "too long"))
 
--- memory was refused
-pub record IsNoMemory (wrote : List ℕ → Type 0) : Type 0 where
+-- memory was refused, before more bytes than the limit were taken from the source
+pub record IsNoMemory (words : List (String Global)) (before after : Option (List ℕ)) (wrote : List ℕ → Type 0) : Type 0 where
+  pub asked : IsRun words
+  pub taken : HasReadAtMost before after max_input
   pub written : wrote (line (codes "no memory"))
 
--- one of the rows
-abbrev pub IsSomeRow : List (String Global) → Option (List ℕ) → Option (List ℕ) → ℕ → ℕ → (List ℕ → Type 0) → Type 0
-IsSomeRow words before after faults_before faults_after wrote =
-    IsOk words before after wrote ⊎ (IsUsage words wrote ⊎ (IsBadJson words before after wrote ⊎ (IsBadScenario words before after wrote
-    ⊎ (IsReadFault words faults_before faults_after wrote ⊎ (IsTooLong words before after wrote ⊎ IsNoMemory wrote)))))
+-- the row of a status, each but that of a fault of the sink
+abbrev pub IsRow : List (String Global) → Option (List ℕ) → Option (List ℕ) → ℕ → ℕ → (List ℕ → Type 0) → ℕ → Type 0
+IsRow words before after faults_before faults_after wrote status =
+    ((status ≡ 0) × IsOk words before after wrote)
+    ⊎ (((status ≡ 2) × IsUsage words wrote)
+    ⊎ (((status ≡ 3) × IsBadJson words before after wrote)
+    ⊎ (((status ≡ 4) × IsBadScenario words before after wrote)
+    ⊎ (((status ≡ 5) × IsReadFault words faults_before faults_after wrote)
+    ⊎ (((status ≡ 7) × IsTooLong words before after wrote)
+    ⊎ ((status ≡ 9) × IsNoMemory words before after wrote))))))
+
+-- the sink's count of faults rose, and the sink took some first bytes of what another row gives
+pub record IsWriteFault (words : List (String Global)) (before after : Option (List ℕ)) (faults_before faults_after : ℕ) (taken_before taken_after : Option (List ℕ)) (sink_before sink_after : ℕ) : Type 0 where
+  pub risen : HasRisen sink_before sink_after
+  pub other : ℕ
+  pub row : IsRow words before after faults_before faults_after (GrewByPrefix taken_before taken_after) other
+
+-- the whole table: what a status says of the words, of the source, and of what the sink took
+pub record IsOutcome (words : List (String Global)) (before after : Option (List ℕ)) (faults_before faults_after : ℕ) (taken_before taken_after : Option (List ℕ)) (sink_before sink_after : ℕ) (status : ℕ) : Type 0 where
+  pub row : IsRow words before after faults_before faults_after (Grew taken_before taken_after) status
+      ⊎ ((status ≡ 6) × IsWriteFault words before after faults_before faults_after taken_before taken_after sink_before sink_after)
+
+-- `text` was written, and the status is its own; or the sink's count of faults rose, and the sink took some first bytes
+pub record IsWritten (taken_before taken_after : Option (List ℕ)) (sink_before sink_after : ℕ) (text : List ℕ) (own status : ℕ) : Type 0 where
+  pub written : ((status ≡ own) × Grew taken_before taken_after text)
+      ⊎ ((status ≡ 6) × HasRisen sink_before sink_after × GrewByPrefix taken_before taken_after text)
+
+-- memory for the words was refused, and that was written
+abbrev pub IsRefusal : Option (List ℕ) → Option (List ℕ) → ℕ → ℕ → ℕ → Type 0
+IsRefusal taken_before taken_after sink_before sink_after status =
+    IsWritten taken_before taken_after sink_before sink_after (line (codes "no memory")) 9 status
 
 -- every input has its answer, where memory is not refused
 pub record HasItsAnswer (bytes : List ℕ) (status : ℕ) : Type 0 where
-  pub accepted : (scenario : Scenario) → SpellsScenario bytes scenario → length bytes ≤ MAX_INPUT → (status ≡ OK) ⊎ (status ≡ NO_MEMORY)
-  pub no_json : IsNoJson bytes → length bytes ≤ MAX_INPUT → (status ≡ BAD_JSON) ⊎ (status ≡ NO_MEMORY)
-  pub faulty : (fault : Fault) → SpellsFault bytes fault → length bytes ≤ MAX_INPUT → (status ≡ BAD_SCENARIO) ⊎ (status ≡ NO_MEMORY)
-  pub too_long : MAX_INPUT < length bytes → (status ≡ TOO_LONG) ⊎ (status ≡ NO_MEMORY)
+  pub accepted : (scenario : Scenario) → SpellsScenario bytes scenario → length bytes ≤ max_input → (status ≡ 0) ⊎ (status ≡ 9)
+  pub no_json : IsNoJson bytes → length bytes ≤ max_input → (status ≡ 3) ⊎ (status ≡ 9)
+  pub faulty : (fault : Fault) → SpellsFault bytes fault → length bytes ≤ max_input → (status ≡ 4) ⊎ (status ≡ 9)
+  pub too_long : max_input < length bytes → (status ≡ 7) ⊎ (status ≡ 9)

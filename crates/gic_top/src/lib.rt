@@ -9,5 +9,5 @@ mod tool;
 
 pub use tool::{
     BAD_JSON, BAD_SCENARIO, MAX_INPUT, NO_MEMORY, OK, READ_FAULT, TOO_LONG, USAGE, WRITE_FAULT,
-    run_tool,
+    refuse_words, run_tool,
 };

@@ -1,4 +1,5 @@
 //! Whole states through the plan, the accesses of a guest and the fold, register by register.
+
 use gic_base::{Back, Held, HeldIrq, IccReg, Key, MAX_LIST_REGISTERS};
 use gic_ich::{HCR_EN, IchRegs, vmcr_of};
 use gic_icv::{Outcome, TrapCause, access};

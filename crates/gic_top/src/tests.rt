@@ -1,4 +1,9 @@
-use crate::{BAD_JSON, BAD_SCENARIO, OK, READ_FAULT, TOO_LONG, USAGE, WRITE_FAULT, run_tool};
+//! Worked scenarios, and faults of the outside, through the whole tool.
+
+use crate::{
+    BAD_JSON, BAD_SCENARIO, NO_MEMORY, OK, READ_FAULT, TOO_LONG, USAGE, WRITE_FAULT, refuse_words,
+    run_tool,
+};
 use gic_io::{MemSink, MemSource, SureSink, SureSource};
 use std::alloc::{AllocError, Global};
 use std::test::Fail;
@@ -9,7 +14,7 @@ const FIRST: &str =
 const FIRST_TEXT: &str = "2 0x0000000000000028\n4 0x00000000000003ff\nend 4 2\n";
 
 /// Inputs of `run`, each with the status and all that is written.
-const RUNS: [(&str, u8, &str); 29] = [
+const RUNS: [(&str, u8, &str); 31] = [
     (FIRST, OK, FIRST_TEXT),
     (
         r#"{"pes":1,"lrs":4,"guests":[{"vcpus":1,"spis":32,"on":true,"irqs":[{"id":40}]}],"steps":[]}"#,
@@ -44,7 +49,7 @@ const RUNS: [(&str, u8, &str); 29] = [
     (
         r#"{"guests":[{"on":true,"irqs":[{"id":40},{"id":41},{"id":42,"prio":32}]}],"steps":[{"vcpu":[0,0],"icc":"CTLR","write":2},{"vcpu":[0,0],"icc":"CTLR"},{"dev":[0,0],"message":40},{"vcpu":[0,0],"icc":"IAR1"},{"vcpu":[0,0],"icc":"EOIR1","write":40},{"vcpu":[0,0],"icc":"RPR"},{"dev":[0,0],"message":40},{"vcpu":[0,0],"icc":"IAR1"},{"vcpu":[0,0],"icc":"DIR","write":40},{"vcpu":[0,0],"icc":"IAR1"}]}"#,
         OK,
-        "2 0x0000000000000402\n4 0x0000000000000028\n6 0x00000000000000ff\n8 0x00000000000003ff\n10 0x0000000000000028\ncpu 0 0 vmcr=0xf04c020a ap0=0x00000000 ap1=0x00100000 lpis=0\nirq 0 40 en=1 grp=1 prio=0xa0 cfg=edge line=0 rise=0 soft=0 act=0 to=0\nend 10 5\n",
+        "2 0x00000000000c0402\n4 0x0000000000000028\n6 0x00000000000000ff\n8 0x00000000000003ff\n10 0x0000000000000028\ncpu 0 0 vmcr=0xf04c020a ap0=0x00000000 ap1=0x00100000 lpis=0\nirq 0 40 en=1 grp=1 prio=0xa0 cfg=edge line=0 rise=0 soft=0 act=0 to=0\nend 10 5\n",
     ),
     (
         r#"{"guests":[{"on":true,"irqs":[{"id":40,"group":0},{"id":41},{"id":42,"prio":32}]}],"steps":[{"vcpu":[0,0],"icc":"IGRPEN0","write":1},{"dev":[0,0],"message":40},{"vcpu":[0,0],"icc":"IAR1"},{"vcpu":[0,0],"icc":"HPPIR1"},{"vcpu":[0,0],"icc":"HPPIR0"},{"vcpu":[0,0],"icc":"IAR0"},{"vcpu":[0,0],"icc":"AP0R0"},{"vcpu":[0,0],"icc":"EOIR1","write":40},{"vcpu":[0,0],"icc":"RPR"},{"vcpu":[0,0],"icc":"EOIR0","write":40},{"vcpu":[0,0],"icc":"RPR"}]}"#,
@@ -110,6 +115,16 @@ const RUNS: [(&str, u8, &str); 29] = [
         r#"{"lrs":2,"guests":[{"on":true,"irqs":[{"id":40},{"id":41},{"id":42,"prio":32}]}],"steps":[{"dev":[0,0],"message":40},{"vcpu":[0,0],"icc":"IAR1"},{"dev":[0,0],"message":40},{"dev":[0,0],"message":41},{"dev":[0,0],"message":42},{"pe":0,"lrs":true}]}"#,
         OK,
         "2 0x0000000000000028\n6 lrs 0x0000000000000099 0x90a0020000000028 0x502000000000002a\ncpu 0 0 vmcr=0xf04c000a ap0=0x00000000 ap1=0x00100000 lpis=0\nirq 0 40 en=1 grp=1 prio=0xa0 cfg=edge line=0 rise=0 soft=1 act=0 to=0\nirq 0 41 en=1 grp=1 prio=0xa0 cfg=edge line=0 rise=0 soft=1 act=- to=0\nirq 0 42 en=1 grp=1 prio=0x20 cfg=edge line=0 rise=0 soft=1 act=- to=0\nend 6 1\n",
+    ),
+    (
+        r#"{"guests":[{"espis":32,"on":true,"irqs":[{"id":40},{"id":4100}]}],"steps":[{"dev":[0,0],"message":4100},{"dev":[0,0],"message":40},{"vcpu":[0,0],"icc":"IAR1"},{"vcpu":[0,0],"icc":"EOIR1","write":40},{"vcpu":[0,0],"icc":"IAR1"}]}"#,
+        OK,
+        "3 0x0000000000000028\n5 0x0000000000001004\ncpu 0 0 vmcr=0xf04c000a ap0=0x00000000 ap1=0x00100000 lpis=0\nirq 0 4100 en=1 grp=1 prio=0xa0 cfg=edge line=0 rise=0 soft=0 act=0 to=0\nend 5 2\n",
+    ),
+    (
+        r#"{"guests":[{"espis":32}],"steps":[{"dev":[0,0],"message":4128}]}"#,
+        BAD_SCENARIO,
+        "bad scenario: code 4 step 1\n",
     ),
     (
         r#"{"guests":[{"on":true,"irqs":[{"id":40}],"spis":0}],"steps":[]}"#,
@@ -222,6 +237,18 @@ fn pieces_and_faults(rt: HostRuntime) -> Result<(), Fail> {
             run_tool(alloc, words.as_slice(), &mut source, &mut sink),
             status
         );
+        assert_eq!(rt; sink.taken(), Some(text.as_bytes()));
+    }
+    Ok(())
+}
+
+#[test]
+fn words_without_memory(rt: HostRuntime) -> Result<(), Fail> {
+    let alloc = rt.alloc();
+    // The calls of the sink that fail, the status, the text.
+    for (fails, status, text) in [(0, NO_MEMORY, "no memory\n"), (2, WRITE_FAULT, "no m")] {
+        let mut sink = MemSink::of(alloc, vec![in alloc; fails]?, 4);
+        assert_eq!(rt; refuse_words(&mut sink), status);
         assert_eq!(rt; sink.taken(), Some(text.as_bytes()));
     }
     Ok(())

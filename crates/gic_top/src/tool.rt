@@ -1,8 +1,10 @@
-ghost use Rattle.std.specs.Prelude.{◌≡◌, ◌⊎◌, ◌↔◌, ◌≤◌, IsTrue, IfOk, IfErr, IfSome, length, string_bytes};
+//! From words and an input to a status, and the text or message that is written.
+
+ghost use Rattle.std.specs.Prelude.{◌≡◌, ◌⊎◌, ◌↔◌, ◌≤◌, IsTrue, IfOk, IfErr, IfSome, Contains, length, string_bytes};
 ghost use Rattle.gic_io.specs.Faults.{HasRisen};
-ghost use Rattle.gic_io.specs.Sink.{Grew, GrewByPrefix};
-ghost use Rattle.scn_read.specs.Good.{IsGood};
-ghost use Rattle.gic_top.specs.Tool.{run_text, fault_line as line_of, IsRun, IsOk, IsUsage, IsBadJson, IsBadScenario, IsReadFault, IsTooLong, IsNoMemory, IsSomeRow, HasItsAnswer};
+ghost use Rattle.gic_io.specs.Sink.{Grew};
+ghost use Rattle.scn_base.specs.Good.{IsGood};
+ghost use Rattle.gic_top.specs.Tool.{statuses, run_text, fault_line as line_of, IsRun, IsOk, IsUsage, IsBadJson, IsBadScenario, IsReadFault, IsWriteFault, IsTooLong, IsNoMemory, IsOutcome, IsWritten, IsRefusal, HasItsAnswer};
 ghost use Rattle.gic_top.specs.Reply.{status_of, text_of, IsReplyTo, IsReplyOf, IsReplyFor};
 
 use gic_base::NoMemory;
@@ -136,43 +138,66 @@ fn reply_for<S: Source>(alloc: Global, words: &[String], source: &mut S) -> Repl
     ensures reply { IsReplyFor words.now (S.left source.old) (S.left source.new) (S.faults source.old) (S.faults source.new) result }
     ensures unread { ¬ IsRun words.now → source.new ≡ source.old }
 {
-    if is_run(words) {
-        return reply_of(alloc, source);
+    if !is_run(words) {
+        return Reply::Usage;
     }
-    Reply::Usage
+    reply_of(alloc, source)
+}
+
+/// Writes what is to be written of a reply, and answers its status, or that of a fault of the sink.
+fn tell<K: Sink>(sink: &mut K, reply: &Reply) -> u8
+    ensures { IsWritten (K.taken sink.old) (K.taken sink.new) (K.faults sink.old) (K.faults sink.new) (text_of reply.now) (status_of reply.now) result }
+{
+    match write_all(sink, reply.as_bytes()) {
+        Ok(()) => reply.status(),
+        Err(_) => WRITE_FAULT,
+    }
+}
+
+/// Writes that memory was refused, where there was none for the words, and answers the status.
+pub fn refuse_words<K: Sink>(sink: &mut K) -> u8
+    ensures closed { Contains statuses result }
+    ensures refused { IsRefusal (K.taken sink.old) (K.taken sink.new) (K.faults sink.old) (K.faults sink.new) result }
+{
+    tell(sink, &Reply::NoMemory)
 }
 
 /// Does what the words ask for, and answers the status with which the program ends.
 ///
 /// `run` reads a scenario from the source, in JSON, and writes the text of its run to the sink. A text or
 /// a message is built whole before its first byte is written. The words are those after the program's
-/// name.
+/// name. The status is [`OK`] or another of this module's.
 pub fn run_tool<S: Source, K: Sink>(
     alloc: Global,
     words: &[String],
     source: &mut S,
     sink: &mut K,
 ) -> u8
-    // What the status says, and what was written.
-    ensures ok { result ≡ OK →
+    // The status is one of the table's, and says what was read and written.
+    ensures closed { Contains statuses result }
+    ensures outcome { IsOutcome words.now (S.left source.old) (S.left source.new) (S.faults source.old) (S.faults source.new)
+        (K.taken sink.old) (K.taken sink.new) (K.faults sink.old) (K.faults sink.new) result }
+
+    // The same, status by status.
+    ensures ok { result ≡ 0 →
         IsOk words.now (S.left source.old) (S.left source.new) (Grew (K.taken sink.old) (K.taken sink.new)) }
-    ensures usage { result ≡ USAGE → IsUsage words.now (Grew (K.taken sink.old) (K.taken sink.new)) }
-    ensures bad_json { result ≡ BAD_JSON →
+    ensures usage { result ≡ 2 → IsUsage words.now (Grew (K.taken sink.old) (K.taken sink.new)) }
+    ensures bad_json { result ≡ 3 →
         IsBadJson words.now (S.left source.old) (S.left source.new) (Grew (K.taken sink.old) (K.taken sink.new)) }
-    ensures bad_scenario { result ≡ BAD_SCENARIO →
+    ensures bad_scenario { result ≡ 4 →
         IsBadScenario words.now (S.left source.old) (S.left source.new) (Grew (K.taken sink.old) (K.taken sink.new)) }
-    ensures read_fault { result ≡ READ_FAULT →
+    ensures read_fault { result ≡ 5 →
         IsReadFault words.now (S.faults source.old) (S.faults source.new) (Grew (K.taken sink.old) (K.taken sink.new)) }
-    ensures write_fault { result ≡ WRITE_FAULT → HasRisen (K.faults sink.old) (K.faults sink.new) }
-    ensures write_fault_takes_prefix { result ≡ WRITE_FAULT →
-        IsSomeRow words.now (S.left source.old) (S.left source.new) (S.faults source.old) (S.faults source.new)
-        (GrewByPrefix (K.taken sink.old) (K.taken sink.new)) }
-    ensures too_long { result ≡ TOO_LONG →
+    ensures write_fault { result ≡ 6 →
+        IsWriteFault words.now (S.left source.old) (S.left source.new) (S.faults source.old) (S.faults source.new)
+        (K.taken sink.old) (K.taken sink.new) (K.faults sink.old) (K.faults sink.new) }
+    ensures too_long { result ≡ 7 →
         IsTooLong words.now (S.left source.old) (S.left source.new) (Grew (K.taken sink.old) (K.taken sink.new)) }
-    ensures no_memory { result ≡ NO_MEMORY → IsNoMemory (Grew (K.taken sink.old) (K.taken sink.new)) }
+    ensures no_memory { result ≡ 9 →
+        IsNoMemory words.now (S.left source.old) (S.left source.new) (Grew (K.taken sink.old) (K.taken sink.new)) }
 
     // Other words are refused, and nothing is read.
-    ensures usage_where_not_run { ¬ IsRun words.now → (result ≡ USAGE) ⊎ (result ≡ WRITE_FAULT) }
+    ensures usage_where_not_run { ¬ IsRun words.now → (result ≡ 2) ⊎ (result ≡ 6) }
     ensures unread_where_not_run { ¬ IsRun words.now → source.new ≡ source.old }
 
     // Where no fault comes from outside, each input has its answer.
@@ -182,8 +207,5 @@ pub fn run_tool<S: Source, K: Sink>(
         → IfSome (S.left source.old) (λ bytes. HasItsAnswer bytes result) }
 {
     let reply = reply_for(alloc, words, source);
-    match write_all(sink, reply.as_bytes()) {
-        Ok(()) => reply.status(),
-        Err(_) => WRITE_FAULT,
-    }
+    tell(sink, &reply)
 }

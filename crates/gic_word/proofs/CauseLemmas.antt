@@ -5,8 +5,9 @@ use Rattle.std.specs.Int.Bits.{or_zero_r}
 use Rattle.std.proofs.lemmas.Nat.{or_block, and_block, or_lt, and_le_l, and_mask}
 use Rattle.gic_word.specs.declared.record.Group.TheVariants.{G0, G1}
 use Rattle.gic_word.specs.declared.record.Route.TheVariants.{Affinity, Target}
+use Rattle.gic_base.specs.Shape.{max_vcpus}
 use Rattle.gic_word.specs.Word.{IsWord, seat_at, irq_of}
-use Rattle.gic_word.specs.Causes.{OrChanges, AndChanges}
+use Rattle.gic_word.specs.CauseBits.{OrChanges, AndChanges}
 use Rattle.gic_word.proofs.WordLemmas.{same_irq, is_one}
 
 -- three flags, as the lowest bits of a number have them
@@ -39,7 +40,7 @@ has_causes before low after is differs =
           record {
             active = omega (arith, high, is.active);
             holder = omega (arith, high, is.holder);
-            target = λ e. subst (λ n. n ≤ 8) (sym field) (is.target (sym (is_one kind) ∙ e));
+            target = λ e. subst (λ n. n ≤ max_vcpus) (sym field) (is.target (sym (is_one kind) ∙ e));
             end = omega (arith, high, is.end);
           };
       irq =

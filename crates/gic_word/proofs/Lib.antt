@@ -1,3 +1,3 @@
-pub mod BitLemmas
 pub mod WordLemmas
 pub mod CauseLemmas
+pub mod ValidLemmas

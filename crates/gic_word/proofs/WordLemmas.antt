@@ -4,10 +4,11 @@ use Rattle.gic_word.specs.declared.record.Group.TheVariants.{G0, G1}
 use Rattle.gic_word.specs.declared.record.Route.{Route}
 use Rattle.gic_word.specs.declared.record.Route.TheVariants.{Affinity, Target}
 use Rattle.gic_word.specs.declared.record.Irq.{Irq}
+use Rattle.gic_base.specs.Shape.{max_vcpus}
 use Rattle.gic_word.specs.Word.{IsSeat, IsRoute, IsIrq, IsWord, seat_number, seat_at, route_field, route_number, flags_number, packed, HasFlags, route_of, irq_of}
-use Rattle.gic_word.specs.Bits.{bit_of, has_flag}
+use Rattle.gic_bits.specs.Bits.{bit_of, has_bit}
 use Rattle.gic_word.specs.Record.{group_number}
-use Rattle.gic_word.proofs.BitLemmas.{bit_back}
+use Rattle.gic_bits.proofs.BitLemmas.{bit_back}
 
 -- records whose fields agree are one
 pub same_irq :
@@ -27,12 +28,12 @@ same_irq a b prio enabled group edge line rise soft act_by holder want en0 en1 r
     ap (λ x. record { prio = b.prio; enabled = b.enabled; group = b.group; edge = b.edge; line = b.line; rise = b.rise; soft = b.soft; act_by = b.act_by; holder = b.holder; want = b.want; en0 = b.en0; en1 = x; route = a.route }) en1 ∙
     ap (λ x. record { prio = b.prio; enabled = b.enabled; group = b.group; edge = b.edge; line = b.line; rise = b.rise; soft = b.soft; act_by = b.act_by; holder = b.holder; want = b.want; en0 = b.en0; en1 = b.en1; route = x }) route
 
--- a vCPU's number comes back from its field, which is at most 8
+-- a vCPU's number comes back from its field, which is at most the number of vCPUs
 pub seat_back : (seat : Option ℕ) → seat_at (seat_number seat) ≡ seat
 seat_back None = refl
 seat_back (Some vcpu) = grind arith
 
-pub seat_small : (seat : Option ℕ) → IsSeat seat → seat_number seat ≤ 8
+pub seat_small : (seat : Option ℕ) → IsSeat seat → seat_number seat ≤ max_vcpus
 seat_small None h = omega arith
 seat_small (Some vcpu) h = omega (arith, h)
 
@@ -43,7 +44,7 @@ pub record RouteParts (route : Route) (number : ℕ) : Type 0 where
   pub is : number ≡ kind * 67108864 + field * 134217728
   pub kind_bit : kind < 2
   pub field_bits : field < 4294967296
-  pub target : kind ≡ 0 → field ≤ 8
+  pub target : kind ≡ 0 → field ≤ max_vcpus
   pub back : (if nat_eq kind 1 then Affinity field else Target (seat_at field)) ≡ route
 
 pub route_parts : (route : Route) → IsRoute route → RouteParts route (route_number route)
@@ -95,9 +96,9 @@ pub record Parted (irq : Irq) (flags : ℕ) (parts_kind parts_field : ℕ) (word
   pub same : SameFlags word flags
   pub prio : word / 512 % 32 ≡ irq.prio / 8
   pub active : word / 16384 % 64 ≡ seat_number irq.act_by
-  pub active_small : seat_number irq.act_by ≤ 8
+  pub active_small : seat_number irq.act_by ≤ max_vcpus
   pub holder : word / 1048576 % 64 ≡ seat_number irq.holder
-  pub holder_small : seat_number irq.holder ≤ 8
+  pub holder_small : seat_number irq.holder ≤ max_vcpus
   pub kind : word / 67108864 % 2 ≡ parts_kind
   pub field : word / 134217728 % 4294967296 ≡ parts_field
   pub end : word < 576460752303423488
@@ -107,8 +108,8 @@ parted irq flags route is has parts =
     let p = irq.prio / 8 in
     let a = seat_number irq.act_by in
     let h = seat_number irq.holder in
-    let a_small : a ≤ 8 = seat_small irq.act_by is.active in
-    let h_small : h ≤ 8 = seat_small irq.holder is.holder in
+    let a_small : a ≤ max_vcpus = seat_small irq.act_by is.active in
+    let h_small : h ≤ max_vcpus = seat_small irq.holder is.holder in
     let p_small : p < 32 = is.prio_bits in
     let route_is : route ≡ parts.kind * 67108864 + parts.field * 134217728 = parts.is in
     record {
@@ -158,7 +159,7 @@ word_fits irq flags is has =
     record {
       active = omega (arith, parted.active, parted.active_small);
       holder = omega (arith, parted.holder, parted.holder_small);
-      target = λ e. subst (λ n. n ≤ 8) (sym parted.field) (parts.target (zero_of parts.kind parts.kind_bit (sym (is_one parted.kind) ∙ e)));
+      target = λ e. subst (λ n. n ≤ max_vcpus) (sym parted.field) (parts.target (zero_of parts.kind parts.kind_bit (sym (is_one parted.kind) ∙ e)));
       end = parted.end;
     }
   where
@@ -208,7 +209,7 @@ packed_back word is =
     let route_is : route_number (irq_of word).route ≡ word / 67108864 * 67108864 = route_back word is.end in
     omega (arith, flags_is, active_is, holder_is, route_is)
 
-seat_is : (field : ℕ) → field ≤ 8 → IsSeat (seat_at field)
+seat_is : (field : ℕ) → field ≤ max_vcpus → IsSeat (seat_at field)
 seat_is zero small = tt
 seat_is (suc field) small = grind arith
 
@@ -220,14 +221,25 @@ irq_fits word is =
       prio_bits = omega arith;
       active = seat_is (word / 16384 % 64) is.active;
       holder = seat_is (word / 1048576 % 64) is.holder;
-      route = by_flag (has_flag word 67108864) refl;
+      route = by_flag (has_bit word 26) refl;
     }
   where
-    by_flag : (b : Bool) → has_flag word 67108864 ≡ b → IsRoute (if b then Affinity (route_field word) else Target (seat_at (route_field word)))
+    by_flag : (b : Bool) → has_bit word 26 ≡ b → IsRoute (if b then Affinity (route_field word) else Target (seat_at (route_field word)))
     by_flag true e = omega arith
     by_flag false e = seat_is (route_field word) (is.target e)
 
 -- the parts as the code has them
+pub record HasParts (irq : Irq) (prio active holder route : ℕ) : Type 0 where
+  pub prio_is : prio ≡ irq.prio / 8 * 512
+  pub active_is : active ≡ seat_number irq.act_by * 16384
+  pub holder_is : holder ≡ seat_number irq.holder * 1048576
+  pub route_is : route ≡ route_number irq.route
+
 pub parted_is :
-    (flags p prio a : ℕ) (act_by : Option ℕ) (h : ℕ) (holder : Option ℕ) (r : ℕ) (route : Route) → p ≡ prio / 8 → a ≡ seat_number act_by → h ≡ seat_number holder → r ≡ route_number route → flags + p * 512 + a * 16384 + h * 1048576 + r ≡ flags + prio / 8 * 512 + seat_number act_by * 16384 + seat_number holder * 1048576 + route_number route
-parted_is flags p prio a act_by h holder r route e f g i = cc
+    (irq : Irq) (flags prio active holder route : ℕ) → HasParts irq prio active holder route → flags + prio + active + holder + route ≡ flags + irq.prio / 8 * 512 + seat_number irq.act_by * 16384 + seat_number irq.holder * 1048576 + route_number irq.route
+parted_is irq flags prio active holder route has =
+    let p : prio ≡ irq.prio / 8 * 512 = has.prio_is in
+    let a : active ≡ seat_number irq.act_by * 16384 = has.active_is in
+    let h : holder ≡ seat_number irq.holder * 1048576 = has.holder_is in
+    let r : route ≡ route_number irq.route = has.route_is in
+    cc

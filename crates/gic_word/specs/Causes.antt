@@ -1,35 +1,36 @@
--- What a change of a single cause's bit in an interrupt's word does to its record: the atomic steps of devices and registers rest on it
--- (own choice of the bits; IHI 0069, "Interrupt handling state machine", for the causes).
-use Rattle.std.specs.Prelude.{ℕ, ◌≡◌, true, false, bit_and, bit_or}
-use Rattle.std.specs.Int.{w64, bit_not}
+-- What happens to the record of an interrupt (IHI 0069, "Interrupt handling state machine").
+use Rattle.std.specs.Prelude.{ℕ, Bool, true, false, Some, None, if◌then◌else◌}
+use Rattle.gic_base.specs.declared.interrupt.Key.{Key}
+use Rattle.gic_base.specs.declared.interrupt.Key.TheVariants.{Private, Spi, Lpi}
 use Rattle.gic_word.specs.declared.record.Irq.{Irq}
-use Rattle.gic_word.specs.declared.places.TheConstants.{SOFT, LINE, RISE, RAISE, WIRE_UP, WIRE_DOWN}
-use Rattle.gic_word.specs.Word.{IsWord, irq_of}
+use Rattle.gic_word.specs.Record.{is_number}
 
--- a word became another by this change of its record
-pub record IsChange (change : Irq → Irq) (before after : ℕ) : Type 0 where
-  pub word : IsWord after
-  pub irq : irq_of after ≡ change (irq_of before)
+-- pended by a register, a message, an SGI, an INT command or an MSI
+abbrev pub raised : Irq → Irq
+raised irq = record irq { soft = true }
 
--- a fetch-or of these bits changes each word's record so
-abbrev pub OrChanges : ℕ → (Irq → Irq) → Type 0
-OrChanges bits change = (word : ℕ) → IsWord word → IsChange change word (bit_or word bits)
+-- the wire goes up, and rises whichever way the interrupt is configured (own choice)
+abbrev pub wire_up : Irq → Irq
+wire_up irq = record irq { line = true; rise = true }
 
--- a fetch-and of these bits changes each word's record so
-abbrev pub AndChanges : ℕ → (Irq → Irq) → Type 0
-AndChanges bits change = (word : ℕ) → IsWord word → IsChange change word (bit_and word bits)
+-- the wire goes down
+abbrev pub wire_down : Irq → Irq
+wire_down irq = record irq { line = false }
 
--- the bit of each cause, set and cleared
-pub record CauseBits : Type 0 where
-  pub set_soft : OrChanges SOFT (λ irq. record irq { soft = true })
-  pub clear_soft : AndChanges (bit_not w64 SOFT) (λ irq. record irq { soft = false })
-  pub set_line : OrChanges LINE (λ irq. record irq { line = true })
-  pub clear_line : AndChanges (bit_not w64 LINE) (λ irq. record irq { line = false })
-  pub set_rise : OrChanges RISE (λ irq. record irq { rise = true })
-  pub clear_rise : AndChanges (bit_not w64 RISE) (λ irq. record irq { rise = false })
+-- the latched causes go: a clear of the pending state, which leaves the line (IHI 0069, GICD_ICPENDR)
+abbrev pub cleared : Irq → Irq
+cleared irq = record irq { rise = false; soft = false }
 
--- what devices do, one step each: a raise and a wire up are a fetch-or, a wire down is a fetch-and
-pub record DeviceBits : Type 0 where
-  pub raise : OrChanges RAISE (λ irq. record irq { soft = true })
-  pub wire_up : OrChanges WIRE_UP (λ irq. record irq { line = true; rise = true })
-  pub wire_down : AndChanges WIRE_DOWN (λ irq. record irq { line = false })
+-- an acknowledge makes the interrupt active: an LPI has no active state
+abbrev pub has_active_state : Key → Bool
+has_active_state (Private vcpu id) = true
+has_active_state (Spi id) = true
+has_active_state (Lpi id) = false
+
+-- an acknowledge by this vCPU consumes the latched causes, and makes the interrupt active by the vCPU, or leaves an LPI inactive
+abbrev pub acknowledged : Key → ℕ → Irq → Irq
+acknowledged key vcpu irq = record (cleared irq) { act_by = if has_active_state key then Some vcpu else None }
+
+-- a deactivation by this vCPU makes the interrupt inactive, if it was active by this vCPU
+abbrev pub deactivated : ℕ → Irq → Irq
+deactivated vcpu irq = if is_number vcpu irq.act_by then record irq { act_by = None } else irq

@@ -1,4 +1,5 @@
-pub mod Bits
 pub mod Record
-pub mod Word
 pub mod Causes
+pub mod Word
+pub mod Valid
+pub mod CauseBits

@@ -1,5 +1,6 @@
 -- What the record of an interrupt says (IHI 0069, "Distribution and routing of interrupts").
-use Rattle.std.specs.Prelude.{ℕ, ◌==◌, ◌&&◌, ◌||◌, Bool, Option, Some, None, false, if◌then◌else◌}
+use Rattle.std.specs.Prelude.{ℕ, ◌==◌, ◌&&◌, ◌||◌, Bool, nat_lt, Option, Some, None, false, if◌then◌else◌}
+use Rattle.gic_base.specs.declared.shape.GuestShape.{GuestShape}
 use Rattle.gic_word.specs.declared.record.Group.{Group}
 use Rattle.gic_word.specs.declared.record.Group.TheVariants.{G0, G1}
 use Rattle.gic_word.specs.declared.record.Route.{Route}
@@ -24,10 +25,11 @@ is_forwarded irq = of_group irq.group
     of_group G0 = irq.en0
     of_group G1 = irq.en1
 
--- the vCPU that an interrupt is for: of an affinity, the vCPU of that number (own choice)
-abbrev pub target_of : Route → Option ℕ
-target_of (Affinity affinity) = Some affinity
-target_of (Target target) = target
+-- the vCPU that an interrupt is for: of an affinity the one that has it, if the guest has one; vCPU k has the affinity k
+-- (IHI 0069, "Affinity routing"; own choice of the affinities: the number in Aff0, and 0 in Aff1, Aff2 and Aff3)
+abbrev pub target_in : Route → GuestShape → Option ℕ
+target_in (Affinity affinity) shape = if nat_lt affinity shape.vcpus then Some affinity else None
+target_in (Target target) shape = target
 
 -- the value is there and is this number
 abbrev pub is_number : ℕ → Option ℕ → Bool
@@ -36,5 +38,5 @@ is_number n (Some m) = m == n
 
 -- deliverable to the vCPU, but for being active there and for what the vCPU itself has enabled
 -- (IHI 0069, "Interrupt prioritization")
-abbrev pub is_ripe : Irq → ℕ → Bool
-is_ripe irq vcpu = is_pending irq && irq.enabled && is_forwarded irq && is_number vcpu (target_of irq.route)
+abbrev pub is_ripe : Irq → ℕ → GuestShape → Bool
+is_ripe irq vcpu shape = is_pending irq && irq.enabled && is_forwarded irq && is_number vcpu (target_in irq.route shape)

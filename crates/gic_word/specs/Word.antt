@@ -1,26 +1,28 @@
--- The word of an interrupt (own choice: the places of its fields are the constants of the table beside `pack`).
-use Rattle.std.specs.Prelude.{ℕ, ◌≡◌, ◌≤◌, ◌<◌, ◌+◌, ◌-◌, ◌*◌, ◌/◌, ◌%◌, ◌==◌, false, if◌then◌else◌, Option, Some, None, IfSome}
+-- The word of an interrupt (own choice of the places): soft, line, rise, edge, enabled, group, en0, en1 and want at the bits 0 to 8, the
+-- priority divided by 8 at [13:9], active-by at [19:14] and holder at [25:20], each 0 for none or one more than the vCPU's number, and
+-- the route at [58:27], an affinity where bit 26 is 1, or else the target's number likewise.
+use Rattle.std.specs.Prelude.{ℕ, ◌≡◌, ◌≤◌, ◌<◌, ◌+◌, ◌-◌, ◌*◌, ◌/◌, ◌%◌, ◌^◌, ◌==◌, false, if◌then◌else◌, Option, Some, None, IfSome}
+use Rattle.gic_base.specs.Shape.{max_vcpus}
 use Rattle.gic_word.specs.declared.record.Group.TheVariants.{G0, G1}
 use Rattle.gic_word.specs.declared.record.Route.{Route}
 use Rattle.gic_word.specs.declared.record.Route.TheVariants.{Affinity, Target}
 use Rattle.gic_word.specs.declared.record.Irq.{Irq}
-use Rattle.gic_word.specs.declared.places.TheConstants.{SOFT, LINE, RISE, EDGE, ENABLED, GROUP, EN0, EN1, WANT, PRIORITY, PRIORITIES, PRIORITY_STEP, ACTIVE_BY, HOLDER, SEATS, BY_AFFINITY, ROUTE, ROUTES, END, VCPUS}
-use Rattle.gic_word.specs.Bits.{bit_of, has_flag}
+use Rattle.gic_bits.specs.Bits.{bit_of, has_bit, field_at}
 use Rattle.gic_word.specs.Record.{group_number}
 
--- the number of a vCPU is there or not, and fits its field
+-- the number of a vCPU is there or not, and is one that a guest can have
 abbrev pub IsSeat : Option ℕ → Type 0
-IsSeat seat = IfSome seat (λ vcpu. vcpu < VCPUS)
+IsSeat seat = IfSome seat (λ vcpu. vcpu < max_vcpus)
 
 -- an affinity or a target fits its field
 abbrev pub IsRoute : Route → Type 0
-IsRoute (Affinity affinity) = affinity < ROUTES
+IsRoute (Affinity affinity) = affinity < 2 ^ 32
 IsRoute (Target target) = IsSeat target
 
 -- the record can stand in a word: its priority is a multiple of 8 from 0 to 248, and its other numbers fit their fields
 pub record IsIrq (irq : Irq) : Type 0 where
-  pub prio : irq.prio % PRIORITY_STEP ≡ 0
-  pub prio_bits : irq.prio / PRIORITY_STEP < PRIORITIES
+  pub prio : irq.prio % 8 ≡ 0
+  pub prio_bits : irq.prio / 8 < 2 ^ 5
   pub active : IsSeat irq.act_by
   pub holder : IsSeat irq.holder
   pub route : IsRoute irq.route
@@ -36,78 +38,80 @@ seat_at field = if field == 0 then None else Some (field - 1)
 
 -- the affinity with the bit that says so, or the target's number
 abbrev pub route_number : Route → ℕ
-route_number (Affinity affinity) = BY_AFFINITY + affinity * ROUTE
-route_number (Target target) = seat_number target * ROUTE
+route_number (Affinity affinity) = 2 ^ 26 + affinity * 2 ^ 27
+route_number (Target target) = seat_number target * 2 ^ 27
 
 -- the flags of a record
 abbrev pub flags_number : Irq → ℕ
 flags_number irq =
-    bit_of irq.soft * SOFT
-    + bit_of irq.line * LINE
-    + bit_of irq.rise * RISE
-    + bit_of irq.edge * EDGE
-    + bit_of irq.enabled * ENABLED
-    + group_number irq.group * GROUP
-    + bit_of irq.en0 * EN0
-    + bit_of irq.en1 * EN1
-    + bit_of irq.want * WANT
+    bit_of irq.soft
+    + bit_of irq.line * 2 ^ 1
+    + bit_of irq.rise * 2 ^ 2
+    + bit_of irq.edge * 2 ^ 3
+    + bit_of irq.enabled * 2 ^ 4
+    + group_number irq.group * 2 ^ 5
+    + bit_of irq.en0 * 2 ^ 6
+    + bit_of irq.en1 * 2 ^ 7
+    + bit_of irq.want * 2 ^ 8
 
 -- the word of a record
 abbrev pub packed : Irq → ℕ
 packed irq =
     flags_number irq
-    + irq.prio / PRIORITY_STEP * PRIORITY
-    + seat_number irq.act_by * ACTIVE_BY
-    + seat_number irq.holder * HOLDER
+    + irq.prio / 8 * 2 ^ 9
+    + seat_number irq.act_by * 2 ^ 14
+    + seat_number irq.holder * 2 ^ 20
     + route_number irq.route
 
--- the field of a vCPU's number at this weight
-abbrev pub seat_field : ℕ → ℕ → ℕ
-seat_field word weight = word / weight % SEATS
+-- the fields of active-by, the holder and the route
+abbrev pub active_field : ℕ → ℕ
+active_field word = field_at word 14 6
 
--- the field of the route
+abbrev pub holder_field : ℕ → ℕ
+holder_field word = field_at word 20 6
+
 abbrev pub route_field : ℕ → ℕ
-route_field word = word / ROUTE % ROUTES
+route_field word = field_at word 27 32
 
 -- the route of any number
 abbrev pub route_of : ℕ → Route
-route_of word = if has_flag word BY_AFFINITY then Affinity (route_field word) else Target (seat_at (route_field word))
+route_of word = if has_bit word 26 then Affinity (route_field word) else Target (seat_at (route_field word))
 
 -- the record of any number
 abbrev pub irq_of : ℕ → Irq
 irq_of word =
     record {
-      prio = word / PRIORITY % PRIORITIES * PRIORITY_STEP;
-      enabled = has_flag word ENABLED;
-      group = if has_flag word GROUP then G1 else G0;
-      edge = has_flag word EDGE;
-      line = has_flag word LINE;
-      rise = has_flag word RISE;
-      soft = has_flag word SOFT;
-      act_by = seat_at (seat_field word ACTIVE_BY);
-      holder = seat_at (seat_field word HOLDER);
-      want = has_flag word WANT;
-      en0 = has_flag word EN0;
-      en1 = has_flag word EN1;
+      prio = field_at word 9 5 * 8;
+      enabled = has_bit word 4;
+      group = if has_bit word 5 then G1 else G0;
+      edge = has_bit word 3;
+      line = has_bit word 1;
+      rise = has_bit word 2;
+      soft = has_bit word 0;
+      act_by = seat_at (active_field word);
+      holder = seat_at (holder_field word);
+      want = has_bit word 8;
+      en0 = has_bit word 6;
+      en1 = has_bit word 7;
       route = route_of word;
     }
 
 -- the number has the flags of a record, and nothing besides
 pub record HasFlags (irq : Irq) (flags : ℕ) : Type 0 where
-  pub end : flags < PRIORITY
-  pub soft : has_flag flags SOFT ≡ irq.soft
-  pub line : has_flag flags LINE ≡ irq.line
-  pub rise : has_flag flags RISE ≡ irq.rise
-  pub edge : has_flag flags EDGE ≡ irq.edge
-  pub enabled : has_flag flags ENABLED ≡ irq.enabled
-  pub group : (if has_flag flags GROUP then G1 else G0) ≡ irq.group
-  pub en0 : has_flag flags EN0 ≡ irq.en0
-  pub en1 : has_flag flags EN1 ≡ irq.en1
-  pub want : has_flag flags WANT ≡ irq.want
+  pub end : flags < 2 ^ 9
+  pub soft : has_bit flags 0 ≡ irq.soft
+  pub line : has_bit flags 1 ≡ irq.line
+  pub rise : has_bit flags 2 ≡ irq.rise
+  pub edge : has_bit flags 3 ≡ irq.edge
+  pub enabled : has_bit flags 4 ≡ irq.enabled
+  pub group : (if has_bit flags 5 then G1 else G0) ≡ irq.group
+  pub en0 : has_bit flags 6 ≡ irq.en0
+  pub en1 : has_bit flags 7 ≡ irq.en1
+  pub want : has_bit flags 8 ≡ irq.want
 
 -- the number is the word of a record: each vCPU's number is none or in range, and no bit is 1 past the fields
 pub record IsWord (word : ℕ) : Type 0 where
-  pub active : seat_field word ACTIVE_BY ≤ VCPUS
-  pub holder : seat_field word HOLDER ≤ VCPUS
-  pub target : has_flag word BY_AFFINITY ≡ false → route_field word ≤ VCPUS
-  pub end : word < END
+  pub active : active_field word ≤ max_vcpus
+  pub holder : holder_field word ≤ max_vcpus
+  pub target : has_bit word 26 ≡ false → route_field word ≤ max_vcpus
+  pub end : word < 2 ^ 59

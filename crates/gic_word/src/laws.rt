@@ -1,4 +1,5 @@
-ghost use Rattle.gic_word.specs.Causes.{CauseBits, DeviceBits};
+//! Laws of the bits of a word.
+ghost use Rattle.gic_word.specs.CauseBits.{CauseBits, DeviceBits};
 
 /// A law of every word: its bit of a cause, set or cleared, sets or clears that cause of its record, and
 /// nothing else.

@@ -1,51 +1,56 @@
-//! Where each field of an interrupt's word stands. This table alone changes where there are to be more
-//! vCPUs: a field of a vCPU's number has room for 63 of them, and a route for all 32 bits of an affinity.
+//! Where each field of an interrupt's word stands. A field of a vCPU's number has room for 63 of them, and a
+//! route for all 32 bits of an affinity; how many vCPUs a guest can have is `gic_base::MAX_VCPUS` alone.
+use gic_bits::Field;
 
-/// The place of `soft`: a raise is a fetch-or of it.
-pub const SOFT: u64 = 1 << 0;
-/// The place of `line`: the wire goes down by a fetch-and of all other bits.
-pub const LINE: u64 = 1 << 1;
-/// The place of `rise`: the wire goes up by a fetch-or of this bit and of `LINE`.
-pub const RISE: u64 = 1 << 2;
-/// The place of `edge`.
-pub const EDGE: u64 = 1 << 3;
-/// The place of `enabled`.
-pub const ENABLED: u64 = 1 << 4;
-/// The place of `group`.
-pub const GROUP: u64 = 1 << 5;
-/// The place of `en0`.
-pub const EN0: u64 = 1 << 6;
-/// The place of `en1`.
-pub const EN1: u64 = 1 << 7;
-/// The place of `want`.
-pub const WANT: u64 = 1 << 8;
-/// The lowest bit of `prio`, divided by 8: bits [13:9].
-pub const PRIORITY: u64 = 1 << 9;
-/// `prio` has five bits.
-pub const PRIORITIES: u64 = 1 << 5;
-/// The lowest bit of `act_by`: bits [19:14], 0 for none or one more than the vCPU's number.
-pub const ACTIVE_BY: u64 = 1 << 14;
-/// The lowest bit of `holder`: bits [25:20], likewise.
-pub const HOLDER: u64 = 1 << 20;
-/// A field of a vCPU's number has six bits.
-pub const SEATS: u64 = 1 << 6;
-/// The route is an affinity.
-pub const BY_AFFINITY: u64 = 1 << 26;
-/// The lowest bit of the affinity, or of the target's number, likewise: bits [58:27].
-pub const ROUTE: u64 = 1 << 27;
-/// The route has 32 bits.
-pub const ROUTES: u64 = 1 << 32;
-/// The first bit that belongs to no field.
+/// The bit of `soft`.
+pub const SOFT_BIT: u32 = 0;
+/// The bit of `line`.
+pub const LINE_BIT: u32 = 1;
+/// The bit of `rise`.
+pub const RISE_BIT: u32 = 2;
+/// The bit of `edge`.
+pub const EDGE_BIT: u32 = 3;
+/// The bit of `enabled`.
+pub const ENABLED_BIT: u32 = 4;
+/// The bit of `group`.
+pub const GROUP_BIT: u32 = 5;
+/// The bit of `en0`.
+pub const EN0_BIT: u32 = 6;
+/// The bit of `en1`.
+pub const EN1_BIT: u32 = 7;
+/// The bit of `want`.
+pub const WANT_BIT: u32 = 8;
+/// `prio`, divided by 8.
+pub const PRIORITY: Field = Field { place: 9, width: 5 };
+/// `act_by`: 0 for none, or one more than the vCPU's number.
+pub const ACTIVE_BY: Field = Field {
+    place: 14,
+    width: 6,
+};
+/// `holder`, likewise.
+pub const HOLDER: Field = Field {
+    place: 20,
+    width: 6,
+};
+/// The bit that says that the route is an affinity.
+pub const BY_AFFINITY_BIT: u32 = 26;
+/// The affinity, or the target's number, likewise.
+pub const ROUTE: Field = Field {
+    place: 27,
+    width: 32,
+};
+/// All bits from here on belong to no field.
 pub const END: u64 = 1 << 59;
 
+/// The mask of `soft` in a word.
+pub const SOFT: u64 = 1 << SOFT_BIT;
+/// The mask of `line` in a word.
+pub const LINE: u64 = 1 << LINE_BIT;
+/// The mask of `rise` in a word.
+pub const RISE: u64 = 1 << RISE_BIT;
 /// A fetch-or of this pends an interrupt by software.
 pub const RAISE: u64 = SOFT;
 /// A fetch-or of this moves an interrupt's wire up.
 pub const WIRE_UP: u64 = LINE + RISE;
 /// A fetch-and of this moves an interrupt's wire down.
 pub const WIRE_DOWN: u64 = u64::MAX - LINE;
-
-/// Priorities are multiples of this: five of their eight bits are implemented.
-pub const PRIORITY_STEP: u8 = 8;
-/// A word has the numbers of the vCPUs below this.
-pub const VCPUS: u32 = 8;

@@ -1,5 +1,9 @@
-ghost use Rattle.std.specs.Prelude.{◌≡◌};
-ghost use Rattle.gic_word.specs.Record.{is_pending, is_ripe};
+//! The record of one interrupt.
+ghost use Rattle.std.specs.Prelude.{◌≡◌, ◌<◌};
+ghost use Rattle.gic_base.specs.declared.shape.GuestShape.{GuestShape};
+ghost use Rattle.gic_word.specs.Record.{is_pending, target_in as target_among, is_ripe};
+
+use gic_base::GuestShape;
 
 /// An interrupt group (IHI 0069, "Interrupt grouping"), with one security state.
 #[derive(Clone, Copy, Debug, PartialEq, Eq, PartialOrd, Ord, Hash)]
@@ -55,10 +59,22 @@ pub fn pending(irq: &Irq) -> bool
     latched || irq.soft
 }
 
-/// Whether an interrupt would be deliverable to a vCPU that listens to it, were it not active: it is
-/// pending, enabled, in a group that the distributor forwards, and for this vCPU.
+/// The vCPU that an interrupt is for. None where its target is none, or its affinity that of no vCPU of the
+/// guest (IHI 0069, "Affinity routing").
+pub fn target_in(route: Route, shape: &GuestShape) -> Option<u32>
+    ensures { result ≡ target_among route shape.now }
+{
+    match route {
+        Route::Affinity(affinity) => (affinity < shape.vcpus).then_some(affinity),
+        Route::Target(target) => target,
+    }
+}
+
+/// Whether an interrupt would be deliverable to a vCPU of its guest that listens to it, were it not active: it
+/// is pending, enabled, in a group that the distributor forwards, and for this vCPU. It is for none that the
+/// guest does not have, so the guest's shape does not matter.
 pub fn ripe(irq: &Irq, vcpu: u32) -> bool
-    ensures { result ≡ is_ripe irq.now vcpu }
+    ensures { (shape : GuestShape) → vcpu < shape.vcpus → result ≡ is_ripe irq.now vcpu shape }
 {
     let forwarded = match irq.group {
         Group::G0 => irq.en0,

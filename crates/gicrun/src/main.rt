@@ -1,13 +1,12 @@
 //! Runs a scenario of guests, devices and interrupts, and writes what the guests read.
 #![tactic(auto)]
 
-ghost use Rattle.std.specs.Prelude.{◌≡◌, ◌⊎◌, IfOk, IfErr, IfSome};
+ghost use Rattle.std.specs.Prelude.{◌≡◌, Contains, IfOk, IfErr, IfSome};
 ghost use Rattle.gic_io.specs.Faults.{HasRisen};
-ghost use Rattle.gic_io.specs.Sink.{Grew};
-ghost use Rattle.gic_top.specs.Tool.{IsRun, IsOk, IsUsage, HasItsAnswer};
+ghost use Rattle.gic_top.specs.Tool.{statuses, IsRun, IsOutcome, IsRefusal, HasItsAnswer};
 
 use gic_io::{Sink, Source, StdSink, StdSource};
-use gic_top::{NO_MEMORY, OK, USAGE, WRITE_FAULT, run_tool};
+use gic_top::{refuse_words, run_tool};
 use std::alloc::{AllocError, Global};
 use std::env;
 use std::process::ExitCode;
@@ -22,28 +21,30 @@ fn words(rt: &(impl Env + Alloc<A = Global>)) -> Result<Vec<String>, AllocError>
     }
 }
 
-/// Hands the words to the tool, and answers its status; that for want of memory where the words could not be
-/// had, and then nothing is read or written.
+/// Hands the words to the tool, and answers its status. Where memory for the words was refused, that is
+/// written, and nothing is read.
 fn status<S: Source, K: Sink>(
     alloc: Global,
     words: Result<Vec<String>, AllocError>,
     source: &mut S,
     sink: &mut K,
 ) -> u8
-    ensures ok { result ≡ OK → IfOk words (λ words. IsOk words.items (S.left source.old) (S.left source.new) (Grew (K.taken sink.old) (K.taken sink.new))) }
-    ensures usage { result ≡ USAGE → IfOk words (λ words. IsUsage words.items (Grew (K.taken sink.old) (K.taken sink.new))) }
-    ensures other_words { IfOk words (λ words. ¬ IsRun words.items → (result ≡ USAGE) ⊎ (result ≡ WRITE_FAULT)) }
+    ensures closed { Contains statuses result }
+    ensures outcome { IfOk words (λ words. IsOutcome words.items (S.left source.old) (S.left source.new) (S.faults source.old) (S.faults source.new)
+        (K.taken sink.old) (K.taken sink.new) (K.faults sink.old) (K.faults sink.new) result) }
+    ensures unread_where_not_run { IfOk words (λ words. ¬ IsRun words.items → source.new ≡ source.old) }
     ensures complete { IfOk words (λ words. IsRun words.items
         → ¬ HasRisen (S.faults source.old) (S.faults source.new)
         → ¬ HasRisen (K.faults sink.old) (K.faults sink.new)
         → IfSome (S.left source.old) (λ bytes. HasItsAnswer bytes result)) }
-    ensures no_words { IfErr words (λ refused. result ≡ NO_MEMORY) }
-    ensures unread { IfErr words (λ refused. source.new ≡ source.old) }
-    ensures unwritten { IfErr words (λ refused. sink.new ≡ sink.old) }
+
+    // Where there were no words.
+    ensures refused { IfErr words (λ _. IsRefusal (K.taken sink.old) (K.taken sink.new) (K.faults sink.old) (K.faults sink.new) result) }
+    ensures unread { IfErr words (λ _. source.new ≡ source.old) }
 {
     match words {
         Ok(words) => run_tool(alloc, words.as_slice(), source, sink),
-        Err(_) => NO_MEMORY,
+        Err(_) => refuse_words(sink),
     }
 }
 

@@ -1,9 +1,10 @@
 -- Where the fields of an ITS command stand (IHI 0069, "ITS commands"; the upper end of both RDbase fields is an own choice).
-use Rattle.std.specs.Prelude.{ℕ, ◌+◌, ◌-◌, ◌/◌, ◌%◌, ◌^◌, List, slice_index}
+use Rattle.std.specs.Prelude.{ℕ, ◌+◌, ◌-◌, List, slice_index}
+use Rattle.gic_bits.specs.Bits.{field_at}
 
 -- bits [high:low] of a doubleword
 abbrev pub bits_of : ℕ → ℕ → ℕ → List ℕ → ℕ
-bits_of word high low words = slice_index words word / 2 ^ low % 2 ^ (high - low + 1)
+bits_of word high low words = field_at (slice_index words word) low (high - low + 1)
 
 -- the command's number
 abbrev pub number_in : List ℕ → ℕ

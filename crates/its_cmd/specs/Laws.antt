@@ -2,24 +2,25 @@
 use Rattle.std.specs.Prelude.{ℕ, ◌≡◌, ◌↔◌, ◌==◌, Option, List, [], ◌∷◌, map}
 use Rattle.std.specs.Option.{option_map}
 use Rattle.std.specs.Map.{lookup}
+use Rattle.its_cmd.specs.Number.{movi_number, int_number, clear_number, sync_number, mapd_number, mapc_number, mapti_number, mapi_number, inv_number, invall_number, movall_number, discard_number}
 use Rattle.its_cmd.specs.Field.{number_in, device_in, event_in, pintid_in, size_in, itt_addr_in, icid_in, rdbase_in, valid_in, second_in}
 use Rattle.its_cmd.specs.Command.{decoded}
 
 -- the fields of each command, by number
 abbrev pub fields : List (ℕ × List (List ℕ → ℕ))
 fields =
-    (0x01, device_in ∷ event_in ∷ icid_in ∷ [])
-    ∷ (0x03, device_in ∷ event_in ∷ [])
-    ∷ (0x04, device_in ∷ event_in ∷ [])
-    ∷ (0x05, rdbase_in ∷ [])
-    ∷ (0x08, device_in ∷ size_in ∷ itt_addr_in ∷ valid_in ∷ [])
-    ∷ (0x09, icid_in ∷ rdbase_in ∷ valid_in ∷ [])
-    ∷ (0x0A, device_in ∷ event_in ∷ pintid_in ∷ icid_in ∷ [])
-    ∷ (0x0B, device_in ∷ event_in ∷ icid_in ∷ [])
-    ∷ (0x0C, device_in ∷ event_in ∷ [])
-    ∷ (0x0D, icid_in ∷ [])
-    ∷ (0x0E, rdbase_in ∷ second_in ∷ [])
-    ∷ (0x0F, device_in ∷ event_in ∷ [])
+    (movi_number, device_in ∷ event_in ∷ icid_in ∷ [])
+    ∷ (int_number, device_in ∷ event_in ∷ [])
+    ∷ (clear_number, device_in ∷ event_in ∷ [])
+    ∷ (sync_number, rdbase_in ∷ [])
+    ∷ (mapd_number, device_in ∷ size_in ∷ itt_addr_in ∷ valid_in ∷ [])
+    ∷ (mapc_number, icid_in ∷ rdbase_in ∷ valid_in ∷ [])
+    ∷ (mapti_number, device_in ∷ event_in ∷ pintid_in ∷ icid_in ∷ [])
+    ∷ (mapi_number, device_in ∷ event_in ∷ icid_in ∷ [])
+    ∷ (inv_number, device_in ∷ event_in ∷ [])
+    ∷ (invall_number, icid_in ∷ [])
+    ∷ (movall_number, rdbase_in ∷ second_in ∷ [])
+    ∷ (discard_number, device_in ∷ event_in ∷ [])
     ∷ []
 
 -- the number of the doublewords' command, and what they have in its fields

@@ -1,3 +1,4 @@
+pub mod Number
 pub mod Field
 pub mod Command
 pub mod Laws

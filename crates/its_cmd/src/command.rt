@@ -1,3 +1,4 @@
+//! The commands, and their doublewords both ways.
 ghost use Rattle.std.specs.Prelude.{◌≡◌, ◌==◌, ◌<◌, ◌+◌, ◌*◌, ◌^◌, [], ◌∷◌, IfOk, IsTrue};
 ghost use Rattle.its_cmd.specs.declared.command.Command.TheVariants.{Mapd, Mapc, Mapti};
 ghost use Rattle.its_cmd.specs.Field.{device_in, event_in, pintid_in, size_in, itt_addr_in, icid_in, rdbase_in, valid_in};
@@ -206,7 +207,7 @@ pub fn encode(command: &Command) -> [u64; 4]
         } => on_event(MOVI, device, event, icid),
         Command::Int { device, event } => on_event(INT, device, event, 0),
         Command::Clear { device, event } => on_event(CLEAR, device, event, 0),
-        Command::Sync { rdbase } => [SYNC, 0, rdbase * RDBASE.weight, 0],
+        Command::Sync { rdbase } => [SYNC, 0, RDBASE.put(rdbase), 0],
         Command::Mapd { .. } | Command::Mapc { .. } | Command::Mapti { .. } => encode_map(command),
         Command::Mapi {
             device,
@@ -215,12 +216,7 @@ pub fn encode(command: &Command) -> [u64; 4]
         } => on_event(MAPI, device, event, icid),
         Command::Inv { device, event } => on_event(INV, device, event, 0),
         Command::Invall { icid } => [INVALL, 0, u64::from(icid), 0],
-        Command::Movall { rdbase, second } => [
-            MOVALL,
-            0,
-            rdbase * RDBASE.weight,
-            second * SECOND.weight,
-        ],
+        Command::Movall { rdbase, second } => [MOVALL, 0, RDBASE.put(rdbase), SECOND.put(second)],
         Command::Discard { device, event } => on_event(DISCARD, device, event, 0),
     }
 }
@@ -239,7 +235,7 @@ fn encode_map(command: &Command) -> [u64; 4]
             itt_addr,
             valid,
         } => {
-            let table = itt_addr * ITT_ADDR.weight + u64::from(valid) * VALID.weight;
+            let table = ITT_ADDR.put(itt_addr) + VALID.put(u64::from(valid));
             [on_device(MAPD, device), u64::from(size), table, 0]
         }
         Command::Mapc {
@@ -247,7 +243,7 @@ fn encode_map(command: &Command) -> [u64; 4]
             rdbase,
             valid,
         } => {
-            let target = rdbase * RDBASE.weight + u64::from(valid) * VALID.weight;
+            let target = RDBASE.put(rdbase) + VALID.put(u64::from(valid));
             [MAPC, 0, u64::from(icid) + target, 0]
         }
         Command::Mapti {
@@ -256,7 +252,7 @@ fn encode_map(command: &Command) -> [u64; 4]
             id,
             icid,
         } => {
-            let numbers = u64::from(event) + u64::from(id) * PINTID.weight;
+            let numbers = u64::from(event) + PINTID.put(u64::from(id));
             [on_device(MAPTI, device), numbers, u64::from(icid), 0]
         }
         _ => unreachable!(),
@@ -268,7 +264,7 @@ fn on_device(number: u64, device: u32) -> u64
     requires { number < 2 ^ 8 }
     ensures { result ≡ number + device * 2 ^ 32 }
 {
-    number + u64::from(device) * DEVICE.weight
+    number + DEVICE.put(u64::from(device))
 }
 
 /// The doublewords of a command with a DeviceID, an EventID and an ICID alone.

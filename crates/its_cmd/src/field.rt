@@ -1,87 +1,112 @@
 //! Where a command's fields stand (IHI 0069, "ITS commands").
-ghost use Rattle.std.specs.Prelude.{◌≡◌, ◌<◌, ◌*◌, ◌/◌, ◌%◌, length, slice_index};
+ghost use Rattle.std.specs.Prelude.{◌≡◌, ◌≤◌, ◌<◌, ◌+◌, ◌*◌, ◌^◌, length, slice_index};
+ghost use Rattle.gic_bits.specs.Bits.{field_at};
+
+use gic_bits::Field;
 
 /// A field of a command.
 #[derive(Clone, Copy)]
-pub struct Field {
+pub struct CommandField {
     /// The number of its doubleword.
     pub word: usize,
-    /// The weight of its lowest bit.
-    pub weight: u64,
-    /// How many values it has.
-    pub values: u64,
+    /// Where it stands in the doubleword.
+    pub bits: Field,
 }
 
 /// The command's number: DW0 [7:0].
-pub const NUMBER: Field = Field {
+pub const NUMBER: CommandField = CommandField {
     word: 0,
-    weight: 1 << 0,
-    values: 1 << 8,
+    bits: Field { place: 0, width: 8 },
 };
 /// DeviceID: DW0 [63:32].
-pub const DEVICE: Field = Field {
+pub const DEVICE: CommandField = CommandField {
     word: 0,
-    weight: 1 << 32,
-    values: 1 << 32,
+    bits: Field {
+        place: 32,
+        width: 32,
+    },
 };
 /// EventID: DW1 [31:0].
-pub const EVENT: Field = Field {
+pub const EVENT: CommandField = CommandField {
     word: 1,
-    weight: 1 << 0,
-    values: 1 << 32,
+    bits: Field {
+        place: 0,
+        width: 32,
+    },
 };
 /// pINTID: DW1 [63:32].
-pub const PINTID: Field = Field {
+pub const PINTID: CommandField = CommandField {
     word: 1,
-    weight: 1 << 32,
-    values: 1 << 32,
+    bits: Field {
+        place: 32,
+        width: 32,
+    },
 };
 /// Size, the number of EventID bits minus 1: DW1 [4:0].
-pub const SIZE: Field = Field {
+pub const SIZE: CommandField = CommandField {
     word: 1,
-    weight: 1 << 0,
-    values: 1 << 5,
+    bits: Field { place: 0, width: 5 },
 };
 /// ITT_addr: DW2 [51:8].
-pub const ITT_ADDR: Field = Field {
+pub const ITT_ADDR: CommandField = CommandField {
     word: 2,
-    weight: 1 << 8,
-    values: 1 << 44,
+    bits: Field {
+        place: 8,
+        width: 44,
+    },
 };
 /// ICID: DW2 [15:0].
-pub const ICID: Field = Field {
+pub const ICID: CommandField = CommandField {
     word: 2,
-    weight: 1 << 0,
-    values: 1 << 16,
+    bits: Field {
+        place: 0,
+        width: 16,
+    },
 };
 /// RDbase: DW2 [50:16] (the upper end is an own choice).
-pub const RDBASE: Field = Field {
+pub const RDBASE: CommandField = CommandField {
     word: 2,
-    weight: 1 << 16,
-    values: 1 << 35,
+    bits: Field {
+        place: 16,
+        width: 35,
+    },
 };
 /// V: DW2 bit 63.
-pub const VALID: Field = Field {
+pub const VALID: CommandField = CommandField {
     word: 2,
-    weight: 1 << 63,
-    values: 1 << 1,
+    bits: Field {
+        place: 63,
+        width: 1,
+    },
 };
 /// The second RDbase: DW3 [50:16] (the upper end is an own choice).
-pub const SECOND: Field = Field {
+pub const SECOND: CommandField = CommandField {
     word: 3,
-    weight: 1 << 16,
-    values: 1 << 35,
+    bits: Field {
+        place: 16,
+        width: 35,
+    },
 };
 
-impl Field {
+impl CommandField {
     /// The field's value in a command.
     pub fn of(self, words: &[u64; 4]) -> u64
         requires word { self.word < 4 }
-        requires weight { 0 < self.weight }
-        requires values { 0 < self.values }
-        ensures value { result ≡ slice_index words.now self.word / self.weight % self.values }
-        ensures small { result < self.values }
+        requires some { 1 ≤ self.bits.width }
+        requires within { self.bits.place + self.bits.width ≤ 64 }
+        ensures value { result ≡ field_at (slice_index words.now self.word) self.bits.place self.bits.width }
+        ensures bound { result < 2 ^ self.bits.width }
     {
-        words[self.word] / self.weight % self.values
+        self.bits.of(words[self.word])
+    }
+
+    /// The doubleword with this value, which fits, in the field and 0 in all other bits.
+    pub fn put(self, value: u64) -> u64
+        requires some { 1 ≤ self.bits.width }
+        requires within { self.bits.place + self.bits.width ≤ 64 }
+        requires fits { value < 2 ^ self.bits.width }
+        ensures { result ≡ value * 2 ^ self.bits.place }
+    {
+        self.bits.put(value)
     }
 }

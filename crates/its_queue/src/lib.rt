@@ -4,5 +4,6 @@
 mod word;
 
 pub use word::{
-    ACTORS, COMMAND_BYTES, MAX_QUEUE_BYTES, PAGE_BYTES, QueueWord, advance, pack, unpack,
+    ACTORS, COMMAND_BYTES, MAX_QUEUE_BYTES, PAGE_BYTES, QueueWord, advance, limits_are_defined,
+    pack, unpack,
 };

@@ -18,7 +18,6 @@ use Rattle.gic_base.specs.declared.interrupt.Key.TheVariants.{Lpi}
 use Rattle.gic_base.specs.Interrupt.{has_interrupt}
 use Rattle.its_cmd.specs.declared.command.Command.TheVariants.{Movi, Int, Clear, Sync, Mapd, Mapc, Mapti, Mapi, Inv, Invall, Movall, Discard}
 use Rattle.its_tab.specs.declared.fault.CmdFault.{CmdFault}
-use Rattle.its_tab.specs.declared.fault.TheConstants.{DEVICES, MAX_SIZE}
 use Rattle.its_tab.specs.Maps.{Maps, event_cmp, at_number, bits_of, pair_of, owner_of, first_event, with_device, with_event, with_collection, without_device, without_event, without_collection, IsSound}
 use Rattle.its_tab.specs.Fault.{first_fault, is_past_device, is_of_other, is_wrong_id, on_mapping, faults}
 use Rattle.its_tab.specs.After.{without_events, recollected, IsValid, GoodCommandsKeepMaps}
@@ -43,7 +42,7 @@ some_from_test : {X : Type 0} (o : Option X) → IsSome o → (x : X) × (o ≡ 
 some_from_test None h = absurd (true≢false (sym h))
 some_from_test (Some x) h = (x, refl)
 
-size_below : (size : ℕ) → nat_lt MAX_SIZE size ≡ false → size + 1 ≤ 16
+size_below : (size : ℕ) → nat_lt 15 size ≡ false → size + 1 ≤ 16
 size_below size h = grind (arith, common_steps)
 
 below_from_test : (m n : ℕ) → nat_le m n ≡ false → n < m
@@ -156,10 +155,10 @@ other_device maps device bits q h = lookup-insert_entry nat_cmp_total q device b
 other_device_stays : (maps : Maps) (device q : ℕ) → IsSound maps → is_at (nat_cmp device) q ≡ false → bits_of (without_device maps device) q ≡ bits_of maps q
 other_device_stays maps device q sound h = lookup-removed nat_cmp_total q device maps.devices sound.devices ∙ ap (λ b. cond b None (bits_of maps q)) h
 
-valid-with_device : (shape : GuestShape) (maps : Maps) (device bits : ℕ) → IsValid shape maps → first_event maps device ≡ None → device < DEVICES → 1 ≤ bits → bits ≤ 16 → IsValid shape (with_device maps device bits)
+valid-with_device : (shape : GuestShape) (maps : Maps) (device bits : ℕ) → IsValid shape maps → first_event maps device ≡ None → device < 65536 → 1 ≤ bits → bits ≤ 16 → IsValid shape (with_device maps device bits)
 valid-with_device shape maps device bits valid none range some few = record {
   sound = sound-with_device maps device bits valid.sound;
-  device = λ q w h. elim (at_number-put maps.devices device bits q w h) [ inl e ↦ subst (λ n. n < DEVICES) e.0 range | inr e ↦ valid.device q w e ];
+  device = λ q w h. elim (at_number-put maps.devices device bits q w h) [ inl e ↦ subst (λ n. n < 65536) e.0 range | inr e ↦ valid.device q w e ];
   bits = λ q w h. elim (at_number-put maps.devices device bits q w h) [ inl e ↦ subst (λ n. (1 ≤ n) × (n ≤ 16)) e.1 (some, few) | inr e ↦ valid.bits q w e ];
   event = λ q w h. subst (λ o. IfSome o (λ b. q.1 < 2 ^ b)) (sym (other_device maps device bits q.0 (not_of_device maps device q w none h))) (valid.event q w h);
   interrupt = valid.interrupt;
@@ -240,7 +239,7 @@ pub kept_valid : GoodCommandsKeepMaps
 kept_valid shape maps (Mapd device size itt_addr true) valid h =
     let tests = all_clear (faults shape maps (Mapd device size itt_addr true)) h in
     let none : first_event (without_events maps device) device ≡ None = ap (option_map (λ pair. pair.0.1)) (none_left device maps.events) in
-    valid-with_device shape (without_events maps device) device (size + 1) (valid-without_events shape maps device valid) none (below_from_test DEVICES device tests.0) (omega arith) (size_below size tests.1.0)
+    valid-with_device shape (without_events maps device) device (size + 1) (valid-without_events shape maps device valid) none (below_from_test 65536 device tests.0) (omega arith) (size_below size tests.1.0)
 kept_valid shape maps (Mapd device size itt_addr false) valid h =
     let none : first_event (without_events maps device) device ≡ None = ap (option_map (λ pair. pair.0.1)) (none_left device maps.events) in
     valid-without_device shape (without_events maps device) device (valid-without_events shape maps device valid) none

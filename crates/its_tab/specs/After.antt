@@ -5,7 +5,6 @@ use Rattle.gic_base.specs.declared.interrupt.Key.TheVariants.{Lpi}
 use Rattle.gic_base.specs.Interrupt.{has_interrupt}
 use Rattle.its_cmd.specs.declared.command.Command.{Command}
 use Rattle.its_cmd.specs.declared.command.Command.TheVariants.{Movi, Mapd, Mapc, Mapti, Mapi, Discard}
-use Rattle.its_tab.specs.declared.fault.TheConstants.{DEVICES, MAX_SIZE}
 use Rattle.its_tab.specs.Maps.{Maps, bits_of, pair_of, target_of, with_device, with_event, with_collection, without_device, without_event, without_collection, IsSound}
 use Rattle.its_tab.specs.Fault.{fault_of}
 
@@ -33,8 +32,8 @@ maps_after maps command = maps
 -- maps that the commands of a guest can make: DeviceIDs and EventIDs are in range, INTIDs are LPIs of the guest, and collections have a vCPU of the guest
 pub record IsValid (shape : GuestShape) (maps : Maps) : Type 0 where
   pub sound : IsSound maps
-  pub device : (device bits : ℕ) → bits_of maps device ≡ Some bits → device < DEVICES
-  pub bits : (device bits : ℕ) → bits_of maps device ≡ Some bits → (1 ≤ bits) × (bits ≤ MAX_SIZE + 1)
+  pub device : (device bits : ℕ) → bits_of maps device ≡ Some bits → device < 65536
+  pub bits : (device bits : ℕ) → bits_of maps device ≡ Some bits → (1 ≤ bits) × (bits ≤ 15 + 1)
   pub event : (event pair : ℕ × ℕ) → pair_of maps event ≡ Some pair → IfSome (bits_of maps event.0) (λ bits. event.1 < 2 ^ bits)
   pub interrupt : (event pair : ℕ × ℕ) → pair_of maps event ≡ Some pair → IsTrue (has_interrupt shape (Lpi pair.0))
   pub target : (icid vcpu : ℕ) → target_of maps icid ≡ Some vcpu → vcpu < shape.vcpus

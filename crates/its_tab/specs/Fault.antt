@@ -9,7 +9,6 @@ use Rattle.its_cmd.specs.declared.command.Command.TheVariants.{Movi, Int, Clear,
 use Rattle.its_cmd.specs.declared.command.BadCommand.{BadCommand}
 use Rattle.its_tab.specs.declared.fault.CmdFault.{CmdFault}
 use Rattle.its_tab.specs.declared.fault.CmdFault.TheVariants.{DeviceRange, SizeRange, DeviceUnmapped, EventRange, EventUnmapped, IntIdRange, CollectionUnmapped, TargetRange}
-use Rattle.its_tab.specs.declared.fault.TheConstants.{DEVICES, MAX_SIZE, UNKNOWN_NUMBER}
 use Rattle.its_tab.specs.Maps.{Maps, bits_of, pair_of, target_of, owner_of}
 
 -- the number of a fault
@@ -50,7 +49,7 @@ is_no_vcpu shape rdbase = nat_le shape.vcpus rdbase
 -- the faults of a command on an event of a device that has to be mapped, and further ones
 abbrev pub on_device : Maps → ℕ → ℕ → List (Bool × CmdFault) → List (Bool × CmdFault)
 on_device maps device event others =
-    (nat_le DEVICES device, DeviceRange)
+    (nat_le 65536 device, DeviceRange)
     ∷ (is_none (bits_of maps device), DeviceUnmapped)
     ∷ (is_past_device maps device event, EventRange)
     ∷ others
@@ -69,7 +68,7 @@ on_mapping shape maps device event id icid =
 
 -- the faults that each command can have, by number, each with the test that it is there
 abbrev pub faults : GuestShape → Maps → Command → List (Bool × CmdFault)
-faults shape maps (Mapd device size itt_addr valid) = (nat_le DEVICES device, DeviceRange) ∷ (valid && nat_lt MAX_SIZE size, SizeRange) ∷ []
+faults shape maps (Mapd device size itt_addr valid) = (nat_le 65536 device, DeviceRange) ∷ (valid && nat_lt 15 size, SizeRange) ∷ []
 faults shape maps (Mapc icid rdbase valid) = (valid && is_no_vcpu shape rdbase, TargetRange) ∷ []
 faults shape maps (Mapti device event id icid) = on_mapping shape maps device event id icid
 faults shape maps (Mapi device event icid) = on_mapping shape maps device event event icid
@@ -89,4 +88,4 @@ fault_of shape maps command = first_fault (faults shape maps command)
 -- the number of the first fault of what was decoded: 10 where it is no command
 abbrev pub fault_number : GuestShape → Maps → Result Command BadCommand → Option ℕ
 fault_number shape maps (Ok command) = option_map number_of (fault_of shape maps command)
-fault_number shape maps (Err bad) = Some UNKNOWN_NUMBER
+fault_number shape maps (Err bad) = Some 10

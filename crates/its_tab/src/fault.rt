@@ -1,3 +1,4 @@
+//! The faults of ITS commands.
 ghost use Rattle.std.specs.Prelude.{◌≡◌, ◌^◌, ◌∷◌, [], ◌&&◌, not, is_none, nat_lt, nat_le};
 ghost use Rattle.gic_base.specs.Shape.{IsShape};
 ghost use Rattle.gic_base.specs.Interrupt.{has_interrupt};
@@ -243,6 +244,7 @@ mod tests {
     const SHAPE: GuestShape = GuestShape {
         vcpus: 2,
         spis: 32,
+        espis: 0,
         devices: 1,
         lpis: 16,
         ram: 65536,

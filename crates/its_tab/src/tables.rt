@@ -1,3 +1,4 @@
+//! The tables of an ITS.
 ghost use Rattle.std.specs.Prelude.{◌≡◌, ◌≢◌, ◌≤◌, ℕ, [], IsSome, IfSome, IfNone, OnSome, OnOk, OnErr, Some, None};
 ghost use Rattle.gic_base.specs.declared.shape.GuestShape.{GuestShape};
 ghost use Rattle.its_tab.specs.After.{IsValid};

@@ -10,9 +10,7 @@ use Rattle.std.proofs.lemmas.List.Elements.{All-nil, All-cons, All-same}
 use Rattle.serde_json.specs.Data.{Data}
 use Rattle.serde_json.specs.Find.{get}
 use Rattle.gic_base.specs.declared.shape.GuestShape.{GuestShape}
-use Rattle.gic_base.specs.declared.shape.TheConstants.{MAX_SPIS, SPI_STEP, MAX_DEVICES}
-use Rattle.gic_base.specs.declared.interrupt.Key.TheVariants.{Private, Spi}
-use Rattle.gic_base.specs.declared.interrupt.TheConstants.{FIRST_SPI}
+use Rattle.gic_base.specs.declared.interrupt.Key.TheVariants.{Spi}
 use Rattle.gic_base.specs.declared.icc.IccReg.{IccReg}
 use Rattle.gic_base.specs.declared.icc.IccReg.TheVariants.{Iar0, Iar1, Hppir0, Hppir1, Eoir0, Eoir1, Dir, Rpr, Pmr, Bpr0, Bpr1, Ctlr, Igrpen0, Igrpen1, Ap0r0, Ap1r0, Sgi1r, Sre}
 use Rattle.gic_base.specs.declared.operation.GuestOp.TheVariants.{Icc}
@@ -20,19 +18,21 @@ use Rattle.gic_base.specs.declared.operation.DeviceOp.TheVariants.{Message}
 use Rattle.gic_base.specs.Shape.{IsShape}
 use Rattle.gic_base.specs.Interrupt.{has_interrupt}
 use Rattle.gic_base.specs.Icc.{name_of, registers, register_named}
-use Rattle.scn_read.specs.declared.scenario.GuestSpec.{GuestSpec}
-use Rattle.scn_read.specs.declared.scenario.Step.{Step}
-use Rattle.scn_read.specs.declared.scenario.Step.TheVariants.{Vcpu, Device, Pe}
+use Rattle.scn_base.specs.declared.guest.GuestSpec.{GuestSpec}
+use Rattle.scn_base.specs.declared.preset.Preset.{Preset}
+use Rattle.scn_base.specs.declared.step.Step.{Step}
+use Rattle.scn_base.specs.declared.step.Step.TheVariants.{Vcpu, Device, Pe}
 use Rattle.gic_base.specs.declared.operation.PeOp.TheVariants.{Lrs}
-use Rattle.scn_read.specs.declared.scenario.Fault.{Fault}
-use Rattle.scn_read.specs.declared.scenario.Mode.{Mode}
-use Rattle.scn_read.specs.declared.scenario.TheConstants.{MAX_PRIORITY, PRIORITY_STEP, MAX_GROUP, DEFAULT_PRIORITY, DEFAULT_GROUP, DEFAULT_VCPUS, DEFAULT_SPIS, DEFAULT_DEVICES, MAX_STEPS}
-use Rattle.scn_read.specs.Field.{passes, number_at, number_or, flag_or, text_at, pair_at, elements_at}
+use Rattle.scn_base.specs.declared.fault.Fault.{Fault}
+use Rattle.scn_base.specs.declared.step.Mode.{Mode}
+use Rattle.scn_read.specs.declared.guest.Numbers.{Numbers}
+use Rattle.scn_read.specs.Field.{number_at, number_or, flag_or, text_at, pair_at, elements_at}
 use Rattle.scn_read.specs.Fault.{first_code, first_of, ok_unless, both}
-use Rattle.scn_read.specs.Guest.{is_unbuilt_preset, is_preset, is_preset_in_range, is_spi, preset_fault, preset_of, is_unbuilt_guest, is_guest, is_guest_in_range, own_fault, spis_of, guest_fault, shape_of, guest_of}
-use Rattle.scn_read.specs.Step.{is_threads, is_lrs_step, has_pe, lrs_fault, lrs_of, unbuilt_fields, is_unbuilt_step, is_message, has_sender, message_fault, message_of, is_access, register_at, is_usable, has_vcpu, access_fault, access_of, step_fault, step_value, step_of}
+use Rattle.scn_read.specs.Preset.{is_unbuilt_preset, is_preset, is_preset_in_range, is_spi, preset_fault, preset_of}
+use Rattle.scn_read.specs.Guest.{is_unbuilt_guest, is_guest, are_in_range, numbers_of, own_fault, spis_of, espis_of, guest_fault, shape_with, shape_of, guest_of}
+use Rattle.scn_read.specs.Step.{is_lrs_step, has_pe, lrs_fault, lrs_of, unbuilt_fields, is_unbuilt_step, is_message, has_sender, message_fault, message_of, is_access, register_at, is_usable, has_vcpu, access_fault, access_of, step_fault, step_value, step_of}
 use Rattle.scn_read.specs.Reading.{step_and_rest, steps_of}
-use Rattle.scn_read.specs.Good.{IsGoodPreset, IsGoodGuest, is_built_access, is_good_step, has_its_pe, IsGood}
+use Rattle.scn_base.specs.Good.{passes, preset_key, is_threads, IsGoodPreset, IsGoodGuest, is_built_access, is_good_step, has_its_pe, IsGood}
 use Rattle.scn_read.proofs.ListLemmas.{ok_parts}
 
 -- the value that passes a test
@@ -54,104 +54,102 @@ unmet : (test : Bool) (code : ℕ) (rest : Option ℕ) → (if test then Some co
 unmet true code rest e = absurd cc
 unmet false code rest e = (refl, e)
 
+-- a test, or true
+either : (b : Bool) → IsTrue (b || true)
+either true = refl
+either false = refl
+
 not_false : (b : Bool) → not b ≡ false → b ≡ true
 not_false true e = refl
 not_false false e = absurd cc
 
 -- ---- presets
 
-spi_key : (shape : GuestShape) (id : ℕ) → is_spi shape.spis id ≡ true → has_interrupt shape (if nat_lt id 32 then Private 0 id else Spi id) ≡ true
-spi_key shape id e = grind (arith, nat_tests)
+spi_key : (shape : GuestShape) (id : ℕ) → is_spi shape.spis shape.espis id ≡ true → (nat_lt id 32 ≡ false) × (has_interrupt shape (Spi id) ≡ true)
+spi_key shape id e = (grind (arith, nat_tests), e)
 
 zero_unless : (found : Option ℕ) → passes (λ n. not (n == 0)) found ≡ false → unwrap_or found 0 ≡ 0
 zero_unless None e = refl
 zero_unless (Some n) e = grind (arith, nat_tests)
 
--- the parts of a preset that has no fault are those of a good one
-good_parts : (shape : GuestShape) (id prio : Option ℕ) (edge : Bool) (group to : Option ℕ) → IsShape shape
-    → passes (λ prio. nat_le prio MAX_PRIORITY && prio % PRIORITY_STEP == 0) prio ≡ true → passes (λ group. nat_le group MAX_GROUP) group ≡ true
-    → passes (λ to. not (to == 0)) to ≡ false → passes (is_spi shape.spis) id ≡ true
-    → IsGoodPreset shape (record { id = unwrap_or id 0; prio = unwrap_or prio 0; edge = edge; group = unwrap_or group 0; to = Some (unwrap_or to 0); vcpu = None })
-good_parts shape id prio edge group to is prio_passes group_passes to_passes there =
-    let prio_test = passes-unwrap_or (λ prio. nat_le prio MAX_PRIORITY && prio % PRIORITY_STEP == 0) prio 0 prio_passes in
-    let group_test = passes-unwrap_or (λ group. nat_le group MAX_GROUP) group 0 group_passes in
-    let zero = zero_unless to to_passes in
+-- a preset of an SPI for vCPU 0 is good
+good_spi : (shape : GuestShape) (preset : Preset) → IsShape shape → nat_lt preset.id 32 ≡ false → has_interrupt shape (Spi preset.id) ≡ true → preset.to ≡ Some 0 → preset.vcpu ≡ None
+    → preset.prio ≤ 248 → preset.prio % 8 ≡ 0 → preset.group ≤ 1 → IsGoodPreset shape preset
+good_spi shape preset is shared there to vcpu prio prio_bits group =
+    let key : preset_key preset ≡ Spi preset.id = rw shared refl in
     record {
-      there = spi_key shape (unwrap_or id 0) (passes-unwrap_or (is_spi shape.spis) id 0 there);
-      prio = grind (arith, nat_tests);
-      prio_bits = grind (arith, nat_tests);
-      group = grind (arith, nat_tests);
-      target = rw zero is.some_vcpu;
+      there = rw (key, there) refl;
+      addressed = rw (shared, to, vcpu) (grind (arith, nat_tests));
+      prio = prio;
+      prio_bits = prio_bits;
+      group = group;
+      sgi_is_edge = rw key (either preset.edge);
     }
 
-good_preset : (shape : GuestShape) (d : Data) → IsShape shape → preset_fault shape.spis d ≡ None → IsGoodPreset shape (preset_of d)
+-- the parts of a preset that has no fault are those of a good one
+good_parts : (shape : GuestShape) (id prio : Option ℕ) (edge : Bool) (group to : Option ℕ) → IsShape shape
+    → passes (λ prio. nat_le prio 248 && prio % 8 == 0) prio ≡ true → passes (λ group. nat_le group 1) group ≡ true
+    → passes (λ to. not (to == 0)) to ≡ false → passes (is_spi shape.spis shape.espis) id ≡ true
+    → IsGoodPreset shape (record { id = unwrap_or id 0; prio = unwrap_or prio 0; edge = edge; group = unwrap_or group 0; to = Some (unwrap_or to 0); vcpu = None })
+good_parts shape id prio edge group to is prio_passes group_passes to_passes there =
+    let prio_test = passes-unwrap_or (λ prio. nat_le prio 248 && prio % 8 == 0) prio 0 prio_passes in
+    let group_test = passes-unwrap_or (λ group. nat_le group 1) group 0 group_passes in
+    let key = spi_key shape (unwrap_or id 0) (passes-unwrap_or (is_spi shape.spis shape.espis) id 0 there) in
+    good_spi shape (record { id = unwrap_or id 0; prio = unwrap_or prio 0; edge = edge; group = unwrap_or group 0; to = Some (unwrap_or to 0); vcpu = None }) is key.0 key.1 (ap Some (zero_unless to to_passes)) refl
+    (grind (arith, nat_tests)) (grind (arith, nat_tests)) (grind (arith, nat_tests))
+
+good_preset : (shape : GuestShape) (d : Data) → IsShape shape → preset_fault shape.spis shape.espis d ≡ None → IsGoodPreset shape (preset_of d)
 good_preset shape d is e =
     let built = unmet (is_unbuilt_preset d) 10 _ e in
     let formed = unmet (not (is_preset d)) 1 _ built.1 in
     let within = unmet (not (is_preset_in_range d)) 2 _ formed.1 in
-    let there = unmet (not (passes (is_spi shape.spis) (number_at (codes "id") d))) 4 _ within.1 in
-    let to = or_parts (passes not (flag_or (codes "edge") true d) || passes (λ id. nat_lt id FIRST_SPI) (number_at (codes "id") d)) (passes (λ to. not (to == 0)) (number_or (codes "to") 0 d)) built.0 in
+    let there = unmet (not (passes (is_spi shape.spis shape.espis) (number_at (codes "id") d))) 4 _ within.1 in
+    let to = or_parts (passes not (flag_or (codes "edge") true d) || passes (λ id. nat_lt id 32) (number_at (codes "id") d)) (passes (λ to. not (to == 0)) (number_or (codes "to") 0 d)) built.0 in
     let ranges =
-    and_parts (passes (λ prio. nat_le prio MAX_PRIORITY && prio % PRIORITY_STEP == 0) (number_or (codes "prio") DEFAULT_PRIORITY d))
-    (passes (λ group. nat_le group MAX_GROUP) (number_or (codes "group") DEFAULT_GROUP d)) (not_false (is_preset_in_range d) within.0) in
-    good_parts shape (number_at (codes "id") d) (number_or (codes "prio") DEFAULT_PRIORITY d) (unwrap_or (flag_or (codes "edge") true d) false) (number_or (codes "group") DEFAULT_GROUP d)
-    (number_or (codes "to") 0 d) is ranges.0 ranges.1 to.1 (not_false (passes (is_spi shape.spis) (number_at (codes "id") d)) there.0)
+    and_parts (passes (λ prio. nat_le prio 248 && prio % 8 == 0) (number_or (codes "prio") 160 d))
+    (passes (λ group. nat_le group 1) (number_or (codes "group") 1 d)) (not_false (is_preset_in_range d) within.0) in
+    good_parts shape (number_at (codes "id") d) (number_or (codes "prio") 160 d) (unwrap_or (flag_or (codes "edge") true d) false) (number_or (codes "group") 1 d)
+    (number_or (codes "to") 0 d) is ranges.0 ranges.1 to.1 (not_false (passes (is_spi shape.spis shape.espis) (number_at (codes "id") d)) there.0)
 
-good_presets : (shape : GuestShape) (before : Option ℕ) (ds : List Data) → IsShape shape → fold first_code before (map (preset_fault shape.spis) ds) ≡ None → All (IsGoodPreset shape) (map preset_of ds)
+good_presets : (shape : GuestShape) (before : Option ℕ) (ds : List Data) → IsShape shape → fold first_code before (map (preset_fault shape.spis shape.espis) ds) ≡ None → All (IsGoodPreset shape) (map preset_of ds)
 good_presets shape before [] is e = All-nil (IsGoodPreset shape)
 good_presets shape before (d ∷ ds) is e =
-    let first = first_code_none before (preset_fault shape.spis d) (fold_none (first_code before (preset_fault shape.spis d)) (map (preset_fault shape.spis) ds) e) in
-    All-cons (IsGoodPreset shape) (preset_of d) (map preset_of ds) (good_preset shape d is first.1) (good_presets shape (first_code before (preset_fault shape.spis d)) ds is e)
+    let fault = preset_fault shape.spis shape.espis in
+    let first = first_code_none before (fault d) (fold_none (first_code before (fault d)) (map fault ds) e) in
+    All-cons (IsGoodPreset shape) (preset_of d) (map preset_of ds) (good_preset shape d is first.1) (good_presets shape (first_code before (fault d)) ds is e)
 
 -- ---- guests
 
-one_vcpu : (vcpus : Option ℕ) → passes (λ vcpus. nat_lt 1 vcpus) vcpus ≡ false → passes (λ vcpus. nat_le 1 vcpus) vcpus ≡ true → unwrap_or vcpus 0 ≡ 1
-one_vcpu None few some = absurd cc
-one_vcpu (Some n) few some = grind (arith, nat_tests)
-
-good_numbers : (vcpus spis devices lpis ram : Option ℕ) → unwrap_or vcpus 0 ≡ 1 → passes (λ spis. nat_le spis MAX_SPIS && spis % SPI_STEP == 0) spis ≡ true → passes (λ devices. nat_le devices MAX_DEVICES) devices ≡ true
-    → unwrap_or lpis 0 ≡ 0 → unwrap_or ram 0 ≡ 0
-    → IsShape (record { vcpus = unwrap_or vcpus 0; spis = unwrap_or spis 0; devices = unwrap_or devices 0; lpis = unwrap_or lpis 0; ram = unwrap_or ram 0 })
-good_numbers vcpus spis devices lpis ram one spis_pass devices_pass no_lpi no_ram =
-    let spis_test = passes-unwrap_or (λ spis. nat_le spis MAX_SPIS && spis % SPI_STEP == 0) spis 0 spis_pass in
-    let devices_test = passes-unwrap_or (λ devices. nat_le devices MAX_DEVICES) devices 0 devices_pass in
+good_numbers : (numbers : Numbers) → are_in_range numbers ≡ true → IsShape (shape_with numbers)
+good_numbers numbers e =
     record {
-      some_vcpu = omega arith;
-      vcpus = omega arith;
+      some_vcpu = grind (arith, nat_tests);
+      vcpus = grind (arith, nat_tests);
       spis = grind (arith, nat_tests);
       spi_blocks = grind (arith, nat_tests);
+      espis = grind (arith, nat_tests);
+      espi_blocks = grind (arith, nat_tests);
       devices = grind (arith, nat_tests);
-      lpis = omega arith;
-      ram = omega arith;
-      ram_words = rw no_ram refl;
+      lpis = grind (arith, nat_tests);
+      ram = grind (arith, nat_tests);
+      ram_words = grind (arith, nat_tests);
     }
 
 good_shape : (d : Data) → own_fault d ≡ None → IsShape (shape_of d)
 good_shape d e =
     let built = unmet (is_unbuilt_guest d) 10 _ e in
     let formed = unmet (not (is_guest d)) 1 _ built.1 in
-    let within = unmet (not (is_guest_in_range d)) 2 _ formed.1 in
-    let vcpus = number_or (codes "vcpus") DEFAULT_VCPUS d in
-    let spis = number_or (codes "spis") DEFAULT_SPIS d in
-    let devices = number_or (codes "devices") DEFAULT_DEVICES d in
-    let lpis = number_or (codes "lpis") 0 d in
-    let ram = number_or (codes "ram") 0 d in
-    let no_ram = or_parts (passes (λ vcpus. nat_lt 1 vcpus) vcpus || passes (λ lpis. not (lpis == 0)) lpis) (passes (λ ram. not (ram == 0)) ram) built.0 in
-    let no_lpi = or_parts (passes (λ vcpus. nat_lt 1 vcpus) vcpus) (passes (λ lpis. not (lpis == 0)) lpis) no_ram.0 in
-    let few_devices =
-    and_parts (passes (λ vcpus. nat_le 1 vcpus) vcpus && passes (λ spis. nat_le spis MAX_SPIS && spis % SPI_STEP == 0) spis) (passes (λ devices. nat_le devices MAX_DEVICES) devices)
-    (not_false (is_guest_in_range d) within.0) in
-    let few_spis = and_parts (passes (λ vcpus. nat_le 1 vcpus) vcpus) (passes (λ spis. nat_le spis MAX_SPIS && spis % SPI_STEP == 0) spis) few_devices.0 in
-    good_numbers vcpus spis devices lpis ram (one_vcpu vcpus no_lpi.0 few_spis.0) few_spis.1 few_devices.1 (zero_unless lpis no_lpi.1) (zero_unless ram no_ram.1)
+    let within = unmet (not (are_in_range (numbers_of d))) 2 _ formed.1 in
+    good_numbers (numbers_of d) (not_false (are_in_range (numbers_of d)) within.0)
 
-all_spis : (n m : ℕ) → n ≤ m → min n m ≡ n
-all_spis n m within = omega arith
+all_of : (n m : ℕ) → n ≤ m → min n m ≡ n
+all_of n m within = omega arith
 
 good_guest : (d : Data) → guest_fault d ≡ None → IsGoodGuest (guest_of d)
 good_guest d e =
-    let both = first_code_none (own_fault d) (first_of (map (preset_fault (spis_of d)) (elements_at (codes "irqs") d))) e in
+    let both = first_code_none (own_fault d) (first_of (map (preset_fault (spis_of d) (espis_of d)) (elements_at (codes "irqs") d))) e in
     let is = good_shape d both.0 in
-    let presets = rw (all_spis (shape_of d).spis MAX_SPIS is.spis) at both.1 in
+    let presets = rw (all_of (numbers_of d).spis 960 is.spis, all_of (numbers_of d).espis 1024 is.espis) at both.1 in
     record { shape = is; presets = good_presets (shape_of d) None (elements_at (codes "irqs") d) is presets }
 
 -- the guest of a scenario that has one
@@ -289,7 +287,7 @@ length-steps_of mode shape number (d ∷ ds) read e =
 
 -- a scenario of one good guest and of steps without a fault
 pub good_scenario : (mode : Mode) (lrs : ℕ) (guest : GuestSpec) (guests : List GuestSpec) (ds : List Data) (steps : List Step) → 1 ≤ lrs → lrs ≤ 16
-    → guests ≡ guest ∷ [] → IsGoodGuest guest → length ds ≤ MAX_STEPS → steps_of mode guest.shape 1 ds ≡ Ok steps
+    → guests ≡ guest ∷ [] → IsGoodGuest guest → length ds ≤ 100000 → steps_of mode guest.shape 1 ds ≡ Ok steps
     → IsGood mode (record { pes = 1; lrs = lrs; guests = guests; steps = steps })
 good_scenario mode lrs guest guests ds steps some within are good few read =
     rw are

@@ -2,9 +2,9 @@
 use Rattle.std.proofs.Common.{◌≡◌, ℕ, ◌+◌, ◌<◌, List, [], ◌∷◌, ◌++◌, length, get_or, drop, map, Result, Ok, Err, append_assoc, refl}
 use Rattle.serde_json.specs.Data.{Data}
 use Rattle.gic_base.specs.declared.shape.GuestShape.{GuestShape}
-use Rattle.scn_read.specs.declared.scenario.Step.{Step}
-use Rattle.scn_read.specs.declared.scenario.Fault.{Fault}
-use Rattle.scn_read.specs.declared.scenario.Mode.{Mode}
+use Rattle.scn_base.specs.declared.step.Step.{Step}
+use Rattle.scn_base.specs.declared.fault.Fault.{Fault}
+use Rattle.scn_base.specs.declared.step.Mode.{Mode}
 use Rattle.scn_read.specs.Step.{step_of}
 use Rattle.scn_read.specs.Reading.{step_and_rest, steps_of}
 use Rattle.scn_read.proofs.ListLemmas.{drop_item}

@@ -1,10 +1,10 @@
 -- Which code is given where there are several faults (own choice).
 use Rattle.std.specs.Prelude.{ℕ, ◌==◌, List, [], ◌∷◌, fold, Bool, nat_lt, if◌then◌else◌, Option, Some, None, Result, Ok, Err}
-use Rattle.scn_read.specs.declared.scenario.TheConstants.{NOT_BUILT}
+use Rattle.scn_base.specs.Codes.{not_built_code}
 
 -- how early a code is given inside one step number: a form that is not built before all others, and these by number
 abbrev pub rank : ℕ → ℕ
-rank code = if code == NOT_BUILT then 0 else code
+rank code = if code == not_built_code then 0 else code
 
 -- the first of two codes, by rank
 abbrev pub earlier : ℕ → ℕ → ℕ

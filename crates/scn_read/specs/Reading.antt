@@ -3,18 +3,18 @@ use Rattle.std.specs.Prelude.{◌≡◌, ℕ, ◌+◌, ◌≤◌, ◌&&◌, ◌|
 use Rattle.std.specs.List.{slice_index_or}
 use Rattle.serde_json.specs.Data.{Data, null}
 use Rattle.gic_base.specs.declared.shape.GuestShape.{GuestShape}
-use Rattle.gic_base.specs.declared.held.TheConstants.{MAX_LIST_REGISTERS}
-use Rattle.scn_read.specs.declared.scenario.Scenario.{Scenario}
-use Rattle.scn_read.specs.declared.scenario.Step.{Step}
-use Rattle.scn_read.specs.declared.scenario.Mode.{Mode}
-use Rattle.scn_read.specs.declared.scenario.Fault.{Fault}
-use Rattle.scn_read.specs.declared.scenario.ReadRefusal.{ReadRefusal}
-use Rattle.scn_read.specs.declared.scenario.ReadRefusal.TheVariants.{Bad, NoMemory}
-use Rattle.scn_read.specs.declared.scenario.TheConstants.{MAX_STEPS, DEFAULT_PES, DEFAULT_LIST_REGISTERS, SHAPE, LIMIT, NOT_BUILT}
-use Rattle.scn_read.specs.Field.{passes, has_only, number_or, list_at, elements_at}
+use Rattle.scn_base.specs.declared.scenario.Scenario.{Scenario}
+use Rattle.scn_base.specs.declared.step.Step.{Step}
+use Rattle.scn_base.specs.declared.step.Mode.{Mode}
+use Rattle.scn_base.specs.declared.fault.Fault.{Fault}
+use Rattle.scn_read.specs.declared.refusal.ReadRefusal.{ReadRefusal}
+use Rattle.scn_read.specs.declared.refusal.ReadRefusal.TheVariants.{Bad, NoMemory}
+use Rattle.scn_base.specs.Good.{passes}
+use Rattle.scn_read.specs.Field.{has_only, number_or, list_at, elements_at}
 use Rattle.scn_read.specs.Fault.{first_code, first_of, first_met}
 use Rattle.scn_read.specs.Guest.{guest_fault, guest_of, shape_of}
 use Rattle.scn_read.specs.Step.{step_of}
+use Rattle.scn_base.specs.Codes.{shape_code, limit_code, not_built_code}
 
 -- the fields of a scenario
 abbrev pub scenario_fields : List (List ℕ)
@@ -23,29 +23,29 @@ scenario_fields = codes "pes" ∷ codes "lrs" ∷ codes "guests" ∷ codes "step
 -- not built: more than one PE, and more than one guest
 abbrev pub is_unbuilt_scenario : Data → Bool
 is_unbuilt_scenario d =
-    passes (λ pes. nat_lt 1 pes) (number_or (codes "pes") DEFAULT_PES d)
+    passes (λ pes. nat_lt 1 pes) (number_or (codes "pes") 1 d)
     || passes (λ guests. nat_lt 1 (length guests)) (list_at (codes "guests") d)
 
 -- each field of a scenario is one of its table, and of its kind
 abbrev pub is_scenario : Data → Bool
 is_scenario d =
     has_only scenario_fields d
-    && is_some (number_or (codes "pes") DEFAULT_PES d)
-    && is_some (number_or (codes "lrs") DEFAULT_LIST_REGISTERS d)
+    && is_some (number_or (codes "pes") 1 d)
+    && is_some (number_or (codes "lrs") 4 d)
     && is_some (list_at (codes "guests") d)
     && is_some (list_at (codes "steps") d)
 
 -- each number of a scenario is in its range, the lengths of its lists among them
 abbrev pub is_scenario_in_range : Data → Bool
 is_scenario_in_range d =
-    passes (λ pes. nat_le 1 pes) (number_or (codes "pes") DEFAULT_PES d)
-    && passes (λ lrs. nat_le 1 lrs && nat_le lrs MAX_LIST_REGISTERS) (number_or (codes "lrs") DEFAULT_LIST_REGISTERS d)
-    && passes (λ guests. nat_le 1 (length guests)) (list_at (codes "guests") d)
-    && passes (λ steps. nat_le (length steps) MAX_STEPS) (list_at (codes "steps") d)
+    passes (λ pes. nat_le 1 pes && nat_le pes 8) (number_or (codes "pes") 1 d)
+    && passes (λ lrs. nat_le 1 lrs && nat_le lrs 16) (number_or (codes "lrs") 4 d)
+    && passes (λ guests. nat_le 1 (length guests) && nat_le (length guests) 4) (list_at (codes "guests") d)
+    && passes (λ steps. nat_le (length steps) 100000) (list_at (codes "steps") d)
 
 -- the fault of a scenario's own fields
 abbrev pub scenario_fault : Data → Option ℕ
-scenario_fault d = first_met ((is_unbuilt_scenario d, NOT_BUILT) ∷ (not (is_scenario d), SHAPE) ∷ (not (is_scenario_in_range d), LIMIT) ∷ [])
+scenario_fault d = first_met ((is_unbuilt_scenario d, not_built_code) ∷ (not (is_scenario d), shape_code) ∷ (not (is_scenario_in_range d), limit_code) ∷ [])
 
 -- the first fault of all that stands outside of the steps
 abbrev pub outside_fault : Data → Option ℕ
@@ -70,8 +70,8 @@ steps_of mode shape number (d ∷ ds) = step_and_rest number (step_of mode shape
 abbrev pub scenario_with : Data → List Step → Scenario
 scenario_with d steps =
     record {
-      pes = unwrap_or (number_or (codes "pes") DEFAULT_PES d) 0;
-      lrs = unwrap_or (number_or (codes "lrs") DEFAULT_LIST_REGISTERS d) 0;
+      pes = unwrap_or (number_or (codes "pes") 1 d) 0;
+      lrs = unwrap_or (number_or (codes "lrs") 4 d) 0;
       guests = map guest_of (elements_at (codes "guests") d);
       steps = steps;
     }
@@ -99,10 +99,10 @@ Refuses read NoMemory = ⊤
 -- the list registers and the steps of a scenario, the own fields of which have no fault
 pub record IsOpening (d : Data) (lrs : ℕ) (steps : List Data) : Type 0 where
   pub own : scenario_fault d ≡ None
-  pub pes_is : number_or (codes "pes") DEFAULT_PES d ≡ Some DEFAULT_PES
-  pub lrs_is : number_or (codes "lrs") DEFAULT_LIST_REGISTERS d ≡ Some lrs
+  pub pes_is : number_or (codes "pes") 1 d ≡ Some 1
+  pub lrs_is : number_or (codes "lrs") 4 d ≡ Some lrs
   pub some_list_register : 1 ≤ lrs
-  pub list_registers : lrs ≤ MAX_LIST_REGISTERS
+  pub list_registers : lrs ≤ 16
   pub one_guest : length (elements_at (codes "guests") d) ≡ 1
   pub steps_are : list_at (codes "steps") d ≡ Some steps
-  pub few : length steps ≤ MAX_STEPS
+  pub few : length steps ≤ 100000

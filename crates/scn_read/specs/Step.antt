@@ -1,5 +1,5 @@
 -- The steps of a scenario: their faults, and what they say where they have none (own choice).
-use Rattle.std.specs.Prelude.{ℕ, ◌&&◌, ◌||◌, ◌==◌, not, List, [], ◌∷◌, nat_lt, if◌then◌else◌, Bool, true, false, Option, Some, None, is_some, unwrap_or, option_and_then, Result, codes}
+use Rattle.std.specs.Prelude.{ℕ, ◌&&◌, ◌||◌, ◌==◌, not, List, [], ◌∷◌, nat_lt, if◌then◌else◌, Bool, false, Option, Some, None, is_some, unwrap_or, option_and_then, Result, codes}
 use Rattle.std.specs.List.{list_any}
 use Rattle.std.specs.Str.{bytes_eq}
 use Rattle.serde_json.specs.Data.{Data}
@@ -12,14 +12,14 @@ use Rattle.gic_base.specs.declared.operation.GuestOp.TheVariants.{Icc}
 use Rattle.gic_base.specs.declared.operation.DeviceOp.TheVariants.{Message}
 use Rattle.gic_base.specs.Interrupt.{has_interrupt}
 use Rattle.gic_base.specs.Icc.{name_of, register_named, is_readable, is_writable}
-use Rattle.scn_read.specs.declared.scenario.Step.{Step}
-use Rattle.scn_read.specs.declared.scenario.Step.TheVariants.{Vcpu, Device, Pe}
-use Rattle.scn_read.specs.declared.scenario.Mode.{Mode}
-use Rattle.scn_read.specs.declared.scenario.Mode.TheVariants.{Schedule, Threads}
+use Rattle.scn_base.specs.declared.step.Step.{Step}
+use Rattle.scn_base.specs.declared.step.Step.TheVariants.{Vcpu, Device, Pe}
+use Rattle.scn_base.specs.declared.step.Mode.{Mode}
 use Rattle.gic_base.specs.declared.operation.PeOp.TheVariants.{Lrs}
-use Rattle.scn_read.specs.declared.scenario.TheConstants.{DEFAULT_PES, SHAPE, UNKNOWN_REGISTER, UNKNOWN_ACTOR, PE_STEP, NOT_BUILT}
-use Rattle.scn_read.specs.Field.{passes, has_only, number_at, number_or, flag_or, text_at, pair_at}
+use Rattle.scn_base.specs.Good.{passes, is_threads}
+use Rattle.scn_read.specs.Field.{has_only, number_at, number_or, flag_or, text_at, pair_at}
 use Rattle.scn_read.specs.Fault.{first_met, ok_unless}
+use Rattle.scn_base.specs.Codes.{shape_code, unknown_register_code, unknown_actor_code, pe_step_code, not_built_code}
 
 -- the fields of steps that are not built
 abbrev pub unbuilt_fields : List (List ℕ)
@@ -41,7 +41,7 @@ has_sender shape d =
 
 -- the fault of a message
 abbrev pub message_fault : GuestShape → Data → Option ℕ
-message_fault shape d = first_met ((not (is_message d), SHAPE) ∷ (not (has_sender shape d), UNKNOWN_ACTOR) ∷ [])
+message_fault shape d = first_met ((not (is_message d), shape_code) ∷ (not (has_sender shape d), unknown_actor_code) ∷ [])
 
 -- what a message without a fault says
 abbrev pub message_of : Data → Step
@@ -74,9 +74,9 @@ has_vcpu shape d = passes (λ place. place.0 == 0 && nat_lt place.1 shape.vcpus)
 abbrev pub access_fault : GuestShape → Data → Option ℕ
 access_fault shape d =
     first_met
-    ((not (is_access d), SHAPE)
-    ∷ (not (passes (is_usable (number_at (codes "write") d)) (register_at d)), UNKNOWN_REGISTER)
-    ∷ (not (has_vcpu shape d), UNKNOWN_ACTOR)
+    ((not (is_access d), shape_code)
+    ∷ (not (passes (is_usable (number_at (codes "write") d)) (register_at d)), unknown_register_code)
+    ∷ (not (has_vcpu shape d), unknown_actor_code)
     ∷ [])
 
 -- what an access without a fault says
@@ -90,18 +90,13 @@ abbrev pub is_lrs_step : Data → Bool
 is_lrs_step d =
     has_only (codes "pe" ∷ codes "lrs" ∷ []) d && is_some (number_at (codes "pe") d) && passes (λ shown. shown) (flag_or (codes "lrs") false d)
 
--- the scenario is run on threads
-abbrev pub is_threads : Mode → Bool
-is_threads Schedule = false
-is_threads Threads = true
-
 -- its PE is there: PE 0, the only one
 abbrev pub has_pe : Data → Bool
-has_pe d = passes (λ pe. nat_lt pe DEFAULT_PES) (number_at (codes "pe") d)
+has_pe d = passes (λ pe. nat_lt pe 1) (number_at (codes "pe") d)
 
 -- the fault of a step that shows list registers
 abbrev pub lrs_fault : Mode → Data → Option ℕ
-lrs_fault mode d = first_met ((not (is_lrs_step d), SHAPE) ∷ (is_threads mode, PE_STEP) ∷ (not (has_pe d), UNKNOWN_ACTOR) ∷ [])
+lrs_fault mode d = first_met ((not (is_lrs_step d), shape_code) ∷ (is_threads mode, pe_step_code) ∷ (not (has_pe d), unknown_actor_code) ∷ [])
 
 -- what such a step without a fault says
 abbrev pub lrs_of : Data → Step
@@ -111,7 +106,7 @@ lrs_of d = Pe (unwrap_or (number_at (codes "pe") d) 0) Lrs
 abbrev pub step_fault : Mode → GuestShape → Data → Option ℕ
 step_fault mode shape d =
     if is_unbuilt_step d
-    then Some NOT_BUILT
+    then Some not_built_code
     else (if is_some (get (codes "pe") d) then lrs_fault mode d else (if is_some (get (codes "message") d) then message_fault shape d else access_fault shape d))
 
 -- what a step without a fault says

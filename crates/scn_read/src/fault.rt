@@ -2,7 +2,7 @@
 ghost use Rattle.std.specs.Prelude.{◌≡◌};
 ghost use Rattle.scn_read.specs.Fault.{rank as rank_of, earlier as earlier_of, first_code as first_of_codes, both as both_of};
 
-use crate::scenario::NOT_BUILT;
+use scn_base::NOT_BUILT;
 
 /// How early a code is given inside one step number: a form that is not built comes before all others.
 fn rank(code: u8) -> u8

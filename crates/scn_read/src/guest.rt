@@ -1,35 +1,27 @@
-//! Guests and presets.
-ghost use Rattle.std.specs.Prelude.{◌≡◌, ◌≤◌, IfOk, map};
+//! The guests of a scenario.
+ghost use Rattle.std.specs.Prelude.{◌≡◌, IfOk, IfSome, IfNone, true, false, map};
 ghost use Rattle.serde_json.specs.View.{view};
 ghost use Rattle.scn_read.specs.Fault.{first_of, ok_unless};
-ghost use Rattle.scn_read.specs.Guest.{is_unbuilt_preset as is_unbuilt_preset_in, is_spi as is_spi_of, preset_fault, preset_of, is_unbuilt_guest as is_unbuilt_guest_in, own_fault, spis_of, guest_fault, shape_of, on_of, guest_of};
+ghost use Rattle.scn_read.specs.Guest.{is_unbuilt_guest as is_unbuilt_guest_in, are_numbers, numbers_of, are_in_range, shape_with, own_fault, spis_of, espis_of, guest_fault, shape_of, on_of, guest_of};
 
-use crate::fault::{both, first_code};
-use crate::field::{elements_at, flag_or, has_only, list_or_empty, number_at, number_or};
-use crate::scenario::{
-    DEFAULT_DEVICES, DEFAULT_GROUP, DEFAULT_PRIORITY, DEFAULT_SPIS, DEFAULT_VCPUS, GuestSpec,
-    Guests, LIMIT, MAX_GROUP, MAX_PRIORITY, NOT_BUILT, PRIORITY_STEP, Preset, PresetList, SHAPE,
-    UNKNOWN_ACTOR,
+use crate::defaults::{
+    DEFAULT_DEVICES, DEFAULT_ESPIS, DEFAULT_LPIS, DEFAULT_RAM, DEFAULT_SPIS, DEFAULT_VCPUS,
 };
-use gic_base::{FIRST_SPI, GuestShape, MAX_DEVICES, MAX_SPIS, SPI_STEP};
+use crate::fault::{both, first_code};
+use crate::field::{elements_at, flag_or, has_only, list_or_empty, number_or};
+use crate::preset::{SpiCounts, presets};
+use gic_base::{
+    GuestShape, MAX_DEVICES, MAX_ESPIS, MAX_LPIS, MAX_RAM, MAX_SPIS, MAX_VCPUS, RAM_STEP, SPI_STEP,
+};
+use scn_base::{GuestSpec, Guests, LIMIT, NOT_BUILT, SHAPE};
 use serde_json::Value;
 use std::alloc::{AllocError, Global};
-
-const ID: &str = "id";
-
-const PRIO: &str = "prio";
-
-const EDGE: &str = "edge";
-
-const GROUP: &str = "group";
-
-const TO: &str = "to";
-/// The fields of a preset of an SPI.
-const PRESET_FIELDS: [&str; 5] = [ID, PRIO, EDGE, GROUP, TO];
 
 const VCPUS: &str = "vcpus";
 
 const SPIS: &str = "spis";
+
+const ESPIS: &str = "espis";
 
 const DEVICES: &str = "devices";
 
@@ -41,79 +33,61 @@ const ON: &str = "on";
 
 const IRQS: &str = "irqs";
 /// The fields of a guest.
-const GUEST_FIELDS: [&str; 7] = [VCPUS, SPIS, DEVICES, LPIS, RAM, ON, IRQS];
+const GUEST_FIELDS: [&str; 8] = [VCPUS, SPIS, ESPIS, DEVICES, LPIS, RAM, ON, IRQS];
 
-/// Whether an INTID is that of an SPI of a guest with this many SPIs.
-pub(crate) fn is_spi(id: u64, spis: u32) -> bool
-    requires { spis ≤ MAX_SPIS }
-    ensures { result ≡ is_spi_of spis id }
-{
-    id >= u64::from(FIRST_SPI) && id < u64::from(FIRST_SPI + spis)
+/// How many a guest has of each kind, as it is written: also where that is more than there may be.
+#[derive(Clone, Copy)]
+struct Numbers {
+    vcpus: u64,
+    spis: u64,
+    espis: u64,
+    devices: u64,
+    lpis: u64,
+    ram: u64,
 }
 
-/// Whether a preset is of a form that is not built: level-sensitive, private, or for another vCPU
-/// than 0.
-fn is_unbuilt_preset(value: &Value) -> bool
-    ensures { result ≡ is_unbuilt_preset_in (view value.now) }
-{
-    flag_or(value, EDGE, true) == Some(false)
-        || number_at(value, ID).is_some_and(|id| id < u64::from(FIRST_SPI))
-        || number_or(value, TO, 0).is_some_and(|to| to != 0)
-}
-
-/// A preset of a guest with this many SPIs, or its fault.
-fn preset(value: &Value, spis: u32) -> Result<Preset, u8>
-    requires { spis ≤ MAX_SPIS }
-    ensures { let d = view value.now in result ≡ ok_unless (preset_fault spis d) (preset_of d) }
-{
-    if is_unbuilt_preset(value) {
-        return Err(NOT_BUILT);
-    }
-    if !has_only(value, &PRESET_FIELDS) {
-        return Err(SHAPE);
-    }
-    let id = number_at(value, ID).ok_or(SHAPE)?;
-    let prio = number_or(value, PRIO, u64::from(DEFAULT_PRIORITY)).ok_or(SHAPE)?;
-    let edge = flag_or(value, EDGE, true).ok_or(SHAPE)?;
-    let group = number_or(value, GROUP, u64::from(DEFAULT_GROUP)).ok_or(SHAPE)?;
-    let to = number_or(value, TO, 0).ok_or(SHAPE)?;
-    if prio > u64::from(MAX_PRIORITY) || prio % u64::from(PRIORITY_STEP) != 0 {
-        return Err(LIMIT);
-    }
-    if group > u64::from(MAX_GROUP) {
-        return Err(LIMIT);
-    }
-    if !is_spi(id, spis) {
-        return Err(UNKNOWN_ACTOR);
-    }
-    Ok(Preset {
-        id: id as u32,
-        prio: prio as u8,
-        edge,
-        group: group as u8,
-        to: Some(to as u32),
-        vcpu: None,
-    })
-}
-
-/// The presets of a guest with this many SPIs, or the first of their faults.
-fn presets(alloc: Global, values: &[Value], spis: u32) -> Result<Result<PresetList, u8>, AllocError>
-    requires { spis ≤ MAX_SPIS }
-    ensures { let ds = map view values.now in IfOk result (λ found. found
-        ≡ ok_unless (first_of (map (preset_fault spis) ds)) (map preset_of ds)) }
-{
-    let mut presets = PresetList::new(alloc);
-    let mut fault = None;
-    for value in values {
-        match preset(value, spis) {
-            Ok(preset) => presets.push(preset)?,
-            Err(code) => fault = first_code(fault, Some(code)),
+impl Numbers {
+    /// What the guest has of each kind, if each number is in its range.
+    fn shape(self) -> Option<GuestShape>
+        ensures some { IfSome result (λ shape. (are_in_range self ≡ true) × (shape ≡ shape_with self)) }
+        ensures none { IfNone result (are_in_range self ≡ false) }
+    {
+        let is_in_range = (1..=u64::from(MAX_VCPUS)).contains(&self.vcpus)
+            && self.spis <= u64::from(MAX_SPIS)
+            && self.spis % u64::from(SPI_STEP) == 0
+            && self.espis <= u64::from(MAX_ESPIS)
+            && self.espis % u64::from(SPI_STEP) == 0
+            && self.devices <= u64::from(MAX_DEVICES)
+            && self.lpis <= u64::from(MAX_LPIS)
+            && self.ram <= u64::from(MAX_RAM)
+            && self.ram % u64::from(RAM_STEP) == 0;
+        if !is_in_range {
+            return None;
         }
+        Some(GuestShape {
+            vcpus: self.vcpus as u32,
+            spis: self.spis as u32,
+            espis: self.espis as u32,
+            devices: self.devices as u32,
+            lpis: self.lpis as u32,
+            ram: self.ram as u32,
+        })
     }
-    match fault {
-        Some(code) => Ok(Err(code)),
-        None => Ok(Ok(presets)),
-    }
+}
+
+/// The numbers of a guest, if each is one.
+fn numbers_in(value: &Value) -> Option<Numbers>
+    ensures some { let d = view value.now in IfSome result (λ found. (are_numbers d ≡ true) × (found ≡ numbers_of d)) }
+    ensures none { IfNone result (are_numbers (view value.now) ≡ false) }
+{
+    Some(Numbers {
+        vcpus: number_or(value, VCPUS, u64::from(DEFAULT_VCPUS))?,
+        spis: number_or(value, SPIS, u64::from(DEFAULT_SPIS))?,
+        espis: number_or(value, ESPIS, u64::from(DEFAULT_ESPIS))?,
+        devices: number_or(value, DEVICES, u64::from(DEFAULT_DEVICES))?,
+        lpis: number_or(value, LPIS, u64::from(DEFAULT_LPIS))?,
+        ram: number_or(value, RAM, u64::from(DEFAULT_RAM))?,
+    })
 }
 
 /// Whether a guest is of a form that is not built: with more vCPUs than one, with LPIs or with memory.
@@ -121,8 +95,8 @@ fn is_unbuilt_guest(value: &Value) -> bool
     ensures { result ≡ is_unbuilt_guest_in (view value.now) }
 {
     number_or(value, VCPUS, u64::from(DEFAULT_VCPUS)).is_some_and(|vcpus| vcpus > 1)
-        || number_or(value, LPIS, 0).is_some_and(|lpis| lpis != 0)
-        || number_or(value, RAM, 0).is_some_and(|ram| ram != 0)
+        || number_or(value, LPIS, u64::from(DEFAULT_LPIS)).is_some_and(|lpis| lpis != 0)
+        || number_or(value, RAM, u64::from(DEFAULT_RAM)).is_some_and(|ram| ram != 0)
 }
 
 /// What a guest has of each kind and whether it is on, or the fault of its own fields.
@@ -135,36 +109,24 @@ fn head(value: &Value) -> Result<(GuestShape, bool), u8>
     if !has_only(value, &GUEST_FIELDS) {
         return Err(SHAPE);
     }
-    let vcpus = number_or(value, VCPUS, u64::from(DEFAULT_VCPUS)).ok_or(SHAPE)?;
-    let spis = number_or(value, SPIS, u64::from(DEFAULT_SPIS)).ok_or(SHAPE)?;
-    let devices = number_or(value, DEVICES, u64::from(DEFAULT_DEVICES)).ok_or(SHAPE)?;
-    let lpis = number_or(value, LPIS, 0).ok_or(SHAPE)?;
-    let ram = number_or(value, RAM, 0).ok_or(SHAPE)?;
+    let numbers = numbers_in(value).ok_or(SHAPE)?;
     let on = flag_or(value, ON, false).ok_or(SHAPE)?;
     list_or_empty(value, IRQS).ok_or(SHAPE)?;
-    if vcpus < 1 || spis > u64::from(MAX_SPIS) || spis % u64::from(SPI_STEP) != 0 {
-        return Err(LIMIT);
-    }
-    if devices > u64::from(MAX_DEVICES) {
-        return Err(LIMIT);
-    }
-    let shape = GuestShape {
-        vcpus: vcpus as u32,
-        spis: spis as u32,
-        devices: devices as u32,
-        lpis: lpis as u32,
-        ram: ram as u32,
-    };
+    let shape = numbers.shape().ok_or(LIMIT)?;
     Ok((shape, on))
 }
 
-/// How many SPIs a guest has, which is never more than there may be.
-fn spi_count(value: &Value) -> u32
-    ensures value { result ≡ spis_of (view value.now) }
-    ensures in_range { result ≤ MAX_SPIS }
+/// How many SPIs a guest has, which are never more than there may be.
+fn spi_counts(value: &Value) -> SpiCounts
+    ensures spis { result.spis ≡ spis_of (view value.now) }
+    ensures espis { result.espis ≡ espis_of (view value.now) }
 {
     let spis = number_or(value, SPIS, u64::from(DEFAULT_SPIS)).unwrap_or(0);
-    spis.min(u64::from(MAX_SPIS)) as u32
+    let espis = number_or(value, ESPIS, u64::from(DEFAULT_ESPIS)).unwrap_or(0);
+    SpiCounts {
+        spis: spis.min(u64::from(MAX_SPIS)) as u32,
+        espis: espis.min(u64::from(MAX_ESPIS)) as u32,
+    }
 }
 
 /// A guest, or the first fault of it and its presets.
@@ -172,7 +134,7 @@ fn guest(alloc: Global, value: &Value) -> Result<Result<GuestSpec, u8>, AllocErr
     ensures { let d = view value.now in
         IfOk result (λ found. found ≡ ok_unless (guest_fault d) (guest_of d)) }
 {
-    let presets = presets(alloc, elements_at(value, IRQS), spi_count(value))?;
+    let presets = presets(alloc, elements_at(value, IRQS), spi_counts(value))?;
     match both(head(value), presets) {
         Ok(((shape, on), presets)) => Ok(Ok(GuestSpec { shape, on, presets })),
         Err(code) => Ok(Err(code)),

@@ -1,21 +1,22 @@
-//! Scenarios: what they are, and how one is read from a JSON value.
+//! How a scenario is read from a JSON value.
 #![tactic(auto)]
 
+mod defaults;
 mod fault;
 mod field;
 mod guest;
-mod outcome;
+mod preset;
 mod reading;
-mod scenario;
+mod refusal;
 mod step;
 #[cfg(test)]
 mod tests;
 
-pub use outcome::{
-    Answer, Answers, ColEnd, ColEnds, CpuEnd, CpuEnds, DevEnd, DevEnds, End, Ends, EvtEnd, EvtEnds,
-    IrqEnd, IrqEnds, ItsEnd, LrList, RunOut,
-};
 pub use reading::read;
-pub use scenario::{
-    Fault, GuestSpec, Guests, Mode, Preset, PresetList, ReadRefusal, Scenario, Step, Steps,
+pub use refusal::ReadRefusal;
+pub use scn_base::{
+    ADDRESS, Answer, Answers, ColEnd, ColEnds, CpuEnd, CpuEnds, DevEnd, DevEnds, End, Ends, EvtEnd,
+    EvtEnds, Fault, GuestSpec, Guests, IrqEnd, IrqEnds, ItsEnd, LIMIT, LrList, Mode, NOT_BUILT,
+    NOT_LOADED, PE_BUSY, PE_STEP, Preset, PresetList, RunOut, SHAPE, Scenario, Step, Steps,
+    UNKNOWN_ACTOR, UNKNOWN_REGISTER, WIRE_LEVEL,
 };

@@ -3,17 +3,19 @@ ghost use Rattle.std.specs.Prelude.{◌≡◌, ◌≤◌, MatchResult, IfOk, IfE
 ghost use Rattle.serde_json.specs.View.{view};
 ghost use Rattle.gic_base.specs.Shape.{IsShape};
 ghost use Rattle.scn_read.specs.Reading.{is_unbuilt_scenario as is_unbuilt_scenario_in, scenario_fault, steps_of, reading, Refuses, IsOpening};
-ghost use Rattle.scn_read.specs.Good.{IsGood};
+ghost use Rattle.scn_base.specs.Good.{IsGood};
 
+use crate::defaults::{DEFAULT_LIST_REGISTERS, DEFAULT_PES};
 use crate::fault::both;
 use crate::field::{elements_at, has_only, list_at, number_or};
 use crate::guest::guests;
-use crate::scenario::{
-    DEFAULT_LIST_REGISTERS, DEFAULT_PES, Fault, LIMIT, MAX_STEPS, Mode, NOT_BUILT, ReadRefusal,
-    SHAPE, Scenario, Steps,
-};
+use crate::refusal::ReadRefusal;
 use crate::step::step;
-use gic_base::{GuestShape, MAX_LIST_REGISTERS};
+use gic_base::{GuestShape, is_list_register_count};
+use scn_base::{
+    BUILT_PES, Fault, LIMIT, MAX_GUESTS, MAX_PES, MAX_STEPS, Mode, NOT_BUILT, SHAPE, Scenario,
+    Steps,
+};
 use serde_json::Value;
 use std::alloc::Global;
 
@@ -43,7 +45,7 @@ struct Parts<'v> {
 fn is_unbuilt_scenario(value: &Value) -> bool
     ensures { result ≡ is_unbuilt_scenario_in (view value.now) }
 {
-    number_or(value, PES, u64::from(DEFAULT_PES)).is_some_and(|pes| pes > 1)
+    number_or(value, PES, u64::from(DEFAULT_PES)).is_some_and(|pes| pes > u64::from(BUILT_PES))
         || list_at(value, GUESTS).is_some_and(|guests| guests.len() > 1)
 }
 
@@ -63,10 +65,10 @@ fn opening(value: &Value) -> Result<Parts<'_>, u8>
     let lrs = number_or(value, LRS, u64::from(DEFAULT_LIST_REGISTERS)).ok_or(SHAPE)?;
     let guests = list_at(value, GUESTS).ok_or(SHAPE)?;
     let steps = list_at(value, STEPS).ok_or(SHAPE)?;
-    if pes < 1 || lrs < 1 || lrs > MAX_LIST_REGISTERS as u64 {
+    if !(1..=u64::from(MAX_PES)).contains(&pes) || !is_list_register_count(lrs) {
         return Err(LIMIT);
     }
-    if guests.is_empty() || steps.len() > MAX_STEPS {
+    if !(1..=MAX_GUESTS).contains(&guests.len()) || steps.len() > MAX_STEPS {
         return Err(LIMIT);
     }
     Ok(Parts {
@@ -83,9 +85,9 @@ fn steps(
     shape: &GuestShape,
 ) -> Result<Steps, ReadRefusal>
     requires shape { IsShape shape.now }
-    requires few { length values.now ≤ MAX_STEPS }
-    ensures ok { IfOk result (λ steps. steps_of mode shape.now FIRST_STEP (map view values.now) ≡ Ok steps) }
-    ensures bad { IfErr result (Refuses (steps_of mode shape.now FIRST_STEP (map view values.now))) }
+    requires few { length values.now ≤ 100000 }
+    ensures ok { IfOk result (λ steps. steps_of mode shape.now 1 (map view values.now) ≡ Ok steps) }
+    ensures bad { IfErr result (Refuses (steps_of mode shape.now 1 (map view values.now))) }
 {
     let mut steps = Steps::new(alloc);
     for (index, value) in values.iter().enumerate() {
@@ -127,7 +129,7 @@ pub fn read(alloc: Global, value: &Value, mode: Mode) -> Result<Scenario, ReadRe
     let shape = guests.as_slice()[0].shape;
     let steps = steps(alloc, opening.steps, mode, &shape)?;
     Ok(Scenario {
-        pes: DEFAULT_PES,
+        pes: BUILT_PES,
         lrs: opening.lrs,
         guests,
         steps,

@@ -6,11 +6,9 @@ ghost use Rattle.scn_read.specs.Fault.{ok_unless};
 ghost use Rattle.scn_read.specs.Step.{is_unbuilt_step as is_unbuilt_step_in, message_fault, message_of, is_usable as is_usable_for, access_fault, access_of, lrs_fault, lrs_of, step_of};
 
 use crate::field::{flag_or, has_any, has_only, number_at, pair_at, text_at};
-use crate::guest::is_spi;
-use crate::scenario::{
-    DEFAULT_PES, Mode, NOT_BUILT, PE_STEP, SHAPE, Step, UNKNOWN_ACTOR, UNKNOWN_REGISTER,
-};
+use crate::preset::SpiCounts;
 use gic_base::{DeviceOp, GuestOp, GuestShape, IccReg, PeOp};
+use scn_base::{BUILT_PES, Mode, NOT_BUILT, PE_STEP, SHAPE, Step, UNKNOWN_ACTOR, UNKNOWN_REGISTER};
 use serde_json::Value;
 
 const DEV: &str = "dev";
@@ -57,7 +55,11 @@ fn message(value: &Value, shape: &GuestShape) -> Result<Step, u8>
     }
     let (guest, device) = pair_at(value, DEV).ok_or(SHAPE)?;
     let spi = number_at(value, MESSAGE).ok_or(SHAPE)?;
-    if guest != 0 || device >= u64::from(shape.devices) || !is_spi(spi, shape.spis) {
+    let counts = SpiCounts {
+        spis: shape.spis,
+        espis: shape.espis,
+    };
+    if guest != 0 || device >= u64::from(shape.devices) || !counts.contains(spi) {
         return Err(UNKNOWN_ACTOR);
     }
     Ok(Step::Device {
@@ -118,7 +120,7 @@ fn list_registers(value: &Value, mode: Mode) -> Result<Step, u8>
     if mode == Mode::Threads {
         return Err(PE_STEP);
     }
-    if pe >= u64::from(DEFAULT_PES) {
+    if pe >= u64::from(BUILT_PES) {
         return Err(UNKNOWN_ACTOR);
     }
     Ok(Step::Pe {

@@ -1,6 +1,7 @@
-use crate::scenario::MAX_STEPS;
+//! Scenarios and their faults, worked out by hand.
 use crate::{Fault, Mode, Preset, ReadRefusal, Scenario, Step, read};
 use gic_base::{DeviceOp, GuestOp, GuestShape, IccReg};
+use scn_base::MAX_STEPS;
 use serde_json::Value;
 use std::alloc::Global;
 use std::process::Abort;
@@ -82,7 +83,7 @@ const SCENARIOS: [(&str, Want); 34] = [
     (r#"{"guests":[{}],"steps":[[]]}"#, Some((1, 1))),
 ];
 /// Guests, each for the scenario of that guest and no step.
-const GUESTS: [(&str, Want); 23] = [
+const GUESTS: [(&str, Want); 29] = [
     (
         r#"{"on":true,"vcpus":1,"spis":0,"devices":0,"lpis":0,"ram":0,"irqs":[]}"#,
         None,
@@ -104,7 +105,13 @@ const GUESTS: [(&str, Want); 23] = [
     (r#"{"spis":18446744073709551615}"#, Some((2, 0))),
     (r#"{"devices":5}"#, Some((2, 0))),
     (r#"{"vcpus":2}"#, Some((10, 0))),
-    (r#"{"vcpus":9}"#, Some((10, 0))),
+    (r#"{"vcpus":33}"#, Some((10, 0))),
+    (r#"{"espis":1024,"irqs":[{"id":4096},{"id":5119}]}"#, None),
+    (r#"{"espis":0,"irqs":[{"id":4096}]}"#, Some((4, 0))),
+    (r#"{"espis":32,"irqs":[{"id":4128}]}"#, Some((4, 0))),
+    (r#"{"espis":33}"#, Some((2, 0))),
+    (r#"{"espis":1056}"#, Some((2, 0))),
+    (r#"{"espis":true}"#, Some((1, 0))),
     (r#"{"lpis":1}"#, Some((10, 0))),
     (r#"{"ram":4}"#, Some((10, 0))),
     (r#"{"ram":8,"on":1,"spis":33}"#, Some((10, 0))),
@@ -278,6 +285,7 @@ fn reads_the_first_scenario(rt: HostRuntime) -> Result<(), Fail> {
             let shape = GuestShape {
                 vcpus: 1,
                 spis: 32,
+                espis: 0,
                 devices: 1,
                 lpis: 0,
                 ram: 0,
@@ -331,10 +339,14 @@ fn gives_codes(rt: HostRuntime) -> Result<(), Fail> {
     let before = r#"{"guests":[{"irqs":["#;
     expect_faults(&rt, alloc, before, &PRESETS, r#"]}],"steps":[]}"#)?;
     expect_faults(&rt, alloc, r#"{"guests":[{}],"steps":["#, &STEPS, "]}")?;
-    let before = r#"{"guests":[{"spis":960}],"steps":["#;
+    let before = r#"{"guests":[{"spis":960,"espis":32}],"steps":["#;
     let last = [
         (r#"{"dev":[0,0],"message":991}"#, None),
         (r#"{"dev":[0,0],"message":992}"#, Some((4, 1))),
+        (r#"{"dev":[0,0],"message":4095}"#, Some((4, 1))),
+        (r#"{"dev":[0,0],"message":4096}"#, None),
+        (r#"{"dev":[0,0],"message":4127}"#, None),
+        (r#"{"dev":[0,0],"message":4128}"#, Some((4, 1))),
     ];
     expect_faults(&rt, alloc, before, &last, "]}")?;
     Ok(())

@@ -2,7 +2,6 @@
 use Rattle.std.specs.Prelude.{ℕ, ◌&&◌, Option, None, List, map, slice_index}
 use Rattle.std.specs.List.{slice_index_or, range_with_len}
 use Rattle.std.specs.Option.{option_map}
-use Rattle.gic_base.specs.declared.held.TheConstants.{MAX_LIST_REGISTERS}
 use Rattle.gic_base.specs.declared.held.HeldIrq.{HeldIrq}
 use Rattle.gic_base.specs.declared.held.Back.{Back}
 use Rattle.gic_lr.specs.Entry.{unpacked, state_has_pending, state_has_active}
@@ -25,4 +24,4 @@ back_at regs held place = option_map (back_of (slice_index regs.lr place)) (slic
 
 -- what comes back from each list register
 abbrev pub folded : IchRegs → List (Option HeldIrq) → List (Option Back)
-folded regs held = map (back_at regs held) (range_with_len 0 MAX_LIST_REGISTERS)
+folded regs held = map (back_at regs held) (range_with_len 0 16)

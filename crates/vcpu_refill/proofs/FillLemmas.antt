@@ -8,6 +8,7 @@ use Rattle.std.proofs.lemmas.List.{length-map, length-take, ext_get_or, get_or-m
 use Rattle.std.proofs.lemmas.List.Edits.{fill_by_more}
 use Rattle.std.proofs.lemmas.Option.{slice_get-map, slice_get_past}
 use Rattle.gic_prio.specs.declared.cpu.CpuRec.{CpuRec}
+use Rattle.gic_base.specs.declared.shape.GuestShape.{GuestShape}
 use Rattle.vcpu_refill.specs.declared.offer.Offer.{Offer}
 use Rattle.vcpu_refill.specs.declared.fill.Choice.{Choice}
 use Rattle.vcpu_refill.specs.Ranking.{in_places}
@@ -32,18 +33,18 @@ slice_get-take (suc n) (x ∷ xs) zero less = refl
 slice_get-take (suc n) (x ∷ xs) (suc k) less = slice_get-take n xs k (omega (arith, less))
 
 -- an active interrupt stands at its own place
-pub choice_active : (active deliverable : List Offer) (cut : Bool) (vcpu : ℕ) (cpu : CpuRec) (n place : ℕ) (kept : List (Option Offer)) → kept ≡ in_places active → place < 16 → place < length active → option_map (active_choice cut vcpu cpu) (get_or kept place None) ≡ slice_get (choices_of active deliverable cut vcpu cpu n) place
-choice_active active deliverable cut vcpu cpu n place kept is few within =
-    ap (option_map (active_choice cut vcpu cpu)) (ap (λ places. get_or places place None) is ∙ get_or-in_places active place None few)
-    ∙ sym (slice_get-map (active_choice cut vcpu cpu) active place)
-    ∙ sym (slice_get-append_left (map (active_choice cut vcpu cpu) active) (map pending_choice (take (n - length active) deliverable)) place (omega (arith, within, length-map active (active_choice cut vcpu cpu))))
+pub choice_active : (active deliverable : List Offer) (cut : Bool) (vcpu : ℕ) (cpu : CpuRec) (shape : GuestShape) (n place : ℕ) (kept : List (Option Offer)) → kept ≡ in_places active → place < 16 → place < length active → option_map (active_choice cut vcpu cpu shape) (get_or kept place None) ≡ slice_get (choices_of active deliverable cut vcpu cpu shape n) place
+choice_active active deliverable cut vcpu cpu shape n place kept is few within =
+    ap (option_map (active_choice cut vcpu cpu shape)) (ap (λ places. get_or places place None) is ∙ get_or-in_places active place None few)
+    ∙ sym (slice_get-map (active_choice cut vcpu cpu shape) active place)
+    ∙ sym (slice_get-append_left (map (active_choice cut vcpu cpu shape) active) (map pending_choice (take (n - length active) deliverable)) place (omega (arith, within, length-map active (active_choice cut vcpu cpu shape))))
 
 -- a deliverable one stands behind the active ones
-pub choice_pending : (active deliverable : List Offer) (cut : Bool) (vcpu : ℕ) (cpu : CpuRec) (n place : ℕ) (kept : List (Option Offer)) → kept ≡ in_places deliverable → place < 16 → length active ≤ place → place < n → option_map pending_choice (get_or kept (place - length active) None) ≡ slice_get (choices_of active deliverable cut vcpu cpu n) place
-choice_pending active deliverable cut vcpu cpu n place kept is few past within =
-    let first = map (active_choice cut vcpu cpu) active in
+pub choice_pending : (active deliverable : List Offer) (cut : Bool) (vcpu : ℕ) (cpu : CpuRec) (shape : GuestShape) (n place : ℕ) (kept : List (Option Offer)) → kept ≡ in_places deliverable → place < 16 → length active ≤ place → place < n → option_map pending_choice (get_or kept (place - length active) None) ≡ slice_get (choices_of active deliverable cut vcpu cpu shape n) place
+choice_pending active deliverable cut vcpu cpu shape n place kept is few past within =
+    let first = map (active_choice cut vcpu cpu shape) active in
     let then_ = map pending_choice (take (n - length active) deliverable) in
-    let at : length first + (place - length active) ≡ place = omega (arith, past, length-map active (active_choice cut vcpu cpu)) in
+    let at : length first + (place - length active) ≡ place = omega (arith, past, length-map active (active_choice cut vcpu cpu shape)) in
     ap (option_map pending_choice)
     (ap (λ places. get_or places (place - length active) None) is
     ∙ get_or-in_places deliverable (place - length active) None (omega (arith, few))
@@ -53,12 +54,12 @@ choice_pending active deliverable cut vcpu cpu n place kept is few past within =
     ∙ ap (slice_get (first ++ then_)) at
 
 -- nothing stands past the list registers
-pub choice_past : (active deliverable : List Offer) (cut : Bool) (vcpu : ℕ) (cpu : CpuRec) (n place : ℕ) → length active ≤ n → n ≤ place → None ≡ slice_get (choices_of active deliverable cut vcpu cpu n) place
-choice_past active deliverable cut vcpu cpu n place fits past =
-    let first = map (active_choice cut vcpu cpu) active in
+pub choice_past : (active deliverable : List Offer) (cut : Bool) (vcpu : ℕ) (cpu : CpuRec) (shape : GuestShape) (n place : ℕ) → length active ≤ n → n ≤ place → None ≡ slice_get (choices_of active deliverable cut vcpu cpu shape n) place
+choice_past active deliverable cut vcpu cpu shape n place fits past =
+    let first = map (active_choice cut vcpu cpu shape) active in
     let rest = take (n - length active) deliverable in
     let long : length (first ++ map pending_choice rest) ≤ place =
-    omega (arith, past, fits, length-append first (map pending_choice rest), length-map active (active_choice cut vcpu cpu), length-map rest pending_choice, length-take (n - length active) deliverable) in
+    omega (arith, past, fits, length-append first (map pending_choice rest), length-map active (active_choice cut vcpu cpu shape), length-map rest pending_choice, length-take (n - length active) deliverable) in
     sym (slice_get_past (first ++ map pending_choice rest) place long)
 
 -- one more place

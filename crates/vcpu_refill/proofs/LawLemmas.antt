@@ -6,6 +6,7 @@ use Rattle.std.proofs.lemmas.List.{length-map, length-take, take-append-drop, ta
 use Rattle.std.proofs.lemmas.List.Elements.{Contains-append_left, Contains-append_right, Contains-append_cases}
 use Rattle.gic_lr.specs.declared.entry.LrState.TheVariants.{Pending, Active, Both}
 use Rattle.gic_prio.specs.declared.cpu.CpuRec.{CpuRec}
+use Rattle.gic_base.specs.declared.shape.GuestShape.{GuestShape}
 use Rattle.vcpu_refill.specs.declared.offer.Offer.{Offer}
 use Rattle.vcpu_refill.specs.declared.fill.Choice.{Choice}
 use Rattle.vcpu_refill.specs.Order.{is_active_by, is_deliverable_to, is_deliverable_once_inactive, active_among, deliverable_among}
@@ -16,117 +17,117 @@ use Rattle.vcpu_refill.proofs.ElementLemmas.{Contains-filter, Contains-map, Cont
 use Rattle.vcpu_refill.proofs.OrderLemmas.{Contains-ordered, in_order, in_order-ordered, back_not_before, one_is_before}
 
 -- out of trap mode the choices are not more than the list registers
-choices_few : (active deliverable : List Offer) (cut : Bool) (vcpu : ℕ) (cpu : CpuRec) (n : ℕ) → is_trapping active deliverable n ≡ false → length (choices_of active deliverable cut vcpu cpu n) ≤ n
-choices_few active deliverable cut vcpu cpu n is =
-    let first = map (active_choice cut vcpu cpu) active in
+choices_few : (active deliverable : List Offer) (cut : Bool) (vcpu : ℕ) (cpu : CpuRec) (shape : GuestShape) (n : ℕ) → is_trapping active deliverable n ≡ false → length (choices_of active deliverable cut vcpu cpu shape n) ≤ n
+choices_few active deliverable cut vcpu cpu shape n is =
+    let first = map (active_choice cut vcpu cpu shape) active in
     let rest = take (n - length active) deliverable in
     let fits : length active + min 1 (length deliverable) ≤ n = grind (arith, common_steps, is) in
-    omega (arith, fits, length-append first (map pending_choice rest), length-map active (active_choice cut vcpu cpu), length-map rest pending_choice, length-take (n - length active) deliverable)
+    omega (arith, fits, length-append first (map pending_choice rest), length-map active (active_choice cut vcpu cpu shape), length-map rest pending_choice, length-take (n - length active) deliverable)
 
 -- a choice stands in a list register
-placed : (active deliverable : List Offer) (vcpu : ℕ) (cpu : CpuRec) (n : ℕ) (choice : Choice) → n ≤ 16 → is_trapping active deliverable n ≡ false → Contains (choices_of active deliverable (is_cut active deliverable n) vcpu cpu n) choice → IsPlanned (plan_from active deliverable vcpu cpu n) (offer_of choice)
-placed active deliverable vcpu cpu n choice few untrapped has =
-    let choices = choices_of active deliverable (is_cut active deliverable n) vcpu cpu n in
+placed : (active deliverable : List Offer) (vcpu : ℕ) (cpu : CpuRec) (shape : GuestShape) (n : ℕ) (choice : Choice) → n ≤ 16 → is_trapping active deliverable n ≡ false → Contains (choices_of active deliverable (is_cut active deliverable n) vcpu cpu shape n) choice → IsPlanned (plan_from active deliverable vcpu cpu shape n) (offer_of choice)
+placed active deliverable vcpu cpu shape n choice few untrapped has =
+    let choices = choices_of active deliverable (is_cut active deliverable n) vcpu cpu shape n in
     record {
       choice = choice;
       among =
           subst (λ b. Contains (in_places (if b then [] else choices)) (Some choice)) (sym untrapped)
-          (Contains-in_places choices choice (omega (arith, few, choices_few active deliverable (is_cut active deliverable n) vcpu cpu n untrapped)) has);
+          (Contains-in_places choices choice (omega (arith, few, choices_few active deliverable (is_cut active deliverable n) vcpu cpu shape n untrapped)) has);
       is = refl;
     }
 
 -- an active interrupt is among the choices
-active_placed : (active deliverable : List Offer) (vcpu : ℕ) (cpu : CpuRec) (n : ℕ) (offer : Offer) → n ≤ 16 → is_trapping active deliverable n ≡ false → Contains active offer → IsPlanned (plan_from active deliverable vcpu cpu n) offer
-active_placed active deliverable vcpu cpu n offer few untrapped has =
+active_placed : (active deliverable : List Offer) (vcpu : ℕ) (cpu : CpuRec) (shape : GuestShape) (n : ℕ) (offer : Offer) → n ≤ 16 → is_trapping active deliverable n ≡ false → Contains active offer → IsPlanned (plan_from active deliverable vcpu cpu shape n) offer
+active_placed active deliverable vcpu cpu shape n offer few untrapped has =
     let cut = is_cut active deliverable n in
-    placed active deliverable vcpu cpu n (active_choice cut vcpu cpu offer) few untrapped
-    (Contains-append_left (map (active_choice cut vcpu cpu) active) (map pending_choice (take (n - length active) deliverable)) (active_choice cut vcpu cpu offer)
-    (Contains-map (active_choice cut vcpu cpu) active offer has))
+    placed active deliverable vcpu cpu shape n (active_choice cut vcpu cpu shape offer) few untrapped
+    (Contains-append_left (map (active_choice cut vcpu cpu shape) active) (map pending_choice (take (n - length active) deliverable)) (active_choice cut vcpu cpu shape offer)
+    (Contains-map (active_choice cut vcpu cpu shape) active offer has))
 
 -- so is one of the first deliverable ones
-pending_placed : (active deliverable : List Offer) (vcpu : ℕ) (cpu : CpuRec) (n : ℕ) (offer : Offer) → n ≤ 16 → is_trapping active deliverable n ≡ false → Contains (take (n - length active) deliverable) offer → IsPlanned (plan_from active deliverable vcpu cpu n) offer
-pending_placed active deliverable vcpu cpu n offer few untrapped has =
+pending_placed : (active deliverable : List Offer) (vcpu : ℕ) (cpu : CpuRec) (shape : GuestShape) (n : ℕ) (offer : Offer) → n ≤ 16 → is_trapping active deliverable n ≡ false → Contains (take (n - length active) deliverable) offer → IsPlanned (plan_from active deliverable vcpu cpu shape n) offer
+pending_placed active deliverable vcpu cpu shape n offer few untrapped has =
     let cut = is_cut active deliverable n in
-    placed active deliverable vcpu cpu n (pending_choice offer) few untrapped
-    (Contains-append_right (map (active_choice cut vcpu cpu) active) (map pending_choice (take (n - length active) deliverable)) (pending_choice offer)
+    placed active deliverable vcpu cpu shape n (pending_choice offer) few untrapped
+    (Contains-append_right (map (active_choice cut vcpu cpu shape) active) (map pending_choice (take (n - length active) deliverable)) (pending_choice offer)
     (Contains-map pending_choice (take (n - length active) deliverable) offer has))
 
 pub every_active : EveryActiveIsPlanned
-every_active offers vcpu cpu n offer few has is untrapped =
-    active_placed (active_among offers vcpu) (deliverable_among offers vcpu cpu) vcpu cpu n offer few untrapped
+every_active offers vcpu cpu shape n offer few has is untrapped =
+    active_placed (active_among offers vcpu) (deliverable_among offers vcpu cpu shape) vcpu cpu shape n offer few untrapped
     (Contains-ordered (filter (is_active_by vcpu) offers) offer (Contains-filter (is_active_by vcpu) offers offer is has))
 
 pub every_deliverable : EveryDeliverableIsPlanned
-every_deliverable offers vcpu cpu n offer few has is untrapped uncut =
+every_deliverable offers vcpu cpu shape n offer few has is untrapped uncut =
     let active = active_among offers vcpu in
-    let deliverable = deliverable_among offers vcpu cpu in
+    let deliverable = deliverable_among offers vcpu cpu shape in
     let fits : length deliverable ≤ n - length active = all_fit active deliverable n untrapped uncut in
-    pending_placed active deliverable vcpu cpu n offer few untrapped
+    pending_placed active deliverable vcpu cpu shape n offer few untrapped
     (subst (λ xs. Contains xs offer) (sym (take_all (n - length active) deliverable fits))
-    (Contains-ordered (filter (is_deliverable_to vcpu cpu) offers) offer (Contains-filter (is_deliverable_to vcpu cpu) offers offer is has)))
+    (Contains-ordered (filter (is_deliverable_to vcpu cpu shape) offers) offer (Contains-filter (is_deliverable_to vcpu cpu shape) offers offer is has)))
   where
     all_fit : (active deliverable : List Offer) (n : ℕ) → is_trapping active deliverable n ≡ false → is_cut active deliverable n ≡ false → length deliverable ≤ n - length active
     all_fit active deliverable n untrapped uncut = grind (arith, common_steps, untrapped, uncut)
 
 -- what stands in a list register is a choice, and nothing is in trap mode
-chosen_from : (active deliverable : List Offer) (vcpu : ℕ) (cpu : CpuRec) (n : ℕ) (chosen : Choice) → Contains (plan_from active deliverable vcpu cpu n).choice (Some chosen) → (is_trapping active deliverable n ≡ false) × Contains (choices_of active deliverable (is_cut active deliverable n) vcpu cpu n) chosen
-chosen_from active deliverable vcpu cpu n chosen has = by_mode (is_trapping active deliverable n) (Contains-from_places (if is_trapping active deliverable n then [] else choices_of active deliverable (is_cut active deliverable n) vcpu cpu n) chosen has)
+chosen_from : (active deliverable : List Offer) (vcpu : ℕ) (cpu : CpuRec) (shape : GuestShape) (n : ℕ) (chosen : Choice) → Contains (plan_from active deliverable vcpu cpu shape n).choice (Some chosen) → (is_trapping active deliverable n ≡ false) × Contains (choices_of active deliverable (is_cut active deliverable n) vcpu cpu shape n) chosen
+chosen_from active deliverable vcpu cpu shape n chosen has = by_mode (is_trapping active deliverable n) (Contains-from_places (if is_trapping active deliverable n then [] else choices_of active deliverable (is_cut active deliverable n) vcpu cpu shape n) chosen has)
   where
-    by_mode : (b : Bool) → Contains (if b then [] else choices_of active deliverable (is_cut active deliverable n) vcpu cpu n) chosen → (b ≡ false) × Contains (choices_of active deliverable (is_cut active deliverable n) vcpu cpu n) chosen
+    by_mode : (b : Bool) → Contains (if b then [] else choices_of active deliverable (is_cut active deliverable n) vcpu cpu shape n) chosen → (b ≡ false) × Contains (choices_of active deliverable (is_cut active deliverable n) vcpu cpu shape n) chosen
     by_mode true has = absurd (Contains-nothing chosen has)
     by_mode false has = (refl, has)
 
 -- an active interrupt never has State 1
-active_not_pending : (cut : Bool) (vcpu : ℕ) (cpu : CpuRec) (offer : Offer) → active_state cut vcpu cpu offer ≡ Pending → ⊥
-active_not_pending cut vcpu cpu offer h = by_test (not cut && is_deliverable_once_inactive vcpu cpu offer) h
+active_not_pending : (cut : Bool) (vcpu : ℕ) (cpu : CpuRec) (shape : GuestShape) (offer : Offer) → active_state cut vcpu cpu shape offer ≡ Pending → ⊥
+active_not_pending cut vcpu cpu shape offer h = by_test (not cut && is_deliverable_once_inactive vcpu cpu shape offer) h
   where
     by_test : (b : Bool) → (if b then Both else Active) ≡ Pending → ⊥
     by_test true h = cc
     by_test false h = cc
 
 -- a choice with State 1 is of one of the first deliverable interrupts
-pending_from : (active deliverable : List Offer) (cut : Bool) (vcpu : ℕ) (cpu : CpuRec) (n : ℕ) (chosen : Choice) → Contains (choices_of active deliverable cut vcpu cpu n) chosen → chosen.entry.state ≡ Pending → Contains (take (n - length active) deliverable) (offer_of chosen)
-pending_from active deliverable cut vcpu cpu n chosen has state =
-    elim (Contains-append_cases (map (active_choice cut vcpu cpu) active) (map pending_choice (take (n - length active) deliverable)) chosen has) [
+pending_from : (active deliverable : List Offer) (cut : Bool) (vcpu : ℕ) (cpu : CpuRec) (shape : GuestShape) (n : ℕ) (chosen : Choice) → Contains (choices_of active deliverable cut vcpu cpu shape n) chosen → chosen.entry.state ≡ Pending → Contains (take (n - length active) deliverable) (offer_of chosen)
+pending_from active deliverable cut vcpu cpu shape n chosen has state =
+    elim (Contains-append_cases (map (active_choice cut vcpu cpu shape) active) (map pending_choice (take (n - length active) deliverable)) chosen has) [
       | inl first ↦
-          let found = map_cases (active_choice cut vcpu cpu) active chosen first in
-          absurd (active_not_pending cut vcpu cpu found.0 (ap (λ choice. choice.entry.state) found.2 ∙ state))
+          let found = map_cases (active_choice cut vcpu cpu shape) active chosen first in
+          absurd (active_not_pending cut vcpu cpu shape found.0 (ap (λ choice. choice.entry.state) found.2 ∙ state))
       | inr rest ↦
           let found = map_cases pending_choice (take (n - length active) deliverable) chosen rest in
           subst (Contains (take (n - length active) deliverable)) (ap offer_of found.2) found.1
     ]
 
-left_behind : (active deliverable : List Offer) (vcpu : ℕ) (cpu : CpuRec) (n : ℕ) (left : Offer) (chosen : Choice) → n ≤ 16 → in_order deliverable ≡ true → Contains deliverable left → (IsPlanned (plan_from active deliverable vcpu cpu n) left → ⊥) → Contains (plan_from active deliverable vcpu cpu n).choice (Some chosen) → chosen.entry.state ≡ Pending → ComesAfter left (offer_of chosen)
-left_behind active deliverable vcpu cpu n left chosen few sorted among out has state =
-    let mode = chosen_from active deliverable vcpu cpu n chosen has in
+left_behind : (active deliverable : List Offer) (vcpu : ℕ) (cpu : CpuRec) (shape : GuestShape) (n : ℕ) (left : Offer) (chosen : Choice) → n ≤ 16 → in_order deliverable ≡ true → Contains deliverable left → (IsPlanned (plan_from active deliverable vcpu cpu shape n) left → ⊥) → Contains (plan_from active deliverable vcpu cpu shape n).choice (Some chosen) → chosen.entry.state ≡ Pending → ComesAfter left (offer_of chosen)
+left_behind active deliverable vcpu cpu shape n left chosen few sorted among out has state =
+    let mode = chosen_from active deliverable vcpu cpu shape n chosen has in
     let front = take (n - length active) deliverable in
     let back = drop (n - length active) deliverable in
     let whole : front ++ back ≡ deliverable = take-append-drop (n - length active) deliverable in
-    let chosen_in : Contains front (offer_of chosen) = pending_from active deliverable (is_cut active deliverable n) vcpu cpu n chosen mode.1 state in
+    let chosen_in : Contains front (offer_of chosen) = pending_from active deliverable (is_cut active deliverable n) vcpu cpu shape n chosen mode.1 state in
     elim (Contains-append_cases front back left (subst (λ xs. Contains xs left) (sym whole) among)) [
-      | inl in_front ↦ absurd (out (pending_placed active deliverable vcpu cpu n left few mode.0 in_front))
+      | inl in_front ↦ absurd (out (pending_placed active deliverable vcpu cpu shape n left few mode.0 in_front))
       | inr in_back ↦
           let later = back_not_before front back (offer_of chosen) left (ap in_order whole ∙ sorted) chosen_in in_back in
           record { not_before = later; after = one_is_before left (offer_of chosen) later }
     ]
 
 pub left_out : LeftOutComesAfter
-left_out offers vcpu cpu n left chosen few has is out among state =
-    left_behind (active_among offers vcpu) (deliverable_among offers vcpu cpu) vcpu cpu n left chosen few (in_order-ordered (filter (is_deliverable_to vcpu cpu) offers))
-    (Contains-ordered (filter (is_deliverable_to vcpu cpu) offers) left (Contains-filter (is_deliverable_to vcpu cpu) offers left is has)) out among state
+left_out offers vcpu cpu shape n left chosen few has is out among state =
+    left_behind (active_among offers vcpu) (deliverable_among offers vcpu cpu shape) vcpu cpu shape n left chosen few (in_order-ordered (filter (is_deliverable_to vcpu cpu shape) offers))
+    (Contains-ordered (filter (is_deliverable_to vcpu cpu shape) offers) left (Contains-filter (is_deliverable_to vcpu cpu shape) offers left is has)) out among state
 
 -- an active interrupt has State 3 only where nothing is cut off
-both_uncut : (cut : Bool) (vcpu : ℕ) (cpu : CpuRec) (offer : Offer) → active_state cut vcpu cpu offer ≡ Both → cut ≡ false
-both_uncut false vcpu cpu offer h = refl
-both_uncut true vcpu cpu offer h = cc
+both_uncut : (cut : Bool) (vcpu : ℕ) (cpu : CpuRec) (shape : GuestShape) (offer : Offer) → active_state cut vcpu cpu shape offer ≡ Both → cut ≡ false
+both_uncut false vcpu cpu shape offer h = refl
+both_uncut true vcpu cpu shape offer h = cc
 
 -- a choice with State 3 is of an active interrupt, and nothing is cut off
-both_from : (active deliverable : List Offer) (cut : Bool) (vcpu : ℕ) (cpu : CpuRec) (n : ℕ) (chosen : Choice) → Contains (choices_of active deliverable cut vcpu cpu n) chosen → chosen.entry.state ≡ Both → cut ≡ false
-both_from active deliverable cut vcpu cpu n chosen has state =
-    elim (Contains-append_cases (map (active_choice cut vcpu cpu) active) (map pending_choice (take (n - length active) deliverable)) chosen has) [
+both_from : (active deliverable : List Offer) (cut : Bool) (vcpu : ℕ) (cpu : CpuRec) (shape : GuestShape) (n : ℕ) (chosen : Choice) → Contains (choices_of active deliverable cut vcpu cpu shape n) chosen → chosen.entry.state ≡ Both → cut ≡ false
+both_from active deliverable cut vcpu cpu shape n chosen has state =
+    elim (Contains-append_cases (map (active_choice cut vcpu cpu shape) active) (map pending_choice (take (n - length active) deliverable)) chosen has) [
       | inl first ↦
-          let found = map_cases (active_choice cut vcpu cpu) active chosen first in
-          both_uncut cut vcpu cpu found.0 (ap (λ choice. choice.entry.state) found.2 ∙ state)
+          let found = map_cases (active_choice cut vcpu cpu shape) active chosen first in
+          both_uncut cut vcpu cpu shape found.0 (ap (λ choice. choice.entry.state) found.2 ∙ state)
       | inr rest ↦
           let found = map_cases pending_choice (take (n - length active) deliverable) chosen rest in
           let other : Pending ≡ Both = ap (λ choice. choice.entry.state) found.2 ∙ state in
@@ -134,8 +135,8 @@ both_from active deliverable cut vcpu cpu n chosen has state =
     ]
 
 pub both_leaves : BothLeavesNothingOut
-both_leaves offers vcpu cpu n chosen offer few has state among is =
+both_leaves offers vcpu cpu shape n chosen offer few has state among is =
     let active = active_among offers vcpu in
-    let deliverable = deliverable_among offers vcpu cpu in
-    let mode = chosen_from active deliverable vcpu cpu n chosen has in
-    every_deliverable offers vcpu cpu n offer few among is mode.0 (both_from active deliverable (is_cut active deliverable n) vcpu cpu n chosen mode.1 state)
+    let deliverable = deliverable_among offers vcpu cpu shape in
+    let mode = chosen_from active deliverable vcpu cpu shape n chosen has in
+    every_deliverable offers vcpu cpu shape n offer few among is mode.0 (both_from active deliverable (is_cut active deliverable n) vcpu cpu shape n chosen mode.1 state)

@@ -1,5 +1,5 @@
 -- Interrupts in delivery order.
-use Rattle.std.proofs.Common.{◌≡◌, ◌≢◌, Bool, true, false, not, ◌&&◌, cond, List, [], ◌∷◌, ◌++◌, Contains, ◌⊎◌, inl, inr, refl, subst, arith}
+use Rattle.std.proofs.Common.{◌≡◌, ◌≢◌, Bool, true, false, not, ◌&&◌, cond, filter, List, [], ◌∷◌, ◌++◌, Contains, ◌⊎◌, inl, inr, refl, subst, arith}
 use Rattle.std.specs.Prelude.{fold, IsTrue}
 use Rattle.std.specs.List.{list_all}
 use Rattle.std.proofs.lemmas.Grind.{common_steps}
@@ -112,3 +112,7 @@ back_not_before (z ∷ xs) ys x y h has then_ =
 -- of two INTIDs, one that is not before another comes after it
 pub one_is_before : (a b : Offer) → goes_before a b ≡ false → intid_of a.key ≢ intid_of b.key → IsTrue (goes_before b a)
 one_is_before a b h differs = grind (arith, common_steps, h, differs)
+
+-- one more interrupt of those that count is put in its place
+pub ordered_more : (counts : Offer → Bool) (xs : List Offer) (one : Offer) → ordered (filter counts (xs ++ one ∷ [])) ≡ cond (counts one) (inserted one (ordered (filter counts xs))) (ordered (filter counts xs))
+ordered_more counts xs one = grind (arith, common_steps)

@@ -1,5 +1,6 @@
 -- What a Chooser keeps of the interrupts that it was offered.
-use Rattle.std.specs.Prelude.{ℕ, ◌≡◌, List}
+use Rattle.std.specs.Prelude.{ℕ, ◌≡◌, ◌<◌, List}
+use Rattle.gic_base.specs.declared.shape.GuestShape.{GuestShape}
 use Rattle.gic_prio.specs.declared.cpu.CpuRec.{CpuRec}
 use Rattle.vcpu_refill.specs.declared.offer.Offer.{Offer}
 use Rattle.vcpu_refill.specs.declared.ranking.Ranking.{Ranking}
@@ -18,6 +19,7 @@ pub record Keeps (kept : Kept) (active deliverable : List Offer) : Type 0 where
   pub kept_active : kept.active ≡ ranking_of active
   pub kept_deliverable : kept.deliverable ≡ ranking_of deliverable
 
--- what is kept is, under this CPU record, of these interrupts in the order in which they were offered
+-- what is kept is, under this CPU record, of these interrupts in the order in which they were offered, in every guest that has the vCPU
 abbrev pub StandsFor : Kept → CpuRec → List Offer → Type 0
-StandsFor kept cpu offers = Keeps kept (active_among offers kept.vcpu) (deliverable_among offers kept.vcpu cpu)
+StandsFor kept cpu offers =
+    (shape : GuestShape) → kept.vcpu < shape.vcpus → Keeps kept (active_among offers kept.vcpu) (deliverable_among offers kept.vcpu cpu shape)

@@ -1,6 +1,6 @@
 -- What every plan keeps.
 use Rattle.std.specs.Prelude.{ℕ, ◌≡◌, ◌≢◌, ◌≤◌, IsTrue, false, Some, List, Contains, AllPairs, IsPermutation}
-use Rattle.gic_base.specs.declared.held.TheConstants.{MAX_LIST_REGISTERS}
+use Rattle.gic_base.specs.declared.shape.GuestShape.{GuestShape}
 use Rattle.gic_base.specs.Interrupt.{intid_of}
 use Rattle.gic_lr.specs.declared.entry.LrState.TheVariants.{Pending, Both}
 use Rattle.gic_prio.specs.declared.cpu.CpuRec.{CpuRec}
@@ -32,12 +32,12 @@ pub record IsPlanned (fill : Fill) (offer : Offer) : Type 0 where
 -- every interrupt that is active by the vCPU is in the plan, out of trap mode
 abbrev pub EveryActiveIsPlanned : Type 0
 EveryActiveIsPlanned =
-    (offers : List Offer) (vcpu : ℕ) (cpu : CpuRec) (n : ℕ) (offer : Offer) → n ≤ MAX_LIST_REGISTERS → Contains offers offer → IsTrue (is_active_by vcpu offer) → (plan offers vcpu cpu n).trapping ≡ false → IsPlanned (plan offers vcpu cpu n) offer
+    (offers : List Offer) (vcpu : ℕ) (cpu : CpuRec) (shape : GuestShape) (n : ℕ) (offer : Offer) → n ≤ 16 → Contains offers offer → IsTrue (is_active_by vcpu offer) → (plan offers vcpu cpu shape n).trapping ≡ false → IsPlanned (plan offers vcpu cpu shape n) offer
 
 -- every interrupt that is deliverable to the vCPU is in the plan, where nothing is cut off and out of trap mode
 abbrev pub EveryDeliverableIsPlanned : Type 0
 EveryDeliverableIsPlanned =
-    (offers : List Offer) (vcpu : ℕ) (cpu : CpuRec) (n : ℕ) (offer : Offer) → n ≤ MAX_LIST_REGISTERS → Contains offers offer → IsTrue (is_deliverable_to vcpu cpu offer) → (plan offers vcpu cpu n).trapping ≡ false → (plan offers vcpu cpu n).cut ≡ false → IsPlanned (plan offers vcpu cpu n) offer
+    (offers : List Offer) (vcpu : ℕ) (cpu : CpuRec) (shape : GuestShape) (n : ℕ) (offer : Offer) → n ≤ 16 → Contains offers offer → IsTrue (is_deliverable_to vcpu cpu shape offer) → (plan offers vcpu cpu shape n).trapping ≡ false → (plan offers vcpu cpu shape n).cut ≡ false → IsPlanned (plan offers vcpu cpu shape n) offer
 
 -- an interrupt is not delivered before another, and after it where they have two INTIDs (a guest's interrupts of one INTID are private
 -- to two vCPUs, and not deliverable to the same)
@@ -48,10 +48,10 @@ pub record ComesAfter (left chosen : Offer) : Type 0 where
 -- each interrupt that is deliverable to the vCPU and left out comes after each that is in the plan with State 1
 abbrev pub LeftOutComesAfter : Type 0
 LeftOutComesAfter =
-    (offers : List Offer) (vcpu : ℕ) (cpu : CpuRec) (n : ℕ) (left : Offer) (chosen : Choice) → n ≤ MAX_LIST_REGISTERS → Contains offers left → IsTrue (is_deliverable_to vcpu cpu left) → (IsPlanned (plan offers vcpu cpu n) left → ⊥) → Contains (plan offers vcpu cpu n).choice (Some chosen) → chosen.entry.state ≡ Pending → ComesAfter left (offer_of chosen)
+    (offers : List Offer) (vcpu : ℕ) (cpu : CpuRec) (shape : GuestShape) (n : ℕ) (left : Offer) (chosen : Choice) → n ≤ 16 → Contains offers left → IsTrue (is_deliverable_to vcpu cpu shape left) → (IsPlanned (plan offers vcpu cpu shape n) left → ⊥) → Contains (plan offers vcpu cpu shape n).choice (Some chosen) → chosen.entry.state ≡ Pending → ComesAfter left (offer_of chosen)
 
 -- where an interrupt is in the plan with State 3, every interrupt that is deliverable to the vCPU is there too: one that turns pending
 -- at its end hides no better one
 abbrev pub BothLeavesNothingOut : Type 0
 BothLeavesNothingOut =
-    (offers : List Offer) (vcpu : ℕ) (cpu : CpuRec) (n : ℕ) (chosen : Choice) (offer : Offer) → n ≤ MAX_LIST_REGISTERS → Contains (plan offers vcpu cpu n).choice (Some chosen) → chosen.entry.state ≡ Both → Contains offers offer → IsTrue (is_deliverable_to vcpu cpu offer) → IsPlanned (plan offers vcpu cpu n) offer
+    (offers : List Offer) (vcpu : ℕ) (cpu : CpuRec) (shape : GuestShape) (n : ℕ) (chosen : Choice) (offer : Offer) → n ≤ 16 → Contains (plan offers vcpu cpu shape n).choice (Some chosen) → chosen.entry.state ≡ Both → Contains offers offer → IsTrue (is_deliverable_to vcpu cpu shape offer) → IsPlanned (plan offers vcpu cpu shape n) offer

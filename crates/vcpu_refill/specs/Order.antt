@@ -1,5 +1,7 @@
 -- Interrupts in delivery order (IHI 0069, "Interrupt prioritization").
 use Rattle.std.specs.Prelude.{ℕ, List, [], ◌∷◌, fold, filter, Bool, if◌then◌else◌, None}
+use Rattle.gic_base.specs.declared.shape.GuestShape.{GuestShape}
+use Rattle.gic_base.specs.Interrupt.{intid_of}
 use Rattle.gic_word.specs.Record.{is_number}
 use Rattle.gic_prio.specs.declared.candidate.Candidate.{Candidate}
 use Rattle.gic_prio.specs.declared.cpu.CpuRec.{CpuRec}
@@ -8,7 +10,7 @@ use Rattle.vcpu_refill.specs.declared.offer.Offer.{Offer}
 
 -- an offered interrupt as a candidate, which the delivery order compares
 abbrev pub candidate_of : Offer → Candidate
-candidate_of offer = record { key = offer.key; prio = offer.irq.prio; group = offer.irq.group }
+candidate_of offer = record { id = intid_of offer.key; prio = offer.irq.prio; group = offer.irq.group }
 
 -- one offered interrupt is delivered before another
 abbrev pub goes_before : Offer → Offer → Bool
@@ -27,18 +29,18 @@ ordered offers = fold (λ before one. inserted one before) [] offers
 abbrev pub is_active_by : ℕ → Offer → Bool
 is_active_by vcpu offer = is_number vcpu offer.irq.act_by
 
--- the interrupt is deliverable to the vCPU
-abbrev pub is_deliverable_to : ℕ → CpuRec → Offer → Bool
-is_deliverable_to vcpu cpu offer = is_deliverable offer.key offer.irq vcpu cpu
+-- the interrupt is deliverable to the vCPU of a guest
+abbrev pub is_deliverable_to : ℕ → CpuRec → GuestShape → Offer → Bool
+is_deliverable_to vcpu cpu shape offer = is_deliverable offer.key offer.irq vcpu cpu shape
 
 -- the interrupt would be deliverable to the vCPU, were it not active
-abbrev pub is_deliverable_once_inactive : ℕ → CpuRec → Offer → Bool
-is_deliverable_once_inactive vcpu cpu offer = is_deliverable offer.key (record offer.irq { act_by = None }) vcpu cpu
+abbrev pub is_deliverable_once_inactive : ℕ → CpuRec → GuestShape → Offer → Bool
+is_deliverable_once_inactive vcpu cpu shape offer = is_deliverable offer.key (record offer.irq { act_by = None }) vcpu cpu shape
 
 -- the interrupts that are active by the vCPU, in delivery order
 abbrev pub active_among : List Offer → ℕ → List Offer
 active_among offers vcpu = ordered (filter (is_active_by vcpu) offers)
 
 -- the interrupts that are deliverable to the vCPU, in delivery order
-abbrev pub deliverable_among : List Offer → ℕ → CpuRec → List Offer
-deliverable_among offers vcpu cpu = ordered (filter (is_deliverable_to vcpu cpu) offers)
+abbrev pub deliverable_among : List Offer → ℕ → CpuRec → GuestShape → List Offer
+deliverable_among offers vcpu cpu shape = ordered (filter (is_deliverable_to vcpu cpu shape) offers)

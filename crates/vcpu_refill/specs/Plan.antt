@@ -1,8 +1,9 @@
 -- The plan: which interrupts stand in the list registers of a PE while a vCPU is loaded there, and what ICH_HCR asks for
 -- (own choice, over IHI 0069, "Usage model for the List registers", ICH_LR<n>_EL2 and ICH_HCR_EL2).
-use Rattle.std.specs.Prelude.{ℕ, ◌+◌, ◌-◌, ◌&&◌, ◌||◌, ◌==◌, not, min, nat_lt, Bool, if◌then◌else◌, Option, None, List, [], ◌++◌, length, map, take, All, IfSome}
+use Rattle.std.specs.Prelude.{ℕ, ◌+◌, ◌-◌, ◌^◌, ◌&&◌, ◌||◌, ◌==◌, not, min, nat_lt, Bool, if◌then◌else◌, Option, None, List, [], ◌++◌, length, map, take, All, IfSome}
 use Rattle.std.specs.Option.{option_map_or}
 use Rattle.gic_word.specs.Record.{is_pending}
+use Rattle.gic_base.specs.declared.shape.GuestShape.{GuestShape}
 use Rattle.gic_base.specs.Interrupt.{intid_of}
 use Rattle.gic_lr.specs.declared.entry.LrState.{LrState}
 use Rattle.gic_lr.specs.declared.entry.LrState.TheVariants.{Pending, Active, Both}
@@ -25,8 +26,8 @@ is_cut active deliverable n = not (is_trapping active deliverable n) && nat_lt (
 
 -- the State of an active interrupt: pending and active where it would be deliverable, were it not active, and nothing is cut off
 -- that it could hide; else active
-abbrev pub active_state : Bool → ℕ → CpuRec → Offer → LrState
-active_state cut vcpu cpu offer = if not cut && is_deliverable_once_inactive vcpu cpu offer then Both else Active
+abbrev pub active_state : Bool → ℕ → CpuRec → GuestShape → Offer → LrState
+active_state cut vcpu cpu shape offer = if not cut && is_deliverable_once_inactive vcpu cpu shape offer then Both else Active
 
 -- the end of the interrupt is to be seen: that of a level interrupt, which may have to come back, and that of one which is pending
 -- while its State is 2, active alone
@@ -43,42 +44,42 @@ chosen_as state offer =
     }
 
 -- an active interrupt in its list register
-abbrev pub active_choice : Bool → ℕ → CpuRec → Offer → Choice
-active_choice cut vcpu cpu offer = chosen_as (active_state cut vcpu cpu offer) offer
+abbrev pub active_choice : Bool → ℕ → CpuRec → GuestShape → Offer → Choice
+active_choice cut vcpu cpu shape offer = chosen_as (active_state cut vcpu cpu shape offer) offer
 
 -- a deliverable interrupt in its list register
 abbrev pub pending_choice : Offer → Choice
 pending_choice offer = chosen_as Pending offer
 
 -- what stands in the list registers, from the first on: all active interrupts, then as many of the first deliverable ones as fit
-abbrev pub choices_of : List Offer → List Offer → Bool → ℕ → CpuRec → ℕ → List Choice
-choices_of active deliverable cut vcpu cpu n = map (active_choice cut vcpu cpu) active ++ map pending_choice (take (n - length active) deliverable)
+abbrev pub choices_of : List Offer → List Offer → Bool → ℕ → CpuRec → GuestShape → ℕ → List Choice
+choices_of active deliverable cut vcpu cpu shape n = map (active_choice cut vcpu cpu shape) active ++ map pending_choice (take (n - length active) deliverable)
 
 -- ICH_HCR: En; NPIE where something is cut off; the maintenance interrupt of a change of each group's enable; and in trap mode TC,
 -- TALL0, TALL1 and TDIR
 abbrev pub hcr_of : CpuRec → Bool → Bool → ℕ
 hcr_of cpu cut trapping =
-    hcr_en
-    + (if cut then hcr_npie else 0)
-    + (if cpu.en0 then hcr_vgrp0die else hcr_vgrp0eie)
-    + (if cpu.en1 then hcr_vgrp1die else hcr_vgrp1eie)
-    + (if trapping then hcr_tc + hcr_tall0 + hcr_tall1 + hcr_tdir else 0)
+    2 ^ hcr_en
+    + (if cut then 2 ^ hcr_npie else 0)
+    + (if cpu.en0 then 2 ^ hcr_vgrp0die else 2 ^ hcr_vgrp0eie)
+    + (if cpu.en1 then 2 ^ hcr_vgrp1die else 2 ^ hcr_vgrp1eie)
+    + (if trapping then 2 ^ hcr_tc + 2 ^ hcr_tall0 + 2 ^ hcr_tall1 + 2 ^ hcr_tdir else 0)
 
 -- the plan from the active and the deliverable interrupts, each in delivery order; in trap mode nothing stands in the list registers
-abbrev pub plan_from : List Offer → List Offer → ℕ → CpuRec → ℕ → Fill
-plan_from active deliverable vcpu cpu n =
+abbrev pub plan_from : List Offer → List Offer → ℕ → CpuRec → GuestShape → ℕ → Fill
+plan_from active deliverable vcpu cpu shape n =
     let trapping = is_trapping active deliverable n in
     let cut = is_cut active deliverable n in
     record {
-      choice = in_places (if trapping then [] else choices_of active deliverable cut vcpu cpu n);
+      choice = in_places (if trapping then [] else choices_of active deliverable cut vcpu cpu shape n);
       cut = cut;
       trapping = trapping;
       hcr = hcr_of cpu cut trapping;
     }
 
--- the plan for a vCPU with this CPU record and n list registers, from the records of interrupts
-abbrev pub plan : List Offer → ℕ → CpuRec → ℕ → Fill
-plan offers vcpu cpu n = plan_from (active_among offers vcpu) (deliverable_among offers vcpu cpu) vcpu cpu n
+-- the plan for a vCPU of a guest with this CPU record and n list registers, from the records of interrupts
+abbrev pub plan : List Offer → ℕ → CpuRec → GuestShape → ℕ → Fill
+plan offers vcpu cpu shape n = plan_from (active_among offers vcpu) (deliverable_among offers vcpu cpu shape) vcpu cpu shape n
 
 -- the word of a list register: 0 where nothing was chosen for it
 abbrev pub word_of : Option Choice → ℕ

@@ -3,6 +3,7 @@ ghost use Rattle.std.specs.Prelude.{◌≡◌, ◌<◌, ◌≤◌, [], ◌∷◌
 ghost use Rattle.gic_lr.specs.Entry.{IsEntry};
 ghost use Rattle.std.specs.List.{slice_index_or};
 ghost use Rattle.std.specs.Option.{option_map};
+ghost use Rattle.gic_base.specs.declared.shape.GuestShape.{GuestShape};
 ghost use Rattle.gic_prio.specs.declared.cpu.CpuRec.{CpuRec};
 ghost use Rattle.vcpu_refill.specs.declared.offer.Offer.{Offer};
 ghost use Rattle.vcpu_refill.specs.Chooser.{StandsFor, Keeps};
@@ -64,19 +65,17 @@ impl Chooser {
             StandsFor self.new cpu.now (offers ++ record { key = key; irq = irq.now } ∷ []) }
     {
         let offer = Offer { key, irq: *irq };
-        if offer.is_active_by(self.vcpu) {
-            self.active.put(offer);
-        }
-        if offer.is_deliverable_to(self.vcpu, cpu) {
-            self.deliverable.put(offer);
-        }
+        self.active.put_where(offer.is_active_by(self.vcpu), offer);
+        self.deliverable
+            .put_where(offer.is_deliverable_to(self.vcpu, cpu), offer);
     }
 
     /// The active interrupt of a place in its list register.
     fn active_choice(&self, place: usize, cut: bool, cpu: &CpuRec) -> Option<Choice>
         requires { place < MAX_LIST_REGISTERS }
         ensures entry { IfSome result (λ choice. IsEntry choice.entry) }
-        ensures value { result ≡ option_map (active_choice cut self.now.vcpu cpu.now) (slice_index_or self.now.active.places place None) }
+        ensures value { (shape : GuestShape) → self.now.vcpu < shape.vcpus →
+            result ≡ option_map (active_choice cut self.now.vcpu cpu.now shape) (slice_index_or self.now.active.places place None) }
     {
         let offer = self.active.places[place]?;
         Some(offer.chosen_as(offer.active_state(cut, self.vcpu, cpu)))
@@ -96,9 +95,10 @@ impl Chooser {
     fn choice_at(&self, place: usize, active: usize, cut: bool, cpu: &CpuRec) -> Option<Choice>
         requires { place < MAX_LIST_REGISTERS }
         ensures entry { IfSome result (λ choice. IsEntry choice.entry) }
-        ensures value { (actives deliverables : List Offer) → Keeps self.now actives deliverables →
+        ensures value { (shape : GuestShape) → self.now.vcpu < shape.vcpus →
+            (actives deliverables : List Offer) → Keeps self.now actives deliverables →
             length actives ≡ active → active ≤ self.now.lrs →
-            result ≡ slice_get (choices_of actives deliverables cut self.now.vcpu cpu.now self.now.lrs) place }
+            result ≡ slice_get (choices_of actives deliverables cut self.now.vcpu cpu.now shape self.now.lrs) place }
     {
         if place < active {
             return self.active_choice(place, cut, cpu);
@@ -136,9 +136,10 @@ impl Chooser {
         cpu: &CpuRec,
     ) -> [Option<Choice>; MAX_LIST_REGISTERS]
         ensures entries { HasEntries result }
-        ensures value { (actives deliverables : List Offer) → Keeps self.now actives deliverables →
+        ensures value { (shape : GuestShape) → self.now.vcpu < shape.vcpus →
+            (actives deliverables : List Offer) → Keeps self.now actives deliverables →
             trapping ≡ is_trapping actives deliverables self.now.lrs →
-            result ≡ in_places (if trapping then [] else choices_of actives deliverables cut self.now.vcpu cpu.now self.now.lrs) }
+            result ≡ in_places (if trapping then [] else choices_of actives deliverables cut self.now.vcpu cpu.now shape self.now.lrs) }
     {
         let mut choices = [None; MAX_LIST_REGISTERS];
         if trapping {
@@ -156,7 +157,8 @@ impl Chooser {
     pub fn plan(&self, cpu: &CpuRec) -> Fill
         ensures entries { HasEntries result.choice }
         ensures value { (offers : List Offer) → StandsFor self.now cpu.now offers →
-            result ≡ plan_of offers self.now.vcpu cpu.now self.now.lrs }
+            (shape : GuestShape) → self.now.vcpu < shape.vcpus →
+            result ≡ plan_of offers self.now.vcpu cpu.now shape self.now.lrs }
     {
         let trapping = self.is_trapping();
         let cut = self.is_cut();

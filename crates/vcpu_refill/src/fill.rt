@@ -1,5 +1,6 @@
 //! What is chosen for the list registers.
-ghost use Rattle.std.specs.Prelude.{◌≡◌, map, IfSome};
+ghost use Rattle.std.specs.Prelude.{◌≡◌, ◌<◌, map, IfSome};
+ghost use Rattle.gic_base.specs.declared.shape.GuestShape.{GuestShape};
 ghost use Rattle.gic_lr.specs.Entry.{IsEntry};
 ghost use Rattle.vcpu_refill.specs.Plan.{hcr_of, chosen_as as choice_with, active_state as state_of_active, word_of, HasEntries};
 
@@ -60,7 +61,7 @@ impl Offer {
 
     /// The State of an interrupt that is active by the vCPU.
     pub(crate) fn active_state(&self, cut: bool, vcpu: u32, cpu: &CpuRec) -> LrState
-        ensures { result ≡ state_of_active cut vcpu cpu.now self.now }
+        ensures { (shape : GuestShape) → vcpu < shape.vcpus → result ≡ state_of_active cut vcpu cpu.now shape self.now }
     {
         if !cut && self.would_be_deliverable(vcpu, cpu) {
             LrState::Both

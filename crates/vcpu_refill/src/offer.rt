@@ -1,5 +1,6 @@
 //! An interrupt that may be chosen.
-ghost use Rattle.std.specs.Prelude.{◌≡◌};
+ghost use Rattle.std.specs.Prelude.{◌≡◌, ◌<◌};
+ghost use Rattle.gic_base.specs.declared.shape.GuestShape.{GuestShape};
 ghost use Rattle.gic_prio.specs.Delivery.{is_before, is_deliverable as can_be_delivered};
 ghost use Rattle.vcpu_refill.specs.Order.{goes_before as is_ahead, is_active_by, is_deliverable_to};
 
@@ -23,7 +24,7 @@ impl Offer {
         ensures { result ≡ candidate_of self.now }
     {
         Candidate {
-            key: self.key,
+            id: self.key.intid(),
             prio: self.irq.prio,
             group: self.irq.group,
         }
@@ -45,7 +46,7 @@ impl Offer {
 
     /// Whether the interrupt would be deliverable to the vCPU, were it not active.
     pub(crate) fn would_be_deliverable(&self, vcpu: u32, cpu: &CpuRec) -> bool
-        ensures { result ≡ is_deliverable_once_inactive vcpu cpu.now self.now }
+        ensures { (shape : GuestShape) → vcpu < shape.vcpus → result ≡ is_deliverable_once_inactive vcpu cpu.now shape self.now }
     {
         let inactive = Irq {
             act_by: None,
@@ -56,7 +57,7 @@ impl Offer {
 
     /// Whether the interrupt is deliverable to the vCPU.
     pub(crate) fn is_deliverable_to(&self, vcpu: u32, cpu: &CpuRec) -> bool
-        ensures { result ≡ is_deliverable_to vcpu cpu.now self.now }
+        ensures { (shape : GuestShape) → vcpu < shape.vcpus → result ≡ is_deliverable_to vcpu cpu.now shape self.now }
     {
         deliverable(self.key, &self.irq, vcpu, cpu)
     }

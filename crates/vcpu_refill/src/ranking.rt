@@ -1,5 +1,5 @@
 //! The first of some interrupts.
-ghost use Rattle.std.specs.Prelude.{◌≡◌, ◌<◌, ◌≤◌, ◌-◌, ◌∷◌, min, [], List, Some, None, length, take, insert, position, filter, is_some};
+ghost use Rattle.std.specs.Prelude.{◌≡◌, ◌<◌, ◌≤◌, ◌-◌, ◌∷◌, min, [], List, Some, None, length, take, insert, position, filter, is_some, if◌then◌else◌};
 ghost use Rattle.std.specs.List.{slice_index_or};
 ghost use Rattle.vcpu_refill.specs.declared.offer.Offer.{Offer};
 ghost use Rattle.vcpu_refill.specs.Order.{inserted};
@@ -83,6 +83,16 @@ impl Ranking {
                 self.more |= out.is_some();
             }
             None => self.more = true,
+        }
+    }
+
+    /// Takes one more interrupt into account where it counts.
+    pub(crate) fn put_where(&mut self, counts: bool, offer: Offer)
+        ensures { (offers : List Offer) → self.old ≡ ranking_of offers →
+            self.new ≡ ranking_of (if counts then inserted offer offers else offers) }
+    {
+        if counts {
+            self.put(offer);
         }
     }
 

@@ -1,7 +1,6 @@
 -- A vCPU onto a PE and off it again, with the record of its CPU interface in the registers between (IHI 0069, "AArch64 virtualization
 -- control system registers").
-use Rattle.std.specs.Prelude.{ℕ, false, None, replicate}
-use Rattle.gic_base.specs.declared.held.TheConstants.{MAX_LIST_REGISTERS}
+use Rattle.std.specs.Prelude.{ℕ, ◌^◌, false, None, replicate}
 use Rattle.gic_ich.specs.Hcr.{hcr_en}
 use Rattle.gic_ich.specs.Vmcr.{vmcr_of, cpu_of}
 use Rattle.vcpu_state.specs.declared.shelved.Shelved.{Shelved}
@@ -12,8 +11,8 @@ abbrev pub loaded_of : Shelved → ℕ → Loaded
 loaded_of vcpu n =
     record {
       base = vcpu;
-      regs = record { lr = replicate MAX_LIST_REGISTERS 0; n = n; vmcr = vmcr_of vcpu.cpu; hcr = hcr_en; ap0r = vcpu.cpu.ap0; ap1r = vcpu.cpu.ap1 };
-      held = replicate MAX_LIST_REGISTERS None;
+      regs = record { lr = replicate 16 0; n = n; vmcr = vmcr_of vcpu.cpu; hcr = 2 ^ hcr_en; ap0r = vcpu.cpu.ap0; ap1r = vcpu.cpu.ap1 };
+      held = replicate 16 None;
       trapping = false;
     }
 

@@ -1,13 +1,7 @@
-use Rattle.std.proofs.Common.{◌≡◌, ◌⊎◌, IfOk, IfSome, subst, sym}
+use Rattle.std.proofs.Common.{IfOk, IfSome, subst, sym}
 use Rattle.gic_io.specs.Faults.{HasRisen}
 use Rattle.gic_top.specs.Tool.{IsRun, HasItsAnswer}
-use Rattle.gic_top.specs.declared.tool.TheConstants.{USAGE, WRITE_FAULT}
 use Rattle.gicrun.proofs.status.Goals as goal
-
-pub returns-in-Ok-clause-other_words : goal.returns-in-Ok-clause-other_words
-returns-in-Ok-clause-other_words g c =
-    subst (λ answer. IfOk answer (λ words. ¬ IsRun words.items → (c.run_tool.result ≡ USAGE) ⊎ (c.run_tool.result ≡ WRITE_FAULT))) (sym c.in-Ok.is)
-    (subst (λ items. ¬ IsRun items → (c.run_tool.result ≡ USAGE) ⊎ (c.run_tool.result ≡ WRITE_FAULT)) c.as_slice.ensures.value c.run_tool.ensures.usage_where_not_run)
 
 pub returns-in-Ok-clause-complete : goal.returns-in-Ok-clause-complete
 returns-in-Ok-clause-complete g c =

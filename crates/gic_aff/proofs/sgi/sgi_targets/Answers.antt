@@ -1,6 +1,8 @@
 use Rattle.std.proofs.Common.{◌≡◌, ◌+◌, ◌*◌, ◌%◌, ◌<◌, ◌^◌, ◌∙◌, ap, arith}
-use Rattle.gic_aff.specs.Sgi.{is_target, set_of}
-use Rattle.gic_aff.proofs.SetLemmas.{set_of-below, sum_fits, has_bit-set_of}
+use Rattle.gic_bits.specs.Sets.{set_of}
+use Rattle.gic_aff.specs.Sgi.{is_target}
+use Rattle.gic_bits.proofs.SetLemmas.{set_of-below, has_bit-set_of}
+use Rattle.gic_aff.proofs.WordLemmas.{sum_fits}
 use Rattle.gic_aff.proofs.sgi.sgi_targets.Goals as goal
 
 pub overflow_add-targets : goal.overflow_add-targets

@@ -1,4 +1,4 @@
-use Rattle.gic_ideal.proofs.ReadLemmas.{caused_reads}
+use Rattle.gic_ideal.proofs.AnswerLemmas.{caused_reads}
 use Rattle.gic_ideal.proofs.laws.caused_between_reads.Goals as goal
 
 pub returns : goal.returns

@@ -1,8 +1,10 @@
 use Rattle.std.proofs.Common.{◌<◌, ◌&&◌, nat_lt, length, ◌∙◌, sym, ap}
 use Rattle.std.specs.List.{slice_set}
 use Rattle.std.proofs.Math.Seq.{map-set_same}
-use Rattle.scn_read.specs.Good.{is_built_event}
+use Rattle.std.proofs.lemmas.List.Elements.{All-set}
+use Rattle.scn_base.specs.Good.{is_built_event}
 use Rattle.gic_ideal.specs.Eager.{after_event, after_step}
+use Rattle.gic_ideal.specs.Sound.{IsSound}
 use Rattle.gic_ideal.proofs.StateLemmas.{guest_there, at_guest_there}
 use Rattle.gic_ideal.proofs.run.do_step.Goals as goal
 
@@ -24,3 +26,11 @@ returns-in-Device-clause-after c =
     ap (slice_set states c.in-Device.guest) c.receive.ensures.after
     ∙ sym (at_guest_there c.in-Device.guest (after_event c.in-Device.op) states c.index_mut-in-Device.result.now there c.index_mut-in-Device.ensures.value)
     ∙ ap (λ step. after_step step states) (sym c.in-Device.is)
+
+pub returns-in-Vcpu-clause-sound : goal.returns-in-Vcpu-clause-sound
+returns-in-Vcpu-clause-sound c =
+    All-set IsSound c.args.states.now.items c.in-Vcpu.guest c.operate.new.self c.operate.ensures.sound c.requires.sound
+
+pub returns-in-Device-clause-sound : goal.returns-in-Device-clause-sound
+returns-in-Device-clause-sound c =
+    All-set IsSound c.args.states.now.items c.in-Device.guest c.receive.new.self c.receive.ensures.sound c.requires.sound

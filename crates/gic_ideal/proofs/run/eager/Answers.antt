@@ -1,5 +1,5 @@
 use Rattle.std.proofs.Common.{◌≡◌, ◌∙◌, ap}
-use Rattle.scn_read.specs.Good.{shapes_of}
+use Rattle.scn_base.specs.Good.{shapes_of}
 use Rattle.gic_ideal.specs.Sound.{state_shapes}
 use Rattle.gic_ideal.proofs.StateLemmas.{shapes_opening}
 use Rattle.gic_ideal.proofs.run.eager.Goals as goal

@@ -1,12 +1,7 @@
-use Rattle.std.proofs.Common.{◌≡◌, map, take, All}
+use Rattle.std.proofs.Common.{◌≡◌, map, take}
 use Rattle.gic_ideal.specs.Opening.{opening}
-use Rattle.gic_ideal.specs.Sound.{IsSound}
 use Rattle.gic_ideal.proofs.run.open_all.Given as goal
 
 -- the states of the guests so far
 abbrev pub invariant-loop-guest : goal.invariant-loop-guest
-invariant-loop-guest l =
-    record {
-      sound : All IsSound l.states.items;
-      so_far : l.states.items ≡ map opening (take l.guest-index l.guest-items);
-    }
+invariant-loop-guest l = l.states.items ≡ map opening (take l.guest-index l.guest-items)

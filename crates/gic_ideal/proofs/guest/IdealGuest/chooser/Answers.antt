@@ -6,7 +6,7 @@ use Rattle.vcpu_refill.specs.declared.offer.Offer.{Offer}
 use Rattle.vcpu_refill.specs.Chooser.{StandsFor}
 use Rattle.gic_ideal.specs.Ideal.{irq_at}
 use Rattle.gic_ideal.specs.Shown.{offer_at}
-use Rattle.gic_ideal.proofs.RangeLemmas.{map_pushed}
+use Rattle.gic_open.proofs.RangeLemmas.{map_pushed}
 use Rattle.gic_ideal.proofs.guest.IdealGuest.chooser.Goals as goal
 
 pub loop-place-init : goal.loop-place-init

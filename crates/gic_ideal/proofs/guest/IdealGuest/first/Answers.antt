@@ -1,4 +1,4 @@
-use Rattle.std.proofs.Common.{◌≡◌, ◌∙◌, sym, ap, Some, None, inl, inr}
+use Rattle.std.proofs.Common.{◌≡◌, ◌∙◌, sym, ap, Some, None}
 use Rattle.std.specs.List.{range_with_len, filter_map}
 use Rattle.gic_prio.specs.Delivery.{first_of}
 use Rattle.gic_ideal.specs.Ideal.{candidate_at}
@@ -12,19 +12,17 @@ loop-place-preserved c =
     let n = c.loop-place.place in
     elim c.match-candidate.branch [
       | in-Some w ↦
-          let here : at n ≡ Some w.in-Some.next = sym c.candidate.ensures.value ∙ w.in-Some.is in
+          let here : at n ≡ Some w.in-Some.next = sym c.candidate.ensures ∙ w.in-Some.is in
           record {
             end = c.interrupt_count-place-end.ensures.value;
-            there = rw w.first-is (elim w.earlier.ensures.among [ inl e ↦ rw e w.in-Some.ensures.there | inr e ↦ rw e at c.loop-place.invariant.there ]);
             found =
                 w.first-is ∙ sym (w.earlier.ensures.first (filter_map at (range_with_len 0 n)) c.loop-place.invariant.found)
                 ∙ ap first_of (sym (filter_map_found at n w.in-Some.next here));
           }
       | in_default w ↦
-          let here : at n ≡ None = sym c.candidate.ensures.value ∙ w.in_default.is in
+          let here : at n ≡ None = sym c.candidate.ensures ∙ w.in_default.is in
           record {
             end = c.interrupt_count-place-end.ensures.value;
-            there = rw w.first-is c.loop-place.invariant.there;
             found = w.first-is ∙ c.loop-place.invariant.found ∙ ap first_of (sym (filter_map_none at n here));
           }
     ]

@@ -2,6 +2,7 @@ use Rattle.std.proofs.Common.{◌≡◌, ℕ, ◌<◌, ◌≤◌, List, None, le
 use Rattle.std.specs.Prelude.{slice_get, IfSome}
 use Rattle.std.specs.List.{AllWithin}
 use Rattle.gic_lr.specs.Entry.{IsEntry}
+use Rattle.gic_base.specs.declared.shape.GuestShape.{GuestShape}
 use Rattle.vcpu_refill.specs.declared.offer.Offer.{Offer}
 use Rattle.vcpu_refill.specs.Chooser.{Keeps}
 use Rattle.vcpu_refill.specs.Plan.{choices_of}
@@ -14,5 +15,5 @@ invariant-loop-place l =
       long : length l.slot-items ≡ 16;
       entries : AllWithin (λ place. IfSome place (λ choice. IsEntry choice.entry)) l.slot-items 0 l.place;
       filled :
-          (actives deliverables : List Offer) → Keeps l.self actives deliverables → length actives ≡ l.active → l.active ≤ l.self.lrs → (k : ℕ) → k < l.place → get_or l.slot-items k None ≡ slice_get (choices_of actives deliverables l.cut l.self.vcpu l.cpu l.self.lrs) k;
+          (shape : GuestShape) → l.self.vcpu < shape.vcpus → (actives deliverables : List Offer) → Keeps l.self actives deliverables → length actives ≡ l.active → l.active ≤ l.self.lrs → (k : ℕ) → k < l.place → get_or l.slot-items k None ≡ slice_get (choices_of actives deliverables l.cut l.self.vcpu l.cpu shape l.self.lrs) k;
     }

@@ -1,0 +1,10 @@
+use Rattle.std.proofs.Common.{◌≡◌, ◌*◌, ◌%◌, ◌^◌, ◌<◌, ◌∙◌, ap, sym, bit_or, arith}
+use Rattle.std.proofs.lemmas.Nat.{pow_below}
+use Rattle.gic_prio.proofs.SetLemmas.{with_level_is}
+use Rattle.gic_prio.proofs.levels.with_level.Goals as goal
+
+pub returns : goal.returns
+returns c =
+    let fits : 2 ^ c.args.level < 2 ^ 32 = pow_below c.args.level 32 c.requires in
+    let bit : 1 * 2 ^ c.args.level % 2 ^ 32 ≡ 2 ^ c.args.level = omega arith in
+    ap (bit_or c.args.levels) bit ∙ sym (with_level_is c.args.level c.args.levels c.requires c.ranges.levels.fits)
