@@ -2,3 +2,4 @@ pub mod Hcr
 pub mod Regs
 pub mod Status
 pub mod Vmcr
+pub mod Place

@@ -11,7 +11,8 @@ use Rattle.gic_lr.specs.Entry.{unpacked, with_state, state_at, state_number, sta
 use Rattle.gic_word.specs.Causes.{has_active_state}
 use Rattle.gic_prio.specs.Interface.{AtInterface, changed_at, acknowledged_entry, deactivated_entry, has_its_kind}
 use Rattle.gic_icv.specs.Entries.{acknowledged_word, deactivated_word, inactive_state}
-use Rattle.gic_icv.specs.Agree.{Seen, seen_in, seen_of, is_live, seen_words, seen_entries}
+use Rattle.gic_ich.specs.Place.{Seen, seen_in, seen_of}
+use Rattle.gic_icv.specs.Agree.{is_live, seen_words, seen_entries}
 
 -- an interrupt after its acknowledge, and after its deactivation
 abbrev pub seen_acknowledged : Seen → Seen

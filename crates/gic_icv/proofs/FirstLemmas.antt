@@ -14,7 +14,8 @@ use Rattle.gic_prio.specs.Interface.{AtInterface, InterfaceState, candidate_of, 
 use Rattle.gic_prio.proofs.FirstLemmas.{first_is, empty_or_first, found}
 use Rattle.gic_ich.specs.Status.{is_pending_state}
 use Rattle.gic_icv.specs.Entries.{candidate_in, candidates_in}
-use Rattle.gic_icv.specs.Agree.{Seen, seen_in, is_live, seen_words, seen_entries}
+use Rattle.gic_ich.specs.Place.{Seen, seen_in}
+use Rattle.gic_icv.specs.Agree.{is_live, seen_words, seen_entries}
 use Rattle.gic_icv.proofs.CpuLemmas.{deaf, enabled_deaf}
 
 -- a seen interrupt as a candidate

@@ -29,14 +29,15 @@ use Rattle.gic_ich.specs.Vmcr.{vmcr_with}
 use Rattle.gic_icv.specs.declared.registers.Outcome.{Outcome}
 use Rattle.gic_icv.specs.Entries.{candidate_in, candidates_in, has_candidate, has_active, acknowledged_word, deactivated_word}
 use Rattle.gic_icv.specs.Registers.{cpu_in, candidates_of, first_changed, after_acknowledge, is_counted, counted, after_deactivation_of, after_deactivation, with_cpu, registers_after, answered}
-use Rattle.gic_icv.specs.Agree.{Seen, seen_in, seen_of, is_live, seen_words, seen_entries, Agrees, Follows}
+use Rattle.gic_ich.specs.Place.{Seen, seen_in, seen_of}
+use Rattle.gic_icv.specs.Agree.{is_live, seen_words, seen_entries, Agrees, Follows}
 use Rattle.gic_icv.proofs.CpuLemmas.{deaf, holds, vmcr_replaced}
 use Rattle.gic_icv.proofs.DeafLemmas.{taken_shown, answer_shown, deactivated_deaf, cpu_after_deaf}
 use Rattle.gic_icv.proofs.FirstLemmas.{ShowSame, source_of, first_agrees, find_once, find_among, cons_cases, head_is, in_tail, pending_alone}
 use Rattle.gic_icv.proofs.ChangeLemmas.{seen_acknowledged, seen_deactivated, word_acknowledged, word_deactivated, seen_after, split, seen_split, Replaced, found_replaced, once_replaced, IsEntryChange, found_changed, entry_acknowledged, entry_deactivated, deactivated_dead}
 
 -- an interface shows each INTID once
-live_once : (id : ℕ) (at : List AtInterface) → length (filter (is_live id) (seen_entries at)) ≤ length (filter (λ entry. nat_eq (intid_of entry.key) id) at)
+pub live_once : (id : ℕ) (at : List AtInterface) → length (filter (is_live id) (seen_entries at)) ≤ length (filter (λ entry. nat_eq (intid_of entry.key) id) at)
 live_once id [] = omega arith
 live_once id (entry ∷ at) = by_head (nat_eq (intid_of entry.key) id) (entry.pending || entry.active) (live_once id at)
   where
@@ -50,7 +51,7 @@ pub record Shows (words : List ℕ) (at : List AtInterface) : Type 0 where
   pub same : (id : ℕ) → find (is_live id) (seen_words words) ≡ find (is_live id) (seen_entries at)
   pub once : (id : ℕ) → length (filter (is_live id) (seen_words words)) ≤ 1
 
-both_once : (words : List ℕ) (at : List AtInterface) → Shows words at → AreEntries at → ShowSame (seen_words words) (seen_entries at)
+pub both_once : (words : List ℕ) (at : List AtInterface) → Shows words at → AreEntries at → ShowSame (seen_words words) (seen_entries at)
 both_once words at shows are =
     record { same = shows.same; once_a = shows.once; once_b = λ id. (let some = live_once id at in let few = are.once id in omega (arith, some, few)) }
 
@@ -95,7 +96,7 @@ changed_shows words at place k word_change change seen_change shows are within l
     in_middle (x ∷ front) back s = in_tail x s (front ++ s ∷ back) (in_middle front back s)
 
 -- a search for a place finds one where some element passes
-some_place : (p : ℕ → Bool) (words : List ℕ) (word : ℕ) → Contains words word → p word ≡ true → nat_lt (position_or_len p words) (length words) ≡ true
+pub some_place : (p : ℕ → Bool) (words : List ℕ) (word : ℕ) → Contains words word → p word ≡ true → nat_lt (position_or_len p words) (length words) ≡ true
 some_place p [] word (k, within, is) e = absurd (omega (arith, within))
 some_place p (x ∷ words) word h e =
     elim (cons_cases x word words h) [
@@ -107,16 +108,16 @@ some_place p (x ∷ words) word h e =
     by_head true g = grind arith
     by_head false g = grind arith
 
-none_placed : (p : ℕ → Bool) (words : List ℕ) (word : ℕ) → Contains words word → p word ≡ true → position p words ≡ None → ⊥
+pub none_placed : (p : ℕ → Bool) (words : List ℕ) (word : ℕ) → Contains words word → p word ≡ true → position p words ≡ None → ⊥
 none_placed p words word h e f = none-some (position_or_len p words) (sym f ∙ ap (λ b. cond b (Some (position_or_len p words)) None) (some_place p words word h e))
 
 -- the list registers after a change of one
-record Changed (is_so : ℕ → Bool) (change : ℕ → ℕ) (regs otherwise : IchRegs) (place : ℕ) : Type 0 where
+pub record Changed (is_so : ℕ → Bool) (change : ℕ → ℕ) (regs otherwise : IchRegs) (place : ℕ) : Type 0 where
   pub within : place < length (listed_of regs)
   pub passes : is_so (get_or (listed_of regs) place 0) ≡ true
   pub listed : listed_of (first_changed is_so change regs otherwise) ≡ set (listed_of regs) place (change (get_or (listed_of regs) place 0))
 
-changed_at_place : (is_so : ℕ → Bool) (change : ℕ → ℕ) (regs otherwise : IchRegs) (place : ℕ) → position is_so (listed_of regs) ≡ Some place → Changed is_so change regs otherwise place
+pub changed_at_place : (is_so : ℕ → Bool) (change : ℕ → ℕ) (regs otherwise : IchRegs) (place : ℕ) → position is_so (listed_of regs) ≡ Some place → Changed is_so change regs otherwise place
 changed_at_place is_so change regs otherwise place e =
     let facts = position-Some is_so (listed_of regs) place 0 e in
     let few : length (take regs.n regs.lr) ≤ regs.n = few_taken regs.n regs.lr in
@@ -140,7 +141,7 @@ same_group G0 = refl
 same_group G1 = refl
 
 -- the list register in which a candidate was found has it
-has_it : (cpu : CpuRec) (f : Candidate) (word : ℕ) → candidate_in cpu word ≡ Some f → has_candidate f word ≡ true
+pub has_it : (cpu : CpuRec) (f : Candidate) (word : ℕ) → candidate_in cpu word ≡ Some f → has_candidate f word ≡ true
 has_it cpu f word e = by_test (is_pending word) (is_group_enabled (unpacked word).group cpu) e
   where
     by_test : (b c : Bool) → cond (b && c) (Some (record { id = (unpacked word).id; prio = (unpacked word).prio; group = (unpacked word).group })) None ≡ Some f → (b && nat_eq (unpacked word).id f.id && nat_eq (unpacked word).prio f.prio && is_same_group (unpacked word).group f.group) ≡ true
@@ -155,7 +156,7 @@ has_it cpu f word e = by_test (is_pending word) (is_group_enabled (unpacked word
     by_test false c g = absurd (none-some f g)
 
 -- a list register that has a candidate, or an active interrupt, is live
-candidate_live : (f : Candidate) (word : ℕ) → has_candidate f word ≡ true → is_live f.id (seen_in word) ≡ true
+pub candidate_live : (f : Candidate) (word : ℕ) → has_candidate f word ≡ true → is_live f.id (seen_in word) ≡ true
 candidate_live f word e =
     let state = (unpacked word).state in
     by_test (is_pending word) (nat_eq (unpacked word).id f.id) (nat_eq (unpacked word).prio f.prio) (is_same_group (unpacked word).group f.group) (state_has_pending state) (state_has_active state)
@@ -164,7 +165,7 @@ candidate_live f word e =
     by_test : (p id prio group pending active same : Bool) → p ≡ (pending && not active) → id ≡ same → (p && id && prio && group) ≡ true → (same && (pending || active)) ≡ true
     by_test p id prio group pending active same e f g = grind (arith, common_steps)
 
-active_live : (k word : ℕ) → has_active k word ≡ true → is_live k (seen_in word) ≡ true
+pub active_live : (k word : ℕ) → has_active k word ≡ true → is_live k (seen_in word) ≡ true
 active_live k word e = by_test (nat_eq (unpacked word).id k) (state_has_pending (unpacked word).state) (state_has_active (unpacked word).state) e
   where
     by_test : (same pending active : Bool) → (same && active) ≡ true → (same && (pending || active)) ≡ true
@@ -186,7 +187,7 @@ acknowledge_shows regs at cpu f shows are e =
         (changed_shows (listed_of regs) at place f.id acknowledged_word acknowledged_entry seen_acknowledged shows are changed.within (candidate_live f (get_or (listed_of regs) place 0) changed.passes) word_acknowledged entry_acknowledged)
 
 -- the list register in which something is seen
-word_of : (words : List ℕ) (s : Seen) → Contains (seen_words words) s → (word : ℕ) × Contains words word × (seen_in word ≡ s)
+pub word_of : (words : List ℕ) (s : Seen) → Contains (seen_words words) s → (word : ℕ) × Contains words word × (seen_in word ≡ s)
 word_of [] s (k, within, is) = absurd (omega (arith, within))
 word_of (x ∷ words) s h = by_head (word_of words s) (cons_cases (seen_in x) s (seen_words words) h)
   where
@@ -194,7 +195,7 @@ word_of (x ∷ words) s h = by_head (word_of words s) (cons_cases (seen_in x) s 
     by_head rest (inl same) = (x, head_is x words, same)
     by_head rest (inr among) = let found = rest among in (found.0, in_tail x found.0 words found.1, found.2)
 
-found_passes : (p : Seen → Bool) (seen : List Seen) (s : Seen) → find p seen ≡ Some s → p s ≡ true
+pub found_passes : (p : Seen → Bool) (seen : List Seen) (s : Seen) → find p seen ≡ Some s → p s ≡ true
 found_passes p [] s e = absurd (none-some s e)
 found_passes p (x ∷ seen) s e = by_head (p x) refl (found_passes p seen s) e
   where
@@ -293,12 +294,12 @@ ended_shows regs at None shows are = shows
 ended_shows regs at (Some k) shows are = deactivation_shows regs at k shows are
 
 -- the registers after an access by a record that they hold
-abbrev registers_by : CpuRec → IccReg → Option ℕ → IchRegs → IchRegs
+abbrev pub registers_by : CpuRec → IccReg → Option ℕ → IchRegs → IchRegs
 registers_by cpu reg write regs =
     with_cpu (cpu_after reg write cpu (candidates_in cpu (listed_of regs))) (after_deactivation (deactivated_by reg write cpu) (after_acknowledge (taken_by reg write cpu (candidates_in cpu (listed_of regs))) regs))
 
 -- the parts of an access of an interface
-abbrev access_by : CpuRec → Option ℕ → Option Candidate → IchRegs → IchRegs
+abbrev pub access_by : CpuRec → Option ℕ → Option Candidate → IchRegs → IchRegs
 access_by cpu ended taken regs = with_cpu (deaf cpu) (after_deactivation ended (after_acknowledge (taken) regs))
 
 agrees_after : (reg : IccReg) (write : Option ℕ) (regs : IchRegs) (interface : InterfaceState) → IsInterface interface → Agrees regs interface
@@ -317,13 +318,28 @@ agrees_after reg write regs interface is agrees =
     let keeps_taken = acknowledge_keeps (taken) regs in
     let keeps_ended = deactivation_keeps ended acknowledged in
     record {
-      enabled = keeps_ended.enabled (keeps_taken.enabled agrees.enabled);
-      vmcr = ap (λ vmcr. vmcr_with vmcr (deaf after)) (keeps_ended.vmcr ∙ keeps_taken.vmcr ∙ agrees.vmcr) ∙ vmcr_replaced cpu (deaf after) is.points;
-      ap0 = refl;
-      ap1 = refl;
+      holds = record {
+        enabled = keeps_ended.enabled (keeps_taken.enabled agrees.holds.enabled);
+        vmcr = ap (λ vmcr. vmcr_with vmcr (deaf after)) (keeps_ended.vmcr ∙ keeps_taken.vmcr ∙ agrees.holds.vmcr) ∙ vmcr_replaced cpu (deaf after) is.points;
+        ap0 = refl;
+        ap1 = refl;
+      };
       same = shows_ended.same;
       once = shows_ended.once;
     }
+
+-- the parts are those of the interface, where the first candidate is the same
+pub parts_shown : (reg : IccReg) (write : Option ℕ) (regs : IchRegs) (interface : InterfaceState) → first_of (candidates_in (deaf interface.cpu) (listed_of regs)) ≡ first_of (candidates_at interface)
+    → registers_by (deaf interface.cpu) reg write regs ≡ access_by (cpu_after reg write interface.cpu (candidates_at interface)) (deactivated_by reg write interface.cpu) (taken_by reg write interface.cpu (candidates_at interface)) regs
+parts_shown reg write regs interface first =
+    let cpu = interface.cpu in
+    let words = candidates_in (deaf cpu) (listed_of regs) in
+    let at = candidates_at interface in
+    joined (cpu_after reg write (deaf cpu) words) (deaf (cpu_after reg write cpu at)) (deactivated_by reg write (deaf cpu)) (deactivated_by reg write cpu) (taken_by reg write (deaf cpu) words) (taken_by reg write cpu at)
+    (cpu_after_deaf reg write cpu words at first) (deactivated_deaf reg write cpu) (taken_shown reg write cpu words at first)
+  where
+    joined : (a b : CpuRec) (c d : Option ℕ) (e f : Option Candidate) → a ≡ b → c ≡ d → e ≡ f → with_cpu a (after_deactivation c (after_acknowledge e regs)) ≡ with_cpu b (after_deactivation d (after_acknowledge f regs))
+    joined a b c d e f g h i = rw (g, h, i) refl
 
 -- with the record as the interface has it
 follows_deaf : (reg : IccReg) (write : Option ℕ) (regs : IchRegs) (interface : InterfaceState) → IsInterface interface → Agrees regs interface
@@ -335,21 +351,16 @@ follows_deaf reg write regs interface is agrees =
     let are : AreEntries interface.at = record { once = is.once; kinds = is.kinds } in
     let shows : Shows (listed_of regs) interface.at = record { same = agrees.same; once = agrees.once } in
     let first = first_agrees (listed_of regs) interface (both_once (listed_of regs) interface.at shows are) in
-    let parts : registers_by (deaf cpu) reg write regs ≡ access_by (cpu_after reg write cpu at) (deactivated_by reg write cpu) (taken_by reg write cpu at) regs =
-    joined (cpu_after reg write (deaf cpu) words) (deaf (cpu_after reg write cpu at)) (deactivated_by reg write (deaf cpu)) (deactivated_by reg write cpu) (taken_by reg write (deaf cpu) words) (taken_by reg write cpu at)
-    (cpu_after_deaf reg write cpu words at first) (deactivated_deaf reg write cpu) (taken_shown reg write cpu words at first) in
+    let parts = parts_shown reg write regs interface first in
     record {
       answer = ap answered (answer_shown reg write cpu words at first);
       stays = stays_interface reg write interface is;
       registers = subst (λ after. Agrees after (interface_after reg write interface)) (sym parts) (agrees_after reg write regs interface is agrees);
     }
-  where
-    joined : (a b : CpuRec) (c d : Option ℕ) (e f : Option Candidate) → a ≡ b → c ≡ d → e ≡ f → with_cpu a (after_deactivation c (after_acknowledge e regs)) ≡ with_cpu b (after_deactivation d (after_acknowledge f regs))
-    joined a b c d e f g h i = rw (g, h, i) refl
 
 pub follows : (reg : IccReg) (write : Option ℕ) (regs : IchRegs) (interface : InterfaceState) → IsInterface interface → Agrees regs interface → Follows reg write interface (answered (answer_of reg write (cpu_in regs) (candidates_of regs))) (registers_after reg write regs)
 follows reg write regs interface is agrees =
-    let hold : cpu_in regs ≡ deaf interface.cpu = holds regs interface.cpu is.points agrees.vmcr agrees.ap0 agrees.ap1 in
+    let hold : cpu_in regs ≡ deaf interface.cpu = holds regs interface.cpu is.points agrees.holds.vmcr agrees.holds.ap0 agrees.holds.ap1 in
     subst (λ cpu. Follows reg write interface (answered (answer_of reg write cpu (candidates_in cpu (listed_of regs)))) (registers_by cpu reg write regs)) (sym hold)
     (follows_deaf reg write regs interface is agrees)
 

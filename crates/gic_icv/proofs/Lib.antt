@@ -5,3 +5,5 @@ pub mod DeafLemmas
 pub mod FirstLemmas
 pub mod ChangeLemmas
 pub mod FollowLemmas
+pub mod PlaceLemmas
+pub mod KeepLemmas

@@ -2,8 +2,10 @@
 #![tactic(auto)]
 
 mod entries;
+mod laws;
 mod registers;
 mod trap;
 
+pub use laws::places_agree;
 pub use registers::{Outcome, access};
 pub use trap::TrapCause;

@@ -1,13 +1,15 @@
 //! One access of a CPU interface register by a guest.
-ghost use Rattle.std.specs.Prelude.{◌≡◌, ◌≤◌, true, None, Some, IsTrue};
+ghost use Rattle.std.specs.Prelude.{◌≡◌, ◌≤◌, true, Option, None, Some, List, IsTrue};
 ghost use Rattle.gic_base.specs.Icc.{is_readable};
 ghost use Rattle.gic_bits.specs.Bits.{has_bit};
 ghost use Rattle.gic_prio.specs.Signal.{acknowledged as acknowledged_of, highest_pending as highest_of_group, intid_read};
 ghost use Rattle.gic_prio.specs.Priority.{HasBinaryPoints};
-ghost use Rattle.gic_prio.specs.Interface.{InterfaceState, IsInterface};
+ghost use Rattle.gic_base.specs.declared.held.HeldIrq.{HeldIrq};
+ghost use Rattle.gic_prio.specs.Interface.{InterfaceState, IsInterface, interface_after};
 ghost use Rattle.gic_prio.specs.Access.{answer_of};
 ghost use Rattle.gic_prio.specs.Delivery.{first_of};
 ghost use Rattle.gic_ich.specs.Hcr.{hcr_en};
+ghost use Rattle.gic_ich.specs.Place.{StandFor};
 ghost use Rattle.gic_icv.specs.Trap.{trap_cause as cause_of};
 ghost use Rattle.gic_icv.specs.Registers.{HasDirection, is_counted as is_counted_id, cpu_in, candidates_of, with_cpu, after_acknowledge, after_iar, after_deactivation_of, registers_after, outcome_of, after_access};
 ghost use Rattle.gic_icv.specs.Agree.{Agrees, Follows};
@@ -152,6 +154,8 @@ pub fn access(regs: &mut IchRegs, reg: IccReg, write: Option<u64>) -> Outcome
     ensures outcome { result ≡ outcome_of reg write regs.old }
     ensures registers { regs.new ≡ after_access reg write regs.old }
     ensures follows { (interface : InterfaceState) → IsInterface interface → Agrees regs.old interface → cause_of regs.old.hcr reg ≡ None → Follows reg write interface result regs.new }
+    // Each interrupt stays at the place of its list register.
+    ensures places { (interface : InterfaceState) (held : List (Option HeldIrq)) → IsInterface interface → StandFor regs.old held interface → cause_of regs.old.hcr reg ≡ None → StandFor regs.new held (interface_after reg write interface) }
 {
     if let Some(cause) = trap_cause(regs.hcr, reg) {
         return Outcome::Trap(cause);
@@ -170,7 +174,7 @@ mod tests {
     use super::{Outcome, access};
     use crate::trap::TrapCause;
     use gic_base::{IccReg, MAX_LIST_REGISTERS};
-    use gic_ich::{HCR_EN, HCR_GROUP_1_ALONE, HCR_GROUP_1_TRAPPING, IchRegs};
+    use gic_ich::{HCR_EN, HCR_GROUP_1_ALONE, HCR_GROUP_1_TRAPPING, IchRegs, misr};
 
     /// A vCPU that listens to group 1 with the mask 0xF0.
     const VMCR: u32 = 0xf04c_000a;
@@ -254,6 +258,74 @@ mod tests {
         let mut regs = with(0, 0, HCR_GROUP_1_TRAPPING, 0);
         for (reg, write, want) in rows {
             assert_eq!(rt; checked(&mut regs, reg, write), Some(want));
+        }
+    }
+
+    /// ICH_MISR of registers of a PE, or else none.
+    fn maintenance(regs: &IchRegs) -> Option<u8> {
+        if regs.n as usize <= MAX_LIST_REGISTERS {
+            return Some(misr(regs));
+        }
+        None
+    }
+
+    /// Two list registers and ICH_HCR at an entry, and three accesses, each with ICH_MISR after it.
+    type Stay = (u64, u64, u32, [(IccReg, Option<u64>, u8); 3]);
+
+    /// No list register is pending any more where a cut asks for it, an end of interrupt is seen, at most one
+    /// list register is left, and the groups are switched.
+    const STAYS: [Stay; 4] = [
+        (
+            0x50a0_0000_0000_0028,
+            0,
+            0x99,
+            [
+                (IccReg::Hppir1, None, 0),
+                (IccReg::Iar1, None, 0x08),
+                (IccReg::Eoir1, Some(40), 0x08),
+            ],
+        ),
+        (
+            0x50a0_0200_0000_0028,
+            0,
+            0x91,
+            [
+                (IccReg::Hppir1, None, 0),
+                (IccReg::Iar1, None, 0),
+                (IccReg::Eoir1, Some(40), 0x01),
+            ],
+        ),
+        (
+            0x50a0_0000_0000_0028,
+            0x50a0_0000_0000_0029,
+            0x93,
+            [
+                (IccReg::Hppir1, None, 0),
+                (IccReg::Iar1, None, 0),
+                (IccReg::Eoir1, Some(40), 0x02),
+            ],
+        ),
+        (
+            0,
+            0,
+            0x91,
+            [
+                (IccReg::Igrpen1, Some(0), 0x80),
+                (IccReg::Igrpen0, Some(1), 0x90),
+                (IccReg::Igrpen1, Some(1), 0x10),
+            ],
+        ),
+    ];
+
+    #[test]
+    fn maintenance_interrupts(rt: HostRuntime) {
+        for (first, second, hcr, accesses) in STAYS {
+            let mut regs = with(first, second, hcr, 0);
+            assert_eq!(rt; maintenance(&regs), Some(0));
+            for (reg, write, wanted) in accesses {
+                assert!(rt; checked(&mut regs, reg, write).is_some());
+                assert_eq!(rt; maintenance(&regs), Some(wanted), "{hcr} after {reg:?}");
+            }
         }
     }
 }

@@ -1,14 +1,13 @@
 //! Whole states through the plan, the accesses of a guest and the fold, register by register.
 
-use gic_base::{Back, Held, HeldIrq, IccReg, Key, MAX_LIST_REGISTERS};
-use gic_ich::{HCR_EN, IchRegs, vmcr_of};
+use gic_base::{Back, IccReg, Key, MAX_LIST_REGISTERS};
+use gic_ich::{HCR_EN, IchRegs};
 use gic_icv::{Outcome, TrapCause, access};
-use gic_lr::LrState;
 use gic_prio::CpuRec;
 use gic_word::{Group, Irq, Route};
 use std::process::Abort;
 use vcpu_fold::fold;
-use vcpu_refill::{Fill, fresh};
+use vcpu_refill::fresh;
 
 /// A vCPU with PMR 0xF0 that listens to group 1.
 const CPU: CpuRec = CpuRec {
@@ -93,33 +92,6 @@ const READ_40: Row = (
     LEVEL_A0,
 );
 
-/// The registers of a PE that this plan makes for the vCPU.
-fn registers(fill: &Fill, words: [u64; MAX_LIST_REGISTERS], lrs: u32, ap1: u32) -> IchRegs {
-    IchRegs {
-        lr: words,
-        n: lrs,
-        vmcr: vmcr_of(&CPU),
-        hcr: fill.hcr,
-        ap0r: 0,
-        ap1r: ap1,
-    }
-}
-
-/// What a vCPU holds that has these registers: an entry that is pending brought its causes.
-fn held(fill: &Fill) -> Held {
-    fill.choice.map(|place| {
-        place.map(|choice| {
-            let came = choice.entry.state != LrState::Active;
-            HeldIrq {
-                key: choice.key,
-                rise: choice.irq.rise && came,
-                soft: choice.irq.soft && came,
-                edge: choice.irq.edge,
-            }
-        })
-    })
-}
-
 /// The answer of an access whose conditions are met, or else none.
 fn checked(regs: &mut IchRegs, reg: IccReg, write: Option<u64>) -> Option<Outcome> {
     let has_direction = match write {
@@ -156,8 +128,12 @@ fn check(rt: &impl Abort, state: &State, rows: &[Row]) {
     assert_eq!(rt; fill.hcr, state.hcr);
     let words = fill.words();
     assert_eq!(rt; [words[0], words[1]], state.words);
-    let mut regs = registers(&fill, words, state.lrs, state.ap1);
-    let held = held(&fill);
+    let cpu = CpuRec {
+        ap1: state.ap1,
+        ..CPU
+    };
+    let mut regs = fill.registers(&cpu, state.lrs);
+    let held = fill.held();
     let back = fold(&regs, &held);
     assert_eq!(rt; [back[0], back[1]], state.at_once);
     for (reg, write, outcome, words, ap1) in rows {

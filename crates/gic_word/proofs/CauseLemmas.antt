@@ -16,7 +16,7 @@ pub record LowFlags : Type 0 where
   pub line : Bool
   pub rise : Bool
 
-abbrev low_flags : ℕ → LowFlags
+abbrev pub low_flags : ℕ → LowFlags
 low_flags n = record { soft = nat_eq (n / 1 % 2) 1; line = nat_eq (n / 2 % 2) 1; rise = nat_eq (n / 4 % 2) 1 }
 
 -- a word that differs from another in its three lowest bits alone
@@ -65,7 +65,7 @@ has_causes before low after is differs =
     routed k kind f field e g = cc
 
 -- what holds of the numbers below 8
-eight : (P : ℕ → Type 0) → P 0 → P 1 → P 2 → P 3 → P 4 → P 5 → P 6 → P 7 → (n : ℕ) → n < 8 → P n
+pub eight : (P : ℕ → Type 0) → P 0 → P 1 → P 2 → P 3 → P 4 → P 5 → P 6 → P 7 → (n : ℕ) → n < 8 → P n
 eight P a b c d e f g h zero small = a
 eight P a b c d e f g h (suc zero) small = b
 eight P a b c d e f g h (suc (suc zero)) small = c

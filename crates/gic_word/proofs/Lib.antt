@@ -1,3 +1,4 @@
 pub mod WordLemmas
 pub mod CauseLemmas
 pub mod ValidLemmas
+pub mod ReleaseLemmas

@@ -3,3 +3,4 @@ pub mod Causes
 pub mod Word
 pub mod Valid
 pub mod CauseBits
+pub mod ReleaseBits

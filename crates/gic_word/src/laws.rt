@@ -1,5 +1,6 @@
 //! Laws of the bits of a word.
 ghost use Rattle.gic_word.specs.CauseBits.{CauseBits, DeviceBits};
+ghost use Rattle.gic_word.specs.ReleaseBits.{ReleaseBits};
 
 /// A law of every word: its bit of a cause, set or cleared, sets or clears that cause of its record, and
 /// nothing else.
@@ -11,4 +12,10 @@ pub fn cause_bits()
 /// record.
 pub fn device_bits()
     ensures { DeviceBits }
+{}
+
+/// A law of every word: what giving back, activation, deactivation and release do to its record, each by the bits
+/// of one atomic step.
+pub fn release_bits()
+    ensures { ReleaseBits }
 {}

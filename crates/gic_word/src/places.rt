@@ -54,3 +54,7 @@ pub const RAISE: u64 = SOFT;
 pub const WIRE_UP: u64 = LINE + RISE;
 /// A fetch-and of this moves an interrupt's wire down.
 pub const WIRE_DOWN: u64 = u64::MAX - LINE;
+/// A fetch-and of this releases an interrupt: no vCPU holds it.
+pub const HELD_BY_NONE: u64 = u64::MAX - (0x3F << 20);
+/// A fetch-and of this makes an interrupt inactive.
+pub const ACTIVE_BY_NONE: u64 = u64::MAX - (0x3F << 14);

@@ -2,5 +2,7 @@
 #![tactic(auto)]
 
 mod back;
+mod laws;
 
 pub use back::fold;
+pub use laws::each_comes_back;

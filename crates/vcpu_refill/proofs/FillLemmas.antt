@@ -10,9 +10,8 @@ use Rattle.std.proofs.lemmas.Option.{slice_get-map, slice_get_past}
 use Rattle.gic_prio.specs.declared.cpu.CpuRec.{CpuRec}
 use Rattle.gic_base.specs.declared.shape.GuestShape.{GuestShape}
 use Rattle.vcpu_refill.specs.declared.offer.Offer.{Offer}
-use Rattle.vcpu_refill.specs.declared.fill.Choice.{Choice}
 use Rattle.vcpu_refill.specs.Ranking.{in_places}
-use Rattle.vcpu_refill.specs.Plan.{word_of, is_trapping, active_choice, pending_choice, choices_of}
+use Rattle.vcpu_refill.specs.Plan.{is_trapping, active_choice, pending_choice, choices_of}
 use Rattle.vcpu_refill.proofs.PlaceLemmas.{get_or-in_places}
 
 slice_get-append_left : {X : Type 0} (xs ys : List X) (k : ℕ) → k < length xs → slice_get (xs ++ ys) k ≡ slice_get xs k
@@ -63,9 +62,9 @@ choice_past active deliverable cut vcpu cpu shape n place fits past =
     sym (slice_get_past (first ++ map pending_choice rest) place long)
 
 -- one more place
-pub choices_more : (f : ℕ → Option Choice) (xs : List (Option Choice)) (place : ℕ) (value : Option Choice) → place < length xs → value ≡ f place → ((k : ℕ) → k < place → get_or xs k None ≡ f k) → (k : ℕ) → k < place + 1 → get_or (set xs place value) k None ≡ f k
-choices_more f xs place value within is before =
-    subst (λ v. (k : ℕ) → k < place + 1 → get_or (set xs place v) k None ≡ f k) (sym is) (fill_by_more f xs place None within before)
+pub filled_more : {X : Type 0} (d : X) (f : ℕ → X) (xs : List X) (place : ℕ) (value : X) → place < length xs → value ≡ f place → ((k : ℕ) → k < place → get_or xs k d ≡ f k) → (k : ℕ) → k < place + 1 → get_or (set xs place value) k d ≡ f k
+filled_more d f xs place value within is before =
+    subst (λ v. (k : ℕ) → k < place + 1 → get_or (set xs place v) k d ≡ f k) (sym is) (fill_by_more f xs place d within before)
 
 -- out of trap mode the active interrupts fit
 pub fits_untrapped : (active deliverable : List Offer) (n count : ℕ) → is_trapping active deliverable n ≡ false → n ≤ 16 → count ≡ min 16 (length active) → (length active ≡ count) × (count ≤ n)
@@ -73,12 +72,8 @@ fits_untrapped active deliverable n count is few counted =
     let within : length active + min 1 (length deliverable) ≤ n = grind (arith, common_steps, is) in
     (omega (arith, within, few, counted), omega (arith, within, few, counted))
 
-pub words_more : (f : ℕ → ℕ) (xs : List ℕ) (place value : ℕ) → place < length xs → value ≡ f place → ((k : ℕ) → k < place → get_or xs k 0 ≡ f k) → (k : ℕ) → k < place + 1 → get_or (set xs place value) k 0 ≡ f k
-words_more f xs place value within is before =
-    subst (λ v. (k : ℕ) → k < place + 1 → get_or (set xs place v) k 0 ≡ f k) (sym is) (fill_by_more f xs place 0 within before)
-
--- a list with the word of each place
-pub words_all : (places : List (Option Choice)) (words : List ℕ) → length words ≡ length places → ((k : ℕ) → k < length words → get_or words k 0 ≡ word_of (get_or places k None)) → words ≡ map word_of places
-words_all places words long is =
-    ext_get_or 0 words (map word_of places) (long ∙ sym (length-map places word_of))
-    (λ k less. is k less ∙ sym (get_or-map word_of places k None 0 (omega (arith, less, long))))
+-- a list with what each place gives
+pub filled_all : {X Y : Type 0} (f : X → Y) (d : X) (e : Y) (places : List X) (filled : List Y) → length filled ≡ length places → ((k : ℕ) → k < length filled → get_or filled k e ≡ f (get_or places k d)) → filled ≡ map f places
+filled_all f d e places filled long is =
+    ext_get_or e filled (map f places) (long ∙ sym (length-map places f))
+    (λ k less. is k less ∙ sym (get_or-map f places k d e (omega (arith, less, long))))

@@ -17,7 +17,7 @@ use Rattle.vcpu_refill.proofs.ElementLemmas.{Contains-filter, Contains-map, Cont
 use Rattle.vcpu_refill.proofs.OrderLemmas.{Contains-ordered, in_order, in_order-ordered, back_not_before, one_is_before}
 
 -- out of trap mode the choices are not more than the list registers
-choices_few : (active deliverable : List Offer) (cut : Bool) (vcpu : ℕ) (cpu : CpuRec) (shape : GuestShape) (n : ℕ) → is_trapping active deliverable n ≡ false → length (choices_of active deliverable cut vcpu cpu shape n) ≤ n
+pub choices_few : (active deliverable : List Offer) (cut : Bool) (vcpu : ℕ) (cpu : CpuRec) (shape : GuestShape) (n : ℕ) → is_trapping active deliverable n ≡ false → length (choices_of active deliverable cut vcpu cpu shape n) ≤ n
 choices_few active deliverable cut vcpu cpu shape n is =
     let first = map (active_choice cut vcpu cpu shape) active in
     let rest = take (n - length active) deliverable in
@@ -70,7 +70,7 @@ every_deliverable offers vcpu cpu shape n offer few has is untrapped uncut =
     all_fit active deliverable n untrapped uncut = grind (arith, common_steps, untrapped, uncut)
 
 -- what stands in a list register is a choice, and nothing is in trap mode
-chosen_from : (active deliverable : List Offer) (vcpu : ℕ) (cpu : CpuRec) (shape : GuestShape) (n : ℕ) (chosen : Choice) → Contains (plan_from active deliverable vcpu cpu shape n).choice (Some chosen) → (is_trapping active deliverable n ≡ false) × Contains (choices_of active deliverable (is_cut active deliverable n) vcpu cpu shape n) chosen
+pub chosen_from : (active deliverable : List Offer) (vcpu : ℕ) (cpu : CpuRec) (shape : GuestShape) (n : ℕ) (chosen : Choice) → Contains (plan_from active deliverable vcpu cpu shape n).choice (Some chosen) → (is_trapping active deliverable n ≡ false) × Contains (choices_of active deliverable (is_cut active deliverable n) vcpu cpu shape n) chosen
 chosen_from active deliverable vcpu cpu shape n chosen has = by_mode (is_trapping active deliverable n) (Contains-from_places (if is_trapping active deliverable n then [] else choices_of active deliverable (is_cut active deliverable n) vcpu cpu shape n) chosen has)
   where
     by_mode : (b : Bool) → Contains (if b then [] else choices_of active deliverable (is_cut active deliverable n) vcpu cpu shape n) chosen → (b ≡ false) × Contains (choices_of active deliverable (is_cut active deliverable n) vcpu cpu shape n) chosen

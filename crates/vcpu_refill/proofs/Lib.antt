@@ -5,3 +5,7 @@ pub mod ElementLemmas
 pub mod OrderLemmas
 pub mod LawLemmas
 pub mod SortLemmas
+pub mod FirstLemmas
+pub mod EarnedLemmas
+pub mod ApartLemmas
+pub mod StandLemmas

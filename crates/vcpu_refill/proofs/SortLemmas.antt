@@ -10,7 +10,7 @@ use Rattle.vcpu_refill.specs.Laws.{OrderedIsSorting}
 use Rattle.vcpu_refill.proofs.OrderLemmas.{in_order, in_order-ordered, none_before-Contains}
 
 -- one more has its place among the others
-permuted-inserted : (one : Offer) (xs : List Offer) → IsPermutation (one ∷ xs) (inserted one xs)
+pub permuted-inserted : (one : Offer) (xs : List Offer) → IsPermutation (one ∷ xs) (inserted one xs)
 permuted-inserted one [] = IsPermutation-refl (one ∷ [])
 permuted-inserted one (x ∷ xs) =
     elim (goes_before one x) as (λ b. IsPermutation (one ∷ x ∷ xs) (cond b (one ∷ x ∷ xs) (x ∷ inserted one xs))) [

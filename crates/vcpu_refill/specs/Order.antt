@@ -1,5 +1,5 @@
 -- Interrupts in delivery order (IHI 0069, "Interrupt prioritization").
-use Rattle.std.specs.Prelude.{ℕ, List, [], ◌∷◌, fold, filter, Bool, if◌then◌else◌, None}
+use Rattle.std.specs.Prelude.{ℕ, List, [], ◌∷◌, fold, filter, slice_get, Bool, if◌then◌else◌, Option, None}
 use Rattle.gic_base.specs.declared.shape.GuestShape.{GuestShape}
 use Rattle.gic_base.specs.Interrupt.{intid_of}
 use Rattle.gic_word.specs.Record.{is_number}
@@ -44,3 +44,7 @@ active_among offers vcpu = ordered (filter (is_active_by vcpu) offers)
 -- the interrupts that are deliverable to the vCPU, in delivery order
 abbrev pub deliverable_among : List Offer → ℕ → CpuRec → GuestShape → List Offer
 deliverable_among offers vcpu cpu shape = ordered (filter (is_deliverable_to vcpu cpu shape) offers)
+
+-- the first of the interrupts that are deliverable to the vCPU
+abbrev pub first_among : List Offer → ℕ → CpuRec → GuestShape → Option Offer
+first_among offers vcpu cpu shape = slice_get (deliverable_among offers vcpu cpu shape) 0

@@ -1,14 +1,19 @@
 -- The plan: which interrupts stand in the list registers of a PE while a vCPU is loaded there, and what ICH_HCR asks for
 -- (own choice, over IHI 0069, "Usage model for the List registers", ICH_LR<n>_EL2 and ICH_HCR_EL2).
 use Rattle.std.specs.Prelude.{ℕ, ◌+◌, ◌-◌, ◌^◌, ◌&&◌, ◌||◌, ◌==◌, not, min, nat_lt, Bool, if◌then◌else◌, Option, None, List, [], ◌++◌, length, map, take, All, IfSome}
-use Rattle.std.specs.Option.{option_map_or}
+use Rattle.std.specs.List.{filter_map}
+use Rattle.std.specs.Option.{option_map, option_map_or}
 use Rattle.gic_word.specs.Record.{is_pending}
 use Rattle.gic_base.specs.declared.shape.GuestShape.{GuestShape}
+use Rattle.gic_base.specs.declared.held.HeldIrq.{HeldIrq}
 use Rattle.gic_base.specs.Interrupt.{intid_of}
 use Rattle.gic_lr.specs.declared.entry.LrState.{LrState}
 use Rattle.gic_lr.specs.declared.entry.LrState.TheVariants.{Pending, Active, Both}
-use Rattle.gic_lr.specs.Entry.{IsEntry, packed, state_number}
+use Rattle.gic_lr.specs.Entry.{IsEntry, packed, state_number, state_has_pending, state_has_active}
 use Rattle.gic_prio.specs.declared.cpu.CpuRec.{CpuRec}
+use Rattle.gic_prio.specs.Interface.{AtInterface, InterfaceState}
+use Rattle.gic_ich.specs.declared.regs.IchRegs.{IchRegs}
+use Rattle.gic_ich.specs.Vmcr.{vmcr_of}
 use Rattle.gic_ich.specs.Hcr.{hcr_en, hcr_npie, hcr_vgrp0eie, hcr_vgrp0die, hcr_vgrp1eie, hcr_vgrp1die, hcr_tc, hcr_tall0, hcr_tall1, hcr_tdir}
 use Rattle.vcpu_refill.specs.declared.offer.Offer.{Offer}
 use Rattle.vcpu_refill.specs.declared.fill.Choice.{Choice}
@@ -88,6 +93,38 @@ word_of place = option_map_or (λ choice. packed choice.entry) place 0
 -- the words of n list registers
 abbrev pub words_of : Fill → ℕ → List ℕ
 words_of fill n = take n (map word_of fill.choice)
+
+-- the registers of a PE with n list registers that an entry stores: ICH_VMCR and the active levels are the CPU record's
+abbrev pub regs_of : Fill → CpuRec → ℕ → IchRegs
+regs_of fill cpu n = record { lr = map word_of fill.choice; n = n; vmcr = vmcr_of cpu; hcr = fill.hcr; ap0r = cpu.ap0; ap1r = cpu.ap1 }
+
+-- an interrupt as it is held: it brings the latched causes of its record where it is pending there, and none with State 2
+abbrev pub held_as : Choice → HeldIrq
+held_as choice =
+    let brings = state_has_pending choice.entry.state in
+    record { key = choice.key; rise = brings && choice.irq.rise; soft = brings && choice.irq.soft; edge = choice.irq.edge }
+
+-- what the vCPU holds after the entry, each interrupt at the place of its list register
+abbrev pub held_of : Fill → List (Option HeldIrq)
+held_of fill = map (option_map held_as) fill.choice
+
+-- an interrupt as it stands at the interface after the entry, with its record's priority and group
+abbrev pub entry_of : Choice → AtInterface
+entry_of choice =
+    let held = held_as choice in
+    record {
+      key = choice.key;
+      prio = choice.irq.prio;
+      group = choice.irq.group;
+      pending = state_has_pending choice.entry.state;
+      active = state_has_active choice.entry.state;
+      rise = held.rise;
+      soft = held.soft;
+    }
+
+-- the interface after the entry
+abbrev pub interface_of : Fill → CpuRec → InterfaceState
+interface_of fill cpu = record { cpu = cpu; at = filter_map (option_map entry_of) fill.choice }
 
 -- each list register can hold what was chosen for it
 abbrev pub HasEntries : List (Option Choice) → Type 0

@@ -7,6 +7,7 @@ ghost use Rattle.gic_base.specs.declared.shape.GuestShape.{GuestShape};
 ghost use Rattle.gic_prio.specs.declared.cpu.CpuRec.{CpuRec};
 ghost use Rattle.vcpu_refill.specs.declared.offer.Offer.{Offer};
 ghost use Rattle.vcpu_refill.specs.Chooser.{StandsFor, Keeps};
+ghost use Rattle.vcpu_refill.specs.Order.{first_among};
 ghost use Rattle.vcpu_refill.specs.Ranking.{in_places};
 ghost use Rattle.vcpu_refill.specs.Plan.{plan as plan_of, is_trapping, is_cut, active_choice, pending_choice, choices_of, HasEntries};
 
@@ -150,6 +151,16 @@ impl Chooser {
             *slot = self.choice_at(place, active, cut, cpu);
         }
         choices
+    }
+
+    /// The first of the interrupts that are deliverable to the vCPU, with its record as it was offered. An
+    /// acknowledge in trap mode takes it.
+    pub fn first(&self) -> Option<Offer>
+        ensures { (cpu : CpuRec) (offers : List Offer) → StandsFor self.now cpu offers →
+            (shape : GuestShape) → self.now.vcpu < shape.vcpus →
+            result ≡ first_among offers self.now.vcpu cpu shape }
+    {
+        self.deliverable.places[0]
     }
 
     /// The plan for the vCPU: what stands in each list register, whether something is cut off or every

@@ -1,14 +1,16 @@
 //! What is chosen for the list registers.
 ghost use Rattle.std.specs.Prelude.{◌≡◌, ◌<◌, map, IfSome};
 ghost use Rattle.gic_base.specs.declared.shape.GuestShape.{GuestShape};
+ghost use Rattle.std.specs.Option.{option_map};
 ghost use Rattle.gic_lr.specs.Entry.{IsEntry};
-ghost use Rattle.vcpu_refill.specs.Plan.{hcr_of, chosen_as as choice_with, active_state as state_of_active, word_of, HasEntries};
+ghost use Rattle.gic_prio.specs.Priority.{HasBinaryPoints};
+ghost use Rattle.vcpu_refill.specs.Plan.{hcr_of, chosen_as as choice_with, active_state as state_of_active, word_of, regs_of, held_as, held_of, HasEntries};
 
 use crate::offer::Offer;
-use gic_base::{Key, MAX_LIST_REGISTERS};
+use gic_base::{Held, HeldIrq, Key, MAX_LIST_REGISTERS};
 use gic_ich::{
     HCR_EN, HCR_NPIE, HCR_TALL0, HCR_TALL1, HCR_TC, HCR_TDIR, HCR_VGRP0DIE, HCR_VGRP0EIE,
-    HCR_VGRP1DIE, HCR_VGRP1EIE,
+    HCR_VGRP1DIE, HCR_VGRP1EIE, IchRegs, vmcr_of,
 };
 use gic_lr::{LrEntry, LrState, pack};
 use gic_prio::CpuRec;
@@ -71,6 +73,22 @@ impl Offer {
     }
 }
 
+impl Choice {
+    /// The interrupt as it is held: with the latched causes of its record where it is pending in its list
+    /// register, and without where its State is 2.
+    pub fn held(&self) -> HeldIrq
+        ensures { result ≡ held_as self.now }
+    {
+        let brings = self.entry.state.has_pending();
+        HeldIrq {
+            key: self.key,
+            rise: brings && self.irq.rise,
+            soft: brings && self.irq.soft,
+            edge: self.irq.edge,
+        }
+    }
+}
+
 /// ICH_HCR for a vCPU with this CPU record.
 pub(crate) fn control(cpu: &CpuRec, cut: bool, trapping: bool) -> u32
     ensures { result ≡ hcr_of cpu.now cut trapping }
@@ -84,6 +102,16 @@ pub(crate) fn control(cpu: &CpuRec, cut: bool, trapping: bool) -> u32
         0
     };
     HCR_EN + no_pending + group_0 + group_1 + traps
+}
+
+/// What is held at the place of a list register: none where nothing was chosen for it.
+fn held_at(place: &Option<Choice>) -> Option<HeldIrq>
+    ensures { result ≡ option_map held_as place.now }
+{
+    match place {
+        Some(choice) => Some(choice.held()),
+        None => None,
+    }
 }
 
 /// The word of a list register: 0 where nothing was chosen for it.
@@ -109,5 +137,33 @@ impl Fill {
             *slot = word(&self.choice[place]);
         }
         words
+    }
+
+    /// The registers of a PE with `lrs` list registers (1 to 16) that an entry of the vCPU stores. ICH_VMCR and
+    /// the active levels are those of its CPU record.
+    pub fn registers(&self, cpu: &CpuRec, lrs: u32) -> IchRegs
+        requires entries { HasEntries self.now.choice }
+        requires points { HasBinaryPoints cpu.now }
+        ensures { result ≡ regs_of self.now cpu.now lrs }
+    {
+        IchRegs {
+            lr: self.words(),
+            n: lrs,
+            vmcr: vmcr_of(cpu),
+            hcr: self.hcr,
+            ap0r: cpu.ap0,
+            ap1r: cpu.ap1,
+        }
+    }
+
+    /// What the vCPU holds after the entry, each interrupt at the place of its list register.
+    pub fn held(&self) -> Held
+        ensures { result ≡ held_of self.now }
+    {
+        let mut held = [None; MAX_LIST_REGISTERS];
+        for (place, slot) in held.iter_mut().enumerate() {
+            *slot = held_at(&self.choice[place]);
+        }
+        held
     }
 }

@@ -1,14 +1,20 @@
 //! A vCPU on a PE.
-ghost use Rattle.std.specs.Prelude.{◌≡◌, ◌≢◌, ◌<◌, ◌≤◌, ◌↔◌, [], IsTrue, IfSome, IfNone, All, is_none, position};
-ghost use Rattle.std.specs.List.{list_all};
+ghost use Rattle.std.specs.Prelude.{◌≡◌, ◌≢◌, ◌<◌, ◌≤◌, ◌↔◌, [], List, Some, None, IsTrue, IfSome, IfNone, All, is_none, position};
+ghost use Rattle.std.specs.List.{list_all, slice_index_or};
 ghost use Rattle.gic_base.specs.Interrupt.{intid_of};
 ghost use Rattle.gic_prio.specs.Priority.{HasBinaryPoints};
-ghost use Rattle.vcpu_state.specs.Holding.{held_keys, shelved_keys, has_intid};
+ghost use Rattle.vcpu_state.specs.Holding.{held_keys, has_intid};
+ghost use Rattle.gic_base.specs.declared.held.HeldIrq.{HeldIrq as Brought};
+ghost use Rattle.gic_lr.specs.Entry.{IsEntry, packed};
+ghost use Rattle.gic_prio.specs.Interface.{AtInterface, InterfaceState};
+ghost use Rattle.gic_ich.specs.Place.{StandsAs, IsHeld, StandFor};
 ghost use Rattle.vcpu_state.specs.Moves.{loaded_of, shelved_of};
+ghost use Rattle.vcpu_state.specs.Places.{with_place, IsWith, IsWithout};
 
 use crate::shelved::Shelved;
-use gic_base::{Held, MAX_LIST_REGISTERS};
+use gic_base::{Held, HeldIrq, MAX_LIST_REGISTERS};
 use gic_ich::{HCR_EN, IchRegs, cpu_of, vmcr_of};
+use gic_lr::{LrEntry, pack};
 
 /// A vCPU on a PE. The registers are its own; the words of interrupts stay shared, and others may act on
 /// them.
@@ -81,13 +87,40 @@ impl Loaded {
     pub fn shelve(self) -> Shelved
         requires { held_keys self ≡ [] }
         ensures value { result ≡ shelved_of self }
-        ensures holds { shelved_keys result ≡ held_keys self }
         ensures points { HasBinaryPoints result.cpu }
     {
         Shelved {
             cpu: cpu_of(&self.regs, self.base.cpu.lpis),
             ..self.base
         }
+    }
+
+    /// Puts an interrupt into a free list register of the PE, `place` from 0, and holds it there. Where the
+    /// registers stand for an interface place by place, they then do for the one that has this interrupt too.
+    pub fn put(&mut self, place: usize, entry: &LrEntry, held: HeldIrq)
+        requires place { place < MAX_LIST_REGISTERS }
+        requires entry { IsEntry entry.now }
+        ensures value { self.new ≡ with_place place (packed entry.now) (Some held) self.old }
+        ensures stands { (interface : InterfaceState) (one : AtInterface) (at : List AtInterface) → StandFor self.old.regs self.old.held interface
+            → place < self.old.regs.n → slice_index_or self.old.held place None ≡ None → ¬ IsHeld self.old.held held.key
+            → StandsAs (packed entry.now) held one → IsWith one interface.at at
+            → StandFor self.new.regs self.new.held (record interface { at = at }) }
+    {
+        self.regs.lr[place] = pack(entry);
+        self.held[place] = Some(held);
+    }
+
+    /// Clears the list register of a place, and holds nothing there any more. Where the registers stand for an
+    /// interface place by place, they then do for the one without the interrupt that was held there.
+    pub fn clear(&mut self, place: usize)
+        requires place { place < MAX_LIST_REGISTERS }
+        ensures value { self.new ≡ with_place place 0 None self.old }
+        ensures stands { (interface : InterfaceState) (one : Brought) (at : List AtInterface) → StandFor self.old.regs self.old.held interface
+            → slice_index_or self.old.held place None ≡ Some one → IsWithout one.key interface.at at
+            → StandFor self.new.regs self.new.held (record interface { at = at }) }
+    {
+        self.regs.lr[place] = 0;
+        self.held[place] = None;
     }
 
     /// The list register of the interrupt with this INTID. None exactly where the vCPU holds none with it.
@@ -104,7 +137,9 @@ impl Loaded {
 mod tests {
     use crate::shelved::Shelved;
     use gic_base::{HeldIrq, Key};
+    use gic_lr::{LrEntry, LrState};
     use gic_prio::CpuRec;
+    use gic_word::Group;
 
     const SHELVED: Shelved = Shelved {
         guest: 0,
@@ -124,6 +159,22 @@ mod tests {
         next: 7,
     };
 
+    const PENDING_40: LrEntry = LrEntry {
+        id: 40,
+        prio: 0xA0,
+        group: Group::G1,
+        state: LrState::Pending,
+        eoi: false,
+        hw: None,
+    };
+
+    const HELD_40: HeldIrq = HeldIrq {
+        key: Key::Spi(40),
+        rise: false,
+        soft: true,
+        edge: true,
+    };
+
     #[test]
     fn registers_hold_the_record(rt: HostRuntime) {
         let vcpu = SHELVED;
@@ -131,16 +182,14 @@ mod tests {
         assert_eq!(rt; loaded.regs.vmcr, 0xf04c_000a);
         assert_eq!(rt; loaded.regs.ap1r, 0x0010_0000);
         assert!(rt; loaded.holds_nothing());
-        loaded.held[2] = Some(HeldIrq {
-            key: Key::Spi(40),
-            rise: false,
-            soft: true,
-            edge: true,
-        });
+        loaded.put(2, &PENDING_40, HELD_40);
+        assert_eq!(rt; loaded.regs.lr[2], 0x50a0_0000_0000_0028);
         assert!(rt; !loaded.holds_nothing());
         assert_eq!(rt; loaded.place_of(40), Some(2));
         assert_eq!(rt; loaded.place_of(41), None);
-        loaded.held[2] = None;
+        loaded.clear(2);
+        assert_eq!(rt; loaded.regs.lr[2], 0);
+        assert!(rt; loaded.holds_nothing());
         loaded.regs.vmcr = 0xf04c_0008;
         let Shelved { cpu, next, .. } = loaded.shelve();
         assert!(rt; !cpu.en1 && cpu.lpis);

@@ -8,7 +8,7 @@ use Rattle.vcpu_refill.specs.declared.fill.Choice.{Choice}
 use Rattle.vcpu_refill.specs.Ranking.{in_places}
 use Rattle.vcpu_refill.specs.Plan.{choices_of}
 use Rattle.vcpu_refill.proofs.PlaceLemmas.{in_places_all, nothing_placed}
-use Rattle.vcpu_refill.proofs.FillLemmas.{choices_more, fits_untrapped}
+use Rattle.vcpu_refill.proofs.FillLemmas.{filled_more, fits_untrapped}
 use Rattle.vcpu_refill.proofs.chooser.Chooser.choices.Goals as goal
 
 pub returns-then-trapping-clause-value : goal.returns-then-trapping-clause-value
@@ -27,7 +27,7 @@ loop-place-preserved c =
       entries =
           AllWithin-more_set c.loop-place.slot-items c.loop-place.place c.choice_at.result within (λ place. IfSome place (λ choice. IsEntry choice.entry)) c.loop-place.invariant.entries c.choice_at.ensures.entry;
       filled = λ shape there actives deliverables keeps long fits.
-          choices_more (slice_get (choices_of actives deliverables c.args.cut c.args.self.now.vcpu c.args.cpu.now shape c.args.self.now.lrs)) c.loop-place.slot-items c.loop-place.place c.choice_at.result within
+          filled_more None (slice_get (choices_of actives deliverables c.args.cut c.args.self.now.vcpu c.args.cpu.now shape c.args.self.now.lrs)) c.loop-place.slot-items c.loop-place.place c.choice_at.result within
           (c.choice_at.ensures.value shape there actives deliverables keeps long fits) (c.loop-place.invariant.filled shape there actives deliverables keeps long fits);
     }
 
