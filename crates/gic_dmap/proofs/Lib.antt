@@ -1,1 +1,1 @@
-pub mod IntidLemmas
+pub mod MapLemmas

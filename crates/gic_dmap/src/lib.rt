@@ -1,7 +1,9 @@
-//! The registers of the distributor (IHI 0069, "The Distributor register map").
+//! The registers of the distributor (IHI 0069, "The Distributor register map"): where they are, and what they hold.
 #![tactic(auto)]
 
+mod contents;
 mod map;
 
-pub use gic_frame::Half;
-pub use map::{Reg, RegRef, decode, lines_are_in_order};
+pub use contents::{Enables, ctlr, enables_in, message_intid, typer};
+pub use gic_frame::{Half, IIDR, PIDR2};
+pub use map::{Reg, RegRef, decode, lines_are_in_order, parts_are_in_place};

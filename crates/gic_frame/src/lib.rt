@@ -2,9 +2,14 @@
 #![tactic(auto)]
 
 mod bank;
+mod half;
+mod identity;
 mod line;
 mod part;
+mod parts;
 
 pub use bank::{Access, Bank, Half};
+pub use identity::{IIDR, PIDR2, identity_is_fixed};
 pub use line::{Found, Line, find};
-pub use part::{part_bits, parts_in};
+pub use part::{access_of, part_bits, parts_in};
+pub use parts::{joining_undoes_cutting, part_in, with_part};

@@ -3,10 +3,7 @@ ghost use Rattle.std.specs.Prelude.{◌≡◌, IsTrue};
 ghost use Rattle.gic_frame.specs.Line.{is_in_order};
 ghost use Rattle.gic_imap.specs.Map.{lines, decoded};
 
-use gic_frame::{Half, Line, find, lines};
-
-/// The bytes of the two frames of an ITS: the control frame at 0 and the translation frame at 0x10000.
-const FRAME_BYTES: u32 = 0x20000;
+use gic_frame::{Access, Found, Half, Line, find};
 
 /// A register of an ITS.
 #[derive(Clone, Copy, Debug, PartialEq, Eq, Hash)]
@@ -41,16 +38,16 @@ pub enum RegRef {
 }
 
 /// The map, by rising offsets.
-const LINES: [Line<Reg>; 9] = lines![
-    0x0000, 1, Word => Reg::Ctlr;
-    0x0004, 1, Word => Reg::Iidr;
-    0x0008, 1, Doubleword => Reg::Typer;
-    0x0080, 1, Doubleword => Reg::Cbaser;
-    0x0088, 1, Doubleword => Reg::Cwriter;
-    0x0090, 1, Doubleword => Reg::Creadr;
-    0x0100, 1, Doubleword => Reg::Baser0;
-    0x0108, 1, Doubleword => Reg::Baser1;
-    0xFFE8, 1, Word => Reg::Pidr2;
+const LINES: [Line<Reg>; 9] = [
+    Line::Register(0x0000, Access::Word, Reg::Ctlr),
+    Line::Register(0x0004, Access::Word, Reg::Iidr),
+    Line::Register(0x0008, Access::Doubleword, Reg::Typer),
+    Line::Register(0x0080, Access::Doubleword, Reg::Cbaser),
+    Line::Register(0x0088, Access::Doubleword, Reg::Cwriter),
+    Line::Register(0x0090, Access::Doubleword, Reg::Creadr),
+    Line::Register(0x0100, Access::Doubleword, Reg::Baser0),
+    Line::Register(0x0108, Access::Doubleword, Reg::Baser1),
+    Line::Register(0xFFE8, Access::Word, Reg::Pidr2),
 ];
 
 /// What an access of `size` bytes at a byte offset in the ITS's frames is to: the control frame at 0 and the
@@ -60,11 +57,8 @@ pub fn decode(offset: u32, size: u32) -> RegRef
     ensures { result ≡ decoded offset size }
 {
     match find(&LINES, offset, size) {
-        Some(found) => RegRef::Plain {
-            reg: found.content,
-            half: found.half,
-        },
-        None => RegRef::Reserved,
+        Some(Found::InRegister { reg, half }) => RegRef::Plain { reg, half },
+        Some(Found::InParts { .. }) | None => RegRef::Reserved,
     }
 }
 

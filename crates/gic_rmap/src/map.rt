@@ -1,13 +1,11 @@
 //! The register map of a redistributor.
-ghost use Rattle.std.specs.Prelude.{◌≡◌, ◌<◌, ◌≤◌, IsTrue};
+ghost use Rattle.std.specs.Prelude.{◌≡◌, IsTrue};
 ghost use Rattle.gic_frame.specs.Line.{is_in_order};
-ghost use Rattle.gic_rmap.specs.Map.{lines, decoded, NamesIntids, register_at};
+ghost use Rattle.gic_rmap.specs.Map.{lines, decoded, NamesIntids};
+ghost use Rattle.gic_rmap.specs.Law.{PartsAreInPlace};
 
 use gic_base::Kind;
-use gic_frame::{Found, Half, Line, find, lines, parts_in};
-
-/// The bytes of the two frames of a redistributor: RD at 0 and SGI at 0x10000.
-const FRAME_BYTES: u32 = 0x20000;
+use gic_frame::{Access, Found, Half, Line, find};
 
 /// A register of a redistributor that has no part for each interrupt.
 #[derive(Clone, Copy, Debug, PartialEq, Eq, Hash)]
@@ -37,54 +35,24 @@ pub enum RegRef {
     Reserved,
 }
 
-/// What the registers of a line are.
-#[derive(Clone, Copy, Debug, PartialEq, Eq, Hash)]
-enum Content {
-    /// This register.
-    Register(Reg),
-    /// The parts of all private interrupts from INTID 0 on.
-    Interrupts(Kind),
-}
-
-/// The map, by rising offsets.
-const LINES: [Line<Content>; 15] = lines![
-    0x0000, 1, Word => Content::Register(Reg::Ctlr);
-    0x0004, 1, Word => Content::Register(Reg::Iidr);
-    0x0008, 1, Doubleword => Content::Register(Reg::Typer);
-    0x0070, 1, Doubleword => Content::Register(Reg::Propbaser);
-    0x0078, 1, Doubleword => Content::Register(Reg::Pendbaser);
-    0xFFE8, 1, Word => Content::Register(Reg::Pidr2);
-    0x10080, 1, Word => Content::Interrupts(Kind::Group);
-    0x10100, 1, Word => Content::Interrupts(Kind::SetEnable);
-    0x10180, 1, Word => Content::Interrupts(Kind::ClearEnable);
-    0x10200, 1, Word => Content::Interrupts(Kind::SetPending);
-    0x10280, 1, Word => Content::Interrupts(Kind::ClearPending);
-    0x10300, 1, Word => Content::Interrupts(Kind::SetActive);
-    0x10380, 1, Word => Content::Interrupts(Kind::ClearActive);
-    0x10400, 8, WordOrByte => Content::Interrupts(Kind::Priority);
-    0x10C00, 2, Word => Content::Interrupts(Kind::Config);
+/// The map, by rising offsets: the RD frame, and the SGI frame from 0x10000.
+const LINES: [Line<Reg>; 15] = [
+    Line::Register(0x0000, Access::Word, Reg::Ctlr),
+    Line::Register(0x0004, Access::Word, Reg::Iidr),
+    Line::Register(0x0008, Access::Doubleword, Reg::Typer),
+    Line::Register(0x0070, Access::Doubleword, Reg::Propbaser),
+    Line::Register(0x0078, Access::Doubleword, Reg::Pendbaser),
+    Line::Register(0xFFE8, Access::Word, Reg::Pidr2),
+    Line::Interrupts(0x10080, Kind::Group, 0, 32),
+    Line::Interrupts(0x10100, Kind::SetEnable, 0, 32),
+    Line::Interrupts(0x10180, Kind::ClearEnable, 0, 32),
+    Line::Interrupts(0x10200, Kind::SetPending, 0, 32),
+    Line::Interrupts(0x10280, Kind::ClearPending, 0, 32),
+    Line::Interrupts(0x10300, Kind::SetActive, 0, 32),
+    Line::Interrupts(0x10380, Kind::ClearActive, 0, 32),
+    Line::Interrupts(0x10400, Kind::Priority, 0, 32),
+    Line::Interrupts(0x10C00, Kind::Config, 0, 32),
 ];
-
-/// What a found access of `size` bytes is to.
-fn register_of(found: &Found<Content>, size: u32) -> RegRef
-    requires frame { found.now.byte < FRAME_BYTES }
-    requires small { size ≤ 8 }
-    ensures { result ≡ register_at found.now size }
-{
-    let Found {
-        content,
-        byte,
-        half,
-    } = *found;
-    match content {
-        Content::Register(reg) => RegRef::Plain { reg, half },
-        Content::Interrupts(kind) => RegRef::Bits {
-            kind,
-            first: parts_in(kind, byte),
-            count: parts_in(kind, size),
-        },
-    }
-}
 
 /// What an access of `size` bytes at a byte offset in a redistributor's two frames is to. Reserved exactly
 /// where the map has no register at the offset, or none that takes such an access, or where the offset is not
@@ -93,11 +61,16 @@ pub fn decode(offset: u32, size: u32) -> RegRef
     ensures value { result ≡ decoded offset size }
     ensures intids { NamesIntids result }
 {
-    if offset >= FRAME_BYTES {
-        return RegRef::Reserved;
-    }
     match find(&LINES, offset, size) {
-        Some(found) => register_of(&found, size),
+        Some(Found::InRegister { reg, half }) => RegRef::Plain { reg, half },
+        Some(
+            Found::InParts {
+                kind,
+                first,
+                count,
+                ..
+            },
+        ) => RegRef::Bits { kind, first, count },
         None => RegRef::Reserved,
     }
 }
@@ -106,6 +79,11 @@ pub fn decode(offset: u32, size: u32) -> RegRef
 /// each register is at a multiple of its width.
 pub fn lines_are_in_order()
     ensures { IsTrue (is_in_order 0 0x20000 lines) }
+{}
+
+/// A law of the map: the part of each private INTID is where the architecture has it, in the registers of each kind.
+pub fn parts_are_in_place()
+    ensures { PartsAreInPlace }
 {}
 
 #[cfg(test)]

@@ -1,5 +1,5 @@
 -- The commands of an ITS and their doublewords (IHI 0069, "ITS commands").
-use Rattle.std.specs.Prelude.{ℕ, ◌<◌, ◌+◌, ◌*◌, ◌^◌, ◌==◌, Bool, true, false, Result, ok_or, List, [], ◌∷◌}
+use Rattle.std.specs.Prelude.{ℕ, ◌<◌, ◌+◌, ◌*◌, ◌^◌, ◌==◌, Result, ok_or, List, [], ◌∷◌}
 use Rattle.std.specs.Map.{lookup}
 use Rattle.gic_bits.specs.Bits.{bit_of}
 use Rattle.its_cmd.specs.declared.command.Command.{Command}
@@ -42,13 +42,6 @@ FitsFields (Mapd device size itt_addr valid) = (size < 2 ^ 5) × (itt_addr < 2 ^
 FitsFields (Mapc icid rdbase valid) = rdbase < 2 ^ 35
 FitsFields (Movall rdbase second) = (rdbase < 2 ^ 35) × (second < 2 ^ 35)
 FitsFields command = Unit {0}
-
--- the command maps a device, a collection, or an event to an INTID
-abbrev pub is_map : Command → Bool
-is_map (Mapd device size itt_addr valid) = true
-is_map (Mapc icid rdbase valid) = true
-is_map (Mapti device event id icid) = true
-is_map command = false
 
 -- the doublewords of a command, 0 in the bits of no field
 abbrev pub encoded : Command → List ℕ

@@ -1,8 +1,9 @@
 //! The commands, and their doublewords both ways.
-ghost use Rattle.std.specs.Prelude.{◌≡◌, ◌==◌, ◌<◌, ◌+◌, ◌*◌, ◌^◌, [], ◌∷◌, IfOk, IsTrue};
+ghost use Rattle.std.specs.Prelude.{◌≡◌, ◌==◌, ◌<◌, ◌+◌, ◌*◌, ◌^◌, IfOk, slice_index};
+ghost use Rattle.gic_bits.specs.Bits.{bit_of};
 ghost use Rattle.its_cmd.specs.declared.command.Command.TheVariants.{Mapd, Mapc, Mapti};
 ghost use Rattle.its_cmd.specs.Field.{device_in, event_in, pintid_in, size_in, itt_addr_in, icid_in, rdbase_in, valid_in};
-ghost use Rattle.its_cmd.specs.Command.{FitsFields, is_map, decoded, encoded};
+ghost use Rattle.its_cmd.specs.Command.{FitsFields, decoded, encoded};
 ghost use Rattle.its_cmd.specs.Laws.{OnlyFieldsMatter};
 
 use crate::field::{DEVICE, EVENT, ICID, ITT_ADDR, NUMBER, PINTID, RDBASE, SECOND, SIZE, VALID};
@@ -199,64 +200,78 @@ pub fn encode(command: &Command) -> [u64; 4]
     ensures value { result ≡ encoded command.now }
     ensures back { decoded result ≡ Ok command.now }
 {
+    let head = head_of(command);
     match *command {
-        Command::Movi {
-            device,
-            event,
-            icid,
-        } => on_event(MOVI, device, event, icid),
-        Command::Int { device, event } => on_event(INT, device, event, 0),
-        Command::Clear { device, event } => on_event(CLEAR, device, event, 0),
-        Command::Sync { rdbase } => [SYNC, 0, RDBASE.put(rdbase), 0],
-        Command::Mapd { .. } | Command::Mapc { .. } | Command::Mapti { .. } => encode_map(command),
-        Command::Mapi {
-            device,
-            event,
-            icid,
-        } => on_event(MAPI, device, event, icid),
-        Command::Inv { device, event } => on_event(INV, device, event, 0),
-        Command::Invall { icid } => [INVALL, 0, u64::from(icid), 0],
-        Command::Movall { rdbase, second } => [MOVALL, 0, RDBASE.put(rdbase), SECOND.put(second)],
-        Command::Discard { device, event } => on_event(DISCARD, device, event, 0),
-    }
-}
-
-/// The doublewords of a command that maps a device, a collection, or an event to an INTID.
-fn encode_map(command: &Command) -> [u64; 4]
-    requires fits { FitsFields command.now }
-    requires maps { IsTrue (is_map command.now) }
-    ensures value { result ≡ encoded command.now }
-    ensures back { decoded result ≡ Ok command.now }
-{
-    match *command {
+        Command::Movi { event, icid, .. } => [head, u64::from(event), u64::from(icid), 0],
+        Command::Int { event, .. }
+        | Command::Clear { event, .. }
+        | Command::Inv { event, .. }
+        | Command::Discard { event, .. } => [head, u64::from(event), 0, 0],
+        Command::Sync { rdbase } => [head, 0, RDBASE.put(rdbase), 0],
         Command::Mapd {
-            device,
             size,
             itt_addr,
             valid,
-        } => {
-            let table = ITT_ADDR.put(itt_addr) + VALID.put(u64::from(valid));
-            [on_device(MAPD, device), u64::from(size), table, 0]
-        }
+            ..
+        } => [head, u64::from(size), table_word(itt_addr, valid), 0],
         Command::Mapc {
             icid,
             rdbase,
             valid,
-        } => {
-            let target = RDBASE.put(rdbase) + VALID.put(u64::from(valid));
-            [MAPC, 0, u64::from(icid) + target, 0]
-        }
+        } => [head, 0, target_word(icid, rdbase, valid), 0],
         Command::Mapti {
-            device,
             event,
             id,
             icid,
-        } => {
-            let numbers = u64::from(event) + PINTID.put(u64::from(id));
-            [on_device(MAPTI, device), numbers, u64::from(icid), 0]
-        }
-        _ => unreachable!(),
+            ..
+        } => [head, event_word(event, id), u64::from(icid), 0],
+        Command::Mapi { event, icid, .. } => [head, u64::from(event), u64::from(icid), 0],
+        Command::Invall { icid } => [head, 0, u64::from(icid), 0],
+        Command::Movall { rdbase, second } => [head, 0, RDBASE.put(rdbase), SECOND.put(second)],
     }
+}
+
+/// DW0 of a command: its number, and its DeviceID where it has one.
+fn head_of(command: &Command) -> u64
+    ensures { result ≡ slice_index (encoded command.now) 0 }
+{
+    match *command {
+        Command::Movi { device, .. } => on_device(MOVI, device),
+        Command::Int { device, .. } => on_device(INT, device),
+        Command::Clear { device, .. } => on_device(CLEAR, device),
+        Command::Sync { .. } => SYNC,
+        Command::Mapd { device, .. } => on_device(MAPD, device),
+        Command::Mapc { .. } => MAPC,
+        Command::Mapti { device, .. } => on_device(MAPTI, device),
+        Command::Mapi { device, .. } => on_device(MAPI, device),
+        Command::Inv { device, .. } => on_device(INV, device),
+        Command::Invall { .. } => INVALL,
+        Command::Movall { .. } => MOVALL,
+        Command::Discard { device, .. } => on_device(DISCARD, device),
+    }
+}
+
+/// DW1 of a MAPTI.
+fn event_word(event: u32, id: u32) -> u64
+    ensures { result ≡ event + id * 2 ^ 32 }
+{
+    u64::from(event) + PINTID.put(u64::from(id))
+}
+
+/// DW2 of a MAPD, whose ITT_addr has to fit its field.
+fn table_word(itt_addr: u64, valid: bool) -> u64
+    requires { itt_addr < 2 ^ 44 }
+    ensures { result ≡ itt_addr * 2 ^ 8 + bit_of valid * 2 ^ 63 }
+{
+    ITT_ADDR.put(itt_addr) + VALID.put(u64::from(valid))
+}
+
+/// DW2 of a MAPC, whose RDbase has to fit its field.
+fn target_word(icid: u16, rdbase: u64, valid: bool) -> u64
+    requires { rdbase < 2 ^ 35 }
+    ensures { result ≡ icid + rdbase * 2 ^ 16 + bit_of valid * 2 ^ 63 }
+{
+    u64::from(icid) + RDBASE.put(rdbase) + VALID.put(u64::from(valid))
 }
 
 /// DW0 of a command with a DeviceID.
@@ -265,19 +280,6 @@ fn on_device(number: u64, device: u32) -> u64
     ensures { result ≡ number + device * 2 ^ 32 }
 {
     number + DEVICE.put(u64::from(device))
-}
-
-/// The doublewords of a command with a DeviceID, an EventID and an ICID alone.
-fn on_event(number: u64, device: u32, event: u32, icid: u16) -> [u64; 4]
-    requires { number < 2 ^ 8 }
-    ensures { result ≡ (number + device * 2 ^ 32) ∷ event ∷ icid ∷ 0 ∷ [] }
-{
-    [
-        on_device(number, device),
-        u64::from(event),
-        u64::from(icid),
-        0,
-    ]
 }
 
 /// A law of all doublewords: two sets of them are the same command exactly where they have the same number,

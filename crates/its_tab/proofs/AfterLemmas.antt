@@ -21,7 +21,7 @@ use Rattle.its_tab.specs.declared.fault.CmdFault.{CmdFault}
 use Rattle.its_tab.specs.Maps.{Maps, event_cmp, at_number, bits_of, pair_of, owner_of, first_event, with_device, with_event, with_collection, without_device, without_event, without_collection, IsSound}
 use Rattle.its_tab.specs.Fault.{first_fault, is_past_device, is_of_other, is_wrong_id, on_mapping, faults}
 use Rattle.its_tab.specs.After.{without_events, recollected, IsValid, GoodCommandsKeepMaps}
-use Rattle.its_tab.proofs.MapLemmas.{equal_from_test, lookup-insert_entry, lookup-removed, sorted-insert, sorted-remove}
+use Rattle.its_tab.proofs.MapLemmas.{equal_from_test, keys_of-filter, lookup-insert_entry, lookup-removed, sorted-insert, sorted-remove}
 use Rattle.its_tab.proofs.TableLemmas.{same_event, put_or_there, was_there, pair_of-with_event, pair_of-without_event, sound-with_event, sound-without_event, sound-with_device, sound-without_device, not_of_device}
 use Rattle.its_tab.proofs.SearchLemmas.{OwnerFacts, owner_facts}
 
@@ -176,13 +176,6 @@ valid-without_device shape maps device valid none = record {
 }
 
 -- the events of all other devices
-keys_of-filter : (p : ℕ × ℕ → Bool) (es : List ((ℕ × ℕ) × (ℕ × ℕ))) → keys_of (filter (λ e. p e.0) es) ≡ filter p (keys_of es)
-keys_of-filter p [] = refl
-keys_of-filter p (e ∷ es) = elim (p e.0) as (λ b. keys_of (cond b (e ∷ filter (λ x. p x.0) es) (filter (λ x. p x.0) es)) ≡ cond b (e.0 ∷ filter p (keys_of es)) (filter p (keys_of es))) [
-  | true ↦ ap (λ ks. e.0 ∷ ks) (keys_of-filter p es)
-  | false ↦ keys_of-filter p es
-]
-
 none_left : (device : ℕ) (es : List ((ℕ × ℕ) × (ℕ × ℕ))) → find (λ pair. pair.0.0 == device) (filter (λ pair. not (pair.0.0 == device)) es) ≡ None
 none_left device [] = refl
 none_left device (e ∷ es) = elim (e.0.0 == device) as (λ b. (e.0.0 == device) ≡ b → find (λ pair. pair.0.0 == device) (cond (not b) (e ∷ filter (λ pair. not (pair.0.0 == device)) es) (filter (λ pair. not (pair.0.0 == device)) es)) ≡ None) [

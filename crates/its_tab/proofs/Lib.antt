@@ -2,3 +2,5 @@ mod MapLemmas
 mod TableLemmas
 mod SearchLemmas
 mod AfterLemmas
+mod IndexLemmas
+mod ListLemmas

@@ -4,7 +4,7 @@ use Rattle.std.specs.declared.cmp.Ordering.{Ordering}
 use Rattle.std.specs.declared.cmp.Ordering.TheVariants.{Less, Equal, Greater}
 use Rattle.std.specs.Ordering.{is_eq, is_lt, ordering_reverse, match_ordering}
 use Rattle.std.specs.Cmp.{IsTotalOrder, alike_right, tied_itself, eq_by_cmp_equiv}
-use Rattle.std.specs.List.{AllByRecursion}
+use Rattle.std.specs.List.{filter, AllByRecursion}
 use Rattle.std.specs.List.Sorted.{IsStrictlySortedBy}
 use Rattle.std.specs.Map.{lookup, remove_entry, keys_of}
 use Rattle.std.proofs.lemmas.Map.{lookup-remove_entry}
@@ -165,3 +165,11 @@ module _ {K : Type 0} {R : K → K → Ordering} (o : IsTotalOrder R) where
     | Equal ↦ λ is. h
     | Greater ↦ λ is. (below-insert R e.0 k v es h.0 (greater_from k e.0 is), sorted-insert k v es h.1)
   ] refl
+
+-- the keys of the entries whose keys pass
+pub keys_of-filter : {K X : Type 0} (p : K → Bool) (es : List (K × X)) → keys_of (filter (λ e. p e.0) es) ≡ filter p (keys_of es)
+keys_of-filter p [] = refl
+keys_of-filter p (e ∷ es) = elim (p e.0) as (λ b. keys_of (cond b (e ∷ filter (λ x. p x.0) es) (filter (λ x. p x.0) es)) ≡ cond b (e.0 ∷ filter p (keys_of es)) (filter p (keys_of es))) [
+  | true ↦ ap (λ ks. e.0 ∷ ks) (keys_of-filter p es)
+  | false ↦ keys_of-filter p es
+]

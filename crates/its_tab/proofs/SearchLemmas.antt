@@ -103,7 +103,7 @@ pub record OwnerFacts (maps : Maps) (id : ℕ) (owner : Option (ℕ × ℕ)) : T
   pub none : IfNone owner ((event : ℕ × ℕ) → id_of maps event ≢ Some id)
 
 -- the pair of an event whose INTID is known
-pair_from_id : (maps : Maps) (event : ℕ × ℕ) (id : ℕ) → id_of maps event ≡ Some id → (icid : ℕ) × (pair_of maps event ≡ Some (id, icid))
+pub pair_from_id : (maps : Maps) (event : ℕ × ℕ) (id : ℕ) → id_of maps event ≡ Some id → (icid : ℕ) × (pair_of maps event ≡ Some (id, icid))
 pair_from_id maps event id h = elim (pair_of maps event) as (λ o. option_map (λ pair. pair.0) o ≡ Some id → (icid : ℕ) × (o ≡ Some (id, icid))) [
   | None ↦ λ k. absurd (none-some id k)
   | (Some pair) ↦ λ k. (pair.1, ap (λ n. Some (n, pair.1)) (same_Some pair.0 id k))
@@ -129,16 +129,6 @@ owner_facts maps id sound = elim (find (λ pair. pair.1.0 == id) maps.events) as
         none = tt;
       }
 ] refl
-
--- where the search stops, in the maps that callers see
-pub owner_hit : {maps seen : Maps} (id : ℕ) (e : (ℕ × ℕ) × (ℕ × ℕ)) (left rest : List ((ℕ × ℕ) × (ℕ × ℕ))) → maps ≡ seen → IsSound maps → find (λ pair. pair.1.0 == id) seen.events ≡ find (λ pair. pair.1.0 == id) left → left ≡ e ∷ rest → e.1.0 ≡ id → OwnerFacts seen id (Some e.0)
-owner_hit {maps} {seen} id e left rest view sound same is has =
-    let hit : (e.1.0 == id) ≡ true = eq-eqb e.1.0 id has in
-    let f : find (λ pair. pair.1.0 == id) seen.events ≡ Some e = same ∙ ap (find (λ pair. pair.1.0 == id)) is ∙ ap (λ b. cond b (Some e) (find (λ pair. pair.1.0 == id) rest)) hit in
-    subst (OwnerFacts seen id) (ap (option_map (λ pair. pair.0)) f) (owner_facts seen id (subst IsSound view sound))
-
-pub owner_missed : {maps seen : Maps} (id : ℕ) (left : List ((ℕ × ℕ) × (ℕ × ℕ))) → maps ≡ seen → IsSound maps → find (λ pair. pair.1.0 == id) seen.events ≡ find (λ pair. pair.1.0 == id) left → left ≡ [] → OwnerFacts seen id None
-owner_missed {maps} {seen} id left view sound same is = subst (OwnerFacts seen id) (ap (option_map (λ pair. pair.0)) (same ∙ ap (find (λ pair. pair.1.0 == id)) is)) (owner_facts seen id (subst IsSound view sound))
 
 -- what a search for a device's first event tells
 pub record FirstFacts (maps : Maps) (device : ℕ) (first : Option ℕ) : Type 0 where

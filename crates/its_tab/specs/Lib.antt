@@ -1,3 +1,5 @@
 pub mod Maps
 pub mod Fault
 pub mod After
+pub mod Message
+pub mod Collection

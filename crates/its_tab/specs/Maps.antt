@@ -72,3 +72,13 @@ pub record IsSound (maps : Maps) : Type 0 where
   pub collections : IsStrictlySortedBy nat_cmp (keys_of maps.collections)
   pub one_each : (x y : ℕ × ℕ) (id a b : ℕ) → pair_of maps x ≡ Some (id, a) → pair_of maps y ≡ Some (id, b) → x ≡ y
   pub of_mapped : (event pair : ℕ × ℕ) → pair_of maps event ≡ Some pair → IsSome (bits_of maps event.0)
+
+-- an index of the events by INTID: its INTIDs are in order, and it has for each INTID the event that has it
+pub record IsIndex (owners : List (ℕ × (ℕ × ℕ))) (maps : Maps) : Type 0 where
+  pub ordered : IsStrictlySortedBy nat_cmp (keys_of owners)
+  pub inverse : (id : ℕ) → lookup (is_at (nat_cmp id)) owners ≡ owner_of maps id
+
+-- the maps of every ItsTables, and its index
+pub record IsIndexed (owners : List (ℕ × (ℕ × ℕ))) (maps : Maps) : Type 0 where
+  pub sound : IsSound maps
+  pub index : IsIndex owners maps

@@ -1,5 +1,5 @@
 //! The faults of ITS commands.
-ghost use Rattle.std.specs.Prelude.{◌≡◌, ◌^◌, ◌∷◌, [], ◌&&◌, not, is_none, nat_lt, nat_le};
+ghost use Rattle.std.specs.Prelude.{◌≡◌, ◌^◌, ◌∷◌, [], ◌&&◌, ◌||◌, not, is_none, nat_lt, nat_le};
 ghost use Rattle.gic_base.specs.Shape.{IsShape};
 ghost use Rattle.gic_base.specs.Interrupt.{has_interrupt};
 ghost use Rattle.its_tab.specs.Maps.{target_of};
@@ -88,18 +88,14 @@ impl ItsTables {
                 device,
                 event,
                 icid,
-            } => self
-                .event_fault(device, event)
-                .or_else(|| self.collection_fault(icid)),
+            } => self.move_fault(device, event, icid),
             Command::Int { device, event } | Command::Inv { device, event } => self.delivery_fault(
                 device, event,
             ),
             Command::Clear { device, event } | Command::Discard { device, event } =>
                 self.event_fault(device, event),
             Command::Invall { icid } => self.collection_fault(icid),
-            Command::Movall { rdbase, second } => target_fault(rdbase, shape).or_else(
-                || target_fault(second, shape),
-            ),
+            Command::Movall { rdbase, second } => targets_fault(rdbase, second, shape),
             Command::Sync { rdbase } => target_fault(rdbase, shape),
         }
     }
@@ -152,6 +148,14 @@ impl ItsTables {
         self.collection_fault(icid)
     }
 
+    /// The first of the faults 1, 3, 4, 5 and 7 of a command that moves a mapped event to a collection.
+    fn move_fault(&self, device: u32, event: u32, icid: u16) -> Option<CmdFault>
+        ensures { result ≡ first_fault (on_event self.now device event ((is_none (target_of self.now icid), CmdFault.CollectionUnmapped) ∷ [])) }
+    {
+        self.event_fault(device, event)
+            .or_else(|| self.collection_fault(icid))
+    }
+
     /// Fault 7 of a named collection.
     fn collection_fault(&self, icid: u16) -> Option<CmdFault>
         ensures { result ≡ first_fault ((is_none (target_of self.now icid), CmdFault.CollectionUnmapped) ∷ []) }
@@ -188,7 +192,7 @@ impl ItsTables {
 }
 
 /// Whether an EventID does not have this number of bits.
-fn is_past(event: u32, bits: u32) -> bool
+pub(crate) fn is_past(event: u32, bits: u32) -> bool
     ensures { result ≡ not (nat_lt event (2 ^ bits)) }
 {
     bits < u32::BITS && event >> bits > 0
@@ -230,6 +234,13 @@ fn target_fault(rdbase: u64, shape: &GuestShape) -> Option<CmdFault>
     (rdbase >= u64::from(shape.vcpus)).then_some(CmdFault::TargetRange)
 }
 
+/// Fault 8 of either RDbase of MOVALL.
+fn targets_fault(rdbase: u64, second: u64, shape: &GuestShape) -> Option<CmdFault>
+    ensures { result ≡ first_fault ((is_no_vcpu shape.now rdbase || is_no_vcpu shape.now second, CmdFault.TargetRange) ∷ []) }
+{
+    target_fault(rdbase, shape).or_else(|| target_fault(second, shape))
+}
+
 /// A law of all maps and commands: a command without a fault keeps the maps of a guest's ITS valid.
 pub fn good_commands_keep_maps()
     ensures { GoodCommandsKeepMaps }
@@ -237,9 +248,8 @@ pub fn good_commands_keep_maps()
 
 #[cfg(test)]
 mod tests {
-    use crate::tables::{ItsTables, empty};
+    use crate::samples::tables;
     use gic_base::{GuestShape, NoMemory};
-    use std::alloc::Global;
 
     const SHAPE: GuestShape = GuestShape {
         vcpus: 2,
@@ -257,25 +267,6 @@ mod tests {
     const DEVICE_9: u64 = 9 << 32;
 
     const LPI_8195: u64 = 8195 << 32;
-
-    /// Device 8 with 5 EventID bits, its event 3 with INTID 8195 in collection 1, and its event 4 with 8196 in
-    /// collection 3, which is not mapped; collection 1 is at vCPU 1.
-    fn tables(alloc: Global) -> Result<ItsTables, NoMemory> {
-        let mut tables = empty(alloc);
-        tables.map_device(8, 5)?;
-        tables.map_collection(1, 1)?;
-        map_free(&mut tables, 3, 8195, 1)?;
-        map_free(&mut tables, 4, 8196, 3)?;
-        Ok(tables)
-    }
-
-    /// Maps an event of device 8, where that can be.
-    fn map_free(tables: &mut ItsTables, event: u32, id: u32, icid: u16) -> Result<(), NoMemory> {
-        if tables.bits_of(8).is_none() || tables.owner_of(id).is_some() {
-            return Ok(());
-        }
-        tables.map_event(8, event, id, icid)
-    }
 
     /// The doublewords of a command and the number of its fault.
     const COMMANDS: [([u64; 4], Option<u8>); 33] = [

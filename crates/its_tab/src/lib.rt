@@ -2,6 +2,9 @@
 #![tactic(auto)]
 
 mod fault;
+mod message;
+#[cfg(test)]
+mod samples;
 mod tables;
 
 pub use fault::{CmdFault, DEVICES, MAX_SIZE, UNKNOWN_NUMBER, good_commands_keep_maps};

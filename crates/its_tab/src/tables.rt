@@ -1,10 +1,11 @@
 //! The tables of an ITS.
-ghost use Rattle.std.specs.Prelude.{◌≡◌, ◌≢◌, ◌≤◌, ℕ, [], IsSome, IfSome, IfNone, OnSome, OnOk, OnErr, Some, None};
+ghost use Rattle.std.specs.Prelude.{◌≡◌, ◌≢◌, ◌≤◌, ◌↔◌, ℕ, [], IsTrue, IsSome, IfSome, IfNone, OnSome, IfOk, OnOk, OnErr, Some, None, Contains};
+ghost use Rattle.std.specs.List.Sorted.{IsStrictlyIncreasing};
 ghost use Rattle.gic_base.specs.declared.shape.GuestShape.{GuestShape};
 ghost use Rattle.its_tab.specs.After.{IsValid};
 
 use gic_base::NoMemory;
-use std::alloc::Global;
+use std::alloc::{AllocError, Global};
 use std::collections::BTreeMap;
 use std::marker::Model;
 
@@ -16,16 +17,18 @@ pub struct ItsTables {
     devices: BTreeMap<u32, u32>,
     events: BTreeMap<(u32, u32), (u32, u16)>,
     collections: BTreeMap<u16, u32>,
+    // The event of each INTID that one has.
+    owners: BTreeMap<u32, (u32, u32)>,
 }
 
 impl Model for ItsTables {
-    ghost use Rattle.its_tab.specs.Maps.{Maps, IsSound};
+    ghost use Rattle.its_tab.specs.Maps.{Maps, IsIndexed};
 
     ghost Value = { Maps };
 
     ghost view = { λ t. record { devices = t.devices.entries; events = t.events.entries; collections = t.collections.entries } };
 
-    ghost invariant = { λ t. IsSound (record { devices = t.devices.entries; events = t.events.entries; collections = t.collections.entries }) };
+    ghost invariant = { λ t. IsIndexed t.owners.entries (record { devices = t.devices.entries; events = t.events.entries; collections = t.collections.entries }) };
 }
 
 /// Tables in which nothing is mapped.
@@ -37,11 +40,13 @@ pub fn empty(alloc: Global) -> ItsTables
         devices: BTreeMap::new(alloc),
         events: BTreeMap::new(alloc),
         collections: BTreeMap::new(alloc),
+        owners: BTreeMap::new(alloc),
     }
 }
 
 impl ItsTables {
     ghost use Rattle.its_tab.specs.Maps.{bits_of as device_bits, pair_of, id_of, target_of as collection_target, owner_of as owner_in, first_event as first_event_in, with_device, with_event, with_collection, without_device, without_event, without_collection};
+    ghost use Rattle.its_tab.specs.Collection.{collection_of as collection_in, has_target as has_target_in};
 
     /// Maps a device with this number of EventID bits, which replace an older number. `NoMemory` leaves the
     /// tables as they were.
@@ -63,9 +68,21 @@ impl ItsTables {
         ensures ok { OnOk result (self.new ≡ with_event self.old (device, event) (id, icid)) }
         ensures err { OnErr result (self.new ≡ self.old) }
     {
+        let Ok(_) = self.owners.insert(id, (device, event)) else {
+            return Err(NoMemory);
+        };
         match self.events.insert((device, event), (id, icid)) {
-            Ok(_) => Ok(()),
-            Err(_) => Err(NoMemory),
+            Ok(None) => Ok(()),
+            Ok(Some((older, _))) => {
+                if older != id {
+                    self.owners.remove(&older);
+                }
+                Ok(())
+            }
+            Err(_) => {
+                self.owners.remove(&id);
+                Err(NoMemory)
+            }
         }
     }
 
@@ -94,7 +111,9 @@ impl ItsTables {
         ensures value { self.new ≡ without_event self.old (device, event) }
         ensures unmapped { IfNone (pair_of self.old (device, event)) (self.new ≡ self.old) }
     {
-        self.events.remove(&(device, event));
+        if let Some((id, _)) = self.events.remove(&(device, event)) {
+            self.owners.remove(&id);
+        }
     }
 
     /// Unmaps a collection. Nothing happens where it is not mapped.
@@ -134,12 +153,53 @@ impl ItsTables {
         ensures only { IfSome result (λ owner. (event : ℕ × ℕ) → id_of self.now event ≡ Some id → event ≡ owner) }
         ensures none { IfNone result ((event : ℕ × ℕ) → id_of self.now event ≢ Some id) }
     {
-        for (event, pair) in &self.events {
-            if pair.0 == id {
-                return Some(*event);
+        self.owners.get(&id).copied()
+    }
+
+    /// The collection of an LPI: that of the event that has its INTID. None exactly where no event has it.
+    pub fn collection_of(&self, id: u32) -> Option<u16>
+        ensures { result ≡ collection_in self.now id }
+    {
+        let (device, event) = self.owner_of(id)?;
+        let (_, icid) = self.find(device, event)?;
+        Some(icid)
+    }
+
+    /// Whether an LPI has a target: whether its collection is mapped.
+    pub fn has_target(&self, id: u32) -> bool
+        ensures { result ≡ has_target_in self.now id }
+    {
+        self.collection_of(id)
+            .and_then(|icid| self.target_of(icid))
+            .is_some()
+    }
+
+    /// The INTIDs of the LPIs of a collection, each once and in rising order.
+    pub fn lpis_of(&self, alloc: Global, icid: u16) -> Result<Vec<u32>, AllocError>
+        ensures rising { IfOk result (λ ids. IsStrictlyIncreasing ids.items) }
+        ensures exactly { IfOk result (λ ids. (id : ℕ) → Contains ids.items id ↔ (collection_in self.now id ≡ Some icid)) }
+    {
+        let mut ids = Vec::new(alloc);
+        for id in self.owners.keys() {
+            if self.collection_of(*id) == Some(icid) {
+                ids.push(*id)?;
             }
         }
-        None
+        Ok(ids)
+    }
+
+    /// The INTIDs of the LPIs that have a target, each once and in rising order.
+    pub fn lpis_with_target(&self, alloc: Global) -> Result<Vec<u32>, AllocError>
+        ensures rising { IfOk result (λ ids. IsStrictlyIncreasing ids.items) }
+        ensures exactly { IfOk result (λ ids. (id : ℕ) → Contains ids.items id ↔ IsTrue (has_target_in self.now id)) }
+    {
+        let mut ids = Vec::new(alloc);
+        for id in self.owners.keys() {
+            if self.has_target(*id) {
+                ids.push(*id)?;
+            }
+        }
+        Ok(ids)
     }
 
     /// The least event of a device. None exactly where no event of it is mapped.
@@ -157,6 +217,7 @@ impl ItsTables {
 #[cfg(test)]
 mod tests {
     use super::empty;
+    use crate::samples::tables;
     use gic_base::NoMemory;
 
     #[test]
@@ -180,6 +241,36 @@ mod tests {
         tables.unmap_collection(1);
         assert_eq!(rt; tables.bits_of(8), None);
         assert_eq!(rt; tables.target_of(1), None);
+        Ok(())
+    }
+
+    #[test]
+    fn lists(rt: HostRuntime) -> Result<(), NoMemory> {
+        let mut tables = tables(rt.alloc())?;
+        assert_eq!(rt; tables.collection_of(8196), Some(3));
+        assert_eq!(rt; tables.collection_of(8197), None);
+        assert_eq!(rt;
+            tables.lpis_of(rt.alloc(), 1)?.as_slice(),
+            [8194, 8195].as_slice()
+        );
+        assert_eq!(rt;
+            tables.lpis_of(rt.alloc(), 3)?.as_slice(),
+            [8196].as_slice()
+        );
+        assert_eq!(rt;
+            tables.lpis_with_target(rt.alloc())?.as_slice(),
+            [8194, 8195].as_slice()
+        );
+        tables.map_collection(3, 0)?;
+        assert_eq!(rt;
+            tables.lpis_with_target(rt.alloc())?.as_slice(),
+            [8194, 8195, 8196].as_slice()
+        );
+        tables.unmap_event(8, 3);
+        assert_eq!(rt;
+            tables.lpis_with_target(rt.alloc())?.as_slice(),
+            [8194, 8196].as_slice()
+        );
         Ok(())
     }
 }

@@ -1,12 +1,21 @@
-use Rattle.std.proofs.Common.{◌≡◌, ℕ, IsSome, IfSome, sym, subst}
-use Rattle.its_tab.specs.Maps.{Maps, bits_of, owner_of}
-use Rattle.its_tab.proofs.TableLemmas.{sound-inserted}
+use Rattle.std.proofs.Common.{◌≡◌, ◌∙◌, ℕ, IfSome, sym, subst}
+use Rattle.its_tab.proofs.IndexLemmas.{indexed-put, indexed-moved, indexed-undone}
 use Rattle.its_tab.proofs.tables.ItsTables.map_event.Goals as goal
 
-pub invariant_of-self : goal.invariant_of-self
-invariant_of-self c =
-    let event : ℕ × ℕ = (c.args.device, c.args.event) in
-    let maps : Maps = record { devices = c.self.inside.devices.entries; events = c.self.inside.events.entries; collections = c.self.inside.collections.entries } in
-    let mapped : IsSome (bits_of maps c.args.device) = subst (λ m. IsSome (bits_of m c.args.device)) (sym c.self.view_is) c.requires.mapped in
-    let owner : IfSome (owner_of maps c.args.id) (λ o. o ≡ event) = subst (λ m. IfSome (owner_of m c.args.id) (λ o. o ≡ event)) (sym c.self.view_is) c.requires.free in
-    sound-inserted maps event (c.args.id, c.args.icid) c.insert.new.self.entries c.insert.result c.self.invariant mapped owner c.insert.ensures.entries c.insert.ensures.err
+pub invariant_of-self-then-older-id : goal.invariant_of-self-then-older-id
+invariant_of-self-then-older-id c =
+    let pair : ℕ × ℕ = (c.in-Ok-Some.older, c.in-Ok-Some.field-0-0-1) in
+    indexed-moved (c.args.device, c.args.event) c.args.id c.args.icid c.self.view_is c.self.invariant pair c.requires.mapped c.requires.free (sym c.in-Ok-Some.ensures.old ∙ c.in-Ok-Some.field-0-is) c.if-older-id.true c.in-Ok.ensures.entries c.remove.ensures.entries c.in-Ok-Some.ensures.entries
+
+pub invariant_of-self-else-older-id : goal.invariant_of-self-else-older-id
+invariant_of-self-else-older-id c =
+    let own = subst (λ o. IfSome o (λ pair. pair.0 ≡ c.args.id)) (sym c.in-Ok-Some.field-0-is ∙ c.in-Ok-Some.ensures.old) c.if-older-id.false in
+    indexed-put (c.args.device, c.args.event) c.args.id c.args.icid c.self.view_is c.self.invariant c.requires.mapped c.requires.free own c.in-Ok.ensures.entries c.in-Ok-Some.ensures.entries
+
+pub invariant_of-self-in-Ok-None : goal.invariant_of-self-in-Ok-None
+invariant_of-self-in-Ok-None c =
+    let own = subst (λ o. IfSome o (λ pair. pair.0 ≡ c.args.id)) (sym c.in-Ok-None.field-0-is ∙ c.in-Ok-None.ensures.old) tt in
+    indexed-put (c.args.device, c.args.event) c.args.id c.args.icid c.self.view_is c.self.invariant c.requires.mapped c.requires.free own c.in-Ok.ensures.entries c.in-Ok-None.ensures.entries
+
+pub invariant_of-self-in-Err : goal.invariant_of-self-in-Err
+invariant_of-self-in-Err c = indexed-undone (c.args.device, c.args.event) c.args.id c.args.icid c.self.view_is c.self.invariant c.requires.free c.in-Err.ensures.absent c.in-Ok.ensures.entries c.remove-in-Err.ensures.entries c.in-Err.ensures.err

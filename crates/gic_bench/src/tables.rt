@@ -1,0 +1,144 @@
+//! Commands on the tables of an ITS.
+use gic_base::{FIRST_LPI, GuestShape, MAX_LPIS, NoMemory};
+use its_cmd::Command;
+use its_tab::{ItsTables, empty};
+use std::alloc::Global;
+use std::fmt;
+
+/// The guest: one vCPU, and as many LPIs as a guest can have.
+const SHAPE: GuestShape = GuestShape {
+    vcpus: 1,
+    spis: 32,
+    espis: 0,
+    devices: 1,
+    lpis: MAX_LPIS,
+    ram: 65536,
+};
+
+/// The device of all events, and its bits of EventID.
+const DEVICE: u32 = 0;
+
+const BITS: u32 = 16;
+
+/// The collection in which events are mapped, and the one to which they move.
+const FIRST: u16 = 0;
+
+const SECOND: u16 = 1;
+
+/// How often each operation was done, and the sum of the INTIDs that were found, modulo 2^64.
+#[derive(Clone, Copy, Debug, Default, PartialEq, Eq, Hash)]
+pub(crate) struct Tally {
+    mapped: u64,
+    found: u64,
+    moved: u64,
+    listed: u64,
+    discarded: u64,
+    sum: u64,
+}
+
+impl Tally {
+    /// This and another tally, modulo 2^64.
+    pub(crate) fn plus(self, other: Tally) -> Tally {
+        Tally {
+            mapped: self.mapped.wrapping_add(other.mapped),
+            found: self.found.wrapping_add(other.found),
+            moved: self.moved.wrapping_add(other.moved),
+            listed: self.listed.wrapping_add(other.listed),
+            discarded: self.discarded.wrapping_add(other.discarded),
+            sum: self.sum.wrapping_add(other.sum),
+        }
+    }
+}
+
+impl fmt::Display for Tally {
+    fn fmt<W: fmt::Write>(&self, f: &mut fmt::Formatter<W>) -> fmt::Result {
+        write!(
+            f,
+            "mapped {}, found {}, moved {}, listed {}, discarded {}, sum {}",
+            self.mapped, self.found, self.moved, self.listed, self.discarded, self.sum
+        )
+    }
+}
+
+/// Maps this many events, finds each by a message and by its INTID, moves each to another collection, lists that
+/// collection, and discards each event.
+pub(crate) fn round(alloc: Global, count: u32) -> Result<Tally, NoMemory> {
+    let mut tables = empty(alloc);
+    tables.map_device(DEVICE, BITS)?;
+    tables.map_collection(FIRST, 0)?;
+    tables.map_collection(SECOND, 0)?;
+    let mapped = map_all(&mut tables, count, FIRST)?;
+    let (found, sum) = find_all(&tables, count);
+    let moved = map_all(&mut tables, count, SECOND)?;
+    let listed = tables.lpis_of(alloc, SECOND)?.len() as u64;
+    let discarded = discard_all(&mut tables, count);
+    Ok(Tally {
+        mapped,
+        found,
+        moved,
+        listed,
+        discarded,
+        sum,
+    })
+}
+
+/// Maps events 0 to `count` - 1 to a collection, each to its own LPI. How many were mapped.
+fn map_all(tables: &mut ItsTables, count: u32, icid: u16) -> Result<u64, NoMemory> {
+    let mut mapped = 0u64;
+    for event in 0..count {
+        mapped = mapped.wrapping_add(u64::from(map(tables, event, icid)?));
+    }
+    Ok(mapped)
+}
+
+/// Does MAPTI of an event and its own LPI, where it has no fault.
+fn map(tables: &mut ItsTables, event: u32, icid: u16) -> Result<bool, NoMemory> {
+    let id = FIRST_LPI.wrapping_add(event);
+    let command = Command::Mapti {
+        device: DEVICE,
+        event,
+        id,
+        icid,
+    };
+    if tables.fault_in(&command, &SHAPE).is_some()
+        || tables.bits_of(DEVICE).is_none()
+        || tables
+            .owner_of(id)
+            .is_some_and(|owner| owner != (DEVICE, event))
+    {
+        return Ok(false);
+    }
+    tables.map_event(DEVICE, event, id, icid)?;
+    Ok(true)
+}
+
+/// Finds the LPI of a message of each event, and its owner. How many were found, and the sum of their INTIDs.
+fn find_all(tables: &ItsTables, count: u32) -> (u64, u64) {
+    let mut found = 0u64;
+    let mut sum = 0u64;
+    for event in 0..count {
+        if let Some(id) = tables.translated(true, DEVICE, event) {
+            let own = tables.owner_of(id) == Some((DEVICE, event));
+            found = found.wrapping_add(u64::from(own));
+            sum = sum.wrapping_add(u64::from(id));
+        }
+    }
+    (found, sum)
+}
+
+/// Does DISCARD of each event, where it has no fault. How many were discarded.
+fn discard_all(tables: &mut ItsTables, count: u32) -> u64 {
+    let mut discarded = 0u64;
+    for event in 0..count {
+        let command = Command::Discard {
+            device: DEVICE,
+            event,
+        };
+        let good = tables.fault_in(&command, &SHAPE).is_none();
+        if good {
+            tables.unmap_event(DEVICE, event);
+        }
+        discarded = discarded.wrapping_add(u64::from(good));
+    }
+    discarded
+}

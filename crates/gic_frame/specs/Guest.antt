@@ -1,0 +1,7 @@
+-- What of a guest decides which registers it has.
+use Rattle.std.specs.Prelude.{◌==◌, not, Bool}
+use Rattle.gic_base.specs.declared.shape.GuestShape.{GuestShape}
+
+-- the guest has LPIs, and so an ITS
+abbrev pub has_lpis : GuestShape → Bool
+has_lpis shape = not (shape.lpis == 0)

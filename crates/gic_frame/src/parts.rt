@@ -1,0 +1,72 @@
+//! The value of an access to registers that have a part for each interrupt, as the parts of its interrupts.
+ghost use Rattle.std.specs.Prelude.{◌≡◌, ◌<◌, ◌≤◌, ◌+◌, ◌*◌, ◌^◌};
+ghost use Rattle.gic_frame.specs.Part.{part_bits as bits_of};
+ghost use Rattle.gic_frame.specs.Parts.{part_in as part_within, part_at, JoiningUndoesCutting};
+
+use crate::part::part_bits;
+use gic_base::Kind;
+use gic_bits::Field;
+
+/// The field that the part of an interrupt is, by its number among those of the access.
+fn field_of(kind: Kind, number: u32) -> Field
+    requires { number * bits_of kind + bits_of kind ≤ 64 }
+    ensures place { result.place ≡ number * bits_of kind }
+    ensures width { result.width ≡ bits_of kind }
+{
+    let width = part_bits(kind);
+    Field {
+        place: number * width,
+        width,
+    }
+}
+
+/// The part of one interrupt in the value of an access to registers of this kind. `number` counts the interrupts of the
+/// access from 0; the parts up to this one fit the 64 bits of a value.
+pub fn part_in(kind: Kind, value: u64, number: u32) -> u64
+    requires { number * bits_of kind + bits_of kind ≤ 64 }
+    ensures value { result ≡ part_within kind value number }
+    ensures fits { result < 2 ^ bits_of kind }
+{
+    field_of(kind, number).of(value)
+}
+
+/// The value that is joined from the parts of the interrupts before this one, with this one's part too. `number` counts the
+/// interrupts of the access from 0; `value` has only bits of the parts before, and is 0 where there are none.
+pub fn with_part(kind: Kind, value: u64, part: u64, number: u32) -> u64
+    requires within { number * bits_of kind + bits_of kind ≤ 64 }
+    requires before { value < 2 ^ (number * bits_of kind) }
+    requires fits { part < 2 ^ bits_of kind }
+    ensures value { result ≡ value + part_at kind part number }
+    ensures before { result < 2 ^ ((number + 1) * bits_of kind) }
+    ensures part { part_within kind result number ≡ part }
+{
+    value + field_of(kind, number).put(part)
+}
+
+/// A law of the parts: joining the parts into which a value is cut gives the value, and a value that is joined is cut into the
+/// parts that were joined.
+pub fn joining_undoes_cutting()
+    ensures { JoiningUndoesCutting }
+{}
+
+#[cfg(test)]
+mod tests {
+    use super::{part_in, with_part};
+    use gic_base::Kind;
+
+    #[test]
+    fn parts(rt: HostRuntime) {
+        assert_eq!(rt; part_in(Kind::SetEnable, 0x8000_0001, 31), 1);
+        assert_eq!(rt; part_in(Kind::SetEnable, 0x8000_0001, 30), 0);
+        assert_eq!(rt; part_in(Kind::Priority, 0xa0_b0_c0_d0, 2), 0xb0);
+        assert_eq!(rt; part_in(Kind::Config, 0x2000_0008, 14), 2);
+        assert_eq!(rt; part_in(Kind::Routing, 0x12_0034_5678, 0), 0x12_0034_5678);
+        assert_eq!(rt; with_part(Kind::Group, 1, 1, 31), 0x8000_0001);
+        assert_eq!(rt; with_part(Kind::Priority, 0xc0d0, 0xb0, 2), 0xb0_c0d0);
+        assert_eq!(rt; with_part(Kind::Config, 0, 2, 15), 0x8000_0000);
+        assert_eq!(rt;
+            with_part(Kind::Routing, 0, 0x12_0034_5678, 0),
+            0x12_0034_5678
+        );
+    }
+}

@@ -1,0 +1,141 @@
+//! What a redistributor's registers hold.
+ghost use Rattle.std.specs.Prelude.{◌≡◌, ◌<◌};
+ghost use Rattle.gic_base.specs.Shape.{IsShape};
+ghost use Rattle.gic_rmap.specs.Contents.{enable_lpis_after as lpis_enabled_after, ctlr_of, typer_of, propbaser_after as propbaser_stored, pendbaser_after as pendbaser_stored, pendbaser_read as pendbaser_shown};
+
+use gic_base::GuestShape;
+use gic_bits::{Field, has_bit, put_bit};
+
+/// GICR_CTLR.EnableLPIs.
+const ENABLE_LPIS: u32 = 0;
+/// GICR_TYPER.PLPIS.
+const PLPIS: u32 = 0;
+/// GICR_TYPER.Last.
+const LAST: u32 = 4;
+/// GICR_TYPER.Processor_Number: bits [23:8].
+const PROCESSOR_NUMBER: Field = Field {
+    place: 8,
+    width: 16,
+};
+/// GICR_TYPER.Affinity_Value: bits [63:32].
+const AFFINITY_VALUE: Field = Field {
+    place: 32,
+    width: 32,
+};
+/// GICR_PROPBASER.IDbits: bits [4:0].
+const PROPBASER_ID_BITS: Field = Field { place: 0, width: 5 };
+/// GICR_PROPBASER.Physical_Address: bits [51:12].
+const PROPBASER_ADDRESS: Field = Field {
+    place: 12,
+    width: 40,
+};
+/// GICR_PENDBASER.Physical_Address: bits [51:16].
+const PENDBASER_ADDRESS: Field = Field {
+    place: 16,
+    width: 36,
+};
+/// GICR_PENDBASER.PTZ: bit 62.
+const PENDBASER_PTZ: Field = Field {
+    place: 62,
+    width: 1,
+};
+
+/// Whether EnableLPIs is 1 after a write of GICR_CTLR. It goes from 0 to 1 alone, and in a guest without LPIs it
+/// stays as it is.
+pub fn enable_lpis_after(shape: &GuestShape, enabled: bool, value: u32) -> bool
+    ensures { result ≡ lpis_enabled_after shape.now enabled value }
+{
+    enabled || (shape.lpis != 0 && has_bit(u64::from(value), ENABLE_LPIS))
+}
+
+/// What GICR_CTLR reads: EnableLPIs, and 0 in a guest without LPIs.
+pub fn ctlr(shape: &GuestShape, enabled: bool) -> u32
+    ensures { result ≡ ctlr_of shape.now enabled }
+{
+    put_bit(shape.lpis != 0 && enabled, ENABLE_LPIS) as u32
+}
+
+/// GICR_TYPER of a vCPU of a guest.
+pub fn typer(shape: &GuestShape, vcpu: u32) -> u64
+    requires shape { IsShape shape.now }
+    requires vcpu { vcpu < shape.now.vcpus }
+    ensures { result ≡ typer_of shape.now vcpu }
+{
+    let is_last = vcpu + 1 == shape.vcpus;
+    let number = u64::from(vcpu);
+    put_bit(shape.lpis != 0, PLPIS)
+        + put_bit(is_last, LAST)
+        + PROCESSOR_NUMBER.put(number)
+        + AFFINITY_VALUE.put(number)
+}
+
+/// What GICR_PROPBASER stores, and reads, after a write of the whole register. `enabled` is EnableLPIs: once it is 1
+/// the write is ignored. No other bit than IDbits [4:0] and the address [51:12] is kept.
+pub fn propbaser_after(enabled: bool, stored: u64, value: u64) -> u64
+    ensures { result ≡ propbaser_stored enabled stored value }
+{
+    if enabled {
+        return stored;
+    }
+    PROPBASER_ID_BITS.in_place(value) + PROPBASER_ADDRESS.in_place(value)
+}
+
+/// What GICR_PENDBASER stores after a write of the whole register. `enabled` is EnableLPIs: once it is 1 the write is
+/// ignored. No other bit than the address [51:16] and PTZ, bit 62, is kept.
+pub fn pendbaser_after(enabled: bool, stored: u64, value: u64) -> u64
+    ensures { result ≡ pendbaser_stored enabled stored value }
+{
+    if enabled {
+        return stored;
+    }
+    PENDBASER_ADDRESS.in_place(value) + PENDBASER_PTZ.in_place(value)
+}
+
+/// What GICR_PENDBASER reads of what it stores: the address; PTZ reads 0.
+pub fn pendbaser_read(stored: u64) -> u64
+    ensures { result ≡ pendbaser_shown stored }
+{
+    PENDBASER_ADDRESS.in_place(stored)
+}
+
+#[cfg(test)]
+mod tests {
+    use super::{ctlr, enable_lpis_after, pendbaser_after, pendbaser_read, propbaser_after, typer};
+    use gic_base::GuestShape;
+
+    const SHAPE: GuestShape = GuestShape {
+        vcpus: 20,
+        spis: 32,
+        espis: 0,
+        devices: 1,
+        lpis: 0,
+        ram: 0,
+    };
+
+    const WITH_LPIS: GuestShape = GuestShape { lpis: 1, ..SHAPE };
+
+    #[test]
+    fn typers(rt: HostRuntime) {
+        assert_eq!(rt; typer(&SHAPE, 17), 0x0000_0011_0000_1100);
+        assert_eq!(rt; typer(&SHAPE, 19), 0x0000_0013_0000_1310);
+        assert_eq!(rt; typer(&WITH_LPIS, 0), 1);
+    }
+
+    #[test]
+    fn enable_lpis(rt: HostRuntime) {
+        assert_eq!(rt; enable_lpis_after(&WITH_LPIS, false, 1), true);
+        assert_eq!(rt; enable_lpis_after(&WITH_LPIS, true, 0), true);
+        assert_eq!(rt; enable_lpis_after(&SHAPE, false, 1), false);
+        assert_eq!(rt; ctlr(&WITH_LPIS, true), 1);
+        assert_eq!(rt; ctlr(&SHAPE, true), 0);
+    }
+
+    #[test]
+    fn lpi_tables(rt: HostRuntime) {
+        assert_eq!(rt; propbaser_after(false, 0, u64::MAX), 0x000f_ffff_ffff_f01f);
+        assert_eq!(rt; propbaser_after(true, 0x300d, 0), 0x300d);
+        assert_eq!(rt; pendbaser_after(false, 0, u64::MAX), 0x400f_ffff_ffff_0000);
+        assert_eq!(rt; pendbaser_after(true, 0x1_0000, 0), 0x1_0000);
+        assert_eq!(rt; pendbaser_read(0x4000_0000_0001_0000), 0x1_0000);
+    }
+}

@@ -1,0 +1,24 @@
+//! Tables for the tests.
+use crate::tables::{ItsTables, empty};
+use gic_base::NoMemory;
+use std::alloc::Global;
+
+/// Device 8 with 5 EventID bits. Its event 3 has INTID 8195 in collection 1, which is at vCPU 1; event 4 has 8196 in
+/// collection 3, which is not mapped; and event 33, which is past the device's bits, has 8194 in collection 1.
+pub fn tables(alloc: Global) -> Result<ItsTables, NoMemory> {
+    let mut tables = empty(alloc);
+    tables.map_device(8, 5)?;
+    tables.map_collection(1, 1)?;
+    map_free(&mut tables, 3, 8195, 1)?;
+    map_free(&mut tables, 4, 8196, 3)?;
+    map_free(&mut tables, 33, 8194, 1)?;
+    Ok(tables)
+}
+
+/// Maps an event of device 8, where that can be.
+fn map_free(tables: &mut ItsTables, event: u32, id: u32, icid: u16) -> Result<(), NoMemory> {
+    if tables.bits_of(8).is_none() || tables.owner_of(id).is_some() {
+        return Ok(());
+    }
+    tables.map_event(8, event, id, icid)
+}
