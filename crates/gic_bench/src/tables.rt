@@ -1,4 +1,10 @@
 //! Commands on the tables of an ITS.
+ghost use Rattle.std.specs.Prelude.{◌≡◌, ◌≢◌, ◌≤◌, ℕ, true, IfOk, OnErr, Some, IfSome, IfNone};
+ghost use Rattle.its_cmd.specs.declared.command.Command.TheVariants.{Mapti, Discard};
+ghost use Rattle.its_tab.specs.Maps.{with_event, without_event, owner_of};
+ghost use Rattle.its_tab.specs.Message.{translated};
+ghost use Rattle.gic_bench.specs.Bench.{tallied, lpi_of, IsDoneWhere};
+
 use gic_base::{FIRST_LPI, GuestShape, MAX_LPIS, NoMemory};
 use its_cmd::Command;
 use its_tab::{ItsTables, empty};
@@ -38,7 +44,9 @@ pub(crate) struct Tally {
 
 impl Tally {
     /// This and another tally, modulo 2^64.
-    pub(crate) fn plus(self, other: Tally) -> Tally {
+    pub(crate) fn plus(self, other: Tally) -> Tally
+        ensures { result ≡ tallied self other }
+    {
         Tally {
             mapped: self.mapped.wrapping_add(other.mapped),
             found: self.found.wrapping_add(other.found),
@@ -83,7 +91,9 @@ pub(crate) fn round(alloc: Global, count: u32) -> Result<Tally, NoMemory> {
 }
 
 /// Maps events 0 to `count` - 1 to a collection, each to its own LPI. How many were mapped.
-fn map_all(tables: &mut ItsTables, count: u32, icid: u16) -> Result<u64, NoMemory> {
+fn map_all(tables: &mut ItsTables, count: u32, icid: u16) -> Result<u64, NoMemory>
+    ensures { IfOk result (λ mapped. mapped ≤ count) }
+{
     let mut mapped = 0u64;
     for event in 0..count {
         mapped = mapped.wrapping_add(u64::from(map(tables, event, icid)?));
@@ -91,8 +101,11 @@ fn map_all(tables: &mut ItsTables, count: u32, icid: u16) -> Result<u64, NoMemor
     Ok(mapped)
 }
 
-/// Does MAPTI of an event and its own LPI, where it has no fault.
-fn map(tables: &mut ItsTables, event: u32, icid: u16) -> Result<bool, NoMemory> {
+/// Does MAPTI of an event and its own LPI, where it has no fault. Whether it was done.
+fn map(tables: &mut ItsTables, event: u32, icid: u16) -> Result<bool, NoMemory>
+    ensures done { IfOk result (λ is_done. IsDoneWhere is_done (Mapti 0 event (lpi_of event) icid) tables.old tables.new (with_event tables.old (0, event) (lpi_of event, icid))) }
+    ensures refused { OnErr result (tables.new ≡ tables.old) }
+{
     let id = FIRST_LPI.wrapping_add(event);
     let command = Command::Mapti {
         device: DEVICE,
@@ -112,33 +125,53 @@ fn map(tables: &mut ItsTables, event: u32, icid: u16) -> Result<bool, NoMemory> 
     Ok(true)
 }
 
-/// Finds the LPI of a message of each event, and its owner. How many were found, and the sum of their INTIDs.
-fn find_all(tables: &ItsTables, count: u32) -> (u64, u64) {
+/// The LPI of a message of an event, where the event is the one that owns it.
+fn find(tables: &ItsTables, event: u32) -> Option<u32>
+    ensures lpi { IfSome result (λ id. translated tables.now true 0 event ≡ Some id) }
+    ensures owned { IfSome result (λ id. owner_of tables.now id ≡ Some (0, event)) }
+    ensures none { IfNone result ((id : ℕ) → translated tables.now true 0 event ≡ Some id → owner_of tables.now id ≢ Some (0, event)) }
+{
+    let id = tables.translated(true, DEVICE, event)?;
+    (tables.owner_of(id) == Some((DEVICE, event))).then_some(id)
+}
+
+/// Finds the LPI of a message of each event. How many were found, and the sum of their INTIDs.
+fn find_all(tables: &ItsTables, count: u32) -> (u64, u64)
+    ensures { result.0 ≤ count }
+{
     let mut found = 0u64;
     let mut sum = 0u64;
     for event in 0..count {
-        if let Some(id) = tables.translated(true, DEVICE, event) {
-            let own = tables.owner_of(id) == Some((DEVICE, event));
-            found = found.wrapping_add(u64::from(own));
+        if let Some(id) = find(tables, event) {
+            found = found.wrapping_add(1);
             sum = sum.wrapping_add(u64::from(id));
         }
     }
     (found, sum)
 }
 
-/// Does DISCARD of each event, where it has no fault. How many were discarded.
-fn discard_all(tables: &mut ItsTables, count: u32) -> u64 {
+/// Does DISCARD of an event, where it has no fault. Whether it was done.
+fn discard(tables: &mut ItsTables, event: u32) -> bool
+    ensures { IsDoneWhere result (Discard 0 event) tables.old tables.new (without_event tables.old (0, event)) }
+{
+    let command = Command::Discard {
+        device: DEVICE,
+        event,
+    };
+    let good = tables.fault_in(&command, &SHAPE).is_none();
+    if good {
+        tables.unmap_event(DEVICE, event);
+    }
+    good
+}
+
+/// Does DISCARD of each event. How many were discarded.
+fn discard_all(tables: &mut ItsTables, count: u32) -> u64
+    ensures { result ≤ count }
+{
     let mut discarded = 0u64;
     for event in 0..count {
-        let command = Command::Discard {
-            device: DEVICE,
-            event,
-        };
-        let good = tables.fault_in(&command, &SHAPE).is_none();
-        if good {
-            tables.unmap_event(DEVICE, event);
-        }
-        discarded = discarded.wrapping_add(u64::from(good));
+        discarded = discarded.wrapping_add(u64::from(discard(tables, event)));
     }
     discarded
 }
