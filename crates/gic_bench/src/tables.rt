@@ -1,9 +1,10 @@
 //! Commands on the tables of an ITS.
-ghost use Rattle.std.specs.Prelude.{◌≡◌, ◌≢◌, ◌≤◌, ℕ, true, IfOk, OnErr, Some, IfSome, IfNone};
+ghost use Rattle.std.specs.Prelude.{◌≡◌, ◌&&◌, not, is_none, is_some, ◌≢◌, ◌≤◌, ℕ, true, IfOk, OnErr, Some, IfSome, IfNone};
 ghost use Rattle.its_cmd.specs.declared.command.Command.TheVariants.{Mapti, Discard};
-ghost use Rattle.its_tab.specs.Maps.{with_event, without_event, owner_of};
+ghost use Rattle.its_tab.specs.Maps.{with_event, without_event, owner_of, bits_of};
+ghost use Rattle.its_tab.specs.Fault.{fault_of, is_of_other};
 ghost use Rattle.its_tab.specs.Message.{translated};
-ghost use Rattle.gic_bench.specs.Bench.{tallied, lpi_of, IsDoneWhere};
+ghost use Rattle.gic_bench.specs.Bench.{tallied, lpi_of, shape, IsDoneWhere};
 
 use gic_base::{FIRST_LPI, GuestShape, MAX_LPIS, NoMemory};
 use its_cmd::Command;
@@ -104,6 +105,7 @@ fn map_all(tables: &mut ItsTables, count: u32, icid: u16) -> Result<u64, NoMemor
 /// Does MAPTI of an event and its own LPI, where it has no fault. Whether it was done.
 fn map(tables: &mut ItsTables, event: u32, icid: u16) -> Result<bool, NoMemory>
     ensures done { IfOk result (λ is_done. IsDoneWhere is_done (Mapti 0 event (lpi_of event) icid) tables.old tables.new (with_event tables.old (0, event) (lpi_of event, icid))) }
+    ensures exactly { IfOk result (λ is_done. is_done ≡ (is_none (fault_of shape tables.old (Mapti 0 event (lpi_of event) icid)) && is_some (bits_of tables.old 0) && not (is_of_other tables.old 0 event (lpi_of event)))) }
     ensures refused { OnErr result (tables.new ≡ tables.old) }
 {
     let id = FIRST_LPI.wrapping_add(event);
@@ -152,7 +154,8 @@ fn find_all(tables: &ItsTables, count: u32) -> (u64, u64)
 
 /// Does DISCARD of an event, where it has no fault. Whether it was done.
 fn discard(tables: &mut ItsTables, event: u32) -> bool
-    ensures { IsDoneWhere result (Discard 0 event) tables.old tables.new (without_event tables.old (0, event)) }
+    ensures done { IsDoneWhere result (Discard 0 event) tables.old tables.new (without_event tables.old (0, event)) }
+    ensures exactly { result ≡ is_none (fault_of shape tables.old (Discard 0 event)) }
 {
     let command = Command::Discard {
         device: DEVICE,
