@@ -26,7 +26,7 @@ use Rattle.gic_open.proofs.KeyLemmas.{key_at_there}
 use Rattle.gic_ideal.specs.declared.guest.IdealGuest.{IdealGuest}
 use Rattle.gic_ideal.specs.Ideal.{irq_at, cpu_at, candidate_at, candidates}
 use Rattle.gic_ideal.specs.Sound.{IsSound}
-use Rattle.gic_ideal.specs.Laws.{is_named}
+use Rattle.gic_ideal.specs.Deeds.{is_named}
 use Rattle.gic_ideal.proofs.KeyLemmas.{named_is}
 
 -- the interrupt is there and deliverable, and the candidate is of its INTID, priority and group

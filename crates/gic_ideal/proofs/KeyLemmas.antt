@@ -11,8 +11,13 @@ use Rattle.gic_base.specs.Interrupt.{has_interrupt, interrupt_count, intid_of, i
 use Rattle.gic_open.specs.Opening.{irq_in, with_irq_in}
 use Rattle.gic_open.proofs.KeyLemmas.{irq_same, irq_other, length-with_irq_in}
 use Rattle.gic_ideal.specs.declared.guest.IdealGuest.{IdealGuest}
-use Rattle.gic_ideal.specs.Ideal.{irq_at, changed_irq, changed_at}
-use Rattle.gic_ideal.specs.Laws.{is_named}
+use Rattle.gic_word.specs.Causes.{acknowledged, deactivated}
+use Rattle.gic_base.specs.declared.icc.IccReg.{IccReg}
+use Rattle.gic_prio.specs.declared.cpu.CpuRec.{CpuRec}
+use Rattle.gic_prio.specs.declared.candidate.Candidate.{Candidate}
+use Rattle.gic_prio.specs.Access.{taken_by, deactivated_by, cpu_after}
+use Rattle.gic_ideal.specs.Deeds.{is_named}
+use Rattle.gic_ideal.specs.Ideal.{irq_at, cpu_at, with_cpu, candidates, changed_irq, changed_at, after_acknowledge, after_deactivation, after_access}
 
 -- the test of keys tells whether they are one
 pub same_key : (j k : Key) → is_same_key j k ≡ true → j ≡ k
@@ -114,3 +119,39 @@ named_is id vcpu shape key h = of (key_of id vcpu shape) h
 
 pub is_named_by : (id vcpu : ℕ) (shape : GuestShape) (key : Key) → key_of id vcpu shape ≡ Some key → is_named id vcpu shape key ≡ true
 is_named_by id vcpu shape key h = ap (λ o. option_map_or (is_same_key key) o false) h ∙ same_itself key
+
+-- what no change of a record changes, an access of a CPU interface register leaves, if the record of a CPU interface does not matter
+kept_at : {X : Type 0} (f : IdealGuest → X) (id vcpu : ℕ) (change : Key → Irq → Irq) (guest : IdealGuest) → ((key : Key) (made : Irq → Irq) (g : IdealGuest) → f (changed_irq key made g) ≡ f g) → f (changed_at id vcpu change guest) ≡ f guest
+kept_at f id vcpu change guest kept = of (key_of id vcpu guest.shape)
+  where
+    of : (o : Option Key) → f (option_map_or (λ key. changed_irq key (change key) guest) o guest) ≡ f guest
+    of None = refl
+    of (Some key) = kept key (change key) guest
+
+kept_access : {X : Type 0} (f : IdealGuest → X) (reg : IccReg) (write : Option ℕ) (guest : IdealGuest) (vcpu : ℕ) → ((key : Key) (made : Irq → Irq) (g : IdealGuest) → f (changed_irq key made g) ≡ f g)
+    → ((g : IdealGuest) (cpu : CpuRec) → f (with_cpu g vcpu cpu) ≡ f g) → f (after_access reg write guest vcpu) ≡ f guest
+kept_access f reg write guest vcpu kept kept_cpu =
+    kept_cpu (after_deactivation named middle vcpu) (cpu_after reg write (cpu_at guest vcpu) (candidates guest vcpu)) ∙ ended named ∙ begun taken
+  where
+    taken : Option Candidate
+    taken = taken_by reg write (cpu_at guest vcpu) (candidates guest vcpu)
+
+    named : Option ℕ
+    named = deactivated_by reg write (cpu_at guest vcpu)
+
+    middle : IdealGuest
+    middle = after_acknowledge taken guest vcpu
+
+    begun : (o : Option Candidate) → f (after_acknowledge o guest vcpu) ≡ f guest
+    begun None = refl
+    begun (Some found) = kept_at f found.id vcpu (λ key irq. acknowledged key vcpu irq) guest kept
+
+    ended : (o : Option ℕ) → f (after_deactivation o middle vcpu) ≡ f middle
+    ended None = refl
+    ended (Some id) = kept_at f id vcpu (λ key irq. deactivated vcpu irq) middle kept
+
+pub shape_access : (reg : IccReg) (write : Option ℕ) (guest : IdealGuest) (vcpu : ℕ) → (after_access reg write guest vcpu).shape ≡ guest.shape
+shape_access reg write guest vcpu = kept_access (λ g. g.shape) reg write guest vcpu (λ key made g. refl) (λ g cpu. refl)
+
+pub tables_access : (reg : IccReg) (write : Option ℕ) (guest : IdealGuest) (vcpu : ℕ) → (after_access reg write guest vcpu).tables ≡ guest.tables
+tables_access reg write guest vcpu = kept_access (λ g. g.tables) reg write guest vcpu (λ key made g. refl) (λ g cpu. refl)

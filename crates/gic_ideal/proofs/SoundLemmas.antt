@@ -1,48 +1,53 @@
 -- Each state that is reached is sound.
-use Rattle.std.proofs.Common.{◌≡◌, ℕ, zero, suc, ◌<◌, ◌^◌, Bool, true, false, cond, nat_lt, IsTrue, Option, Some, None, List, [], ◌∷◌, All, length, get_or, map, refl, sym, ap, subst, ◌∙◌, arith}
+use Rattle.std.proofs.Common.{◌≡◌, ◌≢◌, ℕ, zero, suc, ◌==◌, ◌<◌, ◌^◌, ◌||◌, not, Bool, true, false, cond, nat_lt, IsTrue, Option, Some, None, List, [], ◌∷◌, All, length, get_or, refl, sym, subst, ◌∙◌, arith}
 use Rattle.std.specs.List.{slice_get, slice_set}
 use Rattle.std.specs.Option.{option_map_or}
 use Rattle.std.proofs.lemmas.Grind.{common_steps}
-use Rattle.std.proofs.lemmas.List.{length-set}
-use Rattle.std.proofs.lemmas.List.Elements.{All-get_or, All-set, All-map}
+use Rattle.std.proofs.lemmas.List.{length-set, get_or-set_same, get_or-set_other}
+use Rattle.std.proofs.lemmas.List.Elements.{All-get_or, All-set}
 use Rattle.std.proofs.lemmas.Option.{get_or_from_slice_get, slice_get_within}
 use Rattle.gic_word.specs.declared.record.Irq.{Irq}
 use Rattle.gic_word.specs.declared.record.Route.{Route}
 use Rattle.gic_word.specs.declared.record.Route.TheVariants.{Affinity, Target}
 use Rattle.gic_word.specs.Record.{is_number, target_in}
-use Rattle.gic_word.specs.Causes.{raised, acknowledged, deactivated}
-use Rattle.gic_word.specs.Valid.{is_routed_as, is_vcpu_or_none, IsHome}
-use Rattle.gic_word.proofs.ValidLemmas.{valid_raised, valid_acknowledged, valid_deactivated}
+use Rattle.gic_word.specs.Causes.{raised, wire_up, wire_down, cleared, acknowledged, deactivated}
+use Rattle.gic_word.specs.Valid.{is_routed_as, is_vcpu_or_none, IsRecordOf, IsHome}
+use Rattle.gic_word.proofs.ValidLemmas.{valid_raised, valid_wire_up, valid_wire_down, valid_acknowledged, valid_deactivated}
 use Rattle.gic_base.specs.declared.shape.GuestShape.{GuestShape}
 use Rattle.gic_base.specs.declared.interrupt.Key.{Key}
 use Rattle.gic_base.specs.declared.interrupt.Key.TheVariants.{Private, Spi, Lpi}
 use Rattle.gic_base.specs.declared.icc.IccReg.{IccReg}
-use Rattle.gic_base.specs.declared.operation.GuestOp.{GuestOp}
-use Rattle.gic_base.specs.declared.operation.GuestOp.TheVariants.{Icc, Mem}
-use Rattle.gic_base.specs.declared.operation.DeviceOp.{DeviceOp}
-use Rattle.gic_base.specs.declared.operation.DeviceOp.TheVariants.{Message, Wire, Msi}
 use Rattle.gic_base.specs.Shape.{IsShape}
-use Rattle.gic_base.specs.Interrupt.{has_interrupt, is_same_key}
+use Rattle.gic_base.specs.Interrupt.{has_interrupt, is_same_key, is_sgi, key_of}
 use Rattle.gic_prio.specs.declared.cpu.CpuRec.{CpuRec}
 use Rattle.gic_prio.specs.declared.candidate.Candidate.{Candidate}
 use Rattle.gic_prio.specs.Delivery.{is_deliverable}
 use Rattle.gic_prio.specs.Priority.{HasBinaryPoints}
-use Rattle.gic_prio.specs.Access.{taken_by, deactivated_by, cpu_after}
+use Rattle.gic_prio.specs.Access.{cpu_after}
 use Rattle.gic_prio.proofs.AccessLemmas.{points_after, levels_after}
 use Rattle.gic_open.specs.Opening.{opening_cpu, with_irq_in}
-use Rattle.scn_base.specs.declared.guest.GuestSpec.{GuestSpec}
-use Rattle.scn_base.specs.declared.step.Step.{Step}
-use Rattle.scn_base.specs.declared.step.Step.TheVariants.{Vcpu, Device, Pe}
-use Rattle.scn_base.specs.Good.{IsGoodGuest}
+use Rattle.gic_open.specs.declared.plain.PlainWord.{PlainWord}
+use Rattle.gic_open.specs.declared.plain.PlainWord.TheVariants.{Ram, Propbaser, Pendbaser, ItsCtlr, Cbaser, Cwriter, Baser0, Baser1, Fault}
+use Rattle.gic_open.specs.Plain.{has_plain, place_of_plain}
+use Rattle.gic_dmap.specs.declared.contents.Enables.{Enables as GroupEnables}
+use Rattle.gic_call.specs.declared.touch.Touching.{Touching}
+use Rattle.gic_call.specs.declared.touch.Touching.TheVariants.{Read, Register, Enables, MapLpi, Retarget, Configure, Forget}
+use Rattle.gic_call.specs.Touch.{CanTouch, touched}
+use Rattle.gic_call.proofs.TouchLemmas.{touch_valid}
+use Rattle.gic_base.specs.declared.operation.Kind.{Kind}
+use Rattle.gic_base.specs.declared.operation.Kind.TheVariants.{Group, SetEnable, ClearEnable, SetPending, ClearPending, SetActive, ClearActive, Priority, Config, Routing}
+use Rattle.gic_reg.specs.Touch.{part_written, activated}
+use Rattle.gic_bits.specs.Bits.{has_bit}
+use Rattle.gic_call.specs.Valid.{IsOffset, is_stored}
+use Rattle.scn_base.specs.Good.{has_wire}
+use Rattle.its_tab.specs.Maps.{Maps}
+use Rattle.its_tab.specs.After.{IsValid}
 use Rattle.gic_ideal.specs.declared.guest.IdealGuest.{IdealGuest}
-use Rattle.gic_ideal.specs.Opening.{opening}
-use Rattle.gic_ideal.specs.Ideal.{irq_at, cpu_at, candidates, changed_irq, changed_at, after_acknowledge, after_deactivation}
-use Rattle.gic_ideal.specs.Eager.{after_op, after_event, at_guest, after_step, after_steps}
+use Rattle.gic_ideal.specs.Ideal.{irq_at, cpu_at, word_at, with_queue, changed_irq, changed_at, after_acknowledge, after_deactivation}
 use Rattle.gic_ideal.specs.Sound.{IsIdealRecord, IsIdealCpu, IsSound}
-use Rattle.gic_ideal.specs.Laws.{is_named}
-use Rattle.gic_ideal.proofs.KeyLemmas.{IsWhole, same_key, irq_changed, irq_changed_at, whole_changed, whole_changed_at, shape_changed_at, cpus_changed_at}
-use Rattle.gic_ideal.proofs.CandidateLemmas.{WasFirst, taken_was}
-use Rattle.gic_ideal.proofs.OpeningLemmas.{cpu_opening, sound_opening}
+use Rattle.gic_ideal.proofs.KeyLemmas.{IsWhole, same_key, irq_changed, whole_changed}
+use Rattle.gic_ideal.proofs.CandidateLemmas.{WasFirst}
+use Rattle.gic_ideal.proofs.OpeningLemmas.{cpu_opening}
 
 -- one of sound guests is sound, and has its records
 pub sound_got : (guests : List IdealGuest) (n : ℕ) (guest : IdealGuest) → All IsSound guests → slice_get guests n ≡ Some guest → IsSound guest
@@ -63,26 +68,8 @@ chosen_valid : (shape : GuestShape) (key : Key) (b : Bool) (next irq after : Irq
 chosen_valid shape key true next irq after e h is = subst (IsIdealRecord shape key) (sym e) (h refl)
 chosen_valid shape key false next irq after e h is = subst (IsIdealRecord shape key) (sym e) is
 
-sound_changed_at : (guest : IdealGuest) (id vcpu : ℕ) (change : Key → Irq → Irq) → IsSound guest → ((key : Key) (irq : Irq) → IsIdealRecord guest.shape key irq → IsIdealRecord guest.shape key (change key irq)) → IsSound (changed_at id vcpu change guest)
-sound_changed_at guest id vcpu change sound keeps =
-    let next = changed_at id vcpu change guest in
-    let whole = whole_changed_at id vcpu change guest (whole_of guest sound) in
-    let shape : next.shape ≡ guest.shape = shape_changed_at id vcpu change guest in
-    let cpus : next.cpus ≡ guest.cpus = cpus_changed_at id vcpu change guest in
-    record {
-      shape = whole.shape;
-      irqs = whole.each;
-      cpus = ap length cpus ∙ sound.cpus ∙ ap (λ s. s.vcpus) (sym shape);
-      records = λ key there.
-          let here : IsTrue (has_interrupt guest.shape key) = ap (λ s. has_interrupt s key) (sym shape) ∙ there in
-          subst (λ s. IsIdealRecord s key (irq_at next key)) (sym shape)
-          (chosen_valid guest.shape key (is_named id vcpu guest.shape key) (change key (irq_at guest key)) (irq_at guest key) (irq_at next key)
-          (irq_changed_at guest id vcpu key change (whole_of guest sound) here) (λ e. keeps key (irq_at guest key) (sound.records key here)) (sound.records key here));
-      interfaces = subst (All IsIdealCpu) (sym cpus) sound.interfaces;
-    }
-
 -- a record that is put in the place of another
-pub sound_put : (guest : IdealGuest) (key : Key) (irq : Irq) → IsSound guest → IsIdealRecord guest.shape key irq → IsSound (record guest { irqs = with_irq_in guest.shape key irq guest.irqs })
+pub sound_put : (guest : IdealGuest) (key : Key) (irq : Irq) → IsSound guest → (IsTrue (has_interrupt guest.shape key) → IsIdealRecord guest.shape key irq) → IsSound (record guest { irqs = with_irq_in guest.shape key irq guest.irqs })
 sound_put guest key irq sound is =
     let change : Irq → Irq = λ old. irq in
     let whole = whole_changed key change guest (whole_of guest sound) in
@@ -92,23 +79,125 @@ sound_put guest key irq sound is =
       cpus = sound.cpus;
       records = λ k there.
           chosen_valid guest.shape k (is_same_key k key) irq (irq_at guest k) (irq_at (changed_irq key change guest) k) (irq_changed guest key k change (whole_of guest sound) there)
-          (λ e. subst (λ k. IsIdealRecord guest.shape k irq) (sym (same_key k key e)) is) (sound.records k there);
+          (λ e. let same = same_key k key e in subst (λ k. IsIdealRecord guest.shape k irq) (sym same) (is (subst (λ k. IsTrue (has_interrupt guest.shape k)) same there))) (sound.records k there);
       interfaces = sound.interfaces;
+      words = sound.words;
+      place = sound.place;
+      offset = sound.offset;
+      fault = sound.fault;
+      maps = sound.maps;
     }
+
+-- a change of a record, also of the one that an INTID names
+pub sound_changed : (guest : IdealGuest) (key : Key) (change : Irq → Irq) → IsSound guest → (IsTrue (has_interrupt guest.shape key) → IsIdealRecord guest.shape key (irq_at guest key) → IsIdealRecord guest.shape key (change (irq_at guest key))) → IsSound (changed_irq key change guest)
+sound_changed guest key change sound keeps = sound_put guest key (change (irq_at guest key)) sound (λ there. keeps there (sound.records key there))
+
+sound_changed_at : (guest : IdealGuest) (id vcpu : ℕ) (change : Key → Irq → Irq) → IsSound guest → ((key : Key) (irq : Irq) → IsIdealRecord guest.shape key irq → IsIdealRecord guest.shape key (change key irq)) → IsSound (changed_at id vcpu change guest)
+sound_changed_at guest id vcpu change sound keeps = of (key_of id vcpu guest.shape)
+  where
+    of : (o : Option Key) → IsSound (option_map_or (λ key. changed_irq key (change key) guest) o guest)
+    of None = sound
+    of (Some key) = sound_changed guest key (change key) sound (λ there. keeps key (irq_at guest key))
+
+-- nothing rose
+or_not : (b : Bool) → IsTrue (b || true)
+or_not true = refl
+or_not false = refl
 
 -- what happens to an interrupt keeps its record valid, and at no interface
 pub ideal_acknowledged : (shape : GuestShape) (key : Key) (vcpu : ℕ) (irq : Irq) → IsShape shape → vcpu < shape.vcpus → IsIdealRecord shape key irq → IsIdealRecord shape key (acknowledged key vcpu irq)
-ideal_acknowledged shape key vcpu irq good there is = record { valid = valid_acknowledged shape key vcpu irq good there is.valid; home = record { unheld = is.home.unheld; unwanted = is.home.unwanted } }
+ideal_acknowledged shape key vcpu irq good there is = record { valid = valid_acknowledged shape key vcpu irq good there is.valid; home = record { unheld = is.home.unheld; unwanted = is.home.unwanted }; unrisen = or_not (has_wire key) }
 
 pub ideal_deactivated : (shape : GuestShape) (key : Key) (vcpu : ℕ) (irq : Irq) → IsIdealRecord shape key irq → IsIdealRecord shape key (deactivated vcpu irq)
-ideal_deactivated shape key vcpu irq is = record { valid = valid_deactivated shape key vcpu irq is.valid; home = of (is_number vcpu irq.act_by) }
+ideal_deactivated shape key vcpu irq is = record { valid = valid_deactivated shape key vcpu irq is.valid; home = of (is_number vcpu irq.act_by); unrisen = still (is_number vcpu irq.act_by) }
   where
     of : (b : Bool) → IsHome (cond b (record irq { act_by = None }) irq)
     of true = record { unheld = is.home.unheld; unwanted = is.home.unwanted }
     of false = is.home
 
+    still : (b : Bool) → IsTrue (has_wire key || not (cond b (record irq { act_by = None }) irq).rise)
+    still true = is.unrisen
+    still false = is.unrisen
+
 pub ideal_raised : (shape : GuestShape) (key : Key) (irq : Irq) → IsIdealRecord shape key irq → IsIdealRecord shape key (raised irq)
-ideal_raised shape key irq is = record { valid = valid_raised shape key irq is.valid; home = record { unheld = is.home.unheld; unwanted = is.home.unwanted } }
+ideal_raised shape key irq is = record { valid = valid_raised shape key irq is.valid; home = record { unheld = is.home.unheld; unwanted = is.home.unwanted }; unrisen = is.unrisen }
+
+pub ideal_wire_up : (shape : GuestShape) (key : Key) (irq : Irq) → IsTrue (has_wire key) → IsIdealRecord shape key irq → IsIdealRecord shape key (wire_up irq)
+ideal_wire_up shape key irq wired is = record { valid = valid_wire_up shape key irq is.valid; home = record { unheld = is.home.unheld; unwanted = is.home.unwanted }; unrisen = rw wired refl }
+
+pub ideal_wire_down : (shape : GuestShape) (key : Key) (irq : Irq) → IsIdealRecord shape key irq → IsIdealRecord shape key (wire_down irq)
+ideal_wire_down shape key irq is = record { valid = valid_wire_down shape key irq is.valid; home = record { unheld = is.home.unheld; unwanted = is.home.unwanted }; unrisen = is.unrisen }
+
+-- a touch lets nothing rise
+touched_unrisen : (shape : GuestShape) (key : Key) (touch : Touching) (irq : Irq) → IsTrue (has_wire key || not irq.rise) → IsTrue (has_wire key || not (touched shape key touch irq).rise)
+touched_unrisen shape key (Read kind) irq h = h
+touched_unrisen shape key (Register kind value) irq h = written kind
+  where
+    kept : (b : Bool) (one : Irq) → one.rise ≡ irq.rise → IsTrue (has_wire key || not (cond b one irq).rise)
+    kept true one e = rw e h
+    kept false one e = h
+
+    fell : (b : Bool) → IsTrue (has_wire key || not (cond b (cleared irq) irq).rise)
+    fell true = or_not (has_wire key)
+    fell false = h
+
+    turned : (b : Bool) (one : Irq) → one.rise ≡ irq.rise → IsTrue (has_wire key || not (cond b irq one).rise)
+    turned true one e = h
+    turned false one e = rw e h
+
+    written : (kind : Kind) → IsTrue (has_wire key || not (part_written kind key irq value shape).rise)
+    written Group = h
+    written SetEnable = kept (value == 1) (record irq { enabled = true }) refl
+    written ClearEnable = kept (value == 1) (record irq { enabled = false }) refl
+    written SetPending = kept (value == 1) (raised irq) refl
+    written ClearPending = fell (value == 1)
+    written SetActive = kept (value == 1) (record irq { act_by = activated irq.act_by (target_in irq.route shape) }) refl
+    written ClearActive = kept (value == 1) (record irq { act_by = None }) refl
+    written Priority = h
+    written Config = turned (is_sgi key) (record irq { edge = has_bit value 1 }) refl
+    written Routing = h
+touched_unrisen shape key (Enables en0 en1) irq h = h
+touched_unrisen shape key (MapLpi target enabled prio) irq h = h
+touched_unrisen shape key (Retarget target) irq h = h
+touched_unrisen shape key (Configure enabled prio) irq h = h
+touched_unrisen shape key Forget irq h = h
+
+-- a touch leaves who holds the interrupt and who waits for it
+touched_home : (shape : GuestShape) (key : Key) (touch : Touching) (irq : Irq) → IsHome irq → IsHome (touched shape key touch irq)
+touched_home shape key (Read kind) irq h = h
+touched_home shape key (Register kind value) irq h = written kind
+  where
+    kept : (b : Bool) (one : Irq) → IsHome one → IsHome (cond b one irq)
+    kept true one e = e
+    kept false one e = h
+
+    turned : (b : Bool) (one : Irq) → IsHome one → IsHome (cond b irq one)
+    turned true one e = h
+    turned false one e = e
+
+    written : (kind : Kind) → IsHome (part_written kind key irq value shape)
+    written Group = record { unheld = h.unheld; unwanted = h.unwanted }
+    written SetEnable = kept (value == 1) (record irq { enabled = true }) (record { unheld = h.unheld; unwanted = h.unwanted })
+    written ClearEnable = kept (value == 1) (record irq { enabled = false }) (record { unheld = h.unheld; unwanted = h.unwanted })
+    written SetPending = kept (value == 1) (raised irq) (record { unheld = h.unheld; unwanted = h.unwanted })
+    written ClearPending = kept (value == 1) (cleared irq) (record { unheld = h.unheld; unwanted = h.unwanted })
+    written SetActive = kept (value == 1) (record irq { act_by = activated irq.act_by (target_in irq.route shape) }) (record { unheld = h.unheld; unwanted = h.unwanted })
+    written ClearActive = kept (value == 1) (record irq { act_by = None }) (record { unheld = h.unheld; unwanted = h.unwanted })
+    written Priority = record { unheld = h.unheld; unwanted = h.unwanted }
+    written Config = turned (is_sgi key) (record irq { edge = has_bit value 1 }) (record { unheld = h.unheld; unwanted = h.unwanted })
+    written Routing = record { unheld = h.unheld; unwanted = h.unwanted }
+touched_home shape key (Enables en0 en1) irq h = record { unheld = h.unheld; unwanted = h.unwanted }
+touched_home shape key (MapLpi target enabled prio) irq h = record { unheld = h.unheld; unwanted = h.unwanted }
+touched_home shape key (Retarget target) irq h = record { unheld = h.unheld; unwanted = h.unwanted }
+touched_home shape key (Configure enabled prio) irq h = record { unheld = h.unheld; unwanted = h.unwanted }
+touched_home shape key Forget irq h = record { unheld = h.unheld; unwanted = h.unwanted }
+
+pub ideal_touch : (shape : GuestShape) (key : Key) (touch : Touching) (irq : Irq) → IsShape shape → CanTouch shape key touch → IsIdealRecord shape key irq → IsIdealRecord shape key (touched shape key touch irq)
+ideal_touch shape key touch irq good can is =
+    record { valid = touch_valid shape key touch irq good can is.valid; home = touched_home shape key touch irq is.home; unrisen = touched_unrisen shape key touch irq is.unrisen }
+
+pub ideal_touched : (shape : GuestShape) (key : Key) (touch : Touching) (irq after : Irq) → after ≡ touched shape key touch irq → IsRecordOf shape key after → (IsHome irq → IsHome after) → IsIdealRecord shape key irq → IsIdealRecord shape key after
+ideal_touched shape key touch irq after e valid home is = record { valid = valid; home = home is.home; unrisen = rw e (touched_unrisen shape key touch irq is.unrisen) }
 
 -- a vCPU to which an interrupt is deliverable is one of the guest
 target_there : (shape : GuestShape) (key : Key) (route : Route) (vcpu : ℕ) → IsTrue (has_interrupt shape key) → IsTrue (is_routed_as shape key route) → is_number vcpu (target_in route shape) ≡ true → vcpu < shape.vcpus
@@ -139,17 +228,17 @@ vcpu_there guest vcpu found sound was =
     let irq = irq_at guest was.key in
     target_there guest.shape was.key irq.route vcpu was.of.there (sound.records was.key was.of.there).valid.route (deliverable_for was.key irq vcpu (cpu_at guest vcpu) guest.shape was.of.deliverable)
 
-sound_acknowledged : (taken : Option Candidate) (guest : IdealGuest) (vcpu : ℕ) → IsSound guest → ((found : Candidate) → taken ≡ Some found → vcpu < guest.shape.vcpus) → IsSound (after_acknowledge taken guest vcpu)
+pub sound_acknowledged : (taken : Option Candidate) (guest : IdealGuest) (vcpu : ℕ) → IsSound guest → ((found : Candidate) → taken ≡ Some found → vcpu < guest.shape.vcpus) → IsSound (after_acknowledge taken guest vcpu)
 sound_acknowledged None guest vcpu sound there = sound
 sound_acknowledged (Some found) guest vcpu sound there =
     sound_changed_at guest found.id vcpu (λ key irq. acknowledged key vcpu irq) sound (λ key irq is. ideal_acknowledged guest.shape key vcpu irq sound.shape (there found refl) is)
 
-sound_deactivated : (named : Option ℕ) (guest : IdealGuest) (vcpu : ℕ) → IsSound guest → IsSound (after_deactivation named guest vcpu)
+pub sound_deactivated : (named : Option ℕ) (guest : IdealGuest) (vcpu : ℕ) → IsSound guest → IsSound (after_deactivation named guest vcpu)
 sound_deactivated None guest vcpu sound = sound
 sound_deactivated (Some id) guest vcpu sound = sound_changed_at guest id vcpu (λ key irq. deactivated vcpu irq) sound (λ key irq is. ideal_deactivated guest.shape key vcpu irq is)
 
 -- with another record of a CPU interface
-sound_with_cpu : (guest : IdealGuest) (vcpu : ℕ) (cpu : CpuRec) → IsSound guest → IsIdealCpu cpu → IsSound (record guest { cpus = slice_set guest.cpus vcpu cpu })
+pub sound_with_cpu : (guest : IdealGuest) (vcpu : ℕ) (cpu : CpuRec) → IsSound guest → IsIdealCpu cpu → IsSound (record guest { cpus = slice_set guest.cpus vcpu cpu })
 sound_with_cpu guest vcpu cpu sound is =
     record {
       shape = sound.shape;
@@ -157,58 +246,103 @@ sound_with_cpu guest vcpu cpu sound is =
       cpus = length-set guest.cpus vcpu cpu ∙ sound.cpus;
       records = sound.records;
       interfaces = All-set IsIdealCpu guest.cpus vcpu cpu is sound.interfaces;
+      words = sound.words;
+      place = sound.place;
+      offset = sound.offset;
+      fault = sound.fault;
+      maps = sound.maps;
     }
 
 pub sound_with_points : (guest : IdealGuest) (vcpu : ℕ) (cpu : CpuRec) → IsSound guest → HasBinaryPoints cpu → cpu.ap0 < 2 ^ 32 → cpu.ap1 < 2 ^ 32 → IsSound (record guest { cpus = slice_set guest.cpus vcpu cpu })
 sound_with_points guest vcpu cpu sound points h k = sound_with_cpu guest vcpu cpu sound (record { points = points; levels = record { group_0 = h; group_1 = k } })
 
-pub cpu_after_valid : (reg : IccReg) (write : Option ℕ) (cpu : CpuRec) (among : List Candidate) → IsIdealCpu cpu → IsIdealCpu (cpu_after reg write cpu among)
-cpu_after_valid reg write cpu among is =
-    record { points = points_after reg write cpu among is.points; levels = levels_after reg write cpu among is.levels }
-
-pub sound_op : (op : GuestOp) (guest : IdealGuest) (vcpu : ℕ) → IsSound guest → IsSound (after_op op guest vcpu)
-sound_op (Icc reg write) guest vcpu sound =
-    let cpu = cpu_at guest vcpu in
-    let among = candidates guest vcpu in
-    let taken = taken_by reg write cpu among in
-    let middle = after_acknowledge taken guest vcpu in
-    let named = deactivated_by reg write cpu in
-    let first = sound_acknowledged taken guest vcpu sound (λ found e. vcpu_there guest vcpu found sound (taken_was reg write guest vcpu found sound e)) in
-    sound_with_cpu (after_deactivation named middle vcpu) vcpu (cpu_after reg write cpu among) (sound_deactivated named middle vcpu first) (cpu_after_valid reg write cpu among (cpu_valid guest.cpus vcpu sound.interfaces))
-sound_op (Mem frame offset size write) guest vcpu sound = sound
-
-pub sound_event : (op : DeviceOp) (guest : IdealGuest) → IsSound guest → IsSound (after_event op guest)
-sound_event (Message spi) guest sound =
-    let next = changed_irq (Spi spi) raised guest in
-    let whole = whole_changed (Spi spi) raised guest (whole_of guest sound) in
+-- with other group enables
+pub sound_with_enables : (guest : IdealGuest) (enables : GroupEnables) → IsSound guest → IsSound (record guest { enables = enables })
+sound_with_enables guest enables sound =
     record {
       shape = sound.shape;
-      irqs = whole.each;
+      irqs = sound.irqs;
       cpus = sound.cpus;
-      records = λ key there.
-          chosen_valid guest.shape key (is_same_key key (Spi spi)) (raised (irq_at guest key)) (irq_at guest key) (irq_at next key) (irq_changed guest (Spi spi) key raised (whole_of guest sound) there)
-          (λ e. ideal_raised guest.shape key (irq_at guest key) (sound.records key there)) (sound.records key there);
+      records = sound.records;
       interfaces = sound.interfaces;
+      words = sound.words;
+      place = sound.place;
+      offset = sound.offset;
+      fault = sound.fault;
+      maps = sound.maps;
     }
-sound_event (Wire key up) guest sound = sound
-sound_event (Msi device event) guest sound = sound
 
--- the guests after a change of one of them that keeps it sound
-sound_at : (n : ℕ) (change : IdealGuest → IdealGuest) (guests : List IdealGuest) → ((guest : IdealGuest) → IsSound guest → IsSound (change guest)) → All IsSound guests → All IsSound (at_guest n change guests)
-sound_at n change guests keeps sound = of_guest (slice_get guests n) refl
-  where
-    of_guest : (o : Option IdealGuest) → slice_get guests n ≡ o → All IsSound (option_map_or (λ guest. slice_set guests n (change guest)) o guests)
-    of_guest None e = sound
-    of_guest (Some guest) e = All-set IsSound guests n (change guest) (keeps guest (sound_got guests n guest sound e)) sound
+-- with its queue elsewhere
+pub sound_with_queue : (guest : IdealGuest) (offset : ℕ) (is_stalled : Bool) → IsSound guest → IsOffset offset → IsSound (with_queue guest offset is_stalled)
+sound_with_queue guest offset is_stalled sound at =
+    record {
+      shape = sound.shape;
+      irqs = sound.irqs;
+      cpus = sound.cpus;
+      records = sound.records;
+      interfaces = sound.interfaces;
+      words = sound.words;
+      place = at.place;
+      offset = at.within;
+      fault = sound.fault;
+      maps = sound.maps;
+    }
 
-pub sound_step : (step : Step) (guests : List IdealGuest) → All IsSound guests → All IsSound (after_step step guests)
-sound_step (Vcpu g vcpu op) guests sound = sound_at g (λ state. after_op op state vcpu) guests (λ guest. sound_op op guest vcpu) sound
-sound_step (Device g device op) guests sound = sound_at g (after_event op) guests (sound_event op) sound
-sound_step (Pe pe op) guests sound = sound
+-- a plain word that is put in the place of another
+sound_with_words : (guest : IdealGuest) (words : List ℕ) → IsSound guest → length words ≡ length guest.words → word_at (record guest { words = words }) Fault < 256 → IsSound (record guest { words = words })
+sound_with_words guest words sound same fault =
+    record {
+      shape = sound.shape;
+      irqs = sound.irqs;
+      cpus = sound.cpus;
+      records = sound.records;
+      interfaces = sound.interfaces;
+      words = same ∙ sound.words;
+      place = sound.place;
+      offset = sound.offset;
+      fault = fault;
+      maps = sound.maps;
+    }
 
-pub sound_steps : (steps : List Step) (guests : List IdealGuest) → All IsSound guests → All IsSound (after_steps steps guests)
-sound_steps [] guests sound = sound
-sound_steps (step ∷ steps) guests sound = sound_steps steps (after_step step guests) (sound_step step guests sound)
+-- the number of a fault has a place of its own
+fault_apart : (shape : GuestShape) (word : PlainWord) → IsTrue (has_plain shape word) → IsTrue (is_stored word) → place_of_plain shape Fault ≢ place_of_plain shape word
+fault_apart shape (Ram index) there stored e = grind (arith, common_steps, e, there)
+fault_apart shape (Propbaser vcpu) there stored e = grind (arith, common_steps, e, there)
+fault_apart shape (Pendbaser vcpu) there stored e = grind (arith, common_steps, e, there)
+fault_apart shape ItsCtlr there stored e = omega (arith, e)
+fault_apart shape Cbaser there stored e = omega (arith, e)
+fault_apart shape Cwriter there stored e = omega (arith, e)
+fault_apart shape Baser0 there stored e = omega (arith, e)
+fault_apart shape Baser1 there stored e = omega (arith, e)
+fault_apart shape Fault there stored e = absurd (cc)
 
-pub runs_sound : (guests : List GuestSpec) (steps : List Step) → All IsGoodGuest guests → All IsSound (after_steps steps (map opening guests))
-runs_sound guests steps good = sound_steps steps (map opening guests) (All-map IsSound opening guests (λ k d h. sound_opening _ (good k d h)))
+pub sound_with_word : (guest : IdealGuest) (word : PlainWord) (value : ℕ) → IsSound guest → IsTrue (has_plain guest.shape word) → IsTrue (is_stored word) → IsSound (record guest { words = slice_set guest.words (place_of_plain guest.shape word) value })
+sound_with_word guest word value sound there stored =
+    sound_with_words guest (slice_set guest.words (place_of_plain guest.shape word) value) sound (length-set guest.words (place_of_plain guest.shape word) value)
+    (subst (λ n. n < 256) (sym (get_or-set_other guest.words (place_of_plain guest.shape word) (place_of_plain guest.shape Fault) value 0 (fault_apart guest.shape word there stored))) sound.fault)
+
+-- with other maps of the ITS
+pub sound_with_maps : (guest : IdealGuest) (maps : Maps) → IsSound guest → IsValid guest.shape maps → IsSound (record guest { tables = maps })
+sound_with_maps guest maps sound valid =
+    record {
+      shape = sound.shape;
+      irqs = sound.irqs;
+      cpus = sound.cpus;
+      records = sound.records;
+      interfaces = sound.interfaces;
+      words = sound.words;
+      place = sound.place;
+      offset = sound.offset;
+      fault = sound.fault;
+      maps = valid;
+    }
+
+pub sound_stalled : (guest : IdealGuest) (offset fault : ℕ) → IsSound guest → IsOffset offset → fault < 256 → IsSound (record guest { words = slice_set guest.words (place_of_plain guest.shape Fault) fault; offset = offset; is_stalled = true })
+sound_stalled guest offset fault sound at small =
+    let words = slice_set guest.words (place_of_plain guest.shape Fault) fault in
+    sound_with_queue (record guest { words = words }) offset true
+    (sound_with_words guest words sound (length-set guest.words (place_of_plain guest.shape Fault) fault)
+    (subst (λ n. n < 256) (sym (get_or-set_same guest.words (place_of_plain guest.shape Fault) fault 0 (omega (arith, sound.words)))) small)) at
+
+pub cpu_after_valid : (reg : IccReg) (write : Option ℕ) (cpu : CpuRec) (among : List Candidate) → IsIdealCpu cpu → IsIdealCpu (cpu_after reg write cpu among)
+cpu_after_valid reg write cpu among is = record { points = points_after reg write cpu among is.points; levels = levels_after reg write cpu among is.levels }

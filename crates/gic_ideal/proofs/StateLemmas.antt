@@ -1,6 +1,7 @@
 -- One guest of several changes.
-use Rattle.std.proofs.Common.{◌≡◌, ℕ, zero, suc, ◌<◌, List, [], ◌∷◌, Bool, true, length, get_or, map, refl, ap, ◌∙◌, sym, arith}
+use Rattle.std.proofs.Common.{◌≡◌, ℕ, zero, suc, ◌+◌, ◌<◌, List, [], ◌∷◌, ◌++◌, drop, take, Bool, true, length, get_or, map, refl, ap, ◌∙◌, sym, arith}
 use Rattle.std.specs.List.{slice_set, slice_get}
+use Rattle.std.proofs.lemmas.List.{append_assoc, map-append, drop_more, take_more}
 use Rattle.std.proofs.lemmas.Option.{slice_get_read}
 use Rattle.gic_base.specs.declared.shape.GuestShape.{GuestShape}
 use Rattle.scn_base.specs.declared.guest.GuestSpec.{GuestSpec}
@@ -8,6 +9,8 @@ use Rattle.scn_base.specs.Good.{passes}
 use Rattle.scn_base.specs.Good.{shapes_of}
 use Rattle.gic_ideal.specs.declared.guest.IdealGuest.{IdealGuest}
 use Rattle.gic_ideal.specs.Opening.{opening}
+use Rattle.scn_base.specs.declared.outcome.End.{End}
+use Rattle.gic_ideal.specs.Ends.{end_of, ends_of}
 use Rattle.gic_ideal.specs.Eager.{at_guest}
 use Rattle.gic_ideal.specs.Sound.{state_shapes}
 
@@ -33,3 +36,19 @@ same_shape (one ∷ states) (two ∷ guests) (suc n) state guest e h s g = same_
 pub shapes_opening : (guests : List GuestSpec) → state_shapes (map opening guests) ≡ shapes_of guests
 shapes_opening [] = refl
 shapes_opening (guest ∷ guests) = ap (λ shapes. guest.shape ∷ shapes) (shapes_opening guests)
+
+-- the ends of the guests from a number on are that of the guest of the number and those of the guests after it
+pub ends_step : (ends next : List End) (end : End) (guests : List GuestSpec) (closed : List IdealGuest) (n : ℕ) (guest : GuestSpec) (state : IdealGuest) → n < length guests → n < length closed → guest ≡ get_or guests n guest → state ≡ get_or closed n state
+    → next ≡ ends ++ end ∷ [] → end ≡ end_of (opening guest) state → next ++ ends_of (map opening (drop (n + 1) guests)) (drop (n + 1) closed) ≡ ends ++ ends_of (map opening (drop n guests)) (drop n closed)
+ends_step ends next end guests closed n guest state there here g s pushed e =
+    let rest : List End = ends_of (map opening (drop (n + 1) guests)) (drop (n + 1) closed) in
+    let left : drop n guests ≡ guest ∷ drop (n + 1) guests = drop_more guests n guest there ∙ ap (λ x. x ∷ drop (n + 1) guests) (sym g) in
+    let right : drop n closed ≡ state ∷ drop (n + 1) closed = drop_more closed n state here ∙ ap (λ x. x ∷ drop (n + 1) closed) (sym s) in
+    let split : ends_of (map opening (drop n guests)) (drop n closed) ≡ end_of (opening guest) state ∷ rest = rw left (rw right refl) in
+    ap (λ xs. xs ++ rest) pushed ∙ append_assoc ends (end ∷ []) rest ∙ ap (λ x. ends ++ (x ∷ rest)) e ∙ ap (λ xs. ends ++ xs) (sym split)
+
+-- the states so far, and the next one
+pub opened_pushed : (old next : List IdealGuest) (state : IdealGuest) (guests : List GuestSpec) (n : ℕ) (guest : GuestSpec) → n < length guests → guest ≡ get_or guests n guest → old ≡ map opening (take n guests) → next ≡ old ++ state ∷ [] → state ≡ opening guest → next ≡ map opening (take (n + 1) guests)
+opened_pushed old next state guests n guest there g so_far pushed e =
+    let more : take (n + 1) guests ≡ take n guests ++ guest ∷ [] = take_more guests n guest there ∙ ap (λ x. take n guests ++ x ∷ []) (sym g) in
+    pushed ∙ ap (λ xs. xs ++ state ∷ []) so_far ∙ ap (λ x. map opening (take n guests) ++ x ∷ []) e ∙ sym (map-append opening (take n guests) (guest ∷ [])) ∙ ap (map opening) (sym more)

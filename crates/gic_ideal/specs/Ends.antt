@@ -1,5 +1,5 @@
 -- The fields of the lines that tell how a guest ended (own choice).
-use Rattle.std.specs.Prelude.{ℕ, ◌==◌, ◌&&◌, List, [], ◌∷◌, Bool, nat_eq, if◌then◌else◌, Option, Some, None}
+use Rattle.std.specs.Prelude.{ℕ, ◌==◌, ◌&&◌, not, false, List, [], ◌∷◌, map, Bool, nat_eq, if◌then◌else◌, Option, Some, None}
 use Rattle.std.specs.Option.{option_eq}
 use Rattle.std.specs.Bool.{beq}
 use Rattle.std.specs.List.{range_with_len, filter_map}
@@ -10,7 +10,15 @@ use Rattle.gic_ideal.specs.declared.guest.IdealGuest.{IdealGuest}
 use Rattle.scn_base.specs.declared.outcome.CpuEnd.{CpuEnd}
 use Rattle.scn_base.specs.declared.outcome.IrqEnd.{IrqEnd}
 use Rattle.scn_base.specs.declared.outcome.End.{End}
-use Rattle.gic_ideal.specs.Ideal.{cpu_at, irq_at}
+use Rattle.scn_base.specs.declared.outcome.ItsEnd.{ItsEnd}
+use Rattle.scn_base.specs.declared.outcome.DevEnd.{DevEnd}
+use Rattle.scn_base.specs.declared.outcome.EvtEnd.{EvtEnd}
+use Rattle.scn_base.specs.declared.outcome.ColEnd.{ColEnd}
+use Rattle.gic_frame.specs.Guest.{has_lpis}
+use Rattle.gic_dmap.specs.Contents.{ctlr_of}
+use Rattle.gic_imap.specs.Contents.{enabled_in, ctlr_of as its_ctlr_of, creadr_of}
+use Rattle.gic_open.specs.declared.plain.PlainWord.TheVariants.{ItsCtlr, Cbaser, Cwriter, Fault}
+use Rattle.gic_ideal.specs.Ideal.{cpu_at, irq_at, word_at}
 
 -- the end of a vCPU's CPU interface
 abbrev pub cpu_end : IdealGuest → ℕ → CpuEnd
@@ -51,17 +59,50 @@ changed_at is_same opened closed n = if is_same (opened n) (closed n) then None 
 abbrev pub changed : {E : Type 0} → (E → E → Bool) → (ℕ → E) → (ℕ → E) → ℕ → List E
 changed is_same opened closed count = filter_map (changed_at is_same opened closed) (range_with_len 0 count)
 
--- how a guest that opened in the one state ended in the other; no form that is built changes GICD_CTLR or has an ITS
+-- GICD_CTLR, if its group enables are not as at the opening
+abbrev pub gicd_end : IdealGuest → IdealGuest → Option ℕ
+gicd_end opened closed = let ctlr = ctlr_of closed.enables false in if ctlr_of opened.enables false == ctlr then None else Some ctlr
+
+-- the end of the ITS; the fault is that of the command that stalls the queue
+abbrev pub its_end : IdealGuest → ItsEnd
+its_end guest =
+    record {
+      ctlr = its_ctlr_of (enabled_in (word_at guest ItsCtlr));
+      cbaser = word_at guest Cbaser;
+      cwriter = word_at guest Cwriter;
+      creadr = creadr_of guest.is_stalled guest.offset;
+      fault = if guest.is_stalled then word_at guest Fault else 0;
+    }
+
+-- the lines of the two ends of the ITS are alike
+abbrev pub is_same_its_end : ItsEnd → ItsEnd → Bool
+is_same_its_end a b = a.ctlr == b.ctlr && a.cbaser == b.cbaser && a.cwriter == b.cwriter && a.creadr == b.creadr && a.fault == b.fault
+
+-- the end of the ITS of a guest that has one, if it is not as at the opening
+abbrev pub its_end_between : IdealGuest → IdealGuest → Option ItsEnd
+its_end_between opened closed = if has_lpis closed.shape && not (is_same_its_end (its_end opened) (its_end closed)) then Some (its_end closed) else None
+
+-- the end of a device, an event or a collection that is mapped
+abbrev pub dev_end : ℕ × ℕ → DevEnd
+dev_end pair = record { device = pair.0; bits = pair.1 }
+
+abbrev pub evt_end : (ℕ × ℕ) × (ℕ × ℕ) → EvtEnd
+evt_end pair = record { device = pair.0.0; event = pair.0.1; id = pair.1.0; icid = pair.1.1 }
+
+abbrev pub col_end : ℕ × ℕ → ColEnd
+col_end pair = record { icid = pair.0; vcpu = pair.1 }
+
+-- how a guest that opened in the one state ended in the other
 abbrev pub end_of : IdealGuest → IdealGuest → End
 end_of opened closed =
     record {
-      gicd = None;
+      gicd = gicd_end opened closed;
       cpus = changed is_same_cpu_end (cpu_end opened) (cpu_end closed) opened.shape.vcpus;
       irqs = changed is_same_irq_end (irq_end opened) (irq_end closed) (interrupt_count opened.shape);
-      its = None;
-      devs = [];
-      evts = [];
-      cols = [];
+      its = its_end_between opened closed;
+      devs = map dev_end closed.tables.devices;
+      evts = map evt_end closed.tables.events;
+      cols = map col_end closed.tables.collections;
     }
 
 -- how each guest ended

@@ -4,4 +4,6 @@ pub mod Sound
 pub mod Ends
 pub mod Shown
 pub mod Eager
+pub mod Deeds
 pub mod Laws
+pub mod Queue

@@ -1,15 +1,21 @@
 //! How a guest ended.
-ghost use Rattle.std.specs.Prelude.{◌≡◌, ◌<◌, IfOk};
+ghost use Rattle.std.specs.Prelude.{◌≡◌, ◌<◌, IfOk, map};
 ghost use Rattle.gic_base.specs.Interrupt.{interrupt_count as count_of};
-ghost use Rattle.gic_ideal.specs.Ends.{cpu_end as cpu_end_at, irq_end as irq_end_at, is_same_cpu_end, is_same_irq_end, changed_at, changed, end_of as end_between};
+ghost use Rattle.gic_ideal.specs.Ends.{cpu_end as cpu_end_at, irq_end as irq_end_at, is_same_cpu_end, is_same_irq_end, changed_at, changed, gicd_end as gicd_end_between, its_end as its_end_at, is_same_its_end, its_end_between, dev_end, evt_end, col_end, end_of as end_between};
 ghost use Rattle.gic_ideal.specs.Sound.{IsSound};
 
 use crate::guest::IdealGuest;
 use gic_base::{interrupt_count, key_at};
+use gic_dmap::ctlr;
 use gic_ich::vmcr_of;
+use gic_imap::creadr;
 use gic_list::ListOf;
+use gic_open::PlainWord;
 use gic_word::{Group, target_in};
-use scn_base::{CpuEnd, CpuEnds, End, IrqEnd, IrqEnds};
+use scn_base::{
+    ColEnd, ColEnds, CpuEnd, CpuEnds, DevEnd, DevEnds, End, EvtEnd, EvtEnds, IrqEnd, IrqEnds,
+    ItsEnd,
+};
 use std::alloc::{AllocError, Global};
 
 fn is_same_cpu(a: &CpuEnd, b: &CpuEnd) -> bool
@@ -127,6 +133,94 @@ fn irq_ends(alloc: Global, opened: &IdealGuest, closed: &IdealGuest) -> Result<I
     Ok(ends)
 }
 
+/// GICD_CTLR, if its group enables are not as at the opening.
+fn gicd_end(opened: &IdealGuest, closed: &IdealGuest) -> Option<u32>
+    ensures { result ≡ gicd_end_between opened.now closed.now }
+{
+    let end = ctlr(closed.enables, false);
+    (ctlr(opened.enables, false) != end).then_some(end)
+}
+
+fn is_same_its(a: &ItsEnd, b: &ItsEnd) -> bool
+    ensures { result ≡ is_same_its_end a.now b.now }
+{
+    a.ctlr == b.ctlr
+        && a.cbaser == b.cbaser
+        && a.cwriter == b.cwriter
+        && a.creadr == b.creadr
+        && a.fault == b.fault
+}
+
+impl IdealGuest {
+    fn its_end(&self) -> ItsEnd
+        requires { IsSound self.now }
+        ensures { result ≡ its_end_at self.now }
+    {
+        ItsEnd {
+            ctlr: gic_imap::ctlr(self.is_its_enabled()),
+            cbaser: self.word(PlainWord::Cbaser),
+            cwriter: self.word(PlainWord::Cwriter),
+            creadr: creadr(self.is_stalled, self.offset),
+            fault: if self.is_stalled {
+                self.word(PlainWord::Fault) as u8
+            } else {
+                0
+            },
+        }
+    }
+}
+
+/// The end of the ITS of a guest that has one, if it is not as at the opening.
+fn its_end(opened: &IdealGuest, closed: &IdealGuest) -> Option<ItsEnd>
+    requires opened { IsSound opened.now }
+    requires closed { IsSound closed.now }
+    ensures { result ≡ its_end_between opened.now closed.now }
+{
+    let end = closed.its_end();
+    (closed.shape.lpis != 0 && !is_same_its(&opened.its_end(), &end)).then_some(end)
+}
+
+/// The ends of devices.
+fn dev_ends(alloc: Global, pairs: &[(u32, u32)]) -> Result<DevEnds, AllocError>
+    ensures { IfOk result (λ ends. ends ≡ map dev_end pairs.now) }
+{
+    let mut ends = ListOf::new(alloc);
+    for pair in pairs {
+        let (device, bits) = *pair;
+        ends.push(DevEnd { device, bits })?;
+    }
+    Ok(ends)
+}
+
+/// The ends of events.
+fn evt_ends(alloc: Global, pairs: &[((u32, u32), (u32, u16))]) -> Result<EvtEnds, AllocError>
+    ensures { IfOk result (λ ends. ends ≡ map evt_end pairs.now) }
+{
+    let mut ends = ListOf::new(alloc);
+    for pair in pairs {
+        let ((device, event), (id, icid)) = *pair;
+        ends.push(EvtEnd {
+            device,
+            event,
+            id,
+            icid,
+        })?;
+    }
+    Ok(ends)
+}
+
+/// The ends of collections.
+fn col_ends(alloc: Global, pairs: &[(u16, u32)]) -> Result<ColEnds, AllocError>
+    ensures { IfOk result (λ ends. ends ≡ map col_end pairs.now) }
+{
+    let mut ends = ListOf::new(alloc);
+    for pair in pairs {
+        let (icid, vcpu) = *pair;
+        ends.push(ColEnd { icid, vcpu })?;
+    }
+    Ok(ends)
+}
+
 /// How a guest that opened in the one state ended in the other.
 pub(crate) fn end_of(
     alloc: Global,
@@ -138,13 +232,14 @@ pub(crate) fn end_of(
     requires shape { closed.now.shape ≡ opened.now.shape }
     ensures { IfOk result (λ end. end ≡ end_between opened.now closed.now) }
 {
+    let tables = &closed.tables;
     Ok(End {
-        gicd: None,
+        gicd: gicd_end(opened, closed),
         cpus: cpu_ends(alloc, opened, closed)?,
         irqs: irq_ends(alloc, opened, closed)?,
-        its: None,
-        devs: ListOf::new(alloc),
-        evts: ListOf::new(alloc),
-        cols: ListOf::new(alloc),
+        its: its_end(opened, closed),
+        devs: dev_ends(alloc, tables.devices(alloc)?.as_slice())?,
+        evts: evt_ends(alloc, tables.events(alloc)?.as_slice())?,
+        cols: col_ends(alloc, tables.collections(alloc)?.as_slice())?,
     })
 }

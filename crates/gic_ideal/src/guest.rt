@@ -1,15 +1,27 @@
 //! The state of one guest.
 use gic_base::GuestShape;
+use gic_dmap::Enables;
 use gic_list::ListOf;
 use gic_prio::CpuRec;
 use gic_word::Irq;
+use its_tab::ItsTables;
 
 /// The state of one guest under the ideal controller.
-#[derive(Debug, Drop)]
+#[derive(Drop)]
 pub struct IdealGuest {
     pub shape: GuestShape,
     /// The record of each interrupt, in key order.
     pub irqs: ListOf<Irq>,
     /// The record of each vCPU's CPU interface.
     pub cpus: ListOf<CpuRec>,
+    /// The group enables of GICD_CTLR.
+    pub enables: Enables,
+    /// The plain words, by place: memory, and the registers that are only stored.
+    pub words: ListOf<u64>,
+    /// Where the next command of the ITS is, in bytes from the start of its queue.
+    pub offset: u32,
+    /// Whether the queue is stalled.
+    pub is_stalled: bool,
+    /// What the ITS has mapped.
+    pub tables: ItsTables,
 }

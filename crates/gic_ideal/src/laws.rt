@@ -1,14 +1,14 @@
 //! Laws of the ideal controller.
-ghost use Rattle.gic_ideal.specs.Laws.{LatchedExactly, EdgePendingExactly, AcknowledgeTakesCause, AcknowledgeAnswers, AnswerAcknowledges, SpuriousReadExactly, AcknowledgeRuns, DeactivatedBetween, CausedBetween, CausedBetweenReads, RunsAreSound};
+ghost use Rattle.gic_ideal.specs.Laws.{LatchedExactly, EdgePendingExactly, AcknowledgeTakesCause, AcknowledgeAnswers, AnswerAcknowledges, SpuriousReadExactly, AcknowledgeRuns, DeactivatedBetween, CausedBetween, CausedBetweenReads, EventsKeepSound, StepsAreEvents, StepsCanFollow, RunsAreSound};
 
-/// A law of the ideal controller: after any steps, an interrupt has a latched cause exactly where one came since
-/// the last acknowledge, or was there at first and was not acknowledged.
+/// A law of the ideal controller: after any events, an interrupt has a latched cause exactly where one came since
+/// the last event that took it away, or was there at first and no event took it away.
 pub fn latched_exactly()
     ensures { LatchedExactly }
 {}
 
-/// A law of the ideal controller: in every run, an edge-triggered interrupt is pending exactly where a cause came
-/// since the opening and since the last acknowledge.
+/// A law of the ideal controller: from the opening on, an edge-triggered interrupt is pending exactly where a
+/// cause came since the last event that took it away.
 pub fn edge_pending_exactly()
     ensures { EdgePendingExactly }
 {}
@@ -18,7 +18,7 @@ pub fn acknowledge_takes_cause()
     ensures { AcknowledgeTakesCause }
 {}
 
-/// A law of the ideal controller: a step that acknowledges an interrupt answers its INTID.
+/// A law of the ideal controller: an access that acknowledges an interrupt answers its INTID.
 pub fn acknowledge_answers()
     ensures { AcknowledgeAnswers }
 {}
@@ -58,8 +58,24 @@ pub fn caused_between_reads()
     ensures { CausedBetweenReads }
 {}
 
-/// A law of the ideal controller: each state that a guest reaches from its opening is sound, so the other laws
-/// hold in every run.
+/// A law of the ideal controller: each event that can follow keeps a guest sound.
+pub fn events_keep_sound()
+    ensures { EventsKeepSound }
+{}
+
+/// A law of the ideal controller: what a guest is after some steps is what their events, one after the other, make
+/// of it.
+pub fn steps_are_events()
+    ensures { StepsAreEvents }
+{}
+
+/// A law of the ideal controller: each event of the steps that guests can make can follow those before it, so the
+/// laws of events hold of every run.
+pub fn steps_can_follow()
+    ensures { StepsCanFollow }
+{}
+
+/// A law of the ideal controller: each state that a guest reaches from its opening is sound.
 pub fn runs_are_sound()
     ensures { RunsAreSound }
 {}

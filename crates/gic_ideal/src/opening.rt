@@ -5,7 +5,9 @@ ghost use Rattle.gic_ideal.specs.Opening.{opening};
 ghost use Rattle.gic_ideal.specs.Sound.{IsSound};
 
 use crate::guest::IdealGuest;
-use gic_open::{cpus, irqs};
+use gic_dmap::enables_in;
+use gic_open::{cpus, irqs, opening_enables, plains};
+use its_tab::empty;
 use scn_base::GuestSpec;
 use std::alloc::{AllocError, Global};
 
@@ -21,6 +23,11 @@ impl IdealGuest {
             shape: guest.shape,
             irqs: irqs(alloc, guest)?,
             cpus: cpus(alloc, guest)?,
+            enables: enables_in(opening_enables(guest.on)),
+            words: plains(alloc, &guest.shape)?,
+            offset: 0,
+            is_stalled: false,
+            tables: empty(alloc),
         })
     }
 }

@@ -1,17 +1,21 @@
 //! The run of a scenario.
-ghost use Rattle.std.specs.Prelude.{◌≡◌, ◌≤◌, IfOk, OnOk, IsTrue, All, map};
+ghost use Rattle.std.specs.Prelude.{◌≡◌, ◌≤◌, [], IfOk, IfSome, OnOk, IsTrue, All, map, length, None};
 ghost use Rattle.scn_base.specs.declared.step.Mode.{Mode};
-ghost use Rattle.scn_base.specs.Good.{IsGood, IsGoodGuest, is_good_step, shapes_of};
+ghost use Rattle.scn_base.specs.Standing.{has_vcpu, ResidentsExist};
+ghost use Rattle.scn_base.specs.Good.{IsGood, IsGoodGuest, is_formed, shapes_of};
 ghost use Rattle.gic_ideal.specs.Opening.{opening};
 ghost use Rattle.gic_ideal.specs.Ends.{ends_of};
-ghost use Rattle.gic_ideal.specs.Eager.{pe_answer as pe_answer_of, step_answer, after_step, answers_of, after_steps, eager as eager_run};
+ghost use Rattle.gic_ideal.specs.Eager.{shown, step_answer, after_step, answers_of, after_steps, eager as eager_run};
 ghost use Rattle.gic_ideal.specs.Sound.{IsSound, state_shapes};
 
 use crate::ends::end_of;
 use crate::guest::IdealGuest;
 use gic_base::{MAX_LIST_REGISTERS, NoMemory, PeOp};
 use gic_list::ListOf;
-use scn_base::{Answer, Answers, Ends, Guests, RunOut, Scenario, Step, Steps};
+use scn_base::{
+    Answer, Answers, Ends, Guests, LrList, Pes, RunOut, Scenario, Step, Steps, VcpuName, move_pes,
+    opening_pes,
+};
 use std::alloc::{AllocError, Global};
 
 /// The states in which the guests open.
@@ -27,15 +31,31 @@ fn open_all(alloc: Global, guests: &Guests) -> Result<Vec<IdealGuest>, AllocErro
     Ok(states)
 }
 
-/// What is shown of the only PE, on which vCPU 0 of guest 0 stands.
-fn pe_answer(alloc: Global, states: &[IdealGuest], lrs: u32, op: PeOp) -> Result<Answer, AllocError>
+/// ICH_HCR and list registers that are all zeros.
+fn zeros(alloc: Global, lrs: u32) -> Result<Answer, AllocError>
+    requires { lrs ≤ MAX_LIST_REGISTERS }
+    ensures { IfOk result (λ answer. answer ≡ shown lrs None []) }
+{
+    Ok(Answer::Regs(LrList::from(vec![in alloc; 0; lrs as usize + 1]?)))
+}
+
+/// What is shown of a PE with `lrs` list registers, on which this vCPU stands, or none.
+fn show(
+    alloc: Global,
+    states: &[IdealGuest],
+    lrs: u32,
+    resident: Option<VcpuName>,
+) -> Result<Answer, AllocError>
     requires sound { All IsSound states.now }
     requires lrs { 1 ≤ lrs × lrs ≤ MAX_LIST_REGISTERS }
-    ensures { IfOk result (λ answer. answer ≡ pe_answer_of lrs op states.now) }
+    requires there { IfSome resident (λ name. IsTrue (has_vcpu (state_shapes states.now) name.guest name.vcpu)) }
+    ensures { IfOk result (λ answer. answer ≡ shown lrs resident states.now) }
 {
-    match (op, states.first()) {
-        (PeOp::Lrs, Some(guest)) => Ok(Answer::Regs(guest.registers(alloc, lrs, 0)?)),
-        _ => Ok(Answer::Nothing),
+    match resident {
+        Some(VcpuName { guest, vcpu }) => {
+            Ok(Answer::Regs(states[guest as usize].registers(alloc, lrs, vcpu)?))
+        }
+        None => zeros(alloc, lrs),
     }
 }
 
@@ -43,24 +63,35 @@ fn pe_answer(alloc: Global, states: &[IdealGuest], lrs: u32, op: PeOp) -> Result
 fn do_step(
     alloc: Global,
     states: &mut Vec<IdealGuest>,
+    pes: &Pes,
     lrs: u32,
     step: &Step,
-) -> Result<Answer, AllocError>
+) -> Result<Answer, NoMemory>
     requires sound { All IsSound states.old.items }
     requires lrs { 1 ≤ lrs × lrs ≤ MAX_LIST_REGISTERS }
-    requires good { IsTrue (is_good_step (state_shapes states.old.items) step.now) }
-    ensures answer { IfOk result (λ answer. answer ≡ step_answer lrs step.now states.old.items) }
-    ensures after { states.new.items ≡ after_step step.now states.old.items }
-    ensures sound { All IsSound states.new.items }
-    ensures shapes { state_shapes states.new.items ≡ state_shapes states.old.items }
+    requires formed { IsTrue (is_formed Mode.Schedule (length pes.now) (state_shapes states.old.items) step.now) }
+    requires residents { ResidentsExist (state_shapes states.old.items) pes.now }
+    ensures answer { IfOk result (λ answer. answer ≡ step_answer lrs pes.now step.now states.old.items) }
+    ensures after { OnOk result (states.new.items ≡ after_step step.now states.old.items) }
+    ensures sound { OnOk result (All IsSound states.new.items) }
+    ensures shapes { OnOk result (state_shapes states.new.items ≡ state_shapes states.old.items) }
 {
     match *step {
-        Step::Vcpu { guest, vcpu, op } => Ok(states[guest as usize].operate(vcpu, op)),
+        Step::Vcpu { guest, vcpu, op } => {
+            let answer = states[guest as usize].operate(alloc, vcpu, op)?;
+            Ok(answer)
+        }
         Step::Device { guest, op, .. } => {
-            states[guest as usize].receive(op);
+            states[guest as usize].receive(alloc, op)?;
             Ok(Answer::Nothing)
         }
-        Step::Pe { op, .. } => pe_answer(alloc, states, lrs, op),
+        Step::Pe { pe, op: PeOp::Lrs } => Ok(show(
+            alloc,
+            states,
+            lrs,
+            pes.as_slice()[pe as usize],
+        )?),
+        Step::Pe { .. } => Ok(Answer::Nothing),
     }
 }
 
@@ -68,20 +99,23 @@ fn do_step(
 fn do_steps(
     alloc: Global,
     states: &mut Vec<IdealGuest>,
+    mut pes: Pes,
     lrs: u32,
     steps: &Steps,
-) -> Result<Answers, AllocError>
+) -> Result<Answers, NoMemory>
     requires sound { All IsSound states.old.items }
     requires lrs { 1 ≤ lrs × lrs ≤ MAX_LIST_REGISTERS }
-    requires good { All (λ step. IsTrue (is_good_step (state_shapes states.old.items) step)) steps.now }
-    ensures answers { IfOk result (λ answers. answers ≡ answers_of lrs steps.now states.old.items) }
+    requires formed { All (λ step. IsTrue (is_formed Mode.Schedule (length pes) (state_shapes states.old.items) step)) steps.now }
+    requires residents { ResidentsExist (state_shapes states.old.items) pes }
+    ensures answers { IfOk result (λ answers. answers ≡ answers_of lrs pes steps.now states.old.items) }
     ensures after { OnOk result (states.new.items ≡ after_steps steps.now states.old.items) }
-    ensures sound { All IsSound states.new.items }
-    ensures shapes { state_shapes states.new.items ≡ state_shapes states.old.items }
+    ensures sound { OnOk result (All IsSound states.new.items) }
+    ensures shapes { OnOk result (state_shapes states.new.items ≡ state_shapes states.old.items) }
 {
     let mut answers = ListOf::new(alloc);
     for step in steps.as_slice() {
-        answers.push(do_step(alloc, states, lrs, step)?)?;
+        answers.push(do_step(alloc, states, &pes, lrs, step)?)?;
+        move_pes(step, &mut pes);
     }
     Ok(answers)
 }
@@ -107,7 +141,8 @@ pub fn eager(alloc: Global, scenario: &Scenario) -> Result<RunOut, NoMemory>
     ensures { IfOk result (λ out. out ≡ eager_run scenario.now) }
 {
     let mut states = open_all(alloc, &scenario.guests)?;
-    let answers = do_steps(alloc, &mut states, scenario.lrs, &scenario.steps)?;
+    let pes = opening_pes(alloc, scenario.pes, scenario.guests.as_slice())?;
+    let answers = do_steps(alloc, &mut states, pes, scenario.lrs, &scenario.steps)?;
     let ends = end_all(alloc, &scenario.guests, states.as_slice())?;
     Ok(RunOut { answers, ends })
 }

@@ -91,7 +91,7 @@ fn scenario(alloc: Global) -> Result<Scenario, AllocError> {
 #[test]
 fn scenario_built_in_code(rt: HostRuntime) -> Result<(), Fail> {
     let scenario = scenario(rt.alloc())?;
-    assert!(rt; scenario.is_good(Mode::Schedule));
+    assert!(rt; scenario.is_good(rt.alloc(), Mode::Schedule)?);
     let out = eager(rt.alloc(), &scenario)?;
     assert_eq!(rt; out.answers.len(), steps().len());
     for (answer, (step, value)) in out.answers.iter().zip(steps()) {

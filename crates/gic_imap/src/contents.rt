@@ -139,8 +139,9 @@ pub fn queue_bytes(cbaser: u64) -> u32
     PAGE_BYTES * (SIZE.of(cbaser) as u32 + 1)
 }
 
-/// The offset in a value of GITS_CWRITER: a multiple of 32 below 1048576.
-fn offset_in(value: u64) -> u64
+/// The offset in a value of GITS_CWRITER or GITS_CREADR, in bytes from the start of the queue: a multiple of 32 below
+/// 1048576.
+pub fn offset_in(value: u64) -> u64
     ensures value { result ≡ offset_of value }
     ensures bound { result < 1048576 }
 {

@@ -5,8 +5,8 @@ mod contents;
 mod map;
 
 pub use contents::{
-    Table, baser, baser_after, cbaser_after, creadr, ctlr, cwriter_after, enabled_in, queue_bytes,
-    retries, typer,
+    Table, baser, baser_after, cbaser_after, creadr, ctlr, cwriter_after, enabled_in, offset_in,
+    queue_bytes, retries, typer,
 };
 pub use gic_frame::{Half, IIDR, PIDR2};
 pub use map::{Reg, RegRef, decode, lines_are_in_order};

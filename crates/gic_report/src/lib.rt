@@ -3,6 +3,8 @@
 
 mod lines;
 mod show;
+#[cfg(test)]
+mod tests;
 mod whole;
 
 pub use whole::text;

@@ -1,5 +1,5 @@
 -- The rows of the table of answers, from what the tool has to write.
-use Rattle.std.proofs.Common.{◌≡◌, ℕ, ◌+◌, ◌<◌, ◌⊎◌, List, length, Contains, codes, lit<, Option, Some, None, IfSome, Result, Ok, Err, length-append, String, Global, inl, inr, refl, sym, ap, ◌∙◌, subst, arith}
+use Rattle.std.proofs.Common.{◌≡◌, ℕ, ◌+◌, ◌<◌, ◌⊎◌, List, length, Contains, codes, lit<, Option, Some, None, IfSome, Result, Ok, Err, length-append, inl, inr, refl, sym, ap, ◌∙◌, subst, arith}
 use Rattle.std.proofs.lemmas.Option.{same_Some}
 use Rattle.gic_io.specs.Faults.{HasRisen}
 use Rattle.gic_io.specs.Sink.{Grew, GrewByPrefix}
@@ -9,58 +9,60 @@ use Rattle.scn_base.specs.declared.scenario.Scenario.{Scenario}
 use Rattle.scn_base.specs.declared.fault.Fault.{Fault}
 use Rattle.scn_base.specs.declared.step.Mode.TheVariants.{Schedule}
 use Rattle.scn_read.specs.Reading.{reading}
+use Rattle.gic_top.specs.declared.command.Command.{Command}
+use Rattle.gic_top.specs.declared.command.Command.TheVariants.{Run}
 use Rattle.gic_top.specs.declared.tool.Reply.{Reply}
 use Rattle.gic_top.specs.declared.tool.Reply.TheVariants.{Ran, Usage, BadJson, BadScenario, ReadFault, TooLong, NoMemory}
-use Rattle.gic_top.specs.Tool.{max_input, statuses, line, IsRun, Spells, SpellsScenario, SpellsFault, IsOk, IsUsage, IsBadJson, IsBadScenario, IsReadFault, IsWriteFault, IsTooLong, IsNoMemory, IsRow, IsOutcome, IsWritten, IsRefusal, HasItsAnswer}
+use Rattle.gic_top.specs.Tool.{max_input, statuses, line, Spells, SpellsScenario, SpellsFault, IsOk, IsUsage, IsBadJson, IsBadScenario, IsReadFault, IsWriteFault, IsTooLong, IsNoMemory, IsRow, IsOutcome, IsWritten, IsRefusal, HasItsAnswer}
 use Rattle.gic_top.specs.Reply.{status_of, text_of, IsReplyOf, IsReplyFor}
 
 -- a reply to a run is the row of its status
-run_row : (words : List (String Global)) (before after : Option (List ℕ)) (faults_before faults_after : ℕ) (wrote : List ℕ → Type 0) (reply : Reply) → IsRun words → IsReplyOf before after faults_before faults_after reply → wrote (text_of reply)
-    → IsRow words before after faults_before faults_after wrote (status_of reply)
-run_row words before after fb fa wrote (Ran text) asked is written = inl (refl, record { asked = asked; scenario = is.0; read = is.1; written = subst wrote is.2 written })
-run_row words before after fb fa wrote Usage asked is written = absurd is
-run_row words before after fb fa wrote BadJson asked is written = inr (inr (inl (refl, record { asked = asked; read = is; written = written })))
-run_row words before after fb fa wrote (BadScenario text) asked is written = inr (inr (inr (inl (refl, record { asked = asked; fault = is.0; read = is.1; written = subst wrote is.2 written }))))
-run_row words before after fb fa wrote ReadFault asked is written = inr (inr (inr (inr (inl (refl, record { asked = asked; risen = is; written = written })))))
-run_row words before after fb fa wrote TooLong asked is written = inr (inr (inr (inr (inr (inl (refl, record { asked = asked; taken = is; written = written }))))))
-run_row words before after fb fa wrote NoMemory asked is written = inr (inr (inr (inr (inr (inr (refl, record { asked = asked; taken = is; written = written }))))))
+run_row : (command : Option Command) (before after : Option (List ℕ)) (faults_before faults_after : ℕ) (wrote : List ℕ → Type 0) (reply : Reply) → command ≡ Some Run → IsReplyOf before after faults_before faults_after reply → wrote (text_of reply)
+    → IsRow command before after faults_before faults_after wrote (status_of reply)
+run_row command before after fb fa wrote (Ran text) asked is written = inl (refl, record { asked = asked; scenario = is.0; read = is.1; written = subst wrote is.2 written })
+run_row command before after fb fa wrote Usage asked is written = absurd is
+run_row command before after fb fa wrote BadJson asked is written = inr (inr (inl (refl, record { asked = asked; read = is; written = written })))
+run_row command before after fb fa wrote (BadScenario text) asked is written = inr (inr (inr (inl (refl, record { asked = asked; fault = is.0; read = is.1; written = subst wrote is.2 written }))))
+run_row command before after fb fa wrote ReadFault asked is written = inr (inr (inr (inr (inl (refl, record { asked = asked; risen = is; written = written })))))
+run_row command before after fb fa wrote TooLong asked is written = inr (inr (inr (inr (inr (inl (refl, record { asked = asked; taken = is; written = written }))))))
+run_row command before after fb fa wrote NoMemory asked is written = inr (inr (inr (inr (inr (inr (refl, record { asked = asked; taken = is; written = written }))))))
 
 -- a reply is the row of its status
-row_of : (words : List (String Global)) (before after : Option (List ℕ)) (faults_before faults_after : ℕ) (wrote : List ℕ → Type 0) (reply : Reply) → IsReplyFor words before after faults_before faults_after reply → wrote (text_of reply)
-    → IsRow words before after faults_before faults_after wrote (status_of reply)
-row_of words before after fb fa wrote reply (inl is) written = run_row words before after fb fa wrote reply is.0 is.1 written
-row_of words before after fb fa wrote reply (inr is) written = inr (inl (ap status_of is.1, record { asked = is.0; written = subst (λ r. wrote (text_of r)) is.1 written }))
+row_of : (command : Option Command) (before after : Option (List ℕ)) (faults_before faults_after : ℕ) (wrote : List ℕ → Type 0) (reply : Reply) → IsReplyFor command before after faults_before faults_after reply → wrote (text_of reply)
+    → IsRow command before after faults_before faults_after wrote (status_of reply)
+row_of (Some Run) before after fb fa wrote reply is written = run_row (Some Run) before after fb fa wrote reply refl is written
+row_of None before after fb fa wrote reply is written = inr (inl (ap status_of is, record { asked = refl; written = subst (λ r. wrote (text_of r)) is written }))
 
 -- a reply that was written is an outcome
-written_row : (words : List (String Global)) (before after : Option (List ℕ)) (faults_before faults_after : ℕ) (taken_before taken_after : Option (List ℕ)) (sink_before sink_after : ℕ) (reply : Reply) (status : ℕ)
-    → IsReplyFor words before after faults_before faults_after reply
+written_row : (command : Option Command) (before after : Option (List ℕ)) (faults_before faults_after : ℕ) (taken_before taken_after : Option (List ℕ)) (sink_before sink_after : ℕ) (reply : Reply) (status : ℕ)
+    → IsReplyFor command before after faults_before faults_after reply
     → ((status ≡ status_of reply) × Grew taken_before taken_after (text_of reply)) ⊎ ((status ≡ 6) × HasRisen sink_before sink_after × GrewByPrefix taken_before taken_after (text_of reply))
-    → IsOutcome words before after faults_before faults_after taken_before taken_after sink_before sink_after status
-written_row words before after fb fa tb ta kb ka reply status is (inl whole) = record {
-  row = inl (subst (IsRow words before after fb fa (Grew tb ta)) (sym whole.0) (row_of words before after fb fa (Grew tb ta) reply is whole.1));
+    → IsOutcome command before after faults_before faults_after taken_before taken_after sink_before sink_after status
+written_row command before after fb fa tb ta kb ka reply status is (inl whole) = record {
+  row = inl (subst (IsRow command before after fb fa (Grew tb ta)) (sym whole.0) (row_of command before after fb fa (Grew tb ta) reply is whole.1));
 }
-written_row words before after fb fa tb ta kb ka reply status is (inr part) = record {
-  row = inr (part.0, record { risen = part.1; other = status_of reply; row = row_of words before after fb fa (GrewByPrefix tb ta) reply is part.2 });
+written_row command before after fb fa tb ta kb ka reply status is (inr part) = record {
+  row = inr (part.0, record { risen = part.1; other = status_of reply; row = row_of command before after fb fa (GrewByPrefix tb ta) reply is part.2 });
 }
 
-pub outcome : (words : List (String Global)) (before after : Option (List ℕ)) (faults_before faults_after : ℕ) (taken_before taken_after : Option (List ℕ)) (sink_before sink_after : ℕ) (reply : Reply) (status : ℕ)
-    → IsReplyFor words before after faults_before faults_after reply → IsWritten taken_before taken_after sink_before sink_after (text_of reply) (status_of reply) status
-    → IsOutcome words before after faults_before faults_after taken_before taken_after sink_before sink_after status
-outcome words before after fb fa tb ta kb ka reply status is done = written_row words before after fb fa tb ta kb ka reply status is done.written
+pub outcome : (command : Option Command) (before after : Option (List ℕ)) (faults_before faults_after : ℕ) (taken_before taken_after : Option (List ℕ)) (sink_before sink_after : ℕ) (reply : Reply) (status : ℕ)
+    → IsReplyFor command before after faults_before faults_after reply → IsWritten taken_before taken_after sink_before sink_after (text_of reply) (status_of reply) status
+    → IsOutcome command before after faults_before faults_after taken_before taken_after sink_before sink_after status
+outcome command before after fb fa tb ta kb ka reply status is done = written_row command before after fb fa tb ta kb ka reply status is done.written
 
 -- each status of a row is one of the table's
-row_closed : (words : List (String Global)) (before after : Option (List ℕ)) (faults_before faults_after : ℕ) (wrote : List ℕ → Type 0) (status : ℕ) → IsRow words before after faults_before faults_after wrote status → Contains statuses status
-row_closed words before after fb fa wrote status (inl row) = subst (Contains statuses) (sym row.0) (0, lit< tt, refl)
-row_closed words before after fb fa wrote status (inr (inl row)) = subst (Contains statuses) (sym row.0) (1, lit< tt, refl)
-row_closed words before after fb fa wrote status (inr (inr (inl row))) = subst (Contains statuses) (sym row.0) (2, lit< tt, refl)
-row_closed words before after fb fa wrote status (inr (inr (inr (inl row)))) = subst (Contains statuses) (sym row.0) (3, lit< tt, refl)
-row_closed words before after fb fa wrote status (inr (inr (inr (inr (inl row))))) = subst (Contains statuses) (sym row.0) (4, lit< tt, refl)
-row_closed words before after fb fa wrote status (inr (inr (inr (inr (inr (inl row)))))) = subst (Contains statuses) (sym row.0) (6, lit< tt, refl)
-row_closed words before after fb fa wrote status (inr (inr (inr (inr (inr (inr row)))))) = subst (Contains statuses) (sym row.0) (7, lit< tt, refl)
+row_closed : (command : Option Command) (before after : Option (List ℕ)) (faults_before faults_after : ℕ) (wrote : List ℕ → Type 0) (status : ℕ) → IsRow command before after faults_before faults_after wrote status → Contains statuses status
+row_closed command before after fb fa wrote status (inl row) = subst (Contains statuses) (sym row.0) (0, lit< tt, refl)
+row_closed command before after fb fa wrote status (inr (inl row)) = subst (Contains statuses) (sym row.0) (1, lit< tt, refl)
+row_closed command before after fb fa wrote status (inr (inr (inl row))) = subst (Contains statuses) (sym row.0) (2, lit< tt, refl)
+row_closed command before after fb fa wrote status (inr (inr (inr (inl row)))) = subst (Contains statuses) (sym row.0) (3, lit< tt, refl)
+row_closed command before after fb fa wrote status (inr (inr (inr (inr (inl row))))) = subst (Contains statuses) (sym row.0) (4, lit< tt, refl)
+row_closed command before after fb fa wrote status (inr (inr (inr (inr (inr (inl row)))))) = subst (Contains statuses) (sym row.0) (6, lit< tt, refl)
+row_closed command before after fb fa wrote status (inr (inr (inr (inr (inr (inr row)))))) = subst (Contains statuses) (sym row.0) (7, lit< tt, refl)
 
-outcome_closed : (words : List (String Global)) (before after : Option (List ℕ)) (faults_before faults_after : ℕ) (wrote : List ℕ → Type 0) (part : Type 0) (status : ℕ) → IsRow words before after faults_before faults_after wrote status ⊎ ((status ≡ 6) × part) → Contains statuses status
-outcome_closed words before after fb fa wrote part status (inl row) = row_closed words before after fb fa wrote status row
-outcome_closed words before after fb fa wrote part status (inr fault) = subst (Contains statuses) (sym fault.0) (5, lit< tt, refl)
+outcome_closed : (command : Option Command) (before after : Option (List ℕ)) (faults_before faults_after : ℕ) (wrote : List ℕ → Type 0) (part : Type 0) (status : ℕ) → IsRow command before after faults_before faults_after wrote status ⊎ ((status ≡ 6) × part) → Contains statuses status
+outcome_closed command before after fb fa wrote part status (inl row) = row_closed command before after fb fa wrote status row
+outcome_closed command before after fb fa wrote part status (inr fault) = subst (Contains statuses) (sym fault.0) (5, lit< tt, refl)
 
 -- the status where memory for the words was refused
 written_closed : (tb ta : Option (List ℕ)) (kb ka : ℕ) (text : List ℕ) (status : ℕ) → ((status ≡ 9) × Grew tb ta text) ⊎ ((status ≡ 6) × HasRisen kb ka × GrewByPrefix tb ta text) → Contains statuses status
@@ -71,36 +73,36 @@ pub refused_closed : (tb ta : Option (List ℕ)) (kb ka : ℕ) (status : ℕ) �
 refused_closed tb ta kb ka status done = written_closed tb ta kb ka (line (codes "no memory")) status done.written
 
 -- the row of each status, of an outcome
-pub closed : {words : List (String Global)} {before after : Option (List ℕ)} {fb fa : ℕ} {tb ta : Option (List ℕ)} {kb ka : ℕ} (status : ℕ) → IsOutcome words before after fb fa tb ta kb ka status → Contains statuses status
-closed {words = words} {before = before} {after = after} {fb = fb} {fa = fa} {tb = tb} {ta = ta} {kb = kb} {ka = ka} status o = outcome_closed words before after fb fa (Grew tb ta) (IsWriteFault words before after fb fa tb ta kb ka) status o.row
+pub closed : {command : Option Command} {before after : Option (List ℕ)} {fb fa : ℕ} {tb ta : Option (List ℕ)} {kb ka : ℕ} (status : ℕ) → IsOutcome command before after fb fa tb ta kb ka status → Contains statuses status
+closed {command = command} {before = before} {after = after} {fb = fb} {fa = fa} {tb = tb} {ta = ta} {kb = kb} {ka = ka} status o = outcome_closed command before after fb fa (Grew tb ta) (IsWriteFault command before after fb fa tb ta kb ka) status o.row
 
-pub ok_row : {words : List (String Global)} {before after : Option (List ℕ)} {fb fa : ℕ} {tb ta : Option (List ℕ)} {kb ka : ℕ} (status : ℕ) → IsOutcome words before after fb fa tb ta kb ka status → status ≡ 0 → IsOk words before after (Grew tb ta)
+pub ok_row : {command : Option Command} {before after : Option (List ℕ)} {fb fa : ℕ} {tb ta : Option (List ℕ)} {kb ka : ℕ} (status : ℕ) → IsOutcome command before after fb fa tb ta kb ka status → status ≡ 0 → IsOk command before after (Grew tb ta)
 ok_row status o e = let row = o.row in grind arith
 
-pub usage_row : {words : List (String Global)} {before after : Option (List ℕ)} {fb fa : ℕ} {tb ta : Option (List ℕ)} {kb ka : ℕ} (status : ℕ) → IsOutcome words before after fb fa tb ta kb ka status → status ≡ 2 → IsUsage words (Grew tb ta)
+pub usage_row : {command : Option Command} {before after : Option (List ℕ)} {fb fa : ℕ} {tb ta : Option (List ℕ)} {kb ka : ℕ} (status : ℕ) → IsOutcome command before after fb fa tb ta kb ka status → status ≡ 2 → IsUsage command (Grew tb ta)
 usage_row status o e = let row = o.row in grind arith
 
-pub bad_json_row : {words : List (String Global)} {before after : Option (List ℕ)} {fb fa : ℕ} {tb ta : Option (List ℕ)} {kb ka : ℕ} (status : ℕ) → IsOutcome words before after fb fa tb ta kb ka status → status ≡ 3 → IsBadJson words before after (Grew tb ta)
+pub bad_json_row : {command : Option Command} {before after : Option (List ℕ)} {fb fa : ℕ} {tb ta : Option (List ℕ)} {kb ka : ℕ} (status : ℕ) → IsOutcome command before after fb fa tb ta kb ka status → status ≡ 3 → IsBadJson command before after (Grew tb ta)
 bad_json_row status o e = let row = o.row in grind arith
 
-pub bad_scenario_row : {words : List (String Global)} {before after : Option (List ℕ)} {fb fa : ℕ} {tb ta : Option (List ℕ)} {kb ka : ℕ} (status : ℕ) → IsOutcome words before after fb fa tb ta kb ka status → status ≡ 4 → IsBadScenario words before after (Grew tb ta)
+pub bad_scenario_row : {command : Option Command} {before after : Option (List ℕ)} {fb fa : ℕ} {tb ta : Option (List ℕ)} {kb ka : ℕ} (status : ℕ) → IsOutcome command before after fb fa tb ta kb ka status → status ≡ 4 → IsBadScenario command before after (Grew tb ta)
 bad_scenario_row status o e = let row = o.row in grind arith
 
-pub read_fault_row : {words : List (String Global)} {before after : Option (List ℕ)} {fb fa : ℕ} {tb ta : Option (List ℕ)} {kb ka : ℕ} (status : ℕ) → IsOutcome words before after fb fa tb ta kb ka status → status ≡ 5 → IsReadFault words fb fa (Grew tb ta)
+pub read_fault_row : {command : Option Command} {before after : Option (List ℕ)} {fb fa : ℕ} {tb ta : Option (List ℕ)} {kb ka : ℕ} (status : ℕ) → IsOutcome command before after fb fa tb ta kb ka status → status ≡ 5 → IsReadFault command fb fa (Grew tb ta)
 read_fault_row status o e = let row = o.row in grind arith
 
-pub write_fault_row : {words : List (String Global)} {before after : Option (List ℕ)} {fb fa : ℕ} {tb ta : Option (List ℕ)} {kb ka : ℕ} (status : ℕ) → IsOutcome words before after fb fa tb ta kb ka status → status ≡ 6 → IsWriteFault words before after fb fa tb ta kb ka
+pub write_fault_row : {command : Option Command} {before after : Option (List ℕ)} {fb fa : ℕ} {tb ta : Option (List ℕ)} {kb ka : ℕ} (status : ℕ) → IsOutcome command before after fb fa tb ta kb ka status → status ≡ 6 → IsWriteFault command before after fb fa tb ta kb ka
 write_fault_row status o e = let row = o.row in grind arith
 
-pub too_long_row : {words : List (String Global)} {before after : Option (List ℕ)} {fb fa : ℕ} {tb ta : Option (List ℕ)} {kb ka : ℕ} (status : ℕ) → IsOutcome words before after fb fa tb ta kb ka status → status ≡ 7 → IsTooLong words before after (Grew tb ta)
+pub too_long_row : {command : Option Command} {before after : Option (List ℕ)} {fb fa : ℕ} {tb ta : Option (List ℕ)} {kb ka : ℕ} (status : ℕ) → IsOutcome command before after fb fa tb ta kb ka status → status ≡ 7 → IsTooLong command before after (Grew tb ta)
 too_long_row status o e = let row = o.row in grind arith
 
-pub no_memory_row : {words : List (String Global)} {before after : Option (List ℕ)} {fb fa : ℕ} {tb ta : Option (List ℕ)} {kb ka : ℕ} (status : ℕ) → IsOutcome words before after fb fa tb ta kb ka status → status ≡ 9 → IsNoMemory words before after (Grew tb ta)
+pub no_memory_row : {command : Option Command} {before after : Option (List ℕ)} {fb fa : ℕ} {tb ta : Option (List ℕ)} {kb ka : ℕ} (status : ℕ) → IsOutcome command before after fb fa tb ta kb ka status → status ≡ 9 → IsNoMemory command before after (Grew tb ta)
 no_memory_row status o e = let row = o.row in grind arith
 
--- the status for other words
-pub not_run_status : {words : List (String Global)} {before after : Option (List ℕ)} {fb fa : ℕ} {tb ta : Option (List ℕ)} {kb ka : ℕ} (status : ℕ) → IsOutcome words before after fb fa tb ta kb ka status → (IsRun words → ⊥) → (status ≡ 2) ⊎ (status ≡ 6)
-not_run_status status o other = let row = o.row in grind arith
+-- the status for words that are no command
+pub no_command_status : {command : Option Command} {before after : Option (List ℕ)} {fb fa : ℕ} {tb ta : Option (List ℕ)} {kb ka : ℕ} (status : ℕ) → IsOutcome command before after fb fa tb ta kb ka status → command ≡ None → (status ≡ 2) ⊎ (status ≡ 6)
+no_command_status status o other = let row = o.row in grind arith
 
 -- bytes spell one value
 one_value : (bytes : List ℕ) (a b : Data) → Spells bytes a → Spells bytes b → a ≡ b
@@ -162,21 +164,21 @@ told_answer bytes after fb fa NoMemory sure is =
       too_long = λ past. inr refl;
     }
 
-for_its_answer : (words : List (String Global)) (before after : Option (List ℕ)) (faults_before faults_after : ℕ) (reply : Reply) → IsRun words → (HasRisen faults_before faults_after → ⊥) → IsReplyFor words before after faults_before faults_after reply
+for_its_answer : (command : Option Command) (before after : Option (List ℕ)) (faults_before faults_after : ℕ) (reply : Reply) → command ≡ Some Run → (HasRisen faults_before faults_after → ⊥) → IsReplyFor command before after faults_before faults_after reply
     → IfSome before (λ bytes. HasItsAnswer bytes (status_of reply))
-for_its_answer words None after fb fa reply asked sure is = tt
-for_its_answer words (Some bytes) after fb fa reply asked sure (inl is) = told_answer bytes after fb fa reply sure is.1
-for_its_answer words (Some bytes) after fb fa reply asked sure (inr is) = absurd (is.0 asked)
+for_its_answer command None after fb fa reply asked sure is = tt
+for_its_answer (Some Run) (Some bytes) after fb fa reply asked sure is = told_answer bytes after fb fa reply sure is
+for_its_answer None (Some bytes) after fb fa reply asked sure is = let none : ◌≡◌ {A = Option Command} None (Some Run) = asked in absurd cc
 
 -- the status where neither the source nor the sink had a fault
 status_there : (tb ta : Option (List ℕ)) (kb ka : ℕ) (text : List ℕ) (own status : ℕ) → (HasRisen kb ka → ⊥) → ((status ≡ own) × Grew tb ta text) ⊎ ((status ≡ 6) × HasRisen kb ka × GrewByPrefix tb ta text) → status ≡ own
 status_there tb ta kb ka text own status sure (inl whole) = whole.0
 status_there tb ta kb ka text own status sure (inr part) = absurd (sure part.1)
 
-pub its_answer : (words : List (String Global)) (before after : Option (List ℕ)) (faults_before faults_after : ℕ) (taken_before taken_after : Option (List ℕ)) (sink_before sink_after : ℕ) (reply : Reply) (status : ℕ)
-    → IsReplyFor words before after faults_before faults_after reply → IsWritten taken_before taken_after sink_before sink_after (text_of reply) (status_of reply) status
-    → IsRun words → (HasRisen faults_before faults_after → ⊥) → (HasRisen sink_before sink_after → ⊥)
+pub its_answer : (command : Option Command) (before after : Option (List ℕ)) (faults_before faults_after : ℕ) (taken_before taken_after : Option (List ℕ)) (sink_before sink_after : ℕ) (reply : Reply) (status : ℕ)
+    → IsReplyFor command before after faults_before faults_after reply → IsWritten taken_before taken_after sink_before sink_after (text_of reply) (status_of reply) status
+    → command ≡ Some Run → (HasRisen faults_before faults_after → ⊥) → (HasRisen sink_before sink_after → ⊥)
     → IfSome before (λ bytes. HasItsAnswer bytes status)
-its_answer words before after fb fa tb ta kb ka reply status is done asked sure sure_sink =
+its_answer command before after fb fa tb ta kb ka reply status is done asked sure sure_sink =
     subst (λ (s : ℕ). IfSome before (λ bytes. HasItsAnswer bytes s)) (sym (status_there tb ta kb ka (text_of reply) (status_of reply) status sure_sink done.written))
-    (for_its_answer words before after fb fa reply asked sure is)
+    (for_its_answer command before after fb fa reply asked sure is)

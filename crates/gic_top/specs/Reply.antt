@@ -1,13 +1,14 @@
 -- What the tool has to write, inside the crate.
-use Rattle.std.specs.Prelude.{◌≡◌, ℕ, ◌+◌, List, Option, codes, String, ◌⊎◌, ⊤}
-use Rattle.std.specs.declared.alloc.Global.{Global}
+use Rattle.std.specs.Prelude.{◌≡◌, ℕ, ◌+◌, List, Option, Some, None, codes, ⊤}
 use Rattle.gic_io.specs.Faults.{HasRisen}
 use Rattle.gic_io.specs.Source.{HasReadCount, HasReadAtMost}
 use Rattle.scn_base.specs.declared.scenario.Scenario.{Scenario}
 use Rattle.scn_base.specs.declared.fault.Fault.{Fault}
+use Rattle.gic_top.specs.declared.command.Command.{Command}
+use Rattle.gic_top.specs.declared.command.Command.TheVariants.{Run}
 use Rattle.gic_top.specs.declared.tool.Reply.{Reply}
 use Rattle.gic_top.specs.declared.tool.Reply.TheVariants.{Ran, Usage, BadJson, BadScenario, ReadFault, TooLong, NoMemory}
-use Rattle.gic_top.specs.Tool.{IsRun, SpellsScenario, SpellsFault, IsNoJson, HasInput, max_input, run_text, fault_line, line}
+use Rattle.gic_top.specs.Tool.{SpellsScenario, SpellsFault, IsNoJson, HasInput, max_input, run_text, fault_line, line}
 
 -- the status of a reply
 abbrev pub status_of : Reply → ℕ
@@ -51,7 +52,7 @@ IsReplyOf before after faults_before faults_after ReadFault = HasRisen faults_be
 IsReplyOf before after faults_before faults_after TooLong = HasReadCount before after (max_input + 1)
 IsReplyOf before after faults_before faults_after NoMemory = HasReadAtMost before after max_input
 
--- the reply is the one to these words, and to what a source gave
-abbrev pub IsReplyFor : List (String Global) → Option (List ℕ) → Option (List ℕ) → ℕ → ℕ → Reply → Type 0
-IsReplyFor words before after faults_before faults_after reply =
-    (IsRun words × IsReplyOf before after faults_before faults_after reply) ⊎ ((¬ IsRun words) × (reply ≡ Usage))
+-- the reply is the one to a command, or to words that are none, and to what a source gave
+abbrev pub IsReplyFor : Option Command → Option (List ℕ) → Option (List ℕ) → ℕ → ℕ → Reply → Type 0
+IsReplyFor (Some Run) before after faults_before faults_after reply = IsReplyOf before after faults_before faults_after reply
+IsReplyFor None before after faults_before faults_after reply = reply ≡ Usage

@@ -1,6 +1,5 @@
 -- What the top call answers to words and an input (own choice).
-use Rattle.std.specs.Prelude.{◌≡◌, ℕ, ◌+◌, ◌<◌, ◌≤◌, ◌⊎◌, String, string_bytes, List, [], ◌∷◌, ◌++◌, length, map, codes, IsUtf8, Option, Some, IfSome, OnSome, Ok, Err}
-use Rattle.std.specs.declared.alloc.Global.{Global}
+use Rattle.std.specs.Prelude.{◌≡◌, ℕ, ◌+◌, ◌<◌, ◌≤◌, ◌⊎◌, List, [], ◌∷◌, ◌++◌, length, codes, IsUtf8, Option, Some, None, IfSome, OnSome, Ok, Err}
 use Rattle.serde_json.specs.Data.{Data}
 use Rattle.serde_json.specs.Read.{read}
 use Rattle.gic_io.specs.Faults.{HasRisen}
@@ -13,10 +12,8 @@ use Rattle.scn_read.specs.Reading.{reading}
 use Rattle.scn_base.specs.Shown.{fault_text}
 use Rattle.gic_ideal.specs.Eager.{eager}
 use Rattle.gic_report.specs.Text.{text, newline}
-
--- the words ask for a run to a schedule, the one form that is built
-abbrev pub IsRun : List (String Global) → Type 0
-IsRun words = map string_bytes words ≡ codes "run" ∷ []
+use Rattle.gic_top.specs.declared.command.Command.{Command}
+use Rattle.gic_top.specs.declared.command.Command.TheVariants.{Run}
 
 -- the bytes are UTF-8, and JSON that reads as this value
 pub record Spells (bytes : List ℕ) (value : Data) : Type 0 where
@@ -59,7 +56,7 @@ max_input = 16777216
 abbrev pub statuses : List ℕ
 statuses = 0 ∷ 2 ∷ 3 ∷ 4 ∷ 5 ∷ 6 ∷ 7 ∷ 9 ∷ []
 
--- The rows of the table of answers. Where the source told the bytes that it had left before the call, they are `before`, and
+-- The rows of the table of answers to a command, or to words that are none. Where the source told the bytes that it had left before the call, they are `before`, and
 -- `after` those that it then has left; `wrote` says what the sink took.
 
 -- an input was read to its end, which is within the limit, and P holds of it, where it was told
@@ -69,69 +66,69 @@ pub record HasInput (before after : Option (List ℕ)) (P : List ℕ → Type 0)
   pub to_end : OnSome before (after ≡ Some [])
 
 -- a scenario was read, and the text of its run written
-pub record IsOk (words : List (String Global)) (before after : Option (List ℕ)) (wrote : List ℕ → Type 0) : Type 0 where
-  pub asked : IsRun words
+pub record IsOk (command : Option Command) (before after : Option (List ℕ)) (wrote : List ℕ → Type 0) : Type 0 where
+  pub asked : command ≡ Some Run
   pub scenario : Scenario
   pub read : HasInput before after (λ bytes. SpellsScenario bytes scenario)
   pub written : wrote (run_text scenario)
 
--- the words are none of the forms that are built
-pub record IsUsage (words : List (String Global)) (wrote : List ℕ → Type 0) : Type 0 where
-  pub asked : ¬ IsRun words
+-- the words are no command
+pub record IsUsage (command : Option Command) (wrote : List ℕ → Type 0) : Type 0 where
+  pub asked : command ≡ None
   pub written : wrote (line (codes "usage"))
 
 -- the input is no JSON
-pub record IsBadJson (words : List (String Global)) (before after : Option (List ℕ)) (wrote : List ℕ → Type 0) : Type 0 where
-  pub asked : IsRun words
+pub record IsBadJson (command : Option Command) (before after : Option (List ℕ)) (wrote : List ℕ → Type 0) : Type 0 where
+  pub asked : command ≡ Some Run
   pub read : HasInput before after IsNoJson
   pub written : wrote (line (codes "bad json"))
 
 -- the input spells a value that has a fault as a scenario
-pub record IsBadScenario (words : List (String Global)) (before after : Option (List ℕ)) (wrote : List ℕ → Type 0) : Type 0 where
-  pub asked : IsRun words
+pub record IsBadScenario (command : Option Command) (before after : Option (List ℕ)) (wrote : List ℕ → Type 0) : Type 0 where
+  pub asked : command ≡ Some Run
   pub fault : Fault
   pub read : HasInput before after (λ bytes. SpellsFault bytes fault)
   pub written : wrote (fault_line fault)
 
 -- the source's count of faults rose
-pub record IsReadFault (words : List (String Global)) (faults_before faults_after : ℕ) (wrote : List ℕ → Type 0) : Type 0 where
-  pub asked : IsRun words
+pub record IsReadFault (command : Option Command) (faults_before faults_after : ℕ) (wrote : List ℕ → Type 0) : Type 0 where
+  pub asked : command ≡ Some Run
   pub risen : HasRisen faults_before faults_after
   pub written : wrote (line (codes "read fault"))
 
 -- more bytes than the limit were taken from the source
-pub record IsTooLong (words : List (String Global)) (before after : Option (List ℕ)) (wrote : List ℕ → Type 0) : Type 0 where
-  pub asked : IsRun words
+pub record IsTooLong (command : Option Command) (before after : Option (List ℕ)) (wrote : List ℕ → Type 0) : Type 0 where
+  pub asked : command ≡ Some Run
   pub taken : HasReadCount before after (max_input + 1)
   pub written : wrote (line (codes "too long"))
 
 -- memory was refused, before more bytes than the limit were taken from the source
-pub record IsNoMemory (words : List (String Global)) (before after : Option (List ℕ)) (wrote : List ℕ → Type 0) : Type 0 where
-  pub asked : IsRun words
+pub record IsNoMemory (command : Option Command) (before after : Option (List ℕ)) (wrote : List ℕ → Type 0) : Type 0 where
+  pub asked : command ≡ Some Run
   pub taken : HasReadAtMost before after max_input
   pub written : wrote (line (codes "no memory"))
 
 -- the row of a status, each but that of a fault of the sink
-abbrev pub IsRow : List (String Global) → Option (List ℕ) → Option (List ℕ) → ℕ → ℕ → (List ℕ → Type 0) → ℕ → Type 0
-IsRow words before after faults_before faults_after wrote status =
-    ((status ≡ 0) × IsOk words before after wrote)
-    ⊎ (((status ≡ 2) × IsUsage words wrote)
-    ⊎ (((status ≡ 3) × IsBadJson words before after wrote)
-    ⊎ (((status ≡ 4) × IsBadScenario words before after wrote)
-    ⊎ (((status ≡ 5) × IsReadFault words faults_before faults_after wrote)
-    ⊎ (((status ≡ 7) × IsTooLong words before after wrote)
-    ⊎ ((status ≡ 9) × IsNoMemory words before after wrote))))))
+abbrev pub IsRow : Option Command → Option (List ℕ) → Option (List ℕ) → ℕ → ℕ → (List ℕ → Type 0) → ℕ → Type 0
+IsRow command before after faults_before faults_after wrote status =
+    ((status ≡ 0) × IsOk command before after wrote)
+    ⊎ (((status ≡ 2) × IsUsage command wrote)
+    ⊎ (((status ≡ 3) × IsBadJson command before after wrote)
+    ⊎ (((status ≡ 4) × IsBadScenario command before after wrote)
+    ⊎ (((status ≡ 5) × IsReadFault command faults_before faults_after wrote)
+    ⊎ (((status ≡ 7) × IsTooLong command before after wrote)
+    ⊎ ((status ≡ 9) × IsNoMemory command before after wrote))))))
 
 -- the sink's count of faults rose, and the sink took some first bytes of what another row gives
-pub record IsWriteFault (words : List (String Global)) (before after : Option (List ℕ)) (faults_before faults_after : ℕ) (taken_before taken_after : Option (List ℕ)) (sink_before sink_after : ℕ) : Type 0 where
+pub record IsWriteFault (command : Option Command) (before after : Option (List ℕ)) (faults_before faults_after : ℕ) (taken_before taken_after : Option (List ℕ)) (sink_before sink_after : ℕ) : Type 0 where
   pub risen : HasRisen sink_before sink_after
   pub other : ℕ
-  pub row : IsRow words before after faults_before faults_after (GrewByPrefix taken_before taken_after) other
+  pub row : IsRow command before after faults_before faults_after (GrewByPrefix taken_before taken_after) other
 
--- the whole table: what a status says of the words, of the source, and of what the sink took
-pub record IsOutcome (words : List (String Global)) (before after : Option (List ℕ)) (faults_before faults_after : ℕ) (taken_before taken_after : Option (List ℕ)) (sink_before sink_after : ℕ) (status : ℕ) : Type 0 where
-  pub row : IsRow words before after faults_before faults_after (Grew taken_before taken_after) status
-      ⊎ ((status ≡ 6) × IsWriteFault words before after faults_before faults_after taken_before taken_after sink_before sink_after)
+-- the whole table: what a status says of the command, of the source, and of what the sink took
+pub record IsOutcome (command : Option Command) (before after : Option (List ℕ)) (faults_before faults_after : ℕ) (taken_before taken_after : Option (List ℕ)) (sink_before sink_after : ℕ) (status : ℕ) : Type 0 where
+  pub row : IsRow command before after faults_before faults_after (Grew taken_before taken_after) status
+      ⊎ ((status ≡ 6) × IsWriteFault command before after faults_before faults_after taken_before taken_after sink_before sink_after)
 
 -- `text` was written, and the status is its own; or the sink's count of faults rose, and the sink took some first bytes
 pub record IsWritten (taken_before taken_after : Option (List ℕ)) (sink_before sink_after : ℕ) (text : List ℕ) (own status : ℕ) : Type 0 where

@@ -1,12 +1,14 @@
 //! From words and an input to a status, and the text or message that is written.
 
-ghost use Rattle.std.specs.Prelude.{◌≡◌, ◌⊎◌, ◌↔◌, ◌≤◌, IsTrue, IfOk, IfErr, IfSome, Contains, length, string_bytes};
+ghost use Rattle.std.specs.Prelude.{◌≡◌, ◌⊎◌, IfOk, IfErr, IfSome, Some, None, Contains};
 ghost use Rattle.gic_io.specs.Faults.{HasRisen};
 ghost use Rattle.gic_io.specs.Sink.{Grew};
 ghost use Rattle.scn_base.specs.Good.{IsGood};
-ghost use Rattle.gic_top.specs.Tool.{statuses, run_text, fault_line as line_of, IsRun, IsOk, IsUsage, IsBadJson, IsBadScenario, IsReadFault, IsWriteFault, IsTooLong, IsNoMemory, IsOutcome, IsWritten, IsRefusal, HasItsAnswer};
+ghost use Rattle.gic_top.specs.Command.{command_in};
+ghost use Rattle.gic_top.specs.Tool.{statuses, run_text, fault_line as line_of, IsOk, IsUsage, IsBadJson, IsBadScenario, IsReadFault, IsWriteFault, IsTooLong, IsNoMemory, IsOutcome, IsWritten, IsRefusal, HasItsAnswer};
 ghost use Rattle.gic_top.specs.Reply.{status_of, text_of, IsReplyTo, IsReplyOf, IsReplyFor};
 
+use crate::command::Command;
 use gic_base::NoMemory;
 use gic_ideal::eager;
 use gic_io::{Bytes, ReadError, Sink, Source, read_all, write_all};
@@ -20,7 +22,7 @@ pub const MAX_INPUT: usize = 16_777_216;
 
 /// The status of a run whose text was written.
 pub const OK: u8 = 0;
-/// The status where the words are none of the forms that are built.
+/// The status where the words are no command.
 pub const USAGE: u8 = 2;
 /// The status where the input is no JSON.
 pub const BAD_JSON: u8 = 3;
@@ -78,16 +80,6 @@ impl Reply {
     }
 }
 
-/// Whether the words ask for a run to a schedule.
-fn is_run(words: &[String]) -> bool
-    ensures { IsTrue result ↔ IsRun words.now }
-{
-    match words {
-        [word] => word.as_str() == "run",
-        _ => false,
-    }
-}
-
 /// The line of a scenario's fault.
 fn fault_line(alloc: Global, fault: Fault) -> Result<Bytes, NoMemory>
     ensures { IfOk result (λ line. line ≡ line_of fault) }
@@ -133,15 +125,15 @@ fn reply_of<S: Source>(alloc: Global, source: &mut S) -> Reply
     }
 }
 
-/// The reply to words, and to what a source has left.
-fn reply_for<S: Source>(alloc: Global, words: &[String], source: &mut S) -> Reply
-    ensures reply { IsReplyFor words.now (S.left source.old) (S.left source.new) (S.faults source.old) (S.faults source.new) result }
-    ensures unread { ¬ IsRun words.now → source.new ≡ source.old }
+/// The reply to a command, or to words that are none, and to what a source has left.
+fn reply_for<S: Source>(alloc: Global, command: Option<Command>, source: &mut S) -> Reply
+    ensures reply { IsReplyFor command (S.left source.old) (S.left source.new) (S.faults source.old) (S.faults source.new) result }
+    ensures unread { command ≡ None → source.new ≡ source.old }
 {
-    if !is_run(words) {
-        return Reply::Usage;
+    match command {
+        Some(Command::Run) => reply_of(alloc, source),
+        None => Reply::Usage,
     }
-    reply_of(alloc, source)
 }
 
 /// Writes what is to be written of a reply, and answers its status, or that of a fault of the sink.
@@ -175,37 +167,37 @@ pub fn run_tool<S: Source, K: Sink>(
 ) -> u8
     // The status is one of the table's, and says what was read and written.
     ensures closed { Contains statuses result }
-    ensures outcome { IsOutcome words.now (S.left source.old) (S.left source.new) (S.faults source.old) (S.faults source.new)
+    ensures outcome { IsOutcome (command_in words.now) (S.left source.old) (S.left source.new) (S.faults source.old) (S.faults source.new)
         (K.taken sink.old) (K.taken sink.new) (K.faults sink.old) (K.faults sink.new) result }
 
     // The same, status by status.
     ensures ok { result ≡ 0 →
-        IsOk words.now (S.left source.old) (S.left source.new) (Grew (K.taken sink.old) (K.taken sink.new)) }
-    ensures usage { result ≡ 2 → IsUsage words.now (Grew (K.taken sink.old) (K.taken sink.new)) }
+        IsOk (command_in words.now) (S.left source.old) (S.left source.new) (Grew (K.taken sink.old) (K.taken sink.new)) }
+    ensures usage { result ≡ 2 → IsUsage (command_in words.now) (Grew (K.taken sink.old) (K.taken sink.new)) }
     ensures bad_json { result ≡ 3 →
-        IsBadJson words.now (S.left source.old) (S.left source.new) (Grew (K.taken sink.old) (K.taken sink.new)) }
+        IsBadJson (command_in words.now) (S.left source.old) (S.left source.new) (Grew (K.taken sink.old) (K.taken sink.new)) }
     ensures bad_scenario { result ≡ 4 →
-        IsBadScenario words.now (S.left source.old) (S.left source.new) (Grew (K.taken sink.old) (K.taken sink.new)) }
+        IsBadScenario (command_in words.now) (S.left source.old) (S.left source.new) (Grew (K.taken sink.old) (K.taken sink.new)) }
     ensures read_fault { result ≡ 5 →
-        IsReadFault words.now (S.faults source.old) (S.faults source.new) (Grew (K.taken sink.old) (K.taken sink.new)) }
+        IsReadFault (command_in words.now) (S.faults source.old) (S.faults source.new) (Grew (K.taken sink.old) (K.taken sink.new)) }
     ensures write_fault { result ≡ 6 →
-        IsWriteFault words.now (S.left source.old) (S.left source.new) (S.faults source.old) (S.faults source.new)
+        IsWriteFault (command_in words.now) (S.left source.old) (S.left source.new) (S.faults source.old) (S.faults source.new)
         (K.taken sink.old) (K.taken sink.new) (K.faults sink.old) (K.faults sink.new) }
     ensures too_long { result ≡ 7 →
-        IsTooLong words.now (S.left source.old) (S.left source.new) (Grew (K.taken sink.old) (K.taken sink.new)) }
+        IsTooLong (command_in words.now) (S.left source.old) (S.left source.new) (Grew (K.taken sink.old) (K.taken sink.new)) }
     ensures no_memory { result ≡ 9 →
-        IsNoMemory words.now (S.left source.old) (S.left source.new) (Grew (K.taken sink.old) (K.taken sink.new)) }
+        IsNoMemory (command_in words.now) (S.left source.old) (S.left source.new) (Grew (K.taken sink.old) (K.taken sink.new)) }
 
-    // Other words are refused, and nothing is read.
-    ensures usage_where_not_run { ¬ IsRun words.now → (result ≡ 2) ⊎ (result ≡ 6) }
-    ensures unread_where_not_run { ¬ IsRun words.now → source.new ≡ source.old }
+    // Words that are no command are refused, and nothing is read.
+    ensures usage_where_no_command { command_in words.now ≡ None → (result ≡ 2) ⊎ (result ≡ 6) }
+    ensures unread_where_no_command { command_in words.now ≡ None → source.new ≡ source.old }
 
     // Where no fault comes from outside, each input has its answer.
-    ensures complete { IsRun words.now
+    ensures complete { command_in words.now ≡ Some Command.Run
         → ¬ HasRisen (S.faults source.old) (S.faults source.new)
         → ¬ HasRisen (K.faults sink.old) (K.faults sink.new)
         → IfSome (S.left source.old) (λ bytes. HasItsAnswer bytes result) }
 {
-    let reply = reply_for(alloc, words, source);
+    let reply = reply_for(alloc, Command::of(words), source);
     tell(sink, &reply)
 }

@@ -1,12 +1,13 @@
 //! Runs a scenario of guests, devices and interrupts, and writes what the guests read.
 #![tactic(auto)]
 
-ghost use Rattle.std.specs.Prelude.{◌≡◌, Contains, IfOk, IfErr, IfSome};
+ghost use Rattle.std.specs.Prelude.{◌≡◌, Some, None, Contains, IfOk, IfErr, IfSome};
 ghost use Rattle.gic_io.specs.Faults.{HasRisen};
-ghost use Rattle.gic_top.specs.Tool.{statuses, IsRun, IsOutcome, IsRefusal, HasItsAnswer};
+ghost use Rattle.gic_top.specs.Command.{command_in};
+ghost use Rattle.gic_top.specs.Tool.{statuses, IsOutcome, IsRefusal, HasItsAnswer};
 
 use gic_io::{Sink, Source, StdSink, StdSource};
-use gic_top::{refuse_words, run_tool};
+use gic_top::{Command, refuse_words, run_tool};
 use std::alloc::{AllocError, Global};
 use std::env;
 use std::process::ExitCode;
@@ -30,10 +31,10 @@ fn status<S: Source, K: Sink>(
     sink: &mut K,
 ) -> u8
     ensures closed { Contains statuses result }
-    ensures outcome { IfOk words (λ words. IsOutcome words.items (S.left source.old) (S.left source.new) (S.faults source.old) (S.faults source.new)
+    ensures outcome { IfOk words (λ words. IsOutcome (command_in words.items) (S.left source.old) (S.left source.new) (S.faults source.old) (S.faults source.new)
         (K.taken sink.old) (K.taken sink.new) (K.faults sink.old) (K.faults sink.new) result) }
-    ensures unread_where_not_run { IfOk words (λ words. ¬ IsRun words.items → source.new ≡ source.old) }
-    ensures complete { IfOk words (λ words. IsRun words.items
+    ensures unread_where_no_command { IfOk words (λ words. command_in words.items ≡ None → source.new ≡ source.old) }
+    ensures complete { IfOk words (λ words. command_in words.items ≡ Some Command.Run
         → ¬ HasRisen (S.faults source.old) (S.faults source.new)
         → ¬ HasRisen (K.faults sink.old) (K.faults sink.new)
         → IfSome (S.left source.old) (λ bytes. HasItsAnswer bytes result)) }

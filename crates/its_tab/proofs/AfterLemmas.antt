@@ -30,28 +30,28 @@ clear : (test : Bool) (fault : CmdFault) (rows : List (Bool × CmdFault)) → fi
 clear true fault rows h = absurd (none-some fault (sym h))
 clear false fault rows h = (refl, h)
 
-all_clear : (rows : List (Bool × CmdFault)) → first_fault rows ≡ None → AllByRecursion (λ row. row.0 ≡ false) rows
+pub all_clear : (rows : List (Bool × CmdFault)) → first_fault rows ≡ None → AllByRecursion (λ row. row.0 ≡ false) rows
 all_clear [] h = tt
 all_clear (row ∷ rows) h = let first = clear row.0 row.1 rows h in (first.0, all_clear rows first.1)
 
-there : {X : Type 0} (o : Option X) → is_none o ≡ false → (x : X) × (o ≡ Some x)
+pub there : {X : Type 0} (o : Option X) → is_none o ≡ false → (x : X) × (o ≡ Some x)
 there None h = absurd (true≢false h)
 there (Some x) h = (x, refl)
 
-some_from_test : {X : Type 0} (o : Option X) → IsSome o → (x : X) × (o ≡ Some x)
+pub some_from_test : {X : Type 0} (o : Option X) → IsSome o → (x : X) × (o ≡ Some x)
 some_from_test None h = absurd (true≢false (sym h))
 some_from_test (Some x) h = (x, refl)
 
-size_below : (size : ℕ) → nat_lt 15 size ≡ false → size + 1 ≤ 16
+pub size_below : (size : ℕ) → nat_lt 15 size ≡ false → size + 1 ≤ 16
 size_below size h = grind (arith, common_steps)
 
-below_from_test : (m n : ℕ) → nat_le m n ≡ false → n < m
+pub below_from_test : (m n : ℕ) → nat_le m n ≡ false → n < m
 below_from_test m n h = grind (arith, common_steps)
 
 in_device : (maps : Maps) (device event bits : ℕ) → is_past_device maps device event ≡ false → bits_of maps device ≡ Some bits → event < 2 ^ bits
 in_device maps device event bits h e = let same : unwrap_or (bits_of maps device) 0 ≡ bits = ap (λ o. unwrap_or o 0) e in grind (arith, common_steps)
 
-or_clear : (a b : Bool) → (a || b) ≡ false → (a ≡ false) × (b ≡ false)
+pub or_clear : (a b : Bool) → (a || b) ≡ false → (a ≡ false) × (b ≡ false)
 or_clear true b h = absurd (true≢false h)
 or_clear false b h = (refl, h)
 
@@ -72,13 +72,13 @@ no_other device event (Some o) h =
     let same = and_both (o.0 == device) (o.1 == event) (set_from_not (o.0 == device && o.1 == event) h) in
     is_pair o device event (eqb-true o.0 device same.0) (eqb-true o.1 event same.1)
 
-right_id : (shape : GuestShape) (maps : Maps) (device event id : ℕ) → is_wrong_id shape maps device event id ≡ false → IsTrue (has_interrupt shape (Lpi id)) × IfSome (owner_of maps id) (λ owner. owner ≡ (device, event))
+pub right_id : (shape : GuestShape) (maps : Maps) (device event id : ℕ) → is_wrong_id shape maps device event id ≡ false → IsTrue (has_interrupt shape (Lpi id)) × IfSome (owner_of maps id) (λ owner. owner ≡ (device, event))
 right_id shape maps device event id h =
     let parts = or_clear (not (has_interrupt shape (Lpi id))) (is_of_other maps device event id) h in
     (set_from_not (has_interrupt shape (Lpi id)) parts.0, no_other device event (owner_of maps id) parts.1)
 
 -- the INTID of an event is had by no other
-own_id : (maps : Maps) (event pair : ℕ × ℕ) → IsSound maps → pair_of maps event ≡ Some pair → IfSome (owner_of maps pair.0) (λ owner. owner ≡ event)
+pub own_id : (maps : Maps) (event pair : ℕ × ℕ) → IsSound maps → pair_of maps event ≡ Some pair → IfSome (owner_of maps pair.0) (λ owner. owner ≡ event)
 own_id maps event pair sound h = elim (owner_of maps pair.0) as (λ o. OwnerFacts maps pair.0 o → IfSome o (λ owner. owner ≡ event)) [
   | None ↦ λ f. tt
   | (Some owner) ↦ λ f. sym (f.only event (ap (option_map (λ w. w.0)) h))
@@ -176,7 +176,7 @@ valid-without_device shape maps device valid none = record {
 }
 
 -- the events of all other devices
-none_left : (device : ℕ) (es : List ((ℕ × ℕ) × (ℕ × ℕ))) → find (λ pair. pair.0.0 == device) (filter (λ pair. not (pair.0.0 == device)) es) ≡ None
+pub none_left : (device : ℕ) (es : List ((ℕ × ℕ) × (ℕ × ℕ))) → find (λ pair. pair.0.0 == device) (filter (λ pair. not (pair.0.0 == device)) es) ≡ None
 none_left device [] = refl
 none_left device (e ∷ es) = elim (e.0.0 == device) as (λ b. (e.0.0 == device) ≡ b → find (λ pair. pair.0.0 == device) (cond (not b) (e ∷ filter (λ pair. not (pair.0.0 == device)) es) (filter (λ pair. not (pair.0.0 == device)) es)) ≡ None) [
   | true ↦ λ h. none_left device es

@@ -1,6 +1,7 @@
-mod MapLemmas
-mod TableLemmas
-mod SearchLemmas
-mod AfterLemmas
-mod IndexLemmas
-mod ListLemmas
+pub mod MapLemmas
+pub mod TableLemmas
+pub mod SearchLemmas
+pub mod AfterLemmas
+pub mod IndexLemmas
+pub mod ListLemmas
+pub mod CarryLemmas

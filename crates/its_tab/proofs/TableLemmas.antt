@@ -94,7 +94,7 @@ sound-with_device maps device bits sound = record {
   of_mapped = λ q w h. subst IsSome (sym (lookup-insert_entry nat_cmp_total q.0 device bits maps.devices)) (put_stays (is_at (nat_cmp device) q.0) bits (bits_of maps q.0) (sound.of_mapped q w h));
 }
 
-unmapped : {X Y : Type 0} (f : X → Y) (o : Option X) → option_map f o ≡ None → o ≡ None
+pub unmapped : {X Y : Type 0} (f : X → Y) (o : Option X) → option_map f o ≡ None → o ≡ None
 unmapped f None e = refl
 unmapped f (Some x) e = absurd (none-some (f x) (sym e))
 

@@ -1,6 +1,7 @@
 //! The tables of an ITS: which devices, events and collections are mapped, and which commands they allow.
 #![tactic(auto)]
 
+mod carry;
 mod fault;
 mod message;
 #[cfg(test)]

@@ -47,6 +47,7 @@ pub fn empty(alloc: Global) -> ItsTables
 impl ItsTables {
     ghost use Rattle.its_tab.specs.Maps.{bits_of as device_bits, pair_of, id_of, target_of as collection_target, owner_of as owner_in, first_event as first_event_in, with_device, with_event, with_collection, without_device, without_event, without_collection};
     ghost use Rattle.its_tab.specs.Collection.{collection_of as collection_in, has_target as has_target_in};
+    ghost use Rattle.its_tab.specs.After.{recollected};
 
     /// Maps a device with this number of EventID bits, which replace an older number. `NoMemory` leaves the
     /// tables as they were.
@@ -83,6 +84,18 @@ impl ItsTables {
                 self.owners.remove(&id);
                 Err(NoMemory)
             }
+        }
+    }
+
+    /// Gives an event that is mapped another collection, and keeps its INTID. Nothing happens where it is not
+    /// mapped. `NoMemory` leaves the tables as they were.
+    pub(crate) fn move_event(&mut self, device: u32, event: u32, icid: u16) -> Result<(), NoMemory>
+        ensures ok { OnOk result (self.new ≡ recollected self.old (device, event) icid (pair_of self.old (device, event))) }
+        ensures err { OnErr result (self.new ≡ self.old) }
+    {
+        match self.events.get(&(device, event)).copied() {
+            Some((id, _)) => self.map_event(device, event, id, icid),
+            None => Ok(()),
         }
     }
 
@@ -200,6 +213,39 @@ impl ItsTables {
             }
         }
         Ok(ids)
+    }
+
+    /// The devices that are mapped, in rising DeviceID, each with the number of its EventID bits.
+    pub fn devices(&self, alloc: Global) -> Result<Vec<(u32, u32)>, AllocError>
+        ensures { IfOk result (λ pairs. pairs.items ≡ self.now.devices) }
+    {
+        let mut pairs = Vec::new(alloc);
+        for (device, bits) in &self.devices {
+            pairs.push((*device, *bits))?;
+        }
+        Ok(pairs)
+    }
+
+    /// The events that are mapped, in rising DeviceID and then EventID, each with its INTID and its collection.
+    pub fn events(&self, alloc: Global) -> Result<Vec<((u32, u32), (u32, u16))>, AllocError>
+        ensures { IfOk result (λ pairs. pairs.items ≡ self.now.events) }
+    {
+        let mut pairs = Vec::new(alloc);
+        for (event, pair) in &self.events {
+            pairs.push((*event, *pair))?;
+        }
+        Ok(pairs)
+    }
+
+    /// The collections that are mapped, in rising ICID, each with its vCPU.
+    pub fn collections(&self, alloc: Global) -> Result<Vec<(u16, u32)>, AllocError>
+        ensures { IfOk result (λ pairs. pairs.items ≡ self.now.collections) }
+    {
+        let mut pairs = Vec::new(alloc);
+        for (icid, vcpu) in &self.collections {
+            pairs.push((*icid, *vcpu))?;
+        }
+        Ok(pairs)
     }
 
     /// The least event of a device. None exactly where no event of it is mapped.

@@ -1,5 +1,5 @@
--- The codes of the faults (own choice).
-use Rattle.std.specs.Prelude.{ℕ}
+-- The codes of the faults, and which is given where there are several (own choice).
+use Rattle.std.specs.Prelude.{ℕ, min, List, [], ◌∷◌, fold, Bool, if◌then◌else◌, Option, Some, None, Result, Ok, Err}
 
 -- a field is missing, unknown or of the wrong kind, or a step has none of the forms
 abbrev pub shape_code : ℕ
@@ -37,6 +37,29 @@ wire_level_code = 8
 abbrev pub address_code : ℕ
 address_code = 9
 
--- a form of scenario that is not built yet
-abbrev pub not_built_code : ℕ
-not_built_code = 10
+-- the first of two codes, where there are any: the lesser
+abbrev pub first_code : Option ℕ → Option ℕ → Option ℕ
+first_code None other = other
+first_code (Some code) None = Some code
+first_code (Some code) (Some other) = Some (min code other)
+
+-- the first code of all
+abbrev pub first_of : List (Option ℕ) → Option ℕ
+first_of faults = fold first_code None faults
+
+-- the code of the first row whose test is met
+abbrev pub first_met : List (Bool × ℕ) → Option ℕ
+first_met [] = None
+first_met (row ∷ rows) = if row.0 then Some row.1 else first_met rows
+
+-- the value where there is no fault, else the fault
+abbrev pub ok_unless : {X : Type 0} → Option ℕ → X → Result X ℕ
+ok_unless None value = Ok value
+ok_unless (Some code) value = Err code
+
+-- both values where there is no fault, else the first of their faults
+abbrev pub both : {X Y : Type 0} → Result X ℕ → Result Y ℕ → Result (X × Y) ℕ
+both (Ok x) (Ok y) = Ok (x, y)
+both (Ok x) (Err code) = Err code
+both (Err code) (Ok y) = Err code
+both (Err code) (Err other) = Err (min code other)

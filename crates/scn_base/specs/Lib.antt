@@ -1,3 +1,5 @@
 pub mod Codes
+pub mod Standing
 pub mod Good
+pub mod StepFault
 pub mod Shown

@@ -1,6 +1,6 @@
 //! The fault of a scenario: a code and a step.
 ghost use Rattle.std.specs.Prelude.{◌≡◌};
-ghost use Rattle.scn_base.specs.Codes.{shape_code, limit_code, unknown_register_code, unknown_actor_code, not_loaded_code, pe_busy_code, pe_step_code, wire_level_code, address_code, not_built_code};
+ghost use Rattle.scn_base.specs.Codes.{shape_code, limit_code, unknown_register_code, unknown_actor_code, not_loaded_code, pe_busy_code, pe_step_code, wire_level_code, address_code, first_code as first_of_codes, both as both_of};
 
 use std::error::Error;
 use std::fmt;
@@ -23,8 +23,6 @@ pub const PE_STEP: u8 = 7;
 pub const WIRE_LEVEL: u8 = 8;
 /// An access of memory is not aligned or not inside, or an offset lies outside of its frame.
 pub const ADDRESS: u8 = 9;
-/// A form of scenario that is not built yet.
-pub const NOT_BUILT: u8 = 10;
 
 /// A law of the codes: their numbers, which scenarios' writers know.
 pub fn codes_are_fixed()
@@ -37,13 +35,38 @@ pub fn codes_are_fixed()
     ensures pe_step { PE_STEP ≡ pe_step_code }
     ensures wire_level { WIRE_LEVEL ≡ wire_level_code }
     ensures address { ADDRESS ≡ address_code }
-    ensures not_built { NOT_BUILT ≡ not_built_code }
 {}
+
+/// The first of two codes, where there are any: the lesser.
+pub fn first_code(code: Option<u8>, other: Option<u8>) -> Option<u8>
+    ensures { result ≡ first_of_codes code other }
+{
+    match (code, other) {
+        (Some(code), Some(other)) => Some(code.min(other)),
+        _ => code.or(other),
+    }
+}
+
+/// Both values, or the first of their faults.
+pub fn both<X: Drop, Y: Drop>(first: Result<X, u8>, second: Result<Y, u8>) -> Result<(X, Y), u8>
+    ensures { result ≡ both_of first second }
+{
+    match first {
+        Ok(first) => match second {
+            Ok(second) => Ok((first, second)),
+            Err(code) => Err(code),
+        },
+        Err(code) => match second {
+            Ok(_) => Err(code),
+            Err(other) => Err(code.min(other)),
+        },
+    }
+}
 
 /// Why a JSON value is no scenario.
 #[derive(Clone, Copy, Debug, PartialEq, Eq, Hash)]
 pub struct Fault {
-    /// One of the codes from `SHAPE` to `NOT_BUILT`.
+    /// One of the codes from `SHAPE` to `ADDRESS`.
     pub code: u8,
     /// The number of the step from 1, or 0 for all that stands outside `steps`.
     pub step: u32,

@@ -1,16 +1,17 @@
 //! Whole scenarios.
-ghost use Rattle.std.specs.Prelude.{◌≡◌, ◌↔◌, IsTrue, All};
-ghost use Rattle.scn_base.specs.Good.{IsGood, IsGoodGuest, is_good_step, has_its_pe, shapes_of};
+ghost use Rattle.std.specs.Prelude.{◌≡◌, ◌↔◌, IsTrue, IfOk, All, length};
+ghost use Rattle.scn_base.specs.Standing.{IsStanding};
+ghost use Rattle.scn_base.specs.Good.{IsGood, IsGoodGuest, is_formed, stand_in_turn};
 
 use crate::guest::{GuestSpec, Guests};
+use crate::standing::Standing;
 use crate::step::{Mode, Step};
 use gic_base::is_list_register_count;
 use gic_list::ListOf;
+use std::alloc::{AllocError, Global};
 
 /// The most PEs of a scenario, which has at least one.
 pub const MAX_PES: u32 = 8;
-/// The PEs of each scenario of the forms that are built.
-pub const BUILT_PES: u32 = 1;
 /// The most guests of a scenario, which has at least one.
 pub const MAX_GUESTS: usize = 4;
 /// The most steps of a scenario.
@@ -46,35 +47,38 @@ fn are_good_guests(guests: &[GuestSpec]) -> bool
     guests.iter().all(|guest| guest.is_good())
 }
 
-/// Whether each step is of a form that is built, by an actor that is there.
-fn are_good_steps(steps: &[Step], guests: &[GuestSpec]) -> bool
-    requires { All IsGoodGuest guests.now }
-    ensures { IsTrue result ↔ All (λ step. IsTrue (is_good_step (shapes_of guests.now) step)) steps.now }
+/// Whether each step can be done, from a standing on.
+fn are_good_steps(mode: Mode, mut standing: Standing, steps: &[Step]) -> bool
+    requires { IsStanding standing }
+    ensures { IsTrue result ↔ (All (λ step. IsTrue (is_formed mode (length standing.pes) standing.shapes step)) steps.now
+        × IsTrue (stand_in_turn mode standing steps.now)) }
 {
-    steps.iter().all(|step| step.is_good(guests))
-}
-
-/// Whether each step of a PE names one of the first `pes`, and none is run on threads.
-fn have_their_pes(steps: &[Step], mode: Mode, pes: u32) -> bool
-    ensures { IsTrue result ↔ All (λ step. IsTrue (has_its_pe mode pes step)) steps.now }
-{
-    steps.iter().all(|step| step.has_its_pe(mode, pes))
+    for step in steps {
+        if standing.fault_of(mode, step).is_some() {
+            return false;
+        }
+        standing.follow(step);
+    }
+    true
 }
 
 impl Scenario {
-    /// Whether the scenario has no fault in this mode and is of the forms that are built. Every call that takes
-    /// a scenario requires it. It takes no memory.
-    pub fn is_good(&self, mode: Mode) -> bool
-        ensures { IsTrue result ↔ IsGood mode self.now }
+    /// Whether the scenario has no fault in this mode. Every call that takes a scenario requires it. It takes time
+    /// linear in the scenario, and memory for the standing; an error where that is refused.
+    pub fn is_good(&self, alloc: Global, mode: Mode) -> Result<bool, AllocError>
+        ensures { IfOk result (λ good. IsTrue good ↔ IsGood mode self.now) }
     {
         let guests = self.guests.as_slice();
-        let steps = self.steps.as_slice();
-        self.pes == BUILT_PES
-            && is_list_register_count(u64::from(self.lrs))
-            && (1..=MAX_GUESTS).contains(&guests.len())
-            && steps.len() <= MAX_STEPS
-            && are_good_guests(guests)
-            && are_good_steps(steps, guests)
-            && have_their_pes(steps, mode, self.pes)
+        if !(1..=MAX_PES).contains(&self.pes) || !is_list_register_count(u64::from(self.lrs)) {
+            return Ok(false);
+        }
+        if !(1..=MAX_GUESTS).contains(&guests.len()) || self.steps.len() > MAX_STEPS {
+            return Ok(false);
+        }
+        if !are_good_guests(guests) {
+            return Ok(false);
+        }
+        let standing = Standing::opening(alloc, self.pes, guests)?;
+        Ok(are_good_steps(mode, standing, self.steps.as_slice()))
     }
 }

@@ -4,11 +4,11 @@ use Rattle.serde_json.specs.Data.{Data}
 use Rattle.gic_base.specs.declared.shape.GuestShape.{GuestShape}
 use Rattle.scn_base.specs.declared.preset.Preset.{Preset}
 use Rattle.scn_base.specs.declared.guest.GuestSpec.{GuestSpec}
-use Rattle.scn_read.specs.Field.{elements_at}
-use Rattle.scn_read.specs.Fault.{first_code, first_of, ok_unless, both}
+use Rattle.json_field.specs.Field.{elements_at}
+use Rattle.scn_base.specs.Codes.{first_code, first_of, ok_unless, both}
 use Rattle.scn_read.proofs.ListLemmas.{ok_parts}
 use Rattle.scn_read.specs.Preset.{preset_fault, preset_of}
-use Rattle.scn_read.specs.Guest.{own_fault, spis_of, espis_of, shape_of, on_of, guest_fault, guest_of}
+use Rattle.scn_read.specs.Guest.{own_fault, vcpus_of, spis_of, espis_of, shape_of, on_of, guest_fault, guest_of}
 
 pub both-ok_unless : {X Y : Type 0} (f g : Option ℕ) (x : X) (y : Y) → both (ok_unless f x) (ok_unless g y) ≡ ok_unless (first_code f g) (x, y)
 both-ok_unless None None x y = refl
@@ -34,13 +34,13 @@ part_err None x y code e = absurd cc
 part_err (Some other) x y code e = cc
 
 -- a guest's own fields and its presets, as they were read
-module _ (d : Data) (head : Result (GuestShape × Bool) ℕ) (presets : Result (List Preset) ℕ) (spis espis : ℕ) (ds : List Data)
-    (head_is : head ≡ ok_unless (own_fault d) (shape_of d, on_of d)) (spis_are : spis ≡ spis_of d) (espis_are : espis ≡ espis_of d) (are : ds ≡ elements_at (codes "irqs") d)
-    (presets_are : presets ≡ ok_unless (first_of (map (preset_fault spis espis) ds)) (map preset_of ds)) where
+module _ (d : Data) (head : Result (GuestShape × Bool) ℕ) (presets : Result (List Preset) ℕ) (vcpus spis espis : ℕ) (ds : List Data)
+    (head_is : head ≡ ok_unless (own_fault d) (shape_of d, on_of d)) (vcpus_are : vcpus ≡ vcpus_of d) (spis_are : spis ≡ spis_of d) (espis_are : espis ≡ espis_of d) (are : ds ≡ elements_at (codes "irqs") d)
+    (presets_are : presets ≡ ok_unless (first_of (map (preset_fault vcpus spis espis) ds)) (map preset_of ds)) where
   both_are : both head presets ≡ ok_unless (guest_fault d) ((shape_of d, on_of d), map preset_of (elements_at (codes "irqs") d))
   both_are =
-      rw (head_is, presets_are, spis_are, espis_are, are)
-      (both-ok_unless (own_fault d) (first_of (map (preset_fault (spis_of d) (espis_of d)) (elements_at (codes "irqs") d))) (shape_of d, on_of d) (map preset_of (elements_at (codes "irqs") d)))
+      rw (head_is, presets_are, vcpus_are, spis_are, espis_are, are)
+      (both-ok_unless (own_fault d) (first_of (map (preset_fault (vcpus_of d) (spis_of d) (espis_of d)) (elements_at (codes "irqs") d))) (shape_of d, on_of d) (map preset_of (elements_at (codes "irqs") d)))
 
   -- both without a fault
   pub guest_is : (shape : GuestShape) (on : Bool) (read : List Preset) → Ok (parts shape on read) ≡ both head presets

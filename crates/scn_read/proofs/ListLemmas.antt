@@ -1,6 +1,6 @@
 -- Steps of a loop that reads the elements of a list one after the other.
 use Rattle.std.proofs.Common.{◌≡◌, ℕ, ◌+◌, ◌<◌, List, [], ◌∷◌, ◌++◌, length, get_or, drop, map, fold, Option, Some, None, Ok, Err, refl, sym, ◌∙◌, append_assoc, add-one, drop-cons}
-use Rattle.scn_read.specs.Fault.{first_code, ok_unless}
+use Rattle.scn_base.specs.Codes.{first_code, ok_unless}
 
 -- what is left at an element is the element and what is left after it
 pub drop_item : {X : Type 0} (xs : List X) (i : ℕ) (x : X) → i < length xs → x ≡ get_or xs i x → drop i xs ≡ x ∷ drop (i + 1) xs

@@ -1,26 +1,17 @@
 -- The guests of a scenario: their faults, and what they say where they have none (own choice).
-use Rattle.std.specs.Prelude.{ℕ, ◌%◌, ◌&&◌, ◌||◌, ◌==◌, not, min, List, [], ◌∷◌, map, Bool, false, nat_lt, nat_le, Option, is_some, unwrap_or, codes}
+use Rattle.std.specs.Prelude.{ℕ, ◌%◌, ◌&&◌, ◌==◌, not, min, List, [], ◌∷◌, map, Bool, false, nat_le, Option, is_some, unwrap_or, codes}
 use Rattle.serde_json.specs.Data.{Data}
 use Rattle.gic_base.specs.declared.shape.GuestShape.{GuestShape}
 use Rattle.scn_base.specs.declared.guest.GuestSpec.{GuestSpec}
-use Rattle.scn_base.specs.Codes.{shape_code, limit_code, not_built_code}
-use Rattle.scn_base.specs.Good.{passes}
+use Rattle.scn_base.specs.Codes.{shape_code, limit_code, first_code, first_of, first_met}
 use Rattle.scn_read.specs.declared.guest.Numbers.{Numbers}
-use Rattle.scn_read.specs.Field.{has_only, number_or, flag_or, list_or_empty, elements_at}
-use Rattle.scn_read.specs.Fault.{first_code, first_of, first_met}
+use Rattle.json_field.specs.Field.{has_only, number_or, flag_or, list_or_empty, elements_at}
 use Rattle.scn_read.specs.Preset.{preset_fault, preset_of}
 
 -- the fields of a guest
 abbrev pub guest_fields : List (List ℕ)
 guest_fields =
     codes "vcpus" ∷ codes "spis" ∷ codes "espis" ∷ codes "devices" ∷ codes "lpis" ∷ codes "ram" ∷ codes "on" ∷ codes "irqs" ∷ []
-
--- not built: more than one vCPU, LPIs, and memory
-abbrev pub is_unbuilt_guest : Data → Bool
-is_unbuilt_guest d =
-    passes (λ vcpus. nat_lt 1 vcpus) (number_or (codes "vcpus") 1 d)
-    || passes (λ lpis. not (lpis == 0)) (number_or (codes "lpis") 0 d)
-    || passes (λ ram. not (ram == 0)) (number_or (codes "ram") 0 d)
 
 -- each number of a guest is one
 abbrev pub are_numbers : Data → Bool
@@ -65,9 +56,13 @@ are_in_range numbers =
 -- the fault of a guest's own fields
 abbrev pub own_fault : Data → Option ℕ
 own_fault d =
-    first_met ((is_unbuilt_guest d, not_built_code) ∷ (not (is_guest d), shape_code) ∷ (not (are_in_range (numbers_of d)), limit_code) ∷ [])
+    first_met ((not (is_guest d), shape_code) ∷ (not (are_in_range (numbers_of d)), limit_code) ∷ [])
 
--- how many SPIs a guest has, which is never more than there may be
+-- how many vCPUs a guest has, which is never more than there may be
+abbrev pub vcpus_of : Data → ℕ
+vcpus_of d = min (numbers_of d).vcpus 32
+
+-- the same of SPIs
 abbrev pub spis_of : Data → ℕ
 spis_of d = min (numbers_of d).spis 960
 
@@ -77,7 +72,7 @@ espis_of d = min (numbers_of d).espis 1024
 
 -- the first fault of a guest and of its presets
 abbrev pub guest_fault : Data → Option ℕ
-guest_fault d = first_code (own_fault d) (first_of (map (preset_fault (spis_of d) (espis_of d)) (elements_at (codes "irqs") d)))
+guest_fault d = first_code (own_fault d) (first_of (map (preset_fault (vcpus_of d) (spis_of d) (espis_of d)) (elements_at (codes "irqs") d)))
 
 -- the shape with these numbers
 abbrev pub shape_with : Numbers → GuestShape

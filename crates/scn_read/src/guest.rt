@@ -1,19 +1,18 @@
 //! The guests of a scenario.
 ghost use Rattle.std.specs.Prelude.{◌≡◌, IfOk, IfSome, IfNone, true, false, map};
 ghost use Rattle.serde_json.specs.View.{view};
-ghost use Rattle.scn_read.specs.Fault.{first_of, ok_unless};
-ghost use Rattle.scn_read.specs.Guest.{is_unbuilt_guest as is_unbuilt_guest_in, are_numbers, numbers_of, are_in_range, shape_with, own_fault, spis_of, espis_of, guest_fault, shape_of, on_of, guest_of};
+ghost use Rattle.scn_base.specs.Codes.{first_of, ok_unless};
+ghost use Rattle.scn_read.specs.Guest.{are_numbers, numbers_of, are_in_range, shape_with, own_fault, vcpus_of, spis_of, espis_of, guest_fault, shape_of, on_of, guest_of};
 
 use crate::defaults::{
     DEFAULT_DEVICES, DEFAULT_ESPIS, DEFAULT_LPIS, DEFAULT_RAM, DEFAULT_SPIS, DEFAULT_VCPUS,
 };
-use crate::fault::{both, first_code};
-use crate::field::{elements_at, flag_or, has_only, list_or_empty, number_or};
-use crate::preset::{SpiCounts, presets};
+use crate::preset::{Counts, presets};
 use gic_base::{
     GuestShape, MAX_DEVICES, MAX_ESPIS, MAX_LPIS, MAX_RAM, MAX_SPIS, MAX_VCPUS, RAM_STEP, SPI_STEP,
 };
-use scn_base::{GuestSpec, Guests, LIMIT, NOT_BUILT, SHAPE};
+use json_field::{elements_at, flag_or, has_only, list_or_empty, number_or};
+use scn_base::{GuestSpec, Guests, LIMIT, SHAPE, both, first_code};
 use serde_json::Value;
 use std::alloc::{AllocError, Global};
 
@@ -90,22 +89,10 @@ fn numbers_in(value: &Value) -> Option<Numbers>
     })
 }
 
-/// Whether a guest is of a form that is not built: with more vCPUs than one, with LPIs or with memory.
-fn is_unbuilt_guest(value: &Value) -> bool
-    ensures { result ≡ is_unbuilt_guest_in (view value.now) }
-{
-    number_or(value, VCPUS, u64::from(DEFAULT_VCPUS)).is_some_and(|vcpus| vcpus > 1)
-        || number_or(value, LPIS, u64::from(DEFAULT_LPIS)).is_some_and(|lpis| lpis != 0)
-        || number_or(value, RAM, u64::from(DEFAULT_RAM)).is_some_and(|ram| ram != 0)
-}
-
 /// What a guest has of each kind and whether it is on, or the fault of its own fields.
 fn head(value: &Value) -> Result<(GuestShape, bool), u8>
     ensures { let d = view value.now in result ≡ ok_unless (own_fault d) (shape_of d, on_of d) }
 {
-    if is_unbuilt_guest(value) {
-        return Err(NOT_BUILT);
-    }
     if !has_only(value, &GUEST_FIELDS) {
         return Err(SHAPE);
     }
@@ -116,14 +103,17 @@ fn head(value: &Value) -> Result<(GuestShape, bool), u8>
     Ok((shape, on))
 }
 
-/// How many SPIs a guest has, which are never more than there may be.
-fn spi_counts(value: &Value) -> SpiCounts
+/// What its presets need to know of a guest, also where its numbers are out of range.
+fn counts(value: &Value) -> Counts
+    ensures vcpus { result.vcpus ≡ vcpus_of (view value.now) }
     ensures spis { result.spis ≡ spis_of (view value.now) }
     ensures espis { result.espis ≡ espis_of (view value.now) }
 {
+    let vcpus = number_or(value, VCPUS, u64::from(DEFAULT_VCPUS)).unwrap_or(0);
     let spis = number_or(value, SPIS, u64::from(DEFAULT_SPIS)).unwrap_or(0);
     let espis = number_or(value, ESPIS, u64::from(DEFAULT_ESPIS)).unwrap_or(0);
-    SpiCounts {
+    Counts {
+        vcpus: vcpus.min(u64::from(MAX_VCPUS)) as u32,
         spis: spis.min(u64::from(MAX_SPIS)) as u32,
         espis: espis.min(u64::from(MAX_ESPIS)) as u32,
     }
@@ -134,7 +124,7 @@ fn guest(alloc: Global, value: &Value) -> Result<Result<GuestSpec, u8>, AllocErr
     ensures { let d = view value.now in
         IfOk result (λ found. found ≡ ok_unless (guest_fault d) (guest_of d)) }
 {
-    let presets = presets(alloc, elements_at(value, IRQS), spi_counts(value))?;
+    let presets = presets(alloc, elements_at(value, IRQS), counts(value))?;
     match both(head(value), presets) {
         Ok(((shape, on), presets)) => Ok(Ok(GuestSpec { shape, on, presets })),
         Err(code) => Ok(Err(code)),

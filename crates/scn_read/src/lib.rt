@@ -2,9 +2,9 @@
 #![tactic(auto)]
 
 mod defaults;
-mod fault;
-mod field;
+mod form;
 mod guest;
+mod narrow;
 mod preset;
 mod reading;
 mod refusal;
@@ -16,7 +16,7 @@ pub use reading::read;
 pub use refusal::ReadRefusal;
 pub use scn_base::{
     ADDRESS, Answer, Answers, ColEnd, ColEnds, CpuEnd, CpuEnds, DevEnd, DevEnds, End, Ends, EvtEnd,
-    EvtEnds, Fault, GuestSpec, Guests, IrqEnd, IrqEnds, ItsEnd, LIMIT, LrList, Mode, NOT_BUILT,
-    NOT_LOADED, PE_BUSY, PE_STEP, Preset, PresetList, RunOut, SHAPE, Scenario, Step, Steps,
-    UNKNOWN_ACTOR, UNKNOWN_REGISTER, WIRE_LEVEL,
+    EvtEnds, Fault, GuestSpec, Guests, IrqEnd, IrqEnds, ItsEnd, LIMIT, LrList, Mode, NOT_LOADED,
+    PE_BUSY, PE_STEP, Preset, PresetList, RunOut, SHAPE, Scenario, Step, Steps, UNKNOWN_ACTOR,
+    UNKNOWN_REGISTER, WIRE_LEVEL,
 };

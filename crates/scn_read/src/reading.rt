@@ -1,20 +1,18 @@
 //! The reading of a scenario.
 ghost use Rattle.std.specs.Prelude.{◌≡◌, ◌≤◌, MatchResult, IfOk, IfErr, Ok, Some, length, map};
 ghost use Rattle.serde_json.specs.View.{view};
-ghost use Rattle.gic_base.specs.Shape.{IsShape};
-ghost use Rattle.scn_read.specs.Reading.{is_unbuilt_scenario as is_unbuilt_scenario_in, scenario_fault, steps_of, reading, Refuses, IsOpening};
+ghost use Rattle.scn_base.specs.Standing.{IsStanding};
+ghost use Rattle.scn_read.specs.Reading.{scenario_fault, steps_of, reading, Refuses, IsOpening};
 ghost use Rattle.scn_base.specs.Good.{IsGood};
 
 use crate::defaults::{DEFAULT_LIST_REGISTERS, DEFAULT_PES};
-use crate::fault::both;
-use crate::field::{elements_at, has_only, list_at, number_or};
 use crate::guest::guests;
 use crate::refusal::ReadRefusal;
 use crate::step::step;
-use gic_base::{GuestShape, is_list_register_count};
+use gic_base::is_list_register_count;
+use json_field::{elements_at, has_only, list_at, number_or};
 use scn_base::{
-    BUILT_PES, Fault, LIMIT, MAX_GUESTS, MAX_PES, MAX_STEPS, Mode, NOT_BUILT, SHAPE, Scenario,
-    Steps,
+    Fault, LIMIT, MAX_GUESTS, MAX_PES, MAX_STEPS, Mode, SHAPE, Scenario, Standing, Steps, both,
 };
 use serde_json::Value;
 use std::alloc::Global;
@@ -34,30 +32,20 @@ const OUTSIDE: u32 = 0;
 /// The number of the first step.
 const FIRST_STEP: u32 = 1;
 
-/// What a scenario has beside its PEs and its guests, before its steps are read.
+/// What a scenario has beside its guests, before its steps are read.
 #[derive(Clone, Copy)]
 struct Parts<'v> {
+    pes: u32,
     lrs: u32,
     steps: &'v [Value],
 }
 
-/// Whether a scenario is of a form that is not built: with more PEs than one, or more guests.
-fn is_unbuilt_scenario(value: &Value) -> bool
-    ensures { result ≡ is_unbuilt_scenario_in (view value.now) }
-{
-    number_or(value, PES, u64::from(DEFAULT_PES)).is_some_and(|pes| pes > u64::from(BUILT_PES))
-        || list_at(value, GUESTS).is_some_and(|guests| guests.len() > 1)
-}
-
-/// The list registers and the steps of a scenario, or the fault of its own fields.
+/// The PEs, the list registers and the steps of a scenario, or the fault of its own fields.
 fn opening(value: &Value) -> Result<Parts<'_>, u8>
     ensures { let d = view value.now in MatchResult result
-        (λ parts. IsOpening d parts.lrs (map view parts.steps.now))
+        (λ parts. IsOpening d parts.pes parts.lrs (map view parts.steps.now))
         (λ code. scenario_fault d ≡ Some code) }
 {
-    if is_unbuilt_scenario(value) {
-        return Err(NOT_BUILT);
-    }
     if !has_only(value, &SCENARIO_FIELDS) {
         return Err(SHAPE);
     }
@@ -72,27 +60,31 @@ fn opening(value: &Value) -> Result<Parts<'_>, u8>
         return Err(LIMIT);
     }
     Ok(Parts {
+        pes: pes as u32,
         lrs: lrs as u32,
         steps,
     })
 }
 
-/// The steps, or the first fault of them.
+/// The steps, or the first fault of them; each is judged by the standing before it.
 fn steps(
     alloc: Global,
     values: &[Value],
     mode: Mode,
-    shape: &GuestShape,
+    mut standing: Standing,
 ) -> Result<Steps, ReadRefusal>
-    requires shape { IsShape shape.now }
+    requires standing { IsStanding standing }
     requires few { length values.now ≤ 100000 }
-    ensures ok { IfOk result (λ steps. steps_of mode shape.now 1 (map view values.now) ≡ Ok steps) }
-    ensures bad { IfErr result (Refuses (steps_of mode shape.now 1 (map view values.now))) }
+    ensures ok { IfOk result (λ steps. steps_of mode standing 1 (map view values.now) ≡ Ok steps) }
+    ensures bad { IfErr result (Refuses (steps_of mode standing 1 (map view values.now))) }
 {
     let mut steps = Steps::new(alloc);
     for (index, value) in values.iter().enumerate() {
-        match step(value, mode, shape) {
-            Ok(step) => steps.push(step)?,
+        match step(value, mode, &standing) {
+            Ok(step) => {
+                standing.follow(&step);
+                steps.push(step)?;
+            }
             Err(code) => {
                 return Err(ReadRefusal::Bad(Fault {
                     code,
@@ -106,11 +98,10 @@ fn steps(
 
 /// The scenario that a JSON value is.
 ///
-/// A number is an unsigned integer below 2^64, or a text of `0x` and 1 to 16 hexadecimal digits. A
-/// value that is no scenario of the forms that are built is `Bad`, with the first of its faults: that of
-/// the least step, where 0 is the number of all that stands outside of the steps, and of these the code
-/// 10, for a form that is not built, and then the least code. Where memory is refused, the answer is
-/// `NoMemory`, whatever the value is.
+/// A number is an unsigned integer below 2^64, or a text of `0x` and 1 to 16 hexadecimal digits. A value that is no
+/// scenario for this mode is `Bad`, with the first of its faults: that of the least step, where 0 is the number of all
+/// that stands outside of the steps, and of these the least code. Where memory is refused, the answer is `NoMemory`,
+/// whatever the value is. It takes time linear in the value.
 pub fn read(alloc: Global, value: &Value, mode: Mode) -> Result<Scenario, ReadRefusal>
     ensures ok { IfOk result (λ scenario. reading mode (view value.now) ≡ Ok scenario) }
     ensures good { IfOk result (IsGood mode) }
@@ -126,10 +117,10 @@ pub fn read(alloc: Global, value: &Value, mode: Mode) -> Result<Scenario, ReadRe
             }));
         }
     };
-    let shape = guests.as_slice()[0].shape;
-    let steps = steps(alloc, opening.steps, mode, &shape)?;
+    let standing = Standing::opening(alloc, opening.pes, guests.as_slice())?;
+    let steps = steps(alloc, opening.steps, mode, standing)?;
     Ok(Scenario {
-        pes: BUILT_PES,
+        pes: opening.pes,
         lrs: opening.lrs,
         guests,
         steps,

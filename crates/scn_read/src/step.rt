@@ -1,148 +1,204 @@
 //! The steps of a scenario.
 ghost use Rattle.std.specs.Prelude.{◌≡◌};
 ghost use Rattle.serde_json.specs.View.{view};
-ghost use Rattle.gic_base.specs.Shape.{IsShape};
-ghost use Rattle.scn_read.specs.Fault.{ok_unless};
-ghost use Rattle.scn_read.specs.Step.{is_unbuilt_step as is_unbuilt_step_in, message_fault, message_of, is_usable as is_usable_for, access_fault, access_of, lrs_fault, lrs_of, step_of};
+ghost use Rattle.gic_base.specs.declared.operation.Frame.{Frame};
+ghost use Rattle.gic_base.specs.declared.operation.PeOp.{PeOp};
+ghost use Rattle.scn_base.specs.Standing.{IsStanding};
+ghost use Rattle.scn_read.specs.Narrow.{narrowed_said, narrowed_key, narrowed_frame, narrowed_pe_op};
+ghost use Rattle.scn_read.specs.Step.{register_said, access_said, redistributor_said, message_said, wired_key as wired_key_of, wire_said, msi_said, enter_said, pe_said, form_said, step_said, step_of};
 
-use crate::field::{flag_or, has_any, has_only, number_at, pair_at, text_at};
-use crate::preset::SpiCounts;
-use gic_base::{DeviceOp, GuestOp, GuestShape, IccReg, PeOp};
-use scn_base::{BUILT_PES, Mode, NOT_BUILT, PE_STEP, SHAPE, Step, UNKNOWN_ACTOR, UNKNOWN_REGISTER};
+use crate::form::{
+    DEV, ENTER, EXIT, Form, GICD, GICR, GITS, ICC, LRS, MESSAGE, MSI, OF, PE, RAM, SIZE, UP, VCPU,
+    WIRE, WRITE,
+};
+use crate::narrow::narrowed;
+use gic_base::{DeviceOp, Frame, GuestOp, IccReg, Key, PeOp};
+use json_field::{flag_at, has_only, number_at, number_or, pair_at, text_at};
+use scn_base::{LIMIT, Mode, SHAPE, Standing, Step, UNKNOWN_REGISTER};
 use serde_json::Value;
 
-const DEV: &str = "dev";
+/// The bytes of an access where the step does not say.
+const DEFAULT_SIZE: u64 = 4;
 
-const MESSAGE: &str = "message";
-/// The fields of a message.
-const MESSAGE_FIELDS: [&str; 2] = [DEV, MESSAGE];
-
-const VCPU: &str = "vcpu";
-
-const ICC: &str = "icc";
-
-const WRITE: &str = "write";
-/// The fields of an access of a CPU interface register.
-const ACCESS_FIELDS: [&str; 3] = [VCPU, ICC, WRITE];
-
-/// The fields of steps that are not built.
-const UNBUILT_FIELDS: [&str; 8] = [
-    "gicd", "gicr", "gits", "ram", "wire", "msi", "enter", "exit",
-];
-
-const PE: &str = "pe";
-
-const LRS: &str = "lrs";
-/// The fields of a step that shows the list registers of a PE.
-const LRS_FIELDS: [&str; 2] = [PE, LRS];
-
-/// Whether a step is of a form that is not built: with a field of another form than messages, accesses and
-/// the showing of list registers have, or an access of SGI1R.
-fn is_unbuilt_step(value: &Value) -> bool
-    ensures { result ≡ is_unbuilt_step_in (view value.now) }
+/// What a step says that reads or writes a register of the CPU interface.
+fn register(value: &Value) -> Result<Step, u8>
+    ensures { result ≡ narrowed_said (register_said (view value.now)) }
 {
-    has_any(value, &UNBUILT_FIELDS)
-        || text_at(value, ICC).is_some_and(|name| IccReg::Sgi1r.name() == name)
-}
-
-/// A message of a device to an SPI of its guest, or its fault.
-fn message(value: &Value, shape: &GuestShape) -> Result<Step, u8>
-    requires { IsShape shape.now }
-    ensures { let d = view value.now in result ≡ ok_unless (message_fault shape.now d) (message_of d) }
-{
-    if !has_only(value, &MESSAGE_FIELDS) {
-        return Err(SHAPE);
-    }
-    let (guest, device) = pair_at(value, DEV).ok_or(SHAPE)?;
-    let spi = number_at(value, MESSAGE).ok_or(SHAPE)?;
-    let counts = SpiCounts {
-        spis: shape.spis,
-        espis: shape.espis,
-    };
-    if guest != 0 || device >= u64::from(shape.devices) || !counts.contains(spi) {
-        return Err(UNKNOWN_ACTOR);
-    }
-    Ok(Step::Device {
-        guest: guest as u32,
-        device: device as u32,
-        op: DeviceOp::Message { spi: spi as u32 },
-    })
-}
-
-/// Whether a register can be written, where there is a value to write, or else read.
-fn is_usable(reg: IccReg, write: Option<u64>) -> bool
-    ensures { result ≡ is_usable_for write reg }
-{
-    match write {
-        Some(_) => reg.is_writable(),
-        None => reg.is_readable(),
-    }
-}
-
-/// An access of a vCPU to a register of its CPU interface, or its fault.
-fn access(value: &Value, shape: &GuestShape) -> Result<Step, u8>
-    ensures { let d = view value.now in result ≡ ok_unless (access_fault shape.now d) (access_of d) }
-{
-    if !has_only(value, &ACCESS_FIELDS) {
-        return Err(SHAPE);
-    }
     let (guest, vcpu) = pair_at(value, VCPU).ok_or(SHAPE)?;
     let name = text_at(value, ICC).ok_or(SHAPE)?;
-    let write = number_at(value, WRITE);
-    if write.is_none() && value.get(WRITE).is_some() {
-        return Err(SHAPE);
-    }
+    number_or(value, WRITE, 0).ok_or(SHAPE)?;
     let reg = IccReg::named(name).ok_or(UNKNOWN_REGISTER)?;
-    if !is_usable(reg, write) {
-        return Err(UNKNOWN_REGISTER);
-    }
-    if guest != 0 || vcpu >= u64::from(shape.vcpus) {
-        return Err(UNKNOWN_ACTOR);
-    }
     Ok(Step::Vcpu {
-        guest: guest as u32,
-        vcpu: vcpu as u32,
-        op: GuestOp::Icc { reg, write },
+        guest: narrowed(guest),
+        vcpu: narrowed(vcpu),
+        op: GuestOp::Icc {
+            reg,
+            write: number_at(value, WRITE),
+        },
     })
 }
 
-/// A step that shows the list registers of a PE, or its fault. PE 0 is the only one.
-fn list_registers(value: &Value, mode: Mode) -> Result<Step, u8>
-    ensures { let d = view value.now in result ≡ ok_unless (lrs_fault mode d) (lrs_of d) }
+/// What a step says that reads or writes a frame at the offset in the field of this name.
+fn access(value: &Value, name: &str, frame: Frame) -> Result<Step, u8>
+    ensures { (whole : Frame) → frame ≡ narrowed_frame whole →
+        result ≡ narrowed_said (access_said name.now whole (view value.now)) }
 {
-    if !has_only(value, &LRS_FIELDS) {
-        return Err(SHAPE);
+    let (guest, vcpu) = pair_at(value, VCPU).ok_or(SHAPE)?;
+    let offset = number_at(value, name).ok_or(SHAPE)?;
+    let size = number_or(value, SIZE, DEFAULT_SIZE).ok_or(SHAPE)?;
+    number_or(value, WRITE, 0).ok_or(SHAPE)?;
+    Ok(Step::Vcpu {
+        guest: narrowed(guest),
+        vcpu: narrowed(vcpu),
+        op: GuestOp::Mem {
+            frame,
+            offset: narrowed(offset),
+            size: narrowed(size),
+            write: number_at(value, WRITE),
+        },
+    })
+}
+
+/// What a step says that reads or writes the redistributor of a vCPU.
+fn redistributor(value: &Value) -> Result<Step, u8>
+    ensures { result ≡ narrowed_said (redistributor_said (view value.now)) }
+{
+    let vcpu = narrowed(number_at(value, OF).ok_or(SHAPE)?);
+    access(value, GICR, Frame::Redist { vcpu })
+}
+
+/// What a message to an SPI says.
+fn message(value: &Value) -> Result<Step, u8>
+    ensures { result ≡ narrowed_said (message_said (view value.now)) }
+{
+    let (guest, device) = pair_at(value, DEV).ok_or(SHAPE)?;
+    let spi = number_at(value, MESSAGE).ok_or(SHAPE)?;
+    Ok(Step::Device {
+        guest: narrowed(guest),
+        device: narrowed(device),
+        op: DeviceOp::Message { spi: narrowed(spi) },
+    })
+}
+
+/// The interrupt whose wire is moved: a private one of a vCPU, where one is named, or else a shared one.
+fn wired_key(vcpu: Option<u64>, id: u64) -> Key
+    ensures { result ≡ narrowed_key (wired_key_of vcpu id) }
+{
+    let id = narrowed(id);
+    match vcpu {
+        Some(vcpu) => Key::Private {
+            vcpu: narrowed(vcpu),
+            id,
+        },
+        None => Key::Spi(id),
     }
+}
+
+/// What a step says that moves a wire.
+fn wire(value: &Value) -> Result<Step, u8>
+    ensures { result ≡ narrowed_said (wire_said (view value.now)) }
+{
+    let (guest, device) = pair_at(value, DEV).ok_or(SHAPE)?;
+    let id = number_at(value, WIRE).ok_or(SHAPE)?;
+    let up = flag_at(value, UP).ok_or(SHAPE)?;
+    number_or(value, VCPU, 0).ok_or(SHAPE)?;
+    Ok(Step::Device {
+        guest: narrowed(guest),
+        device: narrowed(device),
+        op: DeviceOp::Wire {
+            key: wired_key(number_at(value, VCPU), id),
+            up,
+        },
+    })
+}
+
+/// What an MSI says.
+fn msi(value: &Value) -> Result<Step, u8>
+    ensures { result ≡ narrowed_said (msi_said (view value.now)) }
+{
+    let (guest, device) = pair_at(value, DEV).ok_or(SHAPE)?;
+    let (number, event) = pair_at(value, MSI).ok_or(SHAPE)?;
+    if number > u64::from(u32::MAX) || event > u64::from(u32::MAX) {
+        return Err(LIMIT);
+    }
+    Ok(Step::Device {
+        guest: narrowed(guest),
+        device: narrowed(device),
+        op: DeviceOp::Msi {
+            device: number as u32,
+            event: event as u32,
+        },
+    })
+}
+
+/// What a step says by which a vCPU enters a PE.
+fn enter(value: &Value) -> Result<Step, u8>
+    ensures { result ≡ narrowed_said (enter_said (view value.now)) }
+{
     let pe = number_at(value, PE).ok_or(SHAPE)?;
-    if flag_or(value, LRS, false) != Some(true) {
+    let (guest, vcpu) = pair_at(value, ENTER).ok_or(SHAPE)?;
+    Ok(Step::Pe {
+        pe: narrowed(pe),
+        op: PeOp::Enter {
+            guest: narrowed(guest),
+            vcpu: narrowed(vcpu),
+        },
+    })
+}
+
+/// What a step says that does something to a PE where the field of this name is true.
+fn pe_step(value: &Value, name: &str, op: PeOp) -> Result<Step, u8>
+    ensures { (whole : PeOp) → op ≡ narrowed_pe_op whole →
+        result ≡ narrowed_said (pe_said name.now whole (view value.now)) }
+{
+    let pe = number_at(value, PE).ok_or(SHAPE)?;
+    if flag_at(value, name) != Some(true) {
         return Err(SHAPE);
-    }
-    if mode == Mode::Threads {
-        return Err(PE_STEP);
-    }
-    if pe >= u64::from(BUILT_PES) {
-        return Err(UNKNOWN_ACTOR);
     }
     Ok(Step::Pe {
-        pe: pe as u32,
-        op: PeOp::Lrs,
+        pe: narrowed(pe),
+        op,
     })
 }
 
-/// What a step says, or the code of its fault.
-pub(crate) fn step(value: &Value, mode: Mode, shape: &GuestShape) -> Result<Step, u8>
-    requires { IsShape shape.now }
-    ensures { result ≡ step_of mode shape.now (view value.now) }
+/// What a step of a form says.
+fn form_step(value: &Value, form: Form) -> Result<Step, u8>
+    ensures { result ≡ narrowed_said (form_said form (view value.now)) }
 {
-    if is_unbuilt_step(value) {
-        return Err(NOT_BUILT);
+    match form {
+        Form::AccessRegister => register(value),
+        Form::AccessDistributor => access(value, GICD, Frame::Dist),
+        Form::AccessRedistributor => redistributor(value),
+        Form::AccessIts => access(value, GITS, Frame::Its),
+        Form::AccessMemory => access(value, RAM, Frame::Ram),
+        Form::SendMessage => message(value),
+        Form::MoveWire => wire(value),
+        Form::SendMsi => msi(value),
+        Form::EnterPe => enter(value),
+        Form::ExitPe => pe_step(value, EXIT, PeOp::Exit),
+        Form::ShowPe => pe_step(value, LRS, PeOp::Lrs),
     }
-    if value.get(PE).is_some() {
-        return list_registers(value, mode);
+}
+
+/// What a step says, which has only the fields of its form.
+fn said(value: &Value) -> Result<Step, u8>
+    ensures { result ≡ narrowed_said (step_said (view value.now)) }
+{
+    let form = Form::of(value).ok_or(SHAPE)?;
+    if !has_only(value, form.row().fields) {
+        return Err(SHAPE);
     }
-    if value.get(MESSAGE).is_some() {
-        message(value, shape)
-    } else {
-        access(value, shape)
+    form_step(value, form)
+}
+
+/// What a step says, or the code of its fault; it is judged by the standing before it.
+pub(crate) fn step(value: &Value, mode: Mode, standing: &Standing) -> Result<Step, u8>
+    requires { IsStanding standing.now }
+    ensures { result ≡ step_of mode standing.now (view value.now) }
+{
+    let step = said(value)?;
+    match standing.fault_of(mode, &step) {
+        Some(code) => Err(code),
+        None => Ok(step),
     }
 }

@@ -1,5 +1,6 @@
-use Rattle.std.proofs.Common.{◌≡◌, ◌++◌, drop, All}
+use Rattle.std.proofs.Common.{length, ◌≡◌, ◌++◌, drop, All}
 use Rattle.gic_ideal.specs.Eager.{answers_of, after_steps}
+use Rattle.scn_base.specs.Standing.{ResidentsExist}
 use Rattle.gic_ideal.specs.Sound.{IsSound, state_shapes}
 use Rattle.gic_ideal.proofs.run.do_steps.Given as goal
 
@@ -9,6 +10,8 @@ invariant-loop-step l =
     record {
       sound : All IsSound l.states.items;
       shapes : state_shapes l.states.items ≡ state_shapes l.fn.states.items;
-      told : l.answers ++ answers_of l.lrs (drop l.step-index l.step-items) l.states.items ≡ answers_of l.lrs l.step-items l.fn.states.items;
+      count : length l.pes ≡ length l.fn.pes;
+      residents : ResidentsExist (state_shapes l.fn.states.items) l.pes;
+      told : l.answers ++ answers_of l.lrs l.pes (drop l.step-index l.step-items) l.states.items ≡ answers_of l.lrs l.fn.pes l.step-items l.fn.states.items;
       left : after_steps (drop l.step-index l.step-items) l.states.items ≡ after_steps l.step-items l.fn.states.items;
     }

@@ -1,13 +1,14 @@
-use Rattle.std.proofs.Common.{All, map, take, ap, sym, subst, ◌∙◌}
-use Rattle.std.proofs.lemmas.List.Elements.{All-map, All-take}
-use Rattle.scn_base.specs.Good.{IsGoodGuest}
-use Rattle.gic_ideal.specs.Opening.{opening}
+use Rattle.std.proofs.Common.{◌∷◌, [], ◌++◌, arith}
+use Rattle.std.proofs.lemmas.List.Elements.{All-push, All-same}
 use Rattle.gic_ideal.specs.Sound.{IsSound}
-use Rattle.gic_ideal.proofs.OpeningLemmas.{sound_opening}
+use Rattle.gic_ideal.proofs.StateLemmas.{opened_pushed}
 use Rattle.gic_ideal.proofs.run.open_all.Goals as goal
 
-pub returns-clause-sound : goal.returns-clause-sound
-returns-clause-sound c =
-    let guests = c.args.guests.now in
-    let i = c.loop-guest.guest-index in
-    subst (All IsSound) (sym (c.loop-guest.invariant ∙ ap (λ items. map opening (take i items)) c.as_slice-guest-items.ensures)) (All-map IsSound opening (take i guests) (λ k d h. sound_opening _ (All-take IsGoodGuest i guests c.requires k d h)))
+pub loop-guest-preserved : goal.loop-guest-preserved
+loop-guest-preserved c =
+    record {
+      value =
+          opened_pushed c.loop-guest.states.items c.push.new.self.items c.in_ok-open.field-0 c.as_slice-guest-items.result.now c.loop-guest.guest-index c.guest-item.result (omega arith) c.guest-item.is c.loop-guest.invariant.value
+          c.in_ok-push.ensures.items c.in_ok-open.ensures.value;
+      sound = All-same IsSound c.push.new.self.items (c.loop-guest.states.items ++ c.in_ok-open.field-0 ∷ []) c.in_ok-push.ensures.items (All-push IsSound c.loop-guest.states.items c.in_ok-open.field-0 c.loop-guest.invariant.sound c.in_ok-open.ensures.sound);
+    }

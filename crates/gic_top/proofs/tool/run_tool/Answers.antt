@@ -1,12 +1,18 @@
-use Rattle.gic_top.proofs.ReplyLemmas.{outcome, closed, ok_row, usage_row, bad_json_row, bad_scenario_row, read_fault_row, write_fault_row, too_long_row, no_memory_row, not_run_status, its_answer}
+use Rattle.std.proofs.Common.{◌≡◌, None, subst}
+use Rattle.gic_top.specs.Command.{command_in}
+use Rattle.gic_top.specs.Reply.{IsReplyFor}
+use Rattle.gic_top.proofs.ReplyLemmas.{outcome, closed, ok_row, usage_row, bad_json_row, bad_scenario_row, read_fault_row, write_fault_row, too_long_row, no_memory_row, no_command_status, its_answer}
 use Rattle.gic_top.proofs.tool.run_tool.Goals as goal
 
 pub returns : goal.returns
 returns g c =
     let source = g.S.Source in let sink = g.K.Sink in let read = c.reply_for-reply.new.source in let wrote = c.tell.new.sink in
-    let o = outcome c.args.words.now (source.left c.args.source.now) (source.left read) (source.faults c.args.source.now) (source.faults read)
+    let command = command_in c.args.words.now in
+    let reply = subst (λ asked. IsReplyFor asked (source.left c.args.source.now) (source.left read) (source.faults c.args.source.now) (source.faults read) c.reply_for-reply.result)
+    c.of.ensures c.reply_for-reply.ensures.reply in
+    let o = outcome command (source.left c.args.source.now) (source.left read) (source.faults c.args.source.now) (source.faults read)
     (sink.taken c.args.sink.now) (sink.taken wrote) (sink.faults c.args.sink.now) (sink.faults wrote) c.reply_for-reply.result c.tell.result
-    c.reply_for-reply.ensures.reply c.tell.ensures in
+    reply c.tell.ensures in
     let status = c.tell.result in
     record {
       closed = closed status o;
@@ -19,9 +25,9 @@ returns g c =
       write_fault = write_fault_row status o;
       too_long = too_long_row status o;
       no_memory = no_memory_row status o;
-      usage_where_not_run = not_run_status status o;
-      unread_where_not_run = c.reply_for-reply.ensures.unread;
-      complete = its_answer c.args.words.now (source.left c.args.source.now) (source.left read) (source.faults c.args.source.now) (source.faults read)
+      usage_where_no_command = no_command_status status o;
+      unread_where_no_command = subst (λ asked. asked ≡ None → read ≡ c.args.source.now) c.of.ensures c.reply_for-reply.ensures.unread;
+      complete = its_answer command (source.left c.args.source.now) (source.left read) (source.faults c.args.source.now) (source.faults read)
           (sink.taken c.args.sink.now) (sink.taken wrote) (sink.faults c.args.sink.now) (sink.faults wrote) c.reply_for-reply.result c.tell.result
-          c.reply_for-reply.ensures.reply c.tell.ensures;
+          reply c.tell.ensures;
     }

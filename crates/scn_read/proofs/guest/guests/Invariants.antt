@@ -1,6 +1,6 @@
 use Rattle.std.proofs.Common.{◌≡◌, ◌++◌, map, drop, fold, None}
 use Rattle.serde_json.specs.View.{view}
-use Rattle.scn_read.specs.Fault.{first_code, first_of}
+use Rattle.scn_base.specs.Codes.{first_code, first_of}
 use Rattle.scn_read.specs.Guest.{guest_fault, guest_of}
 use Rattle.scn_read.proofs.guest.guests.Given as goal
 

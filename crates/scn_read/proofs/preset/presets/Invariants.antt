@@ -1,6 +1,6 @@
 use Rattle.std.proofs.Common.{◌≡◌, ◌++◌, map, drop, fold, None}
 use Rattle.serde_json.specs.View.{view}
-use Rattle.scn_read.specs.Fault.{first_code, first_of}
+use Rattle.scn_base.specs.Codes.{first_code, first_of}
 use Rattle.scn_read.specs.Preset.{preset_fault, preset_of}
 use Rattle.scn_read.proofs.preset.presets.Given as goal
 
@@ -8,6 +8,6 @@ use Rattle.scn_read.proofs.preset.presets.Given as goal
 abbrev pub invariant-loop-value : goal.invariant-loop-value
 invariant-loop-value l =
     record {
-      faults : fold first_code l.fault (map (preset_fault l.counts.spis l.counts.espis) (map view (drop l.value-index l.values))) ≡ first_of (map (preset_fault l.counts.spis l.counts.espis) (map view l.values));
+      faults : fold first_code l.fault (map (preset_fault l.counts.vcpus l.counts.spis l.counts.espis) (map view (drop l.value-index l.values))) ≡ first_of (map (preset_fault l.counts.vcpus l.counts.spis l.counts.espis) (map view l.values));
       read : l.fault ≡ None → l.presets ++ map preset_of (map view (drop l.value-index l.values)) ≡ map preset_of (map view l.values);
     }

@@ -1,27 +1,41 @@
-use Rattle.std.proofs.Common.{◌≡◌, ℕ, ◌∙◌, Some, length, map, get_or, sym, ap}
+use Rattle.std.proofs.Common.{◌≡◌, ◌∙◌, ◌≤◌, ap, sym, subst, map, length, List}
+use Rattle.std.specs.List.{All}
+use Rattle.std.proofs.lemmas.List.{length-map}
+use Rattle.std.proofs.lemmas.Result.{err_from_is_err_and}
 use Rattle.serde_json.specs.View.{view}
-use Rattle.scn_read.specs.declared.reading.Parts.{Parts}
-use Rattle.scn_read.specs.Fault.{first_of}
-use Rattle.scn_read.specs.Guest.{guest_fault, guest_of}
-use Rattle.scn_read.specs.Reading.{scenario_fault, IsOpening}
-use Rattle.scn_read.proofs.GoodLemmas.{one_guest, good_scenario, read_parts}
+use Rattle.scn_base.specs.declared.guest.GuestSpec.{GuestSpec}
+use Rattle.scn_base.specs.Standing.{opening_standing}
+use Rattle.scn_base.specs.Good.{IsGoodGuest, shapes_of}
+use Rattle.scn_read.proofs.ReadLemmas.{outside_of, scenario_is, scenario_good, refuses}
 use Rattle.scn_read.proofs.reading.read.Goals as goal
 
-pub steps-requires-clause-shape : goal.steps-requires-clause-shape
-steps-requires-clause-shape c =
-    let d = view c.args.value.now in
-    let ds = map view c.elements_at.result.now in
-    let read = read_parts (λ (parts : Parts). IsOpening d parts.lrs (map view parts.steps.now)) (λ (code : ℕ). scenario_fault d ≡ Some code) c.opening.result (first_of (map guest_fault ds)) c.in_ok-guests.guests
-    (map guest_of ds) c.in-Ok.parts c.opening.ensures c.in_ok-guests.ensures c.in-Ok.ensures in
-    let one = one_guest ds c.as_slice.result.now c.index-as_slice-0.result (ap length c.elements_at.ensures ∙ read.0.one_guest) read.1 (c.as_slice.ensures ∙ read.2) in
-    one.1.shape
+pub opening-requires-2-clause-guests : goal.opening-requires-2-clause-guests
+opening-requires-2-clause-guests c =
+    let outside = outside_of (view c.args.value.now) (map view c.elements_at.result.now) c.opening.result c.in_ok-guests.guests c.in-Ok.parts c.opening.ensures c.elements_at.ensures c.in_ok-guests.ensures c.in-Ok.ensures in
+    subst (All IsGoodGuest) (sym c.as_slice.ensures) outside.good
+
+pub steps-requires-clause-few : goal.steps-requires-clause-few
+steps-requires-clause-few c =
+    let outside = outside_of (view c.args.value.now) (map view c.elements_at.result.now) c.opening.result c.in_ok-guests.guests c.in-Ok.parts c.opening.ensures c.elements_at.ensures c.in_ok-guests.ensures c.in-Ok.ensures in
+    let few : length (map view c.in-Ok.parts.0.steps.now) ≤ 100000 = outside.opening.few in
+    simp length-map at few
+
+pub returns-in_err-steps-clause-bad : goal.returns-in_err-steps-clause-bad
+returns-in_err-steps-clause-bad c =
+    let outside = outside_of (view c.args.value.now) (map view c.elements_at.result.now) c.opening.result c.in_ok-guests.guests c.in-Ok.parts c.opening.ensures c.elements_at.ensures c.in_ok-guests.ensures c.in-Ok.ensures in
+    let opens : c.in_ok-standing.standing ≡ opening_standing c.in-Ok.parts.0.pes (shapes_of c.in-Ok.parts.1) = c.in_ok-standing.ensures.value ∙ ap (λ (guests : List GuestSpec). opening_standing c.in-Ok.parts.0.pes (shapes_of guests)) c.as_slice.ensures in
+    let failed = err_from_is_err_and c.from_residual-in_err-steps.result c.from_residual-in_err-steps.ensures.1 in
+    rw (failed.1, failed.2)
+    (refuses c.args.mode (view c.args.value.now) c.in-Ok.parts.0.pes c.in-Ok.parts.0.lrs (map view c.in-Ok.parts.0.steps.now) c.in-Ok.parts.1 c.in_ok-standing.standing outside opens c.in_err-steps.field-0.0 c.in_err-steps.ensures.bad)
+
+pub returns-clause-ok : goal.returns-clause-ok
+returns-clause-ok c =
+    let outside = outside_of (view c.args.value.now) (map view c.elements_at.result.now) c.opening.result c.in_ok-guests.guests c.in-Ok.parts c.opening.ensures c.elements_at.ensures c.in_ok-guests.ensures c.in-Ok.ensures in
+    let opens : c.in_ok-standing.standing ≡ opening_standing c.in-Ok.parts.0.pes (shapes_of c.in-Ok.parts.1) = c.in_ok-standing.ensures.value ∙ ap (λ (guests : List GuestSpec). opening_standing c.in-Ok.parts.0.pes (shapes_of guests)) c.as_slice.ensures in
+    scenario_is c.args.mode (view c.args.value.now) c.in-Ok.parts.0.pes c.in-Ok.parts.0.lrs (map view c.in-Ok.parts.0.steps.now) c.in-Ok.parts.1 c.in_ok-standing.standing outside opens c.in_ok-steps.steps c.in_ok-steps.ensures.ok
 
 pub returns-clause-good : goal.returns-clause-good
 returns-clause-good c =
-    let d = view c.args.value.now in
-    let ds = map view c.elements_at.result.now in
-    let read = read_parts (λ (parts : Parts). IsOpening d parts.lrs (map view parts.steps.now)) (λ (code : ℕ). scenario_fault d ≡ Some code) c.opening.result (first_of (map guest_fault ds)) c.in_ok-guests.guests
-    (map guest_of ds) c.in-Ok.parts c.opening.ensures c.in_ok-guests.ensures c.in-Ok.ensures in
-    let one = one_guest ds c.as_slice.result.now c.index-as_slice-0.result (ap length c.elements_at.ensures ∙ read.0.one_guest) read.1 (c.as_slice.ensures ∙ read.2) in
-    good_scenario c.args.mode c.in-Ok.parts.0.lrs (get_or c.as_slice.result.now 0 c.index-as_slice-0.result) c.in-Ok.parts.1 (map view c.in-Ok.parts.0.steps.now) c.in_ok-steps.steps
-    read.0.some_list_register read.0.list_registers (sym c.as_slice.ensures ∙ one.0) one.1 read.0.few c.in_ok-steps.ensures.ok
+    let outside = outside_of (view c.args.value.now) (map view c.elements_at.result.now) c.opening.result c.in_ok-guests.guests c.in-Ok.parts c.opening.ensures c.elements_at.ensures c.in_ok-guests.ensures c.in-Ok.ensures in
+    let opens : c.in_ok-standing.standing ≡ opening_standing c.in-Ok.parts.0.pes (shapes_of c.in-Ok.parts.1) = c.in_ok-standing.ensures.value ∙ ap (λ (guests : List GuestSpec). opening_standing c.in-Ok.parts.0.pes (shapes_of guests)) c.as_slice.ensures in
+    scenario_good c.args.mode (view c.args.value.now) c.in-Ok.parts.0.pes c.in-Ok.parts.0.lrs (map view c.in-Ok.parts.0.steps.now) c.in-Ok.parts.1 c.in_ok-standing.standing outside opens c.in_ok-steps.steps c.in_ok-steps.ensures.ok

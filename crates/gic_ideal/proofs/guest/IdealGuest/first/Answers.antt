@@ -2,7 +2,7 @@ use Rattle.std.proofs.Common.{◌≡◌, ◌∙◌, sym, ap, Some, None}
 use Rattle.std.specs.List.{range_with_len, filter_map}
 use Rattle.gic_prio.specs.Delivery.{first_of}
 use Rattle.gic_ideal.specs.Ideal.{candidate_at}
-use Rattle.gic_ideal.proofs.RangeLemmas.{filter_map_found, filter_map_none}
+use Rattle.gic_call.proofs.RangeLemmas.{filter_map_found, filter_map_none}
 use Rattle.gic_ideal.proofs.guest.IdealGuest.first.Goals as goal
 use Rattle.gic_ideal.proofs.guest.IdealGuest.first.Goals.{in-Some, in_default}
 

@@ -1,8 +1,7 @@
-use Rattle.std.proofs.Common.{Some, ◌∙◌, ap}
-use Rattle.gic_base.specs.declared.operation.GuestOp.TheVariants.{Icc}
-use Rattle.gic_ideal.proofs.LawLemmas.{shape_op}
 use Rattle.gic_ideal.proofs.guest.IdealGuest.operate.Goals as goal
 
-pub returns-in-Icc-default-Some-clause-shape : goal.returns-in-Icc-default-Some-clause-shape
-returns-in-Icc-default-Some-clause-shape c =
-    ap (λ guest. guest.shape) c.write.ensures.after ∙ shape_op (Icc c.in-Icc-default-Some.reg (Some c.in-Icc-default-Some.value)) c.args.self.now c.args.vcpu
+pub returns-in-Mem-clause-answer : goal.returns-in-Mem-clause-answer
+returns-in-Mem-clause-answer c = rw c.in-Mem.is (c.operate_memory.ensures.answer c.args.vcpu)
+
+pub returns-in-Mem-clause-after : goal.returns-in-Mem-clause-after
+returns-in-Mem-clause-after c = rw c.in-Mem.is (c.operate_memory.ensures.after c.args.vcpu)

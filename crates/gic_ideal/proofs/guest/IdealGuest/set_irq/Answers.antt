@@ -11,4 +11,4 @@ returns-clause-sound c =
     (with_irq_in_there guest.shape c.args.key c.args.irq guest.irqs c.requires.there
     ∙ ap (λ place. set guest.irqs place c.args.irq) (sym c.place_of-place.ensures.value)
     ∙ sym c.set.ensures)
-    (sound_put guest c.args.key c.args.irq c.requires.sound c.requires.valid)
+    (sound_put guest c.args.key c.args.irq c.requires.sound (λ there. c.requires.valid))

@@ -1,0 +1,9 @@
+pub mod RecordLemmas
+pub mod TouchLemmas
+pub mod MoveLemmas
+pub mod RangeLemmas
+pub mod AccessLemmas
+pub mod FitLemmas
+pub mod PartLemmas
+pub mod CallLemmas
+pub mod CommandLemmas

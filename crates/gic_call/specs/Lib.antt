@@ -1,0 +1,10 @@
+pub mod Touch
+pub mod Move
+pub mod Laws
+pub mod Fit
+pub mod Valid
+pub mod View
+pub mod Access
+pub mod Command
+pub mod Call
+pub mod Trace

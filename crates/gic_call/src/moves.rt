@@ -1,0 +1,211 @@
+//! What the moves between the distributor and a CPU interface do to one interrupt. Raise and the wire's moves are
+//! `gic_word`'s, acknowledge and deactivation at the interface are `gic_prio`'s.
+ghost use Rattle.std.specs.Prelude.{◌≡◌, ◌<◌};
+ghost use Rattle.gic_base.specs.declared.shape.GuestShape.{GuestShape};
+ghost use Rattle.gic_base.specs.declared.interrupt.Key.{Key};
+ghost use Rattle.gic_base.specs.Shape.{IsShape};
+ghost use Rattle.gic_word.specs.Valid.{IsRecordOf, IsHome};
+ghost use Rattle.gic_call.specs.Move.{may_reach as can_reach, may_take as can_take, reached as reached_of, taken as taken_of, left as left_of, IsMovedOf};
+
+use gic_base::Key;
+use gic_prio::{CpuRec, deliverable};
+use gic_word::Irq;
+
+/// What a CPU interface has of an interrupt that is there, as a list register holds it.
+#[derive(Clone, Copy, Debug, PartialEq, Eq, Hash)]
+pub struct Entry {
+    /// Not acknowledged yet, or pending again while it is active.
+    pub pending: bool,
+    /// Acknowledged and not deactivated yet.
+    pub active: bool,
+    /// The wire's rise that came with the interrupt, until an acknowledge consumes it.
+    pub rise: bool,
+    /// The cause by software that came with it, likewise.
+    pub soft: bool,
+}
+
+/// An interrupt at a CPU interface: its record, and what the interface has of it.
+#[derive(Clone, Copy, Debug, PartialEq, Eq, Hash)]
+pub struct Moved {
+    pub irq: Irq,
+    pub entry: Entry,
+}
+
+/// Whether an interrupt that is at no interface may get to this vCPU's: it is deliverable to the vCPU, or active
+/// by it.
+pub fn may_reach(key: Key, irq: &Irq, vcpu: u32, cpu: &CpuRec) -> bool
+    ensures { (shape : GuestShape) → vcpu < shape.vcpus → result ≡ can_reach shape key irq.now vcpu cpu.now }
+{
+    irq.act_by == Some(vcpu) || deliverable(key, irq, vcpu, cpu)
+}
+
+/// Whether an interrupt at this vCPU's interface, which is active there and not pending, may become pending
+/// there too: it would be deliverable to the vCPU if it were not active.
+pub fn may_take(key: Key, moved: &Moved, vcpu: u32, cpu: &CpuRec) -> bool
+    ensures { (shape : GuestShape) → vcpu < shape.vcpus → result ≡ can_take shape key moved.now vcpu cpu.now }
+{
+    let inactive = Irq {
+        act_by: None,
+        ..moved.irq
+    };
+    moved.entry.active && !moved.entry.pending && deliverable(key, &inactive, vcpu, cpu)
+}
+
+impl Moved {
+    /// The interrupt after it got to an interface: pending there with its latched causes, which the record
+    /// loses, or active there and without causes, which the record keeps.
+    #[tactic(auto, using(crate::proofs::MoveLemmas::reached_valid))]
+    pub fn reached(irq: &Irq) -> Moved
+        ensures value { result ≡ reached_of irq.now }
+        ensures valid { (shape : GuestShape) (key : Key) → IsRecordOf shape key irq.now → IsMovedOf shape key result }
+        ensures home { IsHome irq.now → IsHome result.irq }
+    {
+        let active = irq.act_by.is_some();
+        if active {
+            return Moved {
+                irq: *irq,
+                entry: Entry {
+                    pending: false,
+                    active,
+                    rise: false,
+                    soft: false,
+                },
+            };
+        }
+        Moved {
+            irq: irq.cleared(),
+            entry: Entry {
+                pending: true,
+                active,
+                rise: irq.rise,
+                soft: irq.soft,
+            },
+        }
+    }
+
+    /// The interrupt after an active one became pending at its interface too, with its latched causes, which
+    /// the record loses.
+    #[tactic(auto, using(crate::proofs::MoveLemmas::taken_valid))]
+    pub fn taken(self) -> Moved
+        ensures value { result ≡ taken_of self }
+        ensures valid { (shape : GuestShape) (key : Key) → IsMovedOf shape key self → IsMovedOf shape key result }
+        ensures home { IsHome self.irq → IsHome result.irq }
+    {
+        Moved {
+            irq: self.irq.cleared(),
+            entry: Entry {
+                pending: true,
+                rise: self.irq.rise,
+                soft: self.irq.soft,
+                ..self.entry
+            },
+        }
+    }
+
+    /// The record after the interrupt left the interface of this vCPU: it gets back the latched causes that are
+    /// there, and is active by the vCPU exactly where it is active there.
+    #[tactic(auto, using(crate::proofs::MoveLemmas::left_valid))]
+    pub fn left(self, vcpu: u32) -> Irq
+        ensures value { result ≡ left_of vcpu self }
+        ensures valid { (shape : GuestShape) (key : Key) → IsShape shape → vcpu < shape.vcpus → IsMovedOf shape key self → IsRecordOf shape key result }
+        ensures home { IsHome self.irq → IsHome result }
+    {
+        Irq {
+            rise: self.irq.rise || self.entry.rise,
+            soft: self.irq.soft || self.entry.soft,
+            act_by: self.entry.active.then_some(vcpu),
+            ..self.irq
+        }
+    }
+}
+
+#[cfg(test)]
+mod tests {
+    use super::{Entry, Moved, may_reach, may_take};
+    use gic_base::Key;
+    use gic_prio::CpuRec;
+    use gic_word::{Group, Irq, Route};
+
+    const SPI: Key = Key::Spi(40);
+
+    const CPU: CpuRec = CpuRec {
+        pmr: 0xF0,
+        bpr0: 2,
+        bpr1: 3,
+        cbpr: false,
+        eoimode: false,
+        en0: false,
+        en1: true,
+        lpis: false,
+        ap0: 0,
+        ap1: 0,
+    };
+
+    /// An edge interrupt for vCPU 1 whose wire rose.
+    const PENDING: Irq = Irq {
+        prio: 0xA0,
+        enabled: true,
+        group: Group::G1,
+        edge: true,
+        line: true,
+        rise: true,
+        soft: false,
+        act_by: None,
+        holder: None,
+        want: false,
+        en0: true,
+        en1: true,
+        route: Route::Affinity(1),
+    };
+
+    /// The same interrupt, active by vCPU 1 and risen again.
+    const ACTIVE: Irq = Irq {
+        act_by: Some(1),
+        ..PENDING
+    };
+
+    #[test]
+    fn which_vcpu_an_interrupt_may_reach(rt: HostRuntime) {
+        let deaf = CpuRec { en1: false, ..CPU };
+        for (irq, vcpu, cpu, may) in [
+            (PENDING, 1, CPU, true),
+            (PENDING, 0, CPU, false),
+            (PENDING, 1, deaf, false),
+            (ACTIVE, 1, deaf, true),
+            (ACTIVE, 0, CPU, false),
+        ] {
+            assert_eq!(rt; may_reach(SPI, &irq, vcpu, &cpu), may, "of {irq:?}, {vcpu}");
+        }
+    }
+
+    #[test]
+    fn an_active_interrupt_rises_again_and_leaves(rt: HostRuntime) {
+        let there = Moved::reached(&ACTIVE);
+        let active = Entry {
+            pending: false,
+            active: true,
+            rise: false,
+            soft: false,
+        };
+        assert_eq!(rt; there.entry, active);
+        assert!(rt; may_take(SPI, &there, 1, &CPU));
+        let again = there.taken();
+        assert_eq!(rt;
+            again.entry,
+            Entry {
+                pending: true,
+                rise: true,
+                ..active
+            }
+        );
+        assert_eq!(rt;
+            again.irq,
+            Irq {
+                rise: false,
+                ..ACTIVE
+            }
+        );
+        assert!(rt; !may_take(SPI, &again, 1, &CPU));
+        assert_eq!(rt; again.left(1), ACTIVE);
+    }
+}

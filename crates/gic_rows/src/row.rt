@@ -1,0 +1,67 @@
+//! A worked scenario, and its run.
+
+use gic_io::{SureSink, SureSource};
+use gic_top::run_tool;
+use std::alloc::{AllocError, Global};
+use std::process::Abort;
+use std::test::Fail;
+
+/// A scenario, and what `run` writes of it.
+pub(crate) struct Row {
+    /// What the row shows.
+    pub shows: &'static str,
+    /// The fields of the scenario but for `steps`, as JSON.
+    pub before: &'static str,
+    /// The steps, in parts that rows share.
+    pub steps: &'static [&'static [&'static str]],
+    /// The lines that are written.
+    pub lines: &'static [&'static str],
+}
+
+/// Adds steps to a list of them that is open.
+fn push_steps(input: &mut String, steps: &[&str]) -> Result<(), AllocError> {
+    for step in steps {
+        if !input.as_str().ends_with('[') {
+            input.push(',')?;
+        }
+        input.push_str(step)?;
+    }
+    Ok(())
+}
+
+/// The scenario as JSON.
+fn input_of(alloc: Global, row: &Row) -> Result<String, AllocError> {
+    let before = row.before;
+    let mut input = format!(in alloc; "{{{before},\"steps\":[")?;
+    for part in row.steps {
+        push_steps(&mut input, part)?;
+    }
+    input.push_str("]}")?;
+    Ok(input)
+}
+
+/// The lines, each with its newline.
+fn text_of(alloc: Global, lines: &[&str]) -> Result<String, AllocError> {
+    let mut text = String::new(alloc);
+    for line in lines {
+        text.push_str(line)?;
+        text.push('\n')?;
+    }
+    Ok(text)
+}
+
+/// Runs each row, and compares the status and all that is written.
+pub(crate) fn check(rt: &impl Abort, alloc: Global, status: u8, rows: &[Row]) -> Result<(), Fail> {
+    let words = [String::from_str(alloc, "run")?];
+    for row in rows {
+        let input = input_of(alloc, row)?;
+        let mut source = SureSource::of(input.into_bytes());
+        let mut sink = SureSink::new(alloc);
+        let answered = run_tool(alloc, &words, &mut source, &mut sink);
+        let text = text_of(alloc, row.lines)?;
+        let taken = str::from_utf8(sink.taken().ok_or("not told")?)?;
+        assert_eq!(rt; taken, text.as_str(), "{}", row.shows);
+        assert_eq!(rt; answered, status, "{}", row.shows);
+    }
+    Ok(())
+}

@@ -1,0 +1,4 @@
+pub mod GoodLemmas
+pub mod PesLemmas
+pub mod StandingLemmas
+pub mod StepLemmas

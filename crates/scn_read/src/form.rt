@@ -1,0 +1,127 @@
+//! The forms of steps.
+ghost use Rattle.std.specs.Prelude.{◌≡◌, is_some, find, map};
+ghost use Rattle.serde_json.specs.View.{view};
+ghost use Rattle.serde_json.specs.Find.{get};
+ghost use Rattle.scn_read.specs.Form.{row_of, form_of};
+
+use serde_json::Value;
+
+pub(crate) const ICC: &str = "icc";
+
+pub(crate) const GICD: &str = "gicd";
+
+pub(crate) const GICR: &str = "gicr";
+
+pub(crate) const GITS: &str = "gits";
+
+pub(crate) const RAM: &str = "ram";
+
+pub(crate) const MESSAGE: &str = "message";
+
+pub(crate) const WIRE: &str = "wire";
+
+pub(crate) const MSI: &str = "msi";
+
+pub(crate) const ENTER: &str = "enter";
+
+pub(crate) const EXIT: &str = "exit";
+
+pub(crate) const LRS: &str = "lrs";
+
+pub(crate) const VCPU: &str = "vcpu";
+
+pub(crate) const WRITE: &str = "write";
+
+pub(crate) const SIZE: &str = "size";
+
+pub(crate) const OF: &str = "of";
+
+pub(crate) const DEV: &str = "dev";
+
+pub(crate) const UP: &str = "up";
+
+pub(crate) const PE: &str = "pe";
+
+/// The forms of steps, each by what it does.
+#[derive(Clone, Copy)]
+pub(crate) enum Form {
+    AccessRegister,
+    AccessDistributor,
+    AccessRedistributor,
+    AccessIts,
+    AccessMemory,
+    SendMessage,
+    MoveWire,
+    SendMsi,
+    EnterPe,
+    ExitPe,
+    ShowPe,
+}
+
+/// All forms.
+const FORMS: [Form; 11] = [
+    Form::AccessRegister,
+    Form::AccessDistributor,
+    Form::AccessRedistributor,
+    Form::AccessIts,
+    Form::AccessMemory,
+    Form::SendMessage,
+    Form::MoveWire,
+    Form::SendMsi,
+    Form::EnterPe,
+    Form::ExitPe,
+    Form::ShowPe,
+];
+
+/// One row of the table of forms.
+#[derive(Clone, Copy)]
+pub(crate) struct Row {
+    /// The field that names the form.
+    pub(crate) name: &'static str,
+    /// All fields that a step of the form may have.
+    pub(crate) fields: &'static [&'static str],
+}
+
+impl Form {
+    /// The row of the form.
+    pub(crate) fn row(self) -> Row
+        ensures name { result.name.now ≡ (row_of self).name }
+        ensures fields { map (λ field. field.now) result.fields.now ≡ (row_of self).fields }
+    {
+        let (name, fields): (&'static str, &'static [&'static str]) = match self {
+            Form::AccessRegister => (ICC, &[VCPU, ICC, WRITE]),
+            Form::AccessDistributor => (GICD, &[VCPU, GICD, SIZE, WRITE]),
+            Form::AccessRedistributor => (GICR, &[VCPU, GICR, OF, SIZE, WRITE]),
+            Form::AccessIts => (GITS, &[VCPU, GITS, SIZE, WRITE]),
+            Form::AccessMemory => (RAM, &[VCPU, RAM, SIZE, WRITE]),
+            Form::SendMessage => (MESSAGE, &[DEV, MESSAGE]),
+            Form::MoveWire => (WIRE, &[DEV, WIRE, UP, VCPU]),
+            Form::SendMsi => (MSI, &[DEV, MSI]),
+            Form::EnterPe => (ENTER, &[PE, ENTER]),
+            Form::ExitPe => (EXIT, &[PE, EXIT]),
+            Form::ShowPe => (LRS, &[PE, LRS]),
+        };
+        Row { name, fields }
+    }
+
+    /// Whether a step has the field that names the form.
+    fn is_named(self, value: &Value) -> bool
+        ensures { result ≡ is_some (get (row_of self).name (view value.now)) }
+    {
+        value.get(self.row().name).is_some()
+    }
+
+    /// The form that a step names, if it names one.
+    pub(crate) fn of(value: &Value) -> Option<Form>
+        ensures { result ≡ form_of (view value.now) }
+    {
+        first_named(&FORMS, value)
+    }
+}
+
+/// The first of these forms that a step names.
+fn first_named(forms: &[Form], value: &Value) -> Option<Form>
+    ensures { result ≡ find (λ form. is_some (get (row_of form).name (view value.now))) forms.now }
+{
+    forms.iter().copied().find(|form| form.is_named(value))
+}
