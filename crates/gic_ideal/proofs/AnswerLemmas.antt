@@ -25,18 +25,18 @@ use Rattle.gic_prio.proofs.AnswerLemmas.{answered_first, spurious, preempts}
 use Rattle.gic_open.specs.Opening.{opening_cpu}
 use Rattle.gic_open.proofs.OpeningLemmas.{opening_valid}
 use Rattle.gic_call.specs.declared.event.Event.{Event}
-use Rattle.gic_ideal.specs.declared.guest.IdealGuest.{IdealGuest}
-use Rattle.gic_ideal.specs.Opening.{opening}
-use Rattle.gic_ideal.specs.Ideal.{irq_at, cpu_at, candidates, access_answer, after_acknowledge, after_event, after_events}
-use Rattle.gic_ideal.specs.Sound.{IsSound}
-use Rattle.gic_ideal.specs.Deeds.{is_named, acknowledges, is_latched, is_caused_since}
+use Rattle.ideal_guest.specs.declared.guest.IdealGuest.{IdealGuest}
+use Rattle.ideal_guest.specs.Opening.{opening}
+use Rattle.ideal_guest.specs.Ideal.{irq_at, cpu_at, candidates, access_answer, after_acknowledge, after_event, after_events, is_named}
+use Rattle.ideal_guest.specs.Sound.{IsSound}
+use Rattle.gic_ideal.specs.Deeds.{acknowledges, is_latched, is_caused_since}
 use Rattle.gic_ideal.specs.Laws.{CanFollowAll, AcknowledgesId, iar_of, iar_read, is_spi_id, AcknowledgeAnswers, AnswerAcknowledges, SpuriousReadExactly, AcknowledgeRuns, CausedBetweenReads, EdgePendingExactly}
-use Rattle.gic_ideal.proofs.KeyLemmas.{key_intid, is_named_by}
-use Rattle.gic_ideal.proofs.CandidateLemmas.{candidates_named, taken_named, taken_was, taken_of}
+use Rattle.ideal_guest.proofs.KeyLemmas.{key_intid, is_named_by}
+use Rattle.ideal_guest.proofs.CandidateLemmas.{candidates_named, taken_named, taken_was, taken_of}
 use Rattle.gic_ideal.proofs.EffectLemmas.{cpus_acknowledged}
-use Rattle.gic_ideal.proofs.SoundLemmas.{cpu_valid, vcpu_there}
+use Rattle.ideal_guest.proofs.SoundLemmas.{cpu_valid, vcpu_there}
 use Rattle.gic_ideal.proofs.SoundEvents.{sound_events}
-use Rattle.gic_ideal.proofs.OpeningLemmas.{empty_valid, sound_opening}
+use Rattle.ideal_guest.proofs.OpeningLemmas.{empty_valid, sound_opening}
 use Rattle.gic_ideal.proofs.DeedLemmas.{ready}
 use Rattle.gic_ideal.proofs.LawLemmas.{caused, latched_exactly}
 

@@ -20,15 +20,15 @@ use Rattle.gic_call.specs.declared.event.Event.TheVariants.{Raise, Up, Down, Ena
 use Rattle.gic_call.specs.declared.touch.Touching.{Touching}
 use Rattle.gic_call.specs.declared.touch.Touching.TheVariants.{Read as ReadPart, Register, Enables, MapLpi, Retarget, Configure, Forget}
 use Rattle.gic_call.specs.Touch.{CanTouch, is_lpi, touched}
-use Rattle.gic_ideal.specs.declared.guest.IdealGuest.{IdealGuest}
-use Rattle.gic_ideal.specs.Ideal.{irq_at, cpu_at, candidates, after_event}
-use Rattle.gic_ideal.specs.Sound.{IsSound}
+use Rattle.ideal_guest.specs.declared.guest.IdealGuest.{IdealGuest}
+use Rattle.ideal_guest.specs.Ideal.{irq_at, cpu_at, candidates, after_event, is_named}
+use Rattle.ideal_guest.specs.Sound.{IsSound}
 use Rattle.gic_ideal.specs.Laws.{CanFollow, is_level_up}
-use Rattle.gic_ideal.specs.Deeds.{is_named, acknowledges, deactivates, causes, consumes, pends, clears, ends_active, is_latched}
-use Rattle.gic_ideal.proofs.KeyLemmas.{same_key}
-use Rattle.gic_ideal.proofs.CandidateLemmas.{deliverable_pending, deliverable_inactive, taken_names_none, taken_named, taken_of}
+use Rattle.gic_ideal.specs.Deeds.{acknowledges, deactivates, causes, consumes, pends, clears, ends_active, is_latched}
+use Rattle.ideal_guest.proofs.KeyLemmas.{same_key}
+use Rattle.ideal_guest.proofs.CandidateLemmas.{deliverable_pending, deliverable_inactive, taken_names_none, taken_named, taken_of}
 use Rattle.gic_ideal.proofs.EffectLemmas.{is_ended, accessed, changed_by, event_effect, shape_event}
-use Rattle.gic_ideal.proofs.SoundLemmas.{whole_of}
+use Rattle.ideal_guest.proofs.SoundLemmas.{whole_of}
 use Rattle.gic_ideal.proofs.SoundEvents.{sound_event}
 
 -- a sound guest with an interrupt

@@ -12,10 +12,10 @@ use Rattle.gic_call.specs.declared.event.Event.{Event}
 use Rattle.gic_call.specs.declared.event.Event.TheVariants.{Raise, Up, Down, Enable, Touch, Reach, Take, Leave, Cpu, Read, Put, CtlrBegin, CtlrEnd, ItsBegin, ItsEnd, Queue}
 use Rattle.gic_call.specs.declared.event.QueueChange.TheVariants.{Runs, Done, Stalls}
 use Rattle.gic_call.specs.Touch.{touched}
-use Rattle.gic_ideal.specs.declared.guest.IdealGuest.{IdealGuest}
-use Rattle.gic_ideal.specs.Ideal.{irq_at, cpu_at, candidates, after_acknowledge, after_deactivation, after_access, after_event}
-use Rattle.gic_ideal.specs.Deeds.{is_named, acknowledges}
-use Rattle.gic_ideal.proofs.KeyLemmas.{IsWhole, irq_changed, irq_changed_at, whole_changed_at, shape_changed_at, cpus_changed_at, shape_access}
+use Rattle.ideal_guest.specs.declared.guest.IdealGuest.{IdealGuest}
+use Rattle.ideal_guest.specs.Ideal.{irq_at, cpu_at, candidates, after_acknowledge, after_deactivation, after_access, after_event, is_named}
+use Rattle.gic_ideal.specs.Deeds.{acknowledges}
+use Rattle.ideal_guest.proofs.KeyLemmas.{IsWhole, irq_changed, irq_changed_at, whole_changed_at, shape_changed_at, cpus_changed_at, shape_access}
 
 -- an acknowledge of a candidate, or of none
 acknowledge_effect : (taken : Option Candidate) (guest : IdealGuest) (vcpu : ℕ) (key : Key) → IsWhole guest → IsTrue (has_interrupt guest.shape key) → irq_at (after_acknowledge taken guest vcpu) key ≡ cond (option_map_or (λ found. is_named found.id vcpu guest.shape key) taken false) (acknowledged key vcpu (irq_at guest key)) (irq_at guest key)

@@ -5,8 +5,8 @@ use Rattle.gic_word.specs.declared.record.Irq.{Irq}
 use Rattle.gic_word.specs.Record.{is_pending}
 use Rattle.gic_base.specs.declared.interrupt.Key.{Key}
 use Rattle.gic_call.specs.declared.event.Event.{Event}
-use Rattle.gic_ideal.specs.declared.guest.IdealGuest.{IdealGuest}
-use Rattle.gic_ideal.specs.Ideal.{irq_at, after_event, after_events}
+use Rattle.ideal_guest.specs.declared.guest.IdealGuest.{IdealGuest}
+use Rattle.ideal_guest.specs.Ideal.{irq_at, after_event, after_events}
 use Rattle.gic_ideal.specs.Deeds.{deactivates, causes, consumes, one_does, is_latched, is_caused_since}
 use Rattle.gic_ideal.specs.Laws.{CanFollowAll, LatchedExactly, AcknowledgeTakesCause, DeactivatedBetween, CausedBetween, is_level_up}
 use Rattle.gic_ideal.proofs.DeedLemmas.{HasIt, has_after, latched_after, ready, unlatched_pending, unlatched_after, active_after, activates}

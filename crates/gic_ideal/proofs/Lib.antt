@@ -1,13 +1,7 @@
-pub mod KeyLemmas
-pub mod CandidateLemmas
-pub mod OpeningLemmas
-pub mod SoundLemmas
 pub mod StateLemmas
 pub mod EffectLemmas
 pub mod SoundEvents
 pub mod DeedLemmas
 pub mod LawLemmas
 pub mod AnswerLemmas
-pub mod PartLemmas
-pub mod QueueLemmas
 pub mod StepLemmas

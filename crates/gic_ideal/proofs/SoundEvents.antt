@@ -23,12 +23,12 @@ use Rattle.its_tab.specs.Fault.{number_of}
 use Rattle.its_tab.proofs.AfterLemmas.{kept_valid}
 use Rattle.std.specs.Option.{option_map}
 use Rattle.std.specs.List.{slice_set}
-use Rattle.gic_ideal.specs.declared.guest.IdealGuest.{IdealGuest}
-use Rattle.gic_ideal.specs.Ideal.{irq_at, cpu_at, candidates, after_acknowledge, after_deactivation, after_access, after_event, with_queue}
-use Rattle.gic_ideal.specs.Sound.{IsIdealCpu, IsSound}
+use Rattle.ideal_guest.specs.declared.guest.IdealGuest.{IdealGuest}
+use Rattle.ideal_guest.specs.Ideal.{irq_at, cpu_at, candidates, after_acknowledge, after_deactivation, after_access, after_event, with_queue}
+use Rattle.ideal_guest.specs.Sound.{IsIdealCpu, IsSound}
 use Rattle.gic_ideal.specs.Laws.{CanFollow, EventsKeepSound}
-use Rattle.gic_ideal.proofs.CandidateLemmas.{taken_was}
-use Rattle.gic_ideal.proofs.SoundLemmas.{sound_changed, sound_with_cpu, sound_with_enables, sound_with_queue, sound_with_word, sound_with_maps, sound_stalled, sound_acknowledged, sound_deactivated, cpu_valid, cpu_after_valid, vcpu_there, ideal_raised, ideal_wire_up, ideal_wire_down, ideal_touch}
+use Rattle.ideal_guest.proofs.CandidateLemmas.{taken_was}
+use Rattle.ideal_guest.proofs.SoundLemmas.{sound_changed, sound_with_cpu, sound_with_enables, sound_with_queue, sound_with_word, sound_with_maps, sound_stalled, sound_acknowledged, sound_deactivated, cpu_valid, cpu_after_valid, vcpu_there, ideal_raised, ideal_wire_up, ideal_wire_down, ideal_touch}
 
 -- a command without a fault keeps the maps valid
 done_valid : (guest : IdealGuest) (words : List ℕ) → IsSound guest → fault_number guest.shape guest.tables (decoded words) ≡ None → IsValid guest.shape (maps_done guest.tables words)

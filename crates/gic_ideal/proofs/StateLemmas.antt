@@ -1,18 +1,24 @@
 -- One guest of several changes.
-use Rattle.std.proofs.Common.{◌≡◌, ℕ, zero, suc, ◌+◌, ◌<◌, List, [], ◌∷◌, ◌++◌, drop, take, Bool, true, length, get_or, map, refl, ap, ◌∙◌, sym, arith}
+use Rattle.std.proofs.Common.{◌≡◌, ℕ, zero, suc, ◌+◌, ◌<◌, List, [], ◌∷◌, ◌++◌, drop, take, Bool, true, Some, All, length, get_or, map, refl, ap, subst, ◌∙◌, sym, arith}
 use Rattle.std.specs.List.{slice_set, slice_get}
 use Rattle.std.proofs.lemmas.List.{append_assoc, map-append, drop_more, take_more}
-use Rattle.std.proofs.lemmas.Option.{slice_get_read}
+use Rattle.std.proofs.lemmas.List.Elements.{All-get_or}
+use Rattle.std.proofs.lemmas.Option.{slice_get_read, get_or_from_slice_get, slice_get_within}
 use Rattle.gic_base.specs.declared.shape.GuestShape.{GuestShape}
 use Rattle.scn_base.specs.declared.guest.GuestSpec.{GuestSpec}
 use Rattle.scn_base.specs.Good.{passes}
 use Rattle.scn_base.specs.Good.{shapes_of}
-use Rattle.gic_ideal.specs.declared.guest.IdealGuest.{IdealGuest}
-use Rattle.gic_ideal.specs.Opening.{opening}
+use Rattle.ideal_guest.specs.declared.guest.IdealGuest.{IdealGuest}
+use Rattle.ideal_guest.specs.Opening.{opening}
+use Rattle.ideal_guest.specs.Sound.{IsSound}
 use Rattle.scn_base.specs.declared.outcome.End.{End}
 use Rattle.gic_ideal.specs.Ends.{end_of, ends_of}
-use Rattle.gic_ideal.specs.Eager.{at_guest}
-use Rattle.gic_ideal.specs.Sound.{state_shapes}
+use Rattle.gic_ideal.specs.Eager.{at_guest, state_shapes}
+
+-- one of sound guests is sound
+pub sound_got : (guests : List IdealGuest) (n : ℕ) (guest : IdealGuest) → All IsSound guests → slice_get guests n ≡ Some guest → IsSound guest
+sound_got guests n guest sound h =
+    subst IsSound (get_or_from_slice_get guests n guest guest h) (All-get_or IsSound guests n guest (slice_get_within guests n guest h) sound)
 
 -- a guest whose shape passes a test is there
 pub guest_there : (states : List IdealGuest) (n : ℕ) (test : GuestShape → Bool) → passes test (slice_get (state_shapes states) n) ≡ true → n < length states

@@ -27,19 +27,19 @@ use Rattle.gic_call.specs.Command.{takes_command, lpi_event, command_parts, comm
 use Rattle.gic_call.specs.Call.{icc_events, access_events, starts_commands, device_events}
 use Rattle.gic_call.proofs.CallLemmas.{IsFineView, access_valid, icc_valid, device_valid}
 use Rattle.gic_call.proofs.CommandLemmas.{IsDone, command_valid, queue_valid}
-use Rattle.gic_ideal.specs.declared.guest.IdealGuest.{IdealGuest}
-use Rattle.gic_ideal.specs.Opening.{opening}
-use Rattle.gic_ideal.specs.Ideal.{view_of, word_at, after_event, after_events, after_command, after_commands, after_queued}
-use Rattle.gic_ideal.specs.Eager.{after_op, after_device, at_guest, after_step, after_steps}
-use Rattle.gic_ideal.specs.Sound.{IsSound, state_shapes}
+use Rattle.ideal_guest.specs.declared.guest.IdealGuest.{IdealGuest}
+use Rattle.ideal_guest.specs.Opening.{opening}
+use Rattle.ideal_guest.specs.Ideal.{view_of, word_at, after_event, after_events, after_command, after_commands, after_queued}
+use Rattle.ideal_guest.specs.Call.{after_op, after_device}
+use Rattle.gic_ideal.specs.Eager.{at_guest, after_step, after_steps, state_shapes}
+use Rattle.ideal_guest.specs.Sound.{IsSound}
 use Rattle.gic_ideal.specs.Deeds.{queued_events, op_events, step_events, steps_events}
 use Rattle.gic_ideal.specs.Laws.{CanFollow, CanFollowAll, AreFormed, StepsAreEvents, StepsCanFollow, RunsAreSound}
-use Rattle.gic_ideal.proofs.KeyLemmas.{tables_access}
+use Rattle.ideal_guest.proofs.KeyLemmas.{tables_access}
 use Rattle.gic_ideal.proofs.EffectLemmas.{shape_event}
-use Rattle.gic_ideal.proofs.OpeningLemmas.{empty_valid, sound_opening}
-use Rattle.gic_ideal.proofs.SoundLemmas.{sound_got}
+use Rattle.ideal_guest.proofs.OpeningLemmas.{empty_valid, sound_opening}
 use Rattle.gic_ideal.proofs.SoundEvents.{sound_events}
-use Rattle.gic_ideal.proofs.StateLemmas.{shapes_opening}
+use Rattle.gic_ideal.proofs.StateLemmas.{sound_got, shapes_opening}
 
 -- Events of parts, one after the other.
 

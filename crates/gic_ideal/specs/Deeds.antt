@@ -1,12 +1,11 @@
 -- What the events of steps do to one interrupt.
 use Rattle.std.specs.Prelude.{ℕ, ◌==◌, ◌&&◌, ◌||◌, ◌++◌, zero, suc, Bool, true, false, not, List, [], ◌∷◌, is_some, if◌then◌else◌}
 use Rattle.std.specs.Option.{option_map_or}
-use Rattle.gic_base.specs.declared.shape.GuestShape.{GuestShape}
 use Rattle.gic_base.specs.declared.interrupt.Key.{Key}
 use Rattle.gic_base.specs.declared.operation.Kind.TheVariants.{SetPending, ClearPending, ClearActive}
 use Rattle.gic_base.specs.declared.operation.GuestOp.{GuestOp}
 use Rattle.gic_base.specs.declared.operation.GuestOp.TheVariants.{Icc, Mem}
-use Rattle.gic_base.specs.Interrupt.{is_same_key, key_of}
+use Rattle.gic_base.specs.Interrupt.{is_same_key}
 use Rattle.gic_word.specs.declared.record.Irq.{Irq}
 use Rattle.gic_word.specs.Record.{is_number}
 use Rattle.gic_prio.specs.Access.{taken_by, deactivated_by}
@@ -19,8 +18,8 @@ use Rattle.gic_call.specs.declared.touch.Touching.{Touching}
 use Rattle.gic_call.specs.declared.touch.Touching.TheVariants.{Register, Forget}
 use Rattle.gic_call.specs.Command.{takes_command, command_events, queue_places}
 use Rattle.gic_call.specs.Call.{icc_events, access_events, starts_commands, device_events}
-use Rattle.gic_ideal.specs.declared.guest.IdealGuest.{IdealGuest}
-use Rattle.gic_ideal.specs.Ideal.{irq_at, cpu_at, word_at, candidates, view_of, after_event, after_events, after_command}
+use Rattle.ideal_guest.specs.declared.guest.IdealGuest.{IdealGuest}
+use Rattle.ideal_guest.specs.Ideal.{irq_at, is_named, cpu_at, word_at, candidates, view_of, after_event, after_events, after_command}
 
 -- The events of a step.
 
@@ -50,10 +49,6 @@ steps_events n [] state = []
 steps_events n (step ∷ steps) state = let events = step_events n step state in events ++ steps_events n steps (after_events events state)
 
 -- What an event does to an interrupt.
-
--- the interrupt is the one with this INTID at this vCPU
-abbrev pub is_named : ℕ → ℕ → GuestShape → Key → Bool
-is_named id vcpu shape key = option_map_or (is_same_key key) (key_of id vcpu shape) false
 
 -- it acknowledges the interrupt
 abbrev pub acknowledges : Event → IdealGuest → Key → Bool

@@ -1,45 +1,28 @@
 -- The ideal controller over a whole scenario: each step is done whole, and nothing ever waits at an interface.
-use Rattle.std.specs.Prelude.{ℕ, ◌+◌, List, [], ◌∷◌, map, replicate, slice_get, slice_set, if◌then◌else◌, Option, Some, None}
+use Rattle.std.specs.Prelude.{ℕ, ◌+◌, List, [], ◌∷◌, map, replicate, slice_get, slice_set, Option, Some, None}
 use Rattle.std.specs.List.{slice_index_or}
 use Rattle.std.specs.Option.{option_map_or}
-use Rattle.gic_base.specs.declared.operation.GuestOp.{GuestOp}
-use Rattle.gic_base.specs.declared.operation.GuestOp.TheVariants.{Icc, Mem}
-use Rattle.gic_base.specs.declared.operation.DeviceOp.{DeviceOp}
+use Rattle.gic_base.specs.declared.shape.GuestShape.{GuestShape}
 use Rattle.scn_base.specs.declared.scenario.Scenario.{Scenario}
 use Rattle.scn_base.specs.declared.step.Step.{Step}
 use Rattle.scn_base.specs.declared.step.Step.TheVariants.{Vcpu, Device, Pe}
-use Rattle.gic_ideal.specs.declared.guest.IdealGuest.{IdealGuest}
+use Rattle.ideal_guest.specs.declared.guest.IdealGuest.{IdealGuest}
 use Rattle.scn_base.specs.declared.outcome.RunOut.{RunOut}
 use Rattle.scn_base.specs.declared.outcome.Answer.{Answer}
-use Rattle.scn_base.specs.declared.outcome.Answer.TheVariants.{Nothing, Value, Regs}
+use Rattle.scn_base.specs.declared.outcome.Answer.TheVariants.{Nothing, Regs}
 use Rattle.gic_base.specs.declared.operation.PeOp.{PeOp}
 use Rattle.gic_base.specs.declared.operation.PeOp.TheVariants.{Enter, Exit, Lrs}
 use Rattle.gic_ideal.specs.Shown.{registers_of}
-use Rattle.gic_ideal.specs.Opening.{opening}
-use Rattle.gic_ideal.specs.Ideal.{access_answer, view_of, after_events, after_queued}
-use Rattle.gic_call.specs.Call.{icc_events, access_events, starts_commands, access_value, device_events}
+use Rattle.ideal_guest.specs.Opening.{opening}
+use Rattle.ideal_guest.specs.Call.{after_op, op_answer, after_device}
 use Rattle.scn_base.specs.declared.pes.VcpuName.{VcpuName}
 use Rattle.scn_base.specs.Standing.{opening_pes, pes_after}
 use Rattle.scn_base.specs.Good.{shapes_of}
 use Rattle.gic_ideal.specs.Ends.{ends_of}
 
--- the guest after an operation of a vCPU: its events, and the commands that it starts
-abbrev pub after_op : GuestOp → IdealGuest → ℕ → IdealGuest
-after_op (Icc reg write) guest vcpu = after_events (icc_events guest.shape vcpu reg write) guest
-after_op (Mem frame offset size write) guest vcpu =
-    let view = view_of guest in
-    let changed = after_events (access_events guest.shape view frame offset size write) guest in
-    if starts_commands guest.shape view frame offset size write then after_queued changed else changed
-
--- what the operation answers
-abbrev pub op_answer : GuestOp → IdealGuest → ℕ → Answer
-op_answer (Icc reg write) guest vcpu = option_map_or Value (access_answer reg write guest vcpu) Nothing
-op_answer (Mem frame offset size None) guest vcpu = Value (access_value guest.shape (view_of guest) frame offset size)
-op_answer (Mem frame offset size (Some value)) guest vcpu = Nothing
-
--- the guest after what a device does
-abbrev pub after_device : DeviceOp → IdealGuest → IdealGuest
-after_device op guest = after_events (device_events (view_of guest) op) guest
+-- what each guest has of each kind
+abbrev pub state_shapes : List IdealGuest → List GuestShape
+state_shapes guests = map (λ guest. guest.shape) guests
 
 -- the guests after something happened to one of them, where there is such a guest
 abbrev pub at_guest : ℕ → (IdealGuest → IdealGuest) → List IdealGuest → List IdealGuest

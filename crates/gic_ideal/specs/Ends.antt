@@ -6,7 +6,7 @@ use Rattle.std.specs.List.{range_with_len, filter_map}
 use Rattle.gic_base.specs.Interrupt.{interrupt_count, key_at}
 use Rattle.gic_word.specs.Record.{group_number, target_in}
 use Rattle.gic_ich.specs.Vmcr.{vmcr_of}
-use Rattle.gic_ideal.specs.declared.guest.IdealGuest.{IdealGuest}
+use Rattle.ideal_guest.specs.declared.guest.IdealGuest.{IdealGuest}
 use Rattle.scn_base.specs.declared.outcome.CpuEnd.{CpuEnd}
 use Rattle.scn_base.specs.declared.outcome.IrqEnd.{IrqEnd}
 use Rattle.scn_base.specs.declared.outcome.End.{End}
@@ -18,7 +18,7 @@ use Rattle.gic_frame.specs.Guest.{has_lpis}
 use Rattle.gic_dmap.specs.Contents.{ctlr_of}
 use Rattle.gic_imap.specs.Contents.{enabled_in, ctlr_of as its_ctlr_of, creadr_of}
 use Rattle.gic_open.specs.declared.plain.PlainWord.TheVariants.{ItsCtlr, Cbaser, Cwriter, Fault}
-use Rattle.gic_ideal.specs.Ideal.{cpu_at, irq_at, word_at}
+use Rattle.ideal_guest.specs.Ideal.{cpu_at, irq_at, word_at}
 
 -- the end of a vCPU's CPU interface
 abbrev pub cpu_end : IdealGuest → ℕ → CpuEnd

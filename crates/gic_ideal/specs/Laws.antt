@@ -21,11 +21,11 @@ use Rattle.gic_call.specs.declared.event.QueueChange.TheVariants.{Done}
 use Rattle.gic_call.specs.Valid.{IsOffset, HappensFreely}
 use Rattle.its_cmd.specs.Command.{decoded}
 use Rattle.its_tab.specs.Fault.{fault_number}
-use Rattle.gic_ideal.specs.declared.guest.IdealGuest.{IdealGuest}
-use Rattle.gic_ideal.specs.Opening.{opening}
-use Rattle.gic_ideal.specs.Ideal.{irq_at, cpu_at, candidates, access_answer, after_event, after_events}
-use Rattle.gic_ideal.specs.Eager.{after_steps}
-use Rattle.gic_ideal.specs.Sound.{IsSound, state_shapes}
+use Rattle.ideal_guest.specs.declared.guest.IdealGuest.{IdealGuest}
+use Rattle.ideal_guest.specs.Opening.{opening}
+use Rattle.ideal_guest.specs.Ideal.{irq_at, cpu_at, candidates, access_answer, after_event, after_events}
+use Rattle.gic_ideal.specs.Eager.{after_steps, state_shapes}
+use Rattle.ideal_guest.specs.Sound.{IsSound}
 use Rattle.gic_ideal.specs.Deeds.{steps_events, acknowledges, deactivates, causes, is_latched, is_caused_since, one_does}
 
 -- Which events a guest can have.

@@ -1,9 +1,5 @@
-pub mod Opening
-pub mod Ideal
-pub mod Sound
 pub mod Ends
 pub mod Shown
 pub mod Eager
 pub mod Deeds
 pub mod Laws
-pub mod Queue

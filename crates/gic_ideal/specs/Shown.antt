@@ -5,8 +5,8 @@ use Rattle.std.specs.List.{range_with_len}
 use Rattle.gic_base.specs.Interrupt.{interrupt_count, key_at}
 use Rattle.vcpu_refill.specs.declared.offer.Offer.{Offer}
 use Rattle.vcpu_refill.specs.Plan.{plan, words_of}
-use Rattle.gic_ideal.specs.declared.guest.IdealGuest.{IdealGuest}
-use Rattle.gic_ideal.specs.Ideal.{irq_at, cpu_at}
+use Rattle.ideal_guest.specs.declared.guest.IdealGuest.{IdealGuest}
+use Rattle.ideal_guest.specs.Ideal.{irq_at, cpu_at}
 
 -- the interrupt at a place in key order, with its record
 abbrev pub offer_at : IdealGuest → ℕ → Offer

@@ -2,9 +2,8 @@
 ghost use Rattle.std.specs.Prelude.{◌≡◌, ◌<◌, IfOk, map};
 ghost use Rattle.gic_base.specs.Interrupt.{interrupt_count as count_of};
 ghost use Rattle.gic_ideal.specs.Ends.{cpu_end as cpu_end_at, irq_end as irq_end_at, is_same_cpu_end, is_same_irq_end, changed_at, changed, gicd_end as gicd_end_between, its_end as its_end_at, is_same_its_end, its_end_between, dev_end, evt_end, col_end, end_of as end_between};
-ghost use Rattle.gic_ideal.specs.Sound.{IsSound};
+ghost use Rattle.ideal_guest.specs.Sound.{IsSound};
 
-use crate::guest::IdealGuest;
 use gic_base::{interrupt_count, key_at};
 use gic_dmap::ctlr;
 use gic_ich::vmcr_of;
@@ -12,6 +11,7 @@ use gic_imap::creadr;
 use gic_list::ListOf;
 use gic_open::PlainWord;
 use gic_word::{Group, target_in};
+use ideal_guest::IdealGuest;
 use scn_base::{
     ColEnd, ColEnds, CpuEnd, CpuEnds, DevEnd, DevEnds, End, EvtEnd, EvtEnds, IrqEnd, IrqEnds,
     ItsEnd,
@@ -38,44 +38,44 @@ fn is_same_irq(a: &IrqEnd, b: &IrqEnd) -> bool
         && a.to == b.to
 }
 
-impl IdealGuest {
-    fn cpu_end(&self, vcpu: u32) -> CpuEnd
-        requires sound { IsSound self.now }
-        requires there { vcpu < self.now.shape.vcpus }
-        ensures { result ≡ cpu_end_at self.now vcpu }
-    {
-        let cpu = self.cpu(vcpu);
-        CpuEnd {
-            vcpu,
-            vmcr: vmcr_of(&cpu),
-            ap0: cpu.ap0,
-            ap1: cpu.ap1,
-            lpis: cpu.lpis,
-        }
+/// The end of a vCPU's CPU interface.
+fn cpu_end(guest: &IdealGuest, vcpu: u32) -> CpuEnd
+    requires sound { IsSound guest.now }
+    requires there { vcpu < guest.now.shape.vcpus }
+    ensures { result ≡ cpu_end_at guest.now vcpu }
+{
+    let cpu = guest.cpu(vcpu);
+    CpuEnd {
+        vcpu,
+        vmcr: vmcr_of(&cpu),
+        ap0: cpu.ap0,
+        ap1: cpu.ap1,
+        lpis: cpu.lpis,
     }
+}
 
-    fn irq_end(&self, place: usize) -> IrqEnd
-        requires sound { IsSound self.now }
-        requires within { place < count_of self.now.shape }
-        ensures { result ≡ irq_end_at self.now place }
-    {
-        let key = key_at(place, &self.shape);
-        let irq = self.irq(key);
-        IrqEnd {
-            key,
-            enabled: irq.enabled,
-            group: match irq.group {
-                Group::G0 => 0,
-                Group::G1 => 1,
-            },
-            prio: irq.prio,
-            edge: irq.edge,
-            line: irq.line,
-            rise: irq.rise,
-            soft: irq.soft,
-            act_by: irq.act_by,
-            to: target_in(irq.route, &self.shape),
-        }
+/// The end of the interrupt at a place in key order.
+fn irq_end(guest: &IdealGuest, place: usize) -> IrqEnd
+    requires sound { IsSound guest.now }
+    requires within { place < count_of guest.now.shape }
+    ensures { result ≡ irq_end_at guest.now place }
+{
+    let key = key_at(place, &guest.shape);
+    let irq = guest.irq(key);
+    IrqEnd {
+        key,
+        enabled: irq.enabled,
+        group: match irq.group {
+            Group::G0 => 0,
+            Group::G1 => 1,
+        },
+        prio: irq.prio,
+        edge: irq.edge,
+        line: irq.line,
+        rise: irq.rise,
+        soft: irq.soft,
+        act_by: irq.act_by,
+        to: target_in(irq.route, &guest.shape),
     }
 }
 
@@ -87,8 +87,8 @@ fn changed_cpu(opened: &IdealGuest, closed: &IdealGuest, vcpu: u32) -> Option<Cp
     requires there { vcpu < opened.now.shape.vcpus }
     ensures { result ≡ changed_at is_same_cpu_end (cpu_end_at opened.now) (cpu_end_at closed.now) vcpu }
 {
-    let end = closed.cpu_end(vcpu);
-    (!is_same_cpu(&opened.cpu_end(vcpu), &end)).then_some(end)
+    let end = cpu_end(closed, vcpu);
+    (!is_same_cpu(&cpu_end(opened, vcpu), &end)).then_some(end)
 }
 
 /// The end of the interrupt at a place in key order, if it is not as at the opening.
@@ -99,8 +99,8 @@ fn changed_irq(opened: &IdealGuest, closed: &IdealGuest, place: usize) -> Option
     requires within { place < count_of opened.now.shape }
     ensures { result ≡ changed_at is_same_irq_end (irq_end_at opened.now) (irq_end_at closed.now) place }
 {
-    let end = closed.irq_end(place);
-    (!is_same_irq(&opened.irq_end(place), &end)).then_some(end)
+    let end = irq_end(closed, place);
+    (!is_same_irq(&irq_end(opened, place), &end)).then_some(end)
 }
 
 fn cpu_ends(alloc: Global, opened: &IdealGuest, closed: &IdealGuest) -> Result<CpuEnds, AllocError>
@@ -151,33 +151,32 @@ fn is_same_its(a: &ItsEnd, b: &ItsEnd) -> bool
         && a.fault == b.fault
 }
 
-impl IdealGuest {
-    fn its_end(&self) -> ItsEnd
-        requires { IsSound self.now }
-        ensures { result ≡ its_end_at self.now }
-    {
-        ItsEnd {
-            ctlr: gic_imap::ctlr(self.is_its_enabled()),
-            cbaser: self.word(PlainWord::Cbaser),
-            cwriter: self.word(PlainWord::Cwriter),
-            creadr: creadr(self.is_stalled, self.offset),
-            fault: if self.is_stalled {
-                self.word(PlainWord::Fault) as u8
-            } else {
-                0
-            },
-        }
+/// The end of the ITS.
+fn its_end(guest: &IdealGuest) -> ItsEnd
+    requires { IsSound guest.now }
+    ensures { result ≡ its_end_at guest.now }
+{
+    ItsEnd {
+        ctlr: gic_imap::ctlr(guest.is_its_enabled()),
+        cbaser: guest.word(PlainWord::Cbaser),
+        cwriter: guest.word(PlainWord::Cwriter),
+        creadr: creadr(guest.is_stalled, guest.offset),
+        fault: if guest.is_stalled {
+            guest.word(PlainWord::Fault) as u8
+        } else {
+            0
+        },
     }
 }
 
 /// The end of the ITS of a guest that has one, if it is not as at the opening.
-fn its_end(opened: &IdealGuest, closed: &IdealGuest) -> Option<ItsEnd>
+fn changed_its(opened: &IdealGuest, closed: &IdealGuest) -> Option<ItsEnd>
     requires opened { IsSound opened.now }
     requires closed { IsSound closed.now }
     ensures { result ≡ its_end_between opened.now closed.now }
 {
-    let end = closed.its_end();
-    (closed.shape.lpis != 0 && !is_same_its(&opened.its_end(), &end)).then_some(end)
+    let end = its_end(closed);
+    (closed.shape.lpis != 0 && !is_same_its(&its_end(opened), &end)).then_some(end)
 }
 
 /// The ends of devices.
@@ -237,7 +236,7 @@ pub(crate) fn end_of(
         gicd: gicd_end(opened, closed),
         cpus: cpu_ends(alloc, opened, closed)?,
         irqs: irq_ends(alloc, opened, closed)?,
-        its: its_end(opened, closed),
+        its: changed_its(opened, closed),
         devs: dev_ends(alloc, tables.devices(alloc)?.as_slice())?,
         evts: evt_ends(alloc, tables.events(alloc)?.as_slice())?,
         cols: col_ends(alloc, tables.collections(alloc)?.as_slice())?,

@@ -2,26 +2,14 @@
 //! computes is the definition of what is right.
 #![tactic(auto)]
 
-mod access;
-mod call;
 mod ends;
-mod guest;
-mod happen;
-mod icc;
-mod its;
-mod its_access;
 mod laws;
-mod opening;
-mod parts;
-mod redist;
 mod run;
 mod shown;
-mod state;
 #[cfg(test)]
 mod tests;
 
-pub use guest::IdealGuest;
-pub use its::{bad_commands_stall, queues_run_dry};
+pub use ideal_guest::IdealGuest;
 pub use laws::{
     acknowledge_answers, acknowledge_runs, acknowledge_takes_cause, answer_acknowledges,
     caused_between, caused_between_reads, deactivated_between, edge_pending_exactly,

@@ -3,15 +3,16 @@ ghost use Rattle.std.specs.Prelude.{◌≡◌, ◌≤◌, [], IfOk, IfSome, OnOk
 ghost use Rattle.scn_base.specs.declared.step.Mode.{Mode};
 ghost use Rattle.scn_base.specs.Standing.{has_vcpu, ResidentsExist};
 ghost use Rattle.scn_base.specs.Good.{IsGood, IsGoodGuest, is_formed, shapes_of};
-ghost use Rattle.gic_ideal.specs.Opening.{opening};
+ghost use Rattle.ideal_guest.specs.Opening.{opening};
 ghost use Rattle.gic_ideal.specs.Ends.{ends_of};
-ghost use Rattle.gic_ideal.specs.Eager.{shown, step_answer, after_step, answers_of, after_steps, eager as eager_run};
-ghost use Rattle.gic_ideal.specs.Sound.{IsSound, state_shapes};
+ghost use Rattle.gic_ideal.specs.Eager.{shown, step_answer, after_step, answers_of, after_steps, eager as eager_run, state_shapes};
+ghost use Rattle.ideal_guest.specs.Sound.{IsSound};
 
 use crate::ends::end_of;
-use crate::guest::IdealGuest;
+use crate::shown::registers;
 use gic_base::{MAX_LIST_REGISTERS, NoMemory, PeOp};
 use gic_list::ListOf;
+use ideal_guest::IdealGuest;
 use scn_base::{
     Answer, Answers, Ends, Guests, LrList, Pes, RunOut, Scenario, Step, Steps, VcpuName, move_pes,
     opening_pes,
@@ -53,7 +54,7 @@ fn show(
 {
     match resident {
         Some(VcpuName { guest, vcpu }) => {
-            Ok(Answer::Regs(states[guest as usize].registers(alloc, lrs, vcpu)?))
+            Ok(Answer::Regs(registers(alloc, &states[guest as usize], lrs, vcpu)?))
         }
         None => zeros(alloc, lrs),
     }

@@ -3,8 +3,9 @@ use Rattle.std.specs.List.{slice_set}
 use Rattle.std.proofs.Math.Seq.{map-set_same}
 use Rattle.std.proofs.lemmas.List.Elements.{All-set}
 use Rattle.scn_base.specs.Good.{is_good_event}
-use Rattle.gic_ideal.specs.Eager.{after_device, after_step}
-use Rattle.gic_ideal.specs.Sound.{IsSound}
+use Rattle.ideal_guest.specs.Call.{after_device}
+use Rattle.gic_ideal.specs.Eager.{after_step}
+use Rattle.ideal_guest.specs.Sound.{IsSound}
 use Rattle.gic_ideal.proofs.StateLemmas.{guest_there, at_guest_there}
 use Rattle.gic_ideal.proofs.run.do_step.Goals as goal
 

@@ -1,7 +1,7 @@
 use Rattle.std.proofs.Common.{length, ◌≡◌, ◌++◌, drop, All}
-use Rattle.gic_ideal.specs.Eager.{answers_of, after_steps}
+use Rattle.gic_ideal.specs.Eager.{answers_of, after_steps, state_shapes}
 use Rattle.scn_base.specs.Standing.{ResidentsExist}
-use Rattle.gic_ideal.specs.Sound.{IsSound, state_shapes}
+use Rattle.ideal_guest.specs.Sound.{IsSound}
 use Rattle.gic_ideal.proofs.run.do_steps.Given as goal
 
 -- the answers so far and those to what is left are those to all

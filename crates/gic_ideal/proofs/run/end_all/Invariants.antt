@@ -1,5 +1,5 @@
 use Rattle.std.proofs.Common.{◌≡◌, ◌++◌, drop, map, length}
-use Rattle.gic_ideal.specs.Opening.{opening}
+use Rattle.ideal_guest.specs.Opening.{opening}
 use Rattle.gic_ideal.specs.Ends.{ends_of}
 use Rattle.gic_ideal.proofs.run.end_all.Given as goal
 

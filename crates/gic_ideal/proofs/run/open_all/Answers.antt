@@ -1,6 +1,6 @@
 use Rattle.std.proofs.Common.{◌∷◌, [], ◌++◌, arith}
 use Rattle.std.proofs.lemmas.List.Elements.{All-push, All-same}
-use Rattle.gic_ideal.specs.Sound.{IsSound}
+use Rattle.ideal_guest.specs.Sound.{IsSound}
 use Rattle.gic_ideal.proofs.StateLemmas.{opened_pushed}
 use Rattle.gic_ideal.proofs.run.open_all.Goals as goal
 

@@ -1,6 +1,6 @@
 use Rattle.std.proofs.Common.{All, ◌≡◌, map, take}
-use Rattle.gic_ideal.specs.Opening.{opening}
-use Rattle.gic_ideal.specs.Sound.{IsSound}
+use Rattle.ideal_guest.specs.Opening.{opening}
+use Rattle.ideal_guest.specs.Sound.{IsSound}
 use Rattle.gic_ideal.proofs.run.open_all.Given as goal
 
 -- the states of the guests so far

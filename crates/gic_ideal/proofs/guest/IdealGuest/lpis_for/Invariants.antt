@@ -1,9 +1,0 @@
-use Rattle.std.proofs.Common.{◌≡◌, filter}
-use Rattle.std.specs.List.{range_with_len}
-use Rattle.gic_word.specs.Record.{is_number}
-use Rattle.gic_ideal.specs.Ideal.{view_of}
-use Rattle.gic_ideal.proofs.guest.IdealGuest.lpis_for.Given as goal
-
--- those of the LPIs so far
-abbrev pub invariant-loop-number : goal.invariant-loop-number
-invariant-loop-number l = l.lpis ≡ filter (λ id. is_number l.vcpu ((view_of l.self).targets id)) (range_with_len 8192 l.number)

@@ -1,0 +1,16 @@
+use Rattle.std.proofs.Common.{◌≡◌, ◌+◌, refl, ap, sym, ◌∙◌, add-one}
+use Rattle.gic_frame.specs.Parts.{part_at as put_at}
+use Rattle.gic_call.specs.Access.{part_at, part_value}
+use Rattle.ideal_guest.specs.Ideal.{view_of}
+use Rattle.ideal_guest.proofs.guest.IdealGuest.part_value.Goals as goal
+
+pub loop-number-preserved : goal.loop-number-preserved
+loop-number-preserved c =
+    let guest = c.args.self.now in
+    let kind = c.args.kind in
+    let n = c.loop-number.number in
+    let next : part_value guest.shape (view_of guest) c.args.frame kind c.args.first (n + 1) ≡ part_value guest.shape (view_of guest) c.args.frame kind c.args.first n + put_at kind (part_at guest.shape (view_of guest) c.args.frame kind c.args.first n) n = rw add-one refl in
+    record {
+      so_far = c.with_part-value.ensures.value ∙ ap (λ v. v + put_at kind c.part.result n) c.loop-number.invariant.so_far ∙ ap (λ p. part_value guest.shape (view_of guest) c.args.frame kind c.args.first n + put_at kind p n) c.part.ensures.value ∙ sym next;
+      below = c.with_part-value.ensures.before;
+    }

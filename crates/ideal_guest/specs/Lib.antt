@@ -1,0 +1,5 @@
+pub mod Opening
+pub mod Ideal
+pub mod Sound
+pub mod Queue
+pub mod Call

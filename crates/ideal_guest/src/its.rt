@@ -1,0 +1,156 @@
+//! The command queue of a guest's ITS.
+ghost use Rattle.std.specs.Prelude.{◌≡◌, ◌<◌, ◌^◌, None, Ok, OnOk, OnErr};
+ghost use Rattle.its_cmd.specs.Command.{decoded};
+ghost use Rattle.its_tab.specs.Fault.{fault_of};
+ghost use Rattle.its_tab.specs.After.{maps_after};
+ghost use Rattle.gic_call.specs.View.{memory_at};
+ghost use Rattle.gic_call.specs.Command.{takes_command as takes_command_in, queue_address as queue_address_in, word_address, command_words as command_words_in};
+ghost use Rattle.ideal_guest.specs.Ideal.{view_of, after_command, after_queued};
+ghost use Rattle.ideal_guest.specs.Queue.{QueuesRunDry, BadCommandsStall};
+ghost use Rattle.ideal_guest.specs.Sound.{IsSound};
+
+use crate::guest::IdealGuest;
+use gic_base::NoMemory;
+use gic_bits::{Field, has_bit};
+use gic_imap::queue_bytes;
+use gic_open::PlainWord;
+use its_cmd::{Command, decode};
+use its_queue::{COMMAND_BYTES, advance};
+use its_tab::UNKNOWN_NUMBER;
+use std::alloc::Global;
+
+/// GITS_CBASER.Valid.
+const VALID: u32 = 63;
+/// The address of the queue in GITS_CBASER: bits [51:12].
+const ADDRESS: Field = Field {
+    place: 12,
+    width: 40,
+};
+/// The bytes of a doubleword.
+const DOUBLEWORD_BYTES: u32 = 8;
+
+/// The address of the queue that GITS_CBASER names.
+fn queue_address(cbaser: u64) -> u64
+    ensures value { result ≡ queue_address_in cbaser }
+    ensures bound { result < 2 ^ 52 }
+{
+    ADDRESS.in_place(cbaser)
+}
+
+impl IdealGuest {
+    /// Whether a further command is taken.
+    fn takes_command(&self) -> bool
+        requires { IsSound self.now }
+        ensures { result ≡ takes_command_in (view_of self.now) }
+    {
+        self.is_its_enabled()
+            && has_bit(self.word(PlainWord::Cbaser), VALID)
+            && !self.is_stalled
+            && u64::from(self.offset) != self.word(PlainWord::Cwriter)
+    }
+
+    /// The doubleword of the next command with a number from 0.
+    fn command_word(&self, number: u32) -> u64
+        requires sound { IsSound self.now }
+        requires number { number < 4 }
+        ensures { result ≡ memory_at self.now.shape (view_of self.now) (word_address (view_of self.now) number) 8 }
+    {
+        let queue = queue_address(self.word(PlainWord::Cbaser));
+        let address = queue + u64::from(self.offset) + u64::from(DOUBLEWORD_BYTES * number);
+        self.memory(address, DOUBLEWORD_BYTES)
+    }
+
+    /// The four doublewords of the next command.
+    fn command_words(&self) -> [u64; 4]
+        requires { IsSound self.now }
+        ensures { result ≡ command_words_in self.now.shape (view_of self.now) }
+    {
+        [
+            self.command_word(0),
+            self.command_word(1),
+            self.command_word(2),
+            self.command_word(3),
+        ]
+    }
+
+    /// A command without a fault changes the maps. `NoMemory` leaves the guest as it was.
+    fn carry_out(&mut self, command: &Command) -> Result<(), NoMemory>
+        requires sound { IsSound self.old }
+        requires good { fault_of self.old.shape self.old.tables command.now ≡ None }
+        ensures ok { OnOk result (self.new ≡ record self.old { tables = maps_after self.old.tables command.now }) }
+        ensures err { OnErr result (self.new ≡ self.old) }
+        ensures sound { IsSound self.new }
+        ensures shape { self.new.shape ≡ self.old.shape }
+    {
+        let shape = self.shape;
+        self.tables.carry_out(command, &shape)
+    }
+
+    /// A command without a fault is done: its parts, then the maps, and then the queue goes on.
+    fn finish(&mut self, alloc: Global, command: &Command) -> Result<(), NoMemory>
+        requires sound { IsSound self.old }
+        requires next { decoded (command_words_in self.old.shape (view_of self.old)) ≡ Ok command.now }
+        requires good { fault_of self.old.shape self.old.tables command.now ≡ None }
+        ensures ok { OnOk result (self.new ≡ after_command self.old) }
+        ensures sound { IsSound self.new }
+        ensures shape { self.new.shape ≡ self.old.shape }
+    {
+        let parts = self.parts(alloc, command)?;
+        let events = self.part_events(alloc, parts.as_slice())?;
+        let next = advance(self.offset, queue_bytes(self.word(PlainWord::Cbaser)));
+        self.happen_all(events.as_slice());
+        self.carry_out(command)?;
+        self.set_queue(next, false);
+        Ok(())
+    }
+
+    /// The next command is done, or the queue stalls at it where it has a fault. After `NoMemory` only its parts may
+    /// have happened.
+    fn do_command(&mut self, alloc: Global) -> Result<(), NoMemory>
+        requires { IsSound self.old }
+        ensures ok { OnOk result (self.new ≡ after_command self.old) }
+        ensures sound { IsSound self.new }
+        ensures shape { self.new.shape ≡ self.old.shape }
+    {
+        let shape = self.shape;
+        let Ok(command) = decode(self.command_words()) else {
+            self.stall(self.offset, UNKNOWN_NUMBER);
+            return Ok(());
+        };
+        match self.tables.fault_in(&command, &shape) {
+            Some(fault) => {
+                self.stall(self.offset, fault.number());
+                Ok(())
+            }
+            None => self.finish(alloc, &command),
+        }
+    }
+
+    /// All commands that are taken are done.
+    pub(crate) fn run_queue(&mut self, alloc: Global) -> Result<(), NoMemory>
+        requires { IsSound self.old }
+        ensures ok { OnOk result (self.new ≡ after_queued self.old) }
+        ensures sound { IsSound self.new }
+        ensures shape { self.new.shape ≡ self.old.shape }
+    {
+        let places = queue_bytes(self.word(PlainWord::Cbaser)) / COMMAND_BYTES;
+        for _place in 0..places {
+            if !self.takes_command() {
+                return Ok(());
+            }
+            self.do_command(alloc)?;
+        }
+        Ok(())
+    }
+}
+
+/// A law of the command queue: the commands that a write starts are all that are taken, in a guest whose GITS_CWRITER
+/// and whose place of the next command are in the queue.
+pub fn queues_run_dry()
+    ensures { QueuesRunDry }
+{}
+
+/// A law of commands: one that has a fault changes nothing but the stall and the fault that is stored.
+pub fn bad_commands_stall()
+    ensures { BadCommandsStall }
+{}

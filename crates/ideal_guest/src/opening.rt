@@ -1,0 +1,34 @@
+//! How a guest opens.
+ghost use Rattle.std.specs.Prelude.{◌≡◌, IfOk};
+ghost use Rattle.scn_base.specs.Good.{IsGoodGuest};
+ghost use Rattle.ideal_guest.specs.Opening.{opening};
+ghost use Rattle.ideal_guest.specs.Sound.{IsSound};
+
+use crate::guest::IdealGuest;
+use gic_dmap::enables_in;
+use gic_open::{cpus, irqs, opening_enables, plains};
+use its_tab::empty;
+use scn_base::GuestSpec;
+use std::alloc::{AllocError, Global};
+
+impl IdealGuest {
+    /// The state in which a guest opens: the records of its presets, nothing pending or active, memory and stored
+    /// registers 0, and an ITS that has mapped nothing. `AllocError` where memory is refused.
+    #[tactic(auto, using(crate::proofs::OpeningLemmas::sound_opening))]
+    pub fn open(alloc: Global, guest: &GuestSpec) -> Result<Self, AllocError>
+        requires { IsGoodGuest guest.now }
+        ensures value { IfOk result (λ state. state ≡ opening guest.now) }
+        ensures sound { IfOk result IsSound }
+    {
+        Ok(IdealGuest {
+            shape: guest.shape,
+            irqs: irqs(alloc, guest)?,
+            cpus: cpus(alloc, guest)?,
+            enables: enables_in(opening_enables(guest.on)),
+            words: plains(alloc, &guest.shape)?,
+            offset: 0,
+            is_stalled: false,
+            tables: empty(alloc),
+        })
+    }
+}
