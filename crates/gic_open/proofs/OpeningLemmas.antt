@@ -23,10 +23,11 @@ use Rattle.scn_base.specs.Good.{passes, preset_key, IsGoodPreset, IsGoodGuest}
 use Rattle.gic_open.specs.Opening.{idle_irq, opening_irq, with_preset, irq_in, after_preset, opening_irqs, irqs_of}
 use Rattle.gic_open.proofs.KeyLemmas.{place_within, key_at_place, place_same, irq_in_there, length-with_irq_in, irq_same, irq_other}
 
--- a record that an interrupt of the guest can have, at no interface and without a latched cause
+-- a record that an interrupt of the guest can have, at no interface, inactive and without a latched cause
 pub record IsValid (shape : GuestShape) (key : Key) (irq : Irq) : Type 0 where
   pub record_of : IsRecordOf shape key irq
   pub home : IsHome irq
+  pub inactive : irq.act_by ≡ None
   pub no_rise : irq.rise ≡ false
   pub no_soft : irq.soft ≡ false
 
@@ -41,6 +42,7 @@ idle_valid shape on key group edge route fits routed kind =
     record {
       record_of = record { packable = record { prio = refl; prio_bits = lit< tt; active = tt; holder = tt; route = fits }; route = routed; kind = kind; active = refl; holder = refl };
       home = record { unheld = refl; unwanted = refl };
+      inactive = refl;
       no_rise = refl;
       no_soft = refl;
     }
@@ -68,6 +70,7 @@ preset_made shape preset key irq good fits routed kind valid =
             holder = is.holder;
           };
       home = record { unheld = valid.home.unheld; unwanted = valid.home.unwanted };
+      inactive = valid.inactive;
       no_rise = valid.no_rise;
       no_soft = valid.no_soft;
     }

@@ -1,0 +1,6 @@
+pub mod PartLemmas
+pub mod FollowLemmas
+pub mod WorkedLemmas
+pub mod WorkedExitLemmas
+pub mod WorkedAgainLemmas
+pub mod WorkedClearLemmas

@@ -1,0 +1,12 @@
+pub mod Parts
+pub mod Ideal
+pub mod Scan
+pub mod Registers
+pub mod Progress
+pub mod Proper
+pub mod Called
+pub mod Worked
+pub mod WorkedExit
+pub mod WorkedAgain
+pub mod WorkedClear
+pub mod Laws

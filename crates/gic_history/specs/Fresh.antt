@@ -1,0 +1,227 @@
+-- Fresh histories: a change reaches a CPU interface no later than its call ends (own choice; the architecture asks for finite time).
+use Rattle.std.specs.Prelude.{ℕ, ◌+◌, ◌&&◌, ◌||◌, ◌==◌, not, Bool, true, false, IsTrue, List, [], ◌∷◌, ◌++◌, map, fold, filter, filter_map, length, nat_lt, replicate, Option, Some, None, is_some, slice_index_or, slice_set, if◌then◌else◌}
+use Rattle.std.specs.List.{list_all, list_any, range_with_len}
+use Rattle.std.specs.Option.{option_map_or, option_and_then}
+use Rattle.gic_base.specs.declared.icc.IccReg.{IccReg}
+use Rattle.gic_base.specs.declared.icc.IccReg.TheVariants.{Iar0, Iar1, Hppir0, Hppir1, Eoir0, Eoir1, Dir}
+use Rattle.gic_base.specs.declared.interrupt.Key.{Key}
+use Rattle.gic_base.specs.declared.shape.GuestShape.{GuestShape}
+use Rattle.gic_base.specs.Interrupt.{interrupt_count, is_same_key, key_at, key_of, place_of, intid_of}
+use Rattle.gic_word.specs.Record.{is_number, is_pending}
+use Rattle.gic_prio.specs.Access.{deactivated_by}
+use Rattle.gic_prio.specs.Delivery.{is_deliverable, is_before, first_of}
+use Rattle.gic_prio.specs.Interface.{candidates_at}
+use Rattle.gic_prio.specs.Signal.{intid_written}
+use Rattle.gic_call.specs.declared.event.Event.{Event}
+use Rattle.gic_call.specs.declared.event.Event.TheVariants.{Cpu, Reach, Leave, Queue}
+use Rattle.gic_call.specs.declared.event.Moment.{Moment}
+use Rattle.gic_call.specs.declared.event.Moment.TheVariants.{Begin, Happens, End}
+use Rattle.gic_call.specs.declared.event.Operation.{Operation}
+use Rattle.scn_base.specs.declared.guest.GuestSpec.{GuestSpec}
+use Rattle.ideal_guest.specs.Ideal.{irq_at, cpu_at}
+use Rattle.gic_history.specs.State.{Ideal, opening, standing_at, moved_at, is_home, interface_at, view_at}
+use Rattle.gic_history.specs.Moves.{happened}
+use Rattle.gic_history.specs.History.{actor_count}
+use Rattle.gic_history.specs.Named.{key_in, named_by}
+
+-- Calls and changes.
+
+-- a call of an actor, or one of the commands of a call, each of which counts as a call of its own: the actor's calls and commands are numbered
+pub record Turn : Type 0 where
+  pub actor : ℕ
+  pub number : ℕ
+
+-- an actor: what its call is for, if it is in one, the number of that, and the interrupts of the events that it made in it
+pub record Doing : Type 0 where
+  pub operation : Option Operation
+  pub number : ℕ
+  pub done : List Key
+
+-- an interrupt: who changed it last, and who did since it got to the interface where it is, oldest first
+pub record Changes : Type 0 where
+  pub last : Option Turn
+  pub since : List Turn
+
+-- what a history says of its actors and of its interrupts, by place; and which interrupts are to leave which vCPU's interface before its call ends
+pub record Track : Type 0 where
+  pub doings : List Doing
+  pub changes : List Changes
+  pub leaving : List (ℕ × Key)
+
+abbrev pub opening_track : GuestShape → Track
+opening_track shape =
+    record {
+      doings = replicate (actor_count shape) (record { operation = None; number = 0; done = [] });
+      changes = replicate (interrupt_count shape) (record { last = None; since = [] });
+      leaving = [];
+    }
+
+abbrev pub doing_of : Track → ℕ → Doing
+doing_of track actor = slice_index_or track.doings actor (record { operation = None; number = 0; done = [] })
+
+abbrev pub changes_of : GuestShape → Track → Key → Changes
+changes_of shape track key = slice_index_or track.changes (place_of shape key) (record { last = None; since = [] })
+
+abbrev pub turn_of : Track → ℕ → Turn
+turn_of track actor = record { actor = actor; number = (doing_of track actor).number }
+
+-- a call is open to a vCPU: another actor is in it
+abbrev pub is_open : Track → ℕ → Turn → Bool
+is_open track vcpu turn =
+    let doing = doing_of track turn.actor in not (turn.actor == vcpu) && is_some doing.operation && doing.number == turn.number
+
+-- an actor's call names an interrupt, and did not make all its events of it
+abbrev pub times : Key → List Key → ℕ
+times key keys = length (filter (is_same_key key) keys)
+
+abbrev pub has_left : Ideal → ℕ → Doing → Key → Bool
+has_left state actor doing key =
+    option_map_or (λ operation. nat_lt (times key doing.done) (times key (filter_map key_in (named_by state.guest.shape (view_at state) actor operation)))) doing.operation false
+
+-- an open call names it and has not done all for it
+abbrev pub is_pending_in : Ideal → Track → ℕ → Key → ℕ → Bool
+is_pending_in state track vcpu key actor = not (actor == vcpu) && has_left state actor (doing_of track actor) key
+
+abbrev pub is_named_open : Ideal → Track → ℕ → Key → Bool
+is_named_open state track vcpu key = list_any (is_pending_in state track vcpu key) (range_with_len 0 (actor_count state.guest.shape))
+
+-- its last change was made in an open call
+abbrev pub is_last_open : GuestShape → Track → ℕ → Key → Bool
+is_last_open shape track vcpu key = option_map_or (is_open track vcpu) (changes_of shape track key).last false
+
+-- The four clauses.
+
+-- at an acknowledge: each home interrupt that is deliverable to the vCPU and before the first that is at its interface was changed last in an open call, or
+-- an open call names it and has not done all for it
+abbrev pub asks_first : IccReg → Option ℕ → Bool
+asks_first Iar0 None = true
+asks_first Iar1 None = true
+asks_first Hppir0 None = true
+asks_first Hppir1 None = true
+asks_first reg write = false
+
+abbrev pub comes_first : Ideal → ℕ → Key → Bool
+comes_first state vcpu key =
+    let irq = irq_at state.guest key in
+    is_home state key && is_deliverable key irq vcpu (cpu_at state.guest vcpu) state.guest.shape
+    && option_map_or (is_before (record { id = intid_of key; prio = irq.prio; group = irq.group })) (first_of (candidates_at (interface_at state vcpu))) true
+
+abbrev pub is_excused : Ideal → Track → ℕ → Key → Bool
+is_excused state track vcpu key = is_last_open state.guest.shape track vcpu key || is_named_open state track vcpu key
+
+abbrev pub keys_in : GuestShape → List Key
+keys_in shape = map (key_at shape) (range_with_len 0 (interrupt_count shape))
+
+abbrev pub is_fresh_at_acknowledge : Ideal → Track → Event → Bool
+is_fresh_at_acknowledge state track (Cpu vcpu reg write) =
+    not (asks_first reg write) || list_all (λ key. not (comes_first state vcpu key) || is_excused state track vcpu key) (keys_in state.guest.shape)
+is_fresh_at_acknowledge state track event = true
+
+-- at the interface: at each access, each change of what stands there, since it got there, was made in an open call
+abbrev pub is_fresh_at_interface : Ideal → Track → Event → Bool
+is_fresh_at_interface state track (Cpu vcpu reg write) =
+    list_all (λ standing. list_all (is_open track vcpu) (changes_of state.guest.shape track standing.key).since) (standing_at state vcpu)
+is_fresh_at_interface state track event = true
+
+-- at an end of interrupt, or a deactivation, that names a home interrupt active by the vCPU: its last change was made in an open call
+abbrev pub ended_by : GuestShape → ℕ → IccReg → Option ℕ → Option Key
+ended_by shape vcpu Eoir0 (Some value) = key_of (intid_written value) vcpu shape
+ended_by shape vcpu Eoir1 (Some value) = key_of (intid_written value) vcpu shape
+ended_by shape vcpu Dir (Some value) = key_of (intid_written value) vcpu shape
+ended_by shape vcpu reg write = None
+
+abbrev pub is_far_active : Ideal → ℕ → Key → Bool
+is_far_active state vcpu key = is_home state key && is_number vcpu (irq_at state.guest key).act_by
+
+abbrev pub is_fresh_at_end : Ideal → Track → Event → Bool
+is_fresh_at_end state track (Cpu vcpu reg write) =
+    option_map_or (λ key. not (is_far_active state vcpu key) || is_last_open state.guest.shape track vcpu key) (ended_by state.guest.shape vcpu reg write) true
+is_fresh_at_end state track event = true
+
+-- at a deactivation of an interrupt at the interface that is not pending there while its record is: it leaves before that call ends, unless the last change
+-- since it got there was made in a call that is open then
+abbrev pub last_since : Changes → Option Turn
+last_since changes = fold (λ last turn. Some turn) None changes.since
+
+abbrev pub is_late : Ideal → Track → ℕ → Key → Bool
+is_late state track vcpu key =
+    option_map_or (λ moved. moved.entry.active && not moved.entry.pending && is_pending moved.irq) (moved_at state vcpu key) false
+    && not (option_map_or (is_open track vcpu) (last_since (changes_of state.guest.shape track key)) false)
+
+abbrev pub left_behind : Ideal → Track → Event → List (ℕ × Key)
+left_behind state track (Cpu vcpu reg write) =
+    option_map_or (λ key. if is_late state track vcpu key then (vcpu, key) ∷ [] else [])
+    (option_and_then (λ id. key_of id vcpu state.guest.shape) (deactivated_by reg write (cpu_at state.guest vcpu))) []
+left_behind state track event = []
+
+abbrev pub has_left_all : Track → ℕ → Bool
+has_left_all track actor = not (list_any (λ pair. pair.0 == actor) track.leaving)
+
+-- Along a history.
+
+-- the interrupt that an event changes: one of a call, or one that leaves
+abbrev pub changed_by : Event → Option Key
+changed_by (Leave key vcpu) = Some key
+changed_by event = key_in event
+
+abbrev pub with_changes : GuestShape → Key → (Changes → Changes) → Track → Track
+with_changes shape key change track = record track { changes = slice_set track.changes (place_of shape key) (change (changes_of shape track key)) }
+
+-- after the changes that an event makes
+abbrev pub after_changes : GuestShape → ℕ → Event → Track → Track
+after_changes shape actor (Reach key vcpu) track = with_changes shape key (λ changes. record changes { since = [] }) track
+after_changes shape actor event track =
+    option_map_or
+    (λ key. with_changes shape key (λ changes. record { last = Some (turn_of track actor); since = changes.since ++ turn_of track actor ∷ [] }) track)
+    (changed_by event)
+    track
+
+-- after what its actor did
+abbrev pub after_doing : ℕ → Event → Doing → Doing
+after_doing actor (Queue offset change) doing = record doing { number = doing.number + 1; done = [] }
+after_doing actor event doing = record doing { done = option_map_or (λ key. doing.done ++ key ∷ []) (key_in event) doing.done }
+
+abbrev pub with_doing : ℕ → Doing → Track → Track
+with_doing actor doing track = record track { doings = slice_set track.doings actor doing }
+
+-- after who has to leave, or left
+abbrev pub after_leaving : Ideal → Event → Track → Track
+after_leaving state (Leave key vcpu) track = record track { leaving = filter (λ pair. not (pair.0 == vcpu && is_same_key pair.1 key)) track.leaving }
+after_leaving state event track = record track { leaving = track.leaving ++ left_behind state track event }
+
+-- after a moment, where the state before it is this
+abbrev pub tracked : Ideal → Moment → Track → Track
+tracked state (Begin actor operation) track =
+    with_doing actor (record { operation = Some operation; number = (doing_of track actor).number + 1; done = [] }) track
+tracked state (Happens actor event found) track =
+    let after = after_leaving state event (after_changes state.guest.shape actor event track) in
+    with_doing actor (after_doing actor event (doing_of track actor)) after
+tracked state (End actor answer) track = with_doing actor (record (doing_of track actor) { operation = None }) track
+
+abbrev pub after_moment : Ideal → Moment → Ideal
+after_moment state (Happens actor event found) = happened actor event state
+after_moment state moment = state
+
+-- a clause of each event of a history, and of the end of each call
+abbrev pub of_event : (Ideal → Track → Event → Bool) → Ideal → Track → Moment → Bool
+of_event clause state track (Happens actor event found) = clause state track event
+of_event clause state track moment = true
+
+abbrev pub of_end : Ideal → Track → Moment → Bool
+of_end state track (End actor answer) = has_left_all track actor
+of_end state track moment = true
+
+abbrev pub is_kept_from : (Ideal → Track → Moment → Bool) → Ideal → Track → List Moment → Bool
+is_kept_from clause state track [] = true
+is_kept_from clause state track (moment ∷ moments) =
+    clause state track moment && is_kept_from clause (after_moment state moment) (tracked state moment track) moments
+
+abbrev pub is_kept : (Ideal → Track → Moment → Bool) → GuestSpec → List Moment → Bool
+is_kept clause guest moments = is_kept_from clause (opening guest) (opening_track guest.shape) moments
+
+-- a history of a guest is fresh
+pub record IsFresh (guest : GuestSpec) (moments : List Moment) : Type 0 where
+  pub acknowledge : IsTrue (is_kept (of_event is_fresh_at_acknowledge) guest moments)
+  pub interface : IsTrue (is_kept (of_event is_fresh_at_interface) guest moments)
+  pub end : IsTrue (is_kept (of_event is_fresh_at_end) guest moments)
+  pub deactivation : IsTrue (is_kept of_end guest moments)

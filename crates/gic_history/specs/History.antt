@@ -1,0 +1,123 @@
+-- Histories: what the actors of a guest do from its opening on, one event after the other.
+use Rattle.std.specs.Prelude.{◌≡◌, ℕ, ◌+◌, ◌<◌, ◌≤◌, nat_lt, IsTrue, List, [], ◌∷◌, ◌++◌, map, length, replicate, fold, All, Contains, Option, option_map, Some, None, is_none, is_some, slice_index_or, slice_set, if◌then◌else◌}
+use Rattle.gic_base.specs.declared.shape.GuestShape.{GuestShape}
+use Rattle.gic_call.specs.declared.event.Event.{Event}
+use Rattle.gic_call.specs.declared.event.Event.TheVariants.{Enable, ItsBegin, Queue}
+use Rattle.gic_call.specs.declared.event.QueueChange.TheVariants.{Runs}
+use Rattle.gic_call.specs.declared.event.Found.{Found}
+use Rattle.gic_call.specs.declared.event.Moment.{Moment}
+use Rattle.gic_call.specs.declared.event.Moment.TheVariants.{Begin, Happens, End}
+use Rattle.gic_call.specs.declared.event.Operation.{Operation}
+use Rattle.gic_call.specs.Trace.{Happened, Beside, IsCall}
+use Rattle.gic_call.specs.Valid.{CanHappen}
+use Rattle.its_tab.specs.Maps.{Maps}
+use Rattle.scn_base.specs.declared.guest.GuestSpec.{GuestSpec}
+use Rattle.gic_history.specs.State.{Ideal, opening, view_at}
+use Rattle.gic_history.specs.Moves.{is_allowed, handed_out, happened}
+
+-- a call in progress: what it is for, its events so far, and the maps that the ITS had as it took it; and the vCPUs that LPIs were for, at each moment of
+-- each of its commands, and at each moment since then
+pub record Call : Type 0 where
+  pub operation : Operation
+  pub piece : List Happened
+  pub maps : Maps
+  pub done : List (List (ℕ → Option ℕ))
+  pub targets : List (ℕ → Option ℕ)
+
+-- the guest, and the call of each actor, if it is in one
+pub record Course : Type 0 where
+  pub ideal : Ideal
+  pub calls : List (Option Call)
+
+-- how many actors a guest has: the vCPUs come first, and then the devices
+abbrev pub actor_count : GuestShape → ℕ
+actor_count shape = shape.vcpus + shape.devices
+
+-- the vCPU that an actor is, if it is one
+abbrev pub vcpu_of : GuestShape → ℕ → Option ℕ
+vcpu_of shape actor = if nat_lt actor shape.vcpus then Some actor else None
+
+abbrev pub opening_course : GuestSpec → Course
+opening_course guest = record { ideal = opening guest; calls = replicate (actor_count guest.shape) None }
+
+abbrev pub call_of : Course → ℕ → Option Call
+call_of course actor = slice_index_or course.calls actor None
+
+abbrev pub targets_in : Ideal → ℕ → Option ℕ
+targets_in ideal = (view_at ideal).targets
+
+-- a call as it begins
+abbrev pub begun : Ideal → Operation → Call
+begun ideal operation =
+    record { operation = operation; piece = []; maps = record { devices = []; events = []; collections = [] }; done = []; targets = targets_in ideal ∷ [] }
+
+-- what a call notes at an event of its own: the maps as it takes the ITS; and its commands end one by one. The LPIs of a pending table count from where
+-- EnableLPIs is stored
+abbrev pub noted : Ideal → Event → Call → Call
+noted ideal ItsBegin call = record call { maps = ideal.guest.tables }
+noted ideal (Enable vcpu) call = record call { targets = [] }
+noted ideal (Queue offset Runs) call = call
+noted ideal (Queue offset change) call = record call { done = call.done ++ call.targets ∷ []; targets = [] }
+noted ideal event call = call
+
+abbrev pub made : Ideal → Event → Found → Call → Call
+made ideal event found call = let call' = noted ideal event call in record call' { piece = call'.piece ++ (record { event = event; found = found }) ∷ [] }
+
+-- what it notes at each event
+abbrev pub seeing : Ideal → Call → Call
+seeing ideal call = record call { targets = call.targets ++ targets_in ideal ∷ [] }
+
+-- the course after a moment
+abbrev pub gone_on : Course → Moment → Course
+gone_on course (Begin actor operation) = record course { calls = slice_set course.calls actor (Some (begun course.ideal operation)) }
+gone_on course (Happens actor event found) =
+    let ideal = happened actor event course.ideal in
+    record {
+      ideal = ideal;
+      calls = map (option_map (seeing ideal)) (slice_set course.calls actor (option_map (made course.ideal event found) (call_of course actor)));
+    }
+gone_on course (End actor answer) = record course { calls = slice_set course.calls actor None }
+
+abbrev pub course_of : Course → List Moment → Course
+course_of course moments = fold gone_on course moments
+
+-- what an actor's call has made is the call, with this answer: of an ITS that had the maps with which the call took it, and of LPIs each of which was for
+-- this vCPU at some moment of the command (own choice: of a call without commands at some moment of the call, or from EnableLPIs on)
+pub record IsEnded (shape : GuestShape) (actor : ℕ) (call : Call) (answer : Option ℕ) : Type 0 where
+  pub beside : Beside
+  pub maps : beside.maps ≡ call.maps
+  pub targets : (number id : ℕ) → number ≤ length call.done → Contains (map (λ targets. targets id) (slice_index_or (call.done ++ call.targets ∷ []) number [])) (beside.targets number id)
+  pub is_call : IsCall shape beside (vcpu_of shape actor) call.operation call.piece answer
+
+abbrev pub IsCallEnded : GuestShape → ℕ → Option Call → Option ℕ → Type 0
+IsCallEnded shape actor None answer = ⊥
+IsCallEnded shape actor (Some call) answer = IsEnded shape actor call answer
+
+-- an event that may happen, in a call of its actor's, and hands out what is there
+pub record IsHappening (course : Course) (actor : ℕ) (event : Event) (found : Found) : Type 0 where
+  pub within : IsTrue (is_some (call_of course actor))
+  pub can : CanHappen course.ideal.guest.shape event
+  pub allowed : IsTrue (is_allowed course.ideal actor event)
+  pub hands : found ≡ handed_out course.ideal event
+
+-- a moment goes on with a course
+abbrev pub IsNext : Course → Moment → Type 0
+IsNext course (Begin actor operation) = (actor < actor_count course.ideal.guest.shape) × IsTrue (is_none (call_of course actor))
+IsNext course (Happens actor event found) = IsHappening course actor event found
+IsNext course (End actor answer) = IsCallEnded course.ideal.guest.shape actor (call_of course actor) answer
+
+abbrev pub GoesOn : Course → List Moment → Type 0
+GoesOn course [] = Unit {0}
+GoesOn course (moment ∷ moments) = IsNext course moment × GoesOn (gone_on course moment) moments
+
+-- a history of a guest from its opening
+abbrev pub IsHistory : GuestSpec → List Moment → Type 0
+IsHistory guest moments = GoesOn (opening_course guest) moments
+
+-- its last state
+abbrev pub last_of : GuestSpec → List Moment → Ideal
+last_of guest moments = (course_of (opening_course guest) moments).ideal
+
+-- all calls ended
+abbrev pub IsWhole : GuestSpec → List Moment → Type 0
+IsWhole guest moments = All (λ call. IsTrue (is_none call)) (course_of (opening_course guest) moments).calls

@@ -1,0 +1,66 @@
+-- Laws of worked histories: the definitions say of them what a reader expects.
+use Rattle.std.specs.Prelude.{◌≡◌, ◌++◌, Bool, true, false, List, [], ◌∷◌}
+use Rattle.gic_call.specs.declared.event.Moment.{Moment}
+use Rattle.gic_history.specs.Fresh.{IsFresh, is_kept, of_event, of_end, is_fresh_at_acknowledge, is_fresh_at_interface, is_fresh_at_end}
+use Rattle.gic_base.specs.declared.interrupt.Key.TheVariants.{Spi}
+use Rattle.gic_base.specs.declared.operation.Kind.TheVariants.{ClearPending}
+use Rattle.gic_call.specs.declared.event.Event.TheVariants.{Touch, Reach, Take, Leave, Queue, ItsBegin, ItsEnd, CtlrEnd}
+use Rattle.gic_call.specs.declared.event.QueueChange.TheVariants.{Runs}
+use Rattle.gic_call.specs.declared.touch.Touching.TheVariants.{Register}
+use Rattle.gic_history.specs.History.{IsHistory, last_of}
+use Rattle.gic_history.specs.Moves.{is_allowed, happened}
+use Rattle.gic_history.specs.State.{opening}
+use Rattle.gic_history.specs.Worked.{worked_guest, served, preempted, withdrawn, message, wire_up, reach, migrated, refilled, repeated, returned, in_flight, overlooked, outdated, unended, kept}
+
+-- moments are a fresh history of the worked guest
+pub record IsFreshHistory (moments : List Moment) : Type 0 where
+  pub history : IsHistory worked_guest moments
+  pub fresh : IsFresh worked_guest moments
+
+-- a message that is served, one of a higher priority over it, one that is withdrawn, one that is routed to another vCPU, a level interrupt whose wire stays up,
+-- a message that comes twice, one whose interrupt leaves an interface and gets there again, and one whose call is open at an acknowledge
+pub record WorkedHistoriesAreFresh : Type 0 where
+  pub served : IsFreshHistory served
+  pub preempted : IsFreshHistory preempted
+  pub withdrawn : IsFreshHistory withdrawn
+  pub migrated : IsFreshHistory migrated
+  pub refilled : IsFreshHistory refilled
+  pub repeated : IsFreshHistory repeated
+  pub returned : IsFreshHistory returned
+  pub in_flight : IsFreshHistory in_flight
+
+-- which of the four clauses of fresh moments of the worked guest keep
+abbrev pub kept_clauses : List Moment → List Bool
+kept_clauses moments =
+    is_kept (of_event is_fresh_at_acknowledge) worked_guest moments
+    ∷ is_kept (of_event is_fresh_at_interface) worked_guest moments
+    ∷ is_kept (of_event is_fresh_at_end) worked_guest moments
+    ∷ is_kept of_end worked_guest moments
+    ∷ []
+
+-- moments are a history of the worked guest that keeps just these clauses
+pub record IsHistoryThatKeeps (moments : List Moment) (clauses : List Bool) : Type 0 where
+  pub history : IsHistory worked_guest moments
+  pub keeps : kept_clauses moments ≡ clauses
+
+-- each clause of fresh refuses a history that the other three let pass
+pub record EachClauseRefuses : Type 0 where
+  pub acknowledge : IsHistoryThatKeeps overlooked (false ∷ true ∷ true ∷ true ∷ [])
+  pub interface : IsHistoryThatKeeps outdated (true ∷ false ∷ true ∷ true ∷ [])
+  pub end : IsHistoryThatKeeps unended (true ∷ true ∷ false ∷ true ∷ [])
+  pub deactivation : IsHistoryThatKeeps kept (true ∷ true ∷ true ∷ false ∷ [])
+
+-- what an actor may not make of an interrupt at an interface, and without a mark
+pub record WhatIsNotAllowed : Type 0 where
+  -- a write of another vCPU, and another reach of a level interrupt whose wire is up
+  pub touches : is_allowed (last_of worked_guest (message 40 ++ reach 0 40)) 1 (Touch (Spi 40) (Register ClearPending 1)) ≡ false
+  pub reaches : is_allowed (last_of worked_guest (wire_up 41 ++ reach 0 41)) 0 (Reach (Spi 41) 0) ≡ false
+  -- a take of an interrupt that is pending there already, and a move of one that is not there
+  pub takes : is_allowed (last_of worked_guest (wire_up 41 ++ reach 0 41)) 0 (Take (Spi 41) 0) ≡ false
+  pub leaves : is_allowed (last_of worked_guest (message 40)) 0 (Leave (Spi 40) 0) ≡ false
+  -- the queue's and the marks' ends, of an actor that has none
+  pub queue : is_allowed (opening worked_guest) 1 (Queue 0 Runs) ≡ false
+  pub its : is_allowed (opening worked_guest) 1 ItsEnd ≡ false
+  pub ctlr : is_allowed (opening worked_guest) 1 CtlrEnd ≡ false
+  -- and a mark that another actor has
+  pub second : is_allowed (happened 0 ItsBegin (opening worked_guest)) 1 ItsBegin ≡ false

@@ -1,0 +1,176 @@
+-- Worked histories of a guest with two vCPUs and a device: fresh ones, and for each clause of fresh one that this clause alone refuses.
+use Rattle.std.specs.Prelude.{ℕ, Bool, true, false, List, [], ◌∷◌, ◌++◌, Option, Some, None}
+use Rattle.gic_base.specs.declared.icc.IccReg.{IccReg}
+use Rattle.gic_base.specs.declared.icc.IccReg.TheVariants.{Iar1, Eoir1, Rpr}
+use Rattle.gic_base.specs.declared.interrupt.Key.TheVariants.{Spi}
+use Rattle.gic_base.specs.declared.operation.DeviceOp.TheVariants.{Message, Wire}
+use Rattle.gic_base.specs.declared.operation.Frame.TheVariants.{Dist}
+use Rattle.gic_base.specs.declared.operation.GuestOp.TheVariants.{Icc, Mem}
+use Rattle.gic_base.specs.declared.operation.Kind.TheVariants.{ClearPending, Routing}
+use Rattle.gic_word.specs.declared.record.Group.TheVariants.{G1}
+use Rattle.gic_word.specs.declared.record.Irq.{Irq}
+use Rattle.gic_word.specs.declared.record.Route.TheVariants.{Affinity}
+use Rattle.gic_call.specs.declared.event.Event.{Event}
+use Rattle.gic_call.specs.declared.event.Event.TheVariants.{Raise, Up, Touch, Reach, Take, Leave, Cpu}
+use Rattle.gic_call.specs.declared.event.Found.{Found}
+use Rattle.gic_call.specs.declared.event.Found.TheVariants.{Nothing, Record, Answer}
+use Rattle.gic_call.specs.declared.event.Moment.{Moment}
+use Rattle.gic_call.specs.declared.event.Moment.TheVariants.{Begin, Happens, End}
+use Rattle.gic_call.specs.declared.event.Operation.{Operation}
+use Rattle.gic_call.specs.declared.event.Operation.TheVariants.{Access, Device, Residence}
+use Rattle.gic_call.specs.declared.touch.Touching.{Touching}
+use Rattle.gic_call.specs.declared.touch.Touching.TheVariants.{Register}
+use Rattle.scn_base.specs.declared.guest.GuestSpec.{GuestSpec}
+use Rattle.scn_base.specs.declared.preset.Preset.{Preset}
+
+-- two vCPUs and a device, the actor 2; SPIs 40 and 42 are edge and 41 is level, all for vCPU 0, and 42 comes before the others
+abbrev preset : ℕ → ℕ → Bool → Preset
+preset id prio edge = record { id = id; prio = prio; edge = edge; group = 1; to = Some 0; vcpu = None }
+
+abbrev pub worked_guest : GuestSpec
+worked_guest =
+    record {
+      shape = record { vcpus = 2; spis = 32; espis = 0; devices = 1; lpis = 0; ram = 0 };
+      on = true;
+      presets = preset 40 0xa0 true ∷ preset 41 0xa0 false ∷ preset 42 0x20 true ∷ [];
+    }
+
+-- Calls with one event.
+
+abbrev pub calls : ℕ → Operation → Event → Found → Option ℕ → List Moment
+calls actor operation event found answer = Begin actor operation ∷ Happens actor event found ∷ End actor answer ∷ []
+
+-- a message of an SPI, and the wire of an SPI up
+abbrev pub message : ℕ → List Moment
+message id = calls 2 (Device (Message id)) (Raise (Spi id)) Nothing None
+
+abbrev pub wire_up : ℕ → List Moment
+wire_up id = calls 2 (Device (Wire (Spi id) true)) (Up (Spi id)) Nothing None
+
+-- an SPI gets to a vCPU's interface, and leaves it, as the vCPU enters and leaves a PE
+abbrev pub reach : ℕ → ℕ → List Moment
+reach vcpu id = calls vcpu Residence (Reach (Spi id) vcpu) Nothing None
+
+abbrev pub leave : ℕ → ℕ → List Moment
+leave vcpu id = calls vcpu Residence (Leave (Spi id) vcpu) Nothing None
+
+-- a vCPU reads a register of its CPU interface, and ends an interrupt
+abbrev pub reads : ℕ → IccReg → ℕ → List Moment
+reads vcpu reg value = calls vcpu (Access (Icc reg None)) (Cpu vcpu reg None) (Answer (Some value)) (Some value)
+
+abbrev pub ends : ℕ → ℕ → List Moment
+ends vcpu id = calls vcpu (Access (Icc Eoir1 (Some id))) (Cpu vcpu Eoir1 (Some id)) (Answer None) None
+
+-- Fresh histories.
+
+-- SPI 40 as it is once a message made it pending
+abbrev pub pending_irq : Irq
+pending_irq =
+    record {
+      prio = 0xa0;
+      enabled = true;
+      group = G1;
+      edge = true;
+      line = false;
+      rise = false;
+      soft = true;
+      act_by = None;
+      holder = None;
+      want = false;
+      en0 = true;
+      en1 = true;
+      route = Affinity 0;
+    }
+
+-- vCPU 1 writes a register of the distributor that touches it
+abbrev pub writes : ℕ → ℕ → ℕ → Touching → List Moment
+writes offset size value touching = calls 1 (Access (Mem Dist offset size (Some value))) (Touch (Spi 40) touching) (Record pending_irq) None
+
+-- a message is acknowledged once, and ended
+abbrev pub served : List Moment
+served = message 40 ++ reach 0 40 ++ reads 0 Iar1 40 ++ ends 0 40 ++ reads 0 Iar1 1023 ++ leave 0 40
+
+-- a second one of a higher priority comes while the first is active, and is acknowledged over it, in an access in which the first leaves
+abbrev pub takes_over : List Moment
+takes_over =
+    Begin 0 (Access (Icc Iar1 None))
+    ∷ Happens 0 (Leave (Spi 40) 0) Nothing
+    ∷ Happens 0 (Reach (Spi 42) 0) Nothing
+    ∷ Happens 0 (Cpu 0 Iar1 None) (Answer (Some 42))
+    ∷ End 0 (Some 42)
+    ∷ []
+
+abbrev pub preempted : List Moment
+preempted =
+    message 40 ++ reach 0 40 ++ reads 0 Iar1 40 ++ message 42 ++ takes_over ++ reads 0 Rpr 0x20 ++ ends 0 42 ++ reads 0 Rpr 0xa0
+
+-- it is withdrawn by the other vCPU, by CLRSPI_NSR, which takes it back from the interface first
+abbrev pub withdrawn : List Moment
+withdrawn =
+    message 40 ++ reach 0 40 ++ leave 0 40 ++ writes 0x48 4 40 (Register ClearPending 1) ++ reads 0 Iar1 1023
+
+-- it is routed to the other vCPU, which acknowledges it
+abbrev pub migrated : List Moment
+migrated =
+    message 40 ++ writes 0x6140 8 1 (Register Routing 1) ++ reads 0 Iar1 1023 ++ reach 1 40 ++ reads 1 Iar1 40
+
+-- a level interrupt is ended while its wire is up, and leaves before that call ends
+abbrev pub ends_and_leaves : List Moment
+ends_and_leaves =
+    Begin 0 (Access (Icc Eoir1 (Some 41)))
+    ∷ Happens 0 (Cpu 0 Eoir1 (Some 41)) (Answer None)
+    ∷ Happens 0 (Leave (Spi 41) 0) Nothing
+    ∷ End 0 None
+    ∷ []
+
+abbrev pub refilled : List Moment
+refilled = wire_up 41 ++ reach 0 41 ++ reads 0 Iar1 41 ++ ends_and_leaves ++ reach 0 41 ++ reads 0 Iar1 41
+
+-- a message comes again while the interrupt is active at the interface; it leaves, gets there again, active, and becomes pending there too; it is
+-- acknowledged once more, and no third time
+abbrev pub take : List Moment
+take = calls 0 Residence (Take (Spi 40) 0) Nothing None
+
+abbrev pub repeated : List Moment
+repeated =
+    message 40 ++ reach 0 40 ++ reads 0 Iar1 40 ++ message 40 ++ leave 0 40 ++ reach 0 40 ++ take ++ ends 0 40 ++ reads 0 Iar1 40 ++ ends 0 40 ++ leave 0 40 ++ reads 0 Iar1 1023
+
+-- what leaves an interface before an acknowledge is still pending
+abbrev pub returned : List Moment
+returned = message 40 ++ reach 0 40 ++ leave 0 40 ++ reach 0 40 ++ reads 0 Iar1 40
+
+-- an acknowledge finds nothing while the call of the message is open
+abbrev pub begins_message : List Moment
+begins_message = Begin 2 (Device (Message 40)) ∷ Happens 2 (Raise (Spi 40)) Nothing ∷ []
+
+abbrev pub ends_message : List Moment
+ends_message = End 2 None ∷ []
+
+abbrev pub in_flight : List Moment
+in_flight = begins_message ++ reads 0 Iar1 1023 ++ ends_message ++ reach 0 40 ++ reads 0 Iar1 40
+
+-- Histories that are not.
+
+-- an acknowledge finds nothing after the call of a message ended
+abbrev pub overlooked : List Moment
+overlooked = message 40 ++ reads 0 Iar1 1023
+
+-- an interrupt at the interface changed, in a call that ended before an access
+abbrev pub outdated : List Moment
+outdated = message 40 ++ reach 0 40 ++ message 40 ++ reads 0 Rpr 0xff
+
+-- an active interrupt that has left the interface is ended, and stays active
+abbrev pub leaves_and_ends : List Moment
+leaves_and_ends =
+    Begin 0 (Access (Icc Eoir1 (Some 40)))
+    ∷ Happens 0 (Leave (Spi 40) 0) Nothing
+    ∷ Happens 0 (Cpu 0 Eoir1 (Some 40)) (Answer None)
+    ∷ End 0 None
+    ∷ []
+
+abbrev pub unended : List Moment
+unended = message 40 ++ reach 0 40 ++ reads 0 Iar1 40 ++ leaves_and_ends
+
+-- a level interrupt is ended while its wire is up, and does not leave
+abbrev pub kept : List Moment
+kept = wire_up 41 ++ reach 0 41 ++ reads 0 Iar1 41 ++ ends 0 41

@@ -1,0 +1,21 @@
+//! Laws of worked histories.
+ghost use Rattle.gic_history.specs.Laws.{WorkedHistoriesAreFresh, EachClauseRefuses, WhatIsNotAllowed};
+
+/// A law of eight worked histories of a guest with two vCPUs: they are histories, and fresh.
+#[tactic(auto, using(crate::proofs::WorkedLemmas::worked))]
+pub fn worked_histories_are_fresh()
+    ensures { WorkedHistoriesAreFresh }
+{}
+
+/// A law of the four clauses of fresh: each refuses a history that the other three let pass.
+#[tactic(auto, using(crate::proofs::WorkedLemmas::refused))]
+pub fn each_clause_refuses()
+    ensures { EachClauseRefuses }
+{}
+
+/// A law of what may not happen: a touch or another reach of an interrupt at an interface, a move of one that is not
+/// there, the use of a mark that the actor does not have, and a mark that another actor has.
+#[tactic(auto, using(crate::proofs::WorkedLemmas::not_allowed))]
+pub fn what_is_not_allowed()
+    ensures { WhatIsNotAllowed }
+{}

@@ -1,0 +1,168 @@
+-- What words and actors' own states say of each other after steps.
+use Rattle.std.proofs.Common.{◌≡◌, ◌≢◌, ℕ, ◌<◌, Bool, true, false, is_none, Option, Some, None, refl, sym, ap, ◌∙◌, arith}
+use Rattle.std.specs.Option.{ForSome}
+use Rattle.std.proofs.lemmas.Bool.{eqb-true, eq-eqb, ne_eqb}
+use Rattle.gic_base.specs.declared.shape.GuestShape.{GuestShape}
+use Rattle.gic_base.specs.declared.interrupt.Key.{Key}
+use Rattle.gic_base.specs.Shape.{IsShape}
+use Rattle.gic_word.specs.declared.record.Irq.{Irq as IrqRecord}
+use Rattle.gic_word.specs.Record.{is_number}
+use Rattle.gic_word.specs.Word.{packed, irq_of}
+use Rattle.its_queue.specs.declared.word.QueueWord.{QueueWord}
+use Rattle.its_queue.specs.Queue.{IsQueue, queue_of, packed as packed_queue}
+use Rattle.port_core.specs.declared.local.Local.{Local}
+use Rattle.port_core.specs.declared.words.VcpuWord.{VcpuWord}
+use Rattle.port_core.specs.declared.words.CtlrWord.{CtlrWord}
+use Rattle.port_core.specs.declared.word_id.WordId.{WordId}
+use Rattle.port_core.specs.declared.word_id.WordId.TheVariants.{Irq, Vcpu, Index, Queue, Ctlr, Plain}
+use Rattle.port_core.specs.Forms.{packed_vcpu, ctlr_of, packed_ctlr}
+use Rattle.port_core.specs.Local.{is_at}
+use Rattle.port_core.specs.Actor.{actor_count}
+use Rattle.port_core.specs.Valid.{IsActorOrNone, IsIndexWord, IsLocal, Ties, CanFind}
+use Rattle.port_core.proofs.FrameLemmas.{Keeps}
+use Rattle.port_core.proofs.StepLocals.{none_kept}
+use Rattle.port_core.proofs.StepWords.{IsOwned, irq_word, packed_is, vcpu_word, queue_word, queue_back, ctlr_word, ctlr_back}
+
+-- Numbers that are there or not.
+
+pub number_is : (n : ℕ) (o : Option ℕ) → is_number n o ≡ true → o ≡ Some n
+number_is n None h = absurd (cc)
+number_is n (Some m) h = ap Some (eqb-true m n h)
+
+pub number_self : (n : ℕ) → is_number n (Some n) ≡ true
+number_self n = eq-eqb n n refl
+
+pub number_other : (n m : ℕ) → n ≢ m → is_number n (Some m) ≡ false
+number_other n m differ = ne_eqb m n (λ e. differ (sym e))
+
+pub none_is : {T : Type 0} (o : Option T) → is_none o ≡ true → o ≡ None
+none_is None h = refl
+none_is (Some x) h = absurd (cc)
+
+-- an actor's number fits its field
+pub few_actors : (shape : GuestShape) (o : Option ℕ) → IsShape shape → IsActorOrNone shape o → ForSome o (λ actor. actor < 64)
+few_actors shape o good h = λ actor e. let here : actor < actor_count shape = h actor e in omega (arith, here, good.vcpus, good.devices)
+
+-- An actor that has what it had.
+
+pub record SameTies (before after : Local) : Type 0 where
+  pub at : (key : Key) → is_at key after.at ≡ is_at key before.at
+  pub turn : after.turn ≡ before.turn
+  pub ctlr : after.ctlr ≡ before.ctlr
+
+pub ties_kept : (shape : GuestShape) (actor : ℕ) (before after : Local) → SameTies before after → (word : WordId) (n : ℕ) → Ties shape actor before word n → Ties shape actor after word n
+ties_kept shape actor before after same (Irq key) n h = h ∙ sym (same.at key)
+ties_kept shape actor before after same Queue n h = h ∙ sym same.turn
+ties_kept shape actor before after same Ctlr n h = h ∙ sym same.ctlr
+ties_kept shape actor before after same (Vcpu vcpu) n h = tt
+ties_kept shape actor before after same (Index vcpu number) n h = tt
+ties_kept shape actor before after same (Plain index) n h = tt
+
+-- the word stays as it was
+pub keeps_word : (shape : GuestShape) (actor : ℕ) (before after : Local) (word : WordId) (found : ℕ) → CanFind shape actor before word found → IsLocal shape actor after → SameTies before after → Keeps shape actor before after word found found
+keeps_word shape actor before after word found find is same =
+    record { valid = find.valid; local = is; here = ties_kept shape actor before after same word found find.ties; others = λ other local differ h. h; elsewhere = λ w n differ h. ties_kept shape actor before after same w n h }
+
+-- nothing changes
+pub keeps_all : (shape : GuestShape) (actor : ℕ) (local : Local) (word : WordId) (found : ℕ) → CanFind shape actor local word found → IsLocal shape actor local → Keeps shape actor local local word found found
+keeps_all shape actor local word found find is = keeps_word shape actor local local word found find is (record { at = λ key. refl; turn = refl; ctlr = refl })
+
+-- The words of which an actor's own state says nothing.
+
+pub keeps_vcpu : (shape : GuestShape) (actor : ℕ) (before after : Local) (vcpu found : ℕ) (left : VcpuWord) → IsLocal shape actor after → SameTies before after → Keeps shape actor before after (Vcpu vcpu) found (packed_vcpu left)
+keeps_vcpu shape actor before after vcpu found left is same =
+    record { valid = vcpu_word left; local = is; here = tt; others = λ other local differ h. tt; elsewhere = λ w n differ h. ties_kept shape actor before after same w n h }
+
+pub keeps_index : (shape : GuestShape) (actor : ℕ) (before after : Local) (vcpu number found left : ℕ) → IsIndexWord shape number left → IsLocal shape actor after → SameTies before after → Keeps shape actor before after (Index vcpu number) found left
+keeps_index shape actor before after vcpu number found left valid is same =
+    record { valid = valid; local = is; here = tt; others = λ other local differ h. tt; elsewhere = λ w n differ h. ties_kept shape actor before after same w n h }
+
+-- The words of interrupts.
+
+-- who holds the interrupt does not change
+pub keeps_irq :
+    (shape : GuestShape) (actor : ℕ) (before after : Local) (key : Key) (found : ℕ) (irq : IrqRecord) → IsOwned shape key irq → irq.holder ≡ (irq_of found).holder → Ties shape actor before (Irq key) found → IsLocal shape actor after
+    → SameTies before after → Keeps shape actor before after (Irq key) found (packed irq)
+keeps_irq shape actor before after key found irq owned held ties is same =
+    let back : (irq_of (packed irq)).holder ≡ (irq_of found).holder = ap (λ i. i.holder) (packed_is irq owned.record_of.packable) ∙ held in
+    record {
+      valid = irq_word shape key irq owned;
+      local = is;
+      here = ap (is_number actor) back ∙ ties ∙ sym (same.at key);
+      others = λ other local differ h. ap (is_number other) back ∙ h;
+      elsewhere = λ w n differ h. ties_kept shape actor before after same w n h;
+    }
+
+-- the actor begins to hold the interrupt, goes on to, or ends it
+pub record Moves (key : Key) (actor : ℕ) (before after : Local) (found irq : IrqRecord) : Type 0 where
+  pub here : is_number actor irq.holder ≡ is_at key after.at
+  pub others : (other : ℕ) → other ≢ actor → is_number other irq.holder ≡ is_number other found.holder
+  pub at : (other : Key) → other ≢ key → is_at other after.at ≡ is_at other before.at
+  pub turn : after.turn ≡ before.turn
+  pub ctlr : after.ctlr ≡ before.ctlr
+
+pub keeps_moved :
+    (shape : GuestShape) (actor : ℕ) (before after : Local) (key : Key) (found : ℕ) (irq : IrqRecord) → IsOwned shape key irq → IsLocal shape actor after → Moves key actor before after (irq_of found) irq
+    → Keeps shape actor before after (Irq key) found (packed irq)
+keeps_moved shape actor before after key found irq owned is moves =
+    let back : (irq_of (packed irq)).holder ≡ irq.holder = ap (λ i. i.holder) (packed_is irq owned.record_of.packable) in
+    record {
+      valid = irq_word shape key irq owned;
+      local = is;
+      here = ap (is_number actor) back ∙ moves.here;
+      others = λ other local differ h. ap (is_number other) back ∙ moves.others other differ ∙ h;
+      elsewhere = else;
+    }
+  where
+    else : (w : WordId) (n : ℕ) → w ≢ Irq key → Ties shape actor before w n → Ties shape actor after w n
+    else (Irq k) n differ h = h ∙ sym (moves.at k (λ e. differ (ap Irq e)))
+    else Queue n differ h = h ∙ sym moves.turn
+    else Ctlr n differ h = h ∙ sym moves.ctlr
+    else (Vcpu vcpu) n differ h = tt
+    else (Index vcpu number) n differ h = tt
+    else (Plain index) n differ h = tt
+
+-- The queue's word and GICD_CTLR's.
+
+pub keeps_queue :
+    (shape : GuestShape) (actor : ℕ) (before : Local) (turn : Bool) (found : ℕ) (left : QueueWord) → IsShape shape → IsActorOrNone shape left.turn → IsQueue left → is_number actor left.turn ≡ turn
+    → ((other : ℕ) → other ≢ actor → is_number other left.turn ≡ is_number other (queue_of found).turn) → IsLocal shape actor before → Keeps shape actor before (record before { turn = turn }) Queue found (packed_queue left)
+keeps_queue shape actor before turn found left good actors is here others local =
+    let back : (queue_of (packed_queue left)).turn ≡ left.turn = ap (λ q. q.turn) (queue_back left is) in
+    record {
+      valid = (queue_word left is, λ a e. actors a (sym back ∙ e));
+      local = record { points = local.points; levels = local.levels; at = local.at; once = local.once; room = local.room; owes = local.owes; marks_are = local.marks_are; marks = local.marks; cands = local.cands; device = λ e. none_kept before _ refl refl (local.device e) };
+      here = ap (is_number actor) back ∙ here;
+      others = λ other l differ h. ap (is_number other) back ∙ others other differ ∙ h;
+      elsewhere = else;
+    }
+  where
+    else : (w : WordId) (n : ℕ) → w ≢ Queue → Ties shape actor before w n → Ties shape actor (record before { turn = turn }) w n
+    else (Irq k) n differ h = h
+    else Queue n differ h = absurd (differ refl)
+    else Ctlr n differ h = h
+    else (Vcpu vcpu) n differ h = tt
+    else (Index vcpu number) n differ h = tt
+    else (Plain index) n differ h = tt
+
+pub keeps_ctlr :
+    (shape : GuestShape) (actor : ℕ) (before : Local) (mark : Bool) (found : ℕ) (left : CtlrWord) → IsShape shape → IsActorOrNone shape left.mark → is_number actor left.mark ≡ mark
+    → ((other : ℕ) → other ≢ actor → is_number other left.mark ≡ is_number other (ctlr_of found).mark) → IsLocal shape actor before → Keeps shape actor before (record before { ctlr = mark }) Ctlr found (packed_ctlr left)
+keeps_ctlr shape actor before mark found left good actors here others local =
+    let is = few_actors shape left.mark good actors in
+    let back : (ctlr_of (packed_ctlr left)).mark ≡ left.mark = ap (λ c. c.mark) (ctlr_back left is) in
+    record {
+      valid = (ctlr_word left is, λ a e. actors a (sym back ∙ e));
+      local = record { points = local.points; levels = local.levels; at = local.at; once = local.once; room = local.room; owes = local.owes; marks_are = local.marks_are; marks = local.marks; cands = local.cands; device = λ e. none_kept before _ refl refl (local.device e) };
+      here = ap (is_number actor) back ∙ here;
+      others = λ other l differ h. ap (is_number other) back ∙ others other differ ∙ h;
+      elsewhere = else;
+    }
+  where
+    else : (w : WordId) (n : ℕ) → w ≢ Ctlr → Ties shape actor before w n → Ties shape actor (record before { ctlr = mark }) w n
+    else (Irq k) n differ h = h
+    else Queue n differ h = h
+    else Ctlr n differ h = absurd (differ refl)
+    else (Vcpu vcpu) n differ h = tt
+    else (Index vcpu number) n differ h = tt
+    else (Plain index) n differ h = tt

@@ -1,0 +1,16 @@
+pub mod Actor
+pub mod Place
+pub mod Forms
+pub mod Local
+pub mod Step
+pub mod Known
+pub mod Condition
+pub mod Effect
+pub mod After
+pub mod Stands
+pub mod Valid
+pub mod Run
+pub mod AtList
+pub mod Atomic
+pub mod Port
+pub mod Laws

@@ -1,0 +1,137 @@
+-- Runs of the core: steps of actors, one after the other, from the words with which a guest opens.
+use Rattle.std.specs.Prelude.{◌≡◌, ℕ, ◌<◌, ◌==◌, Bool, true, false, IsTrue, List, [], ◌∷◌, ◌++◌, map, filter, fold, length, if◌then◌else◌, Option, Some, None, slice_index_or, slice_set}
+use Rattle.std.specs.Option.{option_map_or}
+use Rattle.std.specs.List.{range_with_len}
+use Rattle.gic_base.specs.declared.operation.Actor.TheVariants.{Vcpu as VcpuActor}
+use Rattle.gic_base.specs.declared.shape.GuestShape.{GuestShape}
+use Rattle.gic_word.specs.Word.{packed}
+use Rattle.gic_dmap.specs.Contents.{enables_in}
+use Rattle.gic_open.specs.Opening.{irqs_of, irq_in, opening_cpu, opening_enables}
+use Rattle.scn_base.specs.declared.guest.GuestSpec.{GuestSpec}
+use Rattle.its_tab.specs.After.{IsValid as IsValidMaps}
+use Rattle.its_tab.specs.Maps.{Maps}
+use Rattle.port_core.specs.declared.local.Local.{Local}
+use Rattle.port_core.specs.declared.run.Entry.{Entry}
+use Rattle.port_core.specs.declared.run.Made.{Made}
+use Rattle.port_core.specs.declared.step.CoreStep.{CoreStep}
+use Rattle.port_core.specs.declared.step.CoreStep.TheVariants.{TurnTake}
+use Rattle.port_core.specs.declared.word_id.WordId.{WordId}
+use Rattle.port_core.specs.declared.word_id.WordId.TheVariants.{Irq, Ctlr}
+use Rattle.port_core.specs.Actor.{actor_at, actor_count}
+use Rattle.port_core.specs.After.{local_after}
+use Rattle.port_core.specs.Condition.{Meets}
+use Rattle.port_core.specs.Effect.{succeeds, word_after}
+use Rattle.port_core.specs.Forms.{packed_ctlr}
+use Rattle.port_core.specs.Known.{no_maps, maps_by_step, known_maps}
+use Rattle.port_core.specs.Local.{opening_local}
+use Rattle.port_core.specs.Place.{has_word, word_count, word_at, place_of_word}
+use Rattle.port_core.specs.Step.{word_of, CanStep}
+use Rattle.port_core.specs.Valid.{IsValid, IsLocal, Ties}
+
+-- an actor: what it has for itself, and the steps that it made, oldest first
+pub record Seat : Type 0 where
+  pub local : Local
+  pub own : List Made
+
+-- the state of the core: each word by its place, each actor by its number, and the maps of the ITS
+pub record CoreState : Type 0 where
+  pub words : List ℕ
+  pub seats : List Seat
+  pub maps : Maps
+
+-- The opening.
+
+-- a word as a guest opens
+abbrev pub opening_word_of : GuestSpec → WordId → ℕ
+opening_word_of guest (Irq key) = packed (irq_in guest.shape (irqs_of guest) key)
+opening_word_of guest Ctlr = packed_ctlr (record { enables = enables_in (opening_enables guest.on); mark = None })
+opening_word_of guest word = 0
+
+-- the word at a place; 0 where it only fills a line
+abbrev pub opening_word : GuestSpec → ℕ → ℕ
+opening_word guest place = option_map_or (opening_word_of guest) (word_at guest.shape place) 0
+
+-- what an actor has for itself as its guest opens
+abbrev pub opening_local_of : GuestSpec → ℕ → ℕ → Local
+opening_local_of guest number actor = opening_local (actor_at guest.shape number actor) (opening_cpu guest.on)
+
+-- a guest of a number as it opens
+abbrev pub opening_seat : GuestSpec → ℕ → ℕ → Seat
+opening_seat guest number actor = record { local = opening_local_of guest number actor; own = [] }
+
+abbrev pub opening : GuestSpec → ℕ → CoreState
+opening guest number =
+    record {
+      words = map (opening_word guest) (range_with_len 0 (word_count guest.shape));
+      seats = map (opening_seat guest number) (range_with_len 0 (actor_count guest.shape));
+      maps = no_maps;
+    }
+
+-- Steps.
+
+-- no actor: it has nothing
+abbrev pub no_seat : Seat
+no_seat = record { local = opening_local (VcpuActor 0 0) (opening_cpu false); own = [] }
+
+abbrev pub seat_at : CoreState → ℕ → Seat
+seat_at state actor = slice_index_or state.seats actor no_seat
+
+-- a word of the guest
+abbrev pub word_in : GuestShape → CoreState → WordId → ℕ
+word_in shape state word = slice_index_or state.words (place_of_word shape word) 0
+
+-- the maps of the ITS are handed out by a step that takes it
+abbrev pub is_taking : CoreStep → Bool
+is_taking (TurnTake seen) = true
+is_taking step = false
+
+abbrev pub handed_maps : GuestShape → ℕ → CoreState → CoreStep → ℕ → Option Maps
+handed_maps shape actor state step found =
+    if is_taking step then (if succeeds shape actor (seat_at state actor).local step found then Some state.maps else None) else None
+
+-- the state after a step of an actor
+abbrev pub after : GuestShape → CoreState → Entry → CoreState
+after shape state entry =
+    let seat = seat_at state entry.actor in
+    record {
+      words = slice_set state.words (place_of_word shape (word_of shape entry.actor entry.made.step)) entry.made.left;
+      seats =
+          slice_set state.seats entry.actor
+          (record { local = local_after shape entry.actor seat.local entry.made.step entry.made.found; own = seat.own ++ entry.made ∷ [] });
+      maps = maps_by_step state.maps entry.made.step;
+    }
+
+-- an actor can make a step in a state, and it hands out and leaves this
+pub record Takes (shape : GuestShape) (state : CoreState) (entry : Entry) : Type 0 where
+  pub actor : entry.actor < actor_count shape
+  pub can : CanStep shape entry.actor entry.made.step
+  pub meets : Meets shape entry.actor (seat_at state entry.actor).local (seat_at state entry.actor).own entry.made.step
+  pub found : entry.made.found ≡ word_in shape state (word_of shape entry.actor entry.made.step)
+  pub left : entry.made.left ≡ word_after shape entry.actor (seat_at state entry.actor).local entry.made.step entry.made.found
+  pub tables : entry.made.tables ≡ handed_maps shape entry.actor state entry.made.step entry.made.found
+
+-- steps that can be made one after the other
+abbrev pub IsRun : GuestShape → CoreState → List Entry → Type 0
+IsRun shape state [] = Unit {0}
+IsRun shape state (entry ∷ entries) = Takes shape state entry × IsRun shape (after shape state entry) entries
+
+-- the state in which a run ends
+abbrev pub end_of : GuestShape → CoreState → List Entry → CoreState
+end_of shape state entries = fold (after shape) state entries
+
+-- the steps of an actor in a run
+abbrev pub own_steps : ℕ → List Entry → List Made
+own_steps actor entries = map (λ entry. entry.made) (filter (λ entry. entry.actor == actor) entries)
+
+-- What is kept.
+
+-- each word is valid, each actor's own state too, and they agree; the commands of the guest can have made the maps, and the actor that has the ITS
+-- knows them by its own steps
+pub record IsSound (shape : GuestShape) (state : CoreState) : Type 0 where
+  pub places : length state.words ≡ word_count shape
+  pub actors : length state.seats ≡ actor_count shape
+  pub words : (word : WordId) → IsTrue (has_word shape word) → IsValid shape word (word_in shape state word)
+  pub locals : (actor : ℕ) → actor < actor_count shape → IsLocal shape actor (seat_at state actor).local
+  pub ties : (actor : ℕ) (word : WordId) → actor < actor_count shape → IsTrue (has_word shape word) → Ties shape actor (seat_at state actor).local word (word_in shape state word)
+  pub maps : IsValidMaps shape state.maps
+  pub known : (actor : ℕ) → actor < actor_count shape → IsTrue (seat_at state actor).local.turn → known_maps (seat_at state actor).own ≡ state.maps

@@ -1,0 +1,35 @@
+//! The core: what each atomic step does to one word that the actors of a guest share, and to its actor's own state.
+#![tactic(auto)]
+
+mod access;
+mod actor;
+mod advance;
+mod at_list;
+mod atomic;
+mod claim;
+mod end;
+mod laws;
+mod local;
+mod owed;
+mod port;
+mod run;
+mod step;
+#[cfg(test)]
+mod tests;
+mod word_id;
+mod words;
+
+pub use actor::{actor_at, actor_count, guest_of, number_of};
+pub use at_list::{AtIrq, AtList};
+pub use atomic::Atomic;
+pub use end::{EndWords, GuestWords, WordList};
+pub use laws::{opening_is_sound, parts_join, runs_are_sound, runs_join, steps_keep_sound};
+pub use local::{Local, Phase};
+pub use owed::{CAND_WORDS, Cands, MarkSet, NO_VCPUS, with_all, with_vcpu, without_vcpu};
+pub use port::Port;
+pub use run::{Entry, Made};
+pub use step::CoreStep;
+pub use word_id::{
+    WordId, index_bit, index_bits, index_words, key_of_bit, place_of_word, word_at, word_count,
+};
+pub use words::{CtlrWord, VcpuWord};
