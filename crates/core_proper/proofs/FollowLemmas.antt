@@ -1,16 +1,18 @@
 -- What an actor's own list says of what it has for itself is what it has in the run.
-use Rattle.std.proofs.Common.{◌≡◌, ◌≢◌, ℕ, ◌<◌, ◌==◌, Bool, true, false, cond, List, [], ◌∷◌, ◌++◌, map, filter, length, is_none, refl, sym, subst, arith}
+use Rattle.std.proofs.Common.{◌≡◌, ◌≢◌, ℕ, ◌<◌, ◌==◌, Bool, true, false, cond, List, [], ◌∷◌, ◌++◌, map, filter, length, is_none, append-nil, refl, sym, subst, ◌∙◌, arith}
 use Rattle.std.proofs.lemmas.Bool.{eqb-true}
 use Rattle.std.proofs.lemmas.Grind.{common_steps}
-use Rattle.std.proofs.lemmas.List.{get_or-set_same, get_or-set_other, length-set}
+use Rattle.std.proofs.lemmas.List.{append_assoc, get_or-set_same, get_or-set_other, length-set}
 use Rattle.std.proofs.lemmas.List.FromFn.{length-map-range_with_len, get_or-map-range_with_len}
 use Rattle.gic_base.specs.declared.shape.GuestShape.{GuestShape}
 use Rattle.scn_base.specs.declared.guest.GuestSpec.{GuestSpec}
 use Rattle.vcpu_refill.specs.declared.offer.Offer.{Offer}
+use Rattle.port_core.specs.declared.local.Local.{Local}
 use Rattle.port_core.specs.declared.run.Made.{Made}
 use Rattle.port_core.specs.After.{local_after}
 use Rattle.port_core.specs.Effect.{succeeds}
 use Rattle.port_core.specs.Place.{index_words}
+use Rattle.port_core.specs.Port.{local_by}
 use Rattle.port_core.specs.Run.{CoreState, Seat, no_seat, seat_at, after, opening, opening_seat}
 use Rattle.port_core.specs.Actor.{actor_count}
 use Rattle.core_proper.specs.Ideal.{after_moment, end_of_moments}
@@ -58,6 +60,18 @@ step_follows shape actor made p seat is =
     let later = changed_by shape actor made.step made.found done p in
     scan_keeps shape actor (record later { local = local_after shape actor p.local made.step made.found; own = p.own ++ made ∷ [] }) (seat_after shape actor made seat)
     (record { local = rw is.local refl; own = rw is.own refl })
+
+-- some steps
+
+pub steps_follow :
+    (shape : GuestShape) (actor : ℕ) (part : List Made) (p : Progress) (local : Local) (own : List Made) → IsSeatOf p (record { local = local; own = own })
+    → IsSeatOf (progress_of shape actor p (map makes part)) (record { local = local_by shape actor local part; own = own ++ part })
+unfolding seat_after
+steps_follow shape actor [] p local own is = record { local = is.local; own = is.own ∙ sym (append-nil own) }
+steps_follow shape actor (made ∷ part) p local own is =
+    let first = step_follows shape actor made p (record { local = local; own = own }) is in
+    let rest = steps_follow shape actor part (stepped shape actor made p) (local_after shape actor local made.step made.found) (own ++ made ∷ []) first in
+    record { local = rest.local; own = rest.own ∙ append_assoc own (made ∷ []) part }
 
 -- a moment of the actor, and one of another
 

@@ -4,3 +4,4 @@ pub mod WorkedLemmas
 pub mod WorkedExitLemmas
 pub mod WorkedAgainLemmas
 pub mod WorkedClearLemmas
+pub mod RestLemmas

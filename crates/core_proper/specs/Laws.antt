@@ -1,11 +1,15 @@
 -- Laws of runs with their parts.
-use Rattle.std.specs.Prelude.{◌∷◌, replicate, ◌≡◌, ◌↔◌, ◌<◌, ℕ, List, ◌++◌}
+use Rattle.std.specs.Prelude.{◌∷◌, replicate, ◌≡◌, ◌↔◌, ◌<◌, ℕ, List, ◌++◌, Option}
 use Rattle.gic_base.specs.declared.shape.GuestShape.{GuestShape}
+use Rattle.gic_call.specs.declared.event.Operation.{Operation}
+use Rattle.port_core.specs.declared.run.Made.{Made}
+use Rattle.port_core.specs.Port.{Seen, Adds, shape_of}
 use Rattle.port_core.specs.Run.{CoreState, Seat, seat_at, opening, end_of}
 use Rattle.port_core.specs.Actor.{actor_count}
 use Rattle.scn_base.specs.declared.guest.GuestSpec.{GuestSpec}
+use Rattle.core_proper.specs.Called.{IsAtRest}
 use Rattle.core_proper.specs.Ideal.{ideal_of, end_of_moments}
-use Rattle.core_proper.specs.Parts.{Act, CoreMoment, entries_of}
+use Rattle.core_proper.specs.Parts.{Act, CoreMoment, entries_of, part_of}
 use Rattle.core_proper.specs.Progress.{Progress, progress_of, progress_in}
 use Rattle.core_proper.specs.Proper.{IsProper, IsProperRun}
 use Rattle.core_proper.specs.WorkedExit.{exit_run, exit_history}
@@ -36,6 +40,12 @@ pub record IsSeatOf (p : Progress) (seat : Seat) : Type 0 where
 abbrev pub ProgressFollows : Type 0
 ProgressFollows =
     (guest : GuestSpec) (number : ℕ) (moments : List CoreMoment) (actor : ℕ) → actor < actor_count guest.shape → IsSeatOf (progress_in guest number moments actor) (seat_at (end_of_moments guest.shape (opening guest number) moments) actor)
+
+-- an actor at rest is at rest again after a proper part of it
+abbrev pub PartsRest : Type 0
+PartsRest =
+    (seen new : Seen) (p : Progress) (part : List Made) (operation : Operation) (lrs : ℕ) (answer : Option ℕ) → IsAtRest seen p → IsProper (shape_of seen) seen.actor p (part_of operation lrs part answer) → Adds seen new part
+    → IsAtRest new (progress_of (shape_of seen) seen.actor p (part_of operation lrs part answer))
 
 -- the worked run is a proper run of its guest, and stands for this history
 pub record WorkedRunIsProper : Type 0 where

@@ -1,5 +1,5 @@
 //! Laws of every run with its parts.
-ghost use Rattle.core_proper.specs.Laws.{ProperExtends, IdealOfAppends, PartsKeepEnd, ProgressFollows, WorkedRunIsProper, ExitRunIsProper, AgainRunIsProper, ClearRunIsProper};
+ghost use Rattle.core_proper.specs.Laws.{ProperExtends, IdealOfAppends, PartsKeepEnd, ProgressFollows, PartsRest, WorkedRunIsProper, ExitRunIsProper, AgainRunIsProper, ClearRunIsProper};
 
 /// A law of every actor: what it does is proper exactly where its beginning is, and the rest from where that ended.
 #[tactic(auto, using(crate::proofs::PartLemmas::proper_append))]
@@ -23,6 +23,11 @@ pub fn parts_keep_end()
 #[tactic(auto, using(crate::proofs::FollowLemmas::progress_follows))]
 pub fn progress_follows()
     ensures { ProgressFollows }
+{}
+
+/// A law of every actor: one that is at rest is at rest again after a proper part.
+pub fn parts_rest()
+    ensures { PartsRest }
 {}
 
 /// A worked run is proper, and stands for the history that it is to stand for.

@@ -4,5 +4,6 @@
 mod laws;
 
 pub use laws::{
-    ideal_of_appends, parts_keep_end, progress_follows, proper_extends, worked_run_is_proper,
+    again_run_is_proper, clear_run_is_proper, exit_run_is_proper, ideal_of_appends, parts_keep_end,
+    parts_rest, progress_follows, proper_extends, worked_run_is_proper,
 };

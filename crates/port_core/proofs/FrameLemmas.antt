@@ -25,7 +25,7 @@ pub record Keeps (shape : GuestShape) (actor : ℕ) (before after : Local) (word
   pub elsewhere : (w : WordId) (n : ℕ) → w ≢ word → Ties shape actor before w n → Ties shape actor after w n
 
 -- what holds of a word after one changed, and of a seat
-word_changed :
+pub word_changed :
     (shape : GuestShape) (words : List ℕ) (word w : WordId) (left : ℕ) (P : WordId → ℕ → Type 0) → IsShape shape → length words ≡ word_count shape → IsTrue (has_word shape word) → IsTrue (has_word shape w) → P word left
     → (w ≢ word → P w (get_or words (place_of_word shape w) 0)) → P w (get_or (set words (place_of_word shape word) left) (place_of_word shape w) 0)
 word_changed shape words word w left P is each has there here else =

@@ -75,7 +75,7 @@ word_valid guest (Plain index) good there = lit< tt
 
 -- Actors.
 
-seat_opens : (guest : GuestSpec) (number actor : ℕ) → actor < actor_count guest.shape → seat_at (opening guest number) actor ≡ opening_seat guest number actor
+pub seat_opens : (guest : GuestSpec) (number actor : ℕ) → actor < actor_count guest.shape → seat_at (opening guest number) actor ≡ opening_seat guest number actor
 seat_opens guest number actor there = get_or-map-range_with_len (opening_seat guest number) 0 (actor_count guest.shape) actor actor no_seat there (omega arith)
 
 local_valid : (guest : GuestSpec) (number actor : ℕ) → IsLocal guest.shape actor (opening_seat guest number actor).local

@@ -95,7 +95,7 @@ found_valid shape state entry is sound takes =
     }
 
 -- what it keeps
-entry_keeps :
+pub entry_keeps :
     (shape : GuestShape) (state : CoreState) (entry : Entry) → IsShape shape → IsSound shape state → Takes shape state entry
     → Keeps shape entry.actor (seat_at state entry.actor).local (local_after shape entry.actor (seat_at state entry.actor).local entry.made.step entry.made.found) (word_of shape entry.actor entry.made.step) entry.made.found entry.made.left
 entry_keeps shape state entry is sound takes =

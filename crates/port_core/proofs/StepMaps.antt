@@ -29,6 +29,7 @@ use Rattle.port_core.specs.After.{is_settled_by_look, accessed, local_done, loca
 use Rattle.port_core.specs.Condition.{EndsCommand, IsQueueStep, Meets}
 use Rattle.port_core.specs.Effect.{succeeds}
 use Rattle.port_core.specs.Forms.{vcpu_of}
+use Rattle.port_core.specs.Port.{keeps_tables}
 use Rattle.port_core.specs.Known.{no_maps, maps_by_step, maps_after, known_maps, known_view}
 use Rattle.port_core.specs.Local.{settled}
 use Rattle.port_core.specs.Run.{CoreState, Takes, IsSound, seat_at, word_in, is_taking}
@@ -42,35 +43,49 @@ turn_kept : (b : Bool) (done local : Local) → done.turn ≡ local.turn → (co
 turn_kept true done local e = e
 turn_kept false done local e = refl
 
+-- a step that neither takes the ITS nor gives it back leaves it to whoever has it
+turn_same : (shape : GuestShape) (actor : ℕ) (local : Local) (step : CoreStep) (found : ℕ) → is_taking step ≡ false → IsTrue (keeps_tables true step) → (local_after shape actor local step found).turn ≡ local.turn
+turn_same shape actor local (Look (Irq key)) found e h =
+    turn_kept (is_settled_by_look shape actor (irq_of found)) (record local { cands = settled shape actor key local.cands }) local refl
+turn_same shape actor local (Look Queue) found e h = refl
+turn_same shape actor local (Look Ctlr) found e h = refl
+turn_same shape actor local (Look (Vcpu vcpu)) found e h = refl
+turn_same shape actor local (Look (Index vcpu word)) found e h = refl
+turn_same shape actor local (Look (Plain index)) found e h = refl
+turn_same shape actor local (Raise key) found e h = refl
+turn_same shape actor local (Claim key seen) found e h = turn_kept (succeeds shape actor local (Claim key seen) found) (local_done shape actor local (Claim key seen) found) local refl
+turn_same shape actor local (GiveBack key back) found e h = refl
+turn_same shape actor local (Release key) found e h = refl
+turn_same shape actor local (Poll None write) found e h = refl
+turn_same shape actor local (Poll (Some reg) write) found e h = turn_kept (vcpu_of found).kick (record local { phase = Folding }) (accessed reg write local) refl
+turn_same shape actor local (Kick vcpu) found e h = refl
+turn_same shape actor local (Touch key seen kind) found e h = turn_kept (succeeds shape actor local (Touch key seen kind) found) (local_done shape actor local (Touch key seen kind) found) local refl
+turn_same shape actor local (Want key) found e h = refl
+turn_same shape actor local (WireUp key) found e h = refl
+turn_same shape actor local (WireDown key) found e h = refl
+turn_same shape actor local (EnableLpis vcpu) found e h = refl
+turn_same shape actor local (RamLook index) found e h = refl
+turn_same shape actor local (RamPut index seen value) found e h = turn_kept (succeeds shape actor local (RamPut index seen value) found) local local refl
+turn_same shape actor local (CtlrTake seen value) found e h = turn_kept (succeeds shape actor local (CtlrTake seen value) found) (record local { ctlr = true }) local refl
+turn_same shape actor local CtlrEnd found e h = refl
+turn_same shape actor local (TurnTake seen) found e h = absurd (cc)
+turn_same shape actor local (CommandDone offset stalled ending) found e h = refl
+turn_same shape actor local TurnRelease found e h = absurd (cc)
+turn_same shape actor local (Mark key vcpu) found e h = refl
+turn_same shape actor local (TakeIndex word) found e h = refl
+
 turn_after : (shape : GuestShape) (actor : ℕ) (local : Local) (step : CoreStep) (found : ℕ) → is_taking step ≡ false → IsTrue (local_after shape actor local step found).turn → IsTrue local.turn
-turn_after shape actor local (Look (Irq key)) found e h =
-    sym (turn_kept (is_settled_by_look shape actor (irq_of found)) (record local { cands = settled shape actor key local.cands }) local refl) ∙ h
-turn_after shape actor local (Look Queue) found e h = h
-turn_after shape actor local (Look Ctlr) found e h = h
-turn_after shape actor local (Look (Vcpu vcpu)) found e h = h
-turn_after shape actor local (Look (Index vcpu word)) found e h = h
-turn_after shape actor local (Look (Plain index)) found e h = h
-turn_after shape actor local (Raise key) found e h = h
-turn_after shape actor local (Claim key seen) found e h = sym (turn_kept (succeeds shape actor local (Claim key seen) found) (local_done shape actor local (Claim key seen) found) local refl) ∙ h
-turn_after shape actor local (GiveBack key back) found e h = h
-turn_after shape actor local (Release key) found e h = h
-turn_after shape actor local (Poll None write) found e h = h
-turn_after shape actor local (Poll (Some reg) write) found e h = sym (turn_kept (vcpu_of found).kick (record local { phase = Folding }) (accessed reg write local) refl) ∙ h
-turn_after shape actor local (Kick vcpu) found e h = h
-turn_after shape actor local (Touch key seen kind) found e h = sym (turn_kept (succeeds shape actor local (Touch key seen kind) found) (local_done shape actor local (Touch key seen kind) found) local refl) ∙ h
-turn_after shape actor local (Want key) found e h = h
-turn_after shape actor local (WireUp key) found e h = h
-turn_after shape actor local (WireDown key) found e h = h
-turn_after shape actor local (EnableLpis vcpu) found e h = h
-turn_after shape actor local (RamLook index) found e h = h
-turn_after shape actor local (RamPut index seen value) found e h = sym (turn_kept (succeeds shape actor local (RamPut index seen value) found) local local refl) ∙ h
-turn_after shape actor local (CtlrTake seen value) found e h = sym (turn_kept (succeeds shape actor local (CtlrTake seen value) found) (record local { ctlr = true }) local refl) ∙ h
-turn_after shape actor local CtlrEnd found e h = h
-turn_after shape actor local (TurnTake seen) found e h = absurd (cc)
-turn_after shape actor local (CommandDone offset stalled ending) found e h = h
 turn_after shape actor local TurnRelease found e h = absurd (cc)
-turn_after shape actor local (Mark key vcpu) found e h = h
-turn_after shape actor local (TakeIndex word) found e h = h
+turn_after shape actor local step found e h = sym (turn_same shape actor local step found e refl) ∙ h
+
+-- who has the ITS has it still after each other step
+pub turn_stays : (shape : GuestShape) (actor : ℕ) (local : Local) (step : CoreStep) (found : ℕ) → IsTrue (keeps_tables true step) → IsTrue local.turn → IsTrue (local_after shape actor local step found).turn
+turn_stays shape actor local (TurnTake seen) found keeps h = of (succeeds shape actor local (TurnTake seen) found)
+  where
+    of : (b : Bool) → IsTrue (cond b (record local { turn = true }) local).turn
+    of true = refl
+    of false = h
+turn_stays shape actor local step found keeps h = turn_same shape actor local step found refl keeps ∙ h
 
 -- The end of a good command keeps the maps valid.
 
@@ -93,6 +108,14 @@ no_fault shape view offset words h = of (fault_number shape view.maps (decoded (
         → option_map_or (λ n. QueueEvent view.offset (Stalls n)) fault (QueueEvent (next_offset view) (Done (command_words shape view))) ≡ QueueEvent offset (Done words) → fault_number shape view.maps (decoded words) ≡ None
     of None e f = let same : command_words shape view ≡ words = cc in subst (λ w. fault_number shape view.maps (decoded w) ≡ None) same e
     of (Some n) e f = absurd (cc)
+
+-- only one actor has the ITS
+pub one_has_turn : (shape : GuestShape) (state : CoreState) (a b : ℕ) → IsSound shape state → a < actor_count shape → b < actor_count shape → IsTrue (seat_at state a).local.turn → IsTrue (seat_at state b).local.turn → a ≡ b
+one_has_turn shape state a b sound there here h k =
+    let turn = (queue_of (word_in shape state Queue)).turn in
+    let one : turn ≡ Some a = number_is a turn (sound.ties a Queue there refl ∙ h) in
+    let two : turn ≡ Some b = number_is b turn (sound.ties b Queue here refl ∙ k) in
+    same_Some a b (sym one ∙ two)
 
 -- What the maps are after a step.
 
@@ -157,9 +180,5 @@ keeps_maps shape state entry sound takes =
     unchanged other differ there h =
         elim (changing_has shape entry.actor (seat_at state entry.actor).local (seat_at state entry.actor).own state.maps entry.made.step takes.meets) [
           | inl same ↦ same
-          | inr mine ↦
-              (let turn = (queue_of (word_in shape state Queue)).turn in
-              let one : turn ≡ Some entry.actor = number_is entry.actor turn (sound.ties entry.actor Queue takes.actor refl ∙ mine) in
-              let two : turn ≡ Some other = number_is other turn (sound.ties other Queue there refl ∙ h) in
-              absurd (differ (same_Some other entry.actor (sym two ∙ one))))
+          | inr mine ↦ absurd (differ (one_has_turn shape state other entry.actor sound there takes.actor h mine))
         ]

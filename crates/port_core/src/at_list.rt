@@ -197,6 +197,17 @@ impl AtList {
         self.entries.as_slice()
     }
 
+    /// A copy.
+    pub(crate) fn copied(&self) -> AtList
+        ensures { result ≡ self.now }
+    {
+        let mut copy = AtList::new();
+        for entry in self.as_slice() {
+            copy.push(*entry);
+        }
+        copy
+    }
+
     /// What is there of an interrupt. None where it is not there.
     pub fn find(&self, key: Key) -> Option<AtIrq>
         ensures { result ≡ entry_for key self.now }

@@ -1,0 +1,290 @@
+-- A message to the ITS: the turn, a look at GITS_CTLR, an LPI, and the turn given back.
+use Rattle.std.proofs.Common.{◌≡◌, ℕ, ◌&&◌, not, true, false, IsTrue, List, [], ◌∷◌, ◌++◌, map, All, slice_index_or, Option, Some, None, is_none, refl, sym, ap, subst, ◌∙◌}
+use Rattle.std.specs.Option.{option_map_or}
+use Rattle.std.specs.List.{list_all, filter_map, cons_option}
+use Rattle.std.proofs.lemmas.Bool.{and_parts}
+use Rattle.std.proofs.lemmas.List.{append_assoc}
+use Rattle.std.proofs.lemmas.List.Elements.{All-cons, All-nil, filter-append, filter_map-append}
+use Rattle.gic_base.specs.declared.interrupt.Key.TheVariants.{Lpi}
+use Rattle.gic_base.specs.declared.operation.DeviceOp.TheVariants.{Msi}
+use Rattle.gic_base.specs.declared.shape.GuestShape.{GuestShape}
+use Rattle.gic_imap.specs.Contents.{enabled_in}
+use Rattle.gic_open.specs.declared.plain.PlainWord.TheVariants.{ItsCtlr}
+use Rattle.gic_open.specs.Plain.{place_of_plain}
+use Rattle.gic_call.specs.declared.event.Event.{Event}
+use Rattle.gic_call.specs.declared.event.Event.TheVariants.{Raise as RaiseEvent, Read, ItsBegin, ItsEnd}
+use Rattle.gic_call.specs.declared.event.Found.TheVariants.{Nothing, Word as FoundWord}
+use Rattle.gic_call.specs.declared.event.Operation.TheVariants.{Device}
+use Rattle.gic_call.specs.declared.event.Place.{Place}
+use Rattle.gic_call.specs.declared.event.Place.TheVariants.{Word}
+use Rattle.gic_call.specs.Call.{device_events}
+use Rattle.gic_call.specs.Trace.{Happened, Beside, Makes, HandsOut, is_beside, held_at, named_of, device_places, IsLastRead}
+use Rattle.gic_call.specs.View.{View}
+use Rattle.its_tab.specs.Maps.{Maps}
+use Rattle.its_tab.specs.Message.{translated}
+use Rattle.port_core.specs.declared.local.Local.{Local}
+use Rattle.port_core.specs.declared.run.Made.{Made}
+use Rattle.port_core.specs.declared.step.CoreStep.TheVariants.{Raise, RamLook}
+use Rattle.port_core.specs.Known.{no_maps, known_maps, known_view}
+use Rattle.port_core.specs.Local.{no_vcpus, owes_no_mark}
+use Rattle.port_core.specs.Port.{Seen, IsPort, Adds, shape_of, part_events}
+use Rattle.port_core.proofs.PortLemmas.{adds_join}
+use Rattle.core_proper.specs.Called.{MakesCall, maps_taken}
+use Rattle.port_call.specs.Piece.{IsPiece}
+use Rattle.port_call.specs.Turn.{is_miss, is_turn_step, is_queue_read, TakesTurn, GivesTurn}
+use Rattle.port_call.proofs.PieceLemmas.{seen_nil, piece_nil}
+use Rattle.port_call.proofs.KnownLemmas.{ends_none, are_endless, maps_kept, maps_handed}
+use Rattle.port_call.proofs.TurnLemmas.{piece_then, events_then, reads_beside}
+use Rattle.dev_port.specs.Device.{CanCall, RaisesLpi, SendsMsi, Translates, TellsLpi}
+use Rattle.dev_port.proofs.CallLemmas.{clear, device_call, settled_of, part_done, form_clear}
+
+-- The device while it has the ITS.
+
+pub record IsBusy (local : Local) : Type 0 where
+  pub kicks : local.owes ≡ no_vcpus
+  pub marks : IsTrue (owes_no_mark local)
+  pub turn : local.turn ≡ true
+  pub ctlr : local.ctlr ≡ false
+
+busy_as : (local other : Local) → other ≡ local → IsBusy local → IsBusy other
+busy_as local other e is = subst IsBusy (sym e) is
+
+pub busy_taken : (old new : Seen) → CanCall old → TakesTurn old new → IsBusy new.local
+busy_taken old new can takes =
+    let is = clear old.local can.settled in
+    let with_turn : Local = record old.local { turn = true } in
+    busy_as with_turn new.local takes.local_is (record { kicks = is.kicks; marks = is.marks; turn = refl; ctlr = is.ctlr })
+
+pub busy_read : (old new : Seen) (device event : ℕ) (id : Option ℕ) → IsBusy old.local → Translates old new device event id → IsBusy new.local
+busy_read old new device event id busy translates = busy_as old.local new.local translates.reads.local_is busy
+
+pub busy_told : (old new : Seen) (id : Option ℕ) → IsBusy old.local → TellsLpi old new id → IsBusy new.local
+busy_told old new None busy tells = busy_as old.local new.local (ap (λ seen. seen.local) tells) busy
+busy_told old new (Some id) busy tells =
+    record { kicks = ap (λ l. l.owes) tells.local_is; marks = ap owes_no_mark tells.local_is; turn = ap (λ l. l.turn) tells.local_is ∙ busy.turn; ctlr = ap (λ l. l.ctlr) tells.local_is ∙ busy.ctlr }
+
+-- The tables are at home.
+
+pub home_read : (old new : Seen) (device event : ℕ) (id : Option ℕ) → old.taken ≡ false → Translates old new device event id → new.taken ≡ false
+home_read old new device event id home translates = ap (λ seen. seen.taken) translates.reads.adds.new_is ∙ home
+
+pub home_told : (old new : Seen) (id : Option ℕ) → old.taken ≡ false → TellsLpi old new id → new.taken ≡ false
+home_told old new None home tells = ap (λ seen. seen.taken) tells ∙ home
+home_told old new (Some id) home tells = ap (λ seen. seen.taken) tells.adds.new_is ∙ home
+
+-- Maps.
+
+none_is : (o : Option Maps) → IsTrue (is_none o) → o ≡ None
+none_is None h = refl
+none_is (Some maps) h = absurd (cc)
+
+-- a look ends no command
+endless : (look : Made) (index : ℕ) → look.step ≡ RamLook index → IsTrue (are_endless (look ∷ []))
+endless look index step = ap (λ step. ends_none step && true) step
+
+pub maps_known : (old mid new : Seen) (device event : ℕ) (id : Option ℕ) (takes : TakesTurn old mid) → Translates mid new device event id → known_maps new.own ≡ takes.maps
+maps_known old mid new device event id takes translates =
+    let reads = translates.reads in
+    let before = old.own ++ (takes.misses ++ takes.last ∷ []) in
+    let own : new.own ≡ before ++ reads.look ∷ [] = ap (λ seen. seen.own) reads.adds.new_is ∙ ap (λ seen. seen.own ++ reads.look ∷ []) takes.adds.new_is in
+    ap known_maps own ∙ maps_kept before (reads.look ∷ []) reads.none_taken (endless reads.look (place_of_plain (shape_of mid) ItsCtlr) reads.step_is) ∙ maps_handed old.own takes.misses takes.last takes.maps takes.handed
+
+-- What the ITS makes of the message.
+
+-- the event of an LPI that is raised
+happened : Event → Happened
+happened event = record { event = event; found = Nothing }
+
+lpi_events : Option ℕ → List Happened
+lpi_events id = option_map_or (λ id. happened (RaiseEvent (Lpi id)) ∷ []) id []
+
+record IsLpiPart (old new : Seen) (id : Option ℕ) : Type 0 where
+  part : List Made
+  adds : Adds old new part
+  form : RaisesLpi (shape_of old) id part
+  events : part_events old part ≡ lpi_events id
+  piece : IsPiece old part
+
+lpi_part : (old new : Seen) (id : Option ℕ) → IsBusy old.local → TellsLpi old new id → IsLpiPart old new id
+unfolding happened lpi_events
+lpi_part old new None busy tells = record { part = []; adds = record { new_is = tells ∙ sym (seen_nil old) }; form = refl; events = refl; piece = piece_nil old }
+lpi_part old new (Some id) busy tells =
+    record {
+      part = tells.part;
+      adds = tells.adds;
+      form = form_clear (shape_of old) old.local.owes (Raise (Lpi id)) (Lpi id) tells.part busy.kicks tells.form;
+      events = tells.events;
+      piece = tells.piece;
+    }
+
+-- Events.
+
+-- all events of the part
+all_events : List Happened → ℕ → Option ℕ → List Happened
+all_events reads ctlr id = reads ++ happened ItsBegin ∷ [] ++ (record { event = Read (Word ItsCtlr); found = FoundWord ctlr }) ∷ [] ++ lpi_events id ++ happened ItsEnd ∷ []
+
+named_events : Option ℕ → List Happened
+named_events id = happened ItsBegin ∷ lpi_events id ++ happened ItsEnd ∷ []
+
+named_are : (reads : List Happened) (ctlr : ℕ) (id : Option ℕ) → IsTrue (list_all is_queue_read reads) → named_of None (all_events reads ctlr id) ≡ named_events id
+unfolding happened lpi_events all_events named_events
+named_are reads ctlr id h = of id
+  where
+    looks : List Happened
+    looks = (record { event = Read (Word ItsCtlr); found = FoundWord ctlr }) ∷ []
+
+    begins : named_of None (reads ++ happened ItsBegin ∷ [] ++ looks) ≡ happened ItsBegin ∷ []
+    begins =
+        filter-append (λ h. not (is_beside None h.event)) (reads ++ happened ItsBegin ∷ []) looks
+        ∙ ap (λ events. events ++ []) (filter-append (λ h. not (is_beside None h.event)) reads (happened ItsBegin ∷ []) ∙ ap (λ events. events ++ happened ItsBegin ∷ []) (reads_beside None reads h))
+
+    of : (id : Option ℕ) → named_of None (reads ++ happened ItsBegin ∷ [] ++ looks ++ lpi_events id ++ happened ItsEnd ∷ []) ≡ named_events id
+    of None =
+        filter-append (λ h. not (is_beside None h.event)) (reads ++ happened ItsBegin ∷ [] ++ looks ++ []) (happened ItsEnd ∷ [])
+        ∙ ap (λ events. events ++ happened ItsEnd ∷ []) (filter-append (λ h. not (is_beside None h.event)) (reads ++ happened ItsBegin ∷ [] ++ looks) [] ∙ ap (λ events. events ++ []) begins)
+    of (Some n) =
+        filter-append (λ h. not (is_beside None h.event)) (reads ++ happened ItsBegin ∷ [] ++ looks ++ happened (RaiseEvent (Lpi n)) ∷ []) (happened ItsEnd ∷ [])
+        ∙ ap (λ events. events ++ happened ItsEnd ∷ [])
+        (filter-append (λ h. not (is_beside None h.event)) (reads ++ happened ItsBegin ∷ [] ++ looks) (happened (RaiseEvent (Lpi n)) ∷ []) ∙ ap (λ events. events ++ happened (RaiseEvent (Lpi n)) ∷ []) begins)
+
+all_two : (P : Happened → Type 0) (x y : Happened) → P x → P y → All P (x ∷ y ∷ [])
+all_two P x y one two = All-cons P x (y ∷ []) one (All-cons P y [] two (All-nil P))
+
+events_of_id : (id : Option ℕ) → map (λ h. h.event) (named_events id) ≡ ItsBegin ∷ option_map_or (λ id. RaiseEvent (Lpi id) ∷ []) id [] ++ ItsEnd ∷ []
+unfolding happened lpi_events named_events
+events_of_id None = refl
+events_of_id (Some n) = refl
+
+hands_of_id : (view : View) (id : Option ℕ) → All (λ h. HandsOut view h.event h.found) (named_events id)
+unfolding happened lpi_events named_events
+hands_of_id view None = all_two (λ h. HandsOut view h.event h.found) (happened ItsBegin) (happened ItsEnd) refl refl
+hands_of_id view (Some n) =
+    All-cons (λ h. HandsOut view h.event h.found) (happened ItsBegin) (happened (RaiseEvent (Lpi n)) ∷ happened ItsEnd ∷ []) refl (all_two (λ h. HandsOut view h.event h.found) (happened (RaiseEvent (Lpi n))) (happened ItsEnd) refl refl)
+
+-- GITS_CTLR is read once
+no_more_reads : (id : Option ℕ) → All (λ h. h.event ≡ Read (Word ItsCtlr) → ⊥) (lpi_events id ++ happened ItsEnd ∷ [])
+unfolding happened lpi_events
+no_more_reads None = let P : Happened → Type 0 = λ h. h.event ≡ Read (Word ItsCtlr) → ⊥ in All-cons P (happened ItsEnd) [] (λ e. absurd (cc)) (All-nil P)
+no_more_reads (Some n) = let P : Happened → Type 0 = λ h. h.event ≡ Read (Word ItsCtlr) → ⊥ in all_two P (happened (RaiseEvent (Lpi n))) (happened ItsEnd) (λ e. absurd (cc)) (λ e. absurd (cc))
+
+last_read : (reads : List Happened) (ctlr : ℕ) (id : Option ℕ) → IsLastRead (Word ItsCtlr) (FoundWord ctlr) (all_events reads ctlr id)
+unfolding all_events
+last_read reads ctlr id =
+    let look : Happened = record { event = Read (Word ItsCtlr); found = FoundWord ctlr } in
+    let before = reads ++ happened ItsBegin ∷ [] in
+    record {
+      before = before;
+      after = lpi_events id ++ happened ItsEnd ∷ [];
+      split = ap (λ events. events ++ happened ItsEnd ∷ []) (append_assoc before (look ∷ []) (lpi_events id)) ∙ append_assoc before (look ∷ lpi_events id) (happened ItsEnd ∷ []);
+      last = no_more_reads id;
+    }
+
+-- the events make the call, where the guest is so
+msi_makes : (reads : List Happened) (ctlr : ℕ) (id : Option ℕ) (view : View) (device event : ℕ) → IsTrue (list_all is_queue_read reads) → view.words ItsCtlr ≡ ctlr → translated view.maps (enabled_in (view.words ItsCtlr)) device event ≡ id
+    → Makes None view (device_events view (Msi device event)) (device_places (Msi device event)) [] (all_events reads ctlr id)
+msi_makes reads ctlr id view device event are word is =
+    let named = named_are reads ctlr id are in
+    let Hands : Happened → Type 0 = λ h. HandsOut view h.event h.found in
+    let Reads : Place → Type 0 = λ place. IsLastRead place (held_at view place) (all_events reads ctlr id) in
+    let ReadBy : ℕ → Type 0 = λ n. IsLastRead (Word ItsCtlr) (FoundWord n) (all_events reads ctlr id) in
+    let raises : Option ℕ → List Event = λ id. ItsBegin ∷ option_map_or (λ id. RaiseEvent (Lpi id) ∷ []) id [] ++ ItsEnd ∷ [] in
+    record {
+      events_are = ap (map (λ h. h.event)) named ∙ events_of_id id ∙ ap raises (sym is);
+      found = subst (All Hands) (sym named) (hands_of_id view id);
+      reads = All-cons Reads (Word ItsCtlr) [] (subst ReadBy (sym word) (last_read reads ctlr id)) (All-nil Reads);
+    }
+
+-- The part.
+
+-- the misses took nothing, and then the maps were taken
+no_maps_missed : (misses : List Made) → IsTrue (list_all is_miss misses) → filter_map (λ made. made.tables) misses ≡ []
+no_maps_missed [] h = refl
+no_maps_missed (made ∷ misses) h =
+    let parts = and_parts (is_miss made) (list_all is_miss misses) h in
+    let none = none_is made.tables (and_parts (is_turn_step made.step) (is_none made.tables) parts.0).1 in
+    ap (λ tables. cons_option tables (filter_map (λ made. made.tables) misses)) none ∙ no_maps_missed misses parts.1
+
+-- the maps of a part are those of its beginning
+first_maps : (early late : List Made) (maps : Maps) (rest : List Maps) → filter_map (λ made. made.tables) early ≡ maps ∷ rest → filter_map (λ made. made.tables) (early ++ late) ≡ maps ∷ rest ++ filter_map (λ made. made.tables) late
+first_maps early late maps rest e = filter_map-append (λ made. made.tables) early late ∙ ap (λ all. all ++ filter_map (λ made. made.tables) late) e
+
+maps_of_part : (misses : List Made) (take look : Made) (raise : List Made) (give : Made) (maps : Maps) → IsTrue (list_all is_miss misses) → take.tables ≡ Some maps → maps_taken (misses ++ take ∷ [] ++ look ∷ [] ++ raise ++ give ∷ []) ≡ maps
+maps_of_part misses take look raise give maps missed handed =
+    let one : filter_map (λ made. made.tables) (misses ++ take ∷ []) ≡ maps ∷ []
+    = filter_map-append (λ made. made.tables) misses (take ∷ []) ∙ ap (λ all. all ++ cons_option take.tables []) (no_maps_missed misses missed) ∙ ap (λ tables. cons_option tables []) handed in
+    let two = first_maps (misses ++ take ∷ []) (look ∷ []) maps [] one in
+    let three = first_maps (misses ++ take ∷ [] ++ look ∷ []) raise maps _ two in
+    let four = first_maps (misses ++ take ∷ [] ++ look ∷ [] ++ raise) (give ∷ []) maps _ three in
+    ap (λ all. slice_index_or all 0 no_maps) four
+
+-- what stands before in a part
+record IsPrefix (old new : Seen) (part : List Made) (events : List Happened) : Type 0 where
+  adds : Adds old new part
+  events_are : part_events old part ≡ events
+  piece : IsPiece old part
+
+prefix_on : (old mid new : Seen) (early late : List Made) (before after : List Happened) → IsPrefix old mid early before → IsPrefix mid new late after → IsPrefix old new (early ++ late) (before ++ after)
+prefix_on old mid new early late before after one two =
+    record {
+      adds = adds_join old mid new early late one.adds two.adds;
+      events_are = events_then old mid early late one.adds ∙ ap (λ events. events ++ part_events mid late) one.events_are ∙ ap (λ events. before ++ events) two.events_are;
+      piece = piece_then old mid early late one.adds one.piece two.piece;
+    }
+
+pub msi_made :
+    (old a b c new : Seen) (device event : ℕ) (id : Option ℕ) → IsPort old → IsPort new → CanCall old → TakesTurn old a → Translates a b device event id → TellsLpi b c id → GivesTurn c new → SendsMsi old new device event
+unfolding happened all_events
+msi_made old a b c new device event id is_old is_new can takes translates tells gives =
+    let reads = translates.reads in
+    let busy_a = busy_taken old a can takes in
+    let busy_b = busy_read a b device event id busy_a translates in
+    let busy_c = busy_told b c id busy_b tells in
+    let raise = lpi_part b c id busy_b tells in
+    let part = takes.misses ++ takes.last ∷ [] ++ reads.look ∷ [] ++ raise.part ++ gives.last ∷ [] in
+    let first : IsPrefix old a (takes.misses ++ takes.last ∷ []) (takes.events.reads ++ happened ItsBegin ∷ []) = record { adds = takes.adds; events_are = takes.events.split; piece = takes.piece } in
+    let looks : List Happened = (record { event = Read (Word ItsCtlr); found = FoundWord translates.ctlr }) ∷ [] in
+    let second : IsPrefix a b (reads.look ∷ []) looks = record { adds = reads.adds; events_are = reads.events; piece = reads.piece } in
+    let third : IsPrefix b c raise.part (lpi_events id) = record { adds = raise.adds; events_are = raise.events; piece = raise.piece } in
+    let fourth : IsPrefix c new (gives.last ∷ []) (happened ItsEnd ∷ []) = record { adds = gives.adds; events_are = gives.events; piece = gives.piece } in
+    let two = prefix_on old a b (takes.misses ++ takes.last ∷ []) (reads.look ∷ []) _ _ first second in
+    let three = prefix_on old b c (takes.misses ++ takes.last ∷ [] ++ reads.look ∷ []) raise.part _ _ two third in
+    let whole : IsPrefix old new part (all_events takes.events.reads translates.ctlr id) = prefix_on old c new (takes.misses ++ takes.last ∷ [] ++ reads.look ∷ [] ++ raise.part) (gives.last ∷ []) _ _ three fourth in
+    let is : id ≡ translated takes.maps (enabled_in translates.ctlr) device event
+    = translates.id_is ∙ ap (λ maps. translated maps (enabled_in translates.ctlr) device event) (maps_known old a b device event id takes translates) in
+    let shape : shape_of b ≡ shape_of old = ap shape_of reads.adds.new_is ∙ ap shape_of takes.adds.new_is in
+    let ShapedBy : GuestShape → Type 0 = λ shape. RaisesLpi shape id raise.part in
+    let RaisedBy : Option ℕ → Type 0 = λ id. RaisesLpi (shape_of old) id raise.part in
+    let found : reads.look.found ≡ translates.ctlr = reads.found_is in
+    let raised : RaisesLpi (shape_of old) (translated takes.maps (enabled_in reads.look.found) device event) raise.part
+    = subst RaisedBy (is ∙ ap (λ n. translated takes.maps (enabled_in n) device event) (sym found)) (subst ShapedBy shape raise.form) in
+    let looked : reads.look.step ≡ RamLook (place_of_plain (shape_of old) ItsCtlr) = reads.step_is ∙ ap (λ seen. RamLook (place_of_plain (shape_of seen) ItsCtlr)) takes.adds.new_is in
+    let view : View = record (known_view (shape_of old) old.actor []) { maps = takes.maps; words = λ word. translates.ctlr } in
+    let beside : Beside = record { maps = takes.maps; targets = λ number. view.targets } in
+    let ByEvents : List Happened → Type 0 = λ events. Makes None view (device_events view (Msi device event)) (device_places (Msi device event)) [] events in
+    let makes = subst ByEvents (sym whole.events_are) (msi_makes takes.events.reads translates.ctlr id view device event takes.events.are_reads refl (sym is)) in
+    let call : MakesCall old part (Device (Msi device event)) None
+    = device_call old part (Msi device event) None can.device beside (sym (maps_of_part takes.misses takes.last reads.look raise.part gives.last takes.maps takes.missed takes.handed)) (record { view = view; maps = refl; made = makes; answers = refl }) in
+    let home = home_told b c id (home_read a b device event id takes.tables translates) tells in
+    record {
+      part = part;
+      form =
+          record {
+            misses = takes.misses;
+            take = takes.last;
+            look = reads.look;
+            raise = raise.part;
+            give = gives.last;
+            maps = takes.maps;
+            part_is = refl;
+            missed = takes.missed;
+            take_is = takes.last_is;
+            handed = takes.handed;
+            look_is = looked;
+            raises = raised;
+            give_is = gives.last_is;
+          };
+      done =
+          part_done old new (Msi device event) part is_old is_new can whole.adds call whole.piece
+          (λ cands. settled_of new.local (ap (λ l. l.owes) gives.local_is ∙ busy_c.kicks) (ap owes_no_mark gives.local_is ∙ busy_c.marks) cands (ap (λ l. l.turn) gives.local_is) (ap (λ l. l.ctlr) gives.local_is ∙ busy_c.ctlr))
+          (ap (λ seen. seen.taken) gives.adds.new_is ∙ home);
+    }

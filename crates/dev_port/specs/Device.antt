@@ -1,0 +1,97 @@
+-- The calls of a device over its port: what each makes.
+use Rattle.std.specs.Prelude.{◌≡◌, ℕ, ◌++◌, not, Bool, false, IsTrue, List, [], ◌∷◌, if◌then◌else◌, Option, Some, None}
+use Rattle.std.specs.List.{list_all}
+use Rattle.gic_base.specs.declared.interrupt.Key.{Key}
+use Rattle.gic_base.specs.declared.interrupt.Key.TheVariants.{Lpi}
+use Rattle.gic_base.specs.declared.operation.DeviceOp.{DeviceOp}
+use Rattle.gic_base.specs.declared.operation.DeviceOp.TheVariants.{Msi}
+use Rattle.gic_base.specs.declared.shape.GuestShape.{GuestShape}
+use Rattle.gic_call.specs.declared.event.Event.TheVariants.{Raise as RaiseEvent}
+use Rattle.gic_call.specs.declared.event.Operation.TheVariants.{Device}
+use Rattle.gic_imap.specs.Contents.{enabled_in}
+use Rattle.gic_open.specs.declared.plain.PlainWord.TheVariants.{ItsCtlr}
+use Rattle.gic_open.specs.Plain.{place_of_plain}
+use Rattle.its_tab.specs.Maps.{Maps}
+use Rattle.its_tab.specs.Message.{translated}
+use Rattle.port_core.specs.declared.run.Made.{Made}
+use Rattle.port_core.specs.declared.step.CoreStep.{CoreStep}
+use Rattle.port_core.specs.declared.step.CoreStep.TheVariants.{Raise, WireUp, WireDown, RamLook, TurnTake, TurnRelease}
+use Rattle.port_core.specs.Known.{known_maps}
+use Rattle.port_core.specs.Local.{is_vcpu, no_vcpus}
+use Rattle.port_core.specs.Port.{Seen, Adds, shape_of}
+use Rattle.core_proper.specs.Called.{MakesCall, IsProperPart}
+use Rattle.core_proper.specs.Proper.{is_settled}
+use Rattle.port_call.specs.Plain.{ReadsPlain}
+use Rattle.port_call.specs.Tell.{TellsOf, Tells}
+use Rattle.port_call.specs.Turn.{is_miss}
+use Rattle.dev_port.specs.declared.wire.Wire.{Wire}
+
+-- an actor can make a call of a device: it is one, owes nothing, and has neither the ITS nor the mark of GICD_CTLR
+pub record CanCall (seen : Seen) : Type 0 where
+  pub device : is_vcpu (shape_of seen) seen.actor ≡ false
+  pub settled : IsTrue (is_settled seen.local)
+
+-- a part that is a call of a device, and proper; after it the device can make another one
+pub record IsDevicePart (old new : Seen) (op : DeviceOp) (part : List Made) : Type 0 where
+  pub adds : Adds old new part
+  pub call : MakesCall old part (Device op) None
+  pub proper : IsProperPart old part (Device op) 0 None
+  pub tables : new.taken ≡ false
+  pub after : CanCall new
+
+-- a device made its call by one step that changes a cause of an interrupt, and told the vCPUs that this concerns
+pub record Changes (old new : Seen) (op : DeviceOp) (step : CoreStep) (key : Key) : Type 0 where
+  pub part : List Made
+  pub form : TellsOf (shape_of old) no_vcpus step key part
+  pub done : IsDevicePart old new op part
+
+-- Wires.
+
+-- a wire has a level
+abbrev pub has_level : Wire → Bool → Bool
+has_level wire up = if up then wire.up else not wire.up
+
+-- the step that moves the wire of an interrupt to a level
+abbrev pub wire_step : Key → Bool → CoreStep
+wire_step key up = if up then WireUp key else WireDown key
+
+-- Message-signalled interrupts.
+
+-- what the ITS makes of a message: it raises an LPI and tells the vCPUs, or nothing
+abbrev pub RaisesLpi : GuestShape → Option ℕ → List Made → Type 0
+RaisesLpi shape None part = part ≡ []
+RaisesLpi shape (Some id) part = TellsOf shape no_vcpus (Raise (Lpi id)) (Lpi id) part
+
+-- the part of a message: looks at the ITS's word and tries that missed, the step that takes the ITS, a look at GITS_CTLR, what the ITS makes of the
+-- message by its maps, and the step that gives the ITS back
+pub record IsMsiPart (shape : GuestShape) (device event : ℕ) (part : List Made) : Type 0 where
+  pub misses : List Made
+  pub take : Made
+  pub look : Made
+  pub raise : List Made
+  pub give : Made
+  pub maps : Maps
+  pub part_is : part ≡ misses ++ take ∷ [] ++ look ∷ [] ++ raise ++ give ∷ []
+  pub missed : IsTrue (list_all is_miss misses)
+  pub take_is : take.step ≡ TurnTake take.found
+  pub handed : take.tables ≡ Some maps
+  pub look_is : look.step ≡ RamLook (place_of_plain shape ItsCtlr)
+  pub raises : RaisesLpi shape (translated maps (enabled_in look.found) device event) raise
+  pub give_is : give.step ≡ TurnRelease
+
+-- a device sent a message to the ITS
+pub record SendsMsi (old new : Seen) (device event : ℕ) : Type 0 where
+  pub part : List Made
+  pub form : IsMsiPart (shape_of old) device event part
+  pub done : IsDevicePart old new (Msi device event) part
+
+-- the actor that has the ITS looked at GITS_CTLR, and translated a message by the maps as it knows them
+pub record Translates (old new : Seen) (device event : ℕ) (id : Option ℕ) : Type 0 where
+  pub ctlr : ℕ
+  pub reads : ReadsPlain old new ItsCtlr ctlr
+  pub id_is : id ≡ translated (known_maps new.own) (enabled_in ctlr) device event
+
+-- an LPI is raised, if there is one
+abbrev pub TellsLpi : Seen → Seen → Option ℕ → Type 0
+TellsLpi old new None = new ≡ old
+TellsLpi old new (Some id) = Tells old new (Raise (Lpi id)) (Lpi id) (RaiseEvent (Lpi id))

@@ -1,0 +1,22 @@
+//! A message that makes an SPI pending.
+ghost use Rattle.std.specs.Prelude.{IsTrue};
+ghost use Rattle.gic_base.specs.Interrupt.{has_interrupt};
+ghost use Rattle.port_core.specs.Port.{shape_of};
+ghost use Rattle.dev_port.specs.Device.{CanCall, Changes};
+ghost use Rattle.gic_base.specs.declared.interrupt.Key.TheVariants.{Spi};
+ghost use Rattle.gic_base.specs.declared.operation.DeviceOp.TheVariants.{Message};
+ghost use Rattle.port_core.specs.declared.step.CoreStep.TheVariants.{Raise};
+
+use gic_base::Key;
+use port_call::raise;
+use port_core::Port;
+
+/// Makes the SPI of an INTID pending, as a write of GICD_SETSPI_NSR does, and tells the vCPUs that it concerns before it
+/// returns. The guest has the SPI, and the device owes nothing. It takes no memory.
+pub fn message<P: Port>(port: &mut P, spi: u32)
+    requires there { IsTrue (has_interrupt (shape_of (P.seen port.old)) (Spi spi)) }
+    requires ready { CanCall (P.seen port.old) }
+    ensures { Changes (P.seen port.old) (P.seen port.new) (Message spi) (Raise (Spi spi)) (Spi spi) }
+{
+    raise(port, Key::Spi(spi));
+}

@@ -1,0 +1,46 @@
+-- What all guests tell, where one of them changes, comes or goes.
+use Rattle.std.proofs.Common.{◌≡◌, ℕ, suc, ◌+◌, ◌<◌, All, inl, inr, List, [], ◌∷◌, ◌++◌, map, length, set, get_or, arith, sym, ap, subst, ◌∙◌}
+use Rattle.std.proofs.lemmas.Bool.Decides.{eqb_tells}
+use Rattle.std.proofs.lemmas.List.{get_or-map, map-set, map-append, length-map, get_or-set_same, get_or_append_left, get_or_push}
+use Rattle.port_seq.specs.declared.guest.GuestPort.{GuestPort}
+use Rattle.port_seq.specs.declared.port.SeqPort.{SeqPort}
+use Rattle.port_seq.specs.Lending.{with_guest}
+use Rattle.port_seq.specs.Ports.{told, told_all}
+use Rattle.port_seq.specs.Told.{GuestTold, SeqTold, no_told, with_current}
+
+-- what the port at a number tells
+pub told_at : (ports : List GuestPort) (number : ℕ) (port : GuestPort) → number < length ports → port ≡ get_or ports number port → get_or (map told ports) number no_told ≡ told port
+told_at ports number port there is = get_or-map told ports number port no_told there ∙ ap told (sym is)
+
+-- the same after it changed
+pub told_now : (ports : List GuestPort) (number : ℕ) (next : GuestPort) → number < length ports → get_or (map told (set ports number next)) number no_told ≡ told next
+told_now ports number next there =
+    ap (λ ts. get_or ts number no_told) (map-set told ports number next) ∙ get_or-set_same (map told ports) number (told next) no_told (subst (λ n. number < n) (sym (length-map ports told)) there)
+
+-- what all tell then
+pub told_set : (ports : List GuestPort) (number : ℕ) (port : GuestPort) (next : GuestTold) → told port ≡ next → map told (set ports number port) ≡ set (map told ports) number next
+told_set ports number port next is = map-set told ports number port ∙ ap (set (map told ports) number) is
+
+-- what is true of what each guest tells, and of one more
+pub told_push :
+    (P : GuestTold → ℕ → Type 0) (ports : List GuestPort) (port : GuestPort) (number : ℕ) → length ports ≡ number → ((n : ℕ) → n < number → P (get_or (map told ports) n no_told) n) → P (told port) number
+    → (n : ℕ) → n < number + 1 → P (get_or (map told (ports ++ port ∷ [])) n no_told) n
+told_push P ports port number each before here n h =
+    let all = map-append told ports (port ∷ []) in
+    let long = length-map ports told ∙ each in
+    elim (eqb_tells n number) [
+      | inl same ↦
+          subst (λ t. P t n) (sym (ap (λ ts. get_or ts n no_told) all ∙ get_or_push (map told ports) (told port) no_told n (long ∙ sym same.1))) (subst (P (told port)) (sym same.1) here)
+      | inr differ ↦
+          (let small : n < number = omega (arith, h, differ.1) in
+          subst (λ t. P t n) (sym (ap (λ ts. get_or ts n no_told) all ∙ get_or_append_left (map told ports) (told port ∷ []) no_told n (subst (λ k. n < k) (sym long) small))) (before n small))
+    ]
+
+-- what is true of what each tells is true of what one in the middle tells
+pub told_among : (P : GuestTold → Type 0) (early : List GuestPort) (port : GuestPort) (late : List GuestPort) → All P (map told (early ++ port ∷ late)) → P (told port)
+told_among P [] port late all = all 0 no_told (omega arith)
+told_among P (other ∷ early) port late all = told_among P early port late (λ k d h. all (suc k) d (omega (arith, h)))
+
+-- what all tell after the one whose actor is told was lent
+pub told_lent : (port : SeqPort) (guest : GuestPort) → told_all (with_guest port guest) ≡ with_current (told_all port) (told guest)
+told_lent port guest = let with : List GuestTold → SeqTold = λ ts. record { guests = ts; guest = port.guest } in ap with (map-set told port.guests.items port.guest guest)

@@ -1,0 +1,3 @@
+pub mod SeqLemmas
+pub mod ToldLemmas
+pub mod GuestsLemmas

@@ -1,0 +1,94 @@
+use Rattle.std.proofs.Common.{rules, IsTrue, sym, ap, subst, ◌∙◌}
+use Rattle.port_core.specs.After.{local_after}
+use Rattle.port_core.specs.Atomic.{Makes}
+use Rattle.port_core.specs.Condition.{Meets, has_room}
+use Rattle.port_core.specs.Run.{IsRun, opening, seat_at}
+use Rattle.port_core.specs.Step.{word_of}
+use Rattle.port_core.specs.Valid.{IsLocal, CanFind}
+use Rattle.port_core.proofs.StepLemmas.{found_valid}
+use Rattle.port_seq.specs.Kept.{told_is_port}
+use Rattle.port_seq.specs.Ports.{told}
+use Rattle.port_seq.specs.Rule.{IsMade}
+use Rattle.port_seq.specs.Told.{state_of, seen_of, entry_of}
+use Rattle.port_seq.specs.World.{state_after}
+use Rattle.port_seq.proofs.SeqLemmas.{each_local, local_at, sound_after, room_of, run_more, locals_more, maps_more, turn_more}
+use Rattle.port_seq.proofs.guest.GuestPort.make.Goals as goal
+
+pub index-requires : goal.index-requires
+index-requires c =
+    let port = c.args.self.now in
+    let each = each_local port.opened.guest port.opened.number port.seat.me.0 port.locals.items port.own in
+    let there = port.there in
+    search rules
+
+pub operation-atomic-requires-clause-local : goal.operation-atomic-requires-clause-local
+operation-atomic-requires-clause-local c =
+    let port = c.args.self.now in
+    subst (IsLocal port.opened.guest.shape port.actor) (sym (c.index.ensures ∙ local_at port.opened.guest port.opened.number port.seat.me.0 port.locals.items port.actor c.index.result.now port.own port.there))
+    (told_is_port (told port) port.good port.there port.run port.turn).local
+
+pub operation-atomic-requires-clause-meets : goal.operation-atomic-requires-clause-meets
+operation-atomic-requires-clause-meets c =
+    let port = c.args.self.now in (
+      (seen_of (told port)).own,
+      subst (λ local. Meets port.opened.guest.shape port.actor local (seen_of (told port)).own c.args.step)
+          (sym (c.index.ensures ∙ local_at port.opened.guest port.opened.number port.seat.me.0 port.locals.items port.actor c.index.result.now port.own port.there)) c.requires.meets,
+    )
+
+pub make-found-requires-clause-makes : goal.make-found-requires-clause-makes
+make-found-requires-clause-makes c =
+    let port = c.args.self.now in
+    let shape = port.opened.guest.shape in
+    subst (λ opened. Makes opened.guest.shape port.actor (seat_at (state_after opened.guest opened.number port.seat.me.0) port.actor).local c.args.step c.operation-atomic.result) (sym port.key)
+    (subst (λ local. Makes shape port.actor local c.args.step c.operation-atomic.result)
+    (c.index.ensures ∙ local_at port.opened.guest port.opened.number port.seat.me.0 port.locals.items port.actor c.index.result.now port.own port.there) c.operation-atomic.ensures)
+
+pub index_mut-requires : goal.index_mut-requires
+index_mut-requires c =
+    let port = c.args.self.now in
+    let each = each_local port.opened.guest port.opened.number port.seat.me.0 port.locals.items port.own in
+    let there = port.there in
+    search rules
+
+pub advance-requires-clause-local : goal.advance-requires-clause-local
+advance-requires-clause-local c =
+    let port = c.args.self.now in
+    subst (IsLocal port.opened.guest.shape port.actor) (sym (c.index_mut.ensures.value ∙ local_at port.opened.guest port.opened.number port.seat.me.0 port.locals.items port.actor c.index_mut.result.now port.own port.there))
+    (told_is_port (told port) port.good port.there port.run port.turn).local
+
+pub advance-requires-clause-found : goal.advance-requires-clause-found
+advance-requires-clause-found c =
+    let port = c.args.self.now in
+    let shape = port.opened.guest.shape in
+    let made = subst (λ opened. IsMade opened port.actor c.args.step port.seat.me c.make-found.result c.make-found.new.seat.me) port.key c.make-found.ensures.made in
+    subst (λ local. CanFind shape port.actor local (word_of shape port.actor c.args.step) c.make-found.result)
+    (sym (c.index_mut.ensures.value ∙ local_at port.opened.guest port.opened.number port.seat.me.0 port.locals.items port.actor c.index_mut.result.now port.own port.there))
+    (found_valid shape (state_of (told port)) (entry_of (told port) c.args.step c.make-found.result) port.good.shape (sound_after port.opened port.seat.me.0 port.good made.run) made.takes)
+
+pub advance-requires-clause-room : goal.advance-requires-clause-room
+advance-requires-clause-room c =
+    let port = c.args.self.now in
+    subst (λ local. IsTrue (has_room c.args.step local))
+    (sym (c.index_mut.ensures.value ∙ local_at port.opened.guest port.opened.number port.seat.me.0 port.locals.items port.actor c.index_mut.result.now port.own port.there))
+    (room_of port.opened.guest.shape port.actor (seen_of (told port)).local (seen_of (told port)).own c.args.step c.requires.meets)
+
+pub invariant_of-self-2 : goal.invariant_of-self-2
+invariant_of-self-2 c =
+    let port = c.args.self.now in
+    let found = c.make-found.result in
+    let made = subst (λ opened. IsMade opened port.actor c.args.step port.seat.me found c.make-found.new.seat.me) port.key c.make-found.ensures.made in
+    let at = c.index_mut.ensures.value ∙ local_at port.opened.guest port.opened.number port.seat.me.0 port.locals.items port.actor c.index_mut.result.now port.own port.there in
+    record {
+      good = port.good;
+      there = port.there;
+      key = port.key;
+      home = c.make-found.ensures.table ∙ port.home;
+      words = port.words;
+      slots = port.slots;
+      run = ∣ subst (IsRun port.opened.guest.shape (opening port.opened.guest port.opened.number)) (sym made.later) (run_more port.opened port.seat.me.0 (entry_of (told port) c.args.step found) made.run made.takes) ∣₁;
+      own =
+          locals_more port.opened port.seat.me.0 c.make-found.new.seat.me.0 port.locals.items port.actor c.args.step found c.advance.new.self port.own made.later
+          (c.advance.ensures ∙ ap (λ local. local_after port.opened.guest.shape port.actor local c.args.step found) at);
+      maps = maps_more port.opened port.seat.me.0 c.make-found.new.seat.me.0 port.its port.actor c.args.step found made.later c.requires.tables port.maps;
+      turn = turn_more port.opened port.seat.me.0 c.make-found.new.seat.me.0 port.its port.actor c.args.step found port.there made.later c.requires.tables port.turn;
+    }

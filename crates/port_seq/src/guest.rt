@@ -1,0 +1,158 @@
+//! A guest that is run in one thread: its words, what its actors have for themselves, and the tables of its ITS.
+ghost use Rattle.std.specs.Prelude.{◌≡◌, ℕ, ◌<◌, IfOk};
+ghost use Rattle.std.specs.Option.{ForSome};
+ghost use Rattle.scn_base.specs.Good.{IsGoodGuest};
+ghost use Rattle.port_core.specs.Actor.{actor_count as count_of};
+ghost use Rattle.port_core.specs.Place.{word_count as count_of_words};
+ghost use Rattle.port_core.specs.Run.{IsRun, opening};
+ghost use Rattle.port_seq.specs.Home.{maps_here, taker_of};
+ghost use Rattle.port_seq.specs.World.{state_after, locals_in, HasTurn};
+
+use crate::drain::drain;
+use crate::its_home::ItsHome;
+use crate::opened::Opened;
+use crate::rule::{OneThread, make};
+use atomic_table::{Seat, Table};
+use gic_list::ListOf;
+use its_tab::ItsTables;
+use port_core::{CoreStep, Entry, GuestWords, Local, place_of_word};
+use port_ops::{guest_words, opening_words};
+use scn_base::GuestSpec;
+use std::alloc::{AllocError, Global};
+use std::mem;
+
+/// The words of one guest, what each of its actors has for itself, and the tables of its ITS. One actor is told at a
+/// time, and makes its steps through it.
+#[derive(Drop)]
+pub struct GuestPort {
+    pub(crate) opened: Opened,
+    pub(crate) table: Table<(), ListOf<Entry>, Opened, OneThread, Global>,
+    pub(crate) seat: Seat<(), ListOf<Entry>>,
+    pub(crate) locals: Vec<Local>,
+    pub(crate) its: ItsHome,
+    pub(crate) actor: u32,
+    ghost good: { IsGoodGuest opened.guest },
+    ghost there: { actor < count_of opened.guest.shape },
+    ghost key: { table.shared.key ≡ opened },
+    ghost home: { seat.table_id ≡ table.shared.table_id },
+    ghost words: { table.shared.table_id.words ≡ count_of_words opened.guest.shape },
+    ghost slots: { table.shared.table_id.slots ≡ 0 },
+    ghost run: { ∥ IsRun opened.guest.shape (opening opened.guest opened.number) seat.me.0 ∥₁ },
+    ghost own: { locals.items ≡ locals_in (state_after opened.guest opened.number seat.me.0) },
+    ghost maps: { ForSome (maps_here its) (λ maps. maps ≡ (state_after opened.guest opened.number seat.me.0).maps) },
+    ghost turn: { ForSome (taker_of its) (HasTurn opened.guest.shape (state_after opened.guest opened.number seat.me.0)) },
+}
+
+impl GuestPort {
+    ghost use Rattle.std.specs.Prelude.{false, None, Some, IsTrue};
+    ghost use Rattle.port_core.specs.Known.{known_maps};
+    ghost use Rattle.port_core.specs.Port.{CanMake};
+    ghost use Rattle.port_core.specs.Run.{Takes};
+    ghost use Rattle.port_seq.specs.Told.{seen_of, state_of, entry_of, with_step, opening_told, words_of_end};
+    ghost use Rattle.port_seq.specs.Ports.{told};
+
+    /// A guest as it opens: nothing was done, and its first actor, vCPU 0, is told. An error where memory is refused.
+    pub(crate) fn start(
+        alloc: Global,
+        number: u32,
+        guest: &GuestSpec,
+    ) -> Result<GuestPort, AllocError>
+        requires { IsGoodGuest guest.now }
+        ensures { IfOk result (λ port. told port ≡ opening_told (told port).home guest.now number) }
+    {
+        let opened = Opened::of(alloc, number, guest)?;
+        let words = opening_words(alloc, &opened.guest)?;
+        let locals = opened.locals(alloc)?;
+        let (table, seat) = Table::of_words(alloc, words.as_slice(), &opened)?;
+        Ok(GuestPort {
+            opened,
+            table,
+            seat,
+            locals,
+            its: ItsHome::Here(its_tab::empty(alloc)),
+            actor: 0,
+        })
+    }
+
+    /// Tells another actor of the guest, by its number, and changes nothing else.
+    pub fn set_actor(&mut self, actor: u32)
+        requires { actor < count_of (told self.old).guest.shape }
+        ensures { told self.new ≡ record (told self.old) { actor = actor } }
+    {
+        self.actor = actor;
+    }
+
+    /// What the actor that is told has for itself.
+    pub(crate) fn own_local(&self) -> &Local
+        ensures { result.now ≡ (seen_of (told self.now)).local }
+    {
+        &self.locals[self.actor as usize]
+    }
+
+    /// Makes a step of the actor that is told, and answers the word that it found.
+    pub(crate) fn make(&mut self, step: CoreStep) -> u64
+        requires { CanMake (seen_of (told self.old)) step }
+        ensures run { IsRun (told self.old).guest.shape (opening (told self.old).guest (told self.old).number) (told self.old).world }
+        ensures takes { Takes (told self.old).guest.shape (state_of (told self.old)) (entry_of (told self.old) step result) }
+        ensures told { told self.new ≡ with_step (told self.old) step result }
+    {
+        let shape = self.opened.guest.shape;
+        let actor = self.actor;
+        let place = place_of_word(step.word(actor, &shape), &shape);
+        let atomic = self.locals[actor as usize].operation(&step, actor, &shape);
+        let found = make(
+            &self.table.shared,
+            &mut self.seat,
+            place,
+            atomic,
+            actor,
+            &step,
+        );
+        self.locals[actor as usize].advance(&step, found, actor, &shape);
+        found
+    }
+
+    /// The actor that is told takes the tables of the ITS, which it has.
+    pub(crate) fn take(&mut self) -> ItsTables
+        requires turn { IsTrue (seen_of (told self.old)).local.turn }
+        requires home { (seen_of (told self.old)).taken ≡ false }
+        ensures value { result ≡ known_maps (seen_of (told self.old)).own }
+        ensures told { told self.new ≡ record (told self.old) { taken = Some (told self.old).actor } }
+    {
+        match mem::replace(&mut self.its, ItsHome::TakenBy(self.actor)) {
+            ItsHome::Here(tables) => tables,
+            ItsHome::TakenBy(_) => unreachable!(),
+        }
+    }
+
+    /// It gives them back.
+    pub(crate) fn put(&mut self, tables: ItsTables)
+        requires taken { IsTrue (seen_of (told self.old)).taken }
+        requires value { tables ≡ known_maps (seen_of (told self.old)).own }
+        ensures { told self.new ≡ record (told self.old) { taken = None } }
+    {
+        self.its = ItsHome::Here(tables);
+    }
+
+    /// Its words and tables at its end, while no actor has the tables. An error where memory is refused.
+    pub(crate) fn finish(self, alloc: Global) -> Result<GuestWords, AllocError>
+        requires { (told self).taken ≡ None }
+        ensures { IfOk result (λ words. words ≡ words_of_end (told self)) }
+    {
+        let GuestPort {
+            opened,
+            table,
+            seat,
+            its,
+            ..
+        } = self;
+        let count = table.word_count();
+        let words = drain(alloc, table.close_with(seat), count)?;
+        match its {
+            ItsHome::Here(tables) => {
+                guest_words(alloc, words.as_slice(), tables, &opened.guest.shape)
+            }
+            ItsHome::TakenBy(_) => unreachable!(),
+        }
+    }
+}
