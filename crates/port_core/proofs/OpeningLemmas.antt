@@ -35,7 +35,7 @@ use Rattle.port_core.proofs.StepLocals.{zero_index}
 -- Words.
 
 -- a word that is there opens as its own one
-word_opens : (guest : GuestSpec) (number : ℕ) (word : WordId) → IsGoodGuest guest → IsTrue (has_word guest.shape word) → word_in guest.shape (opening guest number) word ≡ opening_word_of guest word
+pub word_opens : (guest : GuestSpec) (number : ℕ) (word : WordId) → IsGoodGuest guest → IsTrue (has_word guest.shape word) → word_in guest.shape (opening guest number) word ≡ opening_word_of guest word
 word_opens guest number word good there =
     let place = place_of_word guest.shape word in
     get_or-map-range_with_len (opening_word guest) 0 (word_count guest.shape) place place 0 (place_of_word_within guest.shape word good.shape there) (omega arith)

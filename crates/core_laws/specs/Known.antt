@@ -1,0 +1,17 @@
+-- What the actor that has the ITS knows by its own steps (own choice): nobody else changes it meanwhile.
+use Rattle.std.specs.Prelude.{◌≡◌, ℕ, ◌<◌, IsTrue, Some}
+use Rattle.gic_base.specs.declared.shape.GuestShape.{GuestShape}
+use Rattle.port_core.specs.declared.word_id.WordId.TheVariants.{Queue, Plain}
+use Rattle.port_core.specs.Actor.{actor_count}
+use Rattle.port_core.specs.Condition.{fault_place, HasPutFault}
+use Rattle.port_core.specs.Known.{known}
+use Rattle.port_core.specs.Run.{CoreState, seat_at, word_in}
+
+-- it knows the queue's word, and where its last step stored the number of a fault, that
+pub record KnowsIts (shape : GuestShape) (state : CoreState) (actor : ℕ) : Type 0 where
+  pub queue : known shape actor (seat_at state actor).own Queue ≡ Some (word_in shape state Queue)
+  pub fault : HasPutFault shape (seat_at state actor).own → known shape actor (seat_at state actor).own (Plain (fault_place shape)) ≡ Some (word_in shape state (Plain (fault_place shape)))
+
+-- so does whichever actor has the ITS
+abbrev pub IsKnown : GuestShape → CoreState → Type 0
+IsKnown shape state = (actor : ℕ) → actor < actor_count shape → IsTrue (seat_at state actor).local.turn → KnowsIts shape state actor

@@ -1,0 +1,4 @@
+pub mod Related
+pub mod Simulates
+pub mod Known
+pub mod Laws

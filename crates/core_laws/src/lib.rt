@@ -1,0 +1,7 @@
+//! Laws of every run of the core: whatever its actors do, and in whatever order their steps come, it does what the ideal
+//! controller may.
+#![tactic(auto)]
+
+mod laws;
+
+pub use laws::{runs_are_simulated, simulates};
