@@ -1,0 +1,199 @@
+//! Messages, wires and messages to the ITS by hand, in the second of two guests.
+ghost use Rattle.std.specs.Prelude.{◌==◌, IsTrue};
+ghost use Rattle.std.specs.List.{list_all};
+ghost use Rattle.core_proper.specs.Proper.{is_settled as is_settled_as};
+ghost use Rattle.port_seq.specs.Told.{IsOpening};
+ghost use Rattle.port_seq.specs.Ports.{told_all};
+
+use dev_port::{AlreadySo, Wire, message, msi, set_wire};
+use gic_base::{Actor, GuestShape, Key};
+use gic_list::ListOf;
+use port_core::{Cands, CoreStep, Local, Port, WordId};
+use port_seq::SeqPort;
+use scn_base::{GuestSpec, Mode, Preset, PresetList, Scenario};
+use std::alloc::{AllocError, Global};
+use std::sync::Wait;
+use std::test::Fail;
+
+/// Two vCPUs, SPIs 32 to 63, 32 LPIs, and a device, which is the actor 2.
+const SHAPE: GuestShape = GuestShape {
+    vcpus: 2,
+    spis: 32,
+    espis: 0,
+    devices: 1,
+    lpis: 32,
+    ram: 8,
+};
+
+/// An edge-triggered interrupt of vCPU 1, and a level-sensitive one of vCPU 0.
+const EDGE: Key = Key::Spi(40);
+
+const LEVEL: Key = Key::Spi(41);
+
+/// The words of both as they open. Enabled, group 1 and both group enables are the bits 4 to 7, edge is bit 3, and a priority of 0xA0,
+/// divided by 8, is 20 at [13:9]. Bit 26 says that the route is an affinity, which is at [37:27] and up.
+const EDGE_OPENED: u64 = 0x0C00_28F8;
+
+const LEVEL_OPENED: u64 = 0x0400_28F0;
+
+/// Bits of an interrupt's word: soft, the line, and that it rose.
+const SOFT: u64 = 1 << 0;
+
+const LINE: u64 = 1 << 1;
+
+const ROSE: u64 = 1 << 2;
+
+/// A vCPU's word with a kick.
+const KICK: u64 = 2;
+
+fn preset(id: u32, edge: bool, to: u32) -> Preset {
+    Preset {
+        id,
+        prio: 0xA0,
+        edge,
+        group: 1,
+        to: Some(to),
+        vcpu: None,
+    }
+}
+
+/// Two guests, each with both interrupts.
+fn scenario(alloc: Global) -> Result<Scenario, AllocError> {
+    let mut guests = ListOf::new(alloc);
+    for _ in 0..2 {
+        let mut presets: PresetList = ListOf::new(alloc);
+        presets.push(preset(40, true, 1))?;
+        presets.push(preset(41, false, 0))?;
+        guests.push(GuestSpec {
+            shape: SHAPE,
+            on: true,
+            presets,
+        })?;
+    }
+    Ok(Scenario {
+        pes: 1,
+        lrs: 4,
+        guests,
+        steps: ListOf::new(alloc),
+    })
+}
+
+/// No candidate.
+fn has_none(cands: &Cands) -> bool
+    ensures { IsTrue result → IsTrue (list_all (λ word. word == 0) cands.now.words) }
+{
+    *cands == Cands::none()
+}
+
+/// An actor owes nothing, and has neither the ITS nor the mark of GICD_CTLR.
+fn is_settled(local: &Local) -> bool
+    ensures { IsTrue result → IsTrue (is_settled_as local.now) }
+{
+    if local.owes.0 != 0 || local.marks.vcpus.0 != 0 || local.turn || local.ctlr {
+        return false;
+    }
+    has_none(&local.cands)
+}
+
+/// A word of the guest.
+fn look<P: Port>(port: &mut P, word: WordId) -> Option<u64> {
+    if port.shape() != SHAPE {
+        return None;
+    }
+    match word {
+        WordId::Irq(Key::Spi(40 | 41)) | WordId::Vcpu(0 | 1) | WordId::Queue | WordId::Ctlr => {
+            Some(port.step(CoreStep::Look { word }))
+        }
+        _ => None,
+    }
+}
+
+/// Sends a message of interrupt 40. None where the actor may not.
+fn send<P: Port>(port: &mut P) -> Option<()> {
+    if port.shape() != SHAPE || port.actor() < SHAPE.vcpus || !is_settled(port.local_ref()) {
+        return None;
+    }
+    message(port, 40);
+    Some(())
+}
+
+/// Moves the wire of interrupt 41. None where the actor may not.
+fn move_wire<P: Port>(port: &mut P, wire: &mut Wire, up: bool) -> Option<Result<(), AlreadySo>> {
+    if port.shape() != SHAPE
+        || port.actor() < SHAPE.vcpus
+        || !is_settled(port.local_ref())
+        || wire.key != LEVEL
+    {
+        return None;
+    }
+    Some(set_wire(port, wire, up))
+}
+
+/// Sends a message of an event to the ITS. None where the actor may not.
+fn send_event<P: Port, R: Wait>(rt: &R, port: &mut P) -> Option<()> {
+    if port.shape() != SHAPE || port.actor() < SHAPE.vcpus || !is_settled(port.local_ref()) {
+        return None;
+    }
+    msi(rt, port, 8, 3);
+    Some(())
+}
+
+/// Tells the device of the second of two guests that just opened. False where there is none.
+fn tell_device(port: &mut SeqPort, guests: &[GuestSpec]) -> bool
+    requires { IsOpening guests.now (told_all port.old) }
+{
+    if guests.len() != 2 || guests[1].shape != SHAPE {
+        return false;
+    }
+    port.set_actor(Actor::Device {
+        guest: 1,
+        device: 0,
+    });
+    true
+}
+
+#[test]
+fn device_calls(rt: HostRuntime) -> Result<(), Fail> {
+    let scenario = scenario(rt.alloc())?;
+    assert!(rt; scenario.is_good(rt.alloc(), Mode::Threads)?);
+    let mut port = SeqPort::start(rt.alloc(), &scenario)?;
+    assert!(rt; tell_device(&mut port, scenario.guests.as_slice()));
+    assert_eq!(rt; port.actor(), 2);
+    assert_eq!(rt; look(&mut port, WordId::Irq(EDGE)), Some(EDGE_OPENED));
+    assert_eq!(rt; look(&mut port, WordId::Irq(LEVEL)), Some(LEVEL_OPENED));
+
+    // The message kicks the interrupt's target alone.
+    assert_eq!(rt; send(&mut port), Some(()));
+    assert_eq!(rt;
+        look(&mut port, WordId::Irq(EDGE)),
+        Some(EDGE_OPENED + SOFT)
+    );
+    assert_eq!(rt; look(&mut port, WordId::Vcpu(1)), Some(KICK));
+    assert_eq!(rt; look(&mut port, WordId::Vcpu(0)), Some(0));
+
+    // The wire goes up once, and down.
+    let mut wire = Wire {
+        key: LEVEL,
+        up: false,
+    };
+    assert_eq!(rt; move_wire(&mut port, &mut wire, true), Some(Ok(())));
+    assert_eq!(rt;
+        look(&mut port, WordId::Irq(LEVEL)),
+        Some(LEVEL_OPENED + LINE + ROSE)
+    );
+    assert_eq!(rt; look(&mut port, WordId::Vcpu(0)), Some(KICK));
+    assert_eq!(rt; move_wire(&mut port, &mut wire, true), Some(Err(AlreadySo)));
+    assert_eq!(rt; move_wire(&mut port, &mut wire, false), Some(Ok(())));
+    assert_eq!(rt;
+        look(&mut port, WordId::Irq(LEVEL)),
+        Some(LEVEL_OPENED + ROSE)
+    );
+    assert!(rt; !wire.up);
+
+    // The ITS is disabled, and given back.
+    assert_eq!(rt; send_event(&rt, &mut port), Some(()));
+    assert_eq!(rt; look(&mut port, WordId::Queue), Some(0));
+    assert_eq!(rt; look(&mut port, WordId::Ctlr), Some(3));
+    assert!(rt; is_settled(port.local_ref()));
+    Ok(())
+}
