@@ -19,3 +19,4 @@ pub mod TouchSteps
 pub mod QueueSteps
 pub mod RunSteps
 pub mod HistorySteps
+pub mod WorkedSteps

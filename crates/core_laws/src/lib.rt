@@ -4,4 +4,4 @@
 
 mod laws;
 
-pub use laws::{runs_are_simulated, simulates};
+pub use laws::{runs_are_simulated, simulates, worked_run_is_history};

@@ -1,0 +1,35 @@
+-- The worked run meets what the law of histories asks: each of its parts makes the events of its call.
+use Rattle.std.proofs.Common.{[], Some, None, refl, arith}
+use Rattle.std.proofs.lemmas.List.Elements.{All-nil, All-cons}
+use Rattle.gic_base.specs.declared.icc.IccReg.TheVariants.{Iar1, Eoir1}
+use Rattle.gic_prio.specs.Levels.{least_in, with_level, without_level}
+use Rattle.gic_call.specs.declared.event.Event.TheVariants.{Raise, Cpu}
+use Rattle.gic_call.specs.declared.event.Found.TheVariants.{Nothing, Answer}
+use Rattle.gic_call.specs.View.{View}
+use Rattle.gic_history.specs.History.{opening_course}
+use Rattle.gic_history.specs.State.{opening as opening_ideal, view_at}
+use Rattle.gic_history.proofs.CallLemmas.{call_ended, hands_one}
+use Rattle.vcpu_refill.specs.Ranking.{in_places}
+use Rattle.port_core.specs.Run.{opening}
+use Rattle.core_proper.specs.Worked.{worked_guest, worked_run, spi}
+use Rattle.scn_base.specs.Good.{IsGoodGuest, IsGoodPreset}
+use Rattle.core_proper.proofs.WorkedLemmas.{worked_is_proper}
+use Rattle.core_laws.specs.Laws.{AreCalls, WorkedRunIsHistory}
+use Rattle.core_laws.proofs.HistorySteps.{runs_history}
+
+-- what is found of the guest as it opens
+abbrev opened : View
+opened = view_at (opening_ideal worked_guest)
+
+pub worked_calls : AreCalls worked_guest.shape (opening worked_guest 0) (opening_course worked_guest) worked_run
+unfolding least_in with_level without_level in_places
+worked_calls = (tt, (tt, (tt, (call_ended worked_guest.shape 0 _ None refl refl (refl, refl), (tt, (tt, (tt, (tt, (call_ended worked_guest.shape 1 _ None refl refl (record { view = opened; maps = refl; made = record { events_are = refl; found = hands_one opened (Raise spi) Nothing refl; reads = All-nil _ }; answers = refl }), (tt, (tt, (tt, (tt, (tt, (tt, (call_ended worked_guest.shape 0 _ None refl refl (refl, refl), (tt, (tt, (call_ended worked_guest.shape 0 _ (Some 40) refl refl (record { view = opened; made = record { events_are = refl; found = hands_one opened (Cpu 0 Iar1 None) (Answer (Some 40)) ((Some 40), refl); reads = All-nil _ }; answers = (0, omega arith, refl) }), (tt, (tt, (call_ended worked_guest.shape 0 _ None refl refl (record { view = opened; made = record { events_are = refl; found = hands_one opened (Cpu 0 Eoir1 (Some 40)) (Answer None) (None, refl); reads = All-nil _ }; answers = (0, omega arith, refl) }), (tt, (tt, (call_ended worked_guest.shape 0 _ (Some 1023) refl refl (record { view = opened; made = record { events_are = refl; found = hands_one opened (Cpu 0 Iar1 None) (Answer (Some 1023)) ((Some 1023), refl); reads = All-nil _ }; answers = (0, omega arith, refl) }), (tt, (tt, (tt, (tt, (call_ended worked_guest.shape 0 _ None refl refl (refl, refl), tt))))))))))))))))))))))))))))))
+
+worked_good : IsGoodGuest worked_guest
+worked_good = record {
+  shape = record { some_vcpu = omega arith; vcpus = omega arith; spis = omega arith; spi_blocks = refl; espis = omega arith; espi_blocks = refl; devices = omega arith; lpis = omega arith; ram = omega arith; ram_words = refl };
+  presets = All-cons (IsGoodPreset worked_guest.shape) _ [] (record { there = refl; addressed = refl; prio = omega arith; prio_bits = refl; group = omega arith; sgi_is_edge = refl }) (All-nil (IsGoodPreset worked_guest.shape));
+}
+
+pub worked_history_is : WorkedRunIsHistory
+worked_history_is = record { good = worked_good; parted = worked_is_proper.parted; calls = worked_calls; history = runs_history worked_guest 0 worked_run worked_good worked_is_proper.parted worked_calls }
