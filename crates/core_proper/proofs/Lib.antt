@@ -5,3 +5,4 @@ pub mod WorkedExitLemmas
 pub mod WorkedAgainLemmas
 pub mod WorkedClearLemmas
 pub mod RestLemmas
+pub mod OnceLemmas

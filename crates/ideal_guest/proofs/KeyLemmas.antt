@@ -8,6 +8,7 @@ use Rattle.gic_base.specs.declared.interrupt.Key.{Key}
 use Rattle.gic_base.specs.declared.interrupt.Key.TheVariants.{Private, Spi, Lpi}
 use Rattle.gic_base.specs.Shape.{IsShape}
 use Rattle.gic_base.specs.Interrupt.{has_interrupt, interrupt_count, intid_of, is_same_key, key_of}
+use Rattle.gic_base.proofs.KeyLemmas.{same_key, same_itself}
 use Rattle.gic_open.specs.Opening.{irq_in, with_irq_in}
 use Rattle.gic_open.proofs.KeyLemmas.{irq_same, irq_other, length-with_irq_in}
 use Rattle.ideal_guest.specs.declared.guest.IdealGuest.{IdealGuest}
@@ -18,26 +19,7 @@ use Rattle.gic_prio.specs.declared.candidate.Candidate.{Candidate}
 use Rattle.gic_prio.specs.Access.{taken_by, deactivated_by, cpu_after}
 use Rattle.ideal_guest.specs.Ideal.{is_named, irq_at, cpu_at, with_cpu, candidates, changed_irq, changed_at, after_acknowledge, after_deactivation, after_access}
 
--- the test of keys tells whether they are one
-pub same_key : (j k : Key) → is_same_key j k ≡ true → j ≡ k
-same_key (Private v i) (Private w j) h = both v w i j (grind (arith, common_steps, h)) (grind (arith, common_steps, h))
-  where
-    both : (v w i j : ℕ) → v ≡ w → i ≡ j → Private v i ≡ Private w j
-    both v w i j e f = cc
-same_key (Private v i) (Spi j) h = absurd (cc)
-same_key (Private v i) (Lpi j) h = absurd (cc)
-same_key (Spi i) (Private w j) h = absurd (cc)
-same_key (Spi i) (Spi j) h = ap Spi (grind (arith, common_steps, h))
-same_key (Spi i) (Lpi j) h = absurd (cc)
-same_key (Lpi i) (Private w j) h = absurd (cc)
-same_key (Lpi i) (Spi j) h = absurd (cc)
-same_key (Lpi i) (Lpi j) h = ap Lpi (grind (arith, common_steps, h))
-
-pub same_itself : (k : Key) → is_same_key k k ≡ true
-same_itself (Private v i) = grind (arith, common_steps)
-same_itself (Spi i) = grind (arith, common_steps)
-same_itself (Lpi i) = grind (arith, common_steps)
-
+-- keys whose test is false are two
 other_key : (j k : Key) → is_same_key j k ≡ false → j ≢ k
 other_key j k h e = absurd (differ (is_same_key j k) h (ap (is_same_key j) (sym e) ∙ same_itself j))
   where

@@ -44,7 +44,8 @@ use Rattle.its_tab.specs.After.{IsValid}
 use Rattle.ideal_guest.specs.declared.guest.IdealGuest.{IdealGuest}
 use Rattle.ideal_guest.specs.Ideal.{irq_at, cpu_at, word_at, with_queue, changed_irq, changed_at, after_acknowledge, after_deactivation}
 use Rattle.ideal_guest.specs.Sound.{IsIdealRecord, IsIdealCpu, IsSound}
-use Rattle.ideal_guest.proofs.KeyLemmas.{IsWhole, same_key, irq_changed, whole_changed}
+use Rattle.gic_base.proofs.KeyLemmas.{same_key}
+use Rattle.ideal_guest.proofs.KeyLemmas.{IsWhole, irq_changed, whole_changed}
 use Rattle.ideal_guest.proofs.CandidateLemmas.{WasFirst}
 use Rattle.ideal_guest.proofs.OpeningLemmas.{cpu_opening}
 

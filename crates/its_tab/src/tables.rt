@@ -215,6 +215,16 @@ impl ItsTables {
         Ok(ids)
     }
 
+    /// The least INTID from `from` that an event has. None exactly where no event has one.
+    pub fn next_lpi(&self, from: u32) -> Option<u32>
+        ensures found { IfSome result (λ id. IsSome (owner_in self.now id)) }
+        ensures least { IfSome result (λ id. (from ≤ id) × ((other : ℕ) → from ≤ other → IsSome (owner_in self.now other) → id ≤ other)) }
+        ensures none { IfNone result ((other : ℕ) → from ≤ other → owner_in self.now other ≡ None) }
+    {
+        let (id, _) = self.owners.range(from..).next()?;
+        Some(*id)
+    }
+
     /// The devices that are mapped, in rising DeviceID, each with the number of its EventID bits.
     pub fn devices(&self, alloc: Global) -> Result<Vec<(u32, u32)>, AllocError>
         ensures { IfOk result (λ pairs. pairs.items ≡ self.now.devices) }
@@ -307,6 +317,9 @@ mod tests {
             tables.lpis_with_target(rt.alloc())?.as_slice(),
             [8194, 8195].as_slice()
         );
+        assert_eq!(rt; tables.next_lpi(0), Some(8194));
+        assert_eq!(rt; tables.next_lpi(8195), Some(8195));
+        assert_eq!(rt; tables.next_lpi(8197), None);
         tables.map_collection(3, 0)?;
         assert_eq!(rt;
             tables.lpis_with_target(rt.alloc())?.as_slice(),

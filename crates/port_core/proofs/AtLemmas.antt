@@ -1,41 +1,14 @@
 -- Lists of interrupts at an interface: which are there after a change, an arrival and a release.
 use Rattle.std.proofs.Common.{◌≡◌, ◌≢◌, ℕ, suc, ◌+◌, ◌<◌, ◌≤◌, ◌||◌, not, Bool, true, false, cond, is_some, List, [], ◌∷◌, ◌++◌, map, filter, length, All, Option, Some, None, refl, sym, ap, subst, ◌∙◌, arith}
-use Rattle.std.proofs.lemmas.Grind.{common_steps}
-use Rattle.std.proofs.lemmas.Bool.{false_from_ne_true}
 use Rattle.std.proofs.lemmas.List.{length-append, length-map}
 use Rattle.std.proofs.lemmas.List.Elements.{All-head, All-tail, All-weaker, All-map, All-push, All-filter, filter-append}
 use Rattle.gic_base.specs.declared.shape.GuestShape.{GuestShape}
 use Rattle.gic_base.specs.declared.interrupt.Key.{Key}
-use Rattle.gic_base.specs.declared.interrupt.Key.TheVariants.{Private, Spi, Lpi}
 use Rattle.gic_base.specs.Interrupt.{is_same_key}
+use Rattle.gic_base.proofs.KeyLemmas.{same_key, other_key}
 use Rattle.port_core.specs.declared.at_list.AtIrq.{AtIrq}
 use Rattle.port_core.specs.Local.{entry_for, is_at, without_at}
 use Rattle.port_core.specs.Valid.{IsAt, IsOnce}
-
--- Keys.
-
--- the test of keys tells whether they are one
-pub same_key : (j k : Key) → is_same_key j k ≡ true → j ≡ k
-same_key (Private v i) (Private w j) h = both v w i j (grind (arith, common_steps, h)) (grind (arith, common_steps, h))
-  where
-    both : (v w i j : ℕ) → v ≡ w → i ≡ j → Private v i ≡ Private w j
-    both v w i j e f = cc
-same_key (Private v i) (Spi j) h = absurd (cc)
-same_key (Private v i) (Lpi j) h = absurd (cc)
-same_key (Spi i) (Private w j) h = absurd (cc)
-same_key (Spi i) (Spi j) h = ap Spi (grind (arith, common_steps, h))
-same_key (Spi i) (Lpi j) h = absurd (cc)
-same_key (Lpi i) (Private w j) h = absurd (cc)
-same_key (Lpi i) (Spi j) h = absurd (cc)
-same_key (Lpi i) (Lpi j) h = ap Lpi (grind (arith, common_steps, h))
-
-pub same_itself : (k : Key) → is_same_key k k ≡ true
-same_itself (Private v i) = grind (arith, common_steps)
-same_itself (Spi i) = grind (arith, common_steps)
-same_itself (Lpi i) = grind (arith, common_steps)
-
-pub other_key : (j k : Key) → j ≢ k → is_same_key j k ≡ false
-other_key j k differ = false_from_ne_true (is_same_key j k) (λ e. differ (same_key j k e))
 
 -- What is there of an interrupt.
 

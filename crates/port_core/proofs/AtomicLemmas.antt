@@ -30,7 +30,7 @@ use Rattle.port_core.specs.Condition.{CanGiveBack}
 use Rattle.port_core.specs.Effect.{changed, given_back, released, is_active_at, may_move, moved_of, moved_irq, claimed_irq, touched_irq}
 use Rattle.port_core.specs.Local.{entry_for}
 use Rattle.port_core.specs.Valid.{IsIrqWord, is_active_by_holder}
-use Rattle.port_core.proofs.WantLemmas.{wanted}
+use Rattle.gic_word.proofs.WantLemmas.{wanted}
 use Rattle.port_core.proofs.AdvanceLemmas.{nat_same}
 
 -- a word that a change of its record made is the word of the changed record

@@ -1,7 +1,6 @@
 pub mod AccessLemmas
 pub mod SeatLemmas
 pub mod AdvanceLemmas
-pub mod WantLemmas
 pub mod AtomicLemmas
 pub mod PlaceLemmas
 pub mod FrameLemmas

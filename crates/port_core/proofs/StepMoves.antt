@@ -28,7 +28,8 @@ use Rattle.port_core.specs.Valid.{IsAt, IsLocal}
 use Rattle.port_core.proofs.FrameLemmas.{Keeps}
 use Rattle.port_core.proofs.StepWords.{IsOwned, owned_of}
 use Rattle.port_core.proofs.OwnLemmas.{IsTold, told_none, told_some, told_target, owned_as, owned_given, owned_released, owned_reached}
-use Rattle.port_core.proofs.AtLemmas.{same_key, same_itself, other_key, entry_is, is_at_mapped, is_at_added, is_at_released, is_at_without, are_mapped, are_added, are_without}
+use Rattle.gic_base.proofs.KeyLemmas.{same_key, same_itself, other_key}
+use Rattle.port_core.proofs.AtLemmas.{entry_is, is_at_mapped, is_at_added, is_at_released, is_at_without, are_mapped, are_added, are_without}
 use Rattle.port_core.proofs.StepLocals.{vcpu_only, AreTold, local_owing, cands_settled, at_of}
 use Rattle.port_core.proofs.StepTies.{number_is, number_self, number_other, none_is, keeps_irq, keeps_moved}
 use Rattle.port_core.proofs.StepMade.{IsMade, StepKeeps, keeps_tried, all_three}

@@ -1,5 +1,6 @@
 -- What an actor knows of the guest's words by its own steps: each word as its last step on it left it.
-use Rattle.std.specs.Prelude.{is_some, ℕ, ◌==◌, Bool, List, [], fold, if◌then◌else◌, Option, Some, None, unwrap_or, ◌∷◌, ◌++◌}
+use Rattle.std.specs.Prelude.{is_some, ℕ, ◌==◌, ◌||◌, Bool, false, List, [], fold, find, if◌then◌else◌, Option, Some, None, unwrap_or, ◌∷◌, ◌++◌}
+use Rattle.std.specs.Option.{option_map_or}
 use Rattle.gic_base.specs.declared.interrupt.Key.TheVariants.{Lpi}
 use Rattle.gic_base.specs.declared.shape.GuestShape.{GuestShape}
 use Rattle.gic_word.specs.Record.{target_in}
@@ -52,13 +53,27 @@ known_maps own = fold maps_after no_maps own
 abbrev pub since_turn : List Made → List Made
 since_turn own = fold (λ kept made. if is_some made.tables then made ∷ [] else kept ++ made ∷ []) [] own
 
--- the guest as the actor that has the ITS knows it: what its steps found or left since it took the ITS
+-- a step ends a command
+abbrev pub ends_command : CoreStep → Bool
+ends_command (CommandDone offset stalled done) = stalled || is_some done
+ends_command step = false
+
+-- the steps of the actor's present command: those since its last one ended, or since it took the ITS
+abbrev pub since_command : List Made → List Made
+since_command own = fold (λ kept made. if is_some made.tables || ends_command made.step then [] else kept ++ made ∷ []) [] own
+
+-- the word as the first of some steps on it found it; 0 where none was on it
+abbrev pub first_word : GuestShape → ℕ → List Made → WordId → ℕ
+first_word shape actor own word = option_map_or (λ made. made.found) (find (is_on shape actor word) own) 0
+
+-- the guest as the actor that has the ITS knows it: what its steps found or left since it took the ITS; the vCPUs that the LPIs are for as its present
+-- command found them first
 abbrev pub known_view : GuestShape → ℕ → List Made → View
 known_view shape actor own =
     let word = known_word shape actor (since_turn own) in
     record {
       irqs = λ key. irq_of (word (Irq key));
-      targets = λ id. target_in (irq_of (word (Irq (Lpi id)))).route shape;
+      targets = λ id. target_in (irq_of (first_word shape actor (since_command own) (Irq (Lpi id)))).route shape;
       lpis = λ vcpu. (vcpu_of (word (Vcpu vcpu))).lpis;
       words = λ plain. word (Plain (place_of_plain shape plain));
       enables = (ctlr_of (word Ctlr)).enables;
