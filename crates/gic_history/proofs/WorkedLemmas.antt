@@ -11,7 +11,7 @@ use Rattle.gic_call.specs.declared.touch.Touching.TheVariants.{Register}
 use Rattle.gic_call.specs.View.{View}
 use Rattle.gic_history.specs.State.{opening, view_at}
 use Rattle.gic_history.specs.History.{Course, GoesOn, IsHistory, opening_course, last_of}
-use Rattle.gic_history.specs.Laws.{IsFreshHistory, WorkedHistoriesAreFresh, EachClauseRefuses, WhatIsNotAllowed}
+use Rattle.gic_history.specs.Laws.{IsFreshHistory, WorkedHistoriesAreFresh, EachClauseRefuses, WhatIsNotAllowed, EachLpiHasItsPlace}
 use Rattle.gic_history.specs.Worked.{worked_guest, message, wire_up, reach, leave, reads, ends, writes, takes_over, ends_and_leaves, leaves_and_ends, served, preempted, withdrawn, migrated, refilled, take, begins_message, ends_message, repeated, returned, in_flight, overlooked, outdated, unended, kept, pending_irq}
 use Rattle.gic_history.proofs.CallLemmas.{call_ended, hands_one, goes_on}
 
@@ -26,116 +26,116 @@ opened = view_at (opening worked_guest)
 served_is : IsHistory worked_guest served
 unfolding least_in with_level without_level
 served_is =
-    let one : GoesOn from (message 40) = ((omega arith, refl), (record { within = refl; can = refl; allowed = refl; hands = refl }, (call_ended worked_guest.shape 2 _ None refl refl (record { view = opened; maps = refl; made = record { events_are = refl; found = hands_one opened (Raise (Spi 40)) Nothing refl; reads = All-nil _ }; answers = refl }), tt))) in
-    let two : GoesOn from (message 40 ++ reach 0 40) = goes_on from (message 40) (reach 0 40) one (((omega arith, refl), (record { within = refl; can = (refl, omega arith); allowed = refl; hands = refl }, (call_ended worked_guest.shape 0 _ None refl refl (refl, refl), tt)))) in
-    let three : GoesOn from (message 40 ++ reach 0 40 ++ reads 0 Iar1 40) = goes_on from (message 40 ++ reach 0 40) (reads 0 Iar1 40) two (((omega arith, refl), (record { within = refl; can = (omega arith, refl); allowed = refl; hands = refl }, (call_ended worked_guest.shape 0 _ (Some 40) refl refl (record { view = opened; made = record { events_are = refl; found = hands_one opened (Cpu 0 Iar1 None) (Answer (Some 40)) ((Some 40), refl); reads = All-nil _ }; answers = (0, omega arith, refl) }), tt)))) in
-    let four : GoesOn from (message 40 ++ reach 0 40 ++ reads 0 Iar1 40 ++ ends 0 40) = goes_on from (message 40 ++ reach 0 40 ++ reads 0 Iar1 40) (ends 0 40) three (((omega arith, refl), (record { within = refl; can = (omega arith, refl); allowed = refl; hands = refl }, (call_ended worked_guest.shape 0 _ None refl refl (record { view = opened; made = record { events_are = refl; found = hands_one opened (Cpu 0 Eoir1 (Some 40)) (Answer None) (None, refl); reads = All-nil _ }; answers = (0, omega arith, refl) }), tt)))) in
-    let five : GoesOn from (message 40 ++ reach 0 40 ++ reads 0 Iar1 40 ++ ends 0 40 ++ reads 0 Iar1 1023) = goes_on from (message 40 ++ reach 0 40 ++ reads 0 Iar1 40 ++ ends 0 40) (reads 0 Iar1 1023) four (((omega arith, refl), (record { within = refl; can = (omega arith, refl); allowed = refl; hands = refl }, (call_ended worked_guest.shape 0 _ (Some 1023) refl refl (record { view = opened; made = record { events_are = refl; found = hands_one opened (Cpu 0 Iar1 None) (Answer (Some 1023)) ((Some 1023), refl); reads = All-nil _ }; answers = (0, omega arith, refl) }), tt)))) in
-    goes_on from (message 40 ++ reach 0 40 ++ reads 0 Iar1 40 ++ ends 0 40 ++ reads 0 Iar1 1023) (leave 0 40) five (((omega arith, refl), (record { within = refl; can = (refl, omega arith); allowed = refl; hands = refl }, (call_ended worked_guest.shape 0 _ None refl refl (refl, refl), tt))))
+    let one : GoesOn from (message 40) = ((omega arith, refl), (record { within = refl; can = refl; allowed = refl; hands = refl }, (call_ended worked_guest.shape 2 _ None refl (λ id. refl) (record { view = opened; maps = refl; made = record { events_are = refl; found = hands_one opened (Raise (Spi 40)) Nothing refl; reads = All-nil _ }; answers = refl }), tt))) in
+    let two : GoesOn from (message 40 ++ reach 0 40) = goes_on from (message 40) (reach 0 40) one (((omega arith, refl), (record { within = refl; can = (refl, omega arith); allowed = refl; hands = refl }, (call_ended worked_guest.shape 0 _ None refl (λ id. refl) (refl, refl), tt)))) in
+    let three : GoesOn from (message 40 ++ reach 0 40 ++ reads 0 Iar1 40) = goes_on from (message 40 ++ reach 0 40) (reads 0 Iar1 40) two (((omega arith, refl), (record { within = refl; can = (omega arith, refl); allowed = refl; hands = refl }, (call_ended worked_guest.shape 0 _ (Some 40) refl (λ id. refl) (record { view = opened; made = record { events_are = refl; found = hands_one opened (Cpu 0 Iar1 None) (Answer (Some 40)) ((Some 40), refl); reads = All-nil _ }; answers = (0, omega arith, refl) }), tt)))) in
+    let four : GoesOn from (message 40 ++ reach 0 40 ++ reads 0 Iar1 40 ++ ends 0 40) = goes_on from (message 40 ++ reach 0 40 ++ reads 0 Iar1 40) (ends 0 40) three (((omega arith, refl), (record { within = refl; can = (omega arith, refl); allowed = refl; hands = refl }, (call_ended worked_guest.shape 0 _ None refl (λ id. refl) (record { view = opened; made = record { events_are = refl; found = hands_one opened (Cpu 0 Eoir1 (Some 40)) (Answer None) (None, refl); reads = All-nil _ }; answers = (0, omega arith, refl) }), tt)))) in
+    let five : GoesOn from (message 40 ++ reach 0 40 ++ reads 0 Iar1 40 ++ ends 0 40 ++ reads 0 Iar1 1023) = goes_on from (message 40 ++ reach 0 40 ++ reads 0 Iar1 40 ++ ends 0 40) (reads 0 Iar1 1023) four (((omega arith, refl), (record { within = refl; can = (omega arith, refl); allowed = refl; hands = refl }, (call_ended worked_guest.shape 0 _ (Some 1023) refl (λ id. refl) (record { view = opened; made = record { events_are = refl; found = hands_one opened (Cpu 0 Iar1 None) (Answer (Some 1023)) ((Some 1023), refl); reads = All-nil _ }; answers = (0, omega arith, refl) }), tt)))) in
+    goes_on from (message 40 ++ reach 0 40 ++ reads 0 Iar1 40 ++ ends 0 40 ++ reads 0 Iar1 1023) (leave 0 40) five (((omega arith, refl), (record { within = refl; can = (refl, omega arith); allowed = refl; hands = refl }, (call_ended worked_guest.shape 0 _ None refl (λ id. refl) (refl, refl), tt))))
 
 preempted_is : IsHistory worked_guest preempted
 unfolding least_in with_level without_level
 preempted_is =
-    let one : GoesOn from (message 40) = ((omega arith, refl), (record { within = refl; can = refl; allowed = refl; hands = refl }, (call_ended worked_guest.shape 2 _ None refl refl (record { view = opened; maps = refl; made = record { events_are = refl; found = hands_one opened (Raise (Spi 40)) Nothing refl; reads = All-nil _ }; answers = refl }), tt))) in
-    let two : GoesOn from (message 40 ++ reach 0 40) = goes_on from (message 40) (reach 0 40) one (((omega arith, refl), (record { within = refl; can = (refl, omega arith); allowed = refl; hands = refl }, (call_ended worked_guest.shape 0 _ None refl refl (refl, refl), tt)))) in
-    let three : GoesOn from (message 40 ++ reach 0 40 ++ reads 0 Iar1 40) = goes_on from (message 40 ++ reach 0 40) (reads 0 Iar1 40) two (((omega arith, refl), (record { within = refl; can = (omega arith, refl); allowed = refl; hands = refl }, (call_ended worked_guest.shape 0 _ (Some 40) refl refl (record { view = opened; made = record { events_are = refl; found = hands_one opened (Cpu 0 Iar1 None) (Answer (Some 40)) ((Some 40), refl); reads = All-nil _ }; answers = (0, omega arith, refl) }), tt)))) in
-    let four : GoesOn from (message 40 ++ reach 0 40 ++ reads 0 Iar1 40 ++ message 42) = goes_on from (message 40 ++ reach 0 40 ++ reads 0 Iar1 40) (message 42) three (((omega arith, refl), (record { within = refl; can = refl; allowed = refl; hands = refl }, (call_ended worked_guest.shape 2 _ None refl refl (record { view = opened; maps = refl; made = record { events_are = refl; found = hands_one opened (Raise (Spi 42)) Nothing refl; reads = All-nil _ }; answers = refl }), tt)))) in
-    let five : GoesOn from (message 40 ++ reach 0 40 ++ reads 0 Iar1 40 ++ message 42 ++ takes_over) = goes_on from (message 40 ++ reach 0 40 ++ reads 0 Iar1 40 ++ message 42) (takes_over) four (((omega arith, refl), (record { within = refl; can = (refl, omega arith); allowed = refl; hands = refl }, (record { within = refl; can = (refl, omega arith); allowed = refl; hands = refl }, (record { within = refl; can = (omega arith, refl); allowed = refl; hands = refl }, (call_ended worked_guest.shape 0 _ (Some 42) refl refl (record { view = opened; made = record { events_are = refl; found = hands_one opened (Cpu 0 Iar1 None) (Answer (Some 42)) ((Some 42), refl); reads = All-nil _ }; answers = (2, omega arith, refl) }), tt)))))) in
-    let six : GoesOn from (message 40 ++ reach 0 40 ++ reads 0 Iar1 40 ++ message 42 ++ takes_over ++ reads 0 Rpr 0x20) = goes_on from (message 40 ++ reach 0 40 ++ reads 0 Iar1 40 ++ message 42 ++ takes_over) (reads 0 Rpr 0x20) five (((omega arith, refl), (record { within = refl; can = (omega arith, refl); allowed = refl; hands = refl }, (call_ended worked_guest.shape 0 _ (Some 0x20) refl refl (record { view = opened; made = record { events_are = refl; found = hands_one opened (Cpu 0 Rpr None) (Answer (Some 0x20)) ((Some 0x20), refl); reads = All-nil _ }; answers = (0, omega arith, refl) }), tt)))) in
-    let seven : GoesOn from (message 40 ++ reach 0 40 ++ reads 0 Iar1 40 ++ message 42 ++ takes_over ++ reads 0 Rpr 0x20 ++ ends 0 42) = goes_on from (message 40 ++ reach 0 40 ++ reads 0 Iar1 40 ++ message 42 ++ takes_over ++ reads 0 Rpr 0x20) (ends 0 42) six (((omega arith, refl), (record { within = refl; can = (omega arith, refl); allowed = refl; hands = refl }, (call_ended worked_guest.shape 0 _ None refl refl (record { view = opened; made = record { events_are = refl; found = hands_one opened (Cpu 0 Eoir1 (Some 42)) (Answer None) (None, refl); reads = All-nil _ }; answers = (0, omega arith, refl) }), tt)))) in
-    goes_on from (message 40 ++ reach 0 40 ++ reads 0 Iar1 40 ++ message 42 ++ takes_over ++ reads 0 Rpr 0x20 ++ ends 0 42) (reads 0 Rpr 0xa0) seven (((omega arith, refl), (record { within = refl; can = (omega arith, refl); allowed = refl; hands = refl }, (call_ended worked_guest.shape 0 _ (Some 0xa0) refl refl (record { view = opened; made = record { events_are = refl; found = hands_one opened (Cpu 0 Rpr None) (Answer (Some 0xa0)) ((Some 0xa0), refl); reads = All-nil _ }; answers = (0, omega arith, refl) }), tt))))
+    let one : GoesOn from (message 40) = ((omega arith, refl), (record { within = refl; can = refl; allowed = refl; hands = refl }, (call_ended worked_guest.shape 2 _ None refl (λ id. refl) (record { view = opened; maps = refl; made = record { events_are = refl; found = hands_one opened (Raise (Spi 40)) Nothing refl; reads = All-nil _ }; answers = refl }), tt))) in
+    let two : GoesOn from (message 40 ++ reach 0 40) = goes_on from (message 40) (reach 0 40) one (((omega arith, refl), (record { within = refl; can = (refl, omega arith); allowed = refl; hands = refl }, (call_ended worked_guest.shape 0 _ None refl (λ id. refl) (refl, refl), tt)))) in
+    let three : GoesOn from (message 40 ++ reach 0 40 ++ reads 0 Iar1 40) = goes_on from (message 40 ++ reach 0 40) (reads 0 Iar1 40) two (((omega arith, refl), (record { within = refl; can = (omega arith, refl); allowed = refl; hands = refl }, (call_ended worked_guest.shape 0 _ (Some 40) refl (λ id. refl) (record { view = opened; made = record { events_are = refl; found = hands_one opened (Cpu 0 Iar1 None) (Answer (Some 40)) ((Some 40), refl); reads = All-nil _ }; answers = (0, omega arith, refl) }), tt)))) in
+    let four : GoesOn from (message 40 ++ reach 0 40 ++ reads 0 Iar1 40 ++ message 42) = goes_on from (message 40 ++ reach 0 40 ++ reads 0 Iar1 40) (message 42) three (((omega arith, refl), (record { within = refl; can = refl; allowed = refl; hands = refl }, (call_ended worked_guest.shape 2 _ None refl (λ id. refl) (record { view = opened; maps = refl; made = record { events_are = refl; found = hands_one opened (Raise (Spi 42)) Nothing refl; reads = All-nil _ }; answers = refl }), tt)))) in
+    let five : GoesOn from (message 40 ++ reach 0 40 ++ reads 0 Iar1 40 ++ message 42 ++ takes_over) = goes_on from (message 40 ++ reach 0 40 ++ reads 0 Iar1 40 ++ message 42) (takes_over) four (((omega arith, refl), (record { within = refl; can = (refl, omega arith); allowed = refl; hands = refl }, (record { within = refl; can = (refl, omega arith); allowed = refl; hands = refl }, (record { within = refl; can = (omega arith, refl); allowed = refl; hands = refl }, (call_ended worked_guest.shape 0 _ (Some 42) refl (λ id. refl) (record { view = opened; made = record { events_are = refl; found = hands_one opened (Cpu 0 Iar1 None) (Answer (Some 42)) ((Some 42), refl); reads = All-nil _ }; answers = (2, omega arith, refl) }), tt)))))) in
+    let six : GoesOn from (message 40 ++ reach 0 40 ++ reads 0 Iar1 40 ++ message 42 ++ takes_over ++ reads 0 Rpr 0x20) = goes_on from (message 40 ++ reach 0 40 ++ reads 0 Iar1 40 ++ message 42 ++ takes_over) (reads 0 Rpr 0x20) five (((omega arith, refl), (record { within = refl; can = (omega arith, refl); allowed = refl; hands = refl }, (call_ended worked_guest.shape 0 _ (Some 0x20) refl (λ id. refl) (record { view = opened; made = record { events_are = refl; found = hands_one opened (Cpu 0 Rpr None) (Answer (Some 0x20)) ((Some 0x20), refl); reads = All-nil _ }; answers = (0, omega arith, refl) }), tt)))) in
+    let seven : GoesOn from (message 40 ++ reach 0 40 ++ reads 0 Iar1 40 ++ message 42 ++ takes_over ++ reads 0 Rpr 0x20 ++ ends 0 42) = goes_on from (message 40 ++ reach 0 40 ++ reads 0 Iar1 40 ++ message 42 ++ takes_over ++ reads 0 Rpr 0x20) (ends 0 42) six (((omega arith, refl), (record { within = refl; can = (omega arith, refl); allowed = refl; hands = refl }, (call_ended worked_guest.shape 0 _ None refl (λ id. refl) (record { view = opened; made = record { events_are = refl; found = hands_one opened (Cpu 0 Eoir1 (Some 42)) (Answer None) (None, refl); reads = All-nil _ }; answers = (0, omega arith, refl) }), tt)))) in
+    goes_on from (message 40 ++ reach 0 40 ++ reads 0 Iar1 40 ++ message 42 ++ takes_over ++ reads 0 Rpr 0x20 ++ ends 0 42) (reads 0 Rpr 0xa0) seven (((omega arith, refl), (record { within = refl; can = (omega arith, refl); allowed = refl; hands = refl }, (call_ended worked_guest.shape 0 _ (Some 0xa0) refl (λ id. refl) (record { view = opened; made = record { events_are = refl; found = hands_one opened (Cpu 0 Rpr None) (Answer (Some 0xa0)) ((Some 0xa0), refl); reads = All-nil _ }; answers = (0, omega arith, refl) }), tt))))
 
 withdrawn_is : IsHistory worked_guest withdrawn
 unfolding least_in with_level without_level
 withdrawn_is =
-    let one : GoesOn from (message 40) = ((omega arith, refl), (record { within = refl; can = refl; allowed = refl; hands = refl }, (call_ended worked_guest.shape 2 _ None refl refl (record { view = opened; maps = refl; made = record { events_are = refl; found = hands_one opened (Raise (Spi 40)) Nothing refl; reads = All-nil _ }; answers = refl }), tt))) in
-    let two : GoesOn from (message 40 ++ reach 0 40) = goes_on from (message 40) (reach 0 40) one (((omega arith, refl), (record { within = refl; can = (refl, omega arith); allowed = refl; hands = refl }, (call_ended worked_guest.shape 0 _ None refl refl (refl, refl), tt)))) in
-    let three : GoesOn from (message 40 ++ reach 0 40 ++ leave 0 40) = goes_on from (message 40 ++ reach 0 40) (leave 0 40) two (((omega arith, refl), (record { within = refl; can = (refl, omega arith); allowed = refl; hands = refl }, (call_ended worked_guest.shape 0 _ None refl refl (refl, refl), tt)))) in
-    let four : GoesOn from (message 40 ++ reach 0 40 ++ leave 0 40 ++ writes 0x48 4 40 (Register ClearPending 1)) = goes_on from (message 40 ++ reach 0 40 ++ leave 0 40) (writes 0x48 4 40 (Register ClearPending 1)) three (((omega arith, refl), (record { within = refl; can = record { there = refl; fits = refl }; allowed = refl; hands = refl }, (call_ended worked_guest.shape 1 _ None refl refl (record { view = view_at (last_of worked_guest (message 40 ++ reach 0 40 ++ leave 0 40)); targets = refl; made = record { events_are = refl; found = hands_one (view_at (last_of worked_guest (message 40 ++ reach 0 40 ++ leave 0 40))) (Touch (Spi 40) (Register ClearPending 1)) (Record pending_irq) refl; reads = All-nil _ }; answers = refl }), tt)))) in
-    goes_on from (message 40 ++ reach 0 40 ++ leave 0 40 ++ writes 0x48 4 40 (Register ClearPending 1)) (reads 0 Iar1 1023) four (((omega arith, refl), (record { within = refl; can = (omega arith, refl); allowed = refl; hands = refl }, (call_ended worked_guest.shape 0 _ (Some 1023) refl refl (record { view = opened; made = record { events_are = refl; found = hands_one opened (Cpu 0 Iar1 None) (Answer (Some 1023)) ((Some 1023), refl); reads = All-nil _ }; answers = (0, omega arith, refl) }), tt))))
+    let one : GoesOn from (message 40) = ((omega arith, refl), (record { within = refl; can = refl; allowed = refl; hands = refl }, (call_ended worked_guest.shape 2 _ None refl (λ id. refl) (record { view = opened; maps = refl; made = record { events_are = refl; found = hands_one opened (Raise (Spi 40)) Nothing refl; reads = All-nil _ }; answers = refl }), tt))) in
+    let two : GoesOn from (message 40 ++ reach 0 40) = goes_on from (message 40) (reach 0 40) one (((omega arith, refl), (record { within = refl; can = (refl, omega arith); allowed = refl; hands = refl }, (call_ended worked_guest.shape 0 _ None refl (λ id. refl) (refl, refl), tt)))) in
+    let three : GoesOn from (message 40 ++ reach 0 40 ++ leave 0 40) = goes_on from (message 40 ++ reach 0 40) (leave 0 40) two (((omega arith, refl), (record { within = refl; can = (refl, omega arith); allowed = refl; hands = refl }, (call_ended worked_guest.shape 0 _ None refl (λ id. refl) (refl, refl), tt)))) in
+    let four : GoesOn from (message 40 ++ reach 0 40 ++ leave 0 40 ++ writes 0x48 4 40 (Register ClearPending 1)) = goes_on from (message 40 ++ reach 0 40 ++ leave 0 40) (writes 0x48 4 40 (Register ClearPending 1)) three (((omega arith, refl), (record { within = refl; can = record { there = refl; fits = refl }; allowed = refl; hands = refl }, (call_ended worked_guest.shape 1 _ None refl (λ id. refl) (record { view = view_at (last_of worked_guest (message 40 ++ reach 0 40 ++ leave 0 40)); targets = refl; made = record { events_are = refl; found = hands_one (view_at (last_of worked_guest (message 40 ++ reach 0 40 ++ leave 0 40))) (Touch (Spi 40) (Register ClearPending 1)) (Record pending_irq) refl; reads = All-nil _ }; answers = refl }), tt)))) in
+    goes_on from (message 40 ++ reach 0 40 ++ leave 0 40 ++ writes 0x48 4 40 (Register ClearPending 1)) (reads 0 Iar1 1023) four (((omega arith, refl), (record { within = refl; can = (omega arith, refl); allowed = refl; hands = refl }, (call_ended worked_guest.shape 0 _ (Some 1023) refl (λ id. refl) (record { view = opened; made = record { events_are = refl; found = hands_one opened (Cpu 0 Iar1 None) (Answer (Some 1023)) ((Some 1023), refl); reads = All-nil _ }; answers = (0, omega arith, refl) }), tt))))
 
 migrated_is : IsHistory worked_guest migrated
 unfolding least_in with_level without_level
 migrated_is =
-    let one : GoesOn from (message 40) = ((omega arith, refl), (record { within = refl; can = refl; allowed = refl; hands = refl }, (call_ended worked_guest.shape 2 _ None refl refl (record { view = opened; maps = refl; made = record { events_are = refl; found = hands_one opened (Raise (Spi 40)) Nothing refl; reads = All-nil _ }; answers = refl }), tt))) in
-    let two : GoesOn from (message 40 ++ writes 0x6140 8 1 (Register Routing 1)) = goes_on from (message 40) (writes 0x6140 8 1 (Register Routing 1)) one (((omega arith, refl), (record { within = refl; can = record { there = refl; fits = refl }; allowed = refl; hands = refl }, (call_ended worked_guest.shape 1 _ None refl refl (record { view = view_at (last_of worked_guest (message 40)); targets = refl; made = record { events_are = refl; found = hands_one (view_at (last_of worked_guest (message 40))) (Touch (Spi 40) (Register Routing 1)) (Record pending_irq) refl; reads = All-nil _ }; answers = refl }), tt)))) in
-    let three : GoesOn from (message 40 ++ writes 0x6140 8 1 (Register Routing 1) ++ reads 0 Iar1 1023) = goes_on from (message 40 ++ writes 0x6140 8 1 (Register Routing 1)) (reads 0 Iar1 1023) two (((omega arith, refl), (record { within = refl; can = (omega arith, refl); allowed = refl; hands = refl }, (call_ended worked_guest.shape 0 _ (Some 1023) refl refl (record { view = opened; made = record { events_are = refl; found = hands_one opened (Cpu 0 Iar1 None) (Answer (Some 1023)) ((Some 1023), refl); reads = All-nil _ }; answers = (0, omega arith, refl) }), tt)))) in
-    let four : GoesOn from (message 40 ++ writes 0x6140 8 1 (Register Routing 1) ++ reads 0 Iar1 1023 ++ reach 1 40) = goes_on from (message 40 ++ writes 0x6140 8 1 (Register Routing 1) ++ reads 0 Iar1 1023) (reach 1 40) three (((omega arith, refl), (record { within = refl; can = (refl, omega arith); allowed = refl; hands = refl }, (call_ended worked_guest.shape 1 _ None refl refl (refl, refl), tt)))) in
-    goes_on from (message 40 ++ writes 0x6140 8 1 (Register Routing 1) ++ reads 0 Iar1 1023 ++ reach 1 40) (reads 1 Iar1 40) four (((omega arith, refl), (record { within = refl; can = (omega arith, refl); allowed = refl; hands = refl }, (call_ended worked_guest.shape 1 _ (Some 40) refl refl (record { view = opened; made = record { events_are = refl; found = hands_one opened (Cpu 1 Iar1 None) (Answer (Some 40)) ((Some 40), refl); reads = All-nil _ }; answers = (0, omega arith, refl) }), tt))))
+    let one : GoesOn from (message 40) = ((omega arith, refl), (record { within = refl; can = refl; allowed = refl; hands = refl }, (call_ended worked_guest.shape 2 _ None refl (λ id. refl) (record { view = opened; maps = refl; made = record { events_are = refl; found = hands_one opened (Raise (Spi 40)) Nothing refl; reads = All-nil _ }; answers = refl }), tt))) in
+    let two : GoesOn from (message 40 ++ writes 0x6140 8 1 (Register Routing 1)) = goes_on from (message 40) (writes 0x6140 8 1 (Register Routing 1)) one (((omega arith, refl), (record { within = refl; can = record { there = refl; fits = refl }; allowed = refl; hands = refl }, (call_ended worked_guest.shape 1 _ None refl (λ id. refl) (record { view = view_at (last_of worked_guest (message 40)); targets = refl; made = record { events_are = refl; found = hands_one (view_at (last_of worked_guest (message 40))) (Touch (Spi 40) (Register Routing 1)) (Record pending_irq) refl; reads = All-nil _ }; answers = refl }), tt)))) in
+    let three : GoesOn from (message 40 ++ writes 0x6140 8 1 (Register Routing 1) ++ reads 0 Iar1 1023) = goes_on from (message 40 ++ writes 0x6140 8 1 (Register Routing 1)) (reads 0 Iar1 1023) two (((omega arith, refl), (record { within = refl; can = (omega arith, refl); allowed = refl; hands = refl }, (call_ended worked_guest.shape 0 _ (Some 1023) refl (λ id. refl) (record { view = opened; made = record { events_are = refl; found = hands_one opened (Cpu 0 Iar1 None) (Answer (Some 1023)) ((Some 1023), refl); reads = All-nil _ }; answers = (0, omega arith, refl) }), tt)))) in
+    let four : GoesOn from (message 40 ++ writes 0x6140 8 1 (Register Routing 1) ++ reads 0 Iar1 1023 ++ reach 1 40) = goes_on from (message 40 ++ writes 0x6140 8 1 (Register Routing 1) ++ reads 0 Iar1 1023) (reach 1 40) three (((omega arith, refl), (record { within = refl; can = (refl, omega arith); allowed = refl; hands = refl }, (call_ended worked_guest.shape 1 _ None refl (λ id. refl) (refl, refl), tt)))) in
+    goes_on from (message 40 ++ writes 0x6140 8 1 (Register Routing 1) ++ reads 0 Iar1 1023 ++ reach 1 40) (reads 1 Iar1 40) four (((omega arith, refl), (record { within = refl; can = (omega arith, refl); allowed = refl; hands = refl }, (call_ended worked_guest.shape 1 _ (Some 40) refl (λ id. refl) (record { view = opened; made = record { events_are = refl; found = hands_one opened (Cpu 1 Iar1 None) (Answer (Some 40)) ((Some 40), refl); reads = All-nil _ }; answers = (0, omega arith, refl) }), tt))))
 
 refilled_is : IsHistory worked_guest refilled
 unfolding least_in with_level without_level
 refilled_is =
-    let one : GoesOn from (wire_up 41) = ((omega arith, refl), (record { within = refl; can = refl; allowed = refl; hands = refl }, (call_ended worked_guest.shape 2 _ None refl refl (record { view = opened; maps = refl; made = record { events_are = refl; found = hands_one opened (Up (Spi 41)) Nothing refl; reads = All-nil _ }; answers = refl }), tt))) in
-    let two : GoesOn from (wire_up 41 ++ reach 0 41) = goes_on from (wire_up 41) (reach 0 41) one (((omega arith, refl), (record { within = refl; can = (refl, omega arith); allowed = refl; hands = refl }, (call_ended worked_guest.shape 0 _ None refl refl (refl, refl), tt)))) in
-    let three : GoesOn from (wire_up 41 ++ reach 0 41 ++ reads 0 Iar1 41) = goes_on from (wire_up 41 ++ reach 0 41) (reads 0 Iar1 41) two (((omega arith, refl), (record { within = refl; can = (omega arith, refl); allowed = refl; hands = refl }, (call_ended worked_guest.shape 0 _ (Some 41) refl refl (record { view = opened; made = record { events_are = refl; found = hands_one opened (Cpu 0 Iar1 None) (Answer (Some 41)) ((Some 41), refl); reads = All-nil _ }; answers = (0, omega arith, refl) }), tt)))) in
-    let four : GoesOn from (wire_up 41 ++ reach 0 41 ++ reads 0 Iar1 41 ++ ends_and_leaves) = goes_on from (wire_up 41 ++ reach 0 41 ++ reads 0 Iar1 41) (ends_and_leaves) three (((omega arith, refl), (record { within = refl; can = (omega arith, refl); allowed = refl; hands = refl }, (record { within = refl; can = (refl, omega arith); allowed = refl; hands = refl }, (call_ended worked_guest.shape 0 _ None refl refl (record { view = opened; made = record { events_are = refl; found = hands_one opened (Cpu 0 Eoir1 (Some 41)) (Answer None) (None, refl); reads = All-nil _ }; answers = (0, omega arith, refl) }), tt))))) in
-    let five : GoesOn from (wire_up 41 ++ reach 0 41 ++ reads 0 Iar1 41 ++ ends_and_leaves ++ reach 0 41) = goes_on from (wire_up 41 ++ reach 0 41 ++ reads 0 Iar1 41 ++ ends_and_leaves) (reach 0 41) four (((omega arith, refl), (record { within = refl; can = (refl, omega arith); allowed = refl; hands = refl }, (call_ended worked_guest.shape 0 _ None refl refl (refl, refl), tt)))) in
-    goes_on from (wire_up 41 ++ reach 0 41 ++ reads 0 Iar1 41 ++ ends_and_leaves ++ reach 0 41) (reads 0 Iar1 41) five (((omega arith, refl), (record { within = refl; can = (omega arith, refl); allowed = refl; hands = refl }, (call_ended worked_guest.shape 0 _ (Some 41) refl refl (record { view = opened; made = record { events_are = refl; found = hands_one opened (Cpu 0 Iar1 None) (Answer (Some 41)) ((Some 41), refl); reads = All-nil _ }; answers = (0, omega arith, refl) }), tt))))
+    let one : GoesOn from (wire_up 41) = ((omega arith, refl), (record { within = refl; can = refl; allowed = refl; hands = refl }, (call_ended worked_guest.shape 2 _ None refl (λ id. refl) (record { view = opened; maps = refl; made = record { events_are = refl; found = hands_one opened (Up (Spi 41)) Nothing refl; reads = All-nil _ }; answers = refl }), tt))) in
+    let two : GoesOn from (wire_up 41 ++ reach 0 41) = goes_on from (wire_up 41) (reach 0 41) one (((omega arith, refl), (record { within = refl; can = (refl, omega arith); allowed = refl; hands = refl }, (call_ended worked_guest.shape 0 _ None refl (λ id. refl) (refl, refl), tt)))) in
+    let three : GoesOn from (wire_up 41 ++ reach 0 41 ++ reads 0 Iar1 41) = goes_on from (wire_up 41 ++ reach 0 41) (reads 0 Iar1 41) two (((omega arith, refl), (record { within = refl; can = (omega arith, refl); allowed = refl; hands = refl }, (call_ended worked_guest.shape 0 _ (Some 41) refl (λ id. refl) (record { view = opened; made = record { events_are = refl; found = hands_one opened (Cpu 0 Iar1 None) (Answer (Some 41)) ((Some 41), refl); reads = All-nil _ }; answers = (0, omega arith, refl) }), tt)))) in
+    let four : GoesOn from (wire_up 41 ++ reach 0 41 ++ reads 0 Iar1 41 ++ ends_and_leaves) = goes_on from (wire_up 41 ++ reach 0 41 ++ reads 0 Iar1 41) (ends_and_leaves) three (((omega arith, refl), (record { within = refl; can = (omega arith, refl); allowed = refl; hands = refl }, (record { within = refl; can = (refl, omega arith); allowed = refl; hands = refl }, (call_ended worked_guest.shape 0 _ None refl (λ id. refl) (record { view = opened; made = record { events_are = refl; found = hands_one opened (Cpu 0 Eoir1 (Some 41)) (Answer None) (None, refl); reads = All-nil _ }; answers = (0, omega arith, refl) }), tt))))) in
+    let five : GoesOn from (wire_up 41 ++ reach 0 41 ++ reads 0 Iar1 41 ++ ends_and_leaves ++ reach 0 41) = goes_on from (wire_up 41 ++ reach 0 41 ++ reads 0 Iar1 41 ++ ends_and_leaves) (reach 0 41) four (((omega arith, refl), (record { within = refl; can = (refl, omega arith); allowed = refl; hands = refl }, (call_ended worked_guest.shape 0 _ None refl (λ id. refl) (refl, refl), tt)))) in
+    goes_on from (wire_up 41 ++ reach 0 41 ++ reads 0 Iar1 41 ++ ends_and_leaves ++ reach 0 41) (reads 0 Iar1 41) five (((omega arith, refl), (record { within = refl; can = (omega arith, refl); allowed = refl; hands = refl }, (call_ended worked_guest.shape 0 _ (Some 41) refl (λ id. refl) (record { view = opened; made = record { events_are = refl; found = hands_one opened (Cpu 0 Iar1 None) (Answer (Some 41)) ((Some 41), refl); reads = All-nil _ }; answers = (0, omega arith, refl) }), tt))))
 
 overlooked_is : IsHistory worked_guest overlooked
 unfolding least_in with_level without_level
 overlooked_is =
-    let one : GoesOn from (message 40) = ((omega arith, refl), (record { within = refl; can = refl; allowed = refl; hands = refl }, (call_ended worked_guest.shape 2 _ None refl refl (record { view = opened; maps = refl; made = record { events_are = refl; found = hands_one opened (Raise (Spi 40)) Nothing refl; reads = All-nil _ }; answers = refl }), tt))) in
-    goes_on from (message 40) (reads 0 Iar1 1023) one (((omega arith, refl), (record { within = refl; can = (omega arith, refl); allowed = refl; hands = refl }, (call_ended worked_guest.shape 0 _ (Some 1023) refl refl (record { view = opened; made = record { events_are = refl; found = hands_one opened (Cpu 0 Iar1 None) (Answer (Some 1023)) ((Some 1023), refl); reads = All-nil _ }; answers = (0, omega arith, refl) }), tt))))
+    let one : GoesOn from (message 40) = ((omega arith, refl), (record { within = refl; can = refl; allowed = refl; hands = refl }, (call_ended worked_guest.shape 2 _ None refl (λ id. refl) (record { view = opened; maps = refl; made = record { events_are = refl; found = hands_one opened (Raise (Spi 40)) Nothing refl; reads = All-nil _ }; answers = refl }), tt))) in
+    goes_on from (message 40) (reads 0 Iar1 1023) one (((omega arith, refl), (record { within = refl; can = (omega arith, refl); allowed = refl; hands = refl }, (call_ended worked_guest.shape 0 _ (Some 1023) refl (λ id. refl) (record { view = opened; made = record { events_are = refl; found = hands_one opened (Cpu 0 Iar1 None) (Answer (Some 1023)) ((Some 1023), refl); reads = All-nil _ }; answers = (0, omega arith, refl) }), tt))))
 
 outdated_is : IsHistory worked_guest outdated
 unfolding least_in with_level without_level
 outdated_is =
-    let one : GoesOn from (message 40) = ((omega arith, refl), (record { within = refl; can = refl; allowed = refl; hands = refl }, (call_ended worked_guest.shape 2 _ None refl refl (record { view = opened; maps = refl; made = record { events_are = refl; found = hands_one opened (Raise (Spi 40)) Nothing refl; reads = All-nil _ }; answers = refl }), tt))) in
-    let two : GoesOn from (message 40 ++ reach 0 40) = goes_on from (message 40) (reach 0 40) one (((omega arith, refl), (record { within = refl; can = (refl, omega arith); allowed = refl; hands = refl }, (call_ended worked_guest.shape 0 _ None refl refl (refl, refl), tt)))) in
-    let three : GoesOn from (message 40 ++ reach 0 40 ++ message 40) = goes_on from (message 40 ++ reach 0 40) (message 40) two (((omega arith, refl), (record { within = refl; can = refl; allowed = refl; hands = refl }, (call_ended worked_guest.shape 2 _ None refl refl (record { view = opened; maps = refl; made = record { events_are = refl; found = hands_one opened (Raise (Spi 40)) Nothing refl; reads = All-nil _ }; answers = refl }), tt)))) in
-    goes_on from (message 40 ++ reach 0 40 ++ message 40) (reads 0 Rpr 0xff) three (((omega arith, refl), (record { within = refl; can = (omega arith, refl); allowed = refl; hands = refl }, (call_ended worked_guest.shape 0 _ (Some 0xff) refl refl (record { view = opened; made = record { events_are = refl; found = hands_one opened (Cpu 0 Rpr None) (Answer (Some 0xff)) ((Some 0xff), refl); reads = All-nil _ }; answers = (0, omega arith, refl) }), tt))))
+    let one : GoesOn from (message 40) = ((omega arith, refl), (record { within = refl; can = refl; allowed = refl; hands = refl }, (call_ended worked_guest.shape 2 _ None refl (λ id. refl) (record { view = opened; maps = refl; made = record { events_are = refl; found = hands_one opened (Raise (Spi 40)) Nothing refl; reads = All-nil _ }; answers = refl }), tt))) in
+    let two : GoesOn from (message 40 ++ reach 0 40) = goes_on from (message 40) (reach 0 40) one (((omega arith, refl), (record { within = refl; can = (refl, omega arith); allowed = refl; hands = refl }, (call_ended worked_guest.shape 0 _ None refl (λ id. refl) (refl, refl), tt)))) in
+    let three : GoesOn from (message 40 ++ reach 0 40 ++ message 40) = goes_on from (message 40 ++ reach 0 40) (message 40) two (((omega arith, refl), (record { within = refl; can = refl; allowed = refl; hands = refl }, (call_ended worked_guest.shape 2 _ None refl (λ id. refl) (record { view = opened; maps = refl; made = record { events_are = refl; found = hands_one opened (Raise (Spi 40)) Nothing refl; reads = All-nil _ }; answers = refl }), tt)))) in
+    goes_on from (message 40 ++ reach 0 40 ++ message 40) (reads 0 Rpr 0xff) three (((omega arith, refl), (record { within = refl; can = (omega arith, refl); allowed = refl; hands = refl }, (call_ended worked_guest.shape 0 _ (Some 0xff) refl (λ id. refl) (record { view = opened; made = record { events_are = refl; found = hands_one opened (Cpu 0 Rpr None) (Answer (Some 0xff)) ((Some 0xff), refl); reads = All-nil _ }; answers = (0, omega arith, refl) }), tt))))
 
 unended_is : IsHistory worked_guest unended
 unfolding least_in with_level without_level
 unended_is =
-    let one : GoesOn from (message 40) = ((omega arith, refl), (record { within = refl; can = refl; allowed = refl; hands = refl }, (call_ended worked_guest.shape 2 _ None refl refl (record { view = opened; maps = refl; made = record { events_are = refl; found = hands_one opened (Raise (Spi 40)) Nothing refl; reads = All-nil _ }; answers = refl }), tt))) in
-    let two : GoesOn from (message 40 ++ reach 0 40) = goes_on from (message 40) (reach 0 40) one (((omega arith, refl), (record { within = refl; can = (refl, omega arith); allowed = refl; hands = refl }, (call_ended worked_guest.shape 0 _ None refl refl (refl, refl), tt)))) in
-    let three : GoesOn from (message 40 ++ reach 0 40 ++ reads 0 Iar1 40) = goes_on from (message 40 ++ reach 0 40) (reads 0 Iar1 40) two (((omega arith, refl), (record { within = refl; can = (omega arith, refl); allowed = refl; hands = refl }, (call_ended worked_guest.shape 0 _ (Some 40) refl refl (record { view = opened; made = record { events_are = refl; found = hands_one opened (Cpu 0 Iar1 None) (Answer (Some 40)) ((Some 40), refl); reads = All-nil _ }; answers = (0, omega arith, refl) }), tt)))) in
-    goes_on from (message 40 ++ reach 0 40 ++ reads 0 Iar1 40) leaves_and_ends three ((omega arith, refl), (record { within = refl; can = (refl, omega arith); allowed = refl; hands = refl }, (record { within = refl; can = (omega arith, refl); allowed = refl; hands = refl }, (call_ended worked_guest.shape 0 _ None refl refl (record { view = opened; made = record { events_are = refl; found = hands_one opened (Cpu 0 Eoir1 (Some 40)) (Answer None) (None, refl); reads = All-nil _ }; answers = (1, omega arith, refl) }), tt))))
+    let one : GoesOn from (message 40) = ((omega arith, refl), (record { within = refl; can = refl; allowed = refl; hands = refl }, (call_ended worked_guest.shape 2 _ None refl (λ id. refl) (record { view = opened; maps = refl; made = record { events_are = refl; found = hands_one opened (Raise (Spi 40)) Nothing refl; reads = All-nil _ }; answers = refl }), tt))) in
+    let two : GoesOn from (message 40 ++ reach 0 40) = goes_on from (message 40) (reach 0 40) one (((omega arith, refl), (record { within = refl; can = (refl, omega arith); allowed = refl; hands = refl }, (call_ended worked_guest.shape 0 _ None refl (λ id. refl) (refl, refl), tt)))) in
+    let three : GoesOn from (message 40 ++ reach 0 40 ++ reads 0 Iar1 40) = goes_on from (message 40 ++ reach 0 40) (reads 0 Iar1 40) two (((omega arith, refl), (record { within = refl; can = (omega arith, refl); allowed = refl; hands = refl }, (call_ended worked_guest.shape 0 _ (Some 40) refl (λ id. refl) (record { view = opened; made = record { events_are = refl; found = hands_one opened (Cpu 0 Iar1 None) (Answer (Some 40)) ((Some 40), refl); reads = All-nil _ }; answers = (0, omega arith, refl) }), tt)))) in
+    goes_on from (message 40 ++ reach 0 40 ++ reads 0 Iar1 40) leaves_and_ends three ((omega arith, refl), (record { within = refl; can = (refl, omega arith); allowed = refl; hands = refl }, (record { within = refl; can = (omega arith, refl); allowed = refl; hands = refl }, (call_ended worked_guest.shape 0 _ None refl (λ id. refl) (record { view = opened; made = record { events_are = refl; found = hands_one opened (Cpu 0 Eoir1 (Some 40)) (Answer None) (None, refl); reads = All-nil _ }; answers = (1, omega arith, refl) }), tt))))
 
 kept_is : IsHistory worked_guest kept
 unfolding least_in with_level without_level
 kept_is =
-    let one : GoesOn from (wire_up 41) = ((omega arith, refl), (record { within = refl; can = refl; allowed = refl; hands = refl }, (call_ended worked_guest.shape 2 _ None refl refl (record { view = opened; maps = refl; made = record { events_are = refl; found = hands_one opened (Up (Spi 41)) Nothing refl; reads = All-nil _ }; answers = refl }), tt))) in
-    let two : GoesOn from (wire_up 41 ++ reach 0 41) = goes_on from (wire_up 41) (reach 0 41) one (((omega arith, refl), (record { within = refl; can = (refl, omega arith); allowed = refl; hands = refl }, (call_ended worked_guest.shape 0 _ None refl refl (refl, refl), tt)))) in
-    let three : GoesOn from (wire_up 41 ++ reach 0 41 ++ reads 0 Iar1 41) = goes_on from (wire_up 41 ++ reach 0 41) (reads 0 Iar1 41) two (((omega arith, refl), (record { within = refl; can = (omega arith, refl); allowed = refl; hands = refl }, (call_ended worked_guest.shape 0 _ (Some 41) refl refl (record { view = opened; made = record { events_are = refl; found = hands_one opened (Cpu 0 Iar1 None) (Answer (Some 41)) ((Some 41), refl); reads = All-nil _ }; answers = (0, omega arith, refl) }), tt)))) in
-    goes_on from (wire_up 41 ++ reach 0 41 ++ reads 0 Iar1 41) (ends 0 41) three (((omega arith, refl), (record { within = refl; can = (omega arith, refl); allowed = refl; hands = refl }, (call_ended worked_guest.shape 0 _ None refl refl (record { view = opened; made = record { events_are = refl; found = hands_one opened (Cpu 0 Eoir1 (Some 41)) (Answer None) (None, refl); reads = All-nil _ }; answers = (0, omega arith, refl) }), tt))))
+    let one : GoesOn from (wire_up 41) = ((omega arith, refl), (record { within = refl; can = refl; allowed = refl; hands = refl }, (call_ended worked_guest.shape 2 _ None refl (λ id. refl) (record { view = opened; maps = refl; made = record { events_are = refl; found = hands_one opened (Up (Spi 41)) Nothing refl; reads = All-nil _ }; answers = refl }), tt))) in
+    let two : GoesOn from (wire_up 41 ++ reach 0 41) = goes_on from (wire_up 41) (reach 0 41) one (((omega arith, refl), (record { within = refl; can = (refl, omega arith); allowed = refl; hands = refl }, (call_ended worked_guest.shape 0 _ None refl (λ id. refl) (refl, refl), tt)))) in
+    let three : GoesOn from (wire_up 41 ++ reach 0 41 ++ reads 0 Iar1 41) = goes_on from (wire_up 41 ++ reach 0 41) (reads 0 Iar1 41) two (((omega arith, refl), (record { within = refl; can = (omega arith, refl); allowed = refl; hands = refl }, (call_ended worked_guest.shape 0 _ (Some 41) refl (λ id. refl) (record { view = opened; made = record { events_are = refl; found = hands_one opened (Cpu 0 Iar1 None) (Answer (Some 41)) ((Some 41), refl); reads = All-nil _ }; answers = (0, omega arith, refl) }), tt)))) in
+    goes_on from (wire_up 41 ++ reach 0 41 ++ reads 0 Iar1 41) (ends 0 41) three (((omega arith, refl), (record { within = refl; can = (omega arith, refl); allowed = refl; hands = refl }, (call_ended worked_guest.shape 0 _ None refl (λ id. refl) (record { view = opened; made = record { events_are = refl; found = hands_one opened (Cpu 0 Eoir1 (Some 41)) (Answer None) (None, refl); reads = All-nil _ }; answers = (0, omega arith, refl) }), tt))))
 
 repeated_is : IsHistory worked_guest repeated
 unfolding least_in with_level without_level
 repeated_is =
-    let one : GoesOn from (message 40) = ((omega arith, refl), (record { within = refl; can = refl; allowed = refl; hands = refl }, (call_ended worked_guest.shape 2 _ None refl refl (record { view = opened; maps = refl; made = record { events_are = refl; found = hands_one opened (Raise (Spi 40)) Nothing refl; reads = All-nil _ }; answers = refl }), tt))) in
-    let two : GoesOn from (message 40 ++ reach 0 40) = goes_on from (message 40) (reach 0 40) one (((omega arith, refl), (record { within = refl; can = (refl, omega arith); allowed = refl; hands = refl }, (call_ended worked_guest.shape 0 _ None refl refl (refl, refl), tt)))) in
-    let three : GoesOn from (message 40 ++ reach 0 40 ++ reads 0 Iar1 40) = goes_on from (message 40 ++ reach 0 40) (reads 0 Iar1 40) two (((omega arith, refl), (record { within = refl; can = (omega arith, refl); allowed = refl; hands = refl }, (call_ended worked_guest.shape 0 _ (Some 40) refl refl (record { view = opened; made = record { events_are = refl; found = hands_one opened (Cpu 0 Iar1 None) (Answer (Some 40)) ((Some 40), refl); reads = All-nil _ }; answers = (0, omega arith, refl) }), tt)))) in
-    let four : GoesOn from (message 40 ++ reach 0 40 ++ reads 0 Iar1 40 ++ message 40) = goes_on from (message 40 ++ reach 0 40 ++ reads 0 Iar1 40) (message 40) three (((omega arith, refl), (record { within = refl; can = refl; allowed = refl; hands = refl }, (call_ended worked_guest.shape 2 _ None refl refl (record { view = opened; maps = refl; made = record { events_are = refl; found = hands_one opened (Raise (Spi 40)) Nothing refl; reads = All-nil _ }; answers = refl }), tt)))) in
-    let five : GoesOn from (message 40 ++ reach 0 40 ++ reads 0 Iar1 40 ++ message 40 ++ leave 0 40) = goes_on from (message 40 ++ reach 0 40 ++ reads 0 Iar1 40 ++ message 40) (leave 0 40) four (((omega arith, refl), (record { within = refl; can = (refl, omega arith); allowed = refl; hands = refl }, (call_ended worked_guest.shape 0 _ None refl refl (refl, refl), tt)))) in
-    let six : GoesOn from (message 40 ++ reach 0 40 ++ reads 0 Iar1 40 ++ message 40 ++ leave 0 40 ++ reach 0 40) = goes_on from (message 40 ++ reach 0 40 ++ reads 0 Iar1 40 ++ message 40 ++ leave 0 40) (reach 0 40) five (((omega arith, refl), (record { within = refl; can = (refl, omega arith); allowed = refl; hands = refl }, (call_ended worked_guest.shape 0 _ None refl refl (refl, refl), tt)))) in
-    let seven : GoesOn from (message 40 ++ reach 0 40 ++ reads 0 Iar1 40 ++ message 40 ++ leave 0 40 ++ reach 0 40 ++ take) = goes_on from (message 40 ++ reach 0 40 ++ reads 0 Iar1 40 ++ message 40 ++ leave 0 40 ++ reach 0 40) (take) six (((omega arith, refl), (record { within = refl; can = (refl, omega arith); allowed = refl; hands = refl }, (call_ended worked_guest.shape 0 _ None refl refl (refl, refl), tt)))) in
-    let eight : GoesOn from (message 40 ++ reach 0 40 ++ reads 0 Iar1 40 ++ message 40 ++ leave 0 40 ++ reach 0 40 ++ take ++ ends 0 40) = goes_on from (message 40 ++ reach 0 40 ++ reads 0 Iar1 40 ++ message 40 ++ leave 0 40 ++ reach 0 40 ++ take) (ends 0 40) seven (((omega arith, refl), (record { within = refl; can = (omega arith, refl); allowed = refl; hands = refl }, (call_ended worked_guest.shape 0 _ None refl refl (record { view = opened; made = record { events_are = refl; found = hands_one opened (Cpu 0 Eoir1 (Some 40)) (Answer None) (None, refl); reads = All-nil _ }; answers = (0, omega arith, refl) }), tt)))) in
-    let nine : GoesOn from (message 40 ++ reach 0 40 ++ reads 0 Iar1 40 ++ message 40 ++ leave 0 40 ++ reach 0 40 ++ take ++ ends 0 40 ++ reads 0 Iar1 40) = goes_on from (message 40 ++ reach 0 40 ++ reads 0 Iar1 40 ++ message 40 ++ leave 0 40 ++ reach 0 40 ++ take ++ ends 0 40) (reads 0 Iar1 40) eight (((omega arith, refl), (record { within = refl; can = (omega arith, refl); allowed = refl; hands = refl }, (call_ended worked_guest.shape 0 _ (Some 40) refl refl (record { view = opened; made = record { events_are = refl; found = hands_one opened (Cpu 0 Iar1 None) (Answer (Some 40)) ((Some 40), refl); reads = All-nil _ }; answers = (0, omega arith, refl) }), tt)))) in
-    let ten : GoesOn from (message 40 ++ reach 0 40 ++ reads 0 Iar1 40 ++ message 40 ++ leave 0 40 ++ reach 0 40 ++ take ++ ends 0 40 ++ reads 0 Iar1 40 ++ ends 0 40) = goes_on from (message 40 ++ reach 0 40 ++ reads 0 Iar1 40 ++ message 40 ++ leave 0 40 ++ reach 0 40 ++ take ++ ends 0 40 ++ reads 0 Iar1 40) (ends 0 40) nine (((omega arith, refl), (record { within = refl; can = (omega arith, refl); allowed = refl; hands = refl }, (call_ended worked_guest.shape 0 _ None refl refl (record { view = opened; made = record { events_are = refl; found = hands_one opened (Cpu 0 Eoir1 (Some 40)) (Answer None) (None, refl); reads = All-nil _ }; answers = (0, omega arith, refl) }), tt)))) in
-    let eleven : GoesOn from (message 40 ++ reach 0 40 ++ reads 0 Iar1 40 ++ message 40 ++ leave 0 40 ++ reach 0 40 ++ take ++ ends 0 40 ++ reads 0 Iar1 40 ++ ends 0 40 ++ leave 0 40) = goes_on from (message 40 ++ reach 0 40 ++ reads 0 Iar1 40 ++ message 40 ++ leave 0 40 ++ reach 0 40 ++ take ++ ends 0 40 ++ reads 0 Iar1 40 ++ ends 0 40) (leave 0 40) ten (((omega arith, refl), (record { within = refl; can = (refl, omega arith); allowed = refl; hands = refl }, (call_ended worked_guest.shape 0 _ None refl refl (refl, refl), tt)))) in
-    goes_on from (message 40 ++ reach 0 40 ++ reads 0 Iar1 40 ++ message 40 ++ leave 0 40 ++ reach 0 40 ++ take ++ ends 0 40 ++ reads 0 Iar1 40 ++ ends 0 40 ++ leave 0 40) (reads 0 Iar1 1023) eleven (((omega arith, refl), (record { within = refl; can = (omega arith, refl); allowed = refl; hands = refl }, (call_ended worked_guest.shape 0 _ (Some 1023) refl refl (record { view = opened; made = record { events_are = refl; found = hands_one opened (Cpu 0 Iar1 None) (Answer (Some 1023)) ((Some 1023), refl); reads = All-nil _ }; answers = (0, omega arith, refl) }), tt))))
+    let one : GoesOn from (message 40) = ((omega arith, refl), (record { within = refl; can = refl; allowed = refl; hands = refl }, (call_ended worked_guest.shape 2 _ None refl (λ id. refl) (record { view = opened; maps = refl; made = record { events_are = refl; found = hands_one opened (Raise (Spi 40)) Nothing refl; reads = All-nil _ }; answers = refl }), tt))) in
+    let two : GoesOn from (message 40 ++ reach 0 40) = goes_on from (message 40) (reach 0 40) one (((omega arith, refl), (record { within = refl; can = (refl, omega arith); allowed = refl; hands = refl }, (call_ended worked_guest.shape 0 _ None refl (λ id. refl) (refl, refl), tt)))) in
+    let three : GoesOn from (message 40 ++ reach 0 40 ++ reads 0 Iar1 40) = goes_on from (message 40 ++ reach 0 40) (reads 0 Iar1 40) two (((omega arith, refl), (record { within = refl; can = (omega arith, refl); allowed = refl; hands = refl }, (call_ended worked_guest.shape 0 _ (Some 40) refl (λ id. refl) (record { view = opened; made = record { events_are = refl; found = hands_one opened (Cpu 0 Iar1 None) (Answer (Some 40)) ((Some 40), refl); reads = All-nil _ }; answers = (0, omega arith, refl) }), tt)))) in
+    let four : GoesOn from (message 40 ++ reach 0 40 ++ reads 0 Iar1 40 ++ message 40) = goes_on from (message 40 ++ reach 0 40 ++ reads 0 Iar1 40) (message 40) three (((omega arith, refl), (record { within = refl; can = refl; allowed = refl; hands = refl }, (call_ended worked_guest.shape 2 _ None refl (λ id. refl) (record { view = opened; maps = refl; made = record { events_are = refl; found = hands_one opened (Raise (Spi 40)) Nothing refl; reads = All-nil _ }; answers = refl }), tt)))) in
+    let five : GoesOn from (message 40 ++ reach 0 40 ++ reads 0 Iar1 40 ++ message 40 ++ leave 0 40) = goes_on from (message 40 ++ reach 0 40 ++ reads 0 Iar1 40 ++ message 40) (leave 0 40) four (((omega arith, refl), (record { within = refl; can = (refl, omega arith); allowed = refl; hands = refl }, (call_ended worked_guest.shape 0 _ None refl (λ id. refl) (refl, refl), tt)))) in
+    let six : GoesOn from (message 40 ++ reach 0 40 ++ reads 0 Iar1 40 ++ message 40 ++ leave 0 40 ++ reach 0 40) = goes_on from (message 40 ++ reach 0 40 ++ reads 0 Iar1 40 ++ message 40 ++ leave 0 40) (reach 0 40) five (((omega arith, refl), (record { within = refl; can = (refl, omega arith); allowed = refl; hands = refl }, (call_ended worked_guest.shape 0 _ None refl (λ id. refl) (refl, refl), tt)))) in
+    let seven : GoesOn from (message 40 ++ reach 0 40 ++ reads 0 Iar1 40 ++ message 40 ++ leave 0 40 ++ reach 0 40 ++ take) = goes_on from (message 40 ++ reach 0 40 ++ reads 0 Iar1 40 ++ message 40 ++ leave 0 40 ++ reach 0 40) (take) six (((omega arith, refl), (record { within = refl; can = (refl, omega arith); allowed = refl; hands = refl }, (call_ended worked_guest.shape 0 _ None refl (λ id. refl) (refl, refl), tt)))) in
+    let eight : GoesOn from (message 40 ++ reach 0 40 ++ reads 0 Iar1 40 ++ message 40 ++ leave 0 40 ++ reach 0 40 ++ take ++ ends 0 40) = goes_on from (message 40 ++ reach 0 40 ++ reads 0 Iar1 40 ++ message 40 ++ leave 0 40 ++ reach 0 40 ++ take) (ends 0 40) seven (((omega arith, refl), (record { within = refl; can = (omega arith, refl); allowed = refl; hands = refl }, (call_ended worked_guest.shape 0 _ None refl (λ id. refl) (record { view = opened; made = record { events_are = refl; found = hands_one opened (Cpu 0 Eoir1 (Some 40)) (Answer None) (None, refl); reads = All-nil _ }; answers = (0, omega arith, refl) }), tt)))) in
+    let nine : GoesOn from (message 40 ++ reach 0 40 ++ reads 0 Iar1 40 ++ message 40 ++ leave 0 40 ++ reach 0 40 ++ take ++ ends 0 40 ++ reads 0 Iar1 40) = goes_on from (message 40 ++ reach 0 40 ++ reads 0 Iar1 40 ++ message 40 ++ leave 0 40 ++ reach 0 40 ++ take ++ ends 0 40) (reads 0 Iar1 40) eight (((omega arith, refl), (record { within = refl; can = (omega arith, refl); allowed = refl; hands = refl }, (call_ended worked_guest.shape 0 _ (Some 40) refl (λ id. refl) (record { view = opened; made = record { events_are = refl; found = hands_one opened (Cpu 0 Iar1 None) (Answer (Some 40)) ((Some 40), refl); reads = All-nil _ }; answers = (0, omega arith, refl) }), tt)))) in
+    let ten : GoesOn from (message 40 ++ reach 0 40 ++ reads 0 Iar1 40 ++ message 40 ++ leave 0 40 ++ reach 0 40 ++ take ++ ends 0 40 ++ reads 0 Iar1 40 ++ ends 0 40) = goes_on from (message 40 ++ reach 0 40 ++ reads 0 Iar1 40 ++ message 40 ++ leave 0 40 ++ reach 0 40 ++ take ++ ends 0 40 ++ reads 0 Iar1 40) (ends 0 40) nine (((omega arith, refl), (record { within = refl; can = (omega arith, refl); allowed = refl; hands = refl }, (call_ended worked_guest.shape 0 _ None refl (λ id. refl) (record { view = opened; made = record { events_are = refl; found = hands_one opened (Cpu 0 Eoir1 (Some 40)) (Answer None) (None, refl); reads = All-nil _ }; answers = (0, omega arith, refl) }), tt)))) in
+    let eleven : GoesOn from (message 40 ++ reach 0 40 ++ reads 0 Iar1 40 ++ message 40 ++ leave 0 40 ++ reach 0 40 ++ take ++ ends 0 40 ++ reads 0 Iar1 40 ++ ends 0 40 ++ leave 0 40) = goes_on from (message 40 ++ reach 0 40 ++ reads 0 Iar1 40 ++ message 40 ++ leave 0 40 ++ reach 0 40 ++ take ++ ends 0 40 ++ reads 0 Iar1 40 ++ ends 0 40) (leave 0 40) ten (((omega arith, refl), (record { within = refl; can = (refl, omega arith); allowed = refl; hands = refl }, (call_ended worked_guest.shape 0 _ None refl (λ id. refl) (refl, refl), tt)))) in
+    goes_on from (message 40 ++ reach 0 40 ++ reads 0 Iar1 40 ++ message 40 ++ leave 0 40 ++ reach 0 40 ++ take ++ ends 0 40 ++ reads 0 Iar1 40 ++ ends 0 40 ++ leave 0 40) (reads 0 Iar1 1023) eleven (((omega arith, refl), (record { within = refl; can = (omega arith, refl); allowed = refl; hands = refl }, (call_ended worked_guest.shape 0 _ (Some 1023) refl (λ id. refl) (record { view = opened; made = record { events_are = refl; found = hands_one opened (Cpu 0 Iar1 None) (Answer (Some 1023)) ((Some 1023), refl); reads = All-nil _ }; answers = (0, omega arith, refl) }), tt))))
 
 returned_is : IsHistory worked_guest returned
 unfolding least_in with_level without_level
 returned_is =
-    let one : GoesOn from (message 40) = ((omega arith, refl), (record { within = refl; can = refl; allowed = refl; hands = refl }, (call_ended worked_guest.shape 2 _ None refl refl (record { view = opened; maps = refl; made = record { events_are = refl; found = hands_one opened (Raise (Spi 40)) Nothing refl; reads = All-nil _ }; answers = refl }), tt))) in
-    let two : GoesOn from (message 40 ++ reach 0 40) = goes_on from (message 40) (reach 0 40) one (((omega arith, refl), (record { within = refl; can = (refl, omega arith); allowed = refl; hands = refl }, (call_ended worked_guest.shape 0 _ None refl refl (refl, refl), tt)))) in
-    let three : GoesOn from (message 40 ++ reach 0 40 ++ leave 0 40) = goes_on from (message 40 ++ reach 0 40) (leave 0 40) two (((omega arith, refl), (record { within = refl; can = (refl, omega arith); allowed = refl; hands = refl }, (call_ended worked_guest.shape 0 _ None refl refl (refl, refl), tt)))) in
-    let four : GoesOn from (message 40 ++ reach 0 40 ++ leave 0 40 ++ reach 0 40) = goes_on from (message 40 ++ reach 0 40 ++ leave 0 40) (reach 0 40) three (((omega arith, refl), (record { within = refl; can = (refl, omega arith); allowed = refl; hands = refl }, (call_ended worked_guest.shape 0 _ None refl refl (refl, refl), tt)))) in
-    goes_on from (message 40 ++ reach 0 40 ++ leave 0 40 ++ reach 0 40) (reads 0 Iar1 40) four (((omega arith, refl), (record { within = refl; can = (omega arith, refl); allowed = refl; hands = refl }, (call_ended worked_guest.shape 0 _ (Some 40) refl refl (record { view = opened; made = record { events_are = refl; found = hands_one opened (Cpu 0 Iar1 None) (Answer (Some 40)) ((Some 40), refl); reads = All-nil _ }; answers = (0, omega arith, refl) }), tt))))
+    let one : GoesOn from (message 40) = ((omega arith, refl), (record { within = refl; can = refl; allowed = refl; hands = refl }, (call_ended worked_guest.shape 2 _ None refl (λ id. refl) (record { view = opened; maps = refl; made = record { events_are = refl; found = hands_one opened (Raise (Spi 40)) Nothing refl; reads = All-nil _ }; answers = refl }), tt))) in
+    let two : GoesOn from (message 40 ++ reach 0 40) = goes_on from (message 40) (reach 0 40) one (((omega arith, refl), (record { within = refl; can = (refl, omega arith); allowed = refl; hands = refl }, (call_ended worked_guest.shape 0 _ None refl (λ id. refl) (refl, refl), tt)))) in
+    let three : GoesOn from (message 40 ++ reach 0 40 ++ leave 0 40) = goes_on from (message 40 ++ reach 0 40) (leave 0 40) two (((omega arith, refl), (record { within = refl; can = (refl, omega arith); allowed = refl; hands = refl }, (call_ended worked_guest.shape 0 _ None refl (λ id. refl) (refl, refl), tt)))) in
+    let four : GoesOn from (message 40 ++ reach 0 40 ++ leave 0 40 ++ reach 0 40) = goes_on from (message 40 ++ reach 0 40 ++ leave 0 40) (reach 0 40) three (((omega arith, refl), (record { within = refl; can = (refl, omega arith); allowed = refl; hands = refl }, (call_ended worked_guest.shape 0 _ None refl (λ id. refl) (refl, refl), tt)))) in
+    goes_on from (message 40 ++ reach 0 40 ++ leave 0 40 ++ reach 0 40) (reads 0 Iar1 40) four (((omega arith, refl), (record { within = refl; can = (omega arith, refl); allowed = refl; hands = refl }, (call_ended worked_guest.shape 0 _ (Some 40) refl (λ id. refl) (record { view = opened; made = record { events_are = refl; found = hands_one opened (Cpu 0 Iar1 None) (Answer (Some 40)) ((Some 40), refl); reads = All-nil _ }; answers = (0, omega arith, refl) }), tt))))
 
 in_flight_is : IsHistory worked_guest in_flight
 unfolding least_in with_level without_level
 in_flight_is =
     let one : GoesOn from (begins_message) = ((omega arith, refl), (record { within = refl; can = refl; allowed = refl; hands = refl }, tt)) in
-    let two : GoesOn from (begins_message ++ reads 0 Iar1 1023) = goes_on from (begins_message) (reads 0 Iar1 1023) one (((omega arith, refl), (record { within = refl; can = (omega arith, refl); allowed = refl; hands = refl }, (call_ended worked_guest.shape 0 _ (Some 1023) refl refl (record { view = opened; made = record { events_are = refl; found = hands_one opened (Cpu 0 Iar1 None) (Answer (Some 1023)) ((Some 1023), refl); reads = All-nil _ }; answers = (0, omega arith, refl) }), tt)))) in
-    let three : GoesOn from (begins_message ++ reads 0 Iar1 1023 ++ ends_message) = goes_on from (begins_message ++ reads 0 Iar1 1023) (ends_message) two ((call_ended worked_guest.shape 2 _ None refl refl (record { view = opened; maps = refl; made = record { events_are = refl; found = hands_one opened (Raise (Spi 40)) Nothing refl; reads = All-nil _ }; answers = refl }), tt)) in
-    let four : GoesOn from (begins_message ++ reads 0 Iar1 1023 ++ ends_message ++ reach 0 40) = goes_on from (begins_message ++ reads 0 Iar1 1023 ++ ends_message) (reach 0 40) three (((omega arith, refl), (record { within = refl; can = (refl, omega arith); allowed = refl; hands = refl }, (call_ended worked_guest.shape 0 _ None refl refl (refl, refl), tt)))) in
-    goes_on from (begins_message ++ reads 0 Iar1 1023 ++ ends_message ++ reach 0 40) (reads 0 Iar1 40) four (((omega arith, refl), (record { within = refl; can = (omega arith, refl); allowed = refl; hands = refl }, (call_ended worked_guest.shape 0 _ (Some 40) refl refl (record { view = opened; made = record { events_are = refl; found = hands_one opened (Cpu 0 Iar1 None) (Answer (Some 40)) ((Some 40), refl); reads = All-nil _ }; answers = (0, omega arith, refl) }), tt))))
+    let two : GoesOn from (begins_message ++ reads 0 Iar1 1023) = goes_on from (begins_message) (reads 0 Iar1 1023) one (((omega arith, refl), (record { within = refl; can = (omega arith, refl); allowed = refl; hands = refl }, (call_ended worked_guest.shape 0 _ (Some 1023) refl (λ id. refl) (record { view = opened; made = record { events_are = refl; found = hands_one opened (Cpu 0 Iar1 None) (Answer (Some 1023)) ((Some 1023), refl); reads = All-nil _ }; answers = (0, omega arith, refl) }), tt)))) in
+    let three : GoesOn from (begins_message ++ reads 0 Iar1 1023 ++ ends_message) = goes_on from (begins_message ++ reads 0 Iar1 1023) (ends_message) two ((call_ended worked_guest.shape 2 _ None refl (λ id. refl) (record { view = opened; maps = refl; made = record { events_are = refl; found = hands_one opened (Raise (Spi 40)) Nothing refl; reads = All-nil _ }; answers = refl }), tt)) in
+    let four : GoesOn from (begins_message ++ reads 0 Iar1 1023 ++ ends_message ++ reach 0 40) = goes_on from (begins_message ++ reads 0 Iar1 1023 ++ ends_message) (reach 0 40) three (((omega arith, refl), (record { within = refl; can = (refl, omega arith); allowed = refl; hands = refl }, (call_ended worked_guest.shape 0 _ None refl (λ id. refl) (refl, refl), tt)))) in
+    goes_on from (begins_message ++ reads 0 Iar1 1023 ++ ends_message ++ reach 0 40) (reads 0 Iar1 40) four (((omega arith, refl), (record { within = refl; can = (omega arith, refl); allowed = refl; hands = refl }, (call_ended worked_guest.shape 0 _ (Some 40) refl (λ id. refl) (record { view = opened; made = record { events_are = refl; found = hands_one opened (Cpu 0 Iar1 None) (Answer (Some 40)) ((Some 40), refl); reads = All-nil _ }; answers = (0, omega arith, refl) }), tt))))
 
 served_fresh : IsFreshHistory served
 unfolding least_in with_level without_level
@@ -183,3 +183,11 @@ refused = record {
 
 pub not_allowed : WhatIsNotAllowed
 not_allowed = record { touches = refl; reaches = refl; takes = refl; leaves = refl; queue = refl; its = refl; ctlr = refl; second = refl }
+
+pub own_places : EachLpiHasItsPlace
+own_places = record {
+  history = ((omega arith, refl), (record { within = refl; can = record { there = refl; fits = refl }; allowed = refl; hands = refl }, (record { within = refl; can = record { there = refl; fits = refl }; allowed = refl; hands = refl }, ((omega arith, refl), (record { within = refl; can = omega arith; allowed = refl; hands = refl }, (record { within = refl; can = record { there = refl; fits = refl }; allowed = refl; hands = refl }, (record { within = refl; can = record { there = refl; fits = refl }; allowed = refl; hands = refl }, tt)))))));
+  passed = refl;
+  reached = refl;
+  ahead = refl;
+}

@@ -1,8 +1,11 @@
 -- Histories: what the actors of a guest do from its opening on, one event after the other.
-use Rattle.std.specs.Prelude.{◌≡◌, ℕ, ◌+◌, ◌<◌, ◌≤◌, nat_lt, IsTrue, List, [], ◌∷◌, ◌++◌, map, length, replicate, fold, All, Contains, Option, option_map, Some, None, is_none, is_some, slice_index_or, slice_set, if◌then◌else◌}
+use Rattle.std.specs.Prelude.{◌≡◌, ℕ, ◌+◌, ◌<◌, ◌≤◌, ◌&&◌, nat_lt, Bool, false, IsTrue, List, [], ◌∷◌, ◌++◌, map, length, replicate, fold, All, Contains, Option, option_map, Some, None, is_none, is_some, unwrap_or, slice_index_or, slice_set, if◌then◌else◌}
+use Rattle.std.specs.Option.{option_map_or}
+use Rattle.gic_base.specs.declared.interrupt.Key.{Key}
+use Rattle.gic_base.specs.declared.interrupt.Key.TheVariants.{Lpi}
 use Rattle.gic_base.specs.declared.shape.GuestShape.{GuestShape}
 use Rattle.gic_call.specs.declared.event.Event.{Event}
-use Rattle.gic_call.specs.declared.event.Event.TheVariants.{Enable, ItsBegin, Queue}
+use Rattle.gic_call.specs.declared.event.Event.TheVariants.{Enable, Touch, ItsBegin, Queue}
 use Rattle.gic_call.specs.declared.event.QueueChange.TheVariants.{Runs}
 use Rattle.gic_call.specs.declared.event.Found.{Found}
 use Rattle.gic_call.specs.declared.event.Moment.{Moment}
@@ -15,14 +18,15 @@ use Rattle.scn_base.specs.declared.guest.GuestSpec.{GuestSpec}
 use Rattle.gic_history.specs.State.{Ideal, opening, view_at}
 use Rattle.gic_history.specs.Moves.{is_allowed, handed_out, happened}
 
--- a call in progress: what it is for, its events so far, and the maps that the ITS had as it took it; and the vCPUs that LPIs were for, at each moment of
--- each of its commands, and at each moment since then
+-- a call in progress: what it is for, its events so far, and the maps that the ITS had as it took it; for which vCPUs each LPI was at the moments of each of
+-- its commands, and at those since then; and once it stored EnableLPIs, up to which LPI it has come
 pub record Call : Type 0 where
   pub operation : Operation
   pub piece : List Happened
   pub maps : Maps
-  pub done : List (List (ℕ → Option ℕ))
-  pub targets : List (ℕ → Option ℕ)
+  pub done : List (ℕ → List (Option ℕ))
+  pub targets : ℕ → List (Option ℕ)
+  pub place : Option ℕ
 
 -- the guest, and the call of each actor, if it is in one
 pub record Course : Type 0 where
@@ -49,23 +53,46 @@ targets_in ideal = (view_at ideal).targets
 -- a call as it begins
 abbrev pub begun : Ideal → Operation → Call
 begun ideal operation =
-    record { operation = operation; piece = []; maps = record { devices = []; events = []; collections = [] }; done = []; targets = targets_in ideal ∷ [] }
+    record {
+      operation = operation;
+      piece = [];
+      maps = record { devices = []; events = []; collections = [] };
+      done = [];
+      targets = λ id. targets_in ideal id ∷ [];
+      place = None;
+    }
 
--- what a call notes at an event of its own: the maps as it takes the ITS; and its commands end one by one. The LPIs of a pending table count from where
--- EnableLPIs is stored
+-- the LPI that a key is, if it is one
+abbrev pub lpi_in : Key → Option ℕ
+lpi_in (Lpi id) = Some id
+lpi_in key = None
+
+-- the call comes to an LPI of the pending table: what is still to come counts from here
+abbrev pub is_ahead : Option ℕ → Key → ℕ → Bool
+is_ahead place key id = is_some place && option_map_or (λ here. nat_lt here id) (lpi_in key) false
+
+abbrev pub come_to : Option ℕ → Key → Option ℕ
+come_to place key = option_map (λ before. unwrap_or (lpi_in key) before) place
+
+-- what a call notes at an event of its own: the maps as it takes the ITS; its commands end one by one; and from where EnableLPIs is stored, the LPIs of the
+-- pending table one by one
 abbrev pub noted : Ideal → Event → Call → Call
 noted ideal ItsBegin call = record call { maps = ideal.guest.tables }
-noted ideal (Enable vcpu) call = record call { targets = [] }
+noted ideal (Enable vcpu) call = record call { targets = λ id. []; place = Some 0 }
+noted ideal (Touch key touching) call = record call { targets = λ id. if is_ahead call.place key id then [] else call.targets id; place = come_to call.place key }
 noted ideal (Queue offset Runs) call = call
-noted ideal (Queue offset change) call = record call { done = call.done ++ call.targets ∷ []; targets = [] }
+noted ideal (Queue offset change) call = record call { done = call.done ++ call.targets ∷ []; targets = λ id. [] }
 noted ideal event call = call
 
 abbrev pub made : Ideal → Event → Found → Call → Call
 made ideal event found call = let call' = noted ideal event call in record call' { piece = call'.piece ++ (record { event = event; found = found }) ∷ [] }
 
--- what it notes at each event
+-- what it notes at each event: for which vCPU each LPI is that it has not passed
+abbrev pub is_passed : Option ℕ → ℕ → Bool
+is_passed place id = option_map_or (λ here. nat_lt id here) place false
+
 abbrev pub seeing : Ideal → Call → Call
-seeing ideal call = record call { targets = call.targets ++ targets_in ideal ∷ [] }
+seeing ideal call = record call { targets = λ id. if is_passed call.place id then call.targets id else call.targets id ++ targets_in ideal id ∷ [] }
 
 -- the course after a moment
 abbrev pub gone_on : Course → Moment → Course
@@ -82,11 +109,12 @@ abbrev pub course_of : Course → List Moment → Course
 course_of course moments = fold gone_on course moments
 
 -- what an actor's call has made is the call, with this answer: of an ITS that had the maps with which the call took it, and of LPIs each of which was for
--- this vCPU at some moment of the command (own choice: of a call without commands at some moment of the call, or from EnableLPIs on)
+-- this vCPU at some moment of the command, or of EnableLPIs at some moment between the events before and after its own place (own choice: of another
+-- call at some moment of it)
 pub record IsEnded (shape : GuestShape) (actor : ℕ) (call : Call) (answer : Option ℕ) : Type 0 where
   pub beside : Beside
   pub maps : beside.maps ≡ call.maps
-  pub targets : (number id : ℕ) → number ≤ length call.done → Contains (map (λ targets. targets id) (slice_index_or (call.done ++ call.targets ∷ []) number [])) (beside.targets number id)
+  pub targets : (number id : ℕ) → number ≤ length call.done → Contains (slice_index_or (call.done ++ call.targets ∷ []) number (λ id. []) id) (beside.targets number id)
   pub is_call : IsCall shape beside (vcpu_of shape actor) call.operation call.piece answer
 
 abbrev pub IsCallEnded : GuestShape → ℕ → Option Call → Option ℕ → Type 0

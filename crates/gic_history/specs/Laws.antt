@@ -1,5 +1,5 @@
 -- Laws of worked histories: the definitions say of them what a reader expects.
-use Rattle.std.specs.Prelude.{◌≡◌, ◌++◌, Bool, true, false, List, [], ◌∷◌}
+use Rattle.std.specs.Prelude.{◌≡◌, ◌++◌, Bool, true, false, List, [], ◌∷◌, Some, None, option_map}
 use Rattle.gic_call.specs.declared.event.Moment.{Moment}
 use Rattle.gic_history.specs.Fresh.{IsFresh, is_kept, of_event, of_end, is_fresh_at_acknowledge, is_fresh_at_interface, is_fresh_at_end}
 use Rattle.gic_base.specs.declared.interrupt.Key.TheVariants.{Spi}
@@ -7,10 +7,10 @@ use Rattle.gic_base.specs.declared.operation.Kind.TheVariants.{ClearPending}
 use Rattle.gic_call.specs.declared.event.Event.TheVariants.{Touch, Reach, Take, Leave, Queue, ItsBegin, ItsEnd, CtlrEnd}
 use Rattle.gic_call.specs.declared.event.QueueChange.TheVariants.{Runs}
 use Rattle.gic_call.specs.declared.touch.Touching.TheVariants.{Register}
-use Rattle.gic_history.specs.History.{IsHistory, last_of}
+use Rattle.gic_history.specs.History.{IsHistory, last_of, call_of, course_of, opening_course}
 use Rattle.gic_history.specs.Moves.{is_allowed, happened}
 use Rattle.gic_history.specs.State.{opening}
-use Rattle.gic_history.specs.Worked.{worked_guest, served, preempted, withdrawn, message, wire_up, reach, migrated, refilled, repeated, returned, in_flight, overlooked, outdated, unended, kept}
+use Rattle.gic_history.specs.Worked.{worked_guest, served, preempted, withdrawn, message, wire_up, reach, migrated, refilled, repeated, returned, in_flight, overlooked, outdated, unended, kept, lpi_guest, passed_by}
 
 -- moments are a fresh history of the worked guest
 pub record IsFreshHistory (moments : List Moment) : Type 0 where
@@ -64,3 +64,11 @@ pub record WhatIsNotAllowed : Type 0 where
   pub ctlr : is_allowed (opening worked_guest) 1 CtlrEnd ≡ false
   -- and a mark that another actor has
   pub second : is_allowed (happened 0 ItsBegin (opening worked_guest)) 1 ItsBegin ≡ false
+
+-- a write of EnableLPIs goes by where each LPI is at its own place: 8192 was vCPU 0's until the write came to 8193, and that it is moved later counts no more; 8194 counts
+-- from there on
+pub record EachLpiHasItsPlace : Type 0 where
+  pub history : IsHistory lpi_guest passed_by
+  pub passed : option_map (λ call. call.targets 8192) (call_of (course_of (opening_course lpi_guest) passed_by) 0) ≡ Some (Some 0 ∷ [])
+  pub reached : option_map (λ call. call.targets 8193) (call_of (course_of (opening_course lpi_guest) passed_by) 0) ≡ Some (Some 0 ∷ Some 0 ∷ Some 0 ∷ [])
+  pub ahead : option_map (λ call. call.targets 8194) (call_of (course_of (opening_course lpi_guest) passed_by) 0) ≡ Some (None ∷ None ∷ [])

@@ -2,24 +2,25 @@
 use Rattle.std.specs.Prelude.{ℕ, Bool, true, false, List, [], ◌∷◌, ◌++◌, Option, Some, None}
 use Rattle.gic_base.specs.declared.icc.IccReg.{IccReg}
 use Rattle.gic_base.specs.declared.icc.IccReg.TheVariants.{Iar1, Eoir1, Rpr}
-use Rattle.gic_base.specs.declared.interrupt.Key.TheVariants.{Spi}
+use Rattle.gic_base.specs.declared.interrupt.Key.TheVariants.{Spi, Lpi}
 use Rattle.gic_base.specs.declared.operation.DeviceOp.TheVariants.{Message, Wire}
-use Rattle.gic_base.specs.declared.operation.Frame.TheVariants.{Dist}
+use Rattle.gic_base.specs.declared.operation.Frame.TheVariants.{Dist, Redist, Its}
 use Rattle.gic_base.specs.declared.operation.GuestOp.TheVariants.{Icc, Mem}
-use Rattle.gic_base.specs.declared.operation.Kind.TheVariants.{ClearPending, Routing}
+use Rattle.gic_base.specs.declared.operation.Kind.TheVariants.{SetPending, ClearPending, Routing}
 use Rattle.gic_word.specs.declared.record.Group.TheVariants.{G1}
 use Rattle.gic_word.specs.declared.record.Irq.{Irq}
-use Rattle.gic_word.specs.declared.record.Route.TheVariants.{Affinity}
+use Rattle.gic_word.specs.declared.record.Route.TheVariants.{Affinity, Target}
 use Rattle.gic_call.specs.declared.event.Event.{Event}
-use Rattle.gic_call.specs.declared.event.Event.TheVariants.{Raise, Up, Touch, Reach, Take, Leave, Cpu}
+use Rattle.gic_call.specs.declared.event.Event.TheVariants.{Raise, Up, Touch, Reach, Take, Leave, Cpu, Enable}
 use Rattle.gic_call.specs.declared.event.Found.{Found}
-use Rattle.gic_call.specs.declared.event.Found.TheVariants.{Nothing, Record, Answer}
+use Rattle.gic_call.specs.declared.event.Found.TheVariants.{Nothing, Record, Answer, Lpis as FoundLpis}
 use Rattle.gic_call.specs.declared.event.Moment.{Moment}
 use Rattle.gic_call.specs.declared.event.Moment.TheVariants.{Begin, Happens, End}
 use Rattle.gic_call.specs.declared.event.Operation.{Operation}
 use Rattle.gic_call.specs.declared.event.Operation.TheVariants.{Access, Device, Residence}
 use Rattle.gic_call.specs.declared.touch.Touching.{Touching}
-use Rattle.gic_call.specs.declared.touch.Touching.TheVariants.{Register}
+use Rattle.gic_call.specs.declared.touch.Touching.TheVariants.{Register, MapLpi, Retarget}
+use Rattle.gic_open.specs.Opening.{opening_irq}
 use Rattle.scn_base.specs.declared.guest.GuestSpec.{GuestSpec}
 use Rattle.scn_base.specs.declared.preset.Preset.{Preset}
 
@@ -174,3 +175,25 @@ unended = message 40 ++ reach 0 40 ++ reads 0 Iar1 40 ++ leaves_and_ends
 -- a level interrupt is ended while its wire is up, and does not leave
 abbrev pub kept : List Moment
 kept = wire_up 41 ++ reach 0 41 ++ reads 0 Iar1 41 ++ ends 0 41
+
+-- Windows of a write of EnableLPIs.
+
+-- two vCPUs and three LPIs
+abbrev pub lpi_guest : GuestSpec
+lpi_guest = record { shape = record { vcpus = 2; spis = 0; espis = 0; devices = 0; lpis = 3; ram = 0 }; on = true; presets = [] }
+
+-- an LPI that a command has mapped to vCPU 0
+abbrev pub mapped_lpi : Irq
+mapped_lpi = record (opening_irq true (Lpi 8192)) { route = Target (Some 0) }
+
+-- vCPU 1 is in a call of commands that mapped two LPIs to vCPU 0; vCPU 0 sets EnableLPIs and makes 8193 pending; and then 8192 is moved to vCPU 1
+abbrev pub passed_by : List Moment
+passed_by =
+    Begin 1 (Access (Mem Its 0x88 8 (Some 32)))
+    ∷ Happens 1 (Touch (Lpi 8192) (MapLpi 0 false 0)) (Record (opening_irq true (Lpi 8192)))
+    ∷ Happens 1 (Touch (Lpi 8193) (MapLpi 0 false 0)) (Record (opening_irq true (Lpi 8193)))
+    ∷ Begin 0 (Access (Mem (Redist 0) 0 4 (Some 1)))
+    ∷ Happens 0 (Enable 0) (FoundLpis false)
+    ∷ Happens 0 (Touch (Lpi 8193) (Register SetPending 1)) (Record mapped_lpi)
+    ∷ Happens 1 (Touch (Lpi 8192) (Retarget (Some 1))) (Record mapped_lpi)
+    ∷ []

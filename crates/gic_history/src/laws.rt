@@ -1,5 +1,5 @@
 //! Laws of worked histories.
-ghost use Rattle.gic_history.specs.Laws.{WorkedHistoriesAreFresh, EachClauseRefuses, WhatIsNotAllowed};
+ghost use Rattle.gic_history.specs.Laws.{WorkedHistoriesAreFresh, EachClauseRefuses, WhatIsNotAllowed, EachLpiHasItsPlace};
 
 /// A law of eight worked histories of a guest with two vCPUs: they are histories, and fresh.
 #[tactic(auto, using(crate::proofs::WorkedLemmas::worked))]
@@ -18,4 +18,11 @@ pub fn each_clause_refuses()
 #[tactic(auto, using(crate::proofs::WorkedLemmas::not_allowed))]
 pub fn what_is_not_allowed()
     ensures { WhatIsNotAllowed }
+{}
+
+/// A law of a write of EnableLPIs during which LPIs are moved: each LPI counts by where it is between the events of the
+/// write before and after its own place.
+#[tactic(auto, using(crate::proofs::WorkedLemmas::own_places))]
+pub fn each_lpi_has_its_place()
+    ensures { EachLpiHasItsPlace }
 {}

@@ -4,4 +4,6 @@
 
 mod laws;
 
-pub use laws::{each_clause_refuses, what_is_not_allowed, worked_histories_are_fresh};
+pub use laws::{
+    each_clause_refuses, each_lpi_has_its_place, what_is_not_allowed, worked_histories_are_fresh,
+};
