@@ -1,12 +1,11 @@
 -- What an access finds at a CPU interface, and what it leaves there.
-use Rattle.std.proofs.Common.{◌≡◌, ℕ, ◌<◌, ◌≤◌, ◌==◌, Bool, true, false, cond, is_some, List, [], ◌∷◌, map, filter, length, get_or, All, Option, Some, None, inl, inr, refl, sym, ap, ◌∙◌, arith}
+use Rattle.std.proofs.Common.{◌≡◌, ℕ, ◌<◌, ◌==◌, Bool, true, false, cond, is_some, List, [], ◌∷◌, map, get_or, All, Option, Some, None, inl, inr, refl, sym, ap, ◌∙◌, arith}
 use Rattle.std.proofs.lemmas.Bool.{eq-eqb, ne_eqb, cases_eq}
-use Rattle.std.proofs.lemmas.List.Elements.{All-nil, All-cons, All-head, All-tail, All-weaker, All-get_or, All-from_get_or}
+use Rattle.std.proofs.lemmas.List.Elements.{All-head, All-tail, All-get_or, All-from_get_or}
 use Rattle.std.proofs.lemmas.Simd.{map-map}
 use Rattle.gic_base.specs.declared.icc.IccReg.{IccReg}
-use Rattle.gic_base.specs.declared.interrupt.Key.{Key}
 use Rattle.gic_base.specs.declared.shape.GuestShape.{GuestShape}
-use Rattle.gic_base.specs.Interrupt.{is_same_key, intid_of}
+use Rattle.gic_base.specs.Interrupt.{intid_of}
 use Rattle.gic_word.specs.declared.record.Group.{Group}
 use Rattle.gic_word.specs.Record.{is_number}
 use Rattle.gic_word.specs.Word.{irq_of}
@@ -23,39 +22,11 @@ use Rattle.port_core.specs.Actor.{actor_count}
 use Rattle.port_core.specs.After.{shown, interface_of, acknowledged_entry, deactivated_entry, changed_id, id_of, accessed}
 use Rattle.port_core.specs.Local.{entry_for}
 use Rattle.port_core.specs.Run.{CoreState, word_in, IsSound}
-use Rattle.port_core.specs.Valid.{IsAt, IsOnce}
+use Rattle.port_core.specs.Valid.{IsAt}
 use Rattle.port_core.proofs.AccessLemmas.{no_irq}
-use Rattle.port_core.proofs.AtLemmas.{same_itself}
+use Rattle.core_proper.proofs.OnceLemmas.{found_itself}
 use Rattle.port_core.proofs.StepTies.{number_is}
 use Rattle.core_laws.specs.Related.{IsHeldRelated, Related, locals_of, stands}
-
--- Each interrupt of a list in which none is twice is what the list has of it.
-
-counted : (key : Key) (at : List AtIrq) (entry : AtIrq) → entry_for key at ≡ Some entry → 1 ≤ length (filter (λ one. is_same_key one.key key) at)
-counted key [] entry e = absurd (cc)
-counted key (one ∷ rest) entry e = of (is_same_key one.key key) e (counted key rest entry)
-  where
-    of : (b : Bool) → cond b (Some one) (entry_for key rest) ≡ Some entry → (entry_for key rest ≡ Some entry → 1 ≤ length (filter (λ x. is_same_key x.key key) rest))
-        → 1 ≤ length (cond b (one ∷ filter (λ x. is_same_key x.key key) rest) (filter (λ x. is_same_key x.key key) rest))
-    of true e later = omega arith
-    of false e later = later e
-
-once_rest : (one : AtIrq) (rest : List AtIrq) → IsOnce (one ∷ rest) → IsOnce rest
-once_rest one rest once key = of (is_same_key one.key key) (once key)
-  where
-    of : (b : Bool) → length (cond b (one ∷ filter (λ x. is_same_key x.key key) rest) (filter (λ x. is_same_key x.key key) rest)) ≤ 1 → length (filter (λ x. is_same_key x.key key) rest) ≤ 1
-    of true few = omega (arith, few)
-    of false few = few
-
-pub found_itself : (at : List AtIrq) → IsOnce at → All (λ entry. entry_for entry.key at ≡ Some entry) at
-found_itself [] once = All-nil (λ entry. entry_for entry.key [] ≡ Some entry)
-found_itself (one ∷ rest) once =
-    All-cons (λ entry. entry_for entry.key (one ∷ rest) ≡ Some entry) one rest (ap (λ b. cond b (Some one) (entry_for one.key rest)) (same_itself one.key))
-    (All-weaker (λ entry. entry_for entry.key rest ≡ Some entry) (λ entry. entry_for entry.key (one ∷ rest) ≡ Some entry) (λ entry e. of entry (is_same_key one.key entry.key) (once entry.key) e) rest (found_itself rest (once_rest one rest once)))
-  where
-    of : (entry : AtIrq) (b : Bool) → length (cond b (one ∷ filter (λ x. is_same_key x.key entry.key) rest) (filter (λ x. is_same_key x.key entry.key) rest)) ≤ 1 → entry_for entry.key rest ≡ Some entry → cond b (Some one) (entry_for entry.key rest) ≡ Some entry
-    of entry true few e = let more = counted entry.key rest entry e in absurd (omega (arith, few, more))
-    of entry false few e = e
 
 -- Two lists.
 

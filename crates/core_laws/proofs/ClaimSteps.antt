@@ -32,7 +32,7 @@ use Rattle.port_core.specs.Effect.{may_hold, may_move, moved_of, given_back}
 use Rattle.port_core.specs.Local.{is_vcpu, entry_for, back_of, changed_at, with_entry, arrived, settled}
 use Rattle.port_core.specs.Run.{CoreState, Seat, seat_at}
 use Rattle.port_core.specs.Stands.{silent}
-use Rattle.port_core.proofs.AtLemmas.{other_key}
+use Rattle.gic_base.proofs.KeyLemmas.{other_key}
 use Rattle.port_core.proofs.StepMade.{all_three}
 use Rattle.port_core.proofs.StepTies.{number_is, none_is}
 use Rattle.port_core.proofs.StepWords.{packed_is}

@@ -1,5 +1,5 @@
 -- A run whose parts make their calls is a history.
-use Rattle.std.proofs.Common.{◌≡◌, ◌≢◌, ℕ, ◌<◌, ◌==◌, ◌&&◌, not, Bool, true, false, cond, IsTrue, All, List, [], ◌∷◌, map, filter, length, Option, option_map, Some, None, is_some, is_none, inl, inr, refl, sym, ap, ◌∙◌, subst, slice_set, slice_index_or, zero, suc}
+use Rattle.std.proofs.Common.{◌≡◌, ◌≢◌, ℕ, ◌<◌, ◌==◌, ◌&&◌, not, Bool, true, false, cond, IsTrue, All, List, [], ◌∷◌, map, filter, fold, length, Option, option_map, Some, None, is_some, is_none, inl, inr, refl, sym, ap, ◌∙◌, subst, slice_set, slice_index_or, zero, suc}
 use Rattle.std.proofs.lemmas.Bool.{and_parts, cases_eq, eq-eqb, ne_eqb}
 use Rattle.std.proofs.lemmas.List.{get_or-set_same, get_or-set_other, get_or-replicate, length-replicate, length-set, length-map}
 use Rattle.std.proofs.lemmas.Grind.{fold-append}
@@ -20,8 +20,11 @@ use Rattle.port_core.specs.Run.{CoreState, opening, after, seat_at, IsRun, IsSou
 use Rattle.port_core.proofs.OpeningLemmas.{opens_sound}
 use Rattle.port_core.proofs.StepLemmas.{steps_sound}
 use Rattle.core_proper.specs.Ideal.{after_moment, end_of_moments, event_moments, ideal_moments, ideal_of}
-use Rattle.core_proper.specs.Parts.{Act, begins, makes, ends, CoreMoment, own_acts, entries_of, entry_by, are_parts, has_registers}
+use Rattle.core_proper.specs.Parts.{Act, begins, makes, ends, CoreMoment, IsPartedRun, own_acts, entries_of, entry_by, are_parts, has_registers}
+use Rattle.scn_base.specs.declared.guest.GuestSpec.{GuestSpec}
+use Rattle.scn_base.specs.Good.{IsGoodGuest}
 use Rattle.core_laws.specs.Known.{IsKnown}
+use Rattle.core_laws.specs.Whole.{within_after}
 use Rattle.core_laws.specs.Laws.{IsCallAt, AreCalls, Simulates}
 use Rattle.core_laws.specs.Related.{Related}
 use Rattle.core_laws.specs.Simulates.{IsSimulatedAs, event_of}
@@ -50,17 +53,11 @@ kept_calls f (call ∷ calls) (suc n) = kept_calls f calls n
 -- One moment.
 
 -- a state of the core beside a course of the ideal controller
-record IsAt (shape : GuestShape) (state : CoreState) (course : Course) : Type 0 where
+pub record IsAt (shape : GuestShape) (state : CoreState) (course : Course) : Type 0 where
   pub sound : IsSound shape state
   pub related : Related shape state course.ideal
   pub known : IsKnown shape state
   pub each : length course.calls ≡ actor_count shape
-
--- whether an actor is in a part after what it does
-abbrev within_after : Bool → Act → Bool
-within_after within (begins operation lrs) = true
-within_after within (makes made) = within
-within_after within (ends answer) = false
 
 -- what a moment makes of a course
 record Advances (shape : GuestShape) (course : Course) (later : CoreState) (actor : ℕ) (act : Act) (events : List Moment) : Type 0 where
@@ -156,10 +153,16 @@ module _ (shape : GuestShape) (good : IsShape shape) where
       (event_advances shape state course actor at there made (after shape state entry) (event_of shape state entry) within next (keeps_known shape state entry good at.sound run.0 next at.known) (entry_simulates shape state course.ideal entry good at.sound at.related at.known run.0), run.1)
   advances state course actor (ends answer) moments at there parts run is = (ends_advance shape state course actor at there answer is, run)
 
+  -- what moments lead to: a history that goes on with the course, and a state beside its end, in which those actors are in a call that are in a part
+  pub record LeadsTo (state : CoreState) (course : Course) (moments : List CoreMoment) : Type 0 where
+    pub goes : GoesOn course (ideal_of shape state moments)
+    pub at : IsAt shape (end_of_moments shape state moments) (course_of course (ideal_of shape state moments))
+    pub calls : (actor : ℕ) → actor < actor_count shape → is_some (call_of (course_of course (ideal_of shape state moments)) actor) ≡ fold within_after (is_some (call_of course actor)) (own_acts actor moments)
+
   history_from :
       (state : CoreState) (course : Course) (moments : List CoreMoment) → IsAt shape state course → All (λ (m : CoreMoment). m.actor < actor_count shape) moments → ArePartsOf shape course moments → IsRun shape state (entries_of moments) → AreCalls shape state course moments
-      → GoesOn course (ideal_of shape state moments) × Related shape (end_of_moments shape state moments) (course_of course (ideal_of shape state moments)).ideal
-  history_from state course [] at actors parts run calls = (tt, at.related)
+      → LeadsTo state course moments
+  history_from state course [] at actors parts run calls = record { goes = tt; at = at; calls = λ actor there. refl }
   history_from state course (moment ∷ moments) at actors parts run calls =
       let there : moment.actor < actor_count shape = All-head (λ (m : CoreMoment). m.actor < actor_count shape) moment moments actors in
       let events = ideal_moments shape (seat_at state moment.actor) moment.actor moment.act in
@@ -167,14 +170,26 @@ module _ (shape : GuestShape) (good : IsShape shape) where
       let step = advances state course moment.actor moment.act moments at there mine run calls.0 in
       let later = after_moment shape state moment in
       let rest = history_from later (course_of course events) moments step.0.at (All-tail (λ (m : CoreMoment). m.actor < actor_count shape) moment moments actors) (parts_later course later moment.actor moment.act events moments step.0 parts) step.1 calls.1 in
-      (goes_on course events (ideal_of shape later moments) step.0.goes rest.0, subst (λ c. Related shape (end_of_moments shape later moments) c.ideal) (sym (fold-append gone_on course events (ideal_of shape later moments))) rest.1)
+      let joined = fold-append gone_on course events (ideal_of shape later moments) in
+      record {
+        goes = goes_on course events (ideal_of shape later moments) step.0.goes rest.goes;
+        at = subst (IsAt shape (end_of_moments shape later moments)) (sym joined) rest.at;
+        calls = λ actor among. ap (λ c. is_some (call_of c actor)) joined ∙ rest.calls actor among ∙ elim (cases_eq actor moment.actor) [
+          | inl e ↦ subst (λ n. fold within_after (is_some (call_of (course_of course events) n)) (own_acts n moments) ≡ fold within_after (is_some (call_of course n)) (own_acts n (moment ∷ moments))) (sym e)
+              (ap (λ b. fold within_after b (own_acts moment.actor moments)) step.0.mine ∙ sym (ap (fold within_after (is_some (call_of course moment.actor))) (own_here moment.actor moment.act moments)))
+          | inr differ ↦ ap (λ b. fold within_after b (own_acts actor moments)) (step.0.others actor differ) ∙ sym (ap (fold within_after (is_some (call_of course actor))) (own_other moment.actor actor moment.act moments differ))
+        ];
+      }
 
-pub runs_history : Simulates
-runs_history guest number moments good parted calls =
+-- what every run leads to
+pub run_leads : (guest : GuestSpec) (number : ℕ) (moments : List CoreMoment) → (good : IsGoodGuest guest) → IsPartedRun guest number moments → AreCalls guest.shape (opening guest number) (opening_course guest) moments → LeadsTo guest.shape good.shape (opening guest number) (opening_course guest) moments
+run_leads guest number moments good parted calls =
     let shape = guest.shape in
     let course = opening_course guest in
     let none : (actor : ℕ) → actor < actor_count shape → is_some (call_of course actor) ≡ false = λ actor there. ap is_some (get_or-replicate (actor_count shape) actor None None there) in
-    let whole = history_from shape good.shape (opening guest number) course moments
+    history_from shape good.shape (opening guest number) course moments
     (record { sound = opens_sound guest number good; related = related_opens guest number good; known = known_opens guest number good; each = length-replicate (actor_count shape) None })
-    parted.actors (λ actor there. subst (λ b. IsTrue (are_parts shape actor b (own_acts actor moments))) (sym (none actor there)) (parted.parts actor there)) parted.run calls in
-    record { history = whole.0; related = whole.1 }
+    parted.actors (λ actor there. subst (λ b. IsTrue (are_parts shape actor b (own_acts actor moments))) (sym (none actor there)) (parted.parts actor there)) parted.run calls
+
+pub runs_history : Simulates
+runs_history guest number moments good parted calls = let leads = run_leads guest number moments good parted calls in record { history = leads.goes; related = leads.at.related }

@@ -20,3 +20,7 @@ pub mod QueueSteps
 pub mod RunSteps
 pub mod HistorySteps
 pub mod WorkedSteps
+pub mod PrefixLemmas
+pub mod EnableRuns
+pub mod SyncRuns
+pub mod LatchRuns

@@ -27,7 +27,8 @@ use Rattle.core_laws.specs.Related.{bare, IsIrqRelated, Related, locals_of, is_f
 use Rattle.core_laws.specs.Simulates.{IsSimulated}
 use Rattle.core_laws.proofs.RelatedLemmas.{locals_after, local_here}
 use Rattle.core_laws.proofs.MoveLemmas.{home_related, held_related, moved, unmoved}
-use Rattle.core_laws.proofs.StandingLemmas.{without_stands, unseen_stands, entry_changed, entry_other, entry_without, all_without, moved_is}
+use Rattle.core_laws.proofs.StandingLemmas.{without_stands, unseen_stands, entry_changed, entry_other, all_without, moved_is}
+use Rattle.core_proper.proofs.OnceLemmas.{entry_without}
 use Rattle.core_laws.proofs.StepContext.{one, IsStep, finds, says_found}
 
 -- Records that words can have.

@@ -19,7 +19,7 @@ use Rattle.port_core.specs.declared.word_id.WordId.TheVariants.{Irq as IrqWord}
 use Rattle.port_core.specs.Actor.{actor_count}
 use Rattle.port_core.specs.Local.{entry_for, entry_of, is_at, changed_at, without_at}
 use Rattle.port_core.specs.Run.{CoreState, word_in, IsSound}
-use Rattle.port_core.proofs.AtLemmas.{same_key, same_itself, other_key}
+use Rattle.gic_base.proofs.KeyLemmas.{same_key, same_itself, other_key}
 use Rattle.core_laws.specs.Related.{Related, locals_of, stands}
 
 -- An interrupt in the list of its vCPU, and in that of the ideal controller.
@@ -89,18 +89,6 @@ entry_other change keeps key other differ (one ∷ rest) = of (is_same_key one.k
     of true e later =
         let no : is_same_key one.key other ≡ false = other_key one.key other (λ f. differ (sym f ∙ same_key one.key key e)) in
         ap (λ c. cond c (Some (change one)) (entry_for other (changed_at change key rest))) (ap (λ k. is_same_key k other) (keeps one) ∙ no) ∙ later ∙ sym (ap (λ c. cond c (Some one) (entry_for other rest)) no)
-    of false e later = kept (is_same_key one.key other) later
-
-pub entry_without : (key other : Key) → other ≢ key → (at : List AtIrq) → entry_for other (without_at key at) ≡ entry_for other at
-entry_without key other differ [] = refl
-entry_without key other differ (one ∷ rest) = of (is_same_key one.key key) refl (entry_without key other differ rest)
-  where
-    kept : (c : Bool) → entry_for other (without_at key rest) ≡ entry_for other rest → cond c (Some one) (entry_for other (without_at key rest)) ≡ cond c (Some one) (entry_for other rest)
-    kept true later = refl
-    kept false later = later
-
-    of : (b : Bool) → is_same_key one.key key ≡ b → entry_for other (without_at key rest) ≡ entry_for other rest → entry_for other (cond (not b) (one ∷ without_at key rest) (without_at key rest)) ≡ cond (is_same_key one.key other) (Some one) (entry_for other rest)
-    of true e later = later ∙ sym (ap (λ c. cond c (Some one) (entry_for other rest)) (other_key one.key other (λ f. differ (sym f ∙ same_key one.key key e))))
     of false e later = kept (is_same_key one.key other) later
 
 pub entry_added : (key : Key) (at : List AtIrq) (entry : AtIrq) → entry.key ≡ key → is_at key at ≡ false → entry_for key (at ++ entry ∷ []) ≡ Some entry

@@ -1,5 +1,5 @@
 -- The worked run meets what the law of histories asks: each of its parts makes the events of its call.
-use Rattle.std.proofs.Common.{[], Some, None, refl, arith}
+use Rattle.std.proofs.Common.{[], zero, suc, Some, None, refl, arith}
 use Rattle.std.proofs.lemmas.List.Elements.{All-nil, All-cons}
 use Rattle.gic_base.specs.declared.icc.IccReg.TheVariants.{Iar1, Eoir1}
 use Rattle.gic_prio.specs.Levels.{least_in, with_level, without_level}
@@ -14,7 +14,11 @@ use Rattle.port_core.specs.Run.{opening}
 use Rattle.core_proper.specs.Worked.{worked_guest, worked_run, spi}
 use Rattle.scn_base.specs.Good.{IsGoodGuest, IsGoodPreset}
 use Rattle.core_proper.proofs.WorkedLemmas.{worked_is_proper}
-use Rattle.core_laws.specs.Laws.{AreCalls, WorkedRunIsHistory}
+use Rattle.history_laws.specs.Latches.{StaysEdge}
+use Rattle.core_proper.specs.Ideal.{ideal_of}
+use Rattle.core_laws.specs.Laws.{AreCalls}
+use Rattle.core_laws.specs.Whole.{AreEnded}
+use Rattle.core_laws.specs.Worked.{WorkedRunIsHistory}
 use Rattle.core_laws.proofs.HistorySteps.{runs_history}
 
 -- what is found of the guest as it opens
@@ -23,7 +27,7 @@ opened = view_at (opening_ideal worked_guest)
 
 pub worked_calls : AreCalls worked_guest.shape (opening worked_guest 0) (opening_course worked_guest) worked_run
 unfolding least_in with_level without_level in_places
-worked_calls = (tt, (tt, (tt, (call_ended worked_guest.shape 0 _ None refl refl (refl, refl), (tt, (tt, (tt, (tt, (call_ended worked_guest.shape 1 _ None refl refl (record { view = opened; maps = refl; made = record { events_are = refl; found = hands_one opened (Raise spi) Nothing refl; reads = All-nil _ }; answers = refl }), (tt, (tt, (tt, (tt, (tt, (tt, (call_ended worked_guest.shape 0 _ None refl refl (refl, refl), (tt, (tt, (call_ended worked_guest.shape 0 _ (Some 40) refl refl (record { view = opened; made = record { events_are = refl; found = hands_one opened (Cpu 0 Iar1 None) (Answer (Some 40)) ((Some 40), refl); reads = All-nil _ }; answers = (0, omega arith, refl) }), (tt, (tt, (call_ended worked_guest.shape 0 _ None refl refl (record { view = opened; made = record { events_are = refl; found = hands_one opened (Cpu 0 Eoir1 (Some 40)) (Answer None) (None, refl); reads = All-nil _ }; answers = (0, omega arith, refl) }), (tt, (tt, (call_ended worked_guest.shape 0 _ (Some 1023) refl refl (record { view = opened; made = record { events_are = refl; found = hands_one opened (Cpu 0 Iar1 None) (Answer (Some 1023)) ((Some 1023), refl); reads = All-nil _ }; answers = (0, omega arith, refl) }), (tt, (tt, (tt, (tt, (call_ended worked_guest.shape 0 _ None refl refl (refl, refl), tt))))))))))))))))))))))))))))))
+worked_calls = (tt, (tt, (tt, (call_ended worked_guest.shape 0 _ None refl (λ id. refl) (refl, refl), (tt, (tt, (tt, (tt, (call_ended worked_guest.shape 1 _ None refl (λ id. refl) (record { view = opened; maps = refl; made = record { events_are = refl; found = hands_one opened (Raise spi) Nothing refl; reads = All-nil _ }; answers = refl }), (tt, (tt, (tt, (tt, (tt, (tt, (call_ended worked_guest.shape 0 _ None refl (λ id. refl) (refl, refl), (tt, (tt, (call_ended worked_guest.shape 0 _ (Some 40) refl (λ id. refl) (record { view = opened; made = record { events_are = refl; found = hands_one opened (Cpu 0 Iar1 None) (Answer (Some 40)) ((Some 40), refl); reads = All-nil _ }; answers = (0, omega arith, refl) }), (tt, (tt, (call_ended worked_guest.shape 0 _ None refl (λ id. refl) (record { view = opened; made = record { events_are = refl; found = hands_one opened (Cpu 0 Eoir1 (Some 40)) (Answer None) (None, refl); reads = All-nil _ }; answers = (0, omega arith, refl) }), (tt, (tt, (call_ended worked_guest.shape 0 _ (Some 1023) refl (λ id. refl) (record { view = opened; made = record { events_are = refl; found = hands_one opened (Cpu 0 Iar1 None) (Answer (Some 1023)) ((Some 1023), refl); reads = All-nil _ }; answers = (0, omega arith, refl) }), (tt, (tt, (tt, (tt, (call_ended worked_guest.shape 0 _ None refl (λ id. refl) (refl, refl), tt))))))))))))))))))))))))))))))
 
 worked_good : IsGoodGuest worked_guest
 worked_good = record {
@@ -31,5 +35,15 @@ worked_good = record {
   presets = All-cons (IsGoodPreset worked_guest.shape) _ [] (record { there = refl; addressed = refl; prio = omega arith; prio_bits = refl; group = omega arith; sgi_is_edge = refl }) (All-nil (IsGoodPreset worked_guest.shape));
 }
 
+worked_ended : AreEnded worked_guest.shape worked_run
+unfolding least_in with_level without_level in_places
+worked_ended zero there = refl
+worked_ended (suc zero) there = refl
+worked_ended (suc (suc actor)) there = absurd (omega (arith, there))
+
+worked_edge : StaysEdge spi (opening_ideal worked_guest) (ideal_of worked_guest.shape (opening worked_guest 0) worked_run)
+unfolding least_in with_level without_level in_places
+worked_edge = (refl, (refl, (refl, (refl, (refl, (refl, (refl, (refl, (refl, (refl, (refl, (refl, (refl, (refl, (refl, (refl, (refl, (refl, (refl, (refl, (refl, refl)))))))))))))))))))))
+
 pub worked_history_is : WorkedRunIsHistory
-worked_history_is = record { good = worked_good; parted = worked_is_proper.parted; calls = worked_calls; history = runs_history worked_guest 0 worked_run worked_good worked_is_proper.parted worked_calls }
+worked_history_is = record { good = worked_good; parted = worked_is_proper.parted; calls = worked_calls; ended = worked_ended; edge = worked_edge; history = runs_history worked_guest 0 worked_run worked_good worked_is_proper.parted worked_calls }

@@ -12,7 +12,6 @@ use Rattle.scn_base.specs.Good.{IsGoodGuest}
 use Rattle.gic_history.specs.History.{Course, call_of, course_of, opening_course, IsCallEnded, IsHistory, last_of}
 use Rattle.core_proper.specs.Ideal.{after_moment, end_of_moments, ideal_moments, ideal_of}
 use Rattle.core_proper.specs.Parts.{Act, begins, makes, ends, CoreMoment, IsPartedRun}
-use Rattle.core_proper.specs.Worked.{worked_guest, worked_run}
 use Rattle.core_laws.specs.Related.{Related}
 use Rattle.core_laws.specs.Simulates.{event_of}
 
@@ -75,10 +74,3 @@ pub record IsHistoryOf (guest : GuestSpec) (number : ℕ) (moments : List CoreMo
 abbrev pub Simulates : Type 0
 Simulates =
     (guest : GuestSpec) (number : ℕ) (moments : List CoreMoment) → IsGoodGuest guest → IsPartedRun guest number moments → AreCalls guest.shape (opening guest number) (opening_course guest) moments → IsHistoryOf guest number moments
-
--- the worked run is such a run of a good guest, so the law is not one of nothing
-pub record WorkedRunIsHistory : Type 0 where
-  pub good : IsGoodGuest worked_guest
-  pub parted : IsPartedRun worked_guest 0 worked_run
-  pub calls : AreCalls worked_guest.shape (opening worked_guest 0) (opening_course worked_guest) worked_run
-  pub history : IsHistoryOf worked_guest 0 worked_run

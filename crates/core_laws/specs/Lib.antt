@@ -2,3 +2,8 @@ pub mod Related
 pub mod Simulates
 pub mod Known
 pub mod Laws
+pub mod Whole
+pub mod Enables
+pub mod Latches
+pub mod Sync
+pub mod Worked

@@ -4,4 +4,6 @@
 
 mod laws;
 
-pub use laws::{runs_are_simulated, simulates, worked_run_is_history};
+pub use laws::{
+    enables_agree, latches, runs_are_simulated, simulates, sync_holds, worked_run_is_history,
+};

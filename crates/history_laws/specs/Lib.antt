@@ -1,0 +1,5 @@
+pub mod Enables
+pub mod Latches
+pub mod Sync
+pub mod Worked
+pub mod WorkedQueue
