@@ -25,7 +25,7 @@ use Rattle.ideal_guest.specs.Ideal.{irq_at, cpu_at, candidates, after_event, is_
 use Rattle.ideal_guest.specs.Sound.{IsSound}
 use Rattle.gic_ideal.specs.Laws.{CanFollow, is_level_up}
 use Rattle.gic_ideal.specs.Deeds.{acknowledges, deactivates, causes, consumes, pends, clears, ends_active, is_latched}
-use Rattle.ideal_guest.proofs.KeyLemmas.{same_key}
+use Rattle.gic_base.proofs.KeyLemmas.{same_key}
 use Rattle.ideal_guest.proofs.CandidateLemmas.{deliverable_pending, deliverable_inactive, taken_names_none, taken_named, taken_of}
 use Rattle.gic_ideal.proofs.EffectLemmas.{is_ended, accessed, changed_by, event_effect, shape_event}
 use Rattle.ideal_guest.proofs.SoundLemmas.{whole_of}

@@ -55,7 +55,7 @@ commands_are_events (suc most) guest = of (commands_are_events most (after_comma
     of later true = events_append (command_events guest.shape (view_of guest)) (queued_events most (after_command guest)) guest ∙ later
     of later false = refl
 
-op_is_events : (op : GuestOp) (guest : IdealGuest) (vcpu : ℕ) → after_events (op_events op guest vcpu) guest ≡ after_op op guest vcpu
+pub op_is_events : (op : GuestOp) (guest : IdealGuest) (vcpu : ℕ) → after_events (op_events op guest vcpu) guest ≡ after_op op guest vcpu
 op_is_events (Icc reg write) guest vcpu = refl
 op_is_events (Mem frame offset size write) guest vcpu = events_append events (cond starts (queued_events (queue_places (word_at changed Cbaser)) changed) []) guest ∙ of starts
   where
@@ -100,7 +100,7 @@ at_guest_events g change events guests n guest h e =
       | inr differ ↦ rw differ.0 (at_other g n change guests differ.1 ∙ h)
     ]
 
-step_is_events : (step : Step) (guests : List IdealGuest) (n : ℕ) (guest : IdealGuest) → slice_get guests n ≡ Some guest → slice_get (after_step step guests) n ≡ Some (after_events (step_events n step guest) guest)
+pub step_is_events : (step : Step) (guests : List IdealGuest) (n : ℕ) (guest : IdealGuest) → slice_get guests n ≡ Some guest → slice_get (after_step step guests) n ≡ Some (after_events (step_events n step guest) guest)
 step_is_events (Vcpu g vcpu op) guests n guest h = at_guest_events g (λ state. after_op op state vcpu) (op_events op guest vcpu) guests n guest h (op_is_events op guest vcpu)
 step_is_events (Device g device op) guests n guest h = at_guest_events g (after_device op) (device_events (view_of guest) op) guests n guest h refl
 step_is_events (Pe pe op) guests n guest h = h
@@ -135,7 +135,7 @@ free_follows guest (Queue offset Runs) can = can
 free_follows guest (Queue offset (Done words)) can = absurd can
 free_follows guest (Queue offset (Stalls fault)) can = can
 
-free_follow : (guest : IdealGuest) (events : List Event) → All (HappensFreely guest.shape) events → CanFollowAll guest events
+pub free_follow : (guest : IdealGuest) (events : List Event) → All (HappensFreely guest.shape) events → CanFollowAll guest events
 free_follow guest [] can = tt
 free_follow guest (event ∷ events) can =
     record {
@@ -183,7 +183,7 @@ fine_view : (guest : IdealGuest) → IsSound guest → IsFineView guest.shape (v
 fine_view guest sound = record { records = λ key there. (sound.records key there).valid; offset = record { place = sound.place; within = sound.offset }; maps = sound.maps }
 
 -- the next command
-command_follows : (guest : IdealGuest) → IsSound guest → CanFollowAll guest (command_events guest.shape (view_of guest))
+pub command_follows : (guest : IdealGuest) → IsSound guest → CanFollowAll guest (command_events guest.shape (view_of guest))
 command_follows guest sound = follow_append parts (queue_event guest.shape view ∷ []) guest (free_follow guest parts free) (record { can = last (queue_valid guest.shape view (fine_view guest sound).offset); rest = tt })
   where
     view : View
@@ -216,7 +216,7 @@ commands_follow (suc most) guest sound =
     of first later false = tt
 
 -- an operation that the guest can do
-op_follows : (op : GuestOp) (guest : IdealGuest) (vcpu : ℕ) → IsSound guest → vcpu < guest.shape.vcpus → IsTrue (is_good_op guest.shape op) → CanFollowAll guest (op_events op guest vcpu)
+pub op_follows : (op : GuestOp) (guest : IdealGuest) (vcpu : ℕ) → IsSound guest → vcpu < guest.shape.vcpus → IsTrue (is_good_op guest.shape op) → CanFollowAll guest (op_events op guest vcpu)
 op_follows (Icc reg write) guest vcpu sound there good = free_follow guest (icc_events guest.shape vcpu reg write) (icc_valid guest.shape vcpu reg write there good)
 op_follows (Mem frame offset size write) guest vcpu sound there good =
     follow_append events (cond starts (queued_events (queue_places (word_at changed Cbaser)) changed) []) guest can (of starts)
@@ -248,7 +248,7 @@ below a b h = grind (arith, common_steps, h)
 passes_at : (test : GuestShape → Bool) (guests : List IdealGuest) (n : ℕ) (guest : IdealGuest) → slice_get guests n ≡ Some guest → passes test (slice_get (state_shapes guests) n) ≡ true → test guest.shape ≡ true
 passes_at test guests n guest h p = sym (ap (passes test) (slice_get-map (λ g. g.shape) guests n ∙ ap (option_map (λ g. g.shape)) h)) ∙ p
 
-step_follows : (mode : Mode) (pes : ℕ) (step : Step) (guests : List IdealGuest) (n : ℕ) (guest : IdealGuest) → IsSound guest → IsTrue (is_formed mode pes (state_shapes guests) step) → slice_get guests n ≡ Some guest → CanFollowAll guest (step_events n step guest)
+pub step_follows : (mode : Mode) (pes : ℕ) (step : Step) (guests : List IdealGuest) (n : ℕ) (guest : IdealGuest) → IsSound guest → IsTrue (is_formed mode pes (state_shapes guests) step) → slice_get guests n ≡ Some guest → CanFollowAll guest (step_events n step guest)
 step_follows mode pes (Vcpu g vcpu op) guests n guest sound formed h =
     elim (eqb_tells g n) [
       | inl same ↦
@@ -278,13 +278,13 @@ shapes_at g change guests same = elim (slice_get guests g) as (λ o. slice_get g
     of (one ∷ guests) zero guest e = ap (λ shape. shape ∷ state_shapes guests) (same guest ∙ ap (λ g. g.shape) (sym (same_Some one guest e)))
     of (one ∷ guests) (suc g) guest e = ap (λ shapes. one.shape ∷ shapes) (of guests g guest e)
 
-shapes_step : (step : Step) (guests : List IdealGuest) → state_shapes (after_step step guests) ≡ state_shapes guests
+pub shapes_step : (step : Step) (guests : List IdealGuest) → state_shapes (after_step step guests) ≡ state_shapes guests
 shapes_step (Vcpu g vcpu op) guests = shapes_at g (λ state. after_op op state vcpu) guests (λ guest. ap (λ g. g.shape) (sym (op_is_events op guest vcpu)) ∙ shape_events (op_events op guest vcpu) guest)
 shapes_step (Device g device op) guests = shapes_at g (after_device op) guests (λ guest. shape_events (device_events (view_of guest) op) guest)
 shapes_step (Pe pe op) guests = refl
 
 -- the guests stay sound
-sound_step : (mode : Mode) (pes : ℕ) (step : Step) (guests : List IdealGuest) → All IsSound guests → IsTrue (is_formed mode pes (state_shapes guests) step) → All IsSound (after_step step guests)
+pub sound_step : (mode : Mode) (pes : ℕ) (step : Step) (guests : List IdealGuest) → All IsSound guests → IsTrue (is_formed mode pes (state_shapes guests) step) → All IsSound (after_step step guests)
 sound_step mode pes (Vcpu g vcpu op) guests sound formed = of (slice_get guests g) refl
   where
     of : (o : Option IdealGuest) → slice_get guests g ≡ o → All IsSound (option_map_or (λ state. slice_set guests g (after_op op state vcpu)) o guests)
