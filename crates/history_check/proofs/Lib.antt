@@ -1,0 +1,3 @@
+pub mod ReadyLemmas
+pub mod ShownLemmas
+pub mod TrackLemmas

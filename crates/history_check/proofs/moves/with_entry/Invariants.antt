@@ -1,0 +1,6 @@
+use Rattle.std.proofs.Common.{◌≡◌, take}
+use Rattle.gic_history.specs.Moves.{with_entry}
+use Rattle.history_check.proofs.moves.with_entry.Given as goal
+
+abbrev pub invariant-loop-one : goal.invariant-loop-one
+invariant-loop-one l = l.all ≡ with_entry l.key l.entry (take l.one-index l.standing)

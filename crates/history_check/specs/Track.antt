@@ -1,0 +1,12 @@
+-- What a track of a guest's history has room for: there is a place for each interrupt.
+use Rattle.std.specs.Prelude.{◌≡◌, ℕ, List, [], None, length, slice_index_or}
+use Rattle.gic_base.specs.declared.shape.GuestShape.{GuestShape}
+use Rattle.gic_base.specs.Interrupt.{interrupt_count}
+use Rattle.gic_history.specs.Fresh.{Doing, Track}
+
+pub record HasPlaces (shape : GuestShape) (track : Track) : Type 0 where
+  pub changes : length track.changes ≡ interrupt_count shape
+
+-- what an actor does, of these; an actor that is none of them is in no call
+abbrev pub doing_in : List Doing → ℕ → Doing
+doing_in doings actor = slice_index_or doings actor (record { operation = None; number = 0; done = [] })

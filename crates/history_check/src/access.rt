@@ -1,0 +1,165 @@
+//! Accesses of CPU interface registers, for which only what stands at the interface counts.
+ghost use Rattle.std.specs.Prelude.{◌≡◌, ◌<◌, List, IfOk, OnOk, OnErr, map};
+ghost use Rattle.gic_prio.specs.declared.candidate.Candidate.{Candidate};
+ghost use Rattle.gic_prio.specs.Access.{taken_by, deactivated_by, answer_of, cpu_after};
+ghost use Rattle.gic_prio.specs.Delivery.{first_of};
+ghost use Rattle.gic_prio.specs.Interface.{interface_answer};
+ghost use Rattle.gic_prio.specs.Priority.{HasBinaryPoints};
+ghost use Rattle.gic_prio.specs.Signal.{intid_read};
+ghost use Rattle.ideal_guest.specs.Ideal.{with_cpu};
+ghost use Rattle.gic_history.specs.State.{interface_at, shown_at, standing_at};
+ghost use Rattle.gic_history.specs.Moves.{after_access};
+ghost use Rattle.history_check.specs.Ready.{IsReady};
+
+use crate::shown::{Shown, accessed, first_candidate};
+use crate::state::State;
+use gic_base::IccReg;
+use gic_list::ListOf;
+use gic_prio::{
+    Candidate, CpuRec, acknowledged, cpu_written, highest_pending, intid_deactivated,
+    intid_or_spurious, level_activated, read_plain,
+};
+use gic_word::Group;
+use std::alloc::{AllocError, Global};
+
+/// The candidate that an access acknowledges, from the first of the candidates.
+fn taken(
+    first: Option<Candidate>,
+    reg: IccReg,
+    write: Option<u64>,
+    cpu: &CpuRec,
+) -> Option<Candidate>
+    requires { HasBinaryPoints cpu.now }
+    ensures { (candidates : List Candidate) → first ≡ first_of candidates → result ≡ taken_by reg write cpu.now candidates }
+{
+    match (reg, write) {
+        (IccReg::Iar0, None) => acknowledged(first, Group::G0, cpu),
+        (IccReg::Iar1, None) => acknowledged(first, Group::G1, cpu),
+        _ => None,
+    }
+}
+
+/// The INTID of a candidate, or 1023 for none.
+fn intid_of(found: Option<Candidate>) -> u64
+    ensures { result ≡ intid_read found }
+{
+    u64::from(intid_or_spurious(found))
+}
+
+/// What an access reads, from the first of the candidates.
+fn answer(first: Option<Candidate>, reg: IccReg, write: Option<u64>, cpu: &CpuRec) -> Option<u64>
+    requires { HasBinaryPoints cpu.now }
+    ensures { (candidates : List Candidate) → first ≡ first_of candidates → result ≡ answer_of reg write cpu.now candidates }
+{
+    if write.is_some() {
+        return None;
+    }
+    match reg {
+        IccReg::Iar0 => Some(intid_of(acknowledged(first, Group::G0, cpu))),
+        IccReg::Iar1 => Some(intid_of(acknowledged(first, Group::G1, cpu))),
+        IccReg::Hppir0 => Some(u64::from(highest_pending(first, Group::G0))),
+        IccReg::Hppir1 => Some(u64::from(highest_pending(first, Group::G1))),
+        _ => read_plain(cpu, reg),
+    }
+}
+
+/// The INTID of the interrupt that an access deactivates, if that one is active by the vCPU.
+pub(crate) fn ended(reg: IccReg, write: Option<u64>, cpu: &CpuRec) -> Option<u32>
+    ensures { result ≡ deactivated_by reg write cpu.now }
+{
+    match write {
+        Some(value) => intid_deactivated(cpu, reg, value),
+        None => None,
+    }
+}
+
+/// The record of the interface after an access that acknowledges this candidate, or none.
+fn cpu_then(taken: Option<Candidate>, reg: IccReg, write: Option<u64>, cpu: &CpuRec) -> CpuRec
+    requires { HasBinaryPoints cpu.now }
+    ensures value { (candidates : List Candidate) → taken ≡ taken_by reg write cpu.now candidates → result ≡ cpu_after reg write cpu.now candidates }
+    ensures points { HasBinaryPoints result }
+{
+    match (write, taken) {
+        (Some(value), _) => cpu_written(cpu, reg, value),
+        (None, Some(found)) => level_activated(cpu, found.prio, found.group),
+        (None, None) => *cpu,
+    }
+}
+
+impl State {
+    /// What stands at a vCPU's interface, as accesses see it.
+    fn shown(&self, alloc: Global, vcpu: u32) -> Result<ListOf<Shown>, AllocError>
+        requires ready { IsReady self.now }
+        requires there { vcpu < self.now.guest.shape.vcpus }
+        ensures { IfOk result (λ all. all ≡ map (shown_at self.now) (standing_at self.now vcpu)) }
+    {
+        let mut all = ListOf::new(alloc);
+        for one in self.standing(vcpu) {
+            let irq = self.irq(one.key);
+            all.push(Shown {
+                key: one.key,
+                prio: irq.prio,
+                group: irq.group,
+                entry: one.entry,
+            })?;
+        }
+        Ok(all)
+    }
+
+    /// Puts a record in the place of that of a vCPU's CPU interface.
+    #[tactic(auto, using(crate::proofs::ReadyLemmas::ready_cpu))]
+    pub(crate) fn set_cpu(&mut self, vcpu: u32, cpu: CpuRec)
+        requires ready { IsReady self.old }
+        requires there { vcpu < self.old.guest.shape.vcpus }
+        requires points { HasBinaryPoints cpu }
+        ensures value { self.new ≡ record self.old { guest = with_cpu self.old.guest vcpu cpu } }
+        ensures ready { IsReady self.new }
+    {
+        self.guest.cpus.set(vcpu as usize, cpu);
+    }
+
+    /// What an access of a register of a vCPU's CPU interface reads, if it reads. `AllocError` where memory is refused.
+    pub fn read(
+        &self,
+        alloc: Global,
+        reg: IccReg,
+        write: Option<u64>,
+        vcpu: u32,
+    ) -> Result<Option<u64>, AllocError>
+        requires ready { IsReady self.now }
+        requires there { vcpu < self.now.guest.shape.vcpus }
+        ensures { IfOk result (λ read. read ≡ interface_answer reg write (interface_at self.now vcpu)) }
+    {
+        let cpu = self.cpu(vcpu);
+        let shown = self.shown(alloc, vcpu)?;
+        let first = first_candidate(shown.as_slice(), &cpu);
+        Ok(answer(first, reg, write, &cpu))
+    }
+
+    /// A vCPU reads a register of its CPU interface, or writes a value to it: of the interrupts, only those that stand at the
+    /// interface count. Answers what it reads. `AllocError` where memory is refused: then nothing happened.
+    pub fn access(
+        &mut self,
+        alloc: Global,
+        reg: IccReg,
+        write: Option<u64>,
+        vcpu: u32,
+    ) -> Result<Option<u64>, AllocError>
+        requires ready { IsReady self.old }
+        requires there { vcpu < self.old.guest.shape.vcpus }
+        ensures answer { IfOk result (λ read. read ≡ interface_answer reg write (interface_at self.old vcpu)) }
+        ensures after { OnOk result (self.new ≡ after_access vcpu reg write self.old) }
+        ensures err { OnErr result (self.new ≡ self.old) }
+        ensures ready { IsReady self.new }
+    {
+        let cpu = self.cpu(vcpu);
+        let shown = self.shown(alloc, vcpu)?;
+        let first = first_candidate(shown.as_slice(), &cpu);
+        let found = taken(first, reg, write, &cpu);
+        let standing = accessed(alloc, shown.as_slice(), found, ended(reg, write, &cpu))?;
+        let read = answer(first, reg, write, &cpu);
+        self.set_cpu(vcpu, cpu_then(found, reg, write, &cpu));
+        self.set_standing(vcpu, standing);
+        Ok(read)
+    }
+}

@@ -1,0 +1,126 @@
+//! Each event: what it hands out, and the state after it.
+ghost use Rattle.std.specs.Prelude.{◌≡◌, IfOk, OnOk, OnErr, IsTrue};
+ghost use Rattle.gic_open.specs.Plain.{has_plain};
+ghost use Rattle.ideal_guest.specs.Ideal.{word_at};
+ghost use Rattle.gic_call.specs.Trace.{held_at};
+ghost use Rattle.gic_call.specs.Valid.{CanHappen, HappensFreely, has_place};
+ghost use Rattle.gic_history.specs.State.{view_at};
+ghost use Rattle.gic_history.specs.Moves.{handed_out, happened};
+ghost use Rattle.history_check.specs.Ready.{IsReady, is_mark};
+
+use crate::state::State;
+use gic_call::{Event, Found, Place};
+use gic_open::{PlainWord, place_of_plain};
+use std::alloc::{AllocError, Global};
+
+impl State {
+    /// A plain word that the guest has.
+    fn word(&self, word: PlainWord) -> u64
+        requires ready { IsReady self.now }
+        requires there { IsTrue (has_plain self.now.guest.shape word) }
+        ensures { result ≡ word_at self.now.guest word }
+    {
+        self.guest.words.as_slice()[place_of_plain(word, &self.guest.shape)]
+    }
+
+    /// What a place holds.
+    fn held(&self, place: Place) -> Found
+        requires ready { IsReady self.now }
+        requires there { IsTrue (has_place self.now.guest.shape place) }
+        ensures { result ≡ held_at (view_at self.now) place }
+    {
+        match place {
+            Place::Word { word } => Found::Word {
+                value: self.word(word),
+            },
+            Place::Queue => Found::Queue {
+                offset: self.guest.offset,
+                is_stalled: self.guest.is_stalled,
+            },
+            Place::Ctlr => Found::Ctlr {
+                enables: self.guest.enables,
+                is_spreading: self.spreads.is_some(),
+            },
+            Place::Lpis { vcpu } => Found::Lpis {
+                is_on: self.cpu(vcpu).lpis,
+            },
+        }
+    }
+
+    /// What an event hands out to the actor that makes it: the record that it touches, what an access reads, what a word or
+    /// a place holds. `AllocError` where memory is refused.
+    pub fn handed_out(&self, alloc: Global, event: &Event) -> Result<Found, AllocError>
+        requires ready { IsReady self.now }
+        requires can { CanHappen self.now.guest.shape event.now }
+        ensures { IfOk result (λ found. found ≡ handed_out self.now event.now) }
+    {
+        Ok(match *event {
+            Event::Touch { key, .. } => Found::Record { irq: self.irq(key) },
+            Event::Cpu { vcpu, reg, write } => Found::Answer {
+                value: self.read(alloc, reg, write, vcpu)?,
+            },
+            Event::Put { word, .. } => Found::Word {
+                value: self.word(word),
+            },
+            Event::Read { place } => self.held(place),
+            Event::Enable { vcpu } => Found::Lpis {
+                is_on: self.cpu(vcpu).lpis,
+            },
+            Event::Raise { .. } | Event::Up { .. } | Event::Down { .. } | Event::Queue { .. } =>
+                Found::Nothing,
+            Event::Reach { .. } | Event::Take { .. } | Event::Leave { .. } => Found::Nothing,
+            Event::CtlrBegin { .. } | Event::CtlrEnd | Event::ItsBegin | Event::ItsEnd =>
+                Found::Nothing,
+        })
+    }
+
+    /// A mark is taken, or is free again.
+    fn mark(&mut self, actor: u32, event: &Event)
+        requires ready { IsReady self.old }
+        requires is { IsTrue (is_mark event.now) }
+        ensures value { self.new ≡ happened actor event.now self.old }
+        ensures ready { IsReady self.new }
+    {
+        match *event {
+            Event::CtlrBegin { enables } => {
+                self.set_enables(enables);
+                self.set_spreads(Some(actor));
+            }
+            Event::CtlrEnd => self.set_spreads(None),
+            Event::ItsBegin => self.set_its(Some(actor)),
+            Event::ItsEnd => self.set_its(None),
+            _ => unreachable!(),
+        }
+    }
+
+    /// An event of an actor happens, which is not the end of a command: the state after it. An event that is not allowed
+    /// has no meaning, but its effect is defined. `AllocError` where memory is refused: then nothing happened.
+    pub fn happens(&mut self, alloc: Global, actor: u32, event: &Event) -> Result<(), AllocError>
+        requires ready { IsReady self.old }
+        requires can { HappensFreely self.old.guest.shape event.now }
+        ensures ok { OnOk result (self.new ≡ happened actor event.now self.old) }
+        ensures err { OnErr result (self.new ≡ self.old) }
+        ensures ready { IsReady self.new }
+    {
+        match *event {
+            Event::Raise { key } => self.raise(key),
+            Event::Up { key } => self.wire(key, true),
+            Event::Down { key } => self.wire(key, false),
+            Event::Touch { key, touching } => self.touch(key, touching),
+            Event::Enable { vcpu } => self.enable(vcpu),
+            Event::Reach { key, vcpu } => self.reach(alloc, key, vcpu)?,
+            Event::Take { key, vcpu } => self.take(alloc, key, vcpu)?,
+            Event::Leave { key, vcpu } => self.leave(alloc, key, vcpu)?,
+            Event::Cpu { vcpu, reg, write } => {
+                self.access(alloc, reg, write, vcpu)?;
+            }
+            Event::Put { word, value } => self.set_word(word, value),
+            Event::Queue { offset, change } => self.queue(offset, change),
+            Event::Read { .. } => {}
+            Event::CtlrBegin { .. } | Event::CtlrEnd | Event::ItsBegin | Event::ItsEnd => self.mark(
+                actor, event,
+            ),
+        }
+        Ok(())
+    }
+}

@@ -1,0 +1,116 @@
+//! An interrupt at a CPU interface as accesses of its registers see it.
+ghost use Rattle.std.specs.Prelude.{◌≡◌, IfOk, map};
+ghost use Rattle.std.specs.List.{filter_map};
+ghost use Rattle.gic_word.specs.Causes.{has_active_state as keeps_active};
+ghost use Rattle.gic_prio.specs.Delivery.{first_of};
+ghost use Rattle.gic_prio.specs.Interface.{candidate_of};
+ghost use Rattle.history_check.specs.Access.{accessed_one};
+
+use crate::standing::Standing;
+use gic_base::Key;
+use gic_call::Entry;
+use gic_list::ListOf;
+use gic_prio::{Candidate, CpuRec, earlier, listens};
+use gic_word::Group;
+use std::alloc::{AllocError, Global};
+use std::marker::Model;
+
+/// An interrupt at a CPU interface, with the priority and the group of its record.
+#[derive(Debug, Drop)]
+pub(crate) struct Shown {
+    pub(crate) key: Key,
+    pub(crate) prio: u8,
+    pub(crate) group: Group,
+    pub(crate) entry: Entry,
+}
+
+impl Model for Shown {
+    ghost use Rattle.gic_prio.specs.Interface.{AtInterface};
+
+    ghost Value = { AtInterface };
+
+    ghost view = { λ s. record {
+      key = s.key;
+      prio = s.prio;
+      group = s.group;
+      pending = s.entry.pending;
+      active = s.entry.active;
+      rise = s.entry.rise;
+      soft = s.entry.soft;
+    } };
+}
+
+/// An LPI is never active.
+fn has_active_state(key: Key) -> bool
+    ensures { result ≡ keeps_active key }
+{
+    !matches!(key, Key::Lpi(_))
+}
+
+impl Shown {
+    /// The interrupt as a candidate for delivery, if it is one.
+    pub(crate) fn candidate(&self, cpu: &CpuRec) -> Option<Candidate>
+        ensures { result ≡ candidate_of cpu.now self.now }
+    {
+        let is = self.entry.pending && !self.entry.active && listens(cpu, self.group);
+        is.then_some(Candidate {
+            id: self.key.intid(),
+            prio: self.prio,
+            group: self.group,
+        })
+    }
+
+    /// What an access leaves of it that acknowledges a candidate and deactivates the interrupt with an INTID, or none.
+    fn accessed(&self, taken: Option<Candidate>, ended: Option<u32>) -> Standing
+        ensures { result ≡ accessed_one taken ended self.now }
+    {
+        let mut entry = self.entry;
+        if taken.is_some_and(|found| found.id == self.key.intid()) {
+            entry = Entry {
+                pending: false,
+                active: has_active_state(self.key),
+                rise: false,
+                soft: false,
+            };
+        }
+        if ended == Some(self.key.intid()) {
+            entry = Entry {
+                active: false,
+                ..entry
+            };
+        }
+        Standing {
+            key: self.key,
+            entry,
+        }
+    }
+}
+
+/// The first of the candidates at an interface.
+pub(crate) fn first_candidate(shown: &[Shown], cpu: &CpuRec) -> Option<Candidate>
+    ensures { result ≡ first_of (filter_map (candidate_of cpu.now) shown.now) }
+{
+    let mut first = None;
+    for one in shown {
+        if let Some(next) = one.candidate(cpu) {
+            first = Some(earlier(first, next));
+        }
+    }
+    first
+}
+
+/// What an access leaves at an interface.
+pub(crate) fn accessed(
+    alloc: Global,
+    shown: &[Shown],
+    taken: Option<Candidate>,
+    ended: Option<u32>,
+) -> Result<ListOf<Standing>, AllocError>
+    ensures { IfOk result (λ all. all ≡ map (accessed_one taken ended) shown.now) }
+{
+    let mut all = ListOf::new(alloc);
+    for one in shown {
+        all.push(one.accessed(taken, ended))?;
+    }
+    Ok(all)
+}
