@@ -4,3 +4,8 @@ pub mod SetLemmas
 pub mod SettleLemmas
 pub mod TellLemmas
 pub mod TurnLemmas
+pub mod MemoryLemmas
+pub mod StoreLemmas
+pub mod RestLemmas
+pub mod TryLemmas
+pub mod TouchLemmas

@@ -24,13 +24,13 @@ use Rattle.port_call.specs.Piece.{IsIdle, StaysSo, IsGoodPiece, IsPiece, is_plai
 
 -- no scan
 
-idle_is : (scan : Scan) → IsTrue (is_idle scan) → scan ≡ idle
+pub idle_is : (scan : Scan) → IsTrue (is_idle scan) → scan ≡ idle
 idle_is idle h = refl
 idle_is (taking purpose words) h = absurd (cc)
 idle_is (looking purpose from offers) h = absurd (cc)
 idle_is (claiming claims takes) h = absurd (cc)
 
-idle_on : (shape : GuestShape) (actor : ℕ) (p : Progress) → p.scan ≡ idle → scan_on shape actor p ≡ p
+pub idle_on : (shape : GuestShape) (actor : ℕ) (p : Progress) → p.scan ≡ idle → scan_on shape actor p ≡ p
 idle_on shape actor p e = let P : Scan → Type 0 = λ scan. scan_on shape actor (record p { scan = scan }) ≡ record p { scan = scan } in subst P (sym e) refl
 
 -- A step.
@@ -107,7 +107,7 @@ plain_is_free shape actor p (CommandDone offset stalled ending) h = record { tra
 plain_is_free shape actor p TurnRelease h = record { trap = refl; failed = refl; far = refl; refill = refl; want = refl }
 plain_is_free shape actor p (Mark key v) h = record { trap = refl; failed = refl; far = refl; refill = refl; want = refl }
 
-scan_free : (shape : GuestShape) (actor : ℕ) (p : Progress) (step : CoreStep) → p.scan ≡ idle → IsTrue (keeps_scan shape actor p step)
+pub scan_free : (shape : GuestShape) (actor : ℕ) (p : Progress) (step : CoreStep) → p.scan ≡ idle → IsTrue (keeps_scan shape actor p step)
 scan_free shape actor p step e = let P : Scan → Type 0 = λ scan. IsTrue (scan_allows shape actor p.local scan step) in subst P (sym e) refl
 
 plain_proper : (seen : Seen) (p : Progress) (step : CoreStep) → IsTrue (is_plain step) → IsTrue (goes_by_known seen step) → IsIdle seen p → IsProperStep (shape_of seen) seen.actor p step
@@ -163,7 +163,7 @@ step_idle seen made p plain is =
 stays_same : (p : Progress) → StaysSo p p
 stays_same p = record { same = refl; failed = λ h. h }
 
-stays_on : (p q r : Progress) → StaysSo p q → StaysSo q r → StaysSo p r
+pub stays_on : (p q r : Progress) → StaysSo p q → StaysSo q r → StaysSo p r
 stays_on p q r a b =
     let back : Progress → Progress = λ s. record s { local = p.local; own = p.own; failed = p.failed } in
     record {

@@ -28,7 +28,7 @@ use Rattle.port_core.specs.Local.{no_vcpus, without_vcpu, settled, owes_no_mark}
 use Rattle.port_core.specs.Port.{Seen, IsPort, Adds, AddsStep, AreHanded, CanMake, made_by, shape_of, seen_after, events_of}
 use Rattle.port_core.specs.Run.{is_taking}
 use Rattle.port_core.specs.Valid.{AreVcpus, AreMarks, AreMarksOf}
-use Rattle.port_core.proofs.AtLemmas.{same_itself}
+use Rattle.gic_base.proofs.KeyLemmas.{same_itself}
 use Rattle.port_core.proofs.PortLemmas.{adds_join}
 use Rattle.port_call.specs.Piece.{steps_of, takes_none, IsPiece, is_plain, goes_by_known}
 use Rattle.port_call.specs.Settle.{vcpus_in, IsFirst, marks_owed, kicks_owed, marks_sent, kicks_sent, Sends, Settles, IsNextMark}

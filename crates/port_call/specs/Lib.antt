@@ -1,5 +1,10 @@
 pub mod Piece
+pub mod Rest
 pub mod Settle
 pub mod Tell
+pub mod About
 pub mod Plain
+pub mod Memory
+pub mod Store
+pub mod Touch
 pub mod Turn

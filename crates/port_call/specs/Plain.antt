@@ -22,6 +22,7 @@ pub record ReadsPlain (old new : Seen) (word : PlainWord) (value : ℕ) : Type 0
   pub adds : Adds old new (look ∷ [])
   pub step_is : look.step ≡ RamLook (place_of_plain (shape_of old) word)
   pub found_is : look.found ≡ value
+  pub left_is : look.left ≡ value
   pub local_is : new.local ≡ old.local
   pub none_taken : IsTrue (takes_none (look ∷ []))
   pub events : part_events old (look ∷ []) ≡ (record { event = Read (Word word); found = FoundWord value }) ∷ []

@@ -1,12 +1,18 @@
 //! What calls make over the port of any actor.
 #![tactic(auto)]
 
+mod memory;
 mod plain;
 mod send;
+mod store;
 mod tell;
+mod touching;
 mod turn;
 
+pub use memory::read_memory;
 pub use plain::read_plain;
 pub use send::settle;
+pub use store::put_plain;
 pub use tell::raise;
+pub use touching::{Missed, touch, try_touch};
 pub use turn::{give_turn, take_turn};

@@ -1,0 +1,91 @@
+//! Touches of an interrupt, at no interface.
+ghost use Rattle.std.specs.Prelude.{◌≡◌, ◌<◌, IsTrue, IfOk, IfErr};
+ghost use Rattle.gic_call.specs.Touch.{CanTouch};
+ghost use Rattle.gic_word.specs.Word.{IsWord, irq_of};
+ghost use Rattle.port_core.specs.Port.{shape_of};
+ghost use Rattle.port_call.specs.Rest.{IsAtEase};
+ghost use Rattle.port_call.specs.Touch.{MissesTouch, Touches};
+ghost use Rattle.gic_base.specs.Interrupt.{has_interrupt};
+ghost use Rattle.port_core.specs.Local.{owes_no_mark};
+ghost use Rattle.port_call.specs.Touch.{Asks};
+
+use crate::send::settle;
+use gic_base::Key;
+use gic_call::Touching;
+use port_core::{CoreStep, Port, WordId};
+use std::sync::Wait;
+
+/// Why a touch was not made: a vCPU has the interrupt at its interface, which was asked for it; or the interrupt's word
+/// changed between the look and the touch.
+#[derive(Clone, Copy, Debug, PartialEq, Eq, Hash)]
+pub enum Missed {
+    Held { holder: u32 },
+    Changed { found: u64 },
+}
+
+/// The vCPU that holds an interrupt, by its word.
+fn holder_in(word: u64) -> Option<u32>
+    requires { IsWord word }
+    ensures { result ≡ (irq_of word).holder }
+{
+    gic_word::unpack(word).and_then(|irq| irq.holder)
+}
+
+/// Asks the vCPU that holds an interrupt for it: notes that an access waits for it, and kicks the vCPU.
+fn ask<P: Port>(port: &mut P, key: Key, holder: u32)
+    requires there { IsTrue (has_interrupt (shape_of (P.seen port.old)) key) }
+    requires vcpu { holder < (shape_of (P.seen port.old)).vcpus }
+    requires marks { IsTrue (owes_no_mark (P.seen port.old).local) }
+    ensures { Asks (P.seen port.old) (P.seen port.new) key holder }
+{
+    port.step(CoreStep::Want { key });
+    port.step(CoreStep::Kick { vcpu: holder });
+}
+
+/// Tries to touch an interrupt of the guest, and answers the word that it found: it looks at it, and touches it where
+/// nobody holds it, with the word that was looked at. Held exactly where the last of these two found that a vCPU holds it;
+/// the vCPU is asked for it then. Changed exactly where the touch found a word without a holder that differs from the one
+/// that was looked at. Nothing of the interrupt changed then, but that an access waits for it after Held. The marks and kicks
+/// that are owed for a touch are sent before it returns. The actor owes nothing, and has nothing at its interface. It
+/// takes no memory.
+pub fn try_touch<P: Port>(port: &mut P, key: Key, kind: Touching) -> Result<u64, Missed>
+    requires can { CanTouch (shape_of (P.seen port.old)) key kind }
+    requires ease { IsAtEase (P.seen port.old).local }
+    ensures touched { IfOk result (λ found. Touches (P.seen port.old) (P.seen port.new) key kind found) }
+    ensures missed { IfErr result (λ missed. MissesTouch (P.seen port.old) (P.seen port.new) key kind missed) }
+{
+    let seen = port.step(CoreStep::Look {
+        word: WordId::Irq(key),
+    });
+    if let Some(holder) = holder_in(seen) {
+        ask(port, key, holder);
+        return Err(Missed::Held { holder });
+    }
+    let found = port.step(CoreStep::Touch { key, seen, kind });
+    if found == seen {
+        settle(port);
+        return Ok(found);
+    }
+    match holder_in(found) {
+        Some(holder) => {
+            ask(port, key, holder);
+            Err(Missed::Held { holder })
+        }
+        None => Err(Missed::Changed { found }),
+    }
+}
+
+/// Touches an interrupt of the guest, and answers the word that it found: it tries until nobody holds it, and asks who does
+/// for it. The actor owes nothing, and has nothing at its interface.
+pub fn touch<P: Port, R: Wait>(rt: &R, port: &mut P, key: Key, kind: Touching) -> u64
+    requires can { CanTouch (shape_of (P.seen port.old)) key kind }
+    requires ease { IsAtEase (P.seen port.old).local }
+    ensures { Touches (P.seen port.old) (P.seen port.new) key kind result }
+{
+    for _ in rt.forever() {
+        if let Ok(found) = try_touch(port, key, kind) {
+            return found;
+        }
+    }
+    unreachable!()
+}
