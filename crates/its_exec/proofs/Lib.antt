@@ -1,0 +1,14 @@
+pub mod FrameLemmas
+pub mod LookLemmas
+pub mod FetchLemmas
+pub mod ConfigLemmas
+pub mod AboutLemmas
+pub mod PartLemmas
+pub mod CommandLemmas
+pub mod ForgetLemmas
+pub mod SweepLemmas
+pub mod PlanLemmas
+pub mod PlainLemmas
+pub mod QueueLemmas
+pub mod TakeLemmas
+pub mod RunLemmas

@@ -1,0 +1,247 @@
+-- A command that was taken: its events.
+use Rattle.std.proofs.Common.{◌≡◌, ℕ, Bool, ◌%◌, true, false, if◌then◌else◌, List, [], ◌∷◌, ◌++◌, map, All, Option, Some, None, Result, Ok, is_none, option_map, refl, sym, ap, subst, ◌∙◌}
+use Rattle.std.proofs.lemmas.List.Elements.{All-nil, All-cons}
+use Rattle.gic_base.specs.declared.shape.GuestShape.{GuestShape}
+use Rattle.gic_open.specs.declared.plain.PlainWord.TheVariants.{ItsCtlr, Cbaser, Cwriter}
+use Rattle.gic_imap.specs.Contents.{queue_bytes}
+use Rattle.gic_call.specs.declared.command.Part.{Part}
+use Rattle.gic_call.specs.declared.event.Event.{Event}
+use Rattle.gic_call.specs.declared.event.Event.TheVariants.{Queue as QueueEvent}
+use Rattle.gic_call.specs.declared.event.Found.TheVariants.{Nothing}
+use Rattle.gic_call.specs.declared.event.Place.{Place}
+use Rattle.gic_call.specs.declared.event.QueueChange.{QueueChange}
+use Rattle.gic_call.specs.declared.event.QueueChange.TheVariants.{Done, Stalls}
+use Rattle.gic_call.specs.Command.{parts, decoded_parts, command_parts, command_words, queue_event, maps_by}
+use Rattle.gic_call.specs.Trace.{left_by, Happened, HandsOut, Makes, IsLastRead, IsCommand, HaveSameIts, ArePartsThen, held_at, command_places}
+use Rattle.gic_call.specs.View.{View}
+use Rattle.its_cmd.specs.declared.command.Command.{Command}
+use Rattle.its_cmd.specs.declared.command.BadCommand.{BadCommand}
+use Rattle.its_cmd.specs.Command.{decoded}
+use Rattle.its_queue.specs.Queue.{advanced}
+use Rattle.its_tab.specs.After.{maps_after}
+use Rattle.its_tab.specs.Fault.{fault_of, fault_number, number_of}
+use Rattle.its_tab.specs.Maps.{Maps}
+use Rattle.port_core.specs.declared.step.CoreStep.TheVariants.{CommandDone}
+use Rattle.port_core.specs.Known.{known_maps}
+use Rattle.port_core.specs.Port.{Seen, made_by, shape_of, part_events}
+use Rattle.port_core.proofs.PortLemmas.{adds_join}
+use Rattle.port_call.specs.Memory.{view_by}
+use Rattle.port_call.proofs.PieceLemmas.{piece_one}
+use Rattle.port_call.proofs.TurnLemmas.{events_then}
+use Rattle.its_exec.specs.declared.fetch.Fetched.{Fetched}
+use Rattle.its_exec.specs.declared.known.KnownQueue.{KnownQueue}
+use Rattle.its_exec.specs.Command.{HasCommand, DoesCommand}
+use Rattle.its_exec.specs.Config.{HoldsCommand}
+use Rattle.its_exec.specs.Known.{KnowsQueue, Fetches, AgreeWith, takes_next}
+use Rattle.its_exec.specs.Queue.{Taken, AreTaken, TakesAll, IsReady, MakesStep, StallsAt, TakesCommand}
+use Rattle.its_exec.proofs.FetchLemmas.{address_even}
+use Rattle.its_exec.proofs.LookLemmas.{word_held, offset_held, stalled_held, takes_by}
+use Rattle.its_exec.proofs.PartLemmas.{reads_beside, good_then}
+use Rattle.its_exec.proofs.CommandLemmas.{parts_of, parts_then, write_stays}
+use Rattle.its_exec.proofs.QueueLemmas.{command_all, next_address, holds_next, good_event, bad_event, known_stored, fetched_ready}
+
+-- the view as the command was fetched, with the vCPUs that the LPIs are for
+abbrev as_of : Seen → (ℕ → Option ℕ) → View
+as_of seen targets = record (view_by seen) { targets = targets }
+
+same_its : (old mid : Seen) (queue : KnownQueue) (targets : ℕ → Option ℕ) → KnowsQueue old queue → KnowsQueue mid queue → known_maps old.own ≡ known_maps mid.own → HaveSameIts (view_by old) (as_of mid targets)
+same_its old mid queue targets was now maps =
+    record {
+      ctlr = word_held old ItsCtlr queue.ctlr was.ctlr ∙ sym (word_held mid ItsCtlr queue.ctlr now.ctlr);
+      cbaser = word_held old Cbaser queue.cbaser was.cbaser ∙ sym (word_held mid Cbaser queue.cbaser now.cbaser);
+      cwriter = word_held old Cwriter queue.cwriter was.cwriter ∙ sym (word_held mid Cwriter queue.cwriter now.cwriter);
+      offset = offset_held old queue.offset queue.stalled was.place ∙ sym (offset_held mid queue.offset queue.stalled now.place);
+      stalled = stalled_held old queue.offset queue.stalled was.place ∙ sym (stalled_held mid queue.offset queue.stalled now.place);
+      maps = maps;
+    }
+
+-- what the end of the command leaves
+left_its :
+    (mid new : Seen) (queue after : KnownQueue) (targets : ℕ → Option ℕ) (offset : ℕ) (stalled : Bool) (maps : Maps) → KnowsQueue mid queue → KnowsQueue new after → after.ctlr ≡ queue.ctlr → after.cbaser ≡ queue.cbaser → after.cwriter ≡ queue.cwriter
+    → after.offset ≡ offset → after.stalled ≡ stalled → known_maps new.own ≡ maps → HaveSameIts (record (as_of mid targets) { offset = offset; is_stalled = stalled; maps = maps }) (view_by new)
+left_its mid new queue after targets offset stalled maps was now ctlr cbaser cwriter to stall is =
+    record {
+      ctlr = word_held mid ItsCtlr queue.ctlr was.ctlr ∙ sym ctlr ∙ sym (word_held new ItsCtlr after.ctlr now.ctlr);
+      cbaser = word_held mid Cbaser queue.cbaser was.cbaser ∙ sym cbaser ∙ sym (word_held new Cbaser after.cbaser now.cbaser);
+      cwriter = word_held mid Cwriter queue.cwriter was.cwriter ∙ sym cwriter ∙ sym (word_held new Cwriter after.cwriter now.cwriter);
+      offset = sym (offset_held new after.offset after.stalled now.place ∙ to);
+      stalled = sym (stalled_held new after.offset after.stalled now.place ∙ stall);
+      maps = sym is;
+    }
+
+-- the reads of the fetch
+makes_fetch : (actor : Option ℕ) (old mid : Seen) (queue : KnownQueue) (fetched : Fetched) (targets : ℕ → Option ℕ) → (shape_of mid).ram % 8 ≡ 0 → (fetches : Fetches old mid queue fetched)
+    → Makes actor (as_of mid targets) [] (command_places (shape_of mid) (as_of mid targets)) [] (part_events old fetches.part)
+makes_fetch actor old mid queue fetched targets whole fetches =
+    let view = as_of mid targets in
+    let none = reads_beside actor (part_events old fetches.part) fetches.reading.reads in
+    let Hands : Happened → Type 0 = λ h. HandsOut view h.event h.found in
+    let Last : Place → Type 0 = λ place. IsLastRead place (held_at view place) (part_events old fetches.part) in
+    record {
+      events_are = ap (map (λ h. h.event)) none;
+      found = subst (All Hands) (sym none) (All-nil Hands);
+      reads = command_all Last mid queue fetched.address whole fetches.knows fetches.address_is (λ index at inside. (fetches.has.each index at inside).last);
+    }
+
+-- the end of the command
+makes_end : (actor : Option ℕ) (view : View) (event : Event) (before : List Happened) (offset : ℕ) (change : QueueChange) → event ≡ QueueEvent offset change
+    → Makes actor view (event ∷ []) [] before ((record { event = QueueEvent offset change; found = Nothing }) ∷ [])
+makes_end actor view event before offset change e =
+    let happened : Happened = record { event = QueueEvent offset change; found = Nothing } in
+    let Hands : Happened → Type 0 = λ h. HandsOut view h.event h.found in
+    record {
+      events_are = ap (λ e. e ∷ []) (sym e);
+      found = All-cons Hands happened [] refl (All-nil Hands);
+      reads = All-nil (λ place. IsLastRead place (held_at view place) (before ++ happened ∷ []));
+    }
+
+-- a good command
+pub took_good :
+    (old mid done new : Seen) (shape : GuestShape) (tables : Maps) (queue : KnownQueue) (offset : ℕ) (fetched : Fetched) (command : Command) (result : Result Command BadCommand) → (shape_of mid).ram % 8 ≡ 0 → IsReady old shape tables queue
+    → takes_next queue ≡ true → Fetches old mid queue fetched → HoldsCommand mid fetched → DoesCommand mid done fetched.address tables command → result ≡ decoded fetched.words → result ≡ Ok command → fault_of shape tables command ≡ None
+    → offset ≡ advanced queue.offset (queue_bytes queue.cbaser) → MakesStep done new (CommandDone offset false (Some fetched.words))
+    → (left : Maps) (after : KnownQueue) → IsReady new shape left after → after ≡ record queue { offset = offset } → queue.stalled ≡ false → left ≡ maps_after tables command → TakesCommand old new
+took_good old mid done new shape tables queue offset fetched command result whole ready takes fetches holds does value ok good is makes left after later moved runs gone =
+    let all = does.does in
+    let made = made_by done (CommandDone offset false (Some fetched.words)) makes.found makes.adds.tables in
+    let late = all.steps ++ made ∷ [] in
+    let now = fetched_ready old mid shape tables queue fetched ready fetches in
+    let next = holds_next old mid queue fetched fetches holds in
+    let same : shape_of mid ≡ shape_of old = ap shape_of fetches.reading.adds.new_is in
+    let decoded_is : decoded (command_words (shape_of mid) (view_by mid)) ≡ Ok command = ap decoded (sym next.words_are) ∙ sym value ∙ ok in
+    let good_now : fault_of (shape_of mid) (known_maps mid.own) command ≡ None
+    = ap (λ shape. fault_of shape (known_maps mid.own) command) (sym now.shape_is) ∙ ap (λ maps. fault_of shape maps command) (sym now.maps) ∙ good in
+    let number : fault_number (shape_of mid) (known_maps mid.own) (decoded fetched.words) ≡ None
+    = ap (fault_number (shape_of mid) (known_maps mid.own)) (sym value ∙ ok) ∙ ap (option_map number_of) good_now in
+    let has : HasCommand mid fetched.address tables command
+    = record {
+      aligned = address_even queue.cbaser queue.offset fetched.address next.knows.in_range.place next.address_is;
+      address_is = next_address mid queue fetched.address next.knows next.address_is;
+      maps_are = sym now.maps;
+      decoded_is = decoded_is;
+      good = ap (λ shape. fault_of shape tables command) (sym now.shape_is) ∙ good;
+    } in
+    record {
+      last = done;
+      steps = fetches.part ++ late;
+      adds = adds_join old mid new fetches.part late fetches.reading.adds (adds_join mid done new all.steps (made ∷ []) all.adds makes.adds.adds);
+      is = λ actor targets agree.
+          (let view = as_of mid targets in
+          let By : Maps → Type 0 = λ maps. AgreeWith done maps targets in
+          let agreed : AgreeWith done tables targets = subst By (sym ready.maps) agree in
+          let Rest : List Happened → List Happened → Type 0 = λ before after. Makes actor view (queue_event (shape_of mid) view ∷ []) [] before after in
+          let parts_are : command_parts (shape_of mid) view ≡ does.done
+          = parts_of (shape_of mid) view command decoded_is good_now ∙ ap (λ maps. parts (shape_of mid) maps targets command) (sym now.maps) ∙ does.all targets agreed in
+          let ended = makes_end actor view (queue_event (shape_of mid) view) (part_events old fetches.part ++ part_events mid all.steps) offset (Done fetched.words)
+          (good_event mid queue fetched next number ∙ ap (λ n. QueueEvent n (Done fetched.words)) (sym is)) in
+          let Parts : List Part → Type 0 = λ parts. ArePartsThen actor (shape_of mid) targets parts Rest (part_events old fetches.part) (part_events mid late) in
+          let Piece : List Happened → Type 0 = λ piece. ArePartsThen actor (shape_of mid) targets does.done Rest (part_events old fetches.part) piece in
+          let Left : Event → Type 0 = λ event. HaveSameIts (left_by (shape_of mid) view event) (view_by new) in
+          let Leaves : GuestShape → Type 0 = λ shape. HaveSameIts (left_by shape view (queue_event shape view)) (view_by new) in
+          let goes = good_event mid queue fetched next number ∙ ap (λ n. QueueEvent n (Done fetched.words)) (sym is) in
+          let maps_are : known_maps new.own ≡ maps_by (known_maps mid.own) (decoded fetched.words)
+          = sym later.maps ∙ gone ∙ ap (λ maps. maps_after maps command) now.maps ∙ sym (ap (maps_by (known_maps mid.own)) (sym value ∙ ok)) in
+          let Is : GuestShape → Type 0 = λ shape. IsCommand actor shape view (part_events old (fetches.part ++ late)) in
+          record {
+            view = view;
+            same = same_its old mid queue targets ready.knows fetches.knows (sym ready.maps ∙ now.maps);
+            targets_are = refl;
+            left =
+                subst Leaves same
+                (subst Left (sym goes)
+                (left_its mid new queue after targets offset false (maps_by (known_maps mid.own) (decoded fetched.words)) fetches.knows later.knows (ap (λ q. q.ctlr) moved) (ap (λ q. q.cbaser) moved) (ap (λ q. q.cwriter) moved) (ap (λ q. q.offset) moved)
+                (ap (λ q. q.stalled) moved ∙ runs) maps_are));
+            command =
+                subst Is same
+                (record {
+                  taken = takes_by mid queue fetches.knows ∙ takes;
+                  fetch = part_events old fetches.part;
+                  rest = part_events mid late;
+                  split = events_then old mid fetches.part late fetches.reading.adds;
+                  fetched = makes_fetch actor old mid queue fetched targets whole fetches;
+                  done =
+                      subst Parts (sym parts_are)
+                      (subst Piece (sym (events_then mid done all.steps (made ∷ []) all.adds))
+                      (parts_then actor (shape_of mid) targets does.done Rest (part_events old fetches.part) (part_events mid all.steps) (part_events done (made ∷ []))
+                      (all.makes actor targets agreed.found (part_events old fetches.part) fetches.has) ended));
+                });
+          });
+      piece = λ p idle write none.
+          good_then old mid p fetches.part late fetches.reading.adds (fetches.reading.piece p idle)
+          (λ q stays idle_mid.
+          good_then mid done q all.steps (made ∷ []) all.adds (all.piece q idle_mid (write_stays p q stays write) (ap (λ r. r.wants) stays.same ∙ none) has)
+          (λ r stays_too idle_done. piece_one done made refl refl r idle_done));
+    }
+
+-- a bad one
+pub took_bad :
+    (old mid new : Seen) (shape : GuestShape) (tables : Maps) (queue : KnownQueue) (fetched : Fetched) (result : Result Command BadCommand) (fault : ℕ) → (shape_of mid).ram % 8 ≡ 0 → IsReady old shape tables queue → takes_next queue ≡ true
+    → Fetches old mid queue fetched → HoldsCommand mid fetched → result ≡ decoded fetched.words → fault_number shape tables result ≡ Some fault → StallsAt mid new queue.offset fault
+    → (after : KnownQueue) → IsReady new shape tables after → after ≡ record queue { stalled = true } → TakesCommand old new
+took_bad old mid new shape tables queue fetched result fault whole ready takes fetches holds value bad stalls after later moved =
+    let end = stalls.mid in
+    let stores = stalls.stores in
+    let put = stores.misses ++ stores.last ∷ [] in
+    let made = made_by end (CommandDone queue.offset true None) stalls.ends.found stalls.ends.adds.tables in
+    let late = put ++ made ∷ [] in
+    let now = fetched_ready old mid shape tables queue fetched ready fetches in
+    let next = holds_next old mid queue fetched fetches holds in
+    let same : shape_of mid ≡ shape_of old = ap shape_of fetches.reading.adds.new_is in
+    let number : fault_number (shape_of mid) (known_maps mid.own) (decoded fetched.words) ≡ Some fault
+    = ap (λ shape. fault_number shape (known_maps mid.own) (decoded fetched.words)) (sym now.shape_is) ∙ ap (λ maps. fault_number shape maps (decoded fetched.words)) (sym now.maps) ∙ ap (fault_number shape tables) (sym value) ∙ bad in
+    record {
+      last = end;
+      steps = fetches.part ++ late;
+      adds = adds_join old mid new fetches.part late fetches.reading.adds (adds_join mid end new put (made ∷ []) stores.adds stalls.ends.adds.adds);
+      is = λ actor targets agree.
+          (let view = as_of mid targets in
+          let Rest : List Happened → List Happened → Type 0 = λ before after. Makes actor view (queue_event (shape_of mid) view ∷ []) [] before after in
+          let by : List ℕ → List Part = λ words. if is_none (fault_number (shape_of mid) (known_maps mid.own) (decoded words)) then decoded_parts (shape_of mid) view (decoded words) else [] in
+          let by_fault : Option ℕ → List Part = λ o. if is_none o then decoded_parts (shape_of mid) view (decoded fetched.words) else [] in
+          let parts_are : command_parts (shape_of mid) view ≡ [] = ap by (sym next.words_are) ∙ ap by_fault number in
+          let ended = makes_end actor view (queue_event (shape_of mid) view) (part_events old fetches.part) queue.offset (Stalls fault) (bad_event mid queue fetched fault next number) in
+          let Stored : ℕ → Type 0 = λ n. Rest (part_events old fetches.part) ((record { event = QueueEvent queue.offset (Stalls n); found = Nothing }) ∷ []) in
+          let Parts : List Part → Type 0 = λ parts. ArePartsThen actor (shape_of mid) targets parts Rest (part_events old fetches.part) (part_events mid late) in
+          let Piece : List Happened → Type 0 = λ piece. Rest (part_events old fetches.part) piece in
+          let Left : Event → Type 0 = λ event. HaveSameIts (left_by (shape_of mid) view event) (view_by new) in
+          let Leaves : GuestShape → Type 0 = λ shape. HaveSameIts (left_by shape view (queue_event shape view)) (view_by new) in
+          let Is : GuestShape → Type 0 = λ shape. IsCommand actor shape view (part_events old (fetches.part ++ late)) in
+          record {
+            view = view;
+            same = same_its old mid queue targets ready.knows fetches.knows (sym ready.maps ∙ now.maps);
+            targets_are = refl;
+            left =
+                subst Leaves same
+                (subst Left (sym (bad_event mid queue fetched fault next number))
+                (left_its mid new queue after targets queue.offset true (known_maps mid.own) fetches.knows later.knows (ap (λ q. q.ctlr) moved) (ap (λ q. q.cbaser) moved) (ap (λ q. q.cwriter) moved) (ap (λ q. q.offset) moved) (ap (λ q. q.stalled) moved)
+                (sym later.maps ∙ now.maps)));
+            command =
+                subst Is same
+                (record {
+                  taken = takes_by mid queue fetches.knows ∙ takes;
+                  fetch = part_events old fetches.part;
+                  rest = part_events mid late;
+                  split = events_then old mid fetches.part late fetches.reading.adds;
+                  fetched = makes_fetch actor old mid queue fetched targets whole fetches;
+                  done =
+                      subst Parts (sym parts_are)
+                      (subst Piece (sym (events_then mid end put (made ∷ []) stores.adds ∙ ap (λ events. events ++ part_events end (made ∷ [])) stores.events)) (subst Stored (sym (known_stored mid end fault stores)) ended));
+                });
+          });
+      piece = λ p idle write none.
+          good_then old mid p fetches.part late fetches.reading.adds (fetches.reading.piece p idle)
+          (λ q stays idle_mid.
+          good_then mid end q put (made ∷ []) stores.adds (stores.piece q idle_mid) (λ r stays_too idle_end. piece_one end made refl refl r idle_end));
+    }
+
+-- Commands, one after the other.
+
+pub taken_none : (seen : Seen) → TakesAll seen seen
+taken_none seen = record { commands = []; are = refl }
+
+are_more : (old mid new : Seen) (commands : List Taken) (takes : TakesCommand mid new) → AreTaken old commands mid → AreTaken old (commands ++ (record { from = mid; to = new; takes = takes }) ∷ []) new
+are_more old mid new [] takes are = (are, refl)
+are_more old mid new (one ∷ commands) takes are = (are.0, are_more one.to mid new commands takes are.1)
+
+pub taken_more : (old mid new : Seen) → TakesAll old mid → TakesCommand mid new → TakesAll old new
+taken_more old mid new all takes = record { commands = all.commands ++ (record { from = mid; to = new; takes = takes }) ∷ []; are = are_more old mid new all.commands takes all.are }

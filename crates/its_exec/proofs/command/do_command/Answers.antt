@@ -1,0 +1,24 @@
+-- A MAPD forgets the LPIs of its device.
+use Rattle.std.proofs.Common.{ap}
+use Rattle.gic_call.specs.Command.{parts, lpis_of_device}
+use Rattle.port_core.specs.Port.{shape_of}
+use Rattle.its_exec.specs.Command.{DoesCommand}
+use Rattle.its_exec.specs.Plan.{ForgetsAll}
+use Rattle.its_exec.proofs.PlainLemmas.{does_mapd, ok_on}
+use Rattle.its_exec.proofs.command.do_command.Goals as goal
+
+pub returns-in-Mapd-default-default-default-true-clause-does : goal.returns-in-Mapd-default-default-default-true-clause-does
+returns-in-Mapd-default-default-default-true-clause-does g c =
+    let old = g.P.Port.seen c.args.port.now in
+    let new = g.P.Port.seen c.replace_device.new.port in
+    let address = c.args.fetched.now.address in
+    let maps = c.args.tables.now in
+    let ids = lpis_of_device maps c.in-Mapd-default-default-default-true.device in
+    ok_on c.replace_device.result (ForgetsAll old new address ids) (DoesCommand old new address maps c.args.command.now) c.replace_device.ensures.does
+    (λ forgets. does_mapd old new address maps c.args.command.now ids (λ targets. ap (parts (shape_of old) maps targets) c.in-Mapd-default-default-default-true.is) forgets)
+
+pub returns-in-Mapd-clause-does : goal.returns-in-Mapd-clause-does
+returns-in-Mapd-clause-does g c =
+    let old = g.P.Port.seen c.args.port.now in
+    let maps = c.args.tables.now in
+    does_mapd old (g.P.Port.seen c.forget_device.new.port) c.args.fetched.now.address maps c.args.command.now (lpis_of_device maps c.in-Mapd.device) (λ targets. ap (parts (shape_of old) maps targets) c.in-Mapd.is) c.forget_device.ensures.does

@@ -1,0 +1,11 @@
+-- One more command.
+use Rattle.its_exec.proofs.TakeLemmas.{taken_more}
+use Rattle.its_exec.proofs.queue.run_commands.Goals as goal
+
+pub loop-preserved : goal.loop-preserved
+loop-preserved g c = (
+  tt,
+  tt,
+  c.take_command.ensures.ready,
+  taken_more (g.P.Port.seen c.args.port.now) (g.P.Port.seen c.loop.port) (g.P.Port.seen c.take_command.new.port) c.loop.invariant.3 c.in_ok-take_command.ensures.takes,
+)

@@ -1,0 +1,148 @@
+-- The command queue, as an actor that has the ITS goes over it.
+use Rattle.std.specs.Prelude.{◌≡◌, ℕ, ◌+◌, ◌%◌, true, false, IsTrue, List, [], ◌∷◌, Option, Some, None, Ok}
+use Rattle.gic_base.specs.declared.shape.GuestShape.{GuestShape}
+use Rattle.gic_call.specs.Command.{queue_address, command_words, queue_event}
+use Rattle.gic_open.specs.declared.plain.PlainWord.TheVariants.{Fault as FaultWord}
+use Rattle.its_cmd.specs.declared.command.Command.{Command}
+use Rattle.its_cmd.specs.Command.{decoded}
+use Rattle.its_tab.specs.Fault.{fault_number}
+use Rattle.its_tab.specs.After.{IsValid, is_mapping}
+use Rattle.its_tab.specs.Maps.{Maps}
+use Rattle.port_core.specs.declared.step.CoreStep.{CoreStep}
+use Rattle.port_core.specs.declared.step.CoreStep.TheVariants.{RamLook, CommandDone}
+use Rattle.port_core.specs.Condition.{fault_place}
+use Rattle.port_core.specs.Known.{known_maps}
+use Rattle.port_core.specs.declared.run.Made.{Made}
+use Rattle.port_core.specs.Port.{Seen, Adds, AddsStep, shape_of, part_events}
+use Rattle.core_proper.specs.Progress.{Progress}
+use Rattle.port_call.specs.Piece.{IsIdle, IsGoodPiece}
+use Rattle.gic_call.specs.Trace.{Happened, HaveSameIts, IsCommand, left_by}
+use Rattle.gic_call.specs.View.{View}
+use Rattle.its_exec.specs.Command.{IsItsWrite}
+use Rattle.port_call.specs.Memory.{view_by}
+use Rattle.port_call.specs.Rest.{IsAtEase}
+use Rattle.port_call.specs.Store.{Stores}
+use Rattle.its_exec.specs.declared.fetch.Fetched.{Fetched}
+use Rattle.its_exec.specs.declared.known.KnownQueue.{KnownQueue}
+use Rattle.its_exec.specs.Config.{HoldsCommand}
+use Rattle.its_exec.specs.declared.queue.QueueEnd.{QueueEnd}
+use Rattle.its_exec.specs.declared.queue.QueueEnd.TheVariants.{Empty, Stalled}
+use Rattle.its_exec.specs.Known.{KnowsQueue, LooksAtQueue, Reading, AgreeWith, takes_next}
+use Rattle.its_exec.specs.Plan.{IsFresh}
+
+-- the actor has the ITS with these tables, and is where a command begins
+pub record IsReady (seen : Seen) (shape : GuestShape) (tables : Maps) (queue : KnownQueue) : Type 0 where
+  pub shape_is : shape ≡ shape_of seen
+  pub taken : IsTrue seen.taken
+  pub ease : IsAtEase seen.local
+  pub maps : tables ≡ known_maps seen.own
+  pub valid : IsValid shape tables
+  pub fresh : IsFresh seen
+  pub knows : KnowsQueue seen queue
+
+-- it holds the next command as it was fetched
+pub record HoldsNext (seen : Seen) (queue : KnownQueue) (fetched : Fetched) : Type 0 where
+  pub knows : KnowsQueue seen queue
+  pub holds : HoldsCommand seen fetched
+  pub address_is : fetched.address ≡ queue_address queue.cbaser + queue.offset
+  pub words_are : fetched.words ≡ command_words (shape_of seen) (view_by seen)
+
+-- and that has a fault with the maps that it knows
+pub record HasBad (seen : Seen) (queue : KnownQueue) (fault : ℕ) : Type 0 where
+  pub fetched : Fetched
+  pub next : HoldsNext seen queue fetched
+  pub bad : fault_number (shape_of seen) (known_maps seen.own) (decoded fetched.words) ≡ Some fault
+
+-- it made one step
+pub record MakesStep (old new : Seen) (step : CoreStep) : Type 0 where
+  pub found : ℕ
+  pub adds : AddsStep old new step found
+
+-- it stored the number of a fault, and then the queue stalled
+pub record StallsAt (old new : Seen) (offset fault : ℕ) : Type 0 where
+  pub mid : Seen
+  pub stores : Stores old mid FaultWord fault
+  pub ends : MakesStep mid new (CommandDone offset true None)
+
+-- the queue is stalled, and the number of the fault is what a look found
+pub record IsStalled (old new : Seen) (queue : KnownQueue) (offset fault : ℕ) : Type 0 where
+  pub stalled : queue.stalled ≡ true
+  pub offset_is : offset ≡ queue.offset
+  pub found : ℕ
+  pub adds : AddsStep old new (RamLook (fault_place (shape_of old))) found
+  pub fault_is : fault ≡ found % 256
+
+-- how the queue is at its end: it is told where it stalls, with the number of the fault that is stored, found by a look
+abbrev pub EndsAt : Seen → Seen → KnownQueue → QueueEnd → Type 0
+EndsAt old new queue Empty = (new ≡ old) × (queue.stalled ≡ false)
+EndsAt old new queue (Stalled offset fault) = IsStalled old new queue offset fault
+
+-- some events are those of the next command of the ITS as the actor knew it, where the LPIs are for these vCPUs as it begins; and the actor knows what they left
+pub record AreOfCommand (old new : Seen) (actor : Option ℕ) (targets : ℕ → Option ℕ) (piece : List Happened) : Type 0 where
+  pub view : View
+  pub same : HaveSameIts (view_by old) view
+  pub targets_are : view.targets ≡ targets
+  pub command : IsCommand actor (shape_of old) view piece
+  pub left : HaveSameIts (left_by (shape_of old) view (queue_event (shape_of old) view)) (view_by new)
+
+-- the actor took a command: what is to be seen of its steps are the events of that command, whatever vCPUs the LPIs are for that it did not find; and
+-- they are proper
+pub record TakesCommand (old new : Seen) : Type 0 where
+  pub last : Seen
+  pub steps : List Made
+  pub adds : Adds old new steps
+  pub is : (actor : Option ℕ) (targets : ℕ → Option ℕ) → AgreeWith last (known_maps old.own) targets → AreOfCommand old new actor targets (part_events old steps)
+  pub piece : (p : Progress) → IsIdle old p → IsItsWrite p → p.wants ≡ [] → IsGoodPiece old p steps
+
+-- commands that were taken, one after the other
+pub record Taken : Type 0 where
+  pub from : Seen
+  pub to : Seen
+  pub takes : TakesCommand from to
+
+abbrev pub AreTaken : Seen → List Taken → Seen → Type 0
+AreTaken old [] new = new ≡ old
+AreTaken old (one ∷ rest) new = (one.from ≡ old) × AreTaken one.to rest new
+
+pub record TakesAll (old new : Seen) : Type 0 where
+  pub commands : List Taken
+  pub are : AreTaken old commands new
+
+-- the actor is over with the queue: it took commands until no further one is taken, and was told how the queue ended
+pub record IsOverWith (old new : Seen) (shape : GuestShape) (tables : Maps) (end : QueueEnd) : Type 0 where
+  pub mid : Seen
+  pub queue : KnownQueue
+  pub taken : TakesAll old mid
+  pub ready : IsReady mid shape tables queue
+  pub over : takes_next queue ≡ false
+  pub ends : EndsAt mid new queue end
+
+-- it only read, and found a good command that maps something
+pub record FetchesMapping (old new : Seen) : Type 0 where
+  pub part : List Made
+  pub reading : Reading old new part
+  pub command : Command
+  pub decoded_is : decoded (command_words (shape_of new) (view_by new)) ≡ Ok command
+  pub mapping : IsTrue (is_mapping command)
+
+-- the actor took commands, and fetched one that wants memory: it is still where that begins
+pub record WantsMemory (old new : Seen) (shape : GuestShape) (tables : Maps) : Type 0 where
+  pub mid : Seen
+  pub queue : KnownQueue
+  pub taken : TakesAll old mid
+  pub fetches : FetchesMapping mid new
+  pub ready : IsReady new shape tables queue
+  pub takes : takes_next queue ≡ true
+
+-- it looked at the registers of the queue before
+pub record RunsQueue (old new : Seen) (shape : GuestShape) (tables : Maps) (end : QueueEnd) : Type 0 where
+  pub start : Seen
+  pub queue : KnownQueue
+  pub looks : LooksAtQueue old start queue
+  pub over : IsOverWith start new shape tables end
+
+pub record StopsQueue (old new : Seen) (shape : GuestShape) (tables : Maps) : Type 0 where
+  pub start : Seen
+  pub queue : KnownQueue
+  pub looks : LooksAtQueue old start queue
+  pub wants : WantsMemory start new shape tables

@@ -1,0 +1,21 @@
+//! The fault of a command.
+ghost use Rattle.std.specs.Prelude.{◌≡◌, Err, Ok};
+ghost use Rattle.std.specs.Option.{option_map_or};
+ghost use Rattle.gic_base.specs.Shape.{IsShape};
+ghost use Rattle.its_tab.specs.Fault.{fault_of};
+
+use gic_base::GuestShape;
+use its_cmd::Command;
+use its_tab::{CmdFault, ItsTables};
+
+/// Whether a command can be carried out with these tables, in a guest of this shape. Err exactly where it has a fault:
+/// the first by number.
+pub fn check(tables: &ItsTables, command: &Command, shape: &GuestShape) -> Result<(), CmdFault>
+    requires { IsShape shape.now }
+    ensures { result ≡ option_map_or (λ fault. Err fault) (fault_of shape.now tables.now command.now) (Ok tt) }
+{
+    match tables.fault_in(command, shape) {
+        Some(fault) => Err(fault),
+        None => Ok(()),
+    }
+}
