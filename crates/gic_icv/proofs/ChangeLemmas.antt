@@ -35,7 +35,7 @@ made id prio group state = record { id = id; prio = prio; group = if nat_eq grou
 same_made : (id id' prio prio' group group' : ℕ) (state state' : LrState) → id ≡ id' → prio ≡ prio' → group ≡ group' → state ≡ state' → made id prio group state ≡ made id' prio' group' state'
 same_made id id' prio prio' group group' state state' e f g h = rw (e, f, g, h) refl
 
-seen_with_state : (word : ℕ) (state : LrState) → seen_in (with_state word state) ≡ record (seen_in word) { pending = state_has_pending state; active = state_has_active state }
+pub seen_with_state : (word : ℕ) (state : LrState) → seen_in (with_state word state) ≡ record (seen_in word) { pending = state_has_pending state; active = state_has_active state }
 seen_with_state word state =
     let after = with_state word state in
     let low : after % 2 ^ 62 ≡ word % 2 ^ 62 = omega arith in

@@ -1,17 +1,18 @@
 -- Who stands in a list register, and who does not matter.
-use Rattle.std.proofs.Common.{◌≡◌, ◌-◌, ℕ, Bool, true, false, not, ◌&&◌, cond, List, [], ◌∷◌, ◌++◌, length, take, drop, Contains, inl, inr, refl, sym, ap, ◌∙◌, subst}
+use Rattle.std.proofs.Common.{◌≡◌, ◌-◌, ℕ, Bool, true, false, not, ◌&&◌, cond, Some, List, [], ◌∷◌, ◌++◌, length, take, drop, Contains, inl, inr, refl, sym, ap, ◌∙◌, subst}
 use Rattle.std.specs.Prelude.{map, filter, if◌then◌else◌, IsTrue}
 use Rattle.std.proofs.lemmas.List.{take-append-drop}
 use Rattle.std.proofs.lemmas.List.Elements.{Contains-append_left, Contains-append_cases, filter-append}
 use Rattle.std.proofs.lemmas.List.Sorted.{IsPermutation-sym, Contains-permutation}
 use Rattle.gic_base.specs.declared.shape.GuestShape.{GuestShape}
-use Rattle.gic_lr.specs.declared.entry.LrState.TheVariants.{Active, Both}
+use Rattle.gic_lr.specs.declared.entry.LrState.TheVariants.{Pending, Active, Both}
 use Rattle.gic_lr.specs.Entry.{state_has_active}
 use Rattle.gic_prio.specs.declared.cpu.CpuRec.{CpuRec}
 use Rattle.vcpu_refill.specs.declared.offer.Offer.{Offer}
+use Rattle.vcpu_refill.specs.declared.fill.Choice.{Choice}
 use Rattle.vcpu_refill.specs.Order.{ordered, is_active_by, is_deliverable_to, is_deliverable_once_inactive, active_among, deliverable_among}
-use Rattle.vcpu_refill.specs.Plan.{is_cut, active_choice, active_state, pending_choice, plan_from}
-use Rattle.vcpu_refill.specs.Laws.{IsEarned, PlannedIsEarned, OthersDoNotMatter}
+use Rattle.vcpu_refill.specs.Plan.{is_cut, active_choice, active_state, pending_choice, plan_from, plan}
+use Rattle.vcpu_refill.specs.Laws.{IsEarned, PlannedIsEarned, OthersDoNotMatter, offer_of}
 use Rattle.vcpu_refill.proofs.ElementLemmas.{Contains-here, Contains-there, Contains-cases, Contains-nothing, map_cases}
 use Rattle.vcpu_refill.proofs.SortLemmas.{ordered_sorts}
 use Rattle.vcpu_refill.proofs.LawLemmas.{chosen_from}
@@ -60,6 +61,31 @@ earned offers vcpu cpu shape n chosen has =
           let from = from_ordered (is_deliverable_to vcpu cpu shape) offers found.0 (from_take (n - length active) deliverable found.0 found.1) in
           subst (IsEarned offers vcpu cpu shape) found.2 (record { offered = from.0; whole = refl; state = inl (refl, from.1) })
     ]
+
+-- what stands in a list register with State 3 would be deliverable, were it not active
+pub both_deliverable : (offers : List Offer) (vcpu : ℕ) (cpu : CpuRec) (shape : GuestShape) (n : ℕ) (chosen : Choice) → Contains (plan offers vcpu cpu shape n).choice (Some chosen) → chosen.entry.state ≡ Both → IsTrue (is_deliverable_once_inactive vcpu cpu shape (offer_of chosen))
+both_deliverable offers vcpu cpu shape n chosen has both =
+    let active = active_among offers vcpu in
+    let deliverable = deliverable_among offers vcpu cpu shape in
+    let cut = is_cut active deliverable n in
+    let mode = chosen_from active deliverable vcpu cpu shape n chosen has in
+    elim (Contains-append_cases (map (active_choice cut vcpu cpu shape) active) (map pending_choice (take (n - length active) deliverable)) chosen mode.1) [
+      | inl first ↦
+          let found = map_cases (active_choice cut vcpu cpu shape) active chosen first in
+          let state = ap (λ choice. choice.entry.state) found.2 ∙ both in
+          subst (λ offer. IsTrue (is_deliverable_once_inactive vcpu cpu shape offer)) (ap offer_of found.2) (by_test (not cut) (is_deliverable_once_inactive vcpu cpu shape found.0) state)
+      | inr rest ↦
+          let found = map_cases pending_choice (take (n - length active) deliverable) chosen rest in
+          absurd (pending_both (ap (λ choice. choice.entry.state) found.2 ∙ both))
+    ]
+  where
+    pending_both : Pending ≡ Both → ⊥
+    pending_both e = cc
+
+    by_test : (uncut once : Bool) → (if uncut && once then Both else Active) ≡ Both → IsTrue once
+    by_test true true e = refl
+    by_test true false e = absurd (cc)
+    by_test false once e = absurd (cc)
 
 -- what does not pass a test is not among those that do
 skipped : (p : Offer → Bool) (before after : List Offer) (x : Offer) → p x ≡ false → filter p (before ++ x ∷ after) ≡ filter p (before ++ after)

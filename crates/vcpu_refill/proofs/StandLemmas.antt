@@ -76,7 +76,7 @@ seen_chosen state offer fits =
     state_back Both = refl
 
 -- a choice stands in its list register
-stands_chosen : (choice : Choice) → FitsRegister (offer_of choice) → choice ≡ chosen_as choice.entry.state (offer_of choice) → StandsAs (packed choice.entry) (held_as choice) (entry_of choice)
+pub stands_chosen : (choice : Choice) → FitsRegister (offer_of choice) → choice ≡ chosen_as choice.entry.state (offer_of choice) → StandsAs (packed choice.entry) (held_as choice) (entry_of choice)
 stands_chosen choice fits whole =
     let brings = state_has_pending choice.entry.state in
     record {

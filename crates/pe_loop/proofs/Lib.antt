@@ -1,0 +1,16 @@
+pub mod AtLemmas
+pub mod ReleaseLemmas
+pub mod LeaveLemmas
+pub mod FirstLemmas
+pub mod IndexLemmas
+pub mod CandLemmas
+pub mod CountLemmas
+pub mod LookLemmas
+pub mod MarkLemmas
+pub mod ClaimLemmas
+pub mod ReachLemmas
+pub mod ChosenLemmas
+pub mod PlanLemmas
+pub mod StoreLemmas
+pub mod ClaimingLemmas
+pub mod EnterLemmas

@@ -1,0 +1,140 @@
+-- What a vCPU knows of its plan.
+use Rattle.std.proofs.Common.{◌≡◌, ℕ, zero, suc, ◌+◌, ◌^◌, ◌<◌, ◌≤◌, ◌||◌, Bool, true, false, IsTrue, List, [], ◌∷◌, map, length, slice_index_or, Contains, All, Option, Some, None, refl, sym, ap, subst, ◌∙◌, arith}
+use Rattle.std.specs.Prelude.{slice_get}
+use Rattle.std.specs.Option.{option_map}
+use Rattle.std.proofs.lemmas.Bool.{and_parts, eqb-true, leb-true, ltb-true}
+use Rattle.std.proofs.lemmas.List.{length-take}
+use Rattle.std.proofs.lemmas.List.Elements.{All-contains, All-weaker}
+use Rattle.gic_base.specs.declared.interrupt.Key.{Key}
+use Rattle.gic_base.specs.declared.interrupt.Key.TheVariants.{Private, Spi, Lpi}
+use Rattle.gic_base.specs.declared.shape.GuestShape.{GuestShape}
+use Rattle.gic_base.specs.Interrupt.{intid_of, has_interrupt, is_of_vcpu, is_within}
+use Rattle.gic_base.specs.Shape.{IsShape}
+use Rattle.gic_bits.specs.Bits.{has_bit}
+use Rattle.gic_ich.specs.Hcr.{hcr_en}
+use Rattle.gic_ich.specs.Place.{StandsAs}
+use Rattle.gic_lr.specs.Entry.{packed}
+use Rattle.gic_word.specs.Word.{IsIrq, packed as packed_irq}
+use Rattle.gic_word.proofs.WordLemmas.{irq_fits}
+use Rattle.vcpu_refill.specs.declared.fill.Choice.{Choice}
+use Rattle.vcpu_refill.specs.declared.fill.Fill.{Fill}
+use Rattle.vcpu_refill.specs.declared.offer.Offer.{Offer}
+use Rattle.vcpu_refill.specs.Laws.{FitsRegister, offer_of}
+use Rattle.vcpu_refill.specs.Plan.{entry_of, held_as, plan, word_of}
+use Rattle.vcpu_refill.proofs.ApartLemmas.{once}
+use Rattle.vcpu_refill.proofs.EarnedLemmas.{earned, both_deliverable}
+use Rattle.vcpu_refill.proofs.ElementLemmas.{Contains-here, Contains-there}
+use Rattle.vcpu_refill.proofs.PlaceLemmas.{length-in_places}
+use Rattle.vcpu_refill.proofs.StandLemmas.{stands, stands_chosen}
+use Rattle.port_core.specs.Port.{Seen, shape_of}
+use Rattle.pe_loop.specs.Claiming.{IsRight, IsPlanOf}
+use Rattle.pe_loop.specs.Scanning.{IsFound}
+
+-- INTIDs.
+
+-- the INTIDs of a kind
+abbrev pub IsInRange : Key → Type 0
+IsInRange (Private vcpu id) = id < 32
+IsInRange (Spi id) = (32 ≤ id) × (id < 8192)
+IsInRange (Lpi id) = (8192 ≤ id) × (id < 16384)
+
+within_is : (first count n : ℕ) → IsTrue (is_within first count n) → (first ≤ n) × (n < first + count)
+within_is first count n h = let parts = and_parts _ _ h in (leb-true first n parts.0, ltb-true n (first + count) parts.1)
+
+pub in_range : (shape : GuestShape) (key : Key) → IsShape shape → IsTrue (has_interrupt shape key) → IsInRange key
+in_range shape (Private vcpu id) good h = ltb-true id 32 (and_parts _ _ h).1
+in_range shape (Spi id) good h = of (is_within 32 shape.spis id) refl h
+  where
+    of : (b : Bool) → is_within 32 shape.spis id ≡ b → IsTrue (b || is_within 4096 shape.espis id) → (32 ≤ id) × (id < 8192)
+    of true e h = let parts = within_is 32 shape.spis id e in let low = parts.0 in let high = parts.1 in let few = good.spis in (low, omega (arith, high, few))
+    of false e h = let parts = within_is 4096 shape.espis id h in let low = parts.0 in let high = parts.1 in let few = good.espis in (omega (arith, low), omega (arith, high, few))
+in_range shape (Lpi id) good h = let parts = within_is 8192 shape.lpis id h in let low = parts.0 in let high = parts.1 in let few = good.lpis in (low, omega (arith, high, few))
+
+id_fits : (key : Key) → IsInRange key → intid_of key < 2 ^ 32
+id_fits (Private vcpu id) h = omega (arith, h)
+id_fits (Spi id) h = let high = h.1 in omega (arith, high)
+id_fits (Lpi id) h = let high = h.1 in omega (arith, high)
+
+-- two interrupts that a vCPU can get to have two INTIDs
+pub same_by_id : (vcpu : ℕ) (j k : Key) → IsInRange j → IsInRange k → IsTrue (is_of_vcpu vcpu j) → IsTrue (is_of_vcpu vcpu k) → intid_of j ≡ intid_of k → j ≡ k
+same_by_id vcpu (Private v i) (Private w j) a b one other e = both v w i j (eqb-true v vcpu one ∙ sym (eqb-true w vcpu other)) e
+  where
+    both : (v w i j : ℕ) → v ≡ w → i ≡ j → Private v i ≡ Private w j
+    both v w i j e f = cc
+same_by_id vcpu (Private v i) (Spi j) a b one other e = absurd (let low = b.0 in omega (arith, a, low, e))
+same_by_id vcpu (Private v i) (Lpi j) a b one other e = absurd (let low = b.0 in omega (arith, a, low, e))
+same_by_id vcpu (Spi i) (Private w j) a b one other e = absurd (let low = a.0 in omega (arith, b, low, e))
+same_by_id vcpu (Spi i) (Spi j) a b one other e = ap Spi e
+same_by_id vcpu (Spi i) (Lpi j) a b one other e = absurd (let high = a.1 in let low = b.0 in omega (arith, high, low, e))
+same_by_id vcpu (Lpi i) (Private w j) a b one other e = absurd (let low = a.0 in omega (arith, b, low, e))
+same_by_id vcpu (Lpi i) (Spi j) a b one other e = absurd (let high = b.1 in let low = a.0 in omega (arith, high, low, e))
+same_by_id vcpu (Lpi i) (Lpi j) a b one other e = ap Lpi e
+
+-- Places.
+
+-- what stands at a place
+pub at_place : (places : List (Option Choice)) (i : ℕ) (choice : Choice) → slice_index_or places i None ≡ Some choice → slice_get places i ≡ Some (Some choice)
+at_place [] zero choice e = absurd (cc)
+at_place [] (suc i) choice e = absurd (cc)
+at_place (place ∷ places) zero choice e = ap Some e
+at_place (place ∷ places) (suc i) choice e = at_place places i choice e
+
+pub among_places : (places : List (Option Choice)) (i : ℕ) (choice : Choice) → slice_index_or places i None ≡ Some choice → Contains places (Some choice)
+among_places [] zero choice e = absurd (cc)
+among_places [] (suc i) choice e = absurd (cc)
+among_places (place ∷ places) zero choice e = subst (λ place. Contains (place ∷ places) (Some choice)) (sym e) (Contains-here (Some choice) places)
+among_places (place ∷ places) (suc i) choice e = Contains-there place (Some choice) places (among_places places i choice e)
+
+none_held : (places : List (Option Choice)) (i : ℕ) → slice_index_or (map (option_map held_as) places) i None ≡ None → slice_index_or places i None ≡ None
+none_held [] zero e = refl
+none_held [] (suc i) e = refl
+none_held (None ∷ places) zero e = refl
+none_held (Some choice ∷ places) zero e = absurd (cc)
+none_held (place ∷ places) (suc i) e = none_held places i e
+
+-- The plan.
+
+fits_offer : (seen : Seen) (offer : Offer) → IsShape (shape_of seen) → IsFound seen offer → FitsRegister offer
+fits_offer seen offer good found =
+    let fits : IsIrq offer.irq = subst IsIrq found.record_is (irq_fits (packed_irq offer.irq) found.word.word_is) in
+    let few = fits.prio_bits in
+    record { id = id_fits offer.key (in_range (shape_of seen) offer.key good found.there); prio = omega (arith, few) }
+
+pub record IsPlanned (seen : Seen) (n : ℕ) (fill : Fill) : Type 0 where
+  pub each : length fill.choice ≡ 16
+  pub right : (i : ℕ) (choice : Choice) → slice_index_or fill.choice i None ≡ Some choice → IsRight (shape_of seen) seen.actor seen.local.cpu choice
+  pub found : (i : ℕ) (choice : Choice) → slice_index_or fill.choice i None ≡ Some choice → IsFound seen (offer_of choice)
+  pub stands : (i : ℕ) (choice : Choice) → slice_index_or fill.choice i None ≡ Some choice → StandsAs (packed choice.entry) (held_as choice) (entry_of choice)
+  pub hw : (i : ℕ) (choice : Choice) → slice_index_or fill.choice i None ≡ Some choice → choice.entry.hw ≡ None
+  pub fits : (i : ℕ) (choice : Choice) → slice_index_or fill.choice i None ≡ Some choice → (choice.entry.id < 2 ^ 32) × (choice.entry.prio < 2 ^ 8)
+  pub once : (j k : ℕ) (one other : Choice) → slice_index_or fill.choice j None ≡ Some one → slice_index_or fill.choice k None ≡ Some other → one.key ≡ other.key → j ≡ k
+  pub few : (i : ℕ) → n ≤ i → slice_index_or fill.choice i None ≡ None
+  pub enabled : has_bit fill.hcr hcr_en ≡ true
+
+pub planned_so : (seen : Seen) (n : ℕ) (fill : Fill) → IsShape (shape_of seen) → IsPlanOf seen n fill → IsPlanned seen n fill
+planned_so seen n fill good plan_is =
+    let shape = shape_of seen in
+    let vcpu = seen.actor in
+    let cpu = seen.local.cpu in
+    let offers = plan_is.offers in
+    let whole = plan offers vcpu cpu shape n in
+    let all : All FitsRegister offers = All-weaker (IsFound seen) FitsRegister (λ offer found. fits_offer seen offer good found) offers plan_is.found.each in
+    let standing = stands offers vcpu cpu shape n plan_is.few all plan_is.found.once in
+    let right = λ (i : ℕ) (choice : Choice) (e : slice_index_or whole.choice i None ≡ Some choice). earned offers vcpu cpu shape n choice (among_places whole.choice i choice e) in
+    let fitting = λ (i : ℕ) (choice : Choice) (e : slice_index_or whole.choice i None ≡ Some choice). All-contains FitsRegister offers (offer_of choice) all (right i choice e).offered in
+    subst (IsPlanned seen n) (sym plan_is.is) (record {
+      each = length-in_places _;
+      right = λ i choice e. record { state = (right i choice e).state; both = both_deliverable offers vcpu cpu shape n choice (among_places whole.choice i choice e) };
+      found = λ i choice e. All-contains (IsFound seen) offers (offer_of choice) plan_is.found.each (right i choice e).offered;
+      stands = λ i choice e. stands_chosen choice (fitting i choice e) (right i choice e).whole;
+      hw = λ i choice e. ap (λ choice. choice.entry.hw) (right i choice e).whole;
+      fits = λ i choice e.
+          let id : choice.entry.id ≡ intid_of choice.key = ap (λ choice. choice.entry.id) (right i choice e).whole in
+          let prio : choice.entry.prio ≡ choice.irq.prio = ap (λ choice. choice.entry.prio) (right i choice e).whole in
+          let id_less = (fitting i choice e).id in
+          let prio_less = (fitting i choice e).prio in
+          (omega (arith, id, id_less), omega (arith, prio, prio_less));
+      once = λ j k one other is are e. once offers vcpu cpu shape n j k one other plan_is.found.once (at_place whole.choice j one is) (at_place whole.choice k other are) e;
+      few = λ i more. none_held whole.choice i (standing.places.past i (omega (arith, length-take n (map word_of whole.choice), more)));
+      enabled = standing.holds.enabled;
+    })

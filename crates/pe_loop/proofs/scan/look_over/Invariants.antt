@@ -1,0 +1,19 @@
+-- So many bits were looked at.
+use Rattle.std.proofs.Common.{◌≡◌, ◌-◌, ◌≤◌}
+use Rattle.port_core.specs.Place.{index_bits}
+use Rattle.port_core.specs.Port.{shape_of}
+use Rattle.pe_loop.specs.Scanning.{IsLooking}
+use Rattle.pe_loop.proofs.scan.look_over.Given as goal
+
+abbrev pub invariant-loop-bit : goal.invariant-loop-bit
+invariant-loop-bit g l =
+    record {
+      shape : l.shape ≡ shape_of (g.P.Port.seen l.initial.port);
+      vcpu : l.vcpu ≡ (g.P.Port.seen l.initial.port).actor;
+      end : l.end ≡ index_bits l.shape;
+      from : l.from ≤ l.end;
+      looking : IsLooking (g.P.Port.seen l.initial.port) (g.P.Port.seen l.port) l.initial.chooser l.chooser l.cpu l.from;
+    }
+
+abbrev pub decreases-loop-bit : goal.decreases-loop-bit
+decreases-loop-bit g l = l.end - l.from

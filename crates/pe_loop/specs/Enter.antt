@@ -1,0 +1,104 @@
+-- A vCPU enters a PE (own choice).
+use Rattle.std.specs.Prelude.{◌≡◌, ℕ, Bool, false, IsTrue, List, [], map, replicate, Some, None, unwrap_or}
+use Rattle.gic_call.specs.declared.event.Operation.TheVariants.{Residence}
+use Rattle.gic_call.specs.Trace.{named_of}
+use Rattle.gic_prio.specs.declared.cpu.CpuRec.{CpuRec}
+use Rattle.vcpu_refill.specs.declared.fill.Fill.{Fill}
+use Rattle.vcpu_refill.specs.Plan.{regs_of, HasEntries}
+use Rattle.vcpu_state.specs.declared.shelved.Shelved.{Shelved}
+use Rattle.vcpu_state.specs.declared.loaded.Loaded.{Loaded}
+use Rattle.vcpu_state.specs.Moves.{shelved_of}
+use Rattle.port_core.specs.declared.local.Phase.TheVariants.{Claiming}
+use Rattle.port_core.specs.declared.run.Made.{Made}
+use Rattle.gic_ich.specs.declared.regs.IchRegs.{IchRegs}
+use Rattle.port_core.specs.Local.{has_no_cand, owes_no_kick}
+use Rattle.port_core.specs.Port.{Seen, Adds, shape_of, part_events}
+use Rattle.core_proper.specs.Called.{IsAtRest, MakesCall}
+use Rattle.core_proper.specs.Parts.{makes, part_of}
+use Rattle.core_proper.specs.Progress.{Progress, paid, begun, owed_after_scan, progress_of}
+use Rattle.core_proper.specs.Proper.{IsProper}
+use Rattle.core_proper.specs.Scan.{idle, keys_chosen, keys_of_both}
+use Rattle.port_call.specs.Piece.{takes_none, IsIdle}
+use Rattle.pe_loop.specs.Claiming.{claims_by, IsPlanOf}
+use Rattle.pe_loop.specs.Counting.{are_quiet, bits_taken, looks_in}
+use Rattle.pe_loop.specs.Scanning.{told_by, EndsNone}
+use Rattle.pe_loop.specs.Stay.{IsOn}
+
+-- The scan.
+
+-- an actor's protocol so far lets it begin a scan for a plan: no scan is in progress, its call ends no interrupt, and no claim failed
+pub record MayEnter (seen : Seen) (lrs : ℕ) (p : Progress) : Type 0 where
+  pub idle : IsIdle seen p
+  pub ends : EndsNone seen p
+  pub near : unwrap_or p.far false ≡ false
+  pub lrs_is : p.lrs ≡ lrs
+  pub none_failed : p.failed ≡ false
+
+-- a vCPU looked for a kick, took its index, looked at its candidates, and has the plan over what it found at no interface and not wanted
+pub record Scans (old new : Seen) (lrs : ℕ) (fill : Fill) : Type 0 where
+  pub part : List Made
+  pub adds : Adds old new part
+  pub none_taken : IsTrue (takes_none part)
+  pub silent : part_events old part ≡ []
+  pub looks : looks_in part ≡ bits_taken part
+  pub same : record new.local { cands = old.local.cands; phase = old.local.phase; cpu = old.local.cpu } ≡ old.local
+  pub phase : new.local.phase ≡ Claiming
+  pub cpu : record new.local.cpu { lpis = old.local.cpu.lpis } ≡ old.local.cpu
+  pub plan : IsPlanOf new lrs fill
+  pub entries : HasEntries fill.choice
+  pub proper : (p : Progress) → MayEnter old lrs p → IsProper (shape_of old) old.actor p (map makes part)
+  pub goes_on :
+      (p : Progress) → MayEnter old lrs p
+      → progress_of (shape_of old) old.actor p (map makes part) ≡ claims_by new (keys_chosen fill) (keys_of_both fill) (regs_of fill new.local.cpu lrs) fill.trapping false (begun false p)
+
+-- The vCPU on its PE.
+
+-- the vCPU with this CPU record and the registers that a fill asks for, before it takes an interrupt
+pub record IsReady (vcpu : Shelved) (cpu : CpuRec) (lrs : ℕ) (fill : Fill) (loaded : Loaded) : Type 0 where
+  pub base : loaded.base ≡ record vcpu { cpu = cpu }
+  pub regs : loaded.regs ≡ record (regs_of fill cpu lrs) { lr = replicate 16 0 }
+  pub held : loaded.held ≡ replicate 16 None
+  pub trapping : loaded.trapping ≡ fill.trapping
+  pub back : shelved_of loaded ≡ record vcpu { cpu = cpu }
+
+-- a scan is over: its vCPU marked what is left to itself, and kicked itself where a claim failed
+pub record EndsScan (old new : Seen) (failed : Bool) : Type 0 where
+  pub part : List Made
+  pub adds : Adds old new part
+  pub none_taken : IsTrue (takes_none part)
+  pub quiet : IsTrue (are_quiet part)
+  pub silent : part_events old part ≡ []
+  pub same : record new.local { cands = old.local.cands; owes = old.local.owes } ≡ old.local
+  pub none : IsTrue (has_no_cand new.local)
+  pub owes : IsTrue (owes_no_kick old.local) → IsTrue (owes_no_kick new.local)
+  pub proper : (regs : IchRegs) (trapping : Bool) (p : Progress) → IsProper (shape_of old) old.actor (claims_by old [] [] regs trapping failed p) (map makes part)
+  pub goes_on :
+      (regs : IchRegs) (trapping : Bool) (p : Progress)
+      → progress_of (shape_of old) old.actor (claims_by old [] [] regs trapping failed p) (map makes part) ≡ record (told_by new p) { scan = idle; regs = regs; trapping = trapping; failed = false }
+
+-- The entry.
+
+-- the protocol of a vCPU that has entered, with what its port tells: no scan is in progress and none is to come for a failed claim, its registers are those of the PE,
+-- and only a scan that it owed after an end of interrupt is owed
+abbrev pub entered : Seen → Loaded → Progress → Progress
+entered seen vcpu p = record (told_by seen p) { scan = idle; regs = vcpu.regs; trapping = vcpu.trapping; scanned = false; far = None; failed = false; debt = owed_after_scan p.debt }
+
+-- an actor between two parts, that owes no scan after an end of interrupt and had no claim fail
+pub record IsBetween (seen : Seen) (p : Progress) : Type 0 where
+  pub rest : IsAtRest seen p
+  pub none_failed : p.failed ≡ false
+  pub debt : owed_after_scan p.debt ≡ paid
+
+-- a vCPU entered a PE with so many list registers: what its scan found and the plan chose is at its interface, but for what changed meanwhile
+pub record Enters (old new : Seen) (vcpu : Shelved) (lrs : ℕ) (loaded : Loaded) : Type 0 where
+  pub part : List Made
+  pub adds : Adds old new part
+  pub none_taken : IsTrue (takes_none part)
+  pub looks : looks_in part ≡ bits_taken part
+  pub moves : named_of (Some old.actor) (part_events old part) ≡ []
+  pub call : MakesCall old part Residence None
+  pub proper : (p : Progress) → MayEnter old lrs p → IsProper (shape_of old) old.actor p (map makes part)
+  pub goes_on : (p : Progress) → MayEnter old lrs p → progress_of (shape_of old) old.actor p (map makes part) ≡ entered new loaded p
+  pub whole_part : (p : Progress) → IsBetween old p → IsProper (shape_of old) old.actor p (part_of Residence lrs part None)
+  pub on : IsOn new loaded
+  pub kept : record loaded.base { cpu = vcpu.cpu } ≡ vcpu

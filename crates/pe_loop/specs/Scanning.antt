@@ -1,0 +1,123 @@
+-- A vCPU's scan as it goes on (own choice).
+use Rattle.std.specs.Prelude.{◌≡◌, ◌≢◌, ℕ, ◌+◌, ◌-◌, ◌<◌, ◌==◌, false, IsTrue, List, [], ◌++◌, map, All, AllPairs, Some, None, if◌then◌else◌}
+use Rattle.std.specs.List.{range_with_len}
+use Rattle.gic_base.specs.declared.interrupt.Key.{Key}
+use Rattle.gic_base.specs.declared.shape.GuestShape.{GuestShape}
+use Rattle.gic_base.specs.Interrupt.{has_interrupt, is_of_vcpu}
+use Rattle.gic_prio.specs.declared.cpu.CpuRec.{CpuRec}
+use Rattle.gic_word.specs.Word.{irq_of, packed}
+use Rattle.vcpu_refill.specs.Chooser.{Kept, StandsFor}
+use Rattle.vcpu_refill.specs.declared.offer.Offer.{Offer}
+use Rattle.port_core.specs.declared.local.Phase.{Phase}
+use Rattle.port_core.specs.declared.local.Phase.TheVariants.{Scanning, Claiming}
+use Rattle.port_core.specs.declared.run.Made.{Made}
+use Rattle.port_core.specs.declared.step.CoreStep.TheVariants.{Look, TakeIndex}
+use Rattle.port_core.specs.declared.word_id.WordId.TheVariants.{Irq}
+use Rattle.port_core.specs.Known.{known}
+use Rattle.port_core.specs.Local.{has_no_cand, is_cand}
+use Rattle.port_core.specs.Place.{index_bit, index_bits, index_words}
+use Rattle.port_core.specs.Port.{Seen, Adds, AddsStep, shape_of, part_events}
+use Rattle.core_proper.specs.Parts.{makes}
+use Rattle.port_core.specs.Valid.{IsIrqWord}
+use Rattle.core_proper.specs.Progress.{Progress, is_end_of, looks_on, scan_on, progress_of}
+use Rattle.core_proper.specs.Proper.{IsProper}
+use Rattle.core_proper.specs.Scan.{Purpose, Scan, taking, ended_scan, next_cand, offered}
+use Rattle.port_call.specs.Piece.{steps_of, takes_none}
+use Rattle.pe_loop.specs.Counting.{count_from, looks_in, bits_taken, AreTaken}
+
+-- an actor's protocol so far is that of what its port tells, with this scan in progress
+pub record IsScanAt (seen : Seen) (p : Progress) (scan : Scan) : Type 0 where
+  pub local : p.local ≡ seen.local
+  pub own : p.own ≡ seen.own
+  pub is : p.scan ≡ scan
+
+-- an actor as far as another, with what a port tells
+abbrev pub told_by : Seen → Progress → Progress
+told_by seen p = record p { local = seen.local; own = seen.own }
+
+-- the same where its scan has all words of the index, looked at the candidates before a bit, and found these interrupts
+abbrev pub looked_on : Seen → Purpose → ℕ → List Offer → Progress → Progress
+looked_on seen purpose from offers p =
+    let on = looks_on (shape_of seen) seen.actor purpose from offers (told_by seen p) in record on { scan = ended_scan on.local on.scan }
+
+-- The index.
+
+-- how far a vCPU is after so many words of its index
+abbrev pub phase_taken : GuestShape → ℕ → Phase → Phase
+phase_taken shape words Scanning = if words == index_words shape then Claiming else Scanning
+phase_taken shape words phase = phase
+
+-- a vCPU took the first words of its index: it has their bits as candidates, and nothing else of it changed
+pub record IsTaking (old now : Seen) (words : ℕ) : Type 0 where
+  pub part : List Made
+  pub adds : Adds old now part
+  pub steps_are : steps_of part ≡ map TakeIndex (range_with_len 0 words)
+  pub same : record now.local { cands = old.local.cands; phase = old.local.phase } ≡ old.local
+  pub phase : now.local.phase ≡ phase_taken (shape_of old) words old.local.phase
+  pub none_taken : IsTrue (takes_none part)
+  pub silent : part_events old part ≡ []
+  pub taken : IsTrue (has_no_cand old.local) → AreTaken now.local.cands words (bits_taken part)
+  pub proper : (purpose : Purpose) (p : Progress) → IsScanAt old p (taking purpose 0) → IsProper (shape_of old) old.actor p (map makes part)
+  pub goes_on :
+      (purpose : Purpose) (p : Progress) → IsScanAt old p (taking purpose 0)
+      → progress_of (shape_of old) old.actor p (map makes part) ≡ scan_on (shape_of old) old.actor (record (told_by now p) { scan = taking purpose words })
+
+-- it took all
+abbrev pub TakesIndex : Seen → Seen → Type 0
+TakesIndex old new = IsTaking old new (index_words (shape_of old))
+
+-- The candidates.
+
+-- what a scan knows of the interrupts that it found: each is one of the guest's that the vCPU can get to, found at no interface and not wanted, with the record of its
+-- word as the vCPU's last step on it left it; and each was found once
+pub record IsFound (seen : Seen) (offer : Offer) : Type 0 where
+  pub there : IsTrue (has_interrupt (shape_of seen) offer.key)
+  pub own : IsTrue (is_of_vcpu seen.actor offer.key)
+  pub word : IsIrqWord (shape_of seen) offer.key (packed offer.irq)
+  pub record_is : irq_of (packed offer.irq) ≡ offer.irq
+  pub home : offer.irq.holder ≡ None
+  pub unwanted : offer.irq.want ≡ false
+  pub known_as : known (shape_of seen) seen.actor seen.own (Irq offer.key) ≡ Some (packed offer.irq)
+
+pub record AreFound (seen : Seen) (offers : List Offer) : Type 0 where
+  pub each : All (IsFound seen) offers
+  pub once : AllPairs (λ one other. one.key ≢ other.key) offers
+
+-- the call of an actor ends no interrupt
+abbrev pub EndsNone : Seen → Progress → Type 0
+EndsNone seen p = (key : Key) → is_end_of (shape_of seen) seen.actor p.operation key ≡ false
+
+-- an actor looked at an interrupt, and offered it to a chooser where nobody holds it and no access waits for it
+pub record LooksAt (old new : Seen) (before after : Kept) (cpu : CpuRec) (key : Key) : Type 0 where
+  pub found : ℕ
+  pub adds : AddsStep old new (Look (Irq key)) found
+  pub word : IsIrqWord (shape_of old) key found
+  pub lrs : after.lrs ≡ before.lrs
+  pub vcpu : after.vcpu ≡ before.vcpu
+  pub stands : (offers : List Offer) → StandsFor before cpu offers → StandsFor after cpu (offers ++ offered key (irq_of found))
+
+-- a vCPU that had all words of its index looked at its candidates before a bit, once each and in order, and offered what it found to a chooser
+pub record IsLooking (old now : Seen) (before after : Kept) (cpu : CpuRec) (from : ℕ) : Type 0 where
+  pub part : List Made
+  pub offers : List Offer
+  pub adds : Adds old now part
+  pub same : record now.local { cands = old.local.cands } ≡ old.local
+  pub none_taken : IsTrue (takes_none part)
+  pub silent : part_events old part ≡ []
+  pub looks : looks_in part + count_from (is_cand now.local.cands) from (index_bits (shape_of old) - from) ≡ count_from (is_cand old.local.cands) 0 (index_bits (shape_of old))
+  pub none_left : bits_taken part ≡ 0
+  pub found : AreFound now offers
+  pub below : All (λ offer. index_bit (shape_of old) offer.key < from) offers
+  pub lrs : after.lrs ≡ before.lrs
+  pub vcpu : after.vcpu ≡ before.vcpu
+  pub stands : StandsFor before cpu [] → StandsFor after cpu offers
+  pub proper : (purpose : Purpose) (p : Progress) → EndsNone old p → IsProper (shape_of old) old.actor (looked_on old purpose 0 [] p) (map makes part)
+  pub goes_on :
+      (purpose : Purpose) (p : Progress) → EndsNone old p
+      → progress_of (shape_of old) old.actor (looked_on old purpose 0 [] p) (map makes part) ≡ looked_on now purpose from offers p
+
+-- it looked at all
+pub record LooksOver (old new : Seen) (before after : Kept) (cpu : CpuRec) : Type 0 where
+  pub from : ℕ
+  pub looking : IsLooking old new before after cpu from
+  pub none : next_cand (shape_of new) new.actor new.local.cands from ≡ None

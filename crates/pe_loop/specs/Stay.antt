@@ -1,0 +1,33 @@
+-- A vCPU and its port, off a PE and on one.
+use Rattle.std.specs.Prelude.{◌≡◌, not, true, IsTrue, []}
+use Rattle.std.specs.List.{list_all}
+use Rattle.gic_ich.specs.Place.{StandFor}
+use Rattle.port_core.specs.After.{interface_of}
+use Rattle.port_core.specs.Local.{is_vcpu}
+use Rattle.port_core.specs.Port.{Seen, shape_of}
+use Rattle.core_proper.specs.Proper.{is_settled}
+use Rattle.vcpu_state.specs.declared.shelved.Shelved.{Shelved}
+use Rattle.vcpu_state.specs.declared.loaded.Loaded.{Loaded}
+use Rattle.vcpu_state.specs.Moves.{shelved_of}
+
+-- the port's actor is this vCPU
+pub record IsActor (seen : Seen) (vcpu : Shelved) : Type 0 where
+  pub guest : seen.number ≡ vcpu.guest
+  pub number : seen.actor ≡ vcpu.vcpu
+  pub is_one : is_vcpu (shape_of seen) seen.actor ≡ true
+
+-- a vCPU that is on no PE: its record is the port's, which has nothing at its interface; it owes nothing, and has neither the ITS nor the mark of GICD_CTLR
+pub record IsOff (seen : Seen) (vcpu : Shelved) : Type 0 where
+  pub actor : IsActor seen vcpu
+  pub cpu : seen.local.cpu ≡ vcpu.cpu
+  pub empty : seen.local.at ≡ []
+  pub settled : IsTrue (is_settled seen.local)
+
+-- a vCPU on a PE, between two accesses: its registers hold the port's record, and with what is held at their places stand for what the port has at its
+-- interface, of which nothing was given back; it owes nothing, and has neither the ITS nor the mark of GICD_CTLR
+pub record IsOn (seen : Seen) (vcpu : Loaded) : Type 0 where
+  pub actor : IsActor seen vcpu.base
+  pub stands : StandFor vcpu.regs vcpu.held (interface_of seen.local)
+  pub cpu : (shelved_of vcpu).cpu ≡ seen.local.cpu
+  pub whole : IsTrue (list_all (λ at. not at.given) seen.local.at)
+  pub settled : IsTrue (is_settled seen.local)
