@@ -1,5 +1,7 @@
-//! Tests of what devices do over the port of one thread.
+//! Tests of the core: its words, and what devices do over the port of one thread.
 #![tactic(auto)]
 
 #[cfg(test)]
-mod tests;
+mod devices;
+#[cfg(test)]
+mod words;

@@ -9,8 +9,6 @@ mod preset;
 mod reading;
 mod refusal;
 mod step;
-#[cfg(test)]
-mod tests;
 
 pub use reading::read;
 pub use refusal::ReadRefusal;

@@ -1,6 +1,6 @@
 //! Steps, each after those before it.
-use super::{Want, expect_faults};
-use crate::Mode;
+use crate::table::{Want, expect_faults};
+use scn_read::Mode;
 use std::test::Fail;
 
 /// Steps of two vCPUs and one PE.

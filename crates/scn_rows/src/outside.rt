@@ -1,7 +1,7 @@
 //! All that stands outside of the steps: a scenario's own fields, guests and presets.
-use super::{Want, expect_faults};
-use crate::Mode;
+use crate::table::{Want, expect_faults};
 use scn_base::MAX_STEPS;
+use scn_read::Mode;
 use std::test::Fail;
 
 /// Whole scenarios.

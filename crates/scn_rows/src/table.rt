@@ -1,17 +1,12 @@
-//! Scenarios and their faults, worked out by hand.
-mod outside;
-mod scenario;
-mod standing;
-mod steps;
-
-use crate::{Fault, Mode, ReadRefusal, read};
+//! Tables of texts and their faults.
+use scn_read::{Fault, Mode, ReadRefusal, read};
 use serde_json::Value;
 use std::alloc::Global;
 use std::process::Abort;
 use std::test::Fail;
 
 /// What a text is: a scenario, or the code and the step of its fault.
-type Want = Option<(u8, u32)>;
+pub(crate) type Want = Option<(u8, u32)>;
 
 /// The fault of a text, or none where it is a scenario.
 fn fault_of(alloc: Global, text: &str, mode: Mode) -> Result<Option<Fault>, Fail> {
@@ -24,7 +19,7 @@ fn fault_of(alloc: Global, text: &str, mode: Mode) -> Result<Option<Fault>, Fail
 }
 
 /// Each text of a table, between two others, has its fault in this mode.
-fn expect_faults(
+pub(crate) fn expect_faults(
     rt: &impl Abort,
     alloc: Global,
     mode: Mode,

@@ -1,6 +1,6 @@
 //! Steps, each by itself.
-use super::{Want, expect_faults};
-use crate::Mode;
+use crate::table::{Want, expect_faults};
+use scn_read::Mode;
 use std::test::Fail;
 
 /// A guest of two vCPUs, both kinds of SPIs, LPIs and memory, whose vCPUs both stand on a PE.

@@ -1,6 +1,6 @@
 //! What is read of a scenario, and what is shown of a refusal.
-use crate::{Fault, Mode, Preset, ReadRefusal, Scenario, Step, read};
 use gic_base::{DeviceOp, Frame, GuestOp, GuestShape, IccReg, Key, PeOp};
+use scn_read::{Fault, Mode, Preset, ReadRefusal, Scenario, Step, read};
 use serde_json::Value;
 use std::test::Fail;
 
