@@ -26,7 +26,7 @@ use Rattle.gic_history.specs.Named.{key_in, named_by}
 
 -- Calls and changes.
 
--- a call of an actor, or one of the commands of a call, each of which counts as a call of its own: the actor's calls and commands are numbered
+-- a call of an actor, or a command of one, which counts as a call of its own: the actor's calls and commands are numbered
 pub record Turn : Type 0 where
   pub actor : ℕ
   pub number : ℕ
@@ -70,10 +70,10 @@ abbrev pub is_open : Track → ℕ → Turn → Bool
 is_open track vcpu turn =
     let doing = doing_of track turn.actor in not (turn.actor == vcpu) && is_some doing.operation && doing.number == turn.number
 
--- an actor's call names an interrupt, and did not make all its events of it
 abbrev pub times : Key → List Key → ℕ
 times key keys = length (filter (is_same_key key) keys)
 
+-- an actor's call names an interrupt, and did not make all its events of it
 abbrev pub has_left : Ideal → ℕ → Doing → Key → Bool
 has_left state actor doing key =
     option_map_or (λ operation. nat_lt (times key doing.done) (times key (filter_map key_in (named_by state.guest.shape (view_at state) actor operation)))) doing.operation false
@@ -91,8 +91,7 @@ is_last_open shape track vcpu key = option_map_or (is_open track vcpu) (changes_
 
 -- The four clauses.
 
--- at an acknowledge: each home interrupt that is deliverable to the vCPU and before the first that is at its interface was changed last in an open call, or
--- an open call names it and has not done all for it
+-- at an acknowledge: each home interrupt that is deliverable to the vCPU and before the first at its interface is excused: see is_excused
 abbrev pub asks_first : IccReg → Option ℕ → Bool
 asks_first Iar0 None = true
 asks_first Iar1 None = true
@@ -138,8 +137,7 @@ is_fresh_at_end state track (Cpu vcpu reg write) =
     option_map_or (λ key. not (is_far_active state vcpu key) || is_last_open state.guest.shape track vcpu key) (ended_by state.guest.shape vcpu reg write) true
 is_fresh_at_end state track event = true
 
--- at a deactivation of an interrupt at the interface that is not pending there while its record is: it leaves before that call ends, unless the last change
--- since it got there was made in a call that is open then
+-- at a deactivation of one at the interface that is pending in its record alone: it leaves before the call ends, unless an open call changed it last there
 abbrev pub last_since : Changes → Option Turn
 last_since changes = fold (λ last turn. Some turn) None changes.since
 

@@ -18,8 +18,8 @@ use Rattle.scn_base.specs.declared.guest.GuestSpec.{GuestSpec}
 use Rattle.gic_history.specs.State.{Ideal, opening, view_at}
 use Rattle.gic_history.specs.Moves.{is_allowed, handed_out, happened}
 
--- a call in progress: what it is for, its events so far, and the maps that the ITS had as it took it; for which vCPUs each LPI was at the moments of each of
--- its commands, and at those since then; and once it stored EnableLPIs, up to which LPI it has come
+-- a call in progress: what it is for, its events so far, and the maps of the ITS as it took that; for which vCPUs each LPI was at the moments of each of
+-- its commands, and at those since; and once it stored EnableLPIs, up to which LPI it has come
 pub record Call : Type 0 where
   pub operation : Operation
   pub piece : List Happened
@@ -74,8 +74,7 @@ is_ahead place key id = is_some place && option_map_or (λ here. nat_lt here id)
 abbrev pub come_to : Option ℕ → Key → Option ℕ
 come_to place key = option_map (λ before. unwrap_or (lpi_in key) before) place
 
--- what a call notes at an event of its own: the maps as it takes the ITS; its commands end one by one; and from where EnableLPIs is stored, the LPIs of the
--- pending table one by one
+-- what a call notes at its own events: the maps as it takes the ITS; each end of a command; from where EnableLPIs is stored, each LPI of the pending table
 abbrev pub noted : Ideal → Event → Call → Call
 noted ideal ItsBegin call = record call { maps = ideal.guest.tables }
 noted ideal (Enable vcpu) call = record call { targets = λ id. []; place = Some 0 }
@@ -108,9 +107,8 @@ gone_on course (End actor answer) = record course { calls = slice_set course.cal
 abbrev pub course_of : Course → List Moment → Course
 course_of course moments = fold gone_on course moments
 
--- what an actor's call has made is the call, with this answer: of an ITS that had the maps with which the call took it, and of LPIs each of which was for
--- this vCPU at some moment of the command, or of EnableLPIs at some moment between the events before and after its own place (own choice: of another
--- call at some moment of it)
+-- what an actor's call has made is the call, with this answer: of an ITS with the maps as the call took it, and of LPIs each of which was for this vCPU at
+-- some moment of the command, of EnableLPIs at some moment between the events round its own place (own choice: else at some moment of the call)
 pub record IsEnded (shape : GuestShape) (actor : ℕ) (call : Call) (answer : Option ℕ) : Type 0 where
   pub beside : Beside
   pub maps : beside.maps ≡ call.maps

@@ -56,8 +56,7 @@ after_access vcpu reg write state =
 
 -- Events.
 
--- an actor may make an event: an interrupt is touched only at home; it moves only where it may; and a mark is taken where it is free, and used and freed
--- by who has it
+-- an actor may make an event: an interrupt is touched at home; it moves where it may; a mark is taken where it is free, and used and freed by who has it
 abbrev pub is_allowed : Ideal → ℕ → Event → Bool
 is_allowed state actor (Touch key touching) = is_home state key
 is_allowed state actor (Reach key vcpu) = is_home state key && may_reach state.guest.shape key (irq_at state.guest key) vcpu (cpu_at state.guest vcpu)

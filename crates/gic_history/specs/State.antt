@@ -1,5 +1,4 @@
--- The ideal controller of one guest while interrupts stand at its CPU interfaces, which have room for all (own choice; the architecture leaves the
--- moves between the distributor and an interface to the implementation).
+-- The ideal controller of one guest while interrupts stand at its CPU interfaces, which have room for all (own choice, as IHI 0069 leaves it).
 use Rattle.std.specs.Prelude.{ℕ, Bool, not, List, [], map, find, replicate, Option, option_map, None, is_some, slice_index_or, slice_set}
 use Rattle.std.specs.List.{list_any}
 use Rattle.gic_base.specs.declared.interrupt.Key.{Key}
@@ -20,8 +19,7 @@ pub record Standing : Type 0 where
   pub key : Key
   pub entry : Entry
 
--- the records and words of the guest; what stands at each vCPU's interface; the actor that copies the enables of GICD_CTLR to all interrupts,
--- and the one that has the ITS
+-- the guest; what stands at each vCPU's interface; the actor that copies GICD_CTLR's enables to all interrupts, and the one that has the ITS
 pub record Ideal : Type 0 where
   pub guest : IdealGuest
   pub at : List (List Standing)
