@@ -58,19 +58,20 @@ use Rattle.port_call.proofs.SettleLemmas.{handed_none}
 use Rattle.port_call.specs.Memory.{view_by}
 use Rattle.port_call.specs.Rest.{IsAtEase}
 use Rattle.port_call.proofs.RestLemmas.{owes_none}
+use Rattle.port_call.proofs.PieceLemmas.{piece_one}
 use Rattle.its_exec.specs.declared.fetch.Fetched.{Fetched}
 use Rattle.its_exec.specs.declared.known.KnownQueue.{KnownQueue}
 use Rattle.its_exec.specs.Command.{DoesCommand}
 use Rattle.its_exec.specs.Config.{is_kept, HoldsCommand}
 use Rattle.its_exec.specs.Known.{Knows, KnowsQueue, LooksAtQueue, Fetches, is_fetched, are_within, takes_next}
 use Rattle.its_exec.specs.Plan.{IsFresh}
-use Rattle.its_exec.specs.Queue.{HoldsNext, HasBad, MakesStep, StallsAt, IsReady}
-use Rattle.its_exec.proofs.FrameLemmas.{both, word_of_place, since_last, knows_by, Leaves, leaves, knows_on, within_by, maps_on, off_each}
+use Rattle.its_exec.specs.Queue.{HoldsNext, HasBad, MakesStep, StallsAt, IsReady, MovesQueue}
+use Rattle.its_exec.proofs.FrameLemmas.{both, word_of_place, since_last, knows_by, Leaves, leaves, knows_on, within_by, maps_on, off_each, untouched_on}
 use Rattle.its_exec.proofs.FetchLemmas.{places_are, address_even, memory_same}
 use Rattle.its_exec.proofs.ConfigLemmas.{holds_on}
 use Rattle.its_exec.proofs.CommandLemmas.{kept_by, words_kept}
 use Rattle.its_exec.proofs.ForgetLemmas.{ease_after}
-use Rattle.its_exec.proofs.LookLemmas.{word_held, offset_held, stalled_held, queue_apart, plain_apart, off_one}
+use Rattle.its_exec.proofs.LookLemmas.{word_held, offset_held, stalled_held, queue_apart, queue_lpi_apart, plain_apart, off_one}
 
 -- The places of the doublewords.
 
@@ -471,6 +472,57 @@ stalled_ready old new shape tables queue fault ready stalls =
       valid = ready.valid;
       fresh = ended_fresh mid new step refl stalls.ends;
       knows = ended_knows mid new queue queue.offset true None ready.knows.in_range (stored_knows old mid fault queue stores ready.knows) stalls.ends;
+    }
+
+-- The queue is moved.
+
+pub can_move : (seen : Seen) (offset : ℕ) → IsPort seen → IsTrue seen.local.turn → IsAtEase seen.local → IsOffset offset → CanMake seen (CommandDone offset false None)
+can_move seen offset port turn ease place =
+    record {
+      can = (place, tt);
+      seen_is = tt;
+      meets = record { turn = turn; kicks = ap (λ set. set.0 == 0) (owes_none seen.local ease.owes).kicks; queue = tt };
+      tables = either seen.taken;
+    }
+  where
+    either : (b : Bool) → IsTrue (b || true)
+    either true = refl
+    either false = refl
+
+pub moved_is : (old new : Seen) (offset : ℕ) → MakesStep old new (CommandDone offset false None) → MovesQueue old new offset
+moved_is old new offset makes =
+    let step = CommandDone offset false None in
+    let made = made_by old step makes.found makes.adds.tables in
+    record {
+      made = made;
+      adds = makes.adds.adds;
+      step_is = refl;
+      local_is = ended_local old new step makes ∙ same (succeeds (shape_of old) old.actor old.local step makes.found);
+      events = refl;
+      piece = piece_one old made refl refl;
+    }
+  where
+    same : (b : Bool) → (if b then old.local else old.local) ≡ old.local
+    same true = refl
+    same false = refl
+
+pub moved_ready :
+    (old new : Seen) (shape : GuestShape) (tables : Maps) (queue : KnownQueue) (offset : ℕ) → IsOffset offset → IsReady old shape tables queue → MakesStep old new (CommandDone offset false None)
+    → IsReady new shape tables (record queue { offset = offset; stalled = false })
+moved_ready old new shape tables queue offset place ready makes =
+    let step = CommandDone offset false None in
+    let made = made_by old step makes.found makes.adds.tables in
+    let same : shape_of new ≡ shape_of old = ap shape_of makes.adds.adds.new_is in
+    let There : ℕ → GuestShape → Type 0 = λ id shape. IsTrue (has_interrupt shape (Lpi id)) in
+    let within : IsTrue (are_within (made ∷ [])) = within_by (made ∷ []) (both (is_none makes.adds.tables) true (none_handed old new step refl makes) refl) refl in
+    record {
+      shape_is = ready.shape_is ∙ sym same;
+      taken = ap (λ seen. seen.taken) makes.adds.adds.new_is ∙ ready.taken;
+      ease = ended_ease old new offset false None ready.ease makes;
+      maps = ready.maps ∙ sym (maps_on old new (made ∷ []) makes.adds.adds within);
+      valid = ready.valid;
+      fresh = record { each = λ id there. (let was = subst (There id) same there in untouched_on old new (made ∷ []) id makes.adds.adds within (off_one (shape_of old) old.actor (Irq (Lpi id)) made step refl (queue_lpi_apart (shape_of old) id was)) (ready.fresh.each id was)) };
+      knows = ended_knows old new queue offset false None place ready.knows makes;
     }
 
 -- a fetch only reads

@@ -1,6 +1,7 @@
 -- A command that was taken: its events.
 use Rattle.std.proofs.Common.{◌≡◌, ℕ, Bool, ◌%◌, true, false, if◌then◌else◌, List, [], ◌∷◌, ◌++◌, map, All, Option, Some, None, Result, Ok, is_none, option_map, refl, sym, ap, subst, ◌∙◌}
 use Rattle.std.proofs.lemmas.List.Elements.{All-nil, All-cons}
+use Rattle.std.proofs.lemmas.List.Sums.{fold-append}
 use Rattle.gic_base.specs.declared.shape.GuestShape.{GuestShape}
 use Rattle.gic_open.specs.declared.plain.PlainWord.TheVariants.{ItsCtlr, Cbaser, Cwriter}
 use Rattle.gic_imap.specs.Contents.{queue_bytes}
@@ -100,7 +101,7 @@ pub took_good :
     (old mid done new : Seen) (shape : GuestShape) (tables : Maps) (queue : KnownQueue) (offset : ℕ) (fetched : Fetched) (command : Command) (result : Result Command BadCommand) → (shape_of mid).ram % 8 ≡ 0 → IsReady old shape tables queue
     → takes_next queue ≡ true → Fetches old mid queue fetched → HoldsCommand mid fetched → DoesCommand mid done fetched.address tables command → result ≡ decoded fetched.words → result ≡ Ok command → fault_of shape tables command ≡ None
     → offset ≡ advanced queue.offset (queue_bytes queue.cbaser) → MakesStep done new (CommandDone offset false (Some fetched.words))
-    → (left : Maps) (after : KnownQueue) → IsReady new shape left after → after ≡ record queue { offset = offset } → queue.stalled ≡ false → left ≡ maps_after tables command → TakesCommand old new
+    → (left : Maps) (after : KnownQueue) → IsReady new shape left after → after ≡ record queue { offset = offset } → queue.stalled ≡ false → left ≡ maps_after tables command → TakesCommand old new None
 took_good old mid done new shape tables queue offset fetched command result whole ready takes fetches holds does value ok good is makes left after later moved runs gone =
     let all = does.does in
     let made = made_by done (CommandDone offset false (Some fetched.words)) makes.found makes.adds.tables in
@@ -142,10 +143,12 @@ took_good old mid done new shape tables queue offset fetched command result whol
           let maps_are : known_maps new.own ≡ maps_by (known_maps mid.own) (decoded fetched.words)
           = sym later.maps ∙ gone ∙ ap (λ maps. maps_after maps command) now.maps ∙ sym (ap (maps_by (known_maps mid.own)) (sym value ∙ ok)) in
           let Is : GuestShape → Type 0 = λ shape. IsCommand actor shape view (part_events old (fetches.part ++ late)) in
+          let Has : GuestShape → Type 0 = λ shape. fault_number shape view.maps (decoded (command_words shape view)) ≡ None in
           record {
             view = view;
             same = same_its old mid queue targets ready.knows fetches.knows (sym ready.maps ∙ now.maps);
             targets_are = refl;
+            fault_is = subst Has same (ap (λ words. fault_number (shape_of mid) (known_maps mid.own) (decoded words)) (sym next.words_are) ∙ number);
             left =
                 subst Leaves same
                 (subst Left (sym goes)
@@ -177,7 +180,7 @@ took_good old mid done new shape tables queue offset fetched command result whol
 pub took_bad :
     (old mid new : Seen) (shape : GuestShape) (tables : Maps) (queue : KnownQueue) (fetched : Fetched) (result : Result Command BadCommand) (fault : ℕ) → (shape_of mid).ram % 8 ≡ 0 → IsReady old shape tables queue → takes_next queue ≡ true
     → Fetches old mid queue fetched → HoldsCommand mid fetched → result ≡ decoded fetched.words → fault_number shape tables result ≡ Some fault → StallsAt mid new queue.offset fault
-    → (after : KnownQueue) → IsReady new shape tables after → after ≡ record queue { stalled = true } → TakesCommand old new
+    → (after : KnownQueue) → IsReady new shape tables after → after ≡ record queue { stalled = true } → TakesCommand old new (Some fault)
 took_bad old mid new shape tables queue fetched result fault whole ready takes fetches holds value bad stalls after later moved =
     let end = stalls.mid in
     let stores = stalls.stores in
@@ -206,10 +209,12 @@ took_bad old mid new shape tables queue fetched result fault whole ready takes f
           let Left : Event → Type 0 = λ event. HaveSameIts (left_by (shape_of mid) view event) (view_by new) in
           let Leaves : GuestShape → Type 0 = λ shape. HaveSameIts (left_by shape view (queue_event shape view)) (view_by new) in
           let Is : GuestShape → Type 0 = λ shape. IsCommand actor shape view (part_events old (fetches.part ++ late)) in
+          let Has : GuestShape → Type 0 = λ shape. fault_number shape view.maps (decoded (command_words shape view)) ≡ Some fault in
           record {
             view = view;
             same = same_its old mid queue targets ready.knows fetches.knows (sym ready.maps ∙ now.maps);
             targets_are = refl;
+            fault_is = subst Has same (ap (λ words. fault_number (shape_of mid) (known_maps mid.own) (decoded words)) (sym next.words_are) ∙ number);
             left =
                 subst Leaves same
                 (subst Left (sym (bad_event mid queue fetched fault next number))
@@ -236,12 +241,18 @@ took_bad old mid new shape tables queue fetched result fault whole ready takes f
 
 -- Commands, one after the other.
 
-pub taken_none : (seen : Seen) → TakesAll seen seen
-taken_none seen = record { commands = []; are = refl }
+pub taken_none : (seen : Seen) → TakesAll seen seen None
+taken_none seen = record { commands = []; are = refl; fault_is = refl }
 
-are_more : (old mid new : Seen) (commands : List Taken) (takes : TakesCommand mid new) → AreTaken old commands mid → AreTaken old (commands ++ (record { from = mid; to = new; takes = takes }) ∷ []) new
-are_more old mid new [] takes are = (are, refl)
-are_more old mid new (one ∷ commands) takes are = (are.0, are_more one.to mid new commands takes are.1)
+are_more : (old mid new : Seen) (commands : List Taken) (fault : Option ℕ) (takes : TakesCommand mid new fault) → AreTaken old commands mid → AreTaken old (commands ++ (record { from = mid; to = new; fault = fault; takes = takes }) ∷ []) new
+are_more old mid new [] fault takes are = (are, refl)
+are_more old mid new (one ∷ commands) fault takes are = (are.0, are_more one.to mid new commands fault takes are.1)
 
-pub taken_more : (old mid new : Seen) → TakesAll old mid → TakesCommand mid new → TakesAll old new
-taken_more old mid new all takes = record { commands = all.commands ++ (record { from = mid; to = new; takes = takes }) ∷ []; are = are_more old mid new all.commands takes all.are }
+pub taken_more : (old mid new : Seen) (before fault : Option ℕ) → TakesAll old mid before → TakesCommand mid new fault → TakesAll old new fault
+taken_more old mid new before fault all takes =
+    let one : Taken = record { from = mid; to = new; fault = fault; takes = takes } in
+    record {
+      commands = all.commands ++ one ∷ [];
+      are = are_more old mid new all.commands fault takes all.are;
+      fault_is = fold-append (λ before one. one.fault) None all.commands (one ∷ []);
+    }

@@ -1,7 +1,10 @@
 -- The command queue, as an actor that has the ITS goes over it.
-use Rattle.std.specs.Prelude.{◌≡◌, ℕ, ◌+◌, ◌%◌, true, false, IsTrue, List, [], ◌∷◌, Option, Some, None, Ok}
+use Rattle.std.specs.Prelude.{◌≡◌, ℕ, ◌+◌, ◌%◌, true, false, IsTrue, List, [], ◌∷◌, fold, Option, Some, None, Ok}
 use Rattle.gic_base.specs.declared.shape.GuestShape.{GuestShape}
 use Rattle.gic_call.specs.Command.{queue_address, command_words, queue_event}
+use Rattle.gic_call.specs.declared.event.Event.TheVariants.{Queue as QueueEvent}
+use Rattle.gic_call.specs.declared.event.Found.TheVariants.{Nothing}
+use Rattle.gic_call.specs.declared.event.QueueChange.TheVariants.{Runs}
 use Rattle.gic_open.specs.declared.plain.PlainWord.TheVariants.{Fault as FaultWord}
 use Rattle.its_cmd.specs.declared.command.Command.{Command}
 use Rattle.its_cmd.specs.Command.{decoded}
@@ -15,7 +18,7 @@ use Rattle.port_core.specs.Known.{known_maps}
 use Rattle.port_core.specs.declared.run.Made.{Made}
 use Rattle.port_core.specs.Port.{Seen, Adds, AddsStep, shape_of, part_events}
 use Rattle.core_proper.specs.Progress.{Progress}
-use Rattle.port_call.specs.Piece.{IsIdle, IsGoodPiece}
+use Rattle.port_call.specs.Piece.{IsIdle, IsGoodPiece, IsPiece}
 use Rattle.gic_call.specs.Trace.{Happened, HaveSameIts, IsCommand, left_by}
 use Rattle.gic_call.specs.View.{View}
 use Rattle.its_exec.specs.Command.{IsItsWrite}
@@ -27,7 +30,7 @@ use Rattle.its_exec.specs.declared.known.KnownQueue.{KnownQueue}
 use Rattle.its_exec.specs.Config.{HoldsCommand}
 use Rattle.its_exec.specs.declared.queue.QueueEnd.{QueueEnd}
 use Rattle.its_exec.specs.declared.queue.QueueEnd.TheVariants.{Empty, Stalled}
-use Rattle.its_exec.specs.Known.{KnowsQueue, LooksAtQueue, Reading, AgreeWith, takes_next}
+use Rattle.its_exec.specs.Known.{KnowsQueue, Reading, AgreeWith, takes_next}
 use Rattle.its_exec.specs.Plan.{IsFresh}
 
 -- the actor has the ITS with these tables, and is where a command begins
@@ -39,6 +42,22 @@ pub record IsReady (seen : Seen) (shape : GuestShape) (tables : Maps) (queue : K
   pub valid : IsValid shape tables
   pub fresh : IsFresh seen
   pub knows : KnowsQueue seen queue
+
+-- the actor has the ITS with these tables, and owes nothing
+pub record HasIts (seen : Seen) (tables : Maps) : Type 0 where
+  pub taken : IsTrue seen.taken
+  pub ease : IsAtEase seen.local
+  pub maps : tables ≡ known_maps seen.own
+  pub valid : IsValid (shape_of seen) tables
+
+-- a write of a register moved the queue to an offset, and ended its stall
+pub record MovesQueue (old new : Seen) (offset : ℕ) : Type 0 where
+  pub made : Made
+  pub adds : Adds old new (made ∷ [])
+  pub step_is : made.step ≡ CommandDone offset false None
+  pub local_is : new.local ≡ old.local
+  pub events : part_events old (made ∷ []) ≡ (record { event = QueueEvent offset Runs; found = Nothing }) ∷ []
+  pub piece : IsPiece old (made ∷ [])
 
 -- it holds the next command as it was fetched
 pub record HoldsNext (seen : Seen) (queue : KnownQueue) (fetched : Fetched) : Type 0 where
@@ -64,58 +83,76 @@ pub record StallsAt (old new : Seen) (offset fault : ℕ) : Type 0 where
   pub stores : Stores old mid FaultWord fault
   pub ends : MakesStep mid new (CommandDone offset true None)
 
--- the queue is stalled, and the number of the fault is what a look found
-pub record IsStalled (old new : Seen) (queue : KnownQueue) (offset fault : ℕ) : Type 0 where
-  pub stalled : queue.stalled ≡ true
-  pub offset_is : offset ≡ queue.offset
+-- a look found the number of the fault that is stored
+pub record LooksAtFault (old new : Seen) (fault : ℕ) : Type 0 where
   pub found : ℕ
   pub adds : AddsStep old new (RamLook (fault_place (shape_of old))) found
   pub fault_is : fault ≡ found % 256
 
--- how the queue is at its end: it is told where it stalls, with the number of the fault that is stored, found by a look
-abbrev pub EndsAt : Seen → Seen → KnownQueue → QueueEnd → Type 0
-EndsAt old new queue Empty = (new ≡ old) × (queue.stalled ≡ false)
-EndsAt old new queue (Stalled offset fault) = IsStalled old new queue offset fault
+-- the fault of a queue that is stalled is that of the last command that was taken, if it had one, and else the one that is stored
+abbrev pub TellsFault : Seen → Seen → Option ℕ → ℕ → Type 0
+TellsFault old new (Some last) fault = (new ≡ old) × (fault ≡ last)
+TellsFault old new None fault = LooksAtFault old new fault
 
--- some events are those of the next command of the ITS as the actor knew it, where the LPIs are for these vCPUs as it begins; and the actor knows what they left
-pub record AreOfCommand (old new : Seen) (actor : Option ℕ) (targets : ℕ → Option ℕ) (piece : List Happened) : Type 0 where
+-- the queue is stalled at an offset, with this fault
+pub record IsStalled (old new : Seen) (queue : KnownQueue) (last : Option ℕ) (offset fault : ℕ) : Type 0 where
+  pub stalled : queue.stalled ≡ true
+  pub offset_is : offset ≡ queue.offset
+  pub fault_is : TellsFault old new last fault
+
+-- how the queue is at its end, where the last command that was taken had this fault, or none
+abbrev pub EndsAt : Seen → Seen → KnownQueue → Option ℕ → QueueEnd → Type 0
+EndsAt old new queue last Empty = (new ≡ old) × (queue.stalled ≡ false)
+EndsAt old new queue last (Stalled offset fault) = IsStalled old new queue last offset fault
+
+-- some events are those of the next command of the ITS as the actor knew it, which has this fault or none, where the LPIs are for these vCPUs as it
+-- begins; and the actor knows what they left
+pub record AreOfCommand (old new : Seen) (fault : Option ℕ) (actor : Option ℕ) (targets : ℕ → Option ℕ) (piece : List Happened) : Type 0 where
   pub view : View
   pub same : HaveSameIts (view_by old) view
   pub targets_are : view.targets ≡ targets
+  pub fault_is : fault_number (shape_of old) view.maps (decoded (command_words (shape_of old) view)) ≡ fault
   pub command : IsCommand actor (shape_of old) view piece
   pub left : HaveSameIts (left_by (shape_of old) view (queue_event (shape_of old) view)) (view_by new)
 
--- the actor took a command: what is to be seen of its steps are the events of that command, whatever vCPUs the LPIs are for that it did not find; and
--- they are proper
-pub record TakesCommand (old new : Seen) : Type 0 where
+-- the actor took a command, which has this fault or none: what is to be seen of its steps are the events of that command, whatever vCPUs the LPIs are
+-- for that it did not find; and they are proper
+pub record TakesCommand (old new : Seen) (fault : Option ℕ) : Type 0 where
   pub last : Seen
   pub steps : List Made
   pub adds : Adds old new steps
-  pub is : (actor : Option ℕ) (targets : ℕ → Option ℕ) → AgreeWith last (known_maps old.own) targets → AreOfCommand old new actor targets (part_events old steps)
+  pub is : (actor : Option ℕ) (targets : ℕ → Option ℕ) → AgreeWith last (known_maps old.own) targets → AreOfCommand old new fault actor targets (part_events old steps)
   pub piece : (p : Progress) → IsIdle old p → IsItsWrite p → p.wants ≡ [] → IsGoodPiece old p steps
 
 -- commands that were taken, one after the other
 pub record Taken : Type 0 where
   pub from : Seen
   pub to : Seen
-  pub takes : TakesCommand from to
+  pub fault : Option ℕ
+  pub takes : TakesCommand from to fault
 
 abbrev pub AreTaken : Seen → List Taken → Seen → Type 0
 AreTaken old [] new = new ≡ old
 AreTaken old (one ∷ rest) new = (one.from ≡ old) × AreTaken one.to rest new
 
-pub record TakesAll (old new : Seen) : Type 0 where
+-- the fault of the last of them, if it had one
+abbrev pub last_fault : List Taken → Option ℕ
+last_fault commands = fold (λ before one. one.fault) None commands
+
+pub record TakesAll (old new : Seen) (fault : Option ℕ) : Type 0 where
   pub commands : List Taken
   pub are : AreTaken old commands new
+  pub fault_is : last_fault commands ≡ fault
 
 -- the actor is over with the queue: it took commands until no further one is taken, and was told how the queue ended
 pub record IsOverWith (old new : Seen) (shape : GuestShape) (tables : Maps) (end : QueueEnd) : Type 0 where
   pub mid : Seen
   pub queue : KnownQueue
-  pub taken : TakesAll old mid
+  pub commands : List Taken
+  pub taken : AreTaken old commands mid
   pub ready : IsReady mid shape tables queue
   pub over : takes_next queue ≡ false
-  pub ends : EndsAt mid new queue end
+  pub ends : EndsAt mid new queue (last_fault commands) end
 
 -- it only read, and found a good command that maps something
 pub record FetchesMapping (old new : Seen) : Type 0 where
@@ -129,20 +166,8 @@ pub record FetchesMapping (old new : Seen) : Type 0 where
 pub record WantsMemory (old new : Seen) (shape : GuestShape) (tables : Maps) : Type 0 where
   pub mid : Seen
   pub queue : KnownQueue
-  pub taken : TakesAll old mid
+  pub commands : List Taken
+  pub taken : AreTaken old commands mid
   pub fetches : FetchesMapping mid new
   pub ready : IsReady new shape tables queue
   pub takes : takes_next queue ≡ true
-
--- it looked at the registers of the queue before
-pub record RunsQueue (old new : Seen) (shape : GuestShape) (tables : Maps) (end : QueueEnd) : Type 0 where
-  pub start : Seen
-  pub queue : KnownQueue
-  pub looks : LooksAtQueue old start queue
-  pub over : IsOverWith start new shape tables end
-
-pub record StopsQueue (old new : Seen) (shape : GuestShape) (tables : Maps) : Type 0 where
-  pub start : Seen
-  pub queue : KnownQueue
-  pub looks : LooksAtQueue old start queue
-  pub wants : WantsMemory start new shape tables

@@ -4,6 +4,7 @@ use Rattle.gic_base.specs.declared.shape.GuestShape.{GuestShape}
 use Rattle.gic_call.specs.Command.{takes_command}
 use Rattle.gic_call.specs.Trace.{Happened, Beside, HaveSameIts, AreCommands}
 use Rattle.gic_call.specs.View.{View}
+use Rattle.its_tab.specs.Maps.{Maps}
 use Rattle.port_core.specs.declared.run.Made.{Made}
 use Rattle.port_core.specs.Known.{known_maps}
 use Rattle.port_core.specs.Port.{Seen, Adds, shape_of, part_events}
@@ -11,8 +12,10 @@ use Rattle.core_proper.specs.Progress.{Progress}
 use Rattle.port_call.specs.Memory.{view_by}
 use Rattle.port_call.specs.Piece.{IsIdle, IsGoodPiece}
 use Rattle.its_exec.specs.Command.{IsItsWrite}
-use Rattle.its_exec.specs.Known.{AgreeWith}
-use Rattle.its_exec.specs.Queue.{Taken, AreTaken}
+use Rattle.its_exec.specs.declared.known.KnownQueue.{KnownQueue}
+use Rattle.its_exec.specs.declared.queue.QueueEnd.{QueueEnd}
+use Rattle.its_exec.specs.Known.{AgreeWith, LooksAtQueue}
+use Rattle.its_exec.specs.Queue.{Taken, AreTaken, IsOverWith, WantsMemory}
 
 -- the vCPUs that the LPIs are for as each command begins, the first of which has this number, agree with what it found
 abbrev pub AgreeAll : Beside → ℕ → List Taken → Type 0
@@ -36,3 +39,29 @@ pub record IsRun (old new : Seen) (commands : List Taken) : Type 0 where
 
 abbrev pub TakenAreRuns : Type 0
 TakenAreRuns = (old new : Seen) (commands : List Taken) → AreTaken old commands new → IsRun old new commands
+
+-- The queue as it is found.
+
+-- an actor looked at the registers of the queue, and took commands until no further one is taken. That is one part: its events are those of all commands
+-- that are taken of the ITS as the looks found it, and it is proper in a write of a register of the ITS
+pub record RunsQueue (old new : Seen) (shape : GuestShape) (tables : Maps) (end : QueueEnd) : Type 0 where
+  pub start : Seen
+  pub queue : KnownQueue
+  pub looks : LooksAtQueue old start queue
+  pub over : IsOverWith start new shape tables end
+  pub steps : List Made
+  pub adds : Adds old new steps
+  pub events :
+      (actor : Option ℕ) (beside : Beside) (number : ℕ) (its : View) → AgreeAll beside number over.commands → HaveSameIts its (view_by start)
+      → AreListed actor (shape_of old) beside number its (part_events old steps)
+  pub piece : (p : Progress) → IsIdle old p → IsItsWrite p → p.wants ≡ [] → IsGoodPiece old p steps
+
+-- it took commands up to one that wants memory: that is proper too, and no whole call
+pub record StopsQueue (old new : Seen) (shape : GuestShape) (tables : Maps) : Type 0 where
+  pub start : Seen
+  pub queue : KnownQueue
+  pub looks : LooksAtQueue old start queue
+  pub wants : WantsMemory start new shape tables
+  pub steps : List Made
+  pub adds : Adds old new steps
+  pub piece : (p : Progress) → IsIdle old p → IsItsWrite p → p.wants ≡ [] → IsGoodPiece old p steps

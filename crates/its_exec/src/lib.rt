@@ -15,4 +15,4 @@ pub use faults::check;
 pub use its_tab::CmdFault;
 pub use known::{KnownQueue, look_at_queue};
 pub use laws::taken_are_runs;
-pub use queue::{QueueEnd, run_commands, run_queue};
+pub use queue::{QueueEnd, move_queue, run_commands, run_queue};

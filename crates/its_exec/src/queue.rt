@@ -9,9 +9,12 @@ ghost use Rattle.port_core.specs.declared.step.CoreStep.TheVariants.{CommandDone
 ghost use Rattle.port_core.specs.Known.{known_maps};
 ghost use Rattle.port_core.specs.Port.{shape_of};
 ghost use Rattle.port_call.specs.Rest.{IsAtEase};
-ghost use Rattle.its_exec.specs.Queue.{HoldsNext, HasBad, MakesStep, StallsAt, IsReady, EndsAt, IsOverWith, WantsMemory, TakesCommand, FetchesMapping, RunsQueue, StopsQueue};
+ghost use Rattle.its_exec.specs.Queue.{HoldsNext, HasBad, MakesStep, StallsAt, IsReady, HasIts, MovesQueue, LooksAtFault, TellsFault, EndsAt, IsOverWith, WantsMemory, TakesCommand, FetchesMapping};
+ghost use Rattle.its_exec.specs.Run.{RunsQueue, StopsQueue};
 ghost use Rattle.its_exec.specs.Plan.{IsFresh};
 ghost use Rattle.its_tab.specs.After.{IsValid};
+ghost use Rattle.its_tab.specs.Maps.{Maps};
+ghost use Rattle.gic_base.specs.declared.shape.GuestShape.{GuestShape};
 ghost use Rattle.its_exec.specs.Known.{takes_next};
 
 use crate::command::do_command;
@@ -32,7 +35,8 @@ use std::sync::Wait;
 pub enum QueueEnd {
     /// No further command is taken, and the queue is not stalled.
     Empty,
-    /// The queue is stalled at the command at this offset, which has the fault of this number.
+    /// The queue is stalled at the command at this offset, which has the fault of this number: as this run found it, or as it
+    /// was stored where the queue was stalled before.
     Stalled { offset: u32, fault: u8 },
 }
 
@@ -73,18 +77,18 @@ fn stall<P: Port, R: Wait>(rt: &R, port: &mut P, queue: &mut KnownQueue, fault: 
     queue.stalled = true;
 }
 
-/// Takes the next command, and does it, or stalls where it has a fault.
+/// Takes the next command, and does it, or stalls where it has a fault: the number of that.
 fn take_command<P: Port, R: Wait>(
     rt: &R,
     port: &mut P,
     tables: &mut ItsTables,
     shape: &GuestShape,
     queue: &mut KnownQueue,
-) -> Result<(), NoMemory>
+) -> Result<Option<u8>, NoMemory>
     requires ready { IsReady (P.seen port.old) shape.now tables.old queue.old }
     requires takes { takes_next queue.old ≡ true }
     ensures ready { IsReady (P.seen port.new) shape.now tables.new queue.new }
-    ensures takes { OnOk result (TakesCommand (P.seen port.old) (P.seen port.new)) }
+    ensures takes { IfOk result (TakesCommand (P.seen port.old) (P.seen port.new)) }
     ensures reads { OnErr result (FetchesMapping (P.seen port.old) (P.seen port.new)) }
     ensures tables { OnErr result (tables.new ≡ tables.old) }
     ensures queue { OnErr result (queue.new ≡ queue.old) }
@@ -92,30 +96,67 @@ fn take_command<P: Port, R: Wait>(
     let fetched = fetch(port, queue);
     let Ok(command) = decode(fetched.words) else {
         stall(rt, port, queue, UNKNOWN_NUMBER);
-        return Ok(());
+        return Ok(Some(UNKNOWN_NUMBER));
     };
     if let Some(fault) = tables.fault_in(&command, shape) {
-        stall(rt, port, queue, fault.number());
-        return Ok(());
+        let number = fault.number();
+        stall(rt, port, queue, number);
+        return Ok(Some(number));
     }
     do_command(rt, port, tables, shape, &fetched, &command)?;
     finish(port, queue, &fetched);
-    Ok(())
+    Ok(None)
 }
 
-/// How the queue ended: a queue that is stalled is so with the fault that is stored.
-fn end_of<P: Port>(port: &mut P, queue: &KnownQueue) -> QueueEnd
-    ensures { EndsAt (P.seen port.old) (P.seen port.new) queue.now result }
+/// The number of the fault that is stored, by a look.
+fn stored_fault<P: Port>(port: &mut P) -> u8
+    ensures { LooksAtFault (P.seen port.old) (P.seen port.new) result }
+{
+    let index = place_of_plain(PlainWord::Fault, &port.shape()) as u32;
+    (port.step(CoreStep::RamLook { index }) % 256) as u8
+}
+
+/// The fault of a queue that is stalled: that of the last command that was taken, if it had one, and else the one that is
+/// stored.
+fn fault_of_stall<P: Port>(port: &mut P, fault: Option<u8>) -> u8
+    ensures { TellsFault (P.seen port.old) (P.seen port.new) fault result }
+{
+    match fault {
+        Some(fault) => fault,
+        None => stored_fault(port),
+    }
+}
+
+/// How the queue ended, where the last command that was taken had this fault, or none.
+fn end_of<P: Port>(port: &mut P, queue: &KnownQueue, fault: Option<u8>) -> QueueEnd
+    ensures { EndsAt (P.seen port.old) (P.seen port.new) queue.now fault result }
 {
     if !queue.stalled {
         return QueueEnd::Empty;
     }
-    let index = place_of_plain(PlainWord::Fault, &port.shape()) as u32;
-    let fault = (port.step(CoreStep::RamLook { index }) % 256) as u8;
     QueueEnd::Stalled {
         offset: queue.offset,
-        fault,
+        fault: fault_of_stall(port, fault),
     }
+}
+
+/// Moves the queue to an offset, a multiple of 32 below 1048576, and ends its stall, as a write of GITS_CBASER does, or one of
+/// GITS_CWRITER with Retry. The actor has the ITS, and owes nothing.
+pub fn move_queue<P: Port>(port: &mut P, queue: &mut KnownQueue, offset: u32)
+    requires place { IsOffset offset }
+    requires turn { IsTrue (P.seen port.old).local.turn }
+    requires ease { IsAtEase (P.seen port.old).local }
+    ensures queue { queue.new ≡ record queue.old { offset = offset; stalled = false } }
+    ensures moves { MovesQueue (P.seen port.old) (P.seen port.new) offset }
+    ensures ready { (shape : GuestShape) (tables : Maps) → IsReady (P.seen port.old) shape tables queue.old → IsReady (P.seen port.new) shape tables queue.new }
+{
+    port.step(CoreStep::CommandDone {
+        offset,
+        stalled: false,
+        done: None,
+    });
+    queue.offset = offset;
+    queue.stalled = false;
 }
 
 /// Takes commands, one after the other, until no further one is taken, from a queue that is known. The actor has the ITS
@@ -130,18 +171,22 @@ pub fn run_commands<P: Port, R: Wait>(
     requires ready { IsReady (P.seen port.old) shape.now tables.old from }
     ensures ends { IfOk result (IsOverWith (P.seen port.old) (P.seen port.new) shape.now tables.new) }
     ensures wants { OnErr result (WantsMemory (P.seen port.old) (P.seen port.new) shape.now tables.new) }
+    ensures has { HasIts (P.seen port.new) tables.new }
 {
     let mut queue = from;
+    let mut fault = None;
     for _ in rt.forever() {
         if !queue.takes_command() {
-            return Ok(end_of(port, &queue));
+            return Ok(end_of(port, &queue, fault));
         }
-        take_command(rt, port, tables, shape, &mut queue)?;
+        fault = take_command(rt, port, tables, shape, &mut queue)?;
     }
     unreachable!()
 }
 
-/// Looks at the queue of the ITS, and takes commands until no further one is taken.
+/// Looks at the queue of the ITS, and takes commands until no further one is taken. `Empty` comes exactly where the queue is
+/// not stalled then, `Stalled` exactly where it is. `NoMemory` comes only at a command that maps something, before any part
+/// of it. The actor has the ITS with these tables, and owes nothing.
 pub fn run_queue<P: Port, R: Wait>(
     rt: &R,
     port: &mut P,
@@ -156,6 +201,7 @@ pub fn run_queue<P: Port, R: Wait>(
     requires fresh { IsFresh (P.seen port.old) }
     ensures ends { IfOk result (RunsQueue (P.seen port.old) (P.seen port.new) shape.now tables.new) }
     ensures wants { OnErr result (StopsQueue (P.seen port.old) (P.seen port.new) shape.now tables.new) }
+    ensures has { HasIts (P.seen port.new) tables.new }
 {
     let queue = look_at_queue(port);
     run_commands(rt, port, tables, shape, queue)

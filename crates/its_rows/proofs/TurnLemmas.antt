@@ -1,26 +1,40 @@
--- An actor that took the ITS has valid maps, and after a run of the queue it has the ITS still.
-use Rattle.std.proofs.Common.{◌≡◌, ℕ, IsTrue, Result, Ok, Err, IfOk, OnErr, sym, ap, subst, ◌∙◌}
+-- An actor that took the ITS has valid maps, and is where a command begins.
+use Rattle.std.proofs.Common.{◌≡◌, List, [], ◌∷◌, ◌++◌, find, is_some, ◌||◌, Some, if◌then◌else◌, sym, ap, subst, ◌∙◌}
+use Rattle.std.proofs.lemmas.List.{append_assoc}
+use Rattle.std.proofs.lemmas.List.Sums.{fold-append}
+use Rattle.gic_base.specs.declared.interrupt.Key.TheVariants.{Lpi}
 use Rattle.gic_base.specs.declared.shape.GuestShape.{GuestShape}
 use Rattle.its_tab.specs.After.{IsValid}
 use Rattle.its_tab.specs.Maps.{Maps}
-use Rattle.port_core.specs.Known.{known_maps}
+use Rattle.port_core.specs.declared.run.Made.{Made}
+use Rattle.port_core.specs.declared.word_id.WordId.TheVariants.{Irq}
+use Rattle.port_core.specs.Known.{known_maps, is_on, since_command, ends_command}
 use Rattle.port_core.specs.Port.{Seen, shape_of}
 use Rattle.port_call.specs.Turn.{TakesTurn}
 use Rattle.port_call.proofs.KnownLemmas.{maps_handed}
-use Rattle.its_exec.specs.declared.known.KnownQueue.{KnownQueue}
-use Rattle.its_exec.specs.declared.queue.QueueEnd.{QueueEnd}
-use Rattle.its_exec.specs.declared.queue.QueueEnd.TheVariants.{Empty, Stalled}
-use Rattle.its_exec.specs.Queue.{EndsAt, RunsQueue, StopsQueue}
+use Rattle.its_exec.specs.Plan.{IsFresh}
 
 pub turn_valid : (old new : Seen) (shape : GuestShape) (tables : Maps) → shape ≡ shape_of old → TakesTurn old new → tables ≡ known_maps new.own → IsValid shape tables
 turn_valid old new shape tables is takes e =
     let known : known_maps new.own ≡ takes.maps = ap (λ seen. known_maps seen.own) takes.adds.new_is ∙ maps_handed old.own takes.misses takes.last takes.maps takes.handed in
     subst (λ shape. IsValid shape tables) (sym is) (subst (IsValid (shape_of old)) (sym (e ∙ known)) takes.valid)
 
-ended_taken : (mid new : Seen) (queue : KnownQueue) (end : QueueEnd) → EndsAt mid new queue end → new.taken ≡ mid.taken
-ended_taken mid new queue Empty ends = ap (λ seen. seen.taken) ends.0
-ended_taken mid new queue (Stalled offset fault) ends = ap (λ seen. seen.taken) ends.adds.adds.new_is
+command_by : List Made → Made → List Made
+command_by kept made = if is_some made.tables || ends_command made.step then [] else kept ++ made ∷ []
 
-pub still_taken : (E : Type 0) (old new : Seen) (shape : GuestShape) (tables : Maps) (result : Result QueueEnd E) → IfOk result (RunsQueue old new shape tables) → OnErr result (StopsQueue old new shape tables) → IsTrue new.taken
-still_taken E old new shape tables (Ok end) runs stops = ended_taken runs.over.mid new runs.over.queue end runs.over.ends ∙ runs.over.ready.taken
-still_taken E old new shape tables (Err e) runs stops = stops.wants.ready.taken
+since_turn : (own misses : List Made) (last : Made) (maps : Maps) → last.tables ≡ Some maps → since_command (own ++ (misses ++ last ∷ [])) ≡ []
+unfolding command_by
+since_turn own misses last maps handed =
+    let before = since_command (own ++ misses) in
+    ap since_command (sym (append_assoc own misses (last ∷ [])))
+    ∙ fold-append command_by [] (own ++ misses) (last ∷ [])
+    ∙ ap (λ tables. if is_some tables || ends_command last.step then [] else before ++ last ∷ []) handed
+
+pub turn_fresh : (old new : Seen) → TakesTurn old new → IsFresh new
+turn_fresh old new takes =
+    let since : since_command new.own ≡ [] = ap (λ seen. since_command seen.own) takes.adds.new_is ∙ since_turn old.own takes.misses takes.last takes.maps takes.handed in
+    record { each = λ id there. record { none = ap (find (is_on (shape_of new) new.actor (Irq (Lpi id)))) since } }
+
+-- which tables it took is no matter
+pub fresh_same : (one other : Seen) → other ≡ record one { taken = other.taken } → IsFresh one → IsFresh other
+fresh_same one other e fresh = subst IsFresh (sym e) (record { each = λ id there. record { none = (fresh.each id there).none } })

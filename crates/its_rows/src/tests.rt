@@ -8,7 +8,7 @@ use gic_base::{GuestShape, Key, NoMemory};
 use gic_list::ListOf;
 use gic_open::{PlainWord, place_of_plain};
 use gic_word::target_in;
-use its_exec::{QueueEnd, run_queue};
+use its_exec::{QueueEnd, look_at_queue, move_queue, run_commands, run_queue};
 use port_call::{give_turn, put_plain, take_turn};
 use port_core::{Cands, CoreStep, Local, Port, WordId};
 use port_seq::SeqPort;
@@ -54,6 +54,12 @@ const SET_UP: [[u64; 4]; 4] = [
     [0x0000_0008_0000_000A, 0x0000_2003_0000_0003, 1, 0],
     [5, 0, 0x10000, 0],
 ];
+
+/// The commands that the queue has places for.
+const QUEUE_PLACES: u16 = 128;
+
+/// SYNC of vCPU 0.
+const SYNC: [u64; 4] = [5, 0, 0, 0];
 
 /// INT of event 3.
 const INT: [u64; 4] = [0x0000_0008_0000_0003, 3, 0, 0];
@@ -174,6 +180,22 @@ fn run<P: Port, R: Wait>(rt: &R, port: &mut P) -> Option<Result<QueueEnd, NoMemo
     Some(end)
 }
 
+/// Takes the ITS, ends the stall of its queue, runs it, and gives it back. None where the actor may not.
+fn retry<P: Port, R: Wait>(rt: &R, port: &mut P) -> Option<Result<QueueEnd, NoMemory>> {
+    if port.shape() != SHAPE || !is_at_ease(port.local_ref()) {
+        return None;
+    }
+    take_turn(rt, port);
+    let mut tables = port.take_tables();
+    let mut queue = look_at_queue(port);
+    let offset = queue.offset;
+    move_queue(port, &mut queue, offset);
+    let end = run_commands(rt, port, &mut tables, &SHAPE, queue);
+    port.put_tables(tables);
+    give_turn(port);
+    Some(end)
+}
+
 /// The LPI. None where the guest does not have it.
 fn lpi_state<P: Port>(port: &mut P) -> Option<LpiState> {
     if port.shape() != SHAPE {
@@ -191,7 +213,8 @@ fn lpi_state<P: Port>(port: &mut P) -> Option<LpiState> {
     ))
 }
 
-/// The queue's word, as GITS_CREADR has it, and the number of the fault. None where the guest has another shape.
+/// The queue's word, as GITS_CREADR has it, and the number of the fault: 0 where the queue is not stalled. None where the guest
+/// has another shape.
 fn queue_state<P: Port>(port: &mut P) -> Option<(u64, u64)> {
     if port.shape() != SHAPE {
         return None;
@@ -199,6 +222,9 @@ fn queue_state<P: Port>(port: &mut P) -> Option<(u64, u64)> {
     let word = port.step(CoreStep::Look {
         word: WordId::Queue,
     });
+    if word % 2 == 0 {
+        return Some((word, 0));
+    }
     let index = place_of_plain(PlainWord::Fault, &SHAPE) as u32;
     Some((word, port.step(CoreStep::RamLook { index })))
 }
@@ -213,12 +239,17 @@ fn set_up<P: Port, R: Wait>(rt: &R, port: &mut P) {
     write_commands(rt, port, 0, SET_UP.as_slice());
 }
 
+/// What is there after a run of the queue that ended so. None where the guest has another shape.
+fn told<P: Port>(port: &mut P, end: Result<QueueEnd, NoMemory>) -> Option<Outcome> {
+    let (word, fault) = queue_state(port)?;
+    Some((end, word, fault, lpi_state(port)?))
+}
+
 /// Runs the queue up to an offset. None where the actor may not.
 fn run_to<P: Port, R: Wait>(rt: &R, port: &mut P, writer: u64) -> Option<Outcome> {
     put(rt, port, PlainWord::Cwriter, writer);
     let end = run(rt, port)?;
-    let (word, fault) = queue_state(port)?;
-    Some((end, word, fault, lpi_state(port)?))
+    told(port, end)
 }
 
 /// Runs a row: the first commands with their changes, and then the others, if there are any. None where the actor may not.
@@ -236,14 +267,58 @@ fn outcome<P: Port, R: Wait>(rt: &R, port: &mut P, row: &Row) -> Option<Outcome>
     run_to(rt, port, row.writer)
 }
 
-/// A row on a guest of its own. None where it can't be run.
-fn outcome_of<R: Wait>(rt: &R, alloc: Global, row: &Row) -> Result<Option<Outcome>, AllocError> {
+/// A guest of its own. None where it is not good.
+fn guest(alloc: Global) -> Result<Option<SeqPort>, AllocError> {
     let scenario = scenario(alloc)?;
     if !scenario.is_good(alloc, Mode::Threads)? {
         return Ok(None);
     }
-    let mut port = SeqPort::start(alloc, &scenario)?;
-    Ok(outcome(rt, &mut port, row))
+    Ok(Some(SeqPort::start(alloc, &scenario)?))
+}
+
+/// A row on a guest of its own. None where it can't be run.
+fn outcome_of<R: Wait>(rt: &R, alloc: Global, row: &Row) -> Result<Option<Outcome>, AllocError> {
+    match guest(alloc)? {
+        Some(mut port) => Ok(outcome(rt, &mut port, row)),
+        None => Ok(None),
+    }
+}
+
+/// The set-up, whose second command has an unknown number; that is mended, and a write of GITS_CWRITER ends the stall. None
+/// where the actor may not.
+fn retried<P: Port, R: Wait>(rt: &R, port: &mut P) -> Option<(Outcome, Outcome)> {
+    set_up(rt, port);
+    poke(rt, port, 0x1020, 0x7F);
+    let first = run_to(rt, port, 0x80)?;
+    poke(rt, port, 0x1020, 9);
+    let end = retry(rt, port)?;
+    Some((first, told(port, end)?))
+}
+
+/// The set-up, then SYNC up to the end of the queue, and INT at its begin. None where the actor may not.
+fn wrapped<P: Port, R: Wait>(rt: &R, port: &mut P) -> Option<Outcome> {
+    set_up(rt, port);
+    let _set_up = run_to(rt, port, 0x80)?;
+    for number in 4..QUEUE_PLACES {
+        write_commands(rt, port, number, [SYNC].as_slice());
+    }
+    write_commands(rt, port, 0, [INT].as_slice());
+    run_to(rt, port, 0x20)
+}
+
+/// The same on guests of their own.
+fn retried_of<R: Wait>(rt: &R, alloc: Global) -> Result<Option<(Outcome, Outcome)>, AllocError> {
+    match guest(alloc)? {
+        Some(mut port) => Ok(retried(rt, &mut port)),
+        None => Ok(None),
+    }
+}
+
+fn wrapped_of<R: Wait>(rt: &R, alloc: Global) -> Result<Option<Outcome>, AllocError> {
+    match guest(alloc)? {
+        Some(mut port) => Ok(wrapped(rt, &mut port)),
+        None => Ok(None),
+    }
 }
 
 /// No LPI.
@@ -339,5 +414,18 @@ fn rows_of_faults(rt: HostRuntime) -> Result<(), Fail> {
         let row = Row { changes, ..PLAIN };
         assert_eq!(rt; outcome_of(&rt, alloc, &row)?, stalled(offset, fault, lpi));
     }
+    Ok(())
+}
+
+#[test]
+fn rows_of_the_queue(rt: HostRuntime) -> Result<(), Fail> {
+    let alloc = rt.alloc();
+    let set = (true, 0xA0, false, Some(1));
+    assert_eq!(rt;
+        retried_of(&rt, alloc)?,
+        stalled(0x20, 10, NOTHING).zip(went(0x80, set))
+    );
+    let latched = (true, 0xA0, true, Some(1));
+    assert_eq!(rt; wrapped_of(&rt, alloc)?, went(0x20, latched));
     Ok(())
 }

@@ -7,5 +7,5 @@ loop-preserved g c = (
   tt,
   tt,
   c.take_command.ensures.ready,
-  taken_more (g.P.Port.seen c.args.port.now) (g.P.Port.seen c.loop.port) (g.P.Port.seen c.take_command.new.port) c.loop.invariant.3 c.in_ok-take_command.ensures.takes,
+  taken_more (g.P.Port.seen c.args.port.now) (g.P.Port.seen c.loop.port) (g.P.Port.seen c.take_command.new.port) c.loop.fault c.in_ok-fault.fault c.loop.invariant.3 c.in_ok-fault.ensures.takes,
 )

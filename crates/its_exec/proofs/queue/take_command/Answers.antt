@@ -27,8 +27,8 @@ pub stall-requires-in-Some-clause-bad : goal.stall-requires-in-Some-clause-bad
 stall-requires-in-Some-clause-bad g c =
     let old = g.P.Port.seen c.args.port.now in
     let mid = g.P.Port.seen c.fetch-fetched.new.port in
-    fetched_bad old mid c.args.shape.now c.args.tables.now c.args.queue.now c.fetch-fetched.result c.decode.result c.number.result c.requires.ready c.fetch-fetched.ensures.fetches c.fetch-fetched.ensures.holds c.decode.ensures.value
-    (ap (fault_number c.args.shape.now c.args.tables.now) c.in-Ok.is ∙ ap (option_map number_of) (sym c.fault_in.ensures ∙ c.in-Some.is) ∙ ap Some (sym c.number.ensures))
+    fetched_bad old mid c.args.shape.now c.args.tables.now c.args.queue.now c.fetch-fetched.result c.decode.result c.number-number.result c.requires.ready c.fetch-fetched.ensures.fetches c.fetch-fetched.ensures.holds c.decode.ensures.value
+    (ap (fault_number c.args.shape.now c.args.tables.now) c.in-Ok.is ∙ ap (option_map number_of) (sym c.fault_in.ensures ∙ c.in-Some.is) ∙ ap Some (sym c.number-number.ensures))
 
 pub returns-in-Some-clause-ready : goal.returns-in-Some-clause-ready
 returns-in-Some-clause-ready g c =
@@ -92,9 +92,9 @@ pub returns-in-Some-clause-takes : goal.returns-in-Some-clause-takes
 returns-in-Some-clause-takes g c =
     let old = g.P.Port.seen c.args.port.now in
     let mid = g.P.Port.seen c.fetch-fetched.new.port in
-    took_bad old mid (g.P.Port.seen c.stall-in-Some.new.port) c.args.shape.now c.args.tables.now c.args.queue.now c.fetch-fetched.result c.decode.result c.number.result (g.P.Port.is_port c.fetch-fetched.new.port).good.shape.ram_words c.requires.ready
+    took_bad old mid (g.P.Port.seen c.stall-in-Some.new.port) c.args.shape.now c.args.tables.now c.args.queue.now c.fetch-fetched.result c.decode.result c.number-number.result (g.P.Port.is_port c.fetch-fetched.new.port).good.shape.ram_words c.requires.ready
     c.requires.takes c.fetch-fetched.ensures.fetches c.fetch-fetched.ensures.holds c.decode.ensures.value
-    (ap (fault_number c.args.shape.now c.args.tables.now) c.in-Ok.is ∙ ap (option_map number_of) (sym c.fault_in.ensures ∙ c.in-Some.is) ∙ ap Some (sym c.number.ensures)) c.stall-in-Some.ensures.stalls c.stall-in-Some.new.queue (returns-in-Some-clause-ready g c) c.stall-in-Some.ensures.queue
+    (ap (fault_number c.args.shape.now c.args.tables.now) c.in-Ok.is ∙ ap (option_map number_of) (sym c.fault_in.ensures ∙ c.in-Some.is) ∙ ap Some (sym c.number-number.ensures)) c.stall-in-Some.ensures.stalls c.stall-in-Some.new.queue (returns-in-Some-clause-ready g c) c.stall-in-Some.ensures.queue
 
 pub returns-clause-takes : goal.returns-clause-takes
 returns-clause-takes g c =
