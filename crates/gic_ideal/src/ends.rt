@@ -12,6 +12,7 @@ use gic_list::ListOf;
 use gic_open::PlainWord;
 use gic_word::{Group, target_in};
 use ideal_guest::IdealGuest;
+use its_tab::ItsTables;
 use scn_base::{
     ColEnd, ColEnds, CpuEnd, CpuEnds, DevEnd, DevEnds, End, EvtEnd, EvtEnds, IrqEnd, IrqEnds,
     ItsEnd,
@@ -220,18 +221,19 @@ fn col_ends(alloc: Global, pairs: &[(u16, u32)]) -> Result<ColEnds, AllocError>
     Ok(ends)
 }
 
-/// How a guest that opened in the one state ended in the other.
-pub(crate) fn end_of(
+/// How a guest that opened in the one state ended in the other, whose ITS has these tables in place of its own. An error
+/// where memory is refused.
+pub fn end_of(
     alloc: Global,
     opened: &IdealGuest,
     closed: &IdealGuest,
+    tables: &ItsTables,
 ) -> Result<End, AllocError>
     requires opened { IsSound opened.now }
     requires closed { IsSound closed.now }
     requires shape { closed.now.shape ≡ opened.now.shape }
-    ensures { IfOk result (λ end. end ≡ end_between opened.now closed.now) }
+    ensures { IfOk result (λ end. end ≡ end_between opened.now (record closed.now { tables = tables.now })) }
 {
-    let tables = &closed.tables;
     Ok(End {
         gicd: gicd_end(opened, closed),
         cpus: cpu_ends(alloc, opened, closed)?,

@@ -9,6 +9,7 @@ mod shown;
 #[cfg(test)]
 mod tests;
 
+pub use ends::end_of;
 pub use ideal_guest::IdealGuest;
 pub use laws::{
     acknowledge_answers, acknowledge_runs, acknowledge_takes_cause, answer_acknowledges,

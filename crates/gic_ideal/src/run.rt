@@ -131,7 +131,8 @@ fn end_all(alloc: Global, guests: &Guests, closed: &[IdealGuest]) -> Result<Ends
     let mut ends = ListOf::new(alloc);
     for (number, guest) in guests.as_slice().iter().enumerate() {
         let opened = IdealGuest::open(alloc, guest)?;
-        ends.push(end_of(alloc, &opened, &closed[number])?)?;
+        let last = &closed[number];
+        ends.push(end_of(alloc, &opened, last, &last.tables)?)?;
     }
     Ok(ends)
 }

@@ -1,0 +1,46 @@
+-- A guest as its words and CPU records say that it is, while no interrupt is at a CPU interface (own choice).
+use Rattle.std.specs.Prelude.{◌≡◌, ℕ, false, IsTrue, List, length, map, All, None, slice_index_or}
+use Rattle.std.specs.List.{range_with_len}
+use Rattle.gic_open.specs.Opening.{opening_cpu}
+use Rattle.gic_prio.specs.declared.cpu.CpuRec.{CpuRec}
+use Rattle.gic_word.specs.declared.record.Irq.{Irq}
+use Rattle.gic_word.specs.Word.{IsWord, irq_of}
+use Rattle.ideal_guest.specs.declared.guest.IdealGuest.{IdealGuest}
+use Rattle.ideal_guest.specs.Sound.{IsSound}
+use Rattle.its_queue.specs.Queue.{is_queue_word, queue_of}
+use Rattle.port_core.specs.declared.end.GuestWords.{GuestWords}
+use Rattle.port_core.specs.Forms.{ctlr_of, vcpu_of}
+use Rattle.scn_base.specs.declared.guest.GuestSpec.{GuestSpec}
+
+-- the record of an interrupt by its word, but for who holds it and whether it is asked for
+abbrev pub home_irq : ℕ → Irq
+home_irq word = record (irq_of word) { holder = None; want = false }
+
+-- the CPU records, each with EnableLPIs as the vCPU's word has it
+abbrev pub cpu_at_home : List ℕ → List CpuRec → ℕ → CpuRec
+cpu_at_home words cpus vcpu = record (slice_index_or cpus vcpu (opening_cpu false)) { lpis = (vcpu_of (slice_index_or words vcpu 0)).lpis }
+
+abbrev pub cpus_at_home : List ℕ → List CpuRec → List CpuRec
+cpus_at_home words cpus = map (cpu_at_home words cpus) (range_with_len 0 (length words))
+
+-- the guest
+abbrev pub guest_of : GuestSpec → GuestWords → List CpuRec → IdealGuest
+guest_of spec words cpus =
+    let queue = queue_of words.queue in
+    record {
+      shape = spec.shape;
+      irqs = map home_irq words.irqs;
+      cpus = cpus_at_home words.vcpus cpus;
+      enables = (ctlr_of words.ctlr).enables;
+      words = words.plain;
+      offset = queue.offset;
+      is_stalled = queue.stalled;
+      tables = words.tables;
+    }
+
+-- the words are those of a guest of this spec, with one CPU record for each vCPU
+pub record IsAtEnd (spec : GuestSpec) (words : GuestWords) (cpus : List CpuRec) : Type 0 where
+  pub well_formed : All IsWord words.irqs
+  pub queue : IsTrue (is_queue_word words.queue)
+  pub each : length cpus ≡ length words.vcpus
+  pub sound : IsSound (guest_of spec words cpus)
