@@ -27,6 +27,7 @@ use Rattle.gic_prio.specs.Priority.{HasBinaryPoints}
 use Rattle.gic_call.specs.declared.moves.Entry.{Entry}
 use Rattle.gic_call.specs.declared.moves.Moved.{Moved}
 use Rattle.gic_call.specs.Move.{IsEntryOf, IsMovedOf}
+use Rattle.its_tab.specs.Maps.{Maps}
 use Rattle.scn_base.specs.declared.guest.GuestSpec.{GuestSpec}
 use Rattle.ideal_guest.specs.Ideal.{irq_at, cpu_at, with_cpu, with_word, with_queue}
 use Rattle.ideal_guest.specs.Opening.{opening as opening_guest}
@@ -80,10 +81,11 @@ ready_irq state key irq ready there valid =
         differ : (b : Bool) → b ≡ false → b ≡ true → ⊥
         differ b f t = cc
 
-set_fit : (test : List Standing → Bool) (at : List (List Standing)) (vcpu : ℕ) (standing : List Standing) → IsTrue (list_all test at) → IsTrue (test standing) → IsTrue (list_all test (slice_set at vcpu standing))
-set_fit test [] vcpu standing all one = refl
-set_fit test (x ∷ at) zero standing all one = let parts = and_parts (test x) (list_all test at) all in and_from (test standing) (list_all test at) one parts.1
-set_fit test (x ∷ at) (suc vcpu) standing all one = let parts = and_parts (test x) (list_all test at) all in and_from (test x) (list_all test (slice_set at vcpu standing)) parts.0 (set_fit test at vcpu standing parts.1 one)
+-- a test that all elements pass, and one that is put in the place of one of them
+pub all_set : {X : Type 0} (test : X → Bool) (xs : List X) (i : ℕ) (x : X) → IsTrue (list_all test xs) → IsTrue (test x) → IsTrue (list_all test (slice_set xs i x))
+all_set test [] i x all here = refl
+all_set test (y ∷ xs) zero x all here = let parts = and_parts (test y) (list_all test xs) all in and_from (test x) (list_all test xs) here parts.1
+all_set test (y ∷ xs) (suc i) x all here = let parts = and_parts (test y) (list_all test xs) all in and_from (test y) (list_all test (slice_set xs i x)) parts.0 (all_set test xs i x parts.1 here)
 
 -- others stand at an interface
 pub ready_standing : (state : Ideal) (vcpu : ℕ) (standing : List Standing) → IsReady state → IsTrue (list_all (fits state.guest.shape) standing) → IsReady (with_standing state vcpu standing)
@@ -96,7 +98,7 @@ ready_standing state vcpu standing ready fit =
       points = ready.points;
       records = ready.records;
       at = length-set state.at vcpu standing ∙ ready.at;
-      standing = set_fit (list_all (fits state.guest.shape)) state.at vcpu standing ready.standing fit;
+      standing = all_set (list_all (fits state.guest.shape)) state.at vcpu standing ready.standing fit;
     }
 
 -- the record of an interface is put
@@ -108,6 +110,20 @@ ready_cpu state vcpu cpu ready points =
       cpus = length-set state.guest.cpus vcpu cpu ∙ ready.cpus;
       words = ready.words;
       points = All-set HasBinaryPoints state.guest.cpus vcpu cpu points ready.points;
+      records = ready.records;
+      at = ready.at;
+      standing = ready.standing;
+    }
+
+-- the maps of the ITS are put
+pub ready_tables : (state : Ideal) (tables : Maps) → IsReady state → IsReady (record state { guest = record state.guest { tables = tables } })
+ready_tables state tables ready =
+    record {
+      shape = ready.shape;
+      irqs = ready.irqs;
+      cpus = ready.cpus;
+      words = ready.words;
+      points = ready.points;
       records = ready.records;
       at = ready.at;
       standing = ready.standing;

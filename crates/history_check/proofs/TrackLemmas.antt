@@ -4,7 +4,7 @@ use Rattle.std.proofs.lemmas.Grind.{common_steps}
 use Rattle.gic_history.specs.Fresh.{Doing}
 use Rattle.history_check.specs.Track.{doing_in}
 
-past_end : {X : Type 0} (xs : List X) (i : ℕ) (d : X) → nat_lt i (length xs) ≡ false → slice_index_or xs i d ≡ d
+pub past_end : {X : Type 0} (xs : List X) (i : ℕ) (d : X) → nat_lt i (length xs) ≡ false → slice_index_or xs i d ≡ d
 past_end [] i d e = refl
 past_end (x ∷ xs) zero d e = absurd (grind (arith, common_steps, e))
 past_end (x ∷ xs) (suc i) d e = past_end xs i d (grind (arith, common_steps, e))

@@ -3,7 +3,7 @@ ghost use Rattle.std.specs.Prelude.{◌≡◌, ◌<◌, List, IfOk, OnOk, OnErr,
 ghost use Rattle.gic_prio.specs.declared.candidate.Candidate.{Candidate};
 ghost use Rattle.gic_prio.specs.Access.{taken_by, deactivated_by, answer_of, cpu_after};
 ghost use Rattle.gic_prio.specs.Delivery.{first_of};
-ghost use Rattle.gic_prio.specs.Interface.{interface_answer};
+ghost use Rattle.gic_prio.specs.Interface.{interface_answer, candidates_at};
 ghost use Rattle.gic_prio.specs.Priority.{HasBinaryPoints};
 ghost use Rattle.gic_prio.specs.Signal.{intid_read};
 ghost use Rattle.ideal_guest.specs.Ideal.{with_cpu};
@@ -134,6 +134,18 @@ impl State {
         let shown = self.shown(alloc, vcpu)?;
         let first = first_candidate(shown.as_slice(), &cpu);
         Ok(answer(first, reg, write, &cpu))
+    }
+
+    /// The first of the interrupts at a vCPU's interface that can be delivered to it, if there is one. `AllocError` where
+    /// memory is refused.
+    pub fn first_at(&self, alloc: Global, vcpu: u32) -> Result<Option<Candidate>, AllocError>
+        requires ready { IsReady self.now }
+        requires there { vcpu < self.now.guest.shape.vcpus }
+        ensures { IfOk result (λ first. first ≡ first_of (candidates_at (interface_at self.now vcpu))) }
+    {
+        let cpu = self.cpu(vcpu);
+        let shown = self.shown(alloc, vcpu)?;
+        Ok(first_candidate(shown.as_slice(), &cpu))
     }
 
     /// A vCPU reads a register of its CPU interface, or writes a value to it: of the interrupts, only those that stand at the

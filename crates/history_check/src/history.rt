@@ -1,7 +1,11 @@
 //! Each event: what it hands out, and the state after it.
-ghost use Rattle.std.specs.Prelude.{◌≡◌, IfOk, OnOk, OnErr, IsTrue};
+ghost use Rattle.std.specs.Prelude.{◌≡◌, ℕ, IfOk, OnOk, OnErr, IsTrue, None};
+ghost use Rattle.its_cmd.specs.Command.{decoded};
+ghost use Rattle.its_tab.specs.After.{maps_after};
+ghost use Rattle.its_tab.specs.Fault.{fault_of, fault_number};
 ghost use Rattle.gic_open.specs.Plain.{has_plain};
 ghost use Rattle.ideal_guest.specs.Ideal.{word_at};
+ghost use Rattle.gic_call.specs.declared.event.QueueChange.{QueueChange};
 ghost use Rattle.gic_call.specs.Trace.{held_at};
 ghost use Rattle.gic_call.specs.Valid.{CanHappen, HappensFreely, has_place};
 ghost use Rattle.gic_history.specs.State.{view_at};
@@ -9,13 +13,15 @@ ghost use Rattle.gic_history.specs.Moves.{handed_out, happened};
 ghost use Rattle.history_check.specs.Ready.{IsReady, is_mark};
 
 use crate::state::State;
+use gic_base::NoMemory;
 use gic_call::{Event, Found, Place};
 use gic_open::{PlainWord, place_of_plain};
+use its_cmd::{Command, decode};
 use std::alloc::{AllocError, Global};
 
 impl State {
     /// A plain word that the guest has.
-    fn word(&self, word: PlainWord) -> u64
+    pub fn word(&self, word: PlainWord) -> u64
         requires ready { IsReady self.now }
         requires there { IsTrue (has_plain self.now.guest.shape word) }
         ensures { result ≡ word_at self.now.guest word }
@@ -91,6 +97,35 @@ impl State {
             Event::ItsEnd => self.set_its(None),
             _ => unreachable!(),
         }
+    }
+
+    /// What a command without a fault maps is mapped. `NoMemory` leaves the state as it was.
+    #[tactic(auto, using(crate::proofs::ReadyLemmas::ready_tables))]
+    fn carry_out(&mut self, command: &Command) -> Result<(), NoMemory>
+        requires ready { IsReady self.old }
+        requires good { fault_of self.old.guest.shape self.old.guest.tables command.now ≡ None }
+        ensures ok { OnOk result (self.new ≡ record self.old { guest = record self.old.guest { tables = maps_after self.old.guest.tables command.now } }) }
+        ensures err { OnErr result (self.new ≡ self.old) }
+        ensures ready { IsReady self.new }
+    {
+        let shape = self.guest.shape;
+        self.guest.tables.carry_out(command, &shape)
+    }
+
+    /// The end of a command of the ITS that has no fault: what it maps is mapped, and the queue is at an offset, in bytes.
+    /// `NoMemory` leaves the state as it was.
+    pub fn finish(&mut self, offset: u32, words: [u64; 4]) -> Result<(), NoMemory>
+        requires ready { IsReady self.old }
+        requires good { fault_number self.old.guest.shape self.old.guest.tables (decoded words) ≡ None }
+        ensures ok { (actor : ℕ) → OnOk result (self.new ≡ happened actor (Event.Queue offset (QueueChange.Done words)) self.old) }
+        ensures err { OnErr result (self.new ≡ self.old) }
+        ensures ready { IsReady self.new }
+    {
+        if let Ok(command) = decode(words) {
+            self.carry_out(&command)?;
+        }
+        self.set_queue(offset, false);
+        Ok(())
     }
 
     /// An event of an actor happens, which is not the end of a command: the state after it. An event that is not allowed

@@ -16,6 +16,3 @@ mod track;
 pub use standing::Standing;
 pub use state::State;
 pub use track::{Changes, Doing, Leaving, Track, Turn};
-
-#[cfg(test)]
-mod tests;

@@ -66,6 +66,13 @@ impl State {
         })
     }
 
+    /// The records and words of the guest.
+    pub fn guest(&self) -> &IdealGuest
+        ensures { result.now ≡ self.now.guest }
+    {
+        &self.guest
+    }
+
     /// How many of each kind the guest has.
     pub fn shape(&self) -> &GuestShape
         ensures { result.now ≡ self.now.guest.shape }

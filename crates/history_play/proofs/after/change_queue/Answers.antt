@@ -1,0 +1,13 @@
+use Rattle.std.proofs.Common.{◌≡◌, OnOk, sym, subst}
+use Rattle.gic_call.specs.declared.event.Event.TheVariants.{Queue}
+use Rattle.gic_call.specs.declared.event.Found.TheVariants.{Nothing}
+use Rattle.gic_history.specs.Moves.{happened}
+use Rattle.history_play.proofs.CourseLemmas.{faultless}
+use Rattle.history_play.proofs.after.change_queue.Goals as goal
+
+pub finish-requires-clause-good : goal.finish-requires-clause-good
+finish-requires-clause-good c = faultless c.args.state.now c.args.actor c.args.offset c.args.change c.in-Done.words Nothing c.in-Done.is (c.requires.known Nothing)
+
+pub returns-in-Done-clause-value : goal.returns-in-Done-clause-value
+returns-in-Done-clause-value c =
+    subst (λ change. OnOk c.finish.result (c.finish.new.self ≡ happened c.args.actor (Queue c.args.offset change) c.args.state.now)) (sym c.in-Done.is) (c.finish.ensures.ok c.args.actor)

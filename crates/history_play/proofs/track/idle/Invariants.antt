@@ -1,0 +1,6 @@
+use Rattle.std.proofs.Common.{◌≡◌, [], None, replicate}
+use Rattle.gic_history.specs.Fresh.{Doing}
+use Rattle.history_play.proofs.track.idle.Given as goal
+
+abbrev pub invariant-loop-actor : goal.invariant-loop-actor
+invariant-loop-actor l = l.doings ≡ replicate {A = Doing} l.actor (record { operation = None; number = 0; done = [] })

@@ -1,0 +1,11 @@
+-- What holds of each state and track that the program reaches.
+use Rattle.std.specs.Prelude.{ℕ, IsTrue, nat_le}
+use Rattle.std.specs.List.{list_all}
+use Rattle.gic_base.specs.declared.shape.GuestShape.{GuestShape}
+use Rattle.gic_history.specs.Fresh.{Track}
+use Rattle.history_named.specs.Asked.{IsFollowed}
+
+-- after so many moments there are no more calls and commands of an actor
+pub record IsKept (shape : GuestShape) (moments : ℕ) (track : Track) : Type 0 where
+  pub followed : IsFollowed shape track
+  pub numbers : IsTrue (list_all (λ doing. nat_le doing.number moments) track.doings)

@@ -1,0 +1,4 @@
+pub mod Coming
+pub mod Kept
+pub mod Laws
+pub mod Played

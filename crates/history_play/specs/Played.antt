@@ -1,0 +1,38 @@
+-- The histories that the program plays.
+use Rattle.std.specs.Prelude.{◌<◌, List, [], ◌∷◌, length, take, slice_get, Some, ◌≡◌}
+use Rattle.gic_call.specs.declared.event.Moment.{Moment}
+use Rattle.scn_base.specs.declared.guest.GuestSpec.{GuestSpec}
+use Rattle.gic_history.specs.State.{Ideal, opening}
+use Rattle.gic_history.specs.History.{Course, opening_course, gone_on, course_of}
+use Rattle.gic_history.specs.Fresh.{Track, opening_track, tracked, after_moment, IsFresh}
+use Rattle.history_play.specs.Coming.{IsComing, IsCause}
+use Rattle.history_play.specs.declared.whole.Refusal.{Refusal}
+
+-- each moment goes on with a course, but for what ended calls have to be
+abbrev pub GoesOnFreely : Course → List Moment → Type 0
+GoesOnFreely course [] = Unit {0}
+GoesOnFreely course (moment ∷ moments) = IsComing course moment × GoesOnFreely (gone_on course moment) moments
+
+-- a history of a guest, but for what ended calls have to be
+abbrev pub IsAllowed : GuestSpec → List Moment → Type 0
+IsAllowed guest moments = GoesOnFreely (opening_course guest) moments
+
+-- the course of a history, and its track
+abbrev pub course_at : GuestSpec → List Moment → Course
+course_at guest moments = course_of (opening_course guest) moments
+
+abbrev pub track_from : Ideal → Track → List Moment → Track
+track_from state track [] = track
+track_from state track (moment ∷ moments) = track_from (after_moment state moment) (tracked state moment track) moments
+
+abbrev pub track_at : GuestSpec → List Moment → Track
+track_at guest moments = track_from (opening guest) (opening_track guest.shape) moments
+
+-- the first moment that does not go on with a fresh history, and why: all before it do
+pub record IsRefused (guest : GuestSpec) (moments : List Moment) (refusal : Refusal) : Type 0 where
+  pub within : refusal.moment < length moments
+  pub allowed : IsAllowed guest (take refusal.moment moments)
+  pub fresh : IsFresh guest (take refusal.moment moments)
+  pub moment : Moment
+  pub there : slice_get moments refusal.moment ≡ Some moment
+  pub cause : IsCause refusal.cause (course_at guest (take refusal.moment moments)) (track_at guest (take refusal.moment moments)) moment

@@ -1,0 +1,221 @@
+//! Whether a moment may come next in a history, and whether that is fresh then.
+ghost use Rattle.std.specs.Prelude.{◌≡◌, ℕ, ◌<◌, ◌↔◌, is_some, IfOk, IfSome, IfNone, IsTrue};
+ghost use Rattle.gic_call.specs.Valid.{CanHappen};
+ghost use Rattle.gic_history.specs.History.{Course, IsHappening};
+ghost use Rattle.gic_history.specs.State.{Ideal};
+ghost use Rattle.gic_history.specs.Fresh.{doing_of};
+ghost use Rattle.history_check.specs.Ready.{IsReady};
+ghost use Rattle.history_check.specs.Track.{doing_in};
+ghost use Rattle.history_named.specs.Asked.{IsFollowed};
+ghost use Rattle.history_play.specs.Coming.{is_unknown, IsCause, IsFine, IsEventFresh, IsStale, AreOne, CanFollow};
+
+use crate::can::can_happen;
+use crate::found::is_same;
+use gic_base::IccReg;
+use gic_call::{Event, Found, Moment, Operation, QueueChange};
+use history_check::{Doing, State, Track};
+use history_named::{is_asked, is_fresh_at_acknowledge};
+use std::alloc::{AllocError, Global};
+
+/// Why a moment does not come next in a fresh history.
+#[derive(Clone, Copy, Debug, PartialEq, Eq, Hash)]
+pub enum Cause {
+    /// This program does not know it: an operation that no guest can be asked for, or the end of a command with a fault.
+    Unknown,
+    /// It is not allowed: a call begins in another, ends or does something outside of one, or an event may not happen, or
+    /// does not hand out what is there.
+    Forbidden,
+    /// A read of IAR or HPPIR overlooks an interrupt.
+    Acknowledge,
+    /// An interrupt at the interface was changed in a call that ended.
+    Interface,
+    /// A write of EOIR or DIR names an interrupt that was changed in a call that ended.
+    End,
+    /// A call ends, and an interrupt that it deactivated and that is pending is still at the interface.
+    Deactivation,
+}
+
+/// Whether an actor is in a call.
+fn is_busy(doings: &[Doing], actor: u32) -> bool
+    ensures { result ≡ is_some (doing_in doings.now actor).operation }
+{
+    match doings.get(actor as usize) {
+        Some(doing) => doing.operation.is_some(),
+        None => false,
+    }
+}
+
+/// The same of the actors of a track.
+fn is_within(track: &Track, actor: u32) -> bool
+    ensures { result ≡ is_some (doing_of track.now actor).operation }
+{
+    is_busy(track.doings.as_slice(), actor)
+}
+
+/// Why a call does not begin next.
+fn cause_of_begin(state: &State, track: &Track, actor: u32, operation: &Operation) -> Option<Cause>
+    requires followed { IsFollowed state.now.guest.shape track.now }
+    ensures none { IfNone result ((course : Course) → course.ideal ≡ state.now → AreOne course track.now → IsFine course track.now (Moment.Begin actor operation.now)) }
+    ensures some { IfSome result (λ cause. (course : Course) → course.ideal ≡ state.now → AreOne course track.now → IsCause cause course track.now (Moment.Begin actor operation.now)) }
+    ensures follow { IfNone result (CanFollow state.now (Moment.Begin actor operation.now)) }
+{
+    if actor as usize >= track.doings.len() || is_within(track, actor) {
+        return Some(Cause::Forbidden);
+    }
+    if !is_asked(state.shape(), operation) {
+        return Some(Cause::Unknown);
+    }
+    None
+}
+
+/// Whether a call does not end next.
+fn cause_of_end(track: &Track, actor: u32, answer: Option<u64>) -> Option<Cause>
+    ensures none { IfNone result ((course : Course) → AreOne course track.now → IsFine course track.now (Moment.End actor answer)) }
+    ensures some { IfSome result (λ cause. (course : Course) → AreOne course track.now → IsCause cause course track.now (Moment.End actor answer)) }
+    ensures follow { (state : Ideal) → IsFollowed state.guest.shape track.now → IfNone result (CanFollow state (Moment.End actor answer)) }
+{
+    let _ = answer;
+    if !is_within(track, actor) {
+        return Some(Cause::Forbidden);
+    }
+    if !track.has_left_all(actor) {
+        return Some(Cause::Deactivation);
+    }
+    None
+}
+
+/// Whether an event may happen, in a call of its actor's, and hands out what is there.
+fn may_happen(
+    alloc: Global,
+    state: &State,
+    track: &Track,
+    actor: u32,
+    event: &Event,
+    found: &Found,
+) -> Result<bool, AllocError>
+    requires ready { IsReady state.now }
+    ensures happening { (course : Course) → course.ideal ≡ state.now → AreOne course track.now → IfOk result (λ may. IsTrue may ↔ IsHappening course actor event.now found.now) }
+    ensures can { IfOk result (λ may. IsTrue may → CanHappen state.now.guest.shape event.now) }
+    ensures there { IfOk result (λ may. IsTrue may → IsTrue (is_some (doing_of track.now actor).operation)) }
+{
+    if !is_within(track, actor) || !can_happen(state.shape(), event) {
+        return Ok(false);
+    }
+    let there = state.handed_out(alloc, event)?;
+    Ok(state.is_allowed(actor, event) && is_same(found, &there))
+}
+
+/// Whether an event is the end of a command that has a fault.
+fn is_faulty(state: &State, event: &Event) -> bool
+    requires ready { IsReady state.now }
+    ensures { (actor : ℕ) (found : Found) → result ≡ is_unknown state.now (Moment.Happens actor event.now found) }
+{
+    match *event {
+        Event::Queue {
+            change: QueueChange::Done { words },
+            ..
+        } => state
+            .guest()
+            .tables
+            .fault_number(words, state.shape())
+            .is_some(),
+        _ => false,
+    }
+}
+
+/// Why an access of a CPU interface register is not fresh.
+fn staleness_of_access(
+    alloc: Global,
+    state: &State,
+    track: &Track,
+    vcpu: u32,
+    reg: IccReg,
+    write: Option<u64>,
+) -> Result<Option<Cause>, AllocError>
+    requires ready { IsReady state.now }
+    requires followed { IsFollowed state.now.guest.shape track.now }
+    requires there { vcpu < state.now.guest.shape.vcpus }
+    ensures none { IfOk result (λ cause. IfNone cause (IsEventFresh state.now track.now (Event.Cpu vcpu reg write))) }
+    ensures some { IfOk result (λ cause. IfSome cause (λ cause. IsStale cause state.now track.now (Event.Cpu vcpu reg write))) }
+{
+    if !is_fresh_at_acknowledge(alloc, track, state, vcpu, reg, write)? {
+        return Ok(Some(Cause::Acknowledge));
+    }
+    if !track.is_fresh_at_interface(state, vcpu, reg, write) {
+        return Ok(Some(Cause::Interface));
+    }
+    if !track.is_fresh_at_end(state, vcpu, reg, write) {
+        return Ok(Some(Cause::End));
+    }
+    Ok(None)
+}
+
+/// Why an event is not fresh.
+fn staleness(
+    alloc: Global,
+    state: &State,
+    track: &Track,
+    event: &Event,
+) -> Result<Option<Cause>, AllocError>
+    requires ready { IsReady state.now }
+    requires followed { IsFollowed state.now.guest.shape track.now }
+    requires can { CanHappen state.now.guest.shape event.now }
+    ensures none { IfOk result (λ cause. IfNone cause (IsEventFresh state.now track.now event.now)) }
+    ensures some { IfOk result (λ cause. IfSome cause (λ cause. IsStale cause state.now track.now event.now)) }
+{
+    match *event {
+        Event::Cpu { vcpu, reg, write } => {
+            staleness_of_access(alloc, state, track, vcpu, reg, write)
+        }
+        _ => Ok(None),
+    }
+}
+
+/// Why an event does not happen next.
+fn cause_of_event(
+    alloc: Global,
+    state: &State,
+    track: &Track,
+    actor: u32,
+    event: &Event,
+    found: &Found,
+) -> Result<Option<Cause>, AllocError>
+    requires ready { IsReady state.now }
+    requires followed { IsFollowed state.now.guest.shape track.now }
+    ensures none { IfOk result (λ cause. IfNone cause ((course : Course) → course.ideal ≡ state.now → AreOne course track.now → IsFine course track.now (Moment.Happens actor event.now found.now))) }
+    ensures some { IfOk result (λ cause. IfSome cause (λ cause. (course : Course) → course.ideal ≡ state.now → AreOne course track.now → IsCause cause course track.now (Moment.Happens actor event.now found.now))) }
+    ensures follow { IfOk result (λ cause. IfNone cause (CanFollow state.now (Moment.Happens actor event.now found.now))) }
+{
+    if !may_happen(alloc, state, track, actor, event, found)? {
+        return Ok(Some(Cause::Forbidden));
+    }
+    if is_faulty(state, event) {
+        return Ok(Some(Cause::Unknown));
+    }
+    staleness(alloc, state, track, event)
+}
+
+/// Why a moment does not come next in a fresh history; none where it does. Of the end of a call it asks that the actor is
+/// in one, and not what an ended call has to be. `AllocError` where memory is refused.
+pub fn judge(
+    alloc: Global,
+    state: &State,
+    track: &Track,
+    moment: &Moment,
+) -> Result<Option<Cause>, AllocError>
+    requires ready { IsReady state.now }
+    requires followed { IsFollowed state.now.guest.shape track.now }
+    ensures none { IfOk result (λ cause. IfNone cause ((course : Course) → course.ideal ≡ state.now → AreOne course track.now → IsFine course track.now moment.now)) }
+    ensures some { IfOk result (λ cause. IfSome cause (λ cause. (course : Course) → course.ideal ≡ state.now → AreOne course track.now → IsCause cause course track.now moment.now)) }
+    ensures follow { IfOk result (λ cause. IfNone cause (CanFollow state.now moment.now)) }
+{
+    match moment {
+        Moment::Begin { actor, operation } => Ok(cause_of_begin(state, track, *actor, operation)),
+        Moment::Happens {
+            actor,
+            event,
+            found,
+        } => cause_of_event(alloc, state, track, *actor, event, found),
+        Moment::End { actor, answer } => Ok(cause_of_end(track, *actor, *answer)),
+    }
+}

@@ -1,0 +1,5 @@
+//! Worked histories, played by the program that checks them.
+#![tactic(auto)]
+
+#[cfg(test)]
+mod tests;
