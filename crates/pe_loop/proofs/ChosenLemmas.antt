@@ -51,8 +51,8 @@ use Rattle.port_call.proofs.MemoryLemmas.{on_own}
 use Rattle.port_call.proofs.SettleLemmas.{handed_none}
 use Rattle.port_call.proofs.TryLemmas.{none_append}
 use Rattle.port_call.proofs.TurnLemmas.{events_then, known_by_last}
-use Rattle.pe_loop.specs.declared.claim.Claimed.TheVariants.{Whole, Bare, Missed}
-use Rattle.pe_loop.specs.declared.claim.Claimed.{Claimed}
+use Rattle.pe_loop.specs.declared.claims.Claimed.TheVariants.{Whole, Bare, Missed}
+use Rattle.pe_loop.specs.declared.claims.Claimed.{Claimed}
 use Rattle.pe_loop.specs.Claiming.{Claims, IsRight, IsClaimable, IsTakeable, TakesCauses, held_irq, choice_left, at_of, regs_left, is_whole, IsNoneOf, claims_by, ClaimsChosen}
 use Rattle.pe_loop.specs.Counting.{are_quiet}
 use Rattle.pe_loop.specs.Scanning.{told_by}
@@ -62,7 +62,7 @@ use Rattle.pe_loop.proofs.ReachLemmas.{bare_of, active_reached, entry_added, may
 
 -- Events.
 
-claim_moves : (actor : ℕ) (key : Key) (local : Local) (done : Bool) → named_of (Some actor) (option_to_list (if done then claim_event actor key local else None) ++ []) ≡ []
+pub claim_moves : (actor : ℕ) (key : Key) (local : Local) (done : Bool) → named_of (Some actor) (option_to_list (if done then claim_event actor key local else None) ++ []) ≡ []
 claim_moves actor key local false = refl
 claim_moves actor key local true = of (is_at key local.at)
   where
@@ -90,7 +90,7 @@ pub record Tried (old new : Seen) (key : Key) (irq : IrqRecord) (done : Bool) : 
       → progress_of (shape_of old) old.actor (record (told_by old p) { scan = claiming claims takes; regs = regs; trapping = trapping; failed = failed }) (map makes (made ∷ []))
       ≡ record (told_by new p) { scan = ended_scan new.local (tried key done (claiming claims takes)); regs = claim_left key done claims regs; trapping = trapping; failed = failed || not done }
 
-tries : (old new : Seen) (key : Key) (irq : IrqRecord) (done : Bool) → IsShape (shape_of old) → IsTrue (has_interrupt (shape_of old) key) → Claims old new key irq done → Tried old new key irq done
+pub tries : (old new : Seen) (key : Key) (irq : IrqRecord) (done : Bool) → IsShape (shape_of old) → IsTrue (has_interrupt (shape_of old) key) → Claims old new key irq done → Tried old new key irq done
 tries old new key irq done good there claims =
     let shape = shape_of old in
     let actor = old.actor in

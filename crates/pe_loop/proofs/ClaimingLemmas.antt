@@ -66,13 +66,13 @@ zero_listed (suc m) zero (suc i) = refl
 zero_listed (suc m) (suc n) zero = refl
 zero_listed (suc m) (suc n) (suc i) = zero_listed m n i
 
-none_there : (n i : ℕ) → slice_index_or (nones n) i None ≡ None
+pub none_there : (n i : ℕ) → slice_index_or (nones n) i None ≡ None
 none_there zero zero = refl
 none_there zero (suc i) = refl
 none_there (suc n) zero = refl
 none_there (suc n) (suc i) = none_there n i
 
-blank_places : (n : ℕ) → StandByPlace (take n (replicate 16 0)) (replicate 16 None) []
+pub blank_places : (n : ℕ) → StandByPlace (take n (replicate 16 0)) (replicate 16 None) []
 blank_places n =
     record {
       filled = λ place one less e. absurd (none-some one (sym (none_there 16 place) ∙ e));
@@ -337,6 +337,7 @@ all_claimed old now fill before loaded failed port plan_is so =
       moves = so.moves;
       same = so.same;
       loaded = is.same;
+      held = is.held;
       stands = is.stands;
       whole = is.whole;
       proper = so.proper;

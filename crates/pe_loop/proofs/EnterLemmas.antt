@@ -1,10 +1,8 @@
 -- A vCPU enters a PE.
-use Rattle.std.proofs.Common.{◌≡◌, ℕ, ◌+◌, ◌-◌, ◌*◌, ◌/◌, ◌<◌, ◌≤◌, ◌==◌, ◌&&◌, ◌||◌, not, Bool, true, false, cond, if◌then◌else◌, IsTrue, List, [], ◌∷◌, ◌++◌, map, filter, length, Option, Some, None, is_none, refl, sym, ap, subst, ◌∙◌, arith}
-use Rattle.std.specs.List.{find, list_all, range_with_len}
-use Rattle.std.specs.Option.{option_map}
+use Rattle.std.proofs.Common.{◌≡◌, ℕ, zero, suc, ◌+◌, ◌^◌, ◌<◌, ◌≤◌, ◌==◌, ◌&&◌, ◌||◌, not, Bool, true, false, if◌then◌else◌, IsTrue, List, [], ◌∷◌, ◌++◌, map, Option, Some, None, Contains, replicate, slice_index_or, refl, sym, ap, subst, ◌∙◌, arith}
+use Rattle.std.specs.List.{list_all}
+use Rattle.std.proofs.lemmas.Option.{none-some}
 use Rattle.std.proofs.lemmas.Bool.{and_parts, eq-eqb, eqb-true, ltb-true}
-use Rattle.std.proofs.lemmas.List.{map-append}
-use Rattle.std.proofs.lemmas.List.Sums.{fold-append}
 use Rattle.gic_aff.specs.declared.sgi.Targets.{Targets}
 use Rattle.gic_base.specs.declared.shape.GuestShape.{GuestShape}
 use Rattle.gic_call.specs.declared.event.Operation.TheVariants.{Residence}
@@ -15,67 +13,49 @@ use Rattle.gic_prio.specs.declared.cpu.CpuRec.{CpuRec}
 use Rattle.vcpu_refill.specs.Chooser.{Kept, StandsFor}
 use Rattle.vcpu_refill.specs.declared.fill.Fill.{Fill}
 use Rattle.vcpu_refill.specs.declared.offer.Offer.{Offer}
-use Rattle.vcpu_refill.specs.Plan.{HasEntries, plan, regs_of}
+use Rattle.vcpu_refill.specs.Plan.{HasEntries, choices_of, hcr_of, plan, regs_of}
+use Rattle.vcpu_refill.specs.Order.{active_among, deliverable_among}
+use Rattle.vcpu_refill.specs.Ranking.{in_places}
+use Rattle.vcpu_refill.specs.declared.fill.Choice.{Choice}
+use Rattle.vcpu_refill.proofs.ElementLemmas.{Contains-here, Contains-map}
+use Rattle.vcpu_refill.proofs.PlaceLemmas.{nothing_placed}
+use Rattle.gic_ich.specs.Hcr.{hcr_en, hcr_npie, hcr_vgrp0eie, hcr_vgrp0die, hcr_vgrp1eie, hcr_vgrp1die}
+use Rattle.port_core.specs.declared.at_list.AtIrq.{AtIrq}
+use Rattle.port_core.specs.Condition.{is_ready as may_access}
 use Rattle.vcpu_state.specs.declared.loaded.Loaded.{Loaded}
 use Rattle.vcpu_state.specs.declared.shelved.Shelved.{Shelved}
 use Rattle.vcpu_state.specs.Moves.{shelved_of}
 use Rattle.port_core.specs.declared.local.Local.{Local}
 use Rattle.port_core.specs.declared.local.Phase.TheVariants.{Scanning, Claiming}
-use Rattle.port_core.specs.declared.owed.Cands.{Cands}
 use Rattle.port_core.specs.declared.run.Made.{Made}
-use Rattle.port_core.specs.declared.step.CoreStep.TheVariants.{Kick, Poll, TakeIndex}
-use Rattle.port_core.specs.After.{interface_of, local_after}
+use Rattle.port_core.specs.declared.step.CoreStep.TheVariants.{Kick, Poll}
+use Rattle.port_core.specs.After.{interface_of, local_after, shown}
 use Rattle.port_core.specs.Forms.{vcpu_of}
-use Rattle.port_core.specs.Local.{is_vcpu, has_no_cand, is_cand, owes_no_kick, owes_no_mark, owes_nothing, without_vcpu}
-use Rattle.gic_base.specs.declared.interrupt.Key.{Key}
-use Rattle.gic_base.specs.Shape.{IsShape}
-use Rattle.port_core.specs.Valid.{AreCands}
-use Rattle.port_core.specs.Place.{index_bits, index_words, key_of_bit}
-use Rattle.port_core.specs.Port.{Seen, IsPort, Adds, AddsStep, made_by, shape_of, part_events}
+use Rattle.port_core.specs.Local.{is_vcpu, has_no_cand, owes_no_kick, owes_no_mark, owes_nothing, without_vcpu}
+use Rattle.port_core.specs.Place.{index_words}
+use Rattle.port_core.specs.Port.{Seen, Adds, AddsStep, made_by, shape_of, part_events}
 use Rattle.port_core.proofs.PortLemmas.{adds_join}
 use Rattle.core_proper.specs.Called.{vcpu_of_actor, maps_taken}
 use Rattle.core_proper.specs.Parts.{makes, ends}
-use Rattle.core_proper.specs.Progress.{Progress, paid, begun, filled, is_end_of, owed_after_scan, is_paid, progressed, progress_of, scan_on, stepped}
+use Rattle.core_proper.specs.Progress.{Progress, paid, begun, owed_after_scan, is_paid, progress_of, scan_on, stepped}
 use Rattle.core_proper.specs.Proper.{IsProper, IsProperStep, IsProperEnd, is_empty, gives_back, is_settled, wants_nothing}
-use Rattle.core_proper.specs.Scan.{planned, idle, taking, looking, claiming, ended_scan, keys_chosen, keys_of_both, next_cand}
+use Rattle.core_proper.specs.Scan.{planned, idle, taking, claiming, keys_chosen, keys_of_both}
 use Rattle.core_proper.proofs.PartLemmas.{proper_append}
-use Rattle.port_call.specs.Piece.{steps_of}
 use Rattle.port_call.proofs.PieceLemmas.{idle_is, scan_free}
 use Rattle.port_call.proofs.SettleLemmas.{handed_none}
 use Rattle.port_call.proofs.TryLemmas.{none_append}
 use Rattle.port_call.proofs.TurnLemmas.{events_then}
-use Rattle.pe_loop.specs.Claiming.{claims_by, ClaimsAll}
-use Rattle.pe_loop.specs.Counting.{count_from, is_irq_look, looks_in, bits_taken, AreTaken}
-use Rattle.pe_loop.specs.Enter.{MayEnter, Scans, IsReady, EndsScan, entered, IsBetween, Enters}
+use Rattle.pe_loop.specs.Claiming.{claims_by, IsPlanOf, ClaimsAll}
+use Rattle.pe_loop.specs.Enter.{MayEnter, Scans, IsReady, EndsScan, entered, HasEntered, IsBetween, Enters}
 use Rattle.pe_loop.specs.Marking.{MarksRest}
-use Rattle.pe_loop.specs.Scanning.{told_by, looked_on, phase_taken, IsScanAt, TakesIndex, EndsNone, LooksOver}
-use Rattle.pe_loop.specs.Stay.{IsOff}
+use Rattle.pe_loop.specs.Scanning.{told_by, phase_taken, IsScanAt, Rounds}
+use Rattle.pe_loop.specs.Stay.{IsOff, IsOpen}
 use Rattle.pe_loop.proofs.ChosenLemmas.{both_moves}
-use Rattle.pe_loop.proofs.CountLemmas.{count_none, count_split, looks_append, quiet_append, quiet_none, taken_append}
-use Rattle.pe_loop.proofs.MarkLemmas.{ends_before, found_nowhere}
+use Rattle.pe_loop.proofs.CountLemmas.{looks_append, quiet_append, quiet_none, taken_append}
+use Rattle.pe_loop.proofs.JoinLemmas.{two_on, two_proper, same_proper, same_progress, two_silent}
 use Rattle.pe_loop.proofs.IndexLemmas.{less_words, still_taking}
 use Rattle.pe_loop.proofs.LeaveLemmas.{settled_owes}
-use Rattle.pe_loop.proofs.LookLemmas.{all_taken}
-
--- Two parts, one after the other.
-
-two_on : (shape : GuestShape) (actor : ℕ) (p : Progress) (early late : List Made) → progress_of shape actor p (map makes (early ++ late)) ≡ progress_of shape actor (progress_of shape actor p (map makes early)) (map makes late)
-two_on shape actor p early late = ap (progress_of shape actor p) (map-append makes early late) ∙ fold-append (progressed shape actor) p (map makes early) (map makes late)
-
-two_proper : (shape : GuestShape) (actor : ℕ) (p q : Progress) (early late : List Made) → IsProper shape actor p (map makes early) → progress_of shape actor p (map makes early) ≡ q → IsProper shape actor q (map makes late) → IsProper shape actor p (map makes (early ++ late))
-two_proper shape actor p q early late one is two =
-    let Late : Progress → Type 0 = λ q. IsProper shape actor q (map makes late) in
-    subst (IsProper shape actor p) (sym (map-append makes early late)) ((proper_append shape actor p (map makes early) (map makes late)).1 (one, subst Late (sym is) two))
-
--- what an actor does after another port's steps
-same_proper : (old mid : Seen) (early late : List Made) (q : Progress) → Adds old mid early → IsProper (shape_of mid) mid.actor q (map makes late) → IsProper (shape_of old) old.actor q (map makes late)
-same_proper old mid early late q add proper = let P : Seen → Type 0 = λ seen. IsProper (shape_of seen) seen.actor q (map makes late) in subst P add.new_is proper
-
-same_progress : (old mid : Seen) (early late : List Made) (q : Progress) → Adds old mid early → progress_of (shape_of old) old.actor q (map makes late) ≡ progress_of (shape_of mid) mid.actor q (map makes late)
-same_progress old mid early late q add = ap (λ seen. progress_of (shape_of seen) seen.actor q (map makes late)) (sym add.new_is)
-
-two_silent : (old mid : Seen) (early late : List Made) → Adds old mid early → part_events old early ≡ [] → part_events mid late ≡ [] → part_events old (early ++ late) ≡ []
-two_silent old mid early late add one two = events_then old mid early late add ∙ ap (λ events. events ++ part_events mid late) one ∙ two
+use Rattle.pe_loop.proofs.RoundLemmas.{some_word}
 
 -- The end of a scan.
 
@@ -148,10 +128,7 @@ ends_kicked old mid new vcpu found marks vcpu_is added =
 
 -- The scan.
 
-some_word : (shape : GuestShape) → 0 < index_words shape
-some_word shape = omega arith
-
-poll_proper : (shape : GuestShape) (actor : ℕ) (p : Progress) → p.scan ≡ idle → p.failed ≡ false → IsProperStep shape actor p (Poll None None)
+pub poll_proper : (shape : GuestShape) (actor : ℕ) (p : Progress) → p.scan ≡ idle → p.failed ≡ false → IsProperStep shape actor p (Poll None None)
 poll_proper shape actor p e none = record { scan = scan_free shape actor p (Poll None None) e; trap = refl; failed = ap not none; far = refl; refill = refl; want = refl; seen = refl }
 
 -- where the look for a kick leaves the protocol
@@ -171,136 +148,66 @@ polled_on old mid found lrs add p may =
     ∙ ap (λ local. make local (old.own ++ made ∷ [])) (sym (ap (λ seen. seen.local) add.adds.new_is))
     ∙ ap (make mid.local) (sym (ap (λ seen. seen.own) add.adds.new_is))
 
--- where the looks leave it
-looked_none : (new : Seen) (from : ℕ) (offers : List Offer) (q : Progress) (fill : Fill) → next_cand (shape_of new) new.actor new.local.cands from ≡ None → fill ≡ plan offers new.actor new.local.cpu (shape_of new) q.lrs
-    → looked_on new planned from offers q ≡ claims_by new (keys_chosen fill) (keys_of_both fill) (regs_of fill new.local.cpu q.lrs) fill.trapping q.failed q
-looked_none new from offers q fill none is =
-    let shape = shape_of new in
-    let vcpu = new.actor in
-    ap (λ o. let on = if is_none o then filled shape vcpu planned offers (told_by new q) else record (told_by new q) { scan = looking planned from offers } in record on { scan = ended_scan on.local on.scan }) none
-    ∙ ap (λ fill. claims_by new (keys_chosen fill) (keys_of_both fill) (regs_of fill new.local.cpu q.lrs) fill.trapping q.failed q) (sym is)
-
--- the looks are as many as the bits
-
-map_none : (f : ℕ → Key) (o : Option ℕ) → option_map f o ≡ None → o ≡ None
-map_none f None e = refl
-map_none f (Some n) e = absurd (cc)
-
-no_looks_taking : (part : List Made) (words : List ℕ) → steps_of part ≡ map TakeIndex words → looks_in part ≡ 0
-no_looks_taking [] words e = refl
-no_looks_taking (made ∷ part) [] e = absurd (cc)
-no_looks_taking (made ∷ part) (word ∷ words) e =
-    let first : made.step ≡ TakeIndex word = cc in
-    let rest : steps_of part ≡ map TakeIndex words = cc in
-    let later = filter (λ made. is_irq_look made.step) part in
-    ap (λ step. length (cond (is_irq_look step) (made ∷ later) later)) first ∙ no_looks_taking part words rest
-
--- all candidates are those of the index
-all_cands : (shape : GuestShape) (cands : Cands) (bits : ℕ) → IsShape shape → AreCands shape cands.words → AreTaken cands (index_words shape) bits → count_from (is_cand cands) 0 (index_bits shape) ≡ bits
-all_cands shape cands bits good are taken =
-    let few = bits_few shape good in
-    by_words (index_words shape) (words_hold (index_bits shape)) (words_few (index_bits shape) few) taken
-  where
-    bits_few : (shape : GuestShape) → IsShape shape → index_bits shape ≤ 6112
-    bits_few shape good = let spis = good.spis in let espis = good.espis in let lpis = good.lpis in omega (arith, spis, espis, lpis)
-
-    words_hold : (n : ℕ) → n ≤ 64 * ((n + 63) / 64)
-    words_hold n = omega arith
-
-    words_few : (n : ℕ) → n ≤ 6112 → 64 * ((n + 63) / 64) ≤ 6144
-    words_few n l = omega (arith, l)
-
-    by_words : (words : ℕ) → index_bits shape ≤ 64 * words → 64 * words ≤ 6144 → AreTaken cands words bits → count_from (is_cand cands) 0 (index_bits shape) ≡ bits
-    by_words words hold most so =
-        let n = index_bits shape in
-        let split : n + (64 * words - n) ≡ 64 * words = omega (arith, hold) in
-        let all : count_from (is_cand cands) 0 (64 * words) ≡ count_from (is_cand cands) 0 n + count_from (is_cand cands) (0 + n) (64 * words - n)
-        = ap (count_from (is_cand cands) 0) (sym split) ∙ count_split (is_cand cands) 0 n (64 * words - n) in
-        let rest = count_none (is_cand cands) (0 + n) (64 * words - n) (λ i above below. ends_before shape cands are i (omega (arith, above)) (omega (arith, below, split, most))) in
-        let count = so.count in
-        omega (arith, all, rest, count)
-
 pub scans_so :
-    (old mid1 mid2 new : Seen) (vcpu : Shelved) (lrs found : ℕ) (before after : Kept) (cpu : CpuRec) (fill : Fill) → IsPort mid2 → lrs ≤ 16 → IsOff old vcpu → AddsStep old mid1 (Poll None None) found → TakesIndex mid1 mid2 → cpu ≡ mid2.local.cpu → before.lrs ≡ lrs → before.vcpu ≡ mid2.actor
-    → ((cpu : CpuRec) → StandsFor before cpu []) → LooksOver mid2 new before after cpu → HasEntries fill.choice
-    → ((offers : List Offer) → StandsFor after cpu offers → (shape : GuestShape) → after.vcpu < shape.vcpus → fill ≡ plan offers after.vcpu cpu shape after.lrs) → Scans old new lrs fill
-scans_so old mid1 mid2 new vcpu lrs found before after cpu fill port few off add takes cpu_is lrs_is vcpu_is fresh looks entries value =
+    (old mid new : Seen) (vcpu : Shelved) (lrs found : ℕ) (kept : Kept) (cpu : CpuRec) (fill : Fill) → lrs ≤ 16 → IsOff old vcpu → AddsStep old mid (Poll None None) found → Rounds mid new lrs kept → cpu ≡ new.local.cpu → HasEntries fill.choice
+    → ((offers : List Offer) → StandsFor kept cpu offers → (shape : GuestShape) → kept.vcpu < shape.vcpus → fill ≡ plan offers kept.vcpu cpu shape kept.lrs) → Scans old new lrs fill
+scans_so old mid new vcpu lrs found kept cpu fill few off add round cpu_is entries value =
     let shape = shape_of old in
     let actor = old.actor in
     let made = made_by old (Poll None None) found add.tables in
-    let walk = looks.looking in
-    let rest = takes.part ++ walk.part in
-    let adds_rest : Adds mid1 new rest = adds_join mid1 mid2 new takes.part walk.part takes.adds walk.adds in
-    let adds : Adds old new (made ∷ rest) = adds_join old mid1 new (made ∷ []) rest add.adds adds_rest in
-    let is = adds.new_is in
-    let is2 : Adds old mid2 (made ∷ takes.part) = adds_join old mid1 mid2 (made ∷ []) takes.part add.adds takes.adds in
-    let polled : mid1.local ≡ record old.local { phase = Scanning; cpu = record old.local.cpu { lpis = (vcpu_of found).lpis } } = ap (λ seen. seen.local) add.adds.new_is in
+    let rest = round.part in
+    let adds : Adds old new (made ∷ rest) = adds_join old mid new (made ∷ []) rest add.adds round.adds in
+    let polled : mid.local ≡ record old.local { phase = Scanning; cpu = record old.local.cpu { lpis = (vcpu_of found).lpis } } = ap (λ seen. seen.local) add.adds.new_is in
     let back : Local → Local = λ local. record local { cands = old.local.cands; phase = old.local.phase; cpu = old.local.cpu } in
     let with_lpis : CpuRec → CpuRec = λ cpu. record cpu { lpis = old.local.cpu.lpis } in
-    let cpu_new : new.local.cpu ≡ mid2.local.cpu = ap (λ local. local.cpu) walk.same in
-    let cpu_old : new.local.cpu ≡ record old.local.cpu { lpis = (vcpu_of found).lpis } = cpu_new ∙ ap (λ local. local.cpu) takes.same ∙ ap (λ local. local.cpu) polled in
-    let actor_new : mid2.actor ≡ new.actor = sym (ap (λ seen. seen.actor) walk.adds.new_is) in
-    let vcpu_new : after.vcpu ≡ new.actor = walk.vcpu ∙ vcpu_is ∙ actor_new in
-    let is_one : is_vcpu (shape_of new) new.actor ≡ true = ap (λ seen. is_vcpu (shape_of seen) seen.actor) is ∙ off.actor.is_one in
+    let cpu_old : new.local.cpu ≡ record old.local.cpu { lpis = (vcpu_of found).lpis } = ap (λ local. local.cpu) round.same ∙ ap (λ local. local.cpu) polled in
+    let is_one : is_vcpu (shape_of new) new.actor ≡ true = ap (λ seen. is_vcpu (shape_of seen) seen.actor) adds.new_is ∙ off.actor.is_one in
     let less : new.actor < (shape_of new).vcpus = ltb-true new.actor (shape_of new).vcpus is_one in
-    let plan_is : fill ≡ plan walk.offers new.actor new.local.cpu (shape_of new) lrs
-    = value walk.offers (walk.stands (fresh cpu)) (shape_of new) (subst (λ vcpu. vcpu < (shape_of new).vcpus) (sym vcpu_new) less)
-    ∙ ap (λ vcpu. plan walk.offers vcpu cpu (shape_of new) after.lrs) vcpu_new
-    ∙ ap (λ cpu. plan walk.offers new.actor cpu (shape_of new) after.lrs) (cpu_is ∙ sym cpu_new)
-    ∙ ap (plan walk.offers new.actor new.local.cpu (shape_of new)) (walk.lrs ∙ lrs_is) in
-    let none_before : IsTrue (has_no_cand mid1.local) = ap has_no_cand polled ∙ (and_parts (owes_no_kick old.local && owes_no_mark old.local) (has_no_cand old.local) (settled_owes old.local off.settled)).1 in
-    let shape_is : shape_of mid1 ≡ shape_of mid2 = sym (ap shape_of takes.adds.new_is) in
-    let counted : count_from (is_cand mid2.local.cands) 0 (index_bits (shape_of mid2)) ≡ bits_taken takes.part
-    = all_cands (shape_of mid2) mid2.local.cands (bits_taken takes.part) port.good.shape port.local.cands (subst (λ shape. AreTaken mid2.local.cands (index_words shape) (bits_taken takes.part)) shape_is (takes.taken none_before)) in
-    let end_is : index_bits (shape_of mid2) ≡ index_bits (shape_of new) = sym (ap (λ seen. index_bits (shape_of seen)) walk.adds.new_is) in
-    let searched : find (is_cand new.local.cands) (range_with_len looks.from (index_bits (shape_of mid2) - looks.from)) ≡ None
-    = ap (λ end. find (is_cand new.local.cands) (range_with_len looks.from (end - looks.from))) end_is ∙ map_none (key_of_bit (shape_of new) new.actor) (find (is_cand new.local.cands) (range_with_len looks.from (index_bits (shape_of new) - looks.from))) looks.none in
-    let tail = count_none (is_cand new.local.cands) looks.from (index_bits (shape_of mid2) - looks.from) (found_nowhere (is_cand new.local.cands) looks.from (index_bits (shape_of mid2) - looks.from) searched) in
-    let walked = walk.looks in
-    let still = walk.none_left in
-    let none_takes = no_looks_taking takes.part (range_with_len 0 (index_words (shape_of mid1))) takes.steps_are in
+    let plan_is : fill ≡ plan round.offers new.actor new.local.cpu (shape_of new) lrs
+    = value round.offers (subst (λ cpu. StandsFor kept cpu round.offers) (sym cpu_is) round.stands) (shape_of new) (subst (λ vcpu. vcpu < (shape_of new).vcpus) (sym round.vcpu_is) less)
+    ∙ ap (λ vcpu. plan round.offers vcpu cpu (shape_of new) kept.lrs) round.vcpu_is
+    ∙ ap (λ cpu. plan round.offers new.actor cpu (shape_of new) kept.lrs) cpu_is
+    ∙ ap (plan round.offers new.actor new.local.cpu (shape_of new)) round.lrs_is in
+    let none_before : IsTrue (has_no_cand mid.local) = ap has_no_cand polled ∙ (and_parts (owes_no_kick old.local && owes_no_mark old.local) (has_no_cand old.local) (settled_owes old.local off.settled)).1 in
     let looks_all = looks_append (made ∷ []) rest in
-    let looks_rest = looks_append takes.part walk.part in
     let bits_all = taken_append (made ∷ []) rest in
-    let bits_rest = taken_append takes.part walk.part in
     let poll_quiet = quiet_none (made ∷ []) refl in
     let poll_looks = poll_quiet.0 in
     let poll_bits = poll_quiet.1 in
-    let scan_looks : looks_in (made ∷ rest) ≡ bits_taken (made ∷ rest) = omega (arith, counted, tail, walked, still, none_takes, looks_all, looks_rest, bits_all, bits_rest, poll_looks, poll_bits) in
-    let begins_at : Progress → Progress = λ p. record (told_by mid1 (begun false p)) { scan = taking planned 0 } in
-    let ends : (p : Progress) → MayEnter old lrs p → EndsNone mid2 (begins_at p) = λ p may key. ap (λ seen. is_end_of (shape_of seen) seen.actor p.operation key) is2.new_is ∙ may.ends key in
-    let poll : (p : Progress) → MayEnter old lrs p → progress_of shape actor p (map makes (made ∷ [])) ≡ begins_at p = λ p may. polled_on old mid1 found lrs add p may in
-    let at : (p : Progress) → IsScanAt mid1 (begins_at p) (taking planned 0) = λ p. record { local = refl; own = refl; is = refl } in
-    let taken : (p : Progress) → progress_of (shape_of mid1) mid1.actor (begins_at p) (map makes takes.part) ≡ looked_on mid2 planned 0 [] (begins_at p) = λ p. all_taken mid1 mid2 planned (begins_at p) takes (at p) in
+    let same_count = round.looks none_before in
+    let begins_at : Progress → Progress = λ p. record (told_by mid (begun false p)) { scan = taking planned 0 } in
+    let poll : (p : Progress) → MayEnter old lrs p → progress_of shape actor p (map makes (made ∷ [])) ≡ begins_at p = λ p may. polled_on old mid found lrs add p may in
+    let at : (p : Progress) → IsScanAt mid (begins_at p) (taking planned 0) = λ p. record { local = refl; own = refl; is = refl } in
     record {
       part = made ∷ rest;
       adds = adds;
-      none_taken = none_append (made ∷ []) rest (ap (λ b. b && true) (handed_none (Poll None None) found old add.tables refl add.handed)) (none_append takes.part walk.part takes.none_taken walk.none_taken);
-      looks = scan_looks;
-      silent = two_silent old mid1 (made ∷ []) rest add.adds refl (two_silent mid1 mid2 takes.part walk.part takes.adds takes.silent walk.silent);
-      same = ap back walk.same ∙ ap back takes.same ∙ ap back polled;
+      none_taken = none_append (made ∷ []) rest (ap (λ b. b && true) (handed_none (Poll None None) found old add.tables refl add.handed)) round.none_taken;
+      looks = omega (arith, same_count, looks_all, bits_all, poll_looks, poll_bits);
+      silent = two_silent old mid (made ∷ []) rest add.adds refl round.silent;
+      same = ap back round.same ∙ ap back polled;
       phase =
-          ap (λ local. local.phase) walk.same ∙ takes.phase ∙ ap (phase_taken (shape_of mid1) (index_words (shape_of mid1))) (ap (λ local. local.phase) polled)
-          ∙ ap (λ b. if b then Claiming else Scanning) (eq-eqb (index_words (shape_of mid1)) (index_words (shape_of mid1)) refl);
+          round.phase ∙ ap (phase_taken (shape_of mid) (index_words (shape_of mid))) (ap (λ local. local.phase) polled)
+          ∙ ap (λ b. if b then Claiming else Scanning) (eq-eqb (index_words (shape_of mid)) (index_words (shape_of mid)) refl);
       cpu = ap with_lpis cpu_old;
-      plan = record { vcpu = is_one; few = few; offers = walk.offers; found = walk.found; is = plan_is };
+      plan = record { vcpu = is_one; few = few; offers = round.offers; found = round.found; is = plan_is };
       entries = entries;
       proper = λ p may.
           two_proper shape actor p (begins_at p) (made ∷ []) rest (poll_proper shape actor p (idle_is p.scan may.idle.scan) may.none_failed, tt) (poll p may)
-          (same_proper old mid1 (made ∷ []) rest (begins_at p) add.adds
-          (two_proper (shape_of mid1) mid1.actor (begins_at p) (looked_on mid2 planned 0 [] (begins_at p)) takes.part walk.part (takes.proper planned (begins_at p) (at p)) (taken p)
-          (same_proper mid1 mid2 takes.part walk.part (looked_on mid2 planned 0 [] (begins_at p)) takes.adds (walk.proper planned (begins_at p) (ends p may)))));
+          (same_proper old mid (made ∷ []) rest (begins_at p) add.adds (round.proper planned (begins_at p) (at p)));
       goes_on = λ p may.
-          two_on shape actor p (made ∷ []) rest
-          ∙ ap (λ q. progress_of shape actor q (map makes rest)) (poll p may)
-          ∙ same_progress old mid1 (made ∷ []) rest (begins_at p) add.adds
-          ∙ two_on (shape_of mid1) mid1.actor (begins_at p) takes.part walk.part
-          ∙ ap (λ q. progress_of (shape_of mid1) mid1.actor q (map makes walk.part)) (taken p)
-          ∙ same_progress mid1 mid2 takes.part walk.part (looked_on mid2 planned 0 [] (begins_at p)) takes.adds
-          ∙ walk.goes_on planned (begins_at p) (ends p may)
-          ∙ looked_none new looks.from walk.offers (begins_at p) fill looks.none (plan_is ∙ ap (plan walk.offers new.actor new.local.cpu (shape_of new)) (sym may.lrs_is))
-          ∙ ap (λ lrs. claims_by new (keys_chosen fill) (keys_of_both fill) (regs_of fill new.local.cpu lrs) fill.trapping p.failed (begun false p)) may.lrs_is
-          ∙ ap (λ failed. claims_by new (keys_chosen fill) (keys_of_both fill) (regs_of fill new.local.cpu lrs) fill.trapping failed (begun false p)) may.none_failed;
+          let on = round.goes_on planned (begins_at p) (at p) in
+          let claims : Fill → ℕ → Bool → Progress = λ fill lrs failed. claims_by new (keys_chosen fill) (keys_of_both fill) (regs_of fill new.local.cpu lrs) fill.trapping failed (record (begun false p) { far = on.far }) in
+          record {
+            far = on.far;
+            is =
+                two_on shape actor p (made ∷ []) rest
+                ∙ ap (λ q. progress_of shape actor q (map makes rest)) (poll p may)
+                ∙ same_progress old mid (made ∷ []) rest (begins_at p) add.adds
+                ∙ on.is
+                ∙ ap (λ lrs. claims (plan round.offers new.actor new.local.cpu (shape_of new) lrs) lrs p.failed) may.lrs_is
+                ∙ ap (λ fill. claims fill lrs p.failed) (sym plan_is)
+                ∙ ap (claims fill lrs) may.none_failed;
+          };
     }
 
 -- The entry.
@@ -332,8 +239,52 @@ claims_on mid mid2 new fill lrs ready loaded failed count claims over =
           ∙ over.goes_on loaded.regs fill.trapping p;
     }
 
+-- a plan out of trap mode traps no access
+hcr_opens : (cpu : CpuRec) (cut : Bool) → IsOpen (hcr_of cpu cut false)
+hcr_opens cpu cut = of cpu.en0 cpu.en1 cut
+  where
+    of : (a b c : Bool) → IsOpen (2 ^ hcr_en + (if c then 2 ^ hcr_npie else 0) + (if a then 2 ^ hcr_vgrp0die else 2 ^ hcr_vgrp0eie) + (if b then 2 ^ hcr_vgrp1die else 2 ^ hcr_vgrp1eie) + 0)
+    of true true true = record { common = refl; group_0 = refl; group_1 = refl; deactivate = refl }
+    of true true false = record { common = refl; group_0 = refl; group_1 = refl; deactivate = refl }
+    of true false true = record { common = refl; group_0 = refl; group_1 = refl; deactivate = refl }
+    of true false false = record { common = refl; group_0 = refl; group_1 = refl; deactivate = refl }
+    of false true true = record { common = refl; group_0 = refl; group_1 = refl; deactivate = refl }
+    of false true false = record { common = refl; group_0 = refl; group_1 = refl; deactivate = refl }
+    of false false true = record { common = refl; group_0 = refl; group_1 = refl; deactivate = refl }
+    of false false false = record { common = refl; group_0 = refl; group_1 = refl; deactivate = refl }
+
+plan_opens : (seen : Seen) (lrs : ℕ) (fill : Fill) → IsPlanOf seen lrs fill → fill.trapping ≡ false → IsOpen fill.hcr
+plan_opens seen lrs fill is none =
+    let made = plan is.offers seen.actor seen.local.cpu (shape_of seen) lrs in
+    let off : made.trapping ≡ false = ap (λ (fill : Fill). fill.trapping) (sym is.is) ∙ none in
+    subst IsOpen (sym (ap (λ (fill : Fill). fill.hcr) is.is ∙ ap (hcr_of seen.local.cpu made.cut) off)) (hcr_opens seen.local.cpu made.cut)
+
+-- one of trap mode chooses nothing
+abbrev no_choices : ℕ → List (Option Choice)
+no_choices n = replicate n None
+
+none_chosen : (seen : Seen) {lrs : ℕ} {fill : Fill} → IsPlanOf seen lrs fill → fill.trapping ≡ true → (place : ℕ) → slice_index_or fill.choice place None ≡ None
+none_chosen seen {lrs} {fill} is all place =
+    let made = plan is.offers seen.actor seen.local.cpu (shape_of seen) lrs in
+    let on : made.trapping ≡ true = ap (λ (fill : Fill). fill.trapping) (sym is.is) ∙ all in
+    let choices = choices_of (active_among is.offers seen.actor) (deliverable_among is.offers seen.actor seen.local.cpu (shape_of seen)) made.cut seen.actor seen.local.cpu (shape_of seen) lrs in
+    ap (λ (fill : Fill). slice_index_or fill.choice place None) is.is
+    ∙ ap (λ b. slice_index_or (in_places (if b then [] else choices)) place None) on
+    ∙ ap (λ places. slice_index_or places place None) (sym nothing_placed)
+    ∙ of 16 place
+  where
+    of : (n i : ℕ) → slice_index_or (no_choices n) i None ≡ None
+    of zero zero = refl
+    of zero (suc i) = refl
+    of (suc n) zero = refl
+    of (suc n) (suc i) = of n i
+
+none_at : (at : List AtIrq) → ((entry : AtIrq) → Contains at entry → ⊥) → at ≡ []
+none_at [] none = refl
+none_at (entry ∷ rest) none = absurd (none entry (Contains-here entry rest))
+
 -- what it has for itself then
-record EndsSo (old new : Seen) (vcpu : Shelved) (loaded : Loaded) (fill : Fill) : Type 0 where
+record EndsSo (old new : Seen) (vcpu : Shelved) (lrs : ℕ) (loaded : Loaded) (fill : Fill) : Type 0 where
   phase : new.local.phase ≡ Claiming
   settled : IsTrue (is_settled new.local)
   base : record loaded.base { cpu = vcpu.cpu } ≡ vcpu
@@ -341,9 +292,12 @@ record EndsSo (old new : Seen) (vcpu : Shelved) (loaded : Loaded) (fill : Fill) 
   cpu : (shelved_of loaded).cpu ≡ new.local.cpu
   whole : IsTrue (list_all (λ at. not at.given) new.local.at)
   trapping : loaded.trapping ≡ fill.trapping
+  count : loaded.regs.n ≡ lrs
+  hcr : loaded.regs.hcr ≡ fill.hcr
+  bare : fill.trapping ≡ true → new.local.at ≡ []
 
 ends_so : (old mid mid2 new : Seen) (vcpu : Shelved) (lrs : ℕ) (cpu : CpuRec) (fill : Fill) (ready loaded : Loaded) (failed : Bool) → IsOff old vcpu → Scans old mid lrs fill → cpu ≡ mid.local.cpu → IsReady vcpu cpu lrs fill ready → ClaimsAll mid mid2 fill ready loaded failed → EndsScan mid2 new failed
-    → EndsSo old new vcpu loaded fill
+    → EndsSo old new vcpu lrs loaded fill
 ends_so old mid mid2 new vcpu lrs cpu fill ready loaded failed off scans cpu_is is_ready claims over =
     let with_cpu : Shelved → Shelved = λ base. record base { cpu = vcpu.cpu } in
     let owes = settled_owes old.local off.settled in
@@ -365,6 +319,13 @@ ends_so old mid mid2 new vcpu lrs cpu fill ready loaded failed off scans cpu_is 
           ∙ sym (ap (λ local. local.cpu) over.same ∙ ap (λ local. local.cpu) claims.same);
       whole = ap (λ local. list_all (λ at. not at.given) local.at) over.same ∙ claims.whole;
       trapping = ap (λ vcpu. vcpu.trapping) claims.loaded ∙ is_ready.trapping;
+      count = ap (λ (one : Loaded). one.regs.n) claims.loaded ∙ ap (λ (regs : IchRegs). regs.n) is_ready.regs;
+      hcr = ap (λ (one : Loaded). one.regs.hcr) claims.loaded ∙ ap (λ (regs : IchRegs). regs.hcr) is_ready.regs;
+      bare = λ trapping.
+          ap (λ local. local.at) over.same
+          ∙ none_at mid2.local.at
+          (λ entry among. let held = claims.stands.places.each (shown entry) (Contains-map shown mid2.local.at entry among) in let one = claims.held held.place held.one held.there in
+          none-some one.choice (sym (none_chosen mid scans.plan trapping held.place) ∙ one.chosen));
     }
   where
     all_true : (a b c d e : Bool) → IsTrue a → IsTrue b → IsTrue c → IsTrue d → IsTrue e → IsTrue (((a && b) && c) && d && e)
@@ -376,8 +337,8 @@ ends_so old mid mid2 new vcpu lrs cpu fill ready loaded failed off scans cpu_is 
     all_true true true true true false h i j k l = absurd (cc)
 
 -- the part may end
-entered_ends : (new : Seen) (loaded : Loaded) (p : Progress) → new.local.phase ≡ Claiming → IsTrue (is_settled new.local) → owed_after_scan p.debt ≡ paid → p.wants ≡ [] → IsProperEnd (entered new loaded p)
-entered_ends new loaded p phase settled debt wants =
+entered_ends : (new : Seen) (loaded : Loaded) (far : Option Bool) (p : Progress) → new.local.phase ≡ Claiming → IsTrue (is_settled new.local) → owed_after_scan p.debt ≡ paid → p.wants ≡ [] → IsProperEnd (entered new loaded far p)
+entered_ends new loaded far p phase settled debt wants =
     record {
       scan = refl;
       refill =
@@ -392,9 +353,9 @@ entered_ends new loaded p phase settled debt wants =
     or_true false = refl
 
 pub enters_so :
-    (old mid mid2 new : Seen) (vcpu : Shelved) (lrs : ℕ) (cpu : CpuRec) (fill : Fill) (ready loaded : Loaded) (failed : Bool) → IsOff old vcpu → Scans old mid lrs fill → cpu ≡ mid.local.cpu → IsReady vcpu cpu lrs fill ready → ClaimsAll mid mid2 fill ready loaded failed → EndsScan mid2 new failed
+    (old mid mid2 new : Seen) (vcpu : Shelved) (lrs : ℕ) (cpu : CpuRec) (fill : Fill) (ready loaded : Loaded) (failed : Bool) → 1 ≤ lrs → lrs ≤ 16 → IsOff old vcpu → Scans old mid lrs fill → cpu ≡ mid.local.cpu → IsReady vcpu cpu lrs fill ready → ClaimsAll mid mid2 fill ready loaded failed → EndsScan mid2 new failed
     → Enters old new vcpu lrs loaded
-enters_so old mid mid2 new vcpu lrs cpu fill ready loaded failed off scans cpu_is is_ready claims over =
+enters_so old mid mid2 new vcpu lrs cpu fill ready loaded failed some few off scans cpu_is is_ready claims over =
     let shape = shape_of old in
     let actor = old.actor in
     let late = claims.part ++ over.part in
@@ -402,31 +363,38 @@ enters_so old mid mid2 new vcpu lrs cpu fill ready loaded failed off scans cpu_i
     let adds : Adds old new part = adds_join old mid new scans.part late scans.adds (adds_join mid mid2 new claims.part over.part claims.adds over.adds) in
     let is = adds.new_is in
     let count : ready.regs.n ≡ lrs = ap (λ regs. regs.n) is_ready.regs in
-    let on = claims_on mid mid2 new fill lrs ready loaded failed count claims over in
+    let on_claims = claims_on mid mid2 new fill lrs ready loaded failed count claims over in
     let so = ends_so old mid mid2 new vcpu lrs cpu fill ready loaded failed off scans cpu_is is_ready claims over in
     let mid_actor : mid.actor ≡ actor = ap (λ seen. seen.actor) scans.adds.new_is in
-    let start : Progress → Progress = λ p. claims_by mid (keys_chosen fill) (keys_of_both fill) (regs_of fill mid.local.cpu lrs) fill.trapping false (begun false p) in
+    let start : Progress → Progress = λ p. claims_by mid (keys_chosen fill) (keys_of_both fill) (regs_of fill mid.local.cpu lrs) fill.trapping false p in
     let moves : named_of (Some actor) (part_events old part) ≡ []
     = ap (named_of (Some actor)) (events_then old mid scans.part late scans.adds)
     ∙ both_moves (Some actor) (part_events old scans.part) (part_events mid late) (ap (named_of (Some actor)) scans.silent)
     (ap (named_of (Some actor)) (events_then mid mid2 claims.part over.part claims.adds)
     ∙ both_moves (Some actor) (part_events mid claims.part) (part_events mid2 over.part) (ap (λ actor. named_of (Some actor) (part_events mid claims.part)) (sym mid_actor) ∙ claims.moves) (ap (named_of (Some actor)) over.silent)) in
+    let begins_with : (p : Progress) → Option Bool → Progress = λ p far. record (begun false p) { far = far } in
     let proper : (p : Progress) → MayEnter old lrs p → IsProper shape actor p (map makes part)
-    = λ p may. two_proper shape actor p (start p) scans.part late (scans.proper p may) (scans.goes_on p may) (same_proper old mid scans.part late (start p) scans.adds (on.proper (begun false p))) in
-    let goes_on : (p : Progress) → MayEnter old lrs p → progress_of shape actor p (map makes part) ≡ entered new loaded p
-    = λ p may.
-    two_on shape actor p scans.part late
-    ∙ ap (λ q. progress_of shape actor q (map makes late)) (scans.goes_on p may)
-    ∙ same_progress old mid scans.part late (start p) scans.adds
-    ∙ on.goes_on (begun false p)
-    ∙ ap (λ trapping. record (told_by new (begun false p)) { scan = idle; regs = loaded.regs; trapping = trapping; failed = false }) (sym so.trapping) in
+    = λ p may. let on = scans.goes_on p may in
+    two_proper shape actor p (start (begins_with p on.far)) scans.part late (scans.proper p may) on.is (same_proper old mid scans.part late (start (begins_with p on.far)) scans.adds (on_claims.proper (begins_with p on.far))) in
+    let goes_on : (p : Progress) → MayEnter old lrs p → HasEntered new loaded p (progress_of shape actor p (map makes part))
+    = λ p may. let on = scans.goes_on p may in
+    record {
+      far = on.far;
+      is =
+          two_on shape actor p scans.part late
+          ∙ ap (λ q. progress_of shape actor q (map makes late)) on.is
+          ∙ same_progress old mid scans.part late (start (begins_with p on.far)) scans.adds
+          ∙ on_claims.goes_on (begins_with p on.far)
+          ∙ ap (λ trapping. record (told_by new (begins_with p on.far)) { scan = idle; regs = loaded.regs; trapping = trapping; failed = false }) (sym so.trapping);
+    } in
+    let as_before : CpuRec → CpuRec = λ cpu. record cpu { lpis = old.local.cpu.lpis } in
     let answer : Option ℕ = None in
     let beside : Beside = record { maps = maps_taken part; targets = λ number id. None } in
     let Call : Option ℕ → Type 0 = λ actor. IsCall shape beside actor Residence (part_events old part) answer in
     let is_vcpu_so : vcpu_of_actor shape actor ≡ Some actor = ap (λ b. if b then Some actor else None) off.actor.is_one in
     let begin : Progress → Progress = λ p. record p { operation = Some Residence; lrs = lrs; far = None } in
     let may_begin : (p : Progress) → IsBetween old p → MayEnter old lrs (begin p)
-    = λ p between. record { idle = record { local = between.rest.local; own = between.rest.own; scan = between.rest.scan }; ends = λ key. refl; near = refl; lrs_is = refl; none_failed = between.none_failed } in
+    = λ p between. record { idle = record { local = between.rest.local; own = between.rest.own; scan = between.rest.scan }; near = refl; lrs_is = refl; none_failed = between.none_failed } in
     record {
       part = part;
       adds = adds;
@@ -452,20 +420,29 @@ enters_so old mid mid2 new vcpu lrs cpu fill ready loaded failed off scans cpu_i
           let may = may_begin p between in (
             tt,
             (proper_append shape actor (begin p) (map makes part) (ends None ∷ [])).1
-                (proper (begin p) may, (subst IsProperEnd (sym (goes_on (begin p) may)) (entered_ends new loaded (begin p) so.phase so.settled between.debt between.rest.wants), tt)),
+                (proper (begin p) may, (let on = goes_on (begin p) may in subst IsProperEnd (sym on.is) (entered_ends new loaded on.far (begin p) so.phase so.settled between.debt between.rest.wants), tt)),
           );
-      on =
+      up =
           record {
-            actor =
+            on =
                 record {
-                  guest = ap (λ seen. seen.number) is ∙ off.actor.guest ∙ sym (ap (λ base. base.guest) so.base);
-                  number = ap (λ seen. seen.actor) is ∙ off.actor.number ∙ sym (ap (λ base. base.vcpu) so.base);
-                  is_one = ap (λ seen. is_vcpu (shape_of seen) seen.actor) is ∙ off.actor.is_one;
+                  actor =
+                      record {
+                        guest = ap (λ seen. seen.number) is ∙ off.actor.guest ∙ sym (ap (λ base. base.guest) so.base);
+                        number = ap (λ seen. seen.actor) is ∙ off.actor.number ∙ sym (ap (λ base. base.vcpu) so.base);
+                        is_one = ap (λ seen. is_vcpu (shape_of seen) seen.actor) is ∙ off.actor.is_one;
+                      };
+                  stands = so.stands;
+                  cpu = so.cpu;
+                  whole = so.whole;
+                  settled = so.settled;
                 };
-            stands = so.stands;
-            cpu = so.cpu;
-            whole = so.whole;
-            settled = so.settled;
+            lrs = (subst (λ n. 1 ≤ n) (sym so.count) some, subst (λ n. n ≤ 16) (sym so.count) few);
+            ready = ap may_access so.phase;
+            free = λ none. subst IsOpen (sym so.hcr) (plan_opens mid lrs fill scans.plan (sym so.trapping ∙ none));
+            bare = λ all. so.bare (sym so.trapping ∙ all);
           };
+      lrs_is = so.count;
+      cpu = ap as_before (ap (λ local. local.cpu) over.same ∙ ap (λ local. local.cpu) claims.same) ∙ scans.cpu;
       kept = so.base;
     }

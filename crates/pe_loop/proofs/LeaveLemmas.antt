@@ -299,7 +299,7 @@ all_left seen vcpu on =
         (ap (is_same_key entry.key) held.is ∙ same_itself entry.key)
 
 -- a vCPU that leaves makes no event but that its interrupts leave
-only_leave : (vcpu : ℕ) (keys : List Key) → named_of (Some vcpu) (map (left_by vcpu) keys) ≡ []
+pub only_leave : (vcpu : ℕ) (keys : List Key) → named_of (Some vcpu) (map (left_by vcpu) keys) ≡ []
 only_leave vcpu [] = refl
 only_leave vcpu (key ∷ keys) = ap (λ b. cond (not b) (left_by vcpu key ∷ named_of (Some vcpu) (map (left_by vcpu) keys)) (named_of (Some vcpu) (map (left_by vcpu) keys))) (eq-eqb vcpu vcpu refl) ∙ only_leave vcpu keys
 

@@ -5,8 +5,10 @@ pub mod FirstLemmas
 pub mod IndexLemmas
 pub mod CandLemmas
 pub mod CountLemmas
+pub mod JoinLemmas
 pub mod LookLemmas
 pub mod MarkLemmas
+pub mod RoundLemmas
 pub mod ClaimLemmas
 pub mod ReachLemmas
 pub mod ChosenLemmas

@@ -46,7 +46,7 @@ use Rattle.port_call.proofs.PieceLemmas.{seen_nil}
 use Rattle.pe_loop.specs.Counting.{count_from, looks_in, bits_taken}
 use Rattle.pe_loop.proofs.CandLemmas.{cand_same}
 use Rattle.pe_loop.proofs.CountLemmas.{count_first, count_same, looks_append, taken_append, taken_one}
-use Rattle.pe_loop.specs.Scanning.{told_by, looked_on, IsScanAt, TakesIndex, EndsNone, IsFound, AreFound, LooksAt, IsLooking}
+use Rattle.pe_loop.specs.Scanning.{told_by, looked_on, IsScanAt, TakesIndex, IsLookedOn, IsFound, AreFound, LooksAt, IsLooking}
 
 -- An offer.
 
@@ -114,9 +114,9 @@ look_proper shape actor p purpose from offers key e next =
     }
 
 look_stepped :
-    (now new : Seen) (p : Progress) (purpose : Purpose) (from bit : ℕ) (offers : List Offer) (key : Key) (found : ℕ) (add : AddsStep now new (Look (IrqWord key)) found) → EndsNone now p → index_bit (shape_of now) key ≡ bit
-    → stepped (shape_of now) now.actor (made_by now (Look (IrqWord key)) found add.tables) (record (told_by now p) { scan = looking purpose from offers }) ≡ looked_on new purpose (bit + 1) (offers ++ offered key (irq_of found)) p
-look_stepped now new p purpose from bit offers key found add ends is =
+    (now new : Seen) (p : Progress) (purpose : Purpose) (from bit : ℕ) (offers : List Offer) (key : Key) (found : ℕ) (add : AddsStep now new (Look (IrqWord key)) found) → index_bit (shape_of now) key ≡ bit
+    → IsLookedOn new purpose (bit + 1) (offers ++ offered key (irq_of found)) p (stepped (shape_of now) now.actor (made_by now (Look (IrqWord key)) found add.tables) (record (told_by now p) { scan = looking purpose from offers }))
+look_stepped now new p purpose from bit offers key found add is =
     let shape = shape_of now in
     let more = offers ++ offered key (irq_of found) in
     let made = made_by now (Look (IrqWord key)) found add.tables in
@@ -124,14 +124,16 @@ look_stepped now new p purpose from bit offers key found add ends is =
     let on = looks_on shape now.actor purpose (bit + 1) more (record p { local = local; own = own; far = far }) in record on { scan = ended_scan on.local on.scan } in
     let local = local_after shape now.actor now.local (Look (IrqWord key)) found in
     let own = now.own ++ made ∷ [] in
-    let far : (if is_end_of shape now.actor p.operation key then Some (is_number now.actor (irq_of found).act_by) else p.far) ≡ p.far
-    = ap (λ b. if b then Some (is_number now.actor (irq_of found).act_by) else p.far) (ends key) in
+    let far : Option Bool = if is_end_of shape now.actor p.operation key then Some (is_number now.actor (irq_of found).act_by) else p.far in
     let settle : Progress → Progress = λ on. record on { scan = ended_scan on.local on.scan } in
-    let looked : Progress = record p { local = local; own = own; far = if is_end_of shape now.actor p.operation key then Some (is_number now.actor (irq_of found).act_by) else p.far } in
-    ap settle (looks_same shape now.actor purpose (index_bit shape key + 1) more looked (looking purpose (index_bit shape key + 1) more))
-    ∙ ap (λ far. after far (index_bit shape key) local own) far
-    ∙ ap (λ bit. after p.far bit local own) is
-    ∙ ap (λ seen. looked_on seen purpose (bit + 1) more p) (sym add.adds.new_is)
+    let looked : Progress = record p { local = local; own = own; far = far } in
+    record {
+      far = far;
+      is =
+          ap settle (looks_same shape now.actor purpose (index_bit shape key + 1) more looked (looking purpose (index_bit shape key + 1) more))
+          ∙ ap (λ bit. after far bit local own) is
+          ∙ ap (λ seen. looked_on seen purpose (bit + 1) more (record p { far = far })) (sym add.adds.new_is);
+    }
 
 -- What was found.
 
@@ -171,8 +173,8 @@ no_looks seen chooser cpu =
       lrs = refl;
       vcpu = refl;
       stands = λ stands. stands;
-      proper = λ purpose p ends. tt;
-      goes_on = λ purpose p ends. refl;
+      proper = λ purpose p. tt;
+      goes_on = λ purpose p. record { far = p.far; is = refl };
     }
 
 -- the interrupts that are offered are found so
@@ -301,21 +303,30 @@ one_look old now new before after later cpu from bit key good first key_is bit_i
       lrs = look.lrs ∙ so.lrs;
       vcpu = look.vcpu ∙ so.vcpu;
       stands = λ stands. look.stands so.offers (so.stands stands);
-      proper = λ purpose p ends.
+      proper = λ purpose p.
           let q = looked_on old purpose 0 [] p in
-          let step : IsProperStep shape old.actor (looked_on now purpose from so.offers p) (Look (IrqWord key))
-          = subst (λ p. IsProperStep shape old.actor p (Look (IrqWord key))) (sym (at purpose p))
-          (look_proper shape old.actor (record (told_by now p) { scan = looking purpose from so.offers }) purpose from so.offers key refl
+          let so_far = so.goes_on purpose p in
+          let p1 : Progress = record p { far = so_far.far } in
+          let step : IsProperStep shape old.actor (looked_on now purpose from so.offers p1) (Look (IrqWord key))
+          = subst (λ p. IsProperStep shape old.actor p (Look (IrqWord key))) (sym (at purpose p1))
+          (look_proper shape old.actor (record (told_by now p1) { scan = looking purpose from so.offers }) purpose from so.offers key refl
           (ap (λ seen. next_cand (shape_of seen) seen.actor now.local.cands from) (sym is) ∙ next)) in
           subst (IsProper shape old.actor q) (sym (map-append makes so.part (made ∷ [])))
           ((proper_append shape old.actor q (map makes so.part) (makes made ∷ [])).1
-          (so.proper purpose p ends, (subst (λ p. IsProperStep shape old.actor p (Look (IrqWord key))) (sym (so.goes_on purpose p ends)) step, tt)));
-      goes_on = λ purpose p ends.
+          (so.proper purpose p, (subst (λ p. IsProperStep shape old.actor p (Look (IrqWord key))) (sym so_far.is) step, tt)));
+      goes_on = λ purpose p.
           let q = looked_on old purpose 0 [] p in
-          ap (progress_of shape old.actor q) (map-append makes so.part (made ∷ [])) ∙ fold-append (progressed shape old.actor) q (map makes so.part) (makes made ∷ [])
-          ∙ ap (Steps shape old.actor) (so.goes_on purpose p ends ∙ at purpose p)
-          ∙ ap (λ seen. stepped (shape_of seen) seen.actor made (record (told_by now p) { scan = looking purpose from so.offers })) (sym is)
-          ∙ look_stepped now new p purpose from bit so.offers key look.found add (subst (λ seen. EndsNone seen p) (sym is) ends) (ap (λ shape. index_bit shape key) shape_is ∙ bit_is);
+          let so_far = so.goes_on purpose p in
+          let p1 : Progress = record p { far = so_far.far } in
+          let last = look_stepped now new p1 purpose from bit so.offers key look.found add (ap (λ shape. index_bit shape key) shape_is ∙ bit_is) in
+          record {
+            far = last.far;
+            is =
+                ap (progress_of shape old.actor q) (map-append makes so.part (made ∷ [])) ∙ fold-append (progressed shape old.actor) q (map makes so.part) (makes made ∷ [])
+                ∙ ap (Steps shape old.actor) (so_far.is ∙ at purpose p1)
+                ∙ ap (λ seen. stepped (shape_of seen) seen.actor made (record (told_by now p1) { scan = looking purpose from so.offers })) (sym is)
+                ∙ last.is;
+          };
     }
 
 -- The loop.

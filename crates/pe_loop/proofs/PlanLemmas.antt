@@ -50,7 +50,7 @@ in_range shape (Spi id) good h = of (is_within 32 shape.spis id) refl h
     of false e h = let parts = within_is 4096 shape.espis id h in let low = parts.0 in let high = parts.1 in let few = good.espis in (omega (arith, low), omega (arith, high, few))
 in_range shape (Lpi id) good h = let parts = within_is 8192 shape.lpis id h in let low = parts.0 in let high = parts.1 in let few = good.lpis in (low, omega (arith, high, few))
 
-id_fits : (key : Key) → IsInRange key → intid_of key < 2 ^ 32
+pub id_fits : (key : Key) → IsInRange key → intid_of key < 2 ^ 32
 id_fits (Private vcpu id) h = omega (arith, h)
 id_fits (Spi id) h = let high = h.1 in omega (arith, high)
 id_fits (Lpi id) h = let high = h.1 in omega (arith, high)
@@ -94,7 +94,7 @@ none_held (place ∷ places) (suc i) e = none_held places i e
 
 -- The plan.
 
-fits_offer : (seen : Seen) (offer : Offer) → IsShape (shape_of seen) → IsFound seen offer → FitsRegister offer
+pub fits_offer : (seen : Seen) (offer : Offer) → IsShape (shape_of seen) → IsFound seen offer → FitsRegister offer
 fits_offer seen offer good found =
     let fits : IsIrq offer.irq = subst IsIrq found.record_is (irq_fits (packed_irq offer.irq) found.word.word_is) in
     let few = fits.prio_bits in

@@ -37,8 +37,8 @@ use Rattle.port_core.specs.declared.at_list.AtIrq.{AtIrq}
 use Rattle.port_core.specs.After.{interface_of, shown}
 use Rattle.port_core.specs.Port.{Seen, shape_of}
 use Rattle.core_proper.specs.Registers.{with_changed}
-use Rattle.pe_loop.specs.declared.claim.Claimed.{Claimed}
-use Rattle.pe_loop.specs.declared.claim.Claimed.TheVariants.{Whole, Bare, Missed}
+use Rattle.pe_loop.specs.declared.claims.Claimed.{Claimed}
+use Rattle.pe_loop.specs.declared.claims.Claimed.TheVariants.{Whole, Bare, Missed}
 use Rattle.pe_loop.specs.Claiming.{without_causes, choice_left, at_of, regs_left, loaded_with, IsRight, IsClaimed, IsRegsAt, IsLoadedAt}
 use Rattle.pe_loop.proofs.PlanLemmas.{IsPlanned, in_range, same_by_id}
 
@@ -89,7 +89,7 @@ first_at p words i l is none =
     ap (λ n. cond (nat_lt n (length words)) (Some n) None) at ∙ ap (λ b. cond b (Some i) None) (lt-ltb i (length words) l)
 
 -- the list register of an interrupt changes
-changed_there : (regs : IchRegs) (key : Key) (place : ℕ) (change : ℕ → ℕ) → place < regs.n → length regs.lr ≡ 16 → place < 16 → is_live (intid_of key) (seen_in (get_or regs.lr place 0)) ≡ true
+pub changed_there : (regs : IchRegs) (key : Key) (place : ℕ) (change : ℕ → ℕ) → place < regs.n → length regs.lr ≡ 16 → place < 16 → is_live (intid_of key) (seen_in (get_or regs.lr place 0)) ≡ true
     → ((k : ℕ) → k < place → is_live (intid_of key) (seen_in (get_or regs.lr k 0)) ≡ false) → with_changed key change regs ≡ record regs { lr = set regs.lr place (change (get_or regs.lr place 0)) }
 changed_there regs key place change below size few live none =
     let p : ℕ → Bool = λ word. is_live (intid_of key) (seen_in word) in
@@ -100,7 +100,7 @@ changed_there regs key place change below size few live none =
 
 -- What the vCPU holds, with one more.
 
-is_with : (one : AtInterface) (at : List AtInterface) → IsWith one at (at ++ one ∷ [])
+pub is_with : (one : AtInterface) (at : List AtInterface) → IsWith one at (at ++ one ∷ [])
 is_with one at =
     record {
       one = Contains-append_right at (one ∷ []) one (Contains-here one []);
@@ -203,7 +203,7 @@ loaded_more seen now new n fill place before loaded choice Missed plan count few
 -- The protocol's registers.
 
 -- what was chosen is live in its list register
-chosen_live : (shape : GuestShape) (seen : Seen) (choice : Choice) → IsRight shape seen.actor seen.local.cpu choice → StandsAs (packed choice.entry) (held_as choice) (entry_of choice) → is_live (intid_of choice.key) (seen_in (packed choice.entry)) ≡ true
+pub chosen_live : (shape : GuestShape) (seen : Seen) (choice : Choice) → IsRight shape seen.actor seen.local.cpu choice → StandsAs (packed choice.entry) (held_as choice) (entry_of choice) → is_live (intid_of choice.key) (seen_in (packed choice.entry)) ≡ true
 chosen_live shape seen choice right stands =
     ap (is_live (intid_of choice.key)) stands.seen
     ∙ ap (λ b. b && (state_has_pending choice.entry.state || state_has_active choice.entry.state)) (eq-eqb (intid_of choice.key) (intid_of choice.key) refl)

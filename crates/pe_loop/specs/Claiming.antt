@@ -38,8 +38,8 @@ use Rattle.core_proper.specs.Proper.{IsProper}
 use Rattle.core_proper.specs.Registers.{without_claim, without_take}
 use Rattle.core_proper.specs.Scan.{claiming, ended_scan, key_of_both, keys_chosen, keys_of_both}
 use Rattle.port_call.specs.Piece.{takes_none}
-use Rattle.pe_loop.specs.declared.claim.Claimed.{Claimed}
-use Rattle.pe_loop.specs.declared.claim.Claimed.TheVariants.{Whole, Bare, Missed}
+use Rattle.pe_loop.specs.declared.claims.Claimed.{Claimed}
+use Rattle.pe_loop.specs.declared.claims.Claimed.TheVariants.{Whole, Bare, Missed}
 use Rattle.pe_loop.specs.Counting.{are_quiet}
 use Rattle.pe_loop.specs.Scanning.{told_by, IsFound, AreFound}
 
@@ -253,6 +253,7 @@ pub record ClaimsAll (old new : Seen) (fill : Fill) (before after : Loaded) (fai
   pub moves : named_of (Some old.actor) (part_events old part) ≡ []
   pub same : record new.local { at = old.local.at; cands = old.local.cands } ≡ old.local
   pub loaded : record after { regs = record after.regs { lr = before.regs.lr }; held = before.held } ≡ before
+  pub held : (j : ℕ) (one : HeldIrq) → slice_index_or after.held j None ≡ Some one → IsClaimed fill 16 j one
   pub stands : StandFor after.regs after.held (interface_of new.local)
   pub whole : IsTrue (list_all (λ at. not at.given) new.local.at)
   pub proper :

@@ -1,5 +1,5 @@
 -- A vCPU enters a PE (own choice).
-use Rattle.std.specs.Prelude.{◌≡◌, ℕ, Bool, false, IsTrue, List, [], map, replicate, Some, None, unwrap_or}
+use Rattle.std.specs.Prelude.{◌≡◌, ℕ, Bool, false, IsTrue, List, [], map, replicate, Option, Some, None, unwrap_or}
 use Rattle.gic_call.specs.declared.event.Operation.TheVariants.{Residence}
 use Rattle.gic_call.specs.Trace.{named_of}
 use Rattle.gic_prio.specs.declared.cpu.CpuRec.{CpuRec}
@@ -21,18 +21,22 @@ use Rattle.core_proper.specs.Scan.{idle, keys_chosen, keys_of_both}
 use Rattle.port_call.specs.Piece.{takes_none, IsIdle}
 use Rattle.pe_loop.specs.Claiming.{claims_by, IsPlanOf}
 use Rattle.pe_loop.specs.Counting.{are_quiet, bits_taken, looks_in}
-use Rattle.pe_loop.specs.Scanning.{told_by, EndsNone}
-use Rattle.pe_loop.specs.Stay.{IsOn}
+use Rattle.pe_loop.specs.Scanning.{told_by}
+use Rattle.pe_loop.specs.Stay.{IsUp}
 
 -- The scan.
 
--- an actor's protocol so far lets it begin a scan for a plan: no scan is in progress, its call ends no interrupt, and no claim failed
+-- an actor's protocol so far lets it begin a scan for a plan: no scan is in progress, its call did not find the interrupt that it ends active, and no claim failed
 pub record MayEnter (seen : Seen) (lrs : ℕ) (p : Progress) : Type 0 where
   pub idle : IsIdle seen p
-  pub ends : EndsNone seen p
   pub near : unwrap_or p.far false ≡ false
   pub lrs_is : p.lrs ≡ lrs
   pub none_failed : p.failed ≡ false
+
+-- a scan has these claims to make; of the interrupt that its call ends, if any, it goes by the last look
+pub record IsPlanned (seen : Seen) (lrs : ℕ) (fill : Fill) (p q : Progress) : Type 0 where
+  pub far : Option Bool
+  pub is : q ≡ claims_by seen (keys_chosen fill) (keys_of_both fill) (regs_of fill seen.local.cpu lrs) fill.trapping false (record (begun false p) { far = far })
 
 -- a vCPU looked for a kick, took its index, looked at its candidates, and has the plan over what it found at no interface and not wanted
 pub record Scans (old new : Seen) (lrs : ℕ) (fill : Fill) : Type 0 where
@@ -47,9 +51,7 @@ pub record Scans (old new : Seen) (lrs : ℕ) (fill : Fill) : Type 0 where
   pub plan : IsPlanOf new lrs fill
   pub entries : HasEntries fill.choice
   pub proper : (p : Progress) → MayEnter old lrs p → IsProper (shape_of old) old.actor p (map makes part)
-  pub goes_on :
-      (p : Progress) → MayEnter old lrs p
-      → progress_of (shape_of old) old.actor p (map makes part) ≡ claims_by new (keys_chosen fill) (keys_of_both fill) (regs_of fill new.local.cpu lrs) fill.trapping false (begun false p)
+  pub goes_on : (p : Progress) → MayEnter old lrs p → IsPlanned new lrs fill p (progress_of (shape_of old) old.actor p (map makes part))
 
 -- The vCPU on its PE.
 
@@ -79,9 +81,13 @@ pub record EndsScan (old new : Seen) (failed : Bool) : Type 0 where
 -- The entry.
 
 -- the protocol of a vCPU that has entered, with what its port tells: no scan is in progress and none is to come for a failed claim, its registers are those of the PE,
--- and only a scan that it owed after an end of interrupt is owed
-abbrev pub entered : Seen → Loaded → Progress → Progress
-entered seen vcpu p = record (told_by seen p) { scan = idle; regs = vcpu.regs; trapping = vcpu.trapping; scanned = false; far = None; failed = false; debt = owed_after_scan p.debt }
+-- and only a scan that it owed after an end of interrupt is owed; of the interrupt that its call ends, if any, it goes by the last look
+abbrev pub entered : Seen → Loaded → Option Bool → Progress → Progress
+entered seen vcpu far p = record (told_by seen p) { scan = idle; regs = vcpu.regs; trapping = vcpu.trapping; scanned = false; far = far; failed = false; debt = owed_after_scan p.debt }
+
+pub record HasEntered (seen : Seen) (vcpu : Loaded) (p q : Progress) : Type 0 where
+  pub far : Option Bool
+  pub is : q ≡ entered seen vcpu far p
 
 -- an actor between two parts, that owes no scan after an end of interrupt and had no claim fail
 pub record IsBetween (seen : Seen) (p : Progress) : Type 0 where
@@ -89,7 +95,8 @@ pub record IsBetween (seen : Seen) (p : Progress) : Type 0 where
   pub none_failed : p.failed ≡ false
   pub debt : owed_after_scan p.debt ≡ paid
 
--- a vCPU entered a PE with so many list registers: what its scan found and the plan chose is at its interface, but for what changed meanwhile
+-- a vCPU entered a PE with so many list registers: what its scan found and the plan chose is at its interface, but for what changed meanwhile; its CPU record is the
+-- same, but for a newer copy of EnableLPIs
 pub record Enters (old new : Seen) (vcpu : Shelved) (lrs : ℕ) (loaded : Loaded) : Type 0 where
   pub part : List Made
   pub adds : Adds old new part
@@ -98,7 +105,9 @@ pub record Enters (old new : Seen) (vcpu : Shelved) (lrs : ℕ) (loaded : Loaded
   pub moves : named_of (Some old.actor) (part_events old part) ≡ []
   pub call : MakesCall old part Residence None
   pub proper : (p : Progress) → MayEnter old lrs p → IsProper (shape_of old) old.actor p (map makes part)
-  pub goes_on : (p : Progress) → MayEnter old lrs p → progress_of (shape_of old) old.actor p (map makes part) ≡ entered new loaded p
+  pub goes_on : (p : Progress) → MayEnter old lrs p → HasEntered new loaded p (progress_of (shape_of old) old.actor p (map makes part))
   pub whole_part : (p : Progress) → IsBetween old p → IsProper (shape_of old) old.actor p (part_of Residence lrs part None)
-  pub on : IsOn new loaded
+  pub up : IsUp new loaded
+  pub lrs_is : loaded.regs.n ≡ lrs
+  pub cpu : record new.local.cpu { lpis = old.local.cpu.lpis } ≡ old.local.cpu
   pub kept : record loaded.base { cpu = vcpu.cpu } ≡ vcpu

@@ -1,5 +1,5 @@
 -- A vCPU's scan as it goes on (own choice).
-use Rattle.std.specs.Prelude.{◌≡◌, ◌≢◌, ℕ, ◌+◌, ◌-◌, ◌<◌, ◌==◌, false, IsTrue, List, [], ◌++◌, map, All, AllPairs, Some, None, if◌then◌else◌}
+use Rattle.std.specs.Prelude.{◌≡◌, ◌≢◌, ℕ, ◌+◌, ◌-◌, ◌<◌, ◌==◌, Bool, false, IsTrue, List, [], ◌∷◌, ◌++◌, map, All, AllPairs, Option, Some, None, if◌then◌else◌}
 use Rattle.std.specs.List.{range_with_len}
 use Rattle.gic_base.specs.declared.interrupt.Key.{Key}
 use Rattle.gic_base.specs.declared.shape.GuestShape.{GuestShape}
@@ -19,7 +19,7 @@ use Rattle.port_core.specs.Place.{index_bit, index_bits, index_words}
 use Rattle.port_core.specs.Port.{Seen, Adds, AddsStep, shape_of, part_events}
 use Rattle.core_proper.specs.Parts.{makes}
 use Rattle.port_core.specs.Valid.{IsIrqWord}
-use Rattle.core_proper.specs.Progress.{Progress, is_end_of, looks_on, scan_on, progress_of}
+use Rattle.core_proper.specs.Progress.{Progress, filled, looks_on, scan_on, progress_of}
 use Rattle.core_proper.specs.Proper.{IsProper}
 use Rattle.core_proper.specs.Scan.{Purpose, Scan, taking, ended_scan, next_cand, offered}
 use Rattle.port_call.specs.Piece.{steps_of, takes_none}
@@ -83,9 +83,10 @@ pub record AreFound (seen : Seen) (offers : List Offer) : Type 0 where
   pub each : All (IsFound seen) offers
   pub once : AllPairs (λ one other. one.key ≢ other.key) offers
 
--- the call of an actor ends no interrupt
-abbrev pub EndsNone : Seen → Progress → Type 0
-EndsNone seen p = (key : Key) → is_end_of (shape_of seen) seen.actor p.operation key ≡ false
+-- an actor's protocol is that of a scan that looked at its candidates before a bit; of the interrupt that its call ends, if any, it goes by the last look
+pub record IsLookedOn (seen : Seen) (purpose : Purpose) (from : ℕ) (offers : List Offer) (p q : Progress) : Type 0 where
+  pub far : Option Bool
+  pub is : q ≡ looked_on seen purpose from offers (record p { far = far })
 
 -- an actor looked at an interrupt, and offered it to a chooser where nobody holds it and no access waits for it
 pub record LooksAt (old new : Seen) (before after : Kept) (cpu : CpuRec) (key : Key) : Type 0 where
@@ -111,13 +112,43 @@ pub record IsLooking (old now : Seen) (before after : Kept) (cpu : CpuRec) (from
   pub lrs : after.lrs ≡ before.lrs
   pub vcpu : after.vcpu ≡ before.vcpu
   pub stands : StandsFor before cpu [] → StandsFor after cpu offers
-  pub proper : (purpose : Purpose) (p : Progress) → EndsNone old p → IsProper (shape_of old) old.actor (looked_on old purpose 0 [] p) (map makes part)
-  pub goes_on :
-      (purpose : Purpose) (p : Progress) → EndsNone old p
-      → progress_of (shape_of old) old.actor (looked_on old purpose 0 [] p) (map makes part) ≡ looked_on now purpose from offers p
+  pub proper : (purpose : Purpose) (p : Progress) → IsProper (shape_of old) old.actor (looked_on old purpose 0 [] p) (map makes part)
+  pub goes_on : (purpose : Purpose) (p : Progress) → IsLookedOn now purpose from offers p (progress_of (shape_of old) old.actor (looked_on old purpose 0 [] p) (map makes part))
 
 -- it looked at all
 pub record LooksOver (old new : Seen) (before after : Kept) (cpu : CpuRec) : Type 0 where
   pub from : ℕ
   pub looking : IsLooking old new before after cpu from
   pub none : next_cand (shape_of new) new.actor new.local.cands from ≡ None
+
+-- A scan's round: the index, and the looks.
+
+-- a part begins with the first word of the index
+pub record IsFromIndex (part : List Made) : Type 0 where
+  pub first : Made
+  pub rest : List Made
+  pub part_is : part ≡ first ∷ rest
+  pub first_is : first.step ≡ TakeIndex 0
+
+-- an actor's protocol is that of a scan that looked at all its candidates, and found these interrupts
+pub record IsFilled (seen : Seen) (purpose : Purpose) (offers : List Offer) (p q : Progress) : Type 0 where
+  pub far : Option Bool
+  pub is : q ≡ (let on = filled (shape_of seen) seen.actor purpose offers (record (told_by seen p) { far = far }) in record on { scan = ended_scan on.local on.scan })
+
+-- a vCPU took its index, looked at its candidates, and kept of what it found what a choice for so many list registers needs
+pub record Rounds (old new : Seen) (lrs : ℕ) (kept : Kept) : Type 0 where
+  pub part : List Made
+  pub offers : List Offer
+  pub adds : Adds old new part
+  pub from_index : IsFromIndex part
+  pub none_taken : IsTrue (takes_none part)
+  pub silent : part_events old part ≡ []
+  pub looks : IsTrue (has_no_cand old.local) → looks_in part ≡ bits_taken part
+  pub same : record new.local { cands = old.local.cands; phase = old.local.phase } ≡ old.local
+  pub phase : new.local.phase ≡ phase_taken (shape_of old) (index_words (shape_of old)) old.local.phase
+  pub found : AreFound new offers
+  pub lrs_is : kept.lrs ≡ lrs
+  pub vcpu_is : kept.vcpu ≡ new.actor
+  pub stands : StandsFor kept new.local.cpu offers
+  pub proper : (purpose : Purpose) (p : Progress) → IsScanAt old p (taking purpose 0) → IsProper (shape_of old) old.actor p (map makes part)
+  pub goes_on : (purpose : Purpose) (p : Progress) → IsScanAt old p (taking purpose 0) → IsFilled new purpose offers p (progress_of (shape_of old) old.actor p (map makes part))

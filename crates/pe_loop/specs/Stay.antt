@@ -1,8 +1,11 @@
 -- A vCPU and its port, off a PE and on one.
-use Rattle.std.specs.Prelude.{◌≡◌, not, true, IsTrue, []}
+use Rattle.std.specs.Prelude.{◌≡◌, ℕ, ◌≤◌, not, true, false, IsTrue, []}
 use Rattle.std.specs.List.{list_all}
+use Rattle.gic_bits.specs.Bits.{has_bit}
+use Rattle.gic_ich.specs.Hcr.{hcr_tc, hcr_tall0, hcr_tall1, hcr_tdir}
 use Rattle.gic_ich.specs.Place.{StandFor}
 use Rattle.port_core.specs.After.{interface_of}
+use Rattle.port_core.specs.Condition.{is_ready}
 use Rattle.port_core.specs.Local.{is_vcpu}
 use Rattle.port_core.specs.Port.{Seen, shape_of}
 use Rattle.core_proper.specs.Proper.{is_settled}
@@ -31,3 +34,19 @@ pub record IsOn (seen : Seen) (vcpu : Loaded) : Type 0 where
   pub cpu : (shelved_of vcpu).cpu ≡ seen.local.cpu
   pub whole : IsTrue (list_all (λ at. not at.given) seen.local.at)
   pub settled : IsTrue (is_settled seen.local)
+
+-- ICH_HCR traps no access but those of ICC_SGI1R
+pub record IsOpen (hcr : ℕ) : Type 0 where
+  pub common : has_bit hcr hcr_tc ≡ false
+  pub group_0 : has_bit hcr hcr_tall0 ≡ false
+  pub group_1 : has_bit hcr hcr_tall1 ≡ false
+  pub deactivate : has_bit hcr hcr_tdir ≡ false
+
+-- a vCPU on a PE that may access its CPU interface: its port looked at its candidates since it last held nothing, and its accesses are trapped in trap mode
+-- alone, in which it holds nothing
+pub record IsUp (seen : Seen) (vcpu : Loaded) : Type 0 where
+  pub on : IsOn seen vcpu
+  pub lrs : (1 ≤ vcpu.regs.n) × (vcpu.regs.n ≤ 16)
+  pub ready : IsTrue (is_ready seen.local.phase)
+  pub free : vcpu.trapping ≡ false → IsOpen vcpu.regs.hcr
+  pub bare : vcpu.trapping ≡ true → seen.local.at ≡ []

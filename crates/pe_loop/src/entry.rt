@@ -7,12 +7,12 @@ ghost use Rattle.port_core.specs.Port.{shape_of};
 ghost use Rattle.pe_loop.specs.Stay.{IsOff};
 ghost use Rattle.pe_loop.specs.Enter.{Scans, IsReady, EndsScan, Enters};
 
-use crate::claim::claim_all;
-use crate::scan::{look_over, mark_rest, take_index};
+use crate::claims::claim_all;
+use crate::scan::{look_round, mark_rest};
 use gic_ich::IchRegs;
 use gic_prio::CpuRec;
 use port_core::{CoreStep, Port};
-use vcpu_refill::{Fill, fresh};
+use vcpu_refill::Fill;
 use vcpu_state::{Loaded, Shelved};
 
 /// A vCPU's scan: it looks for a kick, takes its index, looks at its candidates, and plans over what it found at no
@@ -26,11 +26,8 @@ fn scan<P: Port>(port: &mut P, vcpu: &Shelved, lrs: u32) -> Fill
         reg: None,
         write: None,
     });
-    take_index(port);
-    let cpu = port.local_ref().cpu;
-    let mut chooser = fresh(lrs, port.actor());
-    look_over(port, &mut chooser, &cpu);
-    chooser.plan(&cpu)
+    let chooser = look_round(port, lrs);
+    chooser.plan(&port.local_ref().cpu)
 }
 
 /// The vCPU with a CPU record on a PE, with the registers that a fill asks for, before it takes an interrupt.
@@ -51,7 +48,7 @@ fn ready(vcpu: Shelved, cpu: CpuRec, lrs: u32, fill: &Fill) -> Loaded
 }
 
 /// Ends a scan: the vCPU marks what is left to itself, and kicks itself where a claim failed.
-fn end_scan<P: Port>(port: &mut P, failed: bool)
+pub fn end_scan<P: Port>(port: &mut P, failed: bool)
     requires vcpu { is_vcpu (shape_of (P.seen port.old)) (P.seen port.old).actor ≡ true }
     requires marks { IsTrue (owes_no_mark (P.seen port.old).local) }
     ensures { EndsScan (P.seen port.old) (P.seen port.new) failed }

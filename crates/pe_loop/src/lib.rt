@@ -2,10 +2,12 @@
 #![tactic(auto)]
 
 mod candidates;
-mod claim;
+mod claims;
 mod entry;
 mod exit;
 mod scan;
 
-pub use entry::enter;
+pub use claims::{Claimed, claim, claim_into};
+pub use entry::{end_scan, enter};
 pub use exit::leave;
+pub use scan::look_round;

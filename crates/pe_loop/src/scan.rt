@@ -1,24 +1,25 @@
 //! A vCPU's scan.
-ghost use Rattle.std.specs.Prelude.{◌≡◌, ◌++◌, true, IsTrue, List};
+ghost use Rattle.std.specs.Prelude.{◌≡◌, ◌≤◌, ◌++◌, true, IsTrue, List};
 ghost use Rattle.core_proper.specs.Scan.{offered};
 ghost use Rattle.vcpu_refill.specs.Chooser.{StandsFor};
 ghost use Rattle.vcpu_refill.specs.declared.offer.Offer.{Offer};
 ghost use Rattle.port_core.specs.Condition.{may_take_index};
 ghost use Rattle.port_core.specs.Local.{is_vcpu, owes_no_mark};
 ghost use Rattle.port_core.specs.Port.{shape_of};
-ghost use Rattle.pe_loop.specs.Scanning.{TakesIndex, LooksAt, LooksOver};
+ghost use Rattle.pe_loop.specs.Scanning.{TakesIndex, LooksAt, LooksOver, Rounds};
 ghost use Rattle.pe_loop.specs.Marking.{MarksRest};
 ghost use Rattle.gic_base.specs.Interrupt.{has_interrupt};
+ghost use Rattle.gic_base.specs.declared.held.TheConstants.{MAX_LIST_REGISTERS};
 
 use crate::candidates::next_candidate;
 use gic_base::Key;
 use gic_prio::CpuRec;
 use gic_word::Irq;
 use port_core::{CoreStep, Port, WordId, index_bits, index_words, key_of_bit};
-use vcpu_refill::Chooser;
+use vcpu_refill::{Chooser, fresh};
 
 /// Takes all words of the vCPU's candidate index, in rising order.
-pub(crate) fn take_index<P: Port>(port: &mut P)
+fn take_index<P: Port>(port: &mut P)
     requires vcpu { is_vcpu (shape_of (P.seen port.old)) (P.seen port.old).actor ≡ true }
     requires phase { IsTrue (may_take_index (P.seen port.old).local.phase) }
     requires marks { IsTrue (owes_no_mark (P.seen port.old).local) }
@@ -55,7 +56,7 @@ fn look_at<P: Port>(port: &mut P, chooser: &mut Chooser, cpu: &CpuRec, key: Key)
 
 /// Looks at each candidate of the vCPU once, in key order, and offers what it finds at no interface and not wanted to a
 /// chooser, under the vCPU's CPU record.
-pub(crate) fn look_over<P: Port>(port: &mut P, chooser: &mut Chooser, cpu: &CpuRec)
+fn look_over<P: Port>(port: &mut P, chooser: &mut Chooser, cpu: &CpuRec)
     requires vcpu { is_vcpu (shape_of (P.seen port.old)) (P.seen port.old).actor ≡ true }
     ensures { LooksOver (P.seen port.old) (P.seen port.new) chooser.old chooser.new cpu.now }
 {
@@ -67,6 +68,22 @@ pub(crate) fn look_over<P: Port>(port: &mut P, chooser: &mut Chooser, cpu: &CpuR
         look_at(port, chooser, cpu, key_of_bit(bit, vcpu, &shape));
         from = bit + 1;
     }
+}
+
+/// One round of a scan, of a vCPU on a PE with so many list registers (1 to 16): it takes its candidate index, looks once at
+/// each candidate, and keeps of those found at no interface and not wanted what a choice needs.
+pub fn look_round<P: Port>(port: &mut P, lrs: u32) -> Chooser
+    requires vcpu { is_vcpu (shape_of (P.seen port.old)) (P.seen port.old).actor ≡ true }
+    requires phase { IsTrue (may_take_index (P.seen port.old).local.phase) }
+    requires marks { IsTrue (owes_no_mark (P.seen port.old).local) }
+    requires lrs { 1 ≤ lrs × lrs ≤ MAX_LIST_REGISTERS }
+    ensures { Rounds (P.seen port.old) (P.seen port.new) lrs result }
+{
+    take_index(port);
+    let cpu = port.local_ref().cpu;
+    let mut chooser = fresh(lrs, port.actor());
+    look_over(port, &mut chooser, &cpu);
+    chooser
 }
 
 /// Marks the candidates that are left to the vCPU itself, in rising order, for its next scan.

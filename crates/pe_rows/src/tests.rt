@@ -5,7 +5,7 @@ ghost use Rattle.gic_base.specs.declared.interrupt.Key.TheVariants.{Spi};
 ghost use Rattle.gic_base.specs.Interrupt.{has_interrupt};
 ghost use Rattle.port_core.specs.Port.{shape_of};
 ghost use Rattle.core_proper.specs.Proper.{is_settled as is_settled_as};
-ghost use Rattle.pe_loop.specs.Stay.{IsOn};
+ghost use Rattle.pe_loop.specs.Stay.{IsUp};
 
 use gic_base::{GuestShape, Key, Kind};
 use gic_call::Touching;
@@ -148,7 +148,7 @@ fn make<P: Port>(port: &mut P, cause: Cause) -> bool
 /// vCPU 0 enters a PE. None where it may not.
 fn enter_first<P: Port>(port: &mut P, lrs: u32) -> Option<Loaded>
     requires { (P.seen port.old).number ≡ 0 }
-    ensures { IfSome result (λ vcpu. IsOn (P.seen port.new) vcpu) }
+    ensures { IfSome result (λ vcpu. IsUp (P.seen port.new) vcpu) }
 {
     if port.shape() != SHAPE
         || port.actor() != 0

@@ -1,0 +1,10 @@
+pub mod Amid
+pub mod Operate
+pub mod Reenter
+pub mod Sgi
+pub mod Icc
+pub mod Prepare
+pub mod Bare
+pub mod Ready
+pub mod First
+pub mod Laws

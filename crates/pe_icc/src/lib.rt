@@ -1,0 +1,16 @@
+//! A vCPU's accesses of its CPU interface, over the port of its guest.
+#![tactic(auto)]
+
+mod bare;
+mod end;
+mod first;
+mod icc;
+mod laws;
+mod operate;
+mod prepare;
+mod reenter;
+mod sgi;
+mod stay;
+
+pub use icc::icc_op;
+pub use laws::{entry_runs, exit_rests};
