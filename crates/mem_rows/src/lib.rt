@@ -1,0 +1,5 @@
+//! Tests of memory-mapped accesses over the port of one thread.
+#![tactic(auto)]
+
+#[cfg(test)]
+mod tests;

@@ -1,0 +1,136 @@
+-- A piece of a memory-mapped access, as the whole call.
+use Rattle.std.proofs.Common.{◌≡◌, ℕ, ◌&&◌, ◌||◌, not, Bool, true, false, cond, IsTrue, List, [], ◌∷◌, map, Option, Some, None, refl, sym, ap, subst, ◌∙◌}
+use Rattle.std.proofs.lemmas.Bool.{and_parts}
+use Rattle.gic_base.specs.declared.operation.Frame.{Frame}
+use Rattle.gic_base.specs.declared.operation.Frame.TheVariants.{Dist, Redist, Its, Ram as Memory}
+use Rattle.gic_imap.specs.Map.{decoded as its_decoded}
+use Rattle.gic_call.specs.declared.event.Operation.{Operation}
+use Rattle.gic_dmap.specs.Map.{decoded as dist_decoded}
+use Rattle.gic_rmap.specs.Map.{decoded as redist_decoded}
+use Rattle.pe_mem.specs.Redist.{ServesRedist}
+use Rattle.pe_mem.specs.Dist.{ServesDist}
+use Rattle.gic_call.specs.Call.{takes_turn}
+use Rattle.gic_call.specs.Trace.{Happened, Beside, IsCall, IsPlainCall, IsItsWrite, read_answer}
+use Rattle.port_core.specs.declared.local.Local.{Local}
+use Rattle.port_core.specs.declared.run.Made.{Made}
+use Rattle.port_core.specs.Local.{is_vcpu, owes_nothing}
+use Rattle.port_core.specs.Port.{Seen, IsPort, Adds, shape_of, seen_after, part_events}
+use Rattle.core_proper.specs.Called.{IsProperPart, vcpu_of_actor, maps_taken}
+use Rattle.core_proper.specs.Parts.{begins, makes, ends}
+use Rattle.core_proper.specs.Progress.{Progress, is_paid, progressed, progress_of}
+use Rattle.core_proper.specs.Proper.{IsProperEnd, is_empty, gives_back, wants_nothing, is_settled}
+use Rattle.core_proper.specs.Scan.{is_idle}
+use Rattle.core_proper.proofs.PartLemmas.{proper_append}
+use Rattle.port_call.specs.Rest.{IsAtEase, StaysAtEase}
+use Rattle.port_call.proofs.RestLemmas.{ease_owes}
+use Rattle.port_call.proofs.TurnLemmas.{not_taken}
+use Rattle.pe_mem.specs.Call.{CanAccess, MakesAccess, ServesAccess, NamesBy, IsPieceOf, access_of}
+use Rattle.gic_history.specs.Named.{named_by_access}
+
+-- What a vCPU has that can make an access.
+
+pub can_ease : (seen : Seen) → CanAccess seen → IsAtEase seen.local
+can_ease seen can =
+    let ctlr = and_parts (owes_nothing seen.local && not seen.local.turn) (not seen.local.ctlr) can.settled in
+    record { owes = (and_parts (owes_nothing seen.local) (not seen.local.turn) ctlr.0).0; empty = can.empty }
+
+not_is : (b : Bool) → IsTrue (not b) → b ≡ false
+not_is true h = absurd (cc)
+not_is false h = refl
+
+pub can_free : (seen : Seen) → CanAccess seen → seen.local.ctlr ≡ false
+can_free seen can = not_is seen.local.ctlr (and_parts (owes_nothing seen.local && not seen.local.turn) (not seen.local.ctlr) can.settled).1
+
+pub can_turn : (seen : Seen) → CanAccess seen → seen.local.turn ≡ false
+can_turn seen can = not_is seen.local.turn (and_parts (owes_nothing seen.local) (not seen.local.turn) (and_parts (owes_nothing seen.local && not seen.local.turn) (not seen.local.ctlr) can.settled).0).1
+
+-- and has the same after it
+settled_by : (local : Local) → IsTrue (owes_nothing local) → local.turn ≡ false → local.ctlr ≡ false → IsTrue (is_settled local)
+settled_by local owes turn ctlr = all (owes_nothing local) local.turn local.ctlr owes turn ctlr
+  where
+    all : (a b c : Bool) → IsTrue a → b ≡ false → c ≡ false → (a && not b && not c) ≡ true
+    all a b c ha hb hc = rw (ha, hb, hc) refl
+
+pub can_after : (old new : Seen) (part : List Made) → CanAccess old → Adds old new part → StaysAtEase old.local new.local → CanAccess new
+can_after old new part can adds stays =
+    record {
+      vcpu = ap (λ seen. is_vcpu (shape_of seen) seen.actor) adds.new_is ∙ can.vcpu;
+      empty = ap (λ l. l.at) stays.same ∙ can.empty;
+      settled =
+          settled_by new.local (ease_owes old.local new.local stays (can_ease old can).owes) (ap (λ l. l.turn) stays.same ∙ can_turn old can) (ap (λ l. l.ctlr) stays.same ∙ can_free old can);
+    }
+
+-- Proper parts.
+
+proper_end : (p : Progress) (local : Local) → p.local ≡ local → IsTrue (is_idle p.scan) → p.wants ≡ [] → local.at ≡ [] → IsTrue (is_settled local) → IsProperEnd p
+proper_end p local is scan wants at settled =
+    let none : p.local.at ≡ [] = ap (λ l. l.at) is ∙ at in
+    record {
+      scan = scan;
+      refill = ap (λ entries. is_empty entries || (is_paid p.debt && not (gives_back p.local.phase))) none;
+      want = ap wants_nothing wants;
+      settled = ap is_settled is ∙ settled;
+    }
+
+pub own_is_part : (seen : Seen) (part : List Made) (operation : Operation) (lrs : ℕ) (answer : Option ℕ) → IsPieceOf seen operation part → (seen_after seen part).local.at ≡ [] → IsTrue (is_settled (seen_after seen part).local) → IsProperPart seen part operation lrs answer
+own_is_part seen part operation lrs answer piece at settled p rest =
+    let shape = shape_of seen in
+    let begun = progressed shape seen.actor p (begins operation lrs) in
+    let good = piece begun (record { local = rest.local; own = rest.own; scan = rest.scan }) refl rest.wants in
+    let q = progress_of shape seen.actor begun (map makes part) in
+    let may_end = proper_end q (seen_after seen part).local good.ends.local good.ends.scan (ap (λ r. r.wants) good.stays.same ∙ rest.wants) at settled in
+    (tt, (proper_append shape seen.actor begun (map makes part) (ends answer ∷ [])).1 (good.proper, (may_end, tt)))
+
+-- a whole part, of a piece that leaves the vCPU so
+pub proper_of : (old new : Seen) (part : List Made) (operation : Operation) (answer : Option ℕ) → Adds old new part → CanAccess new → IsPieceOf old operation part → (lrs : ℕ) → IsProperPart old part operation lrs answer
+proper_of old new part operation answer adds can piece lrs =
+    let Empty : Seen → Type 0 = λ seen. seen.local.at ≡ [] in
+    let Settled : Seen → Type 0 = λ seen. IsTrue (is_settled seen.local) in
+    own_is_part old part operation lrs answer piece (subst Empty adds.new_is can.empty) (subst Settled adds.new_is can.settled)
+
+-- Calls.
+
+-- an access that does not take the ITS
+abbrev pub IsPlain : Seen → Frame → ℕ → ℕ → Option ℕ → Type 0
+IsPlain seen Its offset size write = takes_turn (shape_of seen) (its_decoded offset size) write ≡ false
+IsPlain seen frame offset size write = Unit {0}
+
+plain_call : (seen : Seen) (beside : Beside) (frame : Frame) (offset size : ℕ) (write answer : Option ℕ) (piece : List Happened) → IsPlain seen frame offset size write → IsPlainCall (shape_of seen) beside seen.actor frame offset size write piece answer
+    → IsCall (shape_of seen) beside (Some seen.actor) (access_of frame offset size write) piece answer
+plain_call seen beside Dist offset size write answer piece plain call = call
+plain_call seen beside (Redist vcpu) offset size write answer piece plain call = call
+plain_call seen beside Memory offset size write answer piece plain call = call
+plain_call seen beside Its offset size None answer piece plain call = call
+plain_call seen beside Its offset size (Some value) answer piece plain call =
+    let By : Bool → Type 0 = λ b. IsItsWrite b (shape_of seen) beside seen.actor offset size value piece answer in subst By (sym plain) call
+
+pub makes_access :
+    (old new : Seen) (frame : Frame) (offset size : ℕ) (write : Option ℕ) (value : ℕ) (answer : Option ℕ) → IsPort new → CanAccess old → IsPlain old frame offset size write → answer ≡ read_answer write value
+    → ServesAccess old new frame offset size write value → MakesAccess old new frame offset size write answer
+makes_access old new frame offset size write value answer is_new can plain answers made =
+    let serves = made.serves in
+    let part = serves.part in
+    let operation = access_of frame offset size write in
+    let after = can_after old new part can serves.adds serves.stays in
+    let beside : Beside = record { maps = maps_taken part; targets = λ number. serves.view.targets } in
+    let by : NamesBy (shape_of old) old.actor operation (λ view. named_by_access (shape_of old) view frame offset size write) = record { ends_none = λ key. refl; named_are = λ view. refl } in
+    let call = plain_call old beside frame offset size write answer (part_events old part) plain (record { view = serves.view; targets = refl; made = serves.made; answers = answers ∙ made.reads }) in
+    let actor : vcpu_of_actor (shape_of old) old.actor ≡ Some old.actor = ap (λ b. cond b (Some old.actor) None) can.vcpu in
+    let Of : Option ℕ → Type 0 = λ actor. IsCall (shape_of old) beside actor operation (part_events old part) answer in
+    record {
+      part = part;
+      adds = serves.adds;
+      call = record { beside = beside; maps = refl; call = subst Of (sym actor) call };
+      proper = proper_of old new part operation answer serves.adds after (serves.piece operation by);
+      stays = serves.stays;
+      tables = not_taken new is_new (can_turn new after);
+      after = after;
+    }
+
+-- Frames.
+
+pub dist_accessed : (old new : Seen) (offset size : ℕ) (write : Option ℕ) (value : ℕ) → ServesDist old new (dist_decoded offset size) write value → ServesAccess old new Dist offset size write value
+dist_accessed old new offset size write value made = record { serves = made.serves; reads = made.reads }
+
+pub redist_accessed : (old new : Seen) (vcpu offset size : ℕ) (write : Option ℕ) (value : ℕ) → ServesRedist old new vcpu (redist_decoded offset size) write value → ServesAccess old new (Redist vcpu) offset size write value
+redist_accessed old new vcpu offset size write value made = record { serves = made.serves; reads = made.reads }

@@ -1,0 +1,289 @@
+-- EnableLPIs becomes 1.
+use Rattle.std.proofs.Common.{add-one, zero, suc, ◌≡◌, ℕ, ◌+◌, ◌-◌, ◌<◌, ◌==◌, ◌&&◌, ◌||◌, not, Bool, true, false, cond, if◌then◌else◌, IsTrue, IfSome, List, [], ◌∷◌, ◌++◌, map, All, Option, Some, None, is_none, refl, sym, ap, subst, ◌∙◌, arith}
+use Rattle.std.specs.List.{range_with_len, filter_map, flat_map}
+use Rattle.std.specs.Option.{option_map_or}
+use Rattle.std.proofs.lemmas.List.Elements.{All-cons, All-nil, All-append}
+use Rattle.gic_base.specs.declared.interrupt.Key.TheVariants.{Lpi}
+use Rattle.gic_base.specs.declared.shape.GuestShape.{GuestShape}
+use Rattle.gic_base.specs.Interrupt.{intid_of}
+use Rattle.gic_lpi.specs.Tables.{pending_address}
+use Rattle.gic_open.specs.declared.plain.PlainWord.{PlainWord}
+use Rattle.gic_open.specs.declared.plain.PlainWord.TheVariants.{Ram, Pendbaser}
+use Rattle.gic_ram.specs.declared.access.Part.{Part}
+use Rattle.gic_word.specs.declared.record.Irq.{Irq}
+use Rattle.gic_word.specs.Record.{is_number}
+use Rattle.gic_call.specs.declared.event.Event.{Event}
+use Rattle.gic_call.specs.declared.event.Event.TheVariants.{Touch, Read, Enable}
+use Rattle.gic_call.specs.declared.event.Found.TheVariants.{Record, Word as FoundWord, Lpis as FoundLpis}
+use Rattle.gic_call.specs.declared.event.Operation.{Operation}
+use Rattle.gic_call.specs.declared.event.Place.{Place}
+use Rattle.gic_call.specs.declared.event.Place.TheVariants.{Word}
+use Rattle.gic_call.specs.Access.{is_table_zero, pended_at, enable_events, lpis_of}
+use Rattle.gic_call.specs.Trace.{Happened, Makes, HandsOut, IsLastRead, is_beside, named_of, held_at, memory_places, table_places}
+use Rattle.gic_call.specs.View.{View}
+use Rattle.gic_history.specs.Named.{before_enabling}
+use Rattle.port_core.specs.declared.run.Made.{Made}
+use Rattle.port_core.specs.declared.step.CoreStep.TheVariants.{EnableLpis}
+use Rattle.port_core.specs.Forms.{vcpu_of}
+use Rattle.port_core.specs.Port.{Seen, Adds, AddsStep, shape_of, made_by, part_events}
+use Rattle.port_core.proofs.PortLemmas.{adds_join}
+use Rattle.port_call.specs.Piece.{takes_none, IsPiece}
+use Rattle.port_call.specs.Plain.{ReadsPlain}
+use Rattle.port_call.specs.Rest.{IsAtEase, StaysAtEase}
+use Rattle.port_call.proofs.PieceLemmas.{piece_one}
+use Rattle.port_call.proofs.SettleLemmas.{handed_none}
+use Rattle.port_call.proofs.TryLemmas.{none_append}
+use Rattle.port_call.proofs.TurnLemmas.{piece_then, events_then}
+use Rattle.pe_mem.specs.Call.{NamesBy, Serves}
+use Rattle.pe_mem.specs.Each.{touched_at}
+use Rattle.pe_mem.specs.Pending.{part_of_number, pend}
+use Rattle.pe_mem.specs.Redist.{EnablesLpis}
+use Rattle.pe_mem.specs.declared.pending.Fetched.{Fetched}
+use Rattle.pe_mem.proofs.EachLemmas.{found_below, all_below, events_of_touched, own_joins, own_of_piece, stays_self}
+use Rattle.pe_mem.proofs.ServeLemmas.{nothing_known, one_made}
+use Rattle.pe_mem.proofs.TableLemmas.{TableBase, TableSoFar, is_pended, pend_at, last_read_before, unread_of}
+
+and_true : (a : Bool) → IsTrue a → IsTrue (a && true)
+and_true true h = refl
+and_true false h = absurd (cc)
+
+-- The step.
+
+record Enabled (old new : Seen) (vcpu : ℕ) (lpis : Bool) : Type 0 where
+  step : Made
+  adds : Adds old new (step ∷ [])
+  local_is : new.local ≡ old.local
+  none_taken : IsTrue (takes_none (step ∷ []))
+  events : part_events old (step ∷ []) ≡ (record { event = Enable vcpu; found = FoundLpis lpis }) ∷ []
+  piece : IsPiece old (step ∷ [])
+
+enabled : (old new : Seen) (vcpu found : ℕ) → AddsStep old new (EnableLpis vcpu) found → Enabled old new vcpu (vcpu_of found).lpis
+enabled old new vcpu found add =
+    let made = made_by old (EnableLpis vcpu) found add.tables in
+    record {
+      step = made;
+      adds = add.adds;
+      local_is = ap (λ seen. seen.local) add.adds.new_is;
+      none_taken = and_true (is_none add.tables) (handed_none (EnableLpis vcpu) found old add.tables refl add.handed);
+      events = refl;
+      piece = piece_one old made refl refl;
+    }
+
+-- the guest where EnableLPIs is this, with this in each plain word
+enable_view : Seen → Bool → ℕ → View
+enable_view seen lpis found = record (nothing_known seen) { lpis = λ vcpu. lpis; words = λ word. found }
+
+-- It was 1 before.
+
+pub enables_again : (old new : Seen) (vcpu found : ℕ) → IsAtEase old.local → (vcpu_of found).lpis ≡ true → AddsStep old new (EnableLpis vcpu) found → EnablesLpis old new vcpu
+unfolding enable_view
+enables_again old new vcpu found ease was add =
+    let By : Bool → Type 0 = λ lpis. Enabled old new vcpu lpis in
+    let one : By true = subst By was (enabled old new vcpu found add) in
+    let view = enable_view old true 0 in
+    let happened : Happened = record { event = Enable vcpu; found = FoundLpis true } in
+    let Of : List Happened → Type 0 = λ piece. Makes (Some old.actor) view (Enable vcpu ∷ []) [] [] piece in
+    record {
+      view = view;
+      part = one.step ∷ [];
+      adds = one.adds;
+      made = subst Of (sym one.events) (one_made (Some old.actor) view happened refl refl);
+      stays = subst (StaysAtEase old.local) (sym one.local_is) (stays_self old.local ease);
+      none_taken = one.none_taken;
+      piece = λ operation by. own_of_piece old operation (one.step ∷ []) one.piece;
+    }
+
+-- The table has only zeros.
+
+pub enables_none : (old mid new : Seen) (vcpu found pendbaser : ℕ) → IsAtEase old.local → (vcpu_of found).lpis ≡ false → is_table_zero pendbaser ≡ true → AddsStep old mid (EnableLpis vcpu) found → ReadsPlain mid new (Pendbaser vcpu) pendbaser → EnablesLpis old new vcpu
+unfolding enable_view
+enables_none old mid new vcpu found pendbaser ease was only add reads =
+    let By : Bool → Type 0 = λ lpis. Enabled old mid vcpu lpis in
+    let one : By false = subst By was (enabled old mid vcpu found add) in
+    let view = enable_view old false pendbaser in
+    let happened : Happened = record { event = Enable vcpu; found = FoundLpis false } in
+    let read : Happened = record { event = Read (Word (Pendbaser vcpu)); found = FoundWord pendbaser } in
+    let part = one.step ∷ [] ++ reads.look ∷ [] in
+    let events : part_events old part ≡ happened ∷ read ∷ []
+    = events_then old mid (one.step ∷ []) (reads.look ∷ []) one.adds ∙ ap (λ early. early ++ part_events mid (reads.look ∷ [])) one.events ∙ ap (λ late. happened ∷ late) reads.events in
+    let Hands : Happened → Type 0 = λ h. HandsOut view h.event h.found in
+    let Last : Place → Type 0 = λ place. IsLastRead place (held_at view place) (happened ∷ read ∷ []) in
+    let last : Last (Word (Pendbaser vcpu)) = record { before = happened ∷ []; after = []; split = refl; last = All-nil (λ h. h.event ≡ Read (Word (Pendbaser vcpu)) → ⊥) } in
+    let zeros : (if is_table_zero pendbaser then [] else filter_map (λ number. pended_at (shape_of old) view vcpu (8192 + number)) (range_with_len 0 (shape_of old).lpis)) ≡ []
+    = ap (λ b. if b then [] else filter_map (λ number. pended_at (shape_of old) view vcpu (8192 + number)) (range_with_len 0 (shape_of old).lpis)) only in
+    let nowhere : table_places (shape_of old) view vcpu ≡ Word (Pendbaser vcpu) ∷ []
+    = ap (λ b. Word (Pendbaser vcpu) ∷ (if b then [] else flat_map (λ id. memory_places (shape_of old) (pending_address pendbaser id).0 1) (lpis_of (shape_of old)))) only in
+    let made : Makes (Some old.actor) view (Enable vcpu ∷ []) (Word (Pendbaser vcpu) ∷ []) [] (happened ∷ read ∷ [])
+    = record { events_are = refl; found = All-cons Hands happened [] refl (All-nil Hands); reads = All-cons Last (Word (Pendbaser vcpu)) [] last (All-nil Last) } in
+    let ByEvents : List Event → Type 0 = λ events. Makes (Some old.actor) view (Enable vcpu ∷ events) (Word (Pendbaser vcpu) ∷ []) [] (happened ∷ read ∷ []) in
+    let ByPlaces : List Place → Type 0 = λ places. Makes (Some old.actor) view (enable_events (shape_of old) view vcpu) places [] (happened ∷ read ∷ []) in
+    let Of : List Happened → Type 0 = λ piece. Makes (Some old.actor) view (enable_events (shape_of old) view vcpu) (table_places (shape_of old) view vcpu) [] piece in
+    record {
+      view = view;
+      part = part;
+      adds = adds_join old mid new (one.step ∷ []) (reads.look ∷ []) one.adds reads.adds;
+      made = subst Of (sym events) (subst ByPlaces (sym nowhere) (subst ByEvents (sym zeros) made));
+      stays = subst (StaysAtEase old.local) (sym (reads.local_is ∙ one.local_is)) (stays_self old.local ease);
+      none_taken = none_append (one.step ∷ []) (reads.look ∷ []) one.none_taken reads.none_taken;
+      piece = λ operation by. own_of_piece old operation part (piece_then old mid (one.step ∷ []) (reads.look ∷ []) one.adds one.piece reads.piece);
+    }
+
+-- The table.
+
+table_words : ℕ → (ℕ → ℕ) → PlainWord → ℕ
+table_words pendbaser words (Ram index) = words index
+table_words pendbaser words word = pendbaser
+
+table_view : Seen → ℕ → (ℕ → Irq) → (ℕ → Option ℕ) → (ℕ → ℕ) → View
+table_view seen pendbaser irqs targets words =
+    record (nothing_known seen) { lpis = λ vcpu. false; irqs = λ key. irqs (intid_of key - 8192); targets = λ id. targets (id - 8192); words = table_words pendbaser words }
+
+all_flat : {Y : Type 0} (P : Y → Type 0) (f : ℕ → List Y) (a n : ℕ) → ((m : ℕ) → m < n → All P (f (a + m))) → All P (flat_map f (range_with_len a n))
+all_flat P f a zero each = All-nil P
+all_flat P f a (suc n) each =
+    let first : All P (f a) = subst (λ k. All P (f k)) (omega arith) (each 0 (omega arith)) in
+    All-append P (f a) (flat_map f (range_with_len (a + 1) n)) first
+    (all_flat P f (a + 1) n (λ m h. let same : a + (m + 1) ≡ a + 1 + m = omega arith in subst (λ k. All P (f k)) same (each (m + 1) (omega (arith, h)))))
+
+pub enables_table :
+    (old mid start new : Seen) (vcpu found pendbaser : ℕ) (last : Option Fetched) → (vcpu_of found).lpis ≡ false → is_table_zero pendbaser ≡ false → AddsStep old mid (EnableLpis vcpu) found → ReadsPlain mid start (Pendbaser vcpu) pendbaser
+    → TableSoFar start new vcpu pendbaser (shape_of start).lpis last → EnablesLpis old new vcpu
+unfolding table_view table_words
+enables_table old mid start new vcpu found pendbaser last was some add reads so =
+    record {
+      view = view;
+      part = part;
+      adds = adds_join old mid new (one.step ∷ []) (reads.look ∷ [] ++ base.part) one.adds (adds_join mid start new (reads.look ∷ []) base.part reads.adds base.adds);
+      made = subst ByEvents (sym events_so) (subst ByPlaces (sym places_so) (subst Of (sym events) made));
+      stays = subst (λ local. StaysAtEase local new.local) (reads.local_is ∙ one.local_is) base.stays;
+      none_taken = none_append (one.step ∷ []) (reads.look ∷ [] ++ base.part) one.none_taken (none_append (reads.look ∷ []) base.part reads.none_taken base.none_taken);
+      piece = λ operation by.
+          let By : Seen → Type 0 = λ seen. NamesBy (shape_of seen) seen.actor operation (λ view. enable_events (shape_of seen) (before_enabling vcpu view) vcpu) in
+          let there : By start = subst By (sym reads.adds.new_is) (subst By (sym one.adds.new_is) by) in
+          own_joins old mid operation (one.step ∷ []) (reads.look ∷ [] ++ base.part) one.adds (own_of_piece old operation (one.step ∷ []) one.piece)
+          (own_joins mid start operation (reads.look ∷ []) base.part reads.adds (own_of_piece mid operation (reads.look ∷ []) reads.piece) (base.piece operation there));
+    }
+  where
+    shape : GuestShape
+    shape = shape_of old
+
+    one : Enabled old mid vcpu false
+    one = let By : Bool → Type 0 = λ lpis. Enabled old mid vcpu lpis in subst By was (enabled old mid vcpu found add)
+
+    base : TableBase start new vcpu pendbaser (shape_of start).lpis
+    base = so.base
+
+    same : shape_of start ≡ shape_of old
+    same = ap shape_of reads.adds.new_is ∙ ap shape_of one.adds.new_is
+
+    actor : start.actor ≡ old.actor
+    actor = ap (λ seen. seen.actor) reads.adds.new_is ∙ ap (λ seen. seen.actor) one.adds.new_is
+
+    count : ℕ
+    count = (shape_of old).lpis
+
+    below : (m : ℕ) → m < count → m < (shape_of start).lpis
+    below m h = subst (λ shape. m < shape.lpis) (sym same) h
+
+    view : View
+    view = table_view old pendbaser base.irqs base.targets base.words
+
+    happened : Happened
+    happened = record { event = Enable vcpu; found = FoundLpis false }
+
+    read : Happened
+    read = record { event = Read (Word (Pendbaser vcpu)); found = FoundWord pendbaser }
+
+    rest : List Happened
+    rest = part_events start base.part
+
+    touched : List Happened
+    touched = filter_map (touched_at (pend_at base.pended) base.irqs) (range_with_len 0 count)
+
+    part : List Made
+    part = one.step ∷ [] ++ (reads.look ∷ [] ++ base.part)
+
+    events : part_events old part ≡ happened ∷ read ∷ rest
+    events =
+        events_then old mid (one.step ∷ []) (reads.look ∷ [] ++ base.part) one.adds
+        ∙ ap (λ early. early ++ part_events mid (reads.look ∷ [] ++ base.part)) one.events
+        ∙ ap (λ late. happened ∷ late) (events_then mid start (reads.look ∷ []) base.part reads.adds ∙ ap (λ early. early ++ rest) reads.events)
+
+    named : named_of (Some old.actor) (happened ∷ read ∷ rest) ≡ happened ∷ touched
+    named =
+        ap (λ late. happened ∷ late)
+        (ap (λ actor. named_of (Some actor) rest) (sym actor) ∙ base.named ∙ ap (λ shape. filter_map (touched_at (pend_at base.pended) base.irqs) (range_with_len 0 shape.lpis)) same)
+
+    pended_is : (m : ℕ) → m < count → pend_at base.pended m ≡ pended_at shape view vcpu (8192 + m)
+    pended_is m h =
+        let number : m ≡ 8192 + m - 8192 = omega arith in
+        ap (λ (b : Bool). if b then Some (Touch (Lpi (8192 + m)) pend) else None)
+        (base.flags m (below m h)
+        ∙ ap (λ shape. is_number vcpu (base.targets m) && is_pended shape pendbaser base.words m) same
+        ∙ ap (λ k. is_number vcpu (base.targets k) && is_pended shape pendbaser base.words m) number)
+
+    pending : List Event
+    pending = filter_map (λ number. pended_at shape view vcpu (8192 + number)) (range_with_len 0 count)
+
+    list_is : filter_map (pend_at base.pended) (range_with_len 0 count) ≡ pending
+    list_is = found_below (pend_at base.pended) (λ number. pended_at shape view vcpu (8192 + number)) count pended_is
+
+    events_so : enable_events shape view vcpu ≡ Enable vcpu ∷ filter_map (pend_at base.pended) (range_with_len 0 count)
+    events_so = ap (λ (b : Bool). Enable vcpu ∷ (if b then [] else pending)) some ∙ ap (λ events. Enable vcpu ∷ events) (sym list_is)
+
+    bits : ℕ → List Place
+    bits id = memory_places shape (pending_address pendbaser id).0 1
+
+    places_so : table_places shape view vcpu ≡ Word (Pendbaser vcpu) ∷ flat_map bits (lpis_of shape)
+    places_so = ap (λ (b : Bool). Word (Pendbaser vcpu) ∷ (if b then [] else flat_map bits (lpis_of shape))) some
+
+    Hands : Happened → Type 0
+    Hands h = HandsOut view h.event h.found
+
+    Last : Place → Type 0
+    Last place = IsLastRead place (held_at view place) (happened ∷ read ∷ rest)
+
+    hands : (m : ℕ) → m < count → IfSome (touched_at (pend_at base.pended) base.irqs m) Hands
+    hands m h = of (base.pended m)
+      where
+        of : (b : Bool) → IfSome (touched_at (λ k. if b then Some (Touch (Lpi (8192 + k)) pend) else None) base.irqs m) Hands
+        of true = let number : m ≡ 8192 + m - 8192 = omega arith in ap (λ k. Record (base.irqs k)) number
+        of false = tt
+
+    bit_read : (m : ℕ) → m < count → All Last (bits (8192 + m))
+    bit_read m h = of (part_of_number shape pendbaser m) (subst Reads same (base.reads m (below m h)))
+      where
+        Reads : GuestShape → Type 0
+        Reads shape = IfSome (part_of_number shape pendbaser m) (λ p. IsLastRead (Word (Ram p.index)) (FoundWord (base.words p.index)) rest)
+
+        of : (o : Option Part) → IfSome o (λ p. IsLastRead (Word (Ram p.index)) (FoundWord (base.words p.index)) rest) → All Last (option_map_or (λ part. Word (Ram part.index) ∷ []) o [])
+        of None is = All-nil Last
+        of (Some p) is = All-cons Last (Word (Ram p.index)) [] (last_read_before (Word (Ram p.index)) (FoundWord (base.words p.index)) (happened ∷ read ∷ []) rest is) (All-nil Last)
+
+    base_read : Last (Word (Pendbaser vcpu))
+    base_read = record { before = happened ∷ []; after = rest; split = refl; last = unread_of (Word (Pendbaser vcpu)) rest base.other }
+
+    made : Makes (Some old.actor) view (Enable vcpu ∷ filter_map (pend_at base.pended) (range_with_len 0 count)) (Word (Pendbaser vcpu) ∷ flat_map bits (lpis_of shape)) [] (happened ∷ read ∷ rest)
+    made =
+        record {
+          events_are = ap (map (λ h. h.event)) named ∙ ap (λ events. Enable vcpu ∷ events) (events_of_touched (pend_at base.pended) base.irqs (range_with_len 0 count));
+          found = subst (All Hands) (sym named) (All-cons Hands happened touched refl (all_below Hands (touched_at (pend_at base.pended) base.irqs) count hands));
+          reads = All-cons Last (Word (Pendbaser vcpu)) (flat_map bits (lpis_of shape)) base_read (all_flat Last bits 8192 count bit_read);
+        }
+
+    ByEvents : List Event → Type 0
+    ByEvents events = Makes (Some old.actor) view events (table_places shape view vcpu) [] (part_events old part)
+
+    ByPlaces : List Place → Type 0
+    ByPlaces places = Makes (Some old.actor) view (Enable vcpu ∷ filter_map (pend_at base.pended) (range_with_len 0 count)) places [] (part_events old part)
+
+    Of : List Happened → Type 0
+    Of piece = Makes (Some old.actor) view (Enable vcpu ∷ filter_map (pend_at base.pended) (range_with_len 0 count)) (Word (Pendbaser vcpu) ∷ flat_map bits (lpis_of shape)) [] piece
+
+-- Before the table.
+
+pub ease_after : (old mid start : Seen) (vcpu found pendbaser : ℕ) → IsAtEase old.local → AddsStep old mid (EnableLpis vcpu) found → ReadsPlain mid start (Pendbaser vcpu) pendbaser → IsAtEase start.local
+ease_after old mid start vcpu found pendbaser ease add reads = subst IsAtEase (sym (reads.local_is ∙ ap (λ seen. seen.local) add.adds.new_is)) ease
+
+pub shape_after : (old mid start : Seen) (vcpu found pendbaser : ℕ) → AddsStep old mid (EnableLpis vcpu) found → ReadsPlain mid start (Pendbaser vcpu) pendbaser → shape_of start ≡ shape_of old
+shape_after old mid start vcpu found pendbaser add reads = ap shape_of reads.adds.new_is ∙ ap shape_of add.adds.new_is

@@ -1,0 +1,14 @@
+pub mod PartLemmas
+pub mod EachLemmas
+pub mod PartsLemmas
+pub mod MarkLemmas
+pub mod CopyLemmas
+pub mod ServeLemmas
+pub mod CtlrLemmas
+pub mod DistLemmas
+pub mod UpdateLemmas
+pub mod MemoryLemmas
+pub mod CallLemmas
+pub mod RedistLemmas
+pub mod TableLemmas
+pub mod EnableLemmas

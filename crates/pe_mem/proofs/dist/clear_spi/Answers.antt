@@ -1,0 +1,18 @@
+-- The touch, if the SPI is there.
+use Rattle.std.proofs.Common.{sym, ap, ◌∙◌}
+use Rattle.gic_base.specs.declared.operation.Frame.TheVariants.{Dist}
+use Rattle.gic_base.specs.declared.operation.Kind.TheVariants.{ClearPending}
+use Rattle.gic_dmap.specs.Contents.{message_intid}
+use Rattle.gic_call.specs.Access.{part_key}
+use Rattle.pe_mem.proofs.DistLemmas.{low_intid, clears_spi, clears_none}
+use Rattle.pe_mem.proofs.dist.clear_spi.Goals as goal
+
+pub returns-in-Some : goal.returns-in-Some
+returns-in-Some g c =
+    clears_spi (g.P.Port.seen c.args.port.now) (g.P.Port.seen c.touch.new.port) c.args.value c.message_intid-id.result c.in-Some.key c.touch.result (c.message_intid-id.ensures.value ∙ ap message_intid c.low.ensures ∙ low_intid c.args.value)
+    (ap (λ shape. part_key shape Dist ClearPending c.message_intid-id.result) (sym c.shape.ensures) ∙ sym c.part_key.ensures.value ∙ c.in-Some.is) c.touch.ensures
+
+pub returns-in_default : goal.returns-in_default
+returns-in_default g c =
+    clears_none (g.P.Port.seen c.args.port.now) c.args.value c.message_intid-id.result c.requires (c.message_intid-id.ensures.value ∙ ap message_intid c.low.ensures ∙ low_intid c.args.value)
+    (ap (λ shape. part_key shape Dist ClearPending c.message_intid-id.result) (sym c.shape.ensures) ∙ sym c.part_key.ensures.value ∙ c.in_default.is)

@@ -1,0 +1,7 @@
+-- So far each try missed.
+use Rattle.port_call.specs.Touch.{Tries}
+use Rattle.pe_mem.proofs.parts.write_half.Given as goal
+
+abbrev pub invariant-loop : goal.invariant-loop
+invariant-loop g l =
+    (goal.iterator-loop g).can_next l.iterator' × (goal.iterator-loop g).is_finite l.iterator' × Tries (g.P.Port.seen l.initial.port) (g.P.Port.seen l.port) l.initial.key

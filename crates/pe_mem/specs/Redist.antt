@@ -1,0 +1,54 @@
+-- Accesses of a redistributor.
+use Rattle.std.specs.Prelude.{◌≡◌, ℕ, Bool, IsTrue, [], ◌∷◌, if◌then◌else◌, Option, Some, None}
+use Rattle.gic_frame.specs.declared.bank.Half.{Half}
+use Rattle.gic_frame.specs.declared.bank.Half.TheVariants.{Whole}
+use Rattle.gic_rmap.specs.declared.map.Reg.{Reg}
+use Rattle.gic_rmap.specs.declared.map.RegRef.{RegRef}
+use Rattle.gic_rmap.specs.declared.map.RegRef.TheVariants.{Plain}
+use Rattle.gic_open.specs.declared.plain.PlainWord.{PlainWord}
+use Rattle.gic_call.specs.declared.event.Event.TheVariants.{Put, Read}
+use Rattle.gic_call.specs.declared.event.Found.TheVariants.{Lpis as FoundLpis}
+use Rattle.gic_call.specs.declared.event.Place.TheVariants.{Lpis}
+use Rattle.gic_call.specs.Access.{enable_events, redist_events, redist_written, redist_held, redist_value}
+use Rattle.gic_call.specs.Trace.{table_places, redist_places, read_answer}
+use Rattle.gic_history.specs.Named.{before_enabling}
+use Rattle.port_core.specs.declared.run.Made.{Made}
+use Rattle.port_core.specs.Port.{Seen, Adds, shape_of, part_events}
+use Rattle.port_call.specs.Piece.{takes_none, IsPiece}
+use Rattle.pe_mem.specs.Call.{Serves, ServesFreely}
+
+-- an access, and what it reads
+pub record ServesRedist (old new : Seen) (vcpu : ℕ) (reference : RegRef) (write : Option ℕ) (value : ℕ) : Type 0 where
+  pub serves :
+      Serves old new (λ view. redist_events (shape_of old) view vcpu reference write) (λ view. redist_places (shape_of old) view vcpu reference write)
+      (λ view. redist_events (shape_of old) (before_enabling vcpu view) vcpu reference write)
+  pub reads : read_answer write value ≡ read_answer write (redist_value (shape_of old) serves.view vcpu reference)
+
+-- a read of a register that has no part for each interrupt
+pub record ReadsRedist (old new : Seen) (vcpu : ℕ) (reg : Reg) (value : ℕ) : Type 0 where
+  pub serves : ServesFreely old new (λ view. []) (λ view. redist_places (shape_of old) view vcpu (Plain reg Whole) None)
+  pub value_is : value ≡ redist_held (shape_of old) serves.view vcpu reg
+
+-- a write of one, or of a half of one
+abbrev pub WritesRedist : Seen → Seen → ℕ → Reg → Half → ℕ → Type 0
+WritesRedist old new vcpu reg half value =
+    Serves old new (λ view. redist_written (shape_of old) view vcpu reg half value) (λ view. redist_places (shape_of old) view vcpu (Plain reg half) (Some value))
+    (λ view. redist_written (shape_of old) (before_enabling vcpu view) vcpu reg half value)
+
+-- an actor looked at EnableLPIs of a vCPU, and found this
+pub record LooksAtLpis (old new : Seen) (vcpu : ℕ) (enabled : Bool) : Type 0 where
+  pub look : Made
+  pub adds : Adds old new (look ∷ [])
+  pub local_is : new.local ≡ old.local
+  pub none_taken : IsTrue (takes_none (look ∷ []))
+  pub events : part_events old (look ∷ []) ≡ (record { event = Read (Lpis vcpu); found = FoundLpis enabled }) ∷ []
+  pub piece : IsPiece old (look ∷ [])
+
+-- it stored a word changed, unless it found EnableLPIs 1
+abbrev pub StoresTable : Seen → Seen → ℕ → PlainWord → (ℕ → ℕ) → Type 0
+StoresTable old new vcpu word changed = ServesFreely old new (λ view. if view.lpis vcpu then [] else Put word (changed (view.words word)) ∷ []) (λ view. Lpis vcpu ∷ [])
+
+-- EnableLPIs became 1: as it rises, those LPIs that are for the vCPU and have their bit in its pending table become pending
+abbrev pub EnablesLpis : Seen → Seen → ℕ → Type 0
+EnablesLpis old new vcpu =
+    Serves old new (λ view. enable_events (shape_of old) view vcpu) (λ view. if view.lpis vcpu then [] else table_places (shape_of old) view vcpu) (λ view. enable_events (shape_of old) (before_enabling vcpu view) vcpu)
