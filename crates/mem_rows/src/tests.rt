@@ -257,17 +257,24 @@ fn play<R: Wait>(
     Ok(first_other(rt, &mut port, accesses))
 }
 
-/// vCPU 0 makes interrupt 40 pending, and enters a PE. None where it may not.
+/// A message makes interrupt 40 pending. False where it may not.
+fn send<P: Port>(port: &mut P) -> bool
+    ensures { (P.seen port.new).number ≡ (P.seen port.old).number }
+{
+    if port.shape() != SHAPE || port.actor() != 0 || !is_off(port.local_ref()) {
+        return false;
+    }
+    port.step(CoreStep::Raise { key: Key::Spi(40) });
+    settle(port);
+    true
+}
+
+/// vCPU 0 enters a PE. None where it may not.
 fn enter_first<P: Port>(port: &mut P) -> Option<Loaded>
     requires { (P.seen port.old).number ≡ 0 }
     ensures { IfSome result (λ vcpu. IsOn (P.seen port.new) vcpu) }
 {
     if port.shape() != SHAPE || port.actor() != 0 || !is_off(port.local_ref()) {
-        return None;
-    }
-    port.step(CoreStep::Raise { key: Key::Spi(40) });
-    settle(port);
-    if port.actor() != 0 || !is_off(port.local_ref()) {
         return None;
     }
     let vcpu = Shelved {
@@ -279,10 +286,13 @@ fn enter_first<P: Port>(port: &mut P) -> Option<Loaded>
     Some(enter(port, vcpu, 4))
 }
 
-/// The same, and it leaves the PE or stays. False where it may not.
+/// vCPU 0 gets a message, enters a PE, and leaves it or stays. False where it may not.
 fn visit<P: Port>(port: &mut P, leaves: bool) -> bool
     requires { (P.seen port.old).number ≡ 0 }
 {
+    if !send(port) {
+        return false;
+    }
     let Some(vcpu) = enter_first(port) else {
         return false;
     };
