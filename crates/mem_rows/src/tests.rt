@@ -4,7 +4,7 @@ ghost use Rattle.std.specs.List.{list_all};
 ghost use Rattle.gic_ram.specs.Access.{is_size as is_size_of};
 ghost use Rattle.scn_base.specs.Good.{fits as fits_in};
 ghost use Rattle.core_proper.specs.Proper.{is_settled as is_settled_as};
-ghost use Rattle.pe_loop.specs.Stay.{IsOn};
+ghost use Rattle.pe_loop.specs.Stay.{IsUp};
 ghost use Rattle.pe_mem.specs.Call.{CanAccess};
 
 use gic_base::{GuestShape, Key, Kind};
@@ -272,7 +272,7 @@ fn send<P: Port>(port: &mut P) -> bool
 /// vCPU 0 enters a PE. None where it may not.
 fn enter_first<P: Port>(port: &mut P) -> Option<Loaded>
     requires { (P.seen port.old).number ≡ 0 }
-    ensures { IfSome result (λ vcpu. IsOn (P.seen port.new) vcpu) }
+    ensures { IfSome result (λ vcpu. IsUp (P.seen port.new) vcpu) }
 {
     if port.shape() != SHAPE || port.actor() != 0 || !is_off(port.local_ref()) {
         return None;
