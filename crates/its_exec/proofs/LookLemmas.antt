@@ -10,6 +10,8 @@ use Rattle.gic_open.specs.Plain.{place_of_plain}
 use Rattle.gic_open.specs.declared.plain.PlainWord.{PlainWord}
 use Rattle.gic_open.specs.declared.plain.PlainWord.TheVariants.{ItsCtlr, Cbaser, Cwriter}
 use Rattle.gic_call.specs.Command.{takes_command}
+use Rattle.gic_call.specs.declared.event.Event.TheVariants.{Read}
+use Rattle.gic_call.specs.Trace.{Happened}
 use Rattle.gic_call.specs.declared.event.Place.{Place}
 use Rattle.gic_call.specs.declared.event.Place.TheVariants.{Word, Queue as QueuePlace}
 use Rattle.gic_call.specs.declared.event.Found.TheVariants.{Word as FoundWord, Queue as FoundQueue}
@@ -148,6 +150,10 @@ pub plain_leaves_plain : (old new : Seen) (word other : PlainWord) (value : ℕ)
 plain_leaves_plain old new word other value differ reads =
     plain_leaves old new word value (Word other) reads (plain_apart (shape_of old) (place_of_plain (shape_of old) word) (place_of_plain (shape_of old) other) differ)
 
+-- a read of a plain word, as it is to be seen
+abbrev read_as : PlainWord → ℕ → Happened
+read_as word n = record { event = Read (Word word); found = FoundWord n }
+
 pub looks_at :
     (s a b c new : Seen) (found ctlr cbaser cwriter : ℕ) → IsQueue (queue_of found) → AddsStep s a (Look Queue) found → ReadsPlain a b ItsCtlr ctlr → ReadsPlain b c Cbaser cbaser → ReadsPlain c new Cwriter cwriter
     → LooksAtQueue s new (record { ctlr = ctlr; cbaser = cbaser; cwriter = cwriter; offset = (queue_of found).offset; stalled = (queue_of found).stalled })
@@ -156,10 +162,20 @@ looks_at s a b c new found ctlr cbaser cwriter is add one two three =
     let first = reading_joins s a b (made ∷ []) (one.look ∷ []) (queue_reading s a found add) (reading_plain a b ItsCtlr ctlr one) in
     let second = reading_joins s b c (made ∷ [] ++ one.look ∷ []) (two.look ∷ []) first (reading_plain b c Cbaser cbaser two) in
     let part = (made ∷ [] ++ one.look ∷ []) ++ two.look ∷ [] ++ three.look ∷ [] in
+    let shown : Happened = record { event = Read QueuePlace; found = FoundQueue (queue_of found).offset (queue_of found).stalled } in
+    let one_then : part_events s (made ∷ [] ++ one.look ∷ []) ≡ shown ∷ read_as ItsCtlr ctlr ∷ []
+    = events_then s a (made ∷ []) (one.look ∷ []) add.adds ∙ ap (λ events. shown ∷ events) one.events in
+    let two_then : part_events s ((made ∷ [] ++ one.look ∷ []) ++ two.look ∷ []) ≡ shown ∷ read_as ItsCtlr ctlr ∷ read_as Cbaser cbaser ∷ []
+    = events_then s b (made ∷ [] ++ one.look ∷ []) (two.look ∷ []) first.adds ∙ ap (λ events. events ++ part_events b (two.look ∷ [])) one_then
+    ∙ ap (λ events. shown ∷ read_as ItsCtlr ctlr ∷ events) two.events in
+    let three_then : part_events s part ≡ shown ∷ read_as ItsCtlr ctlr ∷ read_as Cbaser cbaser ∷ read_as Cwriter cwriter ∷ []
+    = events_then s c ((made ∷ [] ++ one.look ∷ []) ++ two.look ∷ []) (three.look ∷ []) second.adds ∙ ap (λ events. events ++ part_events c (three.look ∷ [])) two_then
+    ∙ ap (λ events. shown ∷ read_as ItsCtlr ctlr ∷ read_as Cbaser cbaser ∷ events) three.events in
     let whole : Reading s new part = reading_joins s c new ((made ∷ [] ++ one.look ∷ []) ++ two.look ∷ []) (three.look ∷ []) second (reading_plain c new Cwriter cwriter three) in
     record {
       part = part;
       reading = whole;
+      events = three_then;
       knows =
           record {
             place =

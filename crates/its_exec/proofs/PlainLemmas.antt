@@ -1,5 +1,5 @@
 -- A command that is no MAPD: it does its parts.
-use Rattle.std.proofs.Common.{◌≡◌, ℕ, ◌%◌, ◌==◌, ◌&&◌, ◌||◌, Bool, true, false, nat_lt, IsTrue, IfSome, List, [], ◌++◌, Option, Some, None, Result, Ok, Err, option_map, refl, sym, ap, subst, ◌∙◌, arith}
+use Rattle.std.proofs.Common.{◌≡◌, ℕ, ◌%◌, ◌==◌, ◌&&◌, ◌||◌, not, Bool, true, false, nat_lt, IsTrue, IfSome, List, [], ◌++◌, Option, Some, None, Result, Ok, Err, option_map, refl, sym, ap, subst, ◌∙◌, arith}
 use Rattle.std.specs.Option.{option_to_list}
 use Rattle.std.specs.Result.{OnOk, OnErr}
 use Rattle.std.proofs.lemmas.Bool.{eq-eqb, lt-ltb}
@@ -22,10 +22,10 @@ use Rattle.port_call.proofs.RestLemmas.{owes_none}
 use Rattle.its_exec.specs.declared.fetch.Fetched.{Fetched}
 use Rattle.its_exec.specs.Command.{has_part, DoesParts, DoesCommand}
 use Rattle.its_exec.specs.Config.{HoldsCommand}
-use Rattle.its_exec.specs.Known.{AgreeWith}
+use Rattle.its_exec.specs.Known.{AgreeWith, IsUntouched}
 use Rattle.its_exec.specs.Parts.{lpi_of, is_part_of, GoesFirst}
 use Rattle.its_exec.specs.Plan.{IsFresh, first_of, second_of, is_several, is_mapd, DoesSome, ForgetsAll, lpis_end}
-use Rattle.its_exec.specs.Sweep.{AreUnmapped, SweepsAll}
+use Rattle.its_exec.specs.Sweep.{AreUnmapped, is_skipped, SweepsAll}
 use Rattle.its_exec.proofs.ConfigLemmas.{holds_on}
 use Rattle.its_exec.proofs.CommandLemmas.{IsAmong, parts_none, parts_one, parts_join}
 use Rattle.its_exec.proofs.ForgetLemmas.{ease_after, below_end}
@@ -185,9 +185,11 @@ does_single old mid new address shape maps command whole is valid good plain sin
 
 -- Those of several LPIs.
 
-unmapped_after : (seen : Seen) (maps : Maps) (targets : ℕ → Option ℕ) (command : Command) → AgreeWith seen maps targets → AreUnmapped (maps_after maps command) command targets
-unmapped_after seen maps targets (Movall rdbase second) agree = agree.unmapped
-unmapped_after seen maps targets _ agree = tt
+unmapped_after :
+    (seen : Seen) (maps : Maps) (targets : ℕ → Option ℕ) (command : Command) → ((id : ℕ) → IsTrue (has_interrupt (shape_of seen) (Lpi id)) → IsTrue (is_skipped (maps_after maps command) command id) → IsUntouched seen id) → AgreeWith seen maps targets
+    → AreUnmapped (maps_after maps command) command targets
+unmapped_after seen maps targets (Movall rdbase second) skips agree = λ id none. agree.unmapped id none (λ there. skips id there (ap not none))
+unmapped_after seen maps targets _ skips agree = tt
 
 -- a command of several does no part of one event before
 pub none_before : (old mid new : Seen) (address : ℕ) (maps : Maps) (command : Command) → is_several maps command ≡ true → DoesSome old mid address (first_of maps command) → DoesSome mid new address (second_of maps command) → new ≡ old
@@ -204,11 +206,16 @@ does_several old mid before new address maps tables command several is first sec
     let From : Seen → Type 0 = λ before. SweepsAll before new address tables command in
     let By : Maps → Type 0 = λ tables. SweepsAll old new address tables command in
     let all : SweepsAll old new address (maps_after maps command) command = subst By is (subst From (none_before old mid before address maps command several first second) sweeps) in
+    let does = all.does maps (λ targets. several_parts (shape_of old) maps targets command several) in
+    let same : shape_of new ≡ shape_of old = ap shape_of does.adds.new_is in
+    let There : ℕ → GuestShape → Type 0 = λ id shape. IsTrue (has_interrupt shape (Lpi id)) in
     record {
       top = lpis_end (shape_of old);
       done = all.done;
-      does = all.does maps (λ targets. several_parts (shape_of old) maps targets command several);
-      all = λ targets agree. several_parts (shape_of old) maps targets command several ∙ all.all targets agree.found (unmapped_after new maps targets command agree);
+      does = does;
+      all = λ targets agree.
+          several_parts (shape_of old) maps targets command several
+          ∙ all.all targets agree.found (unmapped_after new maps targets command (λ id there skipped. all.skips id (subst (There id) same there) skipped) agree);
     }
 
 pub as_some : (old new : Seen) (address : ℕ) (part other : Option Part) → part ≡ other → DoesSome old new address part → DoesSome old new address other

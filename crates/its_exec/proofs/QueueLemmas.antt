@@ -57,6 +57,7 @@ use Rattle.port_call.specs.Store.{MayStore, Stores, is_store_step, is_store_miss
 use Rattle.port_call.proofs.SettleLemmas.{handed_none}
 use Rattle.port_call.specs.Memory.{view_by}
 use Rattle.port_call.specs.Rest.{IsAtEase}
+use Rattle.port_call.proofs.KnownLemmas.{are_off}
 use Rattle.port_call.proofs.RestLemmas.{owes_none}
 use Rattle.port_call.proofs.PieceLemmas.{piece_one}
 use Rattle.its_exec.specs.declared.fetch.Fetched.{Fetched}
@@ -239,37 +240,41 @@ are_stores place found value (made ∷ misses) last missed put =
     both (is_store_step place made.step) (list_all (λ made. is_store_step place made.step) (misses ++ last ∷ [])) (and_parts (is_store_step place made.step) (stores_not made.step made.found) parts.0).0
     (are_stores place found value misses last parts.1 put)
 
-stored_all : (old mid : Seen) (fault : ℕ) (stores : Stores old mid FaultWord fault) → IsTrue (list_all (λ made. is_store_step (fault_place (shape_of old)) made.step) (stores.misses ++ stores.last ∷ []))
-stored_all old mid fault stores = are_stores (fault_place (shape_of old)) stores.last.found fault stores.misses stores.last stores.missed stores.last_is
+stored_all : (old mid : Seen) (word : PlainWord) (value : ℕ) (stores : Stores old mid word value) → IsTrue (list_all (λ made. is_store_step (place_of_plain (shape_of old) word) made.step) (stores.misses ++ stores.last ∷ []))
+stored_all old mid word value stores = are_stores (place_of_plain (shape_of old) word) stores.last.found value stores.misses stores.last stores.missed stores.last_is
 
-stored_leaves : (old mid : Seen) (fault : ℕ) (place : Place) → Stores old mid FaultWord fault → (place_of_word (shape_of old) (Plain (fault_place (shape_of old))) == place_of_word (shape_of old) (word_of_place (shape_of old) place)) ≡ false
-    → Leaves old mid place
-stored_leaves old mid fault place stores apart =
-    leaves old mid (stores.misses ++ stores.last ∷ []) place stores.adds stores.none_taken
-    (off_each (shape_of old) old.actor (word_of_place (shape_of old) place) (is_store_step (fault_place (shape_of old))) (store_apart (shape_of old) old.actor (word_of_place (shape_of old) place) (fault_place (shape_of old)) apart)
-    (stores.misses ++ stores.last ∷ []) (stored_all old mid fault stores))
+pub stored_off : (old mid : Seen) (word : PlainWord) (value : ℕ) (other : WordId) (stores : Stores old mid word value) → (place_of_word (shape_of old) (Plain (place_of_plain (shape_of old) word)) == place_of_word (shape_of old) other) ≡ false
+    → IsTrue (are_off (shape_of old) old.actor other (stores.misses ++ stores.last ∷ []))
+stored_off old mid word value other stores apart =
+    off_each (shape_of old) old.actor other (is_store_step (place_of_plain (shape_of old) word)) (store_apart (shape_of old) old.actor other (place_of_plain (shape_of old) word) apart) (stores.misses ++ stores.last ∷ [])
+    (stored_all old mid word value stores)
 
-stored_leaves_plain : (old mid : Seen) (fault : ℕ) (word : PlainWord) → Stores old mid FaultWord fault → fault_place (shape_of old) ≢ place_of_plain (shape_of old) word → Leaves old mid (Word word)
-stored_leaves_plain old mid fault word stores differ = stored_leaves old mid fault (Word word) stores (plain_apart (shape_of old) (fault_place (shape_of old)) (place_of_plain (shape_of old) word) differ)
+pub stored_leaves : (old mid : Seen) (word : PlainWord) (value : ℕ) (place : Place) → Stores old mid word value
+    → (place_of_word (shape_of old) (Plain (place_of_plain (shape_of old) word)) == place_of_word (shape_of old) (word_of_place (shape_of old) place)) ≡ false → Leaves old mid place
+stored_leaves old mid word value place stores apart =
+    leaves old mid (stores.misses ++ stores.last ∷ []) place stores.adds stores.none_taken (stored_off old mid word value (word_of_place (shape_of old) place) stores apart)
+
+pub stored_leaves_plain : (old mid : Seen) (word other : PlainWord) (value : ℕ) → Stores old mid word value → place_of_plain (shape_of old) word ≢ place_of_plain (shape_of old) other → Leaves old mid (Word other)
+stored_leaves_plain old mid word other value stores differ = stored_leaves old mid word value (Word other) stores (plain_apart (shape_of old) (place_of_plain (shape_of old) word) (place_of_plain (shape_of old) other) differ)
 
 stored_leaves_ram : (old mid : Seen) (fault index : ℕ) → index < (shape_of old).ram / 8 → Stores old mid FaultWord fault → Leaves old mid (Word (Ram index))
-stored_leaves_ram old mid fault index there stores = stored_leaves_plain old mid fault (Ram index) stores (λ e. omega (arith, e, there))
+stored_leaves_ram old mid fault index there stores = stored_leaves_plain old mid FaultWord (Ram index) fault stores (λ e. omega (arith, e, there))
 
 stored_knows : (old mid : Seen) (fault : ℕ) (queue : KnownQueue) → Stores old mid FaultWord fault → KnowsQueue old queue → KnowsQueue mid queue
 stored_knows old mid fault queue stores knows =
     record {
-      place = knows_on old mid QueuePlace _ (stored_leaves old mid fault QueuePlace stores (queue_apart (shape_of old) (fault_place (shape_of old)))) knows.place;
-      ctlr = knows_on old mid (Word ItsCtlr) _ (stored_leaves_plain old mid fault ItsCtlr stores (λ e. omega (arith, e))) knows.ctlr;
-      cbaser = knows_on old mid (Word Cbaser) _ (stored_leaves_plain old mid fault Cbaser stores (λ e. omega (arith, e))) knows.cbaser;
-      cwriter = knows_on old mid (Word Cwriter) _ (stored_leaves_plain old mid fault Cwriter stores (λ e. omega (arith, e))) knows.cwriter;
+      place = knows_on old mid QueuePlace _ (stored_leaves old mid FaultWord fault QueuePlace stores (queue_apart (shape_of old) (fault_place (shape_of old)))) knows.place;
+      ctlr = knows_on old mid (Word ItsCtlr) _ (stored_leaves_plain old mid FaultWord ItsCtlr fault stores (λ e. omega (arith, e))) knows.ctlr;
+      cbaser = knows_on old mid (Word Cbaser) _ (stored_leaves_plain old mid FaultWord Cbaser fault stores (λ e. omega (arith, e))) knows.cbaser;
+      cwriter = knows_on old mid (Word Cwriter) _ (stored_leaves_plain old mid FaultWord Cwriter fault stores (λ e. omega (arith, e))) knows.cwriter;
       in_range = knows.in_range;
     }
 
-stored_within : (old mid : Seen) (fault : ℕ) (stores : Stores old mid FaultWord fault) → IsTrue (are_within (stores.misses ++ stores.last ∷ []))
-stored_within old mid fault stores = within_by (stores.misses ++ stores.last ∷ []) stores.none_taken (each (stores.misses ++ stores.last ∷ []) (stored_all old mid fault stores))
+pub stored_within : (old mid : Seen) (word : PlainWord) (value : ℕ) (stores : Stores old mid word value) → IsTrue (are_within (stores.misses ++ stores.last ∷ []))
+stored_within old mid word value stores = within_by (stores.misses ++ stores.last ∷ []) stores.none_taken (each (stores.misses ++ stores.last ∷ []) (stored_all old mid word value stores))
   where
     place : ℕ
-    place = fault_place (shape_of old)
+    place = place_of_plain (shape_of old) word
 
     of : (step : CoreStep) → IsTrue (is_store_step place step) → IsTrue (not (ends_command step))
     of (RamLook index) h = refl
@@ -306,7 +311,7 @@ stored_bad : (old mid : Seen) (queue : KnownQueue) (fault : ℕ) → (shape_of o
 stored_bad old mid queue fault whole stores has =
     let same : shape_of mid ≡ shape_of old = ap shape_of stores.adds.new_is in
     let later = stored_knows old mid fault queue stores has.next.knows in
-    let maps : known_maps mid.own ≡ known_maps old.own = maps_on old mid (stores.misses ++ stores.last ∷ []) stores.adds (stored_within old mid fault stores) in
+    let maps : known_maps mid.own ≡ known_maps old.own = maps_on old mid (stores.misses ++ stores.last ∷ []) stores.adds (stored_within old mid FaultWord fault stores) in
     record {
       fetched = has.fetched;
       next =
@@ -440,7 +445,14 @@ ended_fresh old new step ends makes =
 ended_local : (old new : Seen) (step : CoreStep) (makes : MakesStep old new step) → new.local ≡ local_after (shape_of old) old.actor old.local step makes.found
 ended_local old new step makes = ap (λ seen. seen.local) makes.adds.adds.new_is
 
-ended_ease : (old new : Seen) (offset : ℕ) (stalled : Bool) (done : Option (List ℕ)) → IsAtEase old.local → MakesStep old new (CommandDone offset stalled done) → IsAtEase new.local
+pub ended_same : (old new : Seen) (offset : ℕ) (stalled : Bool) (done : Option (List ℕ)) → MakesStep old new (CommandDone offset stalled done) → new.local ≡ old.local
+ended_same old new offset stalled done makes = ended_local old new (CommandDone offset stalled done) makes ∙ of (succeeds (shape_of old) old.actor old.local (CommandDone offset stalled done) makes.found)
+  where
+    of : (b : Bool) → (if b then old.local else old.local) ≡ old.local
+    of true = refl
+    of false = refl
+
+pub ended_ease : (old new : Seen) (offset : ℕ) (stalled : Bool) (done : Option (List ℕ)) → IsAtEase old.local → MakesStep old new (CommandDone offset stalled done) → IsAtEase new.local
 ended_ease old new offset stalled done ease makes =
     let step = CommandDone offset stalled done in
     subst IsAtEase (sym (ended_local old new step makes ∙ of (succeeds (shape_of old) old.actor old.local step makes.found))) ease
@@ -468,7 +480,7 @@ stalled_ready old new shape tables queue fault ready stalls =
       shape_is = ready.shape_is ∙ sym (ap shape_of stalls.ends.adds.adds.new_is ∙ ap shape_of stores.adds.new_is);
       taken = ap (λ seen. seen.taken) stalls.ends.adds.adds.new_is ∙ ap (λ seen. seen.taken) stores.adds.new_is ∙ ready.taken;
       ease = ended_ease mid new queue.offset true None (subst IsAtEase (sym stores.local_is) ready.ease) stalls.ends;
-      maps = ready.maps ∙ sym (ended_maps mid new step refl stalls.ends ∙ maps_on old mid (stores.misses ++ stores.last ∷ []) stores.adds (stored_within old mid fault stores));
+      maps = ready.maps ∙ sym (ended_maps mid new step refl stalls.ends ∙ maps_on old mid (stores.misses ++ stores.last ∷ []) stores.adds (stored_within old mid FaultWord fault stores));
       valid = ready.valid;
       fresh = ended_fresh mid new step refl stalls.ends;
       knows = ended_knows mid new queue queue.offset true None ready.knows.in_range (stored_knows old mid fault queue stores ready.knows) stalls.ends;

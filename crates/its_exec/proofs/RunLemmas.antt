@@ -106,7 +106,7 @@ last_after place found reads piece last =
       last = last.last;
     }
 
-all_after : (view : View) (reads piece : List Happened) (places : List Place) → All (λ place. IsLastRead place (held_at view place) piece) places → All (λ place. IsLastRead place (held_at view place) (reads ++ piece)) places
+pub all_after : (view : View) (reads piece : List Happened) (places : List Place) → All (λ place. IsLastRead place (held_at view place) piece) places → All (λ place. IsLastRead place (held_at view place) (reads ++ piece)) places
 all_after view reads piece [] all = All-nil (λ place. IsLastRead place (held_at view place) (reads ++ piece))
 all_after view reads piece (place ∷ places) all =
     let Was : Place → Type 0 = λ place. IsLastRead place (held_at view place) piece in
@@ -185,15 +185,16 @@ listed_after actor shape beside number its reads piece are listed = record { vie
 
 -- The end of a run.
 
-record Told (old new : Seen) : Type 0 where
-  part : List Made
-  adds : Adds old new part
-  silent : part_events old part ≡ []
-  piece : IsPiece old part
+pub record Told (old new : Seen) : Type 0 where
+  pub part : List Made
+  pub adds : Adds old new part
+  pub local_is : new.local ≡ old.local
+  pub silent : part_events old part ≡ []
+  pub piece : IsPiece old part
 
 told_none : (old new : Seen) → new ≡ old → Told old new
 told_none old new e =
-    record { part = []; adds = record { new_is = e ∙ sym (seen_nil old) }; silent = refl; piece = piece_nil old }
+    record { part = []; adds = record { new_is = e ∙ sym (seen_nil old) }; local_is = ap (λ seen. seen.local) e; silent = refl; piece = piece_nil old }
 
 told_look : (old new : Seen) (fault : ℕ) → LooksAtFault old new fault → Told old new
 told_look old new fault looks =
@@ -204,6 +205,7 @@ told_look old new fault looks =
     record {
       part = made ∷ [];
       adds = looks.adds.adds;
+      local_is = ap (λ seen. seen.local) looks.adds.adds.new_is;
       silent = ap by (eq-eqb place place refl);
       piece = piece_one old made refl refl;
     }
@@ -212,7 +214,7 @@ told_fault : (old new : Seen) (last : Option ℕ) (fault : ℕ) → TellsFault o
 told_fault old new (Some number) fault tells = told_none old new tells.0
 told_fault old new None fault tells = told_look old new fault tells
 
-told_end : (old new : Seen) (queue : KnownQueue) (last : Option ℕ) (end : QueueEnd) → EndsAt old new queue last end → Told old new
+pub told_end : (old new : Seen) (queue : KnownQueue) (last : Option ℕ) (end : QueueEnd) → EndsAt old new queue last end → Told old new
 told_end old new queue last Empty ends = told_none old new ends.0
 told_end old new queue last (Stalled offset fault) ends = told_fault old new last fault ends.fault_is
 

@@ -1,8 +1,8 @@
 -- Commands that are about several LPIs.
-use Rattle.std.proofs.Common.{◌≡◌, ◌≢◌, ℕ, zero, suc, ◌+◌, ◌-◌, ◌%◌, ◌^◌, ◌<◌, ◌≤◌, ◌⊎◌, inl, inr, ◌==◌, ◌&&◌, ◌||◌, Bool, true, false, nat_lt, nat_le, if◌then◌else◌, IsTrue, IsSome, IfSome, is_some, List, [], ◌∷◌, ◌++◌, Option, Some, None, option_map, append-nil, refl, sym, ap, subst, ◌∙◌, add-one, arith}
+use Rattle.std.proofs.Common.{◌≡◌, ◌≢◌, ℕ, zero, suc, ◌+◌, ◌-◌, ◌%◌, ◌^◌, ◌<◌, ◌≤◌, ◌⊎◌, inl, inr, ◌==◌, ◌&&◌, ◌||◌, not, Bool, true, false, nat_lt, nat_le, if◌then◌else◌, IsTrue, IsSome, IfSome, is_some, List, [], ◌∷◌, ◌++◌, Option, Some, None, option_map, append-nil, refl, sym, ap, subst, ◌∙◌, add-one, arith}
 use Rattle.std.specs.List.{filter_map, cons_option, range_with_len}
 use Rattle.std.specs.Option.{option_map_or, option_and_then}
-use Rattle.std.proofs.lemmas.Bool.{and_parts, eq-eqb, ltb-true, leb-true, lt-ltb, cases_lt}
+use Rattle.std.proofs.lemmas.Bool.{and_parts, eq-eqb, eqb-true, both_ways, ltb-true, leb-true, lt-ltb, cases_lt}
 use Rattle.std.proofs.lemmas.List.Elements.{filter_map-append}
 use Rattle.gic_base.specs.declared.interrupt.Key.TheVariants.{Lpi}
 use Rattle.gic_base.specs.declared.shape.GuestShape.{GuestShape}
@@ -38,7 +38,7 @@ use Rattle.its_exec.specs.Config.{Keeps, HoldsCommand}
 use Rattle.its_exec.specs.Known.{IsUntouched, AgreeFound, first_step, are_within}
 use Rattle.its_exec.specs.Parts.{lpi_of, is_part_of, LooksAtTarget, Prefix, GoesFirst}
 use Rattle.its_exec.specs.Plan.{IsFresh, HasLpis, DoesSome, lpis_end}
-use Rattle.its_exec.specs.Sweep.{swept, names_vcpus, AreUnmapped, Picks, SweepsLpi, swept_parts, SweepsAll}
+use Rattle.its_exec.specs.Sweep.{swept, names_vcpus, AreUnmapped, is_skipped, Picks, SweepsLpi, swept_parts, SweepsAll}
 use Rattle.its_exec.proofs.ConfigLemmas.{holds_on}
 use Rattle.its_exec.proofs.CommandLemmas.{IsAmong, agree_back, ease_none, parts_none, parts_one, parts_join}
 use Rattle.its_exec.proofs.ForgetLemmas.{ease_after, below_end}
@@ -48,15 +48,16 @@ use Rattle.its_exec.proofs.PartLemmas.{prefix_none, prefix_look}
 -- What the command does to one LPI.
 
 -- it goes by the LPI's collection alone
-pub picks_plain : (old : Seen) (maps : Maps) (command : Command) (id : ℕ) (b : Bool) (part : Part) (result : Option Part) → result ≡ (if b then Some part else None) → ((targets : ℕ → Option ℕ) → swept maps targets command id ≡ (if b then Some part else None))
+pub picks_plain : (old : Seen) (maps : Maps) (command : Command) (id : ℕ) (b : Bool) (part : Part) (result : Option Part) → is_skipped maps command id ≡ false → result ≡ (if b then Some part else None) → ((targets : ℕ → Option ℕ) → swept maps targets command id ≡ (if b then Some part else None))
     → IsTrue (is_part_of (shape_of old) part) → lpi_of part ≡ id → GoesFirst old part → Picks old old maps command id result
-picks_plain old maps command id b part result is by there of_part first =
+picks_plain old maps command id b part result plain is by there of_part first =
     let Goes : Option Part → Type 0 = λ o. IfSome o (λ part. IsTrue (is_part_of (shape_of old) part) × (lpi_of part ≡ id) × GoesFirst old part) in
     let Among : Option Part → Type 0 = λ o. IfSome o (λ part. (later : Seen) (more : List Made) → Adds old later more → IsTrue (are_within more) → swept maps (view_by later).targets command id ≡ Some part) in
     record {
       steps = [];
       before = λ address. prefix_none old address id;
       silent = refl;
+      skips = λ skipped. absurd (both_ways (is_skipped maps command id) plain skipped);
       is = λ targets agree unmapped. by targets ∙ sym is;
       goes = subst Goes (sym is) (goes b);
       among = subst Among (sym is) (among b refl);
@@ -77,6 +78,7 @@ moved_unmapped old maps rdbase second id none =
       steps = [];
       before = λ address. prefix_none old address id;
       silent = refl;
+      skips = λ skipped. (refl, refl);
       is = λ targets agree unmapped. ap (λ o. if is_number rdbase o then Some (Retarget id (Some second)) else None) (unmapped id none);
       goes = tt;
       among = tt;
@@ -108,26 +110,28 @@ known_later old mid later id target more there fresh looks add within =
     let shape : shape_of later ≡ shape_of old = ap shape_of add.new_is ∙ ap shape_of looks.adds.new_is in
     ap (λ o. target_in (irq_of (option_map_or (λ made. made.found) o 0)).route (shape_of later)) first ∙ ap (target_in (irq_of looks.look.found).route) shape ∙ sym looks.target_is
 
-pub moved_other : (old mid : Seen) (maps : Maps) (rdbase second id : ℕ) (target : Option ℕ) → IsTrue (has_interrupt (shape_of old) (Lpi id)) → IsUntouched old id → LooksAtTarget old mid id target → is_number rdbase target ≡ false
+pub moved_other : (old mid : Seen) (maps : Maps) (rdbase second id : ℕ) (target : Option ℕ) → has_target maps id ≡ true → IsTrue (has_interrupt (shape_of old) (Lpi id)) → IsUntouched old id → LooksAtTarget old mid id target → is_number rdbase target ≡ false
     → Picks old mid maps (Movall rdbase second) id None
-moved_other old mid maps rdbase second id target there fresh looks other =
+moved_other old mid maps rdbase second id target mapped there fresh looks other =
     record {
       steps = looks.look ∷ [];
       before = λ address. prefix_look old mid address id target there looks;
       silent = looks.silent;
+      skips = λ skipped. absurd (both_ways (not (has_target maps id)) (ap not mapped) skipped);
       is = λ targets agree unmapped.
           ap (λ o. if is_number rdbase o then Some (Retarget id (Some second)) else None) (agreed_by old mid id target targets there fresh looks agree) ∙ ap (λ b. if b then Some (Retarget id (Some second)) else None) other;
       goes = tt;
       among = tt;
     }
 
-pub moved_on : (old mid : Seen) (maps : Maps) (rdbase second id : ℕ) (target : Option ℕ) → IsTrue (has_interrupt (shape_of old) (Lpi id)) → second < (shape_of old).vcpus → IsUntouched old id → LooksAtTarget old mid id target → is_number rdbase target ≡ true
+pub moved_on : (old mid : Seen) (maps : Maps) (rdbase second id : ℕ) (target : Option ℕ) → has_target maps id ≡ true → IsTrue (has_interrupt (shape_of old) (Lpi id)) → second < (shape_of old).vcpus → IsUntouched old id → LooksAtTarget old mid id target → is_number rdbase target ≡ true
     → Picks old mid maps (Movall rdbase second) id (Some (Retarget id (Some second)))
-moved_on old mid maps rdbase second id target there small fresh looks same =
+moved_on old mid maps rdbase second id target mapped there small fresh looks same =
     record {
       steps = looks.look ∷ [];
       before = λ address. prefix_look old mid address id target there looks;
       silent = looks.silent;
+      skips = λ skipped. absurd (both_ways (not (has_target maps id)) (ap not mapped) skipped);
       is = λ targets agree unmapped.
           ap (λ o. if is_number rdbase o then Some (Retarget id (Some second)) else None) (agreed_by old mid id target targets there fresh looks agree) ∙ ap (λ b. if b then Some (Retarget id (Some second)) else None) same;
       goes = (and_both (has_interrupt (shape_of old) (Lpi id)) (nat_lt second (shape_of old).vcpus) there (lt-ltb second (shape_of old).vcpus small), refl, tt);
@@ -177,14 +181,14 @@ mapc_picks old maps command icid rdbase id valid target result is as_target foun
     let Small : Command → Type 0 = λ command. IsTrue (names_vcpus (shape_of old) command) in
     let to : Option ℕ = if valid then Some rdbase else None in
     picks_as old old maps command (Mapc icid rdbase valid) id result is
-    (picks_plain old maps (Mapc icid rdbase valid) id (is_number icid (collection_of maps id)) (Retarget id to) result
+    (picks_plain old maps (Mapc icid rdbase valid) id (is_number icid (collection_of maps id)) (Retarget id to) result refl
     (found ∙ ap (λ o. if is_number icid (collection_of maps id) then Some (Retarget id o) else None) as_target) (λ targets. refl) (retarget_there (shape_of old) id rdbase valid there (subst Small is small)) refl tt)
 
 pub invall_picks : (old : Seen) (maps : Maps) (command : Command) (icid id : ℕ) (result : Option Part) → command ≡ Invall icid → result ≡ (if is_number icid (collection_of maps id) then Some (Configure id) else None)
     → IsTrue (has_interrupt (shape_of old) (Lpi id)) → IsUntouched old id → Picks old old maps command id result
 invall_picks old maps command icid id result is found there fresh =
     picks_as old old maps command (Invall icid) id result is
-    (picks_plain old maps (Invall icid) id (is_number icid (collection_of maps id)) (Configure id) result found (λ targets. refl) (two (has_interrupt (shape_of old) (Lpi id)) there) refl fresh)
+    (picks_plain old maps (Invall icid) id (is_number icid (collection_of maps id)) (Configure id) result refl found (λ targets. refl) (two (has_interrupt (shape_of old) (Lpi id)) there) refl fresh)
   where
     two : (a : Bool) → IsTrue a → IsTrue (a && true)
     two true h = refl
@@ -267,6 +271,7 @@ pub record Sweeping (old now : Seen) (fetched : Fetched) (tables : Maps) (comman
   pub within : count ≤ (shape_of old).lpis
   pub shape : shape_of now ≡ shape_of old
   pub done : List Part
+  pub skips : (id : ℕ) → IsTrue (has_interrupt (shape_of old) (Lpi id)) → IsTrue (is_skipped tables command id) → IsUntouched now id
   pub all :
       (targets : ℕ → Option ℕ) → AgreeFound now targets → AreUnmapped tables command targets → filter_map (swept tables targets command) (range_with_len 8192 count) ≡ done
   pub untouched : (id : ℕ) → IsTrue (has_interrupt (shape_of old) (Lpi id)) → from ≤ id → IsUntouched now id
@@ -284,6 +289,7 @@ sweeping_none seen fetched tables command ease holds fresh =
       within = omega arith;
       shape = refl;
       done = [];
+      skips = λ id there skipped. fresh.each id there;
       all = λ targets agree unmapped. refl;
       untouched = λ id there above. fresh.each id there;
       ease = ease;
@@ -361,6 +367,18 @@ goes_as : (now mid : Seen) (id : ℕ) (part : Option Part) → shape_of mid ≡ 
 goes_as now mid id None same h = tt
 goes_as now mid id (Some part) same h = let Fits : GuestShape → Type 0 = λ shape. IsTrue (is_part_of shape part) in (subst Fits (sym same) h.0, h.1, h.2)
 
+-- one that it skips stays untouched
+skip_one : (now mid next : Seen) (address id other : ℕ) (tables : Maps) (command : Command) (part : Option Part) (b : Bool) → (other == id) ≡ b → IsTrue (is_skipped tables command other) → Picks now mid tables command id part → DoesSome mid next address part
+    → IsUntouched now other → (other ≢ id → IsUntouched next other) → IsUntouched next other
+skip_one now mid next address id other tables command part true e skipped picks does was later =
+    let Skipped : ℕ → Type 0 = λ n. IsTrue (is_skipped tables command n) in
+    let Does : Option Part → Type 0 = λ part. DoesSome mid next address part in
+    let Un : Seen → Type 0 = λ seen. IsUntouched seen other in
+    let none = picks.skips (subst Skipped (eqb-true other id e) skipped) in
+    let still : next ≡ mid = subst Does none.1 does in
+    subst Un (sym (still ∙ none.0)) was
+skip_one now mid next address id other tables command part false e skipped picks does was later = later (λ same. both_ways (other == id) e (eq-eqb other id same))
+
 pub sweeping_more :
     (old now next : Seen) (fetched : Fetched) (tables : Maps) (command : Command) (from id : ℕ) → (shape_of old).ram % 8 ≡ 0 → IsTrue (has_interrupt (shape_of old) (Lpi id)) → from ≤ id
     → ((other : ℕ) → from ≤ other → IsSome (owner_of tables other) → id ≤ other) → SweepsLpi now next fetched.address tables command id → Sweeping old now fetched tables command from → Sweeping old next fetched tables command (id + 1)
@@ -389,6 +407,10 @@ sweeping_more old now next fetched tables command from id whole there above leas
       within = omega (arith, id_is, high);
       shape = ap shape_of some.adds.new_is ∙ same_mid;
       done = so.done ++ cons_option sweeps.part [];
+      skips = λ other its skipped.
+          (let was = so.skips other its skipped in
+          skip_one now mid next fetched.address id other tables command sweeps.part (other == id) refl skipped picks sweeps.does was
+          (λ differ. some.untouched other (subst (There other) (sym same_mid) its) differ (before.untouched other (subst (There other) (sym so.shape) its) differ was)));
       all = λ targets agree unmapped.
           (let f = swept tables targets command in
           let agree_mid = agree_back mid next some.steps targets some.adds some.within agree in
@@ -426,6 +448,7 @@ sweeping_over old now fetched tables command from none so =
     let all_is : so.count + d ≡ (shape_of old).lpis = omega (arith, so.within) in
     record {
       done = so.done;
+      skips = so.skips;
       all = λ targets agree unmapped.
           (let f = swept tables targets command in
           ap (λ n. filter_map f (range_with_len 8192 n)) (sym all_is)

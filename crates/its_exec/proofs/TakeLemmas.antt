@@ -22,6 +22,7 @@ use Rattle.its_queue.specs.Queue.{advanced}
 use Rattle.its_tab.specs.After.{maps_after}
 use Rattle.its_tab.specs.Fault.{fault_of, fault_number, number_of}
 use Rattle.its_tab.specs.Maps.{Maps}
+use Rattle.port_core.specs.declared.local.Local.{Local}
 use Rattle.port_core.specs.declared.step.CoreStep.TheVariants.{CommandDone}
 use Rattle.port_core.specs.Known.{known_maps}
 use Rattle.port_core.specs.Port.{Seen, made_by, shape_of, part_events}
@@ -39,7 +40,7 @@ use Rattle.its_exec.proofs.FetchLemmas.{address_even}
 use Rattle.its_exec.proofs.LookLemmas.{word_held, offset_held, stalled_held, takes_by}
 use Rattle.its_exec.proofs.PartLemmas.{reads_beside, good_then}
 use Rattle.its_exec.proofs.CommandLemmas.{parts_of, parts_then, write_stays}
-use Rattle.its_exec.proofs.QueueLemmas.{command_all, next_address, holds_next, good_event, bad_event, known_stored, fetched_ready}
+use Rattle.its_exec.proofs.QueueLemmas.{command_all, next_address, holds_next, good_event, bad_event, known_stored, fetched_ready, ended_same}
 
 -- the view as the command was fetched, with the vCPUs that the LPIs are for
 abbrev as_of : Seen → (ℕ → Option ℕ) → View
@@ -126,6 +127,9 @@ took_good old mid done new shape tables queue offset fetched command result whol
       last = done;
       steps = fetches.part ++ late;
       adds = adds_join old mid new fetches.part late fetches.reading.adds (adds_join mid done new all.steps (made ∷ []) all.adds makes.adds.adds);
+      local_is =
+          (let back : Local → Local → Local = λ l m. record l { marks = m.marks } in
+          ap (λ l. back l old.local) (ended_same done new offset false (Some fetched.words) makes) ∙ ap (back done.local) (sym fetches.reading.local) ∙ all.local_is.same ∙ fetches.reading.local);
       is = λ actor targets agree.
           (let view = as_of mid targets in
           let By : Maps → Type 0 = λ maps. AgreeWith done maps targets in
@@ -196,6 +200,7 @@ took_bad old mid new shape tables queue fetched result fault whole ready takes f
       last = end;
       steps = fetches.part ++ late;
       adds = adds_join old mid new fetches.part late fetches.reading.adds (adds_join mid end new put (made ∷ []) stores.adds stalls.ends.adds.adds);
+      local_is = ap (λ (l : Local). record l { marks = old.local.marks }) (ended_same end new queue.offset true None stalls.ends ∙ stores.local_is ∙ fetches.reading.local);
       is = λ actor targets agree.
           (let view = as_of mid targets in
           let Rest : List Happened → List Happened → Type 0 = λ before after. Makes actor view (queue_event (shape_of mid) view ∷ []) [] before after in

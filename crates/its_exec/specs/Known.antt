@@ -82,10 +82,20 @@ pub record Reading (old new : Seen) (part : List Made) : Type 0 where
   pub untouched : (id : ℕ) → IsTrue (has_interrupt (shape_of old) (Lpi id)) → IsUntouched old id → IsUntouched new id
   pub piece : IsPiece old part
 
--- an actor looked at the registers of the queue, and knows them: only reads are to be seen of it
+-- what is to be seen of looks at the registers of the queue that found this
+abbrev pub queue_reads : KnownQueue → List Happened
+queue_reads queue =
+    (record { event = Read QueuePlace; found = FoundQueue queue.offset queue.stalled })
+    ∷ (record { event = Read (Word ItsCtlr); found = FoundWord queue.ctlr })
+    ∷ (record { event = Read (Word Cbaser); found = FoundWord queue.cbaser })
+    ∷ (record { event = Read (Word Cwriter); found = FoundWord queue.cwriter })
+    ∷ []
+
+-- an actor looked at the registers of the queue, and knows them: only these reads are to be seen of it
 pub record LooksAtQueue (old new : Seen) (queue : KnownQueue) : Type 0 where
   pub part : List Made
   pub reading : Reading old new part
+  pub events : part_events old part ≡ queue_reads queue
   pub knows : KnowsQueue new queue
 
 -- a word of the guest's memory is one of the four doublewords of the command at an address
@@ -120,7 +130,11 @@ pub record Fetches (old new : Seen) (queue : KnownQueue) (fetched : Fetched) : T
 pub record AgreeFound (seen : Seen) (targets : ℕ → Option ℕ) : Type 0 where
   pub each : (id : ℕ) → IsTrue (has_interrupt (shape_of seen) (Lpi id)) → IfSome (first_step seen id) (λ made. targets id ≡ target_in (irq_of made.found).route (shape_of seen))
 
--- and of one whose collection is not mapped there is none
+-- the present command made no step on it, if it is one of the guest
+abbrev pub IsLeft : Seen → ℕ → Type 0
+IsLeft seen id = IsTrue (has_interrupt (shape_of seen) (Lpi id)) → IsUntouched seen id
+
+-- and of one whose collection is not mapped, and on which it made none, there is none
 pub record AgreeWith (seen : Seen) (maps : Maps) (targets : ℕ → Option ℕ) : Type 0 where
   pub found : AgreeFound seen targets
-  pub unmapped : (id : ℕ) → has_target maps id ≡ false → targets id ≡ None
+  pub unmapped : (id : ℕ) → has_target maps id ≡ false → IsLeft seen id → targets id ≡ None

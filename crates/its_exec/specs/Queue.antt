@@ -116,11 +116,12 @@ pub record AreOfCommand (old new : Seen) (fault : Option ℕ) (actor : Option �
   pub left : HaveSameIts (left_by (shape_of old) view (queue_event (shape_of old) view)) (view_by new)
 
 -- the actor took a command, which has this fault or none: what is to be seen of its steps are the events of that command, whatever vCPUs the LPIs are
--- for that it did not find; and they are proper
+-- for that it did not find; and they are proper. It has for itself what it had, but for the interrupt whose marks it sent last
 pub record TakesCommand (old new : Seen) (fault : Option ℕ) : Type 0 where
   pub last : Seen
   pub steps : List Made
   pub adds : Adds old new steps
+  pub local_is : record new.local { marks = old.local.marks } ≡ old.local
   pub is : (actor : Option ℕ) (targets : ℕ → Option ℕ) → AgreeWith last (known_maps old.own) targets → AreOfCommand old new fault actor targets (part_events old steps)
   pub piece : (p : Progress) → IsIdle old p → IsItsWrite p → p.wants ≡ [] → IsGoodPiece old p steps
 

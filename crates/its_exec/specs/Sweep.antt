@@ -1,7 +1,9 @@
 -- Commands that are about several LPIs: what each does to one of them.
-use Rattle.std.specs.Prelude.{◌≡◌, ℕ, ◌&&◌, Bool, true, false, IsTrue, nat_lt, List, [], Option, Some, None, IfSome, if◌then◌else◌}
+use Rattle.std.specs.Prelude.{◌≡◌, ℕ, ◌&&◌, not, Bool, true, false, IsTrue, nat_lt, List, [], Option, Some, None, IfSome, if◌then◌else◌}
 use Rattle.std.specs.List.{filter_map}
+use Rattle.gic_base.specs.declared.interrupt.Key.TheVariants.{Lpi}
 use Rattle.gic_base.specs.declared.shape.GuestShape.{GuestShape}
+use Rattle.gic_base.specs.Interrupt.{has_interrupt}
 use Rattle.gic_word.specs.Record.{is_number}
 use Rattle.gic_call.specs.declared.command.Part.{Part}
 use Rattle.gic_call.specs.declared.command.Part.TheVariants.{Retarget, Configure}
@@ -13,7 +15,7 @@ use Rattle.its_tab.specs.Maps.{Maps}
 use Rattle.port_core.specs.declared.run.Made.{Made}
 use Rattle.port_core.specs.Port.{Seen, Adds, shape_of, part_events}
 use Rattle.port_call.specs.Memory.{view_by}
-use Rattle.its_exec.specs.Known.{AgreeFound, are_within}
+use Rattle.its_exec.specs.Known.{IsUntouched, AgreeFound, are_within}
 use Rattle.its_exec.specs.Parts.{lpi_of, is_part_of, GoesFirst, Prefix}
 use Rattle.gic_call.specs.Access.{lpis_of}
 use Rattle.its_exec.specs.Command.{DoesParts}
@@ -37,6 +39,11 @@ abbrev pub AreUnmapped : Maps → Command → (ℕ → Option ℕ) → Type 0
 AreUnmapped maps (Movall rdbase second) targets = (id : ℕ) → has_target maps id ≡ false → targets id ≡ None
 AreUnmapped maps command targets = Unit {0}
 
+-- and does nothing to such an LPI
+abbrev pub is_skipped : Maps → Command → ℕ → Bool
+is_skipped maps (Movall rdbase second) id = not (has_target maps id)
+is_skipped maps command id = false
+
 -- a command that is about the LPIs of a collection or of a vCPU
 abbrev pub is_sweep : Command → Bool
 is_sweep (Mapc icid rdbase valid) = true
@@ -49,6 +56,7 @@ pub record Picks (old new : Seen) (maps : Maps) (command : Command) (id : ℕ) (
   pub steps : List Made
   pub before : (address : ℕ) → Prefix old new address id steps
   pub silent : part_events old steps ≡ []
+  pub skips : IsTrue (is_skipped maps command id) → (new ≡ old) × (part ≡ None)
   pub is : (targets : ℕ → Option ℕ) → AgreeFound new targets → AreUnmapped maps command targets → swept maps targets command id ≡ part
   pub goes : IfSome part (λ part. IsTrue (is_part_of (shape_of old) part) × (lpi_of part ≡ id) × GoesFirst new part)
   pub among :
@@ -69,6 +77,7 @@ swept_parts shape maps targets command = filter_map (swept maps targets command)
 -- the actor did the parts of all LPIs, where they are the parts of the command
 pub record SweepsAll (old new : Seen) (address : ℕ) (tables : Maps) (command : Command) : Type 0 where
   pub done : List Part
+  pub skips : (id : ℕ) → IsTrue (has_interrupt (shape_of old) (Lpi id)) → IsTrue (is_skipped tables command id) → IsUntouched new id
   pub all : (targets : ℕ → Option ℕ) → AgreeFound new targets → AreUnmapped tables command targets → swept_parts (shape_of old) tables targets command ≡ done
   pub does :
       (maps : Maps) → ((targets : ℕ → Option ℕ) → parts (shape_of old) maps targets command ≡ swept_parts (shape_of old) tables targets command)
