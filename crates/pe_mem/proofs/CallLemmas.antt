@@ -121,6 +121,7 @@ makes_access old new frame offset size write value answer is_new can plain answe
       part = part;
       adds = serves.adds;
       call = record { beside = beside; maps = refl; call = subst Of (sym actor) call };
+      piece = serves.piece operation by;
       proper = proper_of old new part operation answer serves.adds after (serves.piece operation by);
       stays = serves.stays;
       tables = not_taken new is_new (can_turn new after);

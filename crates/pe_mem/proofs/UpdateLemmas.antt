@@ -27,14 +27,14 @@ use Rattle.pe_mem.proofs.EachLemmas.{own_of_piece, stays_self}
 use Rattle.pe_mem.proofs.ServeLemmas.{nothing_known}
 
 -- the last step is the last one
-last_of : (own : List Made) (made : Made) → last_made (own ++ made ∷ []) ≡ Some made
+pub last_of : (own : List Made) (made : Made) → last_made (own ++ made ∷ []) ≡ Some made
 last_of own made = fold-append (λ last made. Some made) None own (made ∷ [])
 
-stores_last : (old new : Seen) (word : PlainWord) (value : ℕ) (stores : Stores old new word value) → last_made new.own ≡ Some stores.last
+pub stores_last : (old new : Seen) (word : PlainWord) (value : ℕ) (stores : Stores old new word value) → last_made new.own ≡ Some stores.last
 stores_last old new word value stores =
     ap (λ seen. last_made seen.own) stores.adds.new_is ∙ ap last_made (sym (append_assoc old.own stores.misses (stores.last ∷ []))) ∙ last_of (old.own ++ stores.misses) stores.last
 
-same_last : (own : List Made) (one other : Made) → last_made own ≡ Some one → last_made own ≡ Some other → one ≡ other
+pub same_last : (own : List Made) (one other : Made) → last_made own ≡ Some one → last_made own ≡ Some other → one ≡ other
 same_last own one other e f = let same : Some one ≡ Some other = sym e ∙ f in cc
 
 pub updates_tried :
@@ -70,7 +70,7 @@ tried_misses old mid new word changed took e one two = misses_join old mid new w
 unfoldable pub stored_view : Seen → ℕ → View
 stored_view seen found = record (nothing_known seen) { words = λ word. found }
 
-reads_beside : (actor : Option ℕ) (place : Place) (reads : List Happened) → All (λ h. h.event ≡ Read place) reads → named_of actor reads ≡ []
+pub reads_beside : (actor : Option ℕ) (place : Place) (reads : List Happened) → All (λ h. h.event ≡ Read place) reads → named_of actor reads ≡ []
 reads_beside actor place [] all = refl
 reads_beside actor place (h ∷ reads) all =
     let Reads : Happened → Type 0 = λ h. h.event ≡ Read place in

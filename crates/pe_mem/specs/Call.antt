@@ -30,6 +30,10 @@ pub record CanAccess (seen : Seen) : Type 0 where
   pub empty : seen.local.at ≡ []
   pub settled : IsTrue (is_settled seen.local)
 
+-- a piece is proper in a call for this, and leaves the actor as far in its protocol as before
+abbrev pub IsPieceOf : Seen → Operation → List Made → Type 0
+IsPieceOf seen operation part = (p : Progress) → IsIdle seen p → p.operation ≡ Some operation → p.wants ≡ [] → IsGoodPiece seen p part
+
 -- the call
 abbrev pub access_of : Frame → ℕ → ℕ → Option ℕ → Operation
 access_of frame offset size write = Access (Mem frame offset size write)
@@ -40,16 +44,22 @@ pub record MakesAccess (old new : Seen) (frame : Frame) (offset size : ℕ) (wri
   pub part : List Made
   pub adds : Adds old new part
   pub call : MakesCall old part (access_of frame offset size write) answer
+  pub piece : IsPieceOf old (access_of frame offset size write) part
   pub proper : (lrs : ℕ) → IsProperPart old part (access_of frame offset size write) lrs answer
   pub stays : StaysAtEase old.local new.local
   pub tables : new.taken ≡ false
   pub after : CanAccess new
 
--- Pieces.
+-- a part of a call that memory was refused for: it is no whole call, but proper so far, and nothing is owed
+pub record StopsAccess (old new : Seen) (frame : Frame) (offset size : ℕ) (write : Option ℕ) : Type 0 where
+  pub part : List Made
+  pub adds : Adds old new part
+  pub piece : IsPieceOf old (access_of frame offset size write) part
+  pub stays : StaysAtEase old.local new.local
+  pub tables : new.taken ≡ false
+  pub after : CanAccess new
 
--- a piece is proper in a call for this, and leaves the actor as far in its protocol as before
-abbrev pub IsPieceOf : Seen → Operation → List Made → Type 0
-IsPieceOf seen operation part = (p : Progress) → IsIdle seen p → p.operation ≡ Some operation → p.wants ≡ [] → IsGoodPiece seen p part
+-- Pieces.
 
 -- one of some events is of the interrupt
 abbrev pub is_key_of : List Event → Key → Type 0
