@@ -1,0 +1,5 @@
+pub mod ChangeLemmas
+pub mod StoredLemmas
+pub mod MakesLemmas
+pub mod RegisterLemmas
+pub mod WriteLemmas

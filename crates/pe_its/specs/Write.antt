@@ -1,0 +1,45 @@
+-- The actor that has the ITS serves a write of a register: the register, and the commands that this starts.
+use Rattle.std.specs.Prelude.{◌≡◌, ℕ, Bool, true, false}
+use Rattle.gic_base.specs.declared.shape.GuestShape.{GuestShape}
+use Rattle.gic_frame.specs.declared.bank.Half.{Half}
+use Rattle.gic_imap.specs.declared.map.Reg.{Reg}
+use Rattle.its_tab.specs.Maps.{Maps}
+use Rattle.port_core.specs.Port.{Seen}
+use Rattle.its_exec.specs.declared.known.KnownQueue.{KnownQueue}
+use Rattle.its_exec.specs.declared.queue.QueueEnd.{QueueEnd}
+use Rattle.its_exec.specs.Known.{LooksAtQueue}
+use Rattle.its_exec.specs.Queue.{IsOverWith, WantsMemory}
+use Rattle.pe_its.specs.Register.{WritesRegister}
+
+-- it looked at the registers of the queue, and wrote the register
+pub record BeginsWrite (old mid : Seen) (reg : Reg) (half : Half) (value : ℕ) (starts : Bool) : Type 0 where
+  pub start : Seen
+  pub queue : KnownQueue
+  pub looks : LooksAtQueue old start queue
+  pub writes : WritesRegister start mid queue reg half value starts
+
+-- it took commands until no further one is taken
+pub record RunsAll (old new : Seen) : Type 0 where
+  pub shape : GuestShape
+  pub tables : Maps
+  pub end : QueueEnd
+  pub over : IsOverWith old new shape tables end
+
+abbrev pub RunsIf : Bool → Seen → Seen → Type 0
+RunsIf true old new = RunsAll old new
+RunsIf false old new = new ≡ old
+
+-- it did both
+pub record ServesWrite (old new : Seen) (reg : Reg) (half : Half) (value : ℕ) : Type 0 where
+  pub mid : Seen
+  pub starts : Bool
+  pub begins : BeginsWrite old mid reg half value starts
+  pub runs : RunsIf starts mid new
+
+-- it wrote the register, and took commands up to one that memory was refused for
+pub record StopsWrite (old new : Seen) (reg : Reg) (half : Half) (value : ℕ) : Type 0 where
+  pub mid : Seen
+  pub begins : BeginsWrite old mid reg half value true
+  pub shape : GuestShape
+  pub tables : Maps
+  pub wants : WantsMemory mid new shape tables

@@ -1,0 +1,82 @@
+//! A write of a register that takes the ITS, the whole call.
+ghost use Rattle.std.specs.Prelude.{◌≡◌, ◌<◌, IsTrue, IfOk, OnErr, Some, None, true};
+ghost use Rattle.gic_base.specs.declared.operation.Frame.TheVariants.{Its};
+ghost use Rattle.gic_frame.specs.Half.{half_limit};
+ghost use Rattle.gic_imap.specs.Map.{decoded};
+ghost use Rattle.gic_ram.specs.Access.{is_size};
+ghost use Rattle.scn_base.specs.Good.{fits as fits_in};
+ghost use Rattle.gic_call.specs.Access.{takes_its};
+ghost use Rattle.gic_call.specs.Call.{takes_turn};
+ghost use Rattle.port_core.specs.Port.{shape_of};
+ghost use Rattle.its_exec.specs.Plan.{IsFresh};
+ghost use Rattle.its_exec.specs.Queue.{HasIts};
+ghost use Rattle.pe_mem.specs.Call.{CanAccess, MakesAccess, StopsAccess};
+ghost use Rattle.pe_its.specs.Write.{ServesWrite, StopsWrite};
+
+use crate::register::write_register;
+use gic_base::NoMemory;
+use gic_call::its_access;
+use gic_imap::{Half, Reg, RegRef};
+use its_exec::{look_at_queue, run_commands};
+use its_tab::ItsTables;
+use port_call::{give_turn, take_turn};
+use port_core::Port;
+use std::sync::Wait;
+
+/// Writes a register, and takes the commands that this starts, by the actor that has the ITS with these tables.
+fn serve<P: Port, R: Wait>(
+    rt: &R,
+    port: &mut P,
+    tables: &mut ItsTables,
+    reg: Reg,
+    half: Half,
+    value: u64,
+) -> Result<(), NoMemory>
+    requires takes { takes_its reg ≡ true }
+    requires fits { value < half_limit half }
+    requires has { HasIts (P.seen port.old) tables.old }
+    requires fresh { IsFresh (P.seen port.old) }
+    ensures serves { IfOk result (λ done. ServesWrite (P.seen port.old) (P.seen port.new) reg half value) }
+    ensures stops { OnErr result (StopsWrite (P.seen port.old) (P.seen port.new) reg half value) }
+    ensures has { HasIts (P.seen port.new) tables.new }
+{
+    let queue = look_at_queue(port);
+    let Some(queue) = write_register(rt, port, queue, reg, half, value) else {
+        return Ok(());
+    };
+    let shape = port.shape();
+    run_commands(rt, port, tables, &shape, queue)?;
+    Ok(())
+}
+
+/// Makes a write of 4 or 8 bytes at a byte offset in the ITS, which takes the ITS: of GITS_CTLR, GITS_CBASER, GITS_CWRITER,
+/// GITS_BASER0 or GITS_BASER1, or of a half of one of the last four, in a guest with LPIs (IHI 0069, "The ITS register map").
+/// The value fits the size. It waits until nobody has the ITS. A write of GITS_CBASER or GITS_BASER is ignored while the ITS is
+/// enabled, and one of GITS_CWRITER where its offset is not below the queue's bytes. A write of GITS_CTLR, and one of
+/// GITS_CWRITER that is not ignored, takes the commands of the queue before it returns. `NoMemory` comes only at a command that
+/// maps something: then what was done is no whole call, and that command is still the next one. The vCPU has nothing at its
+/// interface and owes nothing, before and after, and nobody has the ITS for it then.
+pub fn its_write<P: Port, R: Wait>(
+    rt: &R,
+    port: &mut P,
+    offset: u32,
+    size: u32,
+    value: u64,
+) -> Result<(), NoMemory>
+    requires can { CanAccess (P.seen port.old) }
+    requires size { IsTrue (is_size size) }
+    requires fits { IsTrue (fits_in size (Some value)) }
+    requires takes { takes_turn (shape_of (P.seen port.old)) (decoded offset size) (Some value) ≡ true }
+    ensures made { IfOk result (λ done. MakesAccess (P.seen port.old) (P.seen port.new) Its offset size (Some value) None) }
+    ensures stopped { OnErr result (StopsAccess (P.seen port.old) (P.seen port.new) Its offset size (Some value)) }
+{
+    let RegRef::Plain { reg, half } = its_access(offset, size, Some(value)) else {
+        unreachable!()
+    };
+    take_turn(rt, port);
+    let mut tables = port.take_tables();
+    let end = serve(rt, port, &mut tables, reg, half, value);
+    port.put_tables(tables);
+    give_turn(port);
+    end
+}
