@@ -1,0 +1,5 @@
+//! Tests of a vCPU's writes of the ITS's registers over the port of one thread.
+#![tactic(auto)]
+
+#[cfg(test)]
+mod tests;
