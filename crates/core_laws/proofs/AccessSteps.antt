@@ -38,7 +38,8 @@ use Rattle.port_core.specs.Stands.{with_found}
 use Rattle.port_core.proofs.FrameLemmas.{seat_changed}
 use Rattle.core_laws.specs.Related.{IsCpuRelated, IsHeldRelated, WordSays, locals_of, stands, is_folding}
 use Rattle.core_laws.specs.Simulates.{IsSimulated, IsSimulatedAs}
-use Rattle.core_laws.proofs.AccessLemmas.{shown_accessed, standing_shown, shown_same}
+use Rattle.core_proper.proofs.InterfaceLemmas.{shown_accessed}
+use Rattle.core_laws.proofs.AccessLemmas.{standing_shown, shown_same}
 use Rattle.core_laws.proofs.CpuLemmas.{same_answer, same_at, same_lpis, same_cpu}
 use Rattle.core_laws.proofs.EnableSteps.{with_cpu_at, cpu_here, cpu_other, cpu_elsewhere, places_with_cpu}
 use Rattle.core_laws.proofs.MoveLemmas.{standing_here, standing_other, standing_elsewhere, standing_places}

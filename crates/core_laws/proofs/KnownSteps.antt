@@ -63,7 +63,7 @@ module _ (shape : GuestShape) (state : CoreState) (entry : Entry) (good : IsShap
   seat_same_actor : (seat_at (after shape state entry) entry.actor).own ≡ (seat_at state entry.actor).own ++ entry.made ∷ []
   seat_same_actor = ap (λ (s : Seat). s.own) (get_or-set_same state.seats entry.actor _ no_seat actor_within)
 
-  seat_other : (n : ℕ) → n ≢ entry.actor → seat_at (after shape state entry) n ≡ seat_at state n
+  pub seat_other : (n : ℕ) → n ≢ entry.actor → seat_at (after shape state entry) n ≡ seat_at state n
   seat_other n differ = get_or-set_other state.seats entry.actor n _ no_seat differ
 
   -- an actor that has the ITS has it by the word

@@ -6,3 +6,6 @@ pub mod WorkedAgainLemmas
 pub mod WorkedClearLemmas
 pub mod RestLemmas
 pub mod OnceLemmas
+pub mod InterfaceLemmas
+pub mod CandLemmas
+pub mod SearchLemmas

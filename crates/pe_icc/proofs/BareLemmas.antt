@@ -3,7 +3,6 @@ use Rattle.std.proofs.Common.{◌≡◌, ℕ, ◌≤◌, ◌==◌, ◌&&◌, not
 use Rattle.std.specs.List.{list_all}
 use Rattle.std.proofs.lemmas.Bool.{and_parts, eq-eqb}
 use Rattle.gic_call.specs.declared.event.Operation.{Operation}
-use Rattle.gic_call.specs.Trace.{named_of}
 use Rattle.gic_ich.specs.declared.regs.IchRegs.{IchRegs}
 use Rattle.gic_ich.specs.Place.{StandFor}
 use Rattle.gic_prio.specs.declared.cpu.CpuRec.{CpuRec}
@@ -31,18 +30,18 @@ use Rattle.core_proper.specs.Scan.{bare, taking}
 use Rattle.port_call.proofs.PieceLemmas.{idle_is}
 use Rattle.port_call.proofs.SettleLemmas.{handed_none}
 use Rattle.port_call.proofs.TryLemmas.{none_append}
-use Rattle.port_call.proofs.TurnLemmas.{events_then}
 use Rattle.port_call.specs.Piece.{IsIdle, IsPiece}
 use Rattle.pe_loop.specs.Claiming.{claims_by}
 use Rattle.pe_loop.specs.Enter.{EndsScan}
 use Rattle.pe_loop.specs.Leave.{Leaves}
 use Rattle.pe_loop.specs.Scanning.{told_by, phase_taken, IsScanAt, Rounds}
 use Rattle.pe_loop.specs.Stay.{IsOff, IsOpen}
-use Rattle.pe_loop.proofs.ChosenLemmas.{both_moves}
+use Rattle.pe_loop.specs.Moves.{are_moves}
+use Rattle.pe_loop.proofs.MoveLemmas.{moves_join, moves_unnamed, only_leave}
 use Rattle.pe_loop.proofs.EnterLemmas.{poll_proper}
 use Rattle.pe_loop.proofs.IndexLemmas.{less_words, still_taking}
 use Rattle.pe_loop.proofs.JoinLemmas.{two_silent}
-use Rattle.pe_loop.proofs.LeaveLemmas.{only_leave, settled_owes}
+use Rattle.pe_loop.proofs.LeaveLemmas.{settled_owes}
 use Rattle.pe_loop.proofs.RoundLemmas.{some_word}
 use Rattle.pe_icc.specs.Amid.{IsAble, Leads}
 use Rattle.pe_icc.specs.Prepare.{HasLooked}
@@ -238,8 +237,8 @@ gathers_so old mid new before after shelved is leaves enters =
       adds = adds_join old mid new leaves.part enters.part leaves.adds enters.adds;
       none_taken = none_append leaves.part enters.part leaves.none_taken enters.none_taken;
       moves =
-          ap (named_of (Some old.actor)) (events_then old mid leaves.part enters.part leaves.adds)
-          ∙ both_moves (Some old.actor) (part_events old leaves.part) (part_events mid enters.part) (ap (named_of (Some old.actor)) leaves.events ∙ only_leave old.actor _) (ap (named_of (Some old.actor)) enters.silent);
+          moves_unnamed old.actor (part_events old (leaves.part ++ enters.part))
+          (moves_join old mid leaves.part enters.part leaves.adds (ap (are_moves old.actor) leaves.events ∙ only_leave old.actor _) (ap (are_moves mid.actor) enters.silent));
       set = enters.set;
       empty = enters.empty;
       same = record { base = ap with_cpu enters.kept ∙ ap with_cpu is; lrs = enters.lrs_is };

@@ -53,7 +53,9 @@ use Rattle.port_call.proofs.TryLemmas.{none_append}
 use Rattle.port_call.proofs.TurnLemmas.{events_then, known_by_last}
 use Rattle.pe_loop.specs.Claiming.{Claims, at_of}
 use Rattle.pe_loop.specs.Stay.{IsActor, IsOpen}
-use Rattle.pe_loop.proofs.ChosenLemmas.{both_moves, claim_moves, tries}
+use Rattle.pe_loop.specs.Moves.{are_moves}
+use Rattle.pe_loop.proofs.ChosenLemmas.{tries}
+use Rattle.pe_loop.proofs.MoveLemmas.{both_moves, claim_moves, moves_unnamed}
 use Rattle.pe_loop.proofs.LeaveLemmas.{settled_owes}
 use Rattle.pe_loop.proofs.PlanLemmas.{id_fits, in_range}
 use Rattle.pe_loop.proofs.ReachLemmas.{active_reached, reached_local}
@@ -203,7 +205,9 @@ far_fits old vcpu key irq good can = let few = can.fits.prio_bits in record { id
 
 -- the claim is to be seen as a move
 far_moves : (old new : Seen) (key : Key) (irq : IrqRecord) (done : Bool) (claims : Claims old new key irq done) → named_of (Some old.actor) (part_events old (made_by old (Claim key (packed irq)) claims.found claims.adds.tables ∷ [])) ≡ []
-far_moves old new key irq done claims = ap (λ b. named_of (Some old.actor) (option_to_list (if b then claim_event old.actor key old.local else None) ++ [])) claims.done_is ∙ claim_moves old.actor key old.local done
+far_moves old new key irq done claims =
+    moves_unnamed old.actor (part_events old (made_by old (Claim key (packed irq)) claims.found claims.adds.tables ∷ []))
+    (ap (λ b. are_moves old.actor (option_to_list (if b then claim_event old.actor key old.local else None) ++ [])) claims.done_is ∙ claim_moves old.actor key old.local done)
 
 -- it came
 pub far_done : (old new : Seen) (before after : Loaded) (key : Key) (irq : IrqRecord) (choice : Choice) → IsPort old → CanClaimFar old before key irq → Claims old new key irq true → choice ≡ far_choice key irq → after ≡ with_place 0 (packed_entry choice.entry) (Some (held_as choice)) (emptied before)

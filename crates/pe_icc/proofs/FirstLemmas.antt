@@ -55,7 +55,7 @@ use Rattle.pe_loop.specs.declared.claims.Claimed.TheVariants.{Whole, Bare, Misse
 use Rattle.pe_loop.specs.Enter.{EndsScan}
 use Rattle.pe_loop.specs.Scanning.{phase_taken, IsScanAt, IsFound, AreFound, Rounds}
 use Rattle.pe_loop.specs.Stay.{IsOn, IsUp}
-use Rattle.pe_loop.proofs.ChosenLemmas.{both_moves}
+use Rattle.pe_loop.proofs.MoveLemmas.{both_moves, moves_unnamed}
 use Rattle.pe_loop.proofs.LeaveLemmas.{settled_owes}
 use Rattle.pe_loop.proofs.PlanLemmas.{fits_offer}
 use Rattle.pe_loop.proofs.StoreLemmas.{chosen_live}
@@ -176,7 +176,7 @@ some_claimed old new before after offer failed good can claims =
       part = chosen.part;
       adds = chosen.adds;
       none_taken = chosen.none_taken;
-      moves = chosen.moves;
+      moves = moves_unnamed old.actor (part_events old chosen.part) chosen.moves;
       local_is = chosen.same;
       whole = ap (list_all (λ at. not at.given)) at ∙ so.whole;
       same = so.same;

@@ -35,9 +35,9 @@ use Rattle.port_core.specs.Local.{is_vcpu, owes_nothing}
 use Rattle.port_core.specs.Port.{Seen, Adds, shape_of, part_events, made_by}
 use Rattle.port_core.proofs.PortLemmas.{adds_join}
 use Rattle.core_proper.specs.Called.{MakesCall, vcpu_of_actor, maps_taken}
-use Rattle.core_proper.specs.Parts.{makes, begins, ends}
+use Rattle.core_proper.specs.Parts.{makes, begins, ends, part_of}
 use Rattle.core_proper.specs.Progress.{Progress, Debt, paid, is_paid, owed_after_scan, ended_by, owed_after_part, is_to_scan, progressed, progress_of}
-use Rattle.core_proper.specs.Proper.{IsProperEnd, is_empty, gives_back, is_settled, wants_nothing}
+use Rattle.core_proper.specs.Proper.{IsProper, IsProperEnd, is_empty, gives_back, is_settled, wants_nothing}
 use Rattle.core_proper.proofs.PartLemmas.{proper_append}
 use Rattle.std.proofs.lemmas.List.Sums.{fold-append}
 use Rattle.port_call.specs.Piece.{IsPiece, IsIdle, steps_of}
@@ -425,6 +425,32 @@ able_end new vcpu operation p up able =
     or_true true = refl
     or_true false = refl
 
+-- a part that leads to where the vCPU may access again, with no scan owed, is whole
+pub part_proper : (old new : Seen) (vcpu : Loaded) (operation : Operation) (lrs : ℕ) (answer : Option ℕ) (part : List Made) (At : Progress → Type 0) (p : Progress) → IsUp new vcpu → Leads old part At (IsAble new vcpu operation paid)
+    → At (progressed (shape_of old) old.actor p (begins operation lrs)) → IsProper (shape_of old) old.actor p (part_of operation lrs part answer)
+part_proper old new vcpu operation lrs answer part At p up leads at =
+    let shape = shape_of old in
+    let begin = progressed shape old.actor p (begins operation lrs) in
+    let ends_so = able_end new vcpu operation (progress_of shape old.actor begin (map makes part)) up (leads.after begin at) in
+    (tt, (proper_append shape old.actor begin (map makes part) (ends answer ∷ [])).1 (leads.proper begin at, (ends_so, tt)))
+
+-- and leaves it between two accesses
+pub part_runs : (old new : Seen) (vcpu : Loaded) (operation : Operation) (lrs : ℕ) (answer : Option ℕ) (part : List Made) (At : Progress → Type 0) (p : Progress) → Leads old part At (IsAble new vcpu operation paid)
+    → At (progressed (shape_of old) old.actor p (begins operation lrs)) → IsRunning new vcpu (progress_of (shape_of old) old.actor p (part_of operation lrs part answer))
+part_runs old new vcpu operation lrs answer part At p leads at =
+    let shape = shape_of old in
+    let begin = progressed shape old.actor p (begins operation lrs) in
+    let able = leads.after begin at in
+    let amid = able.amid in
+    subst (IsRunning new vcpu) (sym (fold-append (progressed shape old.actor) begin (map makes part) (ends answer ∷ [])))
+    (record {
+      rest = record { local = amid.rest.local; own = amid.rest.own; scan = amid.rest.scan; wants = amid.rest.wants };
+      regs = able.regs;
+      trapping = able.trapping;
+      none_failed = amid.none_failed;
+      debt = ap (λ debt. owed_after_part debt) amid.debt_is;
+    })
+
 pub access_done : (old mid new : Seen) (reg : IccReg) (write : Option ℕ) (before after : Loaded) (between : Stay) (answer : Option ℕ) → IsUp old before → IsAgain old mid reg write (record { vcpu = before; owing = false }) between → IsMade mid new reg write between after answer → DoesAccess old new reg write before after answer
 access_done old mid new reg write before after between answer up tries made =
     let shape = shape_of old in
@@ -441,7 +467,6 @@ access_done old mid new reg write before after between answer up tries made =
       trapping = run.trapping;
     } in
     let leads : Leads old part (IsAbout old reg write start) (IsAble new after op paid) = leads_then old mid tries.part made.part (IsAbout old reg write start) (IsAbout mid reg write between) (IsAble new after op paid) tries.adds tries.leads made.leads in
-    let reached : (p : Progress) → Progress = λ p. progress_of shape actor (begin p) (map makes part) in
     record {
       part = part;
       adds = adds_join old mid new tries.part made.part tries.adds made.adds;
@@ -449,21 +474,8 @@ access_done old mid new reg write before after between answer up tries made =
       call =
           icc_call old part reg write answer up.on.actor.is_one
           (joined_named old mid tries.part made.part [] (events_of mid reg write answer) tries.adds tries.moves made.events ∙ ap (λ seen. events_of seen reg write answer) tries.adds.new_is);
-      proper = λ p run. (
-        tt,
-        (proper_append shape actor (begin p) (map makes part) (ends answer ∷ [])).1 (leads.proper (begin p) (at p run), (able_end new after op (reached p) made.up (leads.after (begin p) (at p run)), tt)),
-      );
-      goes_on = λ p run.
-          let able = leads.after (begin p) (at p run) in
-          let amid = able.amid in
-          subst (IsRunning new after) (sym (fold-append (progressed shape actor) (begin p) (map makes part) (ends answer ∷ [])))
-          (record {
-            rest = record { local = amid.rest.local; own = amid.rest.own; scan = amid.rest.scan; wants = amid.rest.wants };
-            regs = able.regs;
-            trapping = able.trapping;
-            none_failed = amid.none_failed;
-            debt = ap (λ debt. owed_after_part debt) amid.debt_is;
-          });
+      proper = λ p run. part_proper old new after op lrs answer part (IsAbout old reg write start) p made.up leads (at p run);
+      goes_on = λ p run. part_runs old new after op lrs answer part (IsAbout old reg write start) p leads (at p run);
       answers = made.answers;
       light = λ light none. elim tries.kicked [
         | inl first ↦ (

@@ -35,7 +35,7 @@ use Rattle.port_call.proofs.PieceLemmas.{seen_nil}
 use Rattle.port_call.proofs.TryLemmas.{none_append}
 use Rattle.port_call.proofs.TurnLemmas.{events_then}
 use Rattle.pe_loop.specs.Stay.{IsOn, IsUp}
-use Rattle.pe_loop.proofs.ChosenLemmas.{both_moves}
+use Rattle.pe_loop.proofs.MoveLemmas.{both_moves}
 use Rattle.pe_icc.specs.declared.stay.Stay.{Stay}
 use Rattle.pe_icc.specs.Amid.{IsAble, IsSet, Leads, debt_of}
 use Rattle.pe_icc.specs.Bare.{Gathers}

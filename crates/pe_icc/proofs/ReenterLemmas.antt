@@ -1,7 +1,6 @@
 -- A vCPU leaves and enters again.
-use Rattle.std.proofs.Common.{◌≡◌, ℕ, ◌||◌, not, Bool, true, false, if◌then◌else◌, IsTrue, List, [], ◌++◌, map, Some, unwrap_or, refl, sym, ap, subst, ◌∙◌}
+use Rattle.std.proofs.Common.{◌≡◌, ℕ, ◌||◌, not, Bool, true, false, if◌then◌else◌, IsTrue, List, [], ◌++◌, map, unwrap_or, refl, sym, ap, subst, ◌∙◌}
 use Rattle.gic_call.specs.declared.event.Operation.{Operation}
-use Rattle.gic_call.specs.Trace.{named_of}
 use Rattle.vcpu_state.specs.declared.loaded.Loaded.{Loaded}
 use Rattle.vcpu_state.specs.declared.shelved.Shelved.{Shelved}
 use Rattle.vcpu_state.specs.Moves.{shelved_of}
@@ -10,14 +9,13 @@ use Rattle.port_core.specs.Port.{Seen, Adds, shape_of, part_events, seen_after}
 use Rattle.port_core.proofs.PortLemmas.{adds_join}
 use Rattle.core_proper.specs.Parts.{makes}
 use Rattle.core_proper.specs.Progress.{Progress, Debt, paid, before_next, is_paid, is_to_scan, owed_after_scan, progress_of}
-use Rattle.port_call.specs.Piece.{IsIdle, IsPiece, StaysSo}
+use Rattle.port_call.specs.Piece.{IsIdle, IsGoodPiece, IsPiece, StaysSo}
 use Rattle.port_call.proofs.PieceLemmas.{seen_nil}
 use Rattle.port_call.proofs.TryLemmas.{none_append}
-use Rattle.port_call.proofs.TurnLemmas.{events_then}
 use Rattle.pe_loop.specs.Enter.{MayEnter, Enters}
 use Rattle.pe_loop.specs.Leave.{Leaves}
-use Rattle.pe_loop.proofs.ChosenLemmas.{both_moves}
-use Rattle.pe_loop.proofs.LeaveLemmas.{only_leave}
+use Rattle.pe_loop.proofs.MoveLemmas.{moves_join, moves_unnamed, only_leave}
+use Rattle.pe_loop.specs.Moves.{are_moves}
 use Rattle.pe_icc.specs.Amid.{IsAmid, IsAble, IsSet, Leads, debt_of}
 use Rattle.pe_icc.specs.Operate.{MayReenter, HasAsked, debt_left}
 use Rattle.pe_icc.specs.Reenter.{Reenters, Refills}
@@ -50,25 +48,31 @@ amid_after old mid part operation lrs debt p q add stays ends amid =
       debt_is = ap (λ (p : Progress). p.debt) same ∙ amid.debt_is;
     }
 
-pub piece_leads : (old mid : Seen) (part : List Made) (operation : Operation) (lrs : ℕ) (debt : Debt) → Adds old mid part → IsPiece old part → Leads old part (MayReenter old operation lrs debt) (MayReenter mid operation lrs debt)
-piece_leads old mid part operation lrs debt add piece =
-    let idle : (p : Progress) → MayReenter old operation lrs debt p → IsIdle old p = λ p may. record { local = may.amid.rest.local; own = may.amid.rest.own; scan = may.amid.rest.scan } in
+pub good_leads : (old mid : Seen) (part : List Made) (operation : Operation) (lrs : ℕ) (debt : Debt) → Adds old mid part → ((p : Progress) → MayReenter old operation lrs debt p → IsGoodPiece old p part) → Leads old part (MayReenter old operation lrs debt) (MayReenter mid operation lrs debt)
+good_leads old mid part operation lrs debt add piece =
     record {
-      proper = λ p may. (piece p (idle p may)).proper;
+      proper = λ p may. (piece p may).proper;
       after = λ p may.
-          let good = piece p (idle p may) in
+          let good = piece p may in
           record {
             amid = amid_after old mid part operation lrs debt p (progress_of (shape_of old) old.actor p (map makes part)) add good.stays good.ends may.amid;
             near = ap (λ (p : Progress). unwrap_or p.far false) good.stays.same ∙ may.near;
           };
     }
 
+-- an actor that may enter again has no scan in progress
+pub idle_again : (seen : Seen) (operation : Operation) (lrs : ℕ) (debt : Debt) (p : Progress) → MayReenter seen operation lrs debt p → IsIdle seen p
+idle_again seen operation lrs debt p may = record { local = may.amid.rest.local; own = may.amid.rest.own; scan = may.amid.rest.scan }
+
+pub piece_leads : (old mid : Seen) (part : List Made) (operation : Operation) (lrs : ℕ) (debt : Debt) → Adds old mid part → IsPiece old part → Leads old part (MayReenter old operation lrs debt) (MayReenter mid operation lrs debt)
+piece_leads old mid part operation lrs debt add piece = good_leads old mid part operation lrs debt add (λ p may. piece p (idle_again old operation lrs debt p may))
+
 -- An entry leads to where the vCPU may access.
 
-enter_leads : (mid new : Seen) (shelved : Shelved) (lrs : ℕ) (loaded : Loaded) (enters : Enters mid new shelved lrs loaded) (operation : Operation) (debt : Debt) → Leads mid enters.part (MayReenter mid operation lrs debt) (IsAble new loaded operation (owed_after_scan debt))
+pub enter_leads : (mid new : Seen) (shelved : Shelved) (lrs : ℕ) (loaded : Loaded) (enters : Enters mid new shelved lrs loaded) (operation : Operation) (debt : Debt) → Leads mid enters.part (MayReenter mid operation lrs debt) (IsAble new loaded operation (owed_after_scan debt))
 enter_leads mid new shelved lrs loaded enters operation debt =
     let may_enter : (p : Progress) → MayReenter mid operation lrs debt p → MayEnter mid lrs p
-    = λ p may. record { idle = record { local = may.amid.rest.local; own = may.amid.rest.own; scan = may.amid.rest.scan }; near = may.near; lrs_is = may.amid.lrs_is; none_failed = may.amid.none_failed } in
+    = λ p may. record { idle = idle_again mid operation lrs debt p may; near = may.near; lrs_is = may.amid.lrs_is; none_failed = may.amid.none_failed } in
     record {
       proper = λ p may. enters.proper p (may_enter p may);
       after = λ p may.
@@ -91,17 +95,12 @@ enter_leads mid new shelved lrs loaded enters operation debt =
 pub reenters_so : (old mid new : Seen) (before after : Loaded) (shelved : Shelved) → shelved ≡ shelved_of before → Leaves old mid before shelved → Enters mid new shelved before.regs.n after → Reenters old new before after
 reenters_so old mid new before after shelved is leaves enters =
     let part = leaves.part ++ enters.part in
-    let mid_actor : mid.actor ≡ old.actor = ap (λ seen. seen.actor) leaves.adds.new_is in
     let with_cpu : Shelved → Shelved = λ base. record base { cpu = before.base.cpu } in
     record {
       part = part;
       adds = adds_join old mid new leaves.part enters.part leaves.adds enters.adds;
       none_taken = none_append leaves.part enters.part leaves.none_taken enters.none_taken;
-      moves =
-          ap (named_of (Some old.actor)) (events_then old mid leaves.part enters.part leaves.adds)
-          ∙ both_moves (Some old.actor) (part_events old leaves.part) (part_events mid enters.part)
-          (ap (named_of (Some old.actor)) leaves.events ∙ only_leave old.actor _)
-          (ap (λ actor. named_of (Some actor) (part_events mid enters.part)) (sym mid_actor) ∙ enters.moves);
+      moves = moves_unnamed old.actor (part_events old part) (moves_join old mid leaves.part enters.part leaves.adds (ap (are_moves old.actor) leaves.events ∙ only_leave old.actor _) enters.moves);
       up = enters.up;
       same = record { base = ap with_cpu enters.kept ∙ ap with_cpu is; lrs = enters.lrs_is };
       leads = λ operation debt.

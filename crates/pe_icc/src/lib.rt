@@ -14,3 +14,4 @@ mod stay;
 
 pub use icc::icc_op;
 pub use laws::{entry_runs, exit_rests};
+pub use stay::copy_of;

@@ -12,8 +12,8 @@ pub(crate) struct Stay {
     pub(crate) owing: bool,
 }
 
-/// The vCPU as it is on its PE.
-pub(crate) fn copy_of(vcpu: &Loaded) -> Loaded
+/// The vCPU as it is on its PE: guest, number, CPU record, count of its operations, registers and what is held.
+pub fn copy_of(vcpu: &Loaded) -> Loaded
     ensures { result ≡ vcpu.now }
 {
     Loaded {

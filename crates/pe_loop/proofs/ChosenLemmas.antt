@@ -1,17 +1,12 @@
 -- What was chosen for a list register is claimed, and its causes are taken.
-use Rattle.std.proofs.Common.{◌≡◌, ◌≢◌, ℕ, ◌<◌, nat_lt, length, arith, ◌⊎◌, inl, inr, ◌&&◌, ◌||◌, not, Bool, true, false, cond, if◌then◌else◌, IsTrue, List, [], ◌∷◌, ◌++◌, map, Option, Some, None, option_to_list, append-nil, refl, sym, ap, subst, ◌∙◌}
+use Rattle.std.proofs.Common.{◌≡◌, ◌≢◌, ℕ, ◌<◌, nat_lt, length, arith, ◌⊎◌, inl, inr, ◌&&◌, ◌||◌, not, Bool, true, false, if◌then◌else◌, IsTrue, List, [], ◌∷◌, ◌++◌, map, Some, None, option_to_list, append-nil, refl, sym, ap, subst, ◌∙◌}
 use Rattle.std.specs.List.{cons_option}
 use Rattle.std.specs.Option.{option_map}
-use Rattle.std.proofs.lemmas.Bool.{eq-eqb}
-use Rattle.std.proofs.lemmas.List.Elements.{filter-append}
 use Rattle.std.proofs.lemmas.List.Sums.{fold-append}
 use Rattle.gic_base.specs.declared.interrupt.Key.{Key}
 use Rattle.gic_base.specs.declared.shape.GuestShape.{GuestShape}
 use Rattle.gic_base.specs.Interrupt.{has_interrupt, is_of_vcpu}
 use Rattle.gic_base.specs.Shape.{IsShape}
-use Rattle.gic_call.specs.declared.event.Event.TheVariants.{Reach, Take}
-use Rattle.gic_call.specs.declared.event.Found.TheVariants.{Nothing}
-use Rattle.gic_call.specs.Trace.{Happened, is_beside, named_of}
 use Rattle.gic_ich.specs.declared.regs.IchRegs.{IchRegs}
 use Rattle.gic_lr.specs.declared.entry.LrState.{LrState}
 use Rattle.gic_lr.specs.declared.entry.LrState.TheVariants.{Invalid, Pending, Active, Both}
@@ -35,7 +30,7 @@ use Rattle.port_core.specs.declared.word_id.WordId.TheVariants.{Irq}
 use Rattle.port_core.specs.After.{claimed_at}
 use Rattle.port_core.specs.Effect.{claimed_irq, may_move}
 use Rattle.port_core.specs.Known.{is_on, known}
-use Rattle.port_core.specs.Local.{entry_for, is_at, is_vcpu, settled}
+use Rattle.port_core.specs.Local.{entry_for, is_vcpu, settled}
 use Rattle.port_core.specs.Port.{Seen, IsPort, Adds, CanMake, left_by, made_by, shape_of, seen_after, part_events}
 use Rattle.port_core.specs.Stands.{claim_event}
 use Rattle.port_core.proofs.PortLemmas.{adds_join}
@@ -50,25 +45,17 @@ use Rattle.port_call.proofs.KnownLemmas.{known_kept, places_apart}
 use Rattle.port_call.proofs.MemoryLemmas.{on_own}
 use Rattle.port_call.proofs.SettleLemmas.{handed_none}
 use Rattle.port_call.proofs.TryLemmas.{none_append}
-use Rattle.port_call.proofs.TurnLemmas.{events_then, known_by_last}
+use Rattle.port_call.proofs.TurnLemmas.{known_by_last}
 use Rattle.pe_loop.specs.declared.claims.Claimed.TheVariants.{Whole, Bare, Missed}
 use Rattle.pe_loop.specs.declared.claims.Claimed.{Claimed}
 use Rattle.pe_loop.specs.Claiming.{Claims, IsRight, IsClaimable, IsTakeable, TakesCauses, held_irq, choice_left, at_of, regs_left, is_whole, IsNoneOf, claims_by, ClaimsChosen}
 use Rattle.pe_loop.specs.Counting.{are_quiet}
+use Rattle.pe_loop.specs.Moves.{are_moves}
 use Rattle.pe_loop.specs.Scanning.{told_by}
 use Rattle.pe_loop.proofs.CountLemmas.{quiet_append}
+use Rattle.pe_loop.proofs.MoveLemmas.{claim_moves, moves_join}
 use Rattle.pe_loop.proofs.ClaimLemmas.{claim_proper, claim_stepped, ended_more, first_left, first_tried, has_first, has_none, take_left, take_tried}
 use Rattle.pe_loop.proofs.ReachLemmas.{bare_of, active_reached, entry_added, may_take_causes, reached_irq, reached_local, taken_local, whole_reached}
-
--- Events.
-
-pub claim_moves : (actor : ℕ) (key : Key) (local : Local) (done : Bool) → named_of (Some actor) (option_to_list (if done then claim_event actor key local else None) ++ []) ≡ []
-claim_moves actor key local false = refl
-claim_moves actor key local true = of (is_at key local.at)
-  where
-    of : (b : Bool) → named_of (Some actor) ((record { event = if b then Take key actor else Reach key actor; found = Nothing }) ∷ []) ≡ []
-    of true = ap (λ b. cond (not b) ((record { event = Take key actor; found = Nothing }) ∷ []) []) (eq-eqb actor actor refl)
-    of false = ap (λ b. cond (not b) ((record { event = Reach key actor; found = Nothing }) ∷ []) []) (eq-eqb actor actor refl)
 
 -- A claim.
 
@@ -78,7 +65,7 @@ pub record Tried (old new : Seen) (key : Key) (irq : IrqRecord) (done : Bool) : 
   pub adds : Adds old new (made ∷ [])
   pub none_taken : IsTrue (takes_none (made ∷ []))
   pub quiet : IsTrue (are_quiet (made ∷ []))
-  pub moves : named_of (Some old.actor) (part_events old (made ∷ [])) ≡ []
+  pub moves : IsTrue (are_moves old.actor (part_events old (made ∷ [])))
   pub others : (other : Key) → IsTrue (has_interrupt (shape_of old) other) → other ≢ key → known (shape_of old) old.actor new.own (Irq other) ≡ known (shape_of old) old.actor old.own (Irq other)
   pub local : new.local ≡ (if done then claimed_at (shape_of old) old.actor key irq old.local else old.local)
   pub knows : done ≡ true → known (shape_of old) old.actor new.own (Irq key) ≡ Some (packed (claimed_irq old.actor old.local key irq))
@@ -103,7 +90,7 @@ tries old new key irq done good there claims =
       adds = add.adds;
       none_taken = ap (λ b. b && true) (handed_none step found old add.tables refl add.handed);
       quiet = refl;
-      moves = ap (λ b. named_of (Some actor) (option_to_list (if b then claim_event actor key old.local else None) ++ [])) claims.done_is ∙ claim_moves actor key old.local done;
+      moves = ap (λ b. are_moves actor (option_to_list (if b then claim_event actor key old.local else None) ++ [])) claims.done_is ∙ claim_moves actor key old.local done;
       others = λ other is differ.
           let off : is_on shape actor (Irq other) made ≡ false = places_apart shape (Irq key) (Irq other) good there is (λ e. differ (sym (key_is key other e))) in
           ap (λ seen. known shape actor seen.own (Irq other)) add.adds.new_is
@@ -349,9 +336,6 @@ came_on old mid choice came both here takes regs trapping failed p none nothing 
     or_false true = refl
     or_false false = refl
 
-pub both_moves : (actor : Option ℕ) (early late : List Happened) → named_of actor early ≡ [] → named_of actor late ≡ [] → named_of actor (early ++ late) ≡ []
-both_moves actor early late one two = filter-append (λ happened. not (is_beside actor happened.event)) early late ∙ ap (λ events. events ++ named_of actor late) one ∙ two
-
 pub chosen_both : (old mid new : Seen) (choice : Choice) (claimed : Claimed) → IsPort old → IsClaimable old choice → choice.entry.state ≡ Both → Claims old mid choice.key choice.irq true → TakesCauses mid new choice claimed → ClaimsChosen old new choice claimed
 chosen_both old mid new choice claimed port can both claims takes =
     let shape = shape_of old in
@@ -377,9 +361,7 @@ chosen_both old mid new choice claimed port can both claims takes =
       adds = adds_join old mid new (first.made ∷ []) (second.made ∷ []) first.adds second.adds;
       none_taken = none_append (first.made ∷ []) (second.made ∷ []) first.none_taken second.none_taken;
       quiet = quiet_append (first.made ∷ []) (second.made ∷ []) first.quiet second.quiet;
-      moves =
-          ap (named_of (Some actor)) (events_then old mid (first.made ∷ []) (second.made ∷ []) first.adds)
-          ∙ both_moves (Some actor) (part_events old (first.made ∷ [])) (part_events mid (second.made ∷ [])) first.moves (ap (λ actor. named_of (Some actor) (part_events mid (second.made ∷ []))) (sym actor_is) ∙ second.moves);
+      moves = moves_join old mid (first.made ∷ []) (second.made ∷ []) first.adds first.moves second.moves;
       same = ap back state.0 ∙ ap back came.local;
       at = state.1;
       bare = λ e. both;

@@ -14,7 +14,6 @@ use Rattle.gic_base.specs.declared.interrupt.Key.{Key}
 use Rattle.gic_base.specs.Interrupt.{has_interrupt, is_same_key}
 use Rattle.gic_base.specs.Shape.{IsShape}
 use Rattle.gic_base.proofs.KeyLemmas.{other_key}
-use Rattle.gic_call.specs.Trace.{named_of}
 use Rattle.gic_ich.specs.declared.regs.IchRegs.{IchRegs}
 use Rattle.gic_ich.specs.Place.{StandFor, StandByPlace}
 use Rattle.vcpu_refill.specs.declared.fill.Choice.{Choice}
@@ -27,7 +26,7 @@ use Rattle.port_core.specs.declared.word_id.WordId.TheVariants.{Irq}
 use Rattle.port_core.specs.After.{interface_of, shown}
 use Rattle.port_core.specs.Known.{known}
 use Rattle.port_core.specs.Local.{entry_for}
-use Rattle.port_core.specs.Port.{Seen, IsPort, shape_of, seen_after, part_events}
+use Rattle.port_core.specs.Port.{Seen, IsPort, shape_of, seen_after}
 use Rattle.port_core.proofs.AtLemmas.{entry_is}
 use Rattle.port_core.proofs.PortLemmas.{adds_join}
 use Rattle.core_proper.specs.Parts.{makes}
@@ -37,9 +36,8 @@ use Rattle.core_proper.specs.Scan.{is_both, keys_chosen, keys_of_both, key_of_bo
 use Rattle.core_proper.proofs.PartLemmas.{proper_append}
 use Rattle.port_call.proofs.PieceLemmas.{seen_nil}
 use Rattle.port_call.proofs.TryLemmas.{none_append}
-use Rattle.port_call.proofs.TurnLemmas.{events_then}
 use Rattle.pe_loop.specs.Claiming.{IsRight, IsClaimable, regs_left, is_whole, IsNoneOf, claims_by, ClaimsSome, ClaimsAt, CanClaimAt, IsPlanOf, IsBlank, IsRegsAt, IsLoadedAt, IsClaiming, ClaimsAll}
-use Rattle.pe_loop.proofs.ChosenLemmas.{both_moves}
+use Rattle.pe_loop.proofs.MoveLemmas.{moves_join}
 use Rattle.pe_loop.proofs.CountLemmas.{quiet_append}
 use Rattle.pe_loop.proofs.PlanLemmas.{IsPlanned, planned_so}
 use Rattle.pe_loop.proofs.StoreLemmas.{loaded_more, loaded_none, not_held, regs_more, regs_none}
@@ -232,15 +230,12 @@ some_claimed old now new fill before loaded after place failed more choice good 
     let at : (failing : Bool) (p : Progress) → progress_of shape actor (start failing p) (map makes so.part) ≡ claims_by now (key ∷ claims) (cons_option (key_of_both choice) takes) so.regs fill.trapping (failing || failed) p
     = λ failing p. so.goes_on failing p ∙ ap (by_choices (failing || failed) p) head in
     let back : Local → Local = λ local. record local { at = old.local.at; cands = old.local.cands } in
-    let actor_is : now.actor ≡ actor = ap (λ seen. seen.actor) is in
     record {
       part = so.part ++ chosen.part;
       adds = adds_join old now new so.part chosen.part so.adds chosen.adds;
       none_taken = none_append so.part chosen.part so.none_taken chosen.none_taken;
       quiet = quiet_append so.part chosen.part so.quiet chosen.quiet;
-      moves =
-          ap (named_of (Some actor)) (events_then old now so.part chosen.part so.adds)
-          ∙ both_moves (Some actor) (part_events old so.part) (part_events now chosen.part) so.moves (ap (λ actor. named_of (Some actor) (part_events now chosen.part)) (sym actor_is) ∙ chosen.moves);
+      moves = moves_join old now so.part chosen.part so.adds so.moves chosen.moves;
       same = ap back chosen.same ∙ so.same;
       known_as = λ i other above is_other.
           let found = plan.found i other is_other in

@@ -18,7 +18,7 @@ use Rattle.pe_loop.specs.Counting.{count_from, is_irq_look, looks_in, bits_in, b
 
 -- Steps.
 
-and_true : (a b : Bool) → IsTrue a → IsTrue b → (a && b) ≡ true
+pub and_true : (a b : Bool) → IsTrue a → IsTrue b → (a && b) ≡ true
 and_true true true h k = refl
 and_true true false h k = absurd (cc)
 and_true false b h k = absurd (cc)

@@ -6,7 +6,7 @@ use Rattle.std.proofs.lemmas.Bool.{and_parts, eq-eqb, eqb-true, ltb-true}
 use Rattle.gic_aff.specs.declared.sgi.Targets.{Targets}
 use Rattle.gic_base.specs.declared.shape.GuestShape.{GuestShape}
 use Rattle.gic_call.specs.declared.event.Operation.TheVariants.{Residence}
-use Rattle.gic_call.specs.Trace.{Beside, IsCall, named_of}
+use Rattle.gic_call.specs.Trace.{Beside, IsCall}
 use Rattle.gic_ich.specs.declared.regs.IchRegs.{IchRegs}
 use Rattle.gic_ich.specs.Place.{StandFor}
 use Rattle.gic_prio.specs.declared.cpu.CpuRec.{CpuRec}
@@ -44,13 +44,13 @@ use Rattle.core_proper.proofs.PartLemmas.{proper_append}
 use Rattle.port_call.proofs.PieceLemmas.{idle_is, scan_free}
 use Rattle.port_call.proofs.SettleLemmas.{handed_none}
 use Rattle.port_call.proofs.TryLemmas.{none_append}
-use Rattle.port_call.proofs.TurnLemmas.{events_then}
 use Rattle.pe_loop.specs.Claiming.{claims_by, IsPlanOf, ClaimsAll}
 use Rattle.pe_loop.specs.Enter.{MayEnter, Scans, IsReady, EndsScan, entered, HasEntered, IsBetween, Enters}
 use Rattle.pe_loop.specs.Marking.{MarksRest}
+use Rattle.pe_loop.specs.Moves.{are_moves}
 use Rattle.pe_loop.specs.Scanning.{told_by, phase_taken, IsScanAt, Rounds}
 use Rattle.pe_loop.specs.Stay.{IsOff, IsOpen}
-use Rattle.pe_loop.proofs.ChosenLemmas.{both_moves}
+use Rattle.pe_loop.proofs.MoveLemmas.{moves_join, moves_unnamed}
 use Rattle.pe_loop.proofs.CountLemmas.{looks_append, quiet_append, quiet_none, taken_append}
 use Rattle.pe_loop.proofs.JoinLemmas.{two_on, two_proper, same_proper, same_progress, two_silent}
 use Rattle.pe_loop.proofs.IndexLemmas.{less_words, still_taking}
@@ -365,13 +365,9 @@ enters_so old mid mid2 new vcpu lrs cpu fill ready loaded failed some few off sc
     let count : ready.regs.n ≡ lrs = ap (λ regs. regs.n) is_ready.regs in
     let on_claims = claims_on mid mid2 new fill lrs ready loaded failed count claims over in
     let so = ends_so old mid mid2 new vcpu lrs cpu fill ready loaded failed off scans cpu_is is_ready claims over in
-    let mid_actor : mid.actor ≡ actor = ap (λ seen. seen.actor) scans.adds.new_is in
     let start : Progress → Progress = λ p. claims_by mid (keys_chosen fill) (keys_of_both fill) (regs_of fill mid.local.cpu lrs) fill.trapping false p in
-    let moves : named_of (Some actor) (part_events old part) ≡ []
-    = ap (named_of (Some actor)) (events_then old mid scans.part late scans.adds)
-    ∙ both_moves (Some actor) (part_events old scans.part) (part_events mid late) (ap (named_of (Some actor)) scans.silent)
-    (ap (named_of (Some actor)) (events_then mid mid2 claims.part over.part claims.adds)
-    ∙ both_moves (Some actor) (part_events mid claims.part) (part_events mid2 over.part) (ap (λ actor. named_of (Some actor) (part_events mid claims.part)) (sym mid_actor) ∙ claims.moves) (ap (named_of (Some actor)) over.silent)) in
+    let moves : IsTrue (are_moves actor (part_events old part))
+    = moves_join old mid scans.part late scans.adds (ap (are_moves actor) scans.silent) (moves_join mid mid2 claims.part over.part claims.adds claims.moves (ap (are_moves mid2.actor) over.silent)) in
     let begins_with : (p : Progress) → Option Bool → Progress = λ p far. record (begun false p) { far = far } in
     let proper : (p : Progress) → MayEnter old lrs p → IsProper shape actor p (map makes part)
     = λ p may. let on = scans.goes_on p may in
@@ -413,7 +409,7 @@ enters_so old mid mid2 new vcpu lrs cpu fill ready loaded failed some few off sc
           let d = over_none.1 in
           omega (arith, first, looks_all, looks_late, bits_all, bits_late, a, b, c, d));
       moves = moves;
-      call = record { beside = beside; maps = refl; call = subst Call (sym is_vcpu_so) (moves, refl) };
+      call = record { beside = beside; maps = refl; call = subst Call (sym is_vcpu_so) (moves_unnamed actor (part_events old part) moves, refl) };
       proper = proper;
       goes_on = goes_on;
       whole_part = λ p between.

@@ -2,7 +2,7 @@
 use Rattle.std.proofs.Common.{◌≡◌, ◌≢◌, ℕ, zero, suc, ◌+◌, ◌<◌, ◌&&◌, not, Bool, true, false, cond, if◌then◌else◌, IsTrue, List, [], ◌∷◌, ◌++◌, map, take, length, slice_index_or, All, Contains, Option, Some, None, refl, sym, ap, subst, ◌∙◌, arith}
 use Rattle.std.specs.List.{filter_map, list_all}
 use Rattle.std.specs.Option.{option_map}
-use Rattle.std.proofs.lemmas.Bool.{and_parts, eqb-true, eq-eqb}
+use Rattle.std.proofs.lemmas.Bool.{and_parts, eqb-true}
 use Rattle.std.proofs.lemmas.Option.{none-some}
 use Rattle.vcpu_refill.proofs.ElementLemmas.{Contains-map}
 use Rattle.gic_base.proofs.KeyLemmas.{same_itself}
@@ -42,7 +42,9 @@ use Rattle.vcpu_state.specs.Holding.{held_keys}
 use Rattle.vcpu_state.specs.declared.shelved.Shelved.{Shelved}
 use Rattle.vcpu_state.specs.Moves.{shelved_of}
 use Rattle.pe_loop.specs.Leave.{left_by, without_all, keys_before, CanReleaseHeld, IsLeaving, Leaves, Releases, ReleasesHeld}
+use Rattle.pe_loop.specs.Moves.{are_moves}
 use Rattle.pe_loop.specs.Stay.{IsOn}
+use Rattle.pe_loop.proofs.MoveLemmas.{moves_unnamed, only_leave}
 
 -- What stands at the interface of what is held.
 
@@ -298,11 +300,6 @@ all_left seen vcpu on =
         not_false (is_same_key entry.key held.one.key) (held_at (λ key. is_same_key entry.key key ≡ false) vcpu.held held.place held.one others held.there)
         (ap (is_same_key entry.key) held.is ∙ same_itself entry.key)
 
--- a vCPU that leaves makes no event but that its interrupts leave
-pub only_leave : (vcpu : ℕ) (keys : List Key) → named_of (Some vcpu) (map (left_by vcpu) keys) ≡ []
-only_leave vcpu [] = refl
-only_leave vcpu (key ∷ keys) = ap (λ b. cond (not b) (left_by vcpu key ∷ named_of (Some vcpu) (map (left_by vcpu) keys)) (named_of (Some vcpu) (map (left_by vcpu) keys))) (eq-eqb vcpu vcpu refl) ∙ only_leave vcpu keys
-
 pub settled_owes : (local : Local) → IsTrue (is_settled local) → IsTrue (owes_nothing local)
 settled_owes local h =
     let ctlr = and_parts (owes_nothing local && not local.turn) (not local.ctlr) h in
@@ -317,7 +314,7 @@ leaves old new vcpu shelved each on is so =
     let owes : IsTrue (owes_nothing new.local) = leaving_owes old new vcpu 16 (settled_owes old.local on.settled) so in
     let settled : IsTrue (is_settled new.local) =
     ap (λ b. b && not new.local.turn && not new.local.ctlr) owes ∙ ap (λ local. not local.turn && not local.ctlr) so.same ∙ rest_settled old.local on.settled in
-    let none : named_of (Some old.actor) (part_events old so.part) ≡ [] = ap (named_of (Some old.actor)) events ∙ only_leave old.actor (held_keys vcpu) in
+    let none : named_of (Some old.actor) (part_events old so.part) ≡ [] = moves_unnamed old.actor (part_events old so.part) (ap (are_moves old.actor) events ∙ only_leave old.actor (held_keys vcpu)) in
     let is_vcpu_so : vcpu_of_actor shape old.actor ≡ Some old.actor = ap (λ b. if b then Some old.actor else None) on.actor.is_one in
     let answer : Option ℕ = None in
     let beside : Beside = record { maps = maps_taken so.part; targets = λ number id. None } in

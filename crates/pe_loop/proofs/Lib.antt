@@ -3,8 +3,8 @@ pub mod ReleaseLemmas
 pub mod LeaveLemmas
 pub mod FirstLemmas
 pub mod IndexLemmas
-pub mod CandLemmas
 pub mod CountLemmas
+pub mod MoveLemmas
 pub mod JoinLemmas
 pub mod LookLemmas
 pub mod MarkLemmas

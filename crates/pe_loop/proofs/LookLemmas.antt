@@ -44,7 +44,8 @@ use Rattle.core_proper.specs.Scan.{Purpose, planned, trapped, bare, Scan, taking
 use Rattle.port_call.proofs.KnownLemmas.{known_kept, places_apart}
 use Rattle.port_call.proofs.PieceLemmas.{seen_nil}
 use Rattle.pe_loop.specs.Counting.{count_from, looks_in, bits_taken}
-use Rattle.pe_loop.proofs.CandLemmas.{cand_same}
+use Rattle.core_proper.proofs.CandLemmas.{cand_same}
+use Rattle.core_proper.proofs.SearchLemmas.{found_in}
 use Rattle.pe_loop.proofs.CountLemmas.{count_first, count_same, looks_append, taken_append, taken_one}
 use Rattle.pe_loop.specs.Scanning.{told_by, looked_on, IsScanAt, TakesIndex, IsLookedOn, IsFound, AreFound, LooksAt, IsLooking}
 
@@ -67,21 +68,6 @@ looks_at old new before after cpu key found irq word add is lrs vcpu stands =
       vcpu = vcpu;
       stands = λ offers so. subst (λ irq. StandsFor after cpu (offers ++ offered key irq)) is (stands offers so);
     }
-
--- What a search finds.
-
-pub record IsFoundIn (test : ℕ → Bool) (from n bit : ℕ) : Type 0 where
-  pub above : from ≤ bit
-  pub below : bit < from + n
-  pub passes : test bit ≡ true
-
-pub found_in : (test : ℕ → Bool) (from n bit : ℕ) → find test (range_with_len from n) ≡ Some bit → IsFoundIn test from n bit
-found_in test from zero bit e = absurd (cc)
-found_in test from (suc n) bit e = of (test from) refl e (λ later. found_in test (from + 1) n bit later)
-  where
-    of : (b : Bool) → test from ≡ b → cond b (Some from) (find test (range_with_len (from + 1) n)) ≡ Some bit → (find test (range_with_len (from + 1) n) ≡ Some bit → IsFoundIn test (from + 1) n bit) → IsFoundIn test from (suc n) bit
-    of true t f later = let is : from ≡ bit = cc in record { above = omega (arith, is); below = omega (arith, is); passes = ap test (sym is) ∙ t }
-    of false t f later = let rest = later f in let above = rest.above in let below = rest.below in record { above = omega (arith, above); below = omega (arith, below); passes = rest.passes }
 
 -- The scan.
 

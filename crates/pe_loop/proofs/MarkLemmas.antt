@@ -37,8 +37,8 @@ use Rattle.pe_loop.specs.Candidates.{EndsBefore}
 use Rattle.pe_loop.specs.Scanning.{told_by}
 use Rattle.pe_loop.specs.Marking.{claimed_by, IsMarking, MarksRest}
 use Rattle.pe_loop.proofs.CountLemmas.{quiet_append}
-use Rattle.pe_loop.proofs.CandLemmas.{cand_same}
-use Rattle.pe_loop.proofs.LookLemmas.{found_in}
+use Rattle.core_proper.proofs.CandLemmas.{cand_same}
+use Rattle.core_proper.proofs.SearchLemmas.{found_in, found_nowhere}
 
 -- A candidate less.
 
@@ -135,18 +135,6 @@ no_marks seen =
       none = λ i l. absurd (omega (arith, l));
     }
 
--- what a search passed before it found one
-found_before : (test : ℕ → Bool) (from n bit : ℕ) → find test (range_with_len from n) ≡ Some bit → (i : ℕ) → from ≤ i → i < bit → test i ≡ false
-found_before test from zero bit e i above less = absurd (none-some bit e)
-found_before test from (suc n) bit e i above less = of (test from) refl e (λ later l. found_before test (from + 1) n bit later i l less)
-  where
-    some_is : (one other : ℕ) → Some one ≡ Some other → one ≡ other
-    some_is one other e = cc
-
-    of : (b : Bool) → test from ≡ b → cond b (Some from) (find test (range_with_len (from + 1) n)) ≡ Some bit → (find test (range_with_len (from + 1) n) ≡ Some bit → from + 1 ≤ i → test i ≡ false) → test i ≡ false
-    of true t f later = let is = some_is from bit f in absurd (omega (arith, is, above, less))
-    of false t f later = elim (cases_lt from i) [ inl more ↦ later f (omega (arith, more)) | inr same ↦ (let is : i ≡ from = omega (arith, same, above) in ap test is ∙ t) ]
-
 -- one that owes no mark owes none after another
 marks_same : (key : Key) (vcpu : ℕ) (marks : MarkSet) → marks.vcpus ≡ no_vcpus → without_mark key vcpu marks ≡ marks
 marks_same key vcpu marks none = of (option_map_or (λ owed. is_same_key owed key) marks.key false)
@@ -209,17 +197,9 @@ one_mark old now new from bit found key vcpu marks are first small bit_is own so
     out i l (inr other) (inl before) = let each = are.each in cand_kept now.local.cands bit i (omega (arith, small, each)) other (so.none i before)
     out i l (inr other) (inr after) =
         let each = are.each in
-        cand_kept now.local.cands bit i (omega (arith, small, each)) other (found_before (is_cand now.local.cands) from (index_bits (shape_of old) - from) bit first i after (omega (arith, l, other)))
+        cand_kept now.local.cands bit i (omega (arith, small, each)) other ((found_in (is_cand now.local.cands) from (index_bits (shape_of old) - from) bit first).first i after (omega (arith, l, other)))
 
 -- The end.
-
-pub found_nowhere : (test : ℕ → Bool) (from n : ℕ) → find test (range_with_len from n) ≡ None → (i : ℕ) → from ≤ i → i < from + n → test i ≡ false
-found_nowhere test from zero e i above below = absurd (omega (arith, above, below))
-found_nowhere test from (suc n) e i above below = of (test from) refl e (λ later l. found_nowhere test (from + 1) n later i l (omega (arith, below)))
-  where
-    of : (b : Bool) → test from ≡ b → cond b (Some from) (find test (range_with_len (from + 1) n)) ≡ None → (find test (range_with_len (from + 1) n) ≡ None → from + 1 ≤ i → test i ≡ false) → test i ≡ false
-    of true t f later = absurd (none-some from (sym f))
-    of false t f later = elim (cases_lt from i) [ inl more ↦ later f (omega (arith, more)) | inr same ↦ (let is : i ≡ from = omega (arith, same, above) in ap test is ∙ t) ]
 
 pub all_marked : (old now : Seen) (from : ℕ) → AreCands (shape_of old) now.local.cands.words → find (is_cand now.local.cands) (range_with_len from (index_bits (shape_of old) - from)) ≡ None → EndsBefore (index_bits (shape_of old)) now.local.cands → IsMarking old now from
     → MarksRest old now

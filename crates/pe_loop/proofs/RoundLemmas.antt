@@ -27,7 +27,8 @@ use Rattle.pe_loop.specs.Scanning.{told_by, looked_on, TakesIndex, LooksOver, Is
 use Rattle.pe_loop.proofs.CountLemmas.{count_none, count_split, looks_append, taken_append}
 use Rattle.pe_loop.proofs.JoinLemmas.{two_on, two_proper, same_proper, same_progress, two_silent}
 use Rattle.pe_loop.proofs.LookLemmas.{all_taken}
-use Rattle.pe_loop.proofs.MarkLemmas.{ends_before, found_nowhere}
+use Rattle.core_proper.proofs.SearchLemmas.{found_nowhere}
+use Rattle.pe_loop.proofs.MarkLemmas.{ends_before}
 
 pub some_word : (shape : GuestShape) → 0 < index_words shape
 some_word shape = omega arith

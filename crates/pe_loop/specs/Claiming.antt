@@ -5,7 +5,6 @@ use Rattle.std.specs.Option.{option_map}
 use Rattle.gic_base.specs.declared.interrupt.Key.{Key}
 use Rattle.gic_base.specs.declared.shape.GuestShape.{GuestShape}
 use Rattle.gic_base.specs.Interrupt.{has_interrupt, is_of_vcpu, is_same_key}
-use Rattle.gic_call.specs.Trace.{named_of}
 use Rattle.gic_ich.specs.declared.regs.IchRegs.{IchRegs}
 use Rattle.gic_lr.specs.declared.entry.LrState.TheVariants.{Pending, Active, Both}
 use Rattle.gic_lr.specs.Entry.{packed as packed_entry, state_has_active}
@@ -40,6 +39,7 @@ use Rattle.core_proper.specs.Scan.{claiming, ended_scan, key_of_both, keys_chose
 use Rattle.port_call.specs.Piece.{takes_none}
 use Rattle.pe_loop.specs.declared.claims.Claimed.{Claimed}
 use Rattle.pe_loop.specs.declared.claims.Claimed.TheVariants.{Whole, Bare, Missed}
+use Rattle.pe_loop.specs.Moves.{are_moves}
 use Rattle.pe_loop.specs.Counting.{are_quiet}
 use Rattle.pe_loop.specs.Scanning.{told_by, IsFound, AreFound}
 
@@ -144,7 +144,7 @@ pub record ClaimsChosen (old new : Seen) (choice : Choice) (claimed : Claimed) :
   pub adds : Adds old new part
   pub none_taken : IsTrue (takes_none part)
   pub quiet : IsTrue (are_quiet part)
-  pub moves : named_of (Some old.actor) (part_events old part) ≡ []
+  pub moves : IsTrue (are_moves old.actor (part_events old part))
   pub same : record new.local { at = old.local.at; cands = old.local.cands } ≡ old.local
   pub at : new.local.at ≡ old.local.at ++ option_to_list (option_map at_of (choice_left claimed choice))
   pub bare : claimed ≡ Bare → choice.entry.state ≡ Both
@@ -230,7 +230,7 @@ pub record IsClaiming (old now : Seen) (fill : Fill) (before loaded : Loaded) (p
   pub adds : Adds old now part
   pub none_taken : IsTrue (takes_none part)
   pub quiet : IsTrue (are_quiet part)
-  pub moves : named_of (Some old.actor) (part_events old part) ≡ []
+  pub moves : IsTrue (are_moves old.actor (part_events old part))
   pub same : record now.local { at = old.local.at; cands = old.local.cands } ≡ old.local
   pub known_as : (i : ℕ) (choice : Choice) → place ≤ i → slice_index_or fill.choice i None ≡ Some choice → known (shape_of old) old.actor now.own (Irq choice.key) ≡ Some (packed choice.irq)
   pub loaded_is : IsLoadedAt now fill place before loaded
@@ -250,7 +250,7 @@ pub record ClaimsAll (old new : Seen) (fill : Fill) (before after : Loaded) (fai
   pub adds : Adds old new part
   pub none_taken : IsTrue (takes_none part)
   pub quiet : IsTrue (are_quiet part)
-  pub moves : named_of (Some old.actor) (part_events old part) ≡ []
+  pub moves : IsTrue (are_moves old.actor (part_events old part))
   pub same : record new.local { at = old.local.at; cands = old.local.cands } ≡ old.local
   pub loaded : record after { regs = record after.regs { lr = before.regs.lr }; held = before.held } ≡ before
   pub held : (j : ℕ) (one : HeldIrq) → slice_index_or after.held j None ≡ Some one → IsClaimed fill 16 j one

@@ -1,7 +1,6 @@
 -- A vCPU enters a PE (own choice).
-use Rattle.std.specs.Prelude.{◌≡◌, ℕ, Bool, false, IsTrue, List, [], map, replicate, Option, Some, None, unwrap_or}
+use Rattle.std.specs.Prelude.{◌≡◌, ℕ, Bool, false, IsTrue, List, [], map, replicate, Option, None, unwrap_or}
 use Rattle.gic_call.specs.declared.event.Operation.TheVariants.{Residence}
-use Rattle.gic_call.specs.Trace.{named_of}
 use Rattle.gic_prio.specs.declared.cpu.CpuRec.{CpuRec}
 use Rattle.vcpu_refill.specs.declared.fill.Fill.{Fill}
 use Rattle.vcpu_refill.specs.Plan.{regs_of, HasEntries}
@@ -21,6 +20,7 @@ use Rattle.core_proper.specs.Scan.{idle, keys_chosen, keys_of_both}
 use Rattle.port_call.specs.Piece.{takes_none, IsIdle}
 use Rattle.pe_loop.specs.Claiming.{claims_by, IsPlanOf}
 use Rattle.pe_loop.specs.Counting.{are_quiet, bits_taken, looks_in}
+use Rattle.pe_loop.specs.Moves.{are_moves}
 use Rattle.pe_loop.specs.Scanning.{told_by}
 use Rattle.pe_loop.specs.Stay.{IsUp}
 
@@ -102,7 +102,7 @@ pub record Enters (old new : Seen) (vcpu : Shelved) (lrs : ℕ) (loaded : Loaded
   pub adds : Adds old new part
   pub none_taken : IsTrue (takes_none part)
   pub looks : looks_in part ≡ bits_taken part
-  pub moves : named_of (Some old.actor) (part_events old part) ≡ []
+  pub moves : IsTrue (are_moves old.actor (part_events old part))
   pub call : MakesCall old part Residence None
   pub proper : (p : Progress) → MayEnter old lrs p → IsProper (shape_of old) old.actor p (map makes part)
   pub goes_on : (p : Progress) → MayEnter old lrs p → HasEntered new loaded p (progress_of (shape_of old) old.actor p (map makes part))

@@ -1,4 +1,5 @@
 pub mod Stay
+pub mod Moves
 pub mod Candidates
 pub mod Counting
 pub mod Scanning

@@ -1,5 +1,5 @@
 -- EnableLPIs becomes 1.
-use Rattle.std.proofs.Common.{add-one, zero, suc, ◌≡◌, ℕ, ◌+◌, ◌-◌, ◌<◌, ◌==◌, ◌&&◌, ◌||◌, not, Bool, true, false, cond, if◌then◌else◌, IsTrue, IfSome, List, [], ◌∷◌, ◌++◌, map, All, Option, Some, None, is_none, refl, sym, ap, subst, ◌∙◌, arith}
+use Rattle.std.proofs.Common.{zero, suc, ◌≡◌, ℕ, ◌+◌, ◌-◌, ◌<◌, ◌&&◌, Bool, true, false, if◌then◌else◌, IsTrue, IfSome, List, [], ◌∷◌, ◌++◌, map, All, Option, Some, None, is_none, refl, sym, ap, subst, ◌∙◌, arith}
 use Rattle.std.specs.List.{range_with_len, filter_map, flat_map}
 use Rattle.std.specs.Option.{option_map_or}
 use Rattle.std.proofs.lemmas.List.Elements.{All-cons, All-nil, All-append}
@@ -15,11 +15,10 @@ use Rattle.gic_word.specs.Record.{is_number}
 use Rattle.gic_call.specs.declared.event.Event.{Event}
 use Rattle.gic_call.specs.declared.event.Event.TheVariants.{Touch, Read, Enable}
 use Rattle.gic_call.specs.declared.event.Found.TheVariants.{Record, Word as FoundWord, Lpis as FoundLpis}
-use Rattle.gic_call.specs.declared.event.Operation.{Operation}
 use Rattle.gic_call.specs.declared.event.Place.{Place}
 use Rattle.gic_call.specs.declared.event.Place.TheVariants.{Word}
 use Rattle.gic_call.specs.Access.{is_table_zero, pended_at, enable_events, lpis_of}
-use Rattle.gic_call.specs.Trace.{Happened, Makes, HandsOut, IsLastRead, is_beside, named_of, held_at, memory_places, table_places}
+use Rattle.gic_call.specs.Trace.{Happened, Makes, HandsOut, IsLastRead, named_of, held_at, memory_places, table_places}
 use Rattle.gic_call.specs.View.{View}
 use Rattle.gic_history.specs.Named.{before_enabling}
 use Rattle.port_core.specs.declared.run.Made.{Made}
@@ -34,7 +33,7 @@ use Rattle.port_call.proofs.PieceLemmas.{piece_one}
 use Rattle.port_call.proofs.SettleLemmas.{handed_none}
 use Rattle.port_call.proofs.TryLemmas.{none_append}
 use Rattle.port_call.proofs.TurnLemmas.{piece_then, events_then}
-use Rattle.pe_mem.specs.Call.{NamesBy, Serves}
+use Rattle.pe_mem.specs.Call.{NamesBy}
 use Rattle.pe_mem.specs.Each.{touched_at}
 use Rattle.pe_mem.specs.Pending.{part_of_number, pend}
 use Rattle.pe_mem.specs.Redist.{EnablesLpis}

@@ -1,7 +1,7 @@
 -- Accesses of a redistributor.
 use Rattle.gic_frame.specs.declared.bank.Half.{Half}
 use Rattle.gic_call.specs.declared.event.Event.{Event}
-use Rattle.std.proofs.Common.{◌%◌, ◌^◌, ◌≡◌, ℕ, ◌&&◌, not, Bool, true, false, if◌then◌else◌, IsTrue, List, [], ◌∷◌, ◌++◌, All, Some, None, is_none, refl, sym, ap, subst, ◌∙◌, ◌==◌, Option, inl, inr, ◌⊎◌, arith, map, ◌<◌}
+use Rattle.std.proofs.Common.{◌%◌, ◌^◌, ◌≡◌, ℕ, ◌&&◌, not, Bool, true, false, if◌then◌else◌, IsTrue, List, [], ◌∷◌, ◌++◌, All, Some, None, is_none, refl, sym, ap, subst, ◌∙◌, ◌==◌, Option, inl, inr, ◌⊎◌, arith}
 use Rattle.std.proofs.lemmas.Bool.{eq-eqb, ne_eqb}
 use Rattle.gic_base.specs.declared.shape.GuestShape.{GuestShape}
 use Rattle.gic_frame.specs.Identity.{iidr, pidr2}
@@ -29,13 +29,11 @@ use Rattle.gic_call.specs.declared.event.Place.TheVariants.{Lpis, Word}
 use Rattle.gic_call.specs.Access.{part_events as parts_events, enable_events, redist_held, redist_written}
 use Rattle.gic_call.specs.Trace.{Happened, Makes, IsLastRead, held_at, redist_places, table_places}
 use Rattle.gic_call.specs.View.{View}
-use Rattle.port_core.specs.declared.run.Made.{Made}
 use Rattle.port_core.specs.declared.step.CoreStep.TheVariants.{Look}
 use Rattle.port_core.specs.declared.word_id.WordId.TheVariants.{Vcpu}
 use Rattle.port_core.specs.Forms.{vcpu_of}
-use Rattle.port_core.specs.Port.{Seen, Adds, AddsStep, shape_of, made_by, part_events}
+use Rattle.port_core.specs.Port.{Seen, AddsStep, shape_of, made_by, part_events}
 use Rattle.port_core.proofs.PortLemmas.{adds_join}
-use Rattle.port_call.specs.Piece.{takes_none, IsPiece}
 use Rattle.port_call.specs.Plain.{is_event_word, ReadsPlain}
 use Rattle.port_call.specs.Rest.{IsAtEase, StaysAtEase}
 use Rattle.port_call.proofs.PieceLemmas.{seen_nil, piece_nil, piece_one}
@@ -45,9 +43,9 @@ use Rattle.port_call.proofs.TurnLemmas.{piece_then, events_then}
 use Rattle.pe_mem.specs.Call.{Serves, ServesFreely}
 use Rattle.pe_mem.specs.Redist.{LooksAtLpis, StoresTable, ReadsRedist, WritesRedist, EnablesLpis, ServesRedist}
 use Rattle.pe_mem.specs.Store.{changed_by, Updates}
-use Rattle.pe_mem.proofs.EachLemmas.{own_of_piece, stays_self}
-use Rattle.pe_mem.proofs.ServeLemmas.{nothing_known, none_made, read_made, serves_nothing, serves_each, serves_parts, parts_read}
-use Rattle.pe_mem.proofs.UpdateLemmas.{is_put, put_made}
+use Rattle.pe_mem.proofs.EachLemmas.{stays_self}
+use Rattle.pe_mem.proofs.ServeLemmas.{nothing_known, none_made, read_made, freely_nothing, freely_read, serves_freely, serves_nothing, serves_each, serves_parts, parts_read}
+use Rattle.pe_mem.proofs.UpdateLemmas.{stored_view, is_put, put_made}
 
 and_true : (a : Bool) → IsTrue a → IsTrue (a && true)
 and_true true h = refl
@@ -70,20 +68,6 @@ looks_at_lpis old new vcpu found enabled is add =
 -- the guest where EnableLPIs is this
 pub lpis_view : Seen → Bool → View
 lpis_view seen enabled = record (nothing_known seen) { lpis = λ vcpu. enabled }
-
--- Pieces that are proper in every call.
-
-unfoldable pub freely_nothing : (seen : Seen) → IsAtEase seen.local → ServesFreely seen seen (λ view. []) (λ view. [])
-unfolding nothing_known
-freely_nothing seen ease =
-    record { view = nothing_known seen; part = []; adds = record { new_is = sym (seen_nil seen) }; made = none_made (Some seen.actor) (nothing_known seen); stays = stays_self seen.local ease; none_taken = refl; piece = piece_nil seen }
-
--- one read
-unfoldable pub freely_read : (old new : Seen) (view : View) (place : Place) (part : List Made) → IsAtEase old.local → Adds old new part → new.local ≡ old.local → IsTrue (takes_none part) → part_events old part ≡ (record { event = Read place; found = held_at view place }) ∷ []
-    → IsPiece old part → ServesFreely old new (λ view. []) (λ view. place ∷ [])
-freely_read old new view place part ease adds same none happens piece =
-    let Of : List Happened → Type 0 = λ piece. Makes (Some old.actor) view [] (place ∷ []) [] piece in
-    record { view = view; part = part; adds = adds; made = subst Of (sym happens) (read_made (Some old.actor) view place); stays = subst (StaysAtEase old.local) (sym same) (stays_self old.local ease); none_taken = none; piece = piece }
 
 -- The tables.
 
@@ -181,18 +165,15 @@ reads_fixed old vcpu value reg ease none is all =
       value_is = is;
     }
 
-words_view : Seen → ℕ → View
-words_view seen found = record (nothing_known seen) { words = λ word. found }
-
 pub reads_propbaser : (old new : Seen) (vcpu value : ℕ) → IsAtEase old.local → ReadsPlain old new (PropbaserWord vcpu) value → ReadsRedist old new vcpu Propbaser value
-unfolding words_view freely_read
+unfolding stored_view freely_read
 reads_propbaser old new vcpu value ease reads =
-    record { serves = freely_read old new (words_view old value) (Word (PropbaserWord vcpu)) (reads.look ∷ []) ease reads.adds reads.local_is reads.none_taken reads.events reads.piece; value_is = refl }
+    record { serves = freely_read old new (stored_view old value) (Word (PropbaserWord vcpu)) (reads.look ∷ []) ease reads.adds reads.local_is reads.none_taken reads.events reads.piece; value_is = refl }
 
 pub reads_pendbaser : (old new : Seen) (vcpu held value : ℕ) → IsAtEase old.local → value ≡ pendbaser_read held → ReadsPlain old new (PendbaserWord vcpu) held → ReadsRedist old new vcpu Pendbaser value
-unfolding words_view freely_read
+unfolding stored_view freely_read
 reads_pendbaser old new vcpu held value ease is reads =
-    record { serves = freely_read old new (words_view old held) (Word (PendbaserWord vcpu)) (reads.look ∷ []) ease reads.adds reads.local_is reads.none_taken reads.events reads.piece; value_is = is }
+    record { serves = freely_read old new (stored_view old held) (Word (PendbaserWord vcpu)) (reads.look ∷ []) ease reads.adds reads.local_is reads.none_taken reads.events reads.piece; value_is = is }
 
 -- LPIs.
 
@@ -217,11 +198,6 @@ pub reads_typer : (old : Seen) (vcpu value : ℕ) → IsAtEase old.local → val
 reads_typer old vcpu value ease is = reads_fixed old vcpu value Typer ease refl is (λ view. refl)
 
 -- Writes.
-
--- a piece that is proper in every call
-pub serves_freely : (old new : Seen) (events : View → List Event) (places : View → List Place) (named : View → List Event) → ServesFreely old new events places → Serves old new events places named
-serves_freely old new events places named made =
-    record { view = made.view; part = made.part; adds = made.adds; made = made.made; stays = made.stays; none_taken = made.none_taken; piece = λ operation by. own_of_piece old operation made.part made.piece }
 
 write_by : (old new : Seen) (vcpu : ℕ) (reg its : Reg) (half : Half) (value : ℕ) → reg ≡ its → WritesRedist old new vcpu its half value → WritesRedist old new vcpu reg half value
 write_by old new vcpu reg its half value e writes = let Of : Reg → Type 0 = λ reg. WritesRedist old new vcpu reg half value in subst Of (sym e) writes

@@ -29,9 +29,9 @@ use Rattle.port_call.specs.Piece.{IsPiece, takes_none}
 use Rattle.port_call.specs.Rest.{IsAtEase, StaysAtEase}
 use Rattle.port_call.specs.Tell.{Tells}
 use Rattle.port_call.specs.Touch.{Touches}
-use Rattle.port_call.proofs.PieceLemmas.{seen_nil}
+use Rattle.port_call.proofs.PieceLemmas.{seen_nil, piece_nil}
 use Rattle.port_call.proofs.RestLemmas.{told_at_ease}
-use Rattle.pe_mem.specs.Call.{NamesAll, NamesBy, Serves, is_key_of}
+use Rattle.pe_mem.specs.Call.{NamesAll, NamesBy, Serves, ServesFreely, is_key_of}
 use Rattle.pe_mem.specs.Each.{number_answer, AccessesParts, TouchesEach}
 use Rattle.pe_mem.specs.Part.{part_answer}
 use Rattle.pe_mem.proofs.EachLemmas.{IsTouchOf, each_made, joined_below, own_nil, own_of_piece, own_of_named, stays_self, found_irq}
@@ -145,6 +145,25 @@ serves_read old new view place part events places named ease adds same none happ
       none_taken = none;
       piece = λ operation by. own_of_piece old operation part piece;
     }
+
+-- Pieces that are proper in every call.
+
+unfoldable pub serves_freely : (old new : Seen) (events : View → List Event) (places : View → List Place) (named : View → List Event) → ServesFreely old new events places → Serves old new events places named
+serves_freely old new events places named made =
+    record { view = made.view; part = made.part; adds = made.adds; made = made.made; stays = made.stays; none_taken = made.none_taken; piece = λ operation by. own_of_piece old operation made.part made.piece }
+
+-- no event
+unfoldable pub freely_nothing : (seen : Seen) → IsAtEase seen.local → ServesFreely seen seen (λ view. []) (λ view. [])
+unfolding nothing_known
+freely_nothing seen ease =
+    record { view = nothing_known seen; part = []; adds = record { new_is = sym (seen_nil seen) }; made = none_made (Some seen.actor) (nothing_known seen); stays = stays_self seen.local ease; none_taken = refl; piece = piece_nil seen }
+
+-- one read
+unfoldable pub freely_read : (old new : Seen) (view : View) (place : Place) (part : List Made) → IsAtEase old.local → Adds old new part → new.local ≡ old.local → IsTrue (takes_none part) → part_events old part ≡ (record { event = Read place; found = held_at view place }) ∷ []
+    → IsPiece old part → ServesFreely old new (λ view. []) (λ view. place ∷ [])
+freely_read old new view place part ease adds same none happens piece =
+    let Of : List Happened → Type 0 = λ piece. Makes (Some old.actor) view [] (place ∷ []) [] piece in
+    record { view = view; part = part; adds = adds; made = subst Of (sym happens) (read_made (Some old.actor) view place); stays = subst (StaysAtEase old.local) (sym same) (stays_self old.local ease); none_taken = none; piece = piece }
 
 -- Touches of numbers.
 

@@ -1,15 +1,15 @@
 -- EnableLPIs rises: the pending table, LPI by LPI.
-use Rattle.std.proofs.Common.{append-nil, add-one, zero, suc, ◌≡◌, ◌≢◌, ◌⊎◌, inl, inr, ℕ, ◌+◌, ◌*◌, ◌/◌, ◌%◌, ◌<◌, ◌≤◌, ◌==◌, ◌&&◌, ◌||◌, not, Bool, true, false, cond, if◌then◌else◌, nat_lt, nat_le, IsTrue, IfSome, List, [], ◌∷◌, ◌++◌, map, All, Option, Some, None, refl, sym, ap, subst, ◌∙◌, arith}
-use Rattle.std.specs.List.{range_with_len, filter_map, list_any, list_all}
+use Rattle.std.proofs.Common.{append-nil, add-one, zero, suc, ◌≡◌, ◌≢◌, ◌⊎◌, inl, inr, ℕ, ◌+◌, ◌*◌, ◌/◌, ◌%◌, ◌<◌, ◌≤◌, ◌==◌, ◌&&◌, ◌||◌, not, Bool, true, false, if◌then◌else◌, nat_lt, nat_le, IsTrue, IfSome, List, [], ◌∷◌, ◌++◌, All, Option, Some, None, refl, sym, ap, subst, ◌∙◌, arith}
+use Rattle.std.specs.List.{range_with_len, filter_map, list_any}
 use Rattle.std.specs.Option.{option_map_or, option_to_list}
 use Rattle.std.proofs.lemmas.List.Folds.{list_any-append}
-use Rattle.std.proofs.lemmas.Bool.{and_parts, eq-eqb, ne_eqb, ltb-true, leb-true, lt-ltb, le-leb, cases_eq}
+use Rattle.std.proofs.lemmas.Bool.{eq-eqb, ne_eqb, leb-true, lt-ltb, le-leb, cases_eq}
 use Rattle.std.proofs.lemmas.List.{append_assoc}
 use Rattle.std.proofs.lemmas.List.Elements.{All-cons, All-nil, All-append, filter-append}
 use Rattle.gic_base.specs.declared.interrupt.Key.{Key}
 use Rattle.gic_base.specs.declared.interrupt.Key.TheVariants.{Lpi}
 use Rattle.gic_base.specs.declared.shape.GuestShape.{GuestShape}
-use Rattle.gic_base.specs.Interrupt.{has_interrupt, is_same_key, interrupt_count}
+use Rattle.gic_base.specs.Interrupt.{has_interrupt, is_same_key}
 use Rattle.gic_base.proofs.KeyLemmas.{same_key, same_itself}
 use Rattle.gic_bits.specs.Bits.{has_bit}
 use Rattle.gic_lpi.specs.Tables.{pending_address, table_at}
@@ -31,8 +31,7 @@ use Rattle.gic_call.specs.Access.{is_table_zero, is_in_table, pended_at, enable_
 use Rattle.gic_call.specs.Trace.{Happened, IsLastRead, is_beside, named_of}
 use Rattle.gic_call.specs.View.{View}
 use Rattle.gic_call.proofs.RangeLemmas.{filter_map_more, filter_map_found, filter_map_none}
-use Rattle.gic_history.specs.Named.{before_enabling, names, named_by, key_in}
-use Rattle.port_core.specs.declared.local.Local.{Local}
+use Rattle.gic_history.specs.Named.{before_enabling, names, key_in}
 use Rattle.port_core.specs.declared.run.Made.{Made}
 use Rattle.port_core.specs.declared.step.CoreStep.{CoreStep}
 use Rattle.port_core.specs.declared.step.CoreStep.TheVariants.{Look, Raise, Touch as TouchStep, Want, Mark, Kick}
@@ -43,11 +42,10 @@ use Rattle.port_core.specs.Step.{word_of}
 use Rattle.port_core.specs.Port.{Seen, Adds, shape_of, seen_after, part_events}
 use Rattle.port_core.proofs.PlaceLemmas.{lines_hold}
 use Rattle.port_core.proofs.PortLemmas.{adds_join}
-use Rattle.core_proper.specs.Progress.{Progress, is_end_of}
-use Rattle.port_call.specs.About.{is_about, are_about, IsNaming, IsNamedPiece}
+use Rattle.core_proper.specs.Progress.{is_end_of}
+use Rattle.port_call.specs.About.{is_about, are_about, IsNamedPiece}
 use Rattle.port_call.specs.Memory.{view_by}
-use Rattle.port_call.specs.Piece.{IsIdle, IsGoodPiece, takes_none}
-use Rattle.port_call.specs.Plain.{ReadsPlain}
+use Rattle.port_call.specs.Piece.{takes_none}
 use Rattle.port_call.specs.Rest.{IsAtEase, StaysAtEase}
 use Rattle.port_call.specs.Touch.{Touches}
 use Rattle.port_call.proofs.PieceLemmas.{seen_nil}
@@ -60,7 +58,7 @@ use Rattle.its_exec.proofs.FrameLemmas.{Leaves, leaves, knows_on, all_steps, off
 use Rattle.its_exec.proofs.LookLemmas.{lpi_place, plain_leaves_plain, plain_known, word_held}
 use Rattle.pe_mem.specs.Call.{NamesBy, IsPieceOf, is_key_of}
 use Rattle.pe_mem.specs.Each.{touched_at}
-use Rattle.pe_mem.specs.Pending.{part_of_number, is_pended_in, pend, FetchesWord, HasWord, GetsWord, PendsIf, PendsWhere, PendsLpi, DoesBit, DoesNumber}
+use Rattle.pe_mem.specs.Pending.{part_of_number, is_pended_in, pend, FetchesWord, GetsWord, PendsIf, PendsWhere, DoesNumber}
 use Rattle.pe_mem.specs.declared.pending.Fetched.{Fetched}
 use Rattle.pe_mem.proofs.EachLemmas.{with_irq, found_irq, found_below, own_nil, own_joins, own_of_piece, key_early, stays_on, stays_self, ease_on}
 

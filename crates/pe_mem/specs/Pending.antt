@@ -1,6 +1,5 @@
 -- EnableLPIs rises: those LPIs become pending that are for the vCPU and have their bit in its pending table.
-use Rattle.std.specs.Prelude.{◌≡◌, ◌≢◌, ◌⊎◌, ℕ, ◌+◌, ◌&&◌, Bool, true, false, IsTrue, IfSome, List, [], ◌∷◌, Option, Some, None, if◌then◌else◌}
-use Rattle.std.specs.Option.{option_map_or}
+use Rattle.std.specs.Prelude.{◌≡◌, ◌≢◌, ◌⊎◌, ℕ, ◌+◌, Bool, true, false, IfSome, Option, Some, None}
 use Rattle.gic_base.specs.declared.interrupt.Key.TheVariants.{Lpi}
 use Rattle.gic_base.specs.declared.operation.Kind.TheVariants.{SetPending}
 use Rattle.gic_base.specs.declared.shape.GuestShape.{GuestShape}
@@ -12,7 +11,7 @@ use Rattle.gic_ram.specs.Access.{part_of, extracted}
 use Rattle.gic_word.specs.Record.{is_number}
 use Rattle.gic_call.specs.declared.touch.Touching.{Touching}
 use Rattle.gic_call.specs.declared.touch.Touching.TheVariants.{Register}
-use Rattle.port_core.specs.Port.{Seen, shape_of}
+use Rattle.port_core.specs.Port.{Seen}
 use Rattle.port_call.specs.Plain.{ReadsPlain}
 use Rattle.port_call.specs.Touch.{Touches}
 use Rattle.its_exec.specs.Parts.{LooksAtTarget}

@@ -1,8 +1,6 @@
 -- The step, the look at the table's address, and the table.
-use Rattle.std.proofs.Common.{◌≡◌, ◌<◌, false, true, sym, ap, subst, ◌∙◌, arith}
+use Rattle.std.proofs.Common.{◌≡◌, ◌<◌, sym, ap, subst, ◌∙◌, arith}
 use Rattle.gic_open.specs.declared.plain.PlainWord.TheVariants.{Pendbaser}
-use Rattle.gic_call.specs.Access.{is_table_zero}
-use Rattle.port_core.specs.Forms.{vcpu_of}
 use Rattle.port_core.specs.Port.{shape_of}
 use Rattle.its_exec.proofs.LookLemmas.{plain_known}
 use Rattle.pe_mem.proofs.EnableLemmas.{enables_again, enables_none, enables_table, ease_after, shape_after}

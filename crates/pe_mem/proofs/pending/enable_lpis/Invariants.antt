@@ -1,7 +1,6 @@
 -- The table so far.
-use Rattle.std.proofs.Common.{◌≡◌, false}
-use Rattle.gic_call.specs.Access.{is_table_zero}
-use Rattle.port_core.specs.Port.{Seen, shape_of}
+use Rattle.std.proofs.Common.{◌≡◌}
+use Rattle.port_core.specs.Port.{shape_of}
 use Rattle.pe_mem.proofs.TableLemmas.{TableSoFar}
 use Rattle.pe_mem.proofs.pending.enable_lpis.Given as goal
 

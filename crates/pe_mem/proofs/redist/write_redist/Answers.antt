@@ -1,5 +1,5 @@
 -- One register each.
-use Rattle.std.proofs.Common.{◌≡◌, true, false, sym, ap, ◌∙◌}
+use Rattle.std.proofs.Common.{false, sym, ap, ◌∙◌}
 use Rattle.gic_rmap.specs.Contents.{enable_lpis_after}
 use Rattle.port_core.specs.Port.{shape_of}
 use Rattle.pe_mem.proofs.RedistLemmas.{writes_ctlr, keeps_ctlr, writes_propbaser, writes_pendbaser, writes_fixed, low_enable}
