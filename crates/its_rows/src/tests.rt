@@ -1,18 +1,14 @@
 //! Commands as doublewords in a guest's memory, and what they leave.
-ghost use Rattle.std.specs.Prelude.{◌≡◌, ◌==◌, [], IsTrue};
-ghost use Rattle.std.specs.List.{list_all};
-ghost use Rattle.port_call.specs.Rest.{IsAtEase};
-ghost use Rattle.port_core.specs.Local.{owes_nothing};
 
 use gic_base::{GuestShape, Key, NoMemory};
-use gic_list::ListOf;
 use gic_open::{PlainWord, place_of_plain};
 use gic_word::target_in;
 use its_exec::{QueueEnd, look_at_queue, move_queue, run_commands, run_queue};
 use port_call::{give_turn, put_plain, take_turn};
-use port_core::{Cands, CoreStep, Local, Port, WordId};
+use port_core::{CoreStep, Port, WordId};
+use port_rest::{is_at_ease, one_guest};
 use port_seq::SeqPort;
-use scn_base::{GuestSpec, Mode, Scenario};
+use scn_base::{Mode, Scenario};
 use std::alloc::{AllocError, Global};
 use std::sync::Wait;
 use std::test::Fail;
@@ -90,35 +86,7 @@ type Outcome = (Result<QueueEnd, NoMemory>, u64, u64, LpiState);
 
 /// One guest that opens on.
 fn scenario(alloc: Global) -> Result<Scenario, AllocError> {
-    let mut guests = ListOf::new(alloc);
-    guests.push(GuestSpec {
-        shape: SHAPE,
-        on: true,
-        presets: ListOf::new(alloc),
-    })?;
-    Ok(Scenario {
-        pes: 2,
-        lrs: 4,
-        guests,
-        steps: ListOf::new(alloc),
-    })
-}
-
-/// No candidate.
-fn has_none(cands: &Cands) -> bool
-    ensures { IsTrue result → IsTrue (list_all (λ word. word == 0) cands.now.words) }
-{
-    *cands == Cands::none()
-}
-
-/// An actor owes nothing, and has nothing at an interface.
-fn is_at_ease(local: &Local) -> bool
-    ensures { IsTrue result → IsAtEase local.now }
-{
-    if local.owes.0 != 0 || local.marks.vcpus.0 != 0 || !local.at.as_slice().is_empty() {
-        return false;
-    }
-    has_none(&local.cands)
+    one_guest(alloc, SHAPE, true, &[])
 }
 
 /// Stores a register.

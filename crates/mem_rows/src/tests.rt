@@ -1,22 +1,20 @@
 //! Accesses of the frames and of the guest's memory, one after the other, and what they leave.
-ghost use Rattle.std.specs.Prelude.{◌≡◌, ◌==◌, [], IsTrue, IfSome};
-ghost use Rattle.std.specs.List.{list_all};
+ghost use Rattle.std.specs.Prelude.{◌≡◌, [], IsTrue, IfSome};
 ghost use Rattle.gic_ram.specs.Access.{is_size as is_size_of};
 ghost use Rattle.scn_base.specs.Good.{fits as fits_in};
-ghost use Rattle.core_proper.specs.Proper.{is_settled as is_settled_as};
 ghost use Rattle.pe_loop.specs.Stay.{IsUp};
 ghost use Rattle.pe_mem.specs.Call.{CanAccess};
 
 use gic_base::{GuestShape, Key, Kind};
 use gic_call::Touching;
-use gic_list::ListOf;
 use gic_word::target_in;
 use pe_loop::{enter, leave};
 use pe_mem::{Missed, dist_op, memory_op, redist_op, try_access};
 use port_call::{settle, touch};
-use port_core::{Cands, CoreStep, Local, Port, WordId};
+use port_core::{CoreStep, Port, WordId};
+use port_rest::{is_off, one_guest};
 use port_seq::SeqPort;
-use scn_base::{GuestSpec, Mode, Preset, PresetList, Scenario};
+use scn_base::{Mode, Preset, Scenario};
 use std::alloc::{AllocError, Global};
 use std::sync::Wait;
 use std::test::Fail;
@@ -65,52 +63,15 @@ const OPENING: State = (true, 0xA0, true, false, None, Some(0));
 
 /// A guest with interrupt 40, of which GICD_CTLR opens so.
 fn scenario(alloc: Global, on: bool) -> Result<Scenario, AllocError> {
-    let mut presets: PresetList = ListOf::new(alloc);
-    presets.push(Preset {
+    let presets = [Preset {
         id: 40,
         prio: 0xA0,
         edge: true,
         group: 1,
         to: Some(0),
         vcpu: None,
-    })?;
-    let mut guests = ListOf::new(alloc);
-    guests.push(GuestSpec {
-        shape: SHAPE,
-        on,
-        presets,
-    })?;
-    Ok(Scenario {
-        pes: 1,
-        lrs: 4,
-        guests,
-        steps: ListOf::new(alloc),
-    })
-}
-
-/// No candidate.
-fn has_none(cands: &Cands) -> bool
-    ensures { IsTrue result → IsTrue (list_all (λ word. word == 0) cands.now.words) }
-{
-    *cands == Cands::none()
-}
-
-/// An actor owes nothing, and has neither the ITS nor the mark of GICD_CTLR.
-fn is_settled(local: &Local) -> bool
-    ensures { IsTrue result → IsTrue (is_settled_as local.now) }
-{
-    if local.owes.0 != 0 || local.marks.vcpus.0 != 0 || local.turn || local.ctlr {
-        return false;
-    }
-    has_none(&local.cands)
-}
-
-/// Nothing is at the interface of an actor, which owes nothing.
-fn is_off(local: &Local) -> bool
-    ensures settled { IsTrue result → IsTrue (is_settled_as local.now) }
-    ensures empty { IsTrue result → local.now.at ≡ [] }
-{
-    is_settled(local) && local.at.as_slice().is_empty()
+    }];
+    one_guest(alloc, SHAPE, on, &presets)
 }
 
 /// The actor is a vCPU that can make an access.

@@ -1,20 +1,19 @@
 //! What stands in the list registers after an entry.
-ghost use Rattle.std.specs.Prelude.{◌≡◌, ◌==◌, IsTrue, IfSome, []};
-ghost use Rattle.std.specs.List.{list_all};
+ghost use Rattle.std.specs.Prelude.{◌≡◌, IsTrue, IfSome, []};
 ghost use Rattle.gic_base.specs.declared.interrupt.Key.TheVariants.{Spi};
 ghost use Rattle.gic_base.specs.Interrupt.{has_interrupt};
 ghost use Rattle.port_core.specs.Port.{shape_of};
-ghost use Rattle.core_proper.specs.Proper.{is_settled as is_settled_as};
+ghost use Rattle.core_proper.specs.Proper.{is_settled};
 ghost use Rattle.pe_loop.specs.Stay.{IsUp};
 
 use gic_base::{GuestShape, Key, Kind};
 use gic_call::Touching;
-use gic_list::ListOf;
 use pe_loop::{enter, leave};
 use port_call::settle;
-use port_core::{Cands, CoreStep, Local, Port, WordId};
+use port_core::{CoreStep, Port, WordId};
+use port_rest::{is_off, one_guest};
 use port_seq::SeqPort;
-use scn_base::{GuestSpec, Mode, Preset, PresetList, Scenario};
+use scn_base::{Mode, Preset, Scenario};
 use std::alloc::{AllocError, Global};
 use std::test::Fail;
 use vcpu_state::{Loaded, Shelved};
@@ -60,54 +59,23 @@ fn preset(id: u32, prio: u8, edge: bool) -> Preset {
 
 /// A guest with the interrupts 40, 41 and 42, of which 42 comes first.
 fn scenario(alloc: Global, edge: bool) -> Result<Scenario, AllocError> {
-    let mut presets: PresetList = ListOf::new(alloc);
-    presets.push(preset(40, 0xA0, edge))?;
-    presets.push(preset(41, 0xA0, true))?;
-    presets.push(preset(42, 0x20, true))?;
-    let mut guests = ListOf::new(alloc);
-    guests.push(GuestSpec {
-        shape: SHAPE,
-        on: true,
-        presets,
-    })?;
-    Ok(Scenario {
-        pes: 1,
-        lrs: 4,
-        guests,
-        steps: ListOf::new(alloc),
-    })
-}
-
-/// No candidate.
-fn has_none(cands: &Cands) -> bool
-    ensures { IsTrue result → IsTrue (list_all (λ word. word == 0) cands.now.words) }
-{
-    *cands == Cands::none()
-}
-
-/// An actor owes nothing, and has neither the ITS nor the mark of GICD_CTLR.
-fn is_settled(local: &Local) -> bool
-    ensures { IsTrue result → IsTrue (is_settled_as local.now) }
-{
-    if local.owes.0 != 0 || local.marks.vcpus.0 != 0 || local.turn || local.ctlr {
-        return false;
-    }
-    has_none(&local.cands)
-}
-
-/// Nothing is at the interface of vCPU 0, which owes nothing.
-fn is_off(local: &Local) -> bool
-    ensures settled { IsTrue result → IsTrue (is_settled_as local.now) }
-    ensures empty { IsTrue result → local.now.at ≡ [] }
-{
-    is_settled(local) && local.at.as_slice().is_empty()
+    one_guest(
+        alloc,
+        SHAPE,
+        true,
+        &[
+            preset(40, 0xA0, edge),
+            preset(41, 0xA0, true),
+            preset(42, 0x20, true),
+        ],
+    )
 }
 
 /// A write of ISACTIVER makes an SPI active.
 fn activate<P: Port>(port: &mut P, id: u32)
     requires there { IsTrue (has_interrupt (shape_of (P.seen port.old)) (Spi id)) }
     requires empty { (P.seen port.old).local.at ≡ [] }
-    requires settled { IsTrue (is_settled_as (P.seen port.old).local) }
+    requires settled { IsTrue (is_settled (P.seen port.old).local) }
     ensures { (P.seen port.new).number ≡ (P.seen port.old).number }
 {
     let key = Key::Spi(id);

@@ -1,14 +1,12 @@
 //! Messages, wires and messages to the ITS by hand, in the second of two guests.
-ghost use Rattle.std.specs.Prelude.{◌==◌, IsTrue};
-ghost use Rattle.std.specs.List.{list_all};
-ghost use Rattle.core_proper.specs.Proper.{is_settled as is_settled_as};
 ghost use Rattle.port_seq.specs.Told.{IsOpening};
 ghost use Rattle.port_seq.specs.Ports.{told_all};
 
 use dev_port::{AlreadySo, Wire, message, msi, set_wire};
 use gic_base::{Actor, GuestShape, Key};
 use gic_list::ListOf;
-use port_core::{Cands, CoreStep, Local, Port, WordId};
+use port_core::{CoreStep, Port, WordId};
+use port_rest::is_settled;
 use port_seq::SeqPort;
 use scn_base::{GuestSpec, Mode, Preset, PresetList, Scenario};
 use std::alloc::{AllocError, Global};
@@ -76,23 +74,6 @@ fn scenario(alloc: Global) -> Result<Scenario, AllocError> {
         guests,
         steps: ListOf::new(alloc),
     })
-}
-
-/// No candidate.
-fn has_none(cands: &Cands) -> bool
-    ensures { IsTrue result → IsTrue (list_all (λ word. word == 0) cands.now.words) }
-{
-    *cands == Cands::none()
-}
-
-/// An actor owes nothing, and has neither the ITS nor the mark of GICD_CTLR.
-fn is_settled(local: &Local) -> bool
-    ensures { IsTrue result → IsTrue (is_settled_as local.now) }
-{
-    if local.owes.0 != 0 || local.marks.vcpus.0 != 0 || local.turn || local.ctlr {
-        return false;
-    }
-    has_none(&local.cands)
 }
 
 /// A word of the guest.
