@@ -1,31 +1,29 @@
 //! The ITS's registers written one after the other, with commands as doublewords in a guest's memory, and what they leave.
-ghost use Rattle.std.specs.Prelude.{◌≡◌, ◌==◌, [], IsTrue, Some, true};
-ghost use Rattle.std.specs.List.{list_all};
+ghost use Rattle.std.specs.Prelude.{◌≡◌, [], IsTrue, Some, true};
 ghost use Rattle.gic_imap.specs.Map.{decoded};
 ghost use Rattle.gic_ram.specs.Access.{is_size as is_size_of};
 ghost use Rattle.scn_base.specs.Good.{fits as fits_in};
 ghost use Rattle.gic_call.specs.Call.{takes_turn};
-ghost use Rattle.core_proper.specs.Proper.{is_settled as is_settled_as};
 ghost use Rattle.port_core.specs.Port.{shape_of};
 ghost use Rattle.pe_mem.specs.Call.{CanAccess};
 
 use gic_base::{GuestShape, Key, NoMemory};
 use gic_imap::{Reg, RegRef, decode};
-use gic_list::ListOf;
 use gic_open::{PlainWord, place_of_plain};
 use gic_word::target_in;
 use pe_its::its_write;
 use pe_mem::memory_op;
 use port_call::{put_plain, read_plain};
-use port_core::{Cands, CoreStep, Local, Port, WordId};
+use port_core::{CoreStep, Port, WordId};
+use port_rest::{is_off, one_guest};
 use port_seq::SeqPort;
-use scn_base::{GuestSpec, Mode, Scenario};
+use scn_base::{Mode, Scenario};
 use std::alloc::{AllocError, Global};
 use std::sync::Wait;
 use std::test::Fail;
 
 /// Two vCPUs, 16 LPIs, and 64 KiB of memory.
-const SHAPE: GuestShape = GuestShape {
+pub(crate) const SHAPE: GuestShape = GuestShape {
     vcpus: 2,
     spis: 32,
     espis: 0,
@@ -49,17 +47,17 @@ enum Write {
 
 /// GITS_CBASER, GITS_CWRITER and GITS_BASER0 as they are stored, the queue's word as GITS_CREADR has it, and the number of the
 /// fault: 0 where the queue is not stalled.
-type Registers = (u64, u64, u64, u64, u64);
+pub(crate) type Registers = (u64, u64, u64, u64, u64);
 
 /// Of an LPI whether it is enabled, its priority, whether a cause by software is latched, and its vCPU.
-type LpiState = (bool, u8, bool, Option<u32>);
+pub(crate) type LpiState = (bool, u8, bool, Option<u32>);
 
 /// No LPI, and one that is mapped, with a cause or without.
-const NOTHING: LpiState = (false, 0, false, None);
+pub(crate) const NOTHING: LpiState = (false, 0, false, None);
 
-const MAPPED: LpiState = (true, 0xA0, false, Some(1));
+pub(crate) const MAPPED: LpiState = (true, 0xA0, false, Some(1));
 
-const MOVED: LpiState = (true, 0xA0, true, Some(0));
+pub(crate) const MOVED: LpiState = (true, 0xA0, true, Some(0));
 
 /// Memory: the configuration byte of the LPI, and MAPD of device 8 with 5 bits, MAPC of ICID 1 to vCPU 1, MAPTI of event 3 to the
 /// LPI in ICID 1, and SYNC of vCPU 1.
@@ -86,64 +84,31 @@ const START: [Write; 2] = [
 
 const CBASER: u64 = 0x8000_0000_0000_1000;
 
-/// One guest that opens on.
-fn scenario(alloc: Global) -> Result<Scenario, AllocError> {
-    let mut guests = ListOf::new(alloc);
-    guests.push(GuestSpec {
-        shape: SHAPE,
-        on: true,
-        presets: ListOf::new(alloc),
-    })?;
-    Ok(Scenario {
-        pes: 2,
-        lrs: 4,
-        guests,
-        steps: ListOf::new(alloc),
-    })
-}
-
-/// No candidate.
-fn has_none(cands: &Cands) -> bool
-    ensures { IsTrue result → IsTrue (list_all (λ word. word == 0) cands.now.words) }
-{
-    *cands == Cands::none()
-}
-
-/// An actor owes nothing, and has neither the ITS nor the mark of GICD_CTLR.
-fn is_settled(local: &Local) -> bool
-    ensures { IsTrue result → IsTrue (is_settled_as local.now) }
-{
-    if local.owes.0 != 0 || local.marks.vcpus.0 != 0 || local.turn || local.ctlr {
-        return false;
-    }
-    has_none(&local.cands)
-}
-
-/// Nothing is at the interface of an actor, which owes nothing.
-fn is_off(local: &Local) -> bool
-    ensures settled { IsTrue result → IsTrue (is_settled_as local.now) }
-    ensures empty { IsTrue result → local.now.at ≡ [] }
-{
-    is_settled(local) && local.at.as_slice().is_empty()
+/// One guest of a shape, which opens on.
+pub(crate) fn scenario(alloc: Global, shape: GuestShape) -> Result<Scenario, AllocError> {
+    one_guest(alloc, shape, true, &[])
 }
 
 /// The actor is a vCPU that can make an access.
-fn can_access<P: Port>(port: &P) -> bool
+pub(crate) fn can_access<P: Port>(port: &P) -> bool
     ensures { IsTrue result → CanAccess (P.seen port.now) }
 {
     port.actor() < port.shape().vcpus && is_off(port.local_ref())
 }
 
-/// A value fits a write of so many bytes to a register.
-fn is_fit(size: u32, value: u64) -> bool
+/// A size that an access may have, and a value that fits it.
+pub(crate) fn is_fit(size: u32, write: Option<u64>) -> bool
     ensures size { IsTrue result → IsTrue (is_size_of size) }
-    ensures fits { IsTrue result → IsTrue (fits_in size (Some value)) }
+    ensures fits { IsTrue result → IsTrue (fits_in size write) }
 {
-    match size {
-        4 => value < 0x1_0000_0000,
-        8 => true,
-        _ => false,
-    }
+    let limit = match size {
+        1 => 0x100,
+        2 => 0x1_0000,
+        4 => 0x1_0000_0000,
+        8 => return true,
+        _ => return false,
+    };
+    write.is_none_or(|value| value < limit)
 }
 
 /// A write of the register at an offset takes the ITS.
@@ -174,7 +139,7 @@ fn make<P: Port, R: Wait>(rt: &R, port: &mut P, write: Write) -> Option<Result<(
         }
         Write::Its(offset, size, value) => {
             let shape = port.shape();
-            if !is_fit(size, value) || !is_taking(&shape, offset, size, value) {
+            if !is_fit(size, Some(value)) || !is_taking(&shape, offset, size, value) {
                 return None;
             }
             Some(its_write(rt, port, offset, size, value))
@@ -193,7 +158,7 @@ fn make_all<P: Port, R: Wait>(rt: &R, port: &mut P, writes: &[Write]) -> bool {
 }
 
 /// The LPI. None where the guest does not have it.
-fn lpi_state<P: Port>(port: &mut P) -> Option<LpiState> {
+pub(crate) fn lpi_state<P: Port>(port: &mut P) -> Option<LpiState> {
     if port.shape() != SHAPE {
         return None;
     }
@@ -210,7 +175,7 @@ fn lpi_state<P: Port>(port: &mut P) -> Option<LpiState> {
 }
 
 /// The registers. None where the guest has another shape.
-fn registers<P: Port>(port: &mut P) -> Option<Registers> {
+pub(crate) fn registers<P: Port>(port: &mut P) -> Option<Registers> {
     if port.shape() != SHAPE {
         return None;
     }
@@ -258,7 +223,7 @@ fn outcome_of<R: Wait>(
     alloc: Global,
     writes: &[Write],
 ) -> Result<Option<(Registers, LpiState)>, AllocError> {
-    let scenario = scenario(alloc)?;
+    let scenario = scenario(alloc, SHAPE)?;
     if !scenario.is_good(alloc, Mode::Threads)? {
         return Ok(None);
     }

@@ -1,5 +1,5 @@
 -- Stores that go by what the word holds.
-use Rattle.std.proofs.Common.{◌≡◌, ℕ, ◌==◌, Bool, true, false, IsTrue, List, [], ◌∷◌, Option, Some, None, refl, sym, ap, subst, ◌∙◌}
+use Rattle.std.proofs.Common.{◌≡◌, ℕ, ◌==◌, true, false, IsTrue, Option, Some, None, ap, subst, ◌∙◌}
 use Rattle.std.proofs.lemmas.Bool.{eqb-true}
 use Rattle.gic_open.specs.declared.plain.PlainWord.{PlainWord}
 use Rattle.gic_open.specs.Plain.{has_plain, place_of_plain, plain_at}

@@ -3,3 +3,5 @@ pub mod StoredLemmas
 pub mod MakesLemmas
 pub mod RegisterLemmas
 pub mod WriteLemmas
+pub mod ReadLemmas
+pub mod AccessLemmas

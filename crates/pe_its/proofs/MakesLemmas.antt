@@ -1,6 +1,5 @@
 -- Events that make what a call asks for.
-use Rattle.std.proofs.Common.{◌≡◌, ℕ, not, Bool, true, false, IsTrue, List, [], ◌∷◌, ◌++◌, map, All, Option, Some, None, refl, sym, ap, subst, ◌∙◌}
-use Rattle.std.specs.List.{list_all}
+use Rattle.std.proofs.Common.{◌≡◌, ℕ, not, Bool, true, IsTrue, List, [], ◌∷◌, ◌++◌, map, All, Option, refl, sym, ap, subst, ◌∙◌}
 use Rattle.std.proofs.lemmas.List.{map-append}
 use Rattle.std.proofs.lemmas.List.Elements.{All-cons, All-nil, All-head, All-tail, All-append, filter-append}
 use Rattle.gic_open.specs.declared.plain.PlainWord.{PlainWord}
@@ -17,12 +16,11 @@ use Rattle.gic_call.specs.View.{View}
 use Rattle.port_core.specs.Port.{Seen, part_events}
 use Rattle.port_call.specs.Plain.{is_event_word}
 use Rattle.port_call.specs.Store.{Stores, MissesStore, AreStoreEvents, AreMissEvents}
-use Rattle.pe_mem.proofs.ServeLemmas.{none_made, one_made}
+use Rattle.pe_mem.proofs.ServeLemmas.{one_made}
 use Rattle.pe_mem.proofs.UpdateLemmas.{put_made, reads_beside as store_reads_beside}
 use Rattle.its_exec.specs.declared.known.KnownQueue.{KnownQueue}
-use Rattle.its_exec.specs.Known.{queue_reads, is_read}
+use Rattle.its_exec.specs.Known.{queue_reads}
 use Rattle.its_exec.specs.Queue.{MovesQueue}
-use Rattle.its_exec.proofs.PartLemmas.{reads_beside}
 use Rattle.pe_its.specs.Register.{IsUnread, IsLooked, is_queue_place, queue_found}
 
 abbrev Hands : View → Happened → Type 0

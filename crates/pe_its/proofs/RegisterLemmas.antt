@@ -1,5 +1,5 @@
 -- Writes of the registers of the ITS, before any command.
-use Rattle.std.proofs.Common.{◌≡◌, ◌≢◌, ℕ, ◌+◌, ◌*◌, ◌/◌, ◌%◌, ◌^◌, ◌==◌, ◌&&◌, Bool, true, false, nat_lt, IsTrue, List, [], ◌∷◌, ◌++◌, All, Option, Some, None, if◌then◌else◌, refl, sym, ap, subst, ◌∙◌, arith}
+use Rattle.std.proofs.Common.{◌≡◌, ◌≢◌, ℕ, ◌/◌, ◌%◌, ◌^◌, ◌==◌, ◌&&◌, Bool, true, false, nat_lt, IsTrue, List, [], ◌∷◌, ◌++◌, All, Option, Some, None, if◌then◌else◌, refl, sym, ap, subst, ◌∙◌, arith}
 use Rattle.std.proofs.lemmas.Bool.{eq-eqb, ne_eqb}
 use Rattle.std.proofs.lemmas.List.Elements.{All-cons, All-nil}
 use Rattle.gic_base.specs.declared.shape.GuestShape.{GuestShape}
@@ -9,10 +9,9 @@ use Rattle.gic_frame.specs.Half.{half_written}
 use Rattle.gic_imap.specs.Contents.{enabled_in, cbaser_bits, baser_bits, queue_offset, queue_bytes, retries}
 use Rattle.gic_imap.specs.declared.contents.Table.{Table}
 use Rattle.gic_imap.specs.declared.contents.Table.TheVariants.{Devices, Collections}
-use Rattle.gic_imap.specs.declared.map.Reg.{Reg}
 use Rattle.gic_imap.specs.declared.map.Reg.TheVariants.{Ctlr as CtlrReg, Cbaser as CbaserReg, Cwriter as CwriterReg}
 use Rattle.gic_open.specs.declared.plain.PlainWord.{PlainWord}
-use Rattle.gic_open.specs.declared.plain.PlainWord.TheVariants.{ItsCtlr, Cbaser, Cwriter, Baser0, Baser1}
+use Rattle.gic_open.specs.declared.plain.PlainWord.TheVariants.{ItsCtlr, Cbaser, Cwriter}
 use Rattle.gic_open.specs.Plain.{place_of_plain}
 use Rattle.gic_call.specs.declared.event.Event.{Event}
 use Rattle.gic_call.specs.declared.event.Event.TheVariants.{Read, Put, Queue as QueueEvent}
@@ -40,7 +39,7 @@ use Rattle.its_tab.specs.Maps.{Maps}
 use Rattle.its_exec.specs.Queue.{MovesQueue, IsReady, HasIts}
 use Rattle.its_exec.proofs.LookLemmas.{word_held, offset_held, stalled_held}
 use Rattle.pe_its.specs.declared.change.Change.TheVariants.{Cbaser as CbaserChange, Baser as BaserChange, Cwriter as CwriterChange}
-use Rattle.pe_its.specs.Change.{changed_by, offset_stored, ChangesWord, StoresChanged, KeepsWord}
+use Rattle.pe_its.specs.Change.{changed_by, ChangesWord, StoresChanged, KeepsWord}
 use Rattle.pe_its.specs.Register.{IsReadyNow, IsLooked, IsUnread, WritesRegister, Retries, RetriesBy, retried, baser_reg, baser_word}
 use Rattle.pe_its.proofs.MakesLemmas.{makes_join, stored_made, stored_unread, missed_made, missed_unread, moved_made, moved_unread, unread_join}
 use Rattle.pe_its.proofs.StoredLemmas.{control_knows, cwriter_knows, stored_maps, stored_has, missed_has, has_then, ready_has, stored_ready}

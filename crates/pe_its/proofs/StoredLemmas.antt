@@ -1,5 +1,5 @@
 -- What the actor that has the ITS knows after it stored a register.
-use Rattle.std.proofs.Common.{◌≡◌, ◌≢◌, ℕ, ◌+◌, ◌==◌, ◌&&◌, not, Bool, true, false, IsTrue, List, [], ◌∷◌, ◌++◌, Option, Some, None, is_none, refl, sym, ap, subst, ◌∙◌, arith}
+use Rattle.std.proofs.Common.{◌≡◌, ℕ, ◌==◌, true, IsTrue, List, [], ◌∷◌, ◌++◌, Some, refl, sym, ap, subst, ◌∙◌, arith}
 use Rattle.std.specs.List.{list_all}
 use Rattle.std.proofs.lemmas.Bool.{and_parts, eq-eqb}
 use Rattle.std.proofs.lemmas.List.{append_assoc}
@@ -16,13 +16,11 @@ use Rattle.its_tab.specs.Maps.{Maps}
 use Rattle.port_core.specs.declared.run.Made.{Made}
 use Rattle.port_core.specs.declared.step.CoreStep.{CoreStep}
 use Rattle.port_core.specs.declared.step.CoreStep.TheVariants.{RamLook, RamPut}
-use Rattle.port_core.specs.declared.word_id.WordId.{WordId}
 use Rattle.port_core.specs.declared.word_id.WordId.TheVariants.{Irq, Plain}
 use Rattle.port_core.specs.Known.{is_on, known, known_maps, since_turn}
 use Rattle.port_core.specs.Place.{place_of_word}
 use Rattle.port_core.specs.Port.{Seen, Adds, shape_of}
 use Rattle.port_core.specs.Step.{word_of}
-use Rattle.port_call.specs.Piece.{takes_none}
 use Rattle.port_call.specs.Rest.{IsAtEase}
 use Rattle.port_call.specs.Store.{Stores, MissesStore, is_store_step, is_store_miss, stores_not}
 use Rattle.port_call.proofs.KnownLemmas.{since_turn_on, are_endless, ends_none, maps_kept}

@@ -1,5 +1,5 @@
 -- A write of a register that takes the ITS: what the actor makes while it has the ITS, and the whole call.
-use Rattle.std.proofs.Common.{◌≡◌, ℕ, zero, suc, ◌+◌, ◌&&◌, ◌||◌, ◌==◌, not, Bool, true, false, IsTrue, IfSome, List, [], ◌∷◌, ◌++◌, map, All, slice_index_or, if◌then◌else◌, Option, Some, None, Result, Ok, Err, IfOk, OnErr, is_none, is_some, find, cond, append-nil, refl, sym, ap, subst, ◌∙◌, arith}
+use Rattle.std.proofs.Common.{◌≡◌, ℕ, zero, suc, ◌+◌, ◌&&◌, ◌||◌, Bool, true, false, IsTrue, IfSome, List, [], ◌∷◌, ◌++◌, slice_index_or, if◌then◌else◌, Option, Some, None, Result, Ok, Err, IfOk, OnErr, is_none, is_some, find, cond, append-nil, refl, sym, ap, subst, ◌∙◌, arith}
 use Rattle.std.specs.List.{list_all, filter_map, cons_option}
 use Rattle.std.specs.Option.{option_and_then}
 use Rattle.std.proofs.lemmas.Bool.{and_parts, eqb-true}
@@ -25,7 +25,6 @@ use Rattle.gic_call.specs.declared.event.Found.TheVariants.{Nothing}
 use Rattle.gic_call.specs.declared.event.Place.{Place}
 use Rattle.gic_call.specs.Access.{its_written, takes_its, starts_commands as register_starts}
 use Rattle.gic_call.specs.Call.{takes_turn, its_events, its_starts}
-use Rattle.gic_call.specs.Command.{takes_command}
 use Rattle.gic_call.specs.Trace.{Happened, Beside, Makes, IsLastRead, HaveSameIts, AreStarted, held_at, IsItsCall, IsItsWrite as IsItsWriteCall, IsCall, its_written_by, its_write_places, its_places}
 use Rattle.gic_call.specs.View.{View}
 use Rattle.its_tab.specs.After.{IsValid}
@@ -36,33 +35,30 @@ use Rattle.port_core.specs.declared.word_id.WordId.TheVariants.{Irq}
 use Rattle.port_core.specs.Known.{is_on, known_maps, no_maps, since_command, ends_command}
 use Rattle.port_core.specs.Port.{Seen, IsPort, Adds, shape_of, seen_after, part_events}
 use Rattle.port_core.proofs.PortLemmas.{adds_join}
-use Rattle.core_proper.specs.Called.{MakesCall, vcpu_of_actor, maps_taken}
+use Rattle.core_proper.specs.Called.{vcpu_of_actor, maps_taken}
 use Rattle.core_proper.specs.Progress.{Progress}
 use Rattle.port_call.specs.Memory.{view_by}
-use Rattle.port_call.specs.Piece.{IsIdle, IsGoodPiece, IsPiece, StaysSo}
+use Rattle.port_call.specs.Piece.{IsIdle, IsGoodPiece, IsPiece}
 use Rattle.port_call.specs.Rest.{IsAtEase, StaysAtEase}
 use Rattle.port_call.specs.Turn.{is_miss, is_turn_step, TakesTurn, GivesTurn}
 use Rattle.port_call.proofs.KnownLemmas.{maps_handed}
 use Rattle.port_call.proofs.PieceLemmas.{seen_nil, piece_nil}
 use Rattle.port_call.proofs.RestLemmas.{owes_none}
 use Rattle.port_call.proofs.TurnLemmas.{events_then, reads_beside, not_taken}
-use Rattle.its_exec.specs.declared.known.KnownQueue.{KnownQueue}
-use Rattle.its_exec.specs.declared.queue.QueueEnd.{QueueEnd}
 use Rattle.its_exec.specs.Command.{IsItsWrite}
-use Rattle.its_exec.specs.Known.{AgreeWith, LooksAtQueue, first_step, queue_reads}
+use Rattle.its_exec.specs.Known.{AgreeWith, first_step, queue_reads}
 use Rattle.its_exec.specs.Plan.{IsFresh}
-use Rattle.its_exec.specs.Queue.{Taken, AreTaken, IsOverWith, WantsMemory, HasIts, last_fault}
-use Rattle.its_exec.specs.Run.{AgreeAll, IsRun, AreListed}
+use Rattle.its_exec.specs.Queue.{Taken, AreTaken, HasIts, last_fault}
+use Rattle.its_exec.specs.Run.{AgreeAll}
 use Rattle.its_exec.proofs.CommandLemmas.{write_stays}
 use Rattle.its_exec.proofs.FrameLemmas.{maps_on}
 use Rattle.its_exec.proofs.LookLemmas.{takes_by}
 use Rattle.its_exec.proofs.PartLemmas.{good_then}
 use Rattle.its_exec.proofs.RunLemmas.{taken_are_run, all_after, told_end}
 use Rattle.pe_mem.specs.Call.{CanAccess, MakesAccess, StopsAccess, IsPieceOf, access_of}
-use Rattle.pe_mem.proofs.CallLemmas.{can_ease, can_free, can_turn, can_after, proper_of}
+use Rattle.pe_mem.proofs.CallLemmas.{can_ease, can_turn, can_after, proper_of}
 use Rattle.pe_mem.proofs.ServeLemmas.{one_made, none_made}
-use Rattle.pe_its.specs.Register.{WritesRegister}
-use Rattle.pe_its.specs.Write.{BeginsWrite, RunsAll, RunsIf, ServesWrite, StopsWrite}
+use Rattle.pe_its.specs.Write.{BeginsWrite, RunsAll, RunsIf, ServesWrite, StopsWrite, StopsInTurn}
 use Rattle.pe_its.proofs.MakesLemmas.{makes_join, makes_reads, makes_with, looks_then}
 
 -- The vCPUs that the LPIs are for, as the commands found them.
@@ -320,6 +316,21 @@ stops_access old a b c d new offset size value reg half is_new can takes b_is st
     let inside = inside_home a b c d b_is d_is takes.tables (inside_stops b c reg half value stops) in
     let all = round old a d new offset size value is_new can takes inside (subst (λ seen. IsAtEase seen.local) (sym d_is) ease) gives in
     record { part = (takes.misses ++ takes.last ∷ []) ++ (inside.part ++ gives.last ∷ []); adds = all.adds; piece = all.piece; stays = all.stays; tables = all.tables; after = all.after }
+
+pub stops_in_turn : (old a b c d new : Seen) (offset size value : ℕ) (reg : Reg) (half : Half) → decoded offset size ≡ Plain reg half → TakesTurn old a → b ≡ record a { taken = true } → StopsWrite b c reg half value → d ≡ record c { taken = false } → GivesTurn d new → StopsInTurn old new offset size (Some value)
+stops_in_turn old a b c d new offset size value reg half is takes b_is stops d_is gives =
+    record {
+      value = value;
+      write_is = refl;
+      reg = reg;
+      half = half;
+      register_is = is;
+      start = a;
+      takes = takes;
+      last = c;
+      stops = subst (λ b. StopsWrite b c reg half value) b_is stops;
+      gives = subst (λ d. GivesTurn d new) d_is gives;
+    }
 
 -- The call.
 

@@ -1,6 +1,5 @@
 -- An actor stores the plain word of a register of the ITS, changed from what it found, unless the write is ignored for that.
 use Rattle.std.specs.Prelude.{◌≡◌, ℕ, ◌<◌, nat_lt, Option, Some, None, Result, Ok, Err, if◌then◌else◌}
-use Rattle.gic_frame.specs.declared.bank.Half.{Half}
 use Rattle.gic_frame.specs.Half.{half_limit, half_written}
 use Rattle.gic_imap.specs.Contents.{cbaser_bits, baser_bits, queue_offset, queue_bytes}
 use Rattle.gic_open.specs.declared.plain.PlainWord.{PlainWord}

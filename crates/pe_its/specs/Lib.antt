@@ -1,3 +1,4 @@
 pub mod Change
+pub mod Read
 pub mod Register
 pub mod Write

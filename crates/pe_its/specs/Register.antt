@@ -4,7 +4,6 @@ use Rattle.gic_frame.specs.declared.bank.Half.{Half}
 use Rattle.gic_imap.specs.declared.map.Reg.{Reg}
 use Rattle.gic_imap.specs.Contents.{retries}
 use Rattle.gic_imap.specs.declared.contents.Table.{Table}
-use Rattle.gic_imap.specs.Contents.{retries}
 use Rattle.gic_imap.specs.declared.contents.Table.TheVariants.{Devices, Collections}
 use Rattle.gic_imap.specs.declared.map.Reg.TheVariants.{Baser0 as Baser0Reg, Baser1 as Baser1Reg}
 use Rattle.gic_open.specs.declared.plain.PlainWord.{PlainWord}

@@ -1,10 +1,13 @@
 -- The actor that has the ITS serves a write of a register: the register, and the commands that this starts.
-use Rattle.std.specs.Prelude.{◌≡◌, ℕ, Bool, true, false}
+use Rattle.std.specs.Prelude.{◌≡◌, ℕ, Bool, true, false, Option, Some}
 use Rattle.gic_base.specs.declared.shape.GuestShape.{GuestShape}
 use Rattle.gic_frame.specs.declared.bank.Half.{Half}
 use Rattle.gic_imap.specs.declared.map.Reg.{Reg}
+use Rattle.gic_imap.specs.declared.map.RegRef.TheVariants.{Plain}
+use Rattle.gic_imap.specs.Map.{decoded}
 use Rattle.its_tab.specs.Maps.{Maps}
 use Rattle.port_core.specs.Port.{Seen}
+use Rattle.port_call.specs.Turn.{TakesTurn, GivesTurn}
 use Rattle.its_exec.specs.declared.known.KnownQueue.{KnownQueue}
 use Rattle.its_exec.specs.declared.queue.QueueEnd.{QueueEnd}
 use Rattle.its_exec.specs.Known.{LooksAtQueue}
@@ -43,3 +46,16 @@ pub record StopsWrite (old new : Seen) (reg : Reg) (half : Half) (value : ℕ) :
   pub shape : GuestShape
   pub tables : Maps
   pub wants : WantsMemory mid new shape tables
+
+-- the whole of it: a vCPU took the ITS and its tables, wrote a register, took commands up to one that memory was refused for, and gave the ITS back
+pub record StopsInTurn (old new : Seen) (offset size : ℕ) (write : Option ℕ) : Type 0 where
+  pub value : ℕ
+  pub write_is : write ≡ Some value
+  pub reg : Reg
+  pub half : Half
+  pub register_is : decoded offset size ≡ Plain reg half
+  pub start : Seen
+  pub takes : TakesTurn old start
+  pub last : Seen
+  pub stops : StopsWrite (record start { taken = true }) last reg half value
+  pub gives : GivesTurn (record last { taken = false }) new

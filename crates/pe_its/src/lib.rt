@@ -1,8 +1,11 @@
-//! The writes of an ITS's registers that take it, by a vCPU that has nothing at its interface.
+//! The accesses of a vCPU that has nothing at its interface to the ITS, and to any frame.
 #![tactic(auto)]
 
+mod call;
 mod change;
+mod read;
 mod register;
 mod write;
 
+pub use call::{its_op, mem_op};
 pub use write::its_write;

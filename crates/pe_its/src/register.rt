@@ -17,7 +17,7 @@ use port_core::Port;
 use std::sync::Wait;
 
 /// The low half of a value, which has all of GITS_CTLR.
-fn low(value: u64) -> u32
+pub(crate) fn low(value: u64) -> u32
     ensures { result ≡ value % 2 ^ 32 }
 {
     (value % (1 << 32)) as u32

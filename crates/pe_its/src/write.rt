@@ -11,7 +11,7 @@ ghost use Rattle.port_core.specs.Port.{shape_of};
 ghost use Rattle.its_exec.specs.Plan.{IsFresh};
 ghost use Rattle.its_exec.specs.Queue.{HasIts};
 ghost use Rattle.pe_mem.specs.Call.{CanAccess, MakesAccess, StopsAccess};
-ghost use Rattle.pe_its.specs.Write.{ServesWrite, StopsWrite};
+ghost use Rattle.pe_its.specs.Write.{ServesWrite, StopsWrite, StopsInTurn};
 
 use crate::register::write_register;
 use gic_base::NoMemory;
@@ -69,6 +69,7 @@ pub fn its_write<P: Port, R: Wait>(
     requires takes { takes_turn (shape_of (P.seen port.old)) (decoded offset size) (Some value) ≡ true }
     ensures made { IfOk result (λ done. MakesAccess (P.seen port.old) (P.seen port.new) Its offset size (Some value) None) }
     ensures stopped { OnErr result (StopsAccess (P.seen port.old) (P.seen port.new) Its offset size (Some value)) }
+    ensures wants { OnErr result (StopsInTurn (P.seen port.old) (P.seen port.new) offset size (Some value)) }
 {
     let RegRef::Plain { reg, half } = its_access(offset, size, Some(value)) else {
         unreachable!()

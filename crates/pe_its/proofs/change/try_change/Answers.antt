@@ -1,5 +1,5 @@
 -- The try is of the word that was looked at.
-use Rattle.std.proofs.Common.{◌≡◌, ℕ, Option, Some, None, ◌∙◌, sym, ap, refl}
+use Rattle.std.proofs.Common.{◌∙◌, sym, ap}
 use Rattle.std.proofs.lemmas.Bool.{eq-eqb, ne_eqb}
 use Rattle.gic_open.specs.Plain.{place_of_plain, plain_at}
 use Rattle.pe_its.specs.Change.{changed_by}

@@ -1,5 +1,5 @@
 -- The store, unless the ITS is enabled.
-use Rattle.std.proofs.Common.{◌≡◌, true, false, sym, ap, subst, ◌∙◌}
+use Rattle.std.proofs.Common.{sym, ap, subst, ◌∙◌}
 use Rattle.gic_imap.specs.Contents.{enabled_in}
 use Rattle.gic_open.specs.declared.plain.PlainWord.{PlainWord}
 use Rattle.pe_its.specs.declared.change.Change.TheVariants.{Baser}

@@ -1,6 +1,6 @@
 -- The turn round what is made while the actor has the ITS.
-use Rattle.std.proofs.Common.{sym, ap, subst, ◌∙◌}
-use Rattle.pe_its.proofs.WriteLemmas.{turn_has, turn_fresh, makes_write, stops_access, ok_then, err_then}
+use Rattle.std.proofs.Common.{sym, ap, ◌∙◌}
+use Rattle.pe_its.proofs.WriteLemmas.{turn_has, makes_write, stops_access, stops_in_turn, ok_then, err_then}
 use Rattle.pe_its.proofs.write.its_write.Goals as goal
 
 pub serve-end-requires-clause-has : goal.serve-end-requires-clause-has
@@ -25,3 +25,10 @@ returns-clause-stopped g c =
     (λ stops.
     stops_access (g.P.Port.seen c.args.port.now) (g.P.Port.seen c.take_turn.new.port) (g.P.Port.seen c.take_tables-tables.new.self) (g.P.Port.seen c.serve-end.new.port) (g.P.Port.seen c.put_tables.new.self) (g.P.Port.seen c.give_turn.new.port) c.args.offset
     c.args.size c.args.value c.in-Plain.reg c.in-Plain.half (g.P.Port.is_port c.give_turn.new.port) c.requires.can c.take_turn.ensures c.take_tables-tables.ensures.seen stops c.serve-end.ensures.has.ease c.put_tables.ensures c.give_turn.ensures)
+
+pub returns-clause-wants : goal.returns-clause-wants
+returns-clause-wants g c =
+    err_then _ c.serve-end.result _ _ c.serve-end.ensures.stops
+    (λ stops.
+    stops_in_turn (g.P.Port.seen c.args.port.now) (g.P.Port.seen c.take_turn.new.port) (g.P.Port.seen c.take_tables-tables.new.self) (g.P.Port.seen c.serve-end.new.port) (g.P.Port.seen c.put_tables.new.self) (g.P.Port.seen c.give_turn.new.port) c.args.offset
+    c.args.size c.args.value c.in-Plain.reg c.in-Plain.half (sym c.its_access.ensures.value ∙ c.in-Plain.is) c.take_turn.ensures c.take_tables-tables.ensures.seen stops c.put_tables.ensures c.give_turn.ensures)

@@ -2,7 +2,6 @@
 use Rattle.std.proofs.Common.{refl, sym, subst, ◌∙◌}
 use Rattle.gic_base.specs.declared.shape.GuestShape.{GuestShape}
 use Rattle.its_tab.specs.Maps.{Maps}
-use Rattle.port_core.specs.Known.{known_maps}
 use Rattle.port_core.specs.Port.{shape_of}
 use Rattle.its_exec.specs.Queue.{IsReady, HasIts}
 use Rattle.its_exec.proofs.QueueLemmas.{looked_ready}

@@ -1,0 +1,15 @@
+-- A read, and a write that is ignored.
+use Rattle.std.proofs.Common.{Some, sym, ap, ◌∙◌}
+use Rattle.gic_imap.specs.Map.{decoded}
+use Rattle.gic_call.specs.Call.{takes_turn}
+use Rattle.pe_its.proofs.AccessLemmas.{reads_its, ignores_write}
+use Rattle.pe_its.proofs.call.its_op.Goals as goal
+
+pub returns-in_default-clause-made : goal.returns-in_default-clause-made
+returns-in_default-clause-made g c =
+    reads_its (g.P.Port.seen c.args.port.now) (g.P.Port.seen c.read_its.new.port) c.args.offset c.args.size c.read_its.result c.args.write c.in_default.is (g.P.Port.is_port c.read_its.new.port) c.requires.can c.read_its.ensures
+
+pub returns-else-is_taking-clause-made : goal.returns-else-is_taking-clause-made
+returns-else-is_taking-clause-made g c =
+    ignores_write (g.P.Port.seen c.args.port.now) c.args.offset c.args.size c.in-Some.value c.args.write c.in-Some.is (g.P.Port.is_port c.args.port.now) c.requires.can
+    (ap (λ shape. takes_turn shape (decoded c.args.offset c.args.size) (Some c.in-Some.value)) (sym c.shape.ensures) ∙ sym (c.is_taking.ensures c.in-Some.value) ∙ c.if-is_taking.false)
