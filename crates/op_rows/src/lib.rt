@@ -1,0 +1,5 @@
+//! Tests of a vCPU's operations.
+#![tactic(auto)]
+
+#[cfg(test)]
+mod tests;

@@ -1,0 +1,674 @@
+//! Operations of two vCPUs and of a device of one guest, one after the other, and what they read.
+ghost use Rattle.std.specs.Prelude.{◌≡◌, ◌%◌, IsTrue, IfSome};
+ghost use Rattle.gic_ram.specs.Access.{is_size as is_size_of};
+ghost use Rattle.scn_base.specs.Good.{fits as fits_in, has_frame as has_frame_in, is_inside as is_inside_of, is_good_op as is_good_op_of};
+ghost use Rattle.dev_port.specs.Device.{CanCall};
+ghost use Rattle.port_seq.specs.Ports.{told};
+ghost use Rattle.pe_loop.specs.Stay.{IsUp};
+
+use dev_port::{message, msi};
+use gic_base::{Frame, GuestOp, GuestShape, IccReg, Key, key_of};
+use gic_ram::split;
+use pe_loop::{enter, leave};
+use pe_op::guest_op;
+use port_core::Port;
+use port_rest::{is_off, is_settled, one_guest};
+use port_seq::{GuestPort, SeqPort};
+use scn_base::{Mode, Preset, Scenario};
+use std::alloc::{AllocError, Global};
+use std::sync::Wait;
+use std::test::Fail;
+use vcpu_state::{Loaded, Shelved};
+
+/// Two vCPUs, SPIs 32 to 991, LPIs 8192 to 8207, 64 KiB of memory, and a device.
+const SHAPE: GuestShape = GuestShape {
+    vcpus: 2,
+    spis: 960,
+    espis: 0,
+    devices: 1,
+    lpis: 16,
+    ram: 65536,
+};
+
+/// A guest with one vCPU, SPIs 32 to 63, and a device.
+const SMALL: GuestShape = GuestShape {
+    vcpus: 1,
+    spis: 32,
+    espis: 0,
+    devices: 1,
+    lpis: 0,
+    ram: 0,
+};
+
+/// List registers of a PE.
+const LIST_REGISTERS: u32 = 4;
+
+/// An operation of a vCPU, with what it reads, if it reads.
+type Does = (GuestOp, Option<u64>);
+
+/// What is done in the guest.
+#[derive(Clone, Copy)]
+enum Act {
+    /// A vCPU enters a PE, does an operation there, and leaves it.
+    Vcpu(u32, Does),
+    /// The device sends a message of an SPI.
+    Message(u32),
+    /// The device sends a message of an event under a number to the ITS.
+    Msi(u32, u32),
+}
+
+fn reads(reg: IccReg, value: u64) -> Does {
+    (GuestOp::Icc { reg, write: None }, Some(value))
+}
+
+fn writes(reg: IccReg, value: u64) -> Does {
+    (
+        GuestOp::Icc {
+            reg,
+            write: Some(value),
+        },
+        None,
+    )
+}
+
+fn loads(frame: Frame, offset: u32, size: u32, value: u64) -> Does {
+    (
+        GuestOp::Mem {
+            frame,
+            offset,
+            size,
+            write: None,
+        },
+        Some(value),
+    )
+}
+
+fn stores(frame: Frame, offset: u32, size: u32, value: u64) -> Does {
+    (
+        GuestOp::Mem {
+            frame,
+            offset,
+            size,
+            write: Some(value),
+        },
+        None,
+    )
+}
+
+/// Opens an interrupt at priority 0xA0, edge-triggered and in group 1: an SPI for vCPU 0, or an SGI of a vCPU.
+fn preset(id: u32, vcpu: u32) -> Preset {
+    let is_sgi = id < 32;
+    Preset {
+        id,
+        prio: 0xA0,
+        edge: true,
+        group: 1,
+        to: if is_sgi { None } else { Some(vcpu) },
+        vcpu: if is_sgi { Some(vcpu) } else { None },
+    }
+}
+
+/// A guest that opens on, with the interrupts 40 and 991 and SGI 5 of both vCPUs.
+fn ready(alloc: Global) -> Result<Scenario, AllocError> {
+    let presets = [preset(40, 0), preset(991, 0), preset(5, 0), preset(5, 1)];
+    one_guest(alloc, SHAPE, true, &presets)
+}
+
+/// A small guest that opens off, with no interrupt that is enabled.
+fn fresh(alloc: Global) -> Result<Scenario, AllocError> {
+    one_guest(alloc, SMALL, false, &[])
+}
+
+/// A size that an access may have, and a value that fits it.
+fn is_fit(size: u32, write: Option<u64>) -> bool
+    ensures size { IsTrue result → IsTrue (is_size_of size) }
+    ensures fits { IsTrue result → IsTrue (fits_in size write) }
+{
+    let limit = match size {
+        1 => 0x100,
+        2 => 0x1_0000,
+        4 => 0x1_0000_0000,
+        8 => return true,
+        _ => return false,
+    };
+    write.is_none_or(|value| value < limit)
+}
+
+/// The guest has what is accessed.
+fn is_there(shape: &GuestShape, frame: Frame) -> bool
+    ensures { IsTrue result → IsTrue (has_frame_in shape.now frame) }
+{
+    match frame {
+        Frame::Redist { vcpu } => vcpu < shape.vcpus,
+        Frame::Dist | Frame::Its | Frame::Ram => true,
+    }
+}
+
+/// An access lies in its frame.
+fn is_inside(shape: &GuestShape, frame: Frame, offset: u32, size: u32) -> bool
+    requires size { IsTrue (is_size_of size) }
+    requires ram { shape.now.ram % 8 ≡ 0 }
+    ensures { IsTrue result → IsTrue (is_inside_of shape.now frame offset size) }
+{
+    match frame {
+        Frame::Dist => offset < 0x1_0000,
+        Frame::Redist { .. } | Frame::Its => offset < 0x2_0000,
+        Frame::Ram => split(u64::from(offset), size, shape.ram).is_some(),
+    }
+}
+
+/// An operation is one that a vCPU of the guest can do.
+fn is_good(shape: &GuestShape, op: &GuestOp) -> bool
+    ensures { IsTrue result → IsTrue (is_good_op_of shape.now op.now) }
+{
+    match *op {
+        GuestOp::Icc { reg, write } => match write {
+            None => reg.is_readable(),
+            Some(_) => reg.is_writable(),
+        },
+        GuestOp::Mem {
+            frame,
+            offset,
+            size,
+            write,
+        } => {
+            if !is_fit(size, write) || shape.ram % 8 != 0 {
+                return false;
+            }
+            is_there(shape, frame) && is_inside(shape, frame, offset, size)
+        }
+    }
+}
+
+/// The vCPU that is told enters a PE. None where it may not.
+fn enter_told<P: Port>(port: &mut P) -> Option<Loaded>
+    requires { (P.seen port.old).number ≡ 0 }
+    ensures up { IfSome result (λ vcpu. IsUp (P.seen port.new) vcpu) }
+    ensures guest { IfSome result (λ vcpu. (P.seen port.new).number ≡ 0) }
+{
+    let vcpu = port.actor();
+    if vcpu >= port.shape().vcpus || !is_off(port.local_ref()) {
+        return None;
+    }
+    let vcpu = Shelved {
+        guest: 0,
+        vcpu,
+        cpu: port.local_ref().cpu,
+        next: 0,
+    };
+    Some(enter(port, vcpu, LIST_REGISTERS))
+}
+
+/// The vCPU does one operation. None where it may not, or reads something else.
+fn operate<P: Port, R: Wait>(rt: &R, port: &mut P, vcpu: Loaded, does: &Does) -> Option<Loaded>
+    requires { IsUp (P.seen port.old) vcpu }
+    ensures up { IfSome result (λ vcpu. IsUp (P.seen port.new) vcpu) }
+    ensures guest { IfSome result (λ vcpu. (P.seen port.new).number ≡ (P.seen port.old).number) }
+{
+    let (op, read) = does;
+    if !is_good(&port.shape(), op) {
+        return None;
+    }
+    let mut vcpu = vcpu;
+    if guest_op(rt, port, &mut vcpu, op) != Ok(*read) {
+        return None;
+    }
+    Some(vcpu)
+}
+
+/// The vCPU that is told enters a PE, does some operations, and leaves it. None where it may not, or one reads something else.
+fn stay<P: Port, R: Wait>(rt: &R, port: &mut P, all: &[Does]) -> Option<()>
+    requires { (P.seen port.old).number ≡ 0 }
+    ensures { IfSome result (λ done. (P.seen port.new).number ≡ 0) }
+{
+    let mut vcpu = enter_told(port)?;
+    for does in all {
+        vcpu = operate(rt, port, vcpu, does)?;
+    }
+    leave(port, vcpu);
+    Some(())
+}
+
+/// A device may make a call.
+fn is_device<P: Port>(port: &P) -> bool
+    ensures { IsTrue result → CanCall (P.seen port.now) }
+{
+    port.actor() >= port.shape().vcpus && is_settled(port.local_ref())
+}
+
+/// The device sends a message of an SPI. None where it may not.
+fn send<P: Port>(port: &mut P, spi: u32) -> Option<()>
+    requires { (P.seen port.old).number ≡ 0 }
+    ensures { IfSome result (λ done. (P.seen port.new).number ≡ 0) }
+{
+    if !is_device(port) || key_of(spi, 0, &port.shape()) != Some(Key::Spi(spi)) {
+        return None;
+    }
+    message(port, spi);
+    Some(())
+}
+
+/// The device sends a message of an event under a number to the ITS. None where it may not.
+fn send_event<P: Port, R: Wait>(rt: &R, port: &mut P, device: u32, event: u32) -> Option<()>
+    requires { (P.seen port.old).number ≡ 0 }
+    ensures { IfSome result (λ done. (P.seen port.new).number ≡ 0) }
+{
+    if !is_device(port) {
+        return None;
+    }
+    msi(rt, port, device, event);
+    Some(())
+}
+
+/// Tells an actor of the guest: a vCPU, or the device after them. None where there is none.
+fn tell(guest: &mut GuestPort, actor: u32) -> Option<()>
+    ensures { (told guest.new).number ≡ (told guest.old).number }
+{
+    if actor > guest.shape().vcpus || guest.shape().devices == 0 {
+        return None;
+    }
+    guest.set_actor(actor);
+    Some(())
+}
+
+/// Does one act. None where the actor may not, or reads something else.
+fn perform<R: Wait>(rt: &R, guest: &mut GuestPort, act: &Act) -> Option<()>
+    requires { (told guest.old).number ≡ 0 }
+    ensures { IfSome result (λ done. (told guest.new).number ≡ 0) }
+{
+    let device = guest.shape().vcpus;
+    match act {
+        Act::Vcpu(vcpu, does) => {
+            tell(guest, *vcpu)?;
+            stay(rt, guest, &[*does])
+        }
+        Act::Message(spi) => {
+            tell(guest, device)?;
+            send(guest, *spi)
+        }
+        Act::Msi(number, event) => {
+            tell(guest, device)?;
+            send_event(rt, guest, *number, *event)
+        }
+    }
+}
+
+/// Does acts, one after the other: the number of the first that does not go as it is to, if one does not.
+fn first_other<R: Wait>(rt: &R, guest: &mut GuestPort, acts: &[Act]) -> Option<usize>
+    requires { (told guest.old).number ≡ 0 }
+{
+    for (number, act) in acts.iter().enumerate() {
+        if perform(rt, guest, act).is_none() {
+            return Some(number);
+        }
+    }
+    None
+}
+
+/// The same in a guest that just opened; the number of the acts where it can't be made.
+fn play<R: Wait>(
+    rt: &R,
+    alloc: Global,
+    scenario: Scenario,
+    acts: &[Act],
+) -> Result<Option<usize>, AllocError> {
+    if !scenario.is_good(alloc, Mode::Threads)? {
+        return Ok(Some(acts.len()));
+    }
+    let mut port = SeqPort::start(alloc, &scenario)?;
+    Ok(first_other(rt, port.current_mut(), acts))
+}
+
+/// The same of acts that go on after others in one guest.
+fn play_both<R: Wait>(
+    rt: &R,
+    alloc: Global,
+    scenario: Scenario,
+    early: &[Act],
+    late: &[Act],
+) -> Result<Option<usize>, AllocError> {
+    if !scenario.is_good(alloc, Mode::Threads)? {
+        return Ok(Some(early.len()));
+    }
+    let mut port = SeqPort::start(alloc, &scenario)?;
+    let guest = port.current_mut();
+    Ok(first_other(rt, guest, early).or_else(|| first_other(rt, guest, late)))
+}
+
+use Act::{Message, Msi, Vcpu};
+use Frame::{Dist, Its, Ram, Redist};
+use IccReg::{Bpr1, Ctlr, Eoir1, Hppir1, Iar1, Igrpen1, Pmr, Rpr, Sgi1r, Sre};
+
+/// What a read of IAR or HPPIR answers where there is no interrupt.
+const NONE: u64 = 1023;
+
+/// The redistributors of vCPU 0 and of vCPU 1.
+const MINE: Frame = Redist { vcpu: 0 };
+
+const OTHER: Frame = Redist { vcpu: 1 };
+
+#[test]
+fn accesses_withdraw_and_route(rt: HostRuntime) -> Result<(), Fail> {
+    // vCPU 1 clears what was at the interface of vCPU 0.
+    let cleared = [
+        Message(40),
+        Vcpu(0, reads(Hppir1, 40)),
+        Vcpu(1, stores(Dist, 0x284, 4, 0x100)),
+        Vcpu(0, reads(Iar1, NONE)),
+    ];
+    assert_eq!(rt;
+        play(&rt, rt.alloc(), ready(rt.alloc())?, cleared.as_slice())?,
+        None
+    );
+    // It routes it to itself.
+    let routed = [
+        Message(40),
+        Vcpu(0, reads(Hppir1, 40)),
+        Vcpu(1, stores(Dist, 0x6140, 8, 1)),
+        Vcpu(0, reads(Iar1, NONE)),
+        Vcpu(1, reads(Iar1, 40)),
+    ];
+    assert_eq!(rt;
+        play(&rt, rt.alloc(), ready(rt.alloc())?, routed.as_slice())?,
+        None
+    );
+    // The last SPI.
+    let last = [Message(991), Vcpu(0, reads(Iar1, 991))];
+    assert_eq!(rt;
+        play(&rt, rt.alloc(), ready(rt.alloc())?, last.as_slice())?,
+        None
+    );
+    Ok(())
+}
+
+#[test]
+fn sgis_of_another(rt: HostRuntime) -> Result<(), Fail> {
+    let other = [
+        Vcpu(0, writes(Sgi1r, 0x0500_0002)),
+        Vcpu(1, reads(Iar1, 5)),
+        Vcpu(0, reads(Iar1, NONE)),
+    ];
+    assert_eq!(rt;
+        play(&rt, rt.alloc(), ready(rt.alloc())?, other.as_slice())?,
+        None
+    );
+    let own = [
+        Vcpu(0, writes(Sgi1r, 0x0500_0001)),
+        Vcpu(0, reads(Iar1, 5)),
+        Vcpu(1, reads(Iar1, NONE)),
+    ];
+    assert_eq!(rt;
+        play(&rt, rt.alloc(), ready(rt.alloc())?, own.as_slice())?,
+        None
+    );
+    let all_others = [
+        Vcpu(0, writes(Sgi1r, 0x0000_0100_0500_0000)),
+        Vcpu(1, reads(Iar1, 5)),
+        Vcpu(0, reads(Iar1, NONE)),
+    ];
+    assert_eq!(rt;
+        play(&rt, rt.alloc(), ready(rt.alloc())?, all_others.as_slice())?,
+        None
+    );
+    Ok(())
+}
+
+/// An LPI's set-up, from its configuration byte to the end of the commands that map it, of which GITS_CREADR tells.
+fn set_up(byte: u64) -> [Act; 18] {
+    [
+        Vcpu(0, stores(Ram, 0x3003, 1, byte)),
+        Vcpu(0, stores(OTHER, 0x70, 8, 0x300D)),
+        Vcpu(0, stores(OTHER, 0x78, 8, 0x4000_0000_0001_0000)),
+        Vcpu(0, stores(OTHER, 0x0, 4, 1)),
+        Vcpu(0, stores(Its, 0x80, 8, 0x8000_0000_0000_1000)),
+        Vcpu(0, stores(Its, 0x0, 4, 1)),
+        // MAPD of device 8 with 5 bits, MAPC of collection 1 to vCPU 1, MAPTI of event 3 to LPI 8195, and SYNC.
+        Vcpu(0, stores(Ram, 0x1000, 8, 0x0000_0008_0000_0008)),
+        Vcpu(0, stores(Ram, 0x1008, 8, 4)),
+        Vcpu(0, stores(Ram, 0x1010, 8, 0x8000_0000_0000_2000)),
+        Vcpu(0, stores(Ram, 0x1020, 8, 9)),
+        Vcpu(0, stores(Ram, 0x1030, 8, 0x8000_0000_0001_0001)),
+        Vcpu(0, stores(Ram, 0x1040, 8, 0x0000_0008_0000_000A)),
+        Vcpu(0, stores(Ram, 0x1048, 8, 0x0000_2003_0000_0003)),
+        Vcpu(0, stores(Ram, 0x1050, 8, 1)),
+        Vcpu(0, stores(Ram, 0x1060, 8, 5)),
+        Vcpu(0, stores(Ram, 0x1070, 8, 0x10000)),
+        Vcpu(0, stores(Its, 0x88, 8, 0x80)),
+        Vcpu(0, loads(Its, 0x90, 8, 0x80)),
+    ]
+}
+
+/// The same for LPIs of vCPU 0 as for those of vCPU 1.
+fn set_up_mine() -> [Act; 3] {
+    [
+        Vcpu(0, stores(MINE, 0x70, 8, 0x300D)),
+        Vcpu(0, stores(MINE, 0x78, 8, 0x4000_0000_0001_0000)),
+        Vcpu(0, stores(MINE, 0x0, 4, 1)),
+    ]
+}
+
+#[test]
+fn lpi_of_a_device(rt: HostRuntime) -> Result<(), Fail> {
+    let taken = [
+        Msi(8, 3),
+        Vcpu(1, reads(Iar1, 8195)),
+        Vcpu(1, writes(Eoir1, 8195)),
+        Vcpu(1, reads(Iar1, NONE)),
+    ];
+    for byte in [0xA1, 0xA3] {
+        let first = set_up(byte);
+        assert_eq!(rt;
+            play_both(
+                &rt,
+                rt.alloc(),
+                ready(rt.alloc())?,
+                first.as_slice(),
+                taken.as_slice()
+            )?,
+            None
+        );
+    }
+    Ok(())
+}
+
+#[test]
+fn lpi_that_moves_or_goes(rt: HostRuntime) -> Result<(), Fail> {
+    let first = set_up(0xA1);
+    // MAPC of collection 2 to vCPU 0, and MOVI of the event to it.
+    let mine = set_up_mine();
+    let moved = [
+        Msi(8, 3),
+        Vcpu(0, stores(Ram, 0x1080, 8, 9)),
+        Vcpu(0, stores(Ram, 0x1090, 8, 0x8000_0000_0000_0002)),
+        Vcpu(0, stores(Ram, 0x10A0, 8, 0x0000_0008_0000_0001)),
+        Vcpu(0, stores(Ram, 0x10A8, 8, 3)),
+        Vcpu(0, stores(Ram, 0x10B0, 8, 2)),
+        Vcpu(0, stores(Its, 0x88, 8, 0xC0)),
+        Vcpu(1, reads(Iar1, NONE)),
+        Vcpu(0, reads(Iar1, 8195)),
+    ];
+    let both = [first.as_slice(), moved.as_slice()].concat(rt.alloc())?;
+    assert_eq!(rt;
+        play_both(
+            &rt,
+            rt.alloc(),
+            ready(rt.alloc())?,
+            mine.as_slice(),
+            both.as_slice()
+        )?,
+        None
+    );
+    // CLEAR.
+    let cleared = [
+        Msi(8, 3),
+        Vcpu(0, stores(Ram, 0x1080, 8, 0x0000_0008_0000_0004)),
+        Vcpu(0, stores(Ram, 0x1088, 8, 3)),
+        Vcpu(0, stores(Its, 0x88, 8, 0xA0)),
+        Vcpu(1, reads(Iar1, NONE)),
+    ];
+    assert_eq!(rt;
+        play_both(
+            &rt,
+            rt.alloc(),
+            ready(rt.alloc())?,
+            first.as_slice(),
+            cleared.as_slice()
+        )?,
+        None
+    );
+    // DISCARD.
+    let discarded = [
+        Msi(8, 3),
+        Vcpu(0, stores(Ram, 0x1080, 8, 0x0000_0008_0000_000F)),
+        Vcpu(0, stores(Ram, 0x1088, 8, 3)),
+        Vcpu(0, stores(Its, 0x88, 8, 0xA0)),
+        Msi(8, 3),
+        Vcpu(1, reads(Iar1, NONE)),
+    ];
+    assert_eq!(rt;
+        play_both(
+            &rt,
+            rt.alloc(),
+            ready(rt.alloc())?,
+            first.as_slice(),
+            discarded.as_slice()
+        )?,
+        None
+    );
+    Ok(())
+}
+
+#[test]
+fn lpi_with_another_priority(rt: HostRuntime) -> Result<(), Fail> {
+    let first = set_up(0xA1);
+    // The byte counts from INV on, with the SYNC behind it.
+    let read_anew = [
+        Vcpu(0, stores(Ram, 0x3003, 1, 0x41)),
+        Msi(8, 3),
+        Vcpu(1, reads(Iar1, 8195)),
+        Vcpu(1, reads(Rpr, 0xA0)),
+        Vcpu(1, writes(Eoir1, 8195)),
+        Vcpu(0, stores(Ram, 0x1080, 8, 0x0000_0008_0000_000C)),
+        Vcpu(0, stores(Ram, 0x1088, 8, 3)),
+        Vcpu(0, stores(Ram, 0x10A0, 8, 5)),
+        Vcpu(0, stores(Ram, 0x10B0, 8, 0x10000)),
+        Vcpu(0, stores(Its, 0x88, 8, 0xC0)),
+        Msi(8, 3),
+        Vcpu(1, reads(Iar1, 8195)),
+        Vcpu(1, reads(Rpr, 0x40)),
+    ];
+    assert_eq!(rt;
+        play_both(
+            &rt,
+            rt.alloc(),
+            ready(rt.alloc())?,
+            first.as_slice(),
+            read_anew.as_slice()
+        )?,
+        None
+    );
+    Ok(())
+}
+
+#[test]
+fn start_of_a_driver(rt: HostRuntime) -> Result<(), Fail> {
+    let acts = [
+        Vcpu(0, stores(Dist, 0x0, 4, 0)),
+        Vcpu(0, stores(Dist, 0x84, 4, 0xFFFF_FFFF)),
+        Vcpu(0, stores(Dist, 0x428, 4, 0xA0A0_A0A0)),
+        Vcpu(0, stores(Dist, 0x384, 4, 0xFFFF_FFFF)),
+        Vcpu(0, stores(Dist, 0x184, 4, 0xFFFF_FFFF)),
+        Vcpu(0, stores(Dist, 0x0, 4, 0x13)),
+        Vcpu(0, loads(Dist, 0x0, 4, 0x53)),
+        Vcpu(0, stores(Dist, 0x6140, 8, 0)),
+        Vcpu(0, reads(Sre, 7)),
+        Vcpu(0, writes(Pmr, 0xF0)),
+        Vcpu(0, writes(Bpr1, 0)),
+        Vcpu(0, reads(Bpr1, 3)),
+        Vcpu(0, writes(Ctlr, 0)),
+        Vcpu(0, writes(Igrpen1, 1)),
+        Vcpu(0, stores(Dist, 0xC08, 4, 0x20000)),
+        Vcpu(0, stores(Dist, 0x104, 4, 0x100)),
+        Vcpu(0, loads(Dist, 0x4, 4, 0x669_0001)),
+        Message(40),
+        Vcpu(0, reads(Iar1, 40)),
+    ];
+    assert_eq!(rt;
+        play(&rt, rt.alloc(), fresh(rt.alloc())?, acts.as_slice())?,
+        None
+    );
+    Ok(())
+}
+
+/// A message of interrupt 40, and then a stay of vCPU 0 on its PE: whether all was read so.
+fn stays<R: Wait>(rt: &R, alloc: Global, all: &[Does]) -> Result<bool, AllocError> {
+    let scenario = ready(alloc)?;
+    if !scenario.is_good(alloc, Mode::Threads)? {
+        return Ok(false);
+    }
+    let mut port = SeqPort::start(alloc, &scenario)?;
+    let guest = port.current_mut();
+    if perform(rt, guest, &Message(40)).is_none() || tell(guest, 0).is_none() {
+        return Ok(false);
+    }
+    Ok(stay(rt, guest, all).is_some())
+}
+
+#[test]
+fn stay_with_an_interrupt(rt: HostRuntime) -> Result<(), Fail> {
+    // What stands at the interface is given back before the vCPU's own access, and taken again after it.
+    let cleared = [
+        reads(Hppir1, 40),
+        stores(Dist, 0x284, 4, 0x100),
+        reads(Hppir1, NONE),
+        stores(Dist, 0x204, 4, 0x100),
+        reads(Hppir1, 40),
+    ];
+    assert!(rt; stays(&rt, rt.alloc(), cleared.as_slice())?);
+    // An active interrupt is found active in the distributor, and ended after it.
+    let active = [
+        reads(Iar1, 40),
+        loads(Dist, 0x304, 4, 0x100),
+        reads(Rpr, 0xA0),
+        stores(Ram, 0x10, 8, 7),
+        loads(Ram, 0x10, 8, 7),
+        writes(Eoir1, 40),
+        reads(Rpr, 0xFF),
+        loads(Dist, 0x304, 4, 0),
+    ];
+    assert!(rt; stays(&rt, rt.alloc(), active.as_slice())?);
+    // ISPENDR and ICPENDR: what reads pending is withdrawn.
+    let withdrawn = [
+        loads(Dist, 0x204, 4, 0x100),
+        stores(Dist, 0x284, 4, 0x100),
+        loads(Dist, 0x204, 4, 0),
+        reads(Iar1, NONE),
+    ];
+    assert!(rt; stays(&rt, rt.alloc(), withdrawn.as_slice())?);
+    // ISACTIVER and ICACTIVER: an interrupt that is active is not taken.
+    let held_off = [
+        stores(Dist, 0x304, 4, 0x100),
+        reads(Iar1, NONE),
+        stores(Dist, 0x384, 4, 0x100),
+        reads(Iar1, 40),
+    ];
+    assert!(rt; stays(&rt, rt.alloc(), held_off.as_slice())?);
+    Ok(())
+}
+
+#[test]
+fn disabled_while_active(rt: HostRuntime) -> Result<(), Fail> {
+    let acts = [
+        Message(40),
+        Vcpu(0, reads(Iar1, 40)),
+        Message(40),
+        Vcpu(0, stores(Dist, 0x184, 4, 0x100)),
+        Vcpu(0, writes(Eoir1, 40)),
+        Vcpu(0, reads(Iar1, NONE)),
+    ];
+    assert_eq!(rt;
+        play(&rt, rt.alloc(), ready(rt.alloc())?, acts.as_slice())?,
+        None
+    );
+    Ok(())
+}

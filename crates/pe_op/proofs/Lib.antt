@@ -1,0 +1,2 @@
+pub mod AboutLemmas
+pub mod RoundLemmas

@@ -1,0 +1,182 @@
+-- A memory-mapped access between an exit and an entry.
+use Rattle.std.proofs.Common.{◌≡◌, ℕ, true, if◌then◌else◌, IsTrue, List, ◌++◌, Option, Some, None, Result, Ok, Err, IfOk, OnErr, is_some, is_none, refl, sym, ap, subst, ◌∙◌}
+use Rattle.gic_base.specs.declared.operation.Frame.{Frame}
+use Rattle.gic_base.specs.declared.operation.Frame.TheVariants.{Its}
+use Rattle.gic_base.specs.declared.operation.GuestOp.TheVariants.{Mem}
+use Rattle.gic_imap.specs.Map.{decoded}
+use Rattle.gic_call.specs.Call.{takes_turn}
+use Rattle.gic_call.specs.Trace.{Happened, Beside, IsCall}
+use Rattle.vcpu_state.specs.declared.loaded.Loaded.{Loaded}
+use Rattle.vcpu_state.specs.declared.shelved.Shelved.{Shelved}
+use Rattle.vcpu_state.specs.Holding.{held_keys}
+use Rattle.vcpu_state.specs.Moves.{shelved_of}
+use Rattle.port_core.specs.declared.run.Made.{Made}
+use Rattle.port_core.specs.Local.{is_vcpu}
+use Rattle.port_core.specs.Port.{Seen, Adds, shape_of, part_events}
+use Rattle.port_core.proofs.PortLemmas.{adds_join}
+use Rattle.core_proper.specs.Called.{MakesCall, vcpu_of_actor}
+use Rattle.core_proper.specs.Parts.{begins}
+use Rattle.core_proper.specs.Progress.{Progress, paid, before_next, progressed}
+use Rattle.port_call.proofs.TurnLemmas.{events_then}
+use Rattle.pe_loop.specs.Enter.{Enters}
+use Rattle.pe_loop.specs.Leave.{Leaves}
+use Rattle.pe_loop.specs.Moves.{are_moves}
+use Rattle.pe_loop.specs.Stay.{IsUp}
+use Rattle.pe_loop.proofs.MoveLemmas.{only_leave}
+use Rattle.pe_icc.specs.Amid.{IsRunning, IsAble, IsSame, Leads}
+use Rattle.pe_icc.specs.Operate.{MayReenter}
+use Rattle.pe_icc.proofs.AmidLemmas.{leads_then}
+use Rattle.pe_icc.proofs.IccLemmas.{part_proper, part_runs}
+use Rattle.pe_icc.proofs.ReenterLemmas.{enter_leads, good_leads, idle_again, piece_leads}
+use Rattle.pe_mem.specs.Call.{IsPieceOf, MakesAccess, StopsAccess, access_of}
+use Rattle.pe_op.specs.Operation.{DoesOperation, LeavesFirst, StopsOperation, takes_turn_by}
+use Rattle.pe_op.proofs.AboutLemmas.{access_answers, access_between, maps_between}
+
+-- The round.
+
+-- an exit, some steps, and an entry on as many list registers
+record Round (old new : Seen) (before after : Loaded) (access : List Made) : Type 0 where
+  mid : Seen
+  mid2 : Seen
+  shelved : Shelved
+  shelved_is : shelved ≡ shelved_of before
+  leaves : Leaves old mid before shelved
+  adds : Adds mid mid2 access
+  enters : Enters mid2 new shelved before.regs.n after
+
+abbrev round_part : (old new : Seen) (before after : Loaded) (access : List Made) → Round old new before after access → List Made
+round_part old new before after access round = round.leaves.part ++ (access ++ round.enters.part)
+
+round_adds : (old new : Seen) (before after : Loaded) (access : List Made) (round : Round old new before after access) → Adds old new (round_part old new before after access round)
+round_adds old new before after access round =
+    adds_join old round.mid new round.leaves.part (access ++ round.enters.part) round.leaves.adds (adds_join round.mid round.mid2 new access round.enters.part round.adds round.enters.adds)
+
+round_same : (old new : Seen) (before after : Loaded) (access : List Made) → Round old new before after access → IsSame before after
+round_same old new before after access round =
+    let with_cpu : Shelved → Shelved = λ base. record base { cpu = before.base.cpu } in
+    record { base = ap with_cpu round.enters.kept ∙ ap with_cpu round.shelved_is; lrs = round.enters.lrs_is }
+
+left_first : (old new : Seen) (before after : Loaded) (access : List Made) (round : Round old new before after access) → LeavesFirst old before (round_part old new before after access round)
+left_first old new before after access round =
+    let leaves = round.leaves in
+    record { first = leaves.part; rest = access ++ round.enters.part; split = refl; events = leaves.events; empty = ap (λ (seen : Seen). seen.local.at) (sym leaves.adds.new_is) ∙ leaves.off.empty }
+
+-- the protocol, where a call of it begins between two accesses
+begins_so : (old : Seen) (before : Loaded) (frame : Frame) (offset size : ℕ) (write : Option ℕ) (p : Progress) → IsRunning old before p
+    → MayReenter old (access_of frame offset size write) before.regs.n before_next (progressed (shape_of old) old.actor p (begins (access_of frame offset size write) before.regs.n))
+begins_so old before frame offset size write p run =
+    record {
+      amid =
+          record {
+            rest = record { local = run.rest.local; own = run.rest.own; scan = run.rest.scan; wants = run.rest.wants };
+            operation_is = refl;
+            lrs_is = refl;
+            none_failed = run.none_failed;
+            debt_is = refl;
+          };
+      near = refl;
+    }
+
+round_leads : (old new : Seen) (before after : Loaded) (access : List Made) (frame : Frame) (offset size : ℕ) (write : Option ℕ) (round : Round old new before after access) → IsPieceOf round.mid (access_of frame offset size write) access
+    → Leads old (round_part old new before after access round) (MayReenter old (access_of frame offset size write) before.regs.n before_next) (IsAble new after (access_of frame offset size write) paid)
+round_leads old new before after access frame offset size write round piece =
+    let operation = access_of frame offset size write in
+    let mid = round.mid in
+    let mid2 = round.mid2 in
+    let lrs = before.regs.n in
+    let May : Seen → Progress → Type 0 = λ seen. MayReenter seen operation lrs before_next in
+    let Able : Progress → Type 0 = IsAble new after operation paid in
+    leads_then old mid round.leaves.part (access ++ round.enters.part) (May old) (May mid) Able round.leaves.adds (piece_leads old mid round.leaves.part operation lrs before_next round.leaves.adds round.leaves.piece)
+    (leads_then mid mid2 access round.enters.part (May mid) (May mid2) Able round.adds
+    (good_leads mid mid2 access operation lrs before_next round.adds (λ p may. piece p (idle_again mid operation lrs before_next p may) may.amid.operation_is may.amid.rest.wants))
+    (enter_leads mid2 new round.shelved lrs after round.enters operation before_next))
+
+-- What it is.
+
+-- the events of the access are those of its call, with the moves about them
+round_call : (old new : Seen) (before after : Loaded) (access : List Made) (frame : Frame) (offset size : ℕ) (write answer : Option ℕ) (round : Round old new before after access) → is_vcpu (shape_of old) old.actor ≡ true
+    → MakesCall round.mid access (access_of frame offset size write) answer → MakesCall old (round_part old new before after access round) (access_of frame offset size write) answer
+round_call old new before after access frame offset size write answer round is_one made =
+    let operation = access_of frame offset size write in
+    let shape = shape_of old in
+    let actor = old.actor in
+    let mid = round.mid in
+    let mid2 = round.mid2 in
+    let leaves = round.leaves in
+    let enters = round.enters in
+    let beside : Beside = made.beside in
+    let first = part_events old leaves.part in
+    let own = part_events mid access in
+    let last = part_events mid2 enters.part in
+    let vcpu : vcpu_of_actor shape actor ≡ Some actor = ap (λ b. if b then Some actor else None) is_one in
+    let Of : Option ℕ → List Happened → Type 0 = λ vcpu events. IsCall shape beside vcpu operation events answer in
+    let By : Seen → Type 0 = λ seen. IsCall (shape_of seen) beside (vcpu_of_actor (shape_of seen) seen.actor) operation own answer in
+    let by_old : Of (Some actor) own = subst (λ vcpu. Of vcpu own) vcpu (subst By leaves.adds.new_is made.call) in
+    let actor_is : mid2.actor ≡ actor = ap (λ (seen : Seen). seen.actor) round.adds.new_is ∙ ap (λ (seen : Seen). seen.actor) leaves.adds.new_is in
+    let moves_first : IsTrue (are_moves actor first) = ap (are_moves actor) leaves.events ∙ only_leave actor (held_keys before) in
+    let moves_last : IsTrue (are_moves actor last) = ap (λ actor. are_moves actor last) (sym actor_is) ∙ enters.moves in
+    let events : part_events old (leaves.part ++ (access ++ enters.part)) ≡ first ++ (own ++ last)
+    = events_then old mid leaves.part (access ++ enters.part) leaves.adds ∙ ap (λ events. first ++ events) (events_then mid mid2 access enters.part round.adds) in
+    record {
+      beside = beside;
+      maps = made.maps ∙ sym (maps_between leaves.part access enters.part leaves.none_taken enters.none_taken);
+      call = subst (λ vcpu. Of vcpu (part_events old (leaves.part ++ (access ++ enters.part)))) (sym vcpu) (subst (Of (Some actor)) (sym events) (access_between shape beside actor frame offset size write answer first own last moves_first moves_last by_old));
+    }
+
+round_answers : (seen : Seen) (access : List Made) (frame : Frame) (offset size : ℕ) (write answer : Option ℕ) → is_vcpu (shape_of seen) seen.actor ≡ true → MakesCall seen access (access_of frame offset size write) answer → is_some answer ≡ is_none write
+round_answers seen access frame offset size write answer is_one made =
+    let vcpu : vcpu_of_actor (shape_of seen) seen.actor ≡ Some seen.actor = ap (λ b. if b then Some seen.actor else None) is_one in
+    let Of : Option ℕ → Type 0 = λ vcpu. IsCall (shape_of seen) made.beside vcpu (access_of frame offset size write) (part_events seen access) answer in
+    access_answers (shape_of seen) made.beside seen.actor frame offset size write answer (part_events seen access) (subst Of vcpu made.call)
+
+pub round_done :
+    (old mid mid2 new : Seen) (before after : Loaded) (shelved : Shelved) (frame : Frame) (offset size : ℕ) (write answer : Option ℕ) → IsUp old before → shelved ≡ shelved_of before → Leaves old mid before shelved → MakesAccess mid mid2 frame offset size write answer
+    → Enters mid2 new shelved before.regs.n after → DoesOperation old new (Mem frame offset size write) before after answer
+round_done old mid mid2 new before after shelved frame offset size write answer up is leaves makes enters =
+    let operation = access_of frame offset size write in
+    let access = makes.part in
+    let round : Round old new before after access = record { mid = mid; mid2 = mid2; shelved = shelved; shelved_is = is; leaves = leaves; adds = makes.adds; enters = enters } in
+    let leads = round_leads old new before after access frame offset size write round makes.piece in
+    let part = round_part old new before after access round in
+    let lrs = before.regs.n in
+    let May : Progress → Type 0 = MayReenter old operation lrs before_next in
+    record {
+      part = part;
+      adds = round_adds old new before after access round;
+      call = round_call old new before after access frame offset size write answer round up.on.actor.is_one makes.call;
+      proper = λ p run. part_proper old new after operation lrs answer part May p enters.up leads (begins_so old before frame offset size write p run);
+      goes_on = λ p run. part_runs old new after operation lrs answer part May p leads (begins_so old before frame offset size write p run);
+      answers = round_answers mid access frame offset size write answer leaves.off.actor.is_one makes.call;
+      made = left_first old new before after access round;
+      up = enters.up;
+      same = round_same old new before after access round;
+    }
+
+pub round_stopped :
+    (old mid mid2 new : Seen) (before after : Loaded) (shelved : Shelved) (frame : Frame) (offset size : ℕ) (write : Option ℕ) → shelved ≡ shelved_of before → Leaves old mid before shelved → StopsAccess mid mid2 frame offset size write → frame ≡ Its
+    → takes_turn (shape_of mid) (decoded offset size) write ≡ true → Enters mid2 new shelved before.regs.n after → StopsOperation old new (Mem frame offset size write) before after
+round_stopped old mid mid2 new before after shelved frame offset size write is leaves stops its takes enters =
+    let access = stops.part in
+    let round : Round old new before after access = record { mid = mid; mid2 = mid2; shelved = shelved; shelved_is = is; leaves = leaves; adds = stops.adds; enters = enters } in
+    let leads = round_leads old new before after access frame offset size write round stops.piece in
+    let begin = λ (p : Progress) (run : IsRunning old before p). begins_so old before frame offset size write p run in
+    record {
+      part = round_part old new before after access round;
+      adds = round_adds old new before after access round;
+      takes = ap (λ frame. takes_turn_by (shape_of old) (Mem frame offset size write)) its ∙ ap (λ (seen : Seen). takes_turn (shape_of seen) (decoded offset size) write) (sym leaves.adds.new_is) ∙ takes;
+      proper = λ p run. (tt, leads.proper (progressed (shape_of old) old.actor p (begins (access_of frame offset size write) before.regs.n)) (begin p run));
+      goes_on = λ p run. leads.after (progressed (shape_of old) old.actor p (begins (access_of frame offset size write) before.regs.n)) (begin p run);
+      made = left_first old new before after access round;
+      up = enters.up;
+      same = round_same old new before after access round;
+    }
+
+-- As results.
+
+pub ok_each : {X : Type 0} (E : Type 0) (result : Result X E) (A B : X → Type 0) → IfOk result A → ((x : X) → A x → B x) → IfOk result B
+ok_each E (Ok x) A B holds to = to x holds
+ok_each E (Err e) A B holds to = tt
+
+pub err_each : {X : Type 0} (E : Type 0) (result : Result X E) (A B C D : Type 0) → OnErr result A → OnErr result B → OnErr result C → (A → B → C → D) → OnErr result D
+err_each E (Ok x) A B C D one two three to = tt
+err_each E (Err e) A B C D one two three to = to one two three

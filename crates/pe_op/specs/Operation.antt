@@ -1,0 +1,78 @@
+-- One operation of a vCPU that is on a PE: an access of a register of its CPU interface; or a memory-mapped access, round which it leaves its PE and enters
+-- it again (own choice).
+use Rattle.std.specs.Prelude.{◌≡◌, ℕ, Bool, true, false, List, [], ◌∷◌, ◌++◌, map, Option, Some, is_some, is_none}
+use Rattle.gic_base.specs.declared.operation.Frame.TheVariants.{Its}
+use Rattle.gic_base.specs.declared.operation.GuestOp.{GuestOp}
+use Rattle.gic_base.specs.declared.operation.GuestOp.TheVariants.{Icc, Mem}
+use Rattle.gic_base.specs.declared.shape.GuestShape.{GuestShape}
+use Rattle.gic_imap.specs.Map.{decoded}
+use Rattle.gic_call.specs.declared.event.Operation.TheVariants.{Access}
+use Rattle.gic_call.specs.Call.{takes_turn}
+use Rattle.vcpu_state.specs.declared.loaded.Loaded.{Loaded}
+use Rattle.vcpu_state.specs.Holding.{held_keys}
+use Rattle.port_core.specs.declared.run.Made.{Made}
+use Rattle.port_core.specs.declared.step.CoreStep.TheVariants.{Poll}
+use Rattle.port_core.specs.Port.{Seen, Adds, shape_of, part_events, seen_after}
+use Rattle.core_proper.specs.Called.{MakesCall}
+use Rattle.core_proper.specs.Parts.{Act, begins, makes, part_of}
+use Rattle.core_proper.specs.Progress.{Progress, paid, progress_of}
+use Rattle.core_proper.specs.Proper.{IsProper}
+use Rattle.port_call.specs.Piece.{steps_of}
+use Rattle.pe_loop.specs.Leave.{left_by}
+use Rattle.pe_loop.specs.Stay.{IsUp}
+use Rattle.pe_icc.specs.Amid.{IsRunning, IsAble, IsSame}
+use Rattle.pe_icc.specs.Icc.{IsLight}
+use Rattle.pe_icc.specs.Operate.{finds_kick}
+
+-- the value that an operation writes; a read has none
+abbrev pub written_by : GuestOp → Option ℕ
+written_by (Icc reg write) = write
+written_by (Mem frame offset size write) = write
+
+-- a write that takes the ITS
+abbrev pub takes_turn_by : GuestShape → GuestOp → Bool
+takes_turn_by shape (Mem Its offset size write) = takes_turn shape (decoded offset size) write
+takes_turn_by shape op = false
+
+-- before anything else, each interrupt that the vCPU held left its interface, and then nothing was there
+pub record LeavesFirst (old : Seen) (vcpu : Loaded) (part : List Made) : Type 0 where
+  pub first : List Made
+  pub rest : List Made
+  pub split : part ≡ first ++ rest
+  pub events : part_events old first ≡ map (left_by old.actor) (held_keys vcpu)
+  pub empty : (seen_after old first).local.at ≡ []
+
+-- so it was for a memory-mapped access; an access of the CPU interface that asks for nothing else, where no kick was found, is its one look for a kick: no
+-- scan, and no exit
+abbrev pub IsMadeBy : Seen → GuestOp → Loaded → List Made → Type 0
+IsMadeBy old (Icc reg write) vcpu part = IsLight old reg write vcpu → finds_kick part ≡ false → steps_of part ≡ Poll (Some reg) write ∷ []
+IsMadeBy old (Mem frame offset size write) vcpu part = LeavesFirst old vcpu part
+
+-- a vCPU did an operation: the part that it added is the call, and proper wherever its protocol is between two accesses, and its protocol is so again after it;
+-- it is the same vCPU on a PE with as many list registers; a read has an answer, and a write has none
+pub record DoesOperation (old new : Seen) (op : GuestOp) (before after : Loaded) (answer : Option ℕ) : Type 0 where
+  pub part : List Made
+  pub adds : Adds old new part
+  pub call : MakesCall old part (Access op) answer
+  pub proper : (p : Progress) → IsRunning old before p → IsProper (shape_of old) old.actor p (part_of (Access op) before.regs.n part answer)
+  pub goes_on : (p : Progress) → IsRunning old before p → IsRunning new after (progress_of (shape_of old) old.actor p (part_of (Access op) before.regs.n part answer))
+  pub answers : is_some answer ≡ is_none (written_by op)
+  pub made : IsMadeBy old op before part
+  pub up : IsUp new after
+  pub same : IsSame before after
+
+-- the beginning of a part: for a call, with the steps so far
+abbrev pub begun_part : GuestOp → ℕ → List Made → List Act
+begun_part op lrs part = begins (Access op) lrs ∷ map makes part
+
+-- memory was refused for an operation, one that takes the ITS: the part that it added is no whole call, but proper so far wherever the vCPU's protocol was between
+-- two accesses, and no scan is owed then; it is the same vCPU, on its PE again
+pub record StopsOperation (old new : Seen) (op : GuestOp) (before after : Loaded) : Type 0 where
+  pub part : List Made
+  pub adds : Adds old new part
+  pub takes : takes_turn_by (shape_of old) op ≡ true
+  pub proper : (p : Progress) → IsRunning old before p → IsProper (shape_of old) old.actor p (begun_part op before.regs.n part)
+  pub goes_on : (p : Progress) → IsRunning old before p → IsAble new after (Access op) paid (progress_of (shape_of old) old.actor p (begun_part op before.regs.n part))
+  pub made : LeavesFirst old before part
+  pub up : IsUp new after
+  pub same : IsSame before after

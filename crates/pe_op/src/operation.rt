@@ -1,0 +1,44 @@
+//! One operation of a vCPU that is on a PE.
+ghost use Rattle.std.specs.Prelude.{◌≡◌, IsTrue, IfOk, OnErr};
+ghost use Rattle.port_core.specs.Port.{shape_of};
+ghost use Rattle.scn_base.specs.Good.{is_good_op};
+ghost use Rattle.pe_loop.specs.Stay.{IsUp};
+ghost use Rattle.pe_op.specs.Operation.{DoesOperation, StopsOperation};
+
+use crate::round::access_frame;
+use gic_base::{GuestOp, NoMemory};
+use pe_icc::icc_op;
+use port_core::Port;
+use std::sync::Wait;
+use vcpu_state::Loaded;
+
+/// Does one operation of a vCPU that is on a PE: an access of a register of its CPU interface, or one of 1, 2, 4 or 8 bytes at a
+/// byte offset in the distributor, in the redistributor of a vCPU of the guest or in the ITS, or at an address of the guest's
+/// memory (IHI 0069, "AArch64 System register descriptions" and "The GIC memory-mapped register maps"). The register can be read
+/// or written so; the access lies in its frame, the value that is written fits its size, and one of memory is aligned to it. The
+/// answer is Some exactly for a read. For a memory-mapped access the vCPU first leaves its PE, which takes back all that it
+/// holds, and afterwards enters it again, with as many list registers, whatever came of the access. `NoMemory` comes only at a
+/// write that takes the ITS: then what was done is no whole call, but all that the vCPU took for it is given back, and it is on
+/// its PE again. Guest, vCPU and count of operations stay. It waits while another actor has the ITS, GICD_CTLR's mark or an
+/// interrupt that it accesses, and where kicks keep coming.
+pub fn guest_op<P: Port, R: Wait>(
+    rt: &R,
+    port: &mut P,
+    vcpu: &mut Loaded,
+    op: &GuestOp,
+) -> Result<Option<u64>, NoMemory>
+    requires up { IsUp (P.seen port.old) vcpu.old }
+    requires good { IsTrue (is_good_op (shape_of (P.seen port.old)) op.now) }
+    ensures done { IfOk result (λ answer. DoesOperation (P.seen port.old) (P.seen port.new) op.now vcpu.old vcpu.new answer) }
+    ensures stopped { OnErr result (StopsOperation (P.seen port.old) (P.seen port.new) op.now vcpu.old vcpu.new) }
+{
+    match *op {
+        GuestOp::Icc { reg, write } => Ok(icc_op(rt, port, vcpu, reg, write)),
+        GuestOp::Mem {
+            frame,
+            offset,
+            size,
+            write,
+        } => access_frame(rt, port, vcpu, frame, offset, size, write),
+    }
+}

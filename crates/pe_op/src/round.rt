@@ -1,0 +1,37 @@
+//! A memory-mapped access of a vCPU that is on a PE.
+ghost use Rattle.std.specs.Prelude.{◌≡◌, IsTrue, IfOk, OnErr};
+ghost use Rattle.gic_base.specs.declared.operation.GuestOp.TheVariants.{Mem};
+ghost use Rattle.port_core.specs.Port.{shape_of};
+ghost use Rattle.scn_base.specs.Good.{is_good_op};
+ghost use Rattle.pe_loop.specs.Stay.{IsUp};
+ghost use Rattle.pe_op.specs.Operation.{DoesOperation, StopsOperation};
+
+use gic_base::{Frame, NoMemory};
+use pe_icc::copy_of;
+use pe_its::mem_op;
+use pe_loop::{enter, leave};
+use port_core::Port;
+use std::sync::Wait;
+use vcpu_state::Loaded;
+
+/// Makes a memory-mapped access: the vCPU leaves its PE before it, and enters it again after it.
+pub(crate) fn access_frame<P: Port, R: Wait>(
+    rt: &R,
+    port: &mut P,
+    vcpu: &mut Loaded,
+    frame: Frame,
+    offset: u32,
+    size: u32,
+    write: Option<u64>,
+) -> Result<Option<u64>, NoMemory>
+    requires up { IsUp (P.seen port.old) vcpu.old }
+    requires good { IsTrue (is_good_op (shape_of (P.seen port.old)) (Mem frame offset size write)) }
+    ensures done { IfOk result (λ answer. DoesOperation (P.seen port.old) (P.seen port.new) (Mem frame offset size write) vcpu.old vcpu.new answer) }
+    ensures stopped { OnErr result (StopsOperation (P.seen port.old) (P.seen port.new) (Mem frame offset size write) vcpu.old vcpu.new) }
+{
+    let lrs = vcpu.regs.n;
+    let shelved = leave(port, copy_of(vcpu));
+    let answer = mem_op(rt, port, frame, offset, size, write);
+    *vcpu = enter(port, shelved, lrs);
+    answer
+}
