@@ -1,0 +1,135 @@
+-- The candidate indices are complete at every moment of every run.
+use Rattle.std.proofs.Common.{◌≡◌, ℕ, zero, suc, map, fold, if◌then◌else◌, slice_index_or, slice_set, ◌&&◌, ◌||◌, Bool, true, false, IsTrue, List, [], ◌∷◌, Option, Some, None, refl, ap, ◌∙◌, subst}
+use Rattle.gic_base.specs.declared.interrupt.Key.{Key}
+use Rattle.gic_base.specs.declared.shape.GuestShape.{GuestShape}
+use Rattle.gic_base.specs.Interrupt.{has_interrupt}
+use Rattle.gic_base.specs.Shape.{IsShape}
+use Rattle.gic_word.specs.declared.record.Irq.{Irq as IrqRecord}
+use Rattle.gic_word.specs.Word.{irq_of}
+use Rattle.gic_open.specs.Opening.{irqs_of, irq_in, opening_irq, opening_irqs, with_preset, after_preset}
+use Rattle.scn_base.specs.declared.preset.Preset.{Preset}
+use Rattle.std.specs.List.{range_with_len}
+use Rattle.gic_base.specs.Interrupt.{interrupt_count, key_at, place_of}
+use Rattle.gic_base.specs.declared.interrupt.Key.TheVariants.{Private, Spi, Lpi}
+use Rattle.gic_word.specs.Record.{is_number, is_ripe, is_pending, is_forwarded, target_in}
+use Rattle.gic_open.proofs.OpeningLemmas.{opening_valid}
+use Rattle.scn_base.specs.declared.guest.GuestSpec.{GuestSpec}
+use Rattle.scn_base.specs.Good.{preset_key, IsGoodGuest}
+use Rattle.port_core.specs.declared.run.Entry.{Entry}
+use Rattle.port_core.specs.declared.word_id.WordId.TheVariants.{Irq}
+use Rattle.port_core.specs.Run.{CoreState, opening, word_in, after, Takes, IsRun, IsSound, end_of}
+use Rattle.port_core.proofs.OpeningLemmas.{opens_sound, word_opens}
+use Rattle.port_core.proofs.StepLemmas.{steps_sound}
+use Rattle.port_core.proofs.StepWords.{packed_is}
+use Rattle.core_fresh.specs.Index.{concerns, IsComplete, IndexIsComplete}
+use Rattle.gic_call.specs.Trace.{Happened}
+use Rattle.gic_history.specs.Moves.{happened}
+use Rattle.gic_history.specs.State.{Ideal, opening as opening_ideal}
+use Rattle.core_laws.specs.Known.{IsKnown}
+use Rattle.core_laws.specs.Related.{Related}
+use Rattle.core_laws.specs.Simulates.{IsSimulatedAs, event_of}
+use Rattle.core_laws.proofs.KnownSteps.{keeps_known}
+use Rattle.core_laws.proofs.RunSteps.{entry_simulates, related_opens, known_opens}
+use Rattle.core_fresh.proofs.IndexSteps.{keeps_complete}
+
+-- a moment of a run: a state of the ideal controller agrees with the core's
+pub record IsReached (shape : GuestShape) (state : CoreState) : Type 0 where
+  pub sound : IsSound shape state
+  pub known : IsKnown shape state
+  pub ideal : Ideal
+  pub related : Related shape state ideal
+
+pub reaches_next : (shape : GuestShape) (state : CoreState) (entry : Entry) → IsShape shape → IsReached shape state → Takes shape state entry → IsReached shape (after shape state entry)
+reaches_next shape state entry good at takes =
+    let next = steps_sound shape state entry good at.sound takes in
+    let known = keeps_known shape state entry good at.sound takes next at.known in
+    of (event_of shape state entry) (entry_simulates shape state at.ideal entry good at.sound at.related at.known takes) next known
+  where
+    of : (o : Option Happened) → IsSimulatedAs shape (after shape state entry) at.ideal entry.actor o → IsSound shape (after shape state entry) → IsKnown shape (after shape state entry) → IsReached shape (after shape state entry)
+    of None related next known = record { sound = next; known = known; ideal = at.ideal; related = related }
+    of (Some happening) is next known = record { sound = next; known = known; ideal = happened entry.actor happening.event at.ideal; related = is.related }
+
+run_complete : (shape : GuestShape) (state : CoreState) (entries : List Entry) → IsShape shape → IsReached shape state → IsComplete shape state → IsRun shape state entries → IsComplete shape (end_of shape state entries)
+run_complete shape state [] good at complete run = complete
+run_complete shape state (entry ∷ entries) good at complete run =
+    run_complete shape (after shape state entry) entries good (reaches_next shape state entry good at run.0)
+    (keeps_complete shape state at.ideal entry.actor entry.made.step entry.made.found entry.made.left entry.made.tables (record { good = good; sound = at.sound; related = at.related; takes = run.0 }) complete) run.1
+
+-- As a guest opens, no wire is up.
+
+AreDown : List IrqRecord → Type 0
+AreDown irqs = (i : ℕ) (d : IrqRecord) → d.line ≡ false → (slice_index_or irqs i d).line ≡ false
+
+mapped_down : {T : Type 0} (f : T → IrqRecord) (xs : List T) → ((x : T) → (f x).line ≡ false) → AreDown (map f xs)
+unfolding AreDown
+mapped_down f [] down i d h = h
+mapped_down f (x ∷ xs) down zero d h = down x
+mapped_down f (x ∷ xs) down (suc i) d h = mapped_down f xs down i d h
+
+set_down : (irqs : List IrqRecord) (at : ℕ) (irq : IrqRecord) → irq.line ≡ false → AreDown irqs → AreDown (slice_set irqs at irq)
+unfolding AreDown
+set_down [] at irq down are i d h = h
+set_down (first ∷ rest) zero irq down are zero d h = down
+set_down (first ∷ rest) zero irq down are (suc i) d h = are (suc i) d h
+set_down (first ∷ rest) (suc at) irq down are zero d h = are zero d h
+set_down (first ∷ rest) (suc at) irq down are (suc i) d h = set_down rest at irq down (λ j e g. are (suc j) e g) i d h
+
+opening_down : (on : Bool) (key : Key) → (opening_irq on key).line ≡ false
+opening_down on (Private vcpu id) = refl
+opening_down on (Spi id) = refl
+opening_down on (Lpi id) = refl
+
+in_down : (shape : GuestShape) (irqs : List IrqRecord) (key : Key) → AreDown irqs → (irq_in shape irqs key).line ≡ false
+unfolding AreDown
+in_down shape irqs key are = of (has_interrupt shape key)
+  where
+    of : (b : Bool) → (if b then slice_index_or irqs (place_of shape key) (opening_irq false key) else opening_irq false key).line ≡ false
+    of true = are (place_of shape key) (opening_irq false key) (opening_down false key)
+    of false = opening_down false key
+
+preset_down : (shape : GuestShape) (irqs : List IrqRecord) (preset : Preset) → AreDown irqs → AreDown (after_preset shape irqs preset)
+preset_down shape irqs preset are = of (has_interrupt shape (preset_key preset))
+  where
+    irq : IrqRecord
+    irq = with_preset preset (irq_in shape irqs (preset_key preset))
+
+    of : (b : Bool) → AreDown (if b then slice_set irqs (place_of shape (preset_key preset)) irq else irqs)
+    of true = set_down irqs (place_of shape (preset_key preset)) irq (in_down shape irqs (preset_key preset) are) are
+    of false = are
+
+presets_down : (shape : GuestShape) (irqs : List IrqRecord) (presets : List Preset) → AreDown irqs → AreDown (fold (after_preset shape) irqs presets)
+presets_down shape irqs [] are = are
+presets_down shape irqs (preset ∷ presets) are = presets_down shape (after_preset shape irqs preset) presets (preset_down shape irqs preset are)
+
+opens_down : (guest : GuestSpec) (key : Key) → (irq_in guest.shape (irqs_of guest) key).line ≡ false
+opens_down guest key =
+    in_down guest.shape (irqs_of guest) key
+    (presets_down guest.shape (opening_irqs guest.on guest.shape) guest.presets (mapped_down (λ place. opening_irq guest.on (key_at guest.shape place)) (range_with_len 0 (interrupt_count guest.shape)) (λ place. opening_down guest.on (key_at guest.shape place))))
+
+-- so none is pending, and none is active
+idle_concerns : (shape : GuestShape) (vcpu : ℕ) (irq : IrqRecord) → irq.line ≡ false → irq.rise ≡ false → irq.soft ≡ false → irq.act_by ≡ None → concerns shape vcpu irq ≡ false
+idle_concerns shape vcpu irq line rise soft active =
+    ap (λ o. is_ripe irq vcpu shape || is_number vcpu o) active ∙ ap (λ b. (b && irq.enabled && is_forwarded irq && is_number vcpu (target_in irq.route shape)) || false) pending
+  where
+    either : (b : Bool) → (if b then false else false) ≡ false
+    either true = refl
+    either false = refl
+
+    pending : is_pending irq ≡ false
+    pending = ap (λ s. (if irq.edge then irq.rise else irq.line) || s) soft ∙ ap (λ r. (if irq.edge then r else irq.line) || false) rise ∙ ap (λ l. (if irq.edge then false else l) || false) line ∙ ap (λ b. b || false) (either irq.edge)
+
+pub opens_complete : (guest : GuestSpec) (number : ℕ) → IsGoodGuest guest → IsComplete guest.shape (opening guest number)
+opens_complete guest number good key vcpu there within home asks =
+    let valid = opening_valid guest key good there in
+    let irq = irq_in guest.shape (irqs_of guest) key in
+    let word : irq_of (word_in guest.shape (opening guest number) (Irq key)) ≡ irq = ap irq_of (word_opens guest number (Irq key) good there) ∙ packed_is irq valid.record_of.packable in
+    absurd (no_true (idle_concerns guest.shape vcpu irq (opens_down guest key) valid.no_rise valid.no_soft valid.inactive) (subst (λ i. IsTrue (concerns guest.shape vcpu i)) word asks))
+  where
+    no_true : {b : Bool} → b ≡ false → IsTrue b → ⊥
+    no_true {b} e h = cc
+
+pub reached_opens : (guest : GuestSpec) (number : ℕ) → IsGoodGuest guest → IsReached guest.shape (opening guest number)
+reached_opens guest number good = record { sound = opens_sound guest number good; known = known_opens guest number good; ideal = opening_ideal guest; related = related_opens guest number good }
+
+pub runs_complete : IndexIsComplete
+runs_complete guest number entries good run = run_complete guest.shape (opening guest number) entries good.shape (reached_opens guest number good) (opens_complete guest number good) run

@@ -1,0 +1,11 @@
+pub mod AfterLemmas
+pub mod ToldLemmas
+pub mod TellSteps
+pub mod IndexSteps
+pub mod WaitingSteps
+pub mod ScanLemmas
+pub mod ScanSteps
+pub mod WantSteps
+pub mod IndexRuns
+pub mod ScanRuns
+pub mod WantRuns

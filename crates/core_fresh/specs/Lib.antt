@@ -1,0 +1,4 @@
+pub mod Index
+pub mod Waiting
+pub mod Scan
+pub mod Wants

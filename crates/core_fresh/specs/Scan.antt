@@ -1,0 +1,58 @@
+-- A vCPU's scan overlooks no interrupt that waits for it (own choice).
+use Rattle.std.specs.Prelude.{◌≡◌, ◌⊎◌, ℕ, ◌/◌, ◌≤◌, false, IsTrue, List, Contains, None, ◌<◌}
+use Rattle.std.specs.Option.{option_map}
+use Rattle.gic_base.specs.declared.interrupt.Key.{Key}
+use Rattle.gic_base.specs.declared.shape.GuestShape.{GuestShape}
+use Rattle.gic_lr.specs.declared.entry.LrState.TheVariants.{Pending}
+use Rattle.scn_base.specs.declared.guest.GuestSpec.{GuestSpec}
+use Rattle.scn_base.specs.Good.{IsGoodGuest}
+use Rattle.vcpu_refill.specs.declared.offer.Offer.{Offer}
+use Rattle.vcpu_refill.specs.Order.{first_among}
+use Rattle.vcpu_refill.specs.Plan.{plan, regs_of, chosen_as}
+use Rattle.port_core.specs.Local.{is_cand}
+use Rattle.port_core.specs.Place.{index_bit}
+use Rattle.port_core.specs.Run.{CoreState, opening}
+use Rattle.core_proper.specs.Ideal.{end_of_moments}
+use Rattle.core_proper.specs.Parts.{CoreMoment}
+use Rattle.core_proper.specs.Progress.{Progress, progress_in}
+use Rattle.core_proper.specs.Proper.{IsProperRun}
+use Rattle.core_proper.specs.Registers.{alone}
+use Rattle.core_proper.specs.Scan.{Purpose, planned, trapped, bare, Scan, idle, taking, looking, claiming}
+use Rattle.core_fresh.specs.Waiting.{record_in, IsWaiting, IsCalm}
+
+-- an interrupt with the record in its word
+abbrev pub offer_in : GuestShape → CoreState → Key → Offer
+offer_in shape state key = record { key = key; irq = record_in shape state key }
+
+-- a vCPU took its bit from the index and is still to look at it, where its scan looked at the bits before this one
+pub record IsAhead (shape : GuestShape) (p : Progress) (from : ℕ) (key : Key) : Type 0 where
+  pub cand : IsTrue (is_cand p.local.cands (index_bit shape key))
+  pub ahead : from ≤ index_bit shape key
+
+-- a vCPU's registers are those that its scan asks for, of these interrupts, on a PE with so many list registers: the plan's; those with the first one alone; or
+-- those with none
+abbrev pub IsFilled : GuestShape → ℕ → Progress → List Offer → ℕ → Purpose → Type 0
+IsFilled shape vcpu p offers lrs planned = let fill = plan offers vcpu p.local.cpu shape lrs in (p.regs ≡ regs_of fill p.local.cpu lrs) × (p.trapping ≡ fill.trapping)
+IsFilled shape vcpu p offers lrs trapped = p.regs ≡ alone (option_map (chosen_as Pending) (first_among offers vcpu p.local.cpu shape)) p.local.cpu lrs
+IsFilled shape vcpu p offers lrs bare = p.regs ≡ alone None p.local.cpu lrs
+
+-- a vCPU filled its registers by what it found, and every interrupt that waits for it is among that, as it is
+pub record HasScanned (shape : GuestShape) (state : CoreState) (vcpu : ℕ) (p : Progress) : Type 0 where
+  pub offers : List Offer
+  pub lrs : ℕ
+  pub purpose : Purpose
+  pub filled : IsFilled shape vcpu p offers lrs purpose
+  pub covers : (key : Key) → IsWaiting shape state vcpu key → Contains offers (offer_in shape state key)
+
+-- while a scan goes on, each interrupt that waits for the vCPU is still to be found, or was found as it is
+abbrev pub Covers : GuestShape → CoreState → ℕ → Progress → Scan → Type 0
+Covers shape state vcpu p idle = Unit {0}
+Covers shape state vcpu p (taking purpose words) = (key : Key) → IsWaiting shape state vcpu key → IsTrue (is_cand p.local.cands (index_bit shape key)) ⊎ (words ≤ index_bit shape key / 64)
+Covers shape state vcpu p (looking purpose from offers) = (key : Key) → IsWaiting shape state vcpu key → IsAhead shape p from key ⊎ Contains offers (offer_in shape state key)
+Covers shape state vcpu p (claiming claims takes) = HasScanned shape state vcpu p
+
+-- so it is at every moment of every proper run, of a vCPU that was told of all changes and had no claim fail
+abbrev pub ScanOverlooksNone : Type 0
+ScanOverlooksNone =
+    (guest : GuestSpec) (number : ℕ) (moments : List CoreMoment) (vcpu : ℕ) → IsGoodGuest guest → IsProperRun guest number moments → vcpu < guest.shape.vcpus → IsCalm guest.shape (end_of_moments guest.shape (opening guest number) moments) vcpu
+    → (progress_in guest number moments vcpu).failed ≡ false → Covers guest.shape (end_of_moments guest.shape (opening guest number) moments) vcpu (progress_in guest number moments vcpu) (progress_in guest number moments vcpu).scan

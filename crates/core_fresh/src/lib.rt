@@ -1,0 +1,6 @@
+//! What every run of the core keeps so that no change of an interrupt is lost on its way to a vCPU.
+#![tactic(auto)]
+
+mod laws;
+
+pub use laws::{index_is_complete, scans_overlook_none, wants_are_kept};
