@@ -1,5 +1,5 @@
 //! Operations of two vCPUs and of a device of one guest, one after the other, and what they read.
-ghost use Rattle.std.specs.Prelude.{◌≡◌, ◌%◌, IsTrue, IfSome};
+ghost use Rattle.std.specs.Prelude.{◌≡◌, ◌%◌, IsTrue, IfSome, None};
 ghost use Rattle.gic_ram.specs.Access.{is_size as is_size_of};
 ghost use Rattle.scn_base.specs.Good.{fits as fits_in, has_frame as has_frame_in, is_inside as is_inside_of, is_good_op as is_good_op_of};
 ghost use Rattle.dev_port.specs.Device.{CanCall};
@@ -296,6 +296,7 @@ fn perform<R: Wait>(rt: &R, guest: &mut GuestPort, act: &Act) -> Option<()>
 /// Does acts, one after the other: the number of the first that does not go as it is to, if one does not.
 fn first_other<R: Wait>(rt: &R, guest: &mut GuestPort, acts: &[Act]) -> Option<usize>
     requires { (told guest.old).number ≡ 0 }
+    ensures { result ≡ None → (told guest.new).number ≡ 0 }
 {
     for (number, act) in acts.iter().enumerate() {
         if perform(rt, guest, act).is_none() {
@@ -332,7 +333,10 @@ fn play_both<R: Wait>(
     }
     let mut port = SeqPort::start(alloc, &scenario)?;
     let guest = port.current_mut();
-    Ok(first_other(rt, guest, early).or_else(|| first_other(rt, guest, late)))
+    match first_other(rt, guest, early) {
+        None => Ok(first_other(rt, guest, late)),
+        other => Ok(other),
+    }
 }
 
 use Act::{Message, Msi, Vcpu};
