@@ -1,5 +1,5 @@
 -- The candidate indices are complete at every moment of every run.
-use Rattle.std.proofs.Common.{◌≡◌, ℕ, zero, suc, map, fold, if◌then◌else◌, slice_index_or, slice_set, ◌&&◌, ◌||◌, Bool, true, false, IsTrue, List, [], ◌∷◌, Option, Some, None, refl, ap, ◌∙◌, subst}
+use Rattle.std.proofs.Common.{◌≡◌, ℕ, zero, suc, map, fold, if◌then◌else◌, slice_index_or, slice_set, ◌&&◌, ◌||◌, inl, inr, Bool, true, false, IsTrue, List, [], ◌∷◌, Option, Some, None, refl, ap, ◌∙◌, subst}
 use Rattle.gic_base.specs.declared.interrupt.Key.{Key}
 use Rattle.gic_base.specs.declared.shape.GuestShape.{GuestShape}
 use Rattle.gic_base.specs.Interrupt.{has_interrupt}
@@ -21,7 +21,11 @@ use Rattle.port_core.specs.Run.{CoreState, opening, word_in, after, Takes, IsRun
 use Rattle.port_core.proofs.OpeningLemmas.{opens_sound, word_opens}
 use Rattle.port_core.proofs.StepLemmas.{steps_sound}
 use Rattle.port_core.proofs.StepWords.{packed_is}
-use Rattle.core_fresh.specs.Index.{concerns, IsComplete, IndexIsComplete}
+use Rattle.core_fresh.specs.Index.{concerns, IsTold, IsComplete, IndexIsComplete}
+use Rattle.its_tab.specs.Maps.{Maps}
+use Rattle.port_core.specs.declared.step.CoreStep.{CoreStep}
+use Rattle.core_laws.proofs.StepContext.{IsStep}
+use Rattle.core_fresh.proofs.ToldLemmas.{Lasts, Told, AllTold}
 use Rattle.gic_call.specs.Trace.{Happened}
 use Rattle.gic_history.specs.Moves.{happened}
 use Rattle.gic_history.specs.State.{Ideal, opening as opening_ideal}
@@ -49,11 +53,28 @@ reaches_next shape state entry good at takes =
     of None related next known = record { sound = next; known = known; ideal = at.ideal; related = related }
     of (Some happening) is next known = record { sound = next; known = known; ideal = happened entry.actor happening.event at.ideal; related = is.related }
 
-run_complete : (shape : GuestShape) (state : CoreState) (entries : List Entry) → IsShape shape → IsReached shape state → IsComplete shape state → IsRun shape state entries → IsComplete shape (end_of shape state entries)
-run_complete shape state [] good at complete run = complete
-run_complete shape state (entry ∷ entries) good at complete run =
+-- Nothing is said of who changed an interrupt last.
+
+abbrev anyone : ℕ → Key → Type 0
+anyone actor key = Unit {0}
+
+no_matter : {shape : GuestShape} {state : CoreState} {ideal : Ideal} {actor : ℕ} {step : CoreStep} {found left : ℕ} {tables : Option Maps} (is : IsStep shape state ideal actor step found left tables) → Lasts is anyone anyone
+no_matter is = record { kept = λ key other vcpu there quiet owes last. tt; made = λ key there changes. tt }
+
+complete : (shape : GuestShape) (state : CoreState) → AllTold shape state anyone → IsComplete shape state
+complete shape state told key vcpu there within home asks = of (told key vcpu there within home asks)
+  where
+    of : Told shape state anyone vcpu key → IsTold shape state vcpu key
+    of (inl indexed) = inl indexed
+    of (inr (inl taken)) = inr (inl taken)
+    of (inr (inr owed)) = inr (inr (record { actor = owed.actor; there = owed.there; owes = owed.owes; kicks = λ waits. elim (owed.kicks waits) [ inl kick ↦ inl kick.0 | inr own ↦ inr own ] }))
+
+run_complete : (shape : GuestShape) (state : CoreState) (entries : List Entry) → IsShape shape → IsReached shape state → AllTold shape state anyone → IsRun shape state entries → AllTold shape (end_of shape state entries) anyone
+run_complete shape state [] good at told run = told
+run_complete shape state (entry ∷ entries) good at told run =
+    let is : IsStep shape state at.ideal entry.actor entry.made.step entry.made.found entry.made.left entry.made.tables = record { good = good; sound = at.sound; related = at.related; takes = run.0 } in
     run_complete shape (after shape state entry) entries good (reaches_next shape state entry good at run.0)
-    (keeps_complete shape state at.ideal entry.actor entry.made.step entry.made.found entry.made.left entry.made.tables (record { good = good; sound = at.sound; related = at.related; takes = run.0 }) complete) run.1
+    (keeps_complete shape state at.ideal entry.actor entry.made.step entry.made.found entry.made.left entry.made.tables is (no_matter is) told) run.1
 
 -- As a guest opens, no wire is up.
 
@@ -118,8 +139,8 @@ idle_concerns shape vcpu irq line rise soft active =
     pending : is_pending irq ≡ false
     pending = ap (λ s. (if irq.edge then irq.rise else irq.line) || s) soft ∙ ap (λ r. (if irq.edge then r else irq.line) || false) rise ∙ ap (λ l. (if irq.edge then false else l) || false) line ∙ ap (λ b. b || false) (either irq.edge)
 
-pub opens_complete : (guest : GuestSpec) (number : ℕ) → IsGoodGuest guest → IsComplete guest.shape (opening guest number)
-opens_complete guest number good key vcpu there within home asks =
+pub opens_told : (guest : GuestSpec) (number : ℕ) (last : ℕ → Key → Type 0) → IsGoodGuest guest → AllTold guest.shape (opening guest number) last
+opens_told guest number last good key vcpu there within home asks =
     let valid = opening_valid guest key good there in
     let irq = irq_in guest.shape (irqs_of guest) key in
     let word : irq_of (word_in guest.shape (opening guest number) (Irq key)) ≡ irq = ap irq_of (word_opens guest number (Irq key) good there) ∙ packed_is irq valid.record_of.packable in
@@ -132,4 +153,5 @@ pub reached_opens : (guest : GuestSpec) (number : ℕ) → IsGoodGuest guest →
 reached_opens guest number good = record { sound = opens_sound guest number good; known = known_opens guest number good; ideal = opening_ideal guest; related = related_opens guest number good }
 
 pub runs_complete : IndexIsComplete
-runs_complete guest number entries good run = run_complete guest.shape (opening guest number) entries good.shape (reached_opens guest number good) (opens_complete guest number good) run
+runs_complete guest number entries good run =
+    complete guest.shape (end_of guest.shape (opening guest number) entries) (run_complete guest.shape (opening guest number) entries good.shape (reached_opens guest number good) (opens_told guest number anyone good) run)

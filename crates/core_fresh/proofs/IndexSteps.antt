@@ -40,10 +40,10 @@ use Rattle.port_core.proofs.StepLemmas.{steps_sound}
 use Rattle.port_core.proofs.StepMade.{all_three}
 use Rattle.gic_history.specs.State.{Ideal}
 use Rattle.core_laws.proofs.StepContext.{one, IsStep, has}
-use Rattle.core_fresh.specs.Index.{concerns, is_indexed, owes_mark, IsTold, IsComplete}
+use Rattle.core_fresh.specs.Index.{concerns, is_indexed, owes_mark}
 use Rattle.core_fresh.proofs.AfterLemmas.{later, left_in, word_cases}
 use Rattle.core_proper.proofs.CandLemmas.{cand_same}
-use Rattle.core_fresh.proofs.ToldLemmas.{owes_none, index_there, Kicks, told_taken, told_owed, index_stays, carries, marks_stay, cands_stay, carries_quiet}
+use Rattle.core_fresh.proofs.ToldLemmas.{owes_none, index_there, step_changes, Lasts, Told, AllTold, Kicks, told_taken, told_owed, index_stays, carries, marks_stay, cands_stay, carries_quiet}
 use Rattle.core_fresh.proofs.TellSteps.{or_left, or_right, pow_self, concerns_own, same_bit, not_both, Tells, claim_held, tells, tells_raise, tells_wire_up, tells_wire_down, tells_claim, tells_give_back, tells_release, tells_touch, tells_want}
 
 -- whether or not a step does what it is for
@@ -106,85 +106,85 @@ settled_keeps shape actor key k cands good here there each own differ h = of (is
         cand_same cands (index_bit shape k) (index_bit shape key) (omega (arith, bit, each, good.spis, good.espis, good.lpis))
         (λ same. differ (same_bit shape actor key k good here there own (and_parts (is_vcpu shape actor) (is_of_vcpu actor k) e).1 same)) ∙ h
 
-abbrev Carries : {shape : GuestShape} {state : CoreState} {ideal : Ideal} {actor : ℕ} {step : CoreStep} {found left : ℕ} {tables : Option Maps} → IsStep shape state ideal actor step found left tables → Type 0
-Carries {shape} {state} is = IsComplete shape state → IsComplete shape (later is)
+abbrev Carries : {shape : GuestShape} {state : CoreState} {ideal : Ideal} {actor : ℕ} {step : CoreStep} {found left : ℕ} {tables : Option Maps} (is : IsStep shape state ideal actor step found left tables) {last later_last : ℕ → Key → Type 0} → Lasts is last later_last → Type 0
+Carries {shape} {state} is {last} {later_last} lasts = AllTold shape state last → AllTold shape (later is) later_last
 
 module _ {shape : GuestShape} {state : CoreState} {ideal : Ideal} {actor found left : ℕ} {tables : Option Maps} where
   -- Causes come and go.
 
   cause_carries :
-      (key : Key) (step : CoreStep) (is : IsStep shape state ideal actor step found left tables) → word_of shape actor step ≡ Irq key → IsTrue (owes_no_mark (seat_at state actor).local)
-      → local_after shape actor (seat_at state actor).local step found ≡ owing_both key (concerned shape (irq_of found)) (seat_at state actor).local → Tells is → Carries is
-  cause_carries key step is on none local told =
-      carries is (index_stays is (λ vcpu number e. differ vcpu number (sym on ∙ e)))
-      (λ k there asks home h. told_taken is k actor refl (subst (λ (l : Local). IsTrue (is_cand l.cands (index_bit shape k))) (sym local) h))
-      (λ k vcpu h kicks. absurd (owes_none k vcpu (seat_at state actor).local none h)) told
+      (key : Key) (step : CoreStep) (is : IsStep shape state ideal actor step found left tables) {last later_last : ℕ → Key → Type 0} (lasts : Lasts is last later_last) → word_of shape actor step ≡ Irq key → IsTrue (owes_no_mark (seat_at state actor).local)
+      → local_after shape actor (seat_at state actor).local step found ≡ owing_both key (concerned shape (irq_of found)) (seat_at state actor).local → Tells is → Carries is lasts
+  cause_carries key step is {last} {later_last} lasts on none local told =
+      carries is lasts (index_stays is lasts (λ vcpu number e. differ vcpu number (sym on ∙ e)))
+      (λ k there asks home h. told_taken is lasts k actor refl (subst (λ (l : Local). IsTrue (is_cand l.cands (index_bit shape k))) (sym local) h))
+      (λ k vcpu there quiet h kicks. absurd (owes_none k vcpu (seat_at state actor).local none h)) told
     where
       differ : (vcpu number : ℕ) → Irq key ≢ Index vcpu number
       differ vcpu number e = absurd (cc)
 
-  carries_raise : (key : Key) (is : IsStep shape state ideal actor (Raise key) found left tables) → Carries is
-  carries_raise key is = cause_carries key (Raise key) is refl is.takes.meets refl (tells_raise key is)
+  carries_raise : (key : Key) (is : IsStep shape state ideal actor (Raise key) found left tables) {last later_last : ℕ → Key → Type 0} (lasts : Lasts is last later_last) → Carries is lasts
+  carries_raise key is {last} {later_last} lasts = cause_carries key (Raise key) is lasts refl is.takes.meets refl (tells_raise key is)
 
-  carries_wire_up : (key : Key) (is : IsStep shape state ideal actor (WireUp key) found left tables) → Carries is
-  carries_wire_up key is = cause_carries key (WireUp key) is refl is.takes.meets refl (tells_wire_up key is)
+  carries_wire_up : (key : Key) (is : IsStep shape state ideal actor (WireUp key) found left tables) {last later_last : ℕ → Key → Type 0} (lasts : Lasts is last later_last) → Carries is lasts
+  carries_wire_up key is {last} {later_last} lasts = cause_carries key (WireUp key) is lasts refl is.takes.meets refl (tells_wire_up key is)
 
-  carries_wire_down : (key : Key) (is : IsStep shape state ideal actor (WireDown key) found left tables) → Carries is
-  carries_wire_down key is = cause_carries key (WireDown key) is refl is.takes.meets refl (tells_wire_down key is)
+  carries_wire_down : (key : Key) (is : IsStep shape state ideal actor (WireDown key) found left tables) {last later_last : ℕ → Key → Type 0} (lasts : Lasts is last later_last) → Carries is lasts
+  carries_wire_down key is {last} {later_last} lasts = cause_carries key (WireDown key) is lasts refl is.takes.meets refl (tells_wire_down key is)
 
   -- Steps on other words, that keep candidates and marks.
 
-  carries_kick : (vcpu : ℕ) (is : IsStep shape state ideal actor (Kick vcpu) found left tables) → Carries is
-  carries_kick vcpu is = carries is (index_stays is (λ v n e. absurd (cc))) (cands_stay is refl) (λ k v h kicks. absurd (owes_none k v (seat_at state actor).local is.takes.meets h)) (λ k v e. absurd (cc))
+  carries_kick : (vcpu : ℕ) (is : IsStep shape state ideal actor (Kick vcpu) found left tables) {last later_last : ℕ → Key → Type 0} (lasts : Lasts is last later_last) → Carries is lasts
+  carries_kick vcpu is {last} {later_last} lasts = carries is lasts (index_stays is lasts (λ v n e. absurd (cc))) (cands_stay is lasts refl) (λ k v there quiet h kicks. absurd (owes_none k v (seat_at state actor).local is.takes.meets h)) (λ k v e. absurd (cc))
 
-  carries_enable : (vcpu : ℕ) (is : IsStep shape state ideal actor (EnableLpis vcpu) found left tables) → Carries is
-  carries_enable vcpu is = carries_quiet is (λ v n e. absurd (cc)) (λ k e. absurd (cc)) refl refl refl
+  carries_enable : (vcpu : ℕ) (is : IsStep shape state ideal actor (EnableLpis vcpu) found left tables) {last later_last : ℕ → Key → Type 0} (lasts : Lasts is last later_last) → Carries is lasts
+  carries_enable vcpu is {last} {later_last} lasts = carries_quiet is lasts (λ v n e. absurd (cc)) (λ k e. absurd (cc)) refl refl refl
 
-  carries_ram_look : (index : ℕ) (is : IsStep shape state ideal actor (RamLook index) found left tables) → Carries is
-  carries_ram_look index is = carries_quiet is (λ v n e. absurd (cc)) (λ k e. absurd (cc)) refl refl refl
+  carries_ram_look : (index : ℕ) (is : IsStep shape state ideal actor (RamLook index) found left tables) {last later_last : ℕ → Key → Type 0} (lasts : Lasts is last later_last) → Carries is lasts
+  carries_ram_look index is {last} {later_last} lasts = carries_quiet is lasts (λ v n e. absurd (cc)) (λ k e. absurd (cc)) refl refl refl
 
-  carries_ram_put : (index seen value : ℕ) (is : IsStep shape state ideal actor (RamPut index seen value) found left tables) → Carries is
-  carries_ram_put index seen value is =
+  carries_ram_put : (index seen value : ℕ) (is : IsStep shape state ideal actor (RamPut index seen value) found left tables) {last later_last : ℕ → Key → Type 0} (lasts : Lasts is last later_last) → Carries is lasts
+  carries_ram_put index seen value is {last} {later_last} lasts =
       let local = (seat_at state actor).local in
-      carries_quiet is (λ v n e. absurd (cc)) (λ k e. absurd (cc)) (either_way (λ (l : Local). l.cands) (succeeds shape actor local (RamPut index seen value) found) local local refl)
+      carries_quiet is lasts (λ v n e. absurd (cc)) (λ k e. absurd (cc)) (either_way (λ (l : Local). l.cands) (succeeds shape actor local (RamPut index seen value) found) local local refl)
       (either_way (λ (l : Local). l.marks) (succeeds shape actor local (RamPut index seen value) found) local local refl)
       (either_way (λ (l : Local). l.owes) (succeeds shape actor local (RamPut index seen value) found) local local refl)
 
-  carries_ctlr_take : (seen value : ℕ) (is : IsStep shape state ideal actor (CtlrTake seen value) found left tables) → Carries is
-  carries_ctlr_take seen value is =
+  carries_ctlr_take : (seen value : ℕ) (is : IsStep shape state ideal actor (CtlrTake seen value) found left tables) {last later_last : ℕ → Key → Type 0} (lasts : Lasts is last later_last) → Carries is lasts
+  carries_ctlr_take seen value is {last} {later_last} lasts =
       let local = (seat_at state actor).local in
       let done : Local = record local { ctlr = true } in
       let b = succeeds shape actor local (CtlrTake seen value) found in
-      carries_quiet is (λ v n e. absurd (cc)) (λ k e. absurd (cc)) (either_way (λ (l : Local). l.cands) b done local refl) (either_way (λ (l : Local). l.marks) b done local refl) (either_way (λ (l : Local). l.owes) b done local refl)
+      carries_quiet is lasts (λ v n e. absurd (cc)) (λ k e. absurd (cc)) (either_way (λ (l : Local). l.cands) b done local refl) (either_way (λ (l : Local). l.marks) b done local refl) (either_way (λ (l : Local). l.owes) b done local refl)
 
-  carries_ctlr_end : (is : IsStep shape state ideal actor CtlrEnd found left tables) → Carries is
-  carries_ctlr_end is = carries_quiet is (λ v n e. absurd (cc)) (λ k e. absurd (cc)) refl refl refl
+  carries_ctlr_end : (is : IsStep shape state ideal actor CtlrEnd found left tables) {last later_last : ℕ → Key → Type 0} (lasts : Lasts is last later_last) → Carries is lasts
+  carries_ctlr_end is {last} {later_last} lasts = carries_quiet is lasts (λ v n e. absurd (cc)) (λ k e. absurd (cc)) refl refl refl
 
-  carries_turn_take : (seen : ℕ) (is : IsStep shape state ideal actor (TurnTake seen) found left tables) → Carries is
-  carries_turn_take seen is =
+  carries_turn_take : (seen : ℕ) (is : IsStep shape state ideal actor (TurnTake seen) found left tables) {last later_last : ℕ → Key → Type 0} (lasts : Lasts is last later_last) → Carries is lasts
+  carries_turn_take seen is {last} {later_last} lasts =
       let local = (seat_at state actor).local in
       let done : Local = record local { turn = true } in
       let b = succeeds shape actor local (TurnTake seen) found in
-      carries_quiet is (λ v n e. absurd (cc)) (λ k e. absurd (cc)) (either_way (λ (l : Local). l.cands) b done local refl) (either_way (λ (l : Local). l.marks) b done local refl) (either_way (λ (l : Local). l.owes) b done local refl)
+      carries_quiet is lasts (λ v n e. absurd (cc)) (λ k e. absurd (cc)) (either_way (λ (l : Local). l.cands) b done local refl) (either_way (λ (l : Local). l.marks) b done local refl) (either_way (λ (l : Local). l.owes) b done local refl)
 
-  carries_command_done : (offset : ℕ) (stalled : Bool) (ending : Option (List ℕ)) (is : IsStep shape state ideal actor (CommandDone offset stalled ending) found left tables) → Carries is
-  carries_command_done offset stalled ending is = carries_quiet is (λ v n e. absurd (cc)) (λ k e. absurd (cc)) refl refl refl
+  carries_command_done : (offset : ℕ) (stalled : Bool) (ending : Option (List ℕ)) (is : IsStep shape state ideal actor (CommandDone offset stalled ending) found left tables) {last later_last : ℕ → Key → Type 0} (lasts : Lasts is last later_last) → Carries is lasts
+  carries_command_done offset stalled ending is {last} {later_last} lasts = carries_quiet is lasts (λ v n e. absurd (cc)) (λ k e. absurd (cc)) refl refl refl
 
-  carries_turn_release : (is : IsStep shape state ideal actor TurnRelease found left tables) → Carries is
-  carries_turn_release is = carries_quiet is (λ v n e. absurd (cc)) (λ k e. absurd (cc)) refl refl refl
+  carries_turn_release : (is : IsStep shape state ideal actor TurnRelease found left tables) {last later_last : ℕ → Key → Type 0} (lasts : Lasts is last later_last) → Carries is lasts
+  carries_turn_release is {last} {later_last} lasts = carries_quiet is lasts (λ v n e. absurd (cc)) (λ k e. absurd (cc)) refl refl refl
 
   -- a look for a kick keeps them too
-  carries_poll : (reg : Option IccReg) (write : Option ℕ) (is : IsStep shape state ideal actor (Poll reg write) found left tables) → Carries is
-  carries_poll reg write is = carries_quiet is (λ v n e. absurd (cc)) (λ k e. absurd (cc)) (poll_cands reg write found (seat_at state actor).local) (poll_marks reg write found (seat_at state actor).local) (poll_owes reg write found (seat_at state actor).local)
+  carries_poll : (reg : Option IccReg) (write : Option ℕ) (is : IsStep shape state ideal actor (Poll reg write) found left tables) {last later_last : ℕ → Key → Type 0} (lasts : Lasts is last later_last) → Carries is lasts
+  carries_poll reg write is {last} {later_last} lasts = carries_quiet is lasts (λ v n e. absurd (cc)) (λ k e. absurd (cc)) (poll_cands reg write found (seat_at state actor).local) (poll_marks reg write found (seat_at state actor).local) (poll_owes reg write found (seat_at state actor).local)
 
   -- Looks.
 
-  carries_look : (word : WordId) (is : IsStep shape state ideal actor (Look word) found left tables) → Carries is
-  carries_look word is =
-      carries is
+  carries_look : (word : WordId) (is : IsStep shape state ideal actor (Look word) found left tables) {last later_last : ℕ → Key → Type 0} (lasts : Lasts is last later_last) → Carries is lasts
+  carries_look word is {last} {later_last} lasts =
+      carries is lasts
       (λ key vcpu there within h. inl (subst (λ n. IsTrue (has_bit n (index_bit shape key % 64))) (sym (stays (Index vcpu (index_bit shape key / 64)) (index_there shape key vcpu (bit_there shape key is.good there) within))) h))
-      (λ key there asks home h. told_taken is key actor refl (of word refl key there asks h))
-      (marks_stay is (look_marks shape actor word found (seat_at state actor).local) (look_owes shape actor word found (seat_at state actor).local))
+      (λ key there asks home h. told_taken is lasts key actor refl (of word refl key there asks h))
+      (marks_stay is lasts (look_marks shape actor word found (seat_at state actor).local) (look_owes shape actor word found (seat_at state actor).local))
       (tells (Look word) is)
     where
       local : Local
@@ -213,8 +213,8 @@ module _ {shape : GuestShape} {state : CoreState} {ideal : Ideal} {actor found l
 
   -- Moves.
 
-  carries_claim : (key : Key) (seen : ℕ) (is : IsStep shape state ideal actor (Claim key seen) found left tables) → Carries is
-  carries_claim key seen is = by_success (succeeds shape actor local (Claim key seen) found) refl
+  carries_claim : (key : Key) (seen : ℕ) (is : IsStep shape state ideal actor (Claim key seen) found left tables) {last later_last : ℕ → Key → Type 0} (lasts : Lasts is last later_last) → Carries is lasts
+  carries_claim key seen is {last} {later_last} lasts = by_success (succeeds shape actor local (Claim key seen) found) refl
     where
       local : Local
       local = (seat_at state actor).local
@@ -225,41 +225,41 @@ module _ {shape : GuestShape} {state : CoreState} {ideal : Ideal} {actor found l
       own : (k : Key) → IsTrue (has_interrupt shape k) → IsTrue (concerns shape actor (irq_of (word_in shape (later is) (Irq k)))) → IsTrue (is_of_vcpu actor k)
       own k there asks = concerns_own shape k actor (word_in shape (later is) (Irq k)) there ((steps_sound shape state (one actor (Claim key seen) found left tables) is.good is.sound is.takes).words (Irq k) there) asks
 
-      by_success : (b : Bool) → succeeds shape actor local (Claim key seen) found ≡ b → IsComplete shape state → IsComplete shape (later is)
+      by_success : (b : Bool) → succeeds shape actor local (Claim key seen) found ≡ b → AllTold shape state last → AllTold shape (later is) later_last
       by_success true e =
           let not_home : (irq_of left).holder ≡ None → ⊥ = λ home. none-some actor (sym home ∙ claim_held key seen is e) in
           let after : local_after shape actor local (Claim key seen) found ≡ claimed shape actor key found local = ap (λ b. if b then claimed shape actor key found local else local) e in
-          carries is (index_stays is (λ v n e. absurd (cc)))
+          carries is lasts (index_stays is lasts (λ v n e. absurd (cc)))
           (λ k there asks home h.
-          told_taken is k actor refl
+          told_taken is lasts k actor refl
           (subst (λ (l : Local). IsTrue (is_cand l.cands (index_bit shape k))) (sym after)
           (settled_keeps shape actor k key local.cands is.good there can.2 (is.sound.locals actor is.takes.actor).cands.each
           (own k there asks)
           (λ same. not_home (ap (λ n. (irq_of n).holder) (sym (left_in is)) ∙ ap (λ j. (irq_of (word_in shape (later is) (Irq j))).holder) (sym same) ∙ home)) h)))
-          (marks_stay is (ap (λ (l : Local). l.marks) after) (ap (λ (l : Local). l.owes) after))
+          (marks_stay is lasts (ap (λ (l : Local). l.marks) after) (ap (λ (l : Local). l.owes) after))
           (tells_claim key seen is)
       by_success false e =
           let after : local_after shape actor local (Claim key seen) found ≡ local = ap (λ b. if b then claimed shape actor key found local else local) e in
-          carries is (index_stays is (λ v n e. absurd (cc)))
-          (λ k there asks home h. told_taken is k actor refl (subst (λ (l : Local). IsTrue (is_cand l.cands (index_bit shape k))) (sym after) h))
-          (marks_stay is (ap (λ (l : Local). l.marks) after) (ap (λ (l : Local). l.owes) after))
+          carries is lasts (index_stays is lasts (λ v n e. absurd (cc)))
+          (λ k there asks home h. told_taken is lasts k actor refl (subst (λ (l : Local). IsTrue (is_cand l.cands (index_bit shape k))) (sym after) h))
+          (marks_stay is lasts (ap (λ (l : Local). l.marks) after) (ap (λ (l : Local). l.owes) after))
           (tells_claim key seen is)
 
-  carries_give_back : (key : Key) (back : Back) (is : IsStep shape state ideal actor (GiveBack key back) found left tables) → Carries is
-  carries_give_back key back is = carries is (index_stays is (λ v n e. absurd (cc))) (cands_stay is refl) (marks_stay is refl refl) (tells_give_back key back is)
+  carries_give_back : (key : Key) (back : Back) (is : IsStep shape state ideal actor (GiveBack key back) found left tables) {last later_last : ℕ → Key → Type 0} (lasts : Lasts is last later_last) → Carries is lasts
+  carries_give_back key back is {last} {later_last} lasts = carries is lasts (index_stays is lasts (λ v n e. absurd (cc))) (cands_stay is lasts refl) (marks_stay is lasts refl refl) (tells_give_back key back is)
 
-  carries_release : (key : Key) (is : IsStep shape state ideal actor (Release key) found left tables) → Carries is
-  carries_release key is = carries is (index_stays is (λ v n e. absurd (cc))) (cands_stay is refl) (λ k vcpu h kicks. absurd (owes_none k vcpu (seat_at state actor).local is.takes.meets.marks h)) (tells_release key is)
+  carries_release : (key : Key) (is : IsStep shape state ideal actor (Release key) found left tables) {last later_last : ℕ → Key → Type 0} (lasts : Lasts is last later_last) → Carries is lasts
+  carries_release key is {last} {later_last} lasts = carries is lasts (index_stays is lasts (λ v n e. absurd (cc))) (cands_stay is lasts refl) (λ k vcpu there quiet h kicks. absurd (owes_none k vcpu (seat_at state actor).local is.takes.meets.marks h)) (tells_release key is)
 
-  carries_touch : (key : Key) (seen : ℕ) (kind : Touching) (is : IsStep shape state ideal actor (Touch key seen kind) found left tables) → Carries is
-  carries_touch key seen kind is =
+  carries_touch : (key : Key) (seen : ℕ) (kind : Touching) (is : IsStep shape state ideal actor (Touch key seen kind) found left tables) {last later_last : ℕ → Key → Type 0} (lasts : Lasts is last later_last) → Carries is lasts
+  carries_touch key seen kind is {last} {later_last} lasts =
       let local = (seat_at state actor).local in
       let owing = owing_both key (concerned_by shape (irq_of found) (touched shape key kind (irq_of found))) local in
-      carries is (index_stays is (λ v n e. absurd (cc))) (cands_stay is (either_way (λ (l : Local). l.cands) (succeeds shape actor local (Touch key seen kind) found) owing local refl))
-      (λ k vcpu h kicks. absurd (owes_none k vcpu local is.takes.meets.marks h)) (tells_touch key seen kind is)
+      carries is lasts (index_stays is lasts (λ v n e. absurd (cc))) (cands_stay is lasts (either_way (λ (l : Local). l.cands) (succeeds shape actor local (Touch key seen kind) found) owing local refl))
+      (λ k vcpu there quiet h kicks. absurd (owes_none k vcpu local is.takes.meets.marks h)) (tells_touch key seen kind is)
 
-  carries_want : (key : Key) (is : IsStep shape state ideal actor (Want key) found left tables) → Carries is
-  carries_want key is = carries is (index_stays is (λ v n e. absurd (cc))) (cands_stay is refl) (marks_stay is refl refl) (tells_want key is)
+  carries_want : (key : Key) (is : IsStep shape state ideal actor (Want key) found left tables) {last later_last : ℕ → Key → Type 0} (lasts : Lasts is last later_last) → Carries is lasts
+  carries_want key is {last} {later_last} lasts = carries is lasts (index_stays is lasts (λ v n e. absurd (cc))) (cands_stay is lasts refl) (marks_stay is lasts refl refl) (tells_want key is)
 
 -- The words of an index.
 
@@ -308,9 +308,9 @@ taken_has cands n found bit within same h =
     (subst (λ word. IsTrue (has_bit word (bit % 64))) (sym (get_or-set_same cands.words n (bit_or (slice_index_or cands.words n 0) found) 0 within)) (or_right (slice_index_or cands.words n 0) found (bit % 64) h))
 
 module _ {shape : GuestShape} {state : CoreState} {ideal : Ideal} {actor found left : ℕ} {tables : Option Maps} where
-  carries_take_index : (n : ℕ) (is : IsStep shape state ideal actor (TakeIndex n) found left tables) → Carries is
-  carries_take_index n is =
-      carries is index (λ k there asks home h. told_taken is k actor refl (taken_keeps local.cands n found (index_bit shape k) within h)) (marks_stay is refl refl) (λ k vcpu on. absurd (cc))
+  carries_take_index : (n : ℕ) (is : IsStep shape state ideal actor (TakeIndex n) found left tables) {last later_last : ℕ → Key → Type 0} (lasts : Lasts is last later_last) → Carries is lasts
+  carries_take_index n is {last} {later_last} lasts =
+      carries is lasts index (λ k there asks home h. told_taken is lasts k actor refl (taken_keeps local.cands n found (index_bit shape k) within h)) (marks_stay is lasts refl refl) (λ k vcpu on. absurd (cc))
     where
       local : Local
       local = (seat_at state actor).local
@@ -320,17 +320,17 @@ module _ {shape : GuestShape} {state : CoreState} {ideal : Ideal} {actor found l
           let few = ltb-true n (index_words shape) (and_parts (is_vcpu shape actor) (nat_lt n (index_words shape)) is.takes.can).1 in
           omega (arith, few, (is.sound.locals actor is.takes.actor).cands.each, is.good.spis, is.good.espis, is.good.lpis)
 
-      index : (k : Key) (vcpu : ℕ) → IsTrue (has_interrupt shape k) → vcpu < shape.vcpus → IsTrue (is_indexed shape state vcpu k) → IsTold shape (later is) vcpu k
+      index : (k : Key) (vcpu : ℕ) → IsTrue (has_interrupt shape k) → vcpu < shape.vcpus → IsTrue (is_indexed shape state vcpu k) → Told shape (later is) later_last vcpu k
       index k vcpu there fits h = elim (word_cases is (Index vcpu (index_bit shape k / 64)) (index_there shape k vcpu (bit_there shape k is.good there) fits)) [
         | inl here ↦
-            told_taken is k vcpu (sym (index_vcpu actor vcpu n (index_bit shape k / 64) here.0))
+            told_taken is lasts k vcpu (sym (index_vcpu actor vcpu n (index_bit shape k / 64) here.0))
             (taken_has local.cands n found (index_bit shape k) within (sym (index_number actor vcpu n (index_bit shape k / 64) here.0))
             (subst (λ word. IsTrue (has_bit word (index_bit shape k % 64))) (sym (is.takes.found ∙ ap (word_in shape state) here.0)) h))
         | inr apart ↦ inl (subst (λ word. IsTrue (has_bit word (index_bit shape k % 64))) (sym apart.1) h)
       ]
 
-  carries_mark : (key : Key) (v : ℕ) (is : IsStep shape state ideal actor (Mark key v) found left tables) → Carries is
-  carries_mark key v is = carries is index cands marks (λ k vcpu on. absurd (cc))
+  carries_mark : (key : Key) (v : ℕ) (is : IsStep shape state ideal actor (Mark key v) found left tables) {last later_last : ℕ → Key → Type 0} (lasts : Lasts is last later_last) → Carries is lasts
+  carries_mark key v is {last} {later_last} lasts = carries is lasts index cands marks (λ k vcpu on. absurd (cc))
     where
       local : Local
       local = (seat_at state actor).local
@@ -342,14 +342,14 @@ module _ {shape : GuestShape} {state : CoreState} {ideal : Ideal} {actor found l
       can = all_three (nat_lt v shape.vcpus) (is_of_vcpu v key) (has_interrupt shape key) is.takes.can
 
       -- the bit is there now
-      marked_now : (k : Key) (vcpu : ℕ) → vcpu ≡ v → index_bit shape k ≡ bit → IsTold shape (later is) vcpu k
+      marked_now : (k : Key) (vcpu : ℕ) → vcpu ≡ v → index_bit shape k ≡ bit → Told shape (later is) later_last vcpu k
       marked_now k vcpu same equal =
           inl
           (subst (λ w. IsTrue (has_bit (word_in shape (later is) (Index w (index_bit shape k / 64))) (index_bit shape k % 64))) (sym same)
           (subst (λ b. IsTrue (has_bit (word_in shape (later is) (Index v (b / 64))) (b % 64))) (sym equal)
           (subst (λ word. IsTrue (has_bit word (bit % 64))) (sym (left_in is ∙ is.takes.left)) (or_right found (2 ^ (bit % 64)) (bit % 64) (pow_self (bit % 64))))))
 
-      index : (k : Key) (vcpu : ℕ) → IsTrue (has_interrupt shape k) → vcpu < shape.vcpus → IsTrue (is_indexed shape state vcpu k) → IsTold shape (later is) vcpu k
+      index : (k : Key) (vcpu : ℕ) → IsTrue (has_interrupt shape k) → vcpu < shape.vcpus → IsTrue (is_indexed shape state vcpu k) → Told shape (later is) later_last vcpu k
       index k vcpu there fits h = elim (word_cases is (Index vcpu (index_bit shape k / 64)) (index_there shape k vcpu (bit_there shape k is.good there) fits)) [
         | inl here ↦
             inl
@@ -358,67 +358,70 @@ module _ {shape : GuestShape} {state : CoreState} {ideal : Ideal} {actor found l
         | inr apart ↦ inl (subst (λ word. IsTrue (has_bit word (index_bit shape k % 64))) (sym apart.1) h)
       ]
 
-      cands : (k : Key) → IsTrue (has_interrupt shape k) → IsTrue (concerns shape actor (irq_of (word_in shape (later is) (Irq k)))) → (irq_of (word_in shape (later is) (Irq k))).holder ≡ None → IsTrue (is_cand local.cands (index_bit shape k)) → IsTold shape (later is) actor k
+      cands : (k : Key) → IsTrue (has_interrupt shape k) → IsTrue (concerns shape actor (irq_of (word_in shape (later is) (Irq k)))) → (irq_of (word_in shape (later is) (Irq k))).holder ≡ None → IsTrue (is_cand local.cands (index_bit shape k)) → Told shape (later is) later_last actor k
       cands k there asks home h = by_actor (v == actor) refl
         where
           own : IsTrue (is_of_vcpu actor k)
           own = concerns_own shape k actor (word_in shape (later is) (Irq k)) there ((steps_sound shape state (one actor (Mark key v) found left tables) is.good is.sound is.takes).words (Irq k) there) asks
 
-          by_actor : (b : Bool) → (v == actor) ≡ b → IsTold shape (later is) actor k
-          by_actor false e = told_taken is k actor refl (subst (λ c. IsTrue (is_cand c (index_bit shape k))) (ap (λ b. if b then settled shape actor key local.cands else local.cands) (sym e)) h)
+          by_actor : (b : Bool) → (v == actor) ≡ b → Told shape (later is) later_last actor k
+          by_actor false e = told_taken is lasts k actor refl (subst (λ c. IsTrue (is_cand c (index_bit shape k))) (ap (λ b. if b then settled shape actor key local.cands else local.cands) (sym e)) h)
           by_actor true e = elim (cases_eq (index_bit shape k) bit) [
             | inl same ↦ marked_now k actor (sym (eqb-true v actor e)) same
             | inr differ ↦
-                told_taken is k actor refl
+                told_taken is lasts k actor refl
                 (subst (λ c. IsTrue (is_cand c (index_bit shape k))) (ap (λ b. if b then settled shape actor key local.cands else local.cands) (sym e))
                 (settled_keeps shape actor k key local.cands is.good there can.2 (is.sound.locals actor is.takes.actor).cands.each own (λ same. differ (ap (index_bit shape) same)) h))
           ]
 
-      marks : (k : Key) (vcpu : ℕ) → IsTrue (owes_mark k vcpu local) → Kicks is k vcpu local → IsTold shape (later is) vcpu k
-      marks k vcpu h kicks = by_key (option_map_or (λ owed. is_same_key owed key) local.marks.key false) refl
+      marks : (k : Key) (vcpu : ℕ) → IsTrue (has_interrupt shape k) → step_changes shape state actor (Mark key v) found k ≡ false → IsTrue (owes_mark k vcpu local) → Kicks is lasts last k vcpu local → Told shape (later is) later_last vcpu k
+      marks k vcpu there quiet h kicks = by_key (option_map_or (λ owed. is_same_key owed key) local.marks.key false) refl
         where
           parts : IsTrue (option_map_or (λ owed. is_same_key owed k) local.marks.key false) × IsTrue (has_bit local.marks.vcpus.0 vcpu)
           parts = and_parts (option_map_or (λ owed. is_same_key owed k) local.marks.key false) (has_bit local.marks.vcpus.0 vcpu) h
 
+          kicks_on : Kicks is lasts later_last k vcpu (local_after shape actor local (Mark key v) found)
+          kicks_on waits = elim (kicks waits) [ inl kick ↦ inl (kick.0, lasts.kept k actor vcpu there quiet kick.0 kick.1) | inr own ↦ inr own ]
+
           few : vcpu < shape.vcpus
           few = bit_below vcpu shape.vcpus local.marks.vcpus.0 (is.sound.locals actor is.takes.actor).marks_are parts.1
 
-          by_key : (b : Bool) → option_map_or (λ owed. is_same_key owed key) local.marks.key false ≡ b → IsTold shape (later is) vcpu k
+          by_key : (b : Bool) → option_map_or (λ owed. is_same_key owed key) local.marks.key false ≡ b → Told shape (later is) later_last vcpu k
           by_key false e =
-              told_owed is k vcpu
-              (subst (λ m. IsTrue (option_map_or (λ owed. is_same_key owed k) m.key false && has_bit m.vcpus.0 vcpu)) (ap (λ b. if b then record local.marks { vcpus = without_vcpu local.marks.vcpus v } else local.marks) (sym e)) h) kicks
+              told_owed is lasts k vcpu
+              (subst (λ m. IsTrue (option_map_or (λ owed. is_same_key owed k) m.key false && has_bit m.vcpus.0 vcpu)) (ap (λ b. if b then record local.marks { vcpus = without_vcpu local.marks.vcpus v } else local.marks) (sym e)) h) kicks_on
           by_key true e = elim (cases_eq vcpu v) [
             | inl same ↦ marked_now k vcpu same (ap (index_bit shape) (owed_same local.marks.key k key parts.0 e))
             | inr differ ↦
-                told_owed is k vcpu
+                told_owed is lasts k vcpu
                 (subst (λ m. IsTrue (option_map_or (λ owed. is_same_key owed k) m.key false && has_bit m.vcpus.0 vcpu))
                 (ap (λ b. if b then record local.marks { vcpus = without_vcpu local.marks.vcpus v } else local.marks) (sym e))
                 (and_from (option_map_or (λ owed. is_same_key owed k) local.marks.key false) (has_bit (without_vcpu local.marks.vcpus v).0 vcpu) parts.0
-                (still_in local.marks.vcpus v vcpu (let there = ltb-true v shape.vcpus can.0 in omega (arith, there, is.good.vcpus)) (omega (arith, few, is.good.vcpus)) differ parts.1))) kicks
+                (still_in local.marks.vcpus v vcpu (let there = ltb-true v shape.vcpus can.0 in omega (arith, there, is.good.vcpus)) (omega (arith, few, is.good.vcpus)) differ parts.1))) kicks_on
           ]
 
 -- Every step.
 
 pub keeps_complete :
-    (shape : GuestShape) (state : CoreState) (ideal : Ideal) (actor : ℕ) (step : CoreStep) (found left : ℕ) (tables : Option Maps) (is : IsStep shape state ideal actor step found left tables) → Carries is
-keeps_complete shape state ideal actor (Look word) found left tables is = carries_look word is
-keeps_complete shape state ideal actor (Raise key) found left tables is = carries_raise key is
-keeps_complete shape state ideal actor (Claim key seen) found left tables is = carries_claim key seen is
-keeps_complete shape state ideal actor (GiveBack key back) found left tables is = carries_give_back key back is
-keeps_complete shape state ideal actor (Release key) found left tables is = carries_release key is
-keeps_complete shape state ideal actor (Poll reg write) found left tables is = carries_poll reg write is
-keeps_complete shape state ideal actor (Kick vcpu) found left tables is = carries_kick vcpu is
-keeps_complete shape state ideal actor (Touch key seen kind) found left tables is = carries_touch key seen kind is
-keeps_complete shape state ideal actor (Want key) found left tables is = carries_want key is
-keeps_complete shape state ideal actor (WireUp key) found left tables is = carries_wire_up key is
-keeps_complete shape state ideal actor (WireDown key) found left tables is = carries_wire_down key is
-keeps_complete shape state ideal actor (EnableLpis vcpu) found left tables is = carries_enable vcpu is
-keeps_complete shape state ideal actor (RamLook index) found left tables is = carries_ram_look index is
-keeps_complete shape state ideal actor (RamPut index seen value) found left tables is = carries_ram_put index seen value is
-keeps_complete shape state ideal actor (CtlrTake seen value) found left tables is = carries_ctlr_take seen value is
-keeps_complete shape state ideal actor CtlrEnd found left tables is = carries_ctlr_end is
-keeps_complete shape state ideal actor (TurnTake seen) found left tables is = carries_turn_take seen is
-keeps_complete shape state ideal actor (CommandDone offset stalled ending) found left tables is = carries_command_done offset stalled ending is
-keeps_complete shape state ideal actor TurnRelease found left tables is = carries_turn_release is
-keeps_complete shape state ideal actor (Mark key vcpu) found left tables is = carries_mark key vcpu is
-keeps_complete shape state ideal actor (TakeIndex word) found left tables is = carries_take_index word is
+    (shape : GuestShape) (state : CoreState) (ideal : Ideal) (actor : ℕ) (step : CoreStep) (found left : ℕ) (tables : Option Maps) (is : IsStep shape state ideal actor step found left tables) {last later_last : ℕ → Key → Type 0} (lasts : Lasts is last later_last) → Carries is lasts
+keeps_complete shape state ideal actor (Look word) found left tables is lasts = carries_look word is lasts
+keeps_complete shape state ideal actor (Raise key) found left tables is lasts = carries_raise key is lasts
+keeps_complete shape state ideal actor (Claim key seen) found left tables is lasts = carries_claim key seen is lasts
+keeps_complete shape state ideal actor (GiveBack key back) found left tables is lasts = carries_give_back key back is lasts
+keeps_complete shape state ideal actor (Release key) found left tables is lasts = carries_release key is lasts
+keeps_complete shape state ideal actor (Poll reg write) found left tables is lasts = carries_poll reg write is lasts
+keeps_complete shape state ideal actor (Kick vcpu) found left tables is lasts = carries_kick vcpu is lasts
+keeps_complete shape state ideal actor (Touch key seen kind) found left tables is lasts = carries_touch key seen kind is lasts
+keeps_complete shape state ideal actor (Want key) found left tables is lasts = carries_want key is lasts
+keeps_complete shape state ideal actor (WireUp key) found left tables is lasts = carries_wire_up key is lasts
+keeps_complete shape state ideal actor (WireDown key) found left tables is lasts = carries_wire_down key is lasts
+keeps_complete shape state ideal actor (EnableLpis vcpu) found left tables is lasts = carries_enable vcpu is lasts
+keeps_complete shape state ideal actor (RamLook index) found left tables is lasts = carries_ram_look index is lasts
+keeps_complete shape state ideal actor (RamPut index seen value) found left tables is lasts = carries_ram_put index seen value is lasts
+keeps_complete shape state ideal actor (CtlrTake seen value) found left tables is lasts = carries_ctlr_take seen value is lasts
+keeps_complete shape state ideal actor CtlrEnd found left tables is lasts = carries_ctlr_end is lasts
+keeps_complete shape state ideal actor (TurnTake seen) found left tables is lasts = carries_turn_take seen is lasts
+keeps_complete shape state ideal actor (CommandDone offset stalled ending) found left tables is lasts = carries_command_done offset stalled ending is lasts
+keeps_complete shape state ideal actor TurnRelease found left tables is lasts = carries_turn_release is lasts
+keeps_complete shape state ideal actor (Mark key vcpu) found left tables is lasts = carries_mark key vcpu is lasts
+keeps_complete shape state ideal actor (TakeIndex word) found left tables is lasts = carries_take_index word is lasts

@@ -1,168 +1,134 @@
--- Scans overlook no interrupt, at any moment of any proper run.
-use Rattle.std.proofs.Common.{◌≡◌, ◌≢◌, ℕ, ◌<◌, ◌≤◌, ◌/◌, ◌==◌, ◌&&◌, ◌⊎◌, inl, inr, true≢false, Bool, true, false, IsTrue, List, [], ◌∷◌, map, filter, if◌then◌else◌, Contains, refl, sym, ap, ◌∙◌, subst, arith}
-use Rattle.std.proofs.lemmas.Bool.{eqb-true, ne_eqb, eq-eqb}
+-- Scans overlook no interrupt that is due, at any moment of any proper run.
+use Rattle.std.proofs.Common.{◌≡◌, ◌≢◌, ℕ, ◌<◌, ◌≤◌, ◌/◌, ◌&&◌, ◌⊎◌, inl, inr, Bool, true, false, IsTrue, Contains, refl, sym, ap, ◌∙◌, subst}
+use Rattle.std.proofs.lemmas.Bool.{ne_eqb}
 use Rattle.gic_base.specs.declared.interrupt.Key.{Key}
 use Rattle.gic_base.specs.declared.shape.GuestShape.{GuestShape}
 use Rattle.gic_base.specs.Shape.{IsShape}
-use Rattle.scn_base.specs.declared.guest.GuestSpec.{GuestSpec}
-use Rattle.scn_base.specs.Good.{IsGoodGuest}
+use Rattle.gic_history.specs.Fresh.{Track}
 use Rattle.port_core.specs.declared.local.Local.{Local}
 use Rattle.port_core.specs.declared.run.Made.{Made}
 use Rattle.port_core.specs.declared.step.CoreStep.{CoreStep}
 use Rattle.port_core.specs.Effect.{succeeds}
 use Rattle.port_core.specs.Local.{is_cand}
 use Rattle.port_core.specs.Place.{index_bit}
-use Rattle.port_core.specs.Run.{CoreState, opening, seat_at, after, Takes, IsRun}
-use Rattle.port_core.proofs.OpeningLemmas.{seat_opens}
-use Rattle.core_proper.specs.Ideal.{after_moment, end_of_moments}
-use Rattle.core_proper.specs.Laws.{IsSeatOf}
-use Rattle.core_proper.specs.Parts.{Act, begins, makes, ends, CoreMoment, own_acts, entries_of, entry_by}
-use Rattle.core_proper.specs.Progress.{Progress, opening_progress, changed_by, progressed, progress_of, stepped}
-use Rattle.core_proper.specs.Proper.{IsProper, IsProperAct}
+use Rattle.port_core.specs.Run.{CoreState, after}
+use Rattle.core_proper.specs.Ideal.{after_moment}
+use Rattle.core_proper.specs.Parts.{Act, begins, makes, ends, entry_by}
+use Rattle.core_proper.specs.Progress.{Progress, changed_by, progressed}
 use Rattle.core_proper.specs.Scan.{Scan, idle, taking, looking, claiming}
-use Rattle.core_proper.proofs.FollowLemmas.{steps_follow}
 use Rattle.core_laws.proofs.StepContext.{IsStep}
-use Rattle.core_fresh.specs.Index.{IsComplete}
-use Rattle.core_fresh.specs.Waiting.{IsWaiting, IsCalm}
+use Rattle.core_fresh.specs.Excuse.{Followed}
+use Rattle.core_fresh.specs.Waiting.{IsUnkicked, IsDue}
 use Rattle.core_fresh.specs.Scan.{Covers, ScanOverlooksNone}
-use Rattle.core_fresh.proofs.AfterLemmas.{later, seat_mine, seat_other}
-use Rattle.core_fresh.proofs.IndexSteps.{keeps_complete}
-use Rattle.core_fresh.proofs.IndexRuns.{IsReached, reaches_next, reached_opens, opens_complete}
-use Rattle.core_fresh.proofs.WaitingSteps.{is_poll, is_poll_by, WaitedSo, calm_before, waiting_before}
+use Rattle.core_fresh.proofs.AfterLemmas.{later}
+use Rattle.core_fresh.proofs.Frame.{follow, IsAt, IsActing, is_part, excused_part, is_step, lasts, IsKeptBy, runs_keep}
+use Rattle.core_fresh.proofs.WaitingSteps.{is_poll, is_poll_by, DueSo, due_before, unkicked_before}
 use Rattle.core_fresh.proofs.ScanLemmas.{covers_on, failed_on}
 use Rattle.core_fresh.proofs.ScanSteps.{with_made, as_filled, leaves}
-
--- a moment of a run, as a vCPU is so far: what it has still to find is so where it was told of all changes and no claim failed
-pub record IsGoing (shape : GuestShape) (state : CoreState) (vcpu : ℕ) (p : Progress) : Type 0 where
-  pub reached : IsReached shape state
-  pub complete : IsComplete shape state
-  pub seat : IsSeatOf p (seat_at state vcpu)
-  pub covers : IsCalm shape state vcpu → p.failed ≡ false → Covers shape state vcpu p p.scan
 
 and_false : (b : Bool) → (b && false) ≡ false
 and_false true = refl
 and_false false = refl
 
+-- what a vCPU has still to find is so while it is not kicked, and no claim failed
+abbrev Going : GuestShape → ℕ → CoreState → Followed → Progress → Type 0
+Going shape vcpu state at p = IsUnkicked shape state vcpu → p.failed ≡ false → Covers shape state at.track vcpu p p.scan
+
 -- the begin and the end of a part leave a scan as it is
-covers_as : (shape : GuestShape) (state : CoreState) (vcpu : ℕ) (p q : Progress) (scan : Scan) → q.local ≡ p.local → q.regs ≡ p.regs → q.trapping ≡ p.trapping → Covers shape state vcpu p scan → Covers shape state vcpu q scan
-covers_as shape state vcpu p q idle local regs trapping c = tt
-covers_as shape state vcpu p q (taking purpose words) local regs trapping c = subst (λ l. (key : Key) → IsWaiting shape state vcpu key → IsTrue (is_cand l.cands (index_bit shape key)) ⊎ (words ≤ index_bit shape key / 64)) (sym local) c
-covers_as shape state vcpu p q (looking purpose from offers) local regs trapping c = λ key waiting. elim (c key waiting) [
+covers_as :
+    (shape : GuestShape) (state : CoreState) (track later_track : Track) (vcpu : ℕ) (p q : Progress) (scan : Scan) → q.local ≡ p.local → q.regs ≡ p.regs → q.trapping ≡ p.trapping
+    → ((key : Key) → IsDue shape state later_track vcpu key → IsDue shape state track vcpu key) → Covers shape state track vcpu p scan → Covers shape state later_track vcpu q scan
+covers_as shape state track later_track vcpu p q idle local regs trapping due c = tt
+covers_as shape state track later_track vcpu p q (taking purpose words) local regs trapping due c = λ key is. subst (λ (l : Local). IsTrue (is_cand l.cands (index_bit shape key)) ⊎ (words ≤ index_bit shape key / 64)) (sym local) (c key (due key is))
+covers_as shape state track later_track vcpu p q (looking purpose from offers) local regs trapping due c = λ key is. elim (c key (due key is)) [
   | inl ahead ↦ inl (record { cand = subst (λ (l : Local). IsTrue (is_cand l.cands (index_bit shape key))) (sym local) ahead.cand; ahead = ahead.ahead })
   | inr there ↦ inr there
 ]
-covers_as shape state vcpu p q (claiming claims takes) local regs trapping c = record {
+covers_as shape state track later_track vcpu p q (claiming claims takes) local regs trapping due c = record {
   offers = c.offers;
   lrs = c.lrs;
   purpose = c.purpose;
   filled = as_filled shape vcpu p q c.offers c.lrs c.purpose regs trapping (ap (λ (l : Local). l.cpu) local) c.filled;
-  covers = c.covers;
+  covers = λ key is. c.covers key (due key is);
 }
 
 module _ (shape : GuestShape) (good : IsShape shape) (vcpu : ℕ) (within : vcpu < shape.vcpus) where
   -- a step of another actor
   others :
-      (state : CoreState) (p : Progress) (actor : ℕ) (made : Made) → actor ≢ vcpu → Takes shape state (entry_by actor made) → IsGoing shape state vcpu p → IsGoing shape (after shape state (entry_by actor made)) vcpu p
-  others state p actor made apart takes going = record {
-    reached = reaches_next shape state (entry_by actor made) good going.reached takes;
-    complete = keeps_complete shape state going.reached.ideal actor made.step made.found made.left made.tables is going.complete;
-    seat = subst (IsSeatOf p) (sym (seat_other is vcpu (λ e. apart (sym e)))) going.seat;
-    covers = λ calm failed. of p.scan (going.covers (calm_before is vcpu within (no_poll made.step) calm) failed) calm;
-  }
+      (state : CoreState) (at : Followed) (progress : ℕ → Progress) (actor : ℕ) (made : Made) → actor ≢ vcpu → IsAt shape state at progress → IsActing shape state progress actor (makes made) → Going shape vcpu state at (progress vcpu)
+      → Going shape vcpu (after shape state (entry_by actor made)) (follow shape state at (record { actor = actor; act = makes made })) (progress vcpu)
+  others state at progress actor made apart here acts going free failed = of p.scan (going (unkicked_before is vcpu within (no_poll made.step) free).0 failed)
     where
-      is : IsStep shape state going.reached.ideal actor made.step made.found made.left made.tables
-      is = record { good = good; sound = going.reached.sound; related = going.reached.related; takes = takes }
+      p : Progress
+      p = progress vcpu
+
+      is : IsStep shape state at.ideal actor made.step made.found made.left made.tables
+      is = is_step shape good state at progress actor made here acts
+
+      next : Followed
+      next = follow shape state at (record { actor = actor; act = makes made })
 
       no_poll : (step : CoreStep) → is_poll_by vcpu actor step ≡ false
       no_poll step = ap (λ b. is_poll step && b) (ne_eqb actor vcpu apart) ∙ and_false (is_poll step)
 
-      was : IsCalm shape (later is) vcpu → (key : Key) → IsWaiting shape (later is) vcpu key → WaitedSo is vcpu within key
-      was calm key waiting = waiting_before is vcpu within (λ own. apart own.1) calm key waiting
+      was : (key : Key) → IsDue shape (later is) next.track vcpu key → DueSo is vcpu within at.track next.track (lasts shape good state at progress actor made here acts) key
+      was key due = due_before is vcpu within at.track next.track (lasts shape good state at progress actor made here acts) (λ own. apart own.1) (no_poll made.step) free key due
 
-      of : (scan : Scan) → Covers shape state vcpu p scan → IsCalm shape (later is) vcpu → Covers shape (later is) vcpu p scan
-      of idle c calm = tt
-      of (taking purpose words) c calm = λ key waiting. c key (was calm key waiting).waited
-      of (looking purpose from offers) c calm = λ key waiting.
-          let before = was calm key waiting in
-          elim (c key before.waited) [ inl ahead ↦ inl ahead | inr there ↦ inr (subst (Contains offers) (ap (λ irq. record { key = key; irq = irq }) (sym before.same)) there) ]
-      of (claiming claims takes) c calm = record {
+      of : (scan : Scan) → Covers shape state at.track vcpu p scan → Covers shape (later is) next.track vcpu p scan
+      of idle c = tt
+      of (taking purpose words) c = λ key due. c key (was key due).due
+      of (looking purpose from offers) c = λ key due.
+          let before = was key due in
+          elim (c key before.due) [ inl ahead ↦ inl ahead | inr there ↦ inr (subst (Contains offers) (ap (λ irq. record { key = key; irq = irq }) (sym before.same)) there) ]
+      of (claiming claims takes) c = record {
         offers = c.offers;
         lrs = c.lrs;
         purpose = c.purpose;
         filled = c.filled;
-        covers = λ key waiting.
-            let before = was calm key waiting in
-            subst (Contains c.offers) (ap (λ irq. record { key = key; irq = irq }) (sym before.same)) (c.covers key before.waited);
+        covers = λ key due.
+            let before = was key due in
+            subst (Contains c.offers) (ap (λ irq. record { key = key; irq = irq }) (sym before.same)) (c.covers key before.due);
       }
 
-  -- a moment of the vCPU's own
-  own : (state : CoreState) (p : Progress) (act : Act) → IsProperAct shape vcpu p act → IsRun shape state (entries_of (record { actor = vcpu; act = act } ∷ [])) → IsGoing shape state vcpu p
-      → IsGoing shape (after_moment shape state (record { actor = vcpu; act = act })) vcpu (progressed shape vcpu p act)
-  own state p (begins operation lrs) proper run going = record {
-    reached = going.reached;
-    complete = going.complete;
-    seat = record { local = going.seat.local; own = going.seat.own };
-    covers = λ calm failed. covers_as shape state vcpu p (progressed shape vcpu p (begins operation lrs)) p.scan refl refl refl (going.covers calm failed);
-  }
-  own state p (ends answer) proper run going = record {
-    reached = going.reached;
-    complete = going.complete;
-    seat = record { local = going.seat.local; own = going.seat.own };
-    covers = λ calm failed. covers_as shape state vcpu p (progressed shape vcpu p (ends answer)) p.scan refl refl refl (going.covers calm failed);
-  }
-  own state p (makes made) proper run going = record {
-    reached = reaches_next shape state (entry_by vcpu made) good going.reached run.0;
-    complete = keeps_complete shape state going.reached.ideal vcpu made.step made.found made.left made.tables is going.complete;
-    seat = subst (IsSeatOf (stepped shape vcpu made p)) (sym (seat_mine is)) (steps_follow shape vcpu (made ∷ []) p (seat_at state vcpu).local (seat_at state vcpu).own going.seat);
-    covers = λ calm failed.
-        covers_on shape (later is) vcpu good q (leaves within going.complete p going.seat made.step is proper going.covers calm (sym (failed_on shape vcpu q) ∙ failed));
-  }
+  -- the begin or the end of a part
+  parts :
+      (state : CoreState) (at : Followed) (progress : ℕ → Progress) (actor : ℕ) (act : Act) → IsAt shape state at progress → IsActing shape state progress actor act → is_part act ≡ true → (q : Progress) → q.local ≡ (progress vcpu).local
+      → q.regs ≡ (progress vcpu).regs → q.trapping ≡ (progress vcpu).trapping → q.failed ≡ (progress vcpu).failed → q.scan ≡ (progress vcpu).scan → Going shape vcpu state at (progress vcpu)
+      → Going shape vcpu state (follow shape state at (record { actor = actor; act = act })) q
+  parts state at progress actor act here acts e q local regs trapping failed scan going free none =
+      subst (Covers shape state (follow shape state at (record { actor = actor; act = act })).track vcpu q) (sym scan)
+      (covers_as shape state at.track (follow shape state at (record { actor = actor; act = act })).track vcpu (progress vcpu) q (progress vcpu).scan local regs trapping
+      (λ key due. record { waiting = due.waiting; told = λ x. due.told (excused_part shape state at progress actor act here acts e vcpu key x) }) (going free (sym failed ∙ none)))
+
+  kept : IsKeptBy shape vcpu (Going shape vcpu)
+  kept = record { other = other; own = own }
     where
-      is : IsStep shape state going.reached.ideal vcpu made.step made.found made.left made.tables
-      is = record { good = good; sound = going.reached.sound; related = going.reached.related; takes = run.0 }
+      other :
+          (state : CoreState) (at : Followed) (progress : ℕ → Progress) (actor : ℕ) (act : Act) → actor ≢ vcpu → IsAt shape state at progress → IsActing shape state progress actor act → Going shape vcpu state at (progress vcpu)
+          → Going shape vcpu (after_moment shape state (record { actor = actor; act = act })) (follow shape state at (record { actor = actor; act = act })) (progress vcpu)
+      other state at progress actor (begins operation lrs) apart here acts going = parts state at progress actor (begins operation lrs) here acts refl (progress vcpu) refl refl refl refl refl going
+      other state at progress actor (makes made) apart here acts going = others state at progress actor made apart here acts going
+      other state at progress actor (ends answer) apart here acts going = parts state at progress actor (ends answer) here acts refl (progress vcpu) refl refl refl refl refl going
 
-      q : Progress
-      q = with_made shape vcpu made p (changed_by shape vcpu made.step made.found (succeeds shape vcpu p.local made.step made.found) p)
+      own : (state : CoreState) (at : Followed) (progress : ℕ → Progress) (act : Act) → IsAt shape state at progress → IsActing shape state progress vcpu act → Going shape vcpu state at (progress vcpu)
+          → Going shape vcpu (after_moment shape state (record { actor = vcpu; act = act })) (follow shape state at (record { actor = vcpu; act = act })) (progressed shape vcpu (progress vcpu) act)
+      own state at progress (begins operation lrs) here acts going =
+          parts state at progress vcpu (begins operation lrs) here acts refl (progressed shape vcpu (progress vcpu) (begins operation lrs)) refl refl refl refl refl going
+      own state at progress (ends answer) here acts going =
+          parts state at progress vcpu (ends answer) here acts refl (progressed shape vcpu (progress vcpu) (ends answer)) refl refl refl refl refl going
+      own state at progress (makes made) here acts going = λ free failed.
+          covers_on shape (later is) next.track vcpu good q
+          (leaves within at.track next.track here.told (progress vcpu) (here.seats vcpu acts.there) made.step is (lasts shape good state at progress vcpu made here acts) acts.proper going free (sym (failed_on shape vcpu q) ∙ failed))
+        where
+          is : IsStep shape state at.ideal vcpu made.step made.found made.left made.tables
+          is = is_step shape good state at progress vcpu made here acts
 
-  -- every moment
-  pub split : (state : CoreState) (actor : ℕ) (act : Act) (moments : List CoreMoment) → IsRun shape state (entries_of (record { actor = actor; act = act } ∷ moments))
-      → IsRun shape state (entries_of (record { actor = actor; act = act } ∷ [])) × IsRun shape (after_moment shape state (record { actor = actor; act = act })) (entries_of moments)
-  split state actor (begins operation lrs) moments run = (tt, run)
-  split state actor (makes made) moments run = ((run.0, tt), run.1)
-  split state actor (ends answer) moments run = (tt, run)
+          next : Followed
+          next = follow shape state at (record { actor = vcpu; act = makes made })
 
-  other : (state : CoreState) (p : Progress) (actor : ℕ) (act : Act) → actor ≢ vcpu → IsRun shape state (entries_of (record { actor = actor; act = act } ∷ [])) → IsGoing shape state vcpu p → IsGoing shape (after_moment shape state (record { actor = actor; act = act })) vcpu p
-  other state p actor (begins operation lrs) apart run going = going
-  other state p actor (makes made) apart run going = others state p actor made apart run.0 going
-  other state p actor (ends answer) apart run going = going
-
-  pub goes : (moments : List CoreMoment) (state : CoreState) (p : Progress) → IsGoing shape state vcpu p → IsRun shape state (entries_of moments) → IsProper shape vcpu p (own_acts vcpu moments)
-      → IsGoing shape (end_of_moments shape state moments) vcpu (progress_of shape vcpu p (own_acts vcpu moments))
-  goes [] state p going run proper = going
-  goes (moment ∷ moments) state p going run proper = by_actor (moment.actor == vcpu) refl (λ q so. goes moments (after_moment shape state moment) q so (split state moment.actor moment.act moments run).1) proper
-    where
-      parts : IsRun shape state (entries_of (moment ∷ [])) × IsRun shape (after_moment shape state moment) (entries_of moments)
-      parts = split state moment.actor moment.act moments run
-
-      mine : moment.actor ≡ vcpu → IsProperAct shape vcpu p moment.act → IsGoing shape (after_moment shape state moment) vcpu (progressed shape vcpu p moment.act)
-      mine same is_proper =
-          subst (λ n. IsGoing shape (after_moment shape state (record { actor = n; act = moment.act })) vcpu (progressed shape vcpu p moment.act)) (sym same)
-          (own state p moment.act is_proper (subst (λ n. IsRun shape state (entries_of (record { actor = n; act = moment.act } ∷ []))) same parts.0) going)
-
-      by_actor : (b : Bool) → (moment.actor == vcpu) ≡ b → ((q : Progress) → IsGoing shape (after_moment shape state moment) vcpu q → IsProper shape vcpu q (own_acts vcpu moments) → IsGoing shape (end_of_moments shape (after_moment shape state moment) moments) vcpu (progress_of shape vcpu q (own_acts vcpu moments)))
-          → IsProper shape vcpu p (map (λ (m : CoreMoment). m.act) (if b then moment ∷ filter (λ (m : CoreMoment). m.actor == vcpu) moments else filter (λ (m : CoreMoment). m.actor == vcpu) moments))
-          → IsGoing shape (end_of_moments shape (after_moment shape state moment) moments) vcpu (progress_of shape vcpu p (map (λ (m : CoreMoment). m.act) (if b then moment ∷ filter (λ (m : CoreMoment). m.actor == vcpu) moments else filter (λ (m : CoreMoment). m.actor == vcpu) moments)))
-      by_actor true e rest proper = rest (progressed shape vcpu p moment.act) (mine (eqb-true moment.actor vcpu e) proper.0) proper.1
-      by_actor false e rest proper = rest p (other state p moment.actor moment.act (λ same. true≢false (sym (eq-eqb moment.actor vcpu same) ∙ e)) parts.0 going) proper
-
-opens : (guest : GuestSpec) (number vcpu : ℕ) → IsGoodGuest guest → vcpu < guest.shape.vcpus → IsGoing guest.shape (opening guest number) vcpu (opening_progress guest number vcpu)
-opens guest number vcpu good within = record {
-  reached = reached_opens guest number good;
-  complete = opens_complete guest number good;
-  seat = subst (IsSeatOf (opening_progress guest number vcpu)) (sym (seat_opens guest number vcpu (omega (arith, within)))) (record { local = refl; own = refl });
-  covers = λ calm failed. tt;
-}
+          q : Progress
+          q = with_made shape vcpu made (progress vcpu) (changed_by shape vcpu made.step made.found (succeeds shape vcpu (progress vcpu).local made.step made.found) (progress vcpu))
 
 pub scans_overlook_none : ScanOverlooksNone
-scans_overlook_none guest number moments vcpu good proper within calm failed =
-    (goes guest.shape good.shape vcpu within moments (opening guest number) (opening_progress guest number vcpu) (opens guest number vcpu good within) proper.parted.run (proper.proper vcpu (omega (arith, within)))).covers calm failed
+scans_overlook_none guest number moments vcpu good proper within free failed =
+    (runs_keep guest number vcpu (Going guest.shape vcpu) good (kept guest.shape good.shape vcpu within) (λ free failed. tt) moments proper).keeps free failed

@@ -37,14 +37,15 @@ use Rattle.vcpu_refill.specs.Order.{first_among}
 use Rattle.vcpu_refill.specs.Plan.{plan, regs_of, chosen_as}
 use Rattle.core_proper.specs.Scan.{Purpose, planned, trapped, bare, Scan, idle, taking, looking, claiming, is_idle, has_key, without_key, is_next, offered, scan_allows, scan_looked, word_taken}
 use Rattle.core_laws.proofs.StepContext.{one, IsStep, has}
-use Rattle.core_fresh.specs.Index.{owes_mark, IsTold, IsComplete}
-use Rattle.core_fresh.specs.Waiting.{record_in, IsWaiting, IsCalm}
+use Rattle.gic_history.specs.Fresh.{Track}
+use Rattle.core_fresh.specs.Index.{owes_mark}
+use Rattle.core_fresh.specs.Waiting.{record_in, IsUnkicked, IsDue}
 use Rattle.core_fresh.specs.Scan.{offer_in, IsAhead, IsFilled, HasScanned, Covers}
 use Rattle.core_fresh.proofs.AfterLemmas.{later}
-use Rattle.core_fresh.proofs.ToldLemmas.{waiting_concerns, owes_none, IsOwnRelease}
+use Rattle.core_fresh.proofs.ToldLemmas.{waiting_concerns, owes_none, IsOwnRelease, Lasts, Told, AllTold}
 use Rattle.core_fresh.proofs.TellSteps.{concerns_own, same_bit}
 use Rattle.core_fresh.proofs.IndexSteps.{settled_keeps, taken_keeps, taken_has, either_way}
-use Rattle.core_fresh.proofs.WaitingSteps.{WaitedSo, calm_before, waiting_before, unkicked_before}
+use Rattle.core_fresh.proofs.WaitingSteps.{last_in, is_poll_by, DueSo, due_before, unkicked_before}
 use Rattle.core_fresh.proofs.ScanLemmas.{bit_of_key, own_of_bit}
 use Rattle.core_proper.proofs.SearchLemmas.{found_in, IsFoundIn}
 
@@ -53,11 +54,11 @@ abbrev pub with_made : GuestShape → ℕ → Made → Progress → Progress →
 with_made shape actor made before p = record p { local = local_after shape actor before.local made.step made.found; own = before.own ++ made ∷ [] }
 
 -- what a step leaves to cover, before the scan goes on
-abbrev pub Leaves : {shape : GuestShape} {state : CoreState} {ideal : Ideal} {vcpu : ℕ} {step : CoreStep} {found left : ℕ} {tables : Option Maps} → IsStep shape state ideal vcpu step found left tables → Progress → Type 0
-Leaves {shape} {state} {ideal} {vcpu} {step} {found} {left} {tables} is p =
+abbrev pub Leaves : {shape : GuestShape} {state : CoreState} {ideal : Ideal} {vcpu : ℕ} {step : CoreStep} {found left : ℕ} {tables : Option Maps} → IsStep shape state ideal vcpu step found left tables → Track → Track → Progress → Type 0
+Leaves {shape} {state} {ideal} {vcpu} {step} {found} {left} {tables} is track later_track p =
     let made = (one vcpu step found left tables).made in
     let q = with_made shape vcpu made p (changed_by shape vcpu step found (succeeds shape vcpu p.local step found) p) in
-    IsCalm shape (later is) vcpu → q.failed ≡ false → Covers shape (later is) vcpu q q.scan
+    IsUnkicked shape (later is) vcpu → q.failed ≡ false → Covers shape (later is) later_track vcpu q q.scan
 
 -- Lists of offers with more.
 
@@ -91,19 +92,19 @@ look_keeps shape vcpu found k key local good here there each own differ h = of (
     of true = settled_keeps shape vcpu key k local.cands good here there each own differ h
     of false = h
 
-module _ {shape : GuestShape} {state : CoreState} {ideal : Ideal} {vcpu found left : ℕ} {tables : Option Maps} (within : vcpu < shape.vcpus) (complete : IsComplete shape state) (p : Progress) (seat : IsSeatOf p (seat_at state vcpu)) where
+module _ {shape : GuestShape} {state : CoreState} {ideal : Ideal} {vcpu found left : ℕ} {tables : Option Maps} (within : vcpu < shape.vcpus) (track later_track : Track) (all_told : AllTold shape state (last_in shape track)) (p : Progress) (seat : IsSeatOf p (seat_at state vcpu)) where
   -- the next word of the index
   takes_word :
-      (w : ℕ) (is : IsStep shape state ideal vcpu (TakeIndex w) found left tables) (words : ℕ) → w ≡ words → IsCalm shape (later is) vcpu
-      → ((key : Key) → IsWaiting shape state vcpu key → IsTrue (is_cand p.local.cands (index_bit shape key)) ⊎ (words ≤ index_bit shape key / 64))
-      → (key : Key) → IsWaiting shape (later is) vcpu key → IsTrue (is_cand (with_cand_word p.local.cands w found) (index_bit shape key)) ⊎ (words + 1 ≤ index_bit shape key / 64)
-  takes_word w is words same calm covers key waiting =
-      let before = waiting_before is vcpu within (λ own. absurd (true≢false (sym own.0))) calm key waiting in
-      elim (covers key before.waited) [
+      (w : ℕ) (is : IsStep shape state ideal vcpu (TakeIndex w) found left tables) (lasts : Lasts is (last_in shape track) (last_in shape later_track)) (words : ℕ) → w ≡ words → IsUnkicked shape (later is) vcpu
+      → ((key : Key) → IsDue shape state track vcpu key → IsTrue (is_cand p.local.cands (index_bit shape key)) ⊎ (words ≤ index_bit shape key / 64))
+      → (key : Key) → IsDue shape (later is) later_track vcpu key → IsTrue (is_cand (with_cand_word p.local.cands w found) (index_bit shape key)) ⊎ (words + 1 ≤ index_bit shape key / 64)
+  takes_word w is lasts words same calm covers key due =
+      let before = due_before is vcpu within track later_track lasts (λ own. absurd (true≢false (sym own.0))) refl calm key due in
+      elim (covers key before.due) [
         | inl cand ↦ inl (taken_keeps p.local.cands w found (index_bit shape key) room cand)
         | inr late ↦
             elim (cases_eq (index_bit shape key / 64) w) [
-              | inl here ↦ inl (told before.waited here (complete key vcpu waiting.there within before.waited.home (waiting_concerns shape vcpu (record_in shape state key) before.waited.waits)))
+              | inl here ↦ inl (told before.due here (all_told key vcpu due.waiting.there within before.due.waiting.home (waiting_concerns shape vcpu (record_in shape state key) before.due.waiting.waits)))
               | inr apart ↦ inr (omega (arith, late, same, apart))
             ]
       ]
@@ -120,16 +121,13 @@ module _ {shape : GuestShape} {state : CoreState} {ideal : Ideal} {vcpu found le
           let each : length p.local.cands.words ≡ 96 = ap (λ (l : Local). length l.cands.words) mine ∙ (is.sound.locals vcpu is.takes.actor).cands.each in
           omega (arith, few, each, is.good.spis, is.good.espis, is.good.lpis)
 
-      calm_now : IsCalm shape state vcpu
-      calm_now = calm_before is vcpu within refl calm
-
-      told : IsWaiting shape state vcpu key → index_bit shape key / 64 ≡ w → IsTold shape state vcpu key → IsTrue (is_cand (with_cand_word p.local.cands w found) (index_bit shape key))
+      told : IsDue shape state track vcpu key → index_bit shape key / 64 ≡ w → Told shape state (last_in shape track) vcpu key → IsTrue (is_cand (with_cand_word p.local.cands w found) (index_bit shape key))
       told waits here (inl indexed) =
           taken_has p.local.cands w found (index_bit shape key) room here
           (subst (λ n. IsTrue (has_bit n (index_bit shape key % 64))) (ap (λ n. word_in shape state (Index vcpu n)) here ∙ sym is.takes.found) indexed)
       told waits here (inr (inl taken)) = taken_keeps p.local.cands w found (index_bit shape key) room (subst (λ (l : Local). IsTrue (is_cand l.cands (index_bit shape key))) (sym mine) taken)
-      told waits here (inr (inr owed)) = elim (owed.kicks waits.waits) [
-        | inl kick ↦ absurd (true≢false (sym kick ∙ calm_now.none_owed owed.actor owed.there))
+      told waits here (inr (inr owed)) = elim (owed.kicks waits.waiting.waits) [
+        | inl kick ↦ absurd (waits.told (record { actor = owed.actor; there = owed.there; last = kick.1; owes = kick.0 }))
         | inr own ↦
             absurd
             (owes_none key vcpu local (and_parts (may_take local) (owes_no_mark local) is.takes.meets).1
@@ -142,27 +140,27 @@ module _ {shape : GuestShape} {state : CoreState} {ideal : Ideal} {vcpu found le
   -- The next candidate.
 
   looks_at :
-      (k : Key) (is : IsStep shape state ideal vcpu (Look (Irq k)) found left tables) (from : ℕ) (offers : List Offer) → IsTrue (is_next shape vcpu p.local.cands from k) → IsCalm shape (later is) vcpu
-      → ((key : Key) → IsWaiting shape state vcpu key → IsAhead shape p from key ⊎ Contains offers (offer_in shape state key)) → (key : Key) → IsWaiting shape (later is) vcpu key
+      (k : Key) (is : IsStep shape state ideal vcpu (Look (Irq k)) found left tables) (lasts : Lasts is (last_in shape track) (last_in shape later_track)) (from : ℕ) (offers : List Offer) → IsTrue (is_next shape vcpu p.local.cands from k) → IsUnkicked shape (later is) vcpu
+      → ((key : Key) → IsDue shape state track vcpu key → IsAhead shape p from key ⊎ Contains offers (offer_in shape state key)) → (key : Key) → IsDue shape (later is) later_track vcpu key
       → ((IsTrue (is_cand (looked shape vcpu (Irq k) found p.local).cands (index_bit shape key))) × (index_bit shape k + 1 ≤ index_bit shape key)) ⊎ Contains (offers ++ offered k (irq_of found)) (offer_in shape (later is) key)
-  looks_at k is from offers next calm covers key waiting =
-      let before = waiting_before is vcpu within (λ own. absurd (true≢false (sym own.0))) calm key waiting in
+  looks_at k is lasts from offers next calm covers key due =
+      let before = due_before is vcpu within track later_track lasts (λ own. absurd (true≢false (sym own.0))) refl calm key due in
       let same : offer_in shape (later is) key ≡ offer_in shape state key = ap (λ irq. record { key = key; irq = irq }) before.same in
-      elim (covers key before.waited) [
+      elim (covers key before.due) [
         | inr there ↦ inr (subst (Contains (offers ++ offered k (irq_of found))) (sym same) (Contains-append_left offers (offered k (irq_of found)) (offer_in shape state key) there))
-        | inl ahead ↦ at before.waited same ahead (next_is shape vcpu p from k next)
+        | inl ahead ↦ at before.due same ahead (next_is shape vcpu p from k next)
       ]
     where
-      at : IsWaiting shape state vcpu key → offer_in shape (later is) key ≡ offer_in shape state key → IsAhead shape p from key → IsNext shape vcpu p from k
+      at : IsDue shape state track vcpu key → offer_in shape (later is) key ≡ offer_in shape state key → IsAhead shape p from key → IsNext shape vcpu p from k
           → ((IsTrue (is_cand (looked shape vcpu (Irq k) found p.local).cands (index_bit shape key))) × (index_bit shape k + 1 ≤ index_bit shape key)) ⊎ Contains (offers ++ offered k (irq_of found)) (offer_in shape (later is) key)
       at waited same ahead next = elim (cases_eq (index_bit shape key) (index_bit shape k)) [
         | inl equal ↦
-            (let here : key ≡ k = same_bit shape vcpu key k is.good waited.there (has is) own own_k equal in
+            (let here : key ≡ k = same_bit shape vcpu key k is.good waited.waiting.there (has is) own own_k equal in
             let irq : record_in shape state key ≡ irq_of found = ap irq_of (ap (λ j. word_in shape state (Irq j)) here ∙ sym is.takes.found) in
             inr (subst (Contains (offers ++ offered k (irq_of found))) (sym (same ∙ both key k here irq))
-            (at_end offers k (irq_of found) (ap (λ (i : IrqRecord). i.holder) (sym irq) ∙ waited.home) (ap (λ (i : IrqRecord). i.want) (sym irq) ∙ waited.unwanted))))
+            (at_end offers k (irq_of found) (ap (λ (i : IrqRecord). i.holder) (sym irq) ∙ waited.waiting.home) (ap (λ (i : IrqRecord). i.want) (sym irq) ∙ waited.waiting.unwanted))))
         | inr differ ↦
-            inl (look_keeps shape vcpu found k key p.local is.good waited.there (has is) each own (λ e. differ (ap (index_bit shape) e)) ahead.cand, beyond differ)
+            inl (look_keeps shape vcpu found k key p.local is.good waited.waiting.there (has is) each own (λ e. differ (ap (index_bit shape) e)) ahead.cand, beyond differ)
       ]
         where
           good_bit : next.bit < index_bits shape
@@ -175,7 +173,7 @@ module _ {shape : GuestShape} {state : CoreState} {ideal : Ideal} {vcpu found le
           own_k = subst (λ j. IsTrue (is_of_vcpu vcpu j)) (sym next.is) (own_of_bit shape vcpu next.bit)
 
           own : IsTrue (is_of_vcpu vcpu key)
-          own = concerns_own shape key vcpu (word_in shape state (Irq key)) waited.there (is.sound.words (Irq key) waited.there) (waiting_concerns shape vcpu (record_in shape state key) waited.waits)
+          own = concerns_own shape key vcpu (word_in shape state (Irq key)) waited.waiting.there (is.sound.words (Irq key) waited.waiting.there) (waiting_concerns shape vcpu (record_in shape state key) waited.waiting.waits)
 
           each : length p.local.cands.words ≡ 96
           each = ap (λ (l : Local). length l.cands.words) seat.local ∙ (is.sound.locals vcpu is.takes.actor).cands.each
@@ -335,117 +333,117 @@ as_filled shape vcpu p q offers lrs planned regs trapping cpu (filled, mode) =
 as_filled shape vcpu p q offers lrs trapped regs trapping cpu filled = regs ∙ filled ∙ ap (λ c. alone (option_map (chosen_as Pending) (first_among offers vcpu c shape)) c lrs) (sym cpu)
 as_filled shape vcpu p q offers lrs bare regs trapping cpu filled = regs ∙ filled ∙ ap (λ c. alone None c lrs) (sym cpu)
 
-module _ {shape : GuestShape} {state : CoreState} {ideal : Ideal} {vcpu found left : ℕ} {tables : Option Maps} (within : vcpu < shape.vcpus) (complete : IsComplete shape state) (p : Progress) (seat : IsSeatOf p (seat_at state vcpu)) where
+module _ {shape : GuestShape} {state : CoreState} {ideal : Ideal} {vcpu found left : ℕ} {tables : Option Maps} (within : vcpu < shape.vcpus) (track later_track : Track) (all_told : AllTold shape state (last_in shape track)) (p : Progress) (seat : IsSeatOf p (seat_at state vcpu)) where
   -- what was found is so after a step too
   scanned_on :
-      (step : CoreStep) (is : IsStep shape state ideal vcpu step found left tables) (q : Progress) → (IsOwnRelease step vcpu vcpu → ⊥) → q.regs ≡ p.regs → q.trapping ≡ p.trapping → q.local.cpu ≡ p.local.cpu → IsCalm shape (later is) vcpu
-      → HasScanned shape state vcpu p → HasScanned shape (later is) vcpu q
-  scanned_on step is q other regs trapping cpu calm scanned = record {
+      (step : CoreStep) (is : IsStep shape state ideal vcpu step found left tables) (lasts : Lasts is (last_in shape track) (last_in shape later_track)) (q : Progress) → (IsOwnRelease step vcpu vcpu → ⊥) → is_poll_by vcpu vcpu step ≡ false → q.regs ≡ p.regs → q.trapping ≡ p.trapping → q.local.cpu ≡ p.local.cpu → IsUnkicked shape (later is) vcpu
+      → HasScanned shape state track vcpu p → HasScanned shape (later is) later_track vcpu q
+  scanned_on step is lasts q other no_poll regs trapping cpu calm scanned = record {
     offers = scanned.offers;
     lrs = scanned.lrs;
     purpose = scanned.purpose;
     filled = as_filled shape vcpu p q scanned.offers scanned.lrs scanned.purpose regs trapping cpu scanned.filled;
-    covers = λ key waiting.
-        let before = waiting_before is vcpu within other calm key waiting in
-        subst (Contains scanned.offers) (ap (λ irq. record { key = key; irq = irq }) (sym before.same)) (scanned.covers key before.waited);
+    covers = λ key due.
+        let before = due_before is vcpu within track later_track lasts other no_poll calm key due in
+        subst (Contains scanned.offers) (ap (λ irq. record { key = key; irq = irq }) (sym before.same)) (scanned.covers key before.due);
   }
 
   -- of one that is no step of a scan
-  leaves_quiet : (step : CoreStep) (is : IsStep shape state ideal vcpu step found left tables) (q : Progress) → is_scan_step step ≡ false → IsTrue (scan_allows shape vcpu p.local p.scan step) → (p.scan ≡ idle → q.scan ≡ idle) → Covers shape (later is) vcpu q q.scan
-  leaves_quiet step is q quiet allowed same = subst (Covers shape (later is) vcpu q) (sym (same (only_idle shape vcpu p.local step quiet p.scan allowed))) tt
+  leaves_quiet : (step : CoreStep) (is : IsStep shape state ideal vcpu step found left tables) (lasts : Lasts is (last_in shape track) (last_in shape later_track)) (q : Progress) → is_scan_step step ≡ false → IsTrue (scan_allows shape vcpu p.local p.scan step) → (p.scan ≡ idle → q.scan ≡ idle) → Covers shape (later is) later_track vcpu q q.scan
+  leaves_quiet step is lasts q quiet allowed same = subst (Covers shape (later is) later_track vcpu q) (sym (same (only_idle shape vcpu p.local step quiet p.scan allowed))) tt
 
   leaves_look :
-      (k : Key) (is : IsStep shape state ideal vcpu (Look (Irq k)) found left tables) → IsProperStep shape vcpu p (Look (Irq k)) → (IsCalm shape state vcpu → p.failed ≡ false → Covers shape state vcpu p p.scan) → Leaves is p
-  leaves_look k is proper covers calm failed = of p.scan refl proper.scan (covers (calm_before is vcpu within refl calm) failed)
+      (k : Key) (is : IsStep shape state ideal vcpu (Look (Irq k)) found left tables) (lasts : Lasts is (last_in shape track) (last_in shape later_track)) → IsProperStep shape vcpu p (Look (Irq k)) → (IsUnkicked shape state vcpu → p.failed ≡ false → Covers shape state track vcpu p p.scan) → Leaves is track later_track p
+  leaves_look k is lasts proper covers calm failed = of p.scan refl proper.scan (covers ((unkicked_before is vcpu within refl calm).0) failed)
     where
       q : Progress
       q = with_made shape vcpu (one vcpu (Look (Irq k)) found left tables).made p (changed_by shape vcpu (Look (Irq k)) found true p)
 
-      of : (scan : Scan) → p.scan ≡ scan → IsTrue (scan_allows shape vcpu p.local scan (Look (Irq k))) → Covers shape state vcpu p p.scan → Covers shape (later is) vcpu q q.scan
-      of idle e allowed before = subst (Covers shape (later is) vcpu q) (sym (ap (scan_looked shape k (irq_of found)) e)) tt
+      of : (scan : Scan) → p.scan ≡ scan → IsTrue (scan_allows shape vcpu p.local scan (Look (Irq k))) → Covers shape state track vcpu p p.scan → Covers shape (later is) later_track vcpu q q.scan
+      of idle e allowed before = subst (Covers shape (later is) later_track vcpu q) (sym (ap (scan_looked shape k (irq_of found)) e)) tt
       of (taking purpose words) e allowed before = absurd (true≢false (sym allowed))
       of (claiming [] []) e allowed before = absurd (true≢false (sym allowed))
       of (claiming [] (t ∷ takes)) e allowed before = absurd (true≢false (sym allowed))
       of (claiming (c ∷ claims) takes) e allowed before = absurd (true≢false (sym allowed))
       of (looking purpose from offers) e allowed before =
-          subst (Covers shape (later is) vcpu q) (sym (ap (scan_looked shape k (irq_of found)) e))
-          (λ key waiting.
-          elim (looks_at within complete p seat k is from offers allowed calm (subst (Covers shape state vcpu p) e before) key waiting) [
+          subst (Covers shape (later is) later_track vcpu q) (sym (ap (scan_looked shape k (irq_of found)) e))
+          (λ key due.
+          elim (looks_at within track later_track all_told p seat k is lasts from offers allowed calm (subst (Covers shape state track vcpu p) e before) key due) [
             | inl still ↦ inl (record { cand = still.0; ahead = still.1 })
             | inr there ↦ inr there
           ])
 
   leaves_take_index :
-      (w : ℕ) (is : IsStep shape state ideal vcpu (TakeIndex w) found left tables) → IsProperStep shape vcpu p (TakeIndex w) → (IsCalm shape state vcpu → p.failed ≡ false → Covers shape state vcpu p p.scan) → Leaves is p
-  leaves_take_index w is proper covers calm failed = of p.scan refl proper.scan proper.trap (covers (calm_before is vcpu within refl calm) failed)
+      (w : ℕ) (is : IsStep shape state ideal vcpu (TakeIndex w) found left tables) (lasts : Lasts is (last_in shape track) (last_in shape later_track)) → IsProperStep shape vcpu p (TakeIndex w) → (IsUnkicked shape state vcpu → p.failed ≡ false → Covers shape state track vcpu p p.scan) → Leaves is track later_track p
+  leaves_take_index w is lasts proper covers calm failed = of p.scan refl proper.scan proper.trap (covers ((unkicked_before is vcpu within refl calm).0) failed)
     where
       q : Progress
       q = with_made shape vcpu (one vcpu (TakeIndex w) found left tables).made p (changed_by shape vcpu (TakeIndex w) found true p)
 
-      of : (scan : Scan) → p.scan ≡ scan → IsTrue (scan_allows shape vcpu p.local scan (TakeIndex w)) → IsTrue (not (is_idle p.scan) || (p.trapping && w == 0 && is_empty p.local.at)) → Covers shape state vcpu p p.scan → Covers shape (later is) vcpu q q.scan
+      of : (scan : Scan) → p.scan ≡ scan → IsTrue (scan_allows shape vcpu p.local scan (TakeIndex w)) → IsTrue (not (is_idle p.scan) || (p.trapping && w == 0 && is_empty p.local.at)) → Covers shape state track vcpu p p.scan → Covers shape (later is) later_track vcpu q q.scan
       of idle e allowed trap before =
           let first : w ≡ 0 = eqb-true w 0 (and_parts p.trapping (w == 0) (and_parts (p.trapping && w == 0) (is_empty p.local.at) (subst (λ b. IsTrue (not b || (p.trapping && w == 0 && is_empty p.local.at))) (ap is_idle e) trap)).0).1 in
-          subst (Covers shape (later is) vcpu q) (sym (ap word_taken e))
-          (λ key waiting. takes_word within complete p seat w is 0 first calm (λ other waits. inr (omega arith)) key waiting)
+          subst (Covers shape (later is) later_track vcpu q) (sym (ap word_taken e))
+          (λ key due. takes_word within track later_track all_told p seat w is lasts 0 first calm (λ other waits. inr (omega arith)) key due)
       of (taking purpose words) e allowed trap before =
-          subst (Covers shape (later is) vcpu q) (sym (ap word_taken e))
-          (λ key waiting. takes_word within complete p seat w is words (eqb-true w words allowed) calm (subst (Covers shape state vcpu p) e before) key waiting)
+          subst (Covers shape (later is) later_track vcpu q) (sym (ap word_taken e))
+          (λ key due. takes_word within track later_track all_told p seat w is lasts words (eqb-true w words allowed) calm (subst (Covers shape state track vcpu p) e before) key due)
       of (looking purpose from offers) e allowed trap before = absurd (true≢false (sym allowed))
       of (claiming [] []) e allowed trap before = absurd (true≢false (sym allowed))
       of (claiming [] (t ∷ takes)) e allowed trap before = absurd (true≢false (sym allowed))
       of (claiming (c ∷ claims) takes) e allowed trap before = absurd (true≢false (sym allowed))
 
   -- a kick, also of the vCPU itself where a claim failed
-  leaves_kick : (other : ℕ) (is : IsStep shape state ideal vcpu (Kick other) found left tables) → (IsCalm shape state vcpu → p.failed ≡ false → Covers shape state vcpu p p.scan) → Leaves is p
-  leaves_kick other is covers calm failed = of p.scan refl (covers (calm_before is vcpu within refl calm) (still p.failed failed))
+  leaves_kick : (other : ℕ) (is : IsStep shape state ideal vcpu (Kick other) found left tables) (lasts : Lasts is (last_in shape track) (last_in shape later_track)) → (IsUnkicked shape state vcpu → p.failed ≡ false → Covers shape state track vcpu p p.scan) → Leaves is track later_track p
+  leaves_kick other is lasts covers calm failed = of p.scan refl (covers ((unkicked_before is vcpu within refl calm).0) (still p.failed failed))
     where
       q : Progress
       q = with_made shape vcpu (one vcpu (Kick other) found left tables).made p (changed_by shape vcpu (Kick other) found true p)
 
       mine : (other == vcpu) ≡ false
-      mine = (unkicked_before is vcpu within refl calm.unkicked).1
+      mine = (unkicked_before is vcpu within refl calm).1
 
       still : (b : Bool) → (b && not (other == vcpu)) ≡ false → b ≡ false
       still true e = absurd (true≢false (sym (ap not mine) ∙ e))
       still false e = refl
 
-      before_is : (key : Key) → IsWaiting shape (later is) vcpu key → WaitedSo is vcpu within key
-      before_is key waiting = waiting_before is vcpu within (λ own. absurd (true≢false (sym own.0))) calm key waiting
+      before_is : (key : Key) → IsDue shape (later is) later_track vcpu key → DueSo is vcpu within track later_track lasts key
+      before_is key due = due_before is vcpu within track later_track lasts (λ own. absurd (true≢false (sym own.0))) refl calm key due
 
-      of : (scan : Scan) → p.scan ≡ scan → Covers shape state vcpu p p.scan → Covers shape (later is) vcpu q q.scan
-      of idle e before = subst (Covers shape (later is) vcpu q) (sym e) tt
+      of : (scan : Scan) → p.scan ≡ scan → Covers shape state track vcpu p p.scan → Covers shape (later is) later_track vcpu q q.scan
+      of idle e before = subst (Covers shape (later is) later_track vcpu q) (sym e) tt
       of (taking purpose words) e before =
-          subst (Covers shape (later is) vcpu q) (sym e) (λ key waiting. subst (Covers shape state vcpu p) e before key (before_is key waiting).waited)
+          subst (Covers shape (later is) later_track vcpu q) (sym e) (λ key due. subst (Covers shape state track vcpu p) e before key (before_is key due).due)
       of (looking purpose from offers) e before =
-          subst (Covers shape (later is) vcpu q) (sym e)
-          (λ key waiting.
-          let was = before_is key waiting in
-          elim (subst (Covers shape state vcpu p) e before key was.waited) [
+          subst (Covers shape (later is) later_track vcpu q) (sym e)
+          (λ key due.
+          let was = before_is key due in
+          elim (subst (Covers shape state track vcpu p) e before key was.due) [
             | inl ahead ↦ inl (record { cand = ahead.cand; ahead = ahead.ahead })
             | inr there ↦ inr (subst (Contains offers) (ap (λ irq. record { key = key; irq = irq }) (sym was.same)) there)
           ])
       of (claiming claims takes) e before =
-          subst (Covers shape (later is) vcpu q) (sym e) (scanned_on (Kick other) is q (λ own. absurd (true≢false (sym own.0))) refl refl refl calm (subst (Covers shape state vcpu p) e before))
+          subst (Covers shape (later is) later_track vcpu q) (sym e) (scanned_on (Kick other) is lasts q (λ own. absurd (true≢false (sym own.0))) refl refl refl refl calm (subst (Covers shape state track vcpu p) e before))
 
   leaves_mark :
-      (k : Key) (v : ℕ) (is : IsStep shape state ideal vcpu (Mark k v) found left tables) → IsProperStep shape vcpu p (Mark k v) → (IsCalm shape state vcpu → p.failed ≡ false → Covers shape state vcpu p p.scan) → Leaves is p
-  leaves_mark k v is proper covers calm failed = of p.scan refl proper.scan (covers (calm_before is vcpu within refl calm) failed)
+      (k : Key) (v : ℕ) (is : IsStep shape state ideal vcpu (Mark k v) found left tables) (lasts : Lasts is (last_in shape track) (last_in shape later_track)) → IsProperStep shape vcpu p (Mark k v) → (IsUnkicked shape state vcpu → p.failed ≡ false → Covers shape state track vcpu p p.scan) → Leaves is track later_track p
+  leaves_mark k v is lasts proper covers calm failed = of p.scan refl proper.scan (covers ((unkicked_before is vcpu within refl calm).0) failed)
     where
       q : Progress
       q = with_made shape vcpu (one vcpu (Mark k v) found left tables).made p (changed_by shape vcpu (Mark k v) found true p)
 
-      of : (scan : Scan) → p.scan ≡ scan → IsTrue (scan_allows shape vcpu p.local scan (Mark k v)) → Covers shape state vcpu p p.scan → Covers shape (later is) vcpu q q.scan
-      of idle e allowed before = subst (Covers shape (later is) vcpu q) (sym e) tt
+      of : (scan : Scan) → p.scan ≡ scan → IsTrue (scan_allows shape vcpu p.local scan (Mark k v)) → Covers shape state track vcpu p p.scan → Covers shape (later is) later_track vcpu q q.scan
+      of idle e allowed before = subst (Covers shape (later is) later_track vcpu q) (sym e) tt
       of (taking purpose words) e allowed before = absurd (true≢false (sym allowed))
       of (looking purpose from offers) e allowed before = absurd (true≢false (sym allowed))
       of (claiming [] (t ∷ takes)) e allowed before = absurd (true≢false (sym allowed))
       of (claiming (c ∷ claims) takes) e allowed before = absurd (true≢false (sym allowed))
       of (claiming [] []) e allowed before =
-          subst (Covers shape (later is) vcpu q) (sym e) (scanned_on (Mark k v) is q (λ own. absurd (true≢false (sym own.0))) refl refl refl calm (subst (Covers shape state vcpu p) e before))
+          subst (Covers shape (later is) later_track vcpu q) (sym e) (scanned_on (Mark k v) is lasts q (λ own. absurd (true≢false (sym own.0))) refl refl refl refl calm (subst (Covers shape state track vcpu p) e before))
 
   leaves_claim :
-      (k : Key) (seen : ℕ) (is : IsStep shape state ideal vcpu (Claim k seen) found left tables) → IsProperStep shape vcpu p (Claim k seen) → (IsCalm shape state vcpu → p.failed ≡ false → Covers shape state vcpu p p.scan) → Leaves is p
-  leaves_claim k seen is proper covers calm failed = of p.scan refl proper.scan (covers (calm_before is vcpu within refl calm))
+      (k : Key) (seen : ℕ) (is : IsStep shape state ideal vcpu (Claim k seen) found left tables) (lasts : Lasts is (last_in shape track) (last_in shape later_track)) → IsProperStep shape vcpu p (Claim k seen) → (IsUnkicked shape state vcpu → p.failed ≡ false → Covers shape state track vcpu p p.scan) → Leaves is track later_track p
+  leaves_claim k seen is lasts proper covers calm failed = of p.scan refl proper.scan (covers ((unkicked_before is vcpu within refl calm).0))
     where
       done : Bool
       done = succeeds shape vcpu p.local (Claim k seen) found
@@ -464,18 +462,18 @@ module _ {shape : GuestShape} {state : CoreState} {ideal : Ideal} {vcpu found le
       either claims takes true = record { claims = without_key k claims; takes = if done then takes else without_key k takes; is = refl }
       either claims takes false = record { claims = claims; takes = without_key k takes; is = refl }
 
-      of : (scan : Scan) → p.scan ≡ scan → IsTrue (scan_allows shape vcpu p.local scan (Claim k seen)) → (p.failed ≡ false → Covers shape state vcpu p p.scan) → Covers shape (later is) vcpu q q.scan
+      of : (scan : Scan) → p.scan ≡ scan → IsTrue (scan_allows shape vcpu p.local scan (Claim k seen)) → (p.failed ≡ false → Covers shape state track vcpu p p.scan) → Covers shape (later is) later_track vcpu q q.scan
       of (taking purpose words) e allowed before = absurd (true≢false (sym allowed))
       of (looking purpose from offers) e allowed before = absurd (true≢false (sym allowed))
-      of idle e allowed before = subst (Covers shape (later is) vcpu q) (sym (ap (λ scan. (after_claim k (irq_of found) done scan p).scan) e ∙ e)) tt
+      of idle e allowed before = subst (Covers shape (later is) later_track vcpu q) (sym (ap (λ scan. (after_claim k (irq_of found) done scan p).scan) e ∙ e)) tt
       of (claiming claims takes) e allowed before =
           let same : q ≡ after claims takes = ap (λ scan. with_made shape vcpu (one vcpu (Claim k seen) found left tables).made p (after_claim k (irq_of found) done scan p)) e in
           let none : (p.failed || not done) ≡ false = sym (ap (λ (r : Progress). r.failed) same) ∙ failed in
           let tries = either claims takes (has_key k claims) in
-          subst (λ r. Covers shape (later is) vcpu r r.scan) (sym same)
-          (subst (Covers shape (later is) vcpu (after claims takes)) (sym tries.is)
-          (scanned_on (Claim k seen) is (after claims takes) (λ own. absurd (true≢false (sym own.0))) (ap (λ b. claim_left k b claims p.regs) (done_is p.failed done none)) refl cpu calm
-          (subst (Covers shape state vcpu p) e (before (not_failed p.failed (not done) none)))))
+          subst (λ r. Covers shape (later is) later_track vcpu r r.scan) (sym same)
+          (subst (Covers shape (later is) later_track vcpu (after claims takes)) (sym tries.is)
+          (scanned_on (Claim k seen) is lasts (after claims takes) (λ own. absurd (true≢false (sym own.0))) refl (ap (λ b. claim_left k b claims p.regs) (done_is p.failed done none)) refl cpu calm
+          (subst (Covers shape state track vcpu p) e (before (not_failed p.failed (not done) none)))))
         where
           not_failed : (a b : Bool) → (a || b) ≡ false → a ≡ false
           not_failed true b h = absurd (true≢false h)
@@ -487,50 +485,50 @@ module _ {shape : GuestShape} {state : CoreState} {ideal : Ideal} {vcpu found le
           done_is false false h = absurd (true≢false h)
 
   leaves_poll :
-      (reg : Option IccReg) (write : Option ℕ) (is : IsStep shape state ideal vcpu (Poll reg write) found left tables) → IsProperStep shape vcpu p (Poll reg write) → Leaves is p
-  leaves_poll None write is proper calm failed = of (unwrap_or p.far false)
+      (reg : Option IccReg) (write : Option ℕ) (is : IsStep shape state ideal vcpu (Poll reg write) found left tables) (lasts : Lasts is (last_in shape track) (last_in shape later_track)) → IsProperStep shape vcpu p (Poll reg write) → Leaves is track later_track p
+  leaves_poll None write is lasts proper calm failed = of (unwrap_or p.far false)
     where
-      of : (b : Bool) → let q = with_made shape vcpu (one vcpu (Poll None write) found left tables).made p (begun b p) in Covers shape (later is) vcpu q q.scan
-      of true = λ key waiting. inr (omega arith)
-      of false = λ key waiting. inr (omega arith)
-  leaves_poll (Some reg) write is proper calm failed = of (vcpu_of found).kick
+      of : (b : Bool) → let q = with_made shape vcpu (one vcpu (Poll None write) found left tables).made p (begun b p) in Covers shape (later is) later_track vcpu q q.scan
+      of true = λ key due. inr (omega arith)
+      of false = λ key due. inr (omega arith)
+  leaves_poll (Some reg) write is lasts proper calm failed = of (vcpu_of found).kick
     where
       free : p.scan ≡ idle
       free = only_idle shape vcpu p.local (Poll (Some reg) write) refl p.scan proper.scan
 
-      of : (b : Bool) → let q = with_made shape vcpu (one vcpu (Poll (Some reg) write) found left tables).made p (after_poll (Some reg) write b p) in Covers shape (later is) vcpu q q.scan
-      of true = let q = with_made shape vcpu (one vcpu (Poll (Some reg) write) found left tables).made p (after_poll (Some reg) write true p) in subst (Covers shape (later is) vcpu q) (sym free) tt
-      of false = let q = with_made shape vcpu (one vcpu (Poll (Some reg) write) found left tables).made p (after_poll (Some reg) write false p) in subst (Covers shape (later is) vcpu q) (sym free) tt
+      of : (b : Bool) → let q = with_made shape vcpu (one vcpu (Poll (Some reg) write) found left tables).made p (after_poll (Some reg) write b p) in Covers shape (later is) later_track vcpu q q.scan
+      of true = let q = with_made shape vcpu (one vcpu (Poll (Some reg) write) found left tables).made p (after_poll (Some reg) write true p) in subst (Covers shape (later is) later_track vcpu q) (sym free) tt
+      of false = let q = with_made shape vcpu (one vcpu (Poll (Some reg) write) found left tables).made p (after_poll (Some reg) write false p) in subst (Covers shape (later is) later_track vcpu q) (sym free) tt
 
   -- a step that changes nothing of how far the scan is
-  leaves_same : (step : CoreStep) (is : IsStep shape state ideal vcpu step found left tables) → IsProperStep shape vcpu p step → is_scan_step step ≡ false → (changed_by shape vcpu step found (succeeds shape vcpu p.local step found) p).scan ≡ p.scan → Leaves is p
-  leaves_same step is proper quiet same calm failed =
-      leaves_quiet step is (with_made shape vcpu (one vcpu step found left tables).made p (changed_by shape vcpu step found (succeeds shape vcpu p.local step found) p)) quiet proper.scan (λ e. same ∙ e)
+  leaves_same : (step : CoreStep) (is : IsStep shape state ideal vcpu step found left tables) (lasts : Lasts is (last_in shape track) (last_in shape later_track)) → IsProperStep shape vcpu p step → is_scan_step step ≡ false → (changed_by shape vcpu step found (succeeds shape vcpu p.local step found) p).scan ≡ p.scan → Leaves is track later_track p
+  leaves_same step is lasts proper quiet same calm failed =
+      leaves_quiet step is lasts (with_made shape vcpu (one vcpu step found left tables).made p (changed_by shape vcpu step found (succeeds shape vcpu p.local step found) p)) quiet proper.scan (λ e. same ∙ e)
 
-  pub leaves : (step : CoreStep) (is : IsStep shape state ideal vcpu step found left tables) → IsProperStep shape vcpu p step → (IsCalm shape state vcpu → p.failed ≡ false → Covers shape state vcpu p p.scan) → Leaves is p
-  leaves (Look (Irq k)) is proper covers = leaves_look k is proper covers
-  leaves (Look (Vcpu v)) is proper covers = leaves_same (Look (Vcpu v)) is proper refl refl
-  leaves (Look Queue) is proper covers = leaves_same (Look Queue) is proper refl refl
-  leaves (Look Ctlr) is proper covers = leaves_same (Look Ctlr) is proper refl refl
-  leaves (Look (Plain i)) is proper covers = leaves_same (Look (Plain i)) is proper refl refl
-  leaves (Look (Index v n)) is proper covers = leaves_same (Look (Index v n)) is proper refl refl
-  leaves (Claim k seen) is proper covers = leaves_claim k seen is proper covers
-  leaves (Kick other) is proper covers = leaves_kick other is covers
-  leaves (Mark k v) is proper covers = leaves_mark k v is proper covers
-  leaves (TakeIndex w) is proper covers = leaves_take_index w is proper covers
-  leaves (Poll reg write) is proper covers = leaves_poll reg write is proper
-  leaves (Raise key) is proper covers = leaves_same (Raise key) is proper refl refl
-  leaves (GiveBack key back) is proper covers = leaves_same (GiveBack key back) is proper refl refl
-  leaves (Release key) is proper covers = leaves_same (Release key) is proper refl refl
-  leaves (Touch key seen kind) is proper covers = leaves_same (Touch key seen kind) is proper refl refl
-  leaves (Want key) is proper covers = leaves_same (Want key) is proper refl refl
-  leaves (WireUp key) is proper covers = leaves_same (WireUp key) is proper refl refl
-  leaves (WireDown key) is proper covers = leaves_same (WireDown key) is proper refl refl
-  leaves (EnableLpis other) is proper covers = leaves_same (EnableLpis other) is proper refl refl
-  leaves (RamLook index) is proper covers = leaves_same (RamLook index) is proper refl refl
-  leaves (RamPut index seen value) is proper covers = leaves_same (RamPut index seen value) is proper refl refl
-  leaves (CtlrTake seen value) is proper covers = leaves_same (CtlrTake seen value) is proper refl refl
-  leaves CtlrEnd is proper covers = leaves_same CtlrEnd is proper refl refl
-  leaves (TurnTake seen) is proper covers = leaves_same (TurnTake seen) is proper refl refl
-  leaves (CommandDone offset stalled ending) is proper covers = leaves_same (CommandDone offset stalled ending) is proper refl refl
-  leaves TurnRelease is proper covers = leaves_same TurnRelease is proper refl refl
+  pub leaves : (step : CoreStep) (is : IsStep shape state ideal vcpu step found left tables) (lasts : Lasts is (last_in shape track) (last_in shape later_track)) → IsProperStep shape vcpu p step → (IsUnkicked shape state vcpu → p.failed ≡ false → Covers shape state track vcpu p p.scan) → Leaves is track later_track p
+  leaves (Look (Irq k)) is lasts proper covers = leaves_look k is lasts proper covers
+  leaves (Look (Vcpu v)) is lasts proper covers = leaves_same (Look (Vcpu v)) is lasts proper refl refl
+  leaves (Look Queue) is lasts proper covers = leaves_same (Look Queue) is lasts proper refl refl
+  leaves (Look Ctlr) is lasts proper covers = leaves_same (Look Ctlr) is lasts proper refl refl
+  leaves (Look (Plain i)) is lasts proper covers = leaves_same (Look (Plain i)) is lasts proper refl refl
+  leaves (Look (Index v n)) is lasts proper covers = leaves_same (Look (Index v n)) is lasts proper refl refl
+  leaves (Claim k seen) is lasts proper covers = leaves_claim k seen is lasts proper covers
+  leaves (Kick other) is lasts proper covers = leaves_kick other is lasts covers
+  leaves (Mark k v) is lasts proper covers = leaves_mark k v is lasts proper covers
+  leaves (TakeIndex w) is lasts proper covers = leaves_take_index w is lasts proper covers
+  leaves (Poll reg write) is lasts proper covers = leaves_poll reg write is lasts proper
+  leaves (Raise key) is lasts proper covers = leaves_same (Raise key) is lasts proper refl refl
+  leaves (GiveBack key back) is lasts proper covers = leaves_same (GiveBack key back) is lasts proper refl refl
+  leaves (Release key) is lasts proper covers = leaves_same (Release key) is lasts proper refl refl
+  leaves (Touch key seen kind) is lasts proper covers = leaves_same (Touch key seen kind) is lasts proper refl refl
+  leaves (Want key) is lasts proper covers = leaves_same (Want key) is lasts proper refl refl
+  leaves (WireUp key) is lasts proper covers = leaves_same (WireUp key) is lasts proper refl refl
+  leaves (WireDown key) is lasts proper covers = leaves_same (WireDown key) is lasts proper refl refl
+  leaves (EnableLpis other) is lasts proper covers = leaves_same (EnableLpis other) is lasts proper refl refl
+  leaves (RamLook index) is lasts proper covers = leaves_same (RamLook index) is lasts proper refl refl
+  leaves (RamPut index seen value) is lasts proper covers = leaves_same (RamPut index seen value) is lasts proper refl refl
+  leaves (CtlrTake seen value) is lasts proper covers = leaves_same (CtlrTake seen value) is lasts proper refl refl
+  leaves CtlrEnd is lasts proper covers = leaves_same CtlrEnd is lasts proper refl refl
+  leaves (TurnTake seen) is lasts proper covers = leaves_same (TurnTake seen) is lasts proper refl refl
+  leaves (CommandDone offset stalled ending) is lasts proper covers = leaves_same (CommandDone offset stalled ending) is lasts proper refl refl
+  leaves TurnRelease is lasts proper covers = leaves_same TurnRelease is lasts proper refl refl

@@ -27,7 +27,8 @@ use Rattle.port_core.specs.declared.at_list.AtIrq.{AtIrq}
 use Rattle.port_core.specs.declared.local.Local.{Local}
 use Rattle.port_core.specs.declared.step.CoreStep.{CoreStep}
 use Rattle.port_core.specs.declared.step.CoreStep.TheVariants.{Look, Raise, Claim, GiveBack, Release, Poll, Kick, Touch, Want, WireUp, WireDown, EnableLpis, RamLook, RamPut, CtlrTake, CtlrEnd, TurnTake, CommandDone, TurnRelease, Mark, TakeIndex}
-use Rattle.port_core.specs.declared.word_id.WordId.TheVariants.{Irq}
+use Rattle.port_core.specs.declared.word_id.WordId.{WordId}
+use Rattle.port_core.specs.declared.word_id.WordId.TheVariants.{Irq, Vcpu, Queue, Ctlr, Plain, Index}
 use Rattle.port_core.specs.After.{local_after, concerned, concerned_by, holder_or_active, target_of, marked_of_release, told_of_release}
 use Rattle.port_core.specs.Effect.{succeeds, changed, claimed_irq, may_move, may_hold, moved_of, touched_irq, given_back, released, is_active_at}
 use Rattle.port_core.specs.Local.{is_vcpu, with_all, with_some, with_vcpu, no_vcpus, owing_both, entry_for, without_at, back_of}
@@ -45,7 +46,8 @@ use Rattle.core_laws.proofs.StepContext.{one, IsStep, finds, says_found}
 use Rattle.ideal_guest.specs.Ideal.{irq_at}
 use Rattle.core_laws.specs.Related.{bare}
 use Rattle.core_fresh.specs.Index.{concerns, waits_for, owes_kick, owes_mark}
-use Rattle.core_fresh.proofs.ToldLemmas.{unwanted, IsOwnRelease, IsAsBefore, IsOwedNow}
+use Rattle.port_core.specs.Stands.{look_event, event_done}
+use Rattle.core_fresh.proofs.ToldLemmas.{unwanted, IsOwnRelease, event_changes, step_changes, IsAsBefore, IsOwedNow}
 
 -- Bits of sets.
 
@@ -121,12 +123,12 @@ same_bit shape vcpu (Lpi i) (Lpi j) is here there own too e = ap Lpi (grind (ari
 
 -- Whom a change of an interrupt is owed to.
 
+same_irq : (one other : Key) → Irq one ≡ Irq other → one ≡ other
+same_irq one other e = cc
+
 -- a vCPU whose bit is set among those to be marked
 owed_in : (key k : Key) (vcpu : ℕ) (kicks marks : List (Option ℕ)) (local : Local) → Irq key ≡ Irq k → IsTrue (has_bit (with_all no_vcpus marks).0 vcpu) → IsTrue (owes_mark k vcpu (record local { owes = with_all local.owes kicks; marks = record { key = Some key; vcpus = with_all no_vcpus marks } }))
-owed_in key k vcpu kicks marks local e h = and_from (is_same_key key k) (has_bit (with_all no_vcpus marks).0 vcpu) (subst (λ j. IsTrue (is_same_key key j)) (same key k e) (same_itself key)) h
-  where
-    same : (one other : Key) → Irq one ≡ Irq other → one ≡ other
-    same one other e = cc
+owed_in key k vcpu kicks marks local e h = and_from (is_same_key key k) (has_bit (with_all no_vcpus marks).0 vcpu) (subst (λ j. IsTrue (is_same_key key j)) (same_irq key k e) (same_itself key)) h
 
 -- a cause is owed to those whom the interrupt concerns after it
 cause_bit :
@@ -161,12 +163,16 @@ moved_holder shape vcpu local key irq may = of (entry_for key local.at) may
 -- to each vCPU that it concerns
 abbrev pub Tells : {shape : GuestShape} {state : CoreState} {ideal : Ideal} {actor : ℕ} {step : CoreStep} {found left : ℕ} {tables : Option Maps} → IsStep shape state ideal actor step found left tables → Type 0
 Tells {shape} {state} {ideal} {actor} {step} {found} {left} is =
-    (key : Key) (vcpu : ℕ) → word_of shape actor step ≡ Irq key → vcpu < shape.vcpus → (irq_of left).holder ≡ None → IsTrue (concerns shape vcpu (irq_of left)) → IsAsBefore is ⊎ IsOwedNow is key vcpu
+    (key : Key) (vcpu : ℕ) → word_of shape actor step ≡ Irq key → vcpu < shape.vcpus → (irq_of left).holder ≡ None → IsTrue (concerns shape vcpu (irq_of left)) → IsAsBefore is key ⊎ IsOwedNow is key vcpu
+
+-- a step that does not do what it is for changes nothing
+missed_quiet : (shape : GuestShape) (state : CoreState) (actor : ℕ) (step : CoreStep) (found : ℕ) (key : Key) → succeeds shape actor (seat_at state actor).local step found ≡ false → step_changes shape state actor step found key ≡ false
+missed_quiet shape state actor step found key e = ap (λ b. event_changes (if b then event_done shape actor (seat_at state actor).local (seat_at state actor).own step found else None) key) e
 
 module _ {shape : GuestShape} {state : CoreState} {ideal : Ideal} {actor found left : ℕ} {tables : Option Maps} where
   -- a word that is left as it was found
-  pub as_found : {step : CoreStep} (is : IsStep shape state ideal actor step found left tables) → left ≡ found → Tells is
-  as_found is same key vcpu on within home asks = inl (record { same = ap (λ n. unwanted (irq_of n)) same; kept = λ h. ap irq_of same })
+  pub as_found : {step : CoreStep} (is : IsStep shape state ideal actor step found left tables) → left ≡ found → ((key : Key) → step_changes shape state actor step found key ≡ false) → Tells is
+  as_found is same quiet key vcpu on within home asks = inl (record { same = ap (λ n. unwanted (irq_of n)) same; kept = λ h. ap irq_of same; quiet = quiet key })
 
   -- one on another word
   pub on_other : {step : CoreStep} (is : IsStep shape state ideal actor step found left tables) → ((key : Key) → word_of shape actor step ≢ Irq key) → Tells is
@@ -174,15 +180,16 @@ module _ {shape : GuestShape} {state : CoreState} {ideal : Ideal} {actor found l
 
   -- causes come and go
   pub tells_cause :
-      (key : Key) (step : CoreStep) (change : IrqRecord → IrqRecord) (is : IsStep shape state ideal actor step found left tables) → word_of shape actor step ≡ Irq key
+      (key : Key) (step : CoreStep) (change : IrqRecord → IrqRecord) (is : IsStep shape state ideal actor step found left tables) → word_of shape actor step ≡ Irq key → step_changes shape state actor step found key ≡ true
       → local_after shape actor (seat_at state actor).local step found ≡ owing_both key (concerned shape (irq_of found)) (seat_at state actor).local → irq_of left ≡ change (irq_of found) → (change (irq_of found)).route ≡ (irq_of found).route
       → (change (irq_of found)).act_by ≡ (irq_of found).act_by → (change (irq_of found)).holder ≡ (irq_of found).holder → Tells is
-  tells_cause key step change is on local word route active holder k vcpu e within home asks =
+  tells_cause key step change is on changes local word route active holder k vcpu e within home asks =
       let bits : (set : Targets) → IsTrue (has_bit (with_all set (concerned shape (irq_of found))).0 vcpu) = λ set.
       cause_bit shape vcpu (irq_of found) (irq_of left) set (ap (λ (i : IrqRecord). i.route) word ∙ route) (ap (λ (i : IrqRecord). i.act_by) word ∙ active) (ap (λ (i : IrqRecord). i.holder) word ∙ holder) home asks in
       inr (record {
         mark = subst (λ l. IsTrue (owes_mark k vcpu l)) (sym local) (owed_in key k vcpu (concerned shape (irq_of found)) (concerned shape (irq_of found)) (seat_at state actor).local (sym on ∙ e) (bits no_vcpus));
         kick = λ waits. inl (subst (λ (l : Local). IsTrue (owes_kick vcpu l)) (sym local) (bits (seat_at state actor).local.owes));
+        changes = subst (λ j. step_changes shape state actor step found j ≡ true) (same_irq key k (sym on ∙ e)) changes;
       })
 
   pub raised_word : (key : Key) (is : IsStep shape state ideal actor (Raise key) found left tables) → irq_of left ≡ raised (irq_of found)
@@ -201,13 +208,13 @@ module _ {shape : GuestShape} {state : CoreState} {ideal : Ideal} {actor found l
       changed_word wire_down found left is.takes.left (record { prio = fits.prio; prio_bits = fits.prio_bits; active = fits.active; holder = fits.holder; route = fits.route })
 
   pub tells_raise : (key : Key) (is : IsStep shape state ideal actor (Raise key) found left tables) → Tells is
-  tells_raise key is = tells_cause key (Raise key) raised is refl refl (raised_word key is) refl refl refl
+  tells_raise key is = tells_cause key (Raise key) raised is refl (same_itself key) refl (raised_word key is) refl refl refl
 
   pub tells_wire_up : (key : Key) (is : IsStep shape state ideal actor (WireUp key) found left tables) → Tells is
-  tells_wire_up key is = tells_cause key (WireUp key) wire_up is refl refl (up_word key is) refl refl refl
+  tells_wire_up key is = tells_cause key (WireUp key) wire_up is refl (same_itself key) refl (up_word key is) refl refl refl
 
   pub tells_wire_down : (key : Key) (is : IsStep shape state ideal actor (WireDown key) found left tables) → Tells is
-  tells_wire_down key is = tells_cause key (WireDown key) wire_down is refl refl (down_word key is) refl refl refl
+  tells_wire_down key is = tells_cause key (WireDown key) wire_down is refl (same_itself key) refl (down_word key is) refl refl refl
 
   -- a claim that moves the interrupt leaves it with its actor
   pub claim_word : (key : Key) (seen : ℕ) (is : IsStep shape state ideal actor (Claim key seen) found left tables) → succeeds shape actor (seat_at state actor).local (Claim key seen) found ≡ true → irq_of left ≡ claimed_irq actor (seat_at state actor).local key (irq_of found)
@@ -229,9 +236,9 @@ module _ {shape : GuestShape} {state : CoreState} {ideal : Ideal} {actor found l
   pub tells_claim : (key : Key) (seen : ℕ) (is : IsStep shape state ideal actor (Claim key seen) found left tables) → Tells is
   tells_claim key seen is k vcpu on within home asks = of (succeeds shape actor (seat_at state actor).local (Claim key seen) found) refl
     where
-      of : (b : Bool) → succeeds shape actor (seat_at state actor).local (Claim key seen) found ≡ b → IsAsBefore is ⊎ IsOwedNow is k vcpu
+      of : (b : Bool) → succeeds shape actor (seat_at state actor).local (Claim key seen) found ≡ b → IsAsBefore is k ⊎ IsOwedNow is k vcpu
       of true e = absurd (none-some actor (sym home ∙ claim_held key seen is e))
-      of false e = as_found is (claim_missed key seen is e) k vcpu on within home asks
+      of false e = as_found is (claim_missed key seen is e) (λ j. missed_quiet shape state actor (Claim key seen) found j e) k vcpu on within home asks
 
   -- an interrupt that is given back still is at the interface
   pub give_back_word : (key : Key) (back : Back) (is : IsStep shape state ideal actor (GiveBack key back) found left tables) → irq_of left ≡ given_back actor back (irq_of found)
@@ -263,6 +270,7 @@ module _ {shape : GuestShape} {state : CoreState} {ideal : Ideal} {actor found l
       inr (record {
         mark = owed_in key k vcpu (told_of_release shape actor active irq) (marked_of_release shape actor active irq) (record local { at = without_at key local.at }) on (marks (subst (λ i. IsTrue (concerns shape vcpu i)) word asks));
         kick = λ waits. kicks (subst (λ i. IsTrue (waits_for shape vcpu i)) word waits);
+        changes = subst (λ j. IsTrue (is_same_key j key)) (same_irq key k on) (same_itself key);
       })
     where
       local : Local
@@ -363,15 +371,18 @@ module _ {shape : GuestShape} {state : CoreState} {ideal : Ideal} {actor found l
         | inr by ↦ first_has (with_all set (target_of shape irq ∷ target_of shape (touched shape key kind irq) ∷ irq.act_by ∷ [])) (touched shape key kind irq).act_by [] vcpu by
       ]
 
-      of : (b : Bool) → succeeds shape actor local (Touch key seen kind) found ≡ b → IsAsBefore is ⊎ IsOwedNow is k vcpu
+      of : (b : Bool) → succeeds shape actor local (Touch key seen kind) found ≡ b → IsAsBefore is k ⊎ IsOwedNow is k vcpu
       of true e =
           let after : local_after shape actor local (Touch key seen kind) found ≡ owing_both key vcpus local = ap (λ b. if b then owing_both key vcpus local else local) e in
           let asked = subst (λ i. IsTrue (concerns shape vcpu i)) (touch_word key seen kind is e) asks in
           inr (record {
             mark = subst (λ l. IsTrue (owes_mark k vcpu l)) (sym after) (owed_in key k vcpu vcpus vcpus local on (bits no_vcpus asked));
             kick = λ waits. inl (subst (λ (l : Local). IsTrue (owes_kick vcpu l)) (sym after) (bits local.owes asked));
+            changes =
+                ap (λ b. event_changes (if b then event_done shape actor local (seat_at state actor).own (Touch key seen kind) found else None) k) e
+                ∙ subst (λ j. IsTrue (is_same_key j key)) (same_irq key k on) (same_itself key);
           })
-      of false e = as_found is (touch_missed key seen kind is e) k vcpu on within home asks
+      of false e = as_found is (touch_missed key seen kind is e) (λ j. missed_quiet shape state actor (Touch key seen kind) found j e) k vcpu on within home asks
 
   pub want_word : (key : Key) (is : IsStep shape state ideal actor (Want key) found left tables) → irq_of left ≡ record (irq_of found) { want = true }
   want_word key is =
@@ -379,10 +390,19 @@ module _ {shape : GuestShape} {state : CoreState} {ideal : Ideal} {actor found l
       changed_word (λ irq. record irq { want = true }) found left is.takes.left (record { prio = fits.prio; prio_bits = fits.prio_bits; active = fits.active; holder = fits.holder; route = fits.route })
 
   pub tells_want : (key : Key) (is : IsStep shape state ideal actor (Want key) found left tables) → Tells is
-  tells_want key is k vcpu on within home asks = inl (record { same = ap unwanted (want_word key is); kept = λ h. absurd (true≢false (sym (ap (λ (i : IrqRecord). i.want) (want_word key is)) ∙ h)) })
+  tells_want key is k vcpu on within home asks = inl (record { same = ap unwanted (want_word key is); kept = λ h. absurd (true≢false (sym (ap (λ (i : IrqRecord). i.want) (want_word key is)) ∙ h)); quiet = refl })
+
+-- a look changes nothing
+look_quiet : (found : ℕ) (word : WordId) (key : Key) → event_changes (look_event word found) key ≡ false
+look_quiet found (Irq k) key = refl
+look_quiet found (Vcpu v) key = refl
+look_quiet found Queue key = refl
+look_quiet found Ctlr key = refl
+look_quiet found (Plain i) key = refl
+look_quiet found (Index v n) key = refl
 
 pub tells : {shape : GuestShape} {state : CoreState} {ideal : Ideal} {actor found left : ℕ} {tables : Option Maps} (step : CoreStep) (is : IsStep shape state ideal actor step found left tables) → Tells is
-tells (Look word) is = as_found is is.takes.left
+tells {found = found} (Look word) is = as_found is is.takes.left (look_quiet found word)
 tells (Raise key) is = tells_raise key is
 tells (Claim key seen) is = tells_claim key seen is
 tells (GiveBack key back) is = tells_give_back key back is

@@ -1,4 +1,4 @@
--- What a step leaves of the interrupts that wait for a vCPU, while that is told of all changes.
+-- What a step leaves of the interrupts that are due to a vCPU, while that is not kicked.
 use Rattle.std.proofs.Common.{◌≡◌, ◌≢◌, ℕ, ◌<◌, ◌==◌, ◌&&◌, inl, inr, true≢false, Bool, true, false, IsTrue, List, Option, if◌then◌else◌, refl, sym, ap, ◌∙◌, subst, arith}
 use Rattle.std.proofs.lemmas.Bool.{cases_eq, eq-eqb, eqb-true, lt-ltb, false_from_ne_true}
 use Rattle.gic_base.specs.declared.interrupt.Key.{Key}
@@ -13,7 +13,6 @@ use Rattle.port_core.specs.declared.local.Local.{Local}
 use Rattle.port_core.specs.declared.step.CoreStep.{CoreStep}
 use Rattle.port_core.specs.declared.step.CoreStep.TheVariants.{Look, Raise, Claim, GiveBack, Release, Poll, Kick, Touch, Want, WireUp, WireDown, EnableLpis, RamLook, RamPut, CtlrTake, CtlrEnd, TurnTake, CommandDone, TurnRelease, Mark, TakeIndex}
 use Rattle.port_core.specs.declared.word_id.WordId.TheVariants.{Irq, Vcpu}
-use Rattle.port_core.specs.Actor.{actor_count}
 use Rattle.port_core.specs.After.{local_after, concerned, concerned_by, told_of_release, claimed}
 use Rattle.port_core.specs.Effect.{succeeds, is_active_at}
 use Rattle.port_core.specs.Forms.{packed_vcpu, vcpu_of}
@@ -23,11 +22,18 @@ use Rattle.port_core.specs.Step.{word_of, CanStep}
 use Rattle.gic_base.specs.Shape.{IsShape}
 use Rattle.core_laws.proofs.StepContext.{IsStep}
 use Rattle.core_fresh.specs.Index.{waits_for, owes_kick}
-use Rattle.core_fresh.specs.Waiting.{record_in, IsWaiting, IsCalm}
+use Rattle.gic_base.specs.Interrupt.{has_interrupt}
+use Rattle.gic_history.specs.Fresh.{Track}
+use Rattle.core_fresh.specs.Excuse.{changed_last, IsExcused}
+use Rattle.core_fresh.specs.Waiting.{record_in, IsWaiting, IsUnkicked, IsDue}
 use Rattle.core_fresh.proofs.AfterLemmas.{later, word_cases, local_mine, seat_other}
-use Rattle.core_fresh.proofs.ToldLemmas.{waiting_concerns, IsOwnRelease}
+use Rattle.core_fresh.proofs.ToldLemmas.{waiting_concerns, IsOwnRelease, step_changes, Lasts, apart_quiet}
 use Rattle.core_fresh.proofs.TellSteps.{all_keep, tells}
 use Rattle.core_fresh.proofs.IndexSteps.{either_way, look_owes, poll_owes, still_in}
+
+-- what a history says of who changed an interrupt last
+abbrev pub last_in : GuestShape → Track → ℕ → Key → Type 0
+last_in shape track actor key = IsTrue (changed_last shape track key actor)
 
 -- a vCPU's own look for a kick
 abbrev pub is_poll : CoreStep → Bool
@@ -43,7 +49,7 @@ kicked_word true = refl
 kicked_word false = refl
 
 -- kicks that are owed are owed on, but for one that is sent
-abbrev is_kick_of : ℕ → CoreStep → Bool
+abbrev pub is_kick_of : ℕ → CoreStep → Bool
 is_kick_of vcpu (Kick other) = other == vcpu
 is_kick_of vcpu step = false
 
@@ -81,7 +87,7 @@ owes_on shape actor vcpu local TurnRelease found good within can e h = h
 owes_on shape actor vcpu local (Mark key other) found good within can e h = h
 owes_on shape actor vcpu local (TakeIndex word) found good within can e h = h
 
--- Calm vCPUs.
+-- vCPUs that are not kicked.
 
 vcpu_of_word : (v w : ℕ) → Vcpu v ≡ Vcpu w → v ≡ w
 vcpu_of_word v w e = cc
@@ -145,55 +151,64 @@ module _ {shape : GuestShape} {state : CoreState} {ideal : Ideal} {actor : ℕ} 
     | inr apart ↦ (ap (λ n. (vcpu_of n).kick) (sym apart.1) ∙ free, kick_word shape actor vcpu step apart.0)
   ]
 
-  -- a vCPU that was told of all changes after a step was so before it
-  pub calm_before : is_poll_by vcpu actor step ≡ false → IsCalm shape (later is) vcpu → IsCalm shape state vcpu
-  calm_before own calm =
-      let word = unkicked_before own calm.unkicked in
-      record {
-        unkicked = word.0;
-        none_owed = λ other there. false_from_ne_true (owes_kick vcpu (seat_at state other).local) (λ owes. owed word.1 other there owes);
-      }
-    where
-      owed : is_kick_of vcpu step ≡ false → (other : ℕ) → other < actor_count shape → owes_kick vcpu (seat_at state other).local ≡ true → ⊥
-      owed no_kick other there owes = elim (cases_eq other actor) [
+  -- Excuses.
+
+  module _ (track later_track : Track) (lasts : Lasts is (last_in shape track) (last_in shape later_track)) where
+    -- a change of which the vCPU is still to be told stays so, unless the step changes the interrupt, or kicks the vCPU
+    pub excused_on : (key : Key) → IsTrue (has_interrupt shape key) → step_changes shape state actor step found key ≡ false → is_kick_of vcpu step ≡ false → IsExcused shape state track vcpu key → IsExcused shape (later is) later_track vcpu key
+    excused_on key there quiet no_kick x = record {
+      actor = x.actor;
+      there = x.there;
+      last = lasts.kept key x.actor vcpu there quiet x.owes x.last;
+      owes = elim (cases_eq x.actor actor) [
         | inl same ↦
-            true≢false
-            (sym (ap (λ (l : Local). owes_kick vcpu l) (local_mine is) ∙ owes_on shape actor vcpu (seat_at state actor).local step found is.good within is.takes.can no_kick (subst (λ n. owes_kick vcpu (seat_at state n).local ≡ true) same owes))
-            ∙ calm.none_owed actor is.takes.actor)
-        | inr differ ↦ true≢false (sym (ap (λ (s : Seat). owes_kick vcpu s.local) (seat_other is other differ) ∙ owes) ∙ calm.none_owed other there)
-      ]
+            subst (λ n. IsTrue (owes_kick vcpu (seat_at (later is) n).local)) (sym same)
+            (subst (λ (l : Local). IsTrue (owes_kick vcpu l)) (sym (local_mine is)) (owes_on shape actor vcpu (seat_at state actor).local step found is.good within is.takes.can no_kick (subst (λ n. IsTrue (owes_kick vcpu (seat_at state n).local)) same x.owes)))
+        | inr differ ↦ subst (λ (s : Seat). IsTrue (owes_kick vcpu s.local)) (sym (seat_other is x.actor differ)) x.owes
+      ];
+    }
 
-  -- an interrupt that waits for it after a step, which is no release of its own, waited for it before, with the same record
-  pub record WaitedSo (key : Key) : Type 0 where
-    pub waited : IsWaiting shape state vcpu key
-    pub same : record_in shape (later is) key ≡ record_in shape state key
+    -- and one that the step makes is so
+    pub excused_now : (key : Key) → IsTrue (has_interrupt shape key) → step_changes shape state actor step found key ≡ true → IsTrue (owes_kick vcpu (local_after shape actor (seat_at state actor).local step found)) → IsExcused shape (later is) later_track vcpu key
+    excused_now key there changes owes = record { actor = actor; there = is.takes.actor; last = lasts.made key there changes; owes = subst (λ (l : Local). IsTrue (owes_kick vcpu l)) (sym (local_mine is)) owes }
 
-  pub waiting_before : (IsOwnRelease step actor vcpu → ⊥) → IsCalm shape (later is) vcpu → (key : Key) → IsWaiting shape (later is) vcpu key → WaitedSo key
-  waiting_before other calm key waiting = elim (word_cases is (Irq key) waiting.there) [
-    | inl here ↦ on here
-    | inr apart ↦ so (ap irq_of apart.1)
-  ]
-    where
-      so : record_in shape (later is) key ≡ record_in shape state key → WaitedSo key
-      so same = record {
-        waited = record {
-          there = waiting.there;
-          home = ap (λ (i : IrqRecord). i.holder) (sym same) ∙ waiting.home;
-          unwanted = ap (λ (i : IrqRecord). i.want) (sym same) ∙ waiting.unwanted;
-          waits = subst (λ i. IsTrue (waits_for shape vcpu i)) same waiting.waits;
-        };
-        same = same;
-      }
+    -- an interrupt that is due after a step, which is no release of the vCPU's own, was due before it, with the same record
+    pub record DueSo (key : Key) : Type 0 where
+      pub due : IsDue shape state track vcpu key
+      pub same : record_in shape (later is) key ≡ record_in shape state key
 
-      on : (word_of shape actor step ≡ Irq key) × (word_in shape (later is) (Irq key) ≡ left) → WaitedSo key
-      on here =
-          let word : record_in shape (later is) key ≡ irq_of left = ap irq_of here.1 in
-          let waits = subst (λ i. IsTrue (waits_for shape vcpu i)) word waiting.waits in
-          elim (tells step is key vcpu here.0 within (ap (λ (i : IrqRecord). i.holder) (sym word) ∙ waiting.home) (waiting_concerns shape vcpu (irq_of left) waits)) [
-            | inl before ↦ so (word ∙ before.kept (ap (λ (i : IrqRecord). i.want) (sym word) ∙ waiting.unwanted) ∙ ap irq_of (is.takes.found ∙ ap (word_in shape state) here.0))
-            | inr owed ↦
-                elim (owed.kick waits) [
-                  | inl kick ↦ absurd (true≢false (sym (ap (λ (l : Local). owes_kick vcpu l) (local_mine is) ∙ kick) ∙ calm.none_owed actor is.takes.actor))
-                  | inr own ↦ absurd (other own)
-                ]
-          ]
+    pub due_before : (IsOwnRelease step actor vcpu → ⊥) → is_poll_by vcpu actor step ≡ false → IsUnkicked shape (later is) vcpu → (key : Key) → IsDue shape (later is) later_track vcpu key → DueSo key
+    due_before other no_poll free key due = elim (word_cases is (Irq key) due.waiting.there) [
+      | inl here ↦ on here
+      | inr apart ↦ so (ap irq_of apart.1) (apart_quiet is key apart.0)
+    ]
+      where
+        waiting : IsWaiting shape (later is) vcpu key
+        waiting = due.waiting
+
+        so : record_in shape (later is) key ≡ record_in shape state key → step_changes shape state actor step found key ≡ false → DueSo key
+        so same quiet = record {
+          due = record {
+            waiting = record {
+              there = waiting.there;
+              home = ap (λ (i : IrqRecord). i.holder) (sym same) ∙ waiting.home;
+              unwanted = ap (λ (i : IrqRecord). i.want) (sym same) ∙ waiting.unwanted;
+              waits = subst (λ i. IsTrue (waits_for shape vcpu i)) same waiting.waits;
+            };
+            told = λ excused. due.told (excused_on key waiting.there quiet (unkicked_before no_poll free).1 excused);
+          };
+          same = same;
+        }
+
+        on : (word_of shape actor step ≡ Irq key) × (word_in shape (later is) (Irq key) ≡ left) → DueSo key
+        on here =
+            let word : record_in shape (later is) key ≡ irq_of left = ap irq_of here.1 in
+            let waits = subst (λ i. IsTrue (waits_for shape vcpu i)) word waiting.waits in
+            elim (tells step is key vcpu here.0 within (ap (λ (i : IrqRecord). i.holder) (sym word) ∙ waiting.home) (waiting_concerns shape vcpu (irq_of left) waits)) [
+              | inl before ↦ so (word ∙ before.kept (ap (λ (i : IrqRecord). i.want) (sym word) ∙ waiting.unwanted) ∙ ap irq_of (is.takes.found ∙ ap (word_in shape state) here.0)) before.quiet
+              | inr owed ↦
+                  elim (owed.kick waits) [
+                    | inl kick ↦ absurd (due.told (excused_now key waiting.there owed.changes kick))
+                    | inr own ↦ absurd (other own)
+                  ]
+            ]

@@ -35,12 +35,8 @@ use Rattle.core_fresh.proofs.AfterLemmas.{later, word_cases, seat_mine, seat_oth
 use Rattle.core_fresh.proofs.IndexRuns.{IsReached, reaches_next, reached_opens}
 use Rattle.core_fresh.proofs.ScanLemmas.{wants_on}
 use Rattle.core_fresh.proofs.ScanSteps.{with_made}
-use Rattle.core_fresh.proofs.ScanRuns.{split}
+use Rattle.core_fresh.proofs.Frame.{moved_on, split}
 use Rattle.core_fresh.proofs.WantSteps.{is_touch_of, as_touch, wanted_on, touch_ends, wants_kept}
-
--- how far the actors are after a moment
-abbrev pub moved_on : GuestShape → (ℕ → Progress) → CoreMoment → ℕ → Progress
-moved_on shape progress moment actor = if moment.actor == actor then progressed shape actor (progress actor) moment.act else progress actor
 
 -- a moment of a run, with how far its actors are
 pub record IsAll (shape : GuestShape) (state : CoreState) (progress : ℕ → Progress) : Type 0 where
@@ -170,14 +166,11 @@ module _ (shape : GuestShape) (good : IsShape shape) where
   pub all_go : (moments : List CoreMoment) (state : CoreState) (progress : ℕ → Progress) → IsAll shape state progress → IsRun shape state (entries_of moments) → AreWanted shape (end_of_moments shape state moments) (all_on progress moments)
   all_go [] state progress all run = all.wanted
   all_go (moment ∷ moments) state progress all run =
-      let parts = split shape good 0 (first good) state moment.actor moment.act moments run in
+      let parts = split shape state moment.actor moment.act moments run in
       let rest = all_go moments (after_moment shape state moment) (moved_on shape progress moment) (one_moment state progress moment.actor moment.act parts.0 all) parts.1 in
       λ key there h.
       let by = rest key there h in
       record { actor = by.actor; there = by.there; wants = subst (λ (p : Progress). IsTrue (has_key key p.wants)) (all_more progress moment moments by.actor) by.wants }
-    where
-      first : IsShape shape → 0 < shape.vcpus
-      first good = good.some_vcpu
 
 opens : (guest : GuestSpec) (number : ℕ) → IsGoodGuest guest → IsAll guest.shape (opening guest number) (opening_progress guest number)
 opens guest number good = record {

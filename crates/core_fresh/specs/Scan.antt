@@ -1,8 +1,9 @@
--- A vCPU's scan overlooks no interrupt that waits for it (own choice).
+-- A vCPU's scan overlooks no interrupt that is due (own choice).
 use Rattle.std.specs.Prelude.{◌≡◌, ◌⊎◌, ℕ, ◌/◌, ◌≤◌, false, IsTrue, List, Contains, None, ◌<◌}
 use Rattle.std.specs.Option.{option_map}
 use Rattle.gic_base.specs.declared.interrupt.Key.{Key}
 use Rattle.gic_base.specs.declared.shape.GuestShape.{GuestShape}
+use Rattle.gic_history.specs.Fresh.{Track}
 use Rattle.gic_lr.specs.declared.entry.LrState.TheVariants.{Pending}
 use Rattle.scn_base.specs.declared.guest.GuestSpec.{GuestSpec}
 use Rattle.scn_base.specs.Good.{IsGoodGuest}
@@ -18,7 +19,8 @@ use Rattle.core_proper.specs.Progress.{Progress, progress_in}
 use Rattle.core_proper.specs.Proper.{IsProperRun}
 use Rattle.core_proper.specs.Registers.{alone}
 use Rattle.core_proper.specs.Scan.{Purpose, planned, trapped, bare, Scan, idle, taking, looking, claiming}
-use Rattle.core_fresh.specs.Waiting.{record_in, IsWaiting, IsCalm}
+use Rattle.core_fresh.specs.Excuse.{followed_in}
+use Rattle.core_fresh.specs.Waiting.{record_in, IsUnkicked, IsDue}
 
 -- an interrupt with the record in its word
 abbrev pub offer_in : GuestShape → CoreState → Key → Offer
@@ -36,23 +38,24 @@ IsFilled shape vcpu p offers lrs planned = let fill = plan offers vcpu p.local.c
 IsFilled shape vcpu p offers lrs trapped = p.regs ≡ alone (option_map (chosen_as Pending) (first_among offers vcpu p.local.cpu shape)) p.local.cpu lrs
 IsFilled shape vcpu p offers lrs bare = p.regs ≡ alone None p.local.cpu lrs
 
--- a vCPU filled its registers by what it found, and every interrupt that waits for it is among that, as it is
-pub record HasScanned (shape : GuestShape) (state : CoreState) (vcpu : ℕ) (p : Progress) : Type 0 where
+-- a vCPU filled its registers by what it found, and every interrupt that is due is among that, as it is
+pub record HasScanned (shape : GuestShape) (state : CoreState) (track : Track) (vcpu : ℕ) (p : Progress) : Type 0 where
   pub offers : List Offer
   pub lrs : ℕ
   pub purpose : Purpose
   pub filled : IsFilled shape vcpu p offers lrs purpose
-  pub covers : (key : Key) → IsWaiting shape state vcpu key → Contains offers (offer_in shape state key)
+  pub covers : (key : Key) → IsDue shape state track vcpu key → Contains offers (offer_in shape state key)
 
--- while a scan goes on, each interrupt that waits for the vCPU is still to be found, or was found as it is
-abbrev pub Covers : GuestShape → CoreState → ℕ → Progress → Scan → Type 0
-Covers shape state vcpu p idle = Unit {0}
-Covers shape state vcpu p (taking purpose words) = (key : Key) → IsWaiting shape state vcpu key → IsTrue (is_cand p.local.cands (index_bit shape key)) ⊎ (words ≤ index_bit shape key / 64)
-Covers shape state vcpu p (looking purpose from offers) = (key : Key) → IsWaiting shape state vcpu key → IsAhead shape p from key ⊎ Contains offers (offer_in shape state key)
-Covers shape state vcpu p (claiming claims takes) = HasScanned shape state vcpu p
+-- while a scan goes on, each interrupt that is due is still to be found, or was found as it is
+abbrev pub Covers : GuestShape → CoreState → Track → ℕ → Progress → Scan → Type 0
+Covers shape state track vcpu p idle = Unit {0}
+Covers shape state track vcpu p (taking purpose words) = (key : Key) → IsDue shape state track vcpu key → IsTrue (is_cand p.local.cands (index_bit shape key)) ⊎ (words ≤ index_bit shape key / 64)
+Covers shape state track vcpu p (looking purpose from offers) = (key : Key) → IsDue shape state track vcpu key → IsAhead shape p from key ⊎ Contains offers (offer_in shape state key)
+Covers shape state track vcpu p (claiming claims takes) = HasScanned shape state track vcpu p
 
--- so it is at every moment of every proper run, of a vCPU that was told of all changes and had no claim fail
+-- so it is at every moment of every proper run, of a vCPU that is not kicked and had no claim fail
 abbrev pub ScanOverlooksNone : Type 0
 ScanOverlooksNone =
-    (guest : GuestSpec) (number : ℕ) (moments : List CoreMoment) (vcpu : ℕ) → IsGoodGuest guest → IsProperRun guest number moments → vcpu < guest.shape.vcpus → IsCalm guest.shape (end_of_moments guest.shape (opening guest number) moments) vcpu
-    → (progress_in guest number moments vcpu).failed ≡ false → Covers guest.shape (end_of_moments guest.shape (opening guest number) moments) vcpu (progress_in guest number moments vcpu) (progress_in guest number moments vcpu).scan
+    (guest : GuestSpec) (number : ℕ) (moments : List CoreMoment) (vcpu : ℕ) → IsGoodGuest guest → IsProperRun guest number moments → vcpu < guest.shape.vcpus → IsUnkicked guest.shape (end_of_moments guest.shape (opening guest number) moments) vcpu
+    → (progress_in guest number moments vcpu).failed ≡ false
+    → Covers guest.shape (end_of_moments guest.shape (opening guest number) moments) (followed_in guest number moments).track vcpu (progress_in guest number moments vcpu) (progress_in guest number moments vcpu).scan

@@ -1,15 +1,16 @@
--- Interrupts that wait for a vCPU, and vCPUs that were told of all changes (own choice).
-use Rattle.std.specs.Prelude.{◌≡◌, ℕ, ◌<◌, false, IsTrue, None}
+-- Interrupts that wait for a vCPU, and vCPUs that are not kicked (own choice).
+use Rattle.std.specs.Prelude.{◌≡◌, ℕ, false, IsTrue, None}
 use Rattle.gic_base.specs.declared.interrupt.Key.{Key}
 use Rattle.gic_base.specs.declared.shape.GuestShape.{GuestShape}
 use Rattle.gic_base.specs.Interrupt.{has_interrupt}
+use Rattle.gic_history.specs.Fresh.{Track}
 use Rattle.gic_word.specs.declared.record.Irq.{Irq as IrqRecord}
 use Rattle.gic_word.specs.Word.{irq_of}
 use Rattle.port_core.specs.declared.word_id.WordId.TheVariants.{Irq, Vcpu}
-use Rattle.port_core.specs.Actor.{actor_count}
 use Rattle.port_core.specs.Forms.{vcpu_of}
-use Rattle.port_core.specs.Run.{CoreState, seat_at, word_in}
-use Rattle.core_fresh.specs.Index.{waits_for, owes_kick}
+use Rattle.port_core.specs.Run.{CoreState, word_in}
+use Rattle.core_fresh.specs.Index.{waits_for}
+use Rattle.core_fresh.specs.Excuse.{IsExcused}
 
 -- the record in an interrupt's word
 abbrev pub record_in : GuestShape → CoreState → Key → IrqRecord
@@ -22,7 +23,11 @@ pub record IsWaiting (shape : GuestShape) (state : CoreState) (vcpu : ℕ) (key 
   pub unwanted : (record_in shape state key).want ≡ false
   pub waits : IsTrue (waits_for shape vcpu (record_in shape state key))
 
--- a vCPU was told of all changes: it is not kicked, and nobody owes it a kick
-pub record IsCalm (shape : GuestShape) (state : CoreState) (vcpu : ℕ) : Type 0 where
-  pub unkicked : (vcpu_of (word_in shape state (Vcpu vcpu))).kick ≡ false
-  pub none_owed : (actor : ℕ) → actor < actor_count shape → owes_kick vcpu (seat_at state actor).local ≡ false
+-- a vCPU is not kicked
+abbrev pub IsUnkicked : GuestShape → CoreState → ℕ → Type 0
+IsUnkicked shape state vcpu = (vcpu_of (word_in shape state (Vcpu vcpu))).kick ≡ false
+
+-- an interrupt that waits for the vCPU is due: the vCPU was told of its last change
+pub record IsDue (shape : GuestShape) (state : CoreState) (track : Track) (vcpu : ℕ) (key : Key) : Type 0 where
+  pub waiting : IsWaiting shape state vcpu key
+  pub told : IsExcused shape state track vcpu key → ⊥

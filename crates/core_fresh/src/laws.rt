@@ -1,6 +1,9 @@
 //! Laws of every run of the core.
+ghost use Rattle.core_fresh.specs.Copies.{CopiesAreCurrent};
+ghost use Rattle.core_fresh.specs.Far.{FarEndsAreKnown};
 ghost use Rattle.core_fresh.specs.Index.{IndexIsComplete};
 ghost use Rattle.core_fresh.specs.Scan.{ScanOverlooksNone};
+ghost use Rattle.core_fresh.specs.Standing.{ChangesAreOwed};
 ghost use Rattle.core_fresh.specs.Wants.{WantsAreKept};
 
 /// A law of every run of a good guest's actors from its opening, in whatever order their steps come: an interrupt that nobody
@@ -10,11 +13,31 @@ pub fn index_is_complete()
     ensures { IndexIsComplete }
 {}
 
-/// A law of every proper run, of a vCPU that is not kicked and to which nobody owes a kick, and of which no claim failed: while
-/// it scans, each interrupt that waits for it is still to be found, or was found with the record that it has; and once it
-/// looked at all candidates, its registers are those that its scan asks for of interrupts among which is each that waits.
+/// A law of every proper run, of a vCPU that is not kicked and of which no claim failed. An interrupt that waits for it is due
+/// unless the actor that changed it last is in that call still and owes the vCPU a kick. While the vCPU scans, each interrupt
+/// that is due is still to be found, or was found with the record that it has; and once it looked at all candidates, its
+/// registers are those that its scan asks for of interrupts among which is each that is due.
 pub fn scans_overlook_none()
     ensures { ScanOverlooksNone }
+{}
+
+/// A law of every proper run, of a vCPU that is not kicked and does not give back what it has: its own copy of EnableLPIs is
+/// what its word says.
+pub fn copies_are_current()
+    ensures { CopiesAreCurrent }
+{}
+
+/// A law of every proper run, of an interrupt at the interface of a vCPU that is not kicked and does not give back what it has:
+/// each change of the interrupt since it got there was made in a call that goes on, whose actor owes the vCPU a kick.
+pub fn changes_are_owed()
+    ensures { ChangesAreOwed }
+{}
+
+/// A law of every proper run, of a vCPU that is not kicked, looked at the interrupt that its call ends and found it not active by
+/// it: where that is at no interface and active by the vCPU all the same, the actor that changed it last is in that call still
+/// and owes the vCPU a kick.
+pub fn far_ends_are_known()
+    ensures { FarEndsAreKnown }
 {}
 
 /// A law of every run with its parts: an interrupt for which an access waits is wanted by an actor, which asked for it in its

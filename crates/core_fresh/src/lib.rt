@@ -3,4 +3,7 @@
 
 mod laws;
 
-pub use laws::{index_is_complete, scans_overlook_none, wants_are_kept};
+pub use laws::{
+    changes_are_owed, copies_are_current, far_ends_are_known, index_is_complete,
+    scans_overlook_none, wants_are_kept,
+};

@@ -110,17 +110,17 @@ module _ (shape : GuestShape) (state : CoreState) (course : Course) (actor : ℕ
 
 -- What is left of an actor's parts.
 
-own_here : (actor : ℕ) (act : Act) (moments : List CoreMoment) → own_acts actor (record { actor = actor; act = act } ∷ moments) ≡ act ∷ own_acts actor moments
+pub own_here : (actor : ℕ) (act : Act) (moments : List CoreMoment) → own_acts actor (record { actor = actor; act = act } ∷ moments) ≡ act ∷ own_acts actor moments
 own_here actor act moments = ap (λ b. map (λ (m : CoreMoment). m.act) (cond b (record { actor = actor; act = act } ∷ filter (λ (m : CoreMoment). m.actor == actor) moments) (filter (λ (m : CoreMoment). m.actor == actor) moments))) (eq-eqb actor actor refl)
 
-own_other : (actor other : ℕ) (act : Act) (moments : List CoreMoment) → other ≢ actor → own_acts other (record { actor = actor; act = act } ∷ moments) ≡ own_acts other moments
+pub own_other : (actor other : ℕ) (act : Act) (moments : List CoreMoment) → other ≢ actor → own_acts other (record { actor = actor; act = act } ∷ moments) ≡ own_acts other moments
 own_other actor other act moments differ = ap (λ b. map (λ (m : CoreMoment). m.act) (cond b (record { actor = actor; act = act } ∷ filter (λ (m : CoreMoment). m.actor == other) moments) (filter (λ (m : CoreMoment). m.actor == other) moments))) (ne_eqb actor other (λ e. differ (sym e)))
 
 abbrev ArePartsOf : GuestShape → Course → List CoreMoment → Type 0
 ArePartsOf shape course moments = (actor : ℕ) → actor < actor_count shape → IsTrue (are_parts shape actor (is_some (call_of course actor)) (own_acts actor moments))
 
 -- the first of an actor's acts fits, and so do the others
-parts_next : (shape : GuestShape) (actor : ℕ) (within : Bool) (act : Act) (acts : List Act) → IsTrue (are_parts shape actor within (act ∷ acts)) → IsTrue (are_parts shape actor (within_after within act) acts)
+pub parts_next : (shape : GuestShape) (actor : ℕ) (within : Bool) (act : Act) (acts : List Act) → IsTrue (are_parts shape actor within (act ∷ acts)) → IsTrue (are_parts shape actor (within_after within act) acts)
 parts_next shape actor within (begins operation lrs) acts h = (and_parts (not within && has_registers shape actor lrs) (are_parts shape actor true acts) h).1
 parts_next shape actor within (makes made) acts h = (and_parts within (are_parts shape actor within acts) h).1
 parts_next shape actor within (ends answer) acts h = (and_parts within (are_parts shape actor false acts) h).1
