@@ -44,7 +44,7 @@ less_not : (m n : ℕ) → m ≡ n → m < n → ⊥
 less_not m n e l = omega (arith, e, l)
 
 -- the interrupt at a place has that place
-place_at : (shape : GuestShape) (place : ℕ) → IsShape shape → place < interrupt_count shape → place_of shape (key_at shape place) ≡ place
+pub place_at : (shape : GuestShape) (place : ℕ) → IsShape shape → place < interrupt_count shape → place_of shape (key_at shape place) ≡ place
 place_at shape place is h = grind (arith, common_steps)
 
 -- the copies from a place on, and the end
