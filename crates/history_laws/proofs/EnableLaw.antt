@@ -1,5 +1,5 @@
 -- Every history of a good guest: from its opening, where each interrupt has a copy of the enables.
-use Rattle.std.proofs.Common.{◌≡◌, ℕ, suc, Bool, true, false, inl, inr, IsTrue, All, List, [], ◌∷◌, ◌++◌, fold, length, refl, ap, ◌∙◌, subst, arith}
+use Rattle.std.proofs.Common.{None, ◌≡◌, ℕ, suc, Bool, true, false, inl, inr, IsTrue, All, List, [], ◌∷◌, ◌++◌, fold, length, refl, ap, ◌∙◌, subst, arith}
 use Rattle.std.proofs.lemmas.Bool.{cases_eq}
 use Rattle.std.proofs.lemmas.List.FromFn.{get_or-map-range_with_len, length-map-range_with_len}
 use Rattle.std.proofs.lemmas.Option.{none-some}
@@ -18,12 +18,12 @@ use Rattle.scn_base.specs.declared.guest.GuestSpec.{GuestSpec}
 use Rattle.scn_base.specs.declared.preset.Preset.{Preset}
 use Rattle.scn_base.specs.Good.{preset_key, IsGoodPreset, IsGoodGuest}
 use Rattle.gic_history.specs.State.{opening}
-use Rattle.gic_history.specs.History.{opening_course, course_of, IsHistory, IsWhole}
+use Rattle.gic_history.specs.History.{opening_course, course_of, IsHistory, IsWhole, last_of}
 use Rattle.history_laws.specs.Enables.{copy_in, EnablesAgree}
 use Rattle.history_laws.proofs.CourseLemmas.{opens, nobody_opens, nobody}
 use Rattle.history_laws.proofs.AheadLemmas.{ahead_of, piece_in, AreWrites, ahead_writes}
 use Rattle.history_laws.proofs.SpreadLemmas.{spreads_of}
-use Rattle.history_laws.proofs.SpreadSteps.{AreKept, all_agree}
+use Rattle.history_laws.proofs.SpreadSteps.{all_unmarked, AreKept, all_agree}
 
 abbrev both : Bool → Enables
 both on = record { group0 = on; group1 = on }
@@ -88,3 +88,7 @@ kept_from_opening guest moments good history whole = record {
 
 pub enables_agree : EnablesAgree
 enables_agree guest moments more good history whole = all_agree guest.shape (opening_course guest) ((opening guest).guest.enables, (opening guest).guest.enables) moments more (opens guest good) history (kept_from_opening guest (moments ++ more) good history whole)
+
+-- nobody has the mark of GICD_CTLR where all calls ended
+pub nobody_spreads : (guest : GuestSpec) (moments : List Moment) → IsGoodGuest guest → IsHistory guest moments → IsWhole guest moments → (last_of guest moments).spreads ≡ None
+nobody_spreads guest moments good history whole = all_unmarked guest.shape (opening_course guest) ((opening guest).guest.enables, (opening guest).guest.enables) moments (opens guest good) history (kept_from_opening guest moments good history whole)

@@ -35,7 +35,7 @@ use Rattle.history_laws.proofs.StandLemmas.{of_key, standing_of_key, found_none,
 use Rattle.history_laws.proofs.StateLemmas.{guest_is, take_cases, leave_cases}
 
 -- an event leaves as many interfaces
-seats_after : (actor : ℕ) (event : Event) (state : Ideal) → length (happened actor event state).at ≡ length state.at
+pub seats_after : (actor : ℕ) (event : Event) (state : Ideal) → length (happened actor event state).at ≡ length state.at
 seats_after actor (Raise other) state = refl
 seats_after actor (Up other) state = refl
 seats_after actor (Down other) state = refl
@@ -179,10 +179,10 @@ module _ (key : Key) (state : Ideal) (latch : Latch) (is : IsTrackedIn key state
 
 -- From the opening.
 
-abbrev nothing : List Standing
+abbrev pub nothing : List Standing
 nothing = []
 
-empty_at : (n vcpu : ℕ) → slice_index_or (replicate n nothing) vcpu nothing ≡ nothing
+pub empty_at : (n vcpu : ℕ) → slice_index_or (replicate n nothing) vcpu nothing ≡ nothing
 empty_at zero vcpu = refl
 empty_at (suc n) zero = refl
 empty_at (suc n) (suc vcpu) = empty_at n vcpu

@@ -39,7 +39,7 @@ use Rattle.history_laws.proofs.StandLemmas.{of_key, standing_of_key, found_none,
 use Rattle.history_laws.proofs.StateLemmas.{record_is}
 use Rattle.history_laws.proofs.LatchSteps.{IsTrackedIn, no_interrupt, same_number, deliverable_caused, stays, raises, ups, downs, touches, standing_is, moved_other}
 
-same_sym : (one other : Key) → is_same_key one other ≡ false → is_same_key other one ≡ false
+pub same_sym : (one other : Key) → is_same_key one other ≡ false → is_same_key other one ≡ false
 same_sym one other h = of (is_same_key other one) refl
   where
     clash : is_same_key other one ≡ true → ⊥
@@ -55,17 +55,17 @@ mapped_itself : {X : Type 0} (xs : List X) → map (λ x. x) xs ≡ xs
 mapped_itself [] = refl
 mapped_itself (x ∷ xs) = ap (λ ys. x ∷ ys) (mapped_itself xs)
 
-abbrev acked : Option Candidate → AtInterface → AtInterface
+abbrev pub acked : Option Candidate → AtInterface → AtInterface
 acked taken one = option_map_or (λ found. cond (intid_of one.key == found.id) (acknowledged_entry one) one) taken one
 
-abbrev ended : Option ℕ → AtInterface → AtInterface
+abbrev pub ended : Option ℕ → AtInterface → AtInterface
 ended id one = option_map_or (λ id. cond (intid_of one.key == id) (deactivated_entry one) one) id one
 
-acked_each : (taken : Option Candidate) (at : List AtInterface) → acknowledged_at taken at ≡ map (acked taken) at
+pub acked_each : (taken : Option Candidate) (at : List AtInterface) → acknowledged_at taken at ≡ map (acked taken) at
 acked_each None at = sym (mapped_itself at)
 acked_each (Some found) at = refl
 
-ended_each : (id : Option ℕ) (at : List AtInterface) → deactivated_at id at ≡ map (ended id) at
+pub ended_each : (id : Option ℕ) (at : List AtInterface) → deactivated_at id at ≡ map (ended id) at
 ended_each None at = sym (mapped_itself at)
 ended_each (Some id) at = refl
 

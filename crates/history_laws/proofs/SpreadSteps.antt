@@ -44,7 +44,7 @@ less_not : (m n : ℕ) → m ≡ n → m < n → ⊥
 less_not m n e l = omega (arith, e, l)
 
 -- the interrupt at a place has that place
-place_at : (shape : GuestShape) (place : ℕ) → IsShape shape → place < interrupt_count shape → place_of shape (key_at shape place) ≡ place
+pub place_at : (shape : GuestShape) (place : ℕ) → IsShape shape → place < interrupt_count shape → place_of shape (key_at shape place) ≡ place
 place_at shape place is h = grind (arith, common_steps)
 
 -- the copies from a place on, and the end
@@ -348,3 +348,20 @@ pub all_agree : (shape : GuestShape) (course : Course) (pair : Enables × Enable
 all_agree shape course pair [] more at going kept = agrees shape course.ideal pair more kept
 all_agree shape course pair (moment ∷ moments) more at going kept =
     all_agree shape (gone_on course moment) (replaced pair moment) moments more (goes shape course moment at) going.1 (keeps shape course pair moment (moments ++ more) at going.0 kept)
+
+-- nobody has the mark where no write is left to be done
+unmarked_end : (shape : GuestShape) (state : Ideal) (pair : Enables × Enables) → AreKept shape state pair [] → state.spreads ≡ None
+unmarked_end shape state pair kept = of state.spreads refl
+  where
+    not_none : (xs : List Event) (event : Event) (rest : List Event) → (xs ++ event ∷ []) ++ rest ≡ [] → ⊥
+    not_none [] event rest e = cc
+    not_none (x ∷ xs) event rest e = cc
+
+    of : (o : Option ℕ) → state.spreads ≡ o → o ≡ None
+    of None e = refl
+    of (Some actor) e = let is = kept.taken actor e in absurd (not_none (map (copy_at shape state.guest.enables) (range_with_len is.place is.left)) CtlrEnd is.rest (sym is.now))
+
+pub all_unmarked : (shape : GuestShape) (course : Course) (pair : Enables × Enables) (moments : List Moment) → IsCourse shape course → GoesOn course moments → AreKept shape course.ideal pair moments → (course_of course moments).ideal.spreads ≡ None
+all_unmarked shape course pair [] at going kept = unmarked_end shape course.ideal pair kept
+all_unmarked shape course pair (moment ∷ moments) at going kept =
+    all_unmarked shape (gone_on course moment) (replaced pair moment) moments (goes shape course moment at) going.1 (keeps shape course pair moment moments at going.0 kept)

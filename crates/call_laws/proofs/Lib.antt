@@ -1,0 +1,3 @@
+pub mod RunLemmas
+pub mod NamedLemmas
+pub mod IccLemmas

@@ -1,0 +1,66 @@
+-- One call of a history while nobody else acts, and what the eager controller makes of its operation (own choice).
+use Rattle.std.specs.Prelude.{◌≡◌, ℕ, List, [], ◌∷◌, ◌++◌, map, Option, None}
+use Rattle.gic_call.specs.declared.event.Event.{Event}
+use Rattle.gic_call.specs.declared.event.Event.TheVariants.{Cpu}
+use Rattle.gic_call.specs.declared.event.Moment.{Moment}
+use Rattle.gic_call.specs.declared.event.Moment.TheVariants.{Begin, End}
+use Rattle.gic_call.specs.declared.event.Operation.{Operation}
+use Rattle.gic_call.specs.declared.event.Operation.TheVariants.{Access, Device, Residence}
+use Rattle.gic_call.specs.Call.{device_events}
+use Rattle.gic_call.specs.Trace.{Happened}
+use Rattle.ideal_guest.specs.declared.guest.IdealGuest.{IdealGuest}
+use Rattle.ideal_guest.specs.Ideal.{view_of, after_events}
+use Rattle.gic_history.specs.State.{Ideal}
+use Rattle.gic_history.specs.Moves.{happened, home}
+use Rattle.gic_history.specs.History.{IsHistory, IsWhole, last_of}
+use Rattle.gic_ideal.specs.Deeds.{op_events}
+use Rattle.eager_laws.specs.Moments.{op_read, moment_of}
+use Rattle.home_laws.specs.Home.{ShowsHome}
+use Rattle.scn_base.specs.declared.guest.GuestSpec.{GuestSpec}
+use Rattle.scn_base.specs.Good.{IsGoodGuest}
+
+-- What the eager controller does.
+
+-- the events of an operation of an actor; a vCPU that enters or leaves a PE, or looks whether it was kicked, makes none
+abbrev pub eager_events : Operation → ℕ → IdealGuest → List Event
+eager_events (Access op) actor guest = op_events op guest actor
+eager_events (Device op) actor guest = device_events (view_of guest) op
+eager_events Residence actor guest = []
+
+-- what it reads
+abbrev pub eager_read : Operation → ℕ → IdealGuest → Option ℕ
+eager_read (Access op) actor guest = op_read op guest actor
+eager_read operation actor guest = None
+
+-- One call of a history.
+
+-- a call of an actor with these events, one after the other
+abbrev pub lone_call : ℕ → Operation → List Happened → Option ℕ → List Moment
+lone_call actor operation piece answer = Begin actor operation ∷ map (moment_of actor) piece ++ End actor answer ∷ []
+
+-- at each access of a CPU interface register among them the interface shows the guest with all taken back
+abbrev pub Shows : Ideal → Event → Type 0
+Shows state (Cpu vcpu reg write) = ShowsHome state vcpu reg write
+Shows state event = Unit {0}
+
+abbrev pub AllShow : ℕ → Ideal → List Happened → Type 0
+AllShow actor state [] = Unit {0}
+AllShow actor state (one ∷ piece) = Shows state one.event × AllShow actor (happened actor one.event state) piece
+
+-- after a history of a good guest in which all calls ended comes such a call
+pub record IsLoneCall (guest : GuestSpec) (moments : List Moment) (actor : ℕ) (operation : Operation) (piece : List Happened) (answer : Option ℕ) : Type 0 where
+  pub good : IsGoodGuest guest
+  pub whole : IsWhole guest moments
+  pub history : IsHistory guest (moments ++ lone_call actor operation piece answer)
+  pub shows : AllShow actor (last_of guest moments) piece
+
+-- the call does to a guest what the eager controller does, and answers the same
+pub record IsEagerCall (actor : ℕ) (operation : Operation) (answer : Option ℕ) (before after : IdealGuest) : Type 0 where
+  pub goes : after ≡ after_events (eager_events operation actor before) before
+  pub answers : answer ≡ eager_read operation actor before
+
+-- so does each such call of an operation, to the guest with all taken back
+abbrev pub PassesHome : Operation → Type 0
+PassesHome operation =
+    (guest : GuestSpec) (moments : List Moment) (actor : ℕ) (piece : List Happened) (answer : Option ℕ) → IsLoneCall guest moments actor operation piece answer
+    → IsEagerCall actor operation answer (home (last_of guest moments)) (home (last_of guest (moments ++ lone_call actor operation piece answer)))

@@ -1,0 +1,13 @@
+-- Laws of calls while nobody else acts, kind by kind.
+use Rattle.std.specs.Prelude.{ℕ, Option}
+use Rattle.gic_base.specs.declared.icc.IccReg.{IccReg}
+use Rattle.gic_base.specs.declared.operation.GuestOp.TheVariants.{Icc}
+use Rattle.gic_call.specs.declared.event.Operation.TheVariants.{Access, Residence}
+use Rattle.call_laws.specs.Calls.{PassesHome}
+
+-- an access of a CPU interface register, with the SGIs that a write of SGI1R sends; and a vCPU that enters or leaves a PE, or looks whether it was kicked
+abbrev pub InterfaceCallsPass : Type 0
+InterfaceCallsPass = (reg : IccReg) (write : Option ℕ) → PassesHome (Access (Icc reg write))
+
+abbrev pub ResidencesPass : Type 0
+ResidencesPass = PassesHome Residence

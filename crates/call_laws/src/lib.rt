@@ -1,0 +1,7 @@
+//! Laws of the calls of a history while nobody else acts: with all that stands at a CPU interface taken back, each does and
+//! answers what the eager controller does and answers.
+#![tactic(auto)]
+
+mod laws;
+
+pub use laws::{interface_calls_pass, residences_pass};

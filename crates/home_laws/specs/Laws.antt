@@ -1,0 +1,30 @@
+-- Laws of the guest with all that stands at an interface taken back, in each state of a history.
+use Rattle.std.specs.Prelude.{◌≡◌, ℕ, ◌||◌, not, IsTrue, List, Option}
+use Rattle.gic_base.specs.declared.icc.IccReg.{IccReg}
+use Rattle.gic_call.specs.declared.event.Event.{Event}
+use Rattle.gic_call.specs.declared.event.Event.TheVariants.{Cpu}
+use Rattle.gic_call.specs.declared.event.Moment.{Moment}
+use Rattle.gic_call.specs.Valid.{CanHappen}
+use Rattle.gic_history.specs.History.{IsHistory, last_of}
+use Rattle.gic_history.specs.Moves.{is_allowed, happened, home}
+use Rattle.scn_base.specs.declared.guest.GuestSpec.{GuestSpec}
+use Rattle.scn_base.specs.Good.{IsGoodGuest}
+use Rattle.home_laws.specs.Home.{is_move, is_cpu, PassesHome, ShowsHome, AccessPassesHome}
+
+-- a move that is allowed changes nothing of it
+abbrev pub MovesKeepHome : Type 0
+MovesKeepHome =
+    (guest : GuestSpec) (moments : List Moment) (actor : ℕ) (event : Event) → IsGoodGuest guest → IsHistory guest moments → IsTrue (is_move event) → CanHappen guest.shape event
+    → IsTrue (is_allowed (last_of guest moments) actor event) → home (happened actor event (last_of guest moments)) ≡ home (last_of guest moments)
+
+-- any other event that is allowed, but an access of a CPU interface, passes through
+abbrev pub EventsPassHome : Type 0
+EventsPassHome =
+    (guest : GuestSpec) (moments : List Moment) (actor : ℕ) (event : Event) → IsGoodGuest guest → IsHistory guest moments → IsTrue (not (is_move event || is_cpu event)) → CanHappen guest.shape event
+    → IsTrue (is_allowed (last_of guest moments) actor event) → PassesHome (last_of guest moments) actor event
+
+-- and an access does where the interface shows it
+abbrev pub AccessesPassHome : Type 0
+AccessesPassHome =
+    (guest : GuestSpec) (moments : List Moment) (actor vcpu : ℕ) (reg : IccReg) (write : Option ℕ) → IsGoodGuest guest → IsHistory guest moments → CanHappen guest.shape (Cpu vcpu reg write)
+    → ShowsHome (last_of guest moments) vcpu reg write → AccessPassesHome (last_of guest moments) actor vcpu reg write
