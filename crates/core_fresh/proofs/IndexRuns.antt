@@ -30,24 +30,8 @@ use Rattle.core_laws.specs.Related.{Related}
 use Rattle.core_laws.specs.Simulates.{IsSimulatedAs, event_of}
 use Rattle.core_laws.proofs.KnownSteps.{keeps_known}
 use Rattle.core_laws.proofs.RunSteps.{entry_simulates, related_opens, known_opens}
+use Rattle.core_laws.proofs.ReachedRuns.{IsReached, reaches_next, reached_opens}
 use Rattle.core_fresh.proofs.IndexSteps.{keeps_complete}
-
--- a moment of a run: a state of the ideal controller agrees with the core's
-pub record IsReached (shape : GuestShape) (state : CoreState) : Type 0 where
-  pub sound : IsSound shape state
-  pub known : IsKnown shape state
-  pub ideal : Ideal
-  pub related : Related shape state ideal
-
-pub reaches_next : (shape : GuestShape) (state : CoreState) (entry : Entry) → IsShape shape → IsReached shape state → Takes shape state entry → IsReached shape (after shape state entry)
-reaches_next shape state entry good at takes =
-    let next = steps_sound shape state entry good at.sound takes in
-    let known = keeps_known shape state entry good at.sound takes next at.known in
-    of (event_of shape state entry) (entry_simulates shape state at.ideal entry good at.sound at.related at.known takes) next known
-  where
-    of : (o : Option Happened) → IsSimulatedAs shape (after shape state entry) at.ideal entry.actor o → IsSound shape (after shape state entry) → IsKnown shape (after shape state entry) → IsReached shape (after shape state entry)
-    of None related next known = record { sound = next; known = known; ideal = at.ideal; related = related }
-    of (Some happening) is next known = record { sound = next; known = known; ideal = happened entry.actor happening.event at.ideal; related = is.related }
 
 run_complete : (shape : GuestShape) (state : CoreState) (entries : List Entry) → IsShape shape → IsReached shape state → IsComplete shape state → IsRun shape state entries → IsComplete shape (end_of shape state entries)
 run_complete shape state [] good at complete run = complete
@@ -127,9 +111,6 @@ opens_complete guest number good key vcpu there within home asks =
   where
     no_true : {b : Bool} → b ≡ false → IsTrue b → ⊥
     no_true {b} e h = cc
-
-pub reached_opens : (guest : GuestSpec) (number : ℕ) → IsGoodGuest guest → IsReached guest.shape (opening guest number)
-reached_opens guest number good = record { sound = opens_sound guest number good; known = known_opens guest number good; ideal = opening_ideal guest; related = related_opens guest number good }
 
 pub runs_complete : IndexIsComplete
 runs_complete guest number entries good run = run_complete guest.shape (opening guest number) entries good.shape (reached_opens guest number good) (opens_complete guest number good) run

@@ -25,11 +25,14 @@ use Rattle.core_laws.proofs.StepContext.{IsStep}
 use Rattle.core_fresh.specs.Index.{IsComplete}
 use Rattle.core_fresh.specs.Waiting.{IsWaiting, IsCalm}
 use Rattle.core_fresh.specs.Scan.{Covers, ScanOverlooksNone}
-use Rattle.core_fresh.proofs.AfterLemmas.{later, seat_mine, seat_other}
+use Rattle.core_laws.proofs.AfterLemmas.{later, seat_mine, seat_other}
 use Rattle.core_fresh.proofs.IndexSteps.{keeps_complete}
-use Rattle.core_fresh.proofs.IndexRuns.{IsReached, reaches_next, reached_opens, opens_complete}
-use Rattle.core_fresh.proofs.WaitingSteps.{is_poll, is_poll_by, WaitedSo, calm_before, waiting_before}
-use Rattle.core_fresh.proofs.ScanLemmas.{covers_on, failed_on}
+use Rattle.core_laws.proofs.ReachedRuns.{IsReached, reaches_next, reached_opens}
+use Rattle.core_fresh.proofs.IndexRuns.{opens_complete}
+use Rattle.core_laws.proofs.KickSteps.{is_poll, is_poll_by}
+use Rattle.core_fresh.proofs.WaitingSteps.{WaitedSo, calm_before, waiting_before}
+use Rattle.core_proper.proofs.ScanLemmas.{failed_on}
+use Rattle.core_fresh.proofs.ScanLemmas.{covers_on}
 use Rattle.core_fresh.proofs.ScanSteps.{with_made, as_filled, leaves}
 
 -- a moment of a run, as a vCPU is so far: what it has still to find is so where it was told of all changes and no claim failed

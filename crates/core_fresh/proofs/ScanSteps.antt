@@ -40,12 +40,13 @@ use Rattle.core_laws.proofs.StepContext.{one, IsStep, has}
 use Rattle.core_fresh.specs.Index.{owes_mark, IsTold, IsComplete}
 use Rattle.core_fresh.specs.Waiting.{record_in, IsWaiting, IsCalm}
 use Rattle.core_fresh.specs.Scan.{offer_in, IsAhead, IsFilled, HasScanned, Covers}
-use Rattle.core_fresh.proofs.AfterLemmas.{later}
+use Rattle.core_laws.proofs.AfterLemmas.{later}
 use Rattle.core_fresh.proofs.ToldLemmas.{waiting_concerns, owes_none, IsOwnRelease}
 use Rattle.core_fresh.proofs.TellSteps.{concerns_own, same_bit}
 use Rattle.core_fresh.proofs.IndexSteps.{settled_keeps, taken_keeps, taken_has, either_way}
-use Rattle.core_fresh.proofs.WaitingSteps.{WaitedSo, calm_before, waiting_before, unkicked_before}
-use Rattle.core_fresh.proofs.ScanLemmas.{bit_of_key, own_of_bit}
+use Rattle.core_laws.proofs.KickSteps.{unkicked_before}
+use Rattle.core_fresh.proofs.WaitingSteps.{WaitedSo, calm_before, waiting_before}
+use Rattle.core_proper.proofs.ScanLemmas.{bit_of_key, own_of_bit}
 use Rattle.core_proper.proofs.SearchLemmas.{found_in, IsFoundIn}
 
 -- an actor's progress with what a step leaves it

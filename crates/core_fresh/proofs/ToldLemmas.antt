@@ -23,7 +23,7 @@ use Rattle.gic_history.specs.State.{Ideal}
 use Rattle.core_laws.proofs.StepContext.{IsStep}
 use Rattle.gic_word.specs.Record.{is_number, is_ripe}
 use Rattle.core_fresh.specs.Index.{concerns, waits_for, is_indexed, is_taken, owes_kick, owes_mark, IsTold, IsComplete}
-use Rattle.core_fresh.proofs.AfterLemmas.{later, word_cases, word_stays, local_mine, seat_other}
+use Rattle.core_laws.proofs.AfterLemmas.{later, word_cases, word_stays, local_mine, seat_other}
 
 -- the word of an interrupt's bit
 pub index_there : (shape : GuestShape) (key : Key) (vcpu : ℕ) → index_bit shape key < index_bits shape → vcpu < shape.vcpus → IsTrue (has_word shape (Index vcpu (index_bit shape key / 64)))

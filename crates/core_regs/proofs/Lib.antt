@@ -1,0 +1,5 @@
+pub mod ShowLemmas
+pub mod KeyLemmas
+pub mod ComeLemmas
+pub mod ClaimSteps
+pub mod TakeSteps
