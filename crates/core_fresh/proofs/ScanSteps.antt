@@ -46,7 +46,7 @@ use Rattle.core_fresh.proofs.TellSteps.{concerns_own, same_bit}
 use Rattle.core_fresh.proofs.IndexSteps.{settled_keeps, taken_keeps, taken_has, either_way}
 use Rattle.core_laws.proofs.KickSteps.{unkicked_before}
 use Rattle.core_fresh.proofs.WaitingSteps.{WaitedSo, calm_before, waiting_before}
-use Rattle.core_proper.proofs.ScanLemmas.{bit_of_key, own_of_bit}
+use Rattle.core_proper.proofs.ScanLemmas.{bit_of_key, own_of_bit, IsNext, next_is}
 use Rattle.core_proper.proofs.SearchLemmas.{found_in, IsFoundIn}
 
 -- an actor's progress with what a step leaves it
@@ -67,20 +67,6 @@ at_end offers k irq home unwanted =
     let one : Offer = record { key = k; irq = irq } in
     let there : offered k irq ≡ one ∷ [] = ap (λ o. if is_none o && not irq.want then one ∷ [] else []) home ∙ ap (λ w. if not w then one ∷ [] else []) unwanted in
     Contains-append_right offers (offered k irq) one (subst (λ xs. Contains xs one) (sym there) (0, lit< tt, refl))
-
--- The interrupt that a look is at.
-
-record IsNext (shape : GuestShape) (vcpu : ℕ) (p : Progress) (from : ℕ) (k : Key) : Type 0 where
-  pub bit : ℕ
-  pub search : IsFoundIn (is_cand p.local.cands) from (index_bits shape - from) bit
-  pub is : k ≡ key_of_bit shape vcpu bit
-
-next_is : (shape : GuestShape) (vcpu : ℕ) (p : Progress) (from : ℕ) (k : Key) → IsTrue (is_next shape vcpu p.local.cands from k) → IsNext shape vcpu p from k
-next_is shape vcpu p from k h = of (find (is_cand p.local.cands) (range_with_len from (index_bits shape - from))) refl h
-  where
-    of : (o : Option ℕ) → find (is_cand p.local.cands) (range_with_len from (index_bits shape - from)) ≡ o → IsTrue (option_map_or (is_same_key k) (option_map (key_of_bit shape vcpu) o) false) → IsNext shape vcpu p from k
-    of None e same = absurd (true≢false (sym same))
-    of (Some bit) e same = record { bit = bit; search = found_in (is_cand p.local.cands) from (index_bits shape - from) bit e; is = same_key k (key_of_bit shape vcpu bit) same }
 
 -- a look keeps the candidates but for the interrupt that it is at
 look_keeps :

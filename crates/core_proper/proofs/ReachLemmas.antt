@@ -1,15 +1,17 @@
 -- What a claim leaves of a vCPU's own state, where the interrupt was not at its interface.
-use Rattle.std.proofs.Common.{◌≡◌, ℕ, Bool, true, false, cond, if◌then◌else◌, IsTrue, List, [], ◌∷◌, ◌++◌, Option, Some, None, is_none, is_some, refl, ap, ◌∙◌}
+use Rattle.std.proofs.Common.{◌≡◌, ℕ, ◌&&◌, Bool, true, false, cond, if◌then◌else◌, IsTrue, List, [], ◌∷◌, ◌++◌, Option, Some, None, is_none, is_some, refl, ap, ◌∙◌}
 use Rattle.std.specs.Option.{option_map_or}
-use Rattle.std.proofs.lemmas.Bool.{eqb-true}
+use Rattle.std.proofs.lemmas.Bool.{and_parts, eqb-true}
 use Rattle.gic_base.specs.declared.interrupt.Key.{Key}
 use Rattle.gic_base.specs.declared.shape.GuestShape.{GuestShape}
 use Rattle.gic_base.specs.Interrupt.{is_same_key}
 use Rattle.gic_base.proofs.KeyLemmas.{same_itself}
 use Rattle.gic_call.specs.declared.moves.Moved.{Moved}
 use Rattle.gic_call.specs.Move.{reached, taken}
+use Rattle.gic_prio.specs.declared.cpu.CpuRec.{CpuRec}
+use Rattle.gic_prio.specs.Delivery.{is_deliverable, is_group_enabled, takes_kind}
 use Rattle.gic_word.specs.declared.record.Irq.{Irq as IrqRecord}
-use Rattle.gic_word.specs.Record.{is_number}
+use Rattle.gic_word.specs.Record.{is_number, is_ripe}
 use Rattle.port_core.specs.declared.at_list.AtIrq.{AtIrq}
 use Rattle.port_core.specs.declared.local.Local.{Local}
 use Rattle.port_core.specs.After.{claimed_at}
@@ -23,6 +25,13 @@ number_is n (Some m) h = ap Some (eqb-true m n h)
 none_is : (o : Option ℕ) → is_none o ≡ true → o ≡ None
 none_is None e = refl
 none_is (Some n) e = absurd (cc)
+
+-- an interrupt that is deliverable is inactive
+pub inactive : (key : Key) (irq : IrqRecord) (vcpu : ℕ) (cpu : CpuRec) (shape : GuestShape) → IsTrue (is_deliverable key irq vcpu cpu shape) → is_none irq.act_by ≡ true
+inactive key irq vcpu cpu shape h =
+    let kind = and_parts (is_ripe irq vcpu shape && is_none irq.act_by && is_group_enabled irq.group cpu) (takes_kind key cpu) h in
+    let group = and_parts (is_ripe irq vcpu shape && is_none irq.act_by) (is_group_enabled irq.group cpu) kind.0 in
+    (and_parts (is_ripe irq vcpu shape) (is_none irq.act_by) group.0).1
 
 -- an interrupt got to the interface
 pub reached_local : (shape : GuestShape) (actor : ℕ) (key : Key) (irq : IrqRecord) (local : Local) → entry_for key local.at ≡ None

@@ -136,3 +136,17 @@ to_claim_on shape vcpu own now at after takes left choice knows there both to = 
   away = there ∙ to.away;
   both = both ∙ to.both;
 }
+
+-- a step on no interrupt's word leaves what is to be claimed and taken
+pub claiming_on : (shape : GuestShape) (vcpu : ℕ) (local after : Local) (own now : List Made) (regs : IchRegs) (claims takes : List Key) → after.at ≡ local.at → after.cpu ≡ local.cpu → ((key : Key) → IsTrue (has_interrupt shape key) → known shape vcpu now (Irq key) ≡ known shape vcpu own (Irq key))
+    → IsClaiming shape vcpu local own regs claims takes → IsClaiming shape vcpu after now regs claims takes
+claiming_on shape vcpu local after own now regs claims takes at cpu same is = record {
+  rest = is.rest;
+  keys = is.keys;
+  each = λ c has. to_claim_on shape vcpu own now local.at after.at takes takes c (same c.key (is.each c has).there) (ap (is_at c.key) at) refl (is.each c has);
+  one = is.one;
+  holds = subst (HoldCpu regs) (sym cpu) is.holds;
+  shows = subst (λ at. Shows (listed_of regs) (Comes is.rest takes at)) (sym at) is.shows;
+  placed = λ key h. subst (λ at. (has_key key claims ≡ true) ⊎ (is_at key at ≡ true)) (sym at) (is.placed key h);
+  coming = λ entry has h. is.coming entry (subst (λ at. Contains at entry) at has) h;
+}

@@ -3,3 +3,9 @@ pub mod KeyLemmas
 pub mod ComeLemmas
 pub mod ClaimSteps
 pub mod TakeSteps
+pub mod AloneLemmas
+pub mod FillLemmas
+pub mod EndLemmas
+pub mod LookSteps
+pub mod StandLemmas
+pub mod StandSteps

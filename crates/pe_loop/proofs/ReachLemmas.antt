@@ -21,16 +21,10 @@ use Rattle.port_core.specs.declared.local.Local.{Local}
 use Rattle.port_core.specs.After.{claimed_at}
 use Rattle.port_core.specs.Effect.{may_move, moved_of, claimed_irq}
 use Rattle.port_core.specs.Local.{entry_for, changed_at, with_entry, arrived, settled}
-use Rattle.core_proper.proofs.ReachLemmas.{number_is, none_is, entry_added}
+use Rattle.core_proper.proofs.ReachLemmas.{number_is, none_is, inactive, entry_added}
 use Rattle.pe_loop.specs.Claiming.{IsRight, without_causes, at_of}
 
 -- Its causes and its state.
-
-inactive : (key : Key) (irq : IrqRecord) (vcpu : ℕ) (cpu : CpuRec) (shape : GuestShape) → IsTrue (is_deliverable key irq vcpu cpu shape) → is_none irq.act_by ≡ true
-inactive key irq vcpu cpu shape h =
-    let kind = and_parts (is_ripe irq vcpu shape && is_none irq.act_by && is_group_enabled irq.group cpu) (takes_kind key cpu) h in
-    let group = and_parts (is_ripe irq vcpu shape && is_none irq.act_by) (is_group_enabled irq.group cpu) kind.0 in
-    (and_parts (is_ripe irq vcpu shape) (is_none irq.act_by) group.0).1
 
 -- an interrupt that is active has come without its causes
 abbrev pub bare_of : Choice → AtIrq
