@@ -1,5 +1,5 @@
 -- Registers with one interrupt in list register 0, or none.
-use Rattle.std.proofs.Common.{◌≡◌, ℕ, zero, suc, ◌<◌, ◌≤◌, true, false, ◌∷◌, get_or, take, length, replicate, Option, Some, None, refl, sym, ap, subst, ◌∙◌, arith}
+use Rattle.std.proofs.Common.{◌≡◌, ℕ, zero, suc, ◌<◌, ◌≤◌, true, false, ◌∷◌, get_or, length, replicate, Option, Some, None, refl, sym, ap, subst, ◌∙◌, arith}
 use Rattle.std.proofs.lemmas.List.{get_or-take, get_or-replicate, length-take}
 use Rattle.gic_ich.specs.Place.{HoldCpu, Seen, seen_in}
 use Rattle.gic_ich.specs.Regs.{listed_of}

@@ -1,10 +1,9 @@
 -- A vCPU claims a choice: it comes, or it does not.
-use Rattle.std.proofs.Common.{◌≡◌, ◌≢◌, ℕ, ◌||◌, ◌⊎◌, inl, inr, true≢false, not, Bool, true, false, cond, if◌then◌else◌, IsTrue, List, [], ◌∷◌, ◌++◌, filter, length, Contains, All, Option, Some, None, is_none, is_some, refl, sym, ap, subst, ◌∙◌, arith}
-use Rattle.std.specs.List.{position}
+use Rattle.std.proofs.Common.{◌≡◌, ◌≢◌, ℕ, ◌||◌, ◌⊎◌, inl, inr, true≢false, not, Bool, true, false, if◌then◌else◌, IsTrue, List, [], ◌∷◌, ◌++◌, Contains, All, is_none, refl, sym, ap, subst, ◌∙◌}
 use Rattle.std.proofs.lemmas.List.Elements.{All-contains, Contains-append_left, Contains-push, Contains-push_cases}
 use Rattle.gic_base.specs.declared.interrupt.Key.{Key}
 use Rattle.gic_base.specs.declared.shape.GuestShape.{GuestShape}
-use Rattle.gic_base.specs.Interrupt.{has_interrupt, intid_of, is_of_vcpu, is_same_key}
+use Rattle.gic_base.specs.Interrupt.{intid_of, is_same_key}
 use Rattle.gic_base.specs.Shape.{IsShape}
 use Rattle.gic_base.proofs.KeyLemmas.{same_key, same_itself, other_key}
 use Rattle.gic_call.specs.declared.moves.Moved.{Moved}
@@ -17,7 +16,6 @@ use Rattle.gic_lr.specs.declared.entry.LrState.TheVariants.{Invalid, Pending, Ac
 use Rattle.gic_lr.specs.Entry.{state_has_active, state_has_pending}
 use Rattle.gic_word.specs.declared.record.Irq.{Irq as IrqRecord}
 use Rattle.gic_word.specs.Causes.{cleared}
-use Rattle.gic_word.specs.Record.{is_number}
 use Rattle.vcpu_refill.specs.declared.fill.Choice.{Choice}
 use Rattle.vcpu_refill.proofs.EarnedLemmas.{from_filter}
 use Rattle.vcpu_refill.proofs.ElementLemmas.{Contains-filter}
@@ -27,7 +25,7 @@ use Rattle.port_core.specs.declared.run.Made.{Made}
 use Rattle.port_core.specs.declared.word_id.WordId.TheVariants.{Irq}
 use Rattle.port_core.specs.After.{claimed_at, shown}
 use Rattle.port_core.specs.Known.{known}
-use Rattle.port_core.specs.Local.{entry_for, is_at, arrived, settled}
+use Rattle.port_core.specs.Local.{entry_for, is_at, arrived}
 use Rattle.port_core.specs.Place.{has_word}
 use Rattle.port_core.specs.Step.{word_of}
 use Rattle.port_core.specs.Valid.{IsAt}
@@ -35,8 +33,8 @@ use Rattle.port_core.proofs.AtLemmas.{is_at_added}
 use Rattle.core_proper.specs.Registers.{without_claim}
 use Rattle.core_proper.specs.Scan.{has_key, without_key, is_both}
 use Rattle.core_proper.proofs.ReachLemmas.{number_is, reached_local}
-use Rattle.core_regs.proofs.ComeLemmas.{seen_choice, finished, IsAwaited, IsHere, Comes, IsRight, IsToClaim, IsClaiming, finished_id, key_by_id, is_there, none_some, known_on, to_claim_on}
-use Rattle.core_regs.proofs.KeyLemmas.{without_other, without_itself, keys_of, choices_without, has_its_key, keys_without}
+use Rattle.core_regs.proofs.ComeLemmas.{seen_choice, finished, Comes, IsRight, IsToClaim, IsClaiming, finished_id, key_by_id, is_there, none_some, known_on, to_claim_on}
+use Rattle.core_regs.proofs.KeyLemmas.{without_other, without_itself, keys_of, choices_without, keys_without}
 use Rattle.core_regs.proofs.ShowLemmas.{lives, Shows, shows_as, shows_without, IsChangedAt, live_place, changed_holds}
 
 -- The interrupt as it comes.
@@ -201,14 +199,16 @@ module _ (shape : GuestShape) (good : IsShape shape) (vcpu : ℕ) (local : Local
   from_miss : (s : Seen) → lives s ≡ true → Comes rest left local.at s → Comes is.rest takes local.at s × (s.id ≢ intid_of c.key)
   from_miss s h (inl awaited) =
       let from = kept awaited.choice awaited.among in
-      let other = is.each awaited.choice from.0 in
-      (inl (record { choice = awaited.choice; among = from.0; is = awaited.is }),
-        λ e. from.1 (key_by_id shape vcpu awaited.choice.key c.key good other.there to.there other.mine to.mine (ap (λ (s : Seen). s.id) awaited.is ∙ e)))
+      let other = is.each awaited.choice from.0 in (
+        inl (record { choice = awaited.choice; among = from.0; is = awaited.is }),
+        λ e. from.1 (key_by_id shape vcpu awaited.choice.key c.key good other.there to.there other.mine to.mine (ap (λ (s : Seen). s.id) awaited.is ∙ e)),
+      )
   from_miss s h (inr here) =
       let apart = not_here here.entry here.among in
-      let at = All-contains (IsAt shape vcpu) local.at here.entry all here.among in
-      (inr (record { entry = here.entry; among = here.among; is = sym (as_finished here.entry apart) ∙ here.is }),
-        λ e. apart (key_by_id shape vcpu here.entry.key c.key good at.there to.there at.own to.mine (sym (finished_id left here.entry) ∙ ap (λ (s : Seen). s.id) here.is ∙ e)))
+      let at = All-contains (IsAt shape vcpu) local.at here.entry all here.among in (
+        inr (record { entry = here.entry; among = here.among; is = sym (as_finished here.entry apart) ∙ here.is }),
+        λ e. apart (key_by_id shape vcpu here.entry.key c.key good at.there to.there at.own to.mine (sym (finished_id left here.entry) ∙ ap (λ (s : Seen). s.id) here.is ∙ e)),
+      )
 
   pub misses : IsClaiming shape vcpu local (own ++ made ∷ []) (without_claim c.key regs) (without_key c.key claims) left
   misses = record {

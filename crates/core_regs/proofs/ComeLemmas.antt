@@ -1,19 +1,16 @@
 -- What a vCPU's list registers show while it claims what it chose: what is still to be claimed or taken stands there already.
-use Rattle.std.proofs.Common.{◌≡◌, ◌≢◌, ℕ, ◌<◌, ◌||◌, ◌⊎◌, inl, inr, true≢false, not, Bool, true, false, cond, if◌then◌else◌, IsTrue, List, [], ◌∷◌, ◌++◌, map, length, Contains, All, Option, Some, None, is_none, is_some, refl, sym, ap, subst, ◌∙◌, arith}
-use Rattle.std.proofs.lemmas.Bool.{ne_eqb, cases_eq}
-use Rattle.std.proofs.lemmas.List.Elements.{All-contains, Contains-append_left, Contains-push, Contains-push_cases}
+use Rattle.std.proofs.Common.{◌≡◌, ◌≢◌, ℕ, ◌⊎◌, inl, inr, Bool, true, false, cond, if◌then◌else◌, IsTrue, List, [], ◌∷◌, ◌++◌, Contains, Option, Some, None, is_none, is_some, refl, sym, ap, subst, ◌∙◌, arith}
+use Rattle.std.proofs.lemmas.Bool.{ne_eqb}
 use Rattle.gic_base.specs.declared.interrupt.Key.{Key}
 use Rattle.gic_base.specs.declared.shape.GuestShape.{GuestShape}
 use Rattle.gic_base.specs.Interrupt.{has_interrupt, intid_of, is_of_vcpu, is_same_key}
 use Rattle.gic_base.specs.Shape.{IsShape}
-use Rattle.gic_base.proofs.KeyLemmas.{same_key, same_itself}
+use Rattle.gic_base.proofs.KeyLemmas.{same_itself}
 use Rattle.gic_ich.specs.declared.regs.IchRegs.{IchRegs}
 use Rattle.gic_ich.specs.Place.{Seen, seen_of, HoldCpu}
 use Rattle.gic_ich.specs.Regs.{listed_of}
-use Rattle.gic_lr.specs.declared.entry.LrState.{LrState}
-use Rattle.gic_lr.specs.declared.entry.LrState.TheVariants.{Invalid, Pending, Active, Both}
-use Rattle.gic_lr.specs.Entry.{state_has_active, state_has_pending}
-use Rattle.gic_word.specs.declared.record.Irq.{Irq as IrqRecord}
+use Rattle.gic_lr.specs.declared.entry.LrState.TheVariants.{Pending}
+use Rattle.gic_lr.specs.Entry.{state_has_active}
 use Rattle.gic_word.specs.Record.{is_number}
 use Rattle.gic_word.specs.Word.{irq_of}
 use Rattle.vcpu_refill.specs.declared.fill.Choice.{Choice}
@@ -29,13 +26,12 @@ use Rattle.port_core.specs.Known.{known}
 use Rattle.port_core.specs.Local.{entry_for, is_at}
 use Rattle.port_core.specs.Place.{has_word}
 use Rattle.port_core.specs.Step.{word_of}
-use Rattle.port_core.specs.Valid.{IsAt}
 use Rattle.port_core.proofs.PlaceLemmas.{word_same}
 use Rattle.core_proper.specs.Scan.{has_key, is_both}
 use Rattle.core_proper.proofs.IntidLemmas.{in_range, same_by_id}
 use Rattle.core_laws.proofs.KnownSteps.{known_more}
 use Rattle.core_regs.proofs.KeyLemmas.{keys_of}
-use Rattle.core_regs.proofs.ShowLemmas.{lives, Shows}
+use Rattle.core_regs.proofs.ShowLemmas.{Shows}
 
 -- a choice as it stands once it is claimed, and its causes taken
 abbrev pub seen_choice : Choice → Seen

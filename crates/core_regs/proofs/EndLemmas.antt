@@ -1,5 +1,5 @@
 -- Registers agree with the interface once all is claimed and taken, and where one interrupt is taken there to be ended.
-use Rattle.std.proofs.Common.{◌≡◌, ℕ, ◌≤◌, ◌⊎◌, inl, inr, Bool, true, false, if◌then◌else◌, IsTrue, List, [], ◌∷◌, ◌++◌, map, Contains, Option, Some, None, is_none, refl, sym, ap, subst, ◌∙◌}
+use Rattle.std.proofs.Common.{◌≡◌, ℕ, ◌≤◌, inl, inr, true, IsTrue, List, [], ◌∷◌, ◌++◌, map, Contains, Some, refl, sym, ap, subst, ◌∙◌}
 use Rattle.std.proofs.lemmas.Option.{same_Some}
 use Rattle.gic_base.specs.declared.interrupt.Key.{Key}
 use Rattle.gic_base.specs.declared.shape.GuestShape.{GuestShape}
@@ -11,11 +11,9 @@ use Rattle.gic_ich.specs.Regs.{listed_of}
 use Rattle.gic_icv.proofs.PlaceLemmas.{from_map, map_among}
 use Rattle.gic_lr.specs.declared.entry.LrState.TheVariants.{Active}
 use Rattle.gic_lr.specs.Entry.{packed}
-use Rattle.gic_prio.specs.Interface.{AtInterface, IsInterface}
 use Rattle.gic_word.specs.declared.record.Irq.{Irq as IrqRecord}
 use Rattle.gic_word.specs.Record.{is_number}
 use Rattle.vcpu_refill.specs.declared.fill.Choice.{Choice}
-use Rattle.vcpu_refill.specs.declared.offer.Offer.{Offer}
 use Rattle.vcpu_refill.specs.Laws.{FitsRegister}
 use Rattle.vcpu_refill.specs.Plan.{chosen_as}
 use Rattle.vcpu_refill.proofs.ElementLemmas.{Contains-here, Contains-cases, Contains-nothing}
@@ -24,13 +22,13 @@ use Rattle.port_core.specs.declared.at_list.AtIrq.{AtIrq}
 use Rattle.port_core.specs.declared.local.Local.{Local}
 use Rattle.port_core.specs.declared.run.Made.{Made}
 use Rattle.port_core.specs.After.{claimed_at, interface_of, shown}
-use Rattle.port_core.specs.Local.{arrived, entry_for, settled}
+use Rattle.port_core.specs.Local.{arrived, entry_for}
 use Rattle.port_core.specs.Valid.{IsLocal}
 use Rattle.core_proper.specs.Registers.{alone, RegistersAgree}
 use Rattle.core_proper.proofs.InterfaceLemmas.{is_interface}
 use Rattle.core_proper.proofs.ReachLemmas.{number_is, reached_local}
 use Rattle.core_regs.proofs.AloneLemmas.{alone_holds, alone_shows}
-use Rattle.core_regs.proofs.ComeLemmas.{seen_choice, IsAwaited, IsHere, Comes, IsClaiming}
+use Rattle.core_regs.proofs.ComeLemmas.{seen_choice, Comes, IsClaiming}
 use Rattle.core_regs.proofs.KeyLemmas.{keys_of}
 use Rattle.core_regs.proofs.ShowLemmas.{lives, Shows, IsSeenAmong, shows_agree, shows_as}
 

@@ -1,16 +1,16 @@
 -- A vCPU that looked at all its candidates has registers in which what it chose stands.
-use Rattle.std.proofs.Common.{◌≡◌, ◌≢◌, ℕ, zero, suc, ◌<◌, ◌≤◌, ◌||◌, ◌⊎◌, inl, inr, true≢false, Bool, true, false, cond, if◌then◌else◌, IsTrue, List, [], ◌∷◌, map, take, length, get_or, slice_index_or, Contains, All, AllPairs, Option, Some, None, option_to_list, is_none, refl, sym, ap, subst, ◌∙◌, arith}
+use Rattle.std.proofs.Common.{◌≡◌, ◌≢◌, ℕ, zero, suc, ◌<◌, ◌≤◌, ◌||◌, inl, inr, true≢false, Bool, true, false, if◌then◌else◌, IsTrue, List, [], ◌∷◌, map, length, get_or, slice_index_or, Contains, All, AllPairs, Option, Some, None, option_to_list, is_none, refl, sym, ap, subst, ◌∙◌, arith}
 use Rattle.std.specs.Prelude.{slice_get}
-use Rattle.std.specs.List.{cons_option, filter_map}
+use Rattle.std.specs.List.{filter_map}
 use Rattle.std.specs.Option.{option_map, option_map_or}
 use Rattle.std.proofs.lemmas.Bool.{cases_lt, false_from_ne_true}
-use Rattle.std.proofs.lemmas.List.{get_or-map, get_or-take, length-map, length-take}
+use Rattle.std.proofs.lemmas.List.{get_or-map, get_or-take, length-take}
 use Rattle.std.proofs.lemmas.List.Elements.{All-contains, All-weaker}
 use Rattle.std.proofs.lemmas.Option.{none-some, same_Some}
 use Rattle.gic_base.specs.declared.held.HeldIrq.{HeldIrq}
 use Rattle.gic_base.specs.declared.interrupt.Key.{Key}
 use Rattle.gic_base.specs.declared.shape.GuestShape.{GuestShape}
-use Rattle.gic_base.specs.Interrupt.{has_interrupt, intid_of, is_of_vcpu, is_same_key}
+use Rattle.gic_base.specs.Interrupt.{has_interrupt, is_of_vcpu, is_same_key}
 use Rattle.gic_base.specs.Shape.{IsShape}
 use Rattle.gic_base.proofs.KeyLemmas.{same_key, same_itself}
 use Rattle.gic_ich.specs.declared.regs.IchRegs.{IchRegs}
@@ -20,7 +20,6 @@ use Rattle.gic_icv.specs.Agree.{is_live}
 use Rattle.gic_icv.proofs.PlaceLemmas.{entry_id, live_held}
 use Rattle.gic_lr.specs.declared.entry.LrState.TheVariants.{Pending}
 use Rattle.gic_lr.specs.Entry.{packed}
-use Rattle.gic_prio.specs.declared.cpu.CpuRec.{CpuRec}
 use Rattle.gic_prio.specs.Interface.{AtInterface}
 use Rattle.gic_word.specs.Word.{irq_of}
 use Rattle.vcpu_refill.specs.declared.fill.Choice.{Choice}
@@ -42,9 +41,9 @@ use Rattle.core_proper.specs.Registers.{alone}
 use Rattle.core_proper.specs.Scan.{has_key, is_both, key_of_both, keys_chosen, keys_of_both}
 use Rattle.core_proper.proofs.ReachLemmas.{inactive}
 use Rattle.core_regs.proofs.AloneLemmas.{alone_holds, alone_shows}
-use Rattle.core_regs.proofs.ComeLemmas.{seen_choice, IsAwaited, IsHere, Comes, IsRight, IsToClaim, IsClaiming, key_by_id}
+use Rattle.core_regs.proofs.ComeLemmas.{seen_choice, Comes, IsRight, IsToClaim, IsClaiming, key_by_id}
 use Rattle.core_regs.proofs.KeyLemmas.{keys_of, has_its_key}
-use Rattle.core_regs.proofs.ShowLemmas.{lives, Shows}
+use Rattle.core_regs.proofs.ShowLemmas.{Shows}
 
 -- an interrupt that a vCPU found, and whose word it knows
 pub record IsOffered (shape : GuestShape) (vcpu : ℕ) (own : List Made) (offer : Offer) : Type 0 where
@@ -278,8 +277,8 @@ module _ (shape : GuestShape) (vcpu n : ℕ) (some : 1 ≤ n) (few : n ≤ 16) (
         one = λ d e has have same. sym (only_one c d has) ∙ only_one c e have;
         holds = alone_holds (Some c) local.cpu n;
         shows = alone_shows (Some c) local.cpu n some few (Comes (c ∷ []) [] local.at)
-        (λ d e. inl (record { choice = c; among = Contains-here c []; is = sym (stands_chosen c found.fits refl).seen ∙ ap (λ (x : Choice). seen_in (packed x.entry)) (same_Some c d e) }))
-        (λ s h come. by_come c (stands_chosen c found.fits refl).seen s come);
+            (λ d e. inl (record { choice = c; among = Contains-here c []; is = sym (stands_chosen c found.fits refl).seen ∙ ap (λ (x : Choice). seen_in (packed x.entry)) (same_Some c d e) }))
+            (λ s h come. by_come c (stands_chosen c found.fits refl).seen s come);
         placed = λ key h. absurd (true≢false (sym h));
         coming = λ entry has h. absurd (true≢false (sym h));
       }

@@ -1,5 +1,5 @@
 -- The interrupts that a scan has still to claim or to take.
-use Rattle.std.proofs.Common.{◌≡◌, ◌≢◌, ℕ, ◌||◌, not, Bool, true, false, cond, List, [], ◌∷◌, map, filter, Contains, inl, inr, refl, sym, ap, ◌∙◌}
+use Rattle.std.proofs.Common.{◌≡◌, ◌≢◌, ◌||◌, not, Bool, true, false, cond, List, [], ◌∷◌, map, filter, Contains, inl, inr, refl, sym, ap, ◌∙◌}
 use Rattle.gic_base.specs.declared.interrupt.Key.{Key}
 use Rattle.gic_base.specs.Interrupt.{is_same_key}
 use Rattle.gic_base.proofs.KeyLemmas.{same_key, same_itself, other_key}

@@ -9,3 +9,4 @@ pub mod EndLemmas
 pub mod LookSteps
 pub mod StandLemmas
 pub mod StandSteps
+pub mod StandRuns

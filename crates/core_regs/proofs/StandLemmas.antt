@@ -1,6 +1,5 @@
 -- What the registers of a vCPU stand for, by how far its scan is.
-use Rattle.std.proofs.Common.{◌≡◌, ℕ, ◌≤◌, ◌==◌, ◌||◌, Bool, true, false, if◌then◌else◌, IsTrue, List, [], ◌∷◌, None, is_none, refl, sym, ap, subst, ◌∙◌}
-use Rattle.gic_base.specs.declared.interrupt.Key.{Key}
+use Rattle.std.proofs.Common.{◌≡◌, ℕ, ◌≤◌, ◌==◌, ◌||◌, Bool, true, false, if◌then◌else◌, IsTrue, List, [], ◌∷◌, None, is_none, refl, sym, subst}
 use Rattle.gic_base.specs.declared.shape.GuestShape.{GuestShape}
 use Rattle.gic_base.specs.Shape.{IsShape}
 use Rattle.vcpu_refill.specs.declared.offer.Offer.{Offer}

@@ -1,5 +1,5 @@
 -- A vCPU takes the causes of an interrupt that it claimed: they come, or they do not.
-use Rattle.std.proofs.Common.{◌≡◌, ◌≢◌, ℕ, ◌||◌, ◌⊎◌, inl, inr, true≢false, Bool, true, false, cond, if◌then◌else◌, IsTrue, List, [], ◌∷◌, ◌++◌, map, filter, length, Contains, All, Option, Some, None, is_some, slice_index_or, refl, sym, ap, subst, ◌∙◌}
+use Rattle.std.proofs.Common.{◌≡◌, ◌≢◌, ℕ, inl, inr, true≢false, Bool, true, false, if◌then◌else◌, IsTrue, List, [], ◌∷◌, ◌++◌, Contains, All, Option, Some, is_some, slice_index_or, refl, sym, ap, subst, ◌∙◌}
 use Rattle.std.specs.Option.{option_map_or}
 use Rattle.std.proofs.lemmas.List.Elements.{All-contains, All-contains_itself}
 use Rattle.gic_base.specs.declared.interrupt.Key.{Key}
@@ -10,7 +10,7 @@ use Rattle.gic_base.proofs.KeyLemmas.{same_key, same_itself, other_key}
 use Rattle.gic_call.specs.declared.moves.Moved.{Moved}
 use Rattle.gic_call.specs.Move.{reached, taken}
 use Rattle.gic_ich.specs.declared.regs.IchRegs.{IchRegs}
-use Rattle.gic_ich.specs.Place.{Seen, seen_in, seen_of}
+use Rattle.gic_ich.specs.Place.{Seen, seen_of}
 use Rattle.gic_ich.specs.Regs.{listed_of}
 use Rattle.gic_icv.proofs.ChangeLemmas.{seen_with_state}
 use Rattle.gic_icv.proofs.PlaceLemmas.{alone, from_map, map_among}
@@ -25,15 +25,15 @@ use Rattle.port_core.specs.declared.word_id.WordId.TheVariants.{Irq}
 use Rattle.port_core.specs.After.{claimed_at, shown}
 use Rattle.port_core.specs.Effect.{moved_of}
 use Rattle.port_core.specs.Known.{known}
-use Rattle.port_core.specs.Local.{entry_for, is_at, changed_at, with_entry, arrived, settled}
+use Rattle.port_core.specs.Local.{entry_for, changed_at, with_entry, arrived, settled}
 use Rattle.port_core.specs.Place.{has_word}
 use Rattle.port_core.specs.Step.{word_of}
 use Rattle.port_core.specs.Valid.{IsAt, IsOnce}
 use Rattle.port_core.proofs.AtLemmas.{entry_is, is_at_mapped}
 use Rattle.core_proper.specs.Registers.{without_take}
 use Rattle.core_proper.specs.Scan.{has_key, without_key}
-use Rattle.core_regs.proofs.ComeLemmas.{seen_choice, finished, IsAwaited, IsHere, Comes, IsToClaim, IsClaiming, finished_id, key_by_id, known_on, to_claim_on}
-use Rattle.core_regs.proofs.KeyLemmas.{without_other, without_itself, keys_of, has_its_key}
+use Rattle.core_regs.proofs.ComeLemmas.{finished, Comes, IsClaiming, finished_id, key_by_id, known_on, to_claim_on}
+use Rattle.core_regs.proofs.KeyLemmas.{without_other, without_itself, has_its_key}
 use Rattle.core_regs.proofs.ShowLemmas.{lives, Shows, shows_as, shows_changed, IsChangedAt, live_place, changed_holds}
 
 -- what a claim of an interrupt leaves that is at the interface
