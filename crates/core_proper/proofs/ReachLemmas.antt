@@ -22,7 +22,7 @@ pub number_is : (n : ℕ) (o : Option ℕ) → IsTrue (is_number n o) → o ≡ 
 number_is n None h = absurd (cc)
 number_is n (Some m) h = ap Some (eqb-true m n h)
 
-none_is : (o : Option ℕ) → is_none o ≡ true → o ≡ None
+pub none_is : (o : Option ℕ) → is_none o ≡ true → o ≡ None
 none_is None e = refl
 none_is (Some n) e = absurd (cc)
 

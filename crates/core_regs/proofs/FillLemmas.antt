@@ -102,10 +102,10 @@ got_none (y ∷ xs) (suc k) x l e = got_none xs k x (omega (arith, l)) e
 -- The plan.
 
 module _ (shape : GuestShape) (good : IsShape shape) (vcpu n : ℕ) (few : n ≤ 16) (local : Local) (empty : local.at ≡ []) (own : List Made) (offers : List Offer) (each : All (IsOffered shape vcpu own) offers) (apart : AllPairs (λ early late. early.key ≢ late.key) offers) where
-  abbrev fill : Fill
+  abbrev pub fill : Fill
   fill = plan offers vcpu local.cpu shape n
 
-  abbrev regs : IchRegs
+  abbrev pub regs : IchRegs
   regs = regs_of fill local.cpu n
 
   standing : StandFor regs (held_of fill) (planned_interface fill local.cpu)
@@ -148,7 +148,7 @@ module _ (shape : GuestShape) (good : IsShape shape) (vcpu n : ℕ) (few : n ≤
           (in_filter_map (λ place. option_map_or key_of_both place None) fill.choice (Some c) c.key (is_chosen fill.choice c has) (ap (λ b. if b then Some c.key else None) e))
       of false e = false_from_ne_true (has_key c.key (keys_of_both fill)) (λ h. no h e)
 
-  right_so : (c : Choice) → Contains (chosen fill.choice) c → IsRight vcpu c
+  pub right_so : (c : Choice) → Contains (chosen fill.choice) c → IsRight vcpu c
   right_so c has = elim (by_right c has).state [
     | inl pending ↦ inl (pending.0, inactive c.key c.irq vcpu local.cpu shape pending.1)
     | inr active ↦ inr active
@@ -159,7 +159,7 @@ module _ (shape : GuestShape) (good : IsShape shape) (vcpu n : ℕ) (few : n ≤
       let found = offered_so c has in
       record { there = found.there; mine = found.mine; word = found.word; known_as = found.known_as; irq = found.irq; right = right_so c has; away = ap (is_at c.key) empty; both = to_take c has }
 
-  seen_so : (c : Choice) → Contains (chosen fill.choice) c → seen_in (packed c.entry) ≡ seen_choice c
+  pub seen_so : (c : Choice) → Contains (chosen fill.choice) c → seen_in (packed c.entry) ≡ seen_choice c
   seen_so c has = (stands_chosen c (offered_so c has).fits (by_right c has).whole).seen
 
   -- what a list register shows
@@ -184,7 +184,7 @@ module _ (shape : GuestShape) (good : IsShape shape) (vcpu n : ℕ) (few : n ≤
           record { one = one; held = held; choice = c; among = in_chosen fill.choice c there; key = ap (λ (e : AtInterface). e.key) is ∙ key; seen = ap seen_of is ∙ seen }
 
   -- where a choice stands
-  stands_at : (c : Choice) → Contains (chosen fill.choice) c → (place : ℕ) × (place < length (listed_of regs)) × (seen_in (get_or (listed_of regs) place 0) ≡ seen_choice c)
+  pub stands_at : (c : Choice) → Contains (chosen fill.choice) c → (place : ℕ) × (place < length (listed_of regs)) × (seen_in (get_or (listed_of regs) place 0) ≡ seen_choice c)
   stands_at c has =
       let at = is_chosen fill.choice c has in
       let there = got_none fill.choice at.0 c at.1 at.2 in

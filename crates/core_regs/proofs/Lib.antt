@@ -10,3 +10,4 @@ pub mod LookSteps
 pub mod StandLemmas
 pub mod StandSteps
 pub mod StandRuns
+pub mod MisrLemmas
