@@ -22,8 +22,8 @@ use Rattle.gic_call.specs.Touch.{touched}
 use Rattle.core_laws.specs.Related.{is_folding}
 use Rattle.core_laws.proofs.StepContext.{IsStep}
 use Rattle.core_fresh.specs.Waiting.{IsUnkicked}
-use Rattle.core_fresh.proofs.AfterLemmas.{later}
-use Rattle.core_fresh.proofs.WaitingSteps.{is_poll, is_poll_by, is_kick_of, unkicked_before}
+use Rattle.core_laws.proofs.AfterLemmas.{later}
+use Rattle.core_laws.proofs.KickSteps.{is_poll, is_poll_by, is_kick_of, unkicked_before}
 
 -- its own copy changes only as it looks for a kick, and it stops giving back only so
 pub record IsCopyKept (before after : Local) : Type 0 where

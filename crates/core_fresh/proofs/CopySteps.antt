@@ -27,11 +27,11 @@ use Rattle.core_laws.proofs.StepContext.{IsStep, lpis_back}
 use Rattle.core_fresh.specs.Copies.{CopiesAreCurrent}
 use Rattle.core_fresh.specs.Excuse.{Followed, opening_followed}
 use Rattle.core_fresh.specs.Waiting.{IsUnkicked}
-use Rattle.core_fresh.proofs.AfterLemmas.{later, word_cases, left_in}
+use Rattle.core_laws.proofs.AfterLemmas.{later, word_cases, left_in}
 use Rattle.core_fresh.proofs.CalmSteps.{no_poll_by, copy_kept, OwnCalm, scans, accesses, goes_on, own_calm}
 use Rattle.core_fresh.proofs.Frame.{follow, IsAt, IsActing, is_step, IsKeptBy, runs_keep}
 use Rattle.core_fresh.proofs.ProgressLemmas.{local_on}
-use Rattle.core_fresh.proofs.WaitingSteps.{is_poll_by, unkicked_before}
+use Rattle.core_laws.proofs.KickSteps.{is_poll_by, unkicked_before}
 
 -- a vCPU that is not kicked keeps EnableLPIs over the steps of others, and over its own but looks for a kick
 module _ {shape : GuestShape} {state : CoreState} {ideal : Ideal} {actor found left : ℕ} {tables : Option Maps} where

@@ -40,13 +40,14 @@ use Rattle.core_fresh.specs.Excuse.{Followed, IsExcused}
 use Rattle.core_fresh.specs.Far.{HasLookedFar, FarEndsAreKnown}
 use Rattle.core_fresh.specs.Index.{concerns, waits_for}
 use Rattle.core_fresh.specs.Waiting.{record_in}
-use Rattle.core_fresh.proofs.AfterLemmas.{later, word_cases, left_in}
+use Rattle.core_laws.proofs.AfterLemmas.{later, word_cases, left_in}
 use Rattle.core_fresh.proofs.CalmSteps.{IsCalm, OwnCalm, scans, accesses, goes_on, no_poll_by, own_calm}
 use Rattle.core_fresh.proofs.Frame.{follow, IsAt, IsActing, excused_part, is_step, lasts, IsKeptBy, runs_keep}
 use Rattle.core_fresh.proofs.ProgressLemmas.{operation_on, local_on, far_on, failure_on}
 use Rattle.core_fresh.proofs.TellSteps.{tells, claim_held}
 use Rattle.core_fresh.proofs.ToldLemmas.{is_release, IsOwnRelease, step_changes, Lasts, apart_quiet}
-use Rattle.core_fresh.proofs.WaitingSteps.{last_in, is_kick_of, excused_on, excused_now, unkicked_before}
+use Rattle.core_laws.proofs.KickSteps.{is_kick_of, unkicked_before}
+use Rattle.core_fresh.proofs.WaitingSteps.{last_in, excused_on, excused_now}
 
 -- an interrupt that is active by a vCPU concerns it, and waits for it
 active_waits : (shape : GuestShape) (vcpu : ℕ) (irq : IrqRecord) → irq.act_by ≡ Some vcpu → IsTrue (waits_for shape vcpu irq)

@@ -53,7 +53,7 @@ use Rattle.core_laws.proofs.RunSteps.{entry_simulates, related_opens, known_open
 use Rattle.core_laws.proofs.StepContext.{IsStep}
 use Rattle.core_fresh.specs.Index.{owes_kick}
 use Rattle.core_fresh.specs.Excuse.{IsExcused, Followed, follows, opening_followed, followed_in}
-use Rattle.core_fresh.proofs.AfterLemmas.{later, seat_mine, seat_other}
+use Rattle.core_laws.proofs.AfterLemmas.{later, seat_mine, seat_other}
 use Rattle.core_fresh.proofs.ToldLemmas.{event_changes, Lasts, Told, AllTold}
 use Rattle.core_fresh.proofs.IndexRuns.{opens_told}
 use Rattle.core_fresh.proofs.IndexSteps.{keeps_complete}

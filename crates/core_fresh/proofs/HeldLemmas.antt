@@ -38,7 +38,7 @@ use Rattle.port_core.proofs.StepTies.{number_is, none_is}
 use Rattle.core_laws.proofs.StepContext.{IsStep, finds}
 use Rattle.core_fresh.specs.Index.{owes_kick}
 use Rattle.core_fresh.specs.Waiting.{record_in}
-use Rattle.core_fresh.proofs.AfterLemmas.{later, word_cases}
+use Rattle.core_laws.proofs.AfterLemmas.{later, word_cases}
 use Rattle.core_fresh.proofs.TellSteps.{first_has, raised_word, up_word, down_word, claim_held, claim_missed, give_back_word, release_word, touch_word, touch_missed, want_word}
 use Rattle.core_fresh.proofs.ToldLemmas.{step_changes}
 use Rattle.core_fresh.proofs.TrackLemmas.{subject}

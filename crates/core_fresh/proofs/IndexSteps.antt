@@ -41,7 +41,7 @@ use Rattle.port_core.proofs.StepMade.{all_three}
 use Rattle.gic_history.specs.State.{Ideal}
 use Rattle.core_laws.proofs.StepContext.{one, IsStep, has}
 use Rattle.core_fresh.specs.Index.{concerns, is_indexed, owes_mark}
-use Rattle.core_fresh.proofs.AfterLemmas.{later, left_in, word_cases}
+use Rattle.core_laws.proofs.AfterLemmas.{later, left_in, word_cases}
 use Rattle.core_proper.proofs.CandLemmas.{cand_same}
 use Rattle.core_fresh.proofs.ToldLemmas.{owes_none, index_there, step_changes, Lasts, Told, AllTold, Kicks, told_taken, told_owed, index_stays, carries, marks_stay, cands_stay, carries_quiet}
 use Rattle.core_fresh.proofs.TellSteps.{or_left, or_right, pow_self, concerns_own, same_bit, not_both, Tells, claim_held, tells, tells_raise, tells_wire_up, tells_wire_down, tells_claim, tells_give_back, tells_release, tells_touch, tells_want}

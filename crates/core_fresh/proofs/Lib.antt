@@ -1,4 +1,3 @@
-pub mod AfterLemmas
 pub mod ToldLemmas
 pub mod TellSteps
 pub mod IndexSteps

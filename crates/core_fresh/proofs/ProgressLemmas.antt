@@ -13,7 +13,7 @@ use Rattle.port_core.specs.Effect.{succeeds}
 use Rattle.port_core.specs.Forms.{vcpu_of}
 use Rattle.core_proper.specs.Progress.{Progress, after_claim, after_poll, begun, changed_by, stepped}
 use Rattle.core_proper.specs.Scan.{Scan, idle, taking, looking, claiming}
-use Rattle.core_fresh.proofs.ScanLemmas.{kept_on}
+use Rattle.core_proper.proofs.ScanLemmas.{kept_on}
 use Rattle.core_fresh.proofs.ScanSteps.{with_made}
 
 claim_operation : (key : Key) (irq : IrqRecord) (done : Bool) (scan : Scan) (p : Progress) → (after_claim key irq done scan p).operation ≡ p.operation

@@ -1,14 +1,11 @@
 -- A scan goes on.
-use Rattle.std.proofs.Common.{◌≡◌, ℕ, ◌-◌, ◌<◌, ◌==◌, ◌⊎◌, inl, inr, true≢false, Bool, true, false, IsTrue, List, [], ◌∷◌, Contains, Option, Some, None, is_none, if◌then◌else◌, find, refl, sym, ◌∙◌, subst, arith}
+use Rattle.std.proofs.Common.{◌≡◌, ℕ, ◌-◌, ◌==◌, ◌⊎◌, inl, inr, true≢false, Bool, true, false, List, [], ◌∷◌, Contains, Option, Some, None, is_none, if◌then◌else◌, find, refl, sym, ◌∙◌, subst, arith}
 use Rattle.std.specs.List.{range_with_len}
 use Rattle.std.specs.Option.{option_map}
 use Rattle.std.proofs.lemmas.Bool.{eqb-true}
-use Rattle.std.proofs.lemmas.Grind.{common_steps}
 use Rattle.gic_base.specs.declared.interrupt.Key.{Key}
 use Rattle.gic_base.specs.declared.shape.GuestShape.{GuestShape}
-use Rattle.gic_base.specs.Interrupt.{is_of_vcpu}
 use Rattle.gic_base.specs.Shape.{IsShape}
-use Rattle.gic_ich.specs.declared.regs.IchRegs.{IchRegs}
 use Rattle.vcpu_refill.specs.declared.offer.Offer.{Offer}
 use Rattle.port_core.specs.Local.{is_cand, has_no_cand}
 use Rattle.port_core.specs.Place.{index_bit, index_bits, index_words, key_of_bit}
@@ -20,14 +17,6 @@ use Rattle.core_proper.proofs.SearchLemmas.{found_nowhere}
 use Rattle.gic_history.specs.Fresh.{Track}
 use Rattle.core_fresh.specs.Waiting.{IsDue}
 use Rattle.core_fresh.specs.Scan.{offer_in, IsAhead, IsFilled, HasScanned, Covers}
-
--- The bits of an index, and their interrupts.
-
-pub bit_of_key : (shape : GuestShape) (vcpu bit : ℕ) → IsShape shape → bit < index_bits shape → index_bit shape (key_of_bit shape vcpu bit) ≡ bit
-bit_of_key shape vcpu bit good within = grind (arith, common_steps, within, good.spis, good.espis, good.lpis)
-
-pub own_of_bit : (shape : GuestShape) (vcpu bit : ℕ) → IsTrue (is_of_vcpu vcpu (key_of_bit shape vcpu bit))
-own_of_bit shape vcpu bit = grind (arith, common_steps)
 
 mapped_none : {A B : Type 0} (f : A → B) (o : Option A) → is_none (option_map f o) ≡ true → o ≡ None
 mapped_none f None h = refl
@@ -116,32 +105,3 @@ module _ (shape : GuestShape) (state : CoreState) (track : Track) (vcpu : ℕ) (
 
   pub covers_on : (q : Progress) → Covers shape state track vcpu q q.scan → let on = scan_on shape vcpu q in Covers shape state track vcpu on on.scan
   covers_on q c = ended (goes_on shape vcpu q.scan q) (goes q.scan q refl c)
-
--- how far a scan is does not count for what it has nothing to do with
-pub kept_on : {T : Type 0} (part : Progress → T) → ((q : Progress) (scan : Scan) (regs : IchRegs) (trapping : Bool) → part (record q { scan = scan; regs = regs; trapping = trapping }) ≡ part q) → (shape : GuestShape) (vcpu : ℕ) (q : Progress) → part (scan_on shape vcpu q) ≡ part q
-kept_on part same shape vcpu q = let on = goes_on shape vcpu q.scan q in same on (ended_scan on.local on.scan) on.regs on.trapping ∙ goes q.scan
-  where
-    fills_same : (purpose : Purpose) (offers : List Offer) → part (filled shape vcpu purpose offers q) ≡ part q
-    fills_same planned offers = same q _ _ _
-    fills_same trapped offers = same q _ _ q.trapping
-    fills_same bare offers = same q _ _ q.trapping
-
-    looks_same : (purpose : Purpose) (from : ℕ) (offers : List Offer) (b : Bool) → part (if b then filled shape vcpu purpose offers q else record q { scan = looking purpose from offers }) ≡ part q
-    looks_same purpose from offers true = fills_same purpose offers
-    looks_same purpose from offers false = same q (looking purpose from offers) q.regs q.trapping
-
-    goes : (scan : Scan) → part (goes_on shape vcpu scan q) ≡ part q
-    goes idle = refl
-    goes (taking purpose words) = of (words == index_words shape)
-      where
-        of : (b : Bool) → part (if b then looks_on shape vcpu purpose 0 [] q else q) ≡ part q
-        of true = looks_same purpose 0 [] (is_none (next_cand shape vcpu q.local.cands 0))
-        of false = refl
-    goes (looking purpose from offers) = looks_same purpose from offers (is_none (next_cand shape vcpu q.local.cands from))
-    goes (claiming claims takes) = refl
-
-pub failed_on : (shape : GuestShape) (vcpu : ℕ) (q : Progress) → (scan_on shape vcpu q).failed ≡ q.failed
-failed_on shape vcpu q = kept_on (λ (p : Progress). p.failed) (λ p scan regs trapping. refl) shape vcpu q
-
-pub wants_on : (shape : GuestShape) (vcpu : ℕ) (q : Progress) → (scan_on shape vcpu q).wants ≡ q.wants
-wants_on shape vcpu q = kept_on (λ (p : Progress). p.wants) (λ p scan regs trapping. refl) shape vcpu q

@@ -20,10 +20,12 @@ use Rattle.core_laws.proofs.StepContext.{IsStep}
 use Rattle.core_fresh.specs.Excuse.{Followed}
 use Rattle.core_fresh.specs.Waiting.{IsUnkicked, IsDue}
 use Rattle.core_fresh.specs.Scan.{Covers, ScanOverlooksNone}
-use Rattle.core_fresh.proofs.AfterLemmas.{later}
+use Rattle.core_laws.proofs.AfterLemmas.{later}
 use Rattle.core_fresh.proofs.Frame.{follow, IsAt, IsActing, is_part, excused_part, is_step, lasts, IsKeptBy, runs_keep}
-use Rattle.core_fresh.proofs.WaitingSteps.{is_poll, is_poll_by, DueSo, due_before, unkicked_before}
-use Rattle.core_fresh.proofs.ScanLemmas.{covers_on, failed_on}
+use Rattle.core_laws.proofs.KickSteps.{is_poll, is_poll_by, unkicked_before}
+use Rattle.core_fresh.proofs.WaitingSteps.{DueSo, due_before}
+use Rattle.core_proper.proofs.ScanLemmas.{failed_on}
+use Rattle.core_fresh.proofs.ScanLemmas.{covers_on}
 use Rattle.core_fresh.proofs.ScanSteps.{with_made, as_filled, leaves}
 
 and_false : (b : Bool) → (b && false) ≡ false

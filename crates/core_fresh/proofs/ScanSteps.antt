@@ -1,15 +1,13 @@
 -- A vCPU's own steps while it scans.
-use Rattle.std.proofs.Common.{◌≡◌, ◌≢◌, ℕ, ◌+◌, ◌-◌, ◌/◌, ◌%◌, ◌<◌, ◌≤◌, ◌==◌, ◌&&◌, ◌||◌, ◌⊎◌, inl, inr, true≢false, not, Bool, true, false, IsTrue, List, [], ◌∷◌, ◌++◌, Contains, Option, Some, None, is_none, unwrap_or, nat_lt, if◌then◌else◌, find, length, lit<, refl, sym, ap, ◌∙◌, subst, arith}
-use Rattle.std.specs.List.{range_with_len}
-use Rattle.std.specs.Option.{option_map, option_map_or}
+use Rattle.std.proofs.Common.{◌≡◌, ◌≢◌, ℕ, ◌+◌, ◌/◌, ◌%◌, ◌<◌, ◌≤◌, ◌==◌, ◌&&◌, ◌||◌, ◌⊎◌, inl, inr, true≢false, not, Bool, true, false, IsTrue, List, [], ◌∷◌, ◌++◌, Contains, Option, Some, None, is_none, unwrap_or, nat_lt, if◌then◌else◌, length, lit<, refl, sym, ap, ◌∙◌, subst, arith}
+use Rattle.std.specs.Option.{option_map}
 use Rattle.std.proofs.lemmas.List.Elements.{Contains-append_left, Contains-append_right}
 use Rattle.std.proofs.lemmas.Bool.{cases_eq, cases_lt, and_parts, eqb-true, ltb-true}
 use Rattle.gic_base.specs.declared.icc.IccReg.{IccReg}
 use Rattle.gic_base.specs.declared.interrupt.Key.{Key}
 use Rattle.gic_base.specs.declared.shape.GuestShape.{GuestShape}
-use Rattle.gic_base.specs.Interrupt.{has_interrupt, is_of_vcpu, is_same_key}
+use Rattle.gic_base.specs.Interrupt.{has_interrupt, is_of_vcpu}
 use Rattle.gic_base.specs.Shape.{IsShape}
-use Rattle.gic_base.proofs.KeyLemmas.{same_key}
 use Rattle.gic_bits.specs.Bits.{has_bit}
 use Rattle.gic_history.specs.State.{Ideal}
 use Rattle.gic_word.specs.declared.record.Irq.{Irq as IrqRecord}
@@ -26,7 +24,7 @@ use Rattle.port_core.specs.Condition.{may_take_index}
 use Rattle.port_core.specs.Effect.{succeeds}
 use Rattle.port_core.specs.Forms.{vcpu_of}
 use Rattle.port_core.specs.Local.{is_cand, is_vcpu, settled, with_cand_word, owes_no_mark}
-use Rattle.port_core.specs.Place.{index_bit, index_bits, index_words, key_of_bit}
+use Rattle.port_core.specs.Place.{index_bit, index_bits, index_words}
 use Rattle.port_core.specs.Run.{CoreState, seat_at, word_in}
 use Rattle.core_proper.specs.Laws.{IsSeatOf}
 use Rattle.core_proper.specs.Progress.{Progress, after_claim, after_poll, begun, changed_by, claim_left}
@@ -41,13 +39,13 @@ use Rattle.gic_history.specs.Fresh.{Track}
 use Rattle.core_fresh.specs.Index.{owes_mark}
 use Rattle.core_fresh.specs.Waiting.{record_in, IsUnkicked, IsDue}
 use Rattle.core_fresh.specs.Scan.{offer_in, IsAhead, IsFilled, HasScanned, Covers}
-use Rattle.core_fresh.proofs.AfterLemmas.{later}
+use Rattle.core_laws.proofs.AfterLemmas.{later}
 use Rattle.core_fresh.proofs.ToldLemmas.{waiting_concerns, owes_none, IsOwnRelease, Lasts, Told, AllTold}
 use Rattle.core_fresh.proofs.TellSteps.{concerns_own, same_bit}
 use Rattle.core_fresh.proofs.IndexSteps.{settled_keeps, taken_keeps, taken_has, either_way}
-use Rattle.core_fresh.proofs.WaitingSteps.{last_in, is_poll_by, DueSo, due_before, unkicked_before}
-use Rattle.core_fresh.proofs.ScanLemmas.{bit_of_key, own_of_bit}
-use Rattle.core_proper.proofs.SearchLemmas.{found_in, IsFoundIn}
+use Rattle.core_laws.proofs.KickSteps.{is_poll_by, unkicked_before}
+use Rattle.core_fresh.proofs.WaitingSteps.{last_in, DueSo, due_before}
+use Rattle.core_proper.proofs.ScanLemmas.{bit_of_key, own_of_bit, IsNext, next_is}
 
 -- an actor's progress with what a step leaves it
 abbrev pub with_made : GuestShape → ℕ → Made → Progress → Progress → Progress
@@ -67,20 +65,6 @@ at_end offers k irq home unwanted =
     let one : Offer = record { key = k; irq = irq } in
     let there : offered k irq ≡ one ∷ [] = ap (λ o. if is_none o && not irq.want then one ∷ [] else []) home ∙ ap (λ w. if not w then one ∷ [] else []) unwanted in
     Contains-append_right offers (offered k irq) one (subst (λ xs. Contains xs one) (sym there) (0, lit< tt, refl))
-
--- The interrupt that a look is at.
-
-record IsNext (shape : GuestShape) (vcpu : ℕ) (p : Progress) (from : ℕ) (k : Key) : Type 0 where
-  pub bit : ℕ
-  pub search : IsFoundIn (is_cand p.local.cands) from (index_bits shape - from) bit
-  pub is : k ≡ key_of_bit shape vcpu bit
-
-next_is : (shape : GuestShape) (vcpu : ℕ) (p : Progress) (from : ℕ) (k : Key) → IsTrue (is_next shape vcpu p.local.cands from k) → IsNext shape vcpu p from k
-next_is shape vcpu p from k h = of (find (is_cand p.local.cands) (range_with_len from (index_bits shape - from))) refl h
-  where
-    of : (o : Option ℕ) → find (is_cand p.local.cands) (range_with_len from (index_bits shape - from)) ≡ o → IsTrue (option_map_or (is_same_key k) (option_map (key_of_bit shape vcpu) o) false) → IsNext shape vcpu p from k
-    of None e same = absurd (true≢false (sym same))
-    of (Some bit) e same = record { bit = bit; search = found_in (is_cand p.local.cands) from (index_bits shape - from) bit e; is = same_key k (key_of_bit shape vcpu bit) same }
 
 -- a look keeps the candidates but for the interrupt that it is at
 look_keeps :

@@ -42,14 +42,15 @@ use Rattle.core_fresh.specs.Index.{owes_kick}
 use Rattle.core_fresh.specs.Excuse.{Followed, opening_followed}
 use Rattle.core_fresh.specs.Standing.{IsOwing, AreOwed, ChangesAreOwed}
 use Rattle.core_fresh.specs.Waiting.{record_in, IsUnkicked}
-use Rattle.core_fresh.proofs.AfterLemmas.{later, local_mine, seat_other, word_stays}
+use Rattle.core_laws.proofs.AfterLemmas.{later, local_mine, seat_other, word_stays}
 use Rattle.core_fresh.proofs.CalmSteps.{IsCalm, OwnCalm, scans, accesses, goes_on, no_poll_by, own_calm}
 use Rattle.core_fresh.proofs.ProgressLemmas.{local_on}
 use Rattle.core_fresh.proofs.ToldLemmas.{event_changes, step_changes}
 use Rattle.core_fresh.proofs.Frame.{changing_goes_on, follow, IsAt, IsActing, is_part, part_settled, settled_owes, is_step, after_event, event, simulated, operation_after, number_after, owing_goes_on, IsKeptBy, runs_keep}
 use Rattle.core_fresh.proofs.HeldLemmas.{HeldSo, stays, alters, arrives, held_so, event_subject}
 use Rattle.core_fresh.proofs.TrackLemmas.{current_on, doing_other, last_made, changes_apart, since_reach, happens_changes}
-use Rattle.core_fresh.proofs.WaitingSteps.{owes_on, is_kick_of, unkicked_before}
+use Rattle.core_laws.proofs.KickSteps.{is_kick_of, unkicked_before}
+use Rattle.core_fresh.proofs.WaitingSteps.{owes_on}
 
 -- what is said of an interrupt at the interface of a vCPU
 abbrev Owed : GuestShape → ℕ → CoreState → Followed → Progress → Type 0

@@ -40,7 +40,7 @@ use Rattle.gic_history.specs.Fresh.{changed_by}
 use Rattle.port_core.specs.Actor.{actor_count}
 use Rattle.port_core.specs.Stands.{silent, with_found, look_event, poll_event, event_done, stands_for}
 use Rattle.core_fresh.specs.Index.{concerns, waits_for, is_indexed, is_taken, owes_kick, owes_mark}
-use Rattle.core_fresh.proofs.AfterLemmas.{later, word_cases, word_stays, local_mine, seat_other}
+use Rattle.core_laws.proofs.AfterLemmas.{later, word_cases, word_stays, local_mine, seat_other}
 
 -- the word of an interrupt's bit
 pub index_there : (shape : GuestShape) (key : Key) (vcpu : ℕ) → index_bit shape key < index_bits shape → vcpu < shape.vcpus → IsTrue (has_word shape (Index vcpu (index_bit shape key / 64)))

@@ -31,9 +31,9 @@ use Rattle.core_proper.proofs.FollowLemmas.{steps_follow}
 use Rattle.core_laws.proofs.StepContext.{IsStep}
 use Rattle.core_fresh.specs.Waiting.{record_in}
 use Rattle.core_fresh.specs.Wants.{IsWantedBy, AreWanted, WantsAreKept}
-use Rattle.core_fresh.proofs.AfterLemmas.{later, word_cases, seat_mine, seat_other}
-use Rattle.core_fresh.proofs.IndexRuns.{IsReached, reaches_next, reached_opens}
-use Rattle.core_fresh.proofs.ScanLemmas.{wants_on}
+use Rattle.core_laws.proofs.AfterLemmas.{later, word_cases, seat_mine, seat_other}
+use Rattle.core_laws.proofs.ReachedRuns.{IsReached, reaches_next, reached_opens}
+use Rattle.core_proper.proofs.ScanLemmas.{wants_on}
 use Rattle.core_fresh.proofs.ScanSteps.{with_made}
 use Rattle.core_fresh.proofs.Frame.{moved_on, split}
 use Rattle.core_fresh.proofs.WantSteps.{is_touch_of, as_touch, wanted_on, touch_ends, wants_kept}

@@ -24,3 +24,6 @@ pub mod PrefixLemmas
 pub mod EnableRuns
 pub mod SyncRuns
 pub mod LatchRuns
+pub mod AfterLemmas
+pub mod ReachedRuns
+pub mod KickSteps

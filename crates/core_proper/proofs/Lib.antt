@@ -9,3 +9,6 @@ pub mod OnceLemmas
 pub mod InterfaceLemmas
 pub mod CandLemmas
 pub mod SearchLemmas
+pub mod IntidLemmas
+pub mod ReachLemmas
+pub mod ScanLemmas

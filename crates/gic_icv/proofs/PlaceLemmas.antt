@@ -37,7 +37,7 @@ alone {X} p (x ∷ xs) a b few has have f g = by_head (p x) refl few (cons_cases
     by_head false e few (inr one) (inr other) rest = rest few one other
 
 -- where no two places pass, at most one does
-few_pass : {X : Type 0} (p : X → Bool) (d : X) (xs : List X) → ((j k : ℕ) → j < length xs → k < length xs → p (get_or xs j d) ≡ true → p (get_or xs k d) ≡ true → j ≡ k) → length (filter p xs) ≤ 1
+pub few_pass : {X : Type 0} (p : X → Bool) (d : X) (xs : List X) → ((j k : ℕ) → j < length xs → k < length xs → p (get_or xs j d) ≡ true → p (get_or xs k d) ≡ true → j ≡ k) → length (filter p xs) ≤ 1
 few_pass p d [] h = omega arith
 few_pass {X} p d (x ∷ xs) h = by_head (p x) refl (few_pass p d xs (λ j k l m f g. (let e = h (suc j) (suc k) (omega (arith, l)) (omega (arith, m)) f g in omega (arith, e))))
   where
@@ -63,7 +63,7 @@ same_entry at a b are has have e = alone (λ entry. nat_eq (intid_of entry.key) 
     itself n = grind arith
 
 -- nothing is seen in an empty list register
-not_live : (id : ℕ) → is_live id (seen_in 0) ≡ false
+pub not_live : (id : ℕ) → is_live id (seen_in 0) ≡ false
 not_live id = by_id (nat_eq 0 id)
   where
     by_id : (b : Bool) → (b && false) ≡ false
@@ -78,7 +78,7 @@ live_held words held at place id stand within live = by_place (get_or held place
     by_place None e = absurd (let no : true ≡ false = sym live ∙ ap (λ word. is_live id (seen_in word)) (stand.free place within e) ∙ not_live id in cc)
     by_place (Some one) e = (one, e, stand.filled place one within e)
 
-live_id : (s : Seen) (k : ℕ) → is_live k s ≡ true → s.id ≡ k
+pub live_id : (s : Seen) (k : ℕ) → is_live k s ≡ true → s.id ≡ k
 live_id s k e = grind (arith, common_steps)
 
 -- an element of a list through a map

@@ -57,8 +57,9 @@ use Rattle.pe_loop.specs.Moves.{are_moves}
 use Rattle.pe_loop.proofs.ChosenLemmas.{tries}
 use Rattle.pe_loop.proofs.MoveLemmas.{both_moves, claim_moves, moves_unnamed}
 use Rattle.pe_loop.proofs.LeaveLemmas.{settled_owes}
-use Rattle.pe_loop.proofs.PlanLemmas.{id_fits, in_range}
-use Rattle.pe_loop.proofs.ReachLemmas.{active_reached, reached_local}
+use Rattle.core_proper.proofs.IntidLemmas.{id_fits, in_range}
+use Rattle.core_proper.proofs.ReachLemmas.{reached_local}
+use Rattle.pe_loop.proofs.ReachLemmas.{active_reached}
 use Rattle.pe_icc.specs.Prepare.{emptied, HasLooked, LooksFor, CanClaimFar, ClaimsFar}
 use Rattle.pe_icc.proofs.AmidLemmas.{leads_then}
 use Rattle.pe_icc.proofs.AloneLemmas.{emptied_alone, empty_stands, en_opens, single_stands}

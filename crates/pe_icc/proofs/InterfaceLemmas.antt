@@ -1,41 +1,24 @@
--- What is at a vCPU's interface, as accesses see it.
-use Rattle.std.proofs.Common.{◌≡◌, ℕ, suc, ◌≤◌, ◌==◌, ◌&&◌, ◌||◌, not, Bool, true, false, cond, if◌then◌else◌, List, [], ◌∷◌, map, filter, length, nat_lt, All, Contains, Option, Some, None, unwrap_or, inl, inr, ◌⊎◌, refl, sym, ap, ◌∙◌, arith}
+-- What an access leaves at a vCPU's interface.
+use Rattle.std.proofs.Common.{◌≡◌, ℕ, ◌==◌, ◌&&◌, ◌||◌, not, Bool, true, false, cond, if◌then◌else◌, List, [], ◌∷◌, nat_lt, Option, Some, None, unwrap_or, refl, ap, ◌∙◌}
 use Rattle.std.specs.List.{list_all}
-use Rattle.std.proofs.lemmas.Bool.{eqb-true, ltb-true, lt-ltb}
-use Rattle.std.proofs.lemmas.List.Elements.{All-head, All-tail, All-weaker, All-contains}
 use Rattle.gic_base.specs.declared.icc.IccReg.{IccReg}
 use Rattle.gic_base.specs.declared.icc.IccReg.TheVariants.{Eoir0, Eoir1, Bpr1}
-use Rattle.gic_base.specs.declared.interrupt.Key.{Key}
-use Rattle.gic_base.specs.declared.interrupt.Key.TheVariants.{Private, Spi, Lpi}
-use Rattle.gic_base.specs.declared.shape.GuestShape.{GuestShape}
-use Rattle.gic_base.specs.Interrupt.{intid_of, is_same_key}
-use Rattle.gic_base.specs.Shape.{IsShape}
-use Rattle.gic_base.proofs.KeyLemmas.{same_itself}
+use Rattle.gic_base.specs.Interrupt.{intid_of}
 use Rattle.gic_word.specs.declared.record.Group.{Group}
 use Rattle.gic_word.specs.declared.record.Group.TheVariants.{G0, G1}
-use Rattle.gic_word.specs.Causes.{has_active_state}
 use Rattle.gic_word.specs.Record.{is_number}
 use Rattle.gic_prio.specs.declared.candidate.Candidate.{Candidate}
 use Rattle.gic_prio.specs.declared.cpu.CpuRec.{CpuRec}
 use Rattle.gic_prio.specs.Access.{taken_by, deactivated_by, activated_by, cpu_after}
-use Rattle.gic_prio.specs.Interface.{AtInterface, InterfaceState, IsInterface, has_its_kind, candidates_at, interface_after}
+use Rattle.gic_prio.specs.Interface.{candidates_at}
 use Rattle.gic_prio.specs.Priority.{level_activated, level_dropped, least_level, running_level}
 use Rattle.gic_prio.specs.Registers.{binary_point_written}
 use Rattle.gic_prio.specs.Signal.{intid_written, is_special}
 use Rattle.port_core.specs.declared.at_list.AtIrq.{AtIrq}
 use Rattle.port_core.specs.declared.local.Local.{Local}
-use Rattle.port_core.specs.After.{shown, interface_of, acknowledged_entry, deactivated_entry, changed_id, id_of, accessed}
-use Rattle.port_core.specs.Valid.{IsAt, IsOnce, IsLocal}
-use Rattle.core_proper.proofs.InterfaceLemmas.{shown_accessed}
-use Rattle.vcpu_refill.proofs.ElementLemmas.{Contains-here, Contains-there}
-use Rattle.pe_loop.proofs.PlanLemmas.{IsInRange, in_range, same_by_id}
+use Rattle.port_core.specs.After.{interface_of, acknowledged_entry, deactivated_entry, changed_id, id_of, accessed}
 
 -- What an access leaves there.
-
-pub interface_accessed : (reg : IccReg) (write : Option ℕ) (local : Local) → interface_of (accessed reg write local) ≡ interface_after reg write (interface_of local)
-interface_accessed reg write local =
-    let make : List AtInterface → InterfaceState = λ at. record { cpu = (accessed reg write local).cpu; at = at } in
-    ap make (shown_accessed reg write local)
 
 -- nothing of it was given back
 whole_changed : (change : AtIrq → AtIrq) → ((one : AtIrq) → (change one).given ≡ one.given) → (id : Option ℕ) (at : List AtIrq) → list_all (λ at. not at.given) (changed_id change id at) ≡ list_all (λ at. not at.given) at
@@ -79,73 +62,3 @@ lpis_kept Bpr1 (Some value) cpu candidates = of cpu.cbpr
     of true = refl
     of false = refl
 lpis_kept reg (Some value) cpu candidates = refl
-
--- What a port has at its interface is what an interface can have.
-
-fewer : {X : Type 0} (p q : X → Bool) (xs : List X) → All (λ x. p x ≡ true → q x ≡ true) xs → length (filter p xs) ≤ length (filter q xs)
-fewer p q [] all = omega arith
-fewer p q (x ∷ xs) all = of (p x) refl (q x) refl (fewer p q xs (All-tail (λ x. p x ≡ true → q x ≡ true) x xs all))
-  where
-    of : (a : Bool) → p x ≡ a → (b : Bool) → q x ≡ b → length (filter p xs) ≤ length (filter q xs) → length (cond a (x ∷ filter p xs) (filter p xs)) ≤ length (cond b (x ∷ filter q xs) (filter q xs))
-    of true h true i rest = omega (arith, rest)
-    of true h false i rest = absurd (both (All-head (λ x. p x ≡ true → q x ≡ true) x xs all h) i)
-      where
-        both : q x ≡ true → q x ≡ false → ⊥
-        both t f = cc
-    of false h true i rest = omega (arith, rest)
-    of false h false i rest = rest
-
-one_or_none : {X : Type 0} (p : X → Bool) (xs : List X) → (filter p xs ≡ []) ⊎ ((x : X) × Contains xs x × (p x ≡ true))
-one_or_none p [] = inl refl
-one_or_none p (x ∷ xs) = of (p x) refl (one_or_none p xs)
-  where
-    of : (b : Bool) → p x ≡ b → (filter p xs ≡ []) ⊎ ((x : _) × Contains xs x × (p x ≡ true)) → (cond b (x ∷ filter p xs) (filter p xs) ≡ []) ⊎ ((y : _) × Contains (x ∷ xs) y × (p y ≡ true))
-    of true h rest = inr (x, Contains-here x xs, h)
-    of false h (inl none) = inl none
-    of false h (inr (y, among, is)) = inr (y, Contains-there x y xs among, is)
-
-filter_shown : (id : ℕ) (at : List AtIrq) → length (filter (λ entry. intid_of entry.key == id) (map shown at)) ≡ length (filter (λ entry. intid_of entry.key == id) at)
-filter_shown id [] = refl
-filter_shown id (one ∷ rest) = of (intid_of one.key == id) (filter_shown id rest)
-  where
-    of : (b : Bool) → length (filter (λ entry. intid_of entry.key == id) (map shown rest)) ≡ length (filter (λ entry. intid_of entry.key == id) rest)
-        → length (cond b (shown one ∷ filter (λ entry. intid_of entry.key == id) (map shown rest)) (filter (λ entry. intid_of entry.key == id) (map shown rest))) ≡ length (cond b (one ∷ filter (λ entry. intid_of entry.key == id) rest) (filter (λ entry. intid_of entry.key == id) rest))
-    of true e = ap suc e
-    of false e = e
-
-kind_of : (key : Key) → IsInRange key → (if nat_lt (intid_of key) 8192 then has_active_state key else not (has_active_state key)) ≡ true
-kind_of (Private vcpu id) range = ap (λ b. if b then true else false) (lt-ltb id 8192 (omega (arith, range)))
-kind_of (Spi id) range = let high = range.1 in ap (λ b. if b then true else false) (lt-ltb id 8192 high)
-kind_of (Lpi id) range = of (nat_lt id 8192) refl
-  where
-    of : (b : Bool) → nat_lt id 8192 ≡ b → (if b then false else true) ≡ true
-    of true h = let less = ltb-true id 8192 h in let low = range.0 in absurd (omega (arith, low, less))
-    of false h = refl
-
-kinds_of : (shape : GuestShape) (actor : ℕ) (at : List AtIrq) → IsShape shape → All (IsAt shape actor) at → list_all has_its_kind (map shown at) ≡ true
-kinds_of shape actor [] good all = refl
-kinds_of shape actor (one ∷ rest) good all =
-    let is = All-head (IsAt shape actor) one rest all in
-    ap (λ b. b && list_all has_its_kind (map shown rest)) (kind_of one.key (in_range shape one.key good is.there)) ∙ kinds_of shape actor rest good (All-tail (IsAt shape actor) one rest all)
-
-once_of : (shape : GuestShape) (actor : ℕ) (at : List AtIrq) → IsShape shape → All (IsAt shape actor) at → IsOnce at → (id : ℕ) → length (filter (λ entry. intid_of entry.key == id) at) ≤ 1
-once_of shape actor at good all once id = elim (one_or_none (λ entry. intid_of entry.key == id) at) [
-  | inl none ↦ (let empty : length (filter (λ entry. intid_of entry.key == id) at) ≡ 0 = ap length none in omega (arith, empty))
-  | inr (one, among, is) ↦ (
-      let first = All-contains (IsAt shape actor) at one all among in
-      let less = fewer (λ entry. intid_of entry.key == id) (λ entry. is_same_key entry.key one.key) at
-      (All-weaker (IsAt shape actor) (λ entry. (intid_of entry.key == id) ≡ true → is_same_key entry.key one.key ≡ true)
-      (λ entry at same. let key : entry.key ≡ one.key = same_by_id actor entry.key one.key (in_range shape entry.key good at.there) (in_range shape one.key good first.there) at.own first.own (eqb-true (intid_of entry.key) id same ∙ sym (eqb-true (intid_of one.key) id is)) in
-      ap (λ key. is_same_key key one.key) key ∙ same_itself one.key)
-      at all) in
-      let most = once one.key in
-      omega (arith, less, most))
-]
-
-pub is_interface : (shape : GuestShape) (actor : ℕ) (local : Local) → IsShape shape → IsLocal shape actor local → IsInterface (interface_of local)
-is_interface shape actor local good is =
-    record {
-      points = is.points;
-      once = λ id. (let same = filter_shown id local.at in let most = once_of shape actor local.at good is.at is.once id in omega (arith, same, most));
-      kinds = kinds_of shape actor local.at good is.at;
-    }

@@ -31,7 +31,8 @@ use Rattle.pe_loop.specs.Stay.{IsActor, IsOn}
 use Rattle.pe_icc.specs.Amid.{IsSet}
 use Rattle.pe_icc.specs.Operate.{MayAsk, MayReenter, HasAsked, debt_left, Operates, Polls}
 use Rattle.pe_icc.specs.declared.operate.Polled.TheVariants.{Kicked, Done}
-use Rattle.pe_icc.proofs.InterfaceLemmas.{interface_accessed, is_interface, lpis_kept, whole_accessed}
+use Rattle.core_proper.proofs.InterfaceLemmas.{interface_accessed, is_interface}
+use Rattle.pe_icc.proofs.InterfaceLemmas.{lpis_kept, whole_accessed}
 
 -- The step.
 

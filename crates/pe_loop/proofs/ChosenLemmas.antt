@@ -55,7 +55,8 @@ use Rattle.pe_loop.specs.Scanning.{told_by}
 use Rattle.pe_loop.proofs.CountLemmas.{quiet_append}
 use Rattle.pe_loop.proofs.MoveLemmas.{claim_moves, moves_join}
 use Rattle.pe_loop.proofs.ClaimLemmas.{claim_proper, claim_stepped, ended_more, first_left, first_tried, has_first, has_none, take_left, take_tried}
-use Rattle.pe_loop.proofs.ReachLemmas.{bare_of, active_reached, entry_added, may_take_causes, reached_irq, reached_local, taken_local, whole_reached}
+use Rattle.core_proper.proofs.ReachLemmas.{entry_added, reached_local}
+use Rattle.pe_loop.proofs.ReachLemmas.{bare_of, active_reached, may_take_causes, reached_irq, taken_local, whole_reached}
 
 -- A claim.
 

@@ -21,23 +21,10 @@ use Rattle.port_core.specs.declared.local.Local.{Local}
 use Rattle.port_core.specs.After.{claimed_at}
 use Rattle.port_core.specs.Effect.{may_move, moved_of, claimed_irq}
 use Rattle.port_core.specs.Local.{entry_for, changed_at, with_entry, arrived, settled}
+use Rattle.core_proper.proofs.ReachLemmas.{number_is, none_is, inactive, entry_added}
 use Rattle.pe_loop.specs.Claiming.{IsRight, without_causes, at_of}
 
 -- Its causes and its state.
-
-pub number_is : (n : ℕ) (o : Option ℕ) → IsTrue (is_number n o) → o ≡ Some n
-number_is n None h = absurd (cc)
-number_is n (Some m) h = ap Some (eqb-true m n h)
-
-none_is : (o : Option ℕ) → is_none o ≡ true → o ≡ None
-none_is None e = refl
-none_is (Some n) e = absurd (cc)
-
-inactive : (key : Key) (irq : IrqRecord) (vcpu : ℕ) (cpu : CpuRec) (shape : GuestShape) → IsTrue (is_deliverable key irq vcpu cpu shape) → is_none irq.act_by ≡ true
-inactive key irq vcpu cpu shape h =
-    let kind = and_parts (is_ripe irq vcpu shape && is_none irq.act_by && is_group_enabled irq.group cpu) (takes_kind key cpu) h in
-    let group = and_parts (is_ripe irq vcpu shape && is_none irq.act_by) (is_group_enabled irq.group cpu) kind.0 in
-    (and_parts (is_ripe irq vcpu shape) (is_none irq.act_by) group.0).1
 
 -- an interrupt that is active has come without its causes
 abbrev pub bare_of : Choice → AtIrq
@@ -72,32 +59,11 @@ whole_reached shape vcpu cpu choice right not_both = of right.state
 
 -- The actor's own state.
 
--- an interrupt got to the interface
-pub reached_local : (shape : GuestShape) (actor : ℕ) (key : Key) (irq : IrqRecord) (local : Local) → entry_for key local.at ≡ None
-    → claimed_at shape actor key irq local ≡ record local { cands = settled shape actor key local.cands; at = local.at ++ arrived key irq (reached irq).entry ∷ [] }
-reached_local shape actor key irq local free =
-    let moved : Option AtIrq → Moved = λ o. option_map_or (λ entry. taken (moved_of irq entry)) o (record (reached irq) { irq = record (reached irq).irq { holder = Some actor } }) in
-    let by : Option AtIrq → Local = λ o.
-    record local {
-      cands = settled shape actor key local.cands;
-      at = if is_some o then changed_at (λ entry. record (with_entry entry (moved o).entry) { consumed = false }) key local.at else local.at ++ arrived key irq (moved o).entry ∷ [];
-    } in
-    ap by free
-
 pub reached_irq : (actor : ℕ) (local : Local) (key : Key) (irq : IrqRecord) → entry_for key local.at ≡ None → IsTrue (is_number actor irq.act_by) → claimed_irq actor local key irq ≡ record irq { holder = Some actor }
 reached_irq actor local key irq free active =
     ap (λ o. (option_map_or (λ entry. taken (moved_of irq entry)) o (record (reached irq) { irq = record (reached irq).irq { holder = Some actor } })).irq) free
     ∙ ap (λ act. record (reached (record irq { act_by = act })).irq { holder = Some actor }) (number_is actor irq.act_by active)
     ∙ ap (λ act. record irq { act_by = act; holder = Some actor }) (sym (number_is actor irq.act_by active))
-
--- it is there
-pub entry_added : (key : Key) (at : List AtIrq) (one : AtIrq) → one.key ≡ key → entry_for key at ≡ None → entry_for key (at ++ one ∷ []) ≡ Some one
-entry_added key [] one is free = ap (λ b. cond b (Some one) None) (ap (λ other. is_same_key other key) is ∙ same_itself key)
-entry_added key (other ∷ at) one is free = of (is_same_key other.key key) refl free (entry_added key at one is)
-  where
-    of : (b : Bool) → is_same_key other.key key ≡ b → cond b (Some other) (entry_for key at) ≡ None → (entry_for key at ≡ None → entry_for key (at ++ one ∷ []) ≡ Some one) → cond (is_same_key other.key key) (Some other) (entry_for key (at ++ one ∷ [])) ≡ Some one
-    of true e f later = absurd (cc)
-    of false e f later = ap (λ b. cond b (Some other) (entry_for key (at ++ one ∷ []))) e ∙ later f
 
 -- and changes there alone
 pub added_changed : (change : AtIrq → AtIrq) (key : Key) (at : List AtIrq) (one : AtIrq) → one.key ≡ key → entry_for key at ≡ None → changed_at change key (at ++ one ∷ []) ≡ at ++ change one ∷ []

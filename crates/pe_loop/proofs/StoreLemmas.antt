@@ -40,7 +40,8 @@ use Rattle.core_proper.specs.Registers.{with_changed}
 use Rattle.pe_loop.specs.declared.claims.Claimed.{Claimed}
 use Rattle.pe_loop.specs.declared.claims.Claimed.TheVariants.{Whole, Bare, Missed}
 use Rattle.pe_loop.specs.Claiming.{without_causes, choice_left, at_of, regs_left, loaded_with, IsRight, IsClaimed, IsRegsAt, IsLoadedAt}
-use Rattle.pe_loop.proofs.PlanLemmas.{IsPlanned, in_range, same_by_id}
+use Rattle.core_proper.proofs.IntidLemmas.{in_range, same_by_id}
+use Rattle.pe_loop.proofs.PlanLemmas.{IsPlanned}
 
 -- A list register with State 2 in place of 3.
 

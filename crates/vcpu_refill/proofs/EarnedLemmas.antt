@@ -18,7 +18,7 @@ use Rattle.vcpu_refill.proofs.SortLemmas.{ordered_sorts}
 use Rattle.vcpu_refill.proofs.LawLemmas.{chosen_from}
 
 -- what passes a test is of the list, and passes it
-from_filter : {X : Type 0} (p : X → Bool) (xs : List X) (y : X) → Contains (filter p xs) y → Contains xs y × (p y ≡ true)
+pub from_filter : {X : Type 0} (p : X → Bool) (xs : List X) (y : X) → Contains (filter p xs) y → Contains xs y × (p y ≡ true)
 from_filter p [] y has = absurd (Contains-nothing y has)
 from_filter {X} p (x ∷ xs) y has = by_test (p x) refl (from_filter p xs y) has
   where

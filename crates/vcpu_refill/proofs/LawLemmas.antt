@@ -1,6 +1,7 @@
 -- What every plan keeps.
-use Rattle.std.proofs.Common.{◌≡◌, ◌≤◌, ◌+◌, ◌-◌, ℕ, Bool, true, false, not, ◌&&◌, List, [], ◌++◌, length, length-append, take, drop, Some, Contains, inl, inr, refl, sym, ap, ◌∙◌, subst, arith}
+use Rattle.std.proofs.Common.{◌≡◌, ◌≤◌, ◌+◌, ◌-◌, ℕ, zero, suc, nat_lt, Bool, true, false, not, ◌&&◌, List, [], ◌∷◌, ◌++◌, length, length-append, take, drop, Some, Contains, inl, inr, refl, sym, ap, ◌∙◌, subst, arith}
 use Rattle.std.specs.Prelude.{map, min, filter, if◌then◌else◌}
+use Rattle.std.proofs.lemmas.Bool.{and_parts, ltb-true}
 use Rattle.std.proofs.lemmas.Grind.{common_steps}
 use Rattle.std.proofs.lemmas.List.{length-map, length-take, take-append-drop, take_all}
 use Rattle.std.proofs.lemmas.List.Elements.{Contains-append_left, Contains-append_right, Contains-append_cases}
@@ -11,9 +12,9 @@ use Rattle.vcpu_refill.specs.declared.offer.Offer.{Offer}
 use Rattle.vcpu_refill.specs.declared.fill.Choice.{Choice}
 use Rattle.vcpu_refill.specs.Order.{is_active_by, is_deliverable_to, is_deliverable_once_inactive, active_among, deliverable_among}
 use Rattle.vcpu_refill.specs.Ranking.{in_places}
-use Rattle.vcpu_refill.specs.Plan.{is_trapping, is_cut, active_choice, active_state, pending_choice, choices_of, plan_from}
+use Rattle.vcpu_refill.specs.Plan.{is_trapping, is_cut, active_choice, active_state, pending_choice, choices_of, plan, plan_from}
 use Rattle.vcpu_refill.specs.Laws.{IsPlanned, ComesAfter, offer_of, EveryActiveIsPlanned, EveryDeliverableIsPlanned, LeftOutComesAfter, BothLeavesNothingOut}
-use Rattle.vcpu_refill.proofs.ElementLemmas.{Contains-filter, Contains-map, Contains-nothing, map_cases, Contains-from_places, Contains-in_places}
+use Rattle.vcpu_refill.proofs.ElementLemmas.{Contains-here, Contains-filter, Contains-map, Contains-nothing, map_cases, Contains-from_places, Contains-in_places}
 use Rattle.vcpu_refill.proofs.OrderLemmas.{Contains-ordered, in_order, in_order-ordered, back_not_before, one_is_before}
 
 -- out of trap mode the choices are not more than the list registers
@@ -140,3 +141,31 @@ both_leaves offers vcpu cpu shape n chosen offer few has state among is =
     let deliverable = deliverable_among offers vcpu cpu shape in
     let mode = chosen_from active deliverable vcpu cpu shape n chosen has in
     every_deliverable offers vcpu cpu shape n offer few among is mode.0 (both_from active deliverable (is_cut active deliverable n) vcpu cpu shape n chosen mode.1 state)
+
+-- where something is cut off, an interrupt stands in a list register with State 1
+first_kept : (m : ℕ) (one : Offer) (offers : List Offer) → 1 ≤ m → Contains (take m (one ∷ offers)) one
+first_kept zero one offers l = absurd (omega (arith, l))
+first_kept (suc m) one offers l = Contains-here one (take m offers)
+
+cut_by : (active deliverable : List Offer) (vcpu : ℕ) (cpu : CpuRec) (shape : GuestShape) (n : ℕ) → n ≤ 16 → is_cut active deliverable n ≡ true
+    → (choice : Choice) × Contains (plan_from active deliverable vcpu cpu shape n).choice (Some choice) × (choice.entry.state ≡ Pending)
+cut_by active [] vcpu cpu shape n few cut = absurd (let less = ltb-true (n - length active) 0 (and_parts (not (is_trapping active [] n)) (nat_lt (n - length active) 0) cut).1 in omega (arith, less))
+cut_by active (one ∷ offers) vcpu cpu shape n few cut =
+    let parts = and_parts (not (is_trapping active (one ∷ offers) n)) (nat_lt (n - length active) (length (one ∷ offers))) cut in
+    let untrapped : is_trapping active (one ∷ offers) n ≡ false = not_true (is_trapping active (one ∷ offers) n) parts.0 in
+    let choices = choices_of active (one ∷ offers) (is_cut active (one ∷ offers) n) vcpu cpu shape n in
+    let fits : length active + min 1 (length (one ∷ offers)) ≤ n = grind (arith, common_steps, untrapped) in
+    let room : 1 ≤ n - length active = omega (arith, fits) in
+    (pending_choice one,
+      subst (λ b. Contains (in_places (if b then [] else choices)) (Some (pending_choice one))) (sym untrapped)
+      (Contains-in_places choices (pending_choice one) (omega (arith, few, choices_few active (one ∷ offers) (is_cut active (one ∷ offers) n) vcpu cpu shape n untrapped))
+      (Contains-append_right (map (active_choice (is_cut active (one ∷ offers) n) vcpu cpu shape) active) (map pending_choice (take (n - length active) (one ∷ offers))) (pending_choice one)
+      (Contains-map pending_choice (take (n - length active) (one ∷ offers)) one (first_kept (n - length active) one offers room)))),
+      refl)
+  where
+    not_true : (b : Bool) → not b ≡ true → b ≡ false
+    not_true true e = absurd (cc)
+    not_true false e = refl
+
+pub cut_leaves_pending : (offers : List Offer) (vcpu : ℕ) (cpu : CpuRec) (shape : GuestShape) (n : ℕ) → n ≤ 16 → (plan offers vcpu cpu shape n).cut ≡ true → (choice : Choice) × Contains (plan offers vcpu cpu shape n).choice (Some choice) × (choice.entry.state ≡ Pending)
+cut_leaves_pending offers vcpu cpu shape n few cut = cut_by (active_among offers vcpu) (deliverable_among offers vcpu cpu shape) vcpu cpu shape n few cut

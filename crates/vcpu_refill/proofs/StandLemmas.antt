@@ -92,7 +92,7 @@ stands_chosen choice fits whole =
     twice false c = refl
 
 -- elements through a map that may leave some out
-in_filter_map : {X Y : Type 0} (f : X → Option Y) (xs : List X) (x : X) (y : Y) → Contains xs x → f x ≡ Some y → Contains (filter_map f xs) y
+pub in_filter_map : {X Y : Type 0} (f : X → Option Y) (xs : List X) (x : X) (y : Y) → Contains xs x → f x ≡ Some y → Contains (filter_map f xs) y
 in_filter_map f [] x y has e = absurd (Contains-nothing x has)
 in_filter_map {Y = Y} f (z ∷ xs) x y has e = by_head (Contains-cases z x xs has) (λ later. in_filter_map f xs x y later e)
   where
@@ -104,7 +104,7 @@ in_filter_map {Y = Y} f (z ∷ xs) x y has e = by_head (Contains-cases z x xs ha
     by_head (inl same) rest = subst (λ o. Contains (cons_option o (filter_map f xs)) y) (sym (ap f same ∙ e)) (Contains-here y (filter_map f xs))
     by_head (inr later) rest = kept (f z) (rest later)
 
-from_filter_map : {X Y : Type 0} (f : X → Option Y) (xs : List X) (y : Y) → Contains (filter_map f xs) y → (x : X) × Contains xs x × (f x ≡ Some y)
+pub from_filter_map : {X Y : Type 0} (f : X → Option Y) (xs : List X) (y : Y) → Contains (filter_map f xs) y → (x : X) × Contains xs x × (f x ≡ Some y)
 from_filter_map f [] y has = absurd (Contains-nothing y has)
 from_filter_map {X = X} {Y = Y} f (z ∷ xs) y has = by_first (f z) refl has (from_filter_map f xs y)
   where

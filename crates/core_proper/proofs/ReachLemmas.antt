@@ -1,0 +1,55 @@
+-- What a claim leaves of a vCPU's own state, where the interrupt was not at its interface.
+use Rattle.std.proofs.Common.{◌≡◌, ℕ, ◌&&◌, Bool, true, false, cond, if◌then◌else◌, IsTrue, List, [], ◌∷◌, ◌++◌, Option, Some, None, is_none, is_some, refl, ap, ◌∙◌}
+use Rattle.std.specs.Option.{option_map_or}
+use Rattle.std.proofs.lemmas.Bool.{and_parts, eqb-true}
+use Rattle.gic_base.specs.declared.interrupt.Key.{Key}
+use Rattle.gic_base.specs.declared.shape.GuestShape.{GuestShape}
+use Rattle.gic_base.specs.Interrupt.{is_same_key}
+use Rattle.gic_base.proofs.KeyLemmas.{same_itself}
+use Rattle.gic_call.specs.declared.moves.Moved.{Moved}
+use Rattle.gic_call.specs.Move.{reached, taken}
+use Rattle.gic_prio.specs.declared.cpu.CpuRec.{CpuRec}
+use Rattle.gic_prio.specs.Delivery.{is_deliverable, is_group_enabled, takes_kind}
+use Rattle.gic_word.specs.declared.record.Irq.{Irq as IrqRecord}
+use Rattle.gic_word.specs.Record.{is_number, is_ripe}
+use Rattle.port_core.specs.declared.at_list.AtIrq.{AtIrq}
+use Rattle.port_core.specs.declared.local.Local.{Local}
+use Rattle.port_core.specs.After.{claimed_at}
+use Rattle.port_core.specs.Effect.{moved_of}
+use Rattle.port_core.specs.Local.{entry_for, changed_at, with_entry, arrived, settled}
+
+pub number_is : (n : ℕ) (o : Option ℕ) → IsTrue (is_number n o) → o ≡ Some n
+number_is n None h = absurd (cc)
+number_is n (Some m) h = ap Some (eqb-true m n h)
+
+pub none_is : (o : Option ℕ) → is_none o ≡ true → o ≡ None
+none_is None e = refl
+none_is (Some n) e = absurd (cc)
+
+-- an interrupt that is deliverable is inactive
+pub inactive : (key : Key) (irq : IrqRecord) (vcpu : ℕ) (cpu : CpuRec) (shape : GuestShape) → IsTrue (is_deliverable key irq vcpu cpu shape) → is_none irq.act_by ≡ true
+inactive key irq vcpu cpu shape h =
+    let kind = and_parts (is_ripe irq vcpu shape && is_none irq.act_by && is_group_enabled irq.group cpu) (takes_kind key cpu) h in
+    let group = and_parts (is_ripe irq vcpu shape && is_none irq.act_by) (is_group_enabled irq.group cpu) kind.0 in
+    (and_parts (is_ripe irq vcpu shape) (is_none irq.act_by) group.0).1
+
+-- an interrupt got to the interface
+pub reached_local : (shape : GuestShape) (actor : ℕ) (key : Key) (irq : IrqRecord) (local : Local) → entry_for key local.at ≡ None
+    → claimed_at shape actor key irq local ≡ record local { cands = settled shape actor key local.cands; at = local.at ++ arrived key irq (reached irq).entry ∷ [] }
+reached_local shape actor key irq local free =
+    let moved : Option AtIrq → Moved = λ o. option_map_or (λ entry. taken (moved_of irq entry)) o (record (reached irq) { irq = record (reached irq).irq { holder = Some actor } }) in
+    let by : Option AtIrq → Local = λ o.
+    record local {
+      cands = settled shape actor key local.cands;
+      at = if is_some o then changed_at (λ entry. record (with_entry entry (moved o).entry) { consumed = false }) key local.at else local.at ++ arrived key irq (moved o).entry ∷ [];
+    } in
+    ap by free
+
+-- it is there
+pub entry_added : (key : Key) (at : List AtIrq) (one : AtIrq) → one.key ≡ key → entry_for key at ≡ None → entry_for key (at ++ one ∷ []) ≡ Some one
+entry_added key [] one is free = ap (λ b. cond b (Some one) None) (ap (λ other. is_same_key other key) is ∙ same_itself key)
+entry_added key (other ∷ at) one is free = of (is_same_key other.key key) refl free (entry_added key at one is)
+  where
+    of : (b : Bool) → is_same_key other.key key ≡ b → cond b (Some other) (entry_for key at) ≡ None → (entry_for key at ≡ None → entry_for key (at ++ one ∷ []) ≡ Some one) → cond (is_same_key other.key key) (Some other) (entry_for key (at ++ one ∷ [])) ≡ Some one
+    of true e f later = absurd (cc)
+    of false e f later = ap (λ b. cond b (Some other) (entry_for key (at ++ one ∷ []))) e ∙ later f

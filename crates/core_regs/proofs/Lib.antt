@@ -1,0 +1,13 @@
+pub mod ShowLemmas
+pub mod KeyLemmas
+pub mod ComeLemmas
+pub mod ClaimSteps
+pub mod TakeSteps
+pub mod AloneLemmas
+pub mod FillLemmas
+pub mod EndLemmas
+pub mod LookSteps
+pub mod StandLemmas
+pub mod StandSteps
+pub mod StandRuns
+pub mod MisrLemmas

@@ -1,0 +1,6 @@
+//! What the list registers of a vCPU show in every proper run of the core.
+#![tactic(auto)]
+
+mod laws;
+
+pub use laws::registers_stand;
