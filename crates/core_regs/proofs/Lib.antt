@@ -11,3 +11,6 @@ pub mod StandLemmas
 pub mod StandSteps
 pub mod StandRuns
 pub mod MisrLemmas
+pub mod AskFill
+pub mod AskLemmas
+pub mod AskSteps
