@@ -1,5 +1,5 @@
 -- The registers that a plan fills ask for what they are to, and assert nothing.
-use Rattle.std.proofs.Common.{◌≡◌, ◌≢◌, ℕ, zero, suc, ◌+◌, ◌^◌, ◌<◌, ◌≤◌, ◌⊎◌, inl, inr, not, ◌&&◌, ◌||◌, true≢false, Bool, true, false, if◌then◌else◌, List, [], ◌∷◌, map, take, Contains, All, AllPairs, Option, Some, None, is_some, slice_index_or, refl, sym, ap, subst, ◌∙◌, arith}
+use Rattle.std.proofs.Common.{◌≡◌, ◌≢◌, ℕ, zero, suc, ◌+◌, ◌^◌, ◌≤◌, inl, inr, not, ◌&&◌, ◌||◌, Bool, true, false, if◌then◌else◌, List, [], ◌∷◌, map, take, Contains, All, AllPairs, Option, Some, None, is_some, slice_index_or, refl, sym, ap, subst, ◌∙◌}
 use Rattle.std.specs.List.{list_any}
 use Rattle.std.proofs.lemmas.List.Folds.{list_any_at}
 use Rattle.gic_base.specs.declared.shape.GuestShape.{GuestShape}
@@ -15,7 +15,6 @@ use Rattle.gic_lr.specs.declared.entry.LrState.{LrState}
 use Rattle.gic_lr.specs.declared.entry.LrState.TheVariants.{Invalid, Pending, Active, Both}
 use Rattle.gic_lr.specs.Entry.{packed, state_has_active, state_has_pending, unpacked}
 use Rattle.gic_lr.specs.Status.{has_ended, is_invalid}
-use Rattle.gic_prio.specs.declared.cpu.CpuRec.{CpuRec}
 use Rattle.gic_prio.specs.Priority.{HasBinaryPoints}
 use Rattle.vcpu_refill.specs.declared.fill.Choice.{Choice}
 use Rattle.vcpu_refill.specs.declared.fill.Fill.{Fill}

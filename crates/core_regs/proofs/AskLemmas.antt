@@ -1,5 +1,5 @@
 -- What a vCPU's registers ask for, by how far its scan is.
-use Rattle.std.proofs.Common.{◌≡◌, ℕ, ◌+◌, ◌%◌, ◌/◌, ◌^◌, ◌<◌, ◌≤◌, ◌==◌, ◌||◌, true≢false, Bool, true, false, if◌then◌else◌, IsTrue, List, [], ◌∷◌, Option, Some, None, is_none, set, get_or, refl, sym, ap, subst, ◌∙◌, arith}
+use Rattle.std.proofs.Common.{◌≡◌, ℕ, ◌+◌, ◌%◌, ◌/◌, ◌^◌, ◌≤◌, ◌==◌, true≢false, Bool, true, false, if◌then◌else◌, IsTrue, List, [], ◌∷◌, Option, Some, None, is_none, set, get_or, refl, sym, ap, subst, ◌∙◌, arith}
 use Rattle.std.specs.List.{position}
 use Rattle.std.specs.Option.{option_map_or}
 use Rattle.gic_base.specs.declared.icc.IccReg.{IccReg}
@@ -7,7 +7,6 @@ use Rattle.gic_base.specs.declared.interrupt.Key.{Key}
 use Rattle.gic_base.specs.declared.shape.GuestShape.{GuestShape}
 use Rattle.gic_base.specs.Interrupt.{intid_of}
 use Rattle.gic_base.specs.Shape.{IsShape}
-use Rattle.gic_bits.specs.Bits.{has_bit}
 use Rattle.gic_ich.specs.declared.regs.IchRegs.{IchRegs}
 use Rattle.gic_ich.specs.Place.{seen_in}
 use Rattle.gic_ich.specs.Regs.{listed_of}
@@ -19,7 +18,6 @@ use Rattle.gic_prio.specs.declared.candidate.Candidate.{Candidate}
 use Rattle.gic_prio.specs.declared.cpu.CpuRec.{CpuRec}
 use Rattle.gic_prio.specs.Access.{deactivated_by, taken_by}
 use Rattle.vcpu_refill.specs.declared.offer.Offer.{Offer}
-use Rattle.port_core.specs.declared.local.Local.{Local}
 use Rattle.port_core.specs.Condition.{is_ready}
 use Rattle.port_core.specs.Local.{has_no_cand}
 use Rattle.port_core.specs.Place.{index_words}
@@ -33,9 +31,9 @@ use Rattle.core_regs.proofs.AskFill.{plan_mirrors, plan_quiet}
 use Rattle.core_regs.proofs.LookSteps.{IsLooking, looks_at_none}
 use Rattle.core_regs.proofs.StandLemmas.{Standing}
 
--- out of trap mode, where no scan is owed, the groups' changes are asked for; and once the vCPU may do accesses and claimed all, none is asserted
+-- where a vCPU may do accesses, out of trap mode and with no scan owed, the groups' changes are asked for; and once it claimed all, none is asserted
 abbrev pub Asking : GuestShape → CoreState → ℕ → Bool → Progress → Type 0
-Asking shape state vcpu ready p = p.trapping ≡ false → IsTrue (is_paid p.debt) → IsMirrored p.regs.hcr p.local.cpu × (IsTrue ready → HasAll shape state vcpu p → misr_of p.regs ≡ 0)
+Asking shape state vcpu ready p = IsTrue ready → p.trapping ≡ false → IsTrue (is_paid p.debt) → IsMirrored p.regs.hcr p.local.cpu × (HasAll shape state vcpu p → misr_of p.regs ≡ 0)
 
 -- a scan fills the registers by the plan, or is one of trap mode, or one after which another is owed
 abbrev pub IsMeant : Purpose → Progress → Type 0
@@ -53,18 +51,18 @@ Asks shape state vcpu p (claiming claims takes) = Asking shape state vcpu true p
 pub asking_as :
     (shape : GuestShape) (state later : CoreState) (vcpu : ℕ) (ready now : Bool) (p q : Progress) → q.regs ≡ p.regs → q.local.cpu ≡ p.local.cpu → q.trapping ≡ p.trapping → (IsTrue (is_paid q.debt) → IsTrue (is_paid p.debt)) → (IsTrue now → IsTrue ready) → (HasAll shape later vcpu q → HasAll shape state vcpu p)
     → Asking shape state vcpu ready p → Asking shape later vcpu now q
-asking_as shape state later vcpu ready now p q regs cpu trapping debt phase all before = λ untrapped paid.
-    let was = before (sym trapping ∙ untrapped) (debt paid) in
-    (subst (λ c. IsMirrored q.regs.hcr c) (sym cpu) (subst (λ (r : IchRegs). IsMirrored r.hcr p.local.cpu) (sym regs) was.0), λ is has. ap misr_of regs ∙ was.1 (phase is) (all has))
+asking_as shape state later vcpu ready now p q regs cpu trapping debt phase all before = λ is untrapped paid.
+    let was = before (phase is) (sym trapping ∙ untrapped) (debt paid) in
+    (subst (λ c. IsMirrored q.regs.hcr c) (sym cpu) (subst (λ (r : IchRegs). IsMirrored r.hcr p.local.cpu) (sym regs) was.0), λ has. ap misr_of regs ∙ was.1 (all has))
 
 -- A scan that has come so far goes on.
 
 module _ (shape : GuestShape) (good : IsShape shape) (state : CoreState) (vcpu : ℕ) (q : Progress) (few : q.lrs ≤ 16) (is_local : IsLocal shape vcpu q.local) where
   fills : (purpose : Purpose) (from : ℕ) (offers : List Offer) → IsLooking shape vcpu q.local q.own from offers → IsMeant purpose q → let on = filled shape vcpu purpose offers q in Asks shape state vcpu on on.scan
-  fills planned from offers is meant = λ untrapped paid.
-      (plan_mirrors shape good vcpu q.lrs few q.local is.empty q.own offers is.each is.apart untrapped, λ ready all. plan_quiet shape good vcpu q.lrs few q.local is.empty q.own offers is.each is.apart untrapped is_local.points)
-  fills trapped from offers is meant = λ untrapped paid. absurd (true≢false (sym meant ∙ untrapped))
-  fills bare from offers is meant = λ untrapped paid. absurd (true≢false (sym paid ∙ meant))
+  fills planned from offers is meant = λ ready untrapped paid.
+      (plan_mirrors shape good vcpu q.lrs few q.local is.empty q.own offers is.each is.apart untrapped, λ all. plan_quiet shape good vcpu q.lrs few q.local is.empty q.own offers is.each is.apart untrapped is_local.points)
+  fills trapped from offers is meant = λ ready untrapped paid. absurd (true≢false (sym meant ∙ untrapped))
+  fills bare from offers is meant = λ ready untrapped paid. absurd (true≢false (sym paid ∙ meant))
 
   looks_at : (purpose : Purpose) (from : ℕ) (offers : List Offer) → IsLooking shape vcpu q.local q.own from offers → IsMeant purpose q → let on = looks_on shape vcpu purpose from offers q in Asks shape state vcpu on on.scan
   looks_at purpose from offers is meant = of (is_none (next_cand shape vcpu q.local.cands from))

@@ -1,5 +1,5 @@
 -- A vCPU's own steps keep what its registers ask for.
-use Rattle.std.proofs.Common.{◌≡◌, ◌≢◌, ℕ, ◌<◌, ◌==◌, ◌&&◌, ◌||◌, true≢false, not, Bool, true, false, IsTrue, List, [], ◌∷◌, ◌++◌, Option, Some, None, unwrap_or, if◌then◌else◌, refl, sym, ap, subst, ◌∙◌}
+use Rattle.std.proofs.Common.{◌≡◌, ℕ, ◌<◌, ◌==◌, ◌&&◌, ◌||◌, true≢false, not, Bool, true, false, IsTrue, List, [], ◌∷◌, ◌++◌, Option, Some, None, unwrap_or, if◌then◌else◌, refl, sym, ap, subst, ◌∙◌}
 use Rattle.std.proofs.lemmas.Bool.{and_parts, eqb-true}
 use Rattle.gic_base.specs.declared.icc.IccReg.{IccReg}
 use Rattle.gic_base.specs.declared.interrupt.Key.{Key}
@@ -27,13 +27,13 @@ use Rattle.port_core.specs.Condition.{is_ready}
 use Rattle.port_core.specs.Effect.{succeeds}
 use Rattle.port_core.specs.Forms.{vcpu_of}
 use Rattle.port_core.specs.Local.{settled, owing_both}
-use Rattle.port_core.specs.Run.{CoreState, seat_at, word_in}
+use Rattle.port_core.specs.Run.{CoreState, seat_at}
 use Rattle.port_core.specs.Valid.{IsLocal}
 use Rattle.core_proper.specs.Laws.{IsSeatOf}
-use Rattle.core_proper.specs.Progress.{Progress, Debt, paid, after_end, before_next, after_claim, after_icc, after_poll, begun, changed_by, claim_left, is_paid, is_to_scan, owing_after}
+use Rattle.core_proper.specs.Progress.{Progress, Debt, paid, before_next, after_claim, after_icc, after_poll, begun, claim_left, is_paid, is_to_scan}
 use Rattle.core_proper.specs.Proper.{IsProperStep, is_empty}
-use Rattle.core_proper.specs.Registers.{after_operation, RegistersAgree, without_claim, without_take}
-use Rattle.core_proper.specs.Scan.{Purpose, planned, trapped, bare, Scan, idle, taking, looking, claiming, has_key, is_idle, scan_allows, scan_looked, tried, word_taken}
+use Rattle.core_proper.specs.Registers.{after_operation, without_claim, without_take}
+use Rattle.core_proper.specs.Scan.{Purpose, planned, trapped, bare, Scan, idle, taking, looking, claiming, has_key, is_idle, scan_allows, scan_looked, word_taken}
 use Rattle.core_laws.proofs.AfterLemmas.{later}
 use Rattle.core_laws.proofs.KickSteps.{is_kick_of, is_poll_by, unkicked_before}
 use Rattle.core_laws.proofs.StepContext.{one, IsStep}
@@ -95,17 +95,17 @@ module _ (shape : GuestShape) (state : CoreState) (ideal : Ideal) (vcpu found le
   -- an access
   access_asks : (reg : IccReg) (write : Option ℕ) (is : IsStep shape state ideal vcpu (Poll (Some reg) write) found left tables) → p.scan ≡ idle → HasBinaryPoints (accessed reg write p.local).cpu → Asks shape state vcpu p p.scan
       → let q = record (after_icc reg write p) { local = accessed reg write p.local; own = p.own ++ made_by (Poll (Some reg) write) ∷ [] } in Asking shape (later is) vcpu true q
-  access_asks reg write is e points asks untrapped owed =
+  access_asks reg write is e points asks now_ready untrapped owed =
       let regs = after_operation p.trapping reg write p.regs in
       let before = paid_before regs p.trapping p.debt owed in
       let ready : IsTrue (is_ready p.local.phase) = subst (λ (l : Local). IsTrue (is_ready l.phase)) (sym seat.local) is.takes.meets in
-      let was = (subst (Asks shape state vcpu p) e asks) untrapped before in
+      let was = subst (Asks shape state vcpu p) e asks ready untrapped before in
       let agrees = access_agrees shape vcpu p.trapping reg write p.regs p.local is.good is_local (subst (Standing false shape vcpu p) e stands ready before) in
       let misr = quiet_after regs p.trapping p.debt owed in
       let mirrored : IsMirrored regs.hcr p.local.cpu = subst (λ t. IsMirrored (after_operation t reg write p.regs).hcr p.local.cpu) (sym untrapped) (mirrors_after reg write p.regs p.local.cpu was.0) in
       let held = holds_groups regs (accessed reg write p.local).cpu points agrees.holds in
       let groups = groups_kept regs agrees.holds.enabled misr p.local.cpu (accessed reg write p.local).cpu mirrored held.0 held.1 in
-      (mirrors_same regs.hcr p.local.cpu (accessed reg write p.local).cpu groups.0 groups.1 mirrored, λ now_ready all. misr)
+      (mirrors_same regs.hcr p.local.cpu (accessed reg write p.local).cpu groups.0 groups.1 mirrored, λ all. misr)
 
   poll_asks : (reg : Option IccReg) (write : Option ℕ) (is : IsStep shape state ideal vcpu (Poll reg write) found left tables) → p.scan ≡ idle → HasBinaryPoints (now (Poll reg write)).local.cpu → Asks shape state vcpu p p.scan → Asks shape (later is) vcpu (now (Poll reg write)) (now (Poll reg write)).scan
   poll_asks None write is e points asks = of (unwrap_or p.far false)
@@ -119,7 +119,7 @@ module _ (shape : GuestShape) (state : CoreState) (ideal : Ideal) (vcpu found le
           → let q = record (after_poll (Some reg) write b p) { local = if b then record p.local { phase = Folding } else accessed reg write p.local; own = p.own ++ made_by (Poll (Some reg) write) ∷ [] } in Asks shape (later is) vcpu q q.scan
       of true points =
           let q : Progress = record (after_poll (Some reg) write true p) { local = record p.local { phase = Folding }; own = p.own ++ made_by (Poll (Some reg) write) ∷ [] } in
-          subst (Asks shape (later is) vcpu q) (sym e) (λ untrapped owed. ((subst (Asks shape state vcpu p) e asks untrapped owed).0, λ ready all. absurd (true≢false (sym ready))))
+          subst (Asks shape (later is) vcpu q) (sym e) (λ ready. absurd (true≢false (sym ready)))
       of false points = subst (Asks shape (later is) vcpu (record (after_poll (Some reg) write false p) { local = accessed reg write p.local; own = p.own ++ made_by (Poll (Some reg) write) ∷ [] })) (sym e) (access_asks reg write is e points asks)
 
   idle_asks : (step : CoreStep) (is : IsStep shape state ideal vcpu step found left tables) → p.scan ≡ idle → IsProperStep shape vcpu p step → HasBinaryPoints (now step).local.cpu → Asks shape state vcpu p p.scan → Asks shape (later is) vcpu (now step) (now step).scan
@@ -134,7 +134,7 @@ module _ (shape : GuestShape) (state : CoreState) (ideal : Ideal) (vcpu found le
   idle_asks (Claim key seen) is e proper points asks =
       let done = succeeds shape vcpu p.local (Claim key seen) found in
       let by : Scan → Progress = λ s. record (after_claim key (irq_of found) done s p) { local = local_after shape vcpu p.local (Claim key seen) found; own = p.own ++ made_by (Claim key seen) ∷ [] } in
-      subst (λ s. Asks shape (later is) vcpu (by s) (by s).scan) (sym e) (subst (Asks shape (later is) vcpu (by idle)) (sym e) (λ untrapped owed. absurd (true≢false (sym (unpaid_end false p.debt owed)))))
+      subst (λ s. Asks shape (later is) vcpu (by s) (by s).scan) (sym e) (subst (Asks shape (later is) vcpu (by idle)) (sym e) (λ ready untrapped owed. absurd (true≢false (sym (unpaid_end false p.debt owed)))))
   idle_asks (GiveBack key back) is e proper points asks = quiet_idle (GiveBack key back) is e asks refl (λ f k. f) refl refl refl refl (λ h. h) (λ h. absurd (true≢false (sym h)))
   idle_asks (Release key) is e proper points asks = quiet_idle (Release key) is e asks refl (λ f k. f) refl refl refl refl (λ h. h) (λ h. h)
   idle_asks (Poll reg write) is e proper points asks = poll_asks reg write is e points asks
@@ -225,7 +225,7 @@ module _ (shape : GuestShape) (state : CoreState) (ideal : Ideal) (vcpu found le
       of false =
           let q : Progress = record (after_claim key (irq_of found) false (claiming claims takes) p) { local = p.local; own = p.own ++ made_by (Claim key seen) ∷ [] } in
           as_claiming q (has_key key claims) _ _ _ _
-          (λ untrapped owed. (subst (λ hcr. IsMirrored hcr p.local.cpu) (sym (left_hcr key false claims p.regs)) (asking untrapped owed).0, λ ready all. absurd (or_true p.failed all.none_failed)))
+          (λ ready untrapped owed. (subst (λ hcr. IsMirrored hcr p.local.cpu) (sym (left_hcr key false claims p.regs)) (asking ready untrapped owed).0, λ all. absurd (or_true p.failed all.none_failed)))
 
   quiet_claiming : (claims takes : List Key) (step : CoreStep) (is : IsStep shape state ideal vcpu step found left tables) → p.scan ≡ claiming claims takes → Asking shape state vcpu true p → is_poll_by vcpu vcpu step ≡ false → ((now step).failed ≡ false → is_kick_of vcpu step ≡ false → p.failed ≡ false) → (now step).scan ≡ p.scan → (now step).regs ≡ p.regs
       → (now step).local.cpu ≡ p.local.cpu → (now step).trapping ≡ p.trapping → (now step).debt ≡ p.debt → Asks shape (later is) vcpu (now step) (now step).scan

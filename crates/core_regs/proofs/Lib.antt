@@ -14,3 +14,4 @@ pub mod MisrLemmas
 pub mod AskFill
 pub mod AskLemmas
 pub mod AskSteps
+pub mod AskRuns
