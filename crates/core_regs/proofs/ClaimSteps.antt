@@ -70,7 +70,7 @@ active_comes vcpu c (inr is) both =
     (ap (λ o. (e (record c.irq { act_by = o })).active) some, ap (λ o. (e (record c.irq { act_by = o })).pending) some)
 
 -- a choice is pending or active
-right_lives : (vcpu : ℕ) (c : Choice) → IsRight vcpu c → lives (seen_choice c) ≡ true
+pub right_lives : (vcpu : ℕ) (c : Choice) → IsRight vcpu c → lives (seen_choice c) ≡ true
 right_lives vcpu c (inl pending) = ap (λ state. state_has_pending state || state_has_active state) pending.0
 right_lives vcpu c (inr is) = of (state_has_pending c.entry.state) (state_has_active c.entry.state) is.0
   where

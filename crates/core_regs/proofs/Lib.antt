@@ -11,3 +11,7 @@ pub mod StandLemmas
 pub mod StandSteps
 pub mod StandRuns
 pub mod MisrLemmas
+pub mod AskFill
+pub mod AskLemmas
+pub mod AskSteps
+pub mod AskRuns

@@ -1,5 +1,5 @@
 -- ICH_MISR: when it is 0, and what that says of ICH_HCR, of the groups and of the list registers.
-use Rattle.std.proofs.Common.{◌≡◌, ℕ, zero, suc, ◌+◌, ◌*◌, ◌/◌, ◌%◌, ◌^◌, ◌<◌, ◌==◌, ◌&&◌, not, Bool, true, false, nat_le, IsTrue, List, [], ◌∷◌, length, filter, get_or, Contains, inl, inr, if◌then◌else◌, refl, sym, ap, subst, ◌∙◌, arith}
+use Rattle.std.proofs.Common.{◌≡◌, ℕ, ◌+◌, ◌==◌, ◌&&◌, not, Bool, true, false, nat_le, List, [], ◌∷◌, length, filter, Contains, inl, inr, if◌then◌else◌, refl, sym, ap, ◌∙◌, arith}
 use Rattle.std.specs.List.{list_any}
 use Rattle.std.proofs.lemmas.Bool.{eqb-true}
 use Rattle.vcpu_refill.proofs.ElementLemmas.{Contains-here, Contains-there, Contains-cases, Contains-nothing}
@@ -9,9 +9,8 @@ use Rattle.gic_ich.specs.Hcr.{hcr_en, hcr_uie, hcr_lrenpie, hcr_npie, hcr_vgrp0e
 use Rattle.gic_ich.specs.Place.{HoldCpu}
 use Rattle.gic_ich.specs.Regs.{listed_of}
 use Rattle.gic_ich.specs.Status.{asked, entries_part, groups_part, is_pending, is_valid, misr_of}
-use Rattle.gic_ich.specs.Vmcr.{veng0, veng1, vmcr_of}
-use Rattle.gic_icv.specs.Registers.{cpu_in}
-use Rattle.gic_icv.proofs.CpuLemmas.{deaf, holds}
+use Rattle.gic_ich.specs.Vmcr.{veng0, veng1}
+use Rattle.gic_icv.proofs.CpuLemmas.{holds}
 use Rattle.gic_lr.specs.Status.{bits_where, has_ended}
 use Rattle.gic_prio.specs.declared.cpu.CpuRec.{CpuRec}
 use Rattle.gic_prio.specs.Priority.{HasBinaryPoints}
@@ -101,9 +100,10 @@ module _ (regs : IchRegs) (enabled : has_bit regs.hcr hcr_en ≡ true) (misr : m
 
   -- so the registers that asked for changes of a record's enables hold one with the same enables
   pub groups_kept : (cpu after : CpuRec) → IsMirrored regs.hcr cpu → has_bit regs.vmcr veng0 ≡ after.en0 → has_bit regs.vmcr veng1 ≡ after.en1 → (after.en0 ≡ cpu.en0) × (after.en1 ≡ cpu.en1)
-  groups_kept cpu after mirrored en0 en1 =
-      (same cpu.en0 after.en0 (has_bit regs.hcr hcr_vgrp0eie) (has_bit regs.hcr hcr_vgrp0die) (has_bit regs.vmcr veng0) mirrored.enabled0 mirrored.disabled0 en0 (no_bit _ (omega (arith, sum))) (no_bit _ (omega (arith, sum))),
-        same cpu.en1 after.en1 (has_bit regs.hcr hcr_vgrp1eie) (has_bit regs.hcr hcr_vgrp1die) (has_bit regs.vmcr veng1) mirrored.enabled1 mirrored.disabled1 en1 (no_bit _ (omega (arith, sum))) (no_bit _ (omega (arith, sum))))
+  groups_kept cpu after mirrored en0 en1 = (
+    same cpu.en0 after.en0 (has_bit regs.hcr hcr_vgrp0eie) (has_bit regs.hcr hcr_vgrp0die) (has_bit regs.vmcr veng0) mirrored.enabled0 mirrored.disabled0 en0 (no_bit _ (omega (arith, sum))) (no_bit _ (omega (arith, sum))),
+    same cpu.en1 after.en1 (has_bit regs.hcr hcr_vgrp1eie) (has_bit regs.hcr hcr_vgrp1die) (has_bit regs.vmcr veng1) mirrored.enabled1 mirrored.disabled1 en1 (no_bit _ (omega (arith, sum))) (no_bit _ (omega (arith, sum))),
+  )
     where
       same : (old new enables disables now : Bool) → enables ≡ not old → disables ≡ old → now ≡ new → (enables && now) ≡ false → (disables && not now) ≡ false → new ≡ old
       same true true enables disables now e d n a b = refl

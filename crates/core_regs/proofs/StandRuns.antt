@@ -89,16 +89,16 @@ lrs_changed shape vcpu (Look (Plain i)) found done p = refl
 lrs_changed shape vcpu (Look (Index v n)) found done p = refl
 lrs_changed shape vcpu step found done p = refl
 
-lrs_made : (shape : GuestShape) (vcpu : ℕ) (made : Made) (p : Progress) → (after_made shape vcpu made p).lrs ≡ p.lrs
+pub lrs_made : (shape : GuestShape) (vcpu : ℕ) (made : Made) (p : Progress) → (after_made shape vcpu made p).lrs ≡ p.lrs
 lrs_made shape vcpu made p = lrs_changed shape vcpu made.step made.found (succeeds shape vcpu p.local made.step made.found) p
 
 -- the begin and the end of a part
-paid_begun : (operation : Operation) (debt : Debt) → IsTrue (is_paid (owed_by_call operation debt)) → IsTrue (is_paid debt)
+pub paid_begun : (operation : Operation) (debt : Debt) → IsTrue (is_paid (owed_by_call operation debt)) → IsTrue (is_paid debt)
 paid_begun (Access (Icc reg write)) debt h = h
 paid_begun (Access (Mem frame offset size write)) debt h = absurd (cc)
 paid_begun operation debt h = h
 
-paid_ended : (debt : Debt) → IsTrue (is_paid (owed_after_part debt)) → IsTrue (is_paid debt)
+pub paid_ended : (debt : Debt) → IsTrue (is_paid (owed_after_part debt)) → IsTrue (is_paid debt)
 paid_ended paid h = refl
 paid_ended after_end h = absurd (cc)
 paid_ended before_next h = absurd (cc)

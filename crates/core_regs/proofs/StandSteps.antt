@@ -92,7 +92,7 @@ given_there key (first ∷ at) entry e given whole = of (is_same_key first.key k
     of true e parts later = true≢false (sym parts.0 ∙ ap (λ (x : AtIrq). not x.given) (same_Some first entry e) ∙ ap not given)
     of false e parts later = later e given parts.1
 
-either : {X : Type 0} (part : Local → X) (b : Bool) (x y : Local) → part x ≡ part y → part (if b then x else y) ≡ part y
+pub either : {X : Type 0} (part : Local → X) (b : Bool) (x y : Local) → part x ≡ part y → part (if b then x else y) ≡ part y
 either part true x y e = e
 either part false x y e = refl
 
@@ -102,7 +102,7 @@ pub or_paid : (finds : Bool) (d e : Debt) → (IsTrue (is_paid d) → IsTrue (is
 or_paid true d e to h = refl
 or_paid false d e to h = to h
 
-paid_before : (regs : IchRegs) (trapping : Bool) (debt : Debt) → IsTrue (is_paid (if is_to_scan regs trapping debt then before_next else paid)) → IsTrue (is_paid debt)
+pub paid_before : (regs : IchRegs) (trapping : Bool) (debt : Debt) → IsTrue (is_paid (if is_to_scan regs trapping debt then before_next else paid)) → IsTrue (is_paid debt)
 paid_before regs trapping debt h = of (not (misr_of regs == 0)) trapping debt h
   where
     of : (a b : Bool) (debt : Debt) → IsTrue (is_paid (if a || b || not (is_paid debt) then before_next else paid)) → IsTrue (is_paid debt)
@@ -112,7 +112,7 @@ paid_before regs trapping debt h = of (not (misr_of regs == 0)) trapping debt h
     of false false after_end h = absurd (cc)
     of false false before_next h = absurd (cc)
 
-unpaid_end : (finds : Bool) (debt : Debt) → IsTrue (finds || is_paid (owing_after debt)) → IsTrue finds
+pub unpaid_end : (finds : Bool) (debt : Debt) → IsTrue (finds || is_paid (owing_after debt)) → IsTrue finds
 unpaid_end true debt h = refl
 unpaid_end false paid h = absurd (cc)
 unpaid_end false after_end h = absurd (cc)

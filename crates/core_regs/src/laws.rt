@@ -1,4 +1,5 @@
 //! Laws of every proper run of the core.
+ghost use Rattle.core_regs.specs.Asks.{GroupsMirrored, NoneAsserted};
 ghost use Rattle.core_regs.specs.Stands.{RegistersStand};
 
 /// A law of every proper run, of a vCPU that may do accesses and owes no scan, or that found each interrupt active that it took
@@ -7,4 +8,17 @@ ghost use Rattle.core_regs.specs.Stands.{RegistersStand};
 /// State other than 0.
 pub fn registers_stand()
     ensures { RegistersStand }
+{}
+
+/// A law of every proper run, of a vCPU that may do accesses, is not in trap mode and owes no scan: its registers ask for the
+/// maintenance interrupt of each change of a group's enable, that it is enabled where it is not, and that it is disabled where
+/// it is. So an access that changes an enable asserts one, and a scan is owed.
+pub fn groups_mirrored()
+    ensures { GroupsMirrored }
+{}
+
+/// A law of every proper run, of such a vCPU that is not kicked and of which no claim failed: no maintenance interrupt is
+/// asserted. So where that of no pending interrupt is asked for, some list register has State 1, and none has an end to be seen.
+pub fn none_asserted()
+    ensures { NoneAsserted }
 {}

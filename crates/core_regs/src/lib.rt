@@ -3,4 +3,4 @@
 
 mod laws;
 
-pub use laws::registers_stand;
+pub use laws::{groups_mirrored, none_asserted, registers_stand};

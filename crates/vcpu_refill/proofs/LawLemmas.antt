@@ -155,13 +155,14 @@ cut_by active (one ∷ offers) vcpu cpu shape n few cut =
     let untrapped : is_trapping active (one ∷ offers) n ≡ false = not_true (is_trapping active (one ∷ offers) n) parts.0 in
     let choices = choices_of active (one ∷ offers) (is_cut active (one ∷ offers) n) vcpu cpu shape n in
     let fits : length active + min 1 (length (one ∷ offers)) ≤ n = grind (arith, common_steps, untrapped) in
-    let room : 1 ≤ n - length active = omega (arith, fits) in
-    (pending_choice one,
+    let room : 1 ≤ n - length active = omega (arith, fits) in (
+      pending_choice one,
       subst (λ b. Contains (in_places (if b then [] else choices)) (Some (pending_choice one))) (sym untrapped)
-      (Contains-in_places choices (pending_choice one) (omega (arith, few, choices_few active (one ∷ offers) (is_cut active (one ∷ offers) n) vcpu cpu shape n untrapped))
-      (Contains-append_right (map (active_choice (is_cut active (one ∷ offers) n) vcpu cpu shape) active) (map pending_choice (take (n - length active) (one ∷ offers))) (pending_choice one)
-      (Contains-map pending_choice (take (n - length active) (one ∷ offers)) one (first_kept (n - length active) one offers room)))),
-      refl)
+          (Contains-in_places choices (pending_choice one) (omega (arith, few, choices_few active (one ∷ offers) (is_cut active (one ∷ offers) n) vcpu cpu shape n untrapped))
+          (Contains-append_right (map (active_choice (is_cut active (one ∷ offers) n) vcpu cpu shape) active) (map pending_choice (take (n - length active) (one ∷ offers))) (pending_choice one)
+          (Contains-map pending_choice (take (n - length active) (one ∷ offers)) one (first_kept (n - length active) one offers room)))),
+      refl,
+    )
   where
     not_true : (b : Bool) → not b ≡ true → b ≡ false
     not_true true e = absurd (cc)
