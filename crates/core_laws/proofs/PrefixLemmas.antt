@@ -19,7 +19,7 @@ use Rattle.core_laws.proofs.HistorySteps.{run_leads}
 entries_both : (early late : List CoreMoment) → entries_of (early ++ late) ≡ entries_of early ++ entries_of late
 entries_both early late = filter_map-append (λ (moment : CoreMoment). option_map (entry_by moment.actor) (step_of moment.act)) early late
 
-own_both : (actor : ℕ) (early late : List CoreMoment) → own_acts actor (early ++ late) ≡ own_acts actor early ++ own_acts actor late
+pub own_both : (actor : ℕ) (early late : List CoreMoment) → own_acts actor (early ++ late) ≡ own_acts actor early ++ own_acts actor late
 own_both actor early late =
     ap (map (λ (moment : CoreMoment). moment.act)) (filter-append (λ (moment : CoreMoment). moment.actor == actor) early late)
     ∙ map-append (λ (moment : CoreMoment). moment.act) (filter (λ (moment : CoreMoment). moment.actor == actor) early) (filter (λ (moment : CoreMoment). moment.actor == actor) late)

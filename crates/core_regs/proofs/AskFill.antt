@@ -34,20 +34,20 @@ use Rattle.core_regs.proofs.ShowLemmas.{lives}
 
 -- The bits of ICH_HCR out of trap mode.
 
-abbrev hcr_by : Bool → Bool → Bool → ℕ
+abbrev pub hcr_by : Bool → Bool → Bool → ℕ
 hcr_by cut en0 en1 =
     2 ^ hcr_en + (if cut then 2 ^ hcr_npie else 0) + (if en0 then 2 ^ hcr_vgrp0die else 2 ^ hcr_vgrp0eie) + (if en1 then 2 ^ hcr_vgrp1die else 2 ^ hcr_vgrp1eie) + 0
 
-record AsksFor (hcr : ℕ) (cut en0 en1 : Bool) : Type 0 where
-  uie : has_bit hcr hcr_uie ≡ false
-  lrenpie : has_bit hcr hcr_lrenpie ≡ false
-  npie : has_bit hcr hcr_npie ≡ cut
-  enabled0 : has_bit hcr hcr_vgrp0eie ≡ not en0
-  disabled0 : has_bit hcr hcr_vgrp0die ≡ en0
-  enabled1 : has_bit hcr hcr_vgrp1eie ≡ not en1
-  disabled1 : has_bit hcr hcr_vgrp1die ≡ en1
+pub record AsksFor (hcr : ℕ) (cut en0 en1 : Bool) : Type 0 where
+  pub uie : has_bit hcr hcr_uie ≡ false
+  pub lrenpie : has_bit hcr hcr_lrenpie ≡ false
+  pub npie : has_bit hcr hcr_npie ≡ cut
+  pub enabled0 : has_bit hcr hcr_vgrp0eie ≡ not en0
+  pub disabled0 : has_bit hcr hcr_vgrp0die ≡ en0
+  pub enabled1 : has_bit hcr hcr_vgrp1eie ≡ not en1
+  pub disabled1 : has_bit hcr hcr_vgrp1die ≡ en1
 
-asks_for : (cut en0 en1 : Bool) → AsksFor (hcr_by cut en0 en1) cut en0 en1
+pub asks_for : (cut en0 en1 : Bool) → AsksFor (hcr_by cut en0 en1) cut en0 en1
 asks_for true true true = record { uie = refl; lrenpie = refl; npie = refl; enabled0 = refl; disabled0 = refl; enabled1 = refl; disabled1 = refl }
 asks_for true true false = record { uie = refl; lrenpie = refl; npie = refl; enabled0 = refl; disabled0 = refl; enabled1 = refl; disabled1 = refl }
 asks_for true false true = record { uie = refl; lrenpie = refl; npie = refl; enabled0 = refl; disabled0 = refl; enabled1 = refl; disabled1 = refl }
@@ -78,16 +78,16 @@ live_state word h = of (unpacked word).state h
     of Both h = refl
 
 module _ (shape : GuestShape) (good : IsShape shape) (vcpu n : ℕ) (few : n ≤ 16) (local : Local) (empty : local.at ≡ []) (own : List Made) (offers : List Offer) (each : All (IsOffered shape vcpu own) offers) (apart : AllPairs (λ early late. early.key ≢ late.key) offers) (untrapped : (plan offers vcpu local.cpu shape n).trapping ≡ false) where
-  abbrev filling : Fill
+  abbrev pub filling : Fill
   filling = plan offers vcpu local.cpu shape n
 
-  abbrev filled : IchRegs
+  abbrev pub filled : IchRegs
   filled = regs_of filling local.cpu n
 
-  hcr_is : filling.hcr ≡ hcr_by filling.cut local.cpu.en0 local.cpu.en1
+  pub hcr_is : filling.hcr ≡ hcr_by filling.cut local.cpu.en0 local.cpu.en1
   hcr_is = ap (hcr_of local.cpu filling.cut) untrapped
 
-  asks : AsksFor filling.hcr filling.cut local.cpu.en0 local.cpu.en1
+  pub asks : AsksFor filling.hcr filling.cut local.cpu.en0 local.cpu.en1
   asks = subst (λ hcr. AsksFor hcr filling.cut local.cpu.en0 local.cpu.en1) (sym hcr_is) (asks_for filling.cut local.cpu.en0 local.cpu.en1)
 
   pub plan_mirrors : IsMirrored filling.hcr local.cpu

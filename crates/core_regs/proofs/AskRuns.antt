@@ -78,7 +78,7 @@ asks_kept shape good vcpu within = record {
         (own_asks shape state going.reached.ideal vcpu made.found made.left made.tables within p going.seat local going.stands made.step is proper after_local.points asks)
 
 -- so it is at the end of a proper run
-asks_so : (guest : GuestSpec) (number : ℕ) (moments : List CoreMoment) (vcpu : ℕ) → IsGoodGuest guest → IsProperRun guest number moments → vcpu < guest.shape.vcpus
+pub asks_so : (guest : GuestSpec) (number : ℕ) (moments : List CoreMoment) (vcpu : ℕ) → IsGoodGuest guest → IsProperRun guest number moments → vcpu < guest.shape.vcpus
     → let p = progress_in guest number moments vcpu in Asks guest.shape (end_of_moments guest.shape (opening guest number) moments) vcpu p p.scan
 asks_so guest number moments vcpu good proper within =
     (ends_so false guest number moments vcpu (λ state p. Asks guest.shape state vcpu p p.scan) good proper within (asks_kept guest.shape good.shape vcpu within) (λ ready. absurd (true≢false (sym ready))) (λ f. absurd (true≢false (sym f)))).1.more

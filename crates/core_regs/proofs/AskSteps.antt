@@ -44,7 +44,7 @@ use Rattle.core_regs.proofs.StandLemmas.{Standing}
 use Rattle.core_regs.proofs.StandSteps.{access_agrees, after_made, either, paid_before, unpaid_end}
 
 -- no maintenance interrupt is asserted after an access with which no scan is owed
-quiet_after : (regs : IchRegs) (trapping : Bool) (debt : Debt) → IsTrue (is_paid (if is_to_scan regs trapping debt then before_next else paid)) → misr_of regs ≡ 0
+pub quiet_after : (regs : IchRegs) (trapping : Bool) (debt : Debt) → IsTrue (is_paid (if is_to_scan regs trapping debt then before_next else paid)) → misr_of regs ≡ 0
 quiet_after regs trapping debt h = eqb-true (misr_of regs) 0 (of (misr_of regs == 0) trapping (is_paid debt) h)
   where
     of : (a b c : Bool) → IsTrue (is_paid (if not a || b || not c then before_next else paid)) → a ≡ true

@@ -200,7 +200,7 @@ module _ (shape : GuestShape) (good : IsShape shape) (vcpu n : ℕ) (few : n ≤
             (sym (standing.places.past at.0 past) ∙ get_or-map (option_map held_as) fill.choice at.0 None None at.1 ∙ ap (option_map held_as) there))
       ]
 
-  fill_shows : Shows (listed_of regs) (Comes (chosen fill.choice) (keys_of_both fill) local.at)
+  pub fill_shows : Shows (listed_of regs) (Comes (chosen fill.choice) (keys_of_both fill) local.at)
   fill_shows = record {
     only = λ place id within live. let is = of_place place id within live in inl (record { choice = is.choice; among = is.among; is = is.seen });
     whole = λ s h come. elim come [

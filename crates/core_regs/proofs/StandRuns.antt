@@ -252,7 +252,7 @@ ends_so finds guest number moments vcpu P good proper within kept first active =
     goes finds guest.shape good.shape vcpu within P kept moments (opening guest number) false (opening_progress guest number vcpu) (record { going = opens finds guest number vcpu good within; more = first }) proper.parted.run (proper.parted.parts vcpu (omega (arith, within))) (proper.proper vcpu (omega (arith, within))) active
 
 -- nothing else
-nothing_more : (finds : Bool) (shape : GuestShape) (vcpu : ℕ) → IsKept finds shape vcpu (λ state p. Unit {0})
+pub nothing_more : (finds : Bool) (shape : GuestShape) (vcpu : ℕ) → IsKept finds shape vcpu (λ state p. Unit {0})
 nothing_more finds shape vcpu = record { others = λ state inside p actor made apart takes going h. tt; begun = λ state p operation lrs h. tt; ended = λ state p answer proper h. tt; own = λ state p made proper active takes going next h. tt }
 
 pub registers_stand : RegistersStand

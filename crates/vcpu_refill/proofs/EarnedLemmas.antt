@@ -87,6 +87,29 @@ both_deliverable offers vcpu cpu shape n chosen has both =
     by_test true false e = absurd (cc)
     by_test false once e = absurd (cc)
 
+-- nothing has State 3 where the plan is cut
+pub both_uncut : (offers : List Offer) (vcpu : ℕ) (cpu : CpuRec) (shape : GuestShape) (n : ℕ) (chosen : Choice) → Contains (plan offers vcpu cpu shape n).choice (Some chosen) → chosen.entry.state ≡ Both → (plan offers vcpu cpu shape n).cut ≡ false
+both_uncut offers vcpu cpu shape n chosen has both =
+    let active = active_among offers vcpu in
+    let deliverable = deliverable_among offers vcpu cpu shape in
+    let cut = is_cut active deliverable n in
+    let mode = chosen_from active deliverable vcpu cpu shape n chosen has in
+    elim (Contains-append_cases (map (active_choice cut vcpu cpu shape) active) (map pending_choice (take (n - length active) deliverable)) chosen mode.1) [
+      | inl first ↦
+          let found = map_cases (active_choice cut vcpu cpu shape) active chosen first in
+          by_test cut (is_deliverable_once_inactive vcpu cpu shape found.0) (ap (λ choice. choice.entry.state) found.2 ∙ both)
+      | inr rest ↦
+          let found = map_cases pending_choice (take (n - length active) deliverable) chosen rest in
+          absurd (pending_both (ap (λ choice. choice.entry.state) found.2 ∙ both))
+    ]
+  where
+    pending_both : Pending ≡ Both → ⊥
+    pending_both e = cc
+
+    by_test : (cut once : Bool) → (if not cut && once then Both else Active) ≡ Both → cut ≡ false
+    by_test true once e = absurd (cc)
+    by_test false once e = refl
+
 -- what does not pass a test is not among those that do
 skipped : (p : Offer → Bool) (before after : List Offer) (x : Offer) → p x ≡ false → filter p (before ++ x ∷ after) ≡ filter p (before ++ after)
 skipped p before after x h = filter-append p before (x ∷ after) ∙ ap (λ rest. filter p before ++ rest) (dropped p after x h) ∙ sym (filter-append p before after)
