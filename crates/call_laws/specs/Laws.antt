@@ -1,13 +1,19 @@
 -- Laws of calls while nobody else acts, kind by kind.
 use Rattle.std.specs.Prelude.{ℕ, Option}
 use Rattle.gic_base.specs.declared.icc.IccReg.{IccReg}
+use Rattle.gic_base.specs.declared.operation.DeviceOp.{DeviceOp}
 use Rattle.gic_base.specs.declared.operation.GuestOp.TheVariants.{Icc}
-use Rattle.gic_call.specs.declared.event.Operation.TheVariants.{Access, Residence}
+use Rattle.gic_call.specs.declared.event.Operation.TheVariants.{Access, Device, Residence}
 use Rattle.call_laws.specs.Calls.{PassesHome}
 
--- an access of a CPU interface register, with the SGIs that a write of SGI1R sends; and a vCPU that enters or leaves a PE, or looks whether it was kicked
+-- an access of a CPU interface register, with the SGIs that a write of SGI1R sends
 abbrev pub InterfaceCallsPass : Type 0
 InterfaceCallsPass = (reg : IccReg) (write : Option ℕ) → PassesHome (Access (Icc reg write))
 
+-- a vCPU that enters or leaves a PE, or looks whether it was kicked
 abbrev pub ResidencesPass : Type 0
 ResidencesPass = PassesHome Residence
+
+-- what a device does
+abbrev pub DeviceCallsPass : Type 0
+DeviceCallsPass = (op : DeviceOp) → PassesHome (Device op)
