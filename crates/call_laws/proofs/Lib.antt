@@ -4,3 +4,7 @@ pub mod IccLemmas
 pub mod ReadLemmas
 pub mod MapsLemmas
 pub mod DeviceLemmas
+pub mod PartLemmas
+pub mod PlainLemmas
+pub mod TargetLemmas
+pub mod EnableLemmas
