@@ -8,3 +8,4 @@ pub mod PartLemmas
 pub mod PlainLemmas
 pub mod TargetLemmas
 pub mod EnableLemmas
+pub mod AccessLemmas
