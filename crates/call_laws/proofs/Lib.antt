@@ -9,3 +9,5 @@ pub mod PlainLemmas
 pub mod TargetLemmas
 pub mod EnableLemmas
 pub mod AccessLemmas
+pub mod RegisterLemmas
+pub mod WrittenLemmas
