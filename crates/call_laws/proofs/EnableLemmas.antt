@@ -36,28 +36,28 @@ use Rattle.call_laws.proofs.RunLemmas.{events_of, marked, IsHomeRun}
 
 -- Lists.
 
-in_left : {X : Type 0} (xs ys : List X) (x : X) → IsIn xs x → IsIn (xs ++ ys) x
+pub in_left : {X : Type 0} (xs ys : List X) (x : X) → IsIn xs x → IsIn (xs ++ ys) x
 in_left [] ys x is = absurd is
 in_left (y ∷ xs) ys x (inl e) = inl e
 in_left (y ∷ xs) ys x (inr later) = inr (in_left xs ys x later)
 
-in_right : {X : Type 0} (xs ys : List X) (x : X) → IsIn ys x → IsIn (xs ++ ys) x
+pub in_right : {X : Type 0} (xs ys : List X) (x : X) → IsIn ys x → IsIn (xs ++ ys) x
 in_right [] ys x is = is
 in_right (y ∷ xs) ys x is = inr (in_right xs ys x is)
 
-in_flat : {X Y : Type 0} (f : X → List Y) (xs : List X) (x : X) (y : Y) → IsIn xs x → IsIn (f x) y → IsIn (flat_map f xs) y
+pub in_flat : {X Y : Type 0} (f : X → List Y) (xs : List X) (x : X) (y : Y) → IsIn xs x → IsIn (f x) y → IsIn (flat_map f xs) y
 in_flat f [] x y is at = absurd is
 in_flat f (z ∷ xs) x y (inl e) at = in_left (f z) (flat_map f xs) y (subst (λ w. IsIn (f w) y) (sym e) at)
 in_flat f (z ∷ xs) x y (inr later) at = in_right (f z) (flat_map f xs) y (in_flat f xs x y later at)
 
-in_range : (a n i : ℕ) → a ≤ i → i < a + n → IsIn (range_with_len a n) i
+pub in_range : (a n i : ℕ) → a ≤ i → i < a + n → IsIn (range_with_len a n) i
 in_range a zero i low high = absurd (omega (arith, low, high))
 in_range a (suc n) i low high = elim (cases_eq a i) [
   | inl e ↦ inl e
   | inr differ ↦ inr (in_range (a + 1) n i (omega (arith, low, differ)) (omega (arith, high)))
 ]
 
-found_same : {X : Type 0} (f g : ℕ → Option X) (a n : ℕ) → ((i : ℕ) → a ≤ i → i < a + n → f i ≡ g i) → filter_map f (range_with_len a n) ≡ filter_map g (range_with_len a n)
+pub found_same : {X : Type 0} (f g : ℕ → Option X) (a n : ℕ) → ((i : ℕ) → a ≤ i → i < a + n → f i ≡ g i) → filter_map f (range_with_len a n) ≡ filter_map g (range_with_len a n)
 found_same f g a zero same = refl
 found_same f g a (suc n) same =
     ap (λ o. cons_option o (filter_map f (range_with_len (a + 1) n))) (same a (omega arith) (omega arith))

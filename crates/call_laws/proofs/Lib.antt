@@ -11,3 +11,4 @@ pub mod EnableLemmas
 pub mod AccessLemmas
 pub mod RegisterLemmas
 pub mod WrittenLemmas
+pub mod CommandLemmas
