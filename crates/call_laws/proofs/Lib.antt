@@ -12,3 +12,4 @@ pub mod AccessLemmas
 pub mod RegisterLemmas
 pub mod WrittenLemmas
 pub mod CommandLemmas
+pub mod MomentLemmas

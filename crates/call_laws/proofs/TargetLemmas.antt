@@ -65,7 +65,7 @@ beside_targets actor (Queue offset (Stalls fault)) h = absurd (cc)
 -- They move no LPI.
 
 -- what is said of a record that is there says so of all
-by_record : (state after : Ideal) (id : ℕ) → after.guest.shape ≡ state.guest.shape → (IsTrue (has_interrupt state.guest.shape (Lpi id)) → (irq_at after.guest (Lpi id)).route ≡ (irq_at state.guest (Lpi id)).route) → targets_in after id ≡ targets_in state id
+pub by_record : (state after : Ideal) (id : ℕ) → after.guest.shape ≡ state.guest.shape → (IsTrue (has_interrupt state.guest.shape (Lpi id)) → (irq_at after.guest (Lpi id)).route ≡ (irq_at state.guest (Lpi id)).route) → targets_in after id ≡ targets_in state id
 by_record state after id shape same = ap (target_in (irq_at after.guest (Lpi id)).route) shape ∙ ap (λ r. target_in r state.guest.shape) (of (has_interrupt state.guest.shape (Lpi id)) refl)
   where
     of : (b : Bool) → has_interrupt state.guest.shape (Lpi id) ≡ b → (irq_at after.guest (Lpi id)).route ≡ (irq_at state.guest (Lpi id)).route
@@ -75,7 +75,7 @@ by_record state after id shape same = ap (target_in (irq_at after.guest (Lpi id)
         ∙ ap (λ b. (if b then slice_index_or after.guest.irqs (place_of state.guest.shape (Lpi id)) (opening_irq false (Lpi id)) else opening_irq false (Lpi id)).route) e
         ∙ sym (ap (λ b. (if b then slice_index_or state.guest.irqs (place_of state.guest.shape (Lpi id)) (opening_irq false (Lpi id)) else opening_irq false (Lpi id)).route) e)
 
-either : (b : Bool) (one other : Irq) → one.route ≡ other.route → (cond b one other).route ≡ other.route
+pub either : (b : Bool) (one other : Irq) → one.route ≡ other.route → (cond b one other).route ≡ other.route
 either true one other e = e
 either false one other e = refl
 
