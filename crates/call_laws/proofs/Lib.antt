@@ -13,3 +13,4 @@ pub mod RegisterLemmas
 pub mod WrittenLemmas
 pub mod CommandLemmas
 pub mod MomentLemmas
+pub mod AgreeLemmas
