@@ -1,3 +1,16 @@
 pub mod RunLemmas
 pub mod NamedLemmas
 pub mod IccLemmas
+pub mod ReadLemmas
+pub mod MapsLemmas
+pub mod DeviceLemmas
+pub mod PartLemmas
+pub mod PlainLemmas
+pub mod TargetLemmas
+pub mod EnableLemmas
+pub mod AccessLemmas
+pub mod RegisterLemmas
+pub mod WrittenLemmas
+pub mod CommandLemmas
+pub mod MomentLemmas
+pub mod AgreeLemmas

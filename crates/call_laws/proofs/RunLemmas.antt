@@ -16,7 +16,7 @@ use Rattle.ideal_guest.specs.declared.guest.IdealGuest.{IdealGuest}
 use Rattle.ideal_guest.specs.Ideal.{access_answer, view_of, after_event, after_events}
 use Rattle.gic_history.specs.State.{Ideal}
 use Rattle.gic_history.specs.Moves.{handed_out, happened, home}
-use Rattle.gic_history.specs.History.{Call, Course, IsEnded, IsCallEnded, actor_count, vcpu_of, GoesOn, IsHistory, begun, made, seeing, gone_on, course_of, call_of, opening_course, last_of}
+use Rattle.gic_history.specs.History.{targets_in, Call, Course, IsEnded, IsCallEnded, actor_count, vcpu_of, GoesOn, IsHistory, begun, made, seeing, gone_on, course_of, call_of, opening_course, last_of}
 use Rattle.history_laws.proofs.CourseLemmas.{IsCourse, opens, goes, begun_here, made_here}
 use Rattle.history_laws.proofs.EnableLaw.{nobody_spreads}
 use Rattle.history_laws.proofs.StateLemmas.{guest_is, take_cases, leave_cases}
@@ -30,6 +30,7 @@ use Rattle.home_laws.proofs.AccessLemmas.{access_passes}
 use Rattle.home_laws.proofs.EventLemmas.{other_passes}
 use Rattle.home_laws.proofs.HomeLaws.{move_keeps, event_tidy, moments_tidy, opens_tidy}
 use Rattle.home_laws.proofs.SpotLemmas.{IsTidy}
+use Rattle.call_laws.proofs.TargetLemmas.{home_targets}
 use Rattle.call_laws.specs.Calls.{lone_call, Shows, AllShow, IsLoneCall}
 
 abbrev pub events_of : List Happened → List Event
@@ -165,12 +166,19 @@ module _ (shape : GuestShape) (actor : ℕ) (state : Ideal) (tidy : IsTidy shape
 
 -- So are some, one after the other.
 
+-- for which vCPUs the LPIs are after each is told by the guest with all taken back
+abbrev pub Follows : ℕ → Ideal → IdealGuest → List Event → Type 0
+Follows actor state guest [] = Unit {0}
+Follows actor state guest (event ∷ events) =
+    ((id : ℕ) → targets_in (happened actor event state) id ≡ (view_of (after_event guest event)).targets id) × Follows actor (happened actor event state) (after_event guest event) events
+
 pub record AreHomeSteps (actor : ℕ) (state : Ideal) (piece : List Happened) : Type 0 where
   pub run : IsHomeRun (is_some state.spreads) (home state) piece
   pub goes : home (state_after actor (events_of piece) state) ≡ after_events (events_of piece) (home state)
+  pub follows : Follows actor state (home state) (events_of piece)
 
 home_steps : (shape : GuestShape) (actor : ℕ) (piece : List Happened) (state : Ideal) → IsTidy shape state → AreFine actor state (events_of piece) → AreHanded actor state piece → AllShow actor state piece → AreHomeSteps actor state piece
-home_steps shape actor [] state tidy fine handed shows = record { run = tt; goes = refl }
+home_steps shape actor [] state tidy fine handed shows = record { run = tt; goes = refl; follows = tt }
 home_steps shape actor (one ∷ piece) state tidy fine handed shows =
     let step : IsHomeStep shape actor state one = subst (λ f. IsHomeStep shape actor state (record { event = one.event; found = f })) (sym handed.0) (home_step shape actor state tidy one.event fine.0 shows.0) in
     let later = home_steps shape actor piece (happened actor one.event state) step.tidy fine.1 handed.1 shows.1 in
@@ -181,6 +189,10 @@ home_steps shape actor (one ∷ piece) state tidy fine handed shows =
             (subst (λ g. IsHomeRun (is_some (happened actor one.event state).spreads) g piece) step.goes later.run),
       );
       goes = later.goes ∙ ap (after_events (events_of piece)) step.goes;
+      follows = (
+        λ id. sym (home_targets shape (happened actor one.event state) step.tidy id) ∙ ap (λ g. (view_of g).targets id) step.goes,
+        subst (λ g. Follows actor (happened actor one.event state) g (events_of piece)) step.goes later.follows,
+      );
     }
 
 -- The call.
@@ -190,6 +202,7 @@ pub record LoneRun (guest : GuestSpec) (moments : List Moment) (actor : ℕ) (op
   pub shape_is : (home (last_of guest moments)).shape ≡ guest.shape
   pub run : IsHomeRun false (home (last_of guest moments)) piece
   pub goes : home (last_of guest (moments ++ lone_call actor operation piece answer)) ≡ after_events (events_of piece) (home (last_of guest moments))
+  pub follows : Follows actor (last_of guest moments) (home (last_of guest moments)) (events_of piece)
   pub piece_is : piece ≡ happenings actor (events_of piece) (last_of guest moments)
   pub ended : IsEnded guest.shape actor (call_after actor (events_of piece) (last_of guest moments) (begun (last_of guest moments) operation)) answer
   pub is_call : IsCall guest.shape ended.beside (vcpu_of guest.shape actor) operation piece answer
@@ -229,6 +242,7 @@ lone_run guest moments actor operation piece answer is =
       shape_is = ap (λ (g : IdealGuest). g.shape) (home_rest course.ideal) ∙ tidy.shape_is;
       run = subst (λ o. IsHomeRun (is_some o) (home course.ideal) piece) (nobody_spreads guest moments is.good early is.whole) steps.run;
       goes = ap (λ (c : Course). home c.ideal) (fold-append gone_on (opening_course guest) moments call) ∙ ap home end.ideal_is ∙ steps.goes;
+      follows = steps.follows;
       piece_is = end.piece_is;
       ended = ended;
       is_call =

@@ -1,5 +1,5 @@
 -- One call of a history while nobody else acts, and what the eager controller makes of its operation (own choice).
-use Rattle.std.specs.Prelude.{◌≡◌, ℕ, List, [], ◌∷◌, ◌++◌, map, Option, None}
+use Rattle.std.specs.Prelude.{◌≡◌, ℕ, ◌==◌, Bool, true, false, Result, Ok, Err, List, [], ◌∷◌, ◌++◌, map, Option, None}
 use Rattle.gic_call.specs.declared.event.Event.{Event}
 use Rattle.gic_call.specs.declared.event.Event.TheVariants.{Cpu}
 use Rattle.gic_call.specs.declared.event.Moment.{Moment}
@@ -7,15 +7,20 @@ use Rattle.gic_call.specs.declared.event.Moment.TheVariants.{Begin, End}
 use Rattle.gic_call.specs.declared.event.Operation.{Operation}
 use Rattle.gic_call.specs.declared.event.Operation.TheVariants.{Access, Device, Residence}
 use Rattle.gic_call.specs.Call.{device_events}
+use Rattle.gic_call.specs.Command.{takes_command, command_words}
 use Rattle.gic_call.specs.Trace.{Happened}
 use Rattle.ideal_guest.specs.declared.guest.IdealGuest.{IdealGuest}
-use Rattle.ideal_guest.specs.Ideal.{view_of, after_events}
+use Rattle.ideal_guest.specs.Ideal.{view_of, after_events, after_commands}
 use Rattle.gic_history.specs.State.{Ideal}
 use Rattle.gic_history.specs.Moves.{happened, home}
 use Rattle.gic_history.specs.History.{IsHistory, IsWhole, last_of}
 use Rattle.gic_ideal.specs.Deeds.{op_events}
 use Rattle.eager_laws.specs.Moments.{op_read, moment_of}
 use Rattle.home_laws.specs.Home.{ShowsHome}
+use Rattle.its_cmd.specs.Command.{decoded}
+use Rattle.its_cmd.specs.declared.command.BadCommand.{BadCommand}
+use Rattle.its_cmd.specs.declared.command.Command.{Command}
+use Rattle.its_cmd.specs.declared.command.Command.TheVariants.{Movall}
 use Rattle.scn_base.specs.declared.guest.GuestSpec.{GuestSpec}
 use Rattle.scn_base.specs.Good.{IsGoodGuest}
 
@@ -64,3 +69,15 @@ abbrev pub PassesHome : Operation → Type 0
 PassesHome operation =
     (guest : GuestSpec) (moments : List Moment) (actor : ℕ) (piece : List Happened) (answer : Option ℕ) → IsLoneCall guest moments actor operation piece answer
     → IsEagerCall actor operation answer (home (last_of guest moments)) (home (last_of guest (moments ++ lone_call actor operation piece answer)))
+
+-- Commands of the ITS.
+
+-- a command moves all LPIs of a vCPU to the same vCPU
+abbrev pub moves_to_itself : Result Command BadCommand → Bool
+moves_to_itself (Ok (Movall one other)) = one == other
+moves_to_itself result = false
+
+-- none of the commands that a guest takes does
+abbrev pub MoveApart : IdealGuest → Type 0
+MoveApart guest =
+    (number : ℕ) → let after = after_commands number guest in takes_command (view_of after) ≡ true → moves_to_itself (decoded (command_words after.shape (view_of after))) ≡ false

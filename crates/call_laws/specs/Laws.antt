@@ -1,13 +1,32 @@
 -- Laws of calls while nobody else acts, kind by kind.
 use Rattle.std.specs.Prelude.{ℕ, Option}
 use Rattle.gic_base.specs.declared.icc.IccReg.{IccReg}
-use Rattle.gic_base.specs.declared.operation.GuestOp.TheVariants.{Icc}
-use Rattle.gic_call.specs.declared.event.Operation.TheVariants.{Access, Residence}
+use Rattle.gic_base.specs.declared.operation.DeviceOp.{DeviceOp}
+use Rattle.gic_base.specs.declared.operation.Frame.TheVariants.{Dist, Redist, Ram}
+use Rattle.gic_base.specs.declared.operation.GuestOp.TheVariants.{Icc, Mem}
+use Rattle.gic_call.specs.declared.event.Operation.TheVariants.{Access, Device, Residence}
 use Rattle.call_laws.specs.Calls.{PassesHome}
 
--- an access of a CPU interface register, with the SGIs that a write of SGI1R sends; and a vCPU that enters or leaves a PE, or looks whether it was kicked
+-- an access of a CPU interface register, with the SGIs that a write of SGI1R sends
 abbrev pub InterfaceCallsPass : Type 0
 InterfaceCallsPass = (reg : IccReg) (write : Option ℕ) → PassesHome (Access (Icc reg write))
 
+-- a vCPU that enters or leaves a PE, or looks whether it was kicked
 abbrev pub ResidencesPass : Type 0
 ResidencesPass = PassesHome Residence
+
+-- what a device does
+abbrev pub DeviceCallsPass : Type 0
+DeviceCallsPass = (op : DeviceOp) → PassesHome (Device op)
+
+-- an access of the distributor: of registers over interrupts, of GICD_CTLR, and of those that send a message
+abbrev pub DistributorCallsPass : Type 0
+DistributorCallsPass = (offset size : ℕ) (write : Option ℕ) → PassesHome (Access (Mem Dist offset size write))
+
+-- an access of a redistributor: of registers over interrupts, of the tables' addresses, and of EnableLPIs, which makes LPIs of the pending table pending
+abbrev pub RedistributorCallsPass : Type 0
+RedistributorCallsPass = (vcpu offset size : ℕ) (write : Option ℕ) → PassesHome (Access (Mem (Redist vcpu) offset size write))
+
+-- an access of the guest's memory
+abbrev pub MemoryCallsPass : Type 0
+MemoryCallsPass = (offset size : ℕ) (write : Option ℕ) → PassesHome (Access (Mem Ram offset size write))

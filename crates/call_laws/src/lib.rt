@@ -4,4 +4,7 @@
 
 mod laws;
 
-pub use laws::{interface_calls_pass, residences_pass};
+pub use laws::{
+    device_calls_pass, distributor_calls_pass, interface_calls_pass, memory_calls_pass,
+    redistributor_calls_pass, residences_pass,
+};

@@ -79,7 +79,7 @@ abbrev pub is_pend : Event → Bool
 is_pend (Touch key (Register SetPending value)) = true
 is_pend event = false
 
-targets_kept : (actor : ℕ) (state : Ideal) (key : Key) (value : ℕ) → IsWhole state.guest → (id : ℕ) → targets_in (happened actor (Touch key (Register SetPending value)) state) id ≡ targets_in state id
+pub targets_kept : (actor : ℕ) (state : Ideal) (key : Key) (value : ℕ) → IsWhole state.guest → (id : ℕ) → targets_in (happened actor (Touch key (Register SetPending value)) state) id ≡ targets_in state id
 targets_kept actor state key value whole id = ap (λ r. target_in r state.guest.shape) (by_there (has_interrupt state.guest.shape (Lpi id)) refl)
   where
     same_route : (b c : Bool) (irq : Irq) → (cond b (cond c (raised irq) irq) irq).route ≡ irq.route

@@ -1,0 +1,164 @@
+-- The events of a command are those of the guest as it begins, for whichever vCPUs the LPIs were at its moments.
+use Rattle.std.proofs.Common.{◌≡◌, ◌≢◌, ℕ, ◌==◌, ◌⊎◌, inl, inr, not, Bool, true, false, cond, if◌then◌else◌, IsTrue, List, [], ◌∷◌, ◌++◌, map, filter, Option, Some, None, is_none, Result, Ok, Err, refl, sym, ap, ◌∙◌, subst}
+use Rattle.std.specs.List.{list_all}
+use Rattle.std.specs.Option.{option_map_or}
+use Rattle.std.proofs.lemmas.Bool.{and_from, cases_eq, eq-eqb, ne_eqb, eqb-true}
+use Rattle.std.proofs.lemmas.List.{map-append}
+use Rattle.gic_base.specs.declared.shape.GuestShape.{GuestShape}
+use Rattle.gic_word.specs.Record.{is_number}
+use Rattle.its_cmd.specs.declared.command.BadCommand.{BadCommand}
+use Rattle.its_cmd.specs.declared.command.Command.{Command}
+use Rattle.its_cmd.specs.declared.command.Command.TheVariants.{Movi, Int, Clear, Sync, Mapd, Mapc, Mapti, Mapi, Inv, Invall, Movall, Discard}
+use Rattle.its_tab.specs.Maps.{Maps, id_of, target_of}
+use Rattle.gic_call.specs.declared.command.Part.{Part}
+use Rattle.gic_call.specs.declared.command.Part.TheVariants.{Forget, Map, Retarget, Raise, Clear as ClearLpi, Configure}
+use Rattle.gic_base.specs.declared.interrupt.Key.TheVariants.{Lpi}
+use Rattle.gic_lpi.specs.Tables.{is_enabled, priority_of}
+use Rattle.gic_call.specs.declared.event.Event.{Event}
+use Rattle.gic_call.specs.declared.event.Event.TheVariants.{Touch}
+use Rattle.gic_call.specs.declared.touch.Touching.TheVariants.{Configure as ConfigureLpi}
+use Rattle.gic_call.specs.Access.{lpis_of}
+use Rattle.gic_call.specs.Command.{config_byte, lpis_of_device, lpis_of_collection, lpis_for, each, for_one, mapping_parts, parts, lpi_event}
+use Rattle.gic_call.specs.Trace.{Happened, named_of}
+use Rattle.gic_call.specs.View.{View}
+use Rattle.ideal_guest.specs.declared.guest.IdealGuest.{IdealGuest}
+use Rattle.ideal_guest.specs.Ideal.{view_of}
+use Rattle.ideal_guest.proofs.KeyLemmas.{IsWhole}
+use Rattle.history_laws.proofs.CourseLemmas.{mark_is}
+use Rattle.call_laws.specs.Calls.{moves_to_itself}
+use Rattle.call_laws.proofs.MomentLemmas.{target_at, keeps_for, sends_to, beside_keeps_for, beside_sends, seen_by, seen_kept, seen_sent}
+use Rattle.call_laws.proofs.NamedLemmas.{IsIn}
+use Rattle.call_laws.proofs.ReadLemmas.{beside_passes}
+use Rattle.call_laws.proofs.RunLemmas.{events_of}
+
+-- the parts of what was decoded
+abbrev pub parts_by : GuestShape → Maps → (ℕ → Option ℕ) → Result Command BadCommand → List Part
+parts_by shape maps targets (Ok command) = parts shape maps targets command
+parts_by shape maps targets (Err bad) = []
+
+module _ (shape : GuestShape) (guest : IdealGuest) (whole : IsWhole guest) (actor : Option ℕ) (early : List Happened) (targets : ℕ → Option ℕ) (seen : (id : ℕ) → (targets id ≡ target_at guest id) ⊎ IsIn (seen_by guest (events_of early) id) (targets id)) where
+  abbrev event_by : (ℕ → Option ℕ) → Part → Event
+  event_by by part = lpi_event shape (view_of guest) by part
+
+  abbrev events_by : (ℕ → Option ℕ) → List Part → List Event
+  events_by by ps = map (event_by by) ps
+
+  -- Parts that are the same by both.
+
+  each_same : (ids : List ℕ) (part : ℕ → Part) → ((id : ℕ) → event_by targets (part id) ≡ event_by (target_at guest) (part id)) → events_by targets (each ids part) ≡ events_by (target_at guest) (each ids part)
+  each_same [] part same = refl
+  each_same (id ∷ ids) part same = ap (λ e. e ∷ events_by targets (each ids part)) (same id) ∙ ap (λ es. event_by (target_at guest) (part id) ∷ es) (each_same ids part same)
+
+  one_same : (id : Option ℕ) (part : ℕ → Part) → ((id : ℕ) → event_by targets (part id) ≡ event_by (target_at guest) (part id)) → events_by targets (for_one id part) ≡ events_by (target_at guest) (for_one id part)
+  one_same None part same = refl
+  one_same (Some id) part same = ap (λ e. e ∷ []) (same id)
+
+  both_same : (first next : List Part) → events_by targets first ≡ events_by (target_at guest) first → events_by targets next ≡ events_by (target_at guest) next → events_by targets (first ++ next) ≡ events_by (target_at guest) (first ++ next)
+  both_same first next one two = map-append (event_by targets) first next ∙ ap (λ es. es ++ events_by targets next) one ∙ ap (λ es. events_by (target_at guest) first ++ es) two ∙ sym (map-append (event_by (target_at guest)) first next)
+
+  -- What passes a test.
+
+  each_all : (test : Event → Bool) (ids : List ℕ) (part : ℕ → Part) → ((id : ℕ) → test (event_by targets (part id)) ≡ true) → IsTrue (list_all test (events_by targets (each ids part)))
+  each_all test [] part all = refl
+  each_all test (id ∷ ids) part all = and_from (test (event_by targets (part id))) (list_all test (events_by targets (each ids part))) (all id) (each_all test ids part all)
+
+  one_all : (test : Event → Bool) (id : Option ℕ) (part : ℕ → Part) → ((id : ℕ) → test (event_by targets (part id)) ≡ true) → IsTrue (list_all test (events_by targets (for_one id part)))
+  one_all test None part all = refl
+  one_all test (Some id) part all = and_from (test (event_by targets (part id))) true (all id) refl
+
+  filter_all : (test : Event → Bool) (p : ℕ → Bool) (ids : List ℕ) (part : ℕ → Part) → ((id : ℕ) → p id ≡ true → test (event_by targets (part id)) ≡ true) → IsTrue (list_all test (events_by targets (each (filter p ids) part)))
+  filter_all test p [] part all = refl
+  filter_all test p (id ∷ ids) part all = of (p id) refl (filter_all test p ids part all)
+    where
+      of : (b : Bool) → p id ≡ b → IsTrue (list_all test (events_by targets (each (filter p ids) part))) → IsTrue (list_all test (events_by targets (each (cond b (id ∷ filter p ids) (filter p ids)) part)))
+      of true e later = and_from (test (event_by targets (part id))) (list_all test (events_by targets (each (filter p ids) part))) (all id e) later
+      of false e later = later
+
+  -- Each LPI is for the same vCPU, as far as it matters.
+
+  kept_same : (named : List Event) → events_of (named_of actor early) ≡ named → (id : ℕ) → IsTrue (list_all (keeps_for id) named) → targets id ≡ target_at guest id
+  kept_same named are id keep = of (seen id)
+    where
+      of : (targets id ≡ target_at guest id) ⊎ IsIn (seen_by guest (events_of early) id) (targets id) → targets id ≡ target_at guest id
+      of (inl same) = same
+      of (inr is) = seen_kept guest id (events_of early) (targets id) whole (beside_passes (keeps_for id) (beside_keeps_for id) actor early (subst (λ es. IsTrue (list_all (keeps_for id) es)) (sym are) keep)) is
+
+  sent_same : (named : List Event) (one other : ℕ) → events_of (named_of actor early) ≡ named → (one == other) ≡ false → (id : ℕ) → targets id ≡ Some one → IsTrue (list_all (sends_to other) named) → targets id ≡ target_at guest id
+  sent_same named one other are differ id mine send = of (seen id)
+    where
+      apart : targets id ≡ Some other → ⊥
+      apart e = no (sym mine ∙ e)
+        where
+          same_number : Some one ≡ Some other → one ≡ other
+          same_number e = cc
+
+          no : Some one ≡ Some other → ⊥
+          no e = let yes = eq-eqb one other (same_number e) in let f = sym yes ∙ differ in absurd (cc)
+
+      of : (targets id ≡ target_at guest id) ⊎ IsIn (seen_by guest (events_of early) id) (targets id) → targets id ≡ target_at guest id
+      of (inl same) = same
+      of (inr is) = by (seen_sent guest id other (events_of early) (targets id) whole (beside_passes (sends_to other) (beside_sends other) actor early (subst (λ es. IsTrue (list_all (sends_to other) es)) (sym are) send)) is)
+        where
+          by : (targets id ≡ target_at guest id) ⊎ (targets id ≡ Some other) → targets id ≡ target_at guest id
+          by (inl same) = same
+          by (inr sent) = absurd (apart sent)
+
+  moved_same : (one other : ℕ) → events_of (named_of actor early) ≡ events_by targets (each (lpis_for shape targets one) (λ id. Retarget id (Some other))) → (one == other) ≡ false → (id : ℕ) → targets id ≡ target_at guest id
+  moved_same one other are differ id = of (is_number one (targets id)) refl
+    where
+      named : List Event
+      named = events_by targets (each (lpis_for shape targets one) (λ id. Retarget id (Some other)))
+
+      of : (b : Bool) → is_number one (targets id) ≡ b → targets id ≡ target_at guest id
+      of true e =
+          sent_same (events_by targets (each (lpis_for shape targets one) (λ id. Retarget id (Some other)))) one other are differ id (mark_is one (targets id) e)
+          (filter_all (sends_to other) (λ i. is_number one (targets i)) (lpis_of shape) (λ i. Retarget i (Some other)) (λ i h. eq-eqb other other refl))
+      of false e =
+          kept_same (events_by targets (each (lpis_for shape targets one) (λ id. Retarget id (Some other)))) are id
+          (filter_all (keeps_for id) (λ i. is_number one (targets i)) (lpis_of shape) (λ i. Retarget i (Some other)) (λ i h. ap not (ne_eqb i id (λ same. clash (sym (ap (λ j. is_number one (targets j)) same) ∙ h)))))
+        where
+          clash : is_number one (targets id) ≡ true → ⊥
+          clash h = let no = sym h ∙ e in absurd (cc)
+
+  filter_same : (p q : ℕ → Bool) (ids : List ℕ) → ((id : ℕ) → p id ≡ q id) → filter p ids ≡ filter q ids
+  filter_same p q [] same = refl
+  filter_same p q (id ∷ ids) same = ap (λ b. cond b (id ∷ filter p ids) (filter p ids)) (same id) ∙ ap (λ xs. cond (q id) (id ∷ xs) xs) (filter_same p q ids same)
+
+  configure_same : (id : ℕ) → targets id ≡ target_at guest id → event_by targets (Configure id) ≡ event_by (target_at guest) (Configure id)
+  configure_same id same = ap (λ t. let byte = config_byte shape (view_of guest) t id in Touch (Lpi id) (ConfigureLpi (is_enabled byte) (priority_of byte))) same
+
+  -- Each command.
+  command_agrees : (maps : Maps) (command : Command) → events_of (named_of actor early) ≡ events_by targets (parts shape maps targets command) → moves_to_itself (Ok command) ≡ false
+      → events_by targets (parts shape maps targets command) ≡ events_by (target_at guest) (parts shape maps (target_at guest) command)
+  command_agrees maps (Mapd device size itt_addr valid) are self = each_same (lpis_of_device maps device) Forget (λ id. refl)
+  command_agrees maps (Mapc icid rdbase true) are self = each_same (lpis_of_collection shape maps icid) (λ id. Retarget id (Some rdbase)) (λ id. refl)
+  command_agrees maps (Mapc icid rdbase false) are self = of (is_none (target_of maps icid))
+    where
+      of : (b : Bool) → events_by targets (cond b [] (each (lpis_of_collection shape maps icid) (λ id. Retarget id None))) ≡ events_by (target_at guest) (cond b [] (each (lpis_of_collection shape maps icid) (λ id. Retarget id None)))
+      of true = refl
+      of false = each_same (lpis_of_collection shape maps icid) (λ id. Retarget id None) (λ id. refl)
+  command_agrees maps (Mapti device event id icid) are self =
+      both_same (for_one (id_of maps (device, event)) Forget) (for_one (target_of maps icid) (Map id)) (one_same (id_of maps (device, event)) Forget (λ i. refl)) (one_same (target_of maps icid) (Map id) (λ i. refl))
+  command_agrees maps (Mapi device event icid) are self =
+      both_same (for_one (id_of maps (device, event)) Forget) (for_one (target_of maps icid) (Map event)) (one_same (id_of maps (device, event)) Forget (λ i. refl)) (one_same (target_of maps icid) (Map event) (λ i. refl))
+  command_agrees maps (Movi device event icid) are self = one_same (id_of maps (device, event)) (λ id. Retarget id (target_of maps icid)) (λ id. refl)
+  command_agrees maps (Int device event) are self = one_same (id_of maps (device, event)) Raise (λ id. refl)
+  command_agrees maps (Clear device event) are self = one_same (id_of maps (device, event)) ClearLpi (λ id. refl)
+  command_agrees maps (Discard device event) are self = one_same (id_of maps (device, event)) Forget (λ id. refl)
+  command_agrees maps (Inv device event) are self =
+      one_same (id_of maps (device, event)) Configure
+      (λ id. configure_same id (kept_same (events_by targets (for_one (id_of maps (device, event)) Configure)) are id (one_all (keeps_for id) (id_of maps (device, event)) Configure (λ i. refl))))
+  command_agrees maps (Invall icid) are self =
+      each_same (lpis_of_collection shape maps icid) Configure
+      (λ id. configure_same id (kept_same (events_by targets (each (lpis_of_collection shape maps icid) Configure)) are id (each_all (keeps_for id) (lpis_of_collection shape maps icid) Configure (λ i. refl))))
+  command_agrees maps (Movall one other) are self =
+      each_same (lpis_for shape targets one) (λ id. Retarget id (Some other)) (λ id. refl)
+      ∙ ap (λ ids. events_by (target_at guest) (each ids (λ id. Retarget id (Some other))))
+      (filter_same (λ id. is_number one (targets id)) (λ id. is_number one (target_at guest id)) (lpis_of shape) (λ id. ap (is_number one) (moved_same one other are self id)))
+  command_agrees maps (Sync rdbase) are self = refl
+
+  pub result_agrees : (maps : Maps) (result : Result Command BadCommand) (b : Bool) → events_of (named_of actor early) ≡ events_by targets (cond b (parts_by shape maps targets result) []) → moves_to_itself result ≡ false
+      → events_by targets (cond b (parts_by shape maps targets result) []) ≡ events_by (target_at guest) (cond b (parts_by shape maps (target_at guest) result) [])
+  result_agrees maps (Ok command) true are self = command_agrees maps command are self
+  result_agrees maps (Err bad) true are self = refl
+  result_agrees maps result false are self = refl
