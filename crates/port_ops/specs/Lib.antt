@@ -1,2 +1,4 @@
 pub mod Ready
 pub mod Words
+pub mod World
+pub mod Opened

@@ -19,7 +19,7 @@ use Rattle.port_core.proofs.RunLemmas.{own_of_run, local_of_run}
 use Rattle.port_core.proofs.StepLemmas.{run_sound}
 use Rattle.port_core.proofs.StepMaps.{one_has_turn}
 use Rattle.port_seq.specs.Told.{GuestTold, seen_of, state_of}
-use Rattle.port_seq.specs.World.{HasTurn}
+use Rattle.port_ops.specs.World.{HasTurn}
 
 marks_prop : (shape : GuestShape) (key : Option Key) (set : ℕ) → IsProp (AreMarks shape key set)
 marks_prop shape None set = Prim.hlevel props

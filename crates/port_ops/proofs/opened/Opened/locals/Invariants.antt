@@ -2,7 +2,7 @@ use Rattle.std.proofs.Common.{◌≡◌, map}
 use Rattle.std.specs.List.{range_with_len}
 use Rattle.port_core.specs.Actor.{actor_count}
 use Rattle.port_core.specs.Run.{opening_local_of}
-use Rattle.port_seq.proofs.opened.Opened.locals.Given as goal
+use Rattle.port_ops.proofs.opened.Opened.locals.Given as goal
 
 -- those of the actors so far
 abbrev pub invariant-loop-actor : goal.invariant-loop-actor

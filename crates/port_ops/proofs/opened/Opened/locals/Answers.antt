@@ -5,8 +5,8 @@ use Rattle.port_core.specs.Actor.{actor_count}
 use Rattle.port_core.specs.Local.{opening_local}
 use Rattle.port_core.specs.Run.{Seat, opening_local_of, opening_seat}
 use Rattle.gic_open.specs.Opening.{opening_cpu}
-use Rattle.port_seq.proofs.SeqLemmas.{map_twice}
-use Rattle.port_seq.proofs.opened.Opened.locals.Goals as goal
+use Rattle.port_ops.proofs.WorldLemmas.{map_twice}
+use Rattle.port_ops.proofs.opened.Opened.locals.Goals as goal
 
 pub loop-actor-preserved : goal.loop-actor-preserved
 loop-actor-preserved c =

@@ -1,4 +1,4 @@
--- A guest that is run in one thread: its state after the steps so far, and after one more.
+-- The world of a guest: its state after the steps of all its actors so far, and after one more.
 use Rattle.std.specs.Prelude.{ℕ, ◌<◌, IsTrue, List, map}
 use Rattle.gic_base.specs.declared.shape.GuestShape.{GuestShape}
 use Rattle.scn_base.specs.declared.guest.GuestSpec.{GuestSpec}

@@ -2,7 +2,7 @@
 ghost use Rattle.std.specs.Prelude.{◌≡◌, IfOk};
 ghost use Rattle.scn_base.specs.Good.{IsGoodGuest};
 ghost use Rattle.port_core.specs.Run.{opening};
-ghost use Rattle.port_seq.specs.World.{locals_in};
+ghost use Rattle.port_ops.specs.World.{locals_in};
 
 use gic_list::ListOf;
 use gic_open::opening_cpu;
@@ -19,7 +19,7 @@ pub struct Opened {
 
 impl Opened {
     /// A copy of a scenario's guest, with the guest's number.
-    pub(crate) fn of(alloc: Global, number: u32, guest: &GuestSpec) -> Result<Opened, AllocError>
+    pub fn of(alloc: Global, number: u32, guest: &GuestSpec) -> Result<Opened, AllocError>
         ensures { IfOk result (λ opened. opened ≡ record { number = number; guest = guest.now }) }
     {
         let presets = Vec::from_slice(alloc, guest.presets.as_slice())?;
@@ -34,7 +34,7 @@ impl Opened {
     }
 
     /// What each actor of the guest has for itself as the guest opens. An error where memory is refused.
-    pub(crate) fn locals(&self, alloc: Global) -> Result<Vec<Local>, AllocError>
+    pub fn locals(&self, alloc: Global) -> Result<Vec<Local>, AllocError>
         requires { IsGoodGuest self.now.guest }
         ensures { IfOk result (λ locals. locals.items ≡ locals_in (opening self.now.guest self.now.number)) }
     {
