@@ -117,3 +117,8 @@ take_suc (y ∷ ys) (suc i) x e = ap (λ zs. y ∷ zs) (take_suc ys i x e)
 
 pub take_next : {A : Type 0} (xs : List A) (i : ℕ) (x : A) → get_elem? xs i ≡ some x → take (i + 1) xs ≡ take i xs ++ x ∷ []
 take_next xs i x e = let same : i + 1 ≡ suc i = omega arith in ap (λ n. take n xs) same ∙ take_suc xs i x e
+
+-- the only view of a table that has one
+pub only_view : {A : Type 0} (x y : A) (id : ℕ) → get_elem? (x ∷ []) id ≡ some y → (id ≡ zero) × (x ≡ y)
+only_view x y zero e = (refl, some-injective x y e)
+only_view x y (suc id) e = absurd (some-ne-none y (sym e))

@@ -1,9 +1,9 @@
 -- A step of an actor keeps the rule of the words.
-use Rattle.std.proofs.Common.{◌≡◌, ℕ, ◌<◌, ◌==◌, zero, suc, IsTrue, List, [], ◌∷◌, ◌++◌, set, get_or, refl, sym, ap, subst, ◌∙◌}
+use Rattle.std.proofs.Common.{◌≡◌, ℕ, ◌<◌, ◌==◌, IsTrue, List, [], ◌∷◌, ◌++◌, set, get_or, refl, sym, ap, subst, ◌∙◌}
 use Rattle.std.specs.Option.{ForSome}
 use Rattle.std.proofs.lemmas.List.{map-set}
 use Rattle.std.proofs.lemmas.Option.{same_Some}
-use mathlib.Core.Option.{some, some-injective, some-ne-none}
+use mathlib.Core.Option.{some}
 use lib.ListN.{get_elem?}
 use Rattle.atomic_table.specs.Table.{State, Me, Allows, keeps}
 use Rattle.gic_word.specs.Record.{is_number}
@@ -26,12 +26,7 @@ use Rattle.port_seq.specs.declared.its_home.ItsHome.TheVariants.{Here, TakenBy}
 use Rattle.port_seq.specs.Home.{maps_here, taker_of}
 use Rattle.port_seq.specs.Rule.{IsAfter, IsMade}
 use Rattle.port_ops.specs.World.{state_after, entry_in, locals_in, HasTurn}
-use Rattle.port_ops.proofs.WorldLemmas.{left_by_operation, maps_same, one_more, run_more, sound_after, taker_keeps, takes_it}
-
--- the only view of a list of one
-only_view : {A : Type 0} (x y : A) (id : ℕ) → get_elem? (x ∷ []) id ≡ some y → (id ≡ zero) × (x ≡ y)
-only_view x y zero e = (refl, some-injective x y e)
-only_view x y (suc id) e = absurd (some-ne-none y (sym e))
+use Rattle.port_ops.proofs.WorldLemmas.{only_view, left_by_operation, maps_same, one_more, run_more, sound_after, taker_keeps, takes_it}
 
 -- An operation that makes a step keeps the rule, and the seat knows the step.
 pub may_make :

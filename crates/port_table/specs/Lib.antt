@@ -1,0 +1,6 @@
+pub mod View
+pub mod Slot
+pub mod Rule
+pub mod Told
+pub mod Ports
+pub mod Kept
