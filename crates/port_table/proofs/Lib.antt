@@ -5,3 +5,4 @@ pub mod MadeLemmas
 pub mod PortLemmas
 pub mod OpenLemmas
 pub mod EndLemmas
+pub mod GuestsLemmas

@@ -4,3 +4,4 @@ pub mod Rule
 pub mod Told
 pub mod Ports
 pub mod Kept
+pub mod All

@@ -5,10 +5,14 @@ mod calls;
 mod guest;
 mod port;
 mod rule;
+mod shared;
 mod steps;
+mod threads;
 mod view;
 
 pub use guest::{GuestRoot, GuestTable};
 pub use port::TablePort;
 pub use rule::ManyThreads;
+pub use shared::{RootSeat, SharedWords};
+pub use threads::{finish, join, split, start};
 pub use view::{Account, View};
