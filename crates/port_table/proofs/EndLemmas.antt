@@ -1,5 +1,5 @@
 -- The end of a guest's run.
-use Rattle.std.proofs.Common.{◌≡◌, ℕ, List, Option, Some, None, sym, ap, ◌∙◌}
+use Rattle.std.proofs.Common.{subst, ◌≡◌, ℕ, List, Option, Some, None, sym, ap, ◌∙◌, suc, ◌==◌, Bool, true, false, cond, All, [], ◌∷◌, refl, arith}
 use mathlib.Core.Option.{some, some-injective}
 use lib.ListN.{get_elem?}
 use Rattle.its_tab.specs.Maps.{Maps}
@@ -7,7 +7,12 @@ use Rattle.port_core.specs.declared.end.GuestWords.{GuestWords}
 use Rattle.std.proofs.lemmas.Option.{same_Some}
 use Rattle.port_ops.specs.Words.{words_at_end}
 use Rattle.port_ops.specs.World.{state_after}
-use Rattle.port_table.specs.Told.{WordsTold, RootTold, EndsRun}
+use Rattle.port_table.specs.Rule.{local_of}
+use Rattle.port_table.specs.Told.{WordsTold, RootTold, HasNoTurn, EndsRun}
+use Rattle.port_table.specs.View.{steps_of}
+use Rattle.port_table.specs.declared.view.Account.{Account}
+use Rattle.port_ops.specs.declared.opened.Opened.{Opened}
+use Rattle.std.proofs.lemmas.Bool.{eqb-true}
 use Rattle.port_table.proofs.RuleLemmas.{Closes}
 
 -- the slot has the tables
@@ -31,3 +36,16 @@ ends_run words root among slots tables end took left is =
       lists = end.lists;
       left_is = is ∙ ap (λ ws. words_at_end shape ws tables) end.words_are ∙ ap (words_at_end shape state.words) same;
     }
+
+-- an actor that was not joined has made no step, and as its guest opens nobody has the ITS
+pub none_has :
+    (words : WordsTold) (actor : ℕ) (joined : List Account) → All (HasNoTurn words) joined → (local_of (record { number = words.number; guest = words.guest }) actor (steps_of actor joined)).turn ≡ false
+none_has words actor [] all = refl
+none_has words actor (account ∷ joined) all = of (none_has words actor joined (λ k d h. all (suc k) d (omega (arith, h)))) (account.actor == actor) refl
+  where
+    opened : Opened
+    opened = record { number = words.number; guest = words.guest }
+
+    of : (local_of opened actor (steps_of actor joined)).turn ≡ false → (b : Bool) → (account.actor == actor) ≡ b → (local_of opened actor (cond b account.own (steps_of actor joined))).turn ≡ false
+    of later true e = subst (λ n. (local_of opened n account.own).turn ≡ false) (eqb-true account.actor actor e) (all 0 account (omega arith))
+    of later false e = later

@@ -6,3 +6,4 @@ pub mod PortLemmas
 pub mod OpenLemmas
 pub mod EndLemmas
 pub mod GuestsLemmas
+pub mod ApartLemmas

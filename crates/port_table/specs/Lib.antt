@@ -5,3 +5,4 @@ pub mod Told
 pub mod Ports
 pub mod Kept
 pub mod All
+pub mod Laws

@@ -1,12 +1,12 @@
 -- What is told of the shared words of guests, of their roots and of the actors' ports, and what a run leaves of all.
-use Rattle.std.specs.Prelude.{◌≡◌, ℕ, ◌<◌, false, IsTrue, List, [], ◌∷◌, ◌++◌, None, length, map, slice_index_or, slice_set}
+use Rattle.std.specs.Prelude.{All, ◌≡◌, ℕ, ◌<◌, false, IsTrue, List, [], ◌∷◌, ◌++◌, None, length, map, slice_index_or, slice_set}
 use Rattle.atomic_table.specs.Seated.{TableId}
 use Rattle.scn_base.specs.declared.guest.GuestSpec.{GuestSpec}
 use Rattle.port_core.specs.declared.end.GuestWords.{GuestWords}
 use Rattle.port_core.specs.declared.run.Entry.{Entry}
 use Rattle.port_core.specs.declared.run.Made.{Made}
 use Rattle.gic_base.specs.declared.operation.Actor.{Actor}
-use Rattle.port_core.specs.Actor.{actor_count, guest_of, number_of, has_actor}
+use Rattle.port_core.specs.Actor.{guest_of, number_of, has_actor}
 use Rattle.port_core.specs.Port.{Seen, local_by}
 use Rattle.port_core.specs.Run.{IsRun, opening, opening_local_of, own_steps}
 use Rattle.port_ops.specs.Opened.{no_guest}
@@ -52,10 +52,14 @@ opening_seen words actor =
       world = None;
     }
 
+-- by its steps an actor has not the ITS
+abbrev pub HasNoTurn : WordsTold → Account → Type 0
+HasNoTurn words account = (local_by words.guest.shape account.actor (opening_local_of words.guest words.number account.actor) account.own).turn ≡ false
+
 -- each actor that was split off was joined again, and none of them has the ITS
 pub record IsDone (words : WordsTold) (root : RootTold) : Type 0 where
   pub back : (actor : ℕ) → IsTrue (is_among actor root.split) → IsTrue (is_back actor root.joined)
-  pub idle : (actor : ℕ) → actor < actor_count words.guest.shape → (local_by words.guest.shape actor (opening_local_of words.guest words.number actor) (steps_of actor root.joined)).turn ≡ false
+  pub idle : All (HasNoTurn words) root.joined
 
 -- the lists that a root keeps are the parts of one run of the core from its guest's opening, by the guest's actors alone, which ends in these words and maps
 pub record EndsRun (words : WordsTold) (root : RootTold) (left : GuestWords) : Type 0 where

@@ -3,6 +3,7 @@
 
 mod calls;
 mod guest;
+mod laws;
 mod port;
 mod rule;
 mod shared;
@@ -11,6 +12,7 @@ mod threads;
 mod view;
 
 pub use guest::{GuestRoot, GuestTable};
+pub use laws::guests_apart;
 pub use port::TablePort;
 pub use rule::ManyThreads;
 pub use shared::{RootSeat, SharedWords};
