@@ -7,3 +7,4 @@ pub mod OpenLemmas
 pub mod EndLemmas
 pub mod GuestsLemmas
 pub mod ApartLemmas
+pub mod OutLemmas

@@ -26,15 +26,15 @@ own_other world entry actor differ =
 
 -- Actors among some.
 
-or_true : (a b : Bool) → IsTrue a → IsTrue (a || b)
+pub or_true : (a b : Bool) → IsTrue a → IsTrue (a || b)
 or_true true b h = refl
 or_true false b h = absurd (cc)
 
-or_later : (a b : Bool) → IsTrue b → IsTrue (a || b)
+pub or_later : (a b : Bool) → IsTrue b → IsTrue (a || b)
 or_later true b h = refl
 or_later false b h = h
 
-or_cases : (a b : Bool) → IsTrue (a || b) → IsTrue a ⊎ IsTrue b
+pub or_cases : (a b : Bool) → IsTrue (a || b) → IsTrue a ⊎ IsTrue b
 or_cases true b h = inl refl
 or_cases false b h = inr h
 
@@ -58,7 +58,7 @@ among_push actor one (other ∷ actors) = ap (λ b. (other == actor) || b) (amon
     shifted true b c = refl
     shifted false b c = refl
 
-back_push : (actor one : ℕ) (own : List Made) (joined : List Account) → is_back actor (with_account one own joined) ≡ (is_back actor joined || (one == actor))
+pub back_push : (actor one : ℕ) (own : List Made) (joined : List Account) → is_back actor (with_account one own joined) ≡ (is_back actor joined || (one == actor))
 back_push actor one own joined =
     ap (is_among actor) (map-append (λ (account : Account). account.actor) joined (record { actor = one; own = own } ∷ [])) ∙ among_push actor one (map (λ (account : Account). account.actor) joined)
 

@@ -6,3 +6,4 @@ pub mod Ports
 pub mod Kept
 pub mod All
 pub mod Laws
+pub mod Out
