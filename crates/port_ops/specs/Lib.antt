@@ -1,2 +1,5 @@
 pub mod Ready
 pub mod Words
+pub mod World
+pub mod Opened
+pub mod Props

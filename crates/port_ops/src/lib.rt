@@ -1,9 +1,15 @@
-//! What both ports of the core share: the one atomic operation of a step, and the words of a guest as it opens and as
-//! it ends.
+//! What both ports of the core share: the one atomic operation of a step, how a guest opened, and the words of a guest as
+//! it opens and as it ends.
 #![tactic(auto)]
 
+mod doing;
+mod drain;
+mod opened;
 mod table;
 mod words;
 
+pub use doing::Doing;
+pub use drain::closed_words;
+pub use opened::Opened;
 pub use table::{Telling, Tells, operate};
 pub use words::{guest_words, opening_words};

@@ -1,7 +1,7 @@
 -- What all guests tell, where one of them changes, comes or goes.
-use Rattle.std.proofs.Common.{◌≡◌, ℕ, suc, ◌+◌, ◌<◌, All, inl, inr, List, [], ◌∷◌, ◌++◌, map, length, set, get_or, arith, sym, ap, subst, ◌∙◌}
-use Rattle.std.proofs.lemmas.Bool.Decides.{eqb_tells}
-use Rattle.std.proofs.lemmas.List.{get_or-map, map-set, map-append, length-map, get_or-set_same, get_or_append_left, get_or_push}
+use Rattle.std.proofs.Common.{◌≡◌, ℕ, suc, ◌+◌, ◌<◌, All, List, [], ◌∷◌, ◌++◌, map, length, set, get_or, arith, sym, ap, subst, ◌∙◌}
+use Rattle.std.proofs.lemmas.List.{map-set, length-map, get_or-set_same}
+use Rattle.port_ops.proofs.MapLemmas.{mapped_at, mapped_push}
 use Rattle.port_seq.specs.declared.guest.GuestPort.{GuestPort}
 use Rattle.port_seq.specs.declared.port.SeqPort.{SeqPort}
 use Rattle.port_seq.specs.Lending.{with_guest}
@@ -10,7 +10,7 @@ use Rattle.port_seq.specs.Told.{GuestTold, SeqTold, no_told, with_current}
 
 -- what the port at a number tells
 pub told_at : (ports : List GuestPort) (number : ℕ) (port : GuestPort) → number < length ports → port ≡ get_or ports number port → get_or (map told ports) number no_told ≡ told port
-told_at ports number port there is = get_or-map told ports number port no_told there ∙ ap told (sym is)
+told_at = mapped_at told no_told
 
 -- the same after it changed
 pub told_now : (ports : List GuestPort) (number : ℕ) (next : GuestPort) → number < length ports → get_or (map told (set ports number next)) number no_told ≡ told next
@@ -25,16 +25,7 @@ told_set ports number port next is = map-set told ports number port ∙ ap (set 
 pub told_push :
     (P : GuestTold → ℕ → Type 0) (ports : List GuestPort) (port : GuestPort) (number : ℕ) → length ports ≡ number → ((n : ℕ) → n < number → P (get_or (map told ports) n no_told) n) → P (told port) number
     → (n : ℕ) → n < number + 1 → P (get_or (map told (ports ++ port ∷ [])) n no_told) n
-told_push P ports port number each before here n h =
-    let all = map-append told ports (port ∷ []) in
-    let long = length-map ports told ∙ each in
-    elim (eqb_tells n number) [
-      | inl same ↦
-          subst (λ t. P t n) (sym (ap (λ ts. get_or ts n no_told) all ∙ get_or_push (map told ports) (told port) no_told n (long ∙ sym same.1))) (subst (P (told port)) (sym same.1) here)
-      | inr differ ↦
-          (let small : n < number = omega (arith, h, differ.1) in
-          subst (λ t. P t n) (sym (ap (λ ts. get_or ts n no_told) all ∙ get_or_append_left (map told ports) (told port ∷ []) no_told n (subst (λ k. n < k) (sym long) small))) (before n small))
-    ]
+told_push = mapped_push told no_told
 
 -- what is true of what each tells is true of what one in the middle tells
 pub told_among : (P : GuestTold → Type 0) (early : List GuestPort) (port : GuestPort) (late : List GuestPort) → All P (map told (early ++ port ∷ late)) → P (told port)

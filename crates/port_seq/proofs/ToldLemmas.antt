@@ -12,7 +12,7 @@ use Rattle.port_core.proofs.RunLemmas.{runs_joined}
 use Rattle.port_core.proofs.StepLemmas.{found_valid, entry_keeps, tables_handed, tables_valid}
 use Rattle.port_seq.specs.Kept.{told_sound}
 use Rattle.port_seq.specs.Told.{GuestTold, state_of, seen_of, entry_of, with_step}
-use Rattle.port_seq.proofs.SeqLemmas.{each_seat}
+use Rattle.port_ops.proofs.WorldLemmas.{each_seat}
 
 -- the actor that is told, after a step of it
 seat_after : GuestTold → CoreStep → ℕ → Seat

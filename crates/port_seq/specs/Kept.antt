@@ -4,29 +4,20 @@ use Rattle.std.specs.Option.{ForSome}
 use Rattle.std.proofs.Common.{sym, ap, subst, refl, ◌∙◌, ◌++◌}
 use Rattle.std.proofs.Props.{props}
 use Rattle.std.proofs.Math.Logic.{∥∥₁_elim}
-use Rattle.gic_base.specs.declared.interrupt.Key.{Key}
-use Rattle.gic_base.specs.declared.shape.GuestShape.{GuestShape}
 use Rattle.gic_word.specs.Record.{is_number}
 use Rattle.std.proofs.lemmas.Bool.{eqb-true, eq-eqb}
 use Rattle.scn_base.specs.Good.{IsGoodGuest}
 use Rattle.port_core.specs.Actor.{actor_count}
 use Rattle.port_core.specs.Known.{known_maps}
-use Rattle.port_core.specs.Port.{Seen, IsPort, local_by}
+use Rattle.port_core.specs.Port.{IsPort, local_by}
 use Rattle.port_core.specs.Run.{IsRun, IsSound, opening, own_steps, seat_at, opening_local_of}
-use Rattle.port_core.specs.Valid.{AreMarks}
 use Rattle.port_core.proofs.OpeningLemmas.{opens_sound, seat_opens}
 use Rattle.port_core.proofs.RunLemmas.{own_of_run, local_of_run}
 use Rattle.port_core.proofs.StepLemmas.{run_sound}
 use Rattle.port_core.proofs.StepMaps.{one_has_turn}
+use Rattle.port_ops.specs.Props.{port_prop}
 use Rattle.port_seq.specs.Told.{GuestTold, seen_of, state_of}
-use Rattle.port_seq.specs.World.{HasTurn}
-
-marks_prop : (shape : GuestShape) (key : Option Key) (set : ℕ) → IsProp (AreMarks shape key set)
-marks_prop shape None set = Prim.hlevel props
-marks_prop shape (Some key) set = Prim.hlevel props
-
-port_prop : (seen : Seen) → IsProp (IsPort seen)
-port_prop seen = Prim.hlevel (marks_prop, props)
+use Rattle.port_ops.specs.World.{HasTurn}
 
 -- the state of a guest is sound
 pub told_sound : (told : GuestTold) → IsGoodGuest told.guest → IsRun told.guest.shape (opening told.guest told.number) told.world → IsSound told.guest.shape (state_of told)

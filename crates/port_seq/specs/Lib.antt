@@ -1,4 +1,3 @@
-pub mod World
 pub mod Home
 pub mod Rule
 pub mod Told

@@ -4,9 +4,8 @@ use Rattle.atomic_table.specs.Table.{State, Me}
 use Rattle.port_core.specs.declared.run.Entry.{Entry}
 use Rattle.port_core.specs.declared.step.CoreStep.{CoreStep}
 use Rattle.port_core.specs.Run.{IsRun, Takes, opening}
-use Rattle.port_seq.specs.declared.opened.Opened.{Opened}
-use Rattle.port_seq.specs.Told.{no_guest}
-use Rattle.port_seq.specs.World.{state_after, entry_in}
+use Rattle.port_ops.specs.declared.opened.Opened.{Opened}
+use Rattle.port_ops.specs.World.{state_after, entry_in}
 
 -- one seat knows all steps so far, which are a run from the opening, and the words are those that they leave
 pub record IsAfter (opened : Opened) (table : State (Unit {0}) (List Entry)) : Type 0 where
@@ -20,7 +19,3 @@ pub record IsMade (opened : Opened) (actor : ℕ) (step : CoreStep) (before : Me
   pub run : IsRun opened.guest.shape (opening opened.guest opened.number) before.0
   pub takes : Takes opened.guest.shape (state_after opened.guest opened.number before.0) (entry_in opened.guest.shape (state_after opened.guest opened.number before.0) actor step found)
   pub later : after.0 ≡ before.0 ++ entry_in opened.guest.shape (state_after opened.guest opened.number before.0) actor step found ∷ []
-
--- no guest
-abbrev pub no_opened : Opened
-no_opened = record { number = 0; guest = no_guest }

@@ -1,5 +1,5 @@
 -- What a port of one thread tells: of each guest all steps so far, and which actor is told.
-use Rattle.std.specs.Prelude.{◌≡◌, ℕ, ◌<◌, false, IsTrue, List, [], ◌∷◌, ◌++◌, length, slice_index_or, slice_set, Option, Some, None}
+use Rattle.std.specs.Prelude.{◌≡◌, ℕ, ◌<◌, IsTrue, List, [], ◌∷◌, ◌++◌, length, slice_index_or, slice_set, Option, Some, None}
 use Rattle.gic_base.specs.declared.operation.Actor.{Actor}
 use Rattle.gic_word.specs.Record.{is_number}
 use Rattle.atomic_table.specs.Seated.{TableId}
@@ -10,8 +10,9 @@ use Rattle.port_core.specs.declared.step.CoreStep.{CoreStep}
 use Rattle.port_core.specs.Actor.{guest_of, number_of, has_actor}
 use Rattle.port_core.specs.Port.{Seen}
 use Rattle.port_core.specs.Run.{CoreState, seat_at}
+use Rattle.port_ops.specs.Opened.{no_guest}
 use Rattle.port_ops.specs.Words.{words_at_end}
-use Rattle.port_seq.specs.World.{state_after, entry_in}
+use Rattle.port_ops.specs.World.{state_after, entry_in}
 
 -- a guest: where its words are, how it opened and its number; the steps of all its actors so far; the actor that has taken the tables of the ITS, if
 -- one has; and the actor that is told
@@ -62,9 +63,6 @@ pub record SeqTold : Type 0 where
   pub guest : ℕ
 
 -- no guest
-abbrev pub no_guest : GuestSpec
-no_guest = record { shape = record { vcpus = 0; spis = 0; espis = 0; devices = 0; lpis = 0; ram = 0 }; on = false; presets = [] }
-
 abbrev pub no_told : GuestTold
 no_told = opening_told (record { words = 0; slots = 0; views_name = 0; atom = 0; block = 0; offset = 0; slot_names = [] }) no_guest 0
 

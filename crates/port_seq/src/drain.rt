@@ -1,26 +1,13 @@
-//! The words of a table that is used no more.
+//! The words of a table that is used no more, and its memory.
 ghost use Rattle.std.specs.Prelude.{◌≡◌, IfOk};
 ghost use Rattle.std.specs.Slots.{slots_items, slots_len, IsFull};
 
 use atomic_table::Closed;
-use gic_list::ListOf;
 use port_core::WordList;
+use port_ops::closed_words;
 use std::alloc::{AllocError, Global};
 
-/// All words, of which there are so many.
-fn copy(alloc: Global, closed: &Closed<(), Global>, count: usize) -> Result<WordList, AllocError>
-    requires full { IsFull closed.now.words }
-    requires count { slots_len closed.now.words ≡ count }
-    ensures { IfOk result (λ words. words ≡ slots_items closed.now.words) }
-{
-    let mut words = ListOf::new(alloc);
-    for place in 0..count {
-        words.push(closed.word(place))?;
-    }
-    Ok(words)
-}
-
-/// The same, and the memory of the table is given back.
+/// All words, of which there are so many, and the memory of the table is given back.
 pub(crate) fn drain(
     alloc: Global,
     closed: Closed<(), Global>,
@@ -31,7 +18,7 @@ pub(crate) fn drain(
     requires none { slots_len closed.slots ≡ 0 }
     ensures { IfOk result (λ words. words ≡ slots_items closed.words) }
 {
-    let words = copy(alloc, &closed, count);
+    let words = closed_words(alloc, &closed, count);
     closed.free();
     words
 }

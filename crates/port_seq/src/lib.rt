@@ -5,7 +5,6 @@ mod drain;
 mod guest;
 mod guest_port;
 mod its_home;
-mod opened;
 mod port;
 mod rule;
 mod seq_port;

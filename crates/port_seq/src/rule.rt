@@ -1,23 +1,19 @@
 //! The rule of the words of a guest that is run in one thread, and one step under it.
 ghost use Rattle.std.specs.Prelude.{◌≡◌, ℕ, ◌<◌, []};
 ghost use Rattle.scn_base.specs.Good.{IsGoodGuest};
-ghost use Rattle.port_core.specs.declared.step.CoreStep.{CoreStep as Step};
-ghost use Rattle.port_core.specs.declared.step.CoreStep.TheVariants.{CtlrEnd};
 ghost use Rattle.port_core.specs.Actor.{actor_count};
 ghost use Rattle.port_core.specs.Atomic.{Makes};
 ghost use Rattle.port_core.specs.Condition.{Meets};
 ghost use Rattle.port_core.specs.Place.{place_of_word, word_count};
 ghost use Rattle.port_core.specs.Run.{seat_at};
 ghost use Rattle.port_core.specs.Step.{CanStep, word_of};
-ghost use Rattle.port_seq.specs.declared.opened.Opened.{Opened as Opens};
-ghost use Rattle.port_seq.specs.Rule.{IsAfter, IsMade, no_opened};
-ghost use Rattle.port_seq.specs.World.{state_after};
+ghost use Rattle.port_seq.specs.Rule.{IsAfter, IsMade};
+ghost use Rattle.port_ops.specs.World.{state_after};
 
-use crate::opened::Opened;
 use atomic_table::{Seat, Shared, TableRule};
 use gic_list::ListOf;
 use port_core::{Atomic, CoreStep, Entry};
-use port_ops::{Tells, operate};
+use port_ops::{Doing, Opened, Tells, operate};
 use std::marker::{Brand, PhantomData};
 
 /// The words are those after the steps that the one seat knows.
@@ -27,23 +23,6 @@ impl TableRule<(), ListOf<Entry>, Opened> for OneThread {
     ghost holds = { IsAfter };
 
     ghost first = { λ _. [] };
-}
-
-/// A step that is made, for proofs alone.
-pub(crate) trait Doing {
-    ghost opened: { Opens };
-
-    ghost actor: { ℕ };
-
-    ghost step: { Step };
-}
-
-impl Doing for Brand {
-    ghost opened = { no_opened };
-
-    ghost actor = { 0 };
-
-    ghost step = { CtlrEnd };
 }
 
 /// Tells that it was made. No value of it is made.

@@ -10,8 +10,9 @@ use Rattle.port_seq.specs.Kept.{told_is_port}
 use Rattle.port_seq.specs.Ports.{told}
 use Rattle.port_seq.specs.Rule.{IsMade}
 use Rattle.port_seq.specs.Told.{state_of, seen_of, entry_of}
-use Rattle.port_seq.specs.World.{state_after}
-use Rattle.port_seq.proofs.SeqLemmas.{each_local, local_at, sound_after, room_of, run_more, locals_more, maps_more, turn_more}
+use Rattle.port_ops.specs.World.{state_after}
+use Rattle.port_ops.proofs.WorldLemmas.{each_local, local_at, sound_after, room_of, run_more}
+use Rattle.port_seq.proofs.SeqLemmas.{locals_more, maps_more, turn_more}
 use Rattle.port_seq.proofs.guest.GuestPort.make.Goals as goal
 
 pub index-requires : goal.index-requires

@@ -1,5 +1,5 @@
 use Rattle.std.proofs.Common.{rules, ◌∙◌}
-use Rattle.port_seq.proofs.SeqLemmas.{each_local, local_at}
+use Rattle.port_ops.proofs.WorldLemmas.{each_local, local_at}
 use Rattle.port_seq.proofs.guest.GuestPort.own_local.Goals as goal
 
 pub index-requires : goal.index-requires

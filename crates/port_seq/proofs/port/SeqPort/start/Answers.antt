@@ -2,7 +2,8 @@ use Rattle.std.proofs.Common.{◌≡◌, ℕ, ◌+◌, ◌<◌, List, [], ◌∷
 use Rattle.std.proofs.lemmas.List.{length_push, get_or_default}
 use Rattle.port_seq.specs.declared.guest.GuestPort.{GuestPort}
 use Rattle.port_seq.specs.Ports.{told}
-use Rattle.port_seq.specs.Told.{no_told, no_guest, opening_told}
+use Rattle.port_ops.specs.Opened.{no_guest}
+use Rattle.port_seq.specs.Told.{no_told, opening_told}
 use Rattle.port_seq.proofs.GuestsLemmas.{told_push}
 use Rattle.port_seq.proofs.port.SeqPort.start.Goals as goal
 

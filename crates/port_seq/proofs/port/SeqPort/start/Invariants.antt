@@ -1,6 +1,7 @@
 use Rattle.std.proofs.Common.{◌≡◌, ℕ, ◌<◌, length, map, get_or}
 use Rattle.port_seq.specs.Ports.{told}
-use Rattle.port_seq.specs.Told.{no_told, no_guest, opening_told}
+use Rattle.port_ops.specs.Opened.{no_guest}
+use Rattle.port_seq.specs.Told.{no_told, opening_told}
 use Rattle.port_seq.proofs.port.SeqPort.start.Given as goal
 
 -- the guests so far, each as it opens

@@ -1,0 +1,20 @@
+//! The port of many threads: each actor of a scenario has a port of its own over words that all share.
+#![tactic(auto)]
+
+mod calls;
+mod guest;
+mod laws;
+mod port;
+mod rule;
+mod shared;
+mod steps;
+mod threads;
+mod view;
+
+pub use guest::{GuestRoot, GuestTable};
+pub use laws::guests_apart;
+pub use port::TablePort;
+pub use rule::ManyThreads;
+pub use shared::{RootSeat, SharedWords};
+pub use threads::{finish, join, split, start};
+pub use view::{Account, View};
