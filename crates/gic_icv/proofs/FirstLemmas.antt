@@ -41,7 +41,7 @@ word_candidate cpu word =
     same : (p q a g h : Bool) (one : Candidate) → p ≡ (q && not a) → g ≡ h → cond (p && g) (Some one) None ≡ cond (q && not a && h) (Some one) None
     same p q a g h one e f = grind (arith, common_steps)
 
-words_candidates : (cpu : CpuRec) (words : List ℕ) → candidates_in (deaf cpu) words ≡ candidates_seen cpu (seen_words words)
+pub words_candidates : (cpu : CpuRec) (words : List ℕ) → candidates_in (deaf cpu) words ≡ candidates_seen cpu (seen_words words)
 words_candidates cpu [] = refl
 words_candidates cpu (word ∷ words) = consed (candidate_in (deaf cpu) word) (candidate_seen cpu (seen_in word)) (candidates_in (deaf cpu) words) (candidates_seen cpu (seen_words words)) (word_candidate cpu word) (words_candidates cpu words)
   where
