@@ -96,7 +96,7 @@ module _ {shape : GuestShape} {state : CoreState} {ideal : Ideal} {actor : ℕ} 
           ]
 
 -- a vCPU that does not give back releases nothing
-no_release :
+pub no_release :
     {shape : GuestShape} {state : CoreState} {ideal : Ideal} {vcpu found left : ℕ} {tables : Option Maps} (step : CoreStep) → IsStep shape state ideal vcpu step found left tables → vcpu < shape.vcpus → is_folding (seat_at state vcpu).local.phase ≡ false
     → IsTrue (is_release step) → ⊥
 no_release {state = state} {vcpu = vcpu} (Release key) is within stays h =

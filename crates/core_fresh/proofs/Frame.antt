@@ -57,6 +57,9 @@ use Rattle.core_laws.proofs.AfterLemmas.{later, seat_mine, seat_other}
 use Rattle.core_fresh.proofs.ToldLemmas.{event_changes, Lasts, Told, AllTold}
 use Rattle.core_fresh.proofs.IndexRuns.{opens_told}
 use Rattle.core_fresh.proofs.IndexSteps.{keeps_complete}
+use Rattle.core_proper.proofs.ScanLemmas.{lrs_on}
+use Rattle.core_regs.proofs.StandRuns.{lrs_made}
+use Rattle.core_regs.proofs.StandSteps.{after_made}
 use Rattle.core_fresh.proofs.ProgressLemmas.{operation_on}
 use Rattle.core_fresh.proofs.TrackLemmas.{doing_here, doing_other, doing_kept, number_kept, is_queue, changes_each, last_kept, last_made, happens_doings, happens_changes, happens_here, happens_other, last_on, last_now}
 use Rattle.core_fresh.proofs.WaitingSteps.{last_in}
@@ -70,10 +73,10 @@ abbrev pub moved_on : GuestShape → (ℕ → Progress) → CoreMoment → ℕ �
 moved_on shape progress moment actor = if moment.actor == actor then progressed shape actor (progress actor) moment.act else progress actor
 
 -- an actor's part begins where it is in none, and goes on and ends where it is in one
-abbrev pub fits : Bool → Act → Bool
-fits within (begins operation lrs) = not within
-fits within (makes made) = within
-fits within (ends answer) = within
+abbrev pub fits : GuestShape → ℕ → Bool → Act → Bool
+fits shape actor within (begins operation lrs) = not within && has_registers shape actor lrs
+fits shape actor within (makes made) = within
+fits shape actor within (ends answer) = within
 
 -- what is kept at every moment
 pub record IsAt (shape : GuestShape) (state : CoreState) (at : Followed) (progress : ℕ → Progress) : Type 0 where
@@ -83,6 +86,7 @@ pub record IsAt (shape : GuestShape) (state : CoreState) (at : Followed) (progre
   pub seats : (actor : ℕ) → actor < actor_count shape → IsSeatOf (progress actor) (seat_at state actor)
   pub calls : (actor : ℕ) → actor < actor_count shape → (doing_of at.track actor).operation ≡ (progress actor).operation
   pub rests : (actor : ℕ) → actor < actor_count shape → (progress actor).operation ≡ None → IsTrue (is_settled (seat_at state actor).local)
+  pub registers : (actor : ℕ) → actor < actor_count shape → IsTrue (is_some (progress actor).operation) → IsTrue (has_registers shape actor (progress actor).lrs)
   pub doings_each : length at.track.doings ≡ actor_count shape
   pub changes_each : length at.track.changes ≡ interrupt_count shape
   pub told : AllTold shape state (last_in shape at.track)
@@ -90,7 +94,7 @@ pub record IsAt (shape : GuestShape) (state : CoreState) (at : Followed) (progre
 -- an actor does something there
 pub record IsActing (shape : GuestShape) (state : CoreState) (progress : ℕ → Progress) (actor : ℕ) (act : Act) : Type 0 where
   pub there : actor < actor_count shape
-  pub fit : IsTrue (fits (is_some (progress actor).operation) act)
+  pub fit : IsTrue (fits shape actor (is_some (progress actor).operation) act)
   pub proper : IsProperAct shape actor (progress actor) act
   pub run : IsRun shape state (entries_of (record { actor = actor; act = act } ∷ []))
 
@@ -288,6 +292,14 @@ module _ (shape : GuestShape) (good : IsShape shape) (state : CoreState) (at : F
           | inl same ↦ absurd (in_part (subst (λ o. IsTrue (is_some o)) (sym (operation_same actor) ∙ subst (λ m. (moved_on shape progress (record { actor = actor; act = makes made }) m).operation ≡ None) same none) acts.fit))
           | inr differ ↦ subst (λ (s : Seat). IsTrue (is_settled s.local)) (sym (seat_other is_step n differ)) (here.rests n there (sym (operation_same n) ∙ none))
         ];
+        registers = λ n there within. elim (cases_eq n actor) [
+          | inl same ↦
+              subst (λ m. IsTrue (has_registers shape m (moved_on shape progress (record { actor = actor; act = makes made }) m).lrs)) (sym same)
+              (subst (λ k. IsTrue (has_registers shape actor k)) (sym (ap (λ (p : Progress). p.lrs) mine ∙ lrs_on shape actor (after_made shape actor made (progress actor)) ∙ lrs_made shape actor made (progress actor))) (here.registers actor acts.there acts.fit))
+          | inr differ ↦
+              subst (λ (p : Progress). IsTrue (has_registers shape n p.lrs)) (sym (other n differ))
+              (here.registers n there (subst (λ o. IsTrue (is_some o)) (operation_same n) within))
+        ];
         doings_each = doings_after event simulated ∙ here.doings_each;
         changes_each = each_after event simulated ∙ here.changes_each;
         told = keeps_complete shape state at.ideal actor made.step made.found made.left made.tables is_step lasts here.told;
@@ -351,8 +363,8 @@ module _ (shape : GuestShape) (state : CoreState) (at : Followed) (progress : �
   -- what it does there
   part_next :
       (act : Act) (doing : Doing) → (progressed shape actor (progress actor) act).local ≡ (progress actor).local → (progressed shape actor (progress actor) act).own ≡ (progress actor).own → doing.operation ≡ (progressed shape actor (progress actor) act).operation
-      → IsTrue (is_settled (seat_at state actor).local) → IsAt shape state (record { ideal = at.ideal; track = with_doing actor doing at.track }) (moved_on shape progress (record { actor = actor; act = act }))
-  part_next act doing local own operation settled = record {
+      → IsTrue (is_settled (seat_at state actor).local) → (IsTrue (is_some (progressed shape actor (progress actor) act).operation) → IsTrue (has_registers shape actor (progressed shape actor (progress actor) act).lrs)) → IsAt shape state (record { ideal = at.ideal; track = with_doing actor doing at.track }) (moved_on shape progress (record { actor = actor; act = act }))
+  part_next act doing local own operation settled fitting = record {
     sound = here.sound;
     known = here.known;
     related = here.related;
@@ -372,6 +384,13 @@ module _ (shape : GuestShape) (state : CoreState) (at : Followed) (progress : �
     rests = λ n among none. elim (cases_eq n actor) [
       | inl same ↦ subst (λ m. IsTrue (is_settled (seat_at state m).local)) (sym same) settled
       | inr differ ↦ here.rests n among (sym (ap (λ (p : Progress). p.operation) (other n differ)) ∙ none)
+    ];
+    registers = λ n among within. elim (cases_eq n actor) [
+      | inl same ↦
+          subst (λ m. IsTrue (has_registers shape m (moved_on shape progress (record { actor = actor; act = act }) m).lrs)) (sym same)
+          (subst (λ (p : Progress). IsTrue (has_registers shape actor p.lrs)) (sym mine)
+          (fitting (subst (λ (p : Progress). IsTrue (is_some p.operation)) mine (subst (λ m. IsTrue (is_some (moved_on shape progress (record { actor = actor; act = act }) m).operation)) same within))))
+      | inr differ ↦ subst (λ (p : Progress). IsTrue (has_registers shape n p.lrs)) (sym (other n differ)) (here.registers n among (subst (λ (p : Progress). IsTrue (is_some p.operation)) (other n differ) within))
     ];
     doings_each = length-set at.track.doings actor doing ∙ here.doings_each;
     changes_each = here.changes_each;
@@ -394,11 +413,12 @@ pub at_next :
     → IsAt shape (after_moment shape state (record { actor = actor; act = act })) (follow shape state at (record { actor = actor; act = act })) (moved_on shape progress (record { actor = actor; act = act }))
 at_next shape good state at progress actor (begins operation lrs) here acts =
     part_next shape state at progress actor here acts.there (begins operation lrs) (record { operation = Some operation; number = (doing_of at.track actor).number + 1; done = [] }) refl refl refl
-    (here.rests actor acts.there (none_from (progress actor).operation acts.fit))
+    (here.rests actor acts.there (none_from (progress actor).operation (and_parts (not (is_some (progress actor).operation)) (has_registers shape actor lrs) acts.fit).0))
+    (λ within. (and_parts (not (is_some (progress actor).operation)) (has_registers shape actor lrs) acts.fit).1)
 at_next shape good state at progress actor (makes made) here acts = makes_next shape good state at progress actor made here acts
 at_next shape good state at progress actor (ends answer) here acts =
     part_next shape state at progress actor here acts.there (ends answer) (record (doing_of at.track actor) { operation = None }) refl refl refl
-    (subst (λ (l : Local). IsTrue (is_settled l)) (here.seats actor acts.there).local acts.proper.settled)
+    (subst (λ (l : Local). IsTrue (is_settled l)) (here.seats actor acts.there).local acts.proper.settled) (λ within. absurd (true≢false (sym within)))
 
 -- a begin or an end of a part
 abbrev pub is_part : Act → Bool
@@ -408,7 +428,7 @@ is_part (ends answer) = true
 
 -- an actor that begins or ends one owes nothing
 pub part_settled : (shape : GuestShape) (state : CoreState) (at : Followed) (progress : ℕ → Progress) (actor : ℕ) (act : Act) → IsAt shape state at progress → IsActing shape state progress actor act → is_part act ≡ true → IsTrue (is_settled (seat_at state actor).local)
-part_settled shape state at progress actor (begins operation lrs) here acts e = here.rests actor acts.there (none_from (progress actor).operation acts.fit)
+part_settled shape state at progress actor (begins operation lrs) here acts e = here.rests actor acts.there (none_from (progress actor).operation (and_parts (not (is_some (progress actor).operation)) (has_registers shape actor lrs) acts.fit).0)
 part_settled shape state at progress actor (makes made) here acts e = absurd (true≢false (sym e))
 part_settled shape state at progress actor (ends answer) here acts e = subst (λ (l : Local). IsTrue (is_settled l)) (here.seats actor acts.there).local acts.proper.settled
 
@@ -454,8 +474,8 @@ split shape state actor (begins operation lrs) moments run = (tt, run)
 split shape state actor (makes made) moments run = ((run.0, tt), run.1)
 split shape state actor (ends answer) moments run = (tt, run)
 
-fits_first : (shape : GuestShape) (actor : ℕ) (within : Bool) (act : Act) (acts : List Act) → IsTrue (are_parts shape actor within (act ∷ acts)) → IsTrue (fits within act)
-fits_first shape actor within (begins operation lrs) acts h = (and_parts (not within) (has_registers shape actor lrs) (and_parts (not within && has_registers shape actor lrs) (are_parts shape actor true acts) h).0).0
+fits_first : (shape : GuestShape) (actor : ℕ) (within : Bool) (act : Act) (acts : List Act) → IsTrue (are_parts shape actor within (act ∷ acts)) → IsTrue (fits shape actor within act)
+fits_first shape actor within (begins operation lrs) acts h = (and_parts (not within && has_registers shape actor lrs) (are_parts shape actor true acts) h).0
 fits_first shape actor within (makes made) acts h = (and_parts within (are_parts shape actor within acts) h).0
 fits_first shape actor within (ends answer) acts h = (and_parts within (are_parts shape actor false acts) h).0
 
@@ -469,7 +489,7 @@ module _ (shape : GuestShape) (state : CoreState) (progress : ℕ → Progress) 
   first_there : moment.actor < actor_count shape
   first_there = All-head (λ (m : CoreMoment). m.actor < actor_count shape) moment moments go.actors
 
-  first_acts : IsActing shape state progress moment.actor moment.act
+  pub first_acts : IsActing shape state progress moment.actor moment.act
   first_acts = record {
     there = first_there;
     fit =
@@ -485,7 +505,7 @@ module _ (shape : GuestShape) (state : CoreState) (progress : ℕ → Progress) 
   other_next : (n : ℕ) → n ≢ moment.actor → moved_on shape progress moment n ≡ progress n
   other_next n differ = ap (λ b. if b then progressed shape n (progress n) moment.act else progress n) (ne_eqb moment.actor n (λ e. differ (sym e)))
 
-  rest_go : GoProperly shape (after_moment shape state moment) (moved_on shape progress moment) moments
+  pub rest_go : GoProperly shape (after_moment shape state moment) (moved_on shape progress moment) moments
   rest_go = record {
     actors = All-tail (λ (m : CoreMoment). m.actor < actor_count shape) moment moments go.actors;
     parts = λ n there. elim (cases_eq n moment.actor) [
@@ -565,6 +585,7 @@ at_opens guest number good = record {
   seats = λ actor there. subst (IsSeatOf (opening_progress guest number actor)) (sym (seat_opens guest number actor there)) (record { local = refl; own = refl });
   calls = λ actor there. ap (λ (d : Doing). d.operation) (get_or-replicate (actor_count guest.shape) actor (record { operation = None; number = 0; done = [] }) (record { operation = None; number = 0; done = [] }) there);
   rests = λ actor there none. subst (λ (s : Seat). IsTrue (is_settled s.local)) (sym (seat_opens guest number actor there)) refl;
+  registers = λ actor there within. absurd (true≢false (sym within));
   doings_each = length-replicate (actor_count guest.shape) (record { operation = None; number = 0; done = [] });
   changes_each = length-replicate (interrupt_count guest.shape) nothing;
   told = opens_told guest number (last_in guest.shape (opening_track guest.shape)) good;

@@ -16,3 +16,11 @@ pub mod CopySteps
 pub mod HeldLemmas
 pub mod SinceSteps
 pub mod FarSteps
+pub mod RunFrame
+pub mod LeftLemmas
+pub mod LeftSteps
+pub mod LeftRuns
+pub mod LeftMade
+pub mod FirstLemmas
+pub mod LeftAccess
+pub mod FirstRuns

@@ -1,5 +1,5 @@
 -- A scan goes on.
-use Rattle.std.proofs.Common.{◌≡◌, ℕ, ◌-◌, ◌==◌, ◌⊎◌, inl, inr, true≢false, Bool, true, false, List, [], ◌∷◌, Contains, Option, Some, None, is_none, if◌then◌else◌, find, refl, sym, ◌∙◌, subst, arith}
+use Rattle.std.proofs.Common.{◌≡◌, ◌≤◌, ◌/◌, ℕ, ◌-◌, ◌==◌, ◌⊎◌, inl, inr, true≢false, Bool, true, false, IsTrue, List, [], ◌∷◌, Contains, Option, Some, None, is_none, if◌then◌else◌, find, refl, sym, ◌∙◌, subst, arith}
 use Rattle.std.specs.List.{range_with_len}
 use Rattle.std.specs.Option.{option_map}
 use Rattle.std.proofs.lemmas.Bool.{eqb-true}
@@ -63,22 +63,39 @@ module _ (shape : GuestShape) (state : CoreState) (track : Track) (vcpu : ℕ) (
   fills trapped offers q covers = record { offers = offers; lrs = q.lrs; purpose = trapped; filled = refl; covers = covers }
   fills bare offers q covers = record { offers = offers; lrs = q.lrs; purpose = bare; filled = refl; covers = covers }
 
+  -- where no candidate is left, all that is due was found
+  pub all_found : (from : ℕ) (offers : List Offer) (q : Progress) → ((key : Key) → IsDue shape state track vcpu key → IsAhead shape q from key ⊎ Contains offers (offer_in shape state key)) → is_none (next_cand shape vcpu q.local.cands from) ≡ true → (key : Key)
+      → IsDue shape state track vcpu key → Contains offers (offer_in shape state key)
+  all_found from offers q covers e key due = elim (covers key due) [
+    | inl is ↦
+        (let search = mapped_none (key_of_bit shape vcpu) (find (is_cand q.local.cands) (range_with_len from (index_bits shape - from))) e in
+        let bit = bit_there shape key good due.waiting.there in
+        let ahead = is.ahead in
+        absurd (true≢false (sym is.cand ∙ found_nowhere (is_cand q.local.cands) from (index_bits shape - from) search (index_bit shape key) ahead (omega (arith, bit, ahead)))))
+    | inr there ↦ there
+  ]
+
+  -- and where all words are taken, all that is due is among the candidates
+  pub all_taken : (words : ℕ) (q : Progress) → (words == index_words shape) ≡ true → ((key : Key) → IsDue shape state track vcpu key → IsTrue (is_cand q.local.cands (index_bit shape key)) ⊎ (words ≤ index_bit shape key / 64)) → (key : Key) → IsDue shape state track vcpu key
+      → IsAhead shape q 0 key ⊎ Contains [] (offer_in shape state key)
+  all_taken words q h c key due =
+      inl (record {
+        cand = elim (c key due) [
+          | inl cand ↦ cand
+          | inr late ↦
+              (let bit = bit_there shape key good due.waiting.there in
+              let all = eqb-true words (index_words shape) h in
+              absurd (omega (arith, bit, late, all)))
+        ];
+        ahead = omega arith;
+      })
+
   looks : (purpose : Purpose) (from : ℕ) (offers : List Offer) (q : Progress) → ((key : Key) → IsDue shape state track vcpu key → IsAhead shape q from key ⊎ Contains offers (offer_in shape state key))
       → let on = looks_on shape vcpu purpose from offers q in Covers shape state track vcpu on on.scan
   looks purpose from offers q covers = of (is_none (next_cand shape vcpu q.local.cands from)) refl
     where
-      none : is_none (next_cand shape vcpu q.local.cands from) ≡ true → (key : Key) → IsDue shape state track vcpu key → Contains offers (offer_in shape state key)
-      none e key due = elim (covers key due) [
-        | inl is ↦
-            (let search = mapped_none (key_of_bit shape vcpu) (find (is_cand q.local.cands) (range_with_len from (index_bits shape - from))) e in
-            let bit = bit_there shape key good due.waiting.there in
-            let ahead = is.ahead in
-            absurd (true≢false (sym is.cand ∙ found_nowhere (is_cand q.local.cands) from (index_bits shape - from) search (index_bit shape key) ahead (omega (arith, bit, ahead)))))
-        | inr there ↦ there
-      ]
-
       of : (b : Bool) → is_none (next_cand shape vcpu q.local.cands from) ≡ b → let on = (if b then filled shape vcpu purpose offers q else record q { scan = looking purpose from offers }) in Covers shape state track vcpu on on.scan
-      of true e = fills purpose offers q (none e)
+      of true e = fills purpose offers q (all_found from offers q covers e)
       of false e = λ key due. elim (covers key due) [ inl is ↦ inl (record { cand = is.cand; ahead = is.ahead }) | inr there ↦ inr there ]
 
   goes : (scan : Scan) (q : Progress) → q.scan ≡ scan → Covers shape state track vcpu q scan → let on = goes_on shape vcpu scan q in Covers shape state track vcpu on on.scan
@@ -87,19 +104,7 @@ module _ (shape : GuestShape) (state : CoreState) (track : Track) (vcpu : ℕ) (
     where
       of : (b : Bool) → (words == index_words shape) ≡ b → let on = (if b then looks_on shape vcpu purpose 0 [] q else q) in Covers shape state track vcpu on on.scan
       of false h = subst (Covers shape state track vcpu q) (sym e) c
-      of true h =
-          looks purpose 0 [] q
-          (λ key due.
-          inl (record {
-            cand = elim (c key due) [
-              | inl cand ↦ cand
-              | inr late ↦
-                  (let bit = bit_there shape key good due.waiting.there in
-                  let all = eqb-true words (index_words shape) h in
-                  absurd (omega (arith, bit, late, all)))
-            ];
-            ahead = omega arith;
-          }))
+      of true h = looks purpose 0 [] q (all_taken words q h c)
   goes (looking purpose from offers) q e c = looks purpose from offers q c
   goes (claiming claims takes) q e c = subst (Covers shape state track vcpu q) (sym e) c
 

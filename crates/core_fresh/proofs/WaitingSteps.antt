@@ -97,8 +97,8 @@ module _ {shape : GuestShape} {state : CoreState} {ideal : Ideal} {actor : ℕ} 
       pub due : IsDue shape state track vcpu key
       pub same : record_in shape (later is) key ≡ record_in shape state key
 
-    pub due_before : (IsOwnRelease step actor vcpu → ⊥) → is_poll_by vcpu actor step ≡ false → IsUnkicked shape (later is) vcpu → (key : Key) → IsDue shape (later is) later_track vcpu key → DueSo key
-    due_before other no_poll free key due = elim (word_cases is (Irq key) due.waiting.there) [
+    pub due_so : (IsOwnRelease step actor vcpu → ⊥) → is_kick_of vcpu step ≡ false → (key : Key) → IsDue shape (later is) later_track vcpu key → DueSo key
+    due_so other no_kick key due = elim (word_cases is (Irq key) due.waiting.there) [
       | inl here ↦ on here
       | inr apart ↦ so (ap irq_of apart.1) (apart_quiet is key apart.0)
     ]
@@ -115,7 +115,7 @@ module _ {shape : GuestShape} {state : CoreState} {ideal : Ideal} {actor : ℕ} 
               unwanted = ap (λ (i : IrqRecord). i.want) (sym same) ∙ waiting.unwanted;
               waits = subst (λ i. IsTrue (waits_for shape vcpu i)) same waiting.waits;
             };
-            told = λ excused. due.told (excused_on key waiting.there quiet (unkicked_before is vcpu within no_poll free).1 excused);
+            told = λ excused. due.told (excused_on key waiting.there quiet no_kick excused);
           };
           same = same;
         }
@@ -132,3 +132,6 @@ module _ {shape : GuestShape} {state : CoreState} {ideal : Ideal} {actor : ℕ} 
                     | inr own ↦ absurd (other own)
                   ]
             ]
+
+    pub due_before : (IsOwnRelease step actor vcpu → ⊥) → is_poll_by vcpu actor step ≡ false → IsUnkicked shape (later is) vcpu → (key : Key) → IsDue shape (later is) later_track vcpu key → DueSo key
+    due_before other no_poll free key due = due_so other (unkicked_before is vcpu within no_poll free).1 key due

@@ -5,4 +5,5 @@ pub mod Scan
 pub mod Copies
 pub mod Standing
 pub mod Far
+pub mod First
 pub mod Wants

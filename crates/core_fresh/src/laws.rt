@@ -1,6 +1,7 @@
 //! Laws of every run of the core.
 ghost use Rattle.core_fresh.specs.Copies.{CopiesAreCurrent};
 ghost use Rattle.core_fresh.specs.Far.{FarEndsAreKnown};
+ghost use Rattle.core_fresh.specs.First.{FirstComesFirst};
 ghost use Rattle.core_fresh.specs.Index.{IndexIsComplete};
 ghost use Rattle.core_fresh.specs.Scan.{ScanOverlooksNone};
 ghost use Rattle.core_fresh.specs.Standing.{ChangesAreOwed};
@@ -38,6 +39,13 @@ pub fn changes_are_owed()
 /// and owes the vCPU a kick.
 pub fn far_ends_are_known()
     ensures { FarEndsAreKnown }
+{}
+
+/// A law of every proper run, of a vCPU that is not kicked, of which no claim failed, that may do accesses and owes no scan, and
+/// in trap mode scanned since its last look for a kick: no interrupt that is due and deliverable to it comes before the first at
+/// its interface, and there is a first one where any is due and deliverable.
+pub fn first_comes_first()
+    ensures { FirstComesFirst }
 {}
 
 /// A law of every run with its parts: an interrupt for which an access waits is wanted by an actor, which asked for it in its

@@ -4,6 +4,6 @@
 mod laws;
 
 pub use laws::{
-    changes_are_owed, copies_are_current, far_ends_are_known, index_is_complete,
+    changes_are_owed, copies_are_current, far_ends_are_known, first_comes_first, index_is_complete,
     scans_overlook_none, wants_are_kept,
 };
