@@ -14,3 +14,4 @@ pub mod WrittenLemmas
 pub mod CommandLemmas
 pub mod MomentLemmas
 pub mod AgreeLemmas
+pub mod OneLemmas
