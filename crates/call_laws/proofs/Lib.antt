@@ -15,3 +15,4 @@ pub mod CommandLemmas
 pub mod MomentLemmas
 pub mod AgreeLemmas
 pub mod OneLemmas
+pub mod QueueLemmas

@@ -45,6 +45,10 @@ keeps_for id (Reach key u) = true
 keeps_for id (Take key u) = true
 keeps_for id (Leave key u) = true
 keeps_for id (Read at) = true
+keeps_for id (Put other value) = true
+keeps_for id (Queue offset change) = true
+keeps_for id ItsBegin = true
+keeps_for id ItsEnd = true
 keeps_for id event = false
 
 abbrev pub sends_to : ℕ → Event → Bool
@@ -79,6 +83,12 @@ target_kept guest id (Reach key u) whole h = refl
 target_kept guest id (Take key u) whole h = refl
 target_kept guest id (Leave key u) whole h = refl
 target_kept guest id (Read at) whole h = refl
+target_kept guest id (Put other value) whole h = refl
+target_kept guest id (Queue offset Runs) whole h = refl
+target_kept guest id (Queue offset (Done words)) whole h = refl
+target_kept guest id (Queue offset (Stalls fault)) whole h = refl
+target_kept guest id ItsBegin whole h = refl
+target_kept guest id ItsEnd whole h = refl
 target_kept guest id event whole h = absurd (cc)
 
 pub target_sent : (guest : IdealGuest) (id vcpu : ℕ) (event : Event) → IsWhole guest → sends_to vcpu event ≡ true → (target_at (after_event guest event) id ≡ target_at guest id) ⊎ (target_at (after_event guest event) id ≡ Some vcpu)
@@ -187,6 +197,12 @@ seen_kept guest id (event ∷ events) t whole all (inl e) = sym e ∙ target_kep
 seen_kept guest id (event ∷ events) t whole all (inr later) =
     let parts = and_parts (keeps_for id event) (list_all (keeps_for id) events) all in
     seen_kept (after_event guest event) id events t (guest_whole event guest whole) parts.1 later ∙ target_kept guest id event whole parts.0
+
+pub targets_after : (guest : IdealGuest) (id : ℕ) (events : List Event) → IsWhole guest → IsTrue (list_all (keeps_for id) events) → target_at (after_events events guest) id ≡ target_at guest id
+targets_after guest id [] whole all = refl
+targets_after guest id (event ∷ events) whole all =
+    let parts = and_parts (keeps_for id event) (list_all (keeps_for id) events) all in
+    targets_after (after_event guest event) id events (guest_whole event guest whole) parts.1 ∙ target_kept guest id event whole parts.0
 
 pub seen_sent : (guest : IdealGuest) (id vcpu : ℕ) (events : List Event) (t : Option ℕ) → IsWhole guest → IsTrue (list_all (sends_to vcpu) events) → IsIn (seen_by guest events id) t → (t ≡ target_at guest id) ⊎ (t ≡ Some vcpu)
 seen_sent guest id vcpu [] t whole all is = absurd is

@@ -40,12 +40,12 @@ use Rattle.call_laws.proofs.TargetLemmas.{AllAre}
 
 -- Lists.
 
-are_in : (xs : List (Option ℕ)) (t x : Option ℕ) → AllAre xs t → IsIn xs x → x ≡ t
+pub are_in : (xs : List (Option ℕ)) (t x : Option ℕ) → AllAre xs t → IsIn xs x → x ≡ t
 are_in [] t x are is = absurd is
 are_in (y ∷ ys) t x are (inl e) = sym e ∙ are.0
 are_in (y ∷ ys) t x are (inr later) = are_in ys t x are.1 later
 
-all_from : (xs : List (Option ℕ)) (t : Option ℕ) → ((x : Option ℕ) → IsIn xs x → x ≡ t) → AllAre xs t
+pub all_from : (xs : List (Option ℕ)) (t : Option ℕ) → ((x : Option ℕ) → IsIn xs x → x ≡ t) → AllAre xs t
 all_from [] t each = tt
 all_from (y ∷ ys) t each = (each y (inl refl), all_from ys t (λ x is. each x (inr is)))
 
@@ -80,7 +80,7 @@ split_at actor event (one ∷ piece) are = of (is_beside actor one.event) refl a
 
 -- Events that are beside.
 
-beside_between : (actor : Option ℕ) (event : Event) → is_beside actor event ≡ true → is_between event ≡ true
+pub beside_between : (actor : Option ℕ) (event : Event) → is_beside actor event ≡ true → is_between event ≡ true
 beside_between actor (Raise key) h = absurd (cc)
 beside_between actor (Up key) h = absurd (cc)
 beside_between actor (Down key) h = absurd (cc)
@@ -100,11 +100,19 @@ beside_between actor (Queue offset Runs) h = absurd (cc)
 beside_between actor (Queue offset (Done words)) h = absurd (cc)
 beside_between actor (Queue offset (Stalls fault)) h = absurd (cc)
 
-all_beside : (test : Event → Bool) → ((actor : Option ℕ) (event : Event) → is_beside actor event ≡ true → test event ≡ true) → (actor : Option ℕ) (piece : List Happened) → events_of (named_of actor piece) ≡ [] → IsTrue (list_all test (events_of piece))
+pub all_beside : (test : Event → Bool) → ((actor : Option ℕ) (event : Event) → is_beside actor event ≡ true → test event ≡ true) → (actor : Option ℕ) (piece : List Happened) → events_of (named_of actor piece) ≡ [] → IsTrue (list_all test (events_of piece))
 all_beside test beside actor piece none = beside_passes test beside actor piece (subst (λ es. IsTrue (list_all test es)) (sym none) refl)
 
+pub none_beside : (actor : Option ℕ) (piece : List Happened) → events_of (named_of actor piece) ≡ [] → IsTrue (list_all (is_beside actor) (events_of piece))
+none_beside actor [] none = refl
+none_beside actor (one ∷ piece) none = of (is_beside actor one.event) none (none_beside actor piece)
+  where
+    of : (c : Bool) → events_of (cond (not c) (one ∷ named_of actor piece) (named_of actor piece)) ≡ [] → (events_of (named_of actor piece) ≡ [] → IsTrue (list_all (is_beside actor) (events_of piece))) → (c && list_all (is_beside actor) (events_of piece)) ≡ true
+    of true none later = later none
+    of false none later = absurd (cc)
+
 -- they leave a guest as it is
-still_beside : (actor : Option ℕ) (piece : List Happened) (guest : IdealGuest) → IsTrue (list_all (is_beside actor) (events_of piece)) → after_events (events_of piece) guest ≡ guest
+pub still_beside : (actor : Option ℕ) (piece : List Happened) (guest : IdealGuest) → IsTrue (list_all (is_beside actor) (events_of piece)) → after_events (events_of piece) guest ≡ guest
 still_beside actor [] guest all = refl
 still_beside actor (one ∷ piece) guest all =
     let parts = and_parts (is_beside actor one.event) (list_all (is_beside actor) (events_of piece)) all in
@@ -124,11 +132,11 @@ part_between shape view targets (part ∷ ps) = and_from (is_between (lpi_event 
 
 -- Runs.
 
-follows_split : (actor : ℕ) (first next : List Event) (state : Ideal) (guest : IdealGuest) → Follows actor state guest (first ++ next) → Follows actor state guest first × Follows actor (state_after actor first state) (after_events first guest) next
+pub follows_split : (actor : ℕ) (first next : List Event) (state : Ideal) (guest : IdealGuest) → Follows actor state guest (first ++ next) → Follows actor state guest first × Follows actor (state_after actor first state) (after_events first guest) next
 follows_split actor [] next state guest follows = (tt, follows)
 follows_split actor (event ∷ first) next state guest follows = let later = follows_split actor first next (happened actor event state) (after_event guest event) follows.1 in ((follows.0, later.0), later.1)
 
-whole_after : (events : List Event) (guest : IdealGuest) → IsWhole guest → IsWhole (after_events events guest)
+pub whole_after : (events : List Event) (guest : IdealGuest) → IsWhole guest → IsWhole (after_events events guest)
 whole_after [] guest whole = whole
 whole_after (event ∷ events) guest whole = whole_after events (after_event guest event) (guest_whole event guest whole)
 
@@ -276,17 +284,6 @@ module _ (shape : GuestShape) (actor vcpu : ℕ) (beside : Beside) (b : Bool) (g
         ∙ result_agrees shape guest whole (Some vcpu) early view.targets seen guest.tables result clear (named ∙ ap (map (lpi_event shape (view_of guest) view.targets)) are) self
         ∙ ap (λ ps. map (lpi_event shape (view_of guest) (target_at guest)) (cond clear ps [])) (sym (decoded_is shape (view_of guest) result))
 
-    still_post : IsTrue (list_all (is_beside (Some vcpu)) (events_of post))
-    still_post = of post post_none
-      where
-        of : (xs : List Happened) → events_of (named_of (Some vcpu) xs) ≡ [] → IsTrue (list_all (is_beside (Some vcpu)) (events_of xs))
-        of [] none = refl
-        of (one ∷ xs) none = by (is_beside (Some vcpu) one.event) none (of xs)
-          where
-            by : (c : Bool) → events_of (cond (not c) (one ∷ named_of (Some vcpu) xs) (named_of (Some vcpu) xs)) ≡ [] → (events_of (named_of (Some vcpu) xs) ≡ [] → IsTrue (list_all (is_beside (Some vcpu)) (events_of xs))) → (c && list_all (is_beside (Some vcpu)) (events_of xs)) ≡ true
-            by true none later = later none
-            by false none later = absurd (cc)
-
     guest2_is : guest2 ≡ after_command guest
     guest2_is =
         ap (λ g. after_event g event) ((named_run b guest (Some vcpu) early run).goes ∙ ap (λ es. after_events es guest) named_now)
@@ -318,11 +315,17 @@ module _ (shape : GuestShape) (actor vcpu : ℕ) (beside : Beside) (b : Bool) (g
 
     pieces_done : OneDone actor guest state call number (events_of early ++ event ∷ events_of post)
     pieces_done = record {
-      goes = fold-append after_event guest (events_of early) (event ∷ events_of post) ∙ still_beside (Some vcpu) post guest2 still_post ∙ guest2_is;
+      goes = fold-append after_event guest (events_of early) (event ∷ events_of post) ∙ still_beside (Some vcpu) post guest2 (none_beside (Some vcpu) post post_none) ∙ guest2_is;
       at = subst (λ c. IsAt (after_command guest) c (number + 1)) (sym (call_append actor (events_of early) (event ∷ events_of post) state call)) next_at;
     }
 
   -- The command.
+
+  pub words_are : (own : List Happened) → IsCommand (Some vcpu) shape view own → IsHomeRun b guest own → command_words shape view ≡ command_words shape (view_of guest)
+  words_are own command run =
+      words_same shape guest view same
+      (reads_word b guest (Some vcpu) view [] (command_places shape view) [] command.fetch command.fetched (run_split command.fetch command.rest b guest (subst (IsHomeRun b guest) command.split run)).0
+      (all_beside keeps_words beside_words (Some vcpu) command.fetch command.fetched.events_are))
 
   pub one_done : (own : List Happened) (after : List Event) → IsCommand (Some vcpu) shape view own → IsHomeRun b guest own → Follows actor state guest (events_of own) → HasTargets beside (call_after actor (events_of own ++ after) state call)
       → OneDone actor guest state call number (events_of own)
@@ -339,7 +342,7 @@ module _ (shape : GuestShape) (actor vcpu : ℕ) (beside : Beside) (b : Bool) (g
       fetch_keep = all_beside keeps_words beside_words (Some vcpu) command.fetch command.fetched.events_are
 
       words : command_words shape view ≡ command_words shape (view_of guest)
-      words = words_same shape guest view same (reads_word b guest (Some vcpu) view [] (command_places shape view) [] command.fetch command.fetched (run_split command.fetch command.rest b guest run_both).0 fetch_keep)
+      words = words_are own command run
 
       done : PartsDone guest (Some vcpu) shape view.targets (command_parts shape view) (λ before piece. Makes (Some vcpu) view (queue_event shape view ∷ []) [] before piece) command.fetch command.rest
       done = parts_done b guest (Some vcpu) shape view.targets (command_parts shape view) (λ before piece. Makes (Some vcpu) view (queue_event shape view ∷ []) [] before piece) command.fetch command.rest command.done run_both fetch_keep
