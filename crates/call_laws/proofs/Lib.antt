@@ -16,3 +16,4 @@ pub mod MomentLemmas
 pub mod AgreeLemmas
 pub mod OneLemmas
 pub mod QueueLemmas
+pub mod TurnLemmas
