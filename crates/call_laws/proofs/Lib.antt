@@ -17,3 +17,4 @@ pub mod AgreeLemmas
 pub mod OneLemmas
 pub mod QueueLemmas
 pub mod TurnLemmas
+pub mod ItsLemmas

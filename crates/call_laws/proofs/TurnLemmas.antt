@@ -123,7 +123,7 @@ beside_no_turn actor (Queue offset (Stalls fault)) h = absurd (cc)
 pub makes_no_turn : (actor : Option ℕ) (view : View) (events : List Event) (places : List Place) (before piece : List Happened) → Makes actor view events places before piece → IsTrue (list_all is_no_turn events) → IsTrue (list_all is_no_turn (events_of piece))
 makes_no_turn actor view events places before piece made none = beside_passes is_no_turn beside_no_turn actor piece (subst (λ es. IsTrue (list_all is_no_turn es)) (sym made.events_are) none)
 
-no_turn_both : (first next : List Happened) → IsTrue (list_all is_no_turn (events_of first)) → IsTrue (list_all is_no_turn (events_of next)) → IsTrue (list_all is_no_turn (events_of (first ++ next)))
+pub no_turn_both : (first next : List Happened) → IsTrue (list_all is_no_turn (events_of first)) → IsTrue (list_all is_no_turn (events_of next)) → IsTrue (list_all is_no_turn (events_of (first ++ next)))
 no_turn_both first next one two =
     ap (list_all is_no_turn) (events_both first next) ∙ list_all-append is_no_turn (events_of first) (events_of next) ∙ and_from (list_all is_no_turn (events_of first)) (list_all is_no_turn (events_of next)) one two
 
