@@ -1,5 +1,5 @@
 -- What devices do: messages, wires, and message-signalled interrupts, which the ITS translates.
-use Rattle.std.proofs.Common.{◌≡◌, ℕ, ◌++◌, ◌∷◌, ◌||◌, inl, not, Bool, true, false, cond, IsTrue, List, [], Option, Some, None, refl, sym, ap, ◌∙◌, subst}
+use Rattle.std.proofs.Common.{◌≡◌, ℕ, ◌++◌, ◌∷◌, inl, not, Bool, true, false, IsTrue, List, [], Option, Some, None, refl, sym, ap, ◌∙◌, subst}
 use Rattle.std.specs.List.{list_all, list_any}
 use Rattle.std.specs.Option.{option_map_or}
 use Rattle.std.proofs.lemmas.Bool.{and_from}
@@ -15,7 +15,7 @@ use Rattle.gic_call.specs.declared.event.Moment.{Moment}
 use Rattle.gic_call.specs.declared.event.Operation.TheVariants.{Device}
 use Rattle.gic_call.specs.declared.event.Place.TheVariants.{Word}
 use Rattle.gic_call.specs.Call.{device_events}
-use Rattle.gic_call.specs.Trace.{Happened, is_beside, named_of, IsDeviceCall, IsCall}
+use Rattle.gic_call.specs.Trace.{Happened, IsDeviceCall, IsCall}
 use Rattle.gic_call.specs.View.{View, is_its_enabled}
 use Rattle.its_tab.specs.Message.{translated}
 use Rattle.ideal_guest.specs.declared.guest.IdealGuest.{IdealGuest}

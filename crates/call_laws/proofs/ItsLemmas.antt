@@ -1,7 +1,6 @@
 -- A write of a register of the ITS that takes it, with the commands that it starts.
-use Rattle.std.proofs.Common.{◌≡◌, ℕ, ◌+◌, ◌≤◌, ◌++◌, ◌∷◌, ◌⊎◌, inl, inr, not, Bool, true, false, cond, if◌then◌else◌, IsTrue, List, [], length, Option, Some, None, refl, sym, ap, ◌∙◌, subst, arith}
+use Rattle.std.proofs.Common.{◌≡◌, ℕ, ◌++◌, ◌∷◌, ◌⊎◌, inl, inr, not, Bool, true, false, cond, IsTrue, List, [], length, Option, Some, refl, sym, ap, ◌∙◌, subst}
 use Rattle.std.specs.List.{list_all, list_any}
-use Rattle.std.proofs.lemmas.Bool.{and_parts, and_from}
 use Rattle.std.proofs.lemmas.Grind.{fold-append}
 use Rattle.std.proofs.lemmas.List.{append_assoc}
 use Rattle.gic_base.specs.declared.operation.Frame.TheVariants.{Its}
@@ -9,26 +8,24 @@ use Rattle.gic_base.specs.declared.operation.GuestOp.TheVariants.{Mem}
 use Rattle.gic_base.specs.declared.shape.GuestShape.{GuestShape}
 use Rattle.gic_imap.specs.Map.{decoded as its_decoded}
 use Rattle.gic_imap.specs.declared.map.RegRef.{RegRef as ItsRef}
-use Rattle.gic_open.specs.Plain.{plain_count}
 use Rattle.gic_open.specs.declared.plain.PlainWord.TheVariants.{Cbaser}
 use Rattle.gic_call.specs.declared.event.Event.{Event}
 use Rattle.gic_call.specs.declared.event.Event.TheVariants.{ItsBegin, ItsEnd}
 use Rattle.gic_call.specs.declared.event.Moment.{Moment}
 use Rattle.gic_call.specs.declared.event.Operation.{Operation}
 use Rattle.gic_call.specs.declared.event.Operation.TheVariants.{Access}
-use Rattle.gic_call.specs.Access.{takes_its}
-use Rattle.gic_call.specs.Call.{access_events, its_events, its_starts, starts_commands, takes_turn}
-use Rattle.gic_call.specs.Command.{takes_command, queue_places}
-use Rattle.gic_call.specs.Trace.{Happened, is_beside, named_of, Beside, Makes, AreCommands, AreStarted, IsItsCall, IsCall, its_places, its_written_by, HaveSameIts, left_by}
+use Rattle.gic_call.specs.Call.{access_events, its_events, its_starts, takes_turn}
+use Rattle.gic_call.specs.Command.{queue_places}
+use Rattle.gic_call.specs.Trace.{Happened, is_beside, AreStarted, IsItsCall, its_places, its_written_by, HaveSameIts}
 use Rattle.gic_call.specs.View.{View}
 use Rattle.gic_call.proofs.CallLemmas.{its_valid}
 use Rattle.ideal_guest.specs.declared.guest.IdealGuest.{IdealGuest}
-use Rattle.ideal_guest.specs.Ideal.{word_at, view_of, after_event, after_events, after_command, after_commands, after_queued}
+use Rattle.ideal_guest.specs.Ideal.{word_at, view_of, after_event, after_events, after_queued}
 use Rattle.ideal_guest.specs.Queue.{IsQueueInOrder}
 use Rattle.ideal_guest.specs.Sound.{IsSound}
 use Rattle.ideal_guest.proofs.KeyLemmas.{IsWhole}
 use Rattle.ideal_guest.proofs.QueueLemmas.{commands_end}
-use Rattle.gic_history.specs.History.{Call, begun, targets_in, vcpu_of, last_of}
+use Rattle.gic_history.specs.History.{Call, begun, last_of}
 use Rattle.gic_history.specs.Moves.{home}
 use Rattle.gic_history.specs.State.{Ideal}
 use Rattle.gic_ideal.specs.Deeds.{op_events}
@@ -43,11 +40,11 @@ use Rattle.scn_base.specs.declared.guest.GuestSpec.{GuestSpec}
 use Rattle.call_laws.specs.Calls.{MoveApart, IsAtRest, lone_call, IsEagerCall}
 use Rattle.call_laws.proofs.CommandLemmas.{marks_after, run_split, events_both}
 use Rattle.call_laws.proofs.MapsLemmas.{keeps_maps, beside_maps, maps_taken}
-use Rattle.call_laws.proofs.MomentLemmas.{target_at, keeps_for, beside_keeps_for, seen_by, seen_kept, targets_after, is_between, IsGrown, grown}
+use Rattle.call_laws.proofs.MomentLemmas.{target_at, keeps_for, beside_keeps_for, seen_by, seen_kept, targets_after, is_between, grown}
 use Rattle.call_laws.proofs.NamedLemmas.{named_run, IsIn}
 use Rattle.call_laws.proofs.OneLemmas.{beside_between, all_from, follows_split, IsAt, HasTargets}
 use Rattle.call_laws.proofs.PartLemmas.{IsMade}
-use Rattle.call_laws.proofs.QueueLemmas.{after_taken, AllTaken, queued_is, CommandsDone, commands_done}
+use Rattle.call_laws.proofs.QueueLemmas.{queued_is, commands_done}
 use Rattle.call_laws.proofs.ReadLemmas.{beside_passes, some_named}
 use Rattle.call_laws.proofs.RunLemmas.{events_of, IsHomeRun, Follows, LoneRun}
 use Rattle.call_laws.proofs.TargetLemmas.{home_targets}
@@ -125,10 +122,10 @@ module _ (guest : GuestSpec) (moments : List Moment) (actor : ℕ) (piece : List
         ∙ maps_after actor (events_of is.commands ++ events_of is.last) (state_after actor (events_of is.register) state) (call_after actor (events_of is.register) state open_call)
         (ap (list_all is_no_turn) (sym (events_both is.commands is.last))
         ∙ no_turn_both is.commands is.last
-            (started_no_turn (its_starts guest.shape is.view (its_decoded offset size) (Some value)) (Some vcpu) guest.shape run.ended.beside (its_written_by guest.shape is.view mine) is.views is.commands is.started)
-            (makes_no_turn (Some vcpu) is.view (ItsEnd ∷ []) [] [] is.last is.ended refl))
+        (started_no_turn (its_starts guest.shape is.view (its_decoded offset size) (Some value)) (Some vcpu) guest.shape run.ended.beside (its_written_by guest.shape is.view mine) is.views is.commands is.started)
+        (makes_no_turn (Some vcpu) is.view (ItsEnd ∷ []) [] [] is.last is.ended refl))
         ∙ maps_taken actor state.guest.tables (events_of is.register) state open_call refl keep_maps
-            (some_named (λ event. not (is_no_turn event)) (Some vcpu) is.register (subst (λ es. list_any (λ event. not (is_no_turn event)) es ≡ true) (sym is.written.events_are) refl))
+        (some_named (λ event. not (is_no_turn event)) (Some vcpu) is.register (subst (λ es. list_any (λ event. not (is_no_turn event)) es ≡ true) (sym is.written.events_are) refl))
         ∙ ap (λ (g : IdealGuest). g.tables) (sym (home_rest state))
 
     -- The register.
@@ -215,9 +212,9 @@ module _ (guest : GuestSpec) (moments : List Moment) (actor : ℕ) (piece : List
           → guest2 ≡ after_queued guest1
       some_started apart known are =
           let done = commands_done guest.shape actor vcpu run.ended.beside is.views 0 (its_written_by guest.shape is.view mine) is.commands (events_of is.last) (marks_after is.register false) guest1 state1 call1 are sound1
-              (ap (λ (g : IdealGuest). g.shape) guest1_eager ∙ shape_events eager before ∙ run.shape_is) (known1 known)
-              (subst MoveApart (ap (λ s. after_events (its_events s (view_of before) (its_decoded offset size) (Some value)) before) run.shape_is ∙ sym guest1_eager) apart) at1 runs1.0
-              (follows_split actor (events_of is.commands) (events_of is.last) state1 guest1 follow.1).0 targets1 in
+          (ap (λ (g : IdealGuest). g.shape) guest1_eager ∙ shape_events eager before ∙ run.shape_is) (known1 known)
+          (subst MoveApart (ap (λ s. after_events (its_events s (view_of before) (its_decoded offset size) (Some value)) before) run.shape_is ∙ sym guest1_eager) apart) at1 runs1.0
+          (follows_split actor (events_of is.commands) (events_of is.last) state1 guest1 follow.1).0 targets1 in
           done.goes ∙ sym (queued_is done.count guest1 sound1 order1 done.all)
 
     -- The call.

@@ -18,3 +18,4 @@ pub mod OneLemmas
 pub mod QueueLemmas
 pub mod TurnLemmas
 pub mod ItsLemmas
+pub mod CallLaws

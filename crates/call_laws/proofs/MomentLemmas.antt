@@ -1,7 +1,7 @@
 -- For which vCPUs LPIs are at the moments of a command, and what its call notes of that.
-use Rattle.std.proofs.Common.{◌≡◌, ◌≢◌, ℕ, ◌+◌, ◌==◌, ◌⊎◌, inl, inr, zero, suc, not, Bool, true, false, cond, if◌then◌else◌, IsTrue, List, [], ◌∷◌, ◌++◌, length, Option, Some, None, refl, sym, ap, ◌∙◌, subst}
+use Rattle.std.proofs.Common.{◌≡◌, ℕ, ◌==◌, ◌⊎◌, inl, inr, not, Bool, true, false, cond, IsTrue, List, [], ◌∷◌, ◌++◌, Option, Some, None, refl, sym, ap, ◌∙◌, subst}
 use Rattle.std.specs.List.{list_all}
-use Rattle.std.proofs.lemmas.Bool.{and_parts, cases_eq, eq-eqb, ne_eqb, eqb-true}
+use Rattle.std.proofs.lemmas.Bool.{and_parts, eq-eqb, eqb-true}
 use Rattle.std.proofs.lemmas.List.{append-nil, append_assoc}
 use Rattle.gic_base.specs.declared.interrupt.Key.{Key}
 use Rattle.gic_base.specs.declared.interrupt.Key.TheVariants.{Private, Spi, Lpi}
@@ -23,14 +23,13 @@ use Rattle.ideal_guest.specs.declared.guest.IdealGuest.{IdealGuest}
 use Rattle.ideal_guest.specs.Ideal.{irq_at, cpu_at, candidates, changed_irq, view_of, after_acknowledge, after_deactivation, after_access, after_event, after_events}
 use Rattle.ideal_guest.proofs.KeyLemmas.{IsWhole, whole_changed, whole_changed_at, irq_changed}
 use Rattle.gic_history.specs.State.{Ideal}
-use Rattle.gic_history.specs.Moves.{handed_out, happened}
-use Rattle.gic_history.specs.History.{Call, targets_in, noted, made, seeing}
-use Rattle.history_laws.proofs.StateLemmas.{guest_is}
+use Rattle.gic_history.specs.Moves.{happened}
+use Rattle.gic_history.specs.History.{Call, targets_in, noted}
 use Rattle.eager_laws.proofs.CourseLemmas.{call_after}
 use Rattle.eager_laws.proofs.WindowLemmas.{next_call}
 use Rattle.call_laws.proofs.NamedLemmas.{IsIn}
 use Rattle.call_laws.proofs.RunLemmas.{Follows}
-use Rattle.call_laws.proofs.TargetLemmas.{AllAre, by_record, either}
+use Rattle.call_laws.proofs.TargetLemmas.{by_record}
 
 -- for which vCPU an LPI is
 abbrev pub target_at : IdealGuest → ℕ → Option ℕ

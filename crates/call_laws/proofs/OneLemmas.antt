@@ -1,5 +1,5 @@
 -- One command of a call does what the eager controller does for its next command, and leaves the call as the next one begins.
-use Rattle.std.proofs.Common.{◌≡◌, ◌≢◌, ℕ, ◌+◌, ◌≤◌, ◌<◌, ◌&&◌, ◌⊎◌, inl, inr, zero, suc, not, Bool, true, false, cond, if◌then◌else◌, IsTrue, Contains, List, [], ◌∷◌, ◌++◌, map, filter, length, Option, Some, None, is_none, Result, Ok, Err, refl, sym, ap, ◌∙◌, subst, slice_index_or, arith}
+use Rattle.std.proofs.Common.{◌≡◌, ℕ, ◌+◌, ◌≤◌, ◌&&◌, ◌⊎◌, inl, inr, not, Bool, true, false, cond, IsTrue, Contains, List, [], ◌∷◌, ◌++◌, map, length, Option, Some, None, is_none, Result, Ok, Err, refl, sym, ap, ◌∙◌, subst, slice_index_or, arith}
 use Rattle.std.specs.List.{list_all}
 use Rattle.std.specs.Option.{option_map_or}
 use Rattle.std.proofs.lemmas.Bool.{and_parts, and_from}
@@ -17,7 +17,7 @@ use Rattle.gic_call.specs.declared.event.Event.{Event}
 use Rattle.gic_call.specs.declared.event.Event.TheVariants.{Raise, Up, Down, Touch, Reach, Take, Leave, Enable, Cpu, Read, Put, CtlrBegin, CtlrEnd, ItsBegin, ItsEnd, Queue}
 use Rattle.gic_call.specs.declared.event.Found.{Found}
 use Rattle.gic_call.specs.declared.event.QueueChange.TheVariants.{Runs, Done, Stalls}
-use Rattle.gic_call.specs.Command.{takes_command, lpi_event, command_words, command_parts, decoded_parts, next_offset, queue_event, command_events}
+use Rattle.gic_call.specs.Command.{lpi_event, command_words, command_parts, decoded_parts, next_offset, queue_event, command_events}
 use Rattle.gic_call.specs.Trace.{Happened, is_beside, named_of, Beside, Makes, IsCommand, command_places, HaveSameIts}
 use Rattle.gic_call.specs.View.{View}
 use Rattle.ideal_guest.specs.declared.guest.IdealGuest.{IdealGuest}
@@ -26,8 +26,7 @@ use Rattle.ideal_guest.proofs.KeyLemmas.{IsWhole}
 use Rattle.gic_history.specs.State.{Ideal}
 use Rattle.gic_history.specs.Moves.{happened}
 use Rattle.gic_history.specs.History.{Call, targets_in}
-use Rattle.eager_laws.proofs.CourseLemmas.{state_after, call_after, call_append, state_append}
-use Rattle.eager_laws.proofs.QueueLemmas.{takes_known}
+use Rattle.eager_laws.proofs.CourseLemmas.{state_after, call_after, call_append}
 use Rattle.eager_laws.proofs.WindowLemmas.{next_call}
 use Rattle.call_laws.specs.Calls.{moves_to_itself}
 use Rattle.call_laws.proofs.AgreeLemmas.{parts_by, result_agrees}

@@ -1,17 +1,14 @@
 -- The commands of a call, one after the other, are those that the eager controller takes.
-use Rattle.std.proofs.Common.{◌≡◌, ℕ, ◌+◌, ◌==◌, zero, suc, not, Bool, true, false, cond, if◌then◌else◌, IsTrue, List, [], ◌∷◌, ◌++◌, Option, Some, None, refl, sym, ap, ◌∙◌, subst}
+use Rattle.std.proofs.Common.{◌≡◌, ℕ, ◌+◌, zero, suc, Bool, true, false, cond, List, [], ◌∷◌, ◌++◌, Some, refl, sym, ap, ◌∙◌, subst}
 use Rattle.std.proofs.lemmas.Bool.{not-true}
 use Rattle.std.proofs.lemmas.List.{append_assoc}
 use Rattle.std.proofs.lemmas.Grind.{fold-append}
 use Rattle.gic_base.specs.declared.shape.GuestShape.{GuestShape}
-use Rattle.gic_open.specs.Plain.{place_of_plain}
-use Rattle.gic_open.specs.declared.plain.PlainWord.TheVariants.{Cbaser, Cwriter, ItsCtlr}
+use Rattle.gic_open.specs.declared.plain.PlainWord.TheVariants.{Cbaser}
 use Rattle.its_cmd.specs.Command.{decoded}
 use Rattle.gic_call.specs.declared.event.Event.{Event}
-use Rattle.gic_call.specs.declared.event.Event.TheVariants.{Put, Queue}
-use Rattle.gic_call.specs.declared.event.QueueChange.TheVariants.{Runs, Done, Stalls}
 use Rattle.gic_call.specs.Command.{takes_command, command_words, queue_event, queue_places, maps_done}
-use Rattle.gic_call.specs.Trace.{Happened, named_of, Beside, AreCommands, HaveSameIts, left_by}
+use Rattle.gic_call.specs.Trace.{Happened, Beside, AreCommands, HaveSameIts, left_by}
 use Rattle.gic_call.specs.View.{View}
 use Rattle.ideal_guest.specs.declared.guest.IdealGuest.{IdealGuest}
 use Rattle.ideal_guest.specs.Ideal.{view_of, word_at, after_event, after_events, after_command, after_commands, after_queued}
@@ -26,7 +23,7 @@ use Rattle.eager_laws.proofs.CourseLemmas.{state_after, call_after, call_append}
 use Rattle.eager_laws.proofs.QueueLemmas.{takes_known}
 use Rattle.call_laws.specs.Calls.{moves_to_itself, MoveApart}
 use Rattle.call_laws.proofs.CommandLemmas.{marks_after, run_split, events_both, queue_same}
-use Rattle.call_laws.proofs.OneLemmas.{follows_split, all_beside, still_beside, queue_is, IsAt, HasTargets, OneDone, words_are, one_done, none_beside}
+use Rattle.call_laws.proofs.OneLemmas.{follows_split, still_beside, queue_is, IsAt, HasTargets, words_are, one_done, none_beside}
 use Rattle.call_laws.proofs.RunLemmas.{events_of, IsHomeRun, Follows}
 
 -- What is known of the ITS.
@@ -116,8 +113,8 @@ module _ (shape : GuestShape) (actor vcpu : ℕ) (beside : Beside) where
       (same_after (left_by shape view (queue_event shape (view_of guest))) (left_by shape (view_of guest) (queue_event shape (view_of guest))) (view_of (after_command guest)) (left_same shape view (view_of guest) (view_of guest) known)
       (subst (λ s. HaveSameIts (left_by s (view_of guest) (queue_event s (view_of guest))) (view_of (after_command guest))) shape_is (command_known 0 0 guest sound))) in
       let later = commands_done views (number + 1) (left_by shape view (queue_event shape view)) are.rest after (marks_after are.own b) (after_command guest) (state_after actor (events_of are.own) state) (call_after actor (events_of are.own) state call) are.later
-          (sound_command 0 0 guest sound) (command_shape 0 0 guest sound ∙ shape_is) left (apart_then guest taken apart) one.at (subst (λ g. IsHomeRun (marks_after are.own b) g are.rest) one.goes runs.1)
-          (subst (λ g. Follows actor (state_after actor (events_of are.own) state) g (events_of are.rest)) one.goes follow.1) (subst (HasTargets beside) (call_append actor (events_of are.own) (events_of are.rest ++ after) state call) targets_now) in
+      (sound_command 0 0 guest sound) (command_shape 0 0 guest sound ∙ shape_is) left (apart_then guest taken apart) one.at (subst (λ g. IsHomeRun (marks_after are.own b) g are.rest) one.goes runs.1)
+      (subst (λ g. Follows actor (state_after actor (events_of are.own) state) g (events_of are.rest)) one.goes follow.1) (subst (HasTargets beside) (call_append actor (events_of are.own) (events_of are.rest ++ after) state call) targets_now) in
       record {
         count = suc later.count;
         goes = ap (λ es. after_events es guest) events ∙ fold-append after_event guest (events_of are.own) (events_of are.rest) ∙ ap (after_events (events_of are.rest)) one.goes ∙ later.goes;

@@ -1,6 +1,6 @@
 -- A call that takes the ITS: the events of its register, and that its commands take no other turn.
-use Rattle.std.proofs.Common.{◌≡◌, ℕ, ◌+◌, ◌&&◌, ◌⊎◌, inl, inr, not, Bool, true, false, cond, if◌then◌else◌, IsTrue, All, List, [], ◌∷◌, ◌++◌, map, Option, Some, None, refl, sym, ap, ◌∙◌, subst}
-use Rattle.std.specs.List.{list_all, list_any}
+use Rattle.std.proofs.Common.{◌≡◌, ℕ, ◌+◌, ◌&&◌, Bool, true, false, cond, IsTrue, List, [], ◌∷◌, ◌++◌, Option, Some, refl, sym, ap, ◌∙◌, subst}
+use Rattle.std.specs.List.{list_all}
 use Rattle.std.proofs.lemmas.Bool.{and_parts, and_from}
 use Rattle.std.proofs.lemmas.List.Folds.{list_all-append}
 use Rattle.gic_base.specs.declared.shape.GuestShape.{GuestShape}
@@ -20,7 +20,7 @@ use Rattle.gic_call.specs.declared.event.QueueChange.TheVariants.{Runs, Done, St
 use Rattle.gic_call.specs.Access.{its_written, takes_its, starts_commands as register_starts}
 use Rattle.gic_call.specs.Call.{its_events, its_starts, takes_turn}
 use Rattle.gic_call.specs.Command.{lpi_event, queue_event, command_parts}
-use Rattle.gic_call.specs.Trace.{Happened, is_beside, named_of, Beside, Makes, IsPartThen, ArePartsThen, IsCommand, AreCommands, AreStarted, its_places, its_write_places, HaveSameIts, left_by}
+use Rattle.gic_call.specs.Trace.{Happened, is_beside, Beside, Makes, ArePartsThen, IsCommand, AreCommands, AreStarted, its_places, its_write_places, HaveSameIts, left_by}
 use Rattle.gic_call.specs.Valid.{CanHappen}
 use Rattle.gic_call.specs.View.{View}
 use Rattle.ideal_guest.specs.declared.guest.IdealGuest.{IdealGuest}

@@ -1,5 +1,5 @@
 -- One call of a history while nobody else acts, and what the eager controller makes of its operation (own choice).
-use Rattle.std.specs.Prelude.{◌≡◌, ℕ, ◌==◌, Bool, true, false, Result, Ok, Err, List, [], ◌∷◌, ◌++◌, map, Option, None}
+use Rattle.std.specs.Prelude.{◌≡◌, ℕ, ◌==◌, Bool, true, false, Result, Ok, List, [], ◌∷◌, ◌++◌, map, Option, None}
 use Rattle.gic_base.specs.declared.operation.GuestOp.TheVariants.{Mem}
 use Rattle.gic_call.specs.declared.event.Event.{Event}
 use Rattle.gic_call.specs.declared.event.Event.TheVariants.{Cpu}

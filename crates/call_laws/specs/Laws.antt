@@ -2,10 +2,11 @@
 use Rattle.std.specs.Prelude.{ℕ, Option}
 use Rattle.gic_base.specs.declared.icc.IccReg.{IccReg}
 use Rattle.gic_base.specs.declared.operation.DeviceOp.{DeviceOp}
-use Rattle.gic_base.specs.declared.operation.Frame.TheVariants.{Dist, Redist, Ram}
+use Rattle.gic_base.specs.declared.operation.Frame.TheVariants.{Dist, Redist, Its, Ram}
 use Rattle.gic_base.specs.declared.operation.GuestOp.TheVariants.{Icc, Mem}
+use Rattle.gic_call.specs.declared.event.Operation.{Operation}
 use Rattle.gic_call.specs.declared.event.Operation.TheVariants.{Access, Device, Residence}
-use Rattle.call_laws.specs.Calls.{PassesHome}
+use Rattle.call_laws.specs.Calls.{PassesHome, PassesAtRest}
 
 -- an access of a CPU interface register, with the SGIs that a write of SGI1R sends
 abbrev pub InterfaceCallsPass : Type 0
@@ -30,3 +31,11 @@ RedistributorCallsPass = (vcpu offset size : ℕ) (write : Option ℕ) → Passe
 -- an access of the guest's memory
 abbrev pub MemoryCallsPass : Type 0
 MemoryCallsPass = (offset size : ℕ) (write : Option ℕ) → PassesHome (Access (Mem Ram offset size write))
+
+-- an access of the ITS, with the commands that a write starts
+abbrev pub ItsCallsPass : Type 0
+ItsCallsPass = (offset size : ℕ) (write : Option ℕ) → PassesAtRest (Access (Mem Its offset size write))
+
+-- any call
+abbrev pub CallsPassHome : Type 0
+CallsPassHome = (operation : Operation) → PassesAtRest operation
