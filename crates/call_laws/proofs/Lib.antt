@@ -19,3 +19,5 @@ pub mod QueueLemmas
 pub mod TurnLemmas
 pub mod ItsLemmas
 pub mod CallLaws
+pub mod RestLemmas
+pub mod RestLaws

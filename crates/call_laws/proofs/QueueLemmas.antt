@@ -38,7 +38,7 @@ same_then one two three first second = record {
   maps = sym first.maps ∙ second.maps;
 }
 
-same_after : (one two three : View) → HaveSameIts one two → HaveSameIts two three → HaveSameIts one three
+pub same_after : (one two three : View) → HaveSameIts one two → HaveSameIts two three → HaveSameIts one three
 same_after one two three first second = record {
   ctlr = first.ctlr ∙ second.ctlr;
   cbaser = first.cbaser ∙ second.cbaser;

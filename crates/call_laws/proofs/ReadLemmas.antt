@@ -35,7 +35,7 @@ keeps shape Ctlr CtlrEnd = false
 keeps shape (Lpis vcpu) (Enable u) = false
 keeps shape place event = true
 
-other_word : (guest : IdealGuest) (word other : PlainWord) (value : ℕ) → not (place_of_plain guest.shape word == place_of_plain guest.shape other) ≡ true → word_at (with_word guest other value) word ≡ word_at guest word
+pub other_word : (guest : IdealGuest) (word other : PlainWord) (value : ℕ) → not (place_of_plain guest.shape word == place_of_plain guest.shape other) ≡ true → word_at (with_word guest other value) word ≡ word_at guest word
 other_word guest word other value h = of (has_plain guest.shape other)
   where
     differ : place_of_plain guest.shape word ≢ place_of_plain guest.shape other
