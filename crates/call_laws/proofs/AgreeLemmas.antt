@@ -1,8 +1,7 @@
 -- The events of a command are those of the guest as it begins, for whichever vCPUs the LPIs were at its moments.
-use Rattle.std.proofs.Common.{◌≡◌, ◌≢◌, ℕ, ◌==◌, ◌⊎◌, inl, inr, not, Bool, true, false, cond, if◌then◌else◌, IsTrue, List, [], ◌∷◌, ◌++◌, map, filter, Option, Some, None, is_none, Result, Ok, Err, refl, sym, ap, ◌∙◌, subst}
+use Rattle.std.proofs.Common.{◌≡◌, ℕ, ◌==◌, ◌⊎◌, inl, inr, not, Bool, true, false, cond, IsTrue, List, [], ◌∷◌, ◌++◌, map, filter, Option, Some, None, is_none, Result, Ok, Err, refl, sym, ap, ◌∙◌, subst}
 use Rattle.std.specs.List.{list_all}
-use Rattle.std.specs.Option.{option_map_or}
-use Rattle.std.proofs.lemmas.Bool.{and_from, cases_eq, eq-eqb, ne_eqb, eqb-true}
+use Rattle.std.proofs.lemmas.Bool.{and_from, eq-eqb, ne_eqb}
 use Rattle.std.proofs.lemmas.List.{map-append}
 use Rattle.gic_base.specs.declared.shape.GuestShape.{GuestShape}
 use Rattle.gic_word.specs.Record.{is_number}
@@ -18,9 +17,8 @@ use Rattle.gic_call.specs.declared.event.Event.{Event}
 use Rattle.gic_call.specs.declared.event.Event.TheVariants.{Touch}
 use Rattle.gic_call.specs.declared.touch.Touching.TheVariants.{Configure as ConfigureLpi}
 use Rattle.gic_call.specs.Access.{lpis_of}
-use Rattle.gic_call.specs.Command.{config_byte, lpis_of_device, lpis_of_collection, lpis_for, each, for_one, mapping_parts, parts, lpi_event}
+use Rattle.gic_call.specs.Command.{config_byte, lpis_of_device, lpis_of_collection, lpis_for, each, for_one, parts, lpi_event}
 use Rattle.gic_call.specs.Trace.{Happened, named_of}
-use Rattle.gic_call.specs.View.{View}
 use Rattle.ideal_guest.specs.declared.guest.IdealGuest.{IdealGuest}
 use Rattle.ideal_guest.specs.Ideal.{view_of}
 use Rattle.ideal_guest.proofs.KeyLemmas.{IsWhole}

@@ -1,8 +1,8 @@
 -- A command of the ITS: its doublewords, its parts and how the queue goes on are those of the guest as the command begins.
-use Rattle.std.proofs.Common.{◌≡◌, ℕ, ◌+◌, ◌*◌, ◌&&◌, ◌⊎◌, inl, inr, not, Bool, true, false, cond, if◌then◌else◌, IsTrue, All, List, [], ◌∷◌, ◌++◌, map, filter, Option, Some, None, is_none, Result, Ok, Err, refl, sym, ap, ◌∙◌, subst}
-use Rattle.std.specs.List.{list_all, flat_map}
+use Rattle.std.proofs.Common.{◌≡◌, ℕ, ◌+◌, ◌*◌, inl, inr, not, Bool, true, false, IsTrue, List, [], ◌∷◌, ◌++◌, map, Option, Some, None, refl, sym, ap, ◌∙◌, subst}
+use Rattle.std.specs.List.{list_all}
 use Rattle.std.specs.Option.{option_map_or}
-use Rattle.std.proofs.lemmas.Bool.{and_parts, and_from}
+use Rattle.std.proofs.lemmas.Bool.{and_from}
 use Rattle.std.proofs.lemmas.List.{append-nil, append_assoc, map-append}
 use Rattle.std.proofs.lemmas.List.Elements.{filter-append}
 use Rattle.std.proofs.lemmas.List.Folds.{list_all-append}
@@ -17,7 +17,6 @@ use Rattle.gic_imap.specs.Contents.{queue_bytes}
 use Rattle.its_cmd.specs.Command.{decoded}
 use Rattle.its_queue.specs.Queue.{advanced}
 use Rattle.its_tab.specs.Fault.{fault_number}
-use Rattle.its_tab.specs.Maps.{Maps}
 use Rattle.gic_call.specs.declared.command.Part.{Part}
 use Rattle.gic_call.specs.declared.command.Part.TheVariants.{Forget, Map, Retarget, Raise as RaisePart, Clear, Configure}
 use Rattle.gic_call.specs.declared.event.Event.{Event}
@@ -26,8 +25,8 @@ use Rattle.gic_call.specs.declared.event.Place.{Place}
 use Rattle.gic_call.specs.declared.event.Place.TheVariants.{Word}
 use Rattle.gic_call.specs.declared.event.QueueChange.TheVariants.{Runs, Done, Stalls}
 use Rattle.gic_call.specs.declared.touch.Touching.TheVariants.{MapLpi, Configure as ConfigureLpi}
-use Rattle.gic_call.specs.Command.{config_byte, lpi_event, queue_address, word_address, command_words, next_offset, queue_event}
-use Rattle.gic_call.specs.Trace.{Happened, is_beside, named_of, held_at, IsLastRead, Makes, memory_places, byte_places, IsPartThen, ArePartsThen, command_places, HaveSameIts}
+use Rattle.gic_call.specs.Command.{lpi_event, queue_address, word_address, command_words, next_offset, queue_event}
+use Rattle.gic_call.specs.Trace.{Happened, is_beside, named_of, held_at, IsLastRead, Makes, memory_places, byte_places, ArePartsThen, command_places, HaveSameIts}
 use Rattle.gic_call.specs.View.{View, memory_at}
 use Rattle.ideal_guest.specs.declared.guest.IdealGuest.{IdealGuest}
 use Rattle.ideal_guest.specs.Ideal.{word_at, view_of, after_event, after_events}

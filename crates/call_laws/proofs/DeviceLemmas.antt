@@ -1,5 +1,5 @@
 -- What devices do: messages, wires, and message-signalled interrupts, which the ITS translates.
-use Rattle.std.proofs.Common.{◌≡◌, ℕ, ◌++◌, ◌∷◌, ◌||◌, inl, not, Bool, true, false, cond, IsTrue, List, [], Option, Some, None, refl, sym, ap, ◌∙◌, subst}
+use Rattle.std.proofs.Common.{◌≡◌, ℕ, ◌++◌, ◌∷◌, inl, not, Bool, true, false, IsTrue, List, [], Option, Some, None, refl, sym, ap, ◌∙◌, subst}
 use Rattle.std.specs.List.{list_all, list_any}
 use Rattle.std.specs.Option.{option_map_or}
 use Rattle.std.proofs.lemmas.Bool.{and_from}
@@ -15,7 +15,7 @@ use Rattle.gic_call.specs.declared.event.Moment.{Moment}
 use Rattle.gic_call.specs.declared.event.Operation.TheVariants.{Device}
 use Rattle.gic_call.specs.declared.event.Place.TheVariants.{Word}
 use Rattle.gic_call.specs.Call.{device_events}
-use Rattle.gic_call.specs.Trace.{Happened, is_beside, named_of, IsDeviceCall, IsCall}
+use Rattle.gic_call.specs.Trace.{Happened, IsDeviceCall, IsCall}
 use Rattle.gic_call.specs.View.{View, is_its_enabled}
 use Rattle.its_tab.specs.Message.{translated}
 use Rattle.ideal_guest.specs.declared.guest.IdealGuest.{IdealGuest}
@@ -29,29 +29,11 @@ use Rattle.scn_base.specs.declared.guest.GuestSpec.{GuestSpec}
 use Rattle.call_laws.specs.Calls.{lone_call, IsEagerCall, PassesHome}
 use Rattle.call_laws.proofs.MapsLemmas.{keeps_maps, beside_maps, maps_taken}
 use Rattle.call_laws.proofs.NamedLemmas.{named_run}
-use Rattle.call_laws.proofs.ReadLemmas.{keeps, view_holds, beside_passes}
+use Rattle.call_laws.proofs.ReadLemmas.{keeps, view_holds, beside_passes, some_named}
 use Rattle.call_laws.proofs.RunLemmas.{events_of, LoneRun, lone_run}
 
 abbrev takes_turn : Event → Bool
 takes_turn event = not (is_no_turn event)
-
--- an event that is there among those that are named is there
-some_named : (test : Event → Bool) (actor : Option ℕ) (piece : List Happened) → list_any test (events_of (named_of actor piece)) ≡ true → list_any test (events_of piece) ≡ true
-some_named test actor [] h = absurd (cc)
-some_named test actor (one ∷ piece) h = of (is_beside actor one.event) h (some_named test actor piece)
-  where
-    or_right : (a b : Bool) → b ≡ true → (a || b) ≡ true
-    or_right true b h = refl
-    or_right false b h = h
-
-    either : (a b c : Bool) → (a || b) ≡ true → (b ≡ true → c ≡ true) → (a || c) ≡ true
-    either true b c h k = refl
-    either false b c h k = k h
-
-    of : (b : Bool) → list_any test (events_of (cond (not b) (one ∷ named_of actor piece) (named_of actor piece))) ≡ true → (list_any test (events_of (named_of actor piece)) ≡ true → list_any test (events_of piece) ≡ true)
-        → (test one.event || list_any test (events_of piece)) ≡ true
-    of true h later = or_right (test one.event) (list_any test (events_of piece)) (later h)
-    of false h later = either (test one.event) (list_any test (events_of (named_of actor piece))) (list_any test (events_of piece)) h later
 
 -- the events of a message-signalled interrupt keep what it reads, and the maps
 msi_all : (test : Event → Bool) (view : View) (device event : ℕ) → ((id : ℕ) → test (Raise (Lpi id)) ≡ true) → test ItsBegin ≡ true → test ItsEnd ≡ true → IsTrue (list_all test (device_events view (Msi device event)))

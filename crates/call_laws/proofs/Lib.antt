@@ -14,3 +14,10 @@ pub mod WrittenLemmas
 pub mod CommandLemmas
 pub mod MomentLemmas
 pub mod AgreeLemmas
+pub mod OneLemmas
+pub mod QueueLemmas
+pub mod TurnLemmas
+pub mod ItsLemmas
+pub mod CallLaws
+pub mod RestLemmas
+pub mod RestLaws

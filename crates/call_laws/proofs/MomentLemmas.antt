@@ -1,7 +1,7 @@
 -- For which vCPUs LPIs are at the moments of a command, and what its call notes of that.
-use Rattle.std.proofs.Common.{◌≡◌, ◌≢◌, ℕ, ◌+◌, ◌==◌, ◌⊎◌, inl, inr, zero, suc, not, Bool, true, false, cond, if◌then◌else◌, IsTrue, List, [], ◌∷◌, ◌++◌, length, Option, Some, None, refl, sym, ap, ◌∙◌, subst}
+use Rattle.std.proofs.Common.{◌≡◌, ℕ, ◌==◌, ◌⊎◌, inl, inr, not, Bool, true, false, cond, IsTrue, List, [], ◌∷◌, ◌++◌, Option, Some, None, refl, sym, ap, ◌∙◌, subst}
 use Rattle.std.specs.List.{list_all}
-use Rattle.std.proofs.lemmas.Bool.{and_parts, cases_eq, eq-eqb, ne_eqb, eqb-true}
+use Rattle.std.proofs.lemmas.Bool.{and_parts, eq-eqb, eqb-true}
 use Rattle.std.proofs.lemmas.List.{append-nil, append_assoc}
 use Rattle.gic_base.specs.declared.interrupt.Key.{Key}
 use Rattle.gic_base.specs.declared.interrupt.Key.TheVariants.{Private, Spi, Lpi}
@@ -23,14 +23,13 @@ use Rattle.ideal_guest.specs.declared.guest.IdealGuest.{IdealGuest}
 use Rattle.ideal_guest.specs.Ideal.{irq_at, cpu_at, candidates, changed_irq, view_of, after_acknowledge, after_deactivation, after_access, after_event, after_events}
 use Rattle.ideal_guest.proofs.KeyLemmas.{IsWhole, whole_changed, whole_changed_at, irq_changed}
 use Rattle.gic_history.specs.State.{Ideal}
-use Rattle.gic_history.specs.Moves.{handed_out, happened}
-use Rattle.gic_history.specs.History.{Call, targets_in, noted, made, seeing}
-use Rattle.history_laws.proofs.StateLemmas.{guest_is}
+use Rattle.gic_history.specs.Moves.{happened}
+use Rattle.gic_history.specs.History.{Call, targets_in, noted}
 use Rattle.eager_laws.proofs.CourseLemmas.{call_after}
 use Rattle.eager_laws.proofs.WindowLemmas.{next_call}
 use Rattle.call_laws.proofs.NamedLemmas.{IsIn}
 use Rattle.call_laws.proofs.RunLemmas.{Follows}
-use Rattle.call_laws.proofs.TargetLemmas.{AllAre, by_record, either}
+use Rattle.call_laws.proofs.TargetLemmas.{by_record}
 
 -- for which vCPU an LPI is
 abbrev pub target_at : IdealGuest → ℕ → Option ℕ
@@ -45,6 +44,10 @@ keeps_for id (Reach key u) = true
 keeps_for id (Take key u) = true
 keeps_for id (Leave key u) = true
 keeps_for id (Read at) = true
+keeps_for id (Put other value) = true
+keeps_for id (Queue offset change) = true
+keeps_for id ItsBegin = true
+keeps_for id ItsEnd = true
 keeps_for id event = false
 
 abbrev pub sends_to : ℕ → Event → Bool
@@ -79,6 +82,12 @@ target_kept guest id (Reach key u) whole h = refl
 target_kept guest id (Take key u) whole h = refl
 target_kept guest id (Leave key u) whole h = refl
 target_kept guest id (Read at) whole h = refl
+target_kept guest id (Put other value) whole h = refl
+target_kept guest id (Queue offset Runs) whole h = refl
+target_kept guest id (Queue offset (Done words)) whole h = refl
+target_kept guest id (Queue offset (Stalls fault)) whole h = refl
+target_kept guest id ItsBegin whole h = refl
+target_kept guest id ItsEnd whole h = refl
 target_kept guest id event whole h = absurd (cc)
 
 pub target_sent : (guest : IdealGuest) (id vcpu : ℕ) (event : Event) → IsWhole guest → sends_to vcpu event ≡ true → (target_at (after_event guest event) id ≡ target_at guest id) ⊎ (target_at (after_event guest event) id ≡ Some vcpu)
@@ -187,6 +196,12 @@ seen_kept guest id (event ∷ events) t whole all (inl e) = sym e ∙ target_kep
 seen_kept guest id (event ∷ events) t whole all (inr later) =
     let parts = and_parts (keeps_for id event) (list_all (keeps_for id) events) all in
     seen_kept (after_event guest event) id events t (guest_whole event guest whole) parts.1 later ∙ target_kept guest id event whole parts.0
+
+pub targets_after : (guest : IdealGuest) (id : ℕ) (events : List Event) → IsWhole guest → IsTrue (list_all (keeps_for id) events) → target_at (after_events events guest) id ≡ target_at guest id
+targets_after guest id [] whole all = refl
+targets_after guest id (event ∷ events) whole all =
+    let parts = and_parts (keeps_for id event) (list_all (keeps_for id) events) all in
+    targets_after (after_event guest event) id events (guest_whole event guest whole) parts.1 ∙ target_kept guest id event whole parts.0
 
 pub seen_sent : (guest : IdealGuest) (id vcpu : ℕ) (events : List Event) (t : Option ℕ) → IsWhole guest → IsTrue (list_all (sends_to vcpu) events) → IsIn (seen_by guest events id) t → (t ≡ target_at guest id) ⊎ (t ≡ Some vcpu)
 seen_sent guest id vcpu [] t whole all is = absurd is

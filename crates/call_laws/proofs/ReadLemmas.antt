@@ -1,6 +1,6 @@
 -- What a run reads of places that its events keep, and of interrupts that it only reads.
-use Rattle.std.proofs.Common.{◌≡◌, ◌≢◌, ℕ, ◌==◌, inl, inr, not, Bool, true, false, cond, IsTrue, All, List, [], ◌∷◌, ◌++◌, Option, slice_index, slice_set, if◌then◌else◌, refl, sym, ap, ◌∙◌, subst}
-use Rattle.std.specs.List.{list_all}
+use Rattle.std.proofs.Common.{◌≡◌, ◌||◌, ◌≢◌, ℕ, ◌==◌, inl, inr, not, Bool, true, false, cond, IsTrue, All, List, [], ◌∷◌, ◌++◌, Option, slice_index, slice_set, if◌then◌else◌, refl, sym, ap, ◌∙◌, subst}
+use Rattle.std.specs.List.{list_all, list_any}
 use Rattle.std.proofs.lemmas.Bool.{and_parts, and_from, eq-eqb}
 use Rattle.std.proofs.lemmas.List.{get_or-set_other}
 use Rattle.std.proofs.lemmas.List.Elements.{All-head, All-tail}
@@ -35,7 +35,7 @@ keeps shape Ctlr CtlrEnd = false
 keeps shape (Lpis vcpu) (Enable u) = false
 keeps shape place event = true
 
-other_word : (guest : IdealGuest) (word other : PlainWord) (value : ℕ) → not (place_of_plain guest.shape word == place_of_plain guest.shape other) ≡ true → word_at (with_word guest other value) word ≡ word_at guest word
+pub other_word : (guest : IdealGuest) (word other : PlainWord) (value : ℕ) → not (place_of_plain guest.shape word == place_of_plain guest.shape other) ≡ true → word_at (with_word guest other value) word ≡ word_at guest word
 other_word guest word other value h = of (has_plain guest.shape other)
   where
     differ : place_of_plain guest.shape word ≢ place_of_plain guest.shape other
@@ -141,6 +141,24 @@ beside_passes test beside actor (one ∷ piece) all = of (is_beside actor one.ev
         → IsTrue (list_all test (events_of (one ∷ piece)))
     of true e all later = and_from (test one.event) (list_all test (events_of piece)) (beside actor one.event e) (later all)
     of false e all later = let parts = and_parts (test one.event) (list_all test (events_of (named_of actor piece))) all in and_from (test one.event) (list_all test (events_of piece)) parts.0 (later parts.1)
+
+-- an event that is there among those that are named is there
+pub some_named : (test : Event → Bool) (actor : Option ℕ) (piece : List Happened) → list_any test (events_of (named_of actor piece)) ≡ true → list_any test (events_of piece) ≡ true
+some_named test actor [] h = absurd (cc)
+some_named test actor (one ∷ piece) h = of (is_beside actor one.event) h (some_named test actor piece)
+  where
+    or_right : (a b : Bool) → b ≡ true → (a || b) ≡ true
+    or_right true b h = refl
+    or_right false b h = h
+
+    either : (a b c : Bool) → (a || b) ≡ true → (b ≡ true → c ≡ true) → (a || c) ≡ true
+    either true b c h k = refl
+    either false b c h k = k h
+
+    of : (b : Bool) → list_any test (events_of (cond (not b) (one ∷ named_of actor piece) (named_of actor piece))) ≡ true → (list_any test (events_of (named_of actor piece)) ≡ true → list_any test (events_of piece) ≡ true)
+        → (test one.event || list_any test (events_of piece)) ≡ true
+    of true h later = or_right (test one.event) (list_any test (events_of piece)) (later h)
+    of false h later = either (test one.event) (list_any test (events_of (named_of actor piece))) (list_any test (events_of piece)) h later
 
 pub beside_keeps : (shape : GuestShape) (place : Place) (actor : Option ℕ) (event : Event) → is_beside actor event ≡ true → keeps shape place event ≡ true
 beside_keeps shape place actor (Raise key) h = absurd (cc)

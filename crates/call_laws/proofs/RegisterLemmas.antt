@@ -1,39 +1,29 @@
 -- A write of a register of the ITS that takes it: what it stores, before any command, goes by what the guest has as the call begins.
-use Rattle.std.proofs.Common.{◌≡◌, ◌≢◌, ℕ, ◌+◌, ◌*◌, ◌/◌, ◌%◌, ◌^◌, ◌<◌, ◌==◌, ◌&&◌, ◌||◌, ◌⊎◌, inl, inr, not, Bool, true, false, cond, if◌then◌else◌, nat_lt, IsTrue, All, List, [], ◌∷◌, ◌++◌, Option, Some, None, slice_index, slice_set, refl, sym, ap, ◌∙◌, subst, arith}
+use Rattle.std.proofs.Common.{◌≡◌, ◌≢◌, ℕ, ◌+◌, ◌*◌, ◌/◌, ◌%◌, ◌^◌, ◌<◌, ◌==◌, ◌||◌, ◌⊎◌, inl, inr, not, Bool, true, false, IsTrue, All, List, [], ◌∷◌, ◌++◌, Option, refl, sym, ap, ◌∙◌, subst, arith}
 use Rattle.std.specs.List.{list_all}
-use Rattle.std.proofs.lemmas.Bool.{and_parts, and_from, ne_eqb}
+use Rattle.std.proofs.lemmas.Bool.{and_parts, ne_eqb}
 use Rattle.std.proofs.lemmas.Grind.{common_steps}
 use Rattle.std.proofs.lemmas.List.Elements.{All-tail}
-use Rattle.std.proofs.lemmas.List.{set-get_or}
 use Rattle.gic_base.specs.declared.shape.GuestShape.{GuestShape}
-use Rattle.gic_bits.specs.Bits.{has_bit, bit_of, field_at}
-use Rattle.gic_frame.specs.declared.bank.Half.{Half}
-use Rattle.gic_frame.specs.declared.bank.Half.TheVariants.{Low, High, Whole}
+use Rattle.gic_bits.specs.Bits.{has_bit, field_at}
+use Rattle.gic_frame.specs.declared.bank.Half.TheVariants.{Low, High}
 use Rattle.gic_frame.specs.Half.{half_written}
-use Rattle.gic_imap.specs.declared.map.Reg.{Reg as ItsReg}
-use Rattle.gic_imap.specs.declared.map.Reg.TheVariants.{Ctlr as ItsCtlrReg, Iidr as ItsIidr, Typer as ItsTyper, Cbaser as CbaserReg, Cwriter as CwriterReg, Creadr, Baser0 as Baser0Reg, Baser1 as Baser1Reg, Pidr2 as ItsPidr2}
-use Rattle.gic_imap.specs.Contents.{enabled_in, cbaser_bits, queue_bytes, queue_offset, retries, baser_bits}
+use Rattle.gic_imap.specs.Contents.{queue_offset}
 use Rattle.gic_open.specs.declared.plain.PlainWord.{PlainWord}
 use Rattle.gic_open.specs.declared.plain.PlainWord.TheVariants.{ItsCtlr, Cbaser, Cwriter, Baser0, Baser1}
-use Rattle.gic_open.specs.Plain.{has_plain, place_of_plain, its_from}
+use Rattle.gic_open.specs.Plain.{place_of_plain, its_from}
 use Rattle.gic_call.specs.declared.event.Event.{Event}
-use Rattle.gic_call.specs.declared.event.Event.TheVariants.{Put, ItsBegin, Read, Queue, Cpu}
-use Rattle.gic_call.specs.declared.event.Found.{Found}
-use Rattle.gic_call.specs.declared.event.Found.TheVariants.{Word as FoundWord, Queue as FoundQueue}
-use Rattle.gic_call.specs.declared.event.Place.{Place}
+use Rattle.gic_call.specs.declared.event.Event.TheVariants.{Put, Read, Queue}
+use Rattle.gic_call.specs.declared.event.Found.TheVariants.{Queue as FoundQueue}
 use Rattle.gic_call.specs.declared.event.Place.TheVariants.{Word, Queue as QueuePlace}
 use Rattle.gic_call.specs.declared.event.QueueChange.TheVariants.{Runs}
-use Rattle.gic_call.specs.Access.{its_written, takes_its, is_in_queue, starts_commands as register_starts}
-use Rattle.gic_call.specs.Trace.{Happened, is_beside, named_of, held_at, HandsOut, its_write_places, HaveSameIts}
-use Rattle.gic_call.specs.View.{View, is_its_enabled}
-use Rattle.its_tab.specs.Maps.{Maps}
+use Rattle.gic_call.specs.Trace.{Happened, is_beside, HandsOut}
+use Rattle.gic_call.specs.View.{View}
 use Rattle.ideal_guest.specs.declared.guest.IdealGuest.{IdealGuest}
-use Rattle.ideal_guest.specs.Ideal.{word_at, with_word, view_of, after_event, after_events}
-use Rattle.ideal_guest.specs.Queue.{IsQueueInOrder}
-use Rattle.call_laws.proofs.NamedLemmas.{named_run, IsIn}
-use Rattle.call_laws.proofs.PartLemmas.{IsMade}
-use Rattle.call_laws.proofs.PlainLemmas.{word_held, same_word}
-use Rattle.call_laws.proofs.ReadLemmas.{keeps, kept_at, shape_kept, read_held, beside_passes, beside_keeps, all_in, last_in}
+use Rattle.ideal_guest.specs.Ideal.{word_at, after_event}
+use Rattle.call_laws.proofs.NamedLemmas.{IsIn}
+use Rattle.call_laws.proofs.PlainLemmas.{same_word}
+use Rattle.call_laws.proofs.ReadLemmas.{keeps, kept_at, shape_kept, beside_keeps, all_in}
 use Rattle.call_laws.proofs.RunLemmas.{events_of, spreading_after, marked, IsHomeRun}
 
 -- Words of the ITS are apart.

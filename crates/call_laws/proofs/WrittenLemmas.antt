@@ -1,10 +1,9 @@
 -- Each write of a register of the ITS that takes it: its events, and whether it starts commands, are those of the guest as the call begins.
-use Rattle.std.proofs.Common.{◌≡◌, ℕ, ◌+◌, ◌*◌, ◌/◌, ◌%◌, ◌^◌, ◌<◌, ◌≤◌, ◌==◌, ◌&&◌, ◌||◌, ◌⊎◌, inl, inr, not, Bool, true, false, cond, if◌then◌else◌, nat_lt, IsTrue, List, [], ◌∷◌, ◌++◌, Option, Some, None, slice_index, slice_set, refl, sym, ap, ◌∙◌, subst, arith}
+use Rattle.std.proofs.Common.{◌≡◌, ℕ, ◌^◌, ◌<◌, ◌==◌, ◌&&◌, inl, inr, not, Bool, true, false, cond, nat_lt, IsTrue, List, [], ◌∷◌, ◌++◌, Option, refl, sym, ap, ◌∙◌, subst, arith}
 use Rattle.std.specs.List.{list_all}
 use Rattle.std.proofs.lemmas.Bool.{and_from}
 use Rattle.std.proofs.lemmas.List.{set-get_or}
-use Rattle.gic_base.specs.declared.shape.GuestShape.{GuestShape}
-use Rattle.gic_bits.specs.Bits.{has_bit, bit_of, field_at}
+use Rattle.gic_bits.specs.Bits.{has_bit, bit_of}
 use Rattle.gic_frame.specs.declared.bank.Half.{Half}
 use Rattle.gic_frame.specs.declared.bank.Half.TheVariants.{Low, High, Whole}
 use Rattle.gic_frame.specs.Half.{half_written}
@@ -15,8 +14,7 @@ use Rattle.gic_open.specs.declared.plain.PlainWord.{PlainWord}
 use Rattle.gic_open.specs.declared.plain.PlainWord.TheVariants.{ItsCtlr, Cbaser, Cwriter, Baser0, Baser1}
 use Rattle.gic_open.specs.Plain.{place_of_plain}
 use Rattle.gic_call.specs.declared.event.Event.{Event}
-use Rattle.gic_call.specs.declared.event.Event.TheVariants.{Put, ItsBegin, Read, Queue}
-use Rattle.gic_call.specs.declared.event.Found.TheVariants.{Queue as FoundQueue}
+use Rattle.gic_call.specs.declared.event.Event.TheVariants.{Put, ItsBegin, Queue}
 use Rattle.gic_call.specs.declared.event.Place.{Place}
 use Rattle.gic_call.specs.declared.event.Place.TheVariants.{Word, Queue as QueuePlace}
 use Rattle.gic_call.specs.declared.event.QueueChange.TheVariants.{Runs}
@@ -26,12 +24,11 @@ use Rattle.gic_call.specs.View.{View, is_its_enabled}
 use Rattle.ideal_guest.specs.declared.guest.IdealGuest.{IdealGuest}
 use Rattle.ideal_guest.specs.Ideal.{word_at, with_word, view_of, after_events}
 use Rattle.ideal_guest.specs.Queue.{IsQueueInOrder}
-use Rattle.call_laws.proofs.NamedLemmas.{named_run, IsIn}
+use Rattle.call_laws.proofs.NamedLemmas.{named_run}
 use Rattle.call_laws.proofs.PartLemmas.{IsMade}
 use Rattle.call_laws.proofs.PlainLemmas.{word_held}
 use Rattle.call_laws.proofs.ReadLemmas.{keeps, view_holds, beside_passes, all_in, last_in}
 use Rattle.call_laws.proofs.RegisterLemmas.{ctlr_cwriter, ctlr_cbaser, ctlr_baser0, ctlr_baser1, cbaser_cwriter, cbaser_ctlr, cwriter_ctlr, word_later, runs_only, IsSeen, queue_pair, queue_seen, beside_runs, offset_low, offset_high, bit_high}
-use Rattle.call_laws.proofs.RunLemmas.{events_of, marked}
 
 module _ (guest : IdealGuest) (actor : Option ℕ) (view : View) (piece : List Happened) where
   abbrev IsBy : List Event → List Place → Type 0
@@ -233,7 +230,7 @@ module _ (guest : IdealGuest) (actor : Option ℕ) (view : View) (piece : List H
           (ap (λ b. writer_events b (queue_offset (half_written High (view.words Cwriter) value)) (view.is_stalled && retries (view.words Cbaser) (half_written High (view.words Cwriter) value)) view.offset) e) e
           (ap (λ b. after_events (writer_events b (queue_offset (half_written High (word_at guest Cwriter) value)) (guest.is_stalled && retries (word_at guest Cbaser) (half_written High (word_at guest Cwriter) value)) guest.offset) guest) f
           ∙ ap (λ r. after_events (writer_events true (queue_offset (half_written High (word_at guest Cwriter) value)) r guest.offset) guest)
-              (no_retry guest.is_stalled (nat_lt (queue_offset (half_written High (word_at guest Cwriter) value)) (queue_bytes (word_at guest Cbaser))) (half_written High (word_at guest Cwriter) value) (bit_high (word_at guest Cwriter) value order.place))
+          (no_retry guest.is_stalled (nat_lt (queue_offset (half_written High (word_at guest Cwriter) value)) (queue_bytes (word_at guest Cbaser))) (half_written High (word_at guest Cwriter) value) (bit_high (word_at guest Cwriter) value order.place))
           ∙ put_itself (queue_offset (half_written High (word_at guest Cwriter) value)) (offset_high (word_at guest Cwriter) value order.place (small_writer order)))
 
   cwriter : (half : Half) (value : ℕ) → view.maps ≡ guest.tables → IsQueueInOrder guest → IsBy (ItsBegin ∷ its_written view CwriterReg half value) writer_places → (b : Bool) → is_in_queue view (half_written half (view.words Cwriter) value) ≡ b → IsWritten CwriterReg half value

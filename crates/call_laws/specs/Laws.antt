@@ -1,11 +1,20 @@
 -- Laws of calls while nobody else acts, kind by kind.
-use Rattle.std.specs.Prelude.{ℕ, Option}
+use Rattle.std.specs.Prelude.{ℕ, ◌<◌, IsTrue, Option}
 use Rattle.gic_base.specs.declared.icc.IccReg.{IccReg}
 use Rattle.gic_base.specs.declared.operation.DeviceOp.{DeviceOp}
-use Rattle.gic_base.specs.declared.operation.Frame.TheVariants.{Dist, Redist, Ram}
+use Rattle.gic_base.specs.declared.operation.Frame.TheVariants.{Dist, Redist, Its, Ram}
+use Rattle.gic_base.specs.declared.operation.GuestOp.{GuestOp}
 use Rattle.gic_base.specs.declared.operation.GuestOp.TheVariants.{Icc, Mem}
+use Rattle.gic_call.specs.declared.event.Operation.{Operation}
 use Rattle.gic_call.specs.declared.event.Operation.TheVariants.{Access, Device, Residence}
-use Rattle.call_laws.specs.Calls.{PassesHome}
+use Rattle.gic_call.specs.Call.{device_events}
+use Rattle.ideal_guest.specs.declared.guest.IdealGuest.{IdealGuest}
+use Rattle.ideal_guest.specs.Ideal.{view_of, after_events}
+use Rattle.ideal_guest.specs.Opening.{opening}
+use Rattle.gic_ideal.specs.Deeds.{op_events}
+use Rattle.scn_base.specs.declared.guest.GuestSpec.{GuestSpec}
+use Rattle.scn_base.specs.Good.{IsGoodGuest, is_good_op, is_good_event}
+use Rattle.call_laws.specs.Calls.{IsAtRest, PassesHome, PassesAtRest}
 
 -- an access of a CPU interface register, with the SGIs that a write of SGI1R sends
 abbrev pub InterfaceCallsPass : Type 0
@@ -30,3 +39,18 @@ RedistributorCallsPass = (vcpu offset size : ℕ) (write : Option ℕ) → Passe
 -- an access of the guest's memory
 abbrev pub MemoryCallsPass : Type 0
 MemoryCallsPass = (offset size : ℕ) (write : Option ℕ) → PassesHome (Access (Mem Ram offset size write))
+
+-- an access of the ITS, with the commands that a write starts
+abbrev pub ItsCallsPass : Type 0
+ItsCallsPass = (offset size : ℕ) (write : Option ℕ) → PassesAtRest (Access (Mem Its offset size write))
+
+-- any call
+abbrev pub CallsPassHome : Type 0
+CallsPassHome = (operation : Operation) → PassesAtRest operation
+
+-- what calls rest on stays under the eager controller: a guest is at rest as it opens, and after each operation of a vCPU and of a device
+pub record RestStays : Type 0 where
+  pub opens : (guest : GuestSpec) → IsGoodGuest guest → IsAtRest (opening guest)
+  pub accesses :
+      (guest : IdealGuest) (vcpu : ℕ) (op : GuestOp) → IsAtRest guest → vcpu < guest.shape.vcpus → IsTrue (is_good_op guest.shape op) → IsAtRest (after_events (op_events op guest vcpu) guest)
+  pub devices : (guest : IdealGuest) (op : DeviceOp) → IsAtRest guest → IsTrue (is_good_event guest.shape op) → IsAtRest (after_events (device_events (view_of guest) op) guest)

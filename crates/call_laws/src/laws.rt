@@ -1,5 +1,5 @@
 //! Laws of calls while nobody else acts.
-ghost use Rattle.call_laws.specs.Laws.{InterfaceCallsPass, ResidencesPass, DeviceCallsPass, DistributorCallsPass, RedistributorCallsPass, MemoryCallsPass};
+ghost use Rattle.call_laws.specs.Laws.{InterfaceCallsPass, ResidencesPass, DeviceCallsPass, DistributorCallsPass, RedistributorCallsPass, MemoryCallsPass, ItsCallsPass, CallsPassHome, RestStays};
 
 /// A law of every access of a CPU interface register that an actor makes while nobody else acts.
 pub fn interface_calls_pass()
@@ -29,4 +29,21 @@ pub fn redistributor_calls_pass()
 /// A law of every access of the guest's memory, while nobody else acts.
 pub fn memory_calls_pass()
     ensures { MemoryCallsPass }
+{}
+
+/// A law of every access of the ITS, while nobody else acts and the guest is at rest: a write also does the commands that it
+/// starts, none of which moves all LPIs of a vCPU to itself.
+pub fn its_calls_pass()
+    ensures { ItsCallsPass }
+{}
+
+/// A law of every call, while nobody else acts and the guest is at rest.
+pub fn calls_pass_home()
+    ensures { CallsPassHome }
+{}
+
+/// A law of the eager controller: a guest is at rest as it opens, and after each good operation of a vCPU and of a device, so
+/// the law of calls speaks of each call of a scenario that is done step by step.
+pub fn rest_stays()
+    ensures { RestStays }
 {}

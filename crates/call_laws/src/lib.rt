@@ -5,6 +5,6 @@
 mod laws;
 
 pub use laws::{
-    device_calls_pass, distributor_calls_pass, interface_calls_pass, memory_calls_pass,
-    redistributor_calls_pass, residences_pass,
+    calls_pass_home, device_calls_pass, distributor_calls_pass, interface_calls_pass,
+    its_calls_pass, memory_calls_pass, redistributor_calls_pass, residences_pass, rest_stays,
 };

@@ -65,7 +65,7 @@ taken_call guest sound order vcpu there Its offset size None h good = absurd (ne
     never ItsReserved h = cc
 taken_call guest sound order vcpu there Its offset size (Some value) h good = its_call guest sound order vcpu there offset size value h good
 
-op_call : (guest : IdealGuest) → IsSound guest → IsQueueInOrder guest → (vcpu : ℕ) → vcpu < guest.shape.vcpus → (op : GuestOp) → IsTrue (is_good_op guest.shape op)
+pub op_call : (guest : IdealGuest) → IsSound guest → IsQueueInOrder guest → (vcpu : ℕ) → vcpu < guest.shape.vcpus → (op : GuestOp) → IsTrue (is_good_op guest.shape op)
     → IsGoodCall vcpu (Access op) (op_made op guest vcpu) (op_read op guest vcpu) guest (after_events (op_events op guest vcpu) guest)
 op_call guest sound order vcpu there (Icc reg write) good = icc_call guest sound vcpu there reg write good
 op_call guest sound order vcpu there (Mem frame offset size write) good = of (takes_its guest.shape frame offset size write) refl
@@ -164,7 +164,7 @@ module _ (mode : Mode) (pes : ℕ) (shapes : List GuestShape) (n : ℕ) (shape :
 
 -- From the opening.
 
-order_opening : (guest : GuestSpec) → IsQueueInOrder (opening guest)
+pub order_opening : (guest : GuestSpec) → IsQueueInOrder (opening guest)
 order_opening guest =
     let cbaser = word_opening guest Cbaser in
     let cwriter = word_opening guest Cwriter in

@@ -142,7 +142,7 @@ module _ (n actor : ℕ) (guest : IdealGuest) (sound : IsSound guest) where
           by false = record { plain = refl; calm = refl; hands = (refl, tt); targets = refl; order = written e }
           by true = record { plain = refl; calm = refl; hands = (refl, (refl, tt)); targets = refl; order = λ order. let is = written e order in record { next = is.next; writer = is.writer; place = is.place } }
 
-  written_piece : (reg : ItsReg) (half : Half) (value : ℕ) → IsTurnPiece n actor guest (its_written (view_of guest) reg half value)
+  pub written_piece : (reg : ItsReg) (half : Half) (value : ℕ) → IsTurnPiece n actor guest (its_written (view_of guest) reg half value)
   written_piece ItsCtlrReg half value = put_piece ItsCtlr (bit_of (enabled_in value)) refl refl
   written_piece CbaserReg half value = cbaser_piece (cbaser_bits (half_written half ((view_of guest).words Cbaser) value))
   written_piece CwriterReg half value = cwriter_piece (half_written half ((view_of guest).words Cwriter) value)

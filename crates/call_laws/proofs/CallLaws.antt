@@ -1,0 +1,59 @@
+-- Every call, while nobody else acts.
+use Rattle.std.proofs.Common.{◌≡◌, ℕ, ◌++◌, Bool, true, false, Option, Some, None, refl}
+use Rattle.gic_base.specs.declared.operation.Frame.TheVariants.{Dist, Redist, Its, Ram}
+use Rattle.gic_base.specs.declared.operation.GuestOp.TheVariants.{Icc, Mem}
+use Rattle.gic_imap.specs.Map.{decoded as its_decoded}
+use Rattle.gic_imap.specs.declared.map.RegRef.{RegRef as ItsRef}
+use Rattle.gic_imap.specs.declared.map.RegRef.TheVariants.{Plain as ItsPlain, Reserved as ItsReserved}
+use Rattle.gic_base.specs.declared.shape.GuestShape.{GuestShape}
+use Rattle.gic_call.specs.declared.event.Operation.TheVariants.{Access, Device, Residence}
+use Rattle.gic_call.specs.Call.{takes_turn}
+use Rattle.gic_call.specs.Trace.{IsItsWrite, IsCall}
+use Rattle.gic_history.specs.History.{vcpu_of, last_of}
+use Rattle.gic_history.specs.Moves.{home}
+use Rattle.call_laws.specs.Calls.{lone_call, IsEagerCall, PassesAtRest}
+use Rattle.call_laws.specs.Laws.{CallsPassHome}
+use Rattle.call_laws.proofs.AccessLemmas.{its_so, distributor_calls_pass, redistributor_calls_pass, memory_calls_pass}
+use Rattle.call_laws.proofs.DeviceLemmas.{device_calls_pass}
+use Rattle.call_laws.proofs.IccLemmas.{interface_calls_pass, residences_pass}
+use Rattle.call_laws.proofs.ItsLemmas.{its_call_passes}
+use Rattle.call_laws.proofs.RunLemmas.{LoneRun, lone_run}
+
+-- a read takes no turn
+no_turn_read : (shape : GuestShape) (ref : ItsRef) → takes_turn shape ref None ≡ false
+no_turn_read shape (ItsPlain reg half) = refl
+no_turn_read shape ItsReserved = refl
+
+pub its_calls_pass : (offset size : ℕ) (write : Option ℕ) → PassesAtRest (Access (Mem Its offset size write))
+its_calls_pass offset size None guest moments actor piece answer is rest apart = of (vcpu_of guest.shape actor) run.is_call
+  where
+    run : LoneRun guest moments actor (Access (Mem Its offset size None)) piece answer
+    run = lone_run guest moments actor (Access (Mem Its offset size None)) piece answer is
+
+    of : (o : Option ℕ) → IsCall guest.shape run.ended.beside o (Access (Mem Its offset size None)) piece answer
+        → IsEagerCall actor (Access (Mem Its offset size None)) answer (home (last_of guest moments)) (home (last_of guest (moments ++ lone_call actor (Access (Mem Its offset size None)) piece answer)))
+    of None is_call = absurd is_call
+    of (Some vcpu) is_call = its_so guest moments actor piece answer offset size None run vcpu (no_turn_read guest.shape (its_decoded offset size)) is_call
+its_calls_pass offset size (Some value) guest moments actor piece answer is rest apart = of (vcpu_of guest.shape actor) run.is_call
+  where
+    run : LoneRun guest moments actor (Access (Mem Its offset size (Some value))) piece answer
+    run = lone_run guest moments actor (Access (Mem Its offset size (Some value))) piece answer is
+
+    by_turn : (vcpu : ℕ) (b : Bool) → takes_turn guest.shape (its_decoded offset size) (Some value) ≡ b → IsItsWrite b guest.shape run.ended.beside vcpu offset size value piece answer
+        → IsEagerCall actor (Access (Mem Its offset size (Some value))) answer (home (last_of guest moments)) (home (last_of guest (moments ++ lone_call actor (Access (Mem Its offset size (Some value))) piece answer)))
+    by_turn vcpu true takes is_call = its_call_passes guest moments actor piece answer offset size value run vcpu takes is_call rest apart
+    by_turn vcpu false takes is_call = its_so guest moments actor piece answer offset size (Some value) run vcpu takes is_call
+
+    of : (o : Option ℕ) → IsCall guest.shape run.ended.beside o (Access (Mem Its offset size (Some value))) piece answer
+        → IsEagerCall actor (Access (Mem Its offset size (Some value))) answer (home (last_of guest moments)) (home (last_of guest (moments ++ lone_call actor (Access (Mem Its offset size (Some value))) piece answer)))
+    of None is_call = absurd is_call
+    of (Some vcpu) is_call = by_turn vcpu (takes_turn guest.shape (its_decoded offset size) (Some value)) refl is_call
+
+pub calls_pass_home : CallsPassHome
+calls_pass_home (Access (Icc reg write)) guest moments actor piece answer is rest apart = interface_calls_pass reg write guest moments actor piece answer is
+calls_pass_home (Access (Mem Dist offset size write)) guest moments actor piece answer is rest apart = distributor_calls_pass offset size write guest moments actor piece answer is
+calls_pass_home (Access (Mem (Redist vcpu) offset size write)) guest moments actor piece answer is rest apart = redistributor_calls_pass vcpu offset size write guest moments actor piece answer is
+calls_pass_home (Access (Mem Its offset size write)) guest moments actor piece answer is rest apart = its_calls_pass offset size write guest moments actor piece answer is rest apart
+calls_pass_home (Access (Mem Ram offset size write)) guest moments actor piece answer is rest apart = memory_calls_pass offset size write guest moments actor piece answer is
+calls_pass_home (Device op) guest moments actor piece answer is rest apart = device_calls_pass op guest moments actor piece answer is
+calls_pass_home Residence guest moments actor piece answer is rest apart = residences_pass guest moments actor piece answer is

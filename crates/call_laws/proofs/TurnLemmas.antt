@@ -1,0 +1,191 @@
+-- A call that takes the ITS: the events of its register, and that its commands take no other turn.
+use Rattle.std.proofs.Common.{◌≡◌, ℕ, ◌+◌, ◌&&◌, Bool, true, false, cond, IsTrue, List, [], ◌∷◌, ◌++◌, Option, Some, refl, sym, ap, ◌∙◌, subst}
+use Rattle.std.specs.List.{list_all}
+use Rattle.std.proofs.lemmas.Bool.{and_parts, and_from}
+use Rattle.std.proofs.lemmas.List.Folds.{list_all-append}
+use Rattle.gic_base.specs.declared.shape.GuestShape.{GuestShape}
+use Rattle.gic_frame.specs.declared.bank.Half.{Half}
+use Rattle.gic_frame.specs.Guest.{has_lpis}
+use Rattle.gic_imap.specs.declared.map.Reg.{Reg as ItsReg}
+use Rattle.gic_imap.specs.declared.map.Reg.TheVariants.{Ctlr as ItsCtlrReg, Iidr as ItsIidr, Typer as ItsTyper, Cbaser as CbaserReg, Cwriter as CwriterReg, Creadr, Baser0 as Baser0Reg, Baser1 as Baser1Reg, Pidr2 as ItsPidr2}
+use Rattle.gic_imap.specs.declared.map.RegRef.{RegRef as ItsRef}
+use Rattle.gic_imap.specs.declared.map.RegRef.TheVariants.{Plain as ItsPlain, Reserved as ItsReserved}
+use Rattle.gic_open.specs.declared.plain.PlainWord.{PlainWord}
+use Rattle.gic_call.specs.declared.command.Part.{Part}
+use Rattle.gic_call.specs.declared.command.Part.TheVariants.{Forget, Map, Retarget, Raise as RaisePart, Clear, Configure}
+use Rattle.gic_call.specs.declared.event.Event.{Event}
+use Rattle.gic_call.specs.declared.event.Event.TheVariants.{Raise, Up, Down, Touch, Reach, Take, Leave, Enable, Cpu, Read, Put, CtlrBegin, CtlrEnd, ItsBegin, ItsEnd, Queue}
+use Rattle.gic_call.specs.declared.event.Place.{Place}
+use Rattle.gic_call.specs.declared.event.QueueChange.TheVariants.{Runs, Done, Stalls}
+use Rattle.gic_call.specs.Access.{its_written, takes_its, starts_commands as register_starts}
+use Rattle.gic_call.specs.Call.{its_events, its_starts, takes_turn}
+use Rattle.gic_call.specs.Command.{lpi_event, queue_event, command_parts}
+use Rattle.gic_call.specs.Trace.{Happened, is_beside, Beside, Makes, ArePartsThen, IsCommand, AreCommands, AreStarted, its_places, its_write_places, HaveSameIts, left_by}
+use Rattle.gic_call.specs.Valid.{CanHappen}
+use Rattle.gic_call.specs.View.{View}
+use Rattle.ideal_guest.specs.declared.guest.IdealGuest.{IdealGuest}
+use Rattle.ideal_guest.specs.Ideal.{view_of, after_event, after_events}
+use Rattle.ideal_guest.specs.Queue.{IsQueueInOrder}
+use Rattle.ideal_guest.specs.Sound.{IsSound}
+use Rattle.gic_ideal.specs.Laws.{CanFollow}
+use Rattle.gic_ideal.proofs.SoundEvents.{sound_event}
+use Rattle.eager_laws.proofs.WindowLemmas.{is_no_turn}
+use Rattle.call_laws.proofs.CommandLemmas.{events_both}
+use Rattle.call_laws.proofs.MapsLemmas.{keeps_maps}
+use Rattle.call_laws.proofs.OneLemmas.{queue_is}
+use Rattle.call_laws.proofs.PartLemmas.{IsMade}
+use Rattle.call_laws.proofs.ReadLemmas.{beside_passes}
+use Rattle.call_laws.proofs.RunLemmas.{events_of, spreading_after, IsHomeRun}
+use Rattle.call_laws.proofs.WrittenLemmas.{IsWritten, as_eager, stored_already, register_written}
+
+-- What all events of a register pass.
+
+module _ (test : Event → Bool) (put : (word : PlainWord) (value : ℕ) → test (Put word value) ≡ true) (runs : (offset : ℕ) → test (Queue offset Runs) ≡ true) where
+  one_put : (b : Bool) (word : PlainWord) (value : ℕ) → IsTrue (list_all test (cond b [] (Put word value ∷ [])))
+  one_put true word value = refl
+  one_put false word value = and_from (test (Put word value)) true (put word value) refl
+
+  three : (b : Bool) (one other : PlainWord) (value bits : ℕ) → IsTrue (list_all test (cond b [] (Put one value ∷ Queue 0 Runs ∷ Put other bits ∷ [])))
+  three true one other value bits = refl
+  three false one other value bits =
+      and_from (test (Put one value)) (list_all test (Queue 0 Runs ∷ Put other bits ∷ [])) (put one value)
+      (and_from (test (Queue 0 Runs)) (list_all test (Put other bits ∷ [])) (runs 0) (and_from (test (Put other bits)) true (put other bits) refl))
+
+  two : (b c : Bool) (word : PlainWord) (value offset : ℕ) → IsTrue (list_all test (cond b (Put word value ∷ cond c (Queue offset Runs ∷ []) []) []))
+  two false c word value offset = refl
+  two true true word value offset = and_from (test (Put word value)) (list_all test (Queue offset Runs ∷ [])) (put word value) (and_from (test (Queue offset Runs)) true (runs offset) refl)
+  two true false word value offset = and_from (test (Put word value)) true (put word value) refl
+
+  written_all : (view : View) (reg : ItsReg) (half : Half) (value : ℕ) → IsTrue (list_all test (its_written view reg half value))
+  written_all view ItsCtlrReg half value = and_from (test (Put _ _)) true (put _ _) refl
+  written_all view CbaserReg half value = three _ _ _ _ _
+  written_all view CwriterReg half value = two _ _ _ _ _
+  written_all view Baser0Reg half value = one_put _ _ _
+  written_all view Baser1Reg half value = one_put _ _ _
+  written_all view ItsIidr half value = refl
+  written_all view ItsTyper half value = refl
+  written_all view Creadr half value = refl
+  written_all view ItsPidr2 half value = refl
+
+  pub its_all : (shape : GuestShape) (view : View) (ref : ItsRef) (value : ℕ) → IsTrue (list_all test (its_events shape view ref (Some value)))
+  its_all shape view (ItsPlain reg half) value = of (has_lpis shape)
+    where
+      of : (b : Bool) → IsTrue (list_all test (cond b (its_written view reg half value) []))
+      of true = written_all view reg half value
+      of false = refl
+  its_all shape view ItsReserved value = refl
+
+-- A register, as the access names it.
+
+module _ (shape : GuestShape) (guest : IdealGuest) (actor : Option ℕ) (view : View) (piece : List Happened) (value : ℕ) where
+  pub data IsRegistered (ref : ItsRef) : Type 0 where
+    eager_so : its_events shape view ref (Some value) ≡ its_events shape (view_of guest) ref (Some value) → its_starts shape view ref (Some value) ≡ its_starts shape (view_of guest) ref (Some value) → (its_starts shape view ref (Some value) ≡ true → HaveSameIts view (view_of guest)) → IsRegistered ref
+    already_so : its_events shape view ref (Some value) ≡ [] → its_starts shape view ref (Some value) ≡ false → after_events (its_events shape (view_of guest) ref (Some value)) guest ≡ guest → IsRegistered ref
+
+  pub registered : (ref : ItsRef) → takes_turn shape ref (Some value) ≡ true → IsMade guest actor view (ItsBegin ∷ its_events shape view ref (Some value)) (its_places shape ref (Some value)) piece → view.maps ≡ guest.tables → IsQueueInOrder guest → IsRegistered ref
+  registered (ItsPlain reg half) takes made maps order =
+      let both = and_parts (has_lpis shape) (takes_its reg) takes in
+      of both.0 (register_written guest actor view piece reg half value both.1 maps order (subst (λ b. IsMade guest actor view (ItsBegin ∷ cond b (its_written view reg half value) []) (cond b (its_write_places reg) []) piece) both.0 made))
+    where
+      of : has_lpis shape ≡ true → IsWritten guest actor view piece reg half value → IsRegistered (ItsPlain reg half)
+      of on (as_eager events starts known) =
+          eager_so
+          (ap (λ b. cond b (its_written view reg half value) []) on ∙ events ∙ sym (ap (λ b. cond b (its_written (view_of guest) reg half value) []) on))
+          (ap (λ b. b && register_starts view reg half value) on ∙ starts ∙ sym (ap (λ b. b && register_starts (view_of guest) reg half value) on))
+          (λ h. known (sym (ap (λ b. b && register_starts view reg half value) on) ∙ h))
+      of on (stored_already none starts still) =
+          already_so (ap (λ b. cond b (its_written view reg half value) []) on ∙ none) (ap (λ b. b && register_starts view reg half value) on ∙ starts)
+          (ap (λ b. after_events (cond b (its_written (view_of guest) reg half value) []) guest) on ∙ still)
+  registered ItsReserved takes made maps order = absurd (cc)
+
+-- No other turn.
+
+beside_no_turn : (actor : Option ℕ) (event : Event) → is_beside actor event ≡ true → is_no_turn event ≡ true
+beside_no_turn actor (Raise key) h = absurd (cc)
+beside_no_turn actor (Up key) h = absurd (cc)
+beside_no_turn actor (Down key) h = absurd (cc)
+beside_no_turn actor (Touch key touching) h = absurd (cc)
+beside_no_turn actor (Reach key u) h = refl
+beside_no_turn actor (Take key u) h = refl
+beside_no_turn actor (Leave key u) h = refl
+beside_no_turn actor (Enable u) h = absurd (cc)
+beside_no_turn actor (Cpu u reg write) h = absurd (cc)
+beside_no_turn actor (Read at) h = refl
+beside_no_turn actor (Put other value) h = absurd (cc)
+beside_no_turn actor (CtlrBegin enables) h = absurd (cc)
+beside_no_turn actor CtlrEnd h = absurd (cc)
+beside_no_turn actor ItsBegin h = absurd (cc)
+beside_no_turn actor ItsEnd h = absurd (cc)
+beside_no_turn actor (Queue offset Runs) h = absurd (cc)
+beside_no_turn actor (Queue offset (Done words)) h = absurd (cc)
+beside_no_turn actor (Queue offset (Stalls fault)) h = absurd (cc)
+
+pub makes_no_turn : (actor : Option ℕ) (view : View) (events : List Event) (places : List Place) (before piece : List Happened) → Makes actor view events places before piece → IsTrue (list_all is_no_turn events) → IsTrue (list_all is_no_turn (events_of piece))
+makes_no_turn actor view events places before piece made none = beside_passes is_no_turn beside_no_turn actor piece (subst (λ es. IsTrue (list_all is_no_turn es)) (sym made.events_are) none)
+
+pub no_turn_both : (first next : List Happened) → IsTrue (list_all is_no_turn (events_of first)) → IsTrue (list_all is_no_turn (events_of next)) → IsTrue (list_all is_no_turn (events_of (first ++ next)))
+no_turn_both first next one two =
+    ap (list_all is_no_turn) (events_both first next) ∙ list_all-append is_no_turn (events_of first) (events_of next) ∙ and_from (list_all is_no_turn (events_of first)) (list_all is_no_turn (events_of next)) one two
+
+part_no_turn : (shape : GuestShape) (view : View) (targets : ℕ → Option ℕ) (part : Part) → is_no_turn (lpi_event shape view targets part) ≡ true
+part_no_turn shape view targets (Forget id) = refl
+part_no_turn shape view targets (Map id target) = refl
+part_no_turn shape view targets (Retarget id target) = refl
+part_no_turn shape view targets (RaisePart id) = refl
+part_no_turn shape view targets (Clear id) = refl
+part_no_turn shape view targets (Configure id) = refl
+
+parts_no_turn : (actor : Option ℕ) (shape : GuestShape) (targets : ℕ → Option ℕ) (parts : List Part) (Rest : List Happened → List Happened → Type 0) → ((before piece : List Happened) → Rest before piece → IsTrue (list_all is_no_turn (events_of piece)))
+    → (before piece : List Happened) → ArePartsThen actor shape targets parts Rest before piece → IsTrue (list_all is_no_turn (events_of piece))
+parts_no_turn actor shape targets [] Rest rest before piece are = rest before piece are
+parts_no_turn actor shape targets (part ∷ parts) Rest rest before piece are =
+    subst (λ xs. IsTrue (list_all is_no_turn (events_of xs))) (sym are.split)
+    (no_turn_both are.own are.rest
+    (makes_no_turn actor are.view (lpi_event shape are.view targets part ∷ []) _ before are.own are.made (and_from (is_no_turn (lpi_event shape are.view targets part)) true (part_no_turn shape are.view targets part) refl))
+    (parts_no_turn actor shape targets parts Rest rest (before ++ are.own) are.rest are.later))
+
+command_no_turn : (actor : Option ℕ) (shape : GuestShape) (view : View) (piece : List Happened) → IsCommand actor shape view piece → IsTrue (list_all is_no_turn (events_of piece))
+command_no_turn actor shape view piece is =
+    subst (λ xs. IsTrue (list_all is_no_turn (events_of xs))) (sym is.split)
+    (no_turn_both is.fetch is.rest (makes_no_turn actor view [] _ [] is.fetch is.fetched refl)
+    (parts_no_turn actor shape view.targets (command_parts shape view) (λ before after. Makes actor view (queue_event shape view ∷ []) [] before after)
+    (λ before after made. makes_no_turn actor view (queue_event shape view ∷ []) [] before after made (and_from (is_no_turn (queue_event shape view)) true (queue_is shape view (λ e. is_no_turn e ≡ true) (λ fault. refl) refl) refl))
+    is.fetch is.rest is.done))
+
+commands_no_turn : (actor : Option ℕ) (shape : GuestShape) (beside : Beside) (views : List View) (number : ℕ) (its : View) (piece : List Happened) → AreCommands actor shape beside number its views piece → IsTrue (list_all is_no_turn (events_of piece))
+commands_no_turn actor shape beside [] number its piece are = makes_no_turn actor its [] [] [] piece are.0 refl
+commands_no_turn actor shape beside (view ∷ views) number its piece are =
+    subst (λ xs. IsTrue (list_all is_no_turn (events_of xs))) (sym are.split)
+    (no_turn_both are.own are.rest (command_no_turn actor shape view are.own are.command) (commands_no_turn actor shape beside views (number + 1) (left_by shape view (queue_event shape view)) are.rest are.later))
+
+pub started_no_turn : (b : Bool) (actor : Option ℕ) (shape : GuestShape) (beside : Beside) (its : View) (views : List View) (piece : List Happened) → AreStarted b actor shape beside its views piece → IsTrue (list_all is_no_turn (events_of piece))
+started_no_turn true actor shape beside its views piece are = commands_no_turn actor shape beside views 0 its piece are
+started_no_turn false actor shape beside its views piece are = makes_no_turn actor its [] [] [] piece are refl
+
+-- A run in which no command ends leaves a sound guest.
+
+can_follow : (guest : IdealGuest) (event : Event) → keeps_maps event ≡ true → CanHappen guest.shape event → CanFollow guest event
+can_follow guest (Raise key) h can = can
+can_follow guest (Up key) h can = can
+can_follow guest (Down key) h can = can
+can_follow guest (Touch key touching) h can = can
+can_follow guest (Reach key u) h can = can
+can_follow guest (Take key u) h can = can
+can_follow guest (Leave key u) h can = can
+can_follow guest (Enable u) h can = can
+can_follow guest (Cpu u reg write) h can = can
+can_follow guest (Read at) h can = can
+can_follow guest (Put other value) h can = can
+can_follow guest (CtlrBegin enables) h can = can
+can_follow guest CtlrEnd h can = can
+can_follow guest ItsBegin h can = can
+can_follow guest ItsEnd h can = can
+can_follow guest (Queue offset Runs) h can = can
+can_follow guest (Queue offset (Done words)) h can = absurd (cc)
+can_follow guest (Queue offset (Stalls fault)) h can = can
+
+pub sound_run : (piece : List Happened) (b : Bool) (guest : IdealGuest) → IsHomeRun b guest piece → IsTrue (list_all keeps_maps (events_of piece)) → IsSound guest → IsSound (after_events (events_of piece) guest)
+sound_run [] b guest run keep sound = sound
+sound_run (one ∷ piece) b guest run keep sound =
+    let parts = and_parts (keeps_maps one.event) (list_all keeps_maps (events_of piece)) keep in
+    sound_run piece (spreading_after one.event b) (after_event guest one.event) run.1 parts.1 (sound_event guest one.event sound (can_follow guest one.event parts.0 run.0.can))
