@@ -15,3 +15,6 @@ pub mod AskFill
 pub mod AskLemmas
 pub mod AskSteps
 pub mod AskRuns
+pub mod TellLemmas
+pub mod HeldSteps
+pub mod EoiLemmas
