@@ -18,3 +18,4 @@ pub mod AskRuns
 pub mod TellLemmas
 pub mod HeldSteps
 pub mod EoiLemmas
+pub mod SeeLemmas
