@@ -70,7 +70,7 @@ module _ (shape : GuestShape) (state : CoreState) (ideal : Ideal) (vcpu found le
   -- What has been so before a step.
 
   -- it claimed all before a step that is neither a look for a kick nor a claim
-  all_before : (step : CoreStep) (is : IsStep shape state ideal vcpu step found left tables) → is_poll_by vcpu vcpu step ≡ false → ((now step).failed ≡ false → is_kick_of vcpu step ≡ false → p.failed ≡ false) → HasAll shape (later is) vcpu (now step) → HasAll shape state vcpu p
+  pub all_before : (step : CoreStep) (is : IsStep shape state ideal vcpu step found left tables) → is_poll_by vcpu vcpu step ≡ false → ((now step).failed ≡ false → is_kick_of vcpu step ≡ false → p.failed ≡ false) → HasAll shape (later is) vcpu (now step) → HasAll shape state vcpu p
   all_before step is poll failed all = let before = unkicked_before is vcpu within poll all.unkicked in record { none_failed = failed all.none_failed before.1; unkicked = before.0 }
 
   quiet_idle :
@@ -80,14 +80,14 @@ module _ (shape : GuestShape) (state : CoreState) (ideal : Ideal) (vcpu found le
       subst (Asks shape (later is) vcpu (now step)) (sym (same ∙ e))
       (asking_as shape state (later is) vcpu (is_ready p.local.phase) (is_ready (now step).local.phase) p (now step) regs cpu trapping debt phase (all_before step is poll failed) (subst (Asks shape state vcpu p) e asks))
 
-  kick_failed : (v : ℕ) → (p.failed && not (v == vcpu)) ≡ false → (v == vcpu) ≡ false → p.failed ≡ false
+  pub kick_failed : (v : ℕ) → (p.failed && not (v == vcpu)) ≡ false → (v == vcpu) ≡ false → p.failed ≡ false
   kick_failed v e f = sym (and_true p.failed) ∙ sym (ap (λ b. p.failed && not b) f) ∙ e
     where
       and_true : (b : Bool) → (b && true) ≡ b
       and_true true = refl
       and_true false = refl
 
-  look_part : {X : Type 0} (part : Local → X) (key : Key) → ((local : Local) (cands : Cands) → part (record local { cands = cands }) ≡ part local) → part (local_after shape vcpu p.local (Look (Irq key)) found) ≡ part p.local
+  pub look_part : {X : Type 0} (part : Local → X) (key : Key) → ((local : Local) (cands : Cands) → part (record local { cands = cands }) ≡ part local) → part (local_after shape vcpu p.local (Look (Irq key)) found) ≡ part p.local
   look_part part key same = either part (is_settled_by_look shape vcpu (irq_of found)) (record p.local { cands = settled shape vcpu key p.local.cands }) p.local (same p.local (settled shape vcpu key p.local.cands))
 
   -- With no scan in progress.

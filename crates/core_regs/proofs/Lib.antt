@@ -19,3 +19,4 @@ pub mod TellLemmas
 pub mod HeldSteps
 pub mod EoiLemmas
 pub mod SeeLemmas
+pub mod SeeSteps

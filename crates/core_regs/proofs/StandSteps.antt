@@ -72,7 +72,7 @@ empty_is : (at : List AtIrq) → IsTrue (is_empty at) → at ≡ []
 empty_is [] h = refl
 empty_is (one ∷ at) h = absurd (cc)
 
-some_is : {X : Type 0} (o : Option X) → is_some o ≡ true → (x : X) × (o ≡ Some x)
+pub some_is : {X : Type 0} (o : Option X) → is_some o ≡ true → (x : X) × (o ≡ Some x)
 some_is None e = absurd (cc)
 some_is (Some x) e = (x, refl)
 
@@ -195,7 +195,7 @@ module _ (finds : Bool) (shape : GuestShape) (state : CoreState) (ideal : Ideal)
           (subst (Standing finds shape vcpu p) e before ready_now (or_paid finds (if is_to_scan regs p.trapping p.debt then before_next else paid) p.debt (paid_before regs p.trapping p.debt) owed)))
 
   -- a release comes after what it releases was given back, while the vCPU folds
-  releases : (key : Key) (is : IsStep shape state ideal vcpu (Release key) found left tables) → IsTrue (is_ready p.local.phase) → ⊥
+  pub releases : (key : Key) (is : IsStep shape state ideal vcpu (Release key) found left tables) → IsTrue (is_ready p.local.phase) → ⊥
   releases key is ready =
       let can = is.takes.meets in
       let local = (seat_at state vcpu).local in
@@ -291,7 +291,7 @@ module _ (finds : Bool) (shape : GuestShape) (state : CoreState) (ideal : Ideal)
   -- While it claims.
 
   -- what it claims was found as it is
-  found_as : (key : Key) (seen : ℕ) (claims takes : List Key) (is : IsStep shape state ideal vcpu (Claim key seen) found left tables) → IsProperStep shape vcpu p (Claim key seen) → succeeds shape vcpu p.local (Claim key seen) found ≡ true → (c : Choice) → c.key ≡ key → IsToClaim shape vcpu p.own p.local.at takes c → irq_of found ≡ c.irq
+  pub found_as : (key : Key) (seen : ℕ) (claims takes : List Key) (is : IsStep shape state ideal vcpu (Claim key seen) found left tables) → IsProperStep shape vcpu p (Claim key seen) → succeeds shape vcpu p.local (Claim key seen) found ≡ true → (c : Choice) → c.key ≡ key → IsToClaim shape vcpu p.own p.local.at takes c → irq_of found ≡ c.irq
   found_as key seen claims takes is proper done c same to =
       let knows : known shape vcpu p.own (Irq key) ≡ Some seen = number_is seen (known shape vcpu p.own (Irq key)) proper.seen in
       let word : to.word ≡ seen = same_Some to.word seen (sym to.known_as ∙ ap (λ k. known shape vcpu p.own (Irq k)) same ∙ knows) in
