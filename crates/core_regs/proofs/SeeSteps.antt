@@ -1,6 +1,9 @@
 -- A vCPU's own steps keep which ends its list registers see.
 use Rattle.std.proofs.Common.{◌≡◌, ◌≢◌, ℕ, ◌<◌, ◌≤◌, ◌==◌, ◌&&◌, ◌||◌, ◌⊎◌, inl, inr, true≢false, not, Bool, true, false, IsTrue, List, [], ◌∷◌, ◌++◌, fold, length, get_or, Contains, Option, Some, None, is_none, unwrap_or, if◌then◌else◌, refl, sym, ap, subst, ◌∙◌}
+use Rattle.std.specs.Option.{option_map_or}
 use Rattle.std.proofs.lemmas.Bool.{and_parts, eqb-true}
+use Rattle.std.proofs.lemmas.List.{get_or_default}
+use Rattle.std.proofs.lemmas.List.Elements.{All-contains}
 use Rattle.std.proofs.lemmas.Option.{same_Some}
 use Rattle.gic_base.specs.declared.icc.IccReg.{IccReg}
 use Rattle.gic_base.specs.declared.interrupt.Key.{Key}
@@ -9,7 +12,7 @@ use Rattle.gic_base.specs.Interrupt.{has_interrupt, intid_of, is_of_vcpu, is_sam
 use Rattle.gic_base.specs.Shape.{IsShape}
 use Rattle.gic_base.proofs.KeyLemmas.{same_key, same_itself, other_key}
 use Rattle.gic_call.specs.declared.moves.Moved.{Moved}
-use Rattle.gic_call.specs.Move.{reached}
+use Rattle.gic_call.specs.Move.{may_reach, may_take, reached}
 use Rattle.gic_call.specs.Touch.{touched as touched_of}
 use Rattle.gic_history.specs.Fresh.{changes_of}
 use Rattle.gic_history.specs.State.{Ideal}
@@ -56,7 +59,7 @@ use Rattle.core_proper.specs.Progress.{Progress, Debt, paid, before_next, after_
 use Rattle.core_proper.specs.Proper.{IsProperStep}
 use Rattle.core_proper.specs.Registers.{after_operation}
 use Rattle.core_proper.specs.Scan.{Purpose, planned, trapped, bare, Scan, idle, taking, looking, claiming, has_key, is_both, scan_allows, scan_looked, word_taken, without_key}
-use Rattle.core_proper.proofs.ReachLemmas.{number_is, reached_local}
+use Rattle.core_proper.proofs.ReachLemmas.{none_is, number_is, reached_local}
 use Rattle.core_laws.specs.Known.{IsKnown}
 use Rattle.core_laws.specs.Related.{bare as bare_irq}
 use Rattle.core_laws.specs.Simulates.{event_of}
@@ -66,7 +69,7 @@ use Rattle.core_laws.proofs.StepContext.{one, IsStep, has}
 use Rattle.core_regs.specs.Asks.{HasAll}
 use Rattle.core_regs.specs.Ends.{SeesEnd, Telling, told_by}
 use Rattle.core_regs.proofs.AskSteps.{all_before, kick_failed, look_part}
-use Rattle.core_regs.proofs.ComeLemmas.{seen_choice, finished_id, IsRight, IsToClaim, IsClaiming, is_there, key_by_id, known_on, none_some}
+use Rattle.core_regs.proofs.ComeLemmas.{seen_choice, Comes, finished_id, IsRight, IsToClaim, IsClaiming, is_there, key_by_id, known_on, none_some}
 use Rattle.core_regs.proofs.EoiLemmas.{KeepsEoi, access_keeps, same_state}
 use Rattle.core_regs.proofs.HeldSteps.{record_reached, record_same, record_taken}
 use Rattle.core_regs.proofs.KeyLemmas.{of_key, without_itself, without_other}
@@ -247,3 +250,143 @@ module _ (shape : GuestShape) (state : CoreState) (ideal : Ideal) (vcpu found le
   idle_sees TurnRelease is mine e proper sees = quiet_idle TurnRelease is mine e sees refl (λ f k. f) refl refl refl refl refl refl (λ key seen e. absurd (cc))
   idle_sees (Mark k v) is mine e proper sees = quiet_idle (Mark k v) is mine e sees refl (λ f k. f) refl refl refl refl refl refl (λ key seen e. absurd (cc))
   idle_sees (TakeIndex word) is mine e proper sees = subst (λ s. Sees shape (later is) vcpu (told_now (TakeIndex word)) (now (TakeIndex word)) (word_taken s)) (sym e) tt
+
+  -- While it claims.
+
+  -- what is known of the other interrupts that are to be claimed
+  knows_others : (claims takes : List Key) (key : Key) (seen : ℕ) (is : IsStep shape state ideal vcpu (Claim key seen) found left tables) → IsClaiming shape vcpu p.local p.own p.regs claims takes → (other : Key) → other ≢ key → has_key other claims ≡ true
+      → known shape vcpu (p.own ++ made_by (Claim key seen) ∷ []) (IrqWord other) ≡ known shape vcpu p.own (IrqWord other)
+  knows_others claims takes key seen is claiming_is other apart h =
+      let d = of_key other claiming_is.rest (ap (has_key other) (sym claiming_is.keys) ∙ h) in
+      let there : IsTrue (has_interrupt shape other) = subst (λ k. IsTrue (has_interrupt shape k)) d.2 (claiming_is.each d.0 d.1).there in
+      known_on shape vcpu p.own (made_by (Claim key seen)) (IrqWord other) is.good (has is) there (λ e. apart (key_is key other e))
+    where
+      key_is : (j k : Key) → IrqWord j ≡ IrqWord k → k ≡ j
+      key_is j k e = cc
+
+  module _ (claims takes : List Key) (key : Key) (seen : ℕ) (is : IsStep shape state ideal vcpu (Claim key seen) found left tables) (claiming_is : IsClaiming shape vcpu p.local p.own p.regs claims takes) (proper : IsProperStep shape vcpu p (Claim key seen)) (done : succeeds shape vcpu p.local (Claim key seen) found ≡ true)
+      (mine : claimed shape vcpu key found p.local ≡ (seat_at (later is) vcpu).local) (seeing : Seeing shape state vcpu telling p claims takes) where
+    abbrev next : Local
+    next = claimed shape vcpu key found p.local
+
+    abbrev made : Made
+    made = made_by (Claim key seen)
+
+    there : IsTrue (has_interrupt shape key)
+    there = (and_parts (is_vcpu shape vcpu && is_of_vcpu vcpu key) (has_interrupt shape key) is.takes.can).1
+
+    done_seat : succeeds shape vcpu (seat_at state vcpu).local (Claim key seen) found ≡ true
+    done_seat = ap (λ l. succeeds shape vcpu l (Claim key seen) found) (sym seat.local) ∙ done
+
+    -- it claimed all before, where it has all that it chose now
+    before_all : {q : Progress} → q.failed ≡ (p.failed || false) → HasAll shape (later is) vcpu q → HasAll shape state vcpu p
+    before_all same all = record { none_failed = or_false p.failed (sym same ∙ all.none_failed); unkicked = (unkicked_before is vcpu within refl all.unkicked).0 }
+      where
+        or_false : (b : Bool) → (b || false) ≡ false → b ≡ false
+        or_false true e = absurd (cc)
+        or_false false e = refl
+
+    -- another interrupt at the interface
+    other_here : (takes_now : List Key) → IsTrue (is_ready p.local.phase) → IsTrue (is_ready next.phase) → IsSeeing shape vcpu state telling p.local p.own p.regs claims takes → (other : Key) → other ≢ key → IsTrue (has_interrupt shape other) → is_at other next.at ≡ true → is_at other p.local.at ≡ true
+        → has_key other takes_now ≡ has_key other takes → (changes_of shape (told_now (Claim key seen)).track other).since ≡ [] → behind (has_key other takes_now) (irq_of (word_in shape (later is) (IrqWord other))) ≡ true → SeesEnd p.regs other
+    other_here takes_now ready ready_now is_seeing other apart has_it at_now at same none behind_it =
+        let record_was = record_same is known_its vcpu within other has_it (ap (λ (l : Local). is_at other l.at) (sym mine) ∙ at_now) (subst (λ (l : Local). IsTrue (is_ready l.phase)) mine ready_now) (ap (λ (l : Local). is_at other l.at) (sym seat.local) ∙ at) (subst (λ (l : Local). IsTrue (is_ready l.phase)) seat.local ready)
+        (λ s e. absurd (apart (key_is key other seen s e))) telling told none in
+        let now_irq = irq_of (word_in shape (later is) (IrqWord other)) in
+        let was_irq = irq_of (word_in shape state (IrqWord other)) in
+        is_seeing.here other has_it at record_was.0 (sym (behind_bare (has_key other takes) was_irq) ∙ ap (behind (has_key other takes)) (sym record_was.1) ∙ behind_bare (has_key other takes) now_irq ∙ ap (λ b. behind b now_irq) (sym same) ∙ behind_it)
+      where
+        key_is : (j k : Key) (a b : ℕ) → Claim j a ≡ Claim k b → k ≡ j
+        key_is j k a b e = cc
+
+    -- It got to the interface.
+
+    module _ (claim : has_key key claims ≡ true) where
+      abbrev choice : (c : Choice) × Contains claiming_is.rest c × (c.key ≡ key)
+      choice = of_key key claiming_is.rest (ap (has_key key) (sym claiming_is.keys) ∙ claim)
+
+      to : IsToClaim shape vcpu p.own p.local.at takes choice.0
+      to = claiming_is.each choice.0 choice.1
+
+      away : is_at key p.local.at ≡ false
+      away = ap (λ k. is_at k p.local.at) (sym choice.2) ∙ to.away
+
+      found_is : irq_of found ≡ choice.0.irq
+      found_is = found_as false shape state ideal vcpu found left tables within p seat some few key seen claims takes is proper done choice.0 choice.2 to
+
+      known_seen : known shape vcpu p.own (IrqWord key) ≡ Some seen
+      known_seen = number_is seen (known shape vcpu p.own (IrqWord key)) proper.seen
+
+      seen_is : irq_of seen ≡ choice.0.irq
+      seen_is = ap irq_of (same_Some seen to.word (sym known_seen ∙ ap (λ k. known shape vcpu p.own (IrqWord k)) (sym choice.2) ∙ to.known_as)) ∙ to.irq
+
+      next_at : next.at ≡ p.local.at ++ arrived key (irq_of found) (reached (irq_of found)).entry ∷ []
+      next_at = ap (λ (l : Local). l.at) (reached_local shape vcpu key (irq_of found) p.local (none_some (entry_for key p.local.at) away))
+
+      was_there : (other : Key) → other ≢ key → is_at other next.at ≡ true → is_at other p.local.at ≡ true
+      was_there other apart h =
+          or_first (is_at other p.local.at) (is_same_key key other) (sym (is_at_added other p.local.at (arrived key (irq_of found) (reached (irq_of found)).entry)) ∙ ap (is_at other) (sym next_at) ∙ h) (other_key key other (λ e. apart (sym e)))
+        where
+          or_first : (a b : Bool) → (a || b) ≡ true → b ≡ false → a ≡ true
+          or_first true b e f = refl
+          or_first false b e f = absurd (true≢false (sym e ∙ f))
+
+      free : (irq_of found).holder ≡ None
+      free =
+          let may = (and_parts (found == seen) (may_move shape vcpu p.local key (irq_of found)) done).1 in
+          let moves : IsTrue (is_none (irq_of found).holder && may_reach shape key (irq_of found) vcpu p.local.cpu && may_hold vcpu (irq_of found)) =
+          subst (λ o. IsTrue (option_map_or (λ entry. is_number vcpu (irq_of found).holder && may_take shape key (moved_of (irq_of found) entry) vcpu p.local.cpu) o (is_none (irq_of found).holder && may_reach shape key (irq_of found) vcpu p.local.cpu && may_hold vcpu (irq_of found)))) (none_some (entry_for key p.local.at) away) may in
+          none_is (irq_of found).holder (and_parts (is_none (irq_of found).holder) (may_reach shape key (irq_of found) vcpu p.local.cpu) (and_parts (is_none (irq_of found).holder && may_reach shape key (irq_of found) vcpu p.local.cpu) (may_hold vcpu (irq_of found)) moves).0).0
+
+      -- its list register has the State that was chosen
+      state_is : (word : ℕ) → Contains (listed_of p.regs) word → is_live (intid_of key) (seen_in word) ≡ true → (unpacked word).state ≡ choice.0.entry.state
+      state_is word among live =
+          let shown = claiming_is.shows.only among.0 (intid_of key) among.1 (ap (λ w. is_live (intid_of key) (seen_in w)) (at_word among) ∙ live) in
+          of_seen (subst (λ w. Comes claiming_is.rest takes p.local.at (seen_in w)) (at_word among) shown)
+        where
+          at_word : (among : Contains (listed_of p.regs) word) → get_or (listed_of p.regs) among.0 0 ≡ word
+          at_word among = get_or_default (listed_of p.regs) among.0 0 word among.1 ∙ among.2
+
+          by_seen : seen_choice choice.0 ≡ seen_in word → (unpacked word).state ≡ choice.0.entry.state
+          by_seen e = same_state (unpacked word).state choice.0.entry.state (ap (λ (s : Seen). s.pending) (sym e)) (ap (λ (s : Seen). s.active) (sym e))
+
+          of_seen : Comes claiming_is.rest takes p.local.at (seen_in word) → (unpacked word).state ≡ choice.0.entry.state
+          of_seen (inl awaited) =
+              let d = claiming_is.each awaited.choice awaited.among in
+              let id : intid_of awaited.choice.key ≡ intid_of choice.0.key = ap (λ (s : Seen). s.id) awaited.is ∙ live_id (seen_in word) (intid_of key) live ∙ ap intid_of (sym choice.2) in
+              let same = key_by_id shape vcpu awaited.choice.key choice.0.key is.good d.there to.there d.mine to.mine id in
+              by_seen (ap seen_choice (sym (claiming_is.one awaited.choice choice.0 awaited.among choice.1 same)) ∙ awaited.is)
+          of_seen (inr here) =
+              let at = All-contains (IsAt shape vcpu) p.local.at here.entry is_local.at here.among in
+              let id : intid_of here.entry.key ≡ intid_of choice.0.key = sym (finished_id takes here.entry) ∙ ap (λ (s : Seen). s.id) here.is ∙ live_id (seen_in word) (intid_of key) live ∙ ap intid_of (sym choice.2) in
+              let same = key_by_id shape vcpu here.entry.key choice.0.key is.good at.there to.there at.own to.mine id in
+              absurd (true≢false (sym (is_there p.local.at here.entry here.among) ∙ ap (λ k. is_at k p.local.at) same ∙ to.away))
+
+      pub comes_seen : {q : Progress} → q.local ≡ next → q.own ≡ p.own ++ made ∷ [] → q.regs ≡ p.regs → q.trapping ≡ p.trapping → q.debt ≡ p.debt → q.failed ≡ (p.failed || false) → Seeing shape (later is) vcpu (told_now (Claim key seen)) q (without_key key claims) takes
+      comes_seen {q} local own regs trapping debt failed = λ ready untrapped owed all.
+          let ready_before : IsTrue (is_ready p.local.phase) = subst (λ (l : Local). IsTrue (is_ready l.phase)) local ready in
+          let before = seeing ready_before (sym trapping ∙ untrapped) (subst (λ d. IsTrue (is_paid d)) debt owed) (before_all failed all) in
+          subst (λ (l : Local). IsSeeing shape vcpu (later is) (told_now (Claim key seen)) l q.own q.regs (without_key key claims) takes) (sym local)
+          (subst (λ o. IsSeeing shape vcpu (later is) (told_now (Claim key seen)) next o q.regs (without_key key claims) takes) (sym own)
+          (subst (λ r. IsSeeing shape vcpu (later is) (told_now (Claim key seen)) next (p.own ++ made ∷ []) r (without_key key claims) takes) (sym regs) (record {
+            here = λ other has_it at none behind_it. of other (is_same_key key other) refl ready_before before has_it at none behind_it;
+            coming = λ other h word w among live knows.
+                let apart : other ≢ key = λ e. true≢false (sym h ∙ ap (λ k. has_key k (without_key key claims)) e ∙ without_itself key claims) in
+                let was = sym (without_other key other claims apart) ∙ h in
+                before.coming other was word w among live (sym (knows_others claims takes key seen is claiming_is other apart was) ∙ knows);
+          })))
+        where
+          of : (other : Key) (b : Bool) → is_same_key key other ≡ b → IsTrue (is_ready p.local.phase) → IsSeeing shape vcpu state telling p.local p.own p.regs claims takes → IsTrue (has_interrupt shape other) → is_at other next.at ≡ true → (changes_of shape (told_now (Claim key seen)).track other).since ≡ []
+              → behind (has_key other takes) (irq_of (word_in shape (later is) (IrqWord other))) ≡ true → SeesEnd p.regs other
+          of other false e ready before has_it at none behind_it =
+              let apart : other ≢ key = λ f. true≢false (sym (ap (is_same_key key) f ∙ same_itself key) ∙ e) in
+              other_here takes ready ready before other apart has_it at (was_there other apart at) refl none behind_it
+          of other true e ready before has_it at none behind_it =
+              let same : key ≡ other = same_key key other e in
+              let at_key : is_at key next.at ≡ true = ap (λ k. is_at k next.at) same ∙ at in
+              let came = record_reached key seen is known_its within there done_seat (ap (λ (l : Local). is_at key l.at) (sym mine) ∙ at_key) (subst (λ (l : Local). IsTrue (is_ready l.phase)) mine ready) (ap (λ (l : Local). is_at key l.at) (sym seat.local) ∙ away) free in
+              let irq = irq_of (word_in shape (later is) (IrqWord key)) in
+              let sees = arrival_sees vcpu choice.0 irq to.right (came ∙ ap (λ i. (reached (bare_irq i)).irq) found_is)
+              (ap (λ b. behind b irq) (sym to.both ∙ ap (λ k. has_key k takes) choice.2) ∙ ap (λ k. behind (has_key k takes) (irq_of (word_in shape (later is) (IrqWord k)))) same ∙ behind_it) in
+              subst (SeesEnd p.regs) same (λ word among live.
+              before.coming key claim word seen among live known_seen ∙ ap (λ s. sees_end s (record { key = key; irq = irq_of seen })) (state_is word among live) ∙ ap (λ i. sees_end choice.0.entry.state (record { key = key; irq = i })) seen_is ∙ sees)
