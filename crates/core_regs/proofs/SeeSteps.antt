@@ -1,5 +1,5 @@
 -- A vCPU's own steps keep which ends its list registers see.
-use Rattle.std.proofs.Common.{◌≡◌, ◌≢◌, ℕ, ◌<◌, ◌≤◌, ◌==◌, ◌&&◌, ◌||◌, ◌⊎◌, inl, inr, true≢false, not, Bool, true, false, IsTrue, List, [], ◌∷◌, ◌++◌, fold, length, get_or, Contains, Option, Some, None, is_none, unwrap_or, if◌then◌else◌, refl, sym, ap, subst, ◌∙◌}
+use Rattle.std.proofs.Common.{◌≡◌, ◌≢◌, ℕ, ◌<◌, ◌≤◌, ◌==◌, ◌&&◌, ◌||◌, ◌⊎◌, inl, inr, true≢false, not, Bool, true, false, IsTrue, List, [], ◌∷◌, ◌++◌, fold, length, get_or, Contains, Option, Some, None, is_none, is_some, unwrap_or, if◌then◌else◌, refl, sym, ap, subst, ◌∙◌}
 use Rattle.std.specs.Option.{option_map_or}
 use Rattle.std.proofs.lemmas.Bool.{and_parts, eqb-true}
 use Rattle.std.proofs.lemmas.List.{get_or_default}
@@ -12,7 +12,7 @@ use Rattle.gic_base.specs.Interrupt.{has_interrupt, intid_of, is_of_vcpu, is_sam
 use Rattle.gic_base.specs.Shape.{IsShape}
 use Rattle.gic_base.proofs.KeyLemmas.{same_key, same_itself, other_key}
 use Rattle.gic_call.specs.declared.moves.Moved.{Moved}
-use Rattle.gic_call.specs.Move.{may_reach, may_take, reached}
+use Rattle.gic_call.specs.Move.{may_reach, may_take, reached, taken}
 use Rattle.gic_call.specs.Touch.{touched as touched_of}
 use Rattle.gic_history.specs.Fresh.{changes_of}
 use Rattle.gic_history.specs.State.{Ideal}
@@ -37,6 +37,7 @@ use Rattle.vcpu_refill.specs.Laws.{offer_of}
 use Rattle.vcpu_refill.specs.Plan.{sees_end}
 use Rattle.port_core.specs.declared.at_list.AtIrq.{AtIrq}
 use Rattle.port_core.specs.declared.local.Local.{Local}
+use Rattle.port_core.specs.declared.local.Phase.{Phase}
 use Rattle.port_core.specs.declared.local.Phase.TheVariants.{Folding}
 use Rattle.port_core.specs.declared.owed.Cands.{Cands}
 use Rattle.port_core.specs.declared.run.Made.{Made}
@@ -48,7 +49,7 @@ use Rattle.port_core.specs.Condition.{is_ready}
 use Rattle.port_core.specs.Effect.{may_hold, may_move, moved_of, succeeds}
 use Rattle.port_core.specs.Forms.{vcpu_of}
 use Rattle.port_core.specs.Known.{known}
-use Rattle.port_core.specs.Local.{arrived, entry_for, is_at, is_vcpu, owing_both, settled}
+use Rattle.port_core.specs.Local.{arrived, changed_at, entry_for, is_at, is_vcpu, owing_both, settled, with_entry}
 use Rattle.port_core.specs.Run.{CoreState, seat_at, word_in}
 use Rattle.port_core.specs.Step.{word_of}
 use Rattle.port_core.specs.Valid.{IsAt, IsLocal}
@@ -390,3 +391,145 @@ module _ (shape : GuestShape) (state : CoreState) (ideal : Ideal) (vcpu found le
               (ap (λ b. behind b irq) (sym to.both ∙ ap (λ k. has_key k takes) choice.2) ∙ ap (λ k. behind (has_key k takes) (irq_of (word_in shape (later is) (IrqWord k)))) same ∙ behind_it) in
               subst (SeesEnd p.regs) same (λ word among live.
               before.coming key claim word seen among live known_seen ∙ ap (λ s. sees_end s (record { key = key; irq = irq_of seen })) (state_is word among live) ∙ ap (λ i. sees_end choice.0.entry.state (record { key = key; irq = i })) seen_is ∙ sees)
+
+    -- Its causes came.
+
+    module _ (no_claim : has_key key claims ≡ false) (take : has_key key takes ≡ true) where
+      here_now : (entry : AtIrq) × (entry_for key p.local.at ≡ Some entry)
+      here_now = elim (claiming_is.placed key take) [ inl claim ↦ absurd (true≢false (sym claim ∙ no_claim)) | inr at ↦ some_is (entry_for key p.local.at) at ]
+
+      at_before : is_at key p.local.at ≡ true
+      at_before = ap is_some here_now.1
+
+      abbrev change : AtIrq → AtIrq
+      change entry = record (with_entry entry (taken (moved_of (irq_of found) here_now.0)).entry) { consumed = false }
+
+      taken_at : next.at ≡ changed_at change key p.local.at
+      taken_at = ap (λ (l : Local). l.at) (taken_local shape vcpu key (irq_of found) p.local here_now.0 here_now.1)
+
+      same_at : (other : Key) → is_at other next.at ≡ is_at other p.local.at
+      same_at other = ap (is_at other) taken_at ∙ is_at_mapped (λ entry. if is_same_key entry.key key then change entry else entry) keeps other p.local.at
+        where
+          keeps : (entry : AtIrq) → (if is_same_key entry.key key then change entry else entry).key ≡ entry.key
+          keeps entry = of (is_same_key entry.key key)
+            where
+              of : (b : Bool) → (if b then change entry else entry).key ≡ entry.key
+              of true = refl
+              of false = refl
+
+      ready_next : (phase : Phase) → next.phase ≡ phase → IsTrue (is_ready next.phase) → IsTrue (is_ready phase)
+      ready_next phase e h = subst (λ phase. IsTrue (is_ready phase)) e h
+
+      phase_is : next.phase ≡ p.local.phase
+      phase_is = ap (λ (l : Local). l.phase) (taken_local shape vcpu key (irq_of found) p.local here_now.0 here_now.1)
+
+      pub takes_seen : {q : Progress} → q.local ≡ next → q.own ≡ p.own ++ made ∷ [] → q.regs ≡ p.regs → q.trapping ≡ p.trapping → q.debt ≡ p.debt → q.failed ≡ (p.failed || false) → Seeing shape (later is) vcpu (told_now (Claim key seen)) q claims (without_key key takes)
+      takes_seen {q} local own regs trapping debt failed = λ ready untrapped owed all.
+          let ready_now : IsTrue (is_ready next.phase) = subst (λ (l : Local). IsTrue (is_ready l.phase)) local ready in
+          let ready_before : IsTrue (is_ready p.local.phase) = ready_next p.local.phase phase_is ready_now in
+          let before = seeing ready_before (sym trapping ∙ untrapped) (subst (λ d. IsTrue (is_paid d)) debt owed) (before_all failed all) in
+          subst (λ (l : Local). IsSeeing shape vcpu (later is) (told_now (Claim key seen)) l q.own q.regs claims (without_key key takes)) (sym local)
+          (subst (λ o. IsSeeing shape vcpu (later is) (told_now (Claim key seen)) next o q.regs claims (without_key key takes)) (sym own)
+          (subst (λ r. IsSeeing shape vcpu (later is) (told_now (Claim key seen)) next (p.own ++ made ∷ []) r claims (without_key key takes)) (sym regs) (record {
+            here = λ other has_it at none behind_it. of other (is_same_key key other) refl ready_before ready_now before has_it at none behind_it;
+            coming = λ other h word w among live knows.
+                let apart : other ≢ key = λ e. true≢false (sym h ∙ ap (λ k. has_key k claims) e ∙ no_claim) in
+                before.coming other h word w among live (sym (knows_others claims takes key seen is claiming_is other apart h) ∙ knows);
+          })))
+        where
+          of : (other : Key) (b : Bool) → is_same_key key other ≡ b → IsTrue (is_ready p.local.phase) → IsTrue (is_ready next.phase) → IsSeeing shape vcpu state telling p.local p.own p.regs claims takes → IsTrue (has_interrupt shape other) → is_at other next.at ≡ true
+              → (changes_of shape (told_now (Claim key seen)).track other).since ≡ [] → behind (has_key other (without_key key takes)) (irq_of (word_in shape (later is) (IrqWord other))) ≡ true → SeesEnd p.regs other
+          of other false e ready ready_now before has_it at none behind_it =
+              let apart : other ≢ key = λ f. true≢false (sym (ap (is_same_key key) f ∙ same_itself key) ∙ e) in
+              other_here (without_key key takes) ready ready_now before other apart has_it at (sym (same_at other) ∙ at) (without_other key other takes apart) none behind_it
+          of other true e ready ready_now before has_it at none behind_it =
+              let same : key ≡ other = same_key key other e in
+              let at_key : is_at key next.at ≡ true = same_at key ∙ at_before in
+              let came = record_taken key seen is known_its within there done_seat (ap (λ (l : Local). is_at key l.at) (sym mine) ∙ at_key) (subst (λ (l : Local). IsTrue (is_ready l.phase)) mine ready_now) (ap (λ (l : Local). is_at key l.at) (sym seat.local) ∙ at_before) (subst (λ (l : Local). IsTrue (is_ready l.phase)) seat.local ready) telling told
+              (ap (λ k. (changes_of shape (told_now (Claim key seen)).track k).since) same ∙ none) in
+              let irq = irq_of (word_in shape (later is) (IrqWord key)) in
+              let was = irq_of (word_in shape state (IrqWord key)) in
+              let pending : is_pending irq ≡ true = ap (λ b. behind b irq) (sym (without_itself key takes)) ∙ ap (λ k. behind (has_key k (without_key key takes)) (irq_of (word_in shape (later is) (IrqWord k)))) same ∙ behind_it in
+              let level = cleared_level (bare_irq was) (ap is_pending (sym came.1) ∙ pending) in
+              subst (SeesEnd p.regs) same (before.here key there at_before came.0 (ap (λ b. behind b was) take ∙ ap not level))
+
+  claim_sees :
+      (claims takes : List Key) (key : Key) (seen : ℕ) (is : IsStep shape state ideal vcpu (Claim key seen) found left tables) → (now (Claim key seen)).local ≡ (seat_at (later is) vcpu).local → p.scan ≡ claiming claims takes → IsProperStep shape vcpu p (Claim key seen) → (has_key key claims || has_key key takes) ≡ true
+      → IsClaiming shape vcpu p.local p.own p.regs claims takes → Seeing shape state vcpu telling p claims takes → Sees shape (later is) vcpu (told_now (Claim key seen)) (now (Claim key seen)) (now (Claim key seen)).scan
+  claim_sees claims takes key seen is mine e proper among claiming_is seeing =
+      let by : Bool → Scan → Progress = λ done s. record (after_claim key (irq_of found) done s p) { local = if done then claimed shape vcpu key found p.local else p.local; own = p.own ++ made_by (Claim key seen) ∷ [] } in
+      subst (λ s. Sees shape (later is) vcpu (told_now (Claim key seen)) (by (succeeds shape vcpu p.local (Claim key seen) found) s) (by (succeeds shape vcpu p.local (Claim key seen) found) s).scan) (sym e)
+      (of (succeeds shape vcpu p.local (Claim key seen) found) refl mine (has_key key claims) refl among)
+    where
+      or_true : (b : Bool) → (b || true) ≡ false → ⊥
+      or_true true e = absurd (cc)
+      or_true false e = absurd (cc)
+
+      none_left : (q : Progress) (b : Bool) (c d k t : List Key) → q.failed ≡ (p.failed || true) → Sees shape (later is) vcpu (told_now (Claim key seen)) q (if b then claiming c d else claiming k t)
+      none_left q true c d k t failed = λ ready untrapped owed all. absurd (or_true p.failed (sym failed ∙ all.none_failed))
+      none_left q false c d k t failed = λ ready untrapped owed all. absurd (or_true p.failed (sym failed ∙ all.none_failed))
+
+      of : (done : Bool) → succeeds shape vcpu p.local (Claim key seen) found ≡ done → (if done then claimed shape vcpu key found p.local else p.local) ≡ (seat_at (later is) vcpu).local → (claim : Bool) → has_key key claims ≡ claim → (claim || has_key key takes) ≡ true
+          → let q = record (after_claim key (irq_of found) done (claiming claims takes) p) { local = if done then claimed shape vcpu key found p.local else p.local; own = p.own ++ made_by (Claim key seen) ∷ [] } in Sees shape (later is) vcpu (told_now (Claim key seen)) q q.scan
+      of false s mine claim h among =
+          none_left (record (after_claim key (irq_of found) false (claiming claims takes) p) { local = p.local; own = p.own ++ made_by (Claim key seen) ∷ [] }) (has_key key claims) _ _ _ _ refl
+      of true s mine true h among =
+          let q : Progress = record (after_claim key (irq_of found) true (claiming claims takes) p) { local = claimed shape vcpu key found p.local; own = p.own ++ made_by (Claim key seen) ∷ [] } in
+          subst (Sees shape (later is) vcpu (told_now (Claim key seen)) q) (sym (ap (λ b. if b then claiming (without_key key claims) takes else claiming claims (without_key key takes)) h))
+          (comes_seen claims takes key seen is claiming_is proper s mine seeing h {q = q} refl refl refl refl refl refl)
+      of true s mine false h among =
+          let q : Progress = record (after_claim key (irq_of found) true (claiming claims takes) p) { local = claimed shape vcpu key found p.local; own = p.own ++ made_by (Claim key seen) ∷ [] } in
+          subst (Sees shape (later is) vcpu (told_now (Claim key seen)) q) (sym (ap (λ b. if b then claiming (without_key key claims) takes else claiming claims (without_key key takes)) h))
+          (takes_seen claims takes key seen is claiming_is proper s mine seeing h among {q = q} refl refl refl refl refl refl)
+
+  quiet_claiming :
+      (claims takes : List Key) (step : CoreStep) (is : IsStep shape state ideal vcpu step found left tables) → (now step).local ≡ (seat_at (later is) vcpu).local → p.scan ≡ claiming claims takes → IsClaiming shape vcpu p.local p.own p.regs claims takes → Seeing shape state vcpu telling p claims takes → is_poll_by vcpu vcpu step ≡ false
+      → ((now step).failed ≡ false → is_kick_of vcpu step ≡ false → p.failed ≡ false) → (now step).scan ≡ p.scan → (now step).local.at ≡ p.local.at → (now step).regs ≡ p.regs → (now step).trapping ≡ p.trapping → (now step).debt ≡ p.debt → (now step).local.phase ≡ p.local.phase → ((key : Key) → word_of shape vcpu step ≢ IrqWord key)
+      → ((key : Key) (seen : ℕ) → step ≡ Claim key seen → ⊥) → Sees shape (later is) vcpu (told_now step) (now step) (now step).scan
+  quiet_claiming claims takes step is mine e claiming_is seeing poll failed same at regs trapping debt phase apart no_claim =
+      subst (Sees shape (later is) vcpu (told_now step) (now step)) (sym (same ∙ e))
+      (quiet_sees step is mine claims takes seeing poll failed at regs trapping debt phase
+      (λ key h. let d = of_key key claiming_is.rest (ap (has_key key) (sym claiming_is.keys) ∙ h) in known_on shape vcpu p.own (made_by step) (IrqWord key) is.good (has is) (subst (λ k. IsTrue (has_interrupt shape k)) d.2 (claiming_is.each d.0 d.1).there) (apart key)) no_claim)
+
+  claiming_sees :
+      (claims takes : List Key) (step : CoreStep) (is : IsStep shape state ideal vcpu step found left tables) → (now step).local ≡ (seat_at (later is) vcpu).local → p.scan ≡ claiming claims takes → IsProperStep shape vcpu p step → IsTrue (scan_allows shape vcpu p.local (claiming claims takes) step)
+      → IsClaiming shape vcpu p.local p.own p.regs claims takes → Seeing shape state vcpu telling p claims takes → Sees shape (later is) vcpu (told_now step) (now step) (now step).scan
+  claiming_sees claims takes (Claim key seen) is mine e proper h claiming_is seeing = claim_sees claims takes key seen is mine e proper h claiming_is seeing
+  claiming_sees claims takes (Kick v) is mine e proper h claiming_is seeing =
+      quiet_claiming claims takes (Kick v) is mine e claiming_is seeing refl (kick_failed shape state ideal vcpu found left tables within p seat is_local stands v) refl refl refl refl refl refl (λ key e. absurd (cc)) (λ key seen e. absurd (cc))
+  claiming_sees claims takes (Mark k v) is mine e proper h claiming_is seeing = quiet_claiming claims takes (Mark k v) is mine e claiming_is seeing refl (λ f g. f) refl refl refl refl refl refl (λ key e. absurd (cc)) (λ key seen e. absurd (cc))
+  claiming_sees claims takes (Look (IrqWord key)) is mine e proper h claiming_is seeing = absurd (true≢false (sym h))
+  claiming_sees claims takes (Look (Vcpu v)) is mine e proper h claiming_is seeing = absurd (true≢false (sym h))
+  claiming_sees claims takes (Look Queue) is mine e proper h claiming_is seeing = absurd (true≢false (sym h))
+  claiming_sees claims takes (Look Ctlr) is mine e proper h claiming_is seeing = absurd (true≢false (sym h))
+  claiming_sees claims takes (Look (Plain i)) is mine e proper h claiming_is seeing = absurd (true≢false (sym h))
+  claiming_sees claims takes (Look (Index v n)) is mine e proper h claiming_is seeing = absurd (true≢false (sym h))
+  claiming_sees claims takes step is mine e proper h claiming_is seeing = absurd (true≢false (sym h))
+
+  -- While it takes its index, and looks, nothing is at the interface.
+
+  taking_sees : (purpose : Purpose) (words : ℕ) (step : CoreStep) (is : IsStep shape state ideal vcpu step found left tables) → p.scan ≡ taking purpose words → IsTrue (scan_allows shape vcpu p.local (taking purpose words) step) → Sees shape (later is) vcpu (told_now step) (now step) (now step).scan
+  taking_sees purpose words (TakeIndex word) is e h = subst (λ s. Sees shape (later is) vcpu (told_now (TakeIndex word)) (now (TakeIndex word)) (word_taken s)) (sym e) tt
+  taking_sees purpose words (Kick v) is e h = subst (Sees shape (later is) vcpu (told_now (Kick v)) (now (Kick v))) (sym e) tt
+  taking_sees purpose words step is e h = absurd (true≢false (sym h))
+
+  looking_sees : (purpose : Purpose) (from : ℕ) (offers : List Offer) (step : CoreStep) (is : IsStep shape state ideal vcpu step found left tables) → p.scan ≡ looking purpose from offers → IsTrue (scan_allows shape vcpu p.local (looking purpose from offers) step) → Sees shape (later is) vcpu (told_now step) (now step) (now step).scan
+  looking_sees purpose from offers (Look (IrqWord key)) is e h = subst (λ s. Sees shape (later is) vcpu (told_now (Look (IrqWord key))) (now (Look (IrqWord key))) (scan_looked shape key (irq_of found) s)) (sym e) tt
+  looking_sees purpose from offers (Kick v) is e h = subst (Sees shape (later is) vcpu (told_now (Kick v)) (now (Kick v))) (sym e) tt
+  looking_sees purpose from offers (Look (Vcpu v)) is e h = absurd (true≢false (sym h))
+  looking_sees purpose from offers (Look Queue) is e h = absurd (true≢false (sym h))
+  looking_sees purpose from offers (Look Ctlr) is e h = absurd (true≢false (sym h))
+  looking_sees purpose from offers (Look (Plain i)) is e h = absurd (true≢false (sym h))
+  looking_sees purpose from offers (Look (Index v n)) is e h = absurd (true≢false (sym h))
+  looking_sees purpose from offers step is e h = absurd (true≢false (sym h))
+
+  -- Any of its own steps.
+
+  pub own_sees : (step : CoreStep) (is : IsStep shape state ideal vcpu step found left tables) → (now step).local ≡ (seat_at (later is) vcpu).local → IsProperStep shape vcpu p step → Sees shape state vcpu telling p p.scan → Sees shape (later is) vcpu (told_now step) (now step) (now step).scan
+  own_sees step is mine proper sees = by p.scan refl
+    where
+      by : (s : Scan) → p.scan ≡ s → Sees shape (later is) vcpu (told_now step) (now step) (now step).scan
+      by idle e = idle_sees step is mine e proper sees
+      by (taking purpose words) e = taking_sees purpose words step is e (subst (λ s. IsTrue (scan_allows shape vcpu p.local s step)) e proper.scan)
+      by (looking purpose from offers) e = looking_sees purpose from offers step is e (subst (λ s. IsTrue (scan_allows shape vcpu p.local s step)) e proper.scan)
+      by (claiming claims takes) e = claiming_sees claims takes step is mine e proper (subst (λ s. IsTrue (scan_allows shape vcpu p.local s step)) e proper.scan) (subst (Standing false shape vcpu p) e stands) (subst (Sees shape state vcpu telling p) e sees)
