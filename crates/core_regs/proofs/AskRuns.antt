@@ -46,12 +46,20 @@ asks_as shape state later vcpu p q (taking purpose words) regs local trapping de
 asks_as shape state later vcpu p q (looking purpose from offers) regs local trapping debt all asks = meant_as p q trapping debt purpose asks
 asks_as shape state later vcpu p q (claiming claims takes) regs local trapping debt all asks = asking_as shape state later vcpu true true p q regs (ap (λ (l : Local). l.cpu) local) trapping debt (λ h. h) all asks
 
+-- a step of another actor is no look of the vCPU's for a kick
+pub not_own : (vcpu actor : ℕ) (step : CoreStep) → actor ≢ vcpu → is_poll_by vcpu actor step ≡ false
+not_own vcpu actor step apart = ap (λ b. is_poll step && b) (ne_eqb actor vcpu apart) ∙ and_false (is_poll step)
+  where
+    and_false : (b : Bool) → (b && false) ≡ false
+    and_false true = refl
+    and_false false = refl
+
 -- every moment keeps it
-asks_kept : (shape : GuestShape) (good : IsShape shape) (vcpu : ℕ) → vcpu < shape.vcpus → IsKept false shape vcpu (λ telling state p. Asks shape state vcpu p p.scan)
+pub asks_kept : (shape : GuestShape) (good : IsShape shape) (vcpu : ℕ) → vcpu < shape.vcpus → IsKept false shape vcpu (λ telling state p. Asks shape state vcpu p p.scan)
 asks_kept shape good vcpu within = record {
   others = λ telling state inside p actor made apart takes going asks.
       let is : IsStep shape state going.reached.ideal actor made.step made.found made.left made.tables = record { good = good; sound = going.reached.sound; related = going.reached.related; takes = takes } in
-      asks_as shape state (later is) vcpu p p p.scan refl refl refl (λ h. h) (λ all. record { none_failed = all.none_failed; unkicked = (unkicked_before is vcpu within (not_own actor made.step apart) all.unkicked).0 }) asks;
+      asks_as shape state (later is) vcpu p p p.scan refl refl refl (λ h. h) (λ all. record { none_failed = all.none_failed; unkicked = (unkicked_before is vcpu within (not_own vcpu actor made.step apart) all.unkicked).0 }) asks;
   other_begun = λ telling state p actor operation lrs asks. asks;
   other_ended = λ telling state p actor answer asks. asks;
   begun = λ telling state p operation lrs asks. asks_as shape state state vcpu p (progressed shape vcpu p (begins operation lrs)) p.scan refl refl refl (paid_begun operation p.debt) (λ all. record { none_failed = all.none_failed; unkicked = all.unkicked }) asks;
@@ -59,13 +67,6 @@ asks_kept shape good vcpu within = record {
   own = λ telling state p made proper active takes going next asks. own_kept state p made proper active takes going next asks;
 }
   where
-    and_false : (b : Bool) → (b && false) ≡ false
-    and_false true = refl
-    and_false false = refl
-
-    not_own : (actor : ℕ) (step : CoreStep) → actor ≢ vcpu → is_poll_by vcpu actor step ≡ false
-    not_own actor step apart = ap (λ b. is_poll step && b) (ne_eqb actor vcpu apart) ∙ and_false (is_poll step)
-
     own_kept :
         (state : CoreState) (p : Progress) (made : Made) → IsProperStep shape vcpu p made.step → (IsTrue false → IsTrue (takes_active vcpu p.scan made.step made.found)) → Takes shape state (entry_by vcpu made) → IsGoing false shape state vcpu true p → IsGoing false shape (after shape state (entry_by vcpu made)) vcpu true (stepped shape vcpu made p)
         → Asks shape state vcpu p p.scan → let q = stepped shape vcpu made p in Asks shape (after shape state (entry_by vcpu made)) vcpu q q.scan

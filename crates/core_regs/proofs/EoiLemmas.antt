@@ -1,5 +1,5 @@
 -- The EOI bit of list registers.
-use Rattle.std.proofs.Common.{◌≡◌, ℕ, zero, suc, ◌+◌, ◌*◌, ◌/◌, ◌%◌, ◌^◌, ◌<◌, ◌≤◌, ◌==◌, ◌&&◌, ◌||◌, ◌⊎◌, inl, inr, not, Bool, true, false, if◌then◌else◌, List, [], ◌∷◌, length, get_or, set, Contains, Option, Some, None, nat_lt, refl, sym, ap, subst, ◌∙◌, arith}
+use Rattle.std.proofs.Common.{◌≡◌, ℕ, zero, suc, ◌+◌, ◌*◌, ◌/◌, ◌%◌, ◌^◌, ◌<◌, ◌≤◌, ◌==◌, ◌&&◌, ◌⊎◌, inl, inr, not, Bool, true, false, if◌then◌else◌, List, [], ◌∷◌, length, get_or, set, Contains, Option, Some, None, nat_lt, refl, sym, ap, subst, ◌∙◌, arith}
 use Rattle.std.specs.List.{position}
 use Rattle.std.specs.Option.{option_map_or}
 use Rattle.std.proofs.lemmas.List.{get_or_default}
@@ -24,7 +24,7 @@ use Rattle.gic_word.specs.declared.record.Group.{Group}
 use Rattle.gic_word.specs.declared.record.Group.TheVariants.{G0, G1}
 use Rattle.gic_word.specs.Record.{group_number}
 use Rattle.vcpu_refill.proofs.ElementLemmas.{Contains-here, Contains-there, Contains-cases, Contains-nothing}
-use Rattle.core_regs.proofs.ShowLemmas.{lives, live_itself, live_part}
+use Rattle.core_regs.proofs.ShowLemmas.{live_itself, live_part}
 
 -- another State keeps it
 pub eoi_with_state : (word : ℕ) (state : LrState) → (unpacked (with_state word state)).eoi ≡ (unpacked word).eoi

@@ -1,27 +1,23 @@
 -- The record of an interrupt at a vCPU's interface, after a step.
-use Rattle.std.proofs.Common.{◌≡◌, ◌≢◌, ℕ, ◌<◌, ◌==◌, ◌&&◌, ◌||◌, ◌⊎◌, inl, inr, true≢false, not, Bool, true, false, cond, if◌then◌else◌, IsTrue, List, [], ◌∷◌, fold, Option, Some, None, is_none, is_some, refl, sym, ap, subst, ◌∙◌, arith}
+use Rattle.std.proofs.Common.{◌≡◌, ℕ, ◌<◌, ◌==◌, ◌||◌, inl, inr, true≢false, not, Bool, true, false, cond, if◌then◌else◌, IsTrue, List, [], fold, Option, Some, None, is_some, refl, sym, ap, subst, ◌∙◌, arith}
 use Rattle.std.specs.List.{list_all}
 use Rattle.std.specs.Option.{option_map_or}
-use Rattle.std.proofs.lemmas.Bool.{and_parts}
 use Rattle.std.proofs.lemmas.Option.{none-some, same_Some}
-use Rattle.gic_base.specs.declared.icc.IccReg.{IccReg}
 use Rattle.gic_base.specs.declared.interrupt.Key.{Key}
 use Rattle.gic_base.specs.declared.shape.GuestShape.{GuestShape}
-use Rattle.gic_base.specs.Interrupt.{has_interrupt, interrupt_count, is_same_key}
+use Rattle.gic_base.specs.Interrupt.{has_interrupt, interrupt_count}
 use Rattle.gic_base.specs.Shape.{IsShape}
 use Rattle.gic_base.proofs.KeyLemmas.{same_itself}
-use Rattle.gic_call.specs.declared.event.Event.{Event}
 use Rattle.gic_call.specs.declared.event.Event.TheVariants.{Reach, Take}
 use Rattle.gic_call.specs.declared.event.Found.TheVariants.{Nothing}
 use Rattle.gic_call.specs.declared.moves.Moved.{Moved}
-use Rattle.gic_call.specs.Move.{may_reach, reached, taken}
+use Rattle.gic_call.specs.Move.{reached, taken}
 use Rattle.gic_call.specs.Trace.{Happened}
 use Rattle.gic_history.specs.Fresh.{Changes, changes_of}
 use Rattle.gic_history.specs.Moves.{happened}
 use Rattle.gic_history.specs.State.{Ideal, moved_at}
 use Rattle.gic_word.specs.declared.record.Irq.{Irq}
 use Rattle.gic_word.specs.Causes.{cleared}
-use Rattle.gic_word.specs.Record.{is_number}
 use Rattle.gic_word.specs.Word.{irq_of}
 use Rattle.history_laws.proofs.StateLemmas.{record_is}
 use Rattle.ideal_guest.specs.Ideal.{irq_at}
@@ -33,26 +29,26 @@ use Rattle.port_core.specs.declared.local.Phase.{Phase}
 use Rattle.port_core.specs.declared.local.Phase.TheVariants.{Off, Scanning, Claiming, Loaded, Folding}
 use Rattle.port_core.specs.declared.run.Made.{Made}
 use Rattle.port_core.specs.declared.step.CoreStep.{CoreStep}
-use Rattle.port_core.specs.declared.step.CoreStep.TheVariants.{Look, Raise, Claim, GiveBack, Release, Poll, Kick, Touch, Want, WireUp, WireDown, EnableLpis, RamLook, RamPut, CtlrTake, CtlrEnd, TurnTake, CommandDone, TurnRelease, Mark, TakeIndex}
+use Rattle.port_core.specs.declared.step.CoreStep.TheVariants.{Look, Claim, Poll, Touch, RamLook, RamPut, CtlrTake, TurnTake}
 use Rattle.port_core.specs.declared.word_id.WordId.TheVariants.{Irq as IrqWord, Vcpu, Queue, Ctlr, Plain, Index}
 use Rattle.port_core.specs.Condition.{fault_place, is_ready}
-use Rattle.port_core.specs.Effect.{given_back, may_hold, may_move, moved_of, succeeds}
+use Rattle.port_core.specs.Effect.{given_back, succeeds}
 use Rattle.port_core.specs.Forms.{vcpu_of}
 use Rattle.port_core.specs.Local.{back_of, entry_for, is_at}
 use Rattle.port_core.specs.Run.{CoreState, seat_at, word_in, IsSound}
-use Rattle.port_core.specs.Stands.{event_done, stands_for}
+use Rattle.port_core.specs.Stands.{stands_for}
 use Rattle.port_core.proofs.StepLemmas.{steps_sound}
 use Rattle.core_proper.specs.Ideal.{event_moments}
 use Rattle.core_proper.proofs.ReachLemmas.{number_is}
 use Rattle.core_laws.specs.Known.{IsKnown}
-use Rattle.core_laws.specs.Related.{bare, in_word, is_folding, IsHeldRelated, Related, locals_of}
+use Rattle.core_laws.specs.Related.{bare, is_folding, IsHeldRelated, Related}
 use Rattle.core_laws.specs.Simulates.{IsSimulatedAs, event_of}
 use Rattle.core_laws.proofs.AfterLemmas.{later}
 use Rattle.core_laws.proofs.RunSteps.{entry_simulates}
 use Rattle.core_laws.proofs.StandingLemmas.{moved_is, not_given, passes}
 use Rattle.core_laws.proofs.StepContext.{one, IsStep}
 use Rattle.core_regs.specs.Ends.{Telling, told_by}
-use Rattle.core_regs.proofs.TellLemmas.{alters, moved_key, record_spared, since_spared, changes_told, IsTold}
+use Rattle.core_regs.proofs.TellLemmas.{moved_key, record_spared, since_spared, changes_told, IsTold}
 
 -- Which events are moves.
 
@@ -206,10 +202,11 @@ module _ {shape : GuestShape} {state : CoreState} {ideal : Ideal} {vcpu : ℕ} (
       let before = held_record shape state ideal vcpu key is.sound is.related within there at ready in
       let entry = there_is key (seat_at state vcpu).local.at at in
       let moved = moved_is is.sound is.related vcpu key entry.0 within entry.1 in
-      let track_none = sym (ap (λ (c : Changes). c.since) (changes_told shape telling vcpu taking key told)) ∙ ap (λ o. (changes_of shape (fold told_by telling (event_moments vcpu o)).track key).since) (sym stands) ∙ none in
-      (track_none,
+      let track_none = sym (ap (λ (c : Changes). c.since) (changes_told shape telling vcpu taking key told)) ∙ ap (λ o. (changes_of shape (fold told_by telling (event_moments vcpu o)).track key).since) (sym stands) ∙ none in (
+        track_none,
         record_later is known vcpu within key there at_later ready_later taking stands
-        ∙ record_is ideal key (whole_of shape state ideal is.good is.related) there_now vcpu (Take key vcpu)
-        ∙ ap (λ b. cond b (option_map_or (λ (moved : Moved). (taken moved).irq) (moved_at ideal vcpu key) (irq_at ideal.guest key)) (irq_at ideal.guest key)) (same_itself key)
-        ∙ ap (λ o. option_map_or (λ (moved : Moved). (taken moved).irq) o (irq_at ideal.guest key)) moved
-        ∙ ap cleared (sym before))
+            ∙ record_is ideal key (whole_of shape state ideal is.good is.related) there_now vcpu (Take key vcpu)
+            ∙ ap (λ b. cond b (option_map_or (λ (moved : Moved). (taken moved).irq) (moved_at ideal vcpu key) (irq_at ideal.guest key)) (irq_at ideal.guest key)) (same_itself key)
+            ∙ ap (λ o. option_map_or (λ (moved : Moved). (taken moved).irq) o (irq_at ideal.guest key)) moved
+            ∙ ap cleared (sym before),
+      )

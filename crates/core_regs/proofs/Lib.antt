@@ -20,3 +20,4 @@ pub mod HeldSteps
 pub mod EoiLemmas
 pub mod SeeLemmas
 pub mod SeeSteps
+pub mod SeeRuns

@@ -1,5 +1,5 @@
 -- Which ends a vCPU's list registers see, by how far its scan is.
-use Rattle.std.proofs.Common.{◌≡◌, ◌≢◌, ℕ, ◌^◌, ◌<◌, ◌≤◌, ◌==◌, ◌||◌, true≢false, not, Bool, true, false, if◌then◌else◌, IsTrue, List, [], ◌∷◌, map, Contains, All, AllPairs, Option, Some, None, is_none, refl, sym, ap, subst, ◌∙◌}
+use Rattle.std.proofs.Common.{◌≡◌, ◌≢◌, ℕ, ◌^◌, ◌<◌, ◌≤◌, ◌==◌, true≢false, not, Bool, true, false, if◌then◌else◌, IsTrue, List, [], ◌∷◌, map, Contains, All, AllPairs, Option, Some, None, is_none, refl, sym, ap, subst, ◌∙◌}
 use Rattle.std.proofs.lemmas.Option.{same_Some}
 use Rattle.gic_base.specs.declared.interrupt.Key.{Key}
 use Rattle.gic_base.specs.declared.shape.GuestShape.{GuestShape}
@@ -11,7 +11,7 @@ use Rattle.gic_ich.specs.Place.{Seen, seen_in}
 use Rattle.gic_ich.specs.Regs.{listed_of}
 use Rattle.gic_icv.specs.Agree.{is_live}
 use Rattle.gic_icv.proofs.PlaceLemmas.{live_id, not_live}
-use Rattle.gic_lr.specs.Entry.{packed, unpacked}
+use Rattle.gic_lr.specs.Entry.{unpacked}
 use Rattle.gic_word.specs.declared.record.Irq.{Irq}
 use Rattle.gic_word.specs.Record.{is_pending}
 use Rattle.gic_word.specs.Word.{irq_of}
@@ -36,7 +36,7 @@ use Rattle.core_regs.specs.Asks.{HasAll}
 use Rattle.core_regs.specs.Ends.{SeesEnd, Telling}
 use Rattle.core_regs.proofs.AskFill.{from_take}
 use Rattle.core_regs.proofs.AskLemmas.{Asks, IsMeant}
-use Rattle.core_regs.proofs.ComeLemmas.{seen_choice, key_by_id}
+use Rattle.core_regs.proofs.ComeLemmas.{key_by_id}
 use Rattle.core_regs.proofs.EoiLemmas.{eoi_packed, same_state}
 use Rattle.core_regs.proofs.FillLemmas.{IsOffered, by_right, chosen, in_chosen, keys_chosen_of, offered_so, seen_so}
 use Rattle.core_regs.proofs.KeyLemmas.{of_key}

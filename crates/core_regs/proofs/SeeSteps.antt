@@ -1,7 +1,7 @@
 -- A vCPU's own steps keep which ends its list registers see.
-use Rattle.std.proofs.Common.{◌≡◌, ◌≢◌, ℕ, ◌<◌, ◌≤◌, ◌==◌, ◌&&◌, ◌||◌, ◌⊎◌, inl, inr, true≢false, not, Bool, true, false, IsTrue, List, [], ◌∷◌, ◌++◌, fold, length, get_or, Contains, Option, Some, None, is_none, is_some, unwrap_or, if◌then◌else◌, refl, sym, ap, subst, ◌∙◌}
+use Rattle.std.proofs.Common.{◌≡◌, ◌≢◌, ℕ, ◌<◌, ◌≤◌, ◌==◌, ◌&&◌, ◌||◌, inl, inr, true≢false, not, Bool, true, false, IsTrue, List, [], ◌∷◌, ◌++◌, fold, get_or, Contains, Option, Some, None, is_none, is_some, unwrap_or, if◌then◌else◌, refl, sym, ap, subst, ◌∙◌}
 use Rattle.std.specs.Option.{option_map_or}
-use Rattle.std.proofs.lemmas.Bool.{and_parts, eqb-true}
+use Rattle.std.proofs.lemmas.Bool.{and_parts}
 use Rattle.std.proofs.lemmas.List.{get_or_default}
 use Rattle.std.proofs.lemmas.List.Elements.{All-contains}
 use Rattle.std.proofs.lemmas.Option.{same_Some}
@@ -9,7 +9,6 @@ use Rattle.gic_base.specs.declared.icc.IccReg.{IccReg}
 use Rattle.gic_base.specs.declared.interrupt.Key.{Key}
 use Rattle.gic_base.specs.declared.shape.GuestShape.{GuestShape}
 use Rattle.gic_base.specs.Interrupt.{has_interrupt, intid_of, is_of_vcpu, is_same_key}
-use Rattle.gic_base.specs.Shape.{IsShape}
 use Rattle.gic_base.proofs.KeyLemmas.{same_key, same_itself, other_key}
 use Rattle.gic_call.specs.declared.moves.Moved.{Moved}
 use Rattle.gic_call.specs.Move.{may_reach, may_take, reached, taken}
@@ -23,7 +22,7 @@ use Rattle.gic_icv.specs.Agree.{is_live}
 use Rattle.gic_icv.proofs.PlaceLemmas.{live_id}
 use Rattle.gic_lr.specs.declared.entry.LrState.{LrState}
 use Rattle.gic_lr.specs.declared.entry.LrState.TheVariants.{Invalid, Pending, Active, Both}
-use Rattle.gic_lr.specs.Entry.{state_has_active, state_has_pending, state_number, unpacked}
+use Rattle.gic_lr.specs.Entry.{state_has_active, state_number, unpacked}
 use Rattle.gic_word.specs.declared.record.Irq.{Irq}
 use Rattle.gic_word.specs.Causes.{cleared}
 use Rattle.gic_word.specs.Record.{is_number, is_pending}
@@ -44,22 +43,22 @@ use Rattle.port_core.specs.declared.run.Made.{Made}
 use Rattle.port_core.specs.declared.step.CoreStep.{CoreStep}
 use Rattle.port_core.specs.declared.step.CoreStep.TheVariants.{Look, Raise, Claim, GiveBack, Release, Poll, Kick, Touch, Want, WireUp, WireDown, EnableLpis, RamLook, RamPut, CtlrTake, CtlrEnd, TurnTake, CommandDone, TurnRelease, Mark, TakeIndex}
 use Rattle.port_core.specs.declared.word_id.WordId.TheVariants.{Irq as IrqWord, Vcpu, Queue, Ctlr, Plain, Index}
-use Rattle.port_core.specs.After.{accessed, acknowledged_entry, changed_id, claimed, claimed_at, concerned_by, deactivated_entry, id_of, interface_of, is_settled_by_look, local_after}
+use Rattle.port_core.specs.After.{accessed, acknowledged_entry, changed_id, claimed, concerned_by, deactivated_entry, id_of, interface_of, local_after}
 use Rattle.port_core.specs.Condition.{is_ready}
 use Rattle.port_core.specs.Effect.{may_hold, may_move, moved_of, succeeds}
 use Rattle.port_core.specs.Forms.{vcpu_of}
 use Rattle.port_core.specs.Known.{known}
-use Rattle.port_core.specs.Local.{arrived, changed_at, entry_for, is_at, is_vcpu, owing_both, settled, with_entry}
+use Rattle.port_core.specs.Local.{arrived, changed_at, entry_for, is_at, is_vcpu, owing_both, with_entry}
 use Rattle.port_core.specs.Run.{CoreState, seat_at, word_in}
 use Rattle.port_core.specs.Step.{word_of}
 use Rattle.port_core.specs.Valid.{IsAt, IsLocal}
 use Rattle.port_core.proofs.AtLemmas.{is_at_added, is_at_mapped}
 use Rattle.core_proper.specs.Ideal.{event_moments}
 use Rattle.core_proper.specs.Laws.{IsSeatOf}
-use Rattle.core_proper.specs.Progress.{Progress, Debt, paid, before_next, after_claim, after_icc, after_poll, begun, changed_by, is_paid, is_to_scan}
+use Rattle.core_proper.specs.Progress.{Progress, after_claim, after_poll, begun, is_paid}
 use Rattle.core_proper.specs.Proper.{IsProperStep}
 use Rattle.core_proper.specs.Registers.{after_operation}
-use Rattle.core_proper.specs.Scan.{Purpose, planned, trapped, bare, Scan, idle, taking, looking, claiming, has_key, is_both, scan_allows, scan_looked, word_taken, without_key}
+use Rattle.core_proper.specs.Scan.{Purpose, Scan, idle, taking, looking, claiming, has_key, is_both, scan_allows, scan_looked, word_taken, without_key}
 use Rattle.core_proper.proofs.ReachLemmas.{none_is, number_is, reached_local}
 use Rattle.core_laws.specs.Known.{IsKnown}
 use Rattle.core_laws.specs.Related.{bare as bare_irq}

@@ -1,6 +1,5 @@
 -- What an event leaves of the changes of an interrupt since it got to its interface, and of its record.
-use Rattle.std.proofs.Common.{◌≡◌, ◌≢◌, ℕ, ◌<◌, ◌&&◌, ◌⊎◌, inl, inr, true≢false, Bool, true, false, cond, if◌then◌else◌, IsTrue, List, [], ◌∷◌, ◌++◌, length, slice_index_or, slice_set, fold, Option, Some, None, is_none, refl, sym, ap, subst, ◌∙◌, arith}
-use Rattle.std.specs.Option.{option_map_or}
+use Rattle.std.proofs.Common.{◌≡◌, ◌≢◌, ℕ, ◌<◌, ◌⊎◌, inl, inr, Bool, true, false, cond, IsTrue, List, [], ◌∷◌, ◌++◌, length, slice_index_or, slice_set, fold, Option, Some, None, refl, sym, ap, ◌∙◌, arith}
 use Rattle.std.proofs.lemmas.Bool.{cases_eq}
 use Rattle.std.proofs.lemmas.List.{get_or-set_same, get_or-set_other, length-set}
 use Rattle.std.proofs.lemmas.Option.{none-some, same_Some}
@@ -8,22 +7,17 @@ use Rattle.gic_base.specs.declared.interrupt.Key.{Key}
 use Rattle.gic_base.specs.declared.shape.GuestShape.{GuestShape}
 use Rattle.gic_base.specs.Interrupt.{has_interrupt, interrupt_count, is_same_key, place_of}
 use Rattle.gic_base.specs.Shape.{IsShape}
-use Rattle.gic_base.proofs.KeyLemmas.{same_key, same_itself}
+use Rattle.gic_base.proofs.KeyLemmas.{same_key}
 use Rattle.gic_call.specs.declared.event.Event.{Event}
-use Rattle.gic_call.specs.declared.event.Event.TheVariants.{Raise, Up, Down, Enable, Touch, Reach, Take, Leave, Cpu, Read, Put, CtlrBegin, CtlrEnd, ItsBegin, ItsEnd, Queue}
-use Rattle.gic_call.specs.declared.event.Found.{Found}
+use Rattle.gic_call.specs.declared.event.Event.TheVariants.{Raise, Up, Down, Touch, Reach, Take, Leave}
 use Rattle.gic_call.specs.Trace.{Happened}
 use Rattle.gic_call.specs.Valid.{CanHappen}
-use Rattle.gic_history.specs.Fresh.{Changes, Track, Turn, after_changes, after_doing, after_leaving, changes_of, doing_of, tracked, turn_of, with_changes}
-use Rattle.gic_history.specs.Moves.{happened}
+use Rattle.gic_history.specs.Fresh.{Changes, Track, Turn, after_changes, after_leaving, changes_of, turn_of, with_changes}
 use Rattle.gic_history.specs.State.{Ideal}
-use Rattle.gic_call.specs.declared.event.Moment.TheVariants.{Happens}
 use Rattle.gic_open.proofs.KeyLemmas.{place_within}
-use Rattle.gic_word.specs.declared.record.Irq.{Irq}
 use Rattle.history_laws.proofs.StateLemmas.{guest_is, record_after}
 use Rattle.ideal_guest.specs.Ideal.{irq_at}
 use Rattle.port_core.specs.declared.word_id.WordId.TheVariants.{Irq as IrqWord}
-use Rattle.port_core.specs.Place.{place_of_word, word_count}
 use Rattle.port_core.proofs.PlaceLemmas.{word_same}
 use Rattle.core_proper.specs.Ideal.{event_moments}
 use Rattle.core_regs.specs.Ends.{Telling, told_by}
