@@ -27,7 +27,8 @@ use Rattle.core_regs.proofs.AskLemmas.{Asks, IsMeant, asking_as, asks_on}
 use Rattle.core_regs.proofs.AskSteps.{own_asks}
 use Rattle.core_regs.proofs.MisrLemmas.{quiet_regs}
 use Rattle.core_regs.proofs.StandRuns.{IsGoing, IsKept, ends_so, idle_is, lrs_made, paid_begun, paid_ended, registers_stand}
-use Rattle.core_regs.proofs.StandSteps.{after_made, own_step}
+use Rattle.core_regs.proofs.ScanSteps.{own_step}
+use Rattle.core_regs.proofs.StandSteps.{after_made}
 
 -- the same registers ask alike, in another state of the core, or with another debt
 unpaid : (a b : Bool) → (a ≡ true → b ≡ true) → b ≡ false → a ≡ false

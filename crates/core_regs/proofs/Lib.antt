@@ -9,6 +9,7 @@ pub mod EndLemmas
 pub mod LookSteps
 pub mod StandLemmas
 pub mod StandSteps
+pub mod ScanSteps
 pub mod StandRuns
 pub mod MisrLemmas
 pub mod AskFill
@@ -20,4 +21,5 @@ pub mod HeldSteps
 pub mod EoiLemmas
 pub mod SeeLemmas
 pub mod SeeSteps
+pub mod SeeClaims
 pub mod SeeRuns

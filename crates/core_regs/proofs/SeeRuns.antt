@@ -46,9 +46,10 @@ use Rattle.core_regs.proofs.AskRuns.{asks_kept, not_own}
 use Rattle.core_regs.proofs.AskSteps.{own_asks}
 use Rattle.core_regs.proofs.HeldSteps.{record_same}
 use Rattle.core_regs.proofs.SeeLemmas.{IsSeeing, Seeing, Sees, seeing_on, sees_on}
-use Rattle.core_regs.proofs.SeeSteps.{own_sees}
+use Rattle.core_regs.proofs.SeeClaims.{own_sees}
 use Rattle.core_regs.proofs.StandRuns.{IsGoing, IsKept, ends_so, idle_is, lrs_made, paid_begun, paid_ended, told}
-use Rattle.core_regs.proofs.StandSteps.{after_made, own_step}
+use Rattle.core_regs.proofs.ScanSteps.{own_step}
+use Rattle.core_regs.proofs.StandSteps.{after_made}
 use Rattle.core_regs.proofs.TellLemmas.{IsTold, told_event}
 
 -- what is kept, beside what the registers ask for

@@ -38,7 +38,8 @@ use Rattle.core_laws.proofs.StepContext.{IsStep}
 use Rattle.core_regs.specs.Ends.{Telling, opening_telling, telling_of, told_by}
 use Rattle.core_regs.specs.Stands.{EndsActive, finds_active, RegistersStand, takes_active}
 use Rattle.core_regs.proofs.StandLemmas.{Standing, stands_on}
-use Rattle.core_regs.proofs.StandSteps.{after_made, or_paid, own_step}
+use Rattle.core_regs.proofs.ScanSteps.{own_step}
+use Rattle.core_regs.proofs.StandSteps.{after_made, or_paid}
 
 -- a vCPU at a moment of a run, inside of a part or not: what it has for itself is what the core has, and its registers stand for what they are to
 pub record IsGoing (finds : Bool) (shape : GuestShape) (state : CoreState) (vcpu : ℕ) (inside : Bool) (p : Progress) : Type 0 where
