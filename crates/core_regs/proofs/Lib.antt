@@ -23,3 +23,4 @@ pub mod SeeLemmas
 pub mod SeeSteps
 pub mod SeeClaims
 pub mod SeeRuns
+pub mod WorkedSteps

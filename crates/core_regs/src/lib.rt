@@ -3,4 +3,6 @@
 
 mod laws;
 
-pub use laws::{ends_are_seen, groups_mirrored, none_asserted, registers_stand};
+pub use laws::{
+    again_run_is_filled, ends_are_seen, groups_mirrored, none_asserted, registers_stand,
+};
