@@ -29,7 +29,7 @@ pub worked_calls : AreCalls worked_guest.shape (opening worked_guest 0) (opening
 unfolding least_in with_level without_level in_places
 worked_calls = (tt, (tt, (tt, (call_ended worked_guest.shape 0 _ None refl (λ id. refl) (refl, refl), (tt, (tt, (tt, (tt, (call_ended worked_guest.shape 1 _ None refl (λ id. refl) (record { view = opened; maps = refl; made = record { events_are = refl; found = hands_one opened (Raise spi) Nothing refl; reads = All-nil _ }; answers = refl }), (tt, (tt, (tt, (tt, (tt, (tt, (call_ended worked_guest.shape 0 _ None refl (λ id. refl) (refl, refl), (tt, (tt, (call_ended worked_guest.shape 0 _ (Some 40) refl (λ id. refl) (record { view = opened; made = record { events_are = refl; found = hands_one opened (Cpu 0 Iar1 None) (Answer (Some 40)) ((Some 40), refl); reads = All-nil _ }; answers = (0, omega arith, refl) }), (tt, (tt, (call_ended worked_guest.shape 0 _ None refl (λ id. refl) (record { view = opened; made = record { events_are = refl; found = hands_one opened (Cpu 0 Eoir1 (Some 40)) (Answer None) (None, refl); reads = All-nil _ }; answers = (0, omega arith, refl) }), (tt, (tt, (call_ended worked_guest.shape 0 _ (Some 1023) refl (λ id. refl) (record { view = opened; made = record { events_are = refl; found = hands_one opened (Cpu 0 Iar1 None) (Answer (Some 1023)) ((Some 1023), refl); reads = All-nil _ }; answers = (0, omega arith, refl) }), (tt, (tt, (tt, (tt, (call_ended worked_guest.shape 0 _ None refl (λ id. refl) (refl, refl), tt))))))))))))))))))))))))))))))
 
-pub worked_good : IsGoodGuest worked_guest
+worked_good : IsGoodGuest worked_guest
 worked_good = record {
   shape = record { some_vcpu = omega arith; vcpus = omega arith; spis = omega arith; spi_blocks = refl; espis = omega arith; espi_blocks = refl; devices = omega arith; lpis = omega arith; ram = omega arith; ram_words = refl };
   presets = All-cons (IsGoodPreset worked_guest.shape) _ [] (record { there = refl; addressed = refl; prio = omega arith; prio_bits = refl; group = omega arith; sgi_is_edge = refl }) (All-nil (IsGoodPreset worked_guest.shape));

@@ -2,7 +2,7 @@
 ghost use Rattle.core_regs.specs.Asks.{GroupsMirrored, NoneAsserted};
 ghost use Rattle.core_regs.specs.Ends.{EndsAreSeen};
 ghost use Rattle.core_regs.specs.Stands.{RegistersStand};
-ghost use Rattle.core_regs.specs.Worked.{AgainRunIsFilled};
+ghost use Rattle.core_regs.specs.Worked.{LevelRunIsBehind};
 
 /// A law of every proper run, of a vCPU that may do accesses and owes no scan, or that found each interrupt active that it took
 /// to its interface to end it there: its registers hold its CPU record, each interrupt at its interface that is pending or
@@ -32,7 +32,7 @@ pub fn ends_are_seen()
     ensures { EndsAreSeen }
 {}
 
-/// A worked run of an interrupt that is pending again meets what these laws ask of a run.
-pub fn again_run_is_filled()
-    ensures { AgainRunIsFilled }
+/// A worked run of a wire that stays up meets what these laws ask of a run.
+pub fn level_run_is_behind()
+    ensures { LevelRunIsBehind }
 {}

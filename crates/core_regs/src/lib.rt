@@ -4,5 +4,5 @@
 mod laws;
 
 pub use laws::{
-    again_run_is_filled, ends_are_seen, groups_mirrored, none_asserted, registers_stand,
+    ends_are_seen, groups_mirrored, level_run_is_behind, none_asserted, registers_stand,
 };
