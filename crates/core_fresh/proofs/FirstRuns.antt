@@ -38,9 +38,9 @@ use Rattle.core_laws.proofs.StepContext.{one, IsStep}
 use Rattle.core_regs.proofs.AskLemmas.{Asks}
 use Rattle.core_regs.proofs.AskRuns.{asks_so, none_asserted}
 use Rattle.core_regs.proofs.AskSteps.{own_asks}
+use Rattle.core_regs.proofs.ScanSteps.{own_step}
 use Rattle.core_regs.proofs.StandLemmas.{Standing}
 use Rattle.core_regs.proofs.StandRuns.{ends_so, nothing_more, lrs_made, paid_begun, paid_ended, idle_is, registers_stand}
-use Rattle.core_regs.proofs.StandSteps.{own_step}
 use Rattle.core_fresh.specs.Excuse.{Followed, followed_in}
 use Rattle.core_fresh.specs.First.{MayAsk, FirstComesFirst}
 use Rattle.core_fresh.specs.Scan.{Covers}
@@ -166,7 +166,7 @@ module _ (guest : GuestSpec) (number vcpu : ℕ) (good : IsGoodGuest guest) (wit
         (leb-true 1 p.lrs both.0, leb-true p.lrs 16 both.1)
 
     stands : Standing false shape vcpu p p.scan
-    stands = (ends_so false guest number early vcpu (λ state p. Unit {0}) good next.before within (nothing_more false shape vcpu) tt (λ f. absurd (true≢false (sym f)))).1.going.stands
+    stands = (ends_so false guest number early vcpu (λ telling state p. Unit {0}) good next.before within (nothing_more false shape vcpu) tt (λ f. absurd (true≢false (sym f)))).1.going.stands
 
     asks : Asks shape (StateOf early) vcpu p p.scan
     asks = asks_so guest number early vcpu good next.before within

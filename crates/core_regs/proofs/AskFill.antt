@@ -59,7 +59,7 @@ asks_for false false false = record { uie = refl; lrenpie = refl; npie = refl; e
 
 -- List registers.
 
-from_take : (n : ℕ) (words : List ℕ) (word : ℕ) → Contains (take n words) word → Contains words word
+pub from_take : (n : ℕ) (words : List ℕ) (word : ℕ) → Contains (take n words) word → Contains words word
 from_take zero words word has = absurd (Contains-nothing word has)
 from_take (suc n) [] word has = absurd (Contains-nothing word has)
 from_take (suc n) (first ∷ words) word has = elim (Contains-cases first word (take n words) has) [

@@ -27,7 +27,8 @@ use Rattle.core_regs.proofs.AskLemmas.{Asks, IsMeant, asking_as, asks_on}
 use Rattle.core_regs.proofs.AskSteps.{own_asks}
 use Rattle.core_regs.proofs.MisrLemmas.{quiet_regs}
 use Rattle.core_regs.proofs.StandRuns.{IsGoing, IsKept, ends_so, idle_is, lrs_made, paid_begun, paid_ended, registers_stand}
-use Rattle.core_regs.proofs.StandSteps.{after_made, own_step}
+use Rattle.core_regs.proofs.ScanSteps.{own_step}
+use Rattle.core_regs.proofs.StandSteps.{after_made}
 
 -- the same registers ask alike, in another state of the core, or with another debt
 unpaid : (a b : Bool) → (a ≡ true → b ≡ true) → b ≡ false → a ≡ false
@@ -46,24 +47,27 @@ asks_as shape state later vcpu p q (taking purpose words) regs local trapping de
 asks_as shape state later vcpu p q (looking purpose from offers) regs local trapping debt all asks = meant_as p q trapping debt purpose asks
 asks_as shape state later vcpu p q (claiming claims takes) regs local trapping debt all asks = asking_as shape state later vcpu true true p q regs (ap (λ (l : Local). l.cpu) local) trapping debt (λ h. h) all asks
 
--- every moment keeps it
-asks_kept : (shape : GuestShape) (good : IsShape shape) (vcpu : ℕ) → vcpu < shape.vcpus → IsKept false shape vcpu (λ state p. Asks shape state vcpu p p.scan)
-asks_kept shape good vcpu within = record {
-  others = λ state inside p actor made apart takes going asks.
-      let is : IsStep shape state going.reached.ideal actor made.step made.found made.left made.tables = record { good = good; sound = going.reached.sound; related = going.reached.related; takes = takes } in
-      asks_as shape state (later is) vcpu p p p.scan refl refl refl (λ h. h) (λ all. record { none_failed = all.none_failed; unkicked = (unkicked_before is vcpu within (not_own actor made.step apart) all.unkicked).0 }) asks;
-  begun = λ state p operation lrs asks. asks_as shape state state vcpu p (progressed shape vcpu p (begins operation lrs)) p.scan refl refl refl (paid_begun operation p.debt) (λ all. record { none_failed = all.none_failed; unkicked = all.unkicked }) asks;
-  ended = λ state p answer proper asks. asks_as shape state state vcpu p (progressed shape vcpu p (ends answer)) p.scan refl refl refl (paid_ended p.debt) (λ all. record { none_failed = all.none_failed; unkicked = all.unkicked }) asks;
-  own = λ state p made proper active takes going next asks. own_kept state p made proper active takes going next asks;
-}
+-- a step of another actor is no look of the vCPU's for a kick
+pub not_own : (vcpu actor : ℕ) (step : CoreStep) → actor ≢ vcpu → is_poll_by vcpu actor step ≡ false
+not_own vcpu actor step apart = ap (λ b. is_poll step && b) (ne_eqb actor vcpu apart) ∙ and_false (is_poll step)
   where
     and_false : (b : Bool) → (b && false) ≡ false
     and_false true = refl
     and_false false = refl
 
-    not_own : (actor : ℕ) (step : CoreStep) → actor ≢ vcpu → is_poll_by vcpu actor step ≡ false
-    not_own actor step apart = ap (λ b. is_poll step && b) (ne_eqb actor vcpu apart) ∙ and_false (is_poll step)
-
+-- every moment keeps it
+pub asks_kept : (shape : GuestShape) (good : IsShape shape) (vcpu : ℕ) → vcpu < shape.vcpus → IsKept false shape vcpu (λ telling state p. Asks shape state vcpu p p.scan)
+asks_kept shape good vcpu within = record {
+  others = λ telling state inside p actor made apart takes going asks.
+      let is : IsStep shape state going.reached.ideal actor made.step made.found made.left made.tables = record { good = good; sound = going.reached.sound; related = going.reached.related; takes = takes } in
+      asks_as shape state (later is) vcpu p p p.scan refl refl refl (λ h. h) (λ all. record { none_failed = all.none_failed; unkicked = (unkicked_before is vcpu within (not_own vcpu actor made.step apart) all.unkicked).0 }) asks;
+  other_begun = λ telling state p actor operation lrs asks. asks;
+  other_ended = λ telling state p actor answer asks. asks;
+  begun = λ telling state p operation lrs asks. asks_as shape state state vcpu p (progressed shape vcpu p (begins operation lrs)) p.scan refl refl refl (paid_begun operation p.debt) (λ all. record { none_failed = all.none_failed; unkicked = all.unkicked }) asks;
+  ended = λ telling state p answer proper asks. asks_as shape state state vcpu p (progressed shape vcpu p (ends answer)) p.scan refl refl refl (paid_ended p.debt) (λ all. record { none_failed = all.none_failed; unkicked = all.unkicked }) asks;
+  own = λ telling state p made proper active takes going next asks. own_kept state p made proper active takes going next asks;
+}
+  where
     own_kept :
         (state : CoreState) (p : Progress) (made : Made) → IsProperStep shape vcpu p made.step → (IsTrue false → IsTrue (takes_active vcpu p.scan made.step made.found)) → Takes shape state (entry_by vcpu made) → IsGoing false shape state vcpu true p → IsGoing false shape (after shape state (entry_by vcpu made)) vcpu true (stepped shape vcpu made p)
         → Asks shape state vcpu p p.scan → let q = stepped shape vcpu made p in Asks shape (after shape state (entry_by vcpu made)) vcpu q q.scan
@@ -81,7 +85,7 @@ asks_kept shape good vcpu within = record {
 pub asks_so : (guest : GuestSpec) (number : ℕ) (moments : List CoreMoment) (vcpu : ℕ) → IsGoodGuest guest → IsProperRun guest number moments → vcpu < guest.shape.vcpus
     → let p = progress_in guest number moments vcpu in Asks guest.shape (end_of_moments guest.shape (opening guest number) moments) vcpu p p.scan
 asks_so guest number moments vcpu good proper within =
-    (ends_so false guest number moments vcpu (λ state p. Asks guest.shape state vcpu p p.scan) good proper within (asks_kept guest.shape good.shape vcpu within) (λ ready. absurd (true≢false (sym ready))) (λ f. absurd (true≢false (sym f)))).1.more
+    (ends_so false guest number moments vcpu (λ telling state p. Asks guest.shape state vcpu p p.scan) good proper within (asks_kept guest.shape good.shape vcpu within) (λ ready. absurd (true≢false (sym ready))) (λ f. absurd (true≢false (sym f)))).1.more
 
 module _ (guest : GuestSpec) (number : ℕ) (moments : List CoreMoment) (vcpu : ℕ) (good : IsGoodGuest guest) (proper : IsProperRun guest number moments) (within : vcpu < guest.shape.vcpus) (filled : IsFilled (progress_in guest number moments vcpu)) where
   asking : let p = progress_in guest number moments vcpu in IsMirrored p.regs.hcr p.local.cpu × (HasAll guest.shape (end_of_moments guest.shape (opening guest number) moments) vcpu p → misr_of p.regs ≡ 0)

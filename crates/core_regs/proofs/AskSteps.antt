@@ -17,16 +17,15 @@ use Rattle.its_tab.specs.Maps.{Maps}
 use Rattle.vcpu_refill.specs.declared.offer.Offer.{Offer}
 use Rattle.port_core.specs.declared.local.Local.{Local}
 use Rattle.port_core.specs.declared.local.Phase.TheVariants.{Folding}
-use Rattle.port_core.specs.declared.owed.Cands.{Cands}
 use Rattle.port_core.specs.declared.run.Made.{Made}
 use Rattle.port_core.specs.declared.step.CoreStep.{CoreStep}
 use Rattle.port_core.specs.declared.step.CoreStep.TheVariants.{Look, Raise, Claim, GiveBack, Release, Poll, Kick, Touch, Want, WireUp, WireDown, EnableLpis, RamLook, RamPut, CtlrTake, CtlrEnd, TurnTake, CommandDone, TurnRelease, Mark, TakeIndex}
 use Rattle.port_core.specs.declared.word_id.WordId.TheVariants.{Irq, Vcpu, Queue, Ctlr, Plain, Index}
-use Rattle.port_core.specs.After.{accessed, claimed, concerned_by, is_settled_by_look, local_after}
+use Rattle.port_core.specs.After.{accessed, claimed, concerned_by, local_after}
 use Rattle.port_core.specs.Condition.{is_ready}
 use Rattle.port_core.specs.Effect.{succeeds}
 use Rattle.port_core.specs.Forms.{vcpu_of}
-use Rattle.port_core.specs.Local.{settled, owing_both}
+use Rattle.port_core.specs.Local.{owing_both}
 use Rattle.port_core.specs.Run.{CoreState, seat_at}
 use Rattle.port_core.specs.Valid.{IsLocal}
 use Rattle.core_proper.specs.Laws.{IsSeatOf}
@@ -41,7 +40,7 @@ use Rattle.core_regs.specs.Asks.{IsMirrored, HasAll}
 use Rattle.core_regs.proofs.AskLemmas.{Asking, Asks, IsMeant, asking_as, changed_hcr, mirrors_after}
 use Rattle.core_regs.proofs.MisrLemmas.{groups_kept, holds_groups}
 use Rattle.core_regs.proofs.StandLemmas.{Standing}
-use Rattle.core_regs.proofs.StandSteps.{access_agrees, after_made, either, paid_before, unpaid_end}
+use Rattle.core_regs.proofs.StandSteps.{access_agrees, after_made, either, look_part, paid_before, unpaid_end}
 
 -- no maintenance interrupt is asserted after an access with which no scan is owed
 pub quiet_after : (regs : IchRegs) (trapping : Bool) (debt : Debt) → IsTrue (is_paid (if is_to_scan regs trapping debt then before_next else paid)) → misr_of regs ≡ 0
@@ -70,7 +69,7 @@ module _ (shape : GuestShape) (state : CoreState) (ideal : Ideal) (vcpu found le
   -- What has been so before a step.
 
   -- it claimed all before a step that is neither a look for a kick nor a claim
-  all_before : (step : CoreStep) (is : IsStep shape state ideal vcpu step found left tables) → is_poll_by vcpu vcpu step ≡ false → ((now step).failed ≡ false → is_kick_of vcpu step ≡ false → p.failed ≡ false) → HasAll shape (later is) vcpu (now step) → HasAll shape state vcpu p
+  pub all_before : (step : CoreStep) (is : IsStep shape state ideal vcpu step found left tables) → is_poll_by vcpu vcpu step ≡ false → ((now step).failed ≡ false → is_kick_of vcpu step ≡ false → p.failed ≡ false) → HasAll shape (later is) vcpu (now step) → HasAll shape state vcpu p
   all_before step is poll failed all = let before = unkicked_before is vcpu within poll all.unkicked in record { none_failed = failed all.none_failed before.1; unkicked = before.0 }
 
   quiet_idle :
@@ -80,15 +79,12 @@ module _ (shape : GuestShape) (state : CoreState) (ideal : Ideal) (vcpu found le
       subst (Asks shape (later is) vcpu (now step)) (sym (same ∙ e))
       (asking_as shape state (later is) vcpu (is_ready p.local.phase) (is_ready (now step).local.phase) p (now step) regs cpu trapping debt phase (all_before step is poll failed) (subst (Asks shape state vcpu p) e asks))
 
-  kick_failed : (v : ℕ) → (p.failed && not (v == vcpu)) ≡ false → (v == vcpu) ≡ false → p.failed ≡ false
+  pub kick_failed : (v : ℕ) → (p.failed && not (v == vcpu)) ≡ false → (v == vcpu) ≡ false → p.failed ≡ false
   kick_failed v e f = sym (and_true p.failed) ∙ sym (ap (λ b. p.failed && not b) f) ∙ e
     where
       and_true : (b : Bool) → (b && true) ≡ b
       and_true true = refl
       and_true false = refl
-
-  look_part : {X : Type 0} (part : Local → X) (key : Key) → ((local : Local) (cands : Cands) → part (record local { cands = cands }) ≡ part local) → part (local_after shape vcpu p.local (Look (Irq key)) found) ≡ part p.local
-  look_part part key same = either part (is_settled_by_look shape vcpu (irq_of found)) (record p.local { cands = settled shape vcpu key p.local.cands }) p.local (same p.local (settled shape vcpu key p.local.cands))
 
   -- With no scan in progress.
 
@@ -124,7 +120,7 @@ module _ (shape : GuestShape) (state : CoreState) (ideal : Ideal) (vcpu found le
 
   idle_asks : (step : CoreStep) (is : IsStep shape state ideal vcpu step found left tables) → p.scan ≡ idle → IsProperStep shape vcpu p step → HasBinaryPoints (now step).local.cpu → Asks shape state vcpu p p.scan → Asks shape (later is) vcpu (now step) (now step).scan
   idle_asks (Look (Irq key)) is e proper points asks =
-      quiet_idle (Look (Irq key)) is e asks refl (λ f k. f) (ap (scan_looked shape key (irq_of found)) e ∙ sym e) refl (look_part (λ l. l.cpu) key (λ l c. refl)) refl (λ h. h) (subst (λ phase. IsTrue (is_ready phase)) (look_part (λ l. l.phase) key (λ l c. refl)))
+      quiet_idle (Look (Irq key)) is e asks refl (λ f k. f) (ap (scan_looked shape key (irq_of found)) e ∙ sym e) refl (look_part shape vcpu found p.local (λ l. l.cpu) key (λ l c. refl)) refl (λ h. h) (subst (λ phase. IsTrue (is_ready phase)) (look_part shape vcpu found p.local (λ l. l.phase) key (λ l c. refl)))
   idle_asks (Look (Vcpu v)) is e proper points asks = quiet_idle (Look (Vcpu v)) is e asks refl (λ f k. f) refl refl refl refl (λ h. h) (λ h. h)
   idle_asks (Look Queue) is e proper points asks = quiet_idle (Look Queue) is e asks refl (λ f k. f) refl refl refl refl (λ h. h) (λ h. h)
   idle_asks (Look Ctlr) is e proper points asks = quiet_idle (Look Ctlr) is e asks refl (λ f k. f) refl refl refl refl (λ h. h) (λ h. h)

@@ -78,7 +78,7 @@ among_has_key key (one ∷ keys) has = elim (Contains-cases one key keys has) [
 abbrev pub chosen : List (Option Choice) → List Choice
 chosen places = filter_map (λ place. place) places
 
-keys_chosen_of : (places : List (Option Choice)) → filter_map (option_map (λ (choice : Choice). choice.key)) places ≡ keys_of (chosen places)
+pub keys_chosen_of : (places : List (Option Choice)) → filter_map (option_map (λ (choice : Choice). choice.key)) places ≡ keys_of (chosen places)
 keys_chosen_of [] = refl
 keys_chosen_of (None ∷ places) = keys_chosen_of places
 keys_chosen_of (Some choice ∷ places) = ap (λ keys. choice.key ∷ keys) (keys_chosen_of places)
@@ -111,10 +111,10 @@ module _ (shape : GuestShape) (good : IsShape shape) (vcpu n : ℕ) (few : n ≤
   standing : StandFor regs (held_of fill) (planned_interface fill local.cpu)
   standing = stands offers vcpu local.cpu shape n few (All-weaker (IsOffered shape vcpu own) FitsRegister (λ offer is. is.fits) offers each) apart
 
-  by_right : (c : Choice) → Contains (chosen fill.choice) c → IsEarned offers vcpu local.cpu shape c
+  pub by_right : (c : Choice) → Contains (chosen fill.choice) c → IsEarned offers vcpu local.cpu shape c
   by_right c has = earned offers vcpu local.cpu shape n c (is_chosen fill.choice c has)
 
-  offered_so : (c : Choice) → Contains (chosen fill.choice) c → IsOffered shape vcpu own (offer_of c)
+  pub offered_so : (c : Choice) → Contains (chosen fill.choice) c → IsOffered shape vcpu own (offer_of c)
   offered_so c has = All-contains (IsOffered shape vcpu own) offers (offer_of c) each (by_right c has).offered
 
   one_place : (c d : Choice) → Contains (chosen fill.choice) c → Contains (chosen fill.choice) d → c.key ≡ d.key → c ≡ d

@@ -1,6 +1,7 @@
 -- The registers of a vCPU stand for its interface at every moment of every proper run.
-use Rattle.std.proofs.Common.{◌≡◌, ◌≢◌, ℕ, ◌<◌, ◌≤◌, ◌==◌, ◌&&◌, ◌||◌, ◌⊎◌, inl, inr, true≢false, not, Bool, true, false, IsTrue, List, [], ◌∷◌, map, filter, if◌then◌else◌, Option, Some, None, unwrap_or, nat_le, refl, sym, ◌∙◌, subst, arith}
+use Rattle.std.proofs.Common.{◌≡◌, ◌≢◌, ℕ, ◌<◌, ◌≤◌, ◌==◌, ◌&&◌, ◌||◌, ◌⊎◌, inl, inr, true≢false, not, Bool, true, false, IsTrue, List, [], ◌∷◌, map, filter, fold, if◌then◌else◌, Option, Some, None, unwrap_or, nat_le, refl, sym, ◌∙◌, subst, arith}
 use Rattle.std.proofs.lemmas.Bool.{and_parts, eqb-true, eq-eqb, leb-true, lt-ltb}
+use Rattle.std.proofs.lemmas.List.Sums.{fold-append}
 use Rattle.gic_base.specs.declared.icc.IccReg.{IccReg}
 use Rattle.gic_base.specs.declared.interrupt.Key.{Key}
 use Rattle.gic_base.specs.declared.operation.GuestOp.TheVariants.{Icc, Mem}
@@ -22,7 +23,7 @@ use Rattle.port_core.specs.Local.{is_vcpu}
 use Rattle.port_core.specs.Run.{CoreState, opening, seat_at, after, Takes, IsRun}
 use Rattle.port_core.specs.Valid.{IsLocal}
 use Rattle.port_core.proofs.OpeningLemmas.{seat_opens}
-use Rattle.core_proper.specs.Ideal.{after_moment, end_of_moments}
+use Rattle.core_proper.specs.Ideal.{after_moment, end_of_moments, ideal_moments, ideal_of}
 use Rattle.core_proper.specs.Laws.{IsSeatOf}
 use Rattle.core_proper.specs.Parts.{Act, begins, makes, ends, CoreMoment, own_acts, entries_of, entry_by, has_registers, are_parts}
 use Rattle.core_proper.specs.Progress.{Progress, Debt, paid, after_end, before_next, after_claim, after_poll, begun, changed_by, is_paid, opening_progress, owed_after_part, owed_by_call, progressed, progress_of, progress_in, stepped}
@@ -34,9 +35,11 @@ use Rattle.core_proper.proofs.ScanLemmas.{local_on, lrs_on}
 use Rattle.core_laws.proofs.AfterLemmas.{seat_mine, seat_other}
 use Rattle.core_laws.proofs.ReachedRuns.{IsReached, reaches_next, reached_opens}
 use Rattle.core_laws.proofs.StepContext.{IsStep}
+use Rattle.core_regs.specs.Ends.{Telling, opening_telling, telling_of, told_by}
 use Rattle.core_regs.specs.Stands.{EndsActive, finds_active, RegistersStand, takes_active}
 use Rattle.core_regs.proofs.StandLemmas.{Standing, stands_on}
-use Rattle.core_regs.proofs.StandSteps.{after_made, or_paid, own_step}
+use Rattle.core_regs.proofs.ScanSteps.{own_step}
+use Rattle.core_regs.proofs.StandSteps.{after_made, or_paid}
 
 -- a vCPU at a moment of a run, inside of a part or not: what it has for itself is what the core has, and its registers stand for what they are to
 pub record IsGoing (finds : Bool) (shape : GuestShape) (state : CoreState) (vcpu : ℕ) (inside : Bool) (p : Progress) : Type 0 where
@@ -46,14 +49,22 @@ pub record IsGoing (finds : Bool) (shape : GuestShape) (state : CoreState) (vcpu
   pub some : IsTrue inside → 1 ≤ p.lrs
   pub stands : Standing finds shape vcpu p p.scan
 
+-- what is told after a moment
+abbrev pub told : GuestShape → Telling → CoreState → ℕ → Act → Telling
+told shape telling state actor act = fold told_by telling (ideal_moments shape (seat_at state actor) actor act)
+
 -- what else each moment of a proper run keeps of a vCPU
-pub record IsKept (finds : Bool) (shape : GuestShape) (vcpu : ℕ) (P : CoreState → Progress → Type 0) : Type 0 where
-  pub others : (state : CoreState) (inside : Bool) (p : Progress) (actor : ℕ) (made : Made) → actor ≢ vcpu → Takes shape state (entry_by actor made) → IsGoing finds shape state vcpu inside p → P state p → P (after shape state (entry_by actor made)) p
-  pub begun : (state : CoreState) (p : Progress) (operation : Operation) (lrs : ℕ) → P state p → P state (progressed shape vcpu p (begins operation lrs))
-  pub ended : (state : CoreState) (p : Progress) (answer : Option ℕ) → IsProperEnd p → P state p → P state (progressed shape vcpu p (ends answer))
+pub record IsKept (finds : Bool) (shape : GuestShape) (vcpu : ℕ) (P : Telling → CoreState → Progress → Type 0) : Type 0 where
+  pub others :
+      (telling : Telling) (state : CoreState) (inside : Bool) (p : Progress) (actor : ℕ) (made : Made) → actor ≢ vcpu → Takes shape state (entry_by actor made) → IsGoing finds shape state vcpu inside p → P telling state p
+      → P (told shape telling state actor (makes made)) (after shape state (entry_by actor made)) p
+  pub other_begun : (telling : Telling) (state : CoreState) (p : Progress) (actor : ℕ) (operation : Operation) (lrs : ℕ) → P telling state p → P (told shape telling state actor (begins operation lrs)) state p
+  pub other_ended : (telling : Telling) (state : CoreState) (p : Progress) (actor : ℕ) (answer : Option ℕ) → P telling state p → P (told shape telling state actor (ends answer)) state p
+  pub begun : (telling : Telling) (state : CoreState) (p : Progress) (operation : Operation) (lrs : ℕ) → P telling state p → P (told shape telling state vcpu (begins operation lrs)) state (progressed shape vcpu p (begins operation lrs))
+  pub ended : (telling : Telling) (state : CoreState) (p : Progress) (answer : Option ℕ) → IsProperEnd p → P telling state p → P (told shape telling state vcpu (ends answer)) state (progressed shape vcpu p (ends answer))
   pub own :
-      (state : CoreState) (p : Progress) (made : Made) → IsProperStep shape vcpu p made.step → (IsTrue finds → IsTrue (takes_active vcpu p.scan made.step made.found)) → Takes shape state (entry_by vcpu made) → IsGoing finds shape state vcpu true p
-      → IsGoing finds shape (after shape state (entry_by vcpu made)) vcpu true (stepped shape vcpu made p) → P state p → P (after shape state (entry_by vcpu made)) (stepped shape vcpu made p)
+      (telling : Telling) (state : CoreState) (p : Progress) (made : Made) → IsProperStep shape vcpu p made.step → (IsTrue finds → IsTrue (takes_active vcpu p.scan made.step made.found)) → Takes shape state (entry_by vcpu made) → IsGoing finds shape state vcpu true p
+      → IsGoing finds shape (after shape state (entry_by vcpu made)) vcpu true (stepped shape vcpu made p) → P telling state p → P (told shape telling state vcpu (makes made)) (after shape state (entry_by vcpu made)) (stepped shape vcpu made p)
 
 -- the scan is over
 pub idle_is : (scan : Scan) → IsTrue (is_idle scan) → scan ≡ idle
@@ -121,15 +132,15 @@ inside_after inside (begins operation lrs) = true
 inside_after inside (makes made) = inside
 inside_after inside (ends answer) = false
 
-module _ (finds : Bool) (shape : GuestShape) (good : IsShape shape) (vcpu : ℕ) (within : vcpu < shape.vcpus) (P : CoreState → Progress → Type 0) (kept : IsKept finds shape vcpu P) where
+module _ (finds : Bool) (shape : GuestShape) (good : IsShape shape) (vcpu : ℕ) (within : vcpu < shape.vcpus) (P : Telling → CoreState → Progress → Type 0) (kept : IsKept finds shape vcpu P) where
   -- what is so at a moment
-  pub record Holds (state : CoreState) (inside : Bool) (p : Progress) : Type 0 where
+  pub record Holds (telling : Telling) (state : CoreState) (inside : Bool) (p : Progress) : Type 0 where
     pub going : IsGoing finds shape state vcpu inside p
-    pub more : P state p
+    pub more : P telling state p
 
   -- a step of another actor
-  others : (state : CoreState) (inside : Bool) (p : Progress) (actor : ℕ) (made : Made) → actor ≢ vcpu → Takes shape state (entry_by actor made) → Holds state inside p → Holds (after shape state (entry_by actor made)) inside p
-  others state inside p actor made apart takes holds =
+  others : (telling : Telling) (state : CoreState) (inside : Bool) (p : Progress) (actor : ℕ) (made : Made) → actor ≢ vcpu → Takes shape state (entry_by actor made) → Holds telling state inside p → Holds (told shape telling state actor (makes made)) (after shape state (entry_by actor made)) inside p
+  others telling state inside p actor made apart takes holds =
       let going = holds.going in
       let is : IsStep shape state going.reached.ideal actor made.step made.found made.left made.tables = record { good = good; sound = going.reached.sound; related = going.reached.related; takes = takes } in
       record {
@@ -141,7 +152,7 @@ module _ (finds : Bool) (shape : GuestShape) (good : IsShape shape) (vcpu : ℕ)
               some = going.some;
               stands = going.stands;
             };
-        more = kept.others state inside p actor made apart takes going holds.more;
+        more = kept.others telling state inside p actor made apart takes going holds.more;
       }
 
   -- a step of its own
@@ -167,15 +178,15 @@ module _ (finds : Bool) (shape : GuestShape) (good : IsShape shape) (vcpu : ℕ)
       }
 
   own :
-      (state : CoreState) (inside : Bool) (p : Progress) (act : Act) (acts : List Act) → IsProperAct shape vcpu p act → (IsTrue finds → IsTrue (finds_active vcpu p act)) → IsTrue (are_parts shape vcpu inside (act ∷ acts)) → IsRun shape state (entries_of (record { actor = vcpu; act = act } ∷ [])) → Holds state inside p
-      → Holds (after_moment shape state (record { actor = vcpu; act = act })) (inside_after inside act) (progressed shape vcpu p act) × IsTrue (are_parts shape vcpu (inside_after inside act) acts)
-  own state inside p (begins operation lrs) acts proper active parts run holds =
+      (telling : Telling) (state : CoreState) (inside : Bool) (p : Progress) (act : Act) (acts : List Act) → IsProperAct shape vcpu p act → (IsTrue finds → IsTrue (finds_active vcpu p act)) → IsTrue (are_parts shape vcpu inside (act ∷ acts)) → IsRun shape state (entries_of (record { actor = vcpu; act = act } ∷ [])) → Holds telling state inside p
+      → Holds (told shape telling state vcpu act) (after_moment shape state (record { actor = vcpu; act = act })) (inside_after inside act) (progressed shape vcpu p act) × IsTrue (are_parts shape vcpu (inside_after inside act) acts)
+  own telling state inside p (begins operation lrs) acts proper active parts run holds =
       let rest = and_parts (not inside && has_registers shape vcpu lrs) (are_parts shape vcpu true acts) parts in
       let few = registers (is_vcpu shape vcpu) (lt-ltb vcpu shape.vcpus within) lrs (and_parts (not inside) (has_registers shape vcpu lrs) rest.0).1 in
       let going = holds.going in (
         record {
           going = record { reached = going.reached; seat = record { local = going.seat.local; own = going.seat.own }; few = few.1; some = λ h. few.0; stands = stands_begun finds shape vcpu p operation lrs p.scan going.stands };
-          more = kept.begun state p operation lrs holds.more;
+          more = kept.begun telling state p operation lrs holds.more;
         },
         rest.1,
       )
@@ -183,20 +194,20 @@ module _ (finds : Bool) (shape : GuestShape) (good : IsShape shape) (vcpu : ℕ)
       registers : (b : Bool) → b ≡ true → (lrs : ℕ) → IsTrue (if b then nat_le 1 lrs && nat_le lrs 16 else lrs == 0) → (1 ≤ lrs) × (lrs ≤ 16)
       registers true e lrs h = let parts = and_parts (nat_le 1 lrs) (nat_le lrs 16) h in (leb-true 1 lrs parts.0, leb-true lrs 16 parts.1)
       registers false e lrs h = absurd (cc)
-  own state inside p (ends answer) acts proper active parts run holds =
+  own telling state inside p (ends answer) acts proper active parts run holds =
       let rest = and_parts inside (are_parts shape vcpu false acts) parts in
       let going = holds.going in (
         record {
           going = record { reached = going.reached; seat = record { local = going.seat.local; own = going.seat.own }; few = going.few; some = λ h. absurd (true≢false (sym h)); stands = stands_ended finds shape vcpu p answer p.scan going.stands };
-          more = kept.ended state p answer proper holds.more;
+          more = kept.ended telling state p answer proper holds.more;
         },
         rest.1,
       )
-  own state inside p (makes made) acts proper active parts run holds =
+  own telling state inside p (makes made) acts proper active parts run holds =
       let rest = and_parts inside (are_parts shape vcpu inside acts) parts in
       let going : IsGoing finds shape state vcpu true p = subst (λ b. IsGoing finds shape state vcpu b p) rest.0 holds.going in
       let next = own_going state p made proper active run.0 going in
-      (record { going = subst (λ b. IsGoing finds shape (after shape state (entry_by vcpu made)) vcpu b (stepped shape vcpu made p)) (sym rest.0) next; more = kept.own state p made proper active run.0 going next holds.more }, rest.1)
+      (record { going = subst (λ b. IsGoing finds shape (after shape state (entry_by vcpu made)) vcpu b (stepped shape vcpu made p)) (sym rest.0) next; more = kept.own telling state p made proper active run.0 going next holds.more }, rest.1)
 
   -- every moment
   split : (state : CoreState) (actor : ℕ) (act : Act) (moments : List CoreMoment) → IsRun shape state (entries_of (record { actor = actor; act = act } ∷ moments))
@@ -205,35 +216,41 @@ module _ (finds : Bool) (shape : GuestShape) (good : IsShape shape) (vcpu : ℕ)
   split state actor (makes made) moments run = ((run.0, tt), run.1)
   split state actor (ends answer) moments run = (tt, run)
 
-  other : (state : CoreState) (inside : Bool) (p : Progress) (actor : ℕ) (act : Act) → actor ≢ vcpu → IsRun shape state (entries_of (record { actor = actor; act = act } ∷ [])) → Holds state inside p → Holds (after_moment shape state (record { actor = actor; act = act })) inside p
-  other state inside p actor (begins operation lrs) apart run holds = holds
-  other state inside p actor (makes made) apart run holds = others state inside p actor made apart run.0 holds
-  other state inside p actor (ends answer) apart run holds = holds
+  other :
+      (telling : Telling) (state : CoreState) (inside : Bool) (p : Progress) (actor : ℕ) (act : Act) → actor ≢ vcpu → IsRun shape state (entries_of (record { actor = actor; act = act } ∷ [])) → Holds telling state inside p
+      → Holds (told shape telling state actor act) (after_moment shape state (record { actor = actor; act = act })) inside p
+  other telling state inside p actor (begins operation lrs) apart run holds = record { going = holds.going; more = kept.other_begun telling state p actor operation lrs holds.more }
+  other telling state inside p actor (makes made) apart run holds = others telling state inside p actor made apart run.0 holds
+  other telling state inside p actor (ends answer) apart run holds = record { going = holds.going; more = kept.other_ended telling state p actor answer holds.more }
 
-  pub goes : (moments : List CoreMoment) (state : CoreState) (inside : Bool) (p : Progress) → Holds state inside p → IsRun shape state (entries_of moments) → IsTrue (are_parts shape vcpu inside (own_acts vcpu moments)) → IsProper shape vcpu p (own_acts vcpu moments)
-      → (IsTrue finds → EndsActive shape vcpu p (own_acts vcpu moments)) → (now : Bool) × Holds (end_of_moments shape state moments) now (progress_of shape vcpu p (own_acts vcpu moments))
-  goes [] state inside p holds run parts proper active = (inside, holds)
-  goes (moment ∷ moments) state inside p holds run parts proper active =
-      by_actor (moment.actor == vcpu) refl
-      (λ now q so next is active. goes moments (after_moment shape state moment) now q so (split state moment.actor moment.act moments run).1 next is active) parts proper active
+  pub goes :
+      (moments : List CoreMoment) (telling : Telling) (state : CoreState) (inside : Bool) (p : Progress) → Holds telling state inside p → IsRun shape state (entries_of moments) → IsTrue (are_parts shape vcpu inside (own_acts vcpu moments)) → IsProper shape vcpu p (own_acts vcpu moments)
+      → (IsTrue finds → EndsActive shape vcpu p (own_acts vcpu moments)) → (now : Bool) × Holds (fold told_by telling (ideal_of shape state moments)) (end_of_moments shape state moments) now (progress_of shape vcpu p (own_acts vcpu moments))
+  goes [] telling state inside p holds run parts proper active = (inside, holds)
+  goes (moment ∷ moments) telling state inside p holds run parts proper active =
+      subst (λ t. (now : Bool) × Holds t (end_of_moments shape (after_moment shape state moment) moments) now (progress_of shape vcpu p (own_acts vcpu (moment ∷ moments))))
+      (sym (fold-append told_by telling (ideal_moments shape (seat_at state moment.actor) moment.actor moment.act) (ideal_of shape (after_moment shape state moment) moments)))
+      (by_actor (moment.actor == vcpu) refl
+      (λ now q so next is active. goes moments (told shape telling state moment.actor moment.act) (after_moment shape state moment) now q so (split state moment.actor moment.act moments run).1 next is active) parts proper active)
     where
       runs : IsRun shape state (entries_of (moment ∷ [])) × IsRun shape (after_moment shape state moment) (entries_of moments)
       runs = split state moment.actor moment.act moments run
 
       mine : moment.actor ≡ vcpu → (acts : List Act) → IsProperAct shape vcpu p moment.act → (IsTrue finds → IsTrue (finds_active vcpu p moment.act)) → IsTrue (are_parts shape vcpu inside (moment.act ∷ acts))
-          → Holds (after_moment shape state moment) (inside_after inside moment.act) (progressed shape vcpu p moment.act) × IsTrue (are_parts shape vcpu (inside_after inside moment.act) acts)
+          → Holds (told shape telling state moment.actor moment.act) (after_moment shape state moment) (inside_after inside moment.act) (progressed shape vcpu p moment.act) × IsTrue (are_parts shape vcpu (inside_after inside moment.act) acts)
       mine same acts is_proper active parts =
-          subst (λ n. Holds (after_moment shape state (record { actor = n; act = moment.act })) (inside_after inside moment.act) (progressed shape vcpu p moment.act) × IsTrue (are_parts shape vcpu (inside_after inside moment.act) acts)) (sym same)
-          (own state inside p moment.act acts is_proper active parts (subst (λ n. IsRun shape state (entries_of (record { actor = n; act = moment.act } ∷ []))) same runs.0) holds)
+          subst
+          (λ n. Holds (told shape telling state n moment.act) (after_moment shape state (record { actor = n; act = moment.act })) (inside_after inside moment.act) (progressed shape vcpu p moment.act) × IsTrue (are_parts shape vcpu (inside_after inside moment.act) acts)) (sym same)
+          (own telling state inside p moment.act acts is_proper active parts (subst (λ n. IsRun shape state (entries_of (record { actor = n; act = moment.act } ∷ []))) same runs.0) holds)
 
       by_actor : (b : Bool) → (moment.actor == vcpu) ≡ b
-          → ((now : Bool) (q : Progress) → Holds (after_moment shape state moment) now q → IsTrue (are_parts shape vcpu now (own_acts vcpu moments)) → IsProper shape vcpu q (own_acts vcpu moments) → (IsTrue finds → EndsActive shape vcpu q (own_acts vcpu moments)) → (now : Bool) × Holds (end_of_moments shape (after_moment shape state moment) moments) now (progress_of shape vcpu q (own_acts vcpu moments)))
+          → ((now : Bool) (q : Progress) → Holds (told shape telling state moment.actor moment.act) (after_moment shape state moment) now q → IsTrue (are_parts shape vcpu now (own_acts vcpu moments)) → IsProper shape vcpu q (own_acts vcpu moments) → (IsTrue finds → EndsActive shape vcpu q (own_acts vcpu moments)) → (now : Bool) × Holds (fold told_by (told shape telling state moment.actor moment.act) (ideal_of shape (after_moment shape state moment) moments)) (end_of_moments shape (after_moment shape state moment) moments) now (progress_of shape vcpu q (own_acts vcpu moments)))
           → let acts = map (λ (m : CoreMoment). m.act) (if b then moment ∷ filter (λ (m : CoreMoment). m.actor == vcpu) moments else filter (λ (m : CoreMoment). m.actor == vcpu) moments) in
-          IsTrue (are_parts shape vcpu inside acts) → IsProper shape vcpu p acts → (IsTrue finds → EndsActive shape vcpu p acts) → (now : Bool) × Holds (end_of_moments shape (after_moment shape state moment) moments) now (progress_of shape vcpu p acts)
+          IsTrue (are_parts shape vcpu inside acts) → IsProper shape vcpu p acts → (IsTrue finds → EndsActive shape vcpu p acts) → (now : Bool) × Holds (fold told_by (told shape telling state moment.actor moment.act) (ideal_of shape (after_moment shape state moment) moments)) (end_of_moments shape (after_moment shape state moment) moments) now (progress_of shape vcpu p acts)
       by_actor true e rest parts proper active =
           let next = mine (eqb-true moment.actor vcpu e) (own_acts vcpu moments) proper.0 (λ f. (active f).0) parts in
           rest (inside_after inside moment.act) (progressed shape vcpu p moment.act) next.0 next.1 proper.1 (λ f. (active f).1)
-      by_actor false e rest parts proper active = rest inside p (other state inside p moment.actor moment.act (λ same. true≢false (sym (eq-eqb moment.actor vcpu same) ∙ e)) runs.0 holds) parts proper active
+      by_actor false e rest parts proper active = rest inside p (other telling state inside p moment.actor moment.act (λ same. true≢false (sym (eq-eqb moment.actor vcpu same) ∙ e)) runs.0 holds) parts proper active
 
 pub opens : (finds : Bool) (guest : GuestSpec) (number vcpu : ℕ) → IsGoodGuest guest → vcpu < guest.shape.vcpus → IsGoing finds guest.shape (opening guest number) vcpu false (opening_progress guest number vcpu)
 opens finds guest number vcpu good within = record {
@@ -245,22 +262,31 @@ opens finds guest number vcpu good within = record {
 }
 
 -- at the end of a proper run
-pub ends_so : (finds : Bool) (guest : GuestSpec) (number : ℕ) (moments : List CoreMoment) (vcpu : ℕ) (P : CoreState → Progress → Type 0) (good : IsGoodGuest guest) (proper : IsProperRun guest number moments) (within : vcpu < guest.shape.vcpus) (kept : IsKept finds guest.shape vcpu P) → P (opening guest number) (opening_progress guest number vcpu)
-    → (IsTrue finds → EndsActive guest.shape vcpu (opening_progress guest number vcpu) (own_acts vcpu moments))
-    → (inside : Bool) × Holds finds guest.shape good.shape vcpu within P kept (end_of_moments guest.shape (opening guest number) moments) inside (progress_in guest number moments vcpu)
+pub ends_so :
+    (finds : Bool) (guest : GuestSpec) (number : ℕ) (moments : List CoreMoment) (vcpu : ℕ) (P : Telling → CoreState → Progress → Type 0) (good : IsGoodGuest guest) (proper : IsProperRun guest number moments) (within : vcpu < guest.shape.vcpus) (kept : IsKept finds guest.shape vcpu P)
+    → P (opening_telling guest) (opening guest number) (opening_progress guest number vcpu) → (IsTrue finds → EndsActive guest.shape vcpu (opening_progress guest number vcpu) (own_acts vcpu moments))
+    → (inside : Bool) × Holds finds guest.shape good.shape vcpu within P kept (telling_of guest (ideal_of guest.shape (opening guest number) moments)) (end_of_moments guest.shape (opening guest number) moments) inside (progress_in guest number moments vcpu)
 ends_so finds guest number moments vcpu P good proper within kept first active =
-    goes finds guest.shape good.shape vcpu within P kept moments (opening guest number) false (opening_progress guest number vcpu) (record { going = opens finds guest number vcpu good within; more = first }) proper.parted.run (proper.parted.parts vcpu (omega (arith, within))) (proper.proper vcpu (omega (arith, within))) active
+    goes finds guest.shape good.shape vcpu within P kept moments (opening_telling guest) (opening guest number) false (opening_progress guest number vcpu) (record { going = opens finds guest number vcpu good within; more = first }) proper.parted.run (proper.parted.parts vcpu (omega (arith, within)))
+    (proper.proper vcpu (omega (arith, within))) active
 
 -- nothing else
-pub nothing_more : (finds : Bool) (shape : GuestShape) (vcpu : ℕ) → IsKept finds shape vcpu (λ state p. Unit {0})
-nothing_more finds shape vcpu = record { others = λ state inside p actor made apart takes going h. tt; begun = λ state p operation lrs h. tt; ended = λ state p answer proper h. tt; own = λ state p made proper active takes going next h. tt }
+pub nothing_more : (finds : Bool) (shape : GuestShape) (vcpu : ℕ) → IsKept finds shape vcpu (λ telling state p. Unit {0})
+nothing_more finds shape vcpu = record {
+  others = λ telling state inside p actor made apart takes going h. tt;
+  other_begun = λ telling state p actor operation lrs h. tt;
+  other_ended = λ telling state p actor answer h. tt;
+  begun = λ telling state p operation lrs h. tt;
+  ended = λ telling state p answer proper h. tt;
+  own = λ telling state p made proper active takes going next h. tt;
+}
 
 pub registers_stand : RegistersStand
 registers_stand guest number moments vcpu good proper within loaded how = of how
   where
     stands : (finds : Bool) → IsTrue (finds || is_paid (progress_in guest number moments vcpu).debt) → (IsTrue finds → EndsActive guest.shape vcpu (opening_progress guest number vcpu) (own_acts vcpu moments)) → RegistersAgree (progress_in guest number moments vcpu).regs (progress_in guest number moments vcpu).local
     stands finds owed active =
-        let going = (ends_so finds guest number moments vcpu (λ state p. Unit {0}) good proper within (nothing_more finds guest.shape vcpu) tt active).1.going in
+        let going = (ends_so finds guest number moments vcpu (λ telling state p. Unit {0}) good proper within (nothing_more finds guest.shape vcpu) tt active).1.going in
         subst (Standing finds guest.shape vcpu (progress_in guest number moments vcpu)) (idle_is (progress_in guest number moments vcpu).scan loaded.scan) going.stands loaded.ready owed
 
     of : IsTrue (is_paid (progress_in guest number moments vcpu).debt) ⊎ EndsActive guest.shape vcpu (opening_progress guest number vcpu) (own_acts vcpu moments) → RegistersAgree (progress_in guest number moments vcpu).regs (progress_in guest number moments vcpu).local

@@ -37,7 +37,7 @@ use Rattle.core_regs.proofs.KeyLemmas.{without_other, without_itself, has_its_ke
 use Rattle.core_regs.proofs.ShowLemmas.{lives, Shows, shows_as, shows_changed, IsChangedAt, live_place, changed_holds}
 
 -- what a claim of an interrupt leaves that is at the interface
-taken_local : (shape : GuestShape) (actor : ℕ) (key : Key) (irq : IrqRecord) (local : Local) (one : AtIrq) → entry_for key local.at ≡ Some one
+pub taken_local : (shape : GuestShape) (actor : ℕ) (key : Key) (irq : IrqRecord) (local : Local) (one : AtIrq) → entry_for key local.at ≡ Some one
     → claimed_at shape actor key irq local ≡ record local { cands = settled shape actor key local.cands; at = changed_at (λ entry. record (with_entry entry (taken (moved_of irq one)).entry) { consumed = false }) key local.at }
 taken_local shape actor key irq local one there =
     let moved : Option AtIrq → Moved = λ o. option_map_or (λ entry. taken (moved_of irq entry)) o (record (reached irq) { irq = record (reached irq).irq { holder = Some actor } }) in

@@ -1,2 +1,4 @@
 pub mod Stands
 pub mod Asks
+pub mod Ends
+pub mod Worked

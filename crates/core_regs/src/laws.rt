@@ -1,6 +1,8 @@
 //! Laws of every proper run of the core.
 ghost use Rattle.core_regs.specs.Asks.{GroupsMirrored, NoneAsserted};
+ghost use Rattle.core_regs.specs.Ends.{EndsAreSeen};
 ghost use Rattle.core_regs.specs.Stands.{RegistersStand};
+ghost use Rattle.core_regs.specs.Worked.{LevelRunIsBehind};
 
 /// A law of every proper run, of a vCPU that may do accesses and owes no scan, or that found each interrupt active that it took
 /// to its interface to end it there: its registers hold its CPU record, each interrupt at its interface that is pending or
@@ -21,4 +23,16 @@ pub fn groups_mirrored()
 /// asserted. So where that of no pending interrupt is asked for, some list register has State 1, and none has an end to be seen.
 pub fn none_asserted()
     ensures { NoneAsserted }
+{}
+
+/// A law of every proper run, of such a vCPU that is not kicked and of which no claim failed, and of an interrupt at its interface
+/// that is pending in its record and that nobody changed since it got there: each list register in which it is pending or active
+/// has EOI set. So once its last list register is State 0 a maintenance interrupt is asserted, and it leaves.
+pub fn ends_are_seen()
+    ensures { EndsAreSeen }
+{}
+
+/// A worked run of a wire that stays up meets what these laws ask of a run.
+pub fn level_run_is_behind()
+    ensures { LevelRunIsBehind }
 {}

@@ -3,4 +3,6 @@
 
 mod laws;
 
-pub use laws::{groups_mirrored, none_asserted, registers_stand};
+pub use laws::{
+    ends_are_seen, groups_mirrored, level_run_is_behind, none_asserted, registers_stand,
+};

@@ -1,0 +1,61 @@
+-- The end of an interrupt that is pending behind its list register is seen (own choice; IHI 0069, ICH_LR<n>_EL2.EOI).
+use Rattle.std.specs.Prelude.{◌≡◌, ℕ, ◌<◌, true, IsTrue, List, [], fold, Contains}
+use Rattle.gic_base.specs.declared.interrupt.Key.{Key}
+use Rattle.gic_base.specs.declared.shape.GuestShape.{GuestShape}
+use Rattle.gic_base.specs.Interrupt.{has_interrupt, intid_of}
+use Rattle.gic_call.specs.declared.event.Moment.{Moment}
+use Rattle.gic_history.specs.Fresh.{Track, opening_track, changes_of, tracked, after_moment}
+use Rattle.gic_history.specs.State.{Ideal, opening as opening_ideal}
+use Rattle.gic_ich.specs.declared.regs.IchRegs.{IchRegs}
+use Rattle.gic_ich.specs.Place.{seen_in}
+use Rattle.gic_ich.specs.Regs.{listed_of}
+use Rattle.gic_icv.specs.Agree.{is_live}
+use Rattle.gic_lr.specs.Entry.{unpacked}
+use Rattle.gic_word.specs.Record.{is_pending}
+use Rattle.gic_word.specs.Word.{irq_of}
+use Rattle.scn_base.specs.declared.guest.GuestSpec.{GuestSpec}
+use Rattle.scn_base.specs.Good.{IsGoodGuest}
+use Rattle.port_core.specs.declared.word_id.WordId.TheVariants.{Irq}
+use Rattle.port_core.specs.Local.{is_at}
+use Rattle.port_core.specs.Run.{CoreState, opening, word_in}
+use Rattle.core_proper.specs.Ideal.{end_of_moments, ideal_of}
+use Rattle.core_proper.specs.Parts.{CoreMoment}
+use Rattle.core_proper.specs.Progress.{Progress, progress_in}
+use Rattle.core_proper.specs.Proper.{IsProperRun}
+use Rattle.core_regs.specs.Asks.{HasAll, IsFilled}
+
+-- a state of the ideal controller, and what a history up to it says of its actors and interrupts
+pub record Telling : Type 0 where
+  pub ideal : Ideal
+  pub track : Track
+
+-- after a moment
+abbrev pub told_by : Telling → Moment → Telling
+told_by telling moment = record { ideal = after_moment telling.ideal moment; track = tracked telling.ideal moment telling.track }
+
+-- after a history from the opening
+abbrev pub opening_telling : GuestSpec → Telling
+opening_telling guest = record { ideal = opening_ideal guest; track = opening_track guest.shape }
+
+abbrev pub telling_of : GuestSpec → List Moment → Telling
+telling_of guest moments = fold told_by (opening_telling guest) moments
+
+-- an interrupt at a vCPU's interface is pending in its record, and nobody changed it since it got there
+pub record IsBehind (shape : GuestShape) (state : CoreState) (telling : Telling) (p : Progress) (key : Key) : Type 0 where
+  pub there : IsTrue (has_interrupt shape key)
+  pub at : is_at key p.local.at ≡ true
+  pub pending : is_pending (irq_of (word_in shape state (Irq key))) ≡ true
+  pub unchanged : (changes_of shape telling.track key).since ≡ []
+
+-- each list register in which an interrupt is pending or active asks for its end to be seen
+abbrev pub SeesEnd : IchRegs → Key → Type 0
+SeesEnd regs key = (word : ℕ) → Contains (listed_of regs) word → is_live (intid_of key) (seen_in word) ≡ true → (unpacked word).eoi ≡ true
+
+-- so it is of each such interrupt, at every moment of every proper run, where the vCPU may do accesses, is not in trap mode, owes no scan, and has all that it
+-- chose
+abbrev pub EndsAreSeen : Type 0
+EndsAreSeen =
+    (guest : GuestSpec) (number : ℕ) (moments : List CoreMoment) (vcpu : ℕ) (key : Key) → IsGoodGuest guest → IsProperRun guest number moments → vcpu < guest.shape.vcpus → IsFilled (progress_in guest number moments vcpu)
+    → HasAll guest.shape (end_of_moments guest.shape (opening guest number) moments) vcpu (progress_in guest number moments vcpu)
+    → IsBehind guest.shape (end_of_moments guest.shape (opening guest number) moments) (telling_of guest (ideal_of guest.shape (opening guest number) moments)) (progress_in guest number moments vcpu) key
+    → SeesEnd (progress_in guest number moments vcpu).regs key
