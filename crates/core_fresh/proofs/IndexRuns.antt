@@ -1,5 +1,5 @@
 -- The candidate indices are complete at every moment of every run.
-use Rattle.std.proofs.Common.{◌≡◌, ℕ, zero, suc, map, fold, if◌then◌else◌, slice_index_or, slice_set, ◌&&◌, ◌||◌, Bool, true, false, IsTrue, List, [], ◌∷◌, Option, Some, None, refl, ap, ◌∙◌, subst}
+use Rattle.std.proofs.Common.{◌≡◌, ℕ, zero, suc, map, fold, if◌then◌else◌, slice_index_or, slice_set, ◌&&◌, ◌||◌, Bool, true, false, IsTrue, List, [], ◌∷◌, None, refl, ap, ◌∙◌, subst}
 use Rattle.gic_base.specs.declared.interrupt.Key.{Key}
 use Rattle.gic_base.specs.declared.shape.GuestShape.{GuestShape}
 use Rattle.gic_base.specs.Interrupt.{has_interrupt}
@@ -17,19 +17,10 @@ use Rattle.scn_base.specs.declared.guest.GuestSpec.{GuestSpec}
 use Rattle.scn_base.specs.Good.{preset_key, IsGoodGuest}
 use Rattle.port_core.specs.declared.run.Entry.{Entry}
 use Rattle.port_core.specs.declared.word_id.WordId.TheVariants.{Irq}
-use Rattle.port_core.specs.Run.{CoreState, opening, word_in, after, Takes, IsRun, IsSound, end_of}
-use Rattle.port_core.proofs.OpeningLemmas.{opens_sound, word_opens}
-use Rattle.port_core.proofs.StepLemmas.{steps_sound}
+use Rattle.port_core.specs.Run.{CoreState, opening, word_in, after, IsRun, end_of}
+use Rattle.port_core.proofs.OpeningLemmas.{word_opens}
 use Rattle.port_core.proofs.StepWords.{packed_is}
 use Rattle.core_fresh.specs.Index.{concerns, IsComplete, IndexIsComplete}
-use Rattle.gic_call.specs.Trace.{Happened}
-use Rattle.gic_history.specs.Moves.{happened}
-use Rattle.gic_history.specs.State.{Ideal, opening as opening_ideal}
-use Rattle.core_laws.specs.Known.{IsKnown}
-use Rattle.core_laws.specs.Related.{Related}
-use Rattle.core_laws.specs.Simulates.{IsSimulatedAs, event_of}
-use Rattle.core_laws.proofs.KnownSteps.{keeps_known}
-use Rattle.core_laws.proofs.RunSteps.{entry_simulates, related_opens, known_opens}
 use Rattle.core_laws.proofs.ReachedRuns.{IsReached, reaches_next, reached_opens}
 use Rattle.core_fresh.proofs.IndexSteps.{keeps_complete}
 

@@ -1,14 +1,11 @@
 -- A scan goes on.
-use Rattle.std.proofs.Common.{◌≡◌, ℕ, ◌-◌, ◌<◌, ◌==◌, ◌⊎◌, inl, inr, true≢false, Bool, true, false, IsTrue, List, [], ◌∷◌, Contains, Option, Some, None, is_none, if◌then◌else◌, find, refl, sym, ◌∙◌, subst, arith}
+use Rattle.std.proofs.Common.{◌≡◌, ℕ, ◌-◌, ◌==◌, ◌⊎◌, inl, inr, true≢false, Bool, true, false, List, [], ◌∷◌, Contains, Option, Some, None, is_none, if◌then◌else◌, find, refl, sym, ◌∙◌, subst, arith}
 use Rattle.std.specs.List.{range_with_len}
 use Rattle.std.specs.Option.{option_map}
 use Rattle.std.proofs.lemmas.Bool.{eqb-true}
-use Rattle.std.proofs.lemmas.Grind.{common_steps}
 use Rattle.gic_base.specs.declared.interrupt.Key.{Key}
 use Rattle.gic_base.specs.declared.shape.GuestShape.{GuestShape}
-use Rattle.gic_base.specs.Interrupt.{is_of_vcpu}
 use Rattle.gic_base.specs.Shape.{IsShape}
-use Rattle.gic_ich.specs.declared.regs.IchRegs.{IchRegs}
 use Rattle.vcpu_refill.specs.declared.offer.Offer.{Offer}
 use Rattle.port_core.specs.Local.{is_cand, has_no_cand}
 use Rattle.port_core.specs.Place.{index_bit, index_bits, index_words, key_of_bit}

@@ -1,15 +1,13 @@
 -- A vCPU's own steps while it scans.
-use Rattle.std.proofs.Common.{◌≡◌, ◌≢◌, ℕ, ◌+◌, ◌-◌, ◌/◌, ◌%◌, ◌<◌, ◌≤◌, ◌==◌, ◌&&◌, ◌||◌, ◌⊎◌, inl, inr, true≢false, not, Bool, true, false, IsTrue, List, [], ◌∷◌, ◌++◌, Contains, Option, Some, None, is_none, unwrap_or, nat_lt, if◌then◌else◌, find, length, lit<, refl, sym, ap, ◌∙◌, subst, arith}
-use Rattle.std.specs.List.{range_with_len}
-use Rattle.std.specs.Option.{option_map, option_map_or}
+use Rattle.std.proofs.Common.{◌≡◌, ◌≢◌, ℕ, ◌+◌, ◌/◌, ◌%◌, ◌<◌, ◌≤◌, ◌==◌, ◌&&◌, ◌||◌, ◌⊎◌, inl, inr, true≢false, not, Bool, true, false, IsTrue, List, [], ◌∷◌, ◌++◌, Contains, Option, Some, None, is_none, unwrap_or, nat_lt, if◌then◌else◌, length, lit<, refl, sym, ap, ◌∙◌, subst, arith}
+use Rattle.std.specs.Option.{option_map}
 use Rattle.std.proofs.lemmas.List.Elements.{Contains-append_left, Contains-append_right}
 use Rattle.std.proofs.lemmas.Bool.{cases_eq, cases_lt, and_parts, eqb-true, ltb-true}
 use Rattle.gic_base.specs.declared.icc.IccReg.{IccReg}
 use Rattle.gic_base.specs.declared.interrupt.Key.{Key}
 use Rattle.gic_base.specs.declared.shape.GuestShape.{GuestShape}
-use Rattle.gic_base.specs.Interrupt.{has_interrupt, is_of_vcpu, is_same_key}
+use Rattle.gic_base.specs.Interrupt.{has_interrupt, is_of_vcpu}
 use Rattle.gic_base.specs.Shape.{IsShape}
-use Rattle.gic_base.proofs.KeyLemmas.{same_key}
 use Rattle.gic_bits.specs.Bits.{has_bit}
 use Rattle.gic_history.specs.State.{Ideal}
 use Rattle.gic_word.specs.declared.record.Irq.{Irq as IrqRecord}
@@ -26,7 +24,7 @@ use Rattle.port_core.specs.Condition.{may_take_index}
 use Rattle.port_core.specs.Effect.{succeeds}
 use Rattle.port_core.specs.Forms.{vcpu_of}
 use Rattle.port_core.specs.Local.{is_cand, is_vcpu, settled, with_cand_word, owes_no_mark}
-use Rattle.port_core.specs.Place.{index_bit, index_bits, index_words, key_of_bit}
+use Rattle.port_core.specs.Place.{index_bit, index_bits, index_words}
 use Rattle.port_core.specs.Run.{CoreState, seat_at, word_in}
 use Rattle.core_proper.specs.Laws.{IsSeatOf}
 use Rattle.core_proper.specs.Progress.{Progress, after_claim, after_poll, begun, changed_by, claim_left}
@@ -47,7 +45,6 @@ use Rattle.core_fresh.proofs.IndexSteps.{settled_keeps, taken_keeps, taken_has, 
 use Rattle.core_laws.proofs.KickSteps.{unkicked_before}
 use Rattle.core_fresh.proofs.WaitingSteps.{WaitedSo, calm_before, waiting_before}
 use Rattle.core_proper.proofs.ScanLemmas.{bit_of_key, own_of_bit, IsNext, next_is}
-use Rattle.core_proper.proofs.SearchLemmas.{found_in, IsFoundIn}
 
 -- an actor's progress with what a step leaves it
 abbrev pub with_made : GuestShape → ℕ → Made → Progress → Progress → Progress

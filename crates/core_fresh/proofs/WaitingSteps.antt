@@ -1,6 +1,6 @@
 -- What a step leaves of the interrupts that wait for a vCPU, while that is told of all changes.
-use Rattle.std.proofs.Common.{◌≡◌, ◌≢◌, ℕ, ◌<◌, ◌==◌, ◌&&◌, inl, inr, true≢false, Bool, true, false, IsTrue, List, Option, if◌then◌else◌, refl, sym, ap, ◌∙◌, subst, arith}
-use Rattle.std.proofs.lemmas.Bool.{cases_eq, eq-eqb, eqb-true, lt-ltb, false_from_ne_true}
+use Rattle.std.proofs.Common.{◌≡◌, ℕ, ◌<◌, inl, inr, true≢false, Bool, true, false, IsTrue, List, Option, if◌then◌else◌, refl, sym, ap, ◌∙◌, subst, arith}
+use Rattle.std.proofs.lemmas.Bool.{cases_eq, eq-eqb, false_from_ne_true}
 use Rattle.gic_base.specs.declared.interrupt.Key.{Key}
 use Rattle.gic_base.specs.declared.shape.GuestShape.{GuestShape}
 use Rattle.gic_bits.specs.Bits.{has_bit}
@@ -12,11 +12,10 @@ use Rattle.its_tab.specs.Maps.{Maps}
 use Rattle.port_core.specs.declared.local.Local.{Local}
 use Rattle.port_core.specs.declared.step.CoreStep.{CoreStep}
 use Rattle.port_core.specs.declared.step.CoreStep.TheVariants.{Look, Raise, Claim, GiveBack, Release, Poll, Kick, Touch, Want, WireUp, WireDown, EnableLpis, RamLook, RamPut, CtlrTake, CtlrEnd, TurnTake, CommandDone, TurnRelease, Mark, TakeIndex}
-use Rattle.port_core.specs.declared.word_id.WordId.TheVariants.{Irq, Vcpu}
+use Rattle.port_core.specs.declared.word_id.WordId.TheVariants.{Irq}
 use Rattle.port_core.specs.Actor.{actor_count}
 use Rattle.port_core.specs.After.{local_after, concerned, concerned_by, told_of_release, claimed}
 use Rattle.port_core.specs.Effect.{succeeds, is_active_at}
-use Rattle.port_core.specs.Forms.{packed_vcpu, vcpu_of}
 use Rattle.port_core.specs.Local.{with_all, owing_both}
 use Rattle.port_core.specs.Run.{CoreState, Seat, seat_at, word_in}
 use Rattle.port_core.specs.Step.{word_of, CanStep}
