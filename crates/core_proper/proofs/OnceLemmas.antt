@@ -1,5 +1,5 @@
 -- Interrupts at an interface, each once.
-use Rattle.std.proofs.Common.{◌≡◌, ◌≢◌, ℕ, ◌≤◌, not, Bool, true, false, cond, List, [], ◌∷◌, filter, length, All, Option, Some, None, refl, sym, ap, ◌∙◌, arith}
+use Rattle.std.proofs.Common.{◌≡◌, ◌≢◌, ◌≤◌, not, Bool, true, false, cond, List, [], ◌∷◌, filter, length, All, Some, refl, sym, ap, ◌∙◌, arith}
 use Rattle.std.proofs.lemmas.List.Elements.{All-nil, All-cons, All-weaker}
 use Rattle.gic_base.specs.declared.interrupt.Key.{Key}
 use Rattle.gic_base.specs.Interrupt.{is_same_key}

@@ -33,17 +33,19 @@ inactive key irq vcpu cpu shape h =
     let group = and_parts (is_ripe irq vcpu shape && is_none irq.act_by) (is_group_enabled irq.group cpu) kind.0 in
     (and_parts (is_ripe irq vcpu shape) (is_none irq.act_by) group.0).1
 
+-- what a claim of an interrupt leaves, by what there is of it at the interface
+abbrev pub claimed_by : GuestShape → ℕ → Key → IrqRecord → Local → Option AtIrq → Local
+claimed_by shape actor key irq local there =
+    let moved : Moved = option_map_or (λ entry. taken (moved_of irq entry)) there (record (reached irq) { irq = record (reached irq).irq { holder = Some actor } }) in
+    record local {
+      cands = settled shape actor key local.cands;
+      at = if is_some there then changed_at (λ entry. record (with_entry entry moved.entry) { consumed = false }) key local.at else local.at ++ arrived key irq moved.entry ∷ [];
+    }
+
 -- an interrupt got to the interface
 pub reached_local : (shape : GuestShape) (actor : ℕ) (key : Key) (irq : IrqRecord) (local : Local) → entry_for key local.at ≡ None
     → claimed_at shape actor key irq local ≡ record local { cands = settled shape actor key local.cands; at = local.at ++ arrived key irq (reached irq).entry ∷ [] }
-reached_local shape actor key irq local free =
-    let moved : Option AtIrq → Moved = λ o. option_map_or (λ entry. taken (moved_of irq entry)) o (record (reached irq) { irq = record (reached irq).irq { holder = Some actor } }) in
-    let by : Option AtIrq → Local = λ o.
-    record local {
-      cands = settled shape actor key local.cands;
-      at = if is_some o then changed_at (λ entry. record (with_entry entry (moved o).entry) { consumed = false }) key local.at else local.at ++ arrived key irq (moved o).entry ∷ [];
-    } in
-    ap by free
+reached_local shape actor key irq local free = ap (claimed_by shape actor key irq local) free
 
 -- it is there
 pub entry_added : (key : Key) (at : List AtIrq) (one : AtIrq) → one.key ≡ key → entry_for key at ≡ None → entry_for key (at ++ one ∷ []) ≡ Some one

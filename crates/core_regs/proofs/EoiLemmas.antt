@@ -20,10 +20,9 @@ use Rattle.gic_lr.specs.declared.entry.LrState.TheVariants.{Invalid, Pending, Ac
 use Rattle.gic_lr.specs.Entry.{packed, state_has_active, state_has_pending, state_number, unpacked, with_state}
 use Rattle.gic_prio.specs.declared.candidate.Candidate.{Candidate}
 use Rattle.gic_prio.specs.Access.{deactivated_by, taken_by}
-use Rattle.gic_word.specs.declared.record.Group.{Group}
-use Rattle.gic_word.specs.declared.record.Group.TheVariants.{G0, G1}
 use Rattle.gic_word.specs.Record.{group_number}
 use Rattle.vcpu_refill.proofs.ElementLemmas.{Contains-here, Contains-there, Contains-cases, Contains-nothing}
+use Rattle.vcpu_refill.proofs.StandLemmas.{bit_small, group_small}
 use Rattle.core_regs.proofs.ShowLemmas.{live_itself, live_part}
 
 -- another State keeps it
@@ -40,14 +39,6 @@ eoi_packed entry none id prio =
     ∙ of (sums entry.id (bit_of entry.eoi) entry.prio (group_number entry.group) (state_number entry.state) id (bit_small entry.eoi) prio (group_small entry.group))
     (flags entry.id (bit_of entry.eoi) entry.prio (group_number entry.group) (state_number entry.state) id (bit_small entry.eoi) prio (group_small entry.group))
   where
-    bit_small : (b : Bool) → bit_of b ≤ 1
-    bit_small true = omega arith
-    bit_small false = omega arith
-
-    group_small : (group : Group) → group_number group ≤ 1
-    group_small G0 = omega arith
-    group_small G1 = omega arith
-
     sums : (id eoi prio group state : ℕ) → id < 2 ^ 32 → eoi ≤ 1 → prio < 2 ^ 8 → group ≤ 1 → (id + eoi * 2 ^ 41 + prio * 2 ^ 48 + group * 2 ^ 60 + state * 2 ^ 62) / 2 ^ 61 % 2 ≡ 0
     sums id eoi prio group state a b c d = omega (arith, a, b, c, d)
 

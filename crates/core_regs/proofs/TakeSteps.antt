@@ -1,14 +1,12 @@
 -- A vCPU takes the causes of an interrupt that it claimed: they come, or they do not.
-use Rattle.std.proofs.Common.{◌≡◌, ◌≢◌, ℕ, inl, inr, true≢false, Bool, true, false, if◌then◌else◌, IsTrue, List, [], ◌∷◌, ◌++◌, Contains, All, Option, Some, is_some, slice_index_or, refl, sym, ap, subst, ◌∙◌}
-use Rattle.std.specs.Option.{option_map_or}
+use Rattle.std.proofs.Common.{◌≡◌, ◌≢◌, ℕ, inl, inr, true≢false, Bool, true, false, if◌then◌else◌, IsTrue, List, [], ◌∷◌, ◌++◌, Contains, All, Some, slice_index_or, refl, sym, ap, subst, ◌∙◌}
 use Rattle.std.proofs.lemmas.List.Elements.{All-contains, All-contains_itself}
 use Rattle.gic_base.specs.declared.interrupt.Key.{Key}
 use Rattle.gic_base.specs.declared.shape.GuestShape.{GuestShape}
 use Rattle.gic_base.specs.Interrupt.{has_interrupt, intid_of, is_of_vcpu, is_same_key}
 use Rattle.gic_base.specs.Shape.{IsShape}
 use Rattle.gic_base.proofs.KeyLemmas.{same_key, same_itself, other_key}
-use Rattle.gic_call.specs.declared.moves.Moved.{Moved}
-use Rattle.gic_call.specs.Move.{reached, taken}
+use Rattle.gic_call.specs.Move.{taken}
 use Rattle.gic_ich.specs.declared.regs.IchRegs.{IchRegs}
 use Rattle.gic_ich.specs.Place.{Seen, seen_of}
 use Rattle.gic_ich.specs.Regs.{listed_of}
@@ -25,13 +23,14 @@ use Rattle.port_core.specs.declared.word_id.WordId.TheVariants.{Irq}
 use Rattle.port_core.specs.After.{claimed_at, shown}
 use Rattle.port_core.specs.Effect.{moved_of}
 use Rattle.port_core.specs.Known.{known}
-use Rattle.port_core.specs.Local.{entry_for, changed_at, with_entry, arrived, settled}
+use Rattle.port_core.specs.Local.{entry_for, changed_at, with_entry, settled}
 use Rattle.port_core.specs.Place.{has_word}
 use Rattle.port_core.specs.Step.{word_of}
 use Rattle.port_core.specs.Valid.{IsAt, IsOnce}
 use Rattle.port_core.proofs.AtLemmas.{entry_is, is_at_mapped}
 use Rattle.core_proper.specs.Registers.{without_take}
 use Rattle.core_proper.specs.Scan.{has_key, without_key}
+use Rattle.core_proper.proofs.ReachLemmas.{claimed_by}
 use Rattle.core_regs.proofs.ComeLemmas.{finished, Comes, IsClaiming, finished_id, key_by_id, known_on, to_claim_on}
 use Rattle.core_regs.proofs.KeyLemmas.{without_other, without_itself, has_its_key}
 use Rattle.core_regs.proofs.ShowLemmas.{lives, Shows, shows_as, shows_changed, IsChangedAt, live_place, changed_holds}
@@ -39,14 +38,7 @@ use Rattle.core_regs.proofs.ShowLemmas.{lives, Shows, shows_as, shows_changed, I
 -- what a claim of an interrupt leaves that is at the interface
 pub taken_local : (shape : GuestShape) (actor : ℕ) (key : Key) (irq : IrqRecord) (local : Local) (one : AtIrq) → entry_for key local.at ≡ Some one
     → claimed_at shape actor key irq local ≡ record local { cands = settled shape actor key local.cands; at = changed_at (λ entry. record (with_entry entry (taken (moved_of irq one)).entry) { consumed = false }) key local.at }
-taken_local shape actor key irq local one there =
-    let moved : Option AtIrq → Moved = λ o. option_map_or (λ entry. taken (moved_of irq entry)) o (record (reached irq) { irq = record (reached irq).irq { holder = Some actor } }) in
-    let by : Option AtIrq → Local = λ o.
-    record local {
-      cands = settled shape actor key local.cands;
-      at = if is_some o then changed_at (λ entry. record (with_entry entry (moved o).entry) { consumed = false }) key local.at else local.at ++ arrived key irq (moved o).entry ∷ [];
-    } in
-    ap by there
+taken_local shape actor key irq local one there = ap (claimed_by shape actor key irq local) there
 
 module _ (shape : GuestShape) (good : IsShape shape) (vcpu : ℕ) (local : Local) (all : All (IsAt shape vcpu) local.at) (once : IsOnce local.at) (own : List Made) (regs : IchRegs) (claims takes : List Key) (is : IsClaiming shape vcpu local own regs claims takes) (key : Key) (there : IsTrue (has_interrupt shape key)) (mine : IsTrue (is_of_vcpu vcpu key)) (made : Made) (on : word_of shape vcpu made.step ≡ Irq key)
     (no_claim : has_key key claims ≡ false) (take : has_key key takes ≡ true) (one : AtIrq) (at_one : entry_for key local.at ≡ Some one) where

@@ -8,6 +8,7 @@ use Rattle.std.proofs.lemmas.List.Elements.{Contains-append_left, Contains-appen
 use Rattle.std.proofs.lemmas.List.Folds.{list_all-append}
 use Rattle.std.proofs.lemmas.Option.{none-some, same_Some}
 use Rattle.vcpu_refill.proofs.ElementLemmas.{Contains-here, Contains-cases, Contains-nothing}
+use Rattle.vcpu_refill.proofs.StandLemmas.{bit_small, group_small}
 use Rattle.gic_base.specs.declared.held.HeldIrq.{HeldIrq}
 use Rattle.gic_base.specs.declared.interrupt.Key.{Key}
 use Rattle.gic_base.specs.declared.shape.GuestShape.{GuestShape}
@@ -24,8 +25,6 @@ use Rattle.gic_lr.specs.declared.entry.LrEntry.{LrEntry}
 use Rattle.gic_lr.specs.declared.entry.LrState.TheVariants.{Active}
 use Rattle.gic_lr.specs.Entry.{packed, state_number, state_has_pending, state_has_active, with_state}
 use Rattle.gic_prio.specs.Interface.{AtInterface}
-use Rattle.gic_word.specs.declared.record.Group.{Group}
-use Rattle.gic_word.specs.declared.record.Group.TheVariants.{G0, G1}
 use Rattle.gic_word.specs.Record.{group_number}
 use Rattle.vcpu_refill.specs.declared.fill.Choice.{Choice}
 use Rattle.vcpu_refill.specs.declared.fill.Fill.{Fill}
@@ -51,14 +50,6 @@ bare_packed entry none id prio =
     ∙ sums entry.id (bit_of entry.eoi) entry.prio (group_number entry.group) (state_number entry.state) id (bit_small entry.eoi) prio (group_small entry.group)
     ∙ ap (λ hw. with_state (packed (record entry { hw = hw })) Active) (sym none)
   where
-    bit_small : (b : Bool) → bit_of b ≤ 1
-    bit_small true = omega arith
-    bit_small false = omega arith
-
-    group_small : (group : Group) → group_number group ≤ 1
-    group_small G0 = omega arith
-    group_small G1 = omega arith
-
     sums : (id eoi prio group state : ℕ) → id < 2 ^ 32 → eoi ≤ 1 → prio < 2 ^ 8 → group ≤ 1
         → id + eoi * 2 ^ 41 + prio * 2 ^ 48 + group * 2 ^ 60 + 2 * 2 ^ 62 ≡ (id + eoi * 2 ^ 41 + prio * 2 ^ 48 + group * 2 ^ 60 + state * 2 ^ 62) % 2 ^ 62 + 2 * 2 ^ 62
     sums id eoi prio group state a b c d = omega (arith, a, b, c, d)

@@ -35,6 +35,15 @@ parts : (id prio g s e : ℕ) → id < 2 ^ 32 → prio < 2 ^ 8 → g ≤ 1 → s
 parts id prio g s e id_fits prio_fits g_fits s_fits e_fits =
     (omega (arith, id_fits, prio_fits, g_fits, s_fits, e_fits), omega (arith, id_fits, prio_fits, g_fits, s_fits, e_fits), omega (arith, id_fits, prio_fits, g_fits, s_fits, e_fits), omega (arith, id_fits, prio_fits, g_fits, s_fits, e_fits))
 
+-- the numbers of a group and of a bit are small
+pub group_small : (group : Group) → group_number group ≤ 1
+group_small G0 = omega arith
+group_small G1 = omega arith
+
+pub bit_small : (b : Bool) → bit_of b ≤ 1
+bit_small true = omega arith
+bit_small false = omega arith
+
 -- what the list register of a choice shows
 seen_chosen : (state : LrState) (offer : Offer) → FitsRegister offer → seen_in (packed (chosen_as state offer).entry) ≡ seen_of (entry_of (chosen_as state offer))
 seen_chosen state offer fits =
@@ -51,19 +60,11 @@ seen_chosen state offer fits =
     same_shown : (id id' prio prio' group group' state state' : ℕ) → id ≡ id' → prio ≡ prio' → group ≡ group' → state ≡ state' → shown id prio group state ≡ shown id' prio' group' state'
     same_shown id id' prio prio' group group' state state' e f g h = rw (e, f, g, h) refl
 
-    group_small : (group : Group) → group_number group ≤ 1
-    group_small G0 = omega arith
-    group_small G1 = omega arith
-
     state_small : (state : LrState) → state_number state ≤ 3
     state_small Invalid = omega arith
     state_small Pending = omega arith
     state_small Active = omega arith
     state_small Both = omega arith
-
-    bit_small : (b : Bool) → bit_of b ≤ 1
-    bit_small true = omega arith
-    bit_small false = omega arith
 
     group_back : (group : Group) → (if nat_eq (group_number group) 1 then G1 else G0) ≡ group
     group_back G0 = refl
