@@ -32,7 +32,7 @@ pub fn memory_calls_pass()
 {}
 
 /// A law of every access of the ITS, while nobody else acts and the guest is at rest: a write also does the commands that it
-/// starts, none of which moves all LPIs of a vCPU to itself.
+/// starts, of which one that moves the LPIs of a vCPU to itself moves no other.
 pub fn its_calls_pass()
     ensures { ItsCallsPass }
 {}
