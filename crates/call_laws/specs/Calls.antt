@@ -97,7 +97,7 @@ pub record IsAtRest (guest : IdealGuest) : Type 0 where
   pub order : IsQueueInOrder guest
   pub dry : takes_command (view_of guest) ≡ false
 
--- each such call of an operation does what the eager controller does, where the guest with all taken back is at rest, and a command that moves the LPIs of a vCPU to itself moves no other
+-- so does each such call of an operation, where that guest is at rest and a command that moves the LPIs of a vCPU to itself moves no other
 abbrev pub PassesAtRest : Operation → Type 0
 PassesAtRest operation =
     (guest : GuestSpec) (moments : List Moment) (actor : ℕ) (piece : List Happened) (answer : Option ℕ) → IsLoneCall guest moments actor operation piece answer
