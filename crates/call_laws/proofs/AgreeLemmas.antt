@@ -5,6 +5,7 @@ use Rattle.std.proofs.lemmas.Bool.{and_from, eq-eqb, ne_eqb}
 use Rattle.std.proofs.lemmas.List.{map-append}
 use Rattle.gic_base.specs.declared.shape.GuestShape.{GuestShape}
 use Rattle.gic_word.specs.Record.{is_number}
+use Rattle.its_cmd.specs.Command.{decoded}
 use Rattle.its_cmd.specs.declared.command.BadCommand.{BadCommand}
 use Rattle.its_cmd.specs.declared.command.Command.{Command}
 use Rattle.its_cmd.specs.declared.command.Command.TheVariants.{Movi, Int, Clear, Sync, Mapd, Mapc, Mapti, Mapi, Inv, Invall, Movall, Discard}
@@ -17,14 +18,14 @@ use Rattle.gic_call.specs.declared.event.Event.{Event}
 use Rattle.gic_call.specs.declared.event.Event.TheVariants.{Touch}
 use Rattle.gic_call.specs.declared.touch.Touching.TheVariants.{Configure as ConfigureLpi}
 use Rattle.gic_call.specs.Access.{lpis_of}
-use Rattle.gic_call.specs.Command.{config_byte, lpis_of_device, lpis_of_collection, lpis_for, each, for_one, parts, lpi_event}
+use Rattle.gic_call.specs.Command.{command_words, config_byte, lpis_of_device, lpis_of_collection, lpis_for, each, for_one, parts, lpi_event}
 use Rattle.gic_call.specs.Trace.{Happened, named_of}
 use Rattle.ideal_guest.specs.declared.guest.IdealGuest.{IdealGuest}
 use Rattle.ideal_guest.specs.Ideal.{view_of}
 use Rattle.ideal_guest.proofs.KeyLemmas.{IsWhole}
 use Rattle.history_laws.proofs.CourseLemmas.{mark_is}
-use Rattle.call_laws.specs.Calls.{moves_to_itself}
-use Rattle.call_laws.proofs.MomentLemmas.{target_at, keeps_for, sends_to, beside_keeps_for, beside_sends, seen_by, seen_kept, seen_sent}
+use Rattle.call_laws.specs.Calls.{moves_to_itself, AllMoveOwn}
+use Rattle.call_laws.proofs.MomentLemmas.{target_at, keeps_for, sends_to, beside_keeps_for, beside_sends, seen_by, seen_kept, seen_sent, seen_own}
 use Rattle.call_laws.proofs.NamedLemmas.{IsIn}
 use Rattle.call_laws.proofs.ReadLemmas.{beside_passes}
 use Rattle.call_laws.proofs.RunLemmas.{events_of}
@@ -34,7 +35,8 @@ abbrev pub parts_by : GuestShape → Maps → (ℕ → Option ℕ) → Result Co
 parts_by shape maps targets (Ok command) = parts shape maps targets command
 parts_by shape maps targets (Err bad) = []
 
-module _ (shape : GuestShape) (guest : IdealGuest) (whole : IsWhole guest) (actor : Option ℕ) (early : List Happened) (targets : ℕ → Option ℕ) (seen : (id : ℕ) → (targets id ≡ target_at guest id) ⊎ IsIn (seen_by guest (events_of early) id) (targets id)) where
+module _ (shape : GuestShape) (guest : IdealGuest) (whole : IsWhole guest) (actor : Option ℕ) (early : List Happened) (targets : ℕ → Option ℕ) (seen : (id : ℕ) → (targets id ≡ target_at guest id) ⊎ IsIn (seen_by guest (events_of early) id) (targets id))
+    (own : AllMoveOwn guest (events_of early)) where
   abbrev event_by : (ℕ → Option ℕ) → Part → Event
   event_by by part = lpi_event shape (view_of guest) by part
 
@@ -118,6 +120,23 @@ module _ (shape : GuestShape) (guest : IdealGuest) (whole : IsWhole guest) (acto
           clash : is_number one (targets id) ≡ true → ⊥
           clash h = let no = sym h ∙ e in absurd (cc)
 
+  owned_same : (one other : ℕ) → events_of (named_of actor early) ≡ events_by targets (each (lpis_for shape targets one) (λ id. Retarget id (Some other))) → moves_to_itself (decoded (command_words guest.shape (view_of guest))) ≡ true → (id : ℕ) → targets id ≡ target_at guest id
+  owned_same one other are moves id = of (seen id)
+    where
+      send : IsTrue (list_all (sends_to other) (events_by targets (each (lpis_for shape targets one) (λ id. Retarget id (Some other)))))
+      send = filter_all (sends_to other) (λ i. is_number one (targets i)) (lpis_of shape) (λ i. Retarget i (Some other)) (λ i h. eq-eqb other other refl)
+
+      of : (targets id ≡ target_at guest id) ⊎ IsIn (seen_by guest (events_of early) id) (targets id) → targets id ≡ target_at guest id
+      of (inl same) = same
+      of (inr is) = seen_own guest id other (events_of early) (targets id) whole (beside_passes (sends_to other) (beside_sends other) actor early (subst (λ es. IsTrue (list_all (sends_to other) es)) (sym are) send)) moves own is
+
+  movall_same : (one other : ℕ) → events_of (named_of actor early) ≡ events_by targets (each (lpis_for shape targets one) (λ id. Retarget id (Some other))) → decoded (command_words guest.shape (view_of guest)) ≡ Ok (Movall one other) → (id : ℕ) → targets id ≡ target_at guest id
+  movall_same one other are is = of (one == other) refl
+    where
+      of : (b : Bool) → (one == other) ≡ b → (id : ℕ) → targets id ≡ target_at guest id
+      of true e = owned_same one other are (ap moves_to_itself is ∙ e)
+      of false e = moved_same one other are e
+
   filter_same : (p q : ℕ → Bool) (ids : List ℕ) → ((id : ℕ) → p id ≡ q id) → filter p ids ≡ filter q ids
   filter_same p q [] same = refl
   filter_same p q (id ∷ ids) same = ap (λ b. cond b (id ∷ filter p ids) (filter p ids)) (same id) ∙ ap (λ xs. cond (q id) (id ∷ xs) xs) (filter_same p q ids same)
@@ -126,37 +145,37 @@ module _ (shape : GuestShape) (guest : IdealGuest) (whole : IsWhole guest) (acto
   configure_same id same = ap (λ t. let byte = config_byte shape (view_of guest) t id in Touch (Lpi id) (ConfigureLpi (is_enabled byte) (priority_of byte))) same
 
   -- Each command.
-  command_agrees : (maps : Maps) (command : Command) → events_of (named_of actor early) ≡ events_by targets (parts shape maps targets command) → moves_to_itself (Ok command) ≡ false
+  command_agrees : (maps : Maps) (command : Command) → events_of (named_of actor early) ≡ events_by targets (parts shape maps targets command) → decoded (command_words guest.shape (view_of guest)) ≡ Ok command
       → events_by targets (parts shape maps targets command) ≡ events_by (target_at guest) (parts shape maps (target_at guest) command)
-  command_agrees maps (Mapd device size itt_addr valid) are self = each_same (lpis_of_device maps device) Forget (λ id. refl)
-  command_agrees maps (Mapc icid rdbase true) are self = each_same (lpis_of_collection shape maps icid) (λ id. Retarget id (Some rdbase)) (λ id. refl)
-  command_agrees maps (Mapc icid rdbase false) are self = of (is_none (target_of maps icid))
+  command_agrees maps (Mapd device size itt_addr valid) are is = each_same (lpis_of_device maps device) Forget (λ id. refl)
+  command_agrees maps (Mapc icid rdbase true) are is = each_same (lpis_of_collection shape maps icid) (λ id. Retarget id (Some rdbase)) (λ id. refl)
+  command_agrees maps (Mapc icid rdbase false) are is = of (is_none (target_of maps icid))
     where
       of : (b : Bool) → events_by targets (cond b [] (each (lpis_of_collection shape maps icid) (λ id. Retarget id None))) ≡ events_by (target_at guest) (cond b [] (each (lpis_of_collection shape maps icid) (λ id. Retarget id None)))
       of true = refl
       of false = each_same (lpis_of_collection shape maps icid) (λ id. Retarget id None) (λ id. refl)
-  command_agrees maps (Mapti device event id icid) are self =
+  command_agrees maps (Mapti device event id icid) are is =
       both_same (for_one (id_of maps (device, event)) Forget) (for_one (target_of maps icid) (Map id)) (one_same (id_of maps (device, event)) Forget (λ i. refl)) (one_same (target_of maps icid) (Map id) (λ i. refl))
-  command_agrees maps (Mapi device event icid) are self =
+  command_agrees maps (Mapi device event icid) are is =
       both_same (for_one (id_of maps (device, event)) Forget) (for_one (target_of maps icid) (Map event)) (one_same (id_of maps (device, event)) Forget (λ i. refl)) (one_same (target_of maps icid) (Map event) (λ i. refl))
-  command_agrees maps (Movi device event icid) are self = one_same (id_of maps (device, event)) (λ id. Retarget id (target_of maps icid)) (λ id. refl)
-  command_agrees maps (Int device event) are self = one_same (id_of maps (device, event)) Raise (λ id. refl)
-  command_agrees maps (Clear device event) are self = one_same (id_of maps (device, event)) ClearLpi (λ id. refl)
-  command_agrees maps (Discard device event) are self = one_same (id_of maps (device, event)) Forget (λ id. refl)
-  command_agrees maps (Inv device event) are self =
+  command_agrees maps (Movi device event icid) are is = one_same (id_of maps (device, event)) (λ id. Retarget id (target_of maps icid)) (λ id. refl)
+  command_agrees maps (Int device event) are is = one_same (id_of maps (device, event)) Raise (λ id. refl)
+  command_agrees maps (Clear device event) are is = one_same (id_of maps (device, event)) ClearLpi (λ id. refl)
+  command_agrees maps (Discard device event) are is = one_same (id_of maps (device, event)) Forget (λ id. refl)
+  command_agrees maps (Inv device event) are is =
       one_same (id_of maps (device, event)) Configure
       (λ id. configure_same id (kept_same (events_by targets (for_one (id_of maps (device, event)) Configure)) are id (one_all (keeps_for id) (id_of maps (device, event)) Configure (λ i. refl))))
-  command_agrees maps (Invall icid) are self =
+  command_agrees maps (Invall icid) are is =
       each_same (lpis_of_collection shape maps icid) Configure
       (λ id. configure_same id (kept_same (events_by targets (each (lpis_of_collection shape maps icid) Configure)) are id (each_all (keeps_for id) (lpis_of_collection shape maps icid) Configure (λ i. refl))))
-  command_agrees maps (Movall one other) are self =
+  command_agrees maps (Movall one other) are is =
       each_same (lpis_for shape targets one) (λ id. Retarget id (Some other)) (λ id. refl)
       ∙ ap (λ ids. events_by (target_at guest) (each ids (λ id. Retarget id (Some other))))
-      (filter_same (λ id. is_number one (targets id)) (λ id. is_number one (target_at guest id)) (lpis_of shape) (λ id. ap (is_number one) (moved_same one other are self id)))
-  command_agrees maps (Sync rdbase) are self = refl
+      (filter_same (λ id. is_number one (targets id)) (λ id. is_number one (target_at guest id)) (lpis_of shape) (λ id. ap (is_number one) (movall_same one other are is id)))
+  command_agrees maps (Sync rdbase) are is = refl
 
-  pub result_agrees : (maps : Maps) (result : Result Command BadCommand) (b : Bool) → events_of (named_of actor early) ≡ events_by targets (cond b (parts_by shape maps targets result) []) → moves_to_itself result ≡ false
+  pub result_agrees : (maps : Maps) (result : Result Command BadCommand) (b : Bool) → events_of (named_of actor early) ≡ events_by targets (cond b (parts_by shape maps targets result) []) → decoded (command_words guest.shape (view_of guest)) ≡ result
       → events_by targets (cond b (parts_by shape maps targets result) []) ≡ events_by (target_at guest) (cond b (parts_by shape maps (target_at guest) result) [])
-  result_agrees maps (Ok command) true are self = command_agrees maps command are self
-  result_agrees maps (Err bad) true are self = refl
-  result_agrees maps result false are self = refl
+  result_agrees maps (Ok command) true are is = command_agrees maps command are is
+  result_agrees maps (Err bad) true are is = refl
+  result_agrees maps result false are is = refl

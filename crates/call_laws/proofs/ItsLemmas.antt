@@ -14,7 +14,7 @@ use Rattle.gic_call.specs.declared.event.Event.TheVariants.{ItsBegin, ItsEnd}
 use Rattle.gic_call.specs.declared.event.Moment.{Moment}
 use Rattle.gic_call.specs.declared.event.Operation.{Operation}
 use Rattle.gic_call.specs.declared.event.Operation.TheVariants.{Access}
-use Rattle.gic_call.specs.Call.{access_events, its_events, its_starts, takes_turn}
+use Rattle.gic_call.specs.Call.{its_events, its_starts, takes_turn}
 use Rattle.gic_call.specs.Command.{queue_places}
 use Rattle.gic_call.specs.Trace.{Happened, is_beside, AreStarted, IsItsCall, its_places, its_written_by, HaveSameIts}
 use Rattle.gic_call.specs.View.{View}
@@ -37,12 +37,12 @@ use Rattle.eager_laws.proofs.EventLemmas.{is_plain, shape_events}
 use Rattle.eager_laws.proofs.WindowLemmas.{is_no_turn, maps_after}
 use Rattle.home_laws.proofs.HomeLemmas.{home_rest, home_whole}
 use Rattle.scn_base.specs.declared.guest.GuestSpec.{GuestSpec}
-use Rattle.call_laws.specs.Calls.{MoveApart, IsAtRest, lone_call, IsEagerCall}
+use Rattle.call_laws.specs.Calls.{AllMoveOwn, IsAtRest, lone_call, IsEagerCall}
 use Rattle.call_laws.proofs.CommandLemmas.{marks_after, run_split, events_both}
 use Rattle.call_laws.proofs.MapsLemmas.{keeps_maps, beside_maps, maps_taken}
 use Rattle.call_laws.proofs.MomentLemmas.{target_at, keeps_for, beside_keeps_for, seen_by, seen_kept, targets_after, is_between, grown}
 use Rattle.call_laws.proofs.NamedLemmas.{named_run, IsIn}
-use Rattle.call_laws.proofs.OneLemmas.{beside_between, all_from, follows_split, IsAt, HasTargets}
+use Rattle.call_laws.proofs.OneLemmas.{beside_between, all_from, follows_split, own_split, IsAt, HasTargets}
 use Rattle.call_laws.proofs.PartLemmas.{IsMade}
 use Rattle.call_laws.proofs.QueueLemmas.{queued_is, commands_done}
 use Rattle.call_laws.proofs.ReadLemmas.{beside_passes, some_named}
@@ -208,29 +208,30 @@ module _ (guest : GuestSpec) (moments : List Moment) (actor : ℕ) (piece : List
           subst (HasTargets run.ended.beside) (ap (λ es. call_after actor es state open_call) events_are ∙ call_append actor (events_of is.register) (events_of is.commands ++ events_of is.last) state open_call)
           (λ number id few. run.ended.targets number id few)
 
-      some_started : MoveApart (after_events (access_events before.shape (view_of before) Its offset size (Some value)) before) → HaveSameIts is.view (view_of before) → AreStarted true (Some vcpu) guest.shape run.ended.beside (its_written_by guest.shape is.view mine) is.views is.commands
+      some_started : AllMoveOwn before (events_of piece) → HaveSameIts is.view (view_of before) → AreStarted true (Some vcpu) guest.shape run.ended.beside (its_written_by guest.shape is.view mine) is.views is.commands
           → guest2 ≡ after_queued guest1
-      some_started apart known are =
+      some_started moved known are =
+          let moves = own_split (events_of is.register) (events_of is.commands ++ events_of is.last) before (subst (AllMoveOwn before) events_are moved) in
           let done = commands_done guest.shape actor vcpu run.ended.beside is.views 0 (its_written_by guest.shape is.view mine) is.commands (events_of is.last) (marks_after is.register false) guest1 state1 call1 are sound1
           (ap (λ (g : IdealGuest). g.shape) guest1_eager ∙ shape_events eager before ∙ run.shape_is) (known1 known)
-          (subst MoveApart (ap (λ s. after_events (its_events s (view_of before) (its_decoded offset size) (Some value)) before) run.shape_is ∙ sym guest1_eager) apart) at1 runs1.0
+          (own_split (events_of is.commands) (events_of is.last) guest1 moves.1).0 at1 runs1.0
           (follows_split actor (events_of is.commands) (events_of is.last) state1 guest1 follow.1).0 targets1 in
           done.goes ∙ sym (queued_is done.count guest1 sound1 order1 done.all)
 
     -- The call.
 
-    started_is : MoveApart (after_events (access_events before.shape (view_of before) Its offset size (Some value)) before) → mine ≡ eager → (b : Bool) → its_starts guest.shape is.view (its_decoded offset size) (Some value) ≡ b
+    started_is : AllMoveOwn before (events_of piece) → mine ≡ eager → (b : Bool) → its_starts guest.shape is.view (its_decoded offset size) (Some value) ≡ b
         → (its_starts guest.shape is.view (its_decoded offset size) (Some value) ≡ true → HaveSameIts is.view (view_of before))
         → AreStarted b (Some vcpu) guest.shape run.ended.beside (its_written_by guest.shape is.view mine) is.views is.commands → guest2 ≡ cond b (after_queued (after_events eager before)) (after_events eager before)
-    started_is apart events_same true e known are = some_started events_same apart (known e) are ∙ ap after_queued (guest1_eager events_same)
-    started_is apart events_same false e known are = none_started (its_written_by guest.shape is.view mine) is.views are ∙ guest1_eager events_same
+    started_is moved events_same true e known are = some_started events_same moved (known e) are ∙ ap after_queued (guest1_eager events_same)
+    started_is moved events_same false e known are = none_started (its_written_by guest.shape is.view mine) is.views are ∙ guest1_eager events_same
 
-    goes_so : MoveApart (after_events (access_events before.shape (view_of before) Its offset size (Some value)) before) → IsRegistered guest.shape before (Some vcpu) is.view is.register value (its_decoded offset size)
+    goes_so : AllMoveOwn before (events_of piece) → IsRegistered guest.shape before (Some vcpu) is.view is.register value (its_decoded offset size)
         → guest2 ≡ cond (its_starts guest.shape (view_of before) (its_decoded offset size) (Some value)) (after_queued (after_events eager before)) (after_events eager before)
-    goes_so apart (eager_so events_same starts known) =
-        started_is apart events_same (its_starts guest.shape is.view (its_decoded offset size) (Some value)) refl known is.started
+    goes_so moved (eager_so events_same starts known) =
+        started_is moved events_same (its_starts guest.shape is.view (its_decoded offset size) (Some value)) refl known is.started
         ∙ ap (λ b. cond b (after_queued (after_events eager before)) (after_events eager before)) starts
-    goes_so apart (already_so none starts still) =
+    goes_so moved (already_so none starts still) =
         none_started (its_written_by guest.shape is.view mine) is.views (subst (λ b. AreStarted b (Some vcpu) guest.shape run.ended.beside (its_written_by guest.shape is.view mine) is.views is.commands) starts is.started)
         ∙ guest1_is ∙ ap (λ es. after_events es before) none ∙ of (its_starts guest.shape (view_of before) (its_decoded offset size) (Some value))
       where
@@ -238,9 +239,9 @@ module _ (guest : GuestSpec) (moments : List Moment) (actor : ℕ) (piece : List
         of true = sym (ap after_queued still ∙ commands_end (queue_places (word_at before Cbaser)) before rest.dry)
         of false = sym still
 
-    pub its_call_passes : MoveApart (after_events (access_events before.shape (view_of before) Its offset size (Some value)) before)
+    pub its_call_passes : AllMoveOwn before (events_of piece)
         → IsEagerCall actor (Access (Mem Its offset size (Some value))) answer before (home (last_of guest (moments ++ lone_call actor (Access (Mem Its offset size (Some value))) piece answer)))
-    its_call_passes apart = record {
-      goes = run.goes ∙ piece_is ∙ goes_so apart (registered guest.shape before (Some vcpu) is.view is.register value (its_decoded offset size) takes made_is maps_same rest.order) ∙ sym eager_is;
+    its_call_passes moved = record {
+      goes = run.goes ∙ piece_is ∙ goes_so moved (registered guest.shape before (Some vcpu) is.view is.register value (its_decoded offset size) takes made_is maps_same rest.order) ∙ sym eager_is;
       answers = is.answers;
     }

@@ -21,3 +21,4 @@ pub mod ItsLemmas
 pub mod CallLaws
 pub mod RestLemmas
 pub mod RestLaws
+pub mod WorkedLemmas

@@ -13,10 +13,12 @@ use Rattle.gic_prio.specs.Access.{taken_by, deactivated_by}
 use Rattle.gic_prio.specs.declared.candidate.Candidate.{Candidate}
 use Rattle.gic_base.specs.declared.icc.IccReg.{IccReg}
 use Rattle.gic_word.specs.Record.{target_in}
+use Rattle.its_cmd.specs.Command.{decoded}
 use Rattle.gic_call.specs.declared.event.Event.{Event}
 use Rattle.gic_call.specs.declared.event.Event.TheVariants.{Raise, Up, Down, Touch, Reach, Take, Leave, Enable, Cpu, Read, Put, CtlrBegin, CtlrEnd, ItsBegin, ItsEnd, Queue}
 use Rattle.gic_call.specs.declared.event.QueueChange.TheVariants.{Runs, Done, Stalls}
 use Rattle.gic_call.specs.declared.touch.Touching.TheVariants.{Retarget as RetargetLpi, Configure as ConfigureLpi}
+use Rattle.gic_call.specs.Command.{command_words}
 use Rattle.gic_call.specs.Touch.{touched}
 use Rattle.gic_call.specs.Trace.{is_beside}
 use Rattle.ideal_guest.specs.declared.guest.IdealGuest.{IdealGuest}
@@ -27,6 +29,7 @@ use Rattle.gic_history.specs.Moves.{happened}
 use Rattle.gic_history.specs.History.{Call, targets_in, noted}
 use Rattle.eager_laws.proofs.CourseLemmas.{call_after}
 use Rattle.eager_laws.proofs.WindowLemmas.{next_call}
+use Rattle.call_laws.specs.Calls.{moves_to_itself, MovesOwn, AllMoveOwn}
 use Rattle.call_laws.proofs.NamedLemmas.{IsIn}
 use Rattle.call_laws.proofs.RunLemmas.{Follows}
 use Rattle.call_laws.proofs.TargetLemmas.{by_record}
@@ -218,6 +221,45 @@ seen_sent guest id vcpu (event ∷ events) t whole all (inr later) =
     of step (inr sent) = inr sent
     of (inl same) (inl e) = inl (e ∙ same)
     of (inr sent) (inl e) = inr (e ∙ sent)
+
+-- Where a command moves the LPIs of a vCPU to itself.
+
+abbrev moves_now : IdealGuest → Bool
+moves_now guest = moves_to_itself (decoded (command_words guest.shape (view_of guest)))
+
+-- the command stays the next one
+moves_still : (guest : IdealGuest) (vcpu : ℕ) (event : Event) → sends_to vcpu event ≡ true → moves_now (after_event guest event) ≡ moves_now guest
+moves_still guest vcpu (Touch (Lpi i) (RetargetLpi (Some target))) h = refl
+moves_still guest vcpu (Reach key u) h = refl
+moves_still guest vcpu (Take key u) h = refl
+moves_still guest vcpu (Leave key u) h = refl
+moves_still guest vcpu (Read at) h = refl
+moves_still guest vcpu event h = absurd (cc)
+
+-- an event that moves an LPI only to where it is moves none
+own_kept : (guest : IdealGuest) (id vcpu : ℕ) (event : Event) → IsWhole guest → sends_to vcpu event ≡ true → moves_now guest ≡ true → MovesOwn guest event → target_at (after_event guest event) id ≡ target_at guest id
+own_kept guest id vcpu (Touch (Lpi i) (RetargetLpi (Some target))) whole h moves own = of (i == id) refl
+  where
+    of : (b : Bool) → (i == id) ≡ b → target_at (after_event guest (Touch (Lpi i) (RetargetLpi (Some target)))) id ≡ target_at guest id
+    of false e = target_kept guest id (Touch (Lpi i) (RetargetLpi (Some target))) whole (ap not e)
+    of true e = by (target_sent guest id target (Touch (Lpi i) (RetargetLpi (Some target))) whole (eq-eqb target target refl))
+      where
+        by : (target_at (after_event guest (Touch (Lpi i) (RetargetLpi (Some target)))) id ≡ target_at guest id) ⊎ (target_at (after_event guest (Touch (Lpi i) (RetargetLpi (Some target)))) id ≡ Some target)
+            → target_at (after_event guest (Touch (Lpi i) (RetargetLpi (Some target)))) id ≡ target_at guest id
+        by (inl same) = same
+        by (inr sent) = sent ∙ sym (own moves) ∙ ap (target_at guest) (eqb-true i id e)
+own_kept guest id vcpu (Reach key u) whole h moves own = refl
+own_kept guest id vcpu (Take key u) whole h moves own = refl
+own_kept guest id vcpu (Leave key u) whole h moves own = refl
+own_kept guest id vcpu (Read at) whole h moves own = refl
+own_kept guest id vcpu event whole h moves own = absurd (cc)
+
+pub seen_own : (guest : IdealGuest) (id vcpu : ℕ) (events : List Event) (t : Option ℕ) → IsWhole guest → IsTrue (list_all (sends_to vcpu) events) → moves_now guest ≡ true → AllMoveOwn guest events → IsIn (seen_by guest events id) t → t ≡ target_at guest id
+seen_own guest id vcpu [] t whole all moves own is = absurd is
+seen_own guest id vcpu (event ∷ events) t whole all moves own (inl e) = sym e ∙ own_kept guest id vcpu event whole (and_parts (sends_to vcpu event) (list_all (sends_to vcpu) events) all).0 moves own.0
+seen_own guest id vcpu (event ∷ events) t whole all moves own (inr later) =
+    let parts = and_parts (sends_to vcpu event) (list_all (sends_to vcpu) events) all in
+    seen_own (after_event guest event) id vcpu events t (guest_whole event guest whole) parts.1 (moves_still guest vcpu event parts.0 ∙ moves) own.1 later ∙ own_kept guest id vcpu event whole parts.0 moves own.0
 
 -- What the call notes.
 

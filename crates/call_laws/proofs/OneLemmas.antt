@@ -28,7 +28,7 @@ use Rattle.gic_history.specs.Moves.{happened}
 use Rattle.gic_history.specs.History.{Call, targets_in}
 use Rattle.eager_laws.proofs.CourseLemmas.{state_after, call_after, call_append}
 use Rattle.eager_laws.proofs.WindowLemmas.{next_call}
-use Rattle.call_laws.specs.Calls.{moves_to_itself}
+use Rattle.call_laws.specs.Calls.{AllMoveOwn}
 use Rattle.call_laws.proofs.AgreeLemmas.{parts_by, result_agrees}
 use Rattle.call_laws.proofs.CommandLemmas.{run_split, named_both, events_both, keeps_words, beside_words, reads_word, words_same, queue_same, PartsDone, parts_done}
 use Rattle.call_laws.proofs.MomentLemmas.{target_at, keeps_for, beside_keeps_for, seen_by, seen_kept, is_between, IsGrown, grown, IsAfter, done_after, guest_whole}
@@ -135,6 +135,10 @@ pub follows_split : (actor : ℕ) (first next : List Event) (state : Ideal) (gue
 follows_split actor [] next state guest follows = (tt, follows)
 follows_split actor (event ∷ first) next state guest follows = let later = follows_split actor first next (happened actor event state) (after_event guest event) follows.1 in ((follows.0, later.0), later.1)
 
+pub own_split : (first next : List Event) (guest : IdealGuest) → AllMoveOwn guest (first ++ next) → AllMoveOwn guest first × AllMoveOwn (after_events first guest) next
+own_split [] next guest all = (tt, all)
+own_split (event ∷ first) next guest all = let later = own_split first next (after_event guest event) all.1 in ((all.0, later.0), later.1)
+
 pub whole_after : (events : List Event) (guest : IdealGuest) → IsWhole guest → IsWhole (after_events events guest)
 whole_after [] guest whole = whole
 whole_after (event ∷ events) guest whole = whole_after events (after_event guest event) (guest_whole event guest whole)
@@ -185,14 +189,13 @@ pub record OneDone (actor : ℕ) (guest : IdealGuest) (state : Ideal) (call : Ca
   pub goes : after_events events guest ≡ after_command guest
   pub at : IsAt (after_command guest) (call_after actor events state call) (number + 1)
 
-module _ (shape : GuestShape) (actor vcpu : ℕ) (beside : Beside) (b : Bool) (guest : IdealGuest) (whole : IsWhole guest) (shape_is : guest.shape ≡ shape) (view : View) (same : HaveSameIts view (view_of guest)) (number : ℕ) (targets_are : view.targets ≡ beside.targets number)
-    (self : moves_to_itself (decoded (command_words shape (view_of guest))) ≡ false) (state : Ideal) (call : Call) (at : IsAt guest call number) where
+module _ (shape : GuestShape) (actor vcpu : ℕ) (beside : Beside) (b : Bool) (guest : IdealGuest) (whole : IsWhole guest) (shape_is : guest.shape ≡ shape) (view : View) (same : HaveSameIts view (view_of guest)) (number : ℕ) (targets_are : view.targets ≡ beside.targets number) (state : Ideal) (call : Call) (at : IsAt guest call number) where
   -- before the queue goes on, and after that
   module _ (early post : List Happened) (found : Found) (after : List Event)
       (words : command_words shape view ≡ command_words shape (view_of guest))
       (named : events_of (named_of (Some vcpu) early) ≡ map (lpi_event shape (view_of guest) view.targets) (command_parts shape view))
       (post_none : events_of (named_of (Some vcpu) post) ≡ [])
-      (run : IsHomeRun b guest early) (follows : Follows actor state guest (events_of early ++ queue_event shape view ∷ events_of post))
+      (run : IsHomeRun b guest early) (moved : AllMoveOwn guest (events_of early)) (follows : Follows actor state guest (events_of early ++ queue_event shape view ∷ events_of post))
       (targets : HasTargets beside (call_after actor (events_of early ++ queue_event shape view ∷ (events_of post ++ after)) state call)) where
     abbrev event : Event
     event = queue_event shape view
@@ -280,7 +283,7 @@ module _ (shape : GuestShape) (actor vcpu : ℕ) (beside : Beside) (b : Bool) (g
         let clear = is_none (fault_number shape guest.tables result) in
         let are = parts_are shape guest view same words in
         named ∙ ap (map (lpi_event shape (view_of guest) view.targets)) are
-        ∙ result_agrees shape guest whole (Some vcpu) early view.targets seen guest.tables result clear (named ∙ ap (map (lpi_event shape (view_of guest) view.targets)) are) self
+        ∙ result_agrees shape guest whole (Some vcpu) early view.targets seen moved guest.tables result clear (named ∙ ap (map (lpi_event shape (view_of guest) view.targets)) are) (ap (λ s. decoded (command_words s (view_of guest))) shape_is)
         ∙ ap (λ ps. map (lpi_event shape (view_of guest) (target_at guest)) (cond clear ps [])) (sym (decoded_is shape (view_of guest) result))
 
     guest2_is : guest2 ≡ after_command guest
@@ -326,11 +329,12 @@ module _ (shape : GuestShape) (actor vcpu : ℕ) (beside : Beside) (b : Bool) (g
       (reads_word b guest (Some vcpu) view [] (command_places shape view) [] command.fetch command.fetched (run_split command.fetch command.rest b guest (subst (IsHomeRun b guest) command.split run)).0
       (all_beside keeps_words beside_words (Some vcpu) command.fetch command.fetched.events_are))
 
-  pub one_done : (own : List Happened) (after : List Event) → IsCommand (Some vcpu) shape view own → IsHomeRun b guest own → Follows actor state guest (events_of own) → HasTargets beside (call_after actor (events_of own ++ after) state call)
+  pub one_done : (own : List Happened) (after : List Event) → IsCommand (Some vcpu) shape view own → IsHomeRun b guest own → AllMoveOwn guest (events_of own) → Follows actor state guest (events_of own) → HasTargets beside (call_after actor (events_of own ++ after) state call)
       → OneDone actor guest state call number (events_of own)
-  one_done own after command run follows targets =
+  one_done own after command run moved follows targets =
       subst (OneDone actor guest state call number) (sym events_are)
       (pieces_done early cut.post cut.found after words named cut.post_none (run_split early ((record { event = queue_event shape view; found = cut.found }) ∷ cut.post) b guest (subst (IsHomeRun b guest) own_is run)).0
+      (own_split (events_of early) (queue_event shape view ∷ events_of cut.post) guest (subst (AllMoveOwn guest) events_are moved)).0
       (subst (Follows actor state guest) events_are follows)
       (subst (λ es. HasTargets beside (call_after actor es state call)) (ap (λ es. es ++ after) events_are ∙ append_assoc (events_of early) (queue_event shape view ∷ events_of cut.post) after) targets))
     where

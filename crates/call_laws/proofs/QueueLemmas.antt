@@ -5,7 +5,6 @@ use Rattle.std.proofs.lemmas.List.{append_assoc}
 use Rattle.std.proofs.lemmas.Grind.{fold-append}
 use Rattle.gic_base.specs.declared.shape.GuestShape.{GuestShape}
 use Rattle.gic_open.specs.declared.plain.PlainWord.TheVariants.{Cbaser}
-use Rattle.its_cmd.specs.Command.{decoded}
 use Rattle.gic_call.specs.declared.event.Event.{Event}
 use Rattle.gic_call.specs.Command.{takes_command, command_words, queue_event, queue_places, maps_done}
 use Rattle.gic_call.specs.Trace.{Happened, Beside, AreCommands, HaveSameIts, left_by}
@@ -21,9 +20,9 @@ use Rattle.gic_history.specs.History.{Call}
 use Rattle.eager_laws.proofs.CommandLemmas.{sound_command, command_known, command_shape}
 use Rattle.eager_laws.proofs.CourseLemmas.{state_after, call_after, call_append}
 use Rattle.eager_laws.proofs.QueueLemmas.{takes_known}
-use Rattle.call_laws.specs.Calls.{moves_to_itself, MoveApart}
+use Rattle.call_laws.specs.Calls.{AllMoveOwn}
 use Rattle.call_laws.proofs.CommandLemmas.{marks_after, run_split, events_both, queue_same}
-use Rattle.call_laws.proofs.OneLemmas.{follows_split, still_beside, queue_is, IsAt, HasTargets, words_are, one_done, none_beside}
+use Rattle.call_laws.proofs.OneLemmas.{follows_split, own_split, still_beside, queue_is, IsAt, HasTargets, words_are, one_done, none_beside}
 use Rattle.call_laws.proofs.RunLemmas.{events_of, IsHomeRun, Follows}
 
 -- What is known of the ITS.
@@ -75,11 +74,6 @@ reached (suc count) (suc most) guest all dry =
 pub queued_is : (count : ℕ) (guest : IdealGuest) → IsSound guest → IsQueueInOrder guest → AllTaken count guest → after_queued guest ≡ after_taken count guest
 queued_is count guest sound order all = reached count (queue_places (word_at guest Cbaser)) guest all (not-true (takes_command (view_of (after_queued guest))) (all_run_dry guest sound order))
 
--- those after the next one move apart too
-apart_then : (guest : IdealGuest) → takes_command (view_of guest) ≡ true → MoveApart guest → MoveApart (after_command guest)
-apart_then guest taken apart number =
-    subst (λ g. takes_command (view_of g) ≡ true → moves_to_itself (decoded (command_words g.shape (view_of g))) ≡ false) (ap (λ b. cond b (after_commands number (after_command guest)) guest) taken) (apart (suc number))
-
 -- The commands of a call.
 
 pub record CommandsDone (guest : IdealGuest) (piece : List Happened) : Type 0 where
@@ -89,31 +83,31 @@ pub record CommandsDone (guest : IdealGuest) (piece : List Happened) : Type 0 wh
 
 module _ (shape : GuestShape) (actor vcpu : ℕ) (beside : Beside) where
   pub commands_done : (views : List View) (number : ℕ) (its : View) (piece : List Happened) (after : List Event) (b : Bool) (guest : IdealGuest) (state : Ideal) (call : Call) → AreCommands (Some vcpu) shape beside number its views piece
-      → IsSound guest → guest.shape ≡ shape → HaveSameIts its (view_of guest) → MoveApart guest → IsAt guest call number → IsHomeRun b guest piece → Follows actor state guest (events_of piece) → HasTargets beside (call_after actor (events_of piece ++ after) state call)
+      → IsSound guest → guest.shape ≡ shape → HaveSameIts its (view_of guest) → AllMoveOwn guest (events_of piece) → IsAt guest call number → IsHomeRun b guest piece → Follows actor state guest (events_of piece) → HasTargets beside (call_after actor (events_of piece ++ after) state call)
       → CommandsDone guest piece
-  commands_done [] number its piece after b guest state call are sound shape_is same apart at run follows targets = record {
+  commands_done [] number its piece after b guest state call are sound shape_is same moved at run follows targets = record {
     count = zero;
     goes = still_beside (Some vcpu) piece guest (none_beside (Some vcpu) piece are.0.events_are);
     all = sym (takes_known its (view_of guest) same) ∙ not-true (takes_command its) are.1;
   }
-  commands_done (view ∷ views) number its piece after b guest state call are sound shape_is same apart at run follows targets =
+  commands_done (view ∷ views) number its piece after b guest state call are sound shape_is same moved at run follows targets =
       let known : HaveSameIts view (view_of guest) = same_then its view (view_of guest) are.same same in
       let taken : takes_command (view_of guest) ≡ true = sym (takes_known view (view_of guest) known) ∙ are.command.taken in
-      let self : moves_to_itself (decoded (command_words shape (view_of guest))) ≡ false = subst (λ s. moves_to_itself (decoded (command_words s (view_of guest))) ≡ false) shape_is (apart zero taken) in
       let events : events_of piece ≡ events_of are.own ++ events_of are.rest = ap events_of are.split ∙ events_both are.own are.rest in
       let runs = run_split are.own are.rest b guest (subst (IsHomeRun b guest) are.split run) in
       let follow = follows_split actor (events_of are.own) (events_of are.rest) state guest (subst (Follows actor state guest) events follows) in
+      let moves = own_split (events_of are.own) (events_of are.rest) guest (subst (AllMoveOwn guest) events moved) in
       let targets_now : HasTargets beside (call_after actor (events_of are.own ++ (events_of are.rest ++ after)) state call) = subst (λ es. HasTargets beside (call_after actor es state call)) (ap (λ es. es ++ after) events ∙ append_assoc (events_of are.own) (events_of are.rest) after) targets in
       let whole : IsWhole guest = record { shape = sound.shape; each = sound.irqs } in
-      let one = one_done shape actor vcpu beside b guest whole shape_is view known number are.targets_are self state call at are.own (events_of are.rest ++ after) are.command runs.0 follow.0 targets_now in
-      let words = words_are shape actor vcpu beside b guest whole shape_is view known number are.targets_are self state call at are.own are.command runs.0 in
+      let one = one_done shape actor vcpu beside b guest whole shape_is view known number are.targets_are state call at are.own (events_of are.rest ++ after) are.command runs.0 moves.0 follow.0 targets_now in
+      let words = words_are shape actor vcpu beside b guest whole shape_is view known number are.targets_are state call at are.own are.command runs.0 in
       let next = after_command guest in
       let left : HaveSameIts (left_by shape view (queue_event shape view)) (view_of (after_command guest)) =
       subst (λ e. HaveSameIts (left_by shape view e) (view_of (after_command guest))) (sym (queue_same shape guest view known words))
       (same_after (left_by shape view (queue_event shape (view_of guest))) (left_by shape (view_of guest) (queue_event shape (view_of guest))) (view_of (after_command guest)) (left_same shape view (view_of guest) (view_of guest) known)
       (subst (λ s. HaveSameIts (left_by s (view_of guest) (queue_event s (view_of guest))) (view_of (after_command guest))) shape_is (command_known 0 0 guest sound))) in
       let later = commands_done views (number + 1) (left_by shape view (queue_event shape view)) are.rest after (marks_after are.own b) (after_command guest) (state_after actor (events_of are.own) state) (call_after actor (events_of are.own) state call) are.later
-      (sound_command 0 0 guest sound) (command_shape 0 0 guest sound ∙ shape_is) left (apart_then guest taken apart) one.at (subst (λ g. IsHomeRun (marks_after are.own b) g are.rest) one.goes runs.1)
+      (sound_command 0 0 guest sound) (command_shape 0 0 guest sound ∙ shape_is) left (subst (λ g. AllMoveOwn g (events_of are.rest)) one.goes moves.1) one.at (subst (λ g. IsHomeRun (marks_after are.own b) g are.rest) one.goes runs.1)
       (subst (λ g. Follows actor (state_after actor (events_of are.own) state) g (events_of are.rest)) one.goes follow.1) (subst (HasTargets beside) (call_append actor (events_of are.own) (events_of are.rest ++ after) state call) targets_now) in
       record {
         count = suc later.count;

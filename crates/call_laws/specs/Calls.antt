@@ -1,17 +1,18 @@
 -- One call of a history while nobody else acts, and what the eager controller makes of its operation (own choice).
 use Rattle.std.specs.Prelude.{◌≡◌, ℕ, ◌==◌, Bool, true, false, Result, Ok, List, [], ◌∷◌, ◌++◌, map, Option, None}
-use Rattle.gic_base.specs.declared.operation.GuestOp.TheVariants.{Mem}
+use Rattle.gic_base.specs.declared.interrupt.Key.TheVariants.{Lpi}
 use Rattle.gic_call.specs.declared.event.Event.{Event}
-use Rattle.gic_call.specs.declared.event.Event.TheVariants.{Cpu}
+use Rattle.gic_call.specs.declared.event.Event.TheVariants.{Touch, Cpu}
 use Rattle.gic_call.specs.declared.event.Moment.{Moment}
 use Rattle.gic_call.specs.declared.event.Moment.TheVariants.{Begin, End}
 use Rattle.gic_call.specs.declared.event.Operation.{Operation}
 use Rattle.gic_call.specs.declared.event.Operation.TheVariants.{Access, Device, Residence}
-use Rattle.gic_call.specs.Call.{access_events, device_events}
+use Rattle.gic_call.specs.declared.touch.Touching.TheVariants.{Retarget}
+use Rattle.gic_call.specs.Call.{device_events}
 use Rattle.gic_call.specs.Command.{takes_command, command_words}
 use Rattle.gic_call.specs.Trace.{Happened}
 use Rattle.ideal_guest.specs.declared.guest.IdealGuest.{IdealGuest}
-use Rattle.ideal_guest.specs.Ideal.{view_of, after_events, after_commands}
+use Rattle.ideal_guest.specs.Ideal.{view_of, after_event, after_events}
 use Rattle.ideal_guest.specs.Queue.{IsQueueInOrder}
 use Rattle.ideal_guest.specs.Sound.{IsSound}
 use Rattle.gic_history.specs.State.{Ideal}
@@ -80,10 +81,15 @@ abbrev pub moves_to_itself : Result Command BadCommand → Bool
 moves_to_itself (Ok (Movall one other)) = one == other
 moves_to_itself result = false
 
--- none of the commands that a guest takes does
-abbrev pub MoveApart : IdealGuest → Type 0
-MoveApart guest =
-    (number : ℕ) → let after = after_commands number guest in takes_command (view_of after) ≡ true → moves_to_itself (decoded (command_words after.shape (view_of after))) ≡ false
+-- where the next command of a guest does, an event moves an LPI only to where it is
+abbrev pub MovesOwn : IdealGuest → Event → Type 0
+MovesOwn guest (Touch (Lpi id) (Retarget target)) = moves_to_itself (decoded (command_words guest.shape (view_of guest))) ≡ true → (view_of guest).targets id ≡ target
+MovesOwn guest event = Unit {0}
+
+-- so does each of some events, one after the other
+abbrev pub AllMoveOwn : IdealGuest → List Event → Type 0
+AllMoveOwn guest [] = Unit {0}
+AllMoveOwn guest (event ∷ events) = MovesOwn guest event × AllMoveOwn (after_event guest event) events
 
 -- a guest with a valid record of all that it has, whose queue is in order, and whose ITS takes no command by itself
 pub record IsAtRest (guest : IdealGuest) : Type 0 where
@@ -91,14 +97,9 @@ pub record IsAtRest (guest : IdealGuest) : Type 0 where
   pub order : IsQueueInOrder guest
   pub dry : takes_command (view_of guest) ≡ false
 
--- the guest as the commands that an operation starts begin
-abbrev pub as_commands_begin : Operation → IdealGuest → IdealGuest
-as_commands_begin (Access (Mem frame offset size write)) guest = after_events (access_events guest.shape (view_of guest) frame offset size write) guest
-as_commands_begin operation guest = guest
-
--- each such call of an operation does what the eager controller does, where the guest with all taken back is at rest and the commands move apart
+-- so does each such call of an operation, where that guest is at rest and a command that moves the LPIs of a vCPU to itself moves no other
 abbrev pub PassesAtRest : Operation → Type 0
 PassesAtRest operation =
     (guest : GuestSpec) (moments : List Moment) (actor : ℕ) (piece : List Happened) (answer : Option ℕ) → IsLoneCall guest moments actor operation piece answer
-    → IsAtRest (home (last_of guest moments)) → MoveApart (as_commands_begin operation (home (last_of guest moments)))
+    → IsAtRest (home (last_of guest moments)) → AllMoveOwn (home (last_of guest moments)) (map (λ (one : Happened). one.event) piece)
     → IsEagerCall actor operation answer (home (last_of guest moments)) (home (last_of guest (moments ++ lone_call actor operation piece answer)))

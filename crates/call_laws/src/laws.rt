@@ -1,5 +1,6 @@
 //! Laws of calls while nobody else acts.
 ghost use Rattle.call_laws.specs.Laws.{InterfaceCallsPass, ResidencesPass, DeviceCallsPass, DistributorCallsPass, RedistributorCallsPass, MemoryCallsPass, ItsCallsPass, CallsPassHome, RestStays};
+ghost use Rattle.call_laws.specs.Worked.{MovallGathers};
 
 /// A law of every access of a CPU interface register that an actor makes while nobody else acts.
 pub fn interface_calls_pass()
@@ -32,7 +33,7 @@ pub fn memory_calls_pass()
 {}
 
 /// A law of every access of the ITS, while nobody else acts and the guest is at rest: a write also does the commands that it
-/// starts, none of which moves all LPIs of a vCPU to itself.
+/// starts, of which one that moves the LPIs of a vCPU to itself moves no other.
 pub fn its_calls_pass()
     ensures { ItsCallsPass }
 {}
@@ -46,4 +47,11 @@ pub fn calls_pass_home()
 /// the law of calls speaks of each call of a scenario that is done step by step.
 pub fn rest_stays()
     ensures { RestStays }
+{}
+
+/// A law of a worked call: a history may let a MOVALL from a vCPU to itself move an LPI of nobody to that vCPU, and the eager
+/// controller does not, so the law of calls needs what it asks of such a command.
+#[tactic(auto, using(crate::proofs::WorkedLemmas::movall_gathers))]
+pub fn movall_gathers()
+    ensures { MovallGathers }
 {}

@@ -38,7 +38,7 @@ second = left_by its_guest.shape first (queue_event its_guest.shape first)
 abbrev third : View
 third = left_by its_guest.shape second (queue_event its_guest.shape second)
 
-other_ram : (m n : ℕ) → m ≢ n → Read (Word (Ram m)) ≡ Read (Word (Ram n)) → ⊥
+pub other_ram : (m n : ℕ) → m ≢ n → Read (Word (Ram m)) ≡ Read (Word (Ram n)) → ⊥
 other_ram m n differ e = differ (cc)
 
 -- the same function is the first of each window
@@ -50,7 +50,7 @@ in_each (window ∷ windows) targets all (suc number) id l = in_each windows tar
 in_windows : (done : List (ℕ → List (Option ℕ))) (last : ℕ → List (Option ℕ)) (targets : ℕ → Option ℕ) → AllByRecursion (λ window. (id : ℕ) → IsTrue (is_some_window (window id)) × (slice_index_or (window id) 0 None ≡ targets id)) (done ++ last ∷ []) → (number id : ℕ) → number ≤ length done → Contains (slice_index_or (done ++ last ∷ []) number (λ id. []) id) (targets id)
 in_windows done last targets all number id l = in_each (done ++ last ∷ []) targets all number id (omega (arith, l, length-append done (last ∷ [])))
 
-its_good : IsGoodGuest its_guest
+pub its_good : IsGoodGuest its_guest
 its_good = record {
   shape = record { some_vcpu = omega arith; vcpus = omega arith; spis = omega arith; spi_blocks = refl; espis = omega arith; espi_blocks = refl; devices = omega arith; lpis = omega arith; ram = omega arith; ram_words = refl };
   presets = All-nil (IsGoodPreset its_guest.shape);
@@ -225,12 +225,15 @@ its_enabled = (
 queue_run : GoesOn (course_of from before_write) (to_sync ++ to_end)
 queue_run = ((omega arith, refl), (record { within = refl; can = tt; allowed = refl; hands = refl }, (record { within = refl; can = refl; allowed = refl; hands = refl }, (record { within = refl; can = refl; allowed = refl; hands = refl }, (record { within = refl; can = refl; allowed = refl; hands = refl }, (record { within = refl; can = (refl, refl); allowed = refl; hands = refl }, (record { within = refl; can = refl; allowed = refl; hands = refl }, (record { within = refl; can = refl; allowed = refl; hands = refl }, (record { within = refl; can = refl; allowed = refl; hands = refl }, (record { within = refl; can = refl; allowed = refl; hands = refl }, (record { within = refl; can = record { place = refl; within = omega arith }; allowed = refl; hands = refl }, (record { within = refl; can = refl; allowed = refl; hands = refl }, (record { within = refl; can = refl; allowed = refl; hands = refl }, (record { within = refl; can = refl; allowed = refl; hands = refl }, (record { within = refl; can = refl; allowed = refl; hands = refl }, (record { within = refl; can = record { place = refl; within = omega arith }; allowed = refl; hands = refl }, (record { within = refl; can = refl; allowed = refl; hands = refl }, (record { within = refl; can = refl; allowed = refl; hands = refl }, (record { within = refl; can = refl; allowed = refl; hands = refl }, (record { within = refl; can = refl; allowed = refl; hands = refl }, (record { within = refl; can = (record { place = refl; within = omega arith }, omega arith); allowed = refl; hands = refl }, (record { within = refl; can = tt; allowed = refl; hands = refl }, (record { beside = steady; maps = refl; targets = λ number id l. in_windows ((λ id. replicate 10 (enabled.targets id)) ∷ (λ id. replicate 5 (enabled.targets id)) ∷ (λ id. replicate 5 (enabled.targets id)) ∷ []) (λ id. replicate 2 (enabled.targets id)) enabled.targets ((λ id. (refl, refl)), ((λ id. (refl, refl)), ((λ id. (refl, refl)), ((λ id. (refl, refl)), tt)))) number id l; is_call = start_is }, tt)))))))))))))))))))))))
 
-queue_goes : IsHistory its_guest ((before_write ++ to_sync) ++ to_end)
-queue_goes =
+pub before_goes : GoesOn from before_write
+before_goes =
     let two : GoesOn from (stores 0 9 ++ stores 2 (2 ^ 63)) = goes_on from (stores 0 9) (stores 2 (2 ^ 63)) stored_one stored_two in
     let three : GoesOn from (stores 0 9 ++ stores 2 (2 ^ 63) ++ stores 4 5) = goes_on from (stores 0 9 ++ stores 2 (2 ^ 63)) (stores 4 5) two stored_three in
     let four : GoesOn from (stores 0 9 ++ stores 2 (2 ^ 63) ++ stores 4 5 ++ makes_queue) = goes_on from (stores 0 9 ++ stores 2 (2 ^ 63) ++ stores 4 5) makes_queue three queue_made in
-    goes_on from before_write (to_sync ++ to_end) (goes_on from (stores 0 9 ++ stores 2 (2 ^ 63) ++ stores 4 5 ++ makes_queue) enables_its four its_enabled) queue_run
+    goes_on from (stores 0 9 ++ stores 2 (2 ^ 63) ++ stores 4 5 ++ makes_queue) enables_its four its_enabled
+
+queue_goes : IsHistory its_guest ((before_write ++ to_sync) ++ to_end)
+queue_goes = goes_on from before_write (to_sync ++ to_end) before_goes queue_run
 
 pub queue_is_synced : QueueIsSynced
 queue_is_synced = record {
