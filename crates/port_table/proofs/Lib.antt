@@ -1,3 +1,4 @@
+pub mod AmongLemmas
 pub mod ViewLemmas
 pub mod SlotLemmas
 pub mod RuleLemmas

@@ -1,12 +1,12 @@
 -- Which actors are out, as they are split off and joined again.
-use Rattle.std.proofs.Common.{◌≡◌, ℕ, zero, suc, ◌<◌, ◌+◌, ◌==◌, ◌||◌, Bool, true, false, IsTrue, All, List, [], ◌∷◌, ◌++◌, map, length, get_or, inl, inr, ◌⊎◌, refl, sym, ap, subst, ◌∙◌, arith}
-use Rattle.std.proofs.lemmas.Bool.{eqb-true, eq-eqb}
+use Rattle.std.proofs.Common.{ℕ, zero, suc, ◌==◌, false, All, List, [], ◌∷◌, ◌++◌, inl, inr, sym, ◌∙◌, arith}
+use Rattle.std.proofs.lemmas.Bool.{or_left, or_right, or_cases}
 use Rattle.port_core.specs.declared.run.Made.{Made}
 use Rattle.port_table.specs.declared.view.Account.{Account}
 use Rattle.port_table.specs.Out.{AreOut}
 use Rattle.port_table.specs.Told.{WordsTold, RootTold, HasNoTurn, IsDone, opening_root, with_split, with_joined}
 use Rattle.port_table.specs.View.{is_among, is_back, with_account}
-use Rattle.port_table.proofs.ViewLemmas.{among_push, back_push, or_true, or_later, or_cases}
+use Rattle.port_table.proofs.AmongLemmas.{among_push, back_push}
 
 -- as a guest opens none is out
 pub out_opens : (words : WordsTold) → AreOut words (opening_root words) []
@@ -20,10 +20,10 @@ out_split words root out one are =
           elim (or_cases (is_among actor root.split) (one == actor) (sym (among_push actor one root.split) ∙ h)) [
             | inl before ↦
                 elim (or_cases (is_back actor root.joined) (is_among actor out) (are.back actor before)) [
-                  | inl back ↦ or_true (is_back actor root.joined) (is_among actor (one ∷ out)) back
-                  | inr still ↦ or_later (is_back actor root.joined) (is_among actor (one ∷ out)) (or_later (one == actor) (is_among actor out) still)
+                  | inl back ↦ or_left (is_back actor root.joined) (is_among actor (one ∷ out)) back
+                  | inr still ↦ or_right (is_back actor root.joined) (is_among actor (one ∷ out)) (or_right (one == actor) (is_among actor out) still)
                 ]
-            | inr same ↦ or_later (is_back actor root.joined) (is_among actor (one ∷ out)) (or_true (one == actor) (is_among actor out) same)
+            | inr same ↦ or_right (is_back actor root.joined) (is_among actor (one ∷ out)) (or_left (one == actor) (is_among actor out) same)
           ];
       idle = are.idle;
     }
@@ -41,12 +41,12 @@ out_join words root out one own are idle =
       back = λ actor h.
           elim (or_cases (is_back actor root.joined) (is_among actor (one ∷ out)) (are.back actor h)) [
             | inl back ↦
-                or_true (is_back actor (with_account one own root.joined)) (is_among actor out) (back_push actor one own root.joined ∙ or_true (is_back actor root.joined) (one == actor) back)
+                or_left (is_back actor (with_account one own root.joined)) (is_among actor out) (back_push actor one own root.joined ∙ or_left (is_back actor root.joined) (one == actor) back)
             | inr still ↦
                 elim (or_cases (one == actor) (is_among actor out) still) [
                   | inl same ↦
-                      or_true (is_back actor (with_account one own root.joined)) (is_among actor out) (back_push actor one own root.joined ∙ or_later (is_back actor root.joined) (one == actor) same)
-                  | inr other ↦ or_later (is_back actor (with_account one own root.joined)) (is_among actor out) other
+                      or_left (is_back actor (with_account one own root.joined)) (is_among actor out) (back_push actor one own root.joined ∙ or_right (is_back actor root.joined) (one == actor) same)
+                  | inr other ↦ or_right (is_back actor (with_account one own root.joined)) (is_among actor out) other
                 ]
           ];
       idle = all_push (HasNoTurn words) root.joined (record { actor = one; own = own }) are.idle idle;

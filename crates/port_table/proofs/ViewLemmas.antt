@@ -1,7 +1,7 @@
 -- The views of a table's seats: after a step, after an actor is split off, and after one is joined again.
 use Rattle.std.proofs.Common.{◌≡◌, ◌≢◌, ◌⊎◌, inl, inr, ℕ, zero, suc, ◌==◌, ◌||◌, ◌&&◌, not, Bool, true, false, cond, IsTrue, List, [], ◌∷◌, ◌++◌, map, length, set, refl, sym, ap, subst, ◌∙◌, arith}
-use Rattle.std.proofs.lemmas.Bool.{eq-eqb, ne_eqb, eqb-true, and_parts, and_from}
-use Rattle.std.proofs.lemmas.List.{append-nil, map-append}
+use Rattle.std.proofs.lemmas.Bool.{or_left, or_right, or_cases, not_from_false, not-true, eq-eqb, ne_eqb, eqb-true, and_parts, and_from}
+use Rattle.std.proofs.lemmas.List.{append-nil}
 use mathlib.Core.Option.{some, some-injective, some-ne-none}
 use lib.ListN.{get_elem?}
 use Rattle.atomic_table.proofs.Lists.{at_set}
@@ -13,6 +13,7 @@ use Rattle.port_table.specs.declared.view.Account.{Account}
 use Rattle.port_table.specs.declared.view.View.{View}
 use Rattle.port_table.specs.declared.view.View.TheVariants.{Root, Out, Spent}
 use Rattle.port_table.specs.Rule.{IsRoot, AreViews}
+use Rattle.port_table.proofs.AmongLemmas.{among_push, back_push, steps_none, steps_last, steps_else}
 use Rattle.port_table.specs.View.{is_among, is_back, is_out, steps_of, actor_of, own_of, split_of, joined_of, with_account}
 
 -- An actor's steps, and one more step.
@@ -23,65 +24,6 @@ own_mine world entry = own_joins entry.actor world (entry ∷ []) ∙ ap (λ b. 
 own_other : (world : List Entry) (entry : Entry) (actor : ℕ) → entry.actor ≢ actor → own_steps actor (world ++ entry ∷ []) ≡ own_steps actor world
 own_other world entry actor differ =
     own_joins actor world (entry ∷ []) ∙ ap (λ b. own_steps actor world ++ map (λ (e : Entry). e.made) (cond b (entry ∷ []) [])) (ne_eqb entry.actor actor differ) ∙ append-nil (own_steps actor world)
-
--- Actors among some.
-
-pub or_true : (a b : Bool) → IsTrue a → IsTrue (a || b)
-or_true true b h = refl
-or_true false b h = absurd (cc)
-
-pub or_later : (a b : Bool) → IsTrue b → IsTrue (a || b)
-or_later true b h = refl
-or_later false b h = h
-
-pub or_cases : (a b : Bool) → IsTrue (a || b) → IsTrue a ⊎ IsTrue b
-or_cases true b h = inl refl
-or_cases false b h = inr h
-
-not_true : (b : Bool) → b ≡ false → IsTrue (not b)
-not_true true h = absurd (cc)
-not_true false h = refl
-
-true_not : (b : Bool) → IsTrue (not b) → b ≡ false
-true_not true h = absurd (cc)
-true_not false h = refl
-
-pub among_push : (actor one : ℕ) (actors : List ℕ) → is_among actor (actors ++ one ∷ []) ≡ (is_among actor actors || (one == actor))
-among_push actor one [] = or_none (one == actor)
-  where
-    or_none : (b : Bool) → (b || false) ≡ b
-    or_none true = refl
-    or_none false = refl
-among_push actor one (other ∷ actors) = ap (λ b. (other == actor) || b) (among_push actor one actors) ∙ shifted (other == actor) (is_among actor actors) (one == actor)
-  where
-    shifted : (a b c : Bool) → (a || (b || c)) ≡ ((a || b) || c)
-    shifted true b c = refl
-    shifted false b c = refl
-
-pub back_push : (actor one : ℕ) (own : List Made) (joined : List Account) → is_back actor (with_account one own joined) ≡ (is_back actor joined || (one == actor))
-back_push actor one own joined =
-    ap (is_among actor) (map-append (λ (account : Account). account.actor) joined (record { actor = one; own = own } ∷ [])) ∙ among_push actor one (map (λ (account : Account). account.actor) joined)
-
--- the steps of an actor that was not joined, of one that was joined last, and of another one
-steps_none : (actor : ℕ) (joined : List Account) → is_back actor joined ≡ false → steps_of actor joined ≡ []
-steps_none actor [] h = refl
-steps_none actor (account ∷ joined) h = of (λ e. steps_none actor joined e) (account.actor == actor) h
-  where
-    of : (is_back actor joined ≡ false → steps_of actor joined ≡ []) → (b : Bool) → (b || is_back actor joined) ≡ false → cond b account.own (steps_of actor joined) ≡ []
-    of later true e = absurd (cc)
-    of later false e = later e
-
-steps_last : (actor : ℕ) (own : List Made) (joined : List Account) → is_back actor joined ≡ false → steps_of actor (with_account actor own joined) ≡ own
-steps_last actor own [] h = ap (λ b. cond b own []) (eq-eqb actor actor refl)
-steps_last actor own (account ∷ joined) h = of (λ e. steps_last actor own joined e) (account.actor == actor) h
-  where
-    of : (is_back actor joined ≡ false → steps_of actor (with_account actor own joined) ≡ own) → (b : Bool) → (b || is_back actor joined) ≡ false → cond b account.own (steps_of actor (with_account actor own joined)) ≡ own
-    of later true e = absurd (cc)
-    of later false e = later e
-
-steps_else : (actor one : ℕ) (own : List Made) (joined : List Account) → one ≢ actor → steps_of actor (with_account one own joined) ≡ steps_of actor joined
-steps_else actor one own [] differ = ap (λ b. cond b own []) (ne_eqb one actor differ)
-steps_else actor one own (account ∷ joined) differ = ap (λ steps. cond (account.actor == actor) account.own steps) (steps_else actor one own joined differ)
 
 -- A step.
 
@@ -190,14 +132,14 @@ module _
       ]
 
   among_more : (one : ℕ) → IsTrue (is_among one split) → IsTrue (is_among one (split ++ actor ∷ []))
-  among_more one h = among_push one actor split ∙ or_true (is_among one split) (actor == one) h
+  among_more one h = among_push one actor split ∙ or_left (is_among one split) (actor == one) h
 
   out_more : (one : ℕ) → IsTrue (is_out split joined one) → IsTrue (is_out (split ++ actor ∷ []) joined one)
   out_more one h = let parts = and_parts (is_among one split) (not (is_back one joined)) h in and_from (is_among one (split ++ actor ∷ [])) (not (is_back one joined)) (among_more one parts.0) parts.1
 
   out_new : IsTrue (is_out (split ++ actor ∷ []) joined actor)
   out_new =
-      and_from (is_among actor (split ++ actor ∷ [])) (not (is_back actor joined)) (among_push actor actor split ∙ or_later (is_among actor split) (actor == actor) (eq-eqb actor actor refl)) (not_true (is_back actor joined) not_back)
+      and_from (is_among actor (split ++ actor ∷ [])) (not (is_back actor joined)) (among_push actor actor split ∙ or_right (is_among actor split) (actor == actor) (eq-eqb actor actor refl)) (not_from_false (is_back actor joined) not_back)
 
   out_before : (one : ℕ) → is_out (split ++ actor ∷ []) joined one ≡ false → is_out split joined one ≡ false
   out_before one gone = of (is_out split joined one) refl
@@ -318,7 +260,7 @@ module _
     where
       of : (b : Bool) → (actor == one) ≡ b → steps_of one (with_account actor own joined) ≡ own_steps one world
       of true e =
-          subst (λ n. steps_of n (with_account actor own joined) ≡ own_steps n world) (eqb-true actor one e) (steps_last actor own joined (true_not (is_back actor joined) out_parts.1) ∙ are.own other actor own other_was)
+          subst (λ n. steps_of n (with_account actor own joined) ≡ own_steps n world) (eqb-true actor one e) (steps_last actor own joined (not-true (is_back actor joined) out_parts.1) ∙ are.own other actor own other_was)
       of false e =
           let apart : actor ≢ one = λ same. let both : true ≡ false = sym (eq-eqb actor one same) ∙ e in absurd (cc) in
           steps_else one actor own joined apart ∙ root_then.kept one (sym (out_same one apart) ∙ gone)
