@@ -38,19 +38,19 @@ module _ (shape : GuestShape) (state : Ideal) (tidy : IsTidy shape state) (vcpu 
 
   -- What stands there then.
 
-  abbrev taken_now : Option Candidate
+  abbrev pub taken_now : Option Candidate
   taken_now = taken_by reg write (cpu_at state.guest vcpu) (candidates_at (interface_at state vcpu))
 
-  abbrev ended_now : Option ℕ
+  abbrev pub ended_now : Option ℕ
   ended_now = deactivated_by reg write (cpu_at state.guest vcpu)
 
-  abbrev accessed : AtInterface → AtInterface
+  abbrev pub accessed : AtInterface → AtInterface
   accessed one = ended ended_now (acked taken_now one)
 
-  abbrev access : Standing → Standing
+  abbrev pub access : Standing → Standing
   access one = standing_of (accessed (shown_at state one))
 
-  accessed_key : (one : AtInterface) → (accessed one).key ≡ one.key
+  pub accessed_key : (one : AtInterface) → (accessed one).key ≡ one.key
   accessed_key one = ended_key ended_now (acked taken_now one) ∙ acked_key taken_now one
 
   at_is : map standing_of (interface_after reg write (interface_at state vcpu)).at ≡ map access (standing_at state vcpu)
@@ -62,12 +62,12 @@ module _ (shape : GuestShape) (state : Ideal) (tidy : IsTidy shape state) (vcpu 
   abbrev after : Ideal
   after = happened actor (Cpu vcpu reg write) state
 
-  here_is : (key : Key) → of_key after key vcpu ≡ map access (of_key state key vcpu)
+  pub here_is : (key : Key) → of_key after key vcpu ≡ map access (of_key state key vcpu)
   here_is key =
       put_here state key vcpu (map standing_of (interface_after reg write (interface_at state vcpu)).at) within
       ∙ ap (filter (is_of key)) at_is ∙ filter_changed (is_of key) access (λ one. ap (λ k. is_same_key k key) (accessed_key (shown_at state one))) (standing_at state vcpu)
 
-  other_is : (key : Key) (other : ℕ) → other ≢ vcpu → of_key after key other ≡ of_key state key other
+  pub other_is : (key : Key) (other : ℕ) → other ≢ vcpu → of_key after key other ≡ of_key state key other
   other_is key other differ = put_other state key vcpu (map standing_of (interface_after reg write (interface_at state vcpu)).at) other differ
 
   -- the entry of an interrupt then

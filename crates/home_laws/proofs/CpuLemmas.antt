@@ -35,7 +35,7 @@ use Rattle.home_laws.proofs.SpotLemmas.{Spot, IsSpot, IsTidy}
 
 -- Which interrupt an INTID names at a vCPU.
 
-named_own : (shape : GuestShape) (key : Key) (vcpu : ℕ) → IsShape shape → vcpu < shape.vcpus → IsTrue (has_interrupt shape key) → is_of_vcpu vcpu key ≡ true → key_of (intid_of key) vcpu shape ≡ Some key
+pub named_own : (shape : GuestShape) (key : Key) (vcpu : ℕ) → IsShape shape → vcpu < shape.vcpus → IsTrue (has_interrupt shape key) → is_of_vcpu vcpu key ≡ true → key_of (intid_of key) vcpu shape ≡ Some key
 named_own shape (Private v id) vcpu good few there own = grind (arith, common_steps, few, there, own)
 named_own shape (Spi id) vcpu good few there own = grind (arith, common_steps, there)
 named_own shape (Lpi id) vcpu good few there own = grind (arith, common_steps, there, good.spis, good.espis)

@@ -93,7 +93,7 @@ guest_after actor ItsBegin state h = refl
 guest_after actor ItsEnd state h = refl
 guest_after actor (Queue offset change) state h = refl
 
-at_after : (actor : ℕ) (event : Event) (state : Ideal) → IsTrue (is_other event) → (happened actor event state).at ≡ state.at
+pub at_after : (actor : ℕ) (event : Event) (state : Ideal) → IsTrue (is_other event) → (happened actor event state).at ≡ state.at
 at_after actor (Raise other) state h = refl
 at_after actor (Up other) state h = refl
 at_after actor (Down other) state h = refl

@@ -1,0 +1,24 @@
+//! Laws of histories.
+ghost use Rattle.core_home.specs.Rest.{RestShowsHome};
+ghost use Rattle.core_home.specs.Stay.{StandsAsReached};
+ghost use Rattle.core_home.specs.Worked.{AVcpuFindsAll};
+
+/// A law of every history of a good guest, of what stands at a vCPU's interface and was not changed since it got there: where it
+/// is pending there, it is so with all its latched causes, and with them it is ripe for the vCPU, which takes interrupts of its
+/// kind; and where it is neither pending nor active there, and pending in its record, it is to leave before the call ends.
+pub fn stands_as_reached()
+    ensures { StandsAsReached }
+{}
+
+/// A law of every history of a good guest at a moment at which no change is on its way to an interface and nothing that is to
+/// leave one is late: an access of a vCPU's interface, before whose first interrupt no home one comes and which ends none that
+/// is active by the vCPU and at no interface, shows the guest with all that stands at interfaces taken back.
+pub fn rest_shows_home()
+    ensures { RestShowsHome }
+{}
+
+/// A worked history that meets the premises of `rest_shows_home`: a message made interrupt 40 pending, it got to the interface
+/// of vCPU 0, and that reads ICC_IAR1.
+pub fn a_vcpu_finds_all()
+    ensures { AVcpuFindsAll }
+{}

@@ -1,0 +1,6 @@
+//! When an access of a CPU interface shows the guest with all that stands at interfaces taken back.
+#![tactic(auto)]
+
+mod laws;
+
+pub use laws::{a_vcpu_finds_all, rest_shows_home, stands_as_reached};
