@@ -22,3 +22,4 @@ pub mod CallLaws
 pub mod RestLemmas
 pub mod RestLaws
 pub mod WorkedLemmas
+pub mod EndLemmas

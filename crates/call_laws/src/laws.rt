@@ -1,5 +1,5 @@
 //! Laws of calls while nobody else acts.
-ghost use Rattle.call_laws.specs.Laws.{InterfaceCallsPass, ResidencesPass, DeviceCallsPass, DistributorCallsPass, RedistributorCallsPass, MemoryCallsPass, ItsCallsPass, CallsPassHome, RestStays};
+ghost use Rattle.call_laws.specs.Laws.{InterfaceCallsPass, ResidencesPass, DeviceCallsPass, DistributorCallsPass, RedistributorCallsPass, MemoryCallsPass, ItsCallsPass, CallsPassHome, CallsEndAgain, RestStays};
 ghost use Rattle.call_laws.specs.Worked.{MovallGathers};
 
 /// A law of every access of a CPU interface register that an actor makes while nobody else acts.
@@ -41,6 +41,12 @@ pub fn its_calls_pass()
 /// A law of every call, while nobody else acts and the guest is at rest.
 pub fn calls_pass_home()
     ensures { CallsPassHome }
+{}
+
+/// A law of every call while nobody else acts: all calls ended again after it, so the next one is such a call too.
+#[tactic(auto, using(crate::proofs::EndLemmas::calls_end_again))]
+pub fn calls_end_again()
+    ensures { CallsEndAgain }
 {}
 
 /// A law of the eager controller: a guest is at rest as it opens, and after each good operation of a vCPU and of a device, so
