@@ -23,3 +23,4 @@ pub mod RestLemmas
 pub mod RestLaws
 pub mod WorkedLemmas
 pub mod EndLemmas
+pub mod RunLaws

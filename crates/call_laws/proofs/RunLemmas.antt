@@ -208,7 +208,7 @@ pub record LoneRun (guest : GuestSpec) (moments : List Moment) (actor : ℕ) (op
   pub ended : IsEnded guest.shape actor (call_after actor (events_of piece) (last_of guest moments) (begun (last_of guest moments) operation)) answer
   pub is_call : IsCall guest.shape ended.beside (vcpu_of guest.shape actor) operation piece answer
 
-goes_first : (course : Course) (early late : List Moment) → GoesOn course (early ++ late) → GoesOn course early
+pub goes_first : (course : Course) (early late : List Moment) → GoesOn course (early ++ late) → GoesOn course early
 goes_first course [] late going = tt
 goes_first course (moment ∷ early) late going = (going.0, goes_first (gone_on course moment) early late going.1)
 

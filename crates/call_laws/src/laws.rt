@@ -1,5 +1,6 @@
 //! Laws of calls while nobody else acts.
 ghost use Rattle.call_laws.specs.Laws.{InterfaceCallsPass, ResidencesPass, DeviceCallsPass, DistributorCallsPass, RedistributorCallsPass, MemoryCallsPass, ItsCallsPass, CallsPassHome, CallsEndAgain, RestStays};
+ghost use Rattle.call_laws.specs.Runs.{RunsPassHome};
 ghost use Rattle.call_laws.specs.Worked.{MovallGathers};
 
 /// A law of every access of a CPU interface register that an actor makes while nobody else acts.
@@ -53,6 +54,13 @@ pub fn calls_end_again()
 /// the law of calls speaks of each call of a scenario that is done step by step.
 pub fn rest_stays()
     ensures { RestStays }
+{}
+
+/// A law of every history of calls, one after the other, of a good guest from its opening on: with all that stands at
+/// interfaces taken back, it is the eager controller's, answer by answer.
+#[tactic(auto, using(crate::proofs::RunLaws::runs_pass_home))]
+pub fn runs_pass_home()
+    ensures { RunsPassHome }
 {}
 
 /// A law of a worked call: a history may let a MOVALL from a vCPU to itself move an LPI of nobody to that vCPU, and the eager
