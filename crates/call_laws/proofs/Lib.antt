@@ -22,3 +22,5 @@ pub mod CallLaws
 pub mod RestLemmas
 pub mod RestLaws
 pub mod WorkedLemmas
+pub mod EndLemmas
+pub mod RunLaws

@@ -1,5 +1,5 @@
 -- A call while nobody else acts, as a run of the guest with all taken back.
-use Rattle.std.proofs.Common.{◌≡◌, ℕ, ◌<◌, ◌||◌, not, Bool, true, false, IsTrue, List, [], ◌∷◌, ◌++◌, map, Option, Some, is_some, refl, sym, ap, ◌∙◌, subst}
+use Rattle.std.proofs.Common.{◌≡◌, ℕ, ◌<◌, ◌||◌, not, Bool, true, false, IsTrue, List, [], ◌∷◌, ◌++◌, map, length, Option, Some, is_some, refl, sym, ap, ◌∙◌, subst}
 use Rattle.std.proofs.lemmas.Grind.{fold-append}
 use Rattle.gic_base.specs.declared.shape.GuestShape.{GuestShape}
 use Rattle.gic_call.specs.declared.event.Event.{Event}
@@ -198,6 +198,7 @@ home_steps shape actor (one ∷ piece) state tidy fine handed shows =
 -- The call.
 
 pub record LoneRun (guest : GuestSpec) (moments : List Moment) (actor : ℕ) (operation : Operation) (piece : List Happened) (answer : Option ℕ) : Type 0 where
+  pub there : actor < length (course_of (opening_course guest) moments).calls
   pub tidy : IsTidy guest.shape (last_of guest moments)
   pub shape_is : (home (last_of guest moments)).shape ≡ guest.shape
   pub run : IsHomeRun false (home (last_of guest moments)) piece
@@ -207,7 +208,7 @@ pub record LoneRun (guest : GuestSpec) (moments : List Moment) (actor : ℕ) (op
   pub ended : IsEnded guest.shape actor (call_after actor (events_of piece) (last_of guest moments) (begun (last_of guest moments) operation)) answer
   pub is_call : IsCall guest.shape ended.beside (vcpu_of guest.shape actor) operation piece answer
 
-goes_first : (course : Course) (early late : List Moment) → GoesOn course (early ++ late) → GoesOn course early
+pub goes_first : (course : Course) (early late : List Moment) → GoesOn course (early ++ late) → GoesOn course early
 goes_first course [] late going = tt
 goes_first course (moment ∷ early) late going = (going.0, goes_first (gone_on course moment) early late going.1)
 
@@ -232,12 +233,13 @@ lone_run guest moments actor operation piece answer is =
     let at = goes_all guest.shape (opening_course guest) moments (opens guest is.good) in
     let tidy = moments_tidy guest.shape (opening_course guest) moments early (opens_tidy guest is.good) in
     let open_call = begun course.ideal operation in
-    let end = ends_on actor answer piece (gone_on course (Begin actor operation)) open_call
-    (begun_here course actor operation (subst (λ n. actor < n) (sym at.each) (subst (λ s. actor < actor_count s) at.shape_is going.0.0))) going.1 in
+    let there = subst (λ n. actor < n) (sym at.each) (subst (λ s. actor < actor_count s) at.shape_is going.0.0) in
+    let end = ends_on actor answer piece (gone_on course (Begin actor operation)) open_call (begun_here course actor operation there) going.1 in
     let steps = home_steps guest.shape actor piece course.ideal tidy end.fine end.handed is.shows in
     let last = call_after actor (events_of piece) course.ideal open_call in
     let ended = subst (λ s. IsEnded s actor last answer) (shape_after actor (events_of piece) course.ideal ∙ tidy.shape_is) end.ended in
     record {
+      there = there;
       tidy = tidy;
       shape_is = ap (λ (g : IdealGuest). g.shape) (home_rest course.ideal) ∙ tidy.shape_is;
       run = subst (λ o. IsHomeRun (is_some o) (home course.ideal) piece) (nobody_spreads guest moments is.good early is.whole) steps.run;

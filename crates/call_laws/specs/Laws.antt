@@ -1,20 +1,23 @@
 -- Laws of calls while nobody else acts, kind by kind.
-use Rattle.std.specs.Prelude.{ℕ, ◌<◌, IsTrue, Option}
+use Rattle.std.specs.Prelude.{ℕ, ◌<◌, IsTrue, List, ◌++◌, Option}
 use Rattle.gic_base.specs.declared.icc.IccReg.{IccReg}
 use Rattle.gic_base.specs.declared.operation.DeviceOp.{DeviceOp}
 use Rattle.gic_base.specs.declared.operation.Frame.TheVariants.{Dist, Redist, Its, Ram}
 use Rattle.gic_base.specs.declared.operation.GuestOp.{GuestOp}
 use Rattle.gic_base.specs.declared.operation.GuestOp.TheVariants.{Icc, Mem}
+use Rattle.gic_call.specs.declared.event.Moment.{Moment}
 use Rattle.gic_call.specs.declared.event.Operation.{Operation}
 use Rattle.gic_call.specs.declared.event.Operation.TheVariants.{Access, Device, Residence}
 use Rattle.gic_call.specs.Call.{device_events}
+use Rattle.gic_call.specs.Trace.{Happened}
+use Rattle.gic_history.specs.History.{IsWhole}
 use Rattle.ideal_guest.specs.declared.guest.IdealGuest.{IdealGuest}
 use Rattle.ideal_guest.specs.Ideal.{view_of, after_events}
 use Rattle.ideal_guest.specs.Opening.{opening}
 use Rattle.gic_ideal.specs.Deeds.{op_events}
 use Rattle.scn_base.specs.declared.guest.GuestSpec.{GuestSpec}
 use Rattle.scn_base.specs.Good.{IsGoodGuest, is_good_op, is_good_event}
-use Rattle.call_laws.specs.Calls.{IsAtRest, PassesHome, PassesAtRest}
+use Rattle.call_laws.specs.Calls.{lone_call, IsLoneCall, IsAtRest, PassesHome, PassesAtRest}
 
 -- an access of a CPU interface register, with the SGIs that a write of SGI1R sends
 abbrev pub InterfaceCallsPass : Type 0
@@ -47,6 +50,12 @@ ItsCallsPass = (offset size : ℕ) (write : Option ℕ) → PassesAtRest (Access
 -- any call
 abbrev pub CallsPassHome : Type 0
 CallsPassHome = (operation : Operation) → PassesAtRest operation
+
+-- all calls ended again after such a call
+abbrev pub CallsEndAgain : Type 0
+CallsEndAgain =
+    (guest : GuestSpec) (moments : List Moment) (actor : ℕ) (operation : Operation) (piece : List Happened) (answer : Option ℕ) → IsLoneCall guest moments actor operation piece answer
+    → IsWhole guest (moments ++ lone_call actor operation piece answer)
 
 -- what calls rest on stays under the eager controller: a guest is at rest as it opens, and after each operation of a vCPU and of a device
 pub record RestStays : Type 0 where

@@ -1,5 +1,6 @@
 //! Laws of calls while nobody else acts.
-ghost use Rattle.call_laws.specs.Laws.{InterfaceCallsPass, ResidencesPass, DeviceCallsPass, DistributorCallsPass, RedistributorCallsPass, MemoryCallsPass, ItsCallsPass, CallsPassHome, RestStays};
+ghost use Rattle.call_laws.specs.Laws.{InterfaceCallsPass, ResidencesPass, DeviceCallsPass, DistributorCallsPass, RedistributorCallsPass, MemoryCallsPass, ItsCallsPass, CallsPassHome, CallsEndAgain, RestStays};
+ghost use Rattle.call_laws.specs.Runs.{RunsPassHome};
 ghost use Rattle.call_laws.specs.Worked.{MovallGathers};
 
 /// A law of every access of a CPU interface register that an actor makes while nobody else acts.
@@ -43,10 +44,23 @@ pub fn calls_pass_home()
     ensures { CallsPassHome }
 {}
 
+/// A law of every call while nobody else acts: all calls ended again after it, so the next one is such a call too.
+#[tactic(auto, using(crate::proofs::EndLemmas::calls_end_again))]
+pub fn calls_end_again()
+    ensures { CallsEndAgain }
+{}
+
 /// A law of the eager controller: a guest is at rest as it opens, and after each good operation of a vCPU and of a device, so
 /// the law of calls speaks of each call of a scenario that is done step by step.
 pub fn rest_stays()
     ensures { RestStays }
+{}
+
+/// A law of every history of calls, one after the other, of a good guest from its opening on: with all that stands at
+/// interfaces taken back, it is the eager controller's, answer by answer.
+#[tactic(auto, using(crate::proofs::RunLaws::runs_pass_home))]
+pub fn runs_pass_home()
+    ensures { RunsPassHome }
 {}
 
 /// A law of a worked call: a history may let a MOVALL from a vCPU to itself move an LPI of nobody to that vCPU, and the eager

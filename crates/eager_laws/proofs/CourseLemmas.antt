@@ -51,7 +51,7 @@ call_append actor (event ∷ first) next state call = call_append actor first ne
 
 -- Where one actor is in a call, and where none is.
 
-abbrev in_call : ℕ → ℕ → Call → Ideal → Course
+abbrev pub in_call : ℕ → ℕ → Call → Ideal → Course
 in_call count actor call state = record { ideal = state; calls = slice_set (replicate count None) actor (Some call) }
 
 abbrev pub idle : ℕ → Ideal → Course
@@ -66,7 +66,7 @@ calls_on f g call zero actor h = absurd (omega (arith, h))
 calls_on f g call (suc count) zero h = ap (λ xs. Some (f (g call)) ∷ xs) (none_mapped f count)
 calls_on f g call (suc count) (suc actor) h = ap (λ xs. None ∷ xs) (calls_on f g call count actor (omega (arith, h)))
 
-calls_off : (call : Call) (count actor : ℕ) → slice_set (slice_set (replicate count None) actor (Some call)) actor None ≡ replicate count None
+pub calls_off : (call : Call) (count actor : ℕ) → slice_set (slice_set (replicate count None) actor (Some call)) actor None ≡ replicate count None
 calls_off call zero actor = refl
 calls_off call (suc count) zero = refl
 calls_off call (suc count) (suc actor) = ap (λ xs. None ∷ xs) (calls_off call count actor)
@@ -86,7 +86,7 @@ call_goes count actor (event ∷ events) state call h fine = (
       (call_goes count actor events (happened actor event state) (seeing (happened actor event state) (made state event (handed_out state event) call)) h fine.1),
 )
 
-call_course : (count actor : ℕ) (events : List Event) (state : Ideal) (call : Call) → actor < count → course_of (in_call count actor call state) (map (moment_of actor) (happenings actor events state)) ≡ in_call count actor (call_after actor events state call) (state_after actor events state)
+pub call_course : (count actor : ℕ) (events : List Event) (state : Ideal) (call : Call) → actor < count → course_of (in_call count actor call state) (map (moment_of actor) (happenings actor events state)) ≡ in_call count actor (call_after actor events state call) (state_after actor events state)
 call_course count actor [] state call h = refl
 call_course count actor (event ∷ events) state call h =
     ap (λ c. course_of c (map (moment_of actor) (happenings actor events (happened actor event state)))) (one_on count actor call state event (handed_out state event) h)
