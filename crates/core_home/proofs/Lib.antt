@@ -6,3 +6,6 @@ pub mod ListLemmas
 pub mod ShowLemmas
 pub mod ShowRuns
 pub mod WorkedLemmas
+pub mod StoodLemmas
+pub mod DoneLemmas
+pub mod DoneRuns

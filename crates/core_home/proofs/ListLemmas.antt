@@ -1,5 +1,5 @@
 -- Elements of lists, and the first of candidates that two lists have.
-use Rattle.std.proofs.Common.{◌≡◌, ℕ, ◌+◌, ◌<◌, ◌||◌, ◌⊎◌, IsSome, zero, suc, inl, inr, true≢false, Bool, true, false, cond, List, [], ◌∷◌, filter, Contains, Option, Some, None, refl, sym, ap, ◌∙◌, subst, arith}
+use Rattle.std.proofs.Common.{◌≡◌, ℕ, ◌+◌, ◌<◌, ◌||◌, ◌⊎◌, IsSome, zero, suc, inl, inr, true≢false, Bool, true, false, cond, List, [], ◌∷◌, filter, length, slice_index_or, Contains, is_some, Option, Some, None, refl, sym, ap, ◌∙◌, subst, arith}
 use Rattle.std.specs.List.{list_any, range_with_len}
 use Rattle.std.specs.Option.{option_map_or}
 use Rattle.std.proofs.lemmas.List.Elements.{All-contains}
@@ -24,6 +24,12 @@ none_passes p (x ∷ xs) h = of (p x) h (none_passes p xs)
     of : (b : Bool) → cond b (x ∷ filter p xs) (filter p xs) ≡ [] → (filter p xs ≡ [] → list_any p xs ≡ false) → (b || list_any p xs) ≡ false
     of true h later = absurd (cc)
     of false h later = later h
+
+-- where a place of a list has something the list reaches
+pub some_in_range : {X : Type 0} (xs : List (Option X)) (n : ℕ) → is_some (slice_index_or xs n None) ≡ true → n < length xs
+some_in_range [] n h = absurd (cc)
+some_in_range (x ∷ xs) zero h = omega arith
+some_in_range (x ∷ xs) (suc n) h = omega (arith, some_in_range xs n h)
 
 -- a range
 range_holds : (a n i : ℕ) → i < n → Contains (range_with_len a n) (a + i)

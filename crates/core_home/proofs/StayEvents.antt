@@ -251,7 +251,7 @@ module _ (shape : GuestShape) (good : IsShape shape) (at : Followed) (tidy : IsT
   stored_other irq key is differ = irq_changed at.ideal.guest other key (λ b. irq) tidy.whole (guest_has key is) ∙ ap (λ b. cond b irq (irq_at at.ideal.guest key)) (other_key key other differ)
 
   -- and what stands at the interface once others stand there
-  placed_as : (key : Key) (vcpu : ℕ) (standing : List Standing) → filter (is_of key) standing ≡ of_key at.ideal key w → of_key (with_standing at.ideal w standing) key vcpu ≡ of_key at.ideal key vcpu
+  pub placed_as : (key : Key) (vcpu : ℕ) (standing : List Standing) → filter (is_of key) standing ≡ of_key at.ideal key w → of_key (with_standing at.ideal w standing) key vcpu ≡ of_key at.ideal key vcpu
   placed_as key vcpu standing same = elim (cases_eq vcpu w) [
     | inl e ↦ subst (λ v. of_key (with_standing at.ideal w standing) key v ≡ of_key at.ideal key v) (sym e) (put_here at.ideal key w standing within ∙ same)
     | inr differ ↦ put_other at.ideal key w standing vcpu differ

@@ -83,7 +83,7 @@ pub record IsAlong (shape : GuestShape) (course : Course) (at : Followed) : Type
   pub all : AllAsReached shape at
 
 module _ (shape : GuestShape) (good : IsShape shape) where
-  moment_along : (course : Course) (at : Followed) (moment : Moment) → IsNext course moment → IsAlong shape course at → IsAlong shape (gone_on course moment) (follows at moment)
+  pub moment_along : (course : Course) (at : Followed) (moment : Moment) → IsNext course moment → IsAlong shape course at → IsAlong shape (gone_on course moment) (follows at moment)
   moment_along course at (Begin actor operation) next is =
       record { same = is.same; tidy = is.tidy; each = is.each; all = λ key vcpu entry here none. let so = is.all key vcpu entry here none in record { pending = so.pending; leaves = so.leaves } }
   moment_along course at (End actor answer) next is =
@@ -101,7 +101,7 @@ module _ (shape : GuestShape) (good : IsShape shape) where
   moments_along course at [] going is = (is.all, is.tidy)
   moments_along course at (moment ∷ moments) going is = moments_along (gone_on course moment) (follows at moment) moments going.1 (moment_along course at moment going.0 is)
 
-opens_along : (guest : GuestSpec) → IsGoodGuest guest → IsAlong guest.shape (opening_course guest) (opening_followed guest)
+pub opens_along : (guest : GuestSpec) → IsGoodGuest guest → IsAlong guest.shape (opening_course guest) (opening_followed guest)
 opens_along guest good = record {
   same = refl;
   tidy = opens_tidy guest good;

@@ -1,3 +1,4 @@
 pub mod Stay
 pub mod Rest
 pub mod Worked
+pub mod Done

@@ -1,4 +1,5 @@
 //! Laws of histories.
+ghost use Rattle.core_home.specs.Done.{ChangesAreDone};
 ghost use Rattle.core_home.specs.Rest.{RestShowsHome};
 ghost use Rattle.core_home.specs.Stay.{StandsAsReached};
 ghost use Rattle.core_home.specs.Worked.{AVcpuFindsAll};
@@ -21,4 +22,10 @@ pub fn rest_shows_home()
 /// of vCPU 0, and that reads ICC_IAR1.
 pub fn a_vcpu_finds_all()
     ensures { AVcpuFindsAll }
+{}
+
+/// A law of every history of a good guest, of an interrupt that is at a vCPU's interface: where it was changed, since it got
+/// there, in a call or a command of one that goes on, that one has made an event of it.
+pub fn changes_are_done()
+    ensures { ChangesAreDone }
 {}

@@ -3,4 +3,4 @@
 
 mod laws;
 
-pub use laws::{a_vcpu_finds_all, rest_shows_home, stands_as_reached};
+pub use laws::{a_vcpu_finds_all, changes_are_done, rest_shows_home, stands_as_reached};
