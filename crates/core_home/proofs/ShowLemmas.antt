@@ -37,7 +37,7 @@ use Rattle.home_laws.proofs.CpuLemmas.{named_own}
 use Rattle.home_laws.proofs.HomeLemmas.{home_irq, home_rest}
 use Rattle.home_laws.proofs.MoveLemmas.{routed_own}
 use Rattle.home_laws.proofs.SpotLemmas.{Spot, IsSpot, IsThere, IsTidy}
-use Rattle.vcpu_refill.proofs.ElementLemmas.{Contains-here, Contains-there, Contains-map, Contains-nothing, map_cases}
+use Rattle.vcpu_refill.proofs.ElementLemmas.{Contains-cases, Contains-here, Contains-there, Contains-map, Contains-nothing, map_cases}
 use Rattle.vcpu_refill.proofs.StandLemmas.{in_filter_map, from_filter_map}
 use Rattle.core_fresh.specs.Excuse.{Followed}
 use Rattle.core_home.specs.Rest.{IsAtRest, FindsAll}
@@ -115,8 +115,19 @@ module _ (shape : GuestShape) (good : IsShape shape) (at : Followed) (tidy : IsT
       of (Some one) is = somewhere one.vcpu one.entry is (home_irq shape state tidy key there (Some one) is) (all key one.vcpu one.entry is.here (rest.unchanged key there (not_home key one.vcpu (standing_of_key key one.entry) is.here)))
 
   -- nothing is to leave
-  none_leaves : (w : ℕ) (key : Key) → Contains at.track.leaving (w, key) → ⊥
-  none_leaves w key h = Contains-nothing (w, key) (subst (λ (l : List (ℕ × Key)). Contains l (w, key)) rest.none_late h)
+  none_leaves : (w : ℕ) (key : Key) → w < shape.vcpus → Contains at.track.leaving (w, key) → ⊥
+  none_leaves w key within h = true≢false (sym (rest.none_late w within) ∙ ap not (among_any at.track.leaving h))
+    where
+      among_any : (list : List (ℕ × Key)) → Contains list (w, key) → list_any (λ (pair : ℕ × Key). pair.0 == w) list ≡ true
+      among_any [] h = absurd (Contains-nothing (w, key) h)
+      among_any (pair ∷ list) h = elim (Contains-cases pair (w, key) list h) [
+        | inl e ↦ ap (λ b. b || list_any (λ (p : ℕ × Key). p.0 == w) list) (eq-eqb pair.0 w (ap (λ (p : ℕ × Key). p.0) e))
+        | inr later ↦ or_later (pair.0 == w) (list_any (λ (p : ℕ × Key). p.0 == w) list) (among_any list later)
+      ]
+        where
+          or_later : (a b : Bool) → b ≡ true → (a || b) ≡ true
+          or_later true b h = refl
+          or_later false b h = h
 
   -- Candidates.
 
@@ -324,7 +335,7 @@ module _ (shape : GuestShape) (good : IsShape shape) (at : Followed) (tidy : IsT
           ((and_parts (is_pending i) i.enabled (and_parts (is_pending i && i.enabled) (is_forwarded i) first.0).0).0, first.1)
 
       of : (b : Bool) → entry.pending ≡ b → Contains interface (as_shown (standing_of_key key entry))
-      of false e = absurd (none_leaves w key (reached.leaves e inactive (back_pending irq entry w is.entry.causes e (ripe_parts back vcpu two.0).0)))
+      of false e = absurd (none_leaves w key is.few (reached.leaves e inactive (back_pending irq entry w is.entry.causes e (ripe_parts back vcpu two.0).0)))
       of true e =
           let same : w ≡ vcpu = same_number w vcpu (target_in irq.route shape) (ripe_parts (record irq { rise = entry.rise; soft = entry.soft }) w (reached.pending e).ripe).1 (ripe_parts back vcpu two.0).1 in
           let here : of_key state key vcpu ≡ standing_of_key key entry ∷ [] = subst (λ v. of_key state key v ≡ standing_of_key key entry ∷ []) same is.here in

@@ -59,7 +59,7 @@ finds = record {
   history = shows.acknowledges;
   rest = record {
     unchanged = λ key has away. quiet_is (changes_of worked_guest.shape (followed_by worked_guest there).track key).since (is_home (followed_by worked_guest there).ideal key) (each_key worked_guest.shape is_quiet worked_shape all_quiet key has) away;
-    none_late = refl;
+    none_late = λ vcpu there. refl;
   };
   all = record {
     first = λ asks key has. not-true (comes_first (followed_by worked_guest there).ideal 0 key) (each_key worked_guest.shape (λ k. not (comes_first (followed_by worked_guest there).ideal 0 k)) worked_shape none_first key has);

@@ -5,7 +5,7 @@ use Rattle.gic_base.specs.declared.interrupt.Key.{Key}
 use Rattle.gic_base.specs.declared.shape.GuestShape.{GuestShape}
 use Rattle.gic_base.specs.Interrupt.{has_interrupt}
 use Rattle.gic_call.specs.declared.event.Moment.{Moment}
-use Rattle.gic_history.specs.Fresh.{asks_first, changes_of, comes_first, ended_by, is_far_active}
+use Rattle.gic_history.specs.Fresh.{asks_first, changes_of, comes_first, ended_by, has_left_all, is_far_active}
 use Rattle.gic_history.specs.History.{IsHistory}
 use Rattle.gic_history.specs.State.{Ideal, is_home}
 use Rattle.home_laws.specs.Home.{ShowsHome}
@@ -17,7 +17,7 @@ use Rattle.core_home.specs.Stay.{followed_by}
 -- no change is on its way to an interface, and nothing that is to leave one is late
 pub record IsAtRest (shape : GuestShape) (at : Followed) : Type 0 where
   pub unchanged : (key : Key) → IsTrue (has_interrupt shape key) → is_home at.ideal key ≡ false → (changes_of shape at.track key).since ≡ []
-  pub none_late : at.track.leaving ≡ []
+  pub none_late : (vcpu : ℕ) → vcpu < shape.vcpus → IsTrue (has_left_all at.track vcpu)
 
 -- no home interrupt comes before the first at the interface where an access asks for that, and none that an access ends is active by the vCPU
 pub record FindsAll (shape : GuestShape) (state : Ideal) (vcpu : ℕ) (reg : IccReg) (write : Option ℕ) : Type 0 where
