@@ -1,0 +1,6 @@
+pub mod EndedLemmas
+pub mod LeavingLemmas
+pub mod StayLemmas
+pub mod LateAccess
+pub mod LateDebts
+pub mod LateRuns
