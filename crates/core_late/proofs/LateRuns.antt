@@ -2,15 +2,12 @@
 use Rattle.std.proofs.Common.{◌≡◌, ◌≢◌, ℕ, ◌+◌, ◌<◌, ◌==◌, ◌&&◌, ◌||◌, ◌⊎◌, inl, inr, true≢false, not, Bool, true, false, IsTrue, All, List, [], ◌∷◌, ◌++◌, length, fold, Option, Some, None, refl, sym, ap, ◌∙◌, subst}
 use Rattle.std.specs.List.{list_any}
 use Rattle.std.proofs.lemmas.Bool.{and_parts, cases_eq, eqb-true}
-use Rattle.std.proofs.lemmas.List.{append-nil}
 use Rattle.std.proofs.lemmas.List.Elements.{All-nil, All-head, All-tail, All-weaker}
 use Rattle.gic_base.specs.declared.interrupt.Key.{Key}
 use Rattle.gic_base.specs.declared.shape.GuestShape.{GuestShape}
-use Rattle.gic_call.specs.declared.event.Moment.{Moment}
 use Rattle.gic_call.specs.declared.event.Moment.TheVariants.{Happens}
 use Rattle.gic_call.specs.Trace.{Happened}
-use Rattle.gic_history.specs.Fresh.{Doing, Track, doing_of, is_kept_from, left_behind, with_doing, after_doing}
-use Rattle.gic_history.specs.State.{Ideal}
+use Rattle.gic_history.specs.Fresh.{Doing, doing_of, left_behind, with_doing, after_doing}
 use Rattle.scn_base.specs.declared.guest.GuestSpec.{GuestSpec}
 use Rattle.scn_base.specs.Good.{IsGoodGuest}
 use Rattle.port_core.specs.declared.at_list.AtIrq.{AtIrq}
@@ -22,23 +19,23 @@ use Rattle.port_core.specs.Condition.{Meets}
 use Rattle.port_core.specs.Effect.{succeeds}
 use Rattle.port_core.specs.Local.{is_at}
 use Rattle.port_core.specs.Run.{CoreState, opening, seat_at}
-use Rattle.core_proper.specs.Ideal.{end_of_moments, event_moments, ideal_moments, ideal_of}
+use Rattle.core_proper.specs.Ideal.{end_of_moments, event_moments, ideal_moments}
 use Rattle.core_proper.specs.Laws.{IsSeatOf}
 use Rattle.core_proper.specs.Parts.{Act, begins, makes, ends, CoreMoment}
 use Rattle.core_proper.specs.Progress.{Progress, is_paid, opening_progress, progressed, progress_in, stepped}
 use Rattle.core_proper.specs.Proper.{is_empty}
-use Rattle.core_proper.proofs.PartLemmas.{ideal_append}
 use Rattle.core_laws.specs.Simulates.{IsSimulatedAs}
 use Rattle.core_laws.proofs.AfterLemmas.{later}
 use Rattle.core_laws.proofs.StepContext.{IsStep}
 use Rattle.core_regs.proofs.StandRuns.{paid_begun, paid_ended}
-use Rattle.core_fresh.specs.Excuse.{Followed, follows, followed_in, opening_followed}
+use Rattle.core_fresh.specs.Excuse.{Followed, follows, followed_in}
 use Rattle.core_fresh.specs.Index.{owes_kick}
 use Rattle.core_fresh.proofs.Frame.{ends_command, event, follow, is_part, is_step, owing_goes_on, part_settled, progress_is, progress_on, settled_owes, simulated}
 use Rattle.core_fresh.proofs.ProgressLemmas.{local_on}
 use Rattle.core_fresh.proofs.RunFrame.{IsNextOf, followed_more, progress_more, progress_still, runs_on}
 use Rattle.core_fresh.proofs.TrackLemmas.{doing_other, happens_here, happens_other, is_queue}
 use Rattle.core_late.specs.Late.{AccessesComeFirst, LateOnesLeave, has_done_none, has_scanned, is_access_first}
+use Rattle.core_late.proofs.HistoryLemmas.{clause_from, history_more}
 use Rattle.core_late.proofs.LateDebts.{debt_now, late_stands, owes_then, seat_now}
 use Rattle.core_late.proofs.LeavingLemmas.{done_before, left_by, leaving_event, makes_one, none_before, none_left, stays_in}
 use Rattle.core_late.proofs.StayLemmas.{IsAccess, access_so, kick_before, owed_on, stays_at}
@@ -57,22 +54,6 @@ Staying vcpu p pair = pair.0 ≡ vcpu → IsStaying p pair.1
 record Kept (vcpu : ℕ) (at : Followed) (p : Progress) : Type 0 where
   pub told : IsTrue (owes_kick vcpu p.local) → IsTrue (has_done_none (doing_of at.track vcpu).done) → ⊥
   pub late : All (Staying vcpu p) at.track.leaving
-
--- A clause of a history that goes on.
-
-abbrev clause_from : (Ideal → Track → Moment → Bool) → Followed → List Moment → Bool
-clause_from clause at moments = is_kept_from clause at.ideal at.track moments
-
-kept_append : (clause : Ideal → Track → Moment → Bool) (early late : List Moment) (at : Followed) → IsTrue (clause_from clause at (early ++ late)) → IsTrue (clause_from clause at early) × IsTrue (clause_from clause (fold follows at early) late)
-kept_append clause [] late at h = (refl, h)
-kept_append clause (moment ∷ early) late at h =
-    let parts = and_parts (clause at.ideal at.track moment) (clause_from clause (follows at moment) (early ++ late)) h in
-    let rest = kept_append clause early late (follows at moment) parts.1 in
-    (joined (clause at.ideal at.track moment) (clause_from clause (follows at moment) early) parts.0 rest.0, rest.1)
-  where
-    joined : (a b : Bool) → IsTrue a → IsTrue b → IsTrue (a && b)
-    joined true b h g = g
-    joined false b h g = absurd (true≢false (sym h))
 
 unpaid : (before after : Bool) → (IsTrue after → IsTrue before) → before ≡ false → after ≡ false
 unpaid before true paid e = absurd (true≢false (sym (paid refl) ∙ e))
@@ -272,16 +253,9 @@ module _ (guest : GuestSpec) (number vcpu : ℕ) (good : IsGoodGuest guest) (wit
   abbrev KeptAt : List CoreMoment → Type 0
   KeptAt moments = AccessesComeFirst guest number moments → Kept vcpu (followed_in guest number moments) (progress_in guest number moments vcpu)
 
-  -- a history that goes on by a moment
-  history_more : (early : List CoreMoment) (actor : ℕ) (act : Act) → AccessesComeFirst guest number (early ++ record { actor = actor; act = act } ∷ []) → AccessesComeFirst guest number early × NowFirst early actor act
-  history_more early actor act first =
-      kept_append is_access_first (ideal_of shape (opening guest number) early) (ideal_moments shape (seat_at (StateOf early) actor) actor act) (opening_followed guest)
-      (subst (λ ms. IsTrue (clause_from is_access_first (opening_followed guest) ms))
-      (ideal_append shape (opening guest number) early (record { actor = actor; act = act } ∷ []) ∙ ap (λ rest. ideal_of shape (opening guest number) early ++ rest) (append-nil (ideal_moments shape (seat_at (StateOf early) actor) actor act))) first)
-
   one_more : (early : List CoreMoment) (actor : ℕ) (act : Act) → IsNextOf guest number early actor act → KeptAt early → KeptAt (early ++ record { actor = actor; act = act } ∷ [])
   one_more early actor act next kept first =
-      let more = history_more early actor act first in
+      let more = history_more is_access_first guest number early actor act first in
       subst (λ f. Kept vcpu f (progress_in guest number (early ++ record { actor = actor; act = act } ∷ []) vcpu)) (sym (followed_more guest number early (record { actor = actor; act = act })))
       (elim (cases_eq vcpu actor) [
         | inl same ↦ own_now same more

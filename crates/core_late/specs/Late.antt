@@ -4,7 +4,7 @@ use Rattle.gic_base.specs.declared.interrupt.Key.{Key}
 use Rattle.gic_call.specs.declared.event.Event.TheVariants.{Cpu}
 use Rattle.gic_call.specs.declared.event.Moment.{Moment}
 use Rattle.gic_call.specs.declared.event.Moment.TheVariants.{Happens}
-use Rattle.gic_history.specs.Fresh.{Track, doing_of, has_left_all, is_kept}
+use Rattle.gic_history.specs.Fresh.{Track, doing_of, has_left_all, is_kept, of_end}
 use Rattle.gic_history.specs.State.{Ideal}
 use Rattle.scn_base.specs.declared.guest.GuestSpec.{GuestSpec}
 use Rattle.scn_base.specs.Good.{IsGoodGuest}
@@ -38,3 +38,7 @@ abbrev pub LateOnesLeave : Type 0
 LateOnesLeave =
     (guest : GuestSpec) (number : ℕ) (moments : List CoreMoment) (vcpu : ℕ) → IsGoodGuest guest → IsProperRun guest number moments → vcpu < guest.shape.vcpus → AccessesComeFirst guest number moments → IsTrue (has_scanned (progress_in guest number moments vcpu))
     → IsTrue (has_left_all (followed_in guest number moments).track vcpu)
+
+-- so no call ends before each interrupt that is late there has left: what a fresh history asks of deactivations
+abbrev pub DeactivationsAreFresh : Type 0
+DeactivationsAreFresh = (guest : GuestSpec) (number : ℕ) (moments : List CoreMoment) → IsGoodGuest guest → IsProperRun guest number moments → AccessesComeFirst guest number moments → IsTrue (is_kept of_end guest (ideal_of guest.shape (opening guest number) moments))
