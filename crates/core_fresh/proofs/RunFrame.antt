@@ -64,6 +64,35 @@ pub record IsKeptAlong (guest : GuestSpec) (number : ℕ) (vcpu : ℕ) (Keeps : 
       → Keeps (after_moment guest.shape (end_of_moments guest.shape (opening guest number) early) (record { actor = vcpu; act = act }))
       (follow guest.shape (end_of_moments guest.shape (opening guest number) early) (followed_in guest number early) (record { actor = vcpu; act = act })) (progressed guest.shape vcpu (progress_in guest number early vcpu) act)
 
+-- what holds at the opening and is kept by each further moment is so at the end of each proper run
+module _ (guest : GuestSpec) (number : ℕ) (good : IsGoodGuest guest) (KeptAt : List CoreMoment → Type 0)
+    (one_more : (early : List CoreMoment) (actor : ℕ) (act : Act) → IsNextOf guest number early actor act → KeptAt early → KeptAt (early ++ record { actor = actor; act = act } ∷ [])) where
+  goes_along :
+      (late early : List CoreMoment) → IsProperRun guest number (early ++ late) → IsAt guest.shape (end_of_moments guest.shape (opening guest number) early) (followed_in guest number early) (progress_on guest.shape (opening_progress guest number) early)
+      → GoProperly guest.shape (end_of_moments guest.shape (opening guest number) early) (progress_on guest.shape (opening_progress guest number) early) late → KeptAt early → KeptAt (early ++ late)
+  goes_along [] early proper here go kept = subst KeptAt (sym (append-nil early)) kept
+  goes_along (moment ∷ late) early proper here go kept =
+      let acts = first_acts guest.shape (end_of_moments guest.shape (opening guest number) early) (progress_on guest.shape (opening_progress guest number) early) moment late go in
+      let whole : IsProperRun guest number ((early ++ moment ∷ []) ++ late) = subst (IsProperRun guest number) (sym (append_assoc early (moment ∷ []) late)) proper in
+      let next : IsNextOf guest number early moment.actor moment.act = record { before = proper_before guest number early (moment ∷ late) proper; after = proper_before guest number (early ++ moment ∷ []) late whole; at = here; acts = acts } in
+      let later = at_next guest.shape good.shape (end_of_moments guest.shape (opening guest number) early) (followed_in guest number early) (progress_on guest.shape (opening_progress guest number) early) moment.actor moment.act here acts in
+      let state_is = sym (end_more guest.shape (opening guest number) early moment) in
+      let progress_on_is = sym (fold-append (moved_on guest.shape) (opening_progress guest number) early (moment ∷ [])) in
+      let follow_is = sym (followed_more guest number early moment) in
+      subst KeptAt (append_assoc early (moment ∷ []) late)
+      (goes_along late (early ++ moment ∷ []) whole
+      (subst (λ s. IsAt guest.shape s (followed_in guest number (early ++ moment ∷ [])) (progress_on guest.shape (opening_progress guest number) (early ++ moment ∷ []))) state_is
+      (subst (λ f. IsAt guest.shape (after_moment guest.shape (end_of_moments guest.shape (opening guest number) early) moment) f (progress_on guest.shape (opening_progress guest number) (early ++ moment ∷ []))) follow_is
+      (subst (IsAt guest.shape (after_moment guest.shape (end_of_moments guest.shape (opening guest number) early) moment) (follow guest.shape (end_of_moments guest.shape (opening guest number) early) (followed_in guest number early) moment)) progress_on_is later)))
+      (subst (λ s. GoProperly guest.shape s (progress_on guest.shape (opening_progress guest number) (early ++ moment ∷ [])) late) state_is
+      (subst (λ q. GoProperly guest.shape (after_moment guest.shape (end_of_moments guest.shape (opening guest number) early) moment) q late) progress_on_is
+      (rest_go guest.shape (end_of_moments guest.shape (opening guest number) early) (progress_on guest.shape (opening_progress guest number) early) moment late go)))
+      (one_more early moment.actor moment.act next kept))
+
+  pub runs_on : KeptAt [] → (moments : List CoreMoment) → IsProperRun guest number moments → KeptAt moments
+  runs_on opens moments proper =
+      goes_along moments [] proper (at_opens guest number good) (record { actors = proper.parted.actors; parts = proper.parted.parts; run = proper.parted.run; proper = proper.proper }) opens
+
 module _ (guest : GuestSpec) (number vcpu : ℕ) (good : IsGoodGuest guest) (Keeps : CoreState → Followed → Progress → Type 0) (by : IsKeptAlong guest number vcpu Keeps) where
   -- what is kept at the end of some moments
   abbrev KeptAt : List CoreMoment → Type 0
@@ -88,29 +117,6 @@ module _ (guest : GuestSpec) (number vcpu : ℕ) (good : IsGoodGuest guest) (Kee
           (subst (λ p. Keeps (after_moment guest.shape (end_of_moments guest.shape (opening guest number) early) (record { actor = vcpu; act = act })) (follow guest.shape (end_of_moments guest.shape (opening guest number) early) (followed_in guest number early) (record { actor = vcpu; act = act })) p)
           (sym (progress_more guest number early vcpu act)) (by.own early act (subst (λ n. IsNextOf guest number early n act) (sym same) next) kept))
 
-  goes_along :
-      (late early : List CoreMoment) → IsProperRun guest number (early ++ late) → IsAt guest.shape (end_of_moments guest.shape (opening guest number) early) (followed_in guest number early) (progress_on guest.shape (opening_progress guest number) early)
-      → GoProperly guest.shape (end_of_moments guest.shape (opening guest number) early) (progress_on guest.shape (opening_progress guest number) early) late → KeptAt early → KeptAt (early ++ late)
-  goes_along [] early proper here go kept = subst KeptAt (sym (append-nil early)) kept
-  goes_along (moment ∷ late) early proper here go kept =
-      let acts = first_acts guest.shape (end_of_moments guest.shape (opening guest number) early) (progress_on guest.shape (opening_progress guest number) early) moment late go in
-      let whole : IsProperRun guest number ((early ++ moment ∷ []) ++ late) = subst (IsProperRun guest number) (sym (append_assoc early (moment ∷ []) late)) proper in
-      let next : IsNextOf guest number early moment.actor moment.act = record { before = proper_before guest number early (moment ∷ late) proper; after = proper_before guest number (early ++ moment ∷ []) late whole; at = here; acts = acts } in
-      let later = at_next guest.shape good.shape (end_of_moments guest.shape (opening guest number) early) (followed_in guest number early) (progress_on guest.shape (opening_progress guest number) early) moment.actor moment.act here acts in
-      let state_is = sym (end_more guest.shape (opening guest number) early moment) in
-      let progress_on_is = sym (fold-append (moved_on guest.shape) (opening_progress guest number) early (moment ∷ [])) in
-      let follow_is = sym (followed_more guest number early moment) in
-      subst KeptAt (append_assoc early (moment ∷ []) late)
-      (goes_along late (early ++ moment ∷ []) whole
-      (subst (λ s. IsAt guest.shape s (followed_in guest number (early ++ moment ∷ [])) (progress_on guest.shape (opening_progress guest number) (early ++ moment ∷ []))) state_is
-      (subst (λ f. IsAt guest.shape (after_moment guest.shape (end_of_moments guest.shape (opening guest number) early) moment) f (progress_on guest.shape (opening_progress guest number) (early ++ moment ∷ []))) follow_is
-      (subst (IsAt guest.shape (after_moment guest.shape (end_of_moments guest.shape (opening guest number) early) moment) (follow guest.shape (end_of_moments guest.shape (opening guest number) early) (followed_in guest number early) moment)) progress_on_is later)))
-      (subst (λ s. GoProperly guest.shape s (progress_on guest.shape (opening_progress guest number) (early ++ moment ∷ [])) late) state_is
-      (subst (λ q. GoProperly guest.shape (after_moment guest.shape (end_of_moments guest.shape (opening guest number) early) moment) q late) progress_on_is
-      (rest_go guest.shape (end_of_moments guest.shape (opening guest number) early) (progress_on guest.shape (opening_progress guest number) early) moment late go)))
-      (one_more early moment.actor moment.act next kept))
-
   -- every proper run
   pub runs_along : KeptAt [] → (moments : List CoreMoment) → IsProperRun guest number moments → KeptAt moments
-  runs_along opens moments proper =
-      goes_along moments [] proper (at_opens guest number good) (record { actors = proper.parted.actors; parts = proper.parted.parts; run = proper.parted.run; proper = proper.proper }) opens
+  runs_along opens moments proper = runs_on guest number good KeptAt one_more opens moments proper

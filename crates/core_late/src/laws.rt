@@ -1,0 +1,14 @@
+//! Laws of every proper run of the core.
+ghost use Rattle.core_late.specs.Late.{DeactivationsAreFresh, LateOnesLeave};
+
+/// A law of every proper run in which accesses come first in their calls, of a vCPU that owes no scan or has nothing at its
+/// interface: no interrupt that was deactivated there while it was pending in its record alone is still to leave.
+pub fn late_ones_leave()
+    ensures { LateOnesLeave }
+{}
+
+/// A law of every proper run in which accesses come first in their calls: each interrupt that was deactivated at a vCPU's
+/// interface while it was pending in its record alone has left before that vCPU's call ends, as a fresh history asks.
+pub fn deactivations_are_fresh()
+    ensures { DeactivationsAreFresh }
+{}
