@@ -1,0 +1,6 @@
+//! Accesses of a vCPU's CPU interface while nobody else acts.
+#![tactic(auto)]
+
+mod laws;
+
+pub use laws::lone_accesses_show_home;
