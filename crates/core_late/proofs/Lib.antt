@@ -6,3 +6,4 @@ pub mod LateDebts
 pub mod HistoryLemmas
 pub mod LateRuns
 pub mod EndRuns
+pub mod WorkedRuns

@@ -3,4 +3,4 @@
 
 mod laws;
 
-pub use laws::{deactivations_are_fresh, late_ones_leave};
+pub use laws::{deactivations_are_fresh, late_ones_leave, late_run_leaves, raised_run_stays};
