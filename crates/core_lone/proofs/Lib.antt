@@ -1,1 +1,2 @@
 pub mod LoneRuns
+pub mod WorkedLemmas

@@ -3,4 +3,4 @@
 
 mod laws;
 
-pub use laws::lone_accesses_show_home;
+pub use laws::{a_vcpu_is_alone, lone_accesses_show_home};
