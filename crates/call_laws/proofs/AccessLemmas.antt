@@ -43,7 +43,7 @@ use Rattle.eager_laws.proofs.CourseLemmas.{call_after}
 use Rattle.eager_laws.proofs.EventLemmas.{all_found}
 use Rattle.home_laws.proofs.HomeLemmas.{home_whole}
 use Rattle.scn_base.specs.declared.guest.GuestSpec.{GuestSpec}
-use Rattle.call_laws.specs.Calls.{lone_call, IsEagerCall, PassesHome}
+use Rattle.call_laws.specs.Calls.{lone_call, IsEagerCall, PassesAlone}
 use Rattle.call_laws.proofs.EnableLemmas.{enable_same}
 use Rattle.call_laws.proofs.NamedLemmas.{named_run}
 use Rattle.call_laws.proofs.PartLemmas.{IsMade}
@@ -204,7 +204,7 @@ module _ (guest : GuestSpec) (moments : List Moment) (actor : ℕ) (piece : List
 
 -- The laws.
 
-pub distributor_calls_pass : (offset size : ℕ) (write : Option ℕ) → PassesHome (Access (Mem Dist offset size write))
+pub distributor_calls_pass : (offset size : ℕ) (write : Option ℕ) → PassesAlone (Access (Mem Dist offset size write))
 distributor_calls_pass offset size write guest moments actor piece answer is = of (vcpu_of guest.shape actor) run.is_call
   where
     run : LoneRun guest moments actor (Access (Mem Dist offset size write)) piece answer
@@ -214,7 +214,7 @@ distributor_calls_pass offset size write guest moments actor piece answer is = o
     of None is_call = absurd is_call
     of (Some vcpu) is_call = dist_so guest moments actor piece answer offset size write run vcpu is_call
 
-pub redistributor_calls_pass : (vcpu offset size : ℕ) (write : Option ℕ) → PassesHome (Access (Mem (Redist vcpu) offset size write))
+pub redistributor_calls_pass : (vcpu offset size : ℕ) (write : Option ℕ) → PassesAlone (Access (Mem (Redist vcpu) offset size write))
 redistributor_calls_pass of_vcpu offset size write guest moments actor piece answer is = of (vcpu_of guest.shape actor) run.is_call
   where
     run : LoneRun guest moments actor (Access (Mem (Redist of_vcpu) offset size write)) piece answer
@@ -224,7 +224,7 @@ redistributor_calls_pass of_vcpu offset size write guest moments actor piece ans
     of None is_call = absurd is_call
     of (Some vcpu) is_call = redist_so guest moments actor piece answer of_vcpu offset size write run vcpu is_call
 
-pub memory_calls_pass : (offset size : ℕ) (write : Option ℕ) → PassesHome (Access (Mem Memory offset size write))
+pub memory_calls_pass : (offset size : ℕ) (write : Option ℕ) → PassesAlone (Access (Mem Memory offset size write))
 memory_calls_pass offset size write guest moments actor piece answer is = of (vcpu_of guest.shape actor) run.is_call
   where
     run : LoneRun guest moments actor (Access (Mem Memory offset size write)) piece answer

@@ -26,7 +26,7 @@ use Rattle.gic_history.specs.State.{Ideal}
 use Rattle.eager_laws.proofs.WindowLemmas.{is_no_turn}
 use Rattle.home_laws.proofs.HomeLemmas.{home_rest}
 use Rattle.scn_base.specs.declared.guest.GuestSpec.{GuestSpec}
-use Rattle.call_laws.specs.Calls.{lone_call, IsEagerCall, PassesHome}
+use Rattle.call_laws.specs.Calls.{lone_call, IsEagerCall, PassesAlone}
 use Rattle.call_laws.proofs.MapsLemmas.{keeps_maps, beside_maps, maps_taken}
 use Rattle.call_laws.proofs.NamedLemmas.{named_run}
 use Rattle.call_laws.proofs.ReadLemmas.{keeps, view_holds, beside_passes, some_named}
@@ -90,7 +90,7 @@ module _ (guest : GuestSpec) (moments : List Moment) (actor : ℕ) (piece : List
   device_so (Wire key up) run is = goes_so (Wire key up) run is refl
   device_so (Msi device event) run is = goes_so (Msi device event) run is (msi_same device event run is)
 
-pub device_calls_pass : (op : DeviceOp) → PassesHome (Device op)
+pub device_calls_pass : (op : DeviceOp) → PassesAlone (Device op)
 device_calls_pass op guest moments actor piece answer is = of (vcpu_of guest.shape actor) run.is_call
   where
     run : LoneRun guest moments actor (Device op) piece answer

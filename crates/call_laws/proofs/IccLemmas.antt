@@ -21,7 +21,7 @@ use Rattle.gic_history.specs.History.{vcpu_of, last_of}
 use Rattle.gic_history.specs.Moves.{home}
 use Rattle.eager_laws.proofs.EventLemmas.{all_found}
 use Rattle.scn_base.specs.declared.guest.GuestSpec.{GuestSpec}
-use Rattle.call_laws.specs.Calls.{lone_call, IsEagerCall, PassesHome}
+use Rattle.call_laws.specs.Calls.{lone_call, IsEagerCall, PassesAlone}
 use Rattle.call_laws.proofs.NamedLemmas.{named_run, IsIn, is_in, in_filter, event_passes, vcpu_is}
 use Rattle.call_laws.proofs.RunLemmas.{events_of, IsHomeRun, IsAnswer, LoneRun, lone_run}
 
@@ -80,7 +80,7 @@ module _ (guest : GuestSpec) (moments : List Moment) (actor : ℕ) (piece : List
             ∙ ap (access_answer reg write before) same;
       }
 
-pub interface_calls_pass : (reg : IccReg) (write : Option ℕ) → PassesHome (Access (Icc reg write))
+pub interface_calls_pass : (reg : IccReg) (write : Option ℕ) → PassesAlone (Access (Icc reg write))
 interface_calls_pass reg write guest moments actor piece answer is = of (vcpu_of guest.shape actor) refl run.is_call
   where
     run : LoneRun guest moments actor (Access (Icc reg write)) piece answer
@@ -91,7 +91,7 @@ interface_calls_pass reg write guest moments actor piece answer is = of (vcpu_of
     of None e is_call = absurd is_call
     of (Some vcpu) e is_call = icc_so guest moments actor piece answer reg write run vcpu (vcpu_is guest.shape actor vcpu e) is_call
 
-pub residences_pass : PassesHome Residence
+pub residences_pass : PassesAlone Residence
 residences_pass guest moments actor piece answer is = of (vcpu_of guest.shape actor) run.is_call
   where
     run : LoneRun guest moments actor Residence piece answer

@@ -48,7 +48,8 @@ use Rattle.call_laws.proofs.QueueLemmas.{queued_is, commands_done}
 use Rattle.call_laws.proofs.ReadLemmas.{beside_passes, some_named}
 use Rattle.call_laws.proofs.RunLemmas.{events_of, IsHomeRun, Follows, LoneRun}
 use Rattle.call_laws.proofs.TargetLemmas.{home_targets}
-use Rattle.call_laws.proofs.TurnLemmas.{its_all, IsRegistered, eager_so, already_so, registered, no_turn_both, makes_no_turn, started_no_turn, sound_run}
+use Rattle.call_laws.proofs.TurnLemmas.{its_all, IsRegistered, eager_so, already_so, registered, no_turn_passes, sound_run}
+use Rattle.call_laws.proofs.PassLemmas.{both_all, makes_all, started_all}
 
 module _ (guest : GuestSpec) (moments : List Moment) (actor : ℕ) (piece : List Happened) (answer : Option ℕ) (offset size value : ℕ) where
   abbrev op : Operation
@@ -121,9 +122,9 @@ module _ (guest : GuestSpec) (moments : List Moment) (actor : ℕ) (piece : List
         ∙ ap (λ (c : Call). c.maps) (call_append actor (events_of is.register) (events_of is.commands ++ events_of is.last) state open_call)
         ∙ maps_after actor (events_of is.commands ++ events_of is.last) (state_after actor (events_of is.register) state) (call_after actor (events_of is.register) state open_call)
         (ap (list_all is_no_turn) (sym (events_both is.commands is.last))
-        ∙ no_turn_both is.commands is.last
-        (started_no_turn (its_starts guest.shape is.view (its_decoded offset size) (Some value)) (Some vcpu) guest.shape run.ended.beside (its_written_by guest.shape is.view mine) is.views is.commands is.started)
-        (makes_no_turn (Some vcpu) is.view (ItsEnd ∷ []) [] [] is.last is.ended refl))
+        ∙ both_all is_no_turn no_turn_passes is.commands is.last
+        (started_all is_no_turn no_turn_passes (its_starts guest.shape is.view (its_decoded offset size) (Some value)) (Some vcpu) guest.shape run.ended.beside (its_written_by guest.shape is.view mine) is.views is.commands is.started)
+        (makes_all is_no_turn no_turn_passes (Some vcpu) is.view (ItsEnd ∷ []) [] [] is.last is.ended refl))
         ∙ maps_taken actor state.guest.tables (events_of is.register) state open_call refl keep_maps
         (some_named (λ event. not (is_no_turn event)) (Some vcpu) is.register (subst (λ es. list_any (λ event. not (is_no_turn event)) es ≡ true) (sym is.written.events_are) refl))
         ∙ ap (λ (g : IdealGuest). g.tables) (sym (home_rest state))

@@ -5,6 +5,7 @@ pub mod ReadLemmas
 pub mod MapsLemmas
 pub mod DeviceLemmas
 pub mod PartLemmas
+pub mod PassLemmas
 pub mod PlainLemmas
 pub mod TargetLemmas
 pub mod EnableLemmas

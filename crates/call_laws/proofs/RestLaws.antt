@@ -43,7 +43,8 @@ use Rattle.call_laws.specs.Calls.{IsAtRest}
 use Rattle.call_laws.specs.Laws.{RestStays}
 use Rattle.call_laws.proofs.ReadLemmas.{other_word}
 use Rattle.call_laws.proofs.RegisterLemmas.{ctlr_cwriter, ctlr_cbaser}
-use Rattle.call_laws.proofs.RestLemmas.{is_apart, its_same, takes_same, dist_apart, redist_apart, memory_apart, raises_apart, device_apart}
+use Rattle.call_laws.proofs.RestLemmas.{is_apart, apart_passes, its_same, takes_same}
+use Rattle.call_laws.proofs.PassLemmas.{dist_all, redist_all, memory_all, raises_all, device_all}
 
 module _ (guest : IdealGuest) (rest : IsAtRest guest) where
   -- A write of the ITS that starts no command leaves none to be taken.
@@ -99,17 +100,17 @@ module _ (guest : IdealGuest) (rest : IsAtRest guest) where
 
   -- Each operation.
   op_dry : (op : GuestOp) (vcpu : ℕ) → takes_command (view_of (after_events (op_events op guest vcpu) guest)) ≡ false
-  op_dry (Icc reg write) vcpu = takes_same (op_events (Icc reg write) guest vcpu) guest (raises_apart guest.shape vcpu reg write) ∙ rest.dry
+  op_dry (Icc reg write) vcpu = takes_same (op_events (Icc reg write) guest vcpu) guest (raises_all is_apart apart_passes guest.shape vcpu reg write) ∙ rest.dry
   op_dry (Mem Dist offset size write) vcpu =
       ap (λ g. takes_command (view_of g)) (op_is_events (Mem Dist offset size write) guest vcpu)
-      ∙ takes_same (dist_events guest.shape (view_of guest) (dist_decoded offset size) write) guest (dist_apart guest.shape (view_of guest) (dist_decoded offset size) write) ∙ rest.dry
+      ∙ takes_same (dist_events guest.shape (view_of guest) (dist_decoded offset size) write) guest (dist_all is_apart apart_passes guest.shape (view_of guest) (dist_decoded offset size) write) ∙ rest.dry
   op_dry (Mem (Redist of_vcpu) offset size write) vcpu =
       ap (λ g. takes_command (view_of g)) (op_is_events (Mem (Redist of_vcpu) offset size write) guest vcpu)
-      ∙ takes_same (redist_events guest.shape (view_of guest) of_vcpu (redist_decoded offset size) write) guest (redist_apart guest.shape (view_of guest) of_vcpu (redist_decoded offset size) write) ∙ rest.dry
+      ∙ takes_same (redist_events guest.shape (view_of guest) of_vcpu (redist_decoded offset size) write) guest (redist_all is_apart apart_passes guest.shape (view_of guest) of_vcpu (redist_decoded offset size) write) ∙ rest.dry
   op_dry (Mem Memory offset size None) vcpu = ap (λ g. takes_command (view_of g)) (op_is_events (Mem Memory offset size None) guest vcpu) ∙ rest.dry
   op_dry (Mem Memory offset size (Some value)) vcpu =
       ap (λ g. takes_command (view_of g)) (op_is_events (Mem Memory offset size (Some value)) guest vcpu)
-      ∙ takes_same (memory_written guest.shape (view_of guest) offset size value) guest (memory_apart guest.shape (view_of guest) offset size value) ∙ rest.dry
+      ∙ takes_same (memory_written guest.shape (view_of guest) offset size value) guest (memory_all is_apart apart_passes guest.shape (view_of guest) offset size value) ∙ rest.dry
   op_dry (Mem Its offset size None) vcpu = ap (λ g. takes_command (view_of g)) (op_is_events (Mem Its offset size None) guest vcpu) ∙ read_dry (its_decoded offset size)
   op_dry (Mem Its offset size (Some value)) vcpu =
       ap (λ g. takes_command (view_of g)) (op_is_events (Mem Its offset size (Some value)) guest vcpu)
@@ -125,11 +126,11 @@ module _ (guest : IdealGuest) (rest : IsAtRest guest) where
   device_rest : (op : DeviceOp) → IsTrue (is_good_event guest.shape op) → IsAtRest (after_events (device_events (view_of guest) op) guest)
   device_rest op good =
       let events = device_events (view_of guest) op in
-      let same = its_same events guest (device_apart (view_of guest) op) in
+      let same = its_same events guest (device_all is_apart apart_passes (view_of guest) op) in
       record {
         sound = sound_events guest events rest.sound (free_follow guest events (device_valid guest.shape (view_of guest) op rest.sound.maps good));
         order = order_as guest (after_events events guest) rest.order (sym same.cbaser) (sym same.cwriter) (sym same.offset);
-        dry = takes_same events guest (device_apart (view_of guest) op) ∙ rest.dry;
+        dry = takes_same events guest (device_all is_apart apart_passes (view_of guest) op) ∙ rest.dry;
       }
 
 opens_rest : (guest : GuestSpec) → IsGoodGuest guest → IsAtRest (opening guest)

@@ -13,6 +13,7 @@ use Rattle.ideal_guest.specs.Opening.{opening}
 use Rattle.gic_history.specs.State.{Ideal, Standing, opening as opening_ideal}
 use Rattle.gic_history.specs.Moves.{after_leave, emptied, home}
 use Rattle.gic_history.specs.History.{Call, IsHistory, IsWhole, actor_count, opening_course, last_of}
+use Rattle.history_laws.proofs.CourseLemmas.{goes_before}
 use Rattle.scn_base.specs.declared.guest.GuestSpec.{GuestSpec}
 use Rattle.scn_base.specs.Good.{IsGoodGuest, is_good_op, is_good_event}
 use Rattle.call_laws.specs.Calls.{eager_events, IsLoneCall, IsEagerCall, IsAtRest}
@@ -20,7 +21,7 @@ use Rattle.call_laws.specs.Runs.{LoneCall, moments_in, moments_of, IsGoodCall, A
 use Rattle.call_laws.proofs.CallLaws.{calls_pass_home}
 use Rattle.call_laws.proofs.EndLemmas.{calls_end_again}
 use Rattle.call_laws.proofs.RestLaws.{rest_stays}
-use Rattle.call_laws.proofs.RunLemmas.{goes_first, lone_run}
+use Rattle.call_laws.proofs.RunLemmas.{lone_run}
 
 -- As a guest opens, nothing stands at an interface.
 
@@ -58,7 +59,7 @@ runs_on guest (call ∷ calls) moments good whole history rest passing =
     let next = moments ++ moments_in call in
     let all : moments ++ (moments_in call ++ moments_of calls) ≡ next ++ moments_of calls = sym (append_assoc moments (moments_in call) (moments_of calls)) in
     let later : IsHistory guest (next ++ moments_of calls) = subst (IsHistory guest) all history in
-    let lone : IsLoneCall guest moments call.actor call.operation call.piece call.answer = record { good = good; whole = whole; history = goes_first (opening_course guest) next (moments_of calls) later; shows = passing.0.shows } in
+    let lone : IsLoneCall guest moments call.actor call.operation call.piece call.answer = record { good = good; whole = whole; history = (goes_before (opening_course guest) next (moments_of calls) later).0; shows = passing.0.shows } in
     let run = lone_run guest moments call.actor call.operation call.piece call.answer lone in
     let eager : IsEagerCall call.actor call.operation call.answer (home (last_of guest moments)) (home (last_of guest next)) = calls_pass_home call.operation guest moments call.actor call.piece call.answer lone rest passing.0.moves in
     let ends : IsWhole guest next = calls_end_again guest moments call.actor call.operation call.piece call.answer lone in

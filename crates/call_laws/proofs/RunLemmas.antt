@@ -17,11 +17,12 @@ use Rattle.ideal_guest.specs.Ideal.{access_answer, view_of, after_event, after_e
 use Rattle.gic_history.specs.State.{Ideal}
 use Rattle.gic_history.specs.Moves.{handed_out, happened, home}
 use Rattle.gic_history.specs.History.{targets_in, Call, Course, IsEnded, IsCallEnded, actor_count, vcpu_of, GoesOn, IsHistory, begun, made, seeing, gone_on, course_of, call_of, opening_course, last_of}
-use Rattle.history_laws.proofs.CourseLemmas.{IsCourse, opens, goes, begun_here, made_here}
+use Rattle.history_laws.proofs.CourseLemmas.{IsCourse, opens, goes, goes_before, begun_here, made_here}
 use Rattle.history_laws.proofs.EnableLaw.{nobody_spreads}
 use Rattle.history_laws.proofs.StateLemmas.{guest_is, take_cases, leave_cases}
 use Rattle.home_laws.proofs.HomeLemmas.{home_rest}
 use Rattle.scn_base.specs.declared.guest.GuestSpec.{GuestSpec}
+use Rattle.scn_base.specs.Good.{IsGoodGuest}
 use Rattle.eager_laws.specs.Moments.{happenings, moment_of}
 use Rattle.eager_laws.proofs.WindowLemmas.{operation_after, piece_after}
 use Rattle.eager_laws.proofs.CourseLemmas.{state_after, IsFine, AreFine, call_after}
@@ -208,14 +209,6 @@ pub record LoneRun (guest : GuestSpec) (moments : List Moment) (actor : ℕ) (op
   pub ended : IsEnded guest.shape actor (call_after actor (events_of piece) (last_of guest moments) (begun (last_of guest moments) operation)) answer
   pub is_call : IsCall guest.shape ended.beside (vcpu_of guest.shape actor) operation piece answer
 
-pub goes_first : (course : Course) (early late : List Moment) → GoesOn course (early ++ late) → GoesOn course early
-goes_first course [] late going = tt
-goes_first course (moment ∷ early) late going = (going.0, goes_first (gone_on course moment) early late going.1)
-
-goes_later : (course : Course) (early late : List Moment) → GoesOn course (early ++ late) → GoesOn (course_of course early) late
-goes_later course [] late going = going
-goes_later course (moment ∷ early) late going = goes_later (gone_on course moment) early late going.1
-
 goes_all : (shape : GuestShape) (course : Course) (moments : List Moment) → IsCourse shape course → IsCourse shape (course_of course moments)
 goes_all shape course [] at = at
 goes_all shape course (moment ∷ moments) at = goes_all shape (gone_on course moment) moments (goes shape course moment at)
@@ -224,30 +217,49 @@ shape_after : (actor : ℕ) (events : List Event) (state : Ideal) → (state_aft
 shape_after actor [] state = refl
 shape_after actor (event ∷ events) state = shape_after actor events (happened actor event state) ∙ (guest_is actor event state).shape
 
-pub lone_run : (guest : GuestSpec) (moments : List Moment) (actor : ℕ) (operation : Operation) (piece : List Happened) (answer : Option ℕ) → IsLoneCall guest moments actor operation piece answer → LoneRun guest moments actor operation piece answer
-lone_run guest moments actor operation piece answer is =
+-- as far as nobody asks what its accesses find
+pub record IsLoneEnded (guest : GuestSpec) (moments : List Moment) (actor : ℕ) (operation : Operation) (piece : List Happened) (answer : Option ℕ) : Type 0 where
+  pub there : actor < length (course_of (opening_course guest) moments).calls
+  pub end : LoneEnd actor answer (gone_on (course_of (opening_course guest) moments) (Begin actor operation)) (begun (last_of guest moments) operation) piece
+  pub ended : IsEnded guest.shape actor (call_after actor (events_of piece) (last_of guest moments) (begun (last_of guest moments) operation)) answer
+  pub is_call : IsCall guest.shape ended.beside (vcpu_of guest.shape actor) operation piece answer
+
+pub lone_ended : (guest : GuestSpec) (moments : List Moment) (actor : ℕ) (operation : Operation) (piece : List Happened) (answer : Option ℕ) → IsGoodGuest guest → IsHistory guest (moments ++ lone_call actor operation piece answer) → IsLoneEnded guest moments actor operation piece answer
+lone_ended guest moments actor operation piece answer good history =
     let call = lone_call actor operation piece answer in
     let course = course_of (opening_course guest) moments in
-    let early : IsHistory guest moments = goes_first (opening_course guest) moments call is.history in
-    let going : GoesOn course call = goes_later (opening_course guest) moments call is.history in
-    let at = goes_all guest.shape (opening_course guest) moments (opens guest is.good) in
-    let tidy = moments_tidy guest.shape (opening_course guest) moments early (opens_tidy guest is.good) in
+    let going : GoesOn course call = (goes_before (opening_course guest) moments call history).1 in
+    let at = goes_all guest.shape (opening_course guest) moments (opens guest good) in
     let open_call = begun course.ideal operation in
     let there = subst (λ n. actor < n) (sym at.each) (subst (λ s. actor < actor_count s) at.shape_is going.0.0) in
     let end = ends_on actor answer piece (gone_on course (Begin actor operation)) open_call (begun_here course actor operation there) going.1 in
-    let steps = home_steps guest.shape actor piece course.ideal tidy end.fine end.handed is.shows in
     let last = call_after actor (events_of piece) course.ideal open_call in
-    let ended = subst (λ s. IsEnded s actor last answer) (shape_after actor (events_of piece) course.ideal ∙ tidy.shape_is) end.ended in
+    let ended = subst (λ s. IsEnded s actor last answer) (shape_after actor (events_of piece) course.ideal ∙ at.shape_is) end.ended in
     record {
       there = there;
-      tidy = tidy;
-      shape_is = ap (λ (g : IdealGuest). g.shape) (home_rest course.ideal) ∙ tidy.shape_is;
-      run = subst (λ o. IsHomeRun (is_some o) (home course.ideal) piece) (nobody_spreads guest moments is.good early is.whole) steps.run;
-      goes = ap (λ (c : Course). home c.ideal) (fold-append gone_on (opening_course guest) moments call) ∙ ap home end.ideal_is ∙ steps.goes;
-      follows = steps.follows;
-      piece_is = end.piece_is;
+      end = end;
       ended = ended;
       is_call =
           subst (λ op. IsCall guest.shape ended.beside (vcpu_of guest.shape actor) op piece answer) (operation_after actor (events_of piece) course.ideal open_call)
           (subst (λ xs. IsCall guest.shape ended.beside (vcpu_of guest.shape actor) last.operation xs answer) (piece_after actor (events_of piece) course.ideal open_call ∙ sym end.piece_is) ended.is_call);
+    }
+
+pub lone_run : (guest : GuestSpec) (moments : List Moment) (actor : ℕ) (operation : Operation) (piece : List Happened) (answer : Option ℕ) → IsLoneCall guest moments actor operation piece answer → LoneRun guest moments actor operation piece answer
+lone_run guest moments actor operation piece answer is =
+    let call = lone_call actor operation piece answer in
+    let course = course_of (opening_course guest) moments in
+    let early : IsHistory guest moments = (goes_before (opening_course guest) moments call is.history).0 in
+    let tidy = moments_tidy guest.shape (opening_course guest) moments early (opens_tidy guest is.good) in
+    let so = lone_ended guest moments actor operation piece answer is.good is.history in
+    let steps = home_steps guest.shape actor piece course.ideal tidy so.end.fine so.end.handed is.shows in
+    record {
+      there = so.there;
+      tidy = tidy;
+      shape_is = ap (λ (g : IdealGuest). g.shape) (home_rest course.ideal) ∙ tidy.shape_is;
+      run = subst (λ o. IsHomeRun (is_some o) (home course.ideal) piece) (nobody_spreads guest moments is.good early is.whole) steps.run;
+      goes = ap (λ (c : Course). home c.ideal) (fold-append gone_on (opening_course guest) moments call) ∙ ap home so.end.ideal_is ∙ steps.goes;
+      follows = steps.follows;
+      piece_is = so.end.piece_is;
+      ended = so.ended;
+      is_call = so.is_call;
     }

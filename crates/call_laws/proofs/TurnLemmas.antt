@@ -1,8 +1,7 @@
 -- A call that takes the ITS: the events of its register, and that its commands take no other turn.
-use Rattle.std.proofs.Common.{◌≡◌, ℕ, ◌+◌, ◌&&◌, Bool, true, false, cond, IsTrue, List, [], ◌∷◌, ◌++◌, Option, Some, refl, sym, ap, ◌∙◌, subst}
+use Rattle.std.proofs.Common.{◌≡◌, ℕ, ◌&&◌, Bool, true, false, cond, IsTrue, List, [], ◌∷◌, Option, Some, refl, sym, ap, ◌∙◌, subst}
 use Rattle.std.specs.List.{list_all}
 use Rattle.std.proofs.lemmas.Bool.{and_parts, and_from}
-use Rattle.std.proofs.lemmas.List.Folds.{list_all-append}
 use Rattle.gic_base.specs.declared.shape.GuestShape.{GuestShape}
 use Rattle.gic_frame.specs.declared.bank.Half.{Half}
 use Rattle.gic_frame.specs.Guest.{has_lpis}
@@ -11,16 +10,13 @@ use Rattle.gic_imap.specs.declared.map.Reg.TheVariants.{Ctlr as ItsCtlrReg, Iidr
 use Rattle.gic_imap.specs.declared.map.RegRef.{RegRef as ItsRef}
 use Rattle.gic_imap.specs.declared.map.RegRef.TheVariants.{Plain as ItsPlain, Reserved as ItsReserved}
 use Rattle.gic_open.specs.declared.plain.PlainWord.{PlainWord}
-use Rattle.gic_call.specs.declared.command.Part.{Part}
-use Rattle.gic_call.specs.declared.command.Part.TheVariants.{Forget, Map, Retarget, Raise as RaisePart, Clear, Configure}
 use Rattle.gic_call.specs.declared.event.Event.{Event}
 use Rattle.gic_call.specs.declared.event.Event.TheVariants.{Raise, Up, Down, Touch, Reach, Take, Leave, Enable, Cpu, Read, Put, CtlrBegin, CtlrEnd, ItsBegin, ItsEnd, Queue}
-use Rattle.gic_call.specs.declared.event.Place.{Place}
+use Rattle.gic_call.specs.declared.event.QueueChange.{QueueChange}
 use Rattle.gic_call.specs.declared.event.QueueChange.TheVariants.{Runs, Done, Stalls}
 use Rattle.gic_call.specs.Access.{its_written, takes_its, starts_commands as register_starts}
 use Rattle.gic_call.specs.Call.{its_events, its_starts, takes_turn}
-use Rattle.gic_call.specs.Command.{lpi_event, queue_event, command_parts}
-use Rattle.gic_call.specs.Trace.{Happened, is_beside, Beside, Makes, ArePartsThen, IsCommand, AreCommands, AreStarted, its_places, its_write_places, HaveSameIts, left_by}
+use Rattle.gic_call.specs.Trace.{Happened, is_beside, its_places, its_write_places, HaveSameIts}
 use Rattle.gic_call.specs.Valid.{CanHappen}
 use Rattle.gic_call.specs.View.{View}
 use Rattle.ideal_guest.specs.declared.guest.IdealGuest.{IdealGuest}
@@ -30,11 +26,9 @@ use Rattle.ideal_guest.specs.Sound.{IsSound}
 use Rattle.gic_ideal.specs.Laws.{CanFollow}
 use Rattle.gic_ideal.proofs.SoundEvents.{sound_event}
 use Rattle.eager_laws.proofs.WindowLemmas.{is_no_turn}
-use Rattle.call_laws.proofs.CommandLemmas.{events_both}
 use Rattle.call_laws.proofs.MapsLemmas.{keeps_maps}
-use Rattle.call_laws.proofs.OneLemmas.{queue_is}
 use Rattle.call_laws.proofs.PartLemmas.{IsMade}
-use Rattle.call_laws.proofs.ReadLemmas.{beside_passes}
+use Rattle.call_laws.proofs.PassLemmas.{PassesBeside}
 use Rattle.call_laws.proofs.RunLemmas.{events_of, spreading_after, IsHomeRun}
 use Rattle.call_laws.proofs.WrittenLemmas.{IsWritten, as_eager, stored_already, register_written}
 
@@ -120,47 +114,13 @@ beside_no_turn actor (Queue offset Runs) h = absurd (cc)
 beside_no_turn actor (Queue offset (Done words)) h = absurd (cc)
 beside_no_turn actor (Queue offset (Stalls fault)) h = absurd (cc)
 
-pub makes_no_turn : (actor : Option ℕ) (view : View) (events : List Event) (places : List Place) (before piece : List Happened) → Makes actor view events places before piece → IsTrue (list_all is_no_turn events) → IsTrue (list_all is_no_turn (events_of piece))
-makes_no_turn actor view events places before piece made none = beside_passes is_no_turn beside_no_turn actor piece (subst (λ es. IsTrue (list_all is_no_turn es)) (sym made.events_are) none)
-
-pub no_turn_both : (first next : List Happened) → IsTrue (list_all is_no_turn (events_of first)) → IsTrue (list_all is_no_turn (events_of next)) → IsTrue (list_all is_no_turn (events_of (first ++ next)))
-no_turn_both first next one two =
-    ap (list_all is_no_turn) (events_both first next) ∙ list_all-append is_no_turn (events_of first) (events_of next) ∙ and_from (list_all is_no_turn (events_of first)) (list_all is_no_turn (events_of next)) one two
-
-part_no_turn : (shape : GuestShape) (view : View) (targets : ℕ → Option ℕ) (part : Part) → is_no_turn (lpi_event shape view targets part) ≡ true
-part_no_turn shape view targets (Forget id) = refl
-part_no_turn shape view targets (Map id target) = refl
-part_no_turn shape view targets (Retarget id target) = refl
-part_no_turn shape view targets (RaisePart id) = refl
-part_no_turn shape view targets (Clear id) = refl
-part_no_turn shape view targets (Configure id) = refl
-
-parts_no_turn : (actor : Option ℕ) (shape : GuestShape) (targets : ℕ → Option ℕ) (parts : List Part) (Rest : List Happened → List Happened → Type 0) → ((before piece : List Happened) → Rest before piece → IsTrue (list_all is_no_turn (events_of piece)))
-    → (before piece : List Happened) → ArePartsThen actor shape targets parts Rest before piece → IsTrue (list_all is_no_turn (events_of piece))
-parts_no_turn actor shape targets [] Rest rest before piece are = rest before piece are
-parts_no_turn actor shape targets (part ∷ parts) Rest rest before piece are =
-    subst (λ xs. IsTrue (list_all is_no_turn (events_of xs))) (sym are.split)
-    (no_turn_both are.own are.rest
-    (makes_no_turn actor are.view (lpi_event shape are.view targets part ∷ []) _ before are.own are.made (and_from (is_no_turn (lpi_event shape are.view targets part)) true (part_no_turn shape are.view targets part) refl))
-    (parts_no_turn actor shape targets parts Rest rest (before ++ are.own) are.rest are.later))
-
-command_no_turn : (actor : Option ℕ) (shape : GuestShape) (view : View) (piece : List Happened) → IsCommand actor shape view piece → IsTrue (list_all is_no_turn (events_of piece))
-command_no_turn actor shape view piece is =
-    subst (λ xs. IsTrue (list_all is_no_turn (events_of xs))) (sym is.split)
-    (no_turn_both is.fetch is.rest (makes_no_turn actor view [] _ [] is.fetch is.fetched refl)
-    (parts_no_turn actor shape view.targets (command_parts shape view) (λ before after. Makes actor view (queue_event shape view ∷ []) [] before after)
-    (λ before after made. makes_no_turn actor view (queue_event shape view ∷ []) [] before after made (and_from (is_no_turn (queue_event shape view)) true (queue_is shape view (λ e. is_no_turn e ≡ true) (λ fault. refl) refl) refl))
-    is.fetch is.rest is.done))
-
-commands_no_turn : (actor : Option ℕ) (shape : GuestShape) (beside : Beside) (views : List View) (number : ℕ) (its : View) (piece : List Happened) → AreCommands actor shape beside number its views piece → IsTrue (list_all is_no_turn (events_of piece))
-commands_no_turn actor shape beside [] number its piece are = makes_no_turn actor its [] [] [] piece are.0 refl
-commands_no_turn actor shape beside (view ∷ views) number its piece are =
-    subst (λ xs. IsTrue (list_all is_no_turn (events_of xs))) (sym are.split)
-    (no_turn_both are.own are.rest (command_no_turn actor shape view are.own are.command) (commands_no_turn actor shape beside views (number + 1) (left_by shape view (queue_event shape view)) are.rest are.later))
-
-pub started_no_turn : (b : Bool) (actor : Option ℕ) (shape : GuestShape) (beside : Beside) (its : View) (views : List View) (piece : List Happened) → AreStarted b actor shape beside its views piece → IsTrue (list_all is_no_turn (events_of piece))
-started_no_turn true actor shape beside its views piece are = commands_no_turn actor shape beside views 0 its piece are
-started_no_turn false actor shape beside its views piece are = makes_no_turn actor its [] [] [] piece are refl
+pub no_turn_passes : PassesBeside is_no_turn
+no_turn_passes = record { beside = beside_no_turn; raise = λ key. refl; touch = λ key touching. refl; queue = queue_so }
+  where
+    queue_so : (offset : ℕ) (change : QueueChange) → is_no_turn (Queue offset change) ≡ true
+    queue_so offset Runs = refl
+    queue_so offset (Done words) = refl
+    queue_so offset (Stalls fault) = refl
 
 -- A run in which no command ends leaves a sound guest.
 

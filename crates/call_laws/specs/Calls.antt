@@ -69,8 +69,8 @@ pub record IsEagerCall (actor : ℕ) (operation : Operation) (answer : Option �
   pub answers : answer ≡ eager_read operation actor before
 
 -- so does each such call of an operation, to the guest with all taken back
-abbrev pub PassesHome : Operation → Type 0
-PassesHome operation =
+abbrev pub PassesAlone : Operation → Type 0
+PassesAlone operation =
     (guest : GuestSpec) (moments : List Moment) (actor : ℕ) (piece : List Happened) (answer : Option ℕ) → IsLoneCall guest moments actor operation piece answer
     → IsEagerCall actor operation answer (home (last_of guest moments)) (home (last_of guest (moments ++ lone_call actor operation piece answer)))
 

@@ -17,31 +17,31 @@ use Rattle.ideal_guest.specs.Opening.{opening}
 use Rattle.gic_ideal.specs.Deeds.{op_events}
 use Rattle.scn_base.specs.declared.guest.GuestSpec.{GuestSpec}
 use Rattle.scn_base.specs.Good.{IsGoodGuest, is_good_op, is_good_event}
-use Rattle.call_laws.specs.Calls.{lone_call, IsLoneCall, IsAtRest, PassesHome, PassesAtRest}
+use Rattle.call_laws.specs.Calls.{lone_call, IsLoneCall, IsAtRest, PassesAlone, PassesAtRest}
 
 -- an access of a CPU interface register, with the SGIs that a write of SGI1R sends
 abbrev pub InterfaceCallsPass : Type 0
-InterfaceCallsPass = (reg : IccReg) (write : Option ℕ) → PassesHome (Access (Icc reg write))
+InterfaceCallsPass = (reg : IccReg) (write : Option ℕ) → PassesAlone (Access (Icc reg write))
 
 -- a vCPU that enters or leaves a PE, or looks whether it was kicked
 abbrev pub ResidencesPass : Type 0
-ResidencesPass = PassesHome Residence
+ResidencesPass = PassesAlone Residence
 
 -- what a device does
 abbrev pub DeviceCallsPass : Type 0
-DeviceCallsPass = (op : DeviceOp) → PassesHome (Device op)
+DeviceCallsPass = (op : DeviceOp) → PassesAlone (Device op)
 
 -- an access of the distributor: of registers over interrupts, of GICD_CTLR, and of those that send a message
 abbrev pub DistributorCallsPass : Type 0
-DistributorCallsPass = (offset size : ℕ) (write : Option ℕ) → PassesHome (Access (Mem Dist offset size write))
+DistributorCallsPass = (offset size : ℕ) (write : Option ℕ) → PassesAlone (Access (Mem Dist offset size write))
 
 -- an access of a redistributor: of registers over interrupts, of the tables' addresses, and of EnableLPIs, which makes LPIs of the pending table pending
 abbrev pub RedistributorCallsPass : Type 0
-RedistributorCallsPass = (vcpu offset size : ℕ) (write : Option ℕ) → PassesHome (Access (Mem (Redist vcpu) offset size write))
+RedistributorCallsPass = (vcpu offset size : ℕ) (write : Option ℕ) → PassesAlone (Access (Mem (Redist vcpu) offset size write))
 
 -- an access of the guest's memory
 abbrev pub MemoryCallsPass : Type 0
-MemoryCallsPass = (offset size : ℕ) (write : Option ℕ) → PassesHome (Access (Mem Ram offset size write))
+MemoryCallsPass = (offset size : ℕ) (write : Option ℕ) → PassesAlone (Access (Mem Ram offset size write))
 
 -- an access of the ITS, with the commands that a write starts
 abbrev pub ItsCallsPass : Type 0

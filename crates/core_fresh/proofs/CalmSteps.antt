@@ -21,7 +21,7 @@ use Rattle.port_core.specs.Run.{CoreState, seat_at}
 use Rattle.gic_call.specs.Touch.{touched}
 use Rattle.core_laws.specs.Related.{is_folding}
 use Rattle.core_laws.proofs.StepContext.{IsStep}
-use Rattle.core_fresh.specs.Waiting.{IsUnkicked}
+use Rattle.core_regs.specs.Asks.{IsUnkicked}
 use Rattle.core_laws.proofs.AfterLemmas.{later}
 use Rattle.core_laws.proofs.KickSteps.{is_poll, is_poll_by, is_kick_of, unkicked_before}
 

@@ -25,8 +25,8 @@ use Rattle.core_laws.specs.Related.{is_folding}
 use Rattle.core_laws.proofs.CpuLemmas.{same_lpis}
 use Rattle.core_laws.proofs.StepContext.{IsStep, lpis_back}
 use Rattle.core_fresh.specs.Copies.{CopiesAreCurrent}
-use Rattle.core_fresh.specs.Excuse.{Followed, opening_followed}
-use Rattle.core_fresh.specs.Waiting.{IsUnkicked}
+use Rattle.core_regs.specs.Followed.{Followed, opening_followed}
+use Rattle.core_regs.specs.Asks.{IsUnkicked}
 use Rattle.core_laws.proofs.AfterLemmas.{later, word_cases, left_in}
 use Rattle.core_fresh.proofs.CalmSteps.{no_poll_by, copy_kept, OwnCalm, scans, accesses, goes_on, own_calm}
 use Rattle.core_fresh.proofs.Frame.{follow, IsAt, IsActing, is_step, IsKeptBy, runs_keep}

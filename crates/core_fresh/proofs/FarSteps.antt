@@ -36,7 +36,8 @@ use Rattle.core_proper.specs.Scan.{Scan, idle, taking, looking, claiming, is_idl
 use Rattle.core_laws.specs.Related.{is_folding}
 use Rattle.core_laws.proofs.StandingLemmas.{passes, not_given}
 use Rattle.core_laws.proofs.StepContext.{IsStep}
-use Rattle.core_fresh.specs.Excuse.{Followed, IsExcused}
+use Rattle.core_fresh.specs.Excuse.{IsExcused}
+use Rattle.core_regs.specs.Followed.{Followed}
 use Rattle.core_fresh.specs.Far.{HasLookedFar, FarEndsAreKnown}
 use Rattle.core_fresh.specs.Index.{concerns, waits_for}
 use Rattle.core_fresh.specs.Waiting.{record_in}

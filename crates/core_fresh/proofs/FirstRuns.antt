@@ -41,7 +41,8 @@ use Rattle.core_regs.proofs.AskSteps.{own_asks}
 use Rattle.core_regs.proofs.ScanSteps.{own_step}
 use Rattle.core_regs.proofs.StandLemmas.{Standing}
 use Rattle.core_regs.proofs.StandRuns.{ends_so, nothing_more, lrs_made, paid_begun, paid_ended, idle_is, registers_stand}
-use Rattle.core_fresh.specs.Excuse.{Followed, followed_in}
+use Rattle.core_fresh.specs.Excuse.{followed_in}
+use Rattle.core_regs.specs.Followed.{Followed}
 use Rattle.core_fresh.specs.First.{MayAsk, FirstComesFirst}
 use Rattle.core_fresh.specs.Scan.{Covers}
 use Rattle.core_fresh.specs.Waiting.{record_in, IsDue}

@@ -52,7 +52,8 @@ use Rattle.core_laws.proofs.KnownSteps.{keeps_known}
 use Rattle.core_laws.proofs.RunSteps.{entry_simulates, related_opens, known_opens}
 use Rattle.core_laws.proofs.StepContext.{IsStep}
 use Rattle.core_fresh.specs.Index.{owes_kick}
-use Rattle.core_fresh.specs.Excuse.{IsExcused, Followed, follows, opening_followed, followed_in}
+use Rattle.core_fresh.specs.Excuse.{IsExcused, followed_in}
+use Rattle.core_regs.specs.Followed.{Followed, follows, opening_followed}
 use Rattle.core_laws.proofs.AfterLemmas.{later, seat_mine, seat_other}
 use Rattle.core_fresh.proofs.ToldLemmas.{event_changes, Lasts, Told, AllTold}
 use Rattle.core_fresh.proofs.IndexRuns.{opens_told}

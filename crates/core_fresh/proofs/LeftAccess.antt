@@ -29,14 +29,13 @@ use Rattle.core_proper.specs.Scan.{Purpose, planned, trapped, bare, Scan, idle, 
 use Rattle.core_laws.proofs.AfterLemmas.{later}
 use Rattle.core_laws.proofs.CpuLemmas.{same_lpis}
 use Rattle.core_laws.proofs.KickSteps.{is_poll, unkicked_before}
-use Rattle.core_regs.specs.Asks.{IsMirrored}
+use Rattle.core_regs.specs.Asks.{IsMirrored, IsUnkicked}
 use Rattle.core_laws.proofs.StepContext.{one, IsStep}
 use Rattle.core_regs.proofs.AskLemmas.{Asks, mirrors_after}
 use Rattle.core_regs.proofs.AskSteps.{quiet_after}
 use Rattle.core_regs.proofs.MisrLemmas.{holds_groups, groups_kept}
 use Rattle.core_regs.proofs.StandLemmas.{Standing}
 use Rattle.core_regs.proofs.StandSteps.{paid_before}
-use Rattle.core_fresh.specs.Waiting.{IsUnkicked}
 use Rattle.core_fresh.proofs.FirstLemmas.{unlisted}
 use Rattle.core_fresh.proofs.IndexSteps.{either_way}
 use Rattle.core_fresh.proofs.LeftLemmas.{IsBounded}

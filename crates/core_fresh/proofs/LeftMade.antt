@@ -23,7 +23,7 @@ use Rattle.core_laws.specs.Related.{is_folding}
 use Rattle.core_laws.proofs.AfterLemmas.{later}
 use Rattle.core_laws.proofs.KickSteps.{is_poll, unkicked_before}
 use Rattle.core_laws.proofs.StepContext.{IsStep}
-use Rattle.core_fresh.specs.Waiting.{IsUnkicked}
+use Rattle.core_regs.specs.Asks.{IsUnkicked}
 use Rattle.core_fresh.proofs.CalmSteps.{ready_stays}
 use Rattle.core_fresh.proofs.FarSteps.{no_release}
 use Rattle.core_fresh.proofs.LeftLemmas.{IsBounded}

@@ -14,7 +14,8 @@ use Rattle.core_proper.specs.Proper.{IsProper, IsProperRun}
 use Rattle.core_proper.proofs.PartLemmas.{proper_append, ideal_append}
 use Rattle.core_laws.proofs.HistorySteps.{own_here, own_other}
 use Rattle.core_laws.proofs.PrefixLemmas.{own_both, parted_before}
-use Rattle.core_fresh.specs.Excuse.{Followed, follows, opening_followed, followed_in}
+use Rattle.core_fresh.specs.Excuse.{followed_in}
+use Rattle.core_regs.specs.Followed.{Followed, follows, opening_followed}
 use Rattle.core_fresh.proofs.Frame.{follow, moved_on, progress_on, IsAt, IsActing, GoProperly, first_acts, rest_go, at_next, at_opens}
 
 -- the beginning of a proper run is one

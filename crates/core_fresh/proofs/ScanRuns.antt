@@ -17,8 +17,9 @@ use Rattle.core_proper.specs.Parts.{Act, begins, makes, ends, entry_by}
 use Rattle.core_proper.specs.Progress.{Progress, changed_by, progressed}
 use Rattle.core_proper.specs.Scan.{Scan, idle, taking, looking, claiming}
 use Rattle.core_laws.proofs.StepContext.{IsStep}
-use Rattle.core_fresh.specs.Excuse.{Followed}
-use Rattle.core_fresh.specs.Waiting.{IsUnkicked, IsDue}
+use Rattle.core_regs.specs.Followed.{Followed}
+use Rattle.core_fresh.specs.Waiting.{IsDue}
+use Rattle.core_regs.specs.Asks.{IsUnkicked}
 use Rattle.core_fresh.specs.Scan.{Covers, ScanOverlooksNone}
 use Rattle.core_laws.proofs.AfterLemmas.{later}
 use Rattle.core_fresh.proofs.Frame.{follow, IsAt, IsActing, is_part, excused_part, is_step, lasts, IsKeptBy, runs_keep}

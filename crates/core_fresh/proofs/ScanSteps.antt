@@ -37,7 +37,8 @@ use Rattle.core_proper.specs.Scan.{Purpose, planned, trapped, bare, Scan, idle, 
 use Rattle.core_laws.proofs.StepContext.{one, IsStep, has}
 use Rattle.gic_history.specs.Fresh.{Track}
 use Rattle.core_fresh.specs.Index.{owes_mark}
-use Rattle.core_fresh.specs.Waiting.{record_in, IsUnkicked, IsDue}
+use Rattle.core_fresh.specs.Waiting.{record_in, IsDue}
+use Rattle.core_regs.specs.Asks.{IsUnkicked}
 use Rattle.core_fresh.specs.Scan.{offer_in, IsAhead, IsFilled, HasScanned, Covers}
 use Rattle.core_laws.proofs.AfterLemmas.{later}
 use Rattle.core_fresh.proofs.ToldLemmas.{waiting_concerns, owes_none, IsOwnRelease, Lasts, Told, AllTold}

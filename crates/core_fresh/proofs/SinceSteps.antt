@@ -39,9 +39,10 @@ use Rattle.core_laws.specs.Related.{is_folding}
 use Rattle.core_laws.specs.Simulates.{IsSimulatedAs}
 use Rattle.core_laws.proofs.StepContext.{IsStep}
 use Rattle.core_fresh.specs.Index.{owes_kick}
-use Rattle.core_fresh.specs.Excuse.{Followed, opening_followed}
+use Rattle.core_regs.specs.Followed.{Followed, opening_followed}
 use Rattle.core_fresh.specs.Standing.{IsOwing, AreOwed, ChangesAreOwed}
-use Rattle.core_fresh.specs.Waiting.{record_in, IsUnkicked}
+use Rattle.core_fresh.specs.Waiting.{record_in}
+use Rattle.core_regs.specs.Asks.{IsUnkicked}
 use Rattle.core_laws.proofs.AfterLemmas.{later, local_mine, seat_other, word_stays}
 use Rattle.core_fresh.proofs.CalmSteps.{IsCalm, OwnCalm, scans, accesses, goes_on, no_poll_by, own_calm}
 use Rattle.core_fresh.proofs.ProgressLemmas.{local_on}

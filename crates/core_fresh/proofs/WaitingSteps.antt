@@ -24,7 +24,8 @@ use Rattle.core_fresh.specs.Index.{waits_for, owes_kick}
 use Rattle.gic_base.specs.Interrupt.{has_interrupt}
 use Rattle.gic_history.specs.Fresh.{Track}
 use Rattle.core_fresh.specs.Excuse.{changed_last, IsExcused}
-use Rattle.core_fresh.specs.Waiting.{record_in, IsWaiting, IsUnkicked, IsDue}
+use Rattle.core_fresh.specs.Waiting.{record_in, IsWaiting, IsDue}
+use Rattle.core_regs.specs.Asks.{IsUnkicked}
 use Rattle.core_laws.proofs.KickSteps.{is_poll_by, is_kick_of, unkicked_before}
 use Rattle.core_laws.proofs.AfterLemmas.{later, word_cases, local_mine, seat_other}
 use Rattle.core_fresh.proofs.ToldLemmas.{waiting_concerns, IsOwnRelease, step_changes, Lasts, apart_quiet}

@@ -10,7 +10,7 @@ use Rattle.core_proper.specs.Parts.{CoreMoment}
 use Rattle.core_proper.specs.Progress.{progress_in}
 use Rattle.core_proper.specs.Proper.{IsProperRun}
 use Rattle.core_laws.specs.Related.{is_folding}
-use Rattle.core_fresh.specs.Waiting.{IsUnkicked}
+use Rattle.core_regs.specs.Asks.{IsUnkicked}
 
 -- at every moment of every proper run, the copy of a vCPU that is not kicked and does not give back what it has is what its word says
 abbrev pub CopiesAreCurrent : Type 0

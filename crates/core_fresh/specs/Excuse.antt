@@ -1,32 +1,20 @@
 -- Changes of which a vCPU is still to be told (own choice).
-use Rattle.std.specs.Prelude.{ℕ, ◌<◌, ◌==◌, ◌&&◌, Bool, false, IsTrue, List, fold, is_some}
+use Rattle.std.specs.Prelude.{ℕ, ◌<◌, ◌==◌, ◌&&◌, Bool, false, IsTrue, List, is_some}
 use Rattle.std.specs.Option.{option_map_or}
 use Rattle.gic_base.specs.declared.interrupt.Key.{Key}
 use Rattle.gic_base.specs.declared.shape.GuestShape.{GuestShape}
-use Rattle.gic_call.specs.declared.event.Moment.{Moment}
 use Rattle.scn_base.specs.declared.guest.GuestSpec.{GuestSpec}
-use Rattle.gic_history.specs.State.{Ideal, opening as opening_ideal}
-use Rattle.gic_history.specs.Fresh.{Turn, Track, opening_track, doing_of, changes_of, tracked, after_moment}
+use Rattle.gic_history.specs.Fresh.{Turn, Track, doing_of, changes_of}
 use Rattle.port_core.specs.Actor.{actor_count}
 use Rattle.port_core.specs.Run.{CoreState, opening, seat_at}
 use Rattle.core_proper.specs.Ideal.{ideal_of}
 use Rattle.core_proper.specs.Parts.{CoreMoment}
+use Rattle.core_regs.specs.Followed.{Followed, followed_by}
 use Rattle.core_fresh.specs.Index.{owes_kick}
-
--- the ideal controller, and what its history says of its actors and interrupts
-pub record Followed : Type 0 where
-  pub ideal : Ideal
-  pub track : Track
-
-abbrev pub follows : Followed → Moment → Followed
-follows at moment = record { ideal = after_moment at.ideal moment; track = tracked at.ideal moment at.track }
-
-abbrev pub opening_followed : GuestSpec → Followed
-opening_followed guest = record { ideal = opening_ideal guest; track = opening_track guest.shape }
 
 -- at the end of a run
 abbrev pub followed_in : GuestSpec → ℕ → List CoreMoment → Followed
-followed_in guest number moments = fold follows (opening_followed guest) (ideal_of guest.shape (opening guest number) moments)
+followed_in guest number moments = followed_by guest (ideal_of guest.shape (opening guest number) moments)
 
 -- a call, or a command of one, goes on
 abbrev pub is_current : Track → Turn → Bool

@@ -12,7 +12,8 @@ use Rattle.core_proper.specs.Progress.{Progress, progress_in, is_end_of}
 use Rattle.core_proper.specs.Proper.{IsProperRun}
 use Rattle.core_laws.specs.Related.{is_folding}
 use Rattle.core_fresh.specs.Excuse.{IsExcused, followed_in}
-use Rattle.core_fresh.specs.Waiting.{record_in, IsUnkicked}
+use Rattle.core_fresh.specs.Waiting.{record_in}
+use Rattle.core_regs.specs.Asks.{IsUnkicked}
 
 -- a vCPU that is not kicked looked at the interrupt that its call ends, and found it not active by it; no claim failed, and it does not give back what it has
 pub record HasLookedFar (shape : GuestShape) (state : CoreState) (vcpu : ℕ) (p : Progress) (key : Key) : Type 0 where

@@ -16,7 +16,8 @@ use Rattle.core_proper.specs.Progress.{Progress, progress_in, is_paid}
 use Rattle.core_proper.specs.Proper.{IsProperRun}
 use Rattle.core_regs.specs.Stands.{IsLoaded}
 use Rattle.core_fresh.specs.Excuse.{followed_in}
-use Rattle.core_fresh.specs.Waiting.{record_in, IsUnkicked, IsDue}
+use Rattle.core_fresh.specs.Waiting.{record_in, IsDue}
+use Rattle.core_regs.specs.Asks.{IsUnkicked}
 
 -- a vCPU may ask for its first interrupt: it is not kicked, no claim failed, it may do accesses and owes no scan, and in trap mode it scanned since its last look for
 -- a kick

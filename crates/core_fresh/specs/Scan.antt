@@ -20,7 +20,8 @@ use Rattle.core_proper.specs.Proper.{IsProperRun}
 use Rattle.core_proper.specs.Registers.{alone}
 use Rattle.core_proper.specs.Scan.{Purpose, planned, trapped, bare, Scan, idle, taking, looking, claiming}
 use Rattle.core_fresh.specs.Excuse.{followed_in}
-use Rattle.core_fresh.specs.Waiting.{record_in, IsUnkicked, IsDue}
+use Rattle.core_fresh.specs.Waiting.{record_in, IsDue}
+use Rattle.core_regs.specs.Asks.{IsUnkicked}
 
 -- an interrupt with the record in its word
 abbrev pub offer_in : GuestShape → CoreState → Key → Offer

@@ -15,7 +15,8 @@ use Rattle.core_proper.specs.Proper.{IsProperRun}
 use Rattle.core_laws.specs.Related.{is_folding}
 use Rattle.core_fresh.specs.Index.{owes_kick}
 use Rattle.core_fresh.specs.Excuse.{followed_in, is_current}
-use Rattle.core_fresh.specs.Waiting.{record_in, IsUnkicked}
+use Rattle.core_fresh.specs.Waiting.{record_in}
+use Rattle.core_regs.specs.Asks.{IsUnkicked}
 
 -- a call or a command goes on, and its actor owes the vCPU a kick
 pub record IsOwing (shape : GuestShape) (state : CoreState) (track : Track) (vcpu : ℕ) (turn : Turn) : Type 0 where

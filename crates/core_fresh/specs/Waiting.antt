@@ -1,4 +1,4 @@
--- Interrupts that wait for a vCPU, and vCPUs that are not kicked (own choice).
+-- Interrupts that wait for a vCPU (own choice).
 use Rattle.std.specs.Prelude.{◌≡◌, ℕ, false, IsTrue, None}
 use Rattle.gic_base.specs.declared.interrupt.Key.{Key}
 use Rattle.gic_base.specs.declared.shape.GuestShape.{GuestShape}
@@ -6,8 +6,7 @@ use Rattle.gic_base.specs.Interrupt.{has_interrupt}
 use Rattle.gic_history.specs.Fresh.{Track}
 use Rattle.gic_word.specs.declared.record.Irq.{Irq as IrqRecord}
 use Rattle.gic_word.specs.Word.{irq_of}
-use Rattle.port_core.specs.declared.word_id.WordId.TheVariants.{Irq, Vcpu}
-use Rattle.port_core.specs.Forms.{vcpu_of}
+use Rattle.port_core.specs.declared.word_id.WordId.TheVariants.{Irq}
 use Rattle.port_core.specs.Run.{CoreState, word_in}
 use Rattle.core_fresh.specs.Index.{waits_for}
 use Rattle.core_fresh.specs.Excuse.{IsExcused}
@@ -22,10 +21,6 @@ pub record IsWaiting (shape : GuestShape) (state : CoreState) (vcpu : ℕ) (key 
   pub home : (record_in shape state key).holder ≡ None
   pub unwanted : (record_in shape state key).want ≡ false
   pub waits : IsTrue (waits_for shape vcpu (record_in shape state key))
-
--- a vCPU is not kicked
-abbrev pub IsUnkicked : GuestShape → CoreState → ℕ → Type 0
-IsUnkicked shape state vcpu = (vcpu_of (word_in shape state (Vcpu vcpu))).kick ≡ false
 
 -- an interrupt that waits for the vCPU is due: the vCPU was told of its last change
 pub record IsDue (shape : GuestShape) (state : CoreState) (track : Track) (vcpu : ℕ) (key : Key) : Type 0 where

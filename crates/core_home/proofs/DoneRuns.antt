@@ -7,7 +7,7 @@ use Rattle.gic_base.specs.declared.shape.GuestShape.{GuestShape}
 use Rattle.gic_base.specs.Interrupt.{has_interrupt, interrupt_count, place_of}
 use Rattle.gic_base.specs.Shape.{IsShape}
 use Rattle.gic_call.specs.declared.event.Event.{Event}
-use Rattle.gic_call.specs.declared.event.Event.TheVariants.{Raise, Up, Down, Touch, Reach, Take, Leave, Enable, Cpu, Read, Put, CtlrBegin, CtlrEnd, ItsBegin, ItsEnd, Queue}
+use Rattle.gic_call.specs.declared.event.Event.TheVariants.{Reach, Leave}
 use Rattle.gic_call.specs.declared.event.Found.{Found}
 use Rattle.gic_call.specs.declared.event.Moment.{Moment}
 use Rattle.gic_call.specs.declared.event.Moment.TheVariants.{Begin, Happens, End}
@@ -15,7 +15,7 @@ use Rattle.gic_call.specs.declared.moves.Entry.{Entry}
 use Rattle.gic_call.specs.Valid.{CanHappen}
 use Rattle.gic_history.specs.Fresh.{Turn, Doing, Changes, doing_of, changes_of, changed_by, with_doing}
 use Rattle.gic_history.specs.History.{Call, Course, GoesOn, IsCallEnded, IsNext, actor_count, call_of, gone_on, opening_course}
-use Rattle.gic_history.specs.Moves.{is_allowed, happened}
+use Rattle.gic_history.specs.Moves.{is_allowed}
 use Rattle.gic_history.specs.State.{Ideal, is_of, standing_at}
 use Rattle.history_laws.proofs.CourseLemmas.{IsCourse, goes, opens}
 use Rattle.history_laws.proofs.StandLemmas.{of_key, standing_of_key, any_nowhere}
@@ -23,15 +23,15 @@ use Rattle.home_laws.proofs.SpotLemmas.{Spot, IsSpot, IsTidy}
 use Rattle.scn_base.specs.declared.guest.GuestSpec.{GuestSpec}
 use Rattle.scn_base.specs.Good.{IsGoodGuest}
 use Rattle.vcpu_refill.proofs.ElementLemmas.{Contains-nothing}
-use Rattle.core_fresh.specs.Excuse.{Followed, follows, is_current, opening_followed}
+use Rattle.core_fresh.specs.Excuse.{is_current}
+use Rattle.core_regs.specs.Followed.{Followed, follows, opening_followed, followed_by}
 use Rattle.core_fresh.proofs.TrackLemmas.{doing_here, doing_other, happens_doings, since_reach}
 use Rattle.core_home.specs.Done.{ChangesAreDone}
-use Rattle.core_home.specs.Stay.{followed_by}
 use Rattle.core_home.proofs.DoneLemmas.{numbers_up, turns_before, still_done, now_done}
 use Rattle.core_home.proofs.ListLemmas.{none_passes, some_in_range}
 use Rattle.core_home.proofs.StayEvents.{since_is}
 use Rattle.core_home.proofs.StayRuns.{IsAlong, moment_along, opens_along}
-use Rattle.core_home.proofs.StoodLemmas.{Stands, reach_stood, take_stood, leave_stood, access_stood, other_stood}
+use Rattle.core_home.proofs.StoodLemmas.{Stood, came, stood, stood_by}
 
 -- what a change of an interrupt says of the call that made it: its number is no later than the actor's, and where the interrupt stands at an interface and the call goes on it has done an event of it
 pub record AreDone (shape : GuestShape) (at : Followed) : Type 0 where
@@ -61,37 +61,6 @@ module _ (shape : GuestShape) (good : IsShape shape) where
   -- An event.
 
   module _ (course : Course) (at : Followed) (along : IsAlong shape course at) (are : AreDone shape at) (actor : ℕ) (found : Found) (in_it : actor < length at.track.doings) where
-    -- what stands after an event that is not its reach stood before, and did not leave by it
-    data Stood (event : Event) (key : Key) (vcpu : ℕ) : Type 0 where
-      came : (w : ℕ) → event ≡ Reach key w → Stood event key vcpu
-      stood : Stands at.ideal key vcpu → ((w : ℕ) → event ≡ Leave key w → ⊥) → Stood event key vcpu
-
-    stood_by : (event : Event) → CanHappen shape event → IsTrue (is_allowed at.ideal actor event) → (key : Key) (vcpu : ℕ) (entry : Entry) → of_key (happened actor event at.ideal) key vcpu ≡ standing_of_key key entry ∷ [] → Stood event key vcpu
-    stood_by (Reach other w) can allowed key vcpu entry here = elim (reach_stood shape good at along.tidy along.each along.all actor found other w can.1 can.0 key vcpu entry here) [
-      | inl same ↦ came w (ap (λ k. Reach k w) (sym same))
-      | inr before ↦ stood before (λ w e. cc)
-    ]
-    stood_by (Take other w) can allowed key vcpu entry here = stood (take_stood shape good at along.tidy along.each along.all actor found other w can.1 can.0 allowed key vcpu entry here) (λ w e. cc)
-    stood_by (Leave other w) can allowed key vcpu entry here =
-        let both = leave_stood shape good at along.tidy along.each along.all actor found other w can.1 can.0 allowed key vcpu entry here in
-        stood both.1 (λ v e. both.0 (left_is v e))
-      where
-        left_is : (v : ℕ) → Leave other w ≡ Leave key v → key ≡ other
-        left_is v e = cc
-    stood_by (Cpu w reg write) can allowed key vcpu entry here = stood (access_stood shape good at along.tidy along.each along.all actor found w can.0 reg write key vcpu entry here) (λ w e. cc)
-    stood_by (Raise other) can allowed key vcpu entry here = stood (other_stood shape good at along.tidy along.each along.all actor found (Raise other) refl key vcpu entry here) (λ w e. cc)
-    stood_by (Up other) can allowed key vcpu entry here = stood (other_stood shape good at along.tidy along.each along.all actor found (Up other) refl key vcpu entry here) (λ w e. cc)
-    stood_by (Down other) can allowed key vcpu entry here = stood (other_stood shape good at along.tidy along.each along.all actor found (Down other) refl key vcpu entry here) (λ w e. cc)
-    stood_by (Enable w) can allowed key vcpu entry here = stood (other_stood shape good at along.tidy along.each along.all actor found (Enable w) refl key vcpu entry here) (λ w e. cc)
-    stood_by (Touch other touching) can allowed key vcpu entry here = stood (other_stood shape good at along.tidy along.each along.all actor found (Touch other touching) refl key vcpu entry here) (λ w e. cc)
-    stood_by (Read place) can allowed key vcpu entry here = stood (other_stood shape good at along.tidy along.each along.all actor found (Read place) refl key vcpu entry here) (λ w e. cc)
-    stood_by (Put word value) can allowed key vcpu entry here = stood (other_stood shape good at along.tidy along.each along.all actor found (Put word value) refl key vcpu entry here) (λ w e. cc)
-    stood_by (CtlrBegin enables) can allowed key vcpu entry here = stood (other_stood shape good at along.tidy along.each along.all actor found (CtlrBegin enables) refl key vcpu entry here) (λ w e. cc)
-    stood_by CtlrEnd can allowed key vcpu entry here = stood (other_stood shape good at along.tidy along.each along.all actor found CtlrEnd refl key vcpu entry here) (λ w e. cc)
-    stood_by ItsBegin can allowed key vcpu entry here = stood (other_stood shape good at along.tidy along.each along.all actor found ItsBegin refl key vcpu entry here) (λ w e. cc)
-    stood_by ItsEnd can allowed key vcpu entry here = stood (other_stood shape good at along.tidy along.each along.all actor found ItsEnd refl key vcpu entry here) (λ w e. cc)
-    stood_by (Queue offset change) can allowed key vcpu entry here = stood (other_stood shape good at along.tidy along.each along.all actor found (Queue offset change) refl key vcpu entry here) (λ w e. cc)
-
     event_done : (event : Event) → CanHappen shape event → IsTrue (is_allowed at.ideal actor event) → AreDone shape (follows at (Happens actor event found))
     event_done event can allowed = record {
       actors = happens_doings shape good at.ideal actor event found at.track along.tidy.shape_is can ∙ are.actors;
@@ -100,16 +69,16 @@ module _ (shape : GuestShape) (good : IsShape shape) where
         | inr new ↦ subst (λ (t : Turn). t.number ≤ (doing_of (follows at (Happens actor event found)).track t.actor).number) (sym new.0) (numbers_up shape good at.ideal at.track actor event found along.tidy.shape_is can along.each in_it actor)
       ];
       done = λ key there vcpu entry here turn h current. elim (turns_before shape good at.ideal at.track actor event found along.tidy.shape_is can along.each in_it key there turn h) [
-        | inl old ↦ still_done shape good at.ideal at.track actor event found along.tidy.shape_is can along.each in_it turn (are.numbers key there turn old) current key (λ before. by_old key there turn old before vcpu (stood_by event can allowed key vcpu entry here) h)
-        | inr new ↦ subst (λ (t : Turn). Contains (doing_of (follows at (Happens actor event found)).track t.actor).done key) (sym new.0) (now_done shape good at.ideal at.track actor event found along.tidy.shape_is can along.each in_it key new.1 (λ w e. not_left key vcpu (stood_by event can allowed key vcpu entry here) w e new.1))
+        | inl old ↦ still_done shape good at.ideal at.track actor event found along.tidy.shape_is can along.each in_it turn (are.numbers key there turn old) current key (λ before. by_old key there turn old before vcpu (stood_by shape good at along.tidy along.each along.all actor found event can allowed key vcpu entry here) h)
+        | inr new ↦ subst (λ (t : Turn). Contains (doing_of (follows at (Happens actor event found)).track t.actor).done key) (sym new.0) (now_done shape good at.ideal at.track actor event found along.tidy.shape_is can along.each in_it key new.1 (λ w e. not_left key vcpu (stood_by shape good at along.tidy along.each along.all actor found event can allowed key vcpu entry here) w e new.1))
       ];
     }
       where
-        not_left : (key : Key) (vcpu : ℕ) → Stood event key vcpu → (w : ℕ) → event ≡ Leave key w → changed_by event ≡ Some key → ⊥
+        not_left : (key : Key) (vcpu : ℕ) → Stood at.ideal event key vcpu → (w : ℕ) → event ≡ Leave key w → changed_by event ≡ Some key → ⊥
         not_left key vcpu (came v e) w f changed = absurd (cc)
         not_left key vcpu (stood before stays) w f changed = stays w f
 
-        by_old : (key : Key) → IsTrue (has_interrupt shape key) → (turn : Turn) → Contains (changes_of shape at.track key).since turn → IsTrue (is_current at.track turn) → (vcpu : ℕ) → Stood event key vcpu
+        by_old : (key : Key) → IsTrue (has_interrupt shape key) → (turn : Turn) → Contains (changes_of shape at.track key).since turn → IsTrue (is_current at.track turn) → (vcpu : ℕ) → Stood at.ideal event key vcpu
             → Contains (changes_of shape (follows at (Happens actor event found)).track key).since turn → Contains (doing_of at.track turn.actor).done key
         by_old key there turn old before vcpu (stood stands stays) h = are.done key there vcpu stands.entry stands.here turn old before
         by_old key there turn old before vcpu (came w e) h = absurd (Contains-nothing turn (subst (λ (ts : List Turn). Contains ts turn) (came_none w e) h))
@@ -124,10 +93,10 @@ module _ (shape : GuestShape) (good : IsShape shape) where
     pub are : AreDone shape at
     pub is_course : IsCourse shape course
 
-  in_range : (course : Course) (at : Followed) → IsAlongDone course at → (actor : ℕ) → actor < actor_count shape → actor < length at.track.doings
+  pub in_range : (course : Course) (at : Followed) → IsAlongDone course at → (actor : ℕ) → actor < actor_count shape → actor < length at.track.doings
   in_range course at is actor h = subst (λ n. actor < n) (sym is.are.actors) h
 
-  moment_done : (course : Course) (at : Followed) (moment : Moment) → IsNext course moment → IsAlongDone course at → IsAlongDone (gone_on course moment) (follows at moment)
+  pub moment_done : (course : Course) (at : Followed) (moment : Moment) → IsNext course moment → IsAlongDone course at → IsAlongDone (gone_on course moment) (follows at moment)
   moment_done course at (Begin actor operation) next is = record {
     along = moment_along shape good course at (Begin actor operation) next is.along;
     are = turned at is.are actor (record { operation = Some operation; number = (doing_of at.track actor).number + 1; done = [] }) (in_range course at is actor (subst (λ (s : GuestShape). actor < actor_count s) is.is_course.shape_is next.0)) (omega arith)
@@ -157,7 +126,7 @@ module _ (shape : GuestShape) (good : IsShape shape) where
   moments_done course at [] going is = (is.are, is.along.tidy)
   moments_done course at (moment ∷ moments) going is = moments_done (gone_on course moment) (follows at moment) moments going.1 (moment_done course at moment going.0 is)
 
-opens_done : (guest : GuestSpec) → (good : IsGoodGuest guest) → IsAlongDone guest.shape good.shape (opening_course guest) (opening_followed guest)
+pub opens_done : (guest : GuestSpec) → (good : IsGoodGuest guest) → IsAlongDone guest.shape good.shape (opening_course guest) (opening_followed guest)
 opens_done guest good = record {
   along = opens_along guest good;
   are = record {

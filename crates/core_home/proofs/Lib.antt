@@ -9,3 +9,4 @@ pub mod WorkedLemmas
 pub mod StoodLemmas
 pub mod DoneLemmas
 pub mod DoneRuns
+pub mod UpToDateRuns

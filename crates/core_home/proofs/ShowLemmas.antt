@@ -1,4 +1,4 @@
--- What an access of a CPU interface finds at rest is what the guest with all taken back has.
+-- What an access of a CPU interface finds while the guest is up to date is what the guest with all taken back has.
 use Rattle.std.proofs.Common.{◌≡◌, ◌≢◌, ℕ, ◌<◌, ◌==◌, ◌&&◌, ◌||◌, ◌⊎◌, not, inl, inr, true≢false, Bool, true, false, cond, IsTrue, List, [], ◌∷◌, map, filter, Contains, Option, Some, None, is_none, refl, sym, ap, ◌∙◌, subst, arith}
 use Rattle.std.specs.List.{list_any, filter_map, range_with_len}
 use Rattle.std.specs.Option.{option_map_or}
@@ -39,8 +39,8 @@ use Rattle.home_laws.proofs.MoveLemmas.{routed_own}
 use Rattle.home_laws.proofs.SpotLemmas.{Spot, IsSpot, IsThere, IsTidy}
 use Rattle.vcpu_refill.proofs.ElementLemmas.{Contains-cases, Contains-here, Contains-there, Contains-map, Contains-nothing, map_cases}
 use Rattle.vcpu_refill.proofs.StandLemmas.{in_filter_map, from_filter_map}
-use Rattle.core_fresh.specs.Excuse.{Followed}
-use Rattle.core_home.specs.Rest.{IsAtRest, FindsAll}
+use Rattle.core_regs.specs.Followed.{Followed}
+use Rattle.core_home.specs.UpToDate.{IsUpToDate, FindsAll}
 use Rattle.core_home.specs.Stay.{IsAsReached}
 use Rattle.core_home.proofs.ListLemmas.{filtered_from, none_passes, range_has, range_within, first_agrees}
 use Rattle.core_home.proofs.StayEvents.{AllAsReached, delivered}
@@ -80,9 +80,9 @@ not_other : (b : Bool) → (b ≡ true → ⊥) → b ≡ false
 not_other true h = absurd (h refl)
 not_other false h = refl
 
--- An access while the guest is at rest.
+-- An access while the guest is up to date.
 
-module _ (shape : GuestShape) (good : IsShape shape) (at : Followed) (tidy : IsTidy shape at.ideal) (all : AllAsReached shape at) (rest : IsAtRest shape at) (vcpu : ℕ) (few : vcpu < shape.vcpus) where
+module _ (shape : GuestShape) (good : IsShape shape) (at : Followed) (tidy : IsTidy shape at.ideal) (all : AllAsReached shape at) (rest : IsUpToDate shape at) (vcpu : ℕ) (few : vcpu < shape.vcpus) where
   abbrev state : Ideal
   state = at.ideal
 

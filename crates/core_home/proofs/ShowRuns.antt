@@ -1,11 +1,11 @@
--- An access at rest, in each state of a history.
+-- An access while the guest is up to date, in each state of a history.
 use Rattle.std.proofs.Common.{}
-use Rattle.core_home.specs.Rest.{RestShowsHome}
-use Rattle.core_home.specs.Stay.{followed_by}
+use Rattle.core_home.specs.UpToDate.{UpToDateShowsHome}
+use Rattle.core_regs.specs.Followed.{followed_by}
 use Rattle.core_home.proofs.ShowLemmas.{shows}
 use Rattle.core_home.proofs.StayRuns.{stand_so}
 
-pub rest_shows_home : RestShowsHome
-rest_shows_home guest moments vcpu reg write good history few rest finds =
+pub up_to_date_shows_home : UpToDateShowsHome
+up_to_date_shows_home guest moments vcpu reg write good history few rest finds =
     let so = stand_so guest moments good history in
     shows guest.shape good.shape (followed_by guest moments) so.1 so.0 rest vcpu few reg write finds

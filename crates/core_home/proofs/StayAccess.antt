@@ -38,7 +38,7 @@ use Rattle.home_laws.proofs.CpuLemmas.{named_own}
 use Rattle.home_laws.proofs.SpotLemmas.{Spot, IsSpot, IsThere, IsTidy, entry_found}
 use Rattle.vcpu_refill.proofs.ElementLemmas.{Contains-here}
 use Rattle.core_laws.proofs.CpuLemmas.{after_lpis}
-use Rattle.core_fresh.specs.Excuse.{Followed, follows}
+use Rattle.core_regs.specs.Followed.{Followed, follows}
 use Rattle.core_fresh.proofs.TrackLemmas.{subject}
 use Rattle.core_home.specs.Stay.{IsAsReached}
 use Rattle.core_home.proofs.StayEvents.{AllAsReached, stays, leaves_still, since_is}

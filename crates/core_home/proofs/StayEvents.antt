@@ -33,7 +33,7 @@ use Rattle.vcpu_refill.proofs.ElementLemmas.{Contains-filter}
 use Rattle.history_laws.proofs.StandLemmas.{of_key, standing_of_key, home_nowhere, put_here, put_other, added_key, added_other, entry_key, entry_other, left_other}
 use Rattle.home_laws.proofs.EventLemmas.{is_other, change_by, changed_is, at_after}
 use Rattle.home_laws.proofs.SpotLemmas.{IsTidy, entry_found}
-use Rattle.core_fresh.specs.Excuse.{Followed, follows}
+use Rattle.core_regs.specs.Followed.{Followed, follows}
 use Rattle.core_fresh.proofs.TrackLemmas.{subject, kind_of, Kind, reaches, alters, keeps, key_cases, changes_apart, last_made, happens_changes}
 use Rattle.core_home.specs.Stay.{IsWhollyThere, IsAsReached}
 use Rattle.core_home.proofs.StayLemmas.{same_entry, there_so, stored_cases, some_pushed}

@@ -25,9 +25,9 @@ use Rattle.home_laws.proofs.HomeLaws.{opens_tidy, moment_tidy}
 use Rattle.home_laws.proofs.SpotLemmas.{Spot, IsSpot, IsTidy, IsFoundAt, moved_of, not_found, is_found, found_at}
 use Rattle.scn_base.specs.declared.guest.GuestSpec.{GuestSpec}
 use Rattle.scn_base.specs.Good.{IsGoodGuest}
-use Rattle.core_fresh.specs.Excuse.{Followed, follows, opening_followed}
+use Rattle.core_regs.specs.Followed.{Followed, follows, opening_followed, followed_by}
 use Rattle.core_fresh.proofs.TrackLemmas.{happens_changes, changes_each}
-use Rattle.core_home.specs.Stay.{StandsAsReached, followed_by}
+use Rattle.core_home.specs.Stay.{StandsAsReached}
 use Rattle.core_home.proofs.StayAccess.{access_stays}
 use Rattle.core_home.proofs.StayEvents.{AllAsReached, other_stays, reach_stays, take_stays, leave_stays}
 use Rattle.core_home.proofs.StayLemmas.{stands_so}

@@ -9,11 +9,12 @@ use Rattle.gic_base.specs.Interrupt.{has_interrupt, interrupt_count}
 use Rattle.gic_base.specs.Shape.{IsShape}
 use Rattle.gic_base.proofs.KeyLemmas.{other_key}
 use Rattle.gic_call.specs.declared.event.Event.{Event}
-use Rattle.gic_call.specs.declared.event.Event.TheVariants.{Reach, Take, Leave, Cpu}
+use Rattle.gic_call.specs.declared.event.Event.TheVariants.{Raise, Up, Down, Touch, Reach, Take, Leave, Enable, Cpu, Read, Put, CtlrBegin, CtlrEnd, ItsBegin, ItsEnd, Queue}
 use Rattle.gic_call.specs.declared.event.Found.{Found}
 use Rattle.gic_call.specs.declared.moves.Entry.{Entry}
 use Rattle.gic_call.specs.declared.moves.Moved.{Moved}
 use Rattle.gic_call.specs.Move.{may_take, reached, taken, left}
+use Rattle.gic_call.specs.Valid.{CanHappen}
 use Rattle.ideal_guest.specs.Ideal.{irq_at, cpu_at}
 use Rattle.gic_history.specs.Moves.{happened, is_allowed, with_entry, without}
 use Rattle.gic_history.specs.State.{Ideal, Standing, standing_at, is_of, moved_at, with_irq, with_standing}
@@ -21,7 +22,7 @@ use Rattle.history_laws.proofs.StandLemmas.{of_key, standing_of_key, put_here, p
 use Rattle.home_laws.proofs.AccessLemmas.{access, here_is, other_is}
 use Rattle.home_laws.proofs.EventLemmas.{at_after, is_other}
 use Rattle.home_laws.proofs.SpotLemmas.{Spot, IsSpot, IsTidy, IsFoundAt, not_found, is_found, found_at, moved_of}
-use Rattle.core_fresh.specs.Excuse.{Followed}
+use Rattle.core_regs.specs.Followed.{Followed}
 use Rattle.core_fresh.proofs.TrackLemmas.{key_cases}
 use Rattle.core_home.proofs.StayEvents.{AllAsReached, placed_as}
 use Rattle.core_home.proofs.StayLemmas.{there_so}
@@ -30,6 +31,11 @@ use Rattle.core_home.proofs.StayLemmas.{there_so}
 pub record Stands (state : Ideal) (key : Key) (vcpu : ℕ) : Type 0 where
   pub entry : Entry
   pub here : of_key state key vcpu ≡ standing_of_key key entry ∷ []
+
+-- what stands after an event that is not its reach stood before, and did not leave by it
+pub data Stood (state : Ideal) (event : Event) (key : Key) (vcpu : ℕ) : Type 0 where
+  came : (w : ℕ) → event ≡ Reach key w → Stood state event key vcpu
+  stood : Stands state key vcpu → ((w : ℕ) → event ≡ Leave key w → ⊥) → Stood state event key vcpu
 
 module _ (shape : GuestShape) (good : IsShape shape) (at : Followed) (tidy : IsTidy shape at.ideal) (each : length at.track.changes ≡ interrupt_count shape) (before : AllAsReached shape at) (actor : ℕ) (found : Found) where
   abbrev state : Ideal
@@ -126,3 +132,29 @@ module _ (shape : GuestShape) (good : IsShape shape) (at : Followed) (tidy : IsT
 
   pub other_stood : (event : Event) → IsTrue (is_other event) → (key : Key) (v : ℕ) (entry : Entry) → of_key (happened actor event state) key v ≡ standing_of_key key entry ∷ [] → Stands state key v
   other_stood event h key v entry here = record { entry = entry; here = subst (λ (all : List (List Standing)). filter (is_of key) (slice_index_or all v []) ≡ standing_of_key key entry ∷ []) (at_after actor event state h) here }
+
+  pub stood_by : (event : Event) → CanHappen shape event → IsTrue (is_allowed at.ideal actor event) → (key : Key) (vcpu : ℕ) (entry : Entry) → of_key (happened actor event at.ideal) key vcpu ≡ standing_of_key key entry ∷ [] → Stood at.ideal event key vcpu
+  stood_by (Reach other w) can allowed key vcpu entry here = elim (reach_stood other w can.1 can.0 key vcpu entry here) [
+    | inl same ↦ came w (ap (λ k. Reach k w) (sym same))
+    | inr before ↦ stood before (λ w e. cc)
+  ]
+  stood_by (Take other w) can allowed key vcpu entry here = stood (take_stood other w can.1 can.0 allowed key vcpu entry here) (λ w e. cc)
+  stood_by (Leave other w) can allowed key vcpu entry here =
+      let both = leave_stood other w can.1 can.0 allowed key vcpu entry here in
+      stood both.1 (λ v e. both.0 (left_is v e))
+    where
+      left_is : (v : ℕ) → Leave other w ≡ Leave key v → key ≡ other
+      left_is v e = cc
+  stood_by (Cpu w reg write) can allowed key vcpu entry here = stood (access_stood w can.0 reg write key vcpu entry here) (λ w e. cc)
+  stood_by (Raise other) can allowed key vcpu entry here = stood (other_stood (Raise other) refl key vcpu entry here) (λ w e. cc)
+  stood_by (Up other) can allowed key vcpu entry here = stood (other_stood (Up other) refl key vcpu entry here) (λ w e. cc)
+  stood_by (Down other) can allowed key vcpu entry here = stood (other_stood (Down other) refl key vcpu entry here) (λ w e. cc)
+  stood_by (Enable w) can allowed key vcpu entry here = stood (other_stood (Enable w) refl key vcpu entry here) (λ w e. cc)
+  stood_by (Touch other touching) can allowed key vcpu entry here = stood (other_stood (Touch other touching) refl key vcpu entry here) (λ w e. cc)
+  stood_by (Read place) can allowed key vcpu entry here = stood (other_stood (Read place) refl key vcpu entry here) (λ w e. cc)
+  stood_by (Put word value) can allowed key vcpu entry here = stood (other_stood (Put word value) refl key vcpu entry here) (λ w e. cc)
+  stood_by (CtlrBegin enables) can allowed key vcpu entry here = stood (other_stood (CtlrBegin enables) refl key vcpu entry here) (λ w e. cc)
+  stood_by CtlrEnd can allowed key vcpu entry here = stood (other_stood CtlrEnd refl key vcpu entry here) (λ w e. cc)
+  stood_by ItsBegin can allowed key vcpu entry here = stood (other_stood ItsBegin refl key vcpu entry here) (λ w e. cc)
+  stood_by ItsEnd can allowed key vcpu entry here = stood (other_stood ItsEnd refl key vcpu entry here) (λ w e. cc)
+  stood_by (Queue offset change) can allowed key vcpu entry here = stood (other_stood (Queue offset change) refl key vcpu entry here) (λ w e. cc)

@@ -1,4 +1,4 @@
--- The worked history at rest: each test computes.
+-- The worked history that is up to date: each test computes.
 use Rattle.std.proofs.Common.{◌≡◌, ◌||◌, not, inl, inr, Bool, true, false, IsTrue, List, [], ◌∷◌, ◌++◌, Contains, refl, subst, arith}
 use Rattle.std.specs.List.{list_all, range_with_len}
 use Rattle.std.proofs.lemmas.Bool.{and_parts, not-true}
@@ -14,7 +14,7 @@ use Rattle.gic_history.specs.Worked.{worked_guest, message, reach}
 use Rattle.gic_prio.specs.Levels.{least_in, with_level, without_level}
 use Rattle.home_laws.proofs.WorkedLemmas.{shows}
 use Rattle.vcpu_refill.proofs.ElementLemmas.{Contains-cases, Contains-map, Contains-nothing}
-use Rattle.core_home.specs.Stay.{followed_by}
+use Rattle.core_regs.specs.Followed.{followed_by}
 use Rattle.core_home.specs.Worked.{AVcpuFindsAll}
 use Rattle.core_home.proofs.ListLemmas.{range_has}
 
@@ -57,7 +57,7 @@ quiet_is (turn ∷ turns) b h e = absurd (cc)
 pub finds : AVcpuFindsAll
 finds = record {
   history = shows.acknowledges;
-  rest = record {
+  up_to_date = record {
     unchanged = λ key has away. quiet_is (changes_of worked_guest.shape (followed_by worked_guest there).track key).since (is_home (followed_by worked_guest there).ideal key) (each_key worked_guest.shape is_quiet worked_shape all_quiet key has) away;
     none_late = λ vcpu there. refl;
   };

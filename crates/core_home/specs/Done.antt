@@ -9,7 +9,7 @@ use Rattle.gic_history.specs.State.{is_home}
 use Rattle.scn_base.specs.declared.guest.GuestSpec.{GuestSpec}
 use Rattle.scn_base.specs.Good.{IsGoodGuest}
 use Rattle.core_fresh.specs.Excuse.{is_current}
-use Rattle.core_home.specs.Stay.{followed_by}
+use Rattle.core_regs.specs.Followed.{followed_by}
 
 -- an interrupt that is at an interface was changed, since it got there, in a call or a command that goes on: that has made an event of it
 abbrev pub ChangesAreDone : Type 0

@@ -1,4 +1,4 @@
 pub mod Stay
-pub mod Rest
+pub mod UpToDate
 pub mod Worked
 pub mod Done

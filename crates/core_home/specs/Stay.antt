@@ -1,5 +1,5 @@
 -- What stands at an interface and was not changed since it got there (own choice).
-use Rattle.std.specs.Prelude.{◌≡◌, ℕ, ◌<◌, true, false, IsTrue, List, [], Contains, fold}
+use Rattle.std.specs.Prelude.{◌≡◌, ℕ, ◌<◌, true, false, IsTrue, List, [], Contains}
 use Rattle.gic_base.specs.declared.shape.GuestShape.{GuestShape}
 use Rattle.gic_call.specs.declared.event.Moment.{Moment}
 use Rattle.gic_history.specs.Fresh.{changes_of}
@@ -11,11 +11,7 @@ use Rattle.gic_word.specs.Record.{is_pending, is_ripe}
 use Rattle.ideal_guest.specs.Ideal.{irq_at, cpu_at}
 use Rattle.scn_base.specs.declared.guest.GuestSpec.{GuestSpec}
 use Rattle.scn_base.specs.Good.{IsGoodGuest}
-use Rattle.core_fresh.specs.Excuse.{Followed, follows, opening_followed}
-
--- where a history has come
-abbrev pub followed_by : GuestSpec → List Moment → Followed
-followed_by guest moments = fold follows (opening_followed guest) moments
+use Rattle.core_regs.specs.Followed.{Followed, followed_by}
 
 -- the record of what stands there, with the causes that the interface has of it
 abbrev pub with_causes : Ideal → Standing → Irq

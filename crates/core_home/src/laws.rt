@@ -1,6 +1,6 @@
 //! Laws of histories.
 ghost use Rattle.core_home.specs.Done.{ChangesAreDone};
-ghost use Rattle.core_home.specs.Rest.{RestShowsHome};
+ghost use Rattle.core_home.specs.UpToDate.{StaysUpToDate, UpToDateShowsHome};
 ghost use Rattle.core_home.specs.Stay.{StandsAsReached};
 ghost use Rattle.core_home.specs.Worked.{AVcpuFindsAll};
 
@@ -14,11 +14,18 @@ pub fn stands_as_reached()
 /// A law of every history of a good guest at a moment at which no change is on its way to an interface and nothing that is to
 /// leave one is late: an access of a vCPU's interface, before whose first interrupt no home one comes and which ends none that
 /// is active by the vCPU and at no interface, shows the guest with all that stands at interfaces taken back.
-pub fn rest_shows_home()
-    ensures { RestShowsHome }
+pub fn up_to_date_shows_home()
+    ensures { UpToDateShowsHome }
 {}
 
-/// A worked history that meets the premises of `rest_shows_home`: a message made interrupt 40 pending, it got to the interface
+/// A law of every history of a good guest, from a moment on at which no change is on its way to an interface and nothing that is
+/// to leave one is late: so it is as long as interrupts only move to interfaces and from them, actors read, and calls begin and
+/// end.
+pub fn stays_up_to_date()
+    ensures { StaysUpToDate }
+{}
+
+/// A worked history that meets the premises of `up_to_date_shows_home`: a message made interrupt 40 pending, it got to the interface
 /// of vCPU 0, and that reads ICC_IAR1.
 pub fn a_vcpu_finds_all()
     ensures { AVcpuFindsAll }

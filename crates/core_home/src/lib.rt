@@ -3,4 +3,6 @@
 
 mod laws;
 
-pub use laws::{a_vcpu_finds_all, changes_are_done, rest_shows_home, stands_as_reached};
+pub use laws::{
+    a_vcpu_finds_all, changes_are_done, stands_as_reached, stays_up_to_date, up_to_date_shows_home,
+};

@@ -17,7 +17,8 @@ use Rattle.core_proper.specs.Ideal.{end_of_moments, event_moments, ideal_of}
 use Rattle.core_proper.specs.Parts.{Act, begins, makes, ends, CoreMoment}
 use Rattle.core_proper.specs.Progress.{Progress, is_paid, opening_progress, progress_in}
 use Rattle.core_proper.specs.Proper.{IsProperEnd, IsProperRun, ends_refill, gives_back, is_empty}
-use Rattle.core_fresh.specs.Excuse.{Followed, followed_in, follows}
+use Rattle.core_fresh.specs.Excuse.{followed_in}
+use Rattle.core_regs.specs.Followed.{Followed, follows}
 use Rattle.core_fresh.proofs.Frame.{follow, progress_is}
 use Rattle.core_fresh.proofs.RunFrame.{IsNextOf, followed_more, runs_on}
 use Rattle.core_late.specs.Late.{AccessesComeFirst, DeactivationsAreFresh, has_scanned, is_access_first}

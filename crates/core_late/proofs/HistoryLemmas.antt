@@ -10,7 +10,8 @@ use Rattle.port_core.specs.Run.{opening, seat_at}
 use Rattle.core_proper.specs.Ideal.{end_of_moments, ideal_moments, ideal_of}
 use Rattle.core_proper.specs.Parts.{Act, CoreMoment}
 use Rattle.core_proper.proofs.PartLemmas.{ideal_append}
-use Rattle.core_fresh.specs.Excuse.{Followed, follows, followed_in, opening_followed}
+use Rattle.core_fresh.specs.Excuse.{followed_in}
+use Rattle.core_regs.specs.Followed.{Followed, follows, opening_followed}
 
 -- a clause of each moment of a history from some state on
 abbrev pub clause_from : (Ideal → Track → Moment → Bool) → Followed → List Moment → Bool
@@ -28,7 +29,7 @@ kept_append clause (moment ∷ early) late at h =
     let rest = kept_append clause early late (follows at moment) parts.1 in
     (joined (clause at.ideal at.track moment) (clause_from clause (follows at moment) early) parts.0 rest.0, rest.1)
 
-kept_both : (clause : Ideal → Track → Moment → Bool) (early late : List Moment) (at : Followed) → IsTrue (clause_from clause at early) → IsTrue (clause_from clause (fold follows at early) late) → IsTrue (clause_from clause at (early ++ late))
+pub kept_both : (clause : Ideal → Track → Moment → Bool) (early late : List Moment) (at : Followed) → IsTrue (clause_from clause at early) → IsTrue (clause_from clause (fold follows at early) late) → IsTrue (clause_from clause at (early ++ late))
 kept_both clause [] late at h g = g
 kept_both clause (moment ∷ early) late at h g =
     let parts = and_parts (clause at.ideal at.track moment) (clause_from clause (follows at moment) early) h in

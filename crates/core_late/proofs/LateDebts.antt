@@ -1,14 +1,12 @@
 -- An access of a proper run that leaves a late interrupt behind owes a scan.
-use Rattle.std.proofs.Common.{◌≡◌, ℕ, ◌<◌, ◌==◌, ◌||◌, inl, true≢false, not, Bool, true, false, IsTrue, List, [], ◌∷◌, ◌++◌, fold, Contains, Option, Some, is_some, if◌then◌else◌, refl, sym, ap, ◌∙◌, subst}
+use Rattle.std.proofs.Common.{◌≡◌, ℕ, ◌<◌, ◌==◌, ◌||◌, inl, true≢false, not, Bool, true, false, IsTrue, List, [], ◌∷◌, ◌++◌, Contains, Option, Some, is_some, if◌then◌else◌, refl, sym, ap, ◌∙◌, subst}
 use Rattle.std.proofs.lemmas.Bool.{eqb-true}
 use Rattle.std.proofs.lemmas.List.Elements.{All-contains_itself}
 use Rattle.gic_base.specs.declared.icc.IccReg.{IccReg}
 use Rattle.gic_base.specs.declared.interrupt.Key.{Key}
 use Rattle.gic_base.specs.declared.shape.GuestShape.{GuestShape}
 use Rattle.gic_base.specs.Interrupt.{has_interrupt, intid_of}
-use Rattle.gic_call.specs.declared.event.Moment.{Moment}
-use Rattle.gic_history.specs.Fresh.{Track, changes_of}
-use Rattle.gic_history.specs.State.{Ideal}
+use Rattle.gic_history.specs.Fresh.{changes_of}
 use Rattle.gic_ich.specs.declared.regs.IchRegs.{IchRegs}
 use Rattle.gic_ich.specs.Status.{misr_of}
 use Rattle.gic_icv.specs.Registers.{cpu_in}
@@ -28,49 +26,40 @@ use Rattle.port_core.specs.declared.run.Made.{Made}
 use Rattle.port_core.specs.declared.step.CoreStep.TheVariants.{Poll}
 use Rattle.port_core.specs.declared.word_id.WordId.TheVariants.{Irq}
 use Rattle.port_core.specs.After.{interface_of, local_after, shown}
-use Rattle.port_core.specs.Condition.{Meets, is_ready}
+use Rattle.port_core.specs.Condition.{is_ready}
 use Rattle.port_core.specs.Effect.{succeeds}
 use Rattle.port_core.specs.Forms.{vcpu_of}
 use Rattle.port_core.specs.Local.{is_at}
 use Rattle.port_core.specs.Run.{CoreState, opening, seat_at, word_in}
-use Rattle.port_core.specs.Step.{word_of}
 use Rattle.port_core.specs.Valid.{IsLocal}
 use Rattle.port_core.proofs.AtLemmas.{entry_is}
 use Rattle.port_core.proofs.StepTies.{number_is}
-use Rattle.core_proper.specs.Ideal.{end_of_moments, ideal_of}
+use Rattle.core_proper.specs.Ideal.{end_of_moments}
 use Rattle.core_proper.specs.Laws.{IsSeatOf}
 use Rattle.core_proper.specs.Parts.{CoreMoment, makes}
 use Rattle.core_proper.specs.Progress.{Debt, paid, before_next, Progress, opening_progress, after_poll, changed_by, is_paid, is_to_scan, progress_in, stepped}
-use Rattle.core_proper.specs.Proper.{IsProperStep}
 use Rattle.core_proper.specs.Registers.{RegistersAgree, after_operation}
-use Rattle.core_proper.specs.Scan.{is_idle}
 use Rattle.core_proper.proofs.InterfaceLemmas.{is_interface}
 use Rattle.core_proper.proofs.ScanLemmas.{debt_on}
 use Rattle.core_laws.specs.Related.{IsCpuRelated}
 use Rattle.core_laws.proofs.StepContext.{IsStep}
 use Rattle.core_regs.specs.Asks.{HasAll}
-use Rattle.core_regs.specs.Ends.{IsBehind, SeesEnd, telling_of, told_by}
-use Rattle.core_regs.specs.Stands.{IsLoaded}
+use Rattle.core_regs.specs.Ends.{IsBehind, SeesEnd}
 use Rattle.core_regs.proofs.HeldSteps.{held_record}
 use Rattle.core_regs.proofs.SeeRuns.{ends_are_seen}
 use Rattle.core_regs.proofs.StandRuns.{registers_stand}
-use Rattle.core_fresh.specs.Excuse.{Followed, followed_in, follows}
+use Rattle.core_fresh.specs.Excuse.{followed_in}
+use Rattle.core_regs.specs.Followed.{Followed}
 use Rattle.core_fresh.specs.Index.{owes_kick}
 use Rattle.core_fresh.specs.Standing.{AreOwed}
-use Rattle.core_fresh.specs.Waiting.{IsUnkicked}
+use Rattle.core_late.proofs.PollLemmas.{IsPolled, polled, seat_so}
 use Rattle.core_fresh.proofs.CalmSteps.{ready_stays}
-use Rattle.core_fresh.proofs.Frame.{is_step, progress_is, progress_on}
+use Rattle.core_fresh.proofs.Frame.{is_step, progress_on}
 use Rattle.core_fresh.proofs.RunFrame.{IsNextOf}
-use Rattle.core_fresh.proofs.ScanSteps.{only_idle}
 use Rattle.core_fresh.proofs.SinceSteps.{changes_are_owed}
 use Rattle.core_late.proofs.EndedLemmas.{asserts}
 use Rattle.core_late.proofs.LateAccess.{IsLateAt, late_at, own_ends, unchanged}
 use Rattle.core_late.proofs.LeavingLemmas.{IsLeft}
-
--- a history says of its interrupts the same, with the state of the ideal controller under one name or another
-told_same : (moments : List Moment) (ideal : Ideal) (track : Track) → (fold told_by (record { ideal = ideal; track = track }) moments).track ≡ (fold follows (record { ideal = ideal; track = track }) moments).track
-told_same [] ideal track = refl
-told_same (moment ∷ moments) ideal track = told_same moments (follows (record { ideal = ideal; track = track }) moment).ideal (follows (record { ideal = ideal; track = track }) moment).track
 
 -- what is owed after a step
 pub debt_now : (shape : GuestShape) (vcpu : ℕ) (made : Made) (p : Progress) → (stepped shape vcpu made p).debt ≡ (changed_by shape vcpu made.step made.found (succeeds shape vcpu p.local made.step made.found) p).debt
@@ -106,38 +95,19 @@ module _ (guest : GuestSpec) (number vcpu : ℕ) (good : IsGoodGuest guest) (wit
   abbrev p : Progress
   p = progress_in guest number early vcpu
 
-  p_is : progress_on guest.shape (opening_progress guest number) early vcpu ≡ progress_in guest number early vcpu
-  p_is = progress_is guest.shape early (opening_progress guest number) vcpu
-
   abbrev is : IsStep guest.shape (end_of_moments guest.shape (opening guest number) early) (followed_in guest number early).ideal vcpu made.step made.found made.left made.tables
   is = is_step guest.shape good.shape (end_of_moments guest.shape (opening guest number) early) (followed_in guest number early) (progress_on guest.shape (opening_progress guest number) early) vcpu made next.at next.acts
 
-  pub seat_now : IsSeatOf (progress_in guest number early vcpu) (seat_at (end_of_moments guest.shape (opening guest number) early) vcpu)
-  seat_now = subst (λ r. IsSeatOf r (seat_at (end_of_moments guest.shape (opening guest number) early) vcpu)) p_is (next.at.seats vcpu next.acts.there)
-
-  proper : IsProperStep guest.shape vcpu (progress_in guest number early vcpu) made.step
-  proper = subst (λ r. IsProperStep guest.shape vcpu r made.step) p_is next.acts.proper
+  abbrev pub seat_now : IsSeatOf (progress_in guest number early vcpu) (seat_at (end_of_moments guest.shape (opening guest number) early) vcpu)
+  seat_now = seat_so guest number vcpu good early made next
 
   -- the access
   module _ (reg : IccReg) (write : Option ℕ) (step_is : made.step ≡ Poll (Some reg) write) (unkicked : (vcpu_of made.found).kick ≡ false) (key : Key) (left : IsLeft At.ideal At.track vcpu reg write key) (unowed : IsTrue (owes_kick vcpu p.local) → ⊥) where
-    polls : IsProperStep shape vcpu p (Poll (Some reg) write)
-    polls = subst (IsProperStep guest.shape vcpu (progress_in guest number early vcpu)) step_is proper
-
-    ready : IsTrue (is_ready p.local.phase)
-    ready = subst (λ (l : Local). IsTrue (is_ready l.phase)) (sym seat_now.local) (subst (λ s. Meets guest.shape vcpu (seat_at State vcpu).local (seat_at State vcpu).own s) step_is is.takes.meets)
-
-    loaded : IsLoaded p
-    loaded = record { scan = ap is_idle (only_idle shape vcpu p.local (Poll (Some reg) write) refl p.scan polls.scan); ready = ready }
-
-    inverse : (b : Bool) → IsTrue (not b) → b ≡ false
-    inverse true h = absurd (true≢false (sym h))
-    inverse false h = refl
-
-    free : IsUnkicked shape State vcpu
-    free = ap (λ n. (vcpu_of n).kick) (sym (is.takes.found ∙ ap (λ s. word_in shape State (word_of shape vcpu s)) step_is)) ∙ unkicked
+    so : IsPolled shape State vcpu p reg write
+    so = polled guest number vcpu good early made next reg write step_is unkicked
 
     all : HasAll shape State vcpu p
-    all = record { none_failed = inverse p.failed polls.failed; unkicked = free }
+    all = record { none_failed = so.none_failed; unkicked = so.free }
 
     -- the interrupt
     there : IsTrue (has_interrupt shape key)
@@ -154,18 +124,18 @@ module _ (guest : GuestSpec) (number vcpu : ℕ) (good : IsGoodGuest guest) (wit
 
     owed : AreOwed shape State At.track vcpu key
     owed =
-        changes_are_owed guest number early vcpu key good next.before within there free (ready_stays p.local.phase ready)
+        changes_are_owed guest number early vcpu key good next.before within there so.free (ready_stays p.local.phase so.ready)
         (number_is vcpu (irq_of (word_in shape State (Irq key))).holder (is.sound.ties vcpu (Irq key) is.takes.actor there ∙ stands))
 
     unchanged_since : (changes_of shape At.track key).since ≡ []
     unchanged_since = unchanged shape State At.ideal At.track vcpu key is.related.shape_is owed (λ owes. unowed (subst (λ (l : Local). IsTrue (owes_kick vcpu l)) (sym seat_now.local) owes)) left.late
 
-    behind : IsBehind shape State (telling_of guest (ideal_of shape (opening guest number) early)) p key
+    behind : IsBehind shape State At p key
     behind = record {
       there = there;
       at = late_stands;
-      pending = ap is_pending (held_record shape State At.ideal vcpu key is.sound is.related within there stands (subst (λ (l : Local). IsTrue (is_ready l.phase)) seat_now.local ready)) ∙ late.pending;
-      unchanged = ap (λ t. (changes_of shape t key).since) (told_same (ideal_of shape (opening guest number) early) _ _) ∙ unchanged_since;
+      pending = ap is_pending (held_record shape State At.ideal vcpu key is.sound is.related within there stands (subst (λ (l : Local). IsTrue (is_ready l.phase)) seat_now.local so.ready)) ∙ late.pending;
+      unchanged = unchanged_since;
     }
 
     local : IsLocal shape vcpu p.local
@@ -180,8 +150,8 @@ module _ (guest : GuestSpec) (number vcpu : ℕ) (good : IsGoodGuest guest) (wit
     -- a maintenance interrupt is asserted, where no scan was owed
     quiet : IsQuietAfter (after_operation p.trapping reg write p.regs) p.trapping p.debt → ⊥
     quiet after =
-        let agrees : RegistersAgree p.regs p.local = registers_stand guest number early vcpu good next.before within loaded (inl after.paid_before) in
-        let sees : SeesEnd p.regs key = ends_are_seen guest number early vcpu key good next.before within (record { loaded = loaded; untrapped = after.untrapped; paid = after.paid_before }) all behind in
+        let agrees : RegistersAgree p.regs p.local = registers_stand guest number early vcpu good next.before within so.loaded (inl after.paid_before) in
+        let sees : SeesEnd p.regs key = ends_are_seen guest number early vcpu key good next.before within (record { loaded = so.loaded; untrapped = after.untrapped; paid = after.paid_before }) all behind in
         let cpu = holds p.regs p.local.cpu interface.points agrees.holds.vmcr agrees.holds.ap0 agrees.holds.ap1 in
         let own = own_ends p.local.cpu (cpu_at At.ideal.guest vcpu) (subst (λ (l : Local). IsCpuRelated l.cpu (cpu_at At.ideal.guest vcpu)) (sym seat_now.local) (is.related.seats vcpu within).cpu) reg write in
         let id_is : intid_of late.entry.key ≡ left.id = ap intid_of entry_there.1 ∙ key_intid left.id vcpu At.ideal.guest.shape key left.named in

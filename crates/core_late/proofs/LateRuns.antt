@@ -23,12 +23,13 @@ use Rattle.core_proper.specs.Ideal.{end_of_moments, event_moments, ideal_moments
 use Rattle.core_proper.specs.Laws.{IsSeatOf}
 use Rattle.core_proper.specs.Parts.{Act, begins, makes, ends, CoreMoment}
 use Rattle.core_proper.specs.Progress.{Progress, is_paid, opening_progress, progressed, progress_in, stepped}
-use Rattle.core_proper.specs.Proper.{is_empty}
+use Rattle.core_proper.specs.Proper.{IsProperRun, is_empty}
 use Rattle.core_laws.specs.Simulates.{IsSimulatedAs}
 use Rattle.core_laws.proofs.AfterLemmas.{later}
 use Rattle.core_laws.proofs.StepContext.{IsStep}
 use Rattle.core_regs.proofs.StandRuns.{paid_begun, paid_ended}
-use Rattle.core_fresh.specs.Excuse.{Followed, follows, followed_in}
+use Rattle.core_fresh.specs.Excuse.{followed_in}
+use Rattle.core_regs.specs.Followed.{Followed, follows}
 use Rattle.core_fresh.specs.Index.{owes_kick}
 use Rattle.core_fresh.proofs.Frame.{ends_command, event, follow, is_part, is_step, owing_goes_on, part_settled, progress_is, progress_on, settled_owes, simulated}
 use Rattle.core_fresh.proofs.ProgressLemmas.{local_on}
@@ -289,6 +290,13 @@ all_left vcpu p (pair ∷ leaving) scanned all = of (pair.0 == vcpu) refl (all_l
     of : (b : Bool) → (pair.0 == vcpu) ≡ b → IsTrue (not (list_any (λ (pair : ℕ × Key). pair.0 == vcpu) leaving)) → IsTrue (not (b || list_any (λ (pair : ℕ × Key). pair.0 == vcpu) leaving))
     of true e rest = absurd (none (All-head (Staying vcpu p) pair leaving all (eqb-true pair.0 vcpu e)))
     of false e rest = rest
+
+-- a vCPU that has made no event of an interrupt owes itself no kick
+pub none_owed :
+    (guest : GuestSpec) (number : ℕ) (moments : List CoreMoment) (vcpu : ℕ) → IsGoodGuest guest → IsProperRun guest number moments → vcpu < guest.shape.vcpus → AccessesComeFirst guest number moments
+    → IsTrue (has_done_none (doing_of (followed_in guest number moments).track vcpu).done) → IsTrue (owes_kick vcpu (progress_in guest number moments vcpu).local) → ⊥
+none_owed guest number moments vcpu good proper within first none owes =
+    (runs_on guest number good (KeptAt guest number vcpu good within) (one_more guest number vcpu good within) (opens guest number vcpu good within) moments proper first).told owes none
 
 pub late_ones_leave : LateOnesLeave
 late_ones_leave guest number moments vcpu good proper within first scanned =

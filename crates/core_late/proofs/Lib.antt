@@ -2,6 +2,7 @@ pub mod EndedLemmas
 pub mod LeavingLemmas
 pub mod StayLemmas
 pub mod LateAccess
+pub mod PollLemmas
 pub mod LateDebts
 pub mod HistoryLemmas
 pub mod LateRuns

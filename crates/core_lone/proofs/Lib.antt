@@ -1,2 +1,4 @@
+pub mod HereLemmas
+pub mod EaseRuns
 pub mod LoneRuns
 pub mod WorkedLemmas

@@ -1,17 +1,14 @@
 -- An access of a vCPU that is alone finds all that is there for it.
-use Rattle.std.proofs.Common.{◌≡◌, ◌≢◌, ℕ, ◌<◌, ◌==◌, ◌&&◌, ◌||◌, inl, inr, true≢false, not, Bool, true, false, IsTrue, All, List, [], ◌∷◌, ◌++◌, map, Contains, Option, Some, None, is_none, is_some, refl, sym, ap, ◌∙◌, subst, arith}
-use Rattle.std.specs.List.{list_any}
+use Rattle.std.proofs.Common.{◌≡◌, ◌≢◌, ℕ, ◌<◌, ◌==◌, ◌&&◌, ◌||◌, inl, inr, true≢false, Bool, true, false, IsTrue, List, map, Option, Some, None, is_none, is_some, refl, sym, ap, ◌∙◌, subst}
 use Rattle.std.specs.Option.{option_map_or}
-use Rattle.std.proofs.lemmas.Bool.{cases_eq, and_parts, and_from, eqb-true, eq-eqb, lt-ltb, ltb-true}
-use Rattle.std.proofs.lemmas.List.Elements.{All-head}
-use Rattle.std.proofs.lemmas.List.Sums.{fold-append}
+use Rattle.std.proofs.lemmas.Bool.{cases_eq, and_parts, and_from, eqb-true, lt-ltb}
 use Rattle.gic_base.specs.declared.icc.IccReg.{IccReg}
 use Rattle.gic_base.specs.declared.icc.IccReg.TheVariants.{Eoir0, Eoir1, Dir}
 use Rattle.gic_base.specs.declared.interrupt.Key.{Key}
 use Rattle.gic_base.specs.declared.shape.GuestShape.{GuestShape}
 use Rattle.gic_base.specs.Interrupt.{has_interrupt, intid_of}
 use Rattle.gic_history.specs.Fresh.{Turn, asks_first, changes_of, comes_first, doing_of, ended_by, is_far_active}
-use Rattle.gic_history.specs.State.{interface_at, shown_at, is_home, is_of, standing_at}
+use Rattle.gic_history.specs.State.{interface_at, shown_at, is_home, standing_at}
 use Rattle.gic_prio.specs.Delivery.{first_of, is_before, is_deliverable, is_group_enabled, takes_kind}
 use Rattle.gic_prio.specs.Interface.{InterfaceState, candidates_at}
 use Rattle.gic_word.specs.declared.record.Irq.{Irq}
@@ -19,81 +16,47 @@ use Rattle.gic_word.specs.Record.{is_number, is_ripe}
 use Rattle.ideal_guest.specs.Ideal.{irq_at, cpu_at}
 use Rattle.ideal_guest.proofs.KeyLemmas.{key_there}
 use Rattle.gic_prio.specs.Signal.{intid_written}
-use Rattle.gic_history.specs.History.{IsHistory, opening_course}
-use Rattle.home_laws.specs.Home.{ShowsHome}
-use Rattle.history_laws.proofs.StandLemmas.{any_somewhere}
 use Rattle.scn_base.specs.declared.guest.GuestSpec.{GuestSpec}
 use Rattle.scn_base.specs.Good.{IsGoodGuest}
-use Rattle.vcpu_refill.proofs.ElementLemmas.{Contains-here, Contains-nothing}
-use Rattle.port_core.specs.declared.at_list.AtIrq.{AtIrq}
 use Rattle.port_core.specs.declared.local.Local.{Local}
 use Rattle.port_core.specs.declared.local.Phase.{Phase}
 use Rattle.port_core.specs.declared.local.Phase.TheVariants.{Folding}
 use Rattle.port_core.specs.declared.word_id.WordId.TheVariants.{Irq as IrqWord, Vcpu}
 use Rattle.port_core.specs.Actor.{actor_count}
-use Rattle.gic_word.specs.Valid.{is_vcpu_or_none}
 use Rattle.port_core.specs.After.{interface_of, shown}
 use Rattle.port_core.specs.Condition.{is_ready}
-use Rattle.port_core.specs.Local.{is_at}
 use Rattle.port_core.specs.Run.{CoreState, opening, seat_at}
-use Rattle.core_proper.specs.Ideal.{after_moment, end_of_moments, ideal_of}
-use Rattle.core_proper.specs.Parts.{Act, CoreMoment}
-use Rattle.core_proper.specs.Progress.{Progress, is_paid, opening_progress, progress_in}
-use Rattle.core_proper.specs.Proper.{IsProperRun, is_empty}
+use Rattle.core_proper.specs.Ideal.{end_of_moments}
+use Rattle.core_proper.specs.Parts.{CoreMoment}
+use Rattle.core_proper.specs.Progress.{Progress, opening_progress, progress_in}
+use Rattle.core_proper.specs.Proper.{IsProperRun}
 use Rattle.core_proper.specs.Scan.{has_key}
-use Rattle.core_laws.specs.Laws.{AreCalls}
 use Rattle.core_laws.specs.Related.{bare, but_lpis, is_folding}
 use Rattle.core_laws.proofs.AccessLemmas.{shown_same}
 use Rattle.core_laws.proofs.CpuLemmas.{with_lpis}
-use Rattle.core_laws.proofs.HistorySteps.{runs_history}
-use Rattle.core_laws.proofs.StandingLemmas.{any_stands, home_is}
-use Rattle.core_fresh.specs.Excuse.{Followed, followed_in, is_current, IsExcused}
+use Rattle.core_fresh.specs.Excuse.{followed_in, is_current, IsExcused}
+use Rattle.core_regs.specs.Followed.{Followed}
 use Rattle.core_fresh.specs.First.{MayAsk}
 use Rattle.core_fresh.specs.Index.{owes_kick, waits_for}
-use Rattle.core_fresh.specs.Standing.{IsOwing}
-use Rattle.core_fresh.specs.Waiting.{IsUnkicked, record_in}
+use Rattle.core_fresh.specs.Waiting.{record_in}
+use Rattle.core_regs.specs.Asks.{IsUnkicked}
 use Rattle.core_fresh.proofs.CopySteps.{copies_are_current}
 use Rattle.core_fresh.proofs.FarSteps.{far_ends_are_known}
 use Rattle.core_fresh.proofs.FirstRuns.{first_comes_first}
-use Rattle.core_fresh.proofs.Frame.{IsAt, follow, at_next, at_opens, moved_on, progress_is, progress_on}
-use Rattle.core_fresh.proofs.RunFrame.{IsNextOf, end_more, followed_more, runs_on}
-use Rattle.core_fresh.proofs.SinceSteps.{changes_are_owed}
+use Rattle.core_fresh.proofs.Frame.{IsAt, progress_on}
 use Rattle.core_fresh.proofs.WantRuns.{wants_are_kept}
-use Rattle.core_home.specs.Rest.{IsAtRest}
-use Rattle.core_home.proofs.DoneRuns.{changes_are_done}
-use Rattle.core_home.proofs.ShowRuns.{rest_shows_home}
-use Rattle.core_late.specs.Late.{AccessesComeFirst, has_done_none}
-use Rattle.core_late.proofs.LateRuns.{late_ones_leave}
-use Rattle.core_lone.specs.Lone.{IsAtEase, IsLone, IsReadyFor, LoneAccessesShowHome}
-
--- what is kept along a run holds at its end
-end_is : (guest : GuestSpec) (number : ℕ) → IsGoodGuest guest → (moments : List CoreMoment) → IsProperRun guest number moments
-    → IsAt guest.shape (end_of_moments guest.shape (opening guest number) moments) (followed_in guest number moments) (progress_on guest.shape (opening_progress guest number) moments)
-end_is guest number good moments proper = runs_on guest number good KeptAt one_more (at_opens guest number good) moments proper
-  where
-    KeptAt : List CoreMoment → Type 0
-    KeptAt early = IsAt guest.shape (end_of_moments guest.shape (opening guest number) early) (followed_in guest number early) (progress_on guest.shape (opening_progress guest number) early)
-
-    one_more : (early : List CoreMoment) (actor : ℕ) (act : Act) → IsNextOf guest number early actor act → KeptAt early → KeptAt (early ++ record { actor = actor; act = act } ∷ [])
-    one_more early actor act next kept =
-        let moment : CoreMoment = record { actor = actor; act = act } in
-        let later = at_next guest.shape good.shape (end_of_moments guest.shape (opening guest number) early) (followed_in guest number early) (progress_on guest.shape (opening_progress guest number) early) actor act next.at next.acts in
-        subst (λ s. IsAt guest.shape s (followed_in guest number (early ++ moment ∷ [])) (progress_on guest.shape (opening_progress guest number) (early ++ moment ∷ []))) (sym (end_more guest.shape (opening guest number) early moment))
-        (subst (λ f. IsAt guest.shape (after_moment guest.shape (end_of_moments guest.shape (opening guest number) early) moment) f (progress_on guest.shape (opening_progress guest number) (early ++ moment ∷ []))) (sym (followed_more guest number early moment))
-        (subst (λ q. IsAt guest.shape (after_moment guest.shape (end_of_moments guest.shape (opening guest number) early) moment) (follow guest.shape (end_of_moments guest.shape (opening guest number) early) (followed_in guest number early) moment) q) (sym (fold-append (moved_on guest.shape) (opening_progress guest number) early (moment ∷ []))) later))
+use Rattle.core_home.specs.UpToDate.{FindsAll}
+use Rattle.core_lone.specs.Lone.{IsAlone, IsReadyFor, LoneAccessesFindAll}
+use Rattle.core_lone.proofs.HereLemmas.{end_is, p_is, local_is, an_actor, nobody_holds}
 
 -- an end names an interrupt of the guest
-ended_there : (shape : GuestShape) (vcpu : ℕ) (reg : IccReg) (write : Option ℕ) (key : Key) → ended_by shape vcpu reg write ≡ Some key → IsTrue (has_interrupt shape key)
+pub ended_there : (shape : GuestShape) (vcpu : ℕ) (reg : IccReg) (write : Option ℕ) (key : Key) → ended_by shape vcpu reg write ≡ Some key → IsTrue (has_interrupt shape key)
 ended_there shape vcpu Eoir0 (Some value) key e = key_there (intid_written value) vcpu shape key e
 ended_there shape vcpu Eoir1 (Some value) key e = key_there (intid_written value) vcpu shape key e
 ended_there shape vcpu Dir (Some value) key e = key_there (intid_written value) vcpu shape key e
 ended_there shape vcpu reg write key e = absurd (cc)
 
-none_done : (list : List Key) (key : Key) → IsTrue (has_done_none list) → Contains list key → ⊥
-none_done [] key h has = Contains-nothing key has
-none_done (one ∷ list) key h has = absurd (cc)
-
-not_folding : (phase : Phase) → IsTrue (is_ready phase) → is_folding phase ≡ false
+pub not_folding : (phase : Phase) → IsTrue (is_ready phase) → is_folding phase ≡ false
 not_folding phase h = of (is_folding phase) refl
   where
     of : (b : Bool) → is_folding phase ≡ b → b ≡ false
@@ -104,8 +67,8 @@ not_folding phase h = of (is_folding phase) refl
         clash Folding e h = cc
         clash p e h = cc
 
-module _ (guest : GuestSpec) (number : ℕ) (moments : List CoreMoment) (vcpu : ℕ) (reg : IccReg) (write : Option ℕ) (good : IsGoodGuest guest) (proper : IsProperRun guest number moments)
-    (calls : AreCalls guest.shape (opening guest number) (opening_course guest) moments) (firsts : AccessesComeFirst guest number moments) (few : vcpu < guest.shape.vcpus) (lone : IsLone guest number moments vcpu) (ready : IsReadyFor guest number moments vcpu reg write) where
+module _ (guest : GuestSpec) (number : ℕ) (moments : List CoreMoment) (vcpu : ℕ) (reg : IccReg) (write : Option ℕ) (good : IsGoodGuest guest) (proper : IsProperRun guest number moments) (few : vcpu < guest.shape.vcpus)
+    (alone : IsAlone guest number moments vcpu) (ready : IsReadyFor guest number moments vcpu reg write) where
   abbrev shape : GuestShape
   shape = guest.shape
 
@@ -121,27 +84,18 @@ module _ (guest : GuestSpec) (number : ℕ) (moments : List CoreMoment) (vcpu : 
   here : IsAt shape state at (progress_on shape (opening_progress guest number) moments)
   here = end_is guest number good moments proper
 
-  p_is : (actor : ℕ) → progress_on shape (opening_progress guest number) moments actor ≡ p actor
-  p_is actor = progress_is shape moments (opening_progress guest number) actor
-
-  local_is : (actor : ℕ) → actor < actor_count shape → (p actor).local ≡ (seat_at state actor).local
-  local_is actor there = subst (λ (q : Progress). q.local ≡ (seat_at state actor).local) (p_is actor) (here.seats actor there).local
-
-  an_actor : (v : ℕ) → v < shape.vcpus → v < actor_count shape
-  an_actor v there = omega (arith, there)
-
   -- a call that goes on is the vCPU's
   nobody_else : (turn : Turn) → turn.actor < actor_count shape → IsTrue (is_current at.track turn) → turn.actor ≡ vcpu
   nobody_else turn there current = elim (cases_eq turn.actor vcpu) [
     | inl e ↦ e
     | inr differ ↦
-        let none : (doing_of at.track turn.actor).operation ≡ None = here.calls turn.actor there ∙ ap (λ (q : Progress). q.operation) (p_is turn.actor) ∙ lone.nobody turn.actor there differ in
+        let none : (doing_of at.track turn.actor).operation ≡ None = here.calls turn.actor there ∙ ap (λ (q : Progress). q.operation) (p_is guest number moments good proper turn.actor) ∙ alone.nobody turn.actor there differ in
         absurd (true≢false (sym current ∙ ap (λ o. is_some o && (doing_of at.track turn.actor).number == turn.number) none))
   ]
 
   none_excused : (key : Key) → IsExcused shape state at.track vcpu key → ⊥
   none_excused key excused = elim (cases_eq excused.actor vcpu) [
-    | inl e ↦ true≢false (sym (subst (λ n. IsTrue (owes_kick vcpu (seat_at state n).local)) e excused.owes) ∙ lone.owes_none)
+    | inl e ↦ true≢false (sym (subst (λ n. IsTrue (owes_kick vcpu (seat_at state n).local)) e excused.owes) ∙ alone.owes_none)
     | inr differ ↦ by (changes_of shape at.track key).last excused.last differ
   ]
     where
@@ -151,67 +105,6 @@ module _ (guest : GuestSpec) (number : ℕ) (moments : List CoreMoment) (vcpu : 
           let both = and_parts (turn.actor == excused.actor) (is_current at.track turn) h in
           let same = eqb-true turn.actor excused.actor both.0 in
           differ (sym same ∙ nobody_else turn (subst (λ n. n < actor_count shape) (sym same) excused.there) both.1)
-
-  -- an interrupt that a vCPU holds is at that one's interface, and one that is home is held by nobody
-  within_vcpus : (key : Key) → IsTrue (has_interrupt shape key) → (v : ℕ) → (record_in shape state key).holder ≡ Some v → v < shape.vcpus
-  within_vcpus key there v e = ltb-true v shape.vcpus (subst (λ o. IsTrue (is_vcpu_or_none shape o)) e (here.sound.words (IrqWord key) there).irq.holder)
-
-  held_at : (key : Key) → IsTrue (has_interrupt shape key) → (v : ℕ) → (record_in shape state key).holder ≡ Some v → is_at key (seat_at state v).local.at ≡ true
-  held_at key there v e = sym (here.sound.ties v (IrqWord key) (an_actor v (within_vcpus key there v e)) there) ∙ ap (is_number v) e ∙ eq-eqb v v refl
-
-  held_away : (key : Key) → IsTrue (has_interrupt shape key) → (v : ℕ) → (record_in shape state key).holder ≡ Some v → is_home at.ideal key ≡ false
-  held_away key there v e =
-      ap not (any_somewhere (is_of key) at.ideal.at v (ap (list_any (is_of key)) (here.related.seats v (within_vcpus key there v e)).at ∙ any_stands key (seat_at state v).local.at ∙ held_at key there v e))
-
-  nobody_holds : (key : Key) → IsTrue (has_interrupt shape key) → IsTrue (is_home at.ideal key) → (record_in shape state key).holder ≡ None
-  nobody_holds key there home = of (record_in shape state key).holder refl
-    where
-      of : (o : Option ℕ) → (record_in shape state key).holder ≡ o → o ≡ None
-      of None e = refl
-      of (Some v) e = absurd (true≢false (sym home ∙ held_away key there v e))
-
-  history : IsHistory guest (ideal_of shape (opening guest number) moments)
-  history = (runs_history guest number moments good proper.parted calls).history
-
-  -- Rest.
-
-  unchanged : (key : Key) → IsTrue (has_interrupt shape key) → is_home at.ideal key ≡ false → (changes_of shape at.track key).since ≡ []
-  unchanged key there away = of (record_in shape state key).holder refl
-    where
-      none_now : (turns : List Turn) → (changes_of shape at.track key).since ≡ turns → (v : ℕ) → All (IsOwing shape state at.track v) turns → turns ≡ []
-      none_now [] e v owed = refl
-      none_now (turn ∷ turns) e v owed =
-          let owing = All-head (IsOwing shape state at.track v) turn turns owed in
-          let mine = nobody_else turn owing.there owing.current in
-          absurd (none_done (doing_of at.track vcpu).done key lone.first
-          (subst (λ n. Contains (doing_of at.track n).done key) mine
-          (changes_are_done guest (ideal_of shape (opening guest number) moments) key turn good history there away (subst (λ l. Contains l turn) (sym e) (Contains-here turn turns)) owing.current)))
-
-      empty_at : (v : ℕ) → v < shape.vcpus → IsTrue (is_empty (p v).local.at) → is_at key (seat_at state v).local.at ≡ false
-      empty_at v within h = subst (λ (l : Local). is_at key l.at ≡ false) (local_is v (an_actor v within)) (none_at (p v).local.at h)
-        where
-          none_at : (list : List AtIrq) → IsTrue (is_empty list) → is_at key list ≡ false
-          none_at [] h = refl
-          none_at (one ∷ list) h = absurd (cc)
-
-      calm : (v : ℕ) → (record_in shape state key).holder ≡ Some v → IsAtEase shape state v (p v) → (changes_of shape at.track key).since ≡ []
-      calm v e (inl empty) = absurd (true≢false (sym (held_at key there v e) ∙ empty_at v (within_vcpus key there v e) empty))
-      calm v e (inr is) = none_now (changes_of shape at.track key).since refl v (changes_are_owed guest number moments v key good proper (within_vcpus key there v e) there is.unkicked is.stays e)
-
-      of : (o : Option ℕ) → (record_in shape state key).holder ≡ o → (changes_of shape at.track key).since ≡ []
-      of None e = absurd (true≢false (sym (home_is here.sound here.related key there e) ∙ away))
-      of (Some v) e = calm v e (lone.ease v (within_vcpus key there v e))
-
-  rests : IsAtRest shape at
-  rests = record { unchanged = unchanged; none_late = λ v within. late_ones_leave guest number moments v good proper within firsts (scanned v (lone.ease v within)) }
-    where
-      or_right : (a b : Bool) → b ≡ true → (a || b) ≡ true
-      or_right true b h = refl
-      or_right false b h = h
-
-      scanned : (v : ℕ) → IsAtEase shape state v (p v) → IsTrue (is_empty (p v).local.at || is_paid (p v).debt)
-      scanned v (inl empty) = ap (λ b. b || is_paid (p v).debt) empty
-      scanned v (inr is) = or_right (is_empty (p v).local.at) (is_paid (p v).debt) is.paid
 
   -- What the access finds.
 
@@ -223,13 +116,13 @@ module _ (guest : GuestSpec) (number : ℕ) (moments : List CoreMoment) (vcpu : 
       let ideal = cpu_at at.ideal.guest vcpu in
       let own = (p vcpu).local.cpu in
       let lpis : ideal.lpis ≡ own.lpis = here.related.words (Vcpu vcpu) (lt-ltb vcpu shape.vcpus few) ∙ sym (copies_are_current guest number moments vcpu good proper few unkicked stays) in
-      let rest : but_lpis ideal ≡ but_lpis own = (here.related.seats vcpu few).cpu.same ∙ ap (λ (l : Local). but_lpis l.cpu) (sym (local_is vcpu (an_actor vcpu few))) in
+      let rest : but_lpis ideal ≡ but_lpis own = (here.related.seats vcpu few).cpu.same ∙ ap (λ (l : Local). but_lpis l.cpu) (sym (local_is guest number moments good proper vcpu (an_actor guest number moments good proper vcpu few))) in
       ap (with_lpis ideal.lpis) rest ∙ ap (λ b. with_lpis b own) lpis
 
   interface_is : cpu_at at.ideal.guest vcpu ≡ (p vcpu).local.cpu → interface_at at.ideal vcpu ≡ interface_of (p vcpu).local
   interface_is cpu =
       ap (λ c. let i : InterfaceState = record { cpu = c; at = map (shown_at at.ideal) (standing_at at.ideal vcpu) } in i) cpu
-      ∙ ap (λ list. let i : InterfaceState = record { cpu = (p vcpu).local.cpu; at = list } in i) (shown_same here.sound here.related vcpu few ∙ ap (λ (l : Local). map shown l.at) (sym (local_is vcpu (an_actor vcpu few))))
+      ∙ ap (λ list. let i : InterfaceState = record { cpu = (p vcpu).local.cpu; at = list } in i) (shown_same here.sound here.related vcpu few ∙ ap (λ (l : Local). map shown l.at) (sym (local_is guest number moments good proper vcpu (an_actor guest number moments good proper vcpu few))))
 
   -- with the record and the interface that the core has
   none_first : asks_first reg write ≡ true → (key : Key) → IsTrue (has_interrupt shape key) → (record_in shape state key).holder ≡ None → IsTrue (is_deliverable key (irq_at at.ideal.guest key) vcpu (cpu_at at.ideal.guest vcpu) shape)
@@ -240,13 +133,13 @@ module _ (guest : GuestSpec) (number : ℕ) (moments : List CoreMoment) (vcpu : 
       (first_comes_first guest number moments vcpu key good proper few may (record { waiting = record { there = there; home = none; unwanted = unwanted; waits = waits }; told = none_excused key }) deliverable_here))
     where
       may : MayAsk shape state vcpu (p vcpu)
-      may = ready.asks asks
+      may = (ready.first asks).asks
 
       word : Irq
       word = record_in shape state key
 
       cpu : cpu_at at.ideal.guest vcpu ≡ (p vcpu).local.cpu
-      cpu = cpu_is (ready.asks asks).unkicked (not_folding (p vcpu).local.phase (ready.asks asks).loaded.ready)
+      cpu = cpu_is (ready.first asks).asks.unkicked (not_folding (p vcpu).local.phase (ready.first asks).asks.loaded.ready)
 
       deliverable_here : IsTrue (is_deliverable key (record_in shape state key) vcpu (p vcpu).local.cpu shape)
       deliverable_here = subst (λ (i : Irq). IsTrue (is_deliverable key i vcpu (p vcpu).local.cpu shape)) (sym (record_is key there none)) (subst (λ c. IsTrue (is_deliverable key (irq_at at.ideal.guest key) vcpu c shape)) cpu deliverable)
@@ -264,7 +157,7 @@ module _ (guest : GuestSpec) (number : ℕ) (moments : List CoreMoment) (vcpu : 
           of false e = refl
           of true e =
               let wanted = wants_are_kept guest number moments good proper.parted key there e in
-              absurd (true≢false (sym wanted.wants ∙ ap (has_key key) (lone.unwanted wanted.actor wanted.there)))
+              absurd (true≢false (sym wanted.wants ∙ ap (has_key key) ((ready.first asks).unwanted wanted.actor wanted.there)))
 
   first_is : asks_first reg write ≡ true → (key : Key) → IsTrue (has_interrupt shape key) → comes_first at.ideal vcpu key ≡ false
   first_is asks key there = of (comes_first at.ideal vcpu key) refl
@@ -280,7 +173,7 @@ module _ (guest : GuestSpec) (number : ℕ) (moments : List CoreMoment) (vcpu : 
       of true e =
           let both = and_parts (is_home at.ideal key && is_deliverable key (irq_at at.ideal.guest key) vcpu (cpu_at at.ideal.guest vcpu) at.ideal.guest.shape) (option_map_or (is_before (record { id = intid_of key; prio = (irq_at at.ideal.guest key).prio; group = (irq_at at.ideal.guest key).group })) (first_of (candidates_at (interface_at at.ideal vcpu))) true) e in
           let two = and_parts (is_home at.ideal key) (is_deliverable key (irq_at at.ideal.guest key) vcpu (cpu_at at.ideal.guest vcpu) at.ideal.guest.shape) both.0 in
-          sym both.1 ∙ none_first asks key there (nobody_holds key there two.0) (subst (λ (g : GuestShape). IsTrue (is_deliverable key (irq_at at.ideal.guest key) vcpu (cpu_at at.ideal.guest vcpu) g)) here.related.shape_is two.1)
+          sym both.1 ∙ none_first asks key there (nobody_holds guest number moments good proper key there two.0) (subst (λ (g : GuestShape). IsTrue (is_deliverable key (irq_at at.ideal.guest key) vcpu (cpu_at at.ideal.guest vcpu) g)) here.related.shape_is two.1)
 
   far_is : (key : Key) → ended_by shape vcpu reg write ≡ Some key → is_far_active at.ideal vcpu key ≡ false
   far_is key ends = of (is_far_active at.ideal vcpu key) refl
@@ -296,11 +189,11 @@ module _ (guest : GuestSpec) (number : ℕ) (moments : List CoreMoment) (vcpu : 
       of false e = refl
       of true e =
           let both = and_parts (is_home at.ideal key) (is_number vcpu (irq_at at.ideal.guest key).act_by) e in
-          let none = nobody_holds key there both.0 in
+          let none = nobody_holds guest number moments good proper key there both.0 in
           absurd (none_excused key (far_ends_are_known guest number moments vcpu key good proper few (ready.ends key ends none) none (ap (λ (i : Irq). i.act_by) (record_is key there none) ∙ active (irq_at at.ideal.guest key).act_by both.1)))
 
-  pub shows : ShowsHome at.ideal vcpu reg write
-  shows = rest_shows_home guest (ideal_of shape (opening guest number) moments) vcpu reg write good history few rests (record { first = first_is; end = far_is })
+  pub finds : FindsAll shape at.ideal vcpu reg write
+  finds = record { first = first_is; end = far_is }
 
-pub lone_accesses_show_home : LoneAccessesShowHome
-lone_accesses_show_home guest number moments vcpu reg write good proper calls firsts few lone ready = shows guest number moments vcpu reg write good proper calls firsts few lone ready
+pub lone_accesses_find_all : LoneAccessesFindAll
+lone_accesses_find_all guest number moments vcpu reg write good proper few alone ready = finds guest number moments vcpu reg write good proper few alone ready

@@ -3,9 +3,7 @@ use Rattle.std.specs.Prelude.{◌≡◌, ◌≢◌, ℕ, ◌<◌, true, false, I
 use Rattle.gic_base.specs.declared.icc.IccReg.{IccReg}
 use Rattle.gic_base.specs.declared.interrupt.Key.{Key}
 use Rattle.gic_base.specs.declared.shape.GuestShape.{GuestShape}
-use Rattle.gic_history.specs.Fresh.{asks_first, doing_of, ended_by}
-use Rattle.gic_history.specs.History.{opening_course}
-use Rattle.home_laws.specs.Home.{ShowsHome}
+use Rattle.gic_history.specs.Fresh.{asks_first, ended_by}
 use Rattle.scn_base.specs.declared.guest.GuestSpec.{GuestSpec}
 use Rattle.scn_base.specs.Good.{IsGoodGuest}
 use Rattle.port_core.specs.Actor.{actor_count}
@@ -14,14 +12,17 @@ use Rattle.core_proper.specs.Ideal.{end_of_moments}
 use Rattle.core_proper.specs.Parts.{CoreMoment}
 use Rattle.core_proper.specs.Progress.{Progress, is_paid, progress_in}
 use Rattle.core_proper.specs.Proper.{IsProperRun, is_empty}
-use Rattle.core_laws.specs.Laws.{AreCalls}
 use Rattle.core_laws.specs.Related.{is_folding}
+use Rattle.core_regs.specs.Asks.{IsUnkicked}
 use Rattle.core_fresh.specs.Excuse.{followed_in}
 use Rattle.core_fresh.specs.Far.{HasLookedFar}
 use Rattle.core_fresh.specs.First.{MayAsk}
 use Rattle.core_fresh.specs.Index.{owes_kick}
-use Rattle.core_fresh.specs.Waiting.{IsUnkicked, record_in}
-use Rattle.core_late.specs.Late.{AccessesComeFirst, has_done_none}
+use Rattle.core_fresh.specs.Waiting.{record_in}
+use Rattle.core_home.specs.UpToDate.{FindsAll, IsUpToDate}
+use Rattle.core_late.specs.Late.{AccessesComeFirst}
+
+-- Between two calls.
 
 -- a vCPU is not kicked, does not give back what it has, and owes no scan
 pub record IsCalm (shape : GuestShape) (state : CoreState) (vcpu : ℕ) (p : Progress) : Type 0 where
@@ -33,23 +34,37 @@ pub record IsCalm (shape : GuestShape) (state : CoreState) (vcpu : ℕ) (p : Pro
 abbrev pub IsAtEase : GuestShape → CoreState → ℕ → Progress → Type 0
 IsAtEase shape state vcpu p = IsTrue (is_empty p.local.at) ⊎ IsCalm shape state vcpu p
 
--- a vCPU is alone at the end of some moments, and did nothing yet: no other actor is in a part, it has made no event of an interrupt in its own and owes itself no kick; no access waits for an interrupt; and each vCPU is at ease
-pub record IsLone (guest : GuestSpec) (number : ℕ) (moments : List CoreMoment) (vcpu : ℕ) : Type 0 where
-  pub nobody : (actor : ℕ) → actor < actor_count guest.shape → actor ≢ vcpu → (progress_in guest number moments actor).operation ≡ None
-  pub first : IsTrue (has_done_none (doing_of (followed_in guest number moments).track vcpu).done)
-  pub owes_none : owes_kick vcpu (seat_at (end_of_moments guest.shape (opening guest number) moments) vcpu).local ≡ false
-  pub unwanted : (actor : ℕ) → actor < actor_count guest.shape → (progress_in guest number moments actor).wants ≡ []
-  pub ease : (other : ℕ) → other < guest.shape.vcpus → IsAtEase guest.shape (end_of_moments guest.shape (opening guest number) moments) other (progress_in guest number moments other)
+-- so is each vCPU at the end of some moments, and no actor is in a part
+pub record AreAtEase (guest : GuestSpec) (number : ℕ) (moments : List CoreMoment) : Type 0 where
+  pub nobody : (actor : ℕ) → actor < actor_count guest.shape → (progress_in guest number moments actor).operation ≡ None
+  pub ease : (vcpu : ℕ) → vcpu < guest.shape.vcpus → IsAtEase guest.shape (end_of_moments guest.shape (opening guest number) moments) vcpu (progress_in guest number moments vcpu)
 
--- what the vCPU has to have done for its access: for the first interrupt it may ask; and it looked at one that it ends and that is at no interface
+-- then no change is on its way to an interface, and nothing that is to leave one is late
+abbrev pub EaseIsUpToDate : Type 0
+EaseIsUpToDate =
+    (guest : GuestSpec) (number : ℕ) (moments : List CoreMoment) → IsGoodGuest guest → IsProperRun guest number moments → AccessesComeFirst guest number moments → AreAtEase guest number moments → IsUpToDate guest.shape (followed_in guest number moments)
+
+-- Before an access.
+
+-- a vCPU is alone at the end of some moments: no other actor is in a part, and it owes itself no kick
+pub record IsAlone (guest : GuestSpec) (number : ℕ) (moments : List CoreMoment) (vcpu : ℕ) : Type 0 where
+  pub nobody : (actor : ℕ) → actor < actor_count guest.shape → actor ≢ vcpu → (progress_in guest number moments actor).operation ≡ None
+  pub owes_none : owes_kick vcpu (seat_at (end_of_moments guest.shape (opening guest number) moments) vcpu).local ≡ false
+
+-- what the vCPU has to have done where its access asks for the first interrupt: it may ask, and no access waits for an interrupt
+pub record IsReadyToAsk (guest : GuestSpec) (number : ℕ) (moments : List CoreMoment) (vcpu : ℕ) : Type 0 where
+  pub asks : MayAsk guest.shape (end_of_moments guest.shape (opening guest number) moments) vcpu (progress_in guest number moments vcpu)
+  pub unwanted : (actor : ℕ) → actor < actor_count guest.shape → (progress_in guest number moments actor).wants ≡ []
+
+-- and where it ends one that is at no interface: it looked at it
 pub record IsReadyFor (guest : GuestSpec) (number : ℕ) (moments : List CoreMoment) (vcpu : ℕ) (reg : IccReg) (write : Option ℕ) : Type 0 where
-  pub asks : asks_first reg write ≡ true → MayAsk guest.shape (end_of_moments guest.shape (opening guest number) moments) vcpu (progress_in guest number moments vcpu)
+  pub first : asks_first reg write ≡ true → IsReadyToAsk guest number moments vcpu
   pub ends :
       (key : Key) → ended_by guest.shape vcpu reg write ≡ Some key → (record_in guest.shape (end_of_moments guest.shape (opening guest number) moments) key).holder ≡ None
       → HasLookedFar guest.shape (end_of_moments guest.shape (opening guest number) moments) vcpu (progress_in guest number moments vcpu) key
 
--- its access shows the guest with all that stands at interfaces taken back
-abbrev pub LoneAccessesShowHome : Type 0
-LoneAccessesShowHome =
-    (guest : GuestSpec) (number : ℕ) (moments : List CoreMoment) (vcpu : ℕ) (reg : IccReg) (write : Option ℕ) → IsGoodGuest guest → IsProperRun guest number moments → AreCalls guest.shape (opening guest number) (opening_course guest) moments
-    → AccessesComeFirst guest number moments → vcpu < guest.shape.vcpus → IsLone guest number moments vcpu → IsReadyFor guest number moments vcpu reg write → ShowsHome (followed_in guest number moments).ideal vcpu reg write
+-- its access finds all that the guest has for it at its interface
+abbrev pub LoneAccessesFindAll : Type 0
+LoneAccessesFindAll =
+    (guest : GuestSpec) (number : ℕ) (moments : List CoreMoment) (vcpu : ℕ) (reg : IccReg) (write : Option ℕ) → IsGoodGuest guest → IsProperRun guest number moments → vcpu < guest.shape.vcpus → IsAlone guest number moments vcpu
+    → IsReadyFor guest number moments vcpu reg write → FindsAll guest.shape (followed_in guest number moments).ideal vcpu reg write

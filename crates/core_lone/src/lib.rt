@@ -3,4 +3,4 @@
 
 mod laws;
 
-pub use laws::{a_vcpu_is_alone, lone_accesses_show_home};
+pub use laws::{a_vcpu_is_alone, ease_is_up_to_date, lone_accesses_find_all};

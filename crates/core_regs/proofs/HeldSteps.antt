@@ -47,7 +47,7 @@ use Rattle.core_laws.proofs.AfterLemmas.{later}
 use Rattle.core_laws.proofs.RunSteps.{entry_simulates}
 use Rattle.core_laws.proofs.StandingLemmas.{moved_is, not_given, passes}
 use Rattle.core_laws.proofs.StepContext.{one, IsStep}
-use Rattle.core_regs.specs.Ends.{Telling, told_by}
+use Rattle.core_regs.specs.Followed.{Followed, follows}
 use Rattle.core_regs.proofs.TellLemmas.{moved_key, record_spared, since_spared, changes_told, IsTold}
 
 -- Which events are moves.
@@ -149,14 +149,14 @@ module _ {shape : GuestShape} {state : CoreState} {ideal : Ideal} {actor : ℕ} 
   -- it was there, and the step is no move of it: where nobody changed it since it got there, nobody had before, and its record is as it was
   pub record_same :
       is_at key (seat_at state vcpu).local.at ≡ true → IsTrue (is_ready (seat_at state vcpu).local.phase) → ((seen : ℕ) → step ≡ Claim key seen → succeeds shape actor (seat_at state actor).local step found ≡ false)
-      → (telling : Telling) → IsTold shape telling → (changes_of shape (fold told_by telling (event_moments actor (event_of shape state (one actor step found left tables)))).track key).since ≡ []
+      → (telling : Followed) → IsTold shape telling → (changes_of shape (fold follows telling (event_moments actor (event_of shape state (one actor step found left tables)))).track key).since ≡ []
       → ((changes_of shape telling.track key).since ≡ []) × (bare (irq_of (word_in shape (later is) (IrqWord key))) ≡ bare (irq_of (word_in shape state (IrqWord key))))
   record_same at ready no_claim telling told none = of (event_of shape state (one actor step found left tables)) refl none
     where
       before : bare (irq_of (word_in shape state (IrqWord key))) ≡ irq_at ideal.guest key
       before = held_record shape state ideal vcpu key is.sound is.related within there at ready
 
-      of : (o : Option Happened) → event_of shape state (one actor step found left tables) ≡ o → (changes_of shape (fold told_by telling (event_moments actor o)).track key).since ≡ []
+      of : (o : Option Happened) → event_of shape state (one actor step found left tables) ≡ o → (changes_of shape (fold follows telling (event_moments actor o)).track key).since ≡ []
           → ((changes_of shape telling.track key).since ≡ []) × (bare (irq_of (word_in shape (later is) (IrqWord key))) ≡ bare (irq_of (word_in shape state (IrqWord key))))
       of None e none =
           let related : Related shape (later is) ideal = subst (IsSimulatedAs shape (later is) ideal actor) e (entry_simulates shape state ideal (one actor step found left tables) is.good is.sound is.related known is.takes) in
@@ -194,7 +194,7 @@ module _ {shape : GuestShape} {state : CoreState} {ideal : Ideal} {vcpu : ℕ} (
 
   -- its causes came, and nobody changed it before where nobody did since
   pub record_taken :
-      is_at key (seat_at state vcpu).local.at ≡ true → IsTrue (is_ready (seat_at state vcpu).local.phase) → (telling : Telling) → IsTold shape telling → (changes_of shape (fold told_by telling (event_moments vcpu (event_of shape state (one vcpu (Claim key seen) found left tables)))).track key).since ≡ []
+      is_at key (seat_at state vcpu).local.at ≡ true → IsTrue (is_ready (seat_at state vcpu).local.phase) → (telling : Followed) → IsTold shape telling → (changes_of shape (fold follows telling (event_moments vcpu (event_of shape state (one vcpu (Claim key seen) found left tables)))).track key).since ≡ []
       → ((changes_of shape telling.track key).since ≡ []) × (bare (irq_of (word_in shape (later is) (IrqWord key))) ≡ cleared (bare (irq_of (word_in shape state (IrqWord key)))))
   record_taken at ready telling told none =
       let taking : Happened = record { event = Take key vcpu; found = Nothing } in
@@ -202,7 +202,7 @@ module _ {shape : GuestShape} {state : CoreState} {ideal : Ideal} {vcpu : ℕ} (
       let before = held_record shape state ideal vcpu key is.sound is.related within there at ready in
       let entry = there_is key (seat_at state vcpu).local.at at in
       let moved = moved_is is.sound is.related vcpu key entry.0 within entry.1 in
-      let track_none = sym (ap (λ (c : Changes). c.since) (changes_told shape telling vcpu taking key told)) ∙ ap (λ o. (changes_of shape (fold told_by telling (event_moments vcpu o)).track key).since) (sym stands) ∙ none in (
+      let track_none = sym (ap (λ (c : Changes). c.since) (changes_told shape telling vcpu taking key told)) ∙ ap (λ o. (changes_of shape (fold follows telling (event_moments vcpu o)).track key).since) (sym stands) ∙ none in (
         track_none,
         record_later is known vcpu within key there at_later ready_later taking stands
             ∙ record_is ideal key (whole_of shape state ideal is.good is.related) there_now vcpu (Take key vcpu)

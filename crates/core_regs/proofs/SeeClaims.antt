@@ -58,7 +58,8 @@ use Rattle.core_laws.proofs.AfterLemmas.{later}
 use Rattle.core_laws.proofs.KickSteps.{is_kick_of, is_poll_by, unkicked_before}
 use Rattle.core_laws.proofs.StepContext.{one, IsStep, has}
 use Rattle.core_regs.specs.Asks.{HasAll}
-use Rattle.core_regs.specs.Ends.{SeesEnd, Telling, told_by}
+use Rattle.core_regs.specs.Ends.{SeesEnd}
+use Rattle.core_regs.specs.Followed.{Followed, follows}
 use Rattle.core_regs.proofs.AskSteps.{kick_failed}
 use Rattle.core_regs.proofs.ComeLemmas.{seen_choice, Comes, finished_id, IsRight, IsToClaim, IsClaiming, is_there, key_by_id, known_on, none_some}
 use Rattle.core_regs.proofs.EoiLemmas.{same_state}
@@ -110,7 +111,7 @@ arrival_sees vcpu c irq (inr is) came h = of c.entry.state is.0 h
     of Active active h = pending_sees (not c.irq.edge) (is_pending c.irq) (ap is_pending (sym same) ∙ h)
     of Both active h = ap (λ b. not b || (is_pending c.irq && false)) (ap (λ (i : Irq). i.edge) (sym same) ∙ not_edge irq.edge h)
 
-module _ (shape : GuestShape) (state : CoreState) (ideal : Ideal) (vcpu found left : ℕ) (tables : Option Maps) (within : vcpu < shape.vcpus) (p : Progress) (seat : IsSeatOf p (seat_at state vcpu)) (some : 1 ≤ p.lrs) (few : p.lrs ≤ 16) (is_local : IsLocal shape vcpu p.local) (stands : Standing false shape vcpu p p.scan) (known_its : IsKnown shape state) (telling : Telling)
+module _ (shape : GuestShape) (state : CoreState) (ideal : Ideal) (vcpu found left : ℕ) (tables : Option Maps) (within : vcpu < shape.vcpus) (p : Progress) (seat : IsSeatOf p (seat_at state vcpu)) (some : 1 ≤ p.lrs) (few : p.lrs ≤ 16) (is_local : IsLocal shape vcpu p.local) (stands : Standing false shape vcpu p p.scan) (known_its : IsKnown shape state) (telling : Followed)
     (told : IsTold shape telling) where
   abbrev made_by : CoreStep → Made
   made_by step = (one vcpu step found left tables).made
@@ -118,8 +119,8 @@ module _ (shape : GuestShape) (state : CoreState) (ideal : Ideal) (vcpu found le
   abbrev now : CoreStep → Progress
   now step = after_made shape vcpu (made_by step) p
 
-  abbrev told_now : CoreStep → Telling
-  told_now step = fold told_by telling (event_moments vcpu (event_of shape state (one vcpu step found left tables)))
+  abbrev told_now : CoreStep → Followed
+  told_now step = fold follows telling (event_moments vcpu (event_of shape state (one vcpu step found left tables)))
 
   -- While it claims.
 

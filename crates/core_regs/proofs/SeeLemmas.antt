@@ -33,7 +33,8 @@ use Rattle.core_proper.specs.Progress.{Progress, filled, looks_on, goes_on, scan
 use Rattle.core_proper.specs.Scan.{Purpose, planned, trapped, bare, Scan, idle, taking, looking, claiming, ended_scan, has_key, keys_chosen, keys_of_both, next_cand}
 use Rattle.core_laws.specs.Related.{bare as bare_irq}
 use Rattle.core_regs.specs.Asks.{HasAll}
-use Rattle.core_regs.specs.Ends.{SeesEnd, Telling}
+use Rattle.core_regs.specs.Ends.{SeesEnd}
+use Rattle.core_regs.specs.Followed.{Followed}
 use Rattle.core_regs.proofs.AskFill.{from_take}
 use Rattle.core_regs.proofs.AskLemmas.{Asks, IsMeant}
 use Rattle.core_regs.proofs.ComeLemmas.{key_by_id}
@@ -53,16 +54,16 @@ behind_bare true irq = refl
 behind_bare false irq = refl
 
 -- the ends of what is at the interface are seen, where nobody changed it since it got there; and what is still to be claimed stands as its record asks
-pub record IsSeeing (shape : GuestShape) (vcpu : ℕ) (state : CoreState) (telling : Telling) (local : Local) (own : List Made) (regs : IchRegs) (claims takes : List Key) : Type 0 where
+pub record IsSeeing (shape : GuestShape) (vcpu : ℕ) (state : CoreState) (telling : Followed) (local : Local) (own : List Made) (regs : IchRegs) (claims takes : List Key) : Type 0 where
   pub here : (key : Key) → IsTrue (has_interrupt shape key) → is_at key local.at ≡ true → (changes_of shape telling.track key).since ≡ [] → behind (has_key key takes) (irq_of (word_in shape state (IrqWord key))) ≡ true → SeesEnd regs key
   pub coming :
       (key : Key) → has_key key claims ≡ true → (word w : ℕ) → Contains (listed_of regs) word → is_live (intid_of key) (seen_in word) ≡ true → known shape vcpu own (IrqWord key) ≡ Some w → (unpacked word).eoi ≡ sees_end (unpacked word).state (record { key = key; irq = irq_of w })
 
-abbrev pub Seeing : GuestShape → CoreState → ℕ → Telling → Progress → List Key → List Key → Type 0
+abbrev pub Seeing : GuestShape → CoreState → ℕ → Followed → Progress → List Key → List Key → Type 0
 Seeing shape state vcpu telling p claims takes =
     IsTrue (is_ready p.local.phase) → p.trapping ≡ false → IsTrue (is_paid p.debt) → HasAll shape state vcpu p → IsSeeing shape vcpu state telling p.local p.own p.regs claims takes
 
-abbrev pub Sees : GuestShape → CoreState → ℕ → Telling → Progress → Scan → Type 0
+abbrev pub Sees : GuestShape → CoreState → ℕ → Followed → Progress → Scan → Type 0
 Sees shape state vcpu telling p idle = Seeing shape state vcpu telling p [] []
 Sees shape state vcpu telling p (taking purpose words) = Unit {0}
 Sees shape state vcpu telling p (looking purpose from offers) = Unit {0}
@@ -95,7 +96,7 @@ module _ (shape : GuestShape) (good : IsShape shape) (vcpu n : ℕ) (few : n ≤
       ∙ ap (λ s. sees_end s (offer_of c)) (sym state)
       ∙ ap (λ i. sees_end (unpacked word).state (record { key = key; irq = i })) (sym mine.irq ∙ ap irq_of word_is)
 
-  pub plan_sees : (state : CoreState) (telling : Telling) → IsSeeing shape vcpu state telling local own (regs_of filling local.cpu n) (keys_chosen filling) (keys_of_both filling)
+  pub plan_sees : (state : CoreState) (telling : Followed) → IsSeeing shape vcpu state telling local own (regs_of filling local.cpu n) (keys_chosen filling) (keys_of_both filling)
   plan_sees state telling = record {
     here = λ key there at. absurd (true≢false (sym at ∙ ap (is_at key) empty));
     coming = λ key h word w among live knows. let from = map_cases word_of filling.choice word (from_take n (map word_of filling.choice) word among) in by_choice key h word w from.0 from.1 from.2 live knows;
@@ -104,10 +105,10 @@ module _ (shape : GuestShape) (good : IsShape shape) (vcpu n : ℕ) (few : n ≤
 -- A scan that has come so far goes on.
 
 -- the same of an actor that differs in how far its scan is
-as_scanned : (shape : GuestShape) (state : CoreState) (vcpu : ℕ) (telling : Telling) (q : Progress) (scan : Scan) (claims takes : List Key) → Seeing shape state vcpu telling q claims takes → Seeing shape state vcpu telling (record q { scan = scan }) claims takes
+as_scanned : (shape : GuestShape) (state : CoreState) (vcpu : ℕ) (telling : Followed) (q : Progress) (scan : Scan) (claims takes : List Key) → Seeing shape state vcpu telling q claims takes → Seeing shape state vcpu telling (record q { scan = scan }) claims takes
 as_scanned shape state vcpu telling q scan claims takes seeing = λ ready untrapped owed all. seeing ready untrapped owed (record { none_failed = all.none_failed; unkicked = all.unkicked })
 
-module _ (shape : GuestShape) (good : IsShape shape) (state : CoreState) (vcpu : ℕ) (telling : Telling) (q : Progress) (few : q.lrs ≤ 16) where
+module _ (shape : GuestShape) (good : IsShape shape) (state : CoreState) (vcpu : ℕ) (telling : Followed) (q : Progress) (few : q.lrs ≤ 16) where
   fills : (purpose : Purpose) (from : ℕ) (offers : List Offer) → IsLooking shape vcpu q.local q.own from offers → IsMeant purpose q → let on = filled shape vcpu purpose offers q in Sees shape state vcpu telling on on.scan
   fills planned from offers is meant = λ ready untrapped owed all. plan_sees shape good vcpu q.lrs few q.local is.empty q.own offers is.each is.apart state telling
   fills trapped from offers is meant = λ ready untrapped. absurd (true≢false (sym meant ∙ untrapped))
@@ -130,7 +131,7 @@ module _ (shape : GuestShape) (good : IsShape shape) (state : CoreState) (vcpu :
   goes finds (looking purpose from offers) e is asks sees = looks_at purpose from offers is asks
   goes finds (claiming claims takes) e is asks sees = subst (Sees shape state vcpu telling q) (sym e) sees
 
-ended : (shape : GuestShape) (state : CoreState) (vcpu : ℕ) (telling : Telling) (q : Progress) → Sees shape state vcpu telling q q.scan → Sees shape state vcpu telling (record q { scan = ended_scan q.local q.scan }) (ended_scan q.local q.scan)
+ended : (shape : GuestShape) (state : CoreState) (vcpu : ℕ) (telling : Followed) (q : Progress) → Sees shape state vcpu telling q q.scan → Sees shape state vcpu telling (record q { scan = ended_scan q.local q.scan }) (ended_scan q.local q.scan)
 ended shape state vcpu telling q sees = of q.scan sees
   where
     over : (b : Bool) → Seeing shape state vcpu telling q [] [] → Sees shape state vcpu telling (record q { scan = if b then idle else claiming [] [] }) (if b then idle else claiming [] [])
@@ -145,13 +146,13 @@ ended shape state vcpu telling q sees = of q.scan sees
     of (claiming [] (k ∷ takes)) sees = as_scanned shape state vcpu telling q (claiming [] (k ∷ takes)) [] (k ∷ takes) sees
     of (claiming (k ∷ claims) takes) sees = as_scanned shape state vcpu telling q (claiming (k ∷ claims) takes) (k ∷ claims) takes sees
 
-pub sees_on : (finds : Bool) (shape : GuestShape) (state : CoreState) (vcpu : ℕ) (telling : Telling) (q : Progress) → IsShape shape → q.lrs ≤ 16 → Standing finds shape vcpu q q.scan → Asks shape state vcpu q q.scan → Sees shape state vcpu telling q q.scan → let on = scan_on shape vcpu q in Sees shape state vcpu telling on on.scan
+pub sees_on : (finds : Bool) (shape : GuestShape) (state : CoreState) (vcpu : ℕ) (telling : Followed) (q : Progress) → IsShape shape → q.lrs ≤ 16 → Standing finds shape vcpu q q.scan → Asks shape state vcpu q q.scan → Sees shape state vcpu telling q q.scan → let on = scan_on shape vcpu q in Sees shape state vcpu telling on on.scan
 sees_on finds shape state vcpu telling q good few is asks sees = ended shape state vcpu telling (goes_on shape vcpu q.scan q) (goes shape good state vcpu telling q few finds q.scan refl is asks sees)
 
 -- What stays of it after a step.
 
 pub seeing_on :
-    (shape : GuestShape) (vcpu : ℕ) (state later : CoreState) (telling now : Telling) (local after : Local) (own made : List Made) (regs left : IchRegs) (claims takes : List Key) → ((key : Key) → is_at key after.at ≡ true → is_at key local.at ≡ true) → ((key : Key) → SeesEnd regs key → SeesEnd left key)
+    (shape : GuestShape) (vcpu : ℕ) (state later : CoreState) (telling now : Followed) (local after : Local) (own made : List Made) (regs left : IchRegs) (claims takes : List Key) → ((key : Key) → is_at key after.at ≡ true → is_at key local.at ≡ true) → ((key : Key) → SeesEnd regs key → SeesEnd left key)
     → ((key : Key) → has_key key claims ≡ true → (word : ℕ) → Contains (listed_of left) word → Contains (listed_of regs) word) → ((key : Key) → has_key key claims ≡ true → known shape vcpu made (IrqWord key) ≡ known shape vcpu own (IrqWord key))
     → ((key : Key) → IsTrue (has_interrupt shape key) → is_at key after.at ≡ true → (changes_of shape now.track key).since ≡ [] → ((changes_of shape telling.track key).since ≡ []) × (bare_irq (irq_of (word_in shape later (IrqWord key))) ≡ bare_irq (irq_of (word_in shape state (IrqWord key)))))
     → IsSeeing shape vcpu state telling local own regs claims takes → IsSeeing shape vcpu later now after made left claims takes

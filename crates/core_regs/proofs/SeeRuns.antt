@@ -39,7 +39,8 @@ use Rattle.core_laws.proofs.AfterLemmas.{later, seat_other}
 use Rattle.core_laws.proofs.KickSteps.{unkicked_before}
 use Rattle.core_laws.proofs.StepContext.{one, IsStep}
 use Rattle.core_regs.specs.Asks.{HasAll}
-use Rattle.core_regs.specs.Ends.{EndsAreSeen, Telling, opening_telling, told_by}
+use Rattle.core_regs.specs.Ends.{EndsAreSeen}
+use Rattle.core_regs.specs.Followed.{Followed, opening_followed, follows}
 use Rattle.core_regs.specs.Stands.{takes_active}
 use Rattle.core_regs.proofs.AskLemmas.{Asks}
 use Rattle.core_regs.proofs.AskRuns.{asks_kept, not_own}
@@ -53,7 +54,7 @@ use Rattle.core_regs.proofs.StandSteps.{after_made}
 use Rattle.core_regs.proofs.TellLemmas.{IsTold, told_event}
 
 -- what is kept, beside what the registers ask for
-pub record IsKeptSo (shape : GuestShape) (vcpu : ℕ) (telling : Telling) (state : CoreState) (p : Progress) : Type 0 where
+pub record IsKeptSo (shape : GuestShape) (vcpu : ℕ) (telling : Followed) (state : CoreState) (p : Progress) : Type 0 where
   pub asks : Asks shape state vcpu p p.scan
   pub told : IsTold shape telling
   pub sees : Sees shape state vcpu telling p p.scan
@@ -76,9 +77,9 @@ others_claim actor vcpu apart shape local key seen found held =
     of (Some entry) = ap (λ b. b && may_take shape key (moved_of (irq_of found) entry) actor local.cpu) (ne_eqb vcpu actor (λ e. apart (sym e)))
 
 module _ (shape : GuestShape) (state : CoreState) (ideal : Ideal) (actor : ℕ) (step : CoreStep) (found left : ℕ) (tables : Option Maps) (is : IsStep shape state ideal actor step found left tables) (known_its : IsKnown shape state) (vcpu : ℕ) (within : vcpu < shape.vcpus) (apart : actor ≢ vcpu) (p : Progress) (seat : IsSeatOf p (seat_at state vcpu))
-    (telling : Telling) (told_so : IsTold shape telling) where
-  abbrev told_now : Telling
-  told_now = fold told_by telling (event_moments actor (event_of shape state (one actor step found left tables)))
+    (telling : Followed) (told_so : IsTold shape telling) where
+  abbrev told_now : Followed
+  told_now = fold follows telling (event_moments actor (event_of shape state (one actor step found left tables)))
 
   mine : p.local ≡ (seat_at (later is) vcpu).local
   mine = seat.local ∙ sym (ap (λ (s : Seat). s.local) (seat_other is vcpu (λ e. apart (sym e))))
@@ -105,7 +106,7 @@ module _ (shape : GuestShape) (state : CoreState) (ideal : Ideal) (actor : ℕ) 
 -- The begin and the end of a part.
 
 same_seeing :
-    (shape : GuestShape) (state : CoreState) (vcpu : ℕ) (telling now : Telling) (p q : Progress) → ((key : Key) → changes_of shape now.track key ≡ changes_of shape telling.track key) → q.local ≡ p.local → q.own ≡ p.own → q.regs ≡ p.regs → q.trapping ≡ p.trapping → (IsTrue (is_paid q.debt) → IsTrue (is_paid p.debt)) → (HasAll shape state vcpu q → HasAll shape state vcpu p)
+    (shape : GuestShape) (state : CoreState) (vcpu : ℕ) (telling now : Followed) (p q : Progress) → ((key : Key) → changes_of shape now.track key ≡ changes_of shape telling.track key) → q.local ≡ p.local → q.own ≡ p.own → q.regs ≡ p.regs → q.trapping ≡ p.trapping → (IsTrue (is_paid q.debt) → IsTrue (is_paid p.debt)) → (HasAll shape state vcpu q → HasAll shape state vcpu p)
     → (claims takes : List Key) → Seeing shape state vcpu telling p claims takes → Seeing shape state vcpu now q claims takes
 same_seeing shape state vcpu telling now p q changes local own regs trapping debt all claims takes seeing = λ ready untrapped owed has.
     subst (λ l. IsSeeing shape vcpu state now l q.own q.regs claims takes) (sym local)
@@ -115,7 +116,7 @@ same_seeing shape state vcpu telling now p q changes local own regs trapping deb
     (seeing (subst (λ (l : Local). IsTrue (is_ready l.phase)) local ready) (sym trapping ∙ untrapped) (debt owed) (all has)))))
 
 same_sees :
-    (shape : GuestShape) (state : CoreState) (vcpu : ℕ) (telling now : Telling) (p q : Progress) → ((key : Key) → changes_of shape now.track key ≡ changes_of shape telling.track key) → q.local ≡ p.local → q.own ≡ p.own → q.regs ≡ p.regs → q.trapping ≡ p.trapping → (IsTrue (is_paid q.debt) → IsTrue (is_paid p.debt)) → (HasAll shape state vcpu q → HasAll shape state vcpu p)
+    (shape : GuestShape) (state : CoreState) (vcpu : ℕ) (telling now : Followed) (p q : Progress) → ((key : Key) → changes_of shape now.track key ≡ changes_of shape telling.track key) → q.local ≡ p.local → q.own ≡ p.own → q.regs ≡ p.regs → q.trapping ≡ p.trapping → (IsTrue (is_paid q.debt) → IsTrue (is_paid p.debt)) → (HasAll shape state vcpu q → HasAll shape state vcpu p)
     → (scan : Scan) → Sees shape state vcpu telling p scan → Sees shape state vcpu now q scan
 same_sees shape state vcpu telling now p q changes local own regs trapping debt all idle sees = same_seeing shape state vcpu telling now p q changes local own regs trapping debt all [] [] sees
 same_sees shape state vcpu telling now p q changes local own regs trapping debt all (taking purpose words) sees = tt
@@ -170,9 +171,9 @@ ends_kept shape good vcpu within = record {
 }
   where
     own_kept :
-        (telling : Telling) (state : CoreState) (p : Progress) (made : Made) → IsProperStep shape vcpu p made.step → (IsTrue false → IsTrue (takes_active vcpu p.scan made.step made.found)) → Takes shape state (entry_by vcpu made) → IsGoing false shape state vcpu true p
+        (telling : Followed) (state : CoreState) (p : Progress) (made : Made) → IsProperStep shape vcpu p made.step → (IsTrue false → IsTrue (takes_active vcpu p.scan made.step made.found)) → Takes shape state (entry_by vcpu made) → IsGoing false shape state vcpu true p
         → IsGoing false shape (after shape state (entry_by vcpu made)) vcpu true (stepped shape vcpu made p) → IsKeptSo shape vcpu telling state p
-        → let q = stepped shape vcpu made p in Sees shape (after shape state (entry_by vcpu made)) vcpu (fold told_by telling (event_moments vcpu (event_of shape state (entry_by vcpu made)))) q q.scan
+        → let q = stepped shape vcpu made p in Sees shape (after shape state (entry_by vcpu made)) vcpu (fold follows telling (event_moments vcpu (event_of shape state (entry_by vcpu made)))) q q.scan
     own_kept telling state p made proper active takes going next so =
         let is : IsStep shape state going.reached.ideal vcpu made.step made.found made.left made.tables = record { good = good; sound = going.reached.sound; related = going.reached.related; takes = takes } in
         let q = after_made shape vcpu made p in
@@ -180,7 +181,7 @@ ends_kept shape good vcpu within = record {
         let mine : q.local ≡ (seat_at (later is) vcpu).local = sym (local_on shape vcpu q) ∙ next.seat.local in
         let after_local : IsLocal shape vcpu q.local = subst (IsLocal shape vcpu) (sym mine) (next.reached.sound.locals vcpu takes.actor) in
         let few : q.lrs ≤ 16 = subst (λ n. n ≤ 16) (sym (lrs_made shape vcpu made p)) going.few in
-        sees_on false shape (later is) vcpu (fold told_by telling (event_moments vcpu (event_of shape state (entry_by vcpu made)))) q good few
+        sees_on false shape (later is) vcpu (fold follows telling (event_moments vcpu (event_of shape state (entry_by vcpu made)))) q good few
         (own_step false shape state going.reached.ideal vcpu made.found made.left made.tables within p going.seat (going.some refl) going.few made.step is proper active local after_local going.stands)
         (own_asks shape state going.reached.ideal vcpu made.found made.left made.tables within p going.seat local going.stands made.step is proper after_local.points so.asks)
         (own_sees shape state going.reached.ideal vcpu made.found made.left made.tables within p going.seat (going.some refl) going.few local going.stands going.reached.known telling so.told made.step is mine proper so.sees)
@@ -189,11 +190,11 @@ pub ends_are_seen : EndsAreSeen
 ends_are_seen guest number moments vcpu key good proper within filled all behind =
     let p = progress_in guest number moments vcpu in
     let state = end_of_moments guest.shape (opening guest number) moments in
-    let telling = fold told_by (opening_telling guest) (ideal_of guest.shape (opening guest number) moments) in
+    let telling = fold follows (opening_followed guest) (ideal_of guest.shape (opening guest number) moments) in
     let so = (ends_so false guest number moments vcpu (λ telling state p. IsKeptSo guest.shape vcpu telling state p) good proper within (ends_kept guest.shape good.shape vcpu within) first (λ f. absurd (true≢false (sym f)))).1.more in
     (subst (Sees guest.shape state vcpu telling p) (idle_is p.scan filled.loaded.scan) so.sees filled.loaded.ready filled.untrapped filled.paid all).here key behind.there behind.at behind.unchanged behind.pending
   where
-    first : IsKeptSo guest.shape vcpu (opening_telling guest) (opening guest number) (opening_progress guest number vcpu)
+    first : IsKeptSo guest.shape vcpu (opening_followed guest) (opening guest number) (opening_progress guest number vcpu)
     first = record {
       asks = λ ready. absurd (true≢false (sym ready));
       told = record { shape_is = refl; each = length-replicate (interrupt_count guest.shape) _ };

@@ -43,7 +43,8 @@ use Rattle.core_laws.proofs.AfterLemmas.{later}
 use Rattle.core_laws.proofs.KickSteps.{is_kick_of, is_poll_by}
 use Rattle.core_laws.proofs.StepContext.{one, IsStep}
 use Rattle.core_regs.specs.Asks.{HasAll}
-use Rattle.core_regs.specs.Ends.{SeesEnd, Telling, told_by}
+use Rattle.core_regs.specs.Ends.{SeesEnd}
+use Rattle.core_regs.specs.Followed.{Followed, follows}
 use Rattle.core_regs.proofs.AskSteps.{all_before, kick_failed}
 use Rattle.core_regs.proofs.EoiLemmas.{KeepsEoi, access_keeps}
 use Rattle.core_regs.proofs.HeldSteps.{record_same}
@@ -52,7 +53,7 @@ use Rattle.core_regs.proofs.StandLemmas.{Standing}
 use Rattle.core_regs.proofs.StandSteps.{after_made, either, look_part, paid_before, releases, unpaid_end}
 use Rattle.core_regs.proofs.TellLemmas.{IsTold}
 
-module _ (shape : GuestShape) (state : CoreState) (ideal : Ideal) (vcpu found left : ℕ) (tables : Option Maps) (within : vcpu < shape.vcpus) (p : Progress) (seat : IsSeatOf p (seat_at state vcpu)) (some : 1 ≤ p.lrs) (few : p.lrs ≤ 16) (is_local : IsLocal shape vcpu p.local) (stands : Standing false shape vcpu p p.scan) (known_its : IsKnown shape state) (telling : Telling)
+module _ (shape : GuestShape) (state : CoreState) (ideal : Ideal) (vcpu found left : ℕ) (tables : Option Maps) (within : vcpu < shape.vcpus) (p : Progress) (seat : IsSeatOf p (seat_at state vcpu)) (some : 1 ≤ p.lrs) (few : p.lrs ≤ 16) (is_local : IsLocal shape vcpu p.local) (stands : Standing false shape vcpu p p.scan) (known_its : IsKnown shape state) (telling : Followed)
     (told : IsTold shape telling) where
   abbrev made_by : CoreStep → Made
   made_by step = (one vcpu step found left tables).made
@@ -60,8 +61,8 @@ module _ (shape : GuestShape) (state : CoreState) (ideal : Ideal) (vcpu found le
   abbrev now : CoreStep → Progress
   now step = after_made shape vcpu (made_by step) p
 
-  abbrev told_now : CoreStep → Telling
-  told_now step = fold told_by telling (event_moments vcpu (event_of shape state (one vcpu step found left tables)))
+  abbrev told_now : CoreStep → Followed
+  told_now step = fold follows telling (event_moments vcpu (event_of shape state (one vcpu step found left tables)))
 
   -- an interrupt that is at the interface before and after a step that is no claim of it
   own_record :

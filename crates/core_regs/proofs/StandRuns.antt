@@ -35,7 +35,7 @@ use Rattle.core_proper.proofs.ScanLemmas.{local_on, lrs_on}
 use Rattle.core_laws.proofs.AfterLemmas.{seat_mine, seat_other}
 use Rattle.core_laws.proofs.ReachedRuns.{IsReached, reaches_next, reached_opens}
 use Rattle.core_laws.proofs.StepContext.{IsStep}
-use Rattle.core_regs.specs.Ends.{Telling, opening_telling, telling_of, told_by}
+use Rattle.core_regs.specs.Followed.{Followed, opening_followed, followed_by, follows}
 use Rattle.core_regs.specs.Stands.{EndsActive, finds_active, RegistersStand, takes_active}
 use Rattle.core_regs.proofs.StandLemmas.{Standing, stands_on}
 use Rattle.core_regs.proofs.ScanSteps.{own_step}
@@ -50,20 +50,20 @@ pub record IsGoing (finds : Bool) (shape : GuestShape) (state : CoreState) (vcpu
   pub stands : Standing finds shape vcpu p p.scan
 
 -- what is told after a moment
-abbrev pub told : GuestShape → Telling → CoreState → ℕ → Act → Telling
-told shape telling state actor act = fold told_by telling (ideal_moments shape (seat_at state actor) actor act)
+abbrev pub told : GuestShape → Followed → CoreState → ℕ → Act → Followed
+told shape telling state actor act = fold follows telling (ideal_moments shape (seat_at state actor) actor act)
 
 -- what else each moment of a proper run keeps of a vCPU
-pub record IsKept (finds : Bool) (shape : GuestShape) (vcpu : ℕ) (P : Telling → CoreState → Progress → Type 0) : Type 0 where
+pub record IsKept (finds : Bool) (shape : GuestShape) (vcpu : ℕ) (P : Followed → CoreState → Progress → Type 0) : Type 0 where
   pub others :
-      (telling : Telling) (state : CoreState) (inside : Bool) (p : Progress) (actor : ℕ) (made : Made) → actor ≢ vcpu → Takes shape state (entry_by actor made) → IsGoing finds shape state vcpu inside p → P telling state p
+      (telling : Followed) (state : CoreState) (inside : Bool) (p : Progress) (actor : ℕ) (made : Made) → actor ≢ vcpu → Takes shape state (entry_by actor made) → IsGoing finds shape state vcpu inside p → P telling state p
       → P (told shape telling state actor (makes made)) (after shape state (entry_by actor made)) p
-  pub other_begun : (telling : Telling) (state : CoreState) (p : Progress) (actor : ℕ) (operation : Operation) (lrs : ℕ) → P telling state p → P (told shape telling state actor (begins operation lrs)) state p
-  pub other_ended : (telling : Telling) (state : CoreState) (p : Progress) (actor : ℕ) (answer : Option ℕ) → P telling state p → P (told shape telling state actor (ends answer)) state p
-  pub begun : (telling : Telling) (state : CoreState) (p : Progress) (operation : Operation) (lrs : ℕ) → P telling state p → P (told shape telling state vcpu (begins operation lrs)) state (progressed shape vcpu p (begins operation lrs))
-  pub ended : (telling : Telling) (state : CoreState) (p : Progress) (answer : Option ℕ) → IsProperEnd p → P telling state p → P (told shape telling state vcpu (ends answer)) state (progressed shape vcpu p (ends answer))
+  pub other_begun : (telling : Followed) (state : CoreState) (p : Progress) (actor : ℕ) (operation : Operation) (lrs : ℕ) → P telling state p → P (told shape telling state actor (begins operation lrs)) state p
+  pub other_ended : (telling : Followed) (state : CoreState) (p : Progress) (actor : ℕ) (answer : Option ℕ) → P telling state p → P (told shape telling state actor (ends answer)) state p
+  pub begun : (telling : Followed) (state : CoreState) (p : Progress) (operation : Operation) (lrs : ℕ) → P telling state p → P (told shape telling state vcpu (begins operation lrs)) state (progressed shape vcpu p (begins operation lrs))
+  pub ended : (telling : Followed) (state : CoreState) (p : Progress) (answer : Option ℕ) → IsProperEnd p → P telling state p → P (told shape telling state vcpu (ends answer)) state (progressed shape vcpu p (ends answer))
   pub own :
-      (telling : Telling) (state : CoreState) (p : Progress) (made : Made) → IsProperStep shape vcpu p made.step → (IsTrue finds → IsTrue (takes_active vcpu p.scan made.step made.found)) → Takes shape state (entry_by vcpu made) → IsGoing finds shape state vcpu true p
+      (telling : Followed) (state : CoreState) (p : Progress) (made : Made) → IsProperStep shape vcpu p made.step → (IsTrue finds → IsTrue (takes_active vcpu p.scan made.step made.found)) → Takes shape state (entry_by vcpu made) → IsGoing finds shape state vcpu true p
       → IsGoing finds shape (after shape state (entry_by vcpu made)) vcpu true (stepped shape vcpu made p) → P telling state p → P (told shape telling state vcpu (makes made)) (after shape state (entry_by vcpu made)) (stepped shape vcpu made p)
 
 -- the scan is over
@@ -132,14 +132,14 @@ inside_after inside (begins operation lrs) = true
 inside_after inside (makes made) = inside
 inside_after inside (ends answer) = false
 
-module _ (finds : Bool) (shape : GuestShape) (good : IsShape shape) (vcpu : ℕ) (within : vcpu < shape.vcpus) (P : Telling → CoreState → Progress → Type 0) (kept : IsKept finds shape vcpu P) where
+module _ (finds : Bool) (shape : GuestShape) (good : IsShape shape) (vcpu : ℕ) (within : vcpu < shape.vcpus) (P : Followed → CoreState → Progress → Type 0) (kept : IsKept finds shape vcpu P) where
   -- what is so at a moment
-  pub record Holds (telling : Telling) (state : CoreState) (inside : Bool) (p : Progress) : Type 0 where
+  pub record Holds (telling : Followed) (state : CoreState) (inside : Bool) (p : Progress) : Type 0 where
     pub going : IsGoing finds shape state vcpu inside p
     pub more : P telling state p
 
   -- a step of another actor
-  others : (telling : Telling) (state : CoreState) (inside : Bool) (p : Progress) (actor : ℕ) (made : Made) → actor ≢ vcpu → Takes shape state (entry_by actor made) → Holds telling state inside p → Holds (told shape telling state actor (makes made)) (after shape state (entry_by actor made)) inside p
+  others : (telling : Followed) (state : CoreState) (inside : Bool) (p : Progress) (actor : ℕ) (made : Made) → actor ≢ vcpu → Takes shape state (entry_by actor made) → Holds telling state inside p → Holds (told shape telling state actor (makes made)) (after shape state (entry_by actor made)) inside p
   others telling state inside p actor made apart takes holds =
       let going = holds.going in
       let is : IsStep shape state going.reached.ideal actor made.step made.found made.left made.tables = record { good = good; sound = going.reached.sound; related = going.reached.related; takes = takes } in
@@ -178,7 +178,7 @@ module _ (finds : Bool) (shape : GuestShape) (good : IsShape shape) (vcpu : ℕ)
       }
 
   own :
-      (telling : Telling) (state : CoreState) (inside : Bool) (p : Progress) (act : Act) (acts : List Act) → IsProperAct shape vcpu p act → (IsTrue finds → IsTrue (finds_active vcpu p act)) → IsTrue (are_parts shape vcpu inside (act ∷ acts)) → IsRun shape state (entries_of (record { actor = vcpu; act = act } ∷ [])) → Holds telling state inside p
+      (telling : Followed) (state : CoreState) (inside : Bool) (p : Progress) (act : Act) (acts : List Act) → IsProperAct shape vcpu p act → (IsTrue finds → IsTrue (finds_active vcpu p act)) → IsTrue (are_parts shape vcpu inside (act ∷ acts)) → IsRun shape state (entries_of (record { actor = vcpu; act = act } ∷ [])) → Holds telling state inside p
       → Holds (told shape telling state vcpu act) (after_moment shape state (record { actor = vcpu; act = act })) (inside_after inside act) (progressed shape vcpu p act) × IsTrue (are_parts shape vcpu (inside_after inside act) acts)
   own telling state inside p (begins operation lrs) acts proper active parts run holds =
       let rest = and_parts (not inside && has_registers shape vcpu lrs) (are_parts shape vcpu true acts) parts in
@@ -217,19 +217,19 @@ module _ (finds : Bool) (shape : GuestShape) (good : IsShape shape) (vcpu : ℕ)
   split state actor (ends answer) moments run = (tt, run)
 
   other :
-      (telling : Telling) (state : CoreState) (inside : Bool) (p : Progress) (actor : ℕ) (act : Act) → actor ≢ vcpu → IsRun shape state (entries_of (record { actor = actor; act = act } ∷ [])) → Holds telling state inside p
+      (telling : Followed) (state : CoreState) (inside : Bool) (p : Progress) (actor : ℕ) (act : Act) → actor ≢ vcpu → IsRun shape state (entries_of (record { actor = actor; act = act } ∷ [])) → Holds telling state inside p
       → Holds (told shape telling state actor act) (after_moment shape state (record { actor = actor; act = act })) inside p
   other telling state inside p actor (begins operation lrs) apart run holds = record { going = holds.going; more = kept.other_begun telling state p actor operation lrs holds.more }
   other telling state inside p actor (makes made) apart run holds = others telling state inside p actor made apart run.0 holds
   other telling state inside p actor (ends answer) apart run holds = record { going = holds.going; more = kept.other_ended telling state p actor answer holds.more }
 
   pub goes :
-      (moments : List CoreMoment) (telling : Telling) (state : CoreState) (inside : Bool) (p : Progress) → Holds telling state inside p → IsRun shape state (entries_of moments) → IsTrue (are_parts shape vcpu inside (own_acts vcpu moments)) → IsProper shape vcpu p (own_acts vcpu moments)
-      → (IsTrue finds → EndsActive shape vcpu p (own_acts vcpu moments)) → (now : Bool) × Holds (fold told_by telling (ideal_of shape state moments)) (end_of_moments shape state moments) now (progress_of shape vcpu p (own_acts vcpu moments))
+      (moments : List CoreMoment) (telling : Followed) (state : CoreState) (inside : Bool) (p : Progress) → Holds telling state inside p → IsRun shape state (entries_of moments) → IsTrue (are_parts shape vcpu inside (own_acts vcpu moments)) → IsProper shape vcpu p (own_acts vcpu moments)
+      → (IsTrue finds → EndsActive shape vcpu p (own_acts vcpu moments)) → (now : Bool) × Holds (fold follows telling (ideal_of shape state moments)) (end_of_moments shape state moments) now (progress_of shape vcpu p (own_acts vcpu moments))
   goes [] telling state inside p holds run parts proper active = (inside, holds)
   goes (moment ∷ moments) telling state inside p holds run parts proper active =
       subst (λ t. (now : Bool) × Holds t (end_of_moments shape (after_moment shape state moment) moments) now (progress_of shape vcpu p (own_acts vcpu (moment ∷ moments))))
-      (sym (fold-append told_by telling (ideal_moments shape (seat_at state moment.actor) moment.actor moment.act) (ideal_of shape (after_moment shape state moment) moments)))
+      (sym (fold-append follows telling (ideal_moments shape (seat_at state moment.actor) moment.actor moment.act) (ideal_of shape (after_moment shape state moment) moments)))
       (by_actor (moment.actor == vcpu) refl
       (λ now q so next is active. goes moments (told shape telling state moment.actor moment.act) (after_moment shape state moment) now q so (split state moment.actor moment.act moments run).1 next is active) parts proper active)
     where
@@ -244,9 +244,9 @@ module _ (finds : Bool) (shape : GuestShape) (good : IsShape shape) (vcpu : ℕ)
           (own telling state inside p moment.act acts is_proper active parts (subst (λ n. IsRun shape state (entries_of (record { actor = n; act = moment.act } ∷ []))) same runs.0) holds)
 
       by_actor : (b : Bool) → (moment.actor == vcpu) ≡ b
-          → ((now : Bool) (q : Progress) → Holds (told shape telling state moment.actor moment.act) (after_moment shape state moment) now q → IsTrue (are_parts shape vcpu now (own_acts vcpu moments)) → IsProper shape vcpu q (own_acts vcpu moments) → (IsTrue finds → EndsActive shape vcpu q (own_acts vcpu moments)) → (now : Bool) × Holds (fold told_by (told shape telling state moment.actor moment.act) (ideal_of shape (after_moment shape state moment) moments)) (end_of_moments shape (after_moment shape state moment) moments) now (progress_of shape vcpu q (own_acts vcpu moments)))
+          → ((now : Bool) (q : Progress) → Holds (told shape telling state moment.actor moment.act) (after_moment shape state moment) now q → IsTrue (are_parts shape vcpu now (own_acts vcpu moments)) → IsProper shape vcpu q (own_acts vcpu moments) → (IsTrue finds → EndsActive shape vcpu q (own_acts vcpu moments)) → (now : Bool) × Holds (fold follows (told shape telling state moment.actor moment.act) (ideal_of shape (after_moment shape state moment) moments)) (end_of_moments shape (after_moment shape state moment) moments) now (progress_of shape vcpu q (own_acts vcpu moments)))
           → let acts = map (λ (m : CoreMoment). m.act) (if b then moment ∷ filter (λ (m : CoreMoment). m.actor == vcpu) moments else filter (λ (m : CoreMoment). m.actor == vcpu) moments) in
-          IsTrue (are_parts shape vcpu inside acts) → IsProper shape vcpu p acts → (IsTrue finds → EndsActive shape vcpu p acts) → (now : Bool) × Holds (fold told_by (told shape telling state moment.actor moment.act) (ideal_of shape (after_moment shape state moment) moments)) (end_of_moments shape (after_moment shape state moment) moments) now (progress_of shape vcpu p acts)
+          IsTrue (are_parts shape vcpu inside acts) → IsProper shape vcpu p acts → (IsTrue finds → EndsActive shape vcpu p acts) → (now : Bool) × Holds (fold follows (told shape telling state moment.actor moment.act) (ideal_of shape (after_moment shape state moment) moments)) (end_of_moments shape (after_moment shape state moment) moments) now (progress_of shape vcpu p acts)
       by_actor true e rest parts proper active =
           let next = mine (eqb-true moment.actor vcpu e) (own_acts vcpu moments) proper.0 (λ f. (active f).0) parts in
           rest (inside_after inside moment.act) (progressed shape vcpu p moment.act) next.0 next.1 proper.1 (λ f. (active f).1)
@@ -263,11 +263,11 @@ opens finds guest number vcpu good within = record {
 
 -- at the end of a proper run
 pub ends_so :
-    (finds : Bool) (guest : GuestSpec) (number : ℕ) (moments : List CoreMoment) (vcpu : ℕ) (P : Telling → CoreState → Progress → Type 0) (good : IsGoodGuest guest) (proper : IsProperRun guest number moments) (within : vcpu < guest.shape.vcpus) (kept : IsKept finds guest.shape vcpu P)
-    → P (opening_telling guest) (opening guest number) (opening_progress guest number vcpu) → (IsTrue finds → EndsActive guest.shape vcpu (opening_progress guest number vcpu) (own_acts vcpu moments))
-    → (inside : Bool) × Holds finds guest.shape good.shape vcpu within P kept (telling_of guest (ideal_of guest.shape (opening guest number) moments)) (end_of_moments guest.shape (opening guest number) moments) inside (progress_in guest number moments vcpu)
+    (finds : Bool) (guest : GuestSpec) (number : ℕ) (moments : List CoreMoment) (vcpu : ℕ) (P : Followed → CoreState → Progress → Type 0) (good : IsGoodGuest guest) (proper : IsProperRun guest number moments) (within : vcpu < guest.shape.vcpus) (kept : IsKept finds guest.shape vcpu P)
+    → P (opening_followed guest) (opening guest number) (opening_progress guest number vcpu) → (IsTrue finds → EndsActive guest.shape vcpu (opening_progress guest number vcpu) (own_acts vcpu moments))
+    → (inside : Bool) × Holds finds guest.shape good.shape vcpu within P kept (followed_by guest (ideal_of guest.shape (opening guest number) moments)) (end_of_moments guest.shape (opening guest number) moments) inside (progress_in guest number moments vcpu)
 ends_so finds guest number moments vcpu P good proper within kept first active =
-    goes finds guest.shape good.shape vcpu within P kept moments (opening_telling guest) (opening guest number) false (opening_progress guest number vcpu) (record { going = opens finds guest number vcpu good within; more = first }) proper.parted.run (proper.parted.parts vcpu (omega (arith, within)))
+    goes finds guest.shape good.shape vcpu within P kept moments (opening_followed guest) (opening guest number) false (opening_progress guest number vcpu) (record { going = opens finds guest number vcpu good within; more = first }) proper.parted.run (proper.parted.parts vcpu (omega (arith, within)))
     (proper.proper vcpu (omega (arith, within))) active
 
 -- nothing else

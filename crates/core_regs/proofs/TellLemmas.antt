@@ -20,7 +20,7 @@ use Rattle.ideal_guest.specs.Ideal.{irq_at}
 use Rattle.port_core.specs.declared.word_id.WordId.TheVariants.{Irq as IrqWord}
 use Rattle.port_core.proofs.PlaceLemmas.{word_same}
 use Rattle.core_proper.specs.Ideal.{event_moments}
-use Rattle.core_regs.specs.Ends.{Telling, told_by}
+use Rattle.core_regs.specs.Followed.{Followed, follows}
 
 -- the interrupt that an event changes, or brings to an interface; and the one that it brings there, or the causes of
 abbrev pub alters : Event → Option Key
@@ -107,7 +107,7 @@ module _ (shape : GuestShape) (good : IsShape shape) (key : Key) (there : IsTrue
 -- What is told.
 
 -- it is of a guest of this shape, and has a place for each interrupt
-pub record IsTold (shape : GuestShape) (telling : Telling) : Type 0 where
+pub record IsTold (shape : GuestShape) (telling : Followed) : Type 0 where
   pub shape_is : telling.ideal.guest.shape ≡ shape
   pub each : length telling.track.changes ≡ interrupt_count shape
 
@@ -125,7 +125,7 @@ length_after shape actor (Leave key vcpu) track = length-set track.changes (plac
 length_after shape actor event track = refl
 
 -- after an event, if there is one
-pub told_event : (shape : GuestShape) (telling : Telling) (actor : ℕ) (o : Option Happened) → IsTold shape telling → IsTold shape (fold told_by telling (event_moments actor o))
+pub told_event : (shape : GuestShape) (telling : Followed) (actor : ℕ) (o : Option Happened) → IsTold shape telling → IsTold shape (fold follows telling (event_moments actor o))
 told_event shape telling actor None told = told
 told_event shape telling actor (Some one) told = record {
   shape_is = (guest_is actor one.event telling.ideal).shape ∙ told.shape_is;
@@ -133,7 +133,7 @@ told_event shape telling actor (Some one) told = record {
 }
 
 -- the changes after it
-pub changes_told : (shape : GuestShape) (telling : Telling) (actor : ℕ) (one : Happened) (key : Key) → IsTold shape telling → changes_of shape (fold told_by telling (event_moments actor (Some one))).track key ≡ changes_of shape (after_changes shape actor one.event telling.track) key
+pub changes_told : (shape : GuestShape) (telling : Followed) (actor : ℕ) (one : Happened) (key : Key) → IsTold shape telling → changes_of shape (fold follows telling (event_moments actor (Some one))).track key ≡ changes_of shape (after_changes shape actor one.event telling.track) key
 changes_told shape telling actor one key told =
     ap (λ changes. slice_index_or changes (place_of shape key) (record { last = None; since = [] })) (leaving_same telling.ideal one.event (after_changes telling.ideal.guest.shape actor one.event telling.track))
     ∙ ap (λ s. changes_of shape (after_changes s actor one.event telling.track) key) told.shape_is

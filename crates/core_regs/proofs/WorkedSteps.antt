@@ -14,7 +14,8 @@ use Rattle.core_proper.specs.Proper.{IsProper, IsProperRun}
 use Rattle.core_proper.specs.Worked.{spi}
 use Rattle.core_proper.proofs.WorkedLemmas.{vcpu_there, device_there, vcpu_is, are_proper, acts_are_proper, no_other, is_there, is_below}
 use Rattle.core_regs.specs.Asks.{HasAll, IsFilled}
-use Rattle.core_regs.specs.Ends.{IsBehind, telling_of}
+use Rattle.core_regs.specs.Ends.{IsBehind}
+use Rattle.core_regs.specs.Followed.{followed_by}
 use Rattle.core_regs.specs.Worked.{level_guest, level_run, LevelRunIsBehind}
 
 level_good : IsGoodGuest level_guest
@@ -83,7 +84,7 @@ level_all : HasAll level_guest.shape (end_of_moments level_guest.shape (opening 
 unfolding least_in with_level without_level in_places
 level_all = record { none_failed = refl; unkicked = refl }
 
-level_behind : IsBehind level_guest.shape (end_of_moments level_guest.shape (opening level_guest 0) level_run) (telling_of level_guest (ideal_of level_guest.shape (opening level_guest 0) level_run)) (progress_in level_guest 0 level_run 0) spi
+level_behind : IsBehind level_guest.shape (end_of_moments level_guest.shape (opening level_guest 0) level_run) (followed_by level_guest (ideal_of level_guest.shape (opening level_guest 0) level_run)) (progress_in level_guest 0 level_run 0) spi
 unfolding least_in with_level without_level in_places
 level_behind = record { there = refl; at = refl; pending = refl; unchanged = refl }
 

@@ -45,10 +45,14 @@ GroupsMirrored =
     (guest : GuestSpec) (number : ℕ) (moments : List CoreMoment) (vcpu : ℕ) → IsGoodGuest guest → IsProperRun guest number moments → vcpu < guest.shape.vcpus → IsFilled (progress_in guest number moments vcpu)
     → IsMirrored (progress_in guest number moments vcpu).regs.hcr (progress_in guest number moments vcpu).local.cpu
 
+-- a vCPU is not kicked
+abbrev pub IsUnkicked : GuestShape → CoreState → ℕ → Type 0
+IsUnkicked shape state vcpu = (vcpu_of (word_in shape state (Vcpu vcpu))).kick ≡ false
+
 -- a vCPU claimed and took all that it chose, since it is not kicked and kicks itself after each claim and take that failed
 pub record HasAll (shape : GuestShape) (state : CoreState) (vcpu : ℕ) (p : Progress) : Type 0 where
   pub none_failed : p.failed ≡ false
-  pub unkicked : (vcpu_of (word_in shape state (Vcpu vcpu))).kick ≡ false
+  pub unkicked : IsUnkicked shape state vcpu
 
 -- and then none is asserted
 abbrev pub NoneAsserted : Type 0

@@ -1,11 +1,9 @@
 -- The end of an interrupt that is pending behind its list register is seen (own choice; IHI 0069, ICH_LR<n>_EL2.EOI).
-use Rattle.std.specs.Prelude.{◌≡◌, ℕ, ◌<◌, true, IsTrue, List, [], fold, Contains}
+use Rattle.std.specs.Prelude.{◌≡◌, ℕ, ◌<◌, true, IsTrue, List, [], Contains}
 use Rattle.gic_base.specs.declared.interrupt.Key.{Key}
 use Rattle.gic_base.specs.declared.shape.GuestShape.{GuestShape}
 use Rattle.gic_base.specs.Interrupt.{has_interrupt, intid_of}
-use Rattle.gic_call.specs.declared.event.Moment.{Moment}
-use Rattle.gic_history.specs.Fresh.{Track, opening_track, changes_of, tracked, after_moment}
-use Rattle.gic_history.specs.State.{Ideal, opening as opening_ideal}
+use Rattle.gic_history.specs.Fresh.{changes_of}
 use Rattle.gic_ich.specs.declared.regs.IchRegs.{IchRegs}
 use Rattle.gic_ich.specs.Place.{seen_in}
 use Rattle.gic_ich.specs.Regs.{listed_of}
@@ -23,25 +21,10 @@ use Rattle.core_proper.specs.Parts.{CoreMoment}
 use Rattle.core_proper.specs.Progress.{Progress, progress_in}
 use Rattle.core_proper.specs.Proper.{IsProperRun}
 use Rattle.core_regs.specs.Asks.{HasAll, IsFilled}
-
--- a state of the ideal controller, and what a history up to it says of its actors and interrupts
-pub record Telling : Type 0 where
-  pub ideal : Ideal
-  pub track : Track
-
--- after a moment
-abbrev pub told_by : Telling → Moment → Telling
-told_by telling moment = record { ideal = after_moment telling.ideal moment; track = tracked telling.ideal moment telling.track }
-
--- after a history from the opening
-abbrev pub opening_telling : GuestSpec → Telling
-opening_telling guest = record { ideal = opening_ideal guest; track = opening_track guest.shape }
-
-abbrev pub telling_of : GuestSpec → List Moment → Telling
-telling_of guest moments = fold told_by (opening_telling guest) moments
+use Rattle.core_regs.specs.Followed.{Followed, followed_by}
 
 -- an interrupt at a vCPU's interface is pending in its record, and nobody changed it since it got there
-pub record IsBehind (shape : GuestShape) (state : CoreState) (telling : Telling) (p : Progress) (key : Key) : Type 0 where
+pub record IsBehind (shape : GuestShape) (state : CoreState) (telling : Followed) (p : Progress) (key : Key) : Type 0 where
   pub there : IsTrue (has_interrupt shape key)
   pub at : is_at key p.local.at ≡ true
   pub pending : is_pending (irq_of (word_in shape state (Irq key))) ≡ true
@@ -57,5 +40,5 @@ abbrev pub EndsAreSeen : Type 0
 EndsAreSeen =
     (guest : GuestSpec) (number : ℕ) (moments : List CoreMoment) (vcpu : ℕ) (key : Key) → IsGoodGuest guest → IsProperRun guest number moments → vcpu < guest.shape.vcpus → IsFilled (progress_in guest number moments vcpu)
     → HasAll guest.shape (end_of_moments guest.shape (opening guest number) moments) vcpu (progress_in guest number moments vcpu)
-    → IsBehind guest.shape (end_of_moments guest.shape (opening guest number) moments) (telling_of guest (ideal_of guest.shape (opening guest number) moments)) (progress_in guest number moments vcpu) key
+    → IsBehind guest.shape (end_of_moments guest.shape (opening guest number) moments) (followed_by guest (ideal_of guest.shape (opening guest number) moments)) (progress_in guest number moments vcpu) key
     → SeesEnd (progress_in guest number moments vcpu).regs key

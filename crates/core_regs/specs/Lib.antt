@@ -1,3 +1,4 @@
+pub mod Followed
 pub mod Stands
 pub mod Asks
 pub mod Ends

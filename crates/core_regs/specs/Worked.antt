@@ -15,7 +15,8 @@ use Rattle.core_proper.specs.Progress.{progress_in}
 use Rattle.core_proper.specs.Proper.{IsProperRun}
 use Rattle.core_proper.specs.Worked.{spi, vcpu_does, device_does, made, reads_iar}
 use Rattle.core_regs.specs.Asks.{HasAll, IsFilled}
-use Rattle.core_regs.specs.Ends.{IsBehind, telling_of}
+use Rattle.core_regs.specs.Ends.{IsBehind}
+use Rattle.core_regs.specs.Followed.{followed_by}
 
 -- a vCPU and a device, and SPI 40, which is level-triggered, enabled, of group 1 and of priority 0xa0
 abbrev pub level_guest : GuestSpec
@@ -60,5 +61,5 @@ pub record LevelRunIsBehind : Type 0 where
   pub proper : IsProperRun level_guest 0 level_run
   pub filled : IsFilled (progress_in level_guest 0 level_run 0)
   pub all : HasAll level_guest.shape (end_of_moments level_guest.shape (opening level_guest 0) level_run) 0 (progress_in level_guest 0 level_run 0)
-  pub behind : IsBehind level_guest.shape (end_of_moments level_guest.shape (opening level_guest 0) level_run) (telling_of level_guest (ideal_of level_guest.shape (opening level_guest 0) level_run)) (progress_in level_guest 0 level_run 0) spi
+  pub behind : IsBehind level_guest.shape (end_of_moments level_guest.shape (opening level_guest 0) level_run) (followed_by level_guest (ideal_of level_guest.shape (opening level_guest 0) level_run)) (progress_in level_guest 0 level_run 0) spi
   pub list : (progress_in level_guest 0 level_run 0).regs.lr ≡ 0x90a0020000000028 ∷ replicate 15 0

@@ -20,7 +20,7 @@ use Rattle.scn_base.specs.Good.{IsGoodGuest}
 use Rattle.ideal_guest.proofs.KeyLemmas.{IsWhole}
 use Rattle.gic_history.specs.State.{Ideal}
 use Rattle.gic_history.specs.Moves.{happened}
-use Rattle.gic_history.specs.History.{Call, Course, actor_count, opening_course, call_of, begun, noted, made, seeing, gone_on, course_of}
+use Rattle.gic_history.specs.History.{Call, Course, GoesOn, actor_count, opening_course, call_of, begun, noted, made, seeing, gone_on, course_of}
 use Rattle.history_laws.proofs.StateLemmas.{guest_is}
 
 -- a course of a guest of this shape: it has a place for each call, and for each record
@@ -153,3 +153,8 @@ course_both course one other = fold-append gone_on course one other
 pub mark_is : (n : ℕ) (o : Option ℕ) → IsTrue (is_number n o) → o ≡ Some n
 mark_is n None h = absurd (cc)
 mark_is n (Some m) h = ap Some (eqb-true m n h)
+
+-- of a history the beginning goes on, and the rest from where that ended
+pub goes_before : (course : Course) (early late : List Moment) → GoesOn course (early ++ late) → GoesOn course early × GoesOn (course_of course early) late
+goes_before course [] late going = (tt, going)
+goes_before course (moment ∷ moments) late going = let rest = goes_before (gone_on course moment) moments late going.1 in ((going.0, rest.0), rest.1)

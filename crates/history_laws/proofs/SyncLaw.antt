@@ -21,7 +21,7 @@ use Rattle.gic_history.specs.State.{Ideal}
 use Rattle.gic_history.specs.Moves.{happened}
 use Rattle.gic_history.specs.History.{Call, Course, vcpu_of, call_of, noted, made, seeing, gone_on, course_of, opening_course, IsEnded, IsCallEnded, GoesOn, IsHistory, IsWhole, last_of}
 use Rattle.history_laws.specs.Sync.{parts_in, commands_of, IsDone, IsStalled, SyncHolds}
-use Rattle.history_laws.proofs.CourseLemmas.{IsCourse, opens, nobody_opens, nobody, begun_other, ended_other, made_here, made_other, noted_piece, none_is, goes, mark_is, course_both}
+use Rattle.history_laws.proofs.CourseLemmas.{IsCourse, opens, nobody_opens, nobody, begun_other, ended_other, made_here, made_other, noted_piece, none_is, goes, mark_is, course_both, goes_before}
 use Rattle.history_laws.proofs.ScanCalls.{takes_one, takes_of, takes_both, call_turn}
 use Rattle.history_laws.proofs.ScanLemmas.{Scan, scan_of, IsDoneBy, IsStalledBy, IsEndOf, AreEnds, ends_later}
 use Rattle.history_laws.proofs.SpreadLemmas.{events_of}
@@ -236,10 +236,6 @@ well_done shape maps call words targets scan maps_are made_are seen is = record 
 
 badly_stalled : (shape : GuestShape) (maps : Maps) (call : Call) (fault : ℕ) (scan : Scan) → scan.maps ≡ maps → scan.made ≡ parts_in call.piece → IsStalledBy shape scan fault → IsStalled shape maps call fault
 badly_stalled shape maps call fault scan maps_are made_are is = record { words = is.words; is = ap (λ m. fault_number shape m (decoded is.words)) (sym maps_are) ∙ is.is; nothing = sym made_are ∙ is.nothing }
-
-goes_before : (course : Course) (early late : List Moment) → GoesOn course (early ++ late) → GoesOn course early × GoesOn (course_of course early) late
-goes_before course [] late going = (tt, going)
-goes_before course (moment ∷ moments) late going = let rest = goes_before (gone_on course moment) moments late going.1 in ((going.0, rest.0), rest.1)
 
 goes_all : (shape : GuestShape) (course : Course) (moments : List Moment) → IsCourse shape course → IsCourse shape (course_of course moments)
 goes_all shape course [] at = at

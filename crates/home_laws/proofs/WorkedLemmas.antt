@@ -1,22 +1,19 @@
 -- The worked accesses: each clause computes.
-use Rattle.std.proofs.Common.{◌≡◌, IsTrue, List, [], ◌∷◌, ◌++◌, Some, None, is_some, refl, sym, ap, subst, true≢false}
+use Rattle.std.proofs.Common.{◌≡◌, IsTrue, List, ◌++◌, Some, None, is_some, refl, sym, ap, subst, true≢false}
 use Rattle.std.proofs.lemmas.Option.{none-some, same_Some}
 use Rattle.gic_base.specs.declared.icc.IccReg.TheVariants.{Iar1, Eoir1}
 use Rattle.gic_prio.specs.Levels.{least_in, with_level, without_level}
 use Rattle.gic_call.specs.declared.event.Moment.{Moment}
-use Rattle.gic_history.specs.History.{Course, GoesOn, IsHistory, gone_on, last_of, opening_course}
+use Rattle.gic_history.specs.History.{IsHistory, last_of, opening_course}
 use Rattle.gic_history.specs.Worked.{worked_guest, message, reach, reads, ends, leave}
 use Rattle.gic_history.proofs.WorkedLemmas.{worked}
 use Rattle.gic_history.specs.Moves.{home}
 use Rattle.gic_history.specs.State.{interface_at}
+use Rattle.history_laws.proofs.CourseLemmas.{goes_before}
 use Rattle.home_laws.specs.Home.{ShowsHome, has_no_cause, is_active_at, is_active_by}
 use Rattle.home_laws.specs.Worked.{AccessesShowHome, AccessesHideHome}
 
 -- what goes on with a course begins so
-goes_first : (course : Course) (early late : List Moment) → GoesOn course (early ++ late) → GoesOn course early
-goes_first course [] late going = tt
-goes_first course (moment ∷ early) late going = (going.0, goes_first (gone_on course moment) early late going.1)
-
 abbrev pending : List Moment
 pending = message 40 ++ reach 0 40
 
@@ -24,10 +21,10 @@ abbrev active : List Moment
 active = message 40 ++ reach 0 40 ++ reads 0 Iar1 40
 
 acknowledges_is : IsHistory worked_guest pending
-acknowledges_is = goes_first (opening_course worked_guest) pending (reads 0 Iar1 40 ++ ends 0 40 ++ reads 0 Iar1 1023 ++ leave 0 40) worked.served.history
+acknowledges_is = (goes_before (opening_course worked_guest) pending (reads 0 Iar1 40 ++ ends 0 40 ++ reads 0 Iar1 1023 ++ leave 0 40) worked.served.history).0
 
 ends_is : IsHistory worked_guest active
-ends_is = goes_first (opening_course worked_guest) active (ends 0 40 ++ reads 0 Iar1 1023 ++ leave 0 40) worked.served.history
+ends_is = (goes_before (opening_course worked_guest) active (ends 0 40 ++ reads 0 Iar1 1023 ++ leave 0 40) worked.served.history).0
 
 acknowledged_is : ShowsHome (last_of worked_guest pending) 0 Iar1 None
 unfolding least_in with_level without_level

@@ -1,0 +1,87 @@
+-- Where a proper run has come.
+use Rattle.std.proofs.Common.{◌≡◌, ℕ, ◌<◌, true≢false, not, true, false, IsTrue, List, [], ◌∷◌, ◌++◌, Option, Some, None, refl, sym, ap, ◌∙◌, subst, arith}
+use Rattle.std.specs.List.{list_any}
+use Rattle.std.proofs.lemmas.Bool.{eq-eqb, ltb-true}
+use Rattle.std.proofs.lemmas.List.Sums.{fold-append}
+use Rattle.gic_base.specs.declared.interrupt.Key.{Key}
+use Rattle.gic_base.specs.declared.shape.GuestShape.{GuestShape}
+use Rattle.gic_base.specs.Interrupt.{has_interrupt}
+use Rattle.gic_history.specs.State.{is_home, is_of}
+use Rattle.gic_word.specs.Record.{is_number}
+use Rattle.history_laws.proofs.StandLemmas.{any_somewhere}
+use Rattle.scn_base.specs.declared.guest.GuestSpec.{GuestSpec}
+use Rattle.scn_base.specs.Good.{IsGoodGuest}
+use Rattle.port_core.specs.declared.word_id.WordId.TheVariants.{Irq as IrqWord}
+use Rattle.port_core.specs.Actor.{actor_count}
+use Rattle.gic_word.specs.Valid.{is_vcpu_or_none}
+use Rattle.port_core.specs.Local.{is_at}
+use Rattle.port_core.specs.Run.{CoreState, opening, seat_at}
+use Rattle.core_proper.specs.Ideal.{after_moment, end_of_moments}
+use Rattle.core_proper.specs.Parts.{Act, CoreMoment}
+use Rattle.core_proper.specs.Progress.{Progress, opening_progress, progress_in}
+use Rattle.core_proper.specs.Proper.{IsProperRun}
+use Rattle.core_laws.proofs.StandingLemmas.{any_stands}
+use Rattle.core_fresh.specs.Excuse.{followed_in}
+use Rattle.core_regs.specs.Followed.{Followed}
+use Rattle.core_fresh.specs.Waiting.{record_in}
+use Rattle.core_fresh.proofs.Frame.{IsAt, follow, at_next, at_opens, moved_on, progress_is, progress_on}
+use Rattle.core_fresh.proofs.RunFrame.{IsNextOf, end_more, followed_more, runs_on}
+
+-- what is kept along a run holds at its end
+pub end_is : (guest : GuestSpec) (number : ℕ) → IsGoodGuest guest → (moments : List CoreMoment) → IsProperRun guest number moments
+    → IsAt guest.shape (end_of_moments guest.shape (opening guest number) moments) (followed_in guest number moments) (progress_on guest.shape (opening_progress guest number) moments)
+end_is guest number good moments proper = runs_on guest number good KeptAt one_more (at_opens guest number good) moments proper
+  where
+    KeptAt : List CoreMoment → Type 0
+    KeptAt early = IsAt guest.shape (end_of_moments guest.shape (opening guest number) early) (followed_in guest number early) (progress_on guest.shape (opening_progress guest number) early)
+
+    one_more : (early : List CoreMoment) (actor : ℕ) (act : Act) → IsNextOf guest number early actor act → KeptAt early → KeptAt (early ++ record { actor = actor; act = act } ∷ [])
+    one_more early actor act next kept =
+        let moment : CoreMoment = record { actor = actor; act = act } in
+        let later = at_next guest.shape good.shape (end_of_moments guest.shape (opening guest number) early) (followed_in guest number early) (progress_on guest.shape (opening_progress guest number) early) actor act next.at next.acts in
+        subst (λ s. IsAt guest.shape s (followed_in guest number (early ++ moment ∷ [])) (progress_on guest.shape (opening_progress guest number) (early ++ moment ∷ []))) (sym (end_more guest.shape (opening guest number) early moment))
+        (subst (λ f. IsAt guest.shape (after_moment guest.shape (end_of_moments guest.shape (opening guest number) early) moment) f (progress_on guest.shape (opening_progress guest number) (early ++ moment ∷ []))) (sym (followed_more guest number early moment))
+        (subst (λ q. IsAt guest.shape (after_moment guest.shape (end_of_moments guest.shape (opening guest number) early) moment) (follow guest.shape (end_of_moments guest.shape (opening guest number) early) (followed_in guest number early) moment) q) (sym (fold-append (moved_on guest.shape) (opening_progress guest number) early (moment ∷ []))) later))
+
+module _ (guest : GuestSpec) (number : ℕ) (moments : List CoreMoment) (good : IsGoodGuest guest) (proper : IsProperRun guest number moments) where
+  abbrev pub shape : GuestShape
+  shape = guest.shape
+
+  abbrev pub state : CoreState
+  state = end_of_moments guest.shape (opening guest number) moments
+
+  abbrev pub at : Followed
+  at = followed_in guest number moments
+
+  abbrev pub p : ℕ → Progress
+  p = progress_in guest number moments
+
+  pub here : IsAt shape state at (progress_on shape (opening_progress guest number) moments)
+  here = end_is guest number good moments proper
+
+  pub p_is : (actor : ℕ) → progress_on shape (opening_progress guest number) moments actor ≡ p actor
+  p_is actor = progress_is shape moments (opening_progress guest number) actor
+
+  pub local_is : (actor : ℕ) → actor < actor_count shape → (p actor).local ≡ (seat_at state actor).local
+  local_is actor there = subst (λ (q : Progress). q.local ≡ (seat_at state actor).local) (p_is actor) (here.seats actor there).local
+
+  pub an_actor : (v : ℕ) → v < shape.vcpus → v < actor_count shape
+  an_actor v there = omega (arith, there)
+
+  -- an interrupt that a vCPU holds is at that one's interface, and one that is home is held by nobody
+  pub within_vcpus : (key : Key) → IsTrue (has_interrupt shape key) → (v : ℕ) → (record_in shape state key).holder ≡ Some v → v < shape.vcpus
+  within_vcpus key there v e = ltb-true v shape.vcpus (subst (λ o. IsTrue (is_vcpu_or_none shape o)) e (here.sound.words (IrqWord key) there).irq.holder)
+
+  pub held_at : (key : Key) → IsTrue (has_interrupt shape key) → (v : ℕ) → (record_in shape state key).holder ≡ Some v → is_at key (seat_at state v).local.at ≡ true
+  held_at key there v e = sym (here.sound.ties v (IrqWord key) (an_actor v (within_vcpus key there v e)) there) ∙ ap (is_number v) e ∙ eq-eqb v v refl
+
+  pub held_away : (key : Key) → IsTrue (has_interrupt shape key) → (v : ℕ) → (record_in shape state key).holder ≡ Some v → is_home at.ideal key ≡ false
+  held_away key there v e =
+      ap not (any_somewhere (is_of key) at.ideal.at v (ap (list_any (is_of key)) (here.related.seats v (within_vcpus key there v e)).at ∙ any_stands key (seat_at state v).local.at ∙ held_at key there v e))
+
+  pub nobody_holds : (key : Key) → IsTrue (has_interrupt shape key) → IsTrue (is_home at.ideal key) → (record_in shape state key).holder ≡ None
+  nobody_holds key there home = of (record_in shape state key).holder refl
+    where
+      of : (o : Option ℕ) → (record_in shape state key).holder ≡ o → o ≡ None
+      of None e = refl
+      of (Some v) e = absurd (true≢false (sym home ∙ held_away key there v e))
