@@ -108,7 +108,7 @@ read_served : (old new : Seen) (offset size value : ℕ) (ref : RegRef) → deco
 read_served old new offset size value ref is serves =
     let Of : RegRef → Type 0 = λ ref. ServesRead old new ref value in
     let all : Of (decoded offset size) = subst Of (sym is) serves in
-    record { serves = all.0; reads = all.1 }
+    record { serves = all.0; reads = all.1; found = λ id there bit. absurd (cc) }
 
 pub serves_register :
     (old new : Seen) (offset size : ℕ) (reg : Reg) (half : Half) (held value : ℕ) → decoded offset size ≡ Plain reg half → has_lpis (shape_of old) ≡ true → value ≡ half_read half held → ReadsIts old new reg held → ServesAccess old new Its offset size None value
@@ -176,4 +176,5 @@ serves_ignored old offset size value ease h =
           serves_nothing old (λ view. its_events (shape_of old) view ref (Some value)) (λ view. its_places (shape_of old) ref (Some value)) (λ view. command_events (shape_of old) view) ease (λ view. ignored_events (shape_of old) view ref value h)
           (λ view. ignored_places (shape_of old) ref value h);
       reads = refl;
+      found = λ id there bit. absurd (cc);
     }

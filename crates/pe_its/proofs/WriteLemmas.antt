@@ -60,6 +60,8 @@ use Rattle.pe_mem.proofs.CallLemmas.{can_ease, can_turn, can_after, proper_of}
 use Rattle.pe_mem.proofs.ServeLemmas.{one_made, none_made}
 use Rattle.pe_its.specs.Write.{BeginsWrite, RunsAll, RunsIf, ServesWrite, StopsWrite, StopsInTurn}
 use Rattle.pe_its.proofs.MakesLemmas.{makes_join, makes_reads, makes_with, looks_then}
+use Rattle.pe_mem.specs.Found.{TookAmong, by_commands}
+use Rattle.pe_mem.proofs.FoundLemmas.{among_after, among_before}
 
 -- The vCPUs that the LPIs are for, as the commands found them.
 
@@ -154,6 +156,24 @@ inside_over old new runs =
     let told = told_end over.mid new over.queue (last_fault over.commands) runs.end over.ends in
     inside_joins old over.mid new (inside_run old over.mid over.commands over.taken) (inside_piece over.mid new told.part told.adds told.local_is told.piece)
 
+-- Commands among more steps.
+
+-- which tables the actor took is no matter
+among_home : (a b : Seen) (part : List Made) (commands : List Taken) → b ≡ record a { taken = true } → TookAmong b part commands → TookAmong a part commands
+among_home a b part commands b_is among =
+    let own : b.own ≡ a.own = ap (λ (seen : Seen). seen.own) b_is in
+    record {
+      from = among.from;
+      to = among.to;
+      are = among.are;
+      guest = among.guest ∙ ap (λ (seen : Seen). seen.guest) b_is;
+      actor = among.actor ∙ ap (λ (seen : Seen). seen.actor) b_is;
+      early = among.early;
+      late = among.late;
+      begins = among.begins ∙ ap (λ xs. xs ++ among.early) own;
+      ends = ap (λ xs. xs ++ part) (sym own) ∙ among.ends;
+    }
+
 -- What is to be seen of it.
 
 record Started (starts : Bool) (actor : Option ℕ) (shape : GuestShape) (beside : Beside) (its : View) (commands : List Happened) : Type 0 where
@@ -168,33 +188,44 @@ record InsideCall (old new : Seen) (reg : Reg) (half : Half) (value : ℕ) : Typ
   commands : List Happened
   events : part_events old inside.part ≡ register ++ commands
   written : Makes (Some old.actor) view (its_written view reg half value) (its_write_places reg) [] register
-  targets : ℕ → ℕ → Option ℕ
-  started :
-      (maps : Maps) → Started (register_starts view reg half value) (Some old.actor) (shape_of old) (record { maps = maps; targets = targets }) (its_written_by (shape_of old) view (its_written view reg half value)) commands
+  took : List Taken
+  among : TookAmong old inside.part took
+  started : (beside : Beside) → AgreeAll beside 0 took → Started (register_starts view reg half value) (Some old.actor) (shape_of old) beside (its_written_by (shape_of old) view (its_written view reg half value)) commands
 
 -- the commands, if they start
 record Ran (starts : Bool) (old new : Seen) (shape : GuestShape) (its : View) : Type 0 where
   inside : Inside old new
   commands : List Happened
   events : part_events old inside.part ≡ commands
-  targets : ℕ → ℕ → Option ℕ
-  started : (actor : Option ℕ) (maps : Maps) → Started starts actor shape (record { maps = maps; targets = targets }) its commands
+  took : List Taken
+  among : TookAmong old inside.part took
+  started : (actor : Option ℕ) (beside : Beside) → AgreeAll beside 0 took → Started starts actor shape beside its commands
 
 ran : (starts : Bool) (old new : Seen) (shape : GuestShape) (its : View) → shape ≡ shape_of old → (IsTrue starts → HaveSameIts its (view_by old)) → RunsIf starts old new → Ran starts old new shape its
-unfolding targets_of inside_over inside_joins inside_run inside_piece
+unfolding inside_over inside_joins inside_run inside_piece
 ran true old new shape its is same runs =
     let over = runs.over in
     let run = taken_are_run old over.mid over.commands over.taken in
     let told = told_end over.mid new over.queue (last_fault over.commands) runs.end over.ends in
-    let targets : ℕ → ℕ → Option ℕ = targets_of over.commands in
     record {
       inside = inside_over old new runs;
       commands = part_events old run.steps;
       events = events_then old over.mid run.steps told.part run.adds ∙ ap (λ events. part_events old run.steps ++ events) told.silent ∙ append-nil (part_events old run.steps);
-      targets = targets;
-      started = λ actor maps.
-          (let beside : Beside = record { maps = maps; targets = targets } in
-          let listed = run.events actor beside 0 its (agree_all beside 0 over.commands (λ m. (let same : 0 + m ≡ m = omega arith in ap targets same))) (takes_by over.mid over.queue over.ready.knows ∙ over.over) (same refl) in
+      took = over.commands;
+      among =
+          record {
+            from = old;
+            to = over.mid;
+            are = over.taken;
+            guest = refl;
+            actor = refl;
+            early = [];
+            late = told.part;
+            begins = sym (append-nil old.own);
+            ends = sym (append_assoc old.own run.steps told.part) ∙ ap (λ own. own ++ told.part) (sym (ap (λ (seen : Seen). seen.own) run.adds.new_is));
+          };
+      started = λ actor beside agrees.
+          (let listed = run.events actor beside 0 its agrees (takes_by over.mid over.queue over.ready.knows ∙ over.over) (same refl) in
           let In : GuestShape → Type 0 = λ shape. Started true actor shape beside its (part_events old run.steps) in
           subst In (sym is) (record { views = listed.views; are = listed.are }));
     }
@@ -209,8 +240,9 @@ ran false old new shape its is same runs =
           };
       commands = [];
       events = refl;
-      targets = λ number id. None;
-      started = λ actor maps. record { views = []; are = none_made actor its };
+      took = [];
+      among = record { from = old; to = old; are = refl; guest = refl; actor = refl; early = []; late = []; begins = sym (append-nil old.own); ends = refl };
+      started = λ actor beside agrees. record { views = []; are = none_made actor its };
     }
 
 inside_call : (old new : Seen) (reg : Reg) (half : Half) (value : ℕ) → ServesWrite old new reg half value → InsideCall old new reg half value
@@ -241,11 +273,12 @@ inside_call old new reg half value serves =
           ∙ ap (λ events. events ++ part_events mid run.inside.part) (events_then old start looks.part writes.part looks.reading.adds ∙ ap (λ events. events ++ part_events start writes.part) looks.events)
           ∙ ap (λ events. register ++ events) run.events;
       written = subst By actor_is (looks_then (Some start.actor) view begins.queue events (its_write_places reg) (part_events start writes.part) writes.made writes.looked);
-      targets = run.targets;
-      started = λ maps.
-          (let Of : Bool → Type 0 = λ b. Started b (Some old.actor) (shape_of old) (record { maps = maps; targets = run.targets }) (its_written_by (shape_of old) view events) run.commands in
-          let At : GuestShape → Type 0 = λ shape. Started serves.starts (Some old.actor) shape (record { maps = maps; targets = run.targets }) (its_written_by shape view events) run.commands in
-          subst Of (sym writes.starts_are) (subst At same_start (run.started (Some old.actor) maps)));
+      took = run.took;
+      among = among_after old mid first.part run.inside.part run.took first.adds run.among;
+      started = λ beside agrees.
+          (let Of : Bool → Type 0 = λ b. Started b (Some old.actor) (shape_of old) beside (its_written_by (shape_of old) view events) run.commands in
+          let At : GuestShape → Type 0 = λ shape. Started serves.starts (Some old.actor) shape beside (its_written_by shape view events) run.commands in
+          subst Of (sym writes.starts_are) (subst At same_start (run.started (Some old.actor) beside agrees)));
     }
 
 -- The tables are taken and put back.
@@ -403,7 +436,7 @@ its_call shape beside actor offset size value reg half view turn register comman
 pub makes_write :
     (old a b c d new : Seen) (offset size value : ℕ) (reg : Reg) (half : Half) → IsPort new → CanAccess old → decoded offset size ≡ Plain reg half → takes_turn (shape_of old) (decoded offset size) (Some value) ≡ true → TakesTurn old a
     → b ≡ record a { taken = true } → ServesWrite b c reg half value → IsAtEase c.local → d ≡ record c { taken = false } → GivesTurn d new → MakesAccess old new Its offset size (Some value) None
-unfolding inside_home
+unfolding inside_home targets_of
 makes_write old a b c d new offset size value reg half is_new can is takes_so takes b_is serves ease d_is gives =
     let made = inside_call b c reg half value serves in
     let inside = inside_home a b c d b_is d_is takes.tables made.inside in
@@ -418,7 +451,6 @@ makes_write old a b c d new offset size value reg half is_new can is takes_so ta
     let actor_b : b.actor ≡ actor = ap (λ seen. seen.actor) b_is ∙ ap (λ seen. seen.actor) takes.adds.new_is in
     let view = made.view in
     let events = its_written view reg half value in
-    let beside : Beside = record { maps = maps_taken part; targets = made.targets } in
     let known : known_maps b.own ≡ takes.maps = ap (λ seen. known_maps seen.own) b_is ∙ ap (λ seen. known_maps seen.own) takes.adds.new_is ∙ maps_handed old.own takes.misses takes.last takes.maps takes.handed in
     let maps : view.maps ≡ maps_taken part = made.maps_are ∙ known ∙ sym (turn_maps takes.misses takes.last takes.maps (inside.part ++ give) takes.missed takes.handed) in
     let begin : Happened = record { event = ItsBegin; found = Nothing } in
@@ -430,11 +462,6 @@ makes_write old a b c d new offset size value reg half is_new can is takes_so ta
     let Give : List Happened → Type 0 = λ piece. Makes (Some actor) view (ItsEnd ∷ []) [] [] piece in
     let ended : Give (part_events d give) = subst Give (sym gives.events) (one_made (Some actor) view end refl refl) in
     let ByActor : ℕ → Type 0 = λ actor. Makes (Some actor) view events (its_write_places reg) [] made.register in
-    let Runs : GuestShape → ℕ → Type 0 = λ shape actor. Started (register_starts view reg half value) (Some actor) shape beside (its_written_by shape view events) made.commands in
-    let RunsIn : GuestShape → Type 0 = λ shape. Runs shape b.actor in
-    let RunsBy : ℕ → Type 0 = λ actor. Runs shape actor in
-    let call = its_call shape beside actor offset size value reg half view (part_events old turn) made.register made.commands (part_events d give) is has maps began (subst ByActor actor_b made.written)
-    (subst RunsBy actor_b (subst RunsIn shape_b (made.started (maps_taken part)))) ended in
     let middle : part_events a inside.part ≡ made.register ++ made.commands = ap (λ seen. part_events seen inside.part) (sym b_is) ∙ made.events in
     let t = part_events old turn in
     let l = part_events d give in
@@ -444,15 +471,27 @@ makes_write old a b c d new offset size value reg half is_new can is takes_so ta
     ∙ sym (append_assoc t (made.register ++ made.commands) l)
     ∙ ap (λ events. events ++ l) (sym (append_assoc t made.register made.commands)) in
     let operation = access_of Its offset size (Some value) in
+    let is_actor : vcpu_of_actor shape actor ≡ Some actor = ap (λ b. cond b (Some actor) None) can.vcpu in
+    let call_of : (beside : Beside) → beside.maps ≡ maps_taken part → AgreeAll beside 0 made.took → IsCall shape beside (vcpu_of_actor shape actor) operation (part_events old part) None
+    = λ beside maps_are agrees.
+    (let Runs : GuestShape → ℕ → Type 0 = λ shape actor. Started (register_starts view reg half value) (Some actor) shape beside (its_written_by shape view events) made.commands in
+    let RunsIn : GuestShape → Type 0 = λ shape. Runs shape b.actor in
+    let RunsBy : ℕ → Type 0 = λ actor. Runs shape actor in
     let Of : List Happened → Type 0 = λ piece. IsItsCall shape beside actor offset size value piece None in
     let Write : Bool → Type 0 = λ b. IsItsWriteCall b shape beside actor offset size value (part_events old part) None in
-    let is_actor : vcpu_of_actor shape actor ≡ Some actor = ap (λ b. cond b (Some actor) None) can.vcpu in
     let By : Option ℕ → Type 0 = λ actor. IsCall shape beside actor operation (part_events old part) None in
+    let call = its_call shape beside actor offset size value reg half view (part_events old turn) made.register made.commands (part_events d give) is has (maps ∙ sym maps_are) began (subst ByActor actor_b made.written)
+    (subst RunsBy actor_b (subst RunsIn shape_b (made.started beside agrees))) ended in
     let whole : By (Some actor) = subst Write (sym takes_so) (subst Of (sym events_are) call) in
+    subst By (sym is_actor) whole) in
+    let own : Beside = record { maps = maps_taken part; targets = targets_of made.took } in
+    let among : TookAmong old part made.took
+    = among_after old a turn (inside.part ++ give) made.took takes.adds (among_before a inside.part give made.took (among_home a b inside.part made.took b_is made.among)) in
     record {
       part = part;
       adds = all.adds;
-      call = record { beside = beside; maps = refl; call = subst By (sym is_actor) whole };
+      call = record { beside = own; maps = refl; call = call_of own refl (agree_all own 0 made.took (λ m. (let same : 0 + m ≡ m = omega arith in ap (targets_of made.took) same))) };
+      found = record { finding = by_commands made.took; is_finding = among; call = call_of };
       piece = all.piece;
       proper = proper_of old new part operation None all.adds all.after all.piece;
       stays = all.stays;

@@ -26,6 +26,14 @@ use Rattle.port_call.proofs.RestLemmas.{ease_owes}
 use Rattle.port_call.proofs.TurnLemmas.{not_taken}
 use Rattle.pe_mem.specs.Call.{CanAccess, MakesAccess, ServesAccess, NamesBy, IsPieceOf, access_of}
 use Rattle.gic_history.specs.Named.{named_by_access}
+use Rattle.gic_base.specs.declared.interrupt.Key.TheVariants.{Lpi}
+use Rattle.gic_base.specs.Interrupt.{has_interrupt}
+use Rattle.gic_call.specs.declared.event.Event.{Event}
+use Rattle.gic_call.specs.declared.event.Place.{Place}
+use Rattle.gic_call.specs.Call.{access_events}
+use Rattle.gic_call.specs.Trace.{Makes, access_places}
+use Rattle.pe_mem.specs.Found.{by_looks, goes_by_target}
+use Rattle.pe_mem.proofs.TargetLemmas.{events_with, makes_targeted, places_with, value_with, with_targets}
 
 -- What a vCPU has that can make an access.
 
@@ -104,6 +112,28 @@ plain_call seen beside Its offset size None answer piece plain call = call
 plain_call seen beside Its offset size (Some value) answer piece plain call =
     let By : Bool → Type 0 = λ b. IsItsWrite b (shape_of seen) beside seen.actor offset size value piece answer in subst By (sym plain) call
 
+-- the access with its LPIs for other vCPUs that agree with what it found
+call_with :
+    (old new : Seen) (frame : Frame) (offset size : ℕ) (write : Option ℕ) (value : ℕ) (answer : Option ℕ) (beside : Beside) → answer ≡ read_answer write value → (made : ServesAccess old new frame offset size write value)
+    → ((id : ℕ) → IsTrue (has_interrupt (shape_of old) (Lpi id)) → IsTrue (goes_by_target (shape_of old) made.serves.view frame offset size write id) → beside.targets 0 id ≡ made.serves.view.targets id)
+    → IsPlainCall (shape_of old) beside old.actor frame offset size write (part_events old made.serves.part) answer
+call_with old new frame offset size write value answer beside answers made agree =
+    let shape = shape_of old in
+    let serves = made.serves in
+    let t = beside.targets 0 in
+    let view = with_targets t serves.view in
+    let ByEvents : List Event → Type 0 = λ events. Makes (Some old.actor) view events (access_places shape view frame offset size write) [] (part_events old serves.part) in
+    let ByPlaces : List Place → Type 0 = λ places. Makes (Some old.actor) view (access_events shape serves.view frame offset size write) places [] (part_events old serves.part) in
+    record {
+      view = view;
+      targets = refl;
+      made =
+          subst ByEvents (sym (events_with shape t serves.view frame offset size write agree))
+          (subst ByPlaces (sym (places_with shape t serves.view frame offset size write))
+          (makes_targeted (Some old.actor) serves.view t (access_events shape serves.view frame offset size write) (access_places shape serves.view frame offset size write) [] (part_events old serves.part) serves.made));
+      answers = answers ∙ made.reads ∙ ap (read_answer write) (sym (value_with shape t serves.view frame offset size));
+    }
+
 pub makes_access :
     (old new : Seen) (frame : Frame) (offset size : ℕ) (write : Option ℕ) (value : ℕ) (answer : Option ℕ) → IsPort new → CanAccess old → IsPlain old frame offset size write → answer ≡ read_answer write value
     → ServesAccess old new frame offset size write value → MakesAccess old new frame offset size write answer
@@ -112,15 +142,24 @@ makes_access old new frame offset size write value answer is_new can plain answe
     let part = serves.part in
     let operation = access_of frame offset size write in
     let after = can_after old new part can serves.adds serves.stays in
-    let beside : Beside = record { maps = maps_taken part; targets = λ number. serves.view.targets } in
     let by : NamesBy (shape_of old) old.actor operation (λ view. named_by_access (shape_of old) view frame offset size write) = record { ends_none = λ key. refl; named_are = λ view. refl } in
-    let call = plain_call old beside frame offset size write answer (part_events old part) plain (record { view = serves.view; targets = refl; made = serves.made; answers = answers ∙ made.reads }) in
     let actor : vcpu_of_actor (shape_of old) old.actor ≡ Some old.actor = ap (λ b. cond b (Some old.actor) None) can.vcpu in
-    let Of : Option ℕ → Type 0 = λ actor. IsCall (shape_of old) beside actor operation (part_events old part) answer in
+    let Agree : (ℕ → Option ℕ) → Type 0 = λ t. (id : ℕ) → IsTrue (has_interrupt (shape_of old) (Lpi id)) → IsTrue (goes_by_target (shape_of old) serves.view frame offset size write id) → t id ≡ serves.view.targets id in
+    let call : (beside : Beside) → Agree (beside.targets 0) → IsCall (shape_of old) beside (vcpu_of_actor (shape_of old) old.actor) operation (part_events old part) answer
+    = λ beside agree.
+    (let Of : Option ℕ → Type 0 = λ actor. IsCall (shape_of old) beside actor operation (part_events old part) answer in
+    subst Of (sym actor) (plain_call old beside frame offset size write answer (part_events old part) plain (call_with old new frame offset size write value answer beside answers made agree))) in
+    let own : Beside = record { maps = maps_taken part; targets = λ number. serves.view.targets } in
     record {
       part = part;
       adds = serves.adds;
-      call = record { beside = beside; maps = refl; call = subst Of (sym actor) call };
+      call = record { beside = own; maps = refl; call = call own (λ id there bit. refl) };
+      found =
+          record {
+            finding = by_looks;
+            is_finding = tt;
+            call = λ beside maps agrees. call beside (λ id there bit. let is = made.found id there bit in agrees id is.look is.there is.step_is ∙ sym is.target_is);
+          };
       piece = serves.piece operation by;
       proper = proper_of old new part operation answer serves.adds after (serves.piece operation by);
       stays = serves.stays;
@@ -131,7 +170,7 @@ makes_access old new frame offset size write value answer is_new can plain answe
 -- Frames.
 
 pub dist_accessed : (old new : Seen) (offset size : ℕ) (write : Option ℕ) (value : ℕ) → ServesDist old new (dist_decoded offset size) write value → ServesAccess old new Dist offset size write value
-dist_accessed old new offset size write value made = record { serves = made.serves; reads = made.reads }
+dist_accessed old new offset size write value made = record { serves = made.serves; reads = made.reads; found = λ id there bit. absurd (cc) }
 
 pub redist_accessed : (old new : Seen) (vcpu offset size : ℕ) (write : Option ℕ) (value : ℕ) → ServesRedist old new vcpu (redist_decoded offset size) write value → ServesAccess old new (Redist vcpu) offset size write value
-redist_accessed old new vcpu offset size write value made = record { serves = made.serves; reads = made.reads }
+redist_accessed old new vcpu offset size write value made = record { serves = made.serves; reads = made.reads; found = made.found }

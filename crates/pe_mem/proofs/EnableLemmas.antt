@@ -1,8 +1,8 @@
 -- EnableLPIs becomes 1.
-use Rattle.std.proofs.Common.{zero, suc, ◌≡◌, ℕ, ◌+◌, ◌-◌, ◌<◌, ◌&&◌, Bool, true, false, if◌then◌else◌, IsTrue, IfSome, List, [], ◌∷◌, ◌++◌, map, All, Option, Some, None, is_none, refl, sym, ap, subst, ◌∙◌, arith}
+use Rattle.std.proofs.Common.{zero, suc, ◌≡◌, ℕ, ◌+◌, ◌-◌, ◌<◌, ◌≤◌, ◌&&◌, not, nat_le, nat_lt, true≢false, Bool, true, false, if◌then◌else◌, IsTrue, IfSome, List, [], ◌∷◌, ◌++◌, map, All, Option, Some, None, is_none, refl, sym, ap, subst, ◌∙◌, arith}
 use Rattle.std.specs.List.{range_with_len, filter_map, flat_map}
 use Rattle.std.specs.Option.{option_map_or}
-use Rattle.std.proofs.lemmas.List.Elements.{All-cons, All-nil, All-append}
+use Rattle.std.proofs.lemmas.List.Elements.{All-cons, All-nil, All-append, Contains-append_right}
 use Rattle.gic_base.specs.declared.interrupt.Key.TheVariants.{Lpi}
 use Rattle.gic_base.specs.declared.shape.GuestShape.{GuestShape}
 use Rattle.gic_base.specs.Interrupt.{intid_of}
@@ -17,7 +17,7 @@ use Rattle.gic_call.specs.declared.event.Event.TheVariants.{Touch, Read, Enable}
 use Rattle.gic_call.specs.declared.event.Found.TheVariants.{Record, Word as FoundWord, Lpis as FoundLpis}
 use Rattle.gic_call.specs.declared.event.Place.{Place}
 use Rattle.gic_call.specs.declared.event.Place.TheVariants.{Word}
-use Rattle.gic_call.specs.Access.{is_table_zero, pended_at, enable_events, lpis_of}
+use Rattle.gic_call.specs.Access.{is_table_zero, pended_at, enable_events, lpis_of, is_in_table}
 use Rattle.gic_call.specs.Trace.{Happened, Makes, HandsOut, IsLastRead, named_of, held_at, memory_places, table_places}
 use Rattle.gic_call.specs.View.{View}
 use Rattle.gic_history.specs.Named.{before_enabling}
@@ -41,6 +41,13 @@ use Rattle.pe_mem.specs.declared.pending.Fetched.{Fetched}
 use Rattle.pe_mem.proofs.EachLemmas.{found_below, all_below, events_of_touched, own_joins, own_of_piece, stays_self}
 use Rattle.pe_mem.proofs.ServeLemmas.{nothing_known, one_made}
 use Rattle.pe_mem.proofs.TableLemmas.{TableBase, TableSoFar, is_pended, pend_at, last_read_before, unread_of}
+use Rattle.gic_base.specs.Interrupt.{has_interrupt}
+use Rattle.gic_word.specs.Record.{target_in}
+use Rattle.gic_word.specs.Word.{irq_of}
+use Rattle.port_core.specs.declared.step.CoreStep.TheVariants.{Look}
+use Rattle.port_core.specs.declared.word_id.WordId.TheVariants.{Irq as IrqWord}
+use Rattle.std.proofs.lemmas.Bool.{and_parts, leb-true, ltb-true}
+use Rattle.pe_mem.specs.Found.{IsFoundFor, reads_bit}
 
 and_true : (a : Bool) → IsTrue a → IsTrue (a && true)
 and_true true h = refl
@@ -83,13 +90,17 @@ enables_again old new vcpu found ease was add =
     let happened : Happened = record { event = Enable vcpu; found = FoundLpis true } in
     let Of : List Happened → Type 0 = λ piece. Makes (Some old.actor) view (Enable vcpu ∷ []) [] [] piece in
     record {
-      view = view;
-      part = one.step ∷ [];
-      adds = one.adds;
-      made = subst Of (sym one.events) (one_made (Some old.actor) view happened refl refl);
-      stays = subst (StaysAtEase old.local) (sym one.local_is) (stays_self old.local ease);
-      none_taken = one.none_taken;
-      piece = λ operation by. own_of_piece old operation (one.step ∷ []) one.piece;
+      serves =
+          record {
+            view = view;
+            part = one.step ∷ [];
+            adds = one.adds;
+            made = subst Of (sym one.events) (one_made (Some old.actor) view happened refl refl);
+            stays = subst (StaysAtEase old.local) (sym one.local_is) (stays_self old.local ease);
+            none_taken = one.none_taken;
+            piece = λ operation by. own_of_piece old operation (one.step ∷ []) one.piece;
+          };
+      found = λ id there bit. absurd (cc);
     }
 
 -- The table has only zeros.
@@ -118,13 +129,17 @@ enables_none old mid new vcpu found pendbaser ease was only add reads =
     let ByPlaces : List Place → Type 0 = λ places. Makes (Some old.actor) view (enable_events (shape_of old) view vcpu) places [] (happened ∷ read ∷ []) in
     let Of : List Happened → Type 0 = λ piece. Makes (Some old.actor) view (enable_events (shape_of old) view vcpu) (table_places (shape_of old) view vcpu) [] piece in
     record {
-      view = view;
-      part = part;
-      adds = adds_join old mid new (one.step ∷ []) (reads.look ∷ []) one.adds reads.adds;
-      made = subst Of (sym events) (subst ByPlaces (sym nowhere) (subst ByEvents (sym zeros) made));
-      stays = subst (StaysAtEase old.local) (sym (reads.local_is ∙ one.local_is)) (stays_self old.local ease);
-      none_taken = none_append (one.step ∷ []) (reads.look ∷ []) one.none_taken reads.none_taken;
-      piece = λ operation by. own_of_piece old operation part (piece_then old mid (one.step ∷ []) (reads.look ∷ []) one.adds one.piece reads.piece);
+      serves =
+          record {
+            view = view;
+            part = part;
+            adds = adds_join old mid new (one.step ∷ []) (reads.look ∷ []) one.adds reads.adds;
+            made = subst Of (sym events) (subst ByPlaces (sym nowhere) (subst ByEvents (sym zeros) made));
+            stays = subst (StaysAtEase old.local) (sym (reads.local_is ∙ one.local_is)) (stays_self old.local ease);
+            none_taken = none_append (one.step ∷ []) (reads.look ∷ []) one.none_taken reads.none_taken;
+            piece = λ operation by. own_of_piece old operation part (piece_then old mid (one.step ∷ []) (reads.look ∷ []) one.adds one.piece reads.piece);
+          };
+      found = λ id there bit. absurd (true≢false (sym bit ∙ ap (λ b. not b && is_in_table (shape_of old) view vcpu id) only));
     }
 
 -- The table.
@@ -150,17 +165,21 @@ pub enables_table :
 unfolding table_view table_words
 enables_table old mid start new vcpu found pendbaser last was some add reads so =
     record {
-      view = view;
-      part = part;
-      adds = adds_join old mid new (one.step ∷ []) (reads.look ∷ [] ++ base.part) one.adds (adds_join mid start new (reads.look ∷ []) base.part reads.adds base.adds);
-      made = subst ByEvents (sym events_so) (subst ByPlaces (sym places_so) (subst Of (sym events) made));
-      stays = subst (λ local. StaysAtEase local new.local) (reads.local_is ∙ one.local_is) base.stays;
-      none_taken = none_append (one.step ∷ []) (reads.look ∷ [] ++ base.part) one.none_taken (none_append (reads.look ∷ []) base.part reads.none_taken base.none_taken);
-      piece = λ operation by.
-          let By : Seen → Type 0 = λ seen. NamesBy (shape_of seen) seen.actor operation (λ view. enable_events (shape_of seen) (before_enabling vcpu view) vcpu) in
-          let there : By start = subst By (sym reads.adds.new_is) (subst By (sym one.adds.new_is) by) in
-          own_joins old mid operation (one.step ∷ []) (reads.look ∷ [] ++ base.part) one.adds (own_of_piece old operation (one.step ∷ []) one.piece)
-          (own_joins mid start operation (reads.look ∷ []) base.part reads.adds (own_of_piece mid operation (reads.look ∷ []) reads.piece) (base.piece operation there));
+      serves =
+          record {
+            view = view;
+            part = part;
+            adds = adds_join old mid new (one.step ∷ []) (reads.look ∷ [] ++ base.part) one.adds (adds_join mid start new (reads.look ∷ []) base.part reads.adds base.adds);
+            made = subst ByEvents (sym events_so) (subst ByPlaces (sym places_so) (subst Of (sym events) made));
+            stays = subst (λ local. StaysAtEase local new.local) (reads.local_is ∙ one.local_is) base.stays;
+            none_taken = none_append (one.step ∷ []) (reads.look ∷ [] ++ base.part) one.none_taken (none_append (reads.look ∷ []) base.part reads.none_taken base.none_taken);
+            piece = λ operation by.
+                let By : Seen → Type 0 = λ seen. NamesBy (shape_of seen) seen.actor operation (λ view. enable_events (shape_of seen) (before_enabling vcpu view) vcpu) in
+                let there : By start = subst By (sym reads.adds.new_is) (subst By (sym one.adds.new_is) by) in
+                own_joins old mid operation (one.step ∷ []) (reads.look ∷ [] ++ base.part) one.adds (own_of_piece old operation (one.step ∷ []) one.piece)
+                (own_joins mid start operation (reads.look ∷ []) base.part reads.adds (own_of_piece mid operation (reads.look ∷ []) reads.piece) (base.piece operation there));
+          };
+      found = found_so;
     }
   where
     shape : GuestShape
@@ -278,6 +297,25 @@ enables_table old mid start new vcpu found pendbaser last was some add reads so 
 
     Of : List Happened → Type 0
     Of piece = Makes (Some old.actor) view (Enable vcpu ∷ filter_map (pend_at base.pended) (range_with_len 0 count)) (Word (Pendbaser vcpu) ∷ flat_map bits (lpis_of shape)) [] piece
+
+    lpi_range : (id : ℕ) → IsTrue (has_interrupt shape (Lpi id)) → (8192 ≤ id) × (id < 8192 + shape.lpis)
+    lpi_range id there = let both = and_parts (nat_le 8192 id) (nat_lt id (8192 + shape.lpis)) there in (leb-true 8192 id both.0, ltb-true id (8192 + shape.lpis) both.1)
+
+    found_so : (id : ℕ) → IsTrue (has_interrupt shape (Lpi id)) → IsTrue (reads_bit shape view vcpu id) → IsFoundFor shape part id (view.targets id)
+    found_so id there bit =
+        let range = lpi_range id there in
+        let number : 8192 + (id - 8192) ≡ id = omega (arith, range.0) in
+        let few : id - 8192 < (shape_of start).lpis = below (id - 8192) (omega (arith, range.0, range.1)) in
+        let is = base.found (id - 8192) few (subst (λ s. IsTrue (is_pended s pendbaser base.words (id - 8192))) (sym same) (in_table id number (and_parts (not (is_table_zero pendbaser)) (is_in_table shape view vcpu id) bit).1)) in
+        record {
+          look = is.look;
+          there = Contains-append_right (one.step ∷ []) (reads.look ∷ [] ++ base.part) is.look (Contains-append_right (reads.look ∷ []) base.part is.look is.there);
+          step_is = is.step_is ∙ ap (λ n. Look (IrqWord (Lpi n))) number;
+          target_is = is.target_is ∙ ap (target_in (irq_of is.look.found).route) same;
+        }
+      where
+        in_table : (id : ℕ) → 8192 + (id - 8192) ≡ id → IsTrue (is_in_table shape view vcpu id) → IsTrue (is_pended shape pendbaser base.words (id - 8192))
+        in_table id number h = subst (λ n. IsTrue (is_in_table shape view vcpu n)) (sym number) h
 
 -- Before the table.
 

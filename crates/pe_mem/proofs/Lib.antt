@@ -8,7 +8,9 @@ pub mod CtlrLemmas
 pub mod DistLemmas
 pub mod UpdateLemmas
 pub mod MemoryLemmas
-pub mod CallLemmas
-pub mod RedistLemmas
 pub mod TableLemmas
 pub mod EnableLemmas
+pub mod TargetLemmas
+pub mod FoundLemmas
+pub mod CallLemmas
+pub mod RedistLemmas

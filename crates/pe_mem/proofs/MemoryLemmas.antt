@@ -47,6 +47,7 @@ reads_memory old new address size value ease reads =
             piece = λ operation by. own_of_piece old operation reads.part reads.piece;
           };
       reads = ap Some reads.value_is;
+      found = λ id there bit. absurd (cc);
     }
 
 written_in : (old : Seen) (view : View) (address size value : ℕ) (o : Option Part) → part_of address size (shape_of old).ram ≡ o
@@ -60,12 +61,13 @@ writes_memory old new address size value part ease here updates =
     record {
       serves = serves_update old new (Ram part.index) (changed_by (Bits part value)) events events ease refl updates (written_in old (stored_view old updates.found) address size value (Some part) here);
       reads = refl;
+      found = λ id there bit. absurd (cc);
     }
 
 pub writes_outside : (old : Seen) (address size value : ℕ) → IsAtEase old.local → part_of address size (shape_of old).ram ≡ None → ServesAccess old old Memory address size (Some value) 0
 writes_outside old address size value ease here =
     let events : View → List Event = λ view. memory_written (shape_of old) view address size value in
-    record { serves = serves_nothing old events (λ view. []) events ease (λ view. written_in old view address size value None here) (λ view. refl); reads = refl }
+    record { serves = serves_nothing old events (λ view. []) events ease (λ view. written_in old view address size value None here) (λ view. refl); reads = refl; found = λ id there bit. absurd (cc) }
 
 pub access_by : (old new : Seen) (address size value : ℕ) (write its : Option ℕ) → write ≡ its → ServesAccess old new Memory address size its value → ServesAccess old new Memory address size write value
 access_by old new address size value write its e serves = let By : Option ℕ → Type 0 = λ write. ServesAccess old new Memory address size write value in subst By (sym e) serves

@@ -6,7 +6,8 @@ use Rattle.gic_base.specs.declared.interrupt.Key.{Key}
 use Rattle.gic_base.specs.declared.operation.Frame.{Frame}
 use Rattle.gic_base.specs.declared.operation.GuestOp.TheVariants.{Mem}
 use Rattle.gic_base.specs.declared.shape.GuestShape.{GuestShape}
-use Rattle.gic_base.specs.Interrupt.{is_same_key}
+use Rattle.gic_base.specs.declared.interrupt.Key.TheVariants.{Lpi}
+use Rattle.gic_base.specs.Interrupt.{has_interrupt, is_same_key}
 use Rattle.gic_call.specs.declared.event.Event.{Event}
 use Rattle.gic_call.specs.declared.event.Operation.{Operation}
 use Rattle.gic_call.specs.declared.event.Operation.TheVariants.{Access}
@@ -23,6 +24,7 @@ use Rattle.core_proper.specs.Progress.{Progress, is_end_of}
 use Rattle.core_proper.specs.Proper.{is_settled}
 use Rattle.port_call.specs.Piece.{IsIdle, IsGoodPiece, IsPiece, takes_none}
 use Rattle.port_call.specs.Rest.{StaysAtEase}
+use Rattle.pe_mem.specs.Found.{IsCallAsFound, IsFoundFor, goes_by_target}
 
 -- a vCPU can make one: it has nothing at its interface, owes nothing, and has neither the ITS nor the mark of GICD_CTLR
 pub record CanAccess (seen : Seen) : Type 0 where
@@ -38,12 +40,14 @@ IsPieceOf seen operation part = (p : Progress) → IsIdle seen p → p.operation
 abbrev pub access_of : Frame → ℕ → ℕ → Option ℕ → Operation
 access_of frame offset size write = Access (Mem frame offset size write)
 
--- a part that makes the events of the call with this answer, and is proper on a PE with any number of list registers; the vCPU has for itself what it
+-- a part that makes the events of the call with this answer, also with each other vCPUs that agree with what it found LPIs to be for, and is proper on a PE with any
+-- number of list registers; the vCPU has for itself what it
 -- had, and can make another one
 pub record MakesAccess (old new : Seen) (frame : Frame) (offset size : ℕ) (write answer : Option ℕ) : Type 0 where
   pub part : List Made
   pub adds : Adds old new part
   pub call : MakesCall old part (access_of frame offset size write) answer
+  pub found : IsCallAsFound old part (access_of frame offset size write) answer
   pub piece : IsPieceOf old (access_of frame offset size write) part
   pub proper : (lrs : ℕ) → IsProperPart old part (access_of frame offset size write) lrs answer
   pub stays : StaysAtEase old.local new.local
@@ -101,3 +105,4 @@ pub record ServesAccess (old new : Seen) (frame : Frame) (offset size : ℕ) (wr
       Serves old new (λ view. access_events (shape_of old) view frame offset size write) (λ view. access_places (shape_of old) view frame offset size write)
       (λ view. named_by_access (shape_of old) view frame offset size write)
   pub reads : read_answer write value ≡ read_answer write (access_value (shape_of old) serves.view frame offset size)
+  pub found : (id : ℕ) → IsTrue (has_interrupt (shape_of old) (Lpi id)) → IsTrue (goes_by_target (shape_of old) serves.view frame offset size write id) → IsFoundFor (shape_of old) serves.part id (serves.view.targets id)

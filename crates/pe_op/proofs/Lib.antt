@@ -1,2 +1,3 @@
 pub mod AboutLemmas
+pub mod FoundLemmas
 pub mod RoundLemmas

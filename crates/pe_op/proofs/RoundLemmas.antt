@@ -14,7 +14,7 @@ use Rattle.port_core.specs.declared.run.Made.{Made}
 use Rattle.port_core.specs.Local.{is_vcpu}
 use Rattle.port_core.specs.Port.{Seen, Adds, shape_of, part_events}
 use Rattle.port_core.proofs.PortLemmas.{adds_join}
-use Rattle.core_proper.specs.Called.{MakesCall, vcpu_of_actor}
+use Rattle.core_proper.specs.Called.{MakesCall, maps_taken, vcpu_of_actor}
 use Rattle.core_proper.specs.Parts.{begins}
 use Rattle.core_proper.specs.Progress.{Progress, paid, before_next, progressed}
 use Rattle.port_call.proofs.TurnLemmas.{events_then}
@@ -29,8 +29,10 @@ use Rattle.pe_icc.proofs.AmidLemmas.{leads_then}
 use Rattle.pe_icc.proofs.IccLemmas.{part_proper, part_runs}
 use Rattle.pe_icc.proofs.ReenterLemmas.{enter_leads, good_leads, idle_again, piece_leads}
 use Rattle.pe_mem.specs.Call.{IsPieceOf, MakesAccess, StopsAccess, access_of}
+use Rattle.pe_mem.specs.Found.{Agrees, IsCallAsFound}
 use Rattle.pe_op.specs.Operation.{DoesOperation, LeavesFirst, StopsOperation, takes_turn_by}
 use Rattle.pe_op.proofs.AboutLemmas.{access_answers, access_between, maps_between}
+use Rattle.pe_op.proofs.FoundLemmas.{agrees_within, finding_between}
 
 -- The round.
 
@@ -94,9 +96,11 @@ round_leads old new before after access frame offset size write round piece =
 -- What it is.
 
 -- the events of the access are those of its call, with the moves about them
-round_call : (old new : Seen) (before after : Loaded) (access : List Made) (frame : Frame) (offset size : ℕ) (write answer : Option ℕ) (round : Round old new before after access) → is_vcpu (shape_of old) old.actor ≡ true
-    → MakesCall round.mid access (access_of frame offset size write) answer → MakesCall old (round_part old new before after access round) (access_of frame offset size write) answer
-round_call old new before after access frame offset size write answer round is_one made =
+call_between :
+    (old new : Seen) (before after : Loaded) (access : List Made) (frame : Frame) (offset size : ℕ) (write answer : Option ℕ) (round : Round old new before after access) (beside : Beside) → is_vcpu (shape_of old) old.actor ≡ true
+    → IsCall (shape_of round.mid) beside (vcpu_of_actor (shape_of round.mid) round.mid.actor) (access_of frame offset size write) (part_events round.mid access) answer
+    → IsCall (shape_of old) beside (vcpu_of_actor (shape_of old) old.actor) (access_of frame offset size write) (part_events old (round_part old new before after access round)) answer
+call_between old new before after access frame offset size write answer round beside is_one call =
     let operation = access_of frame offset size write in
     let shape = shape_of old in
     let actor = old.actor in
@@ -104,23 +108,47 @@ round_call old new before after access frame offset size write answer round is_o
     let mid2 = round.mid2 in
     let leaves = round.leaves in
     let enters = round.enters in
-    let beside : Beside = made.beside in
     let first = part_events old leaves.part in
     let own = part_events mid access in
     let last = part_events mid2 enters.part in
     let vcpu : vcpu_of_actor shape actor ≡ Some actor = ap (λ b. if b then Some actor else None) is_one in
     let Of : Option ℕ → List Happened → Type 0 = λ vcpu events. IsCall shape beside vcpu operation events answer in
     let By : Seen → Type 0 = λ seen. IsCall (shape_of seen) beside (vcpu_of_actor (shape_of seen) seen.actor) operation own answer in
-    let by_old : Of (Some actor) own = subst (λ vcpu. Of vcpu own) vcpu (subst By leaves.adds.new_is made.call) in
+    let by_old : Of (Some actor) own = subst (λ vcpu. Of vcpu own) vcpu (subst By leaves.adds.new_is call) in
     let actor_is : mid2.actor ≡ actor = ap (λ (seen : Seen). seen.actor) round.adds.new_is ∙ ap (λ (seen : Seen). seen.actor) leaves.adds.new_is in
     let moves_first : IsTrue (are_moves actor first) = ap (are_moves actor) leaves.events ∙ only_leave actor (held_keys before) in
     let moves_last : IsTrue (are_moves actor last) = ap (λ actor. are_moves actor last) (sym actor_is) ∙ enters.moves in
     let events : part_events old (leaves.part ++ (access ++ enters.part)) ≡ first ++ (own ++ last)
     = events_then old mid leaves.part (access ++ enters.part) leaves.adds ∙ ap (λ events. first ++ events) (events_then mid mid2 access enters.part round.adds) in
+    subst (λ vcpu. Of vcpu (part_events old (leaves.part ++ (access ++ enters.part)))) (sym vcpu)
+    (subst (Of (Some actor)) (sym events) (access_between shape beside actor frame offset size write answer first own last moves_first moves_last by_old))
+
+round_maps : (old new : Seen) (before after : Loaded) (access : List Made) (round : Round old new before after access) → maps_taken (round_part old new before after access round) ≡ maps_taken access
+round_maps old new before after access round = maps_between round.leaves.part access round.enters.part round.leaves.none_taken round.enters.none_taken
+
+round_call : (old new : Seen) (before after : Loaded) (access : List Made) (frame : Frame) (offset size : ℕ) (write answer : Option ℕ) (round : Round old new before after access) → is_vcpu (shape_of old) old.actor ≡ true
+    → MakesCall round.mid access (access_of frame offset size write) answer → MakesCall old (round_part old new before after access round) (access_of frame offset size write) answer
+round_call old new before after access frame offset size write answer round is_one made =
     record {
-      beside = beside;
-      maps = made.maps ∙ sym (maps_between leaves.part access enters.part leaves.none_taken enters.none_taken);
-      call = subst (λ vcpu. Of vcpu (part_events old (leaves.part ++ (access ++ enters.part)))) (sym vcpu) (subst (Of (Some actor)) (sym events) (access_between shape beside actor frame offset size write answer first own last moves_first moves_last by_old));
+      beside = made.beside;
+      maps = made.maps ∙ sym (round_maps old new before after access round);
+      call = call_between old new before after access frame offset size write answer round made.beside is_one made.call;
+    }
+
+round_found : (old new : Seen) (before after : Loaded) (access : List Made) (frame : Frame) (offset size : ℕ) (write answer : Option ℕ) (round : Round old new before after access) → is_vcpu (shape_of old) old.actor ≡ true
+    → IsCallAsFound round.mid access (access_of frame offset size write) answer → IsCallAsFound old (round_part old new before after access round) (access_of frame offset size write) answer
+round_found old new before after access frame offset size write answer round is_one made =
+    let leaves = round.leaves in
+    let enters = round.enters in
+    let shape : shape_of round.mid ≡ shape_of old = ap shape_of leaves.adds.new_is in
+    record {
+      finding = made.finding;
+      is_finding = finding_between old round.mid round.mid2 leaves.part access enters.part made.finding leaves.adds round.adds made.is_finding;
+      call =
+          λ beside maps agrees.
+          call_between old new before after access frame offset size write answer round beside is_one
+          (made.call beside (maps ∙ round_maps old new before after access round)
+          (subst (λ shape. Agrees shape access made.finding beside) (sym shape) (agrees_within (shape_of old) leaves.part access enters.part made.finding beside agrees)));
     }
 
 round_answers : (seen : Seen) (access : List Made) (frame : Frame) (offset size : ℕ) (write answer : Option ℕ) → is_vcpu (shape_of seen) seen.actor ≡ true → MakesCall seen access (access_of frame offset size write) answer → is_some answer ≡ is_none write
@@ -144,6 +172,7 @@ round_done old mid mid2 new before after shelved frame offset size write answer 
       part = part;
       adds = round_adds old new before after access round;
       call = round_call old new before after access frame offset size write answer round up.on.actor.is_one makes.call;
+      found = round_found old new before after access frame offset size write answer round up.on.actor.is_one makes.found;
       proper = λ p run. part_proper old new after operation lrs answer part May p enters.up leads (begins_so old before frame offset size write p run);
       goes_on = λ p run. part_runs old new after operation lrs answer part May p leads (begins_so old before frame offset size write p run);
       answers = round_answers mid access frame offset size write answer leaves.off.actor.is_one makes.call;

@@ -23,6 +23,7 @@ use Rattle.pe_loop.specs.Stay.{IsUp}
 use Rattle.pe_icc.specs.Amid.{IsRunning, IsAble, IsSame}
 use Rattle.pe_icc.specs.Icc.{IsLight}
 use Rattle.pe_icc.specs.Operate.{finds_kick}
+use Rattle.pe_mem.specs.Found.{IsCallAsFound}
 
 -- the value that an operation writes; a read has none
 abbrev pub written_by : GuestOp → Option ℕ
@@ -54,6 +55,7 @@ pub record DoesOperation (old new : Seen) (op : GuestOp) (before after : Loaded)
   pub part : List Made
   pub adds : Adds old new part
   pub call : MakesCall old part (Access op) answer
+  pub found : IsCallAsFound old part (Access op) answer
   pub proper : (p : Progress) → IsRunning old before p → IsProper (shape_of old) old.actor p (part_of (Access op) before.regs.n part answer)
   pub goes_on : (p : Progress) → IsRunning old before p → IsRunning new after (progress_of (shape_of old) old.actor p (part_of (Access op) before.regs.n part answer))
   pub answers : is_some answer ≡ is_none (written_by op)

@@ -1,0 +1,84 @@
+-- What an access finds of the vCPUs that LPIs are for (own choice): its events are those of its call with whatever vCPUs agree with that.
+use Rattle.std.specs.Prelude.{◌≡◌, ℕ, ◌&&◌, ◌||◌, not, Bool, false, List, ◌++◌, Contains, Option, Some}
+use Rattle.gic_base.specs.declared.interrupt.Key.TheVariants.{Lpi}
+use Rattle.gic_base.specs.declared.operation.Frame.{Frame}
+use Rattle.gic_base.specs.declared.operation.Frame.TheVariants.{Redist}
+use Rattle.gic_base.specs.declared.shape.GuestShape.{GuestShape}
+use Rattle.gic_rmap.specs.declared.map.Reg.TheVariants.{Ctlr}
+use Rattle.gic_rmap.specs.declared.map.RegRef.{RegRef}
+use Rattle.gic_rmap.specs.declared.map.RegRef.TheVariants.{Plain}
+use Rattle.gic_rmap.specs.Contents.{enable_lpis_after}
+use Rattle.gic_rmap.specs.Map.{decoded}
+use Rattle.gic_open.specs.declared.plain.PlainWord.TheVariants.{Pendbaser}
+use Rattle.gic_word.specs.Record.{target_in}
+use Rattle.gic_word.specs.Word.{irq_of}
+use Rattle.gic_call.specs.Access.{is_in_table, is_table_zero}
+use Rattle.gic_call.specs.declared.event.Operation.{Operation}
+use Rattle.gic_call.specs.Trace.{Beside, IsCall}
+use Rattle.gic_call.specs.View.{View}
+use Rattle.port_core.specs.declared.run.Made.{Made}
+use Rattle.port_core.specs.declared.step.CoreStep.TheVariants.{Look}
+use Rattle.port_core.specs.declared.word_id.WordId.TheVariants.{Irq}
+use Rattle.port_core.specs.Port.{Seen, shape_of, part_events}
+use Rattle.core_proper.specs.Called.{maps_taken, vcpu_of_actor}
+use Rattle.its_exec.specs.Queue.{AreTaken, Taken}
+use Rattle.its_exec.specs.Run.{AgreeAll}
+
+-- of each LPI that some steps looked at, the vCPU is the one that each look found
+abbrev pub AgreeWithLooks : GuestShape → List Made → (ℕ → Option ℕ) → Type 0
+AgreeWithLooks shape part targets = (id : ℕ) (made : Made) → Contains part made → made.step ≡ Look (Irq (Lpi id)) → targets id ≡ target_in (irq_of made.found).route shape
+
+-- a look among some steps found that an LPI is for this vCPU, or for none
+pub record IsFoundFor (shape : GuestShape) (part : List Made) (id : ℕ) (target : Option ℕ) : Type 0 where
+  pub look : Made
+  pub there : Contains part look
+  pub step_is : look.step ≡ Look (Irq (Lpi id))
+  pub target_is : target ≡ target_in (irq_of look.found).route shape
+
+-- as EnableLPIs of a vCPU becomes 1, its pending table is read, and an LPI has its bit there
+abbrev pub reads_bit : GuestShape → View → ℕ → ℕ → Bool
+reads_bit shape view vcpu id = not (view.lpis vcpu || is_table_zero (view.words (Pendbaser vcpu))) && is_in_table shape view vcpu id
+
+-- an access of a redistributor goes by the vCPU that an LPI is for: EnableLPIs becomes 1, and its bit is read
+abbrev pub goes_by : GuestShape → View → ℕ → RegRef → Option ℕ → ℕ → Bool
+goes_by shape view vcpu (Plain Ctlr half) (Some value) id = enable_lpis_after shape false value && reads_bit shape view vcpu id
+goes_by shape view vcpu reference write id = false
+
+-- an access that does not take the ITS does
+abbrev pub goes_by_target : GuestShape → View → Frame → ℕ → ℕ → Option ℕ → ℕ → Bool
+goes_by_target shape view (Redist vcpu) offset size write id = goes_by shape view vcpu (decoded offset size) write id
+goes_by_target shape view frame offset size write id = false
+
+-- Calls as they are found.
+
+-- commands that an access took among its steps: what its actor's list was as the first began and as the last ended
+pub record TookAmong (seen : Seen) (part : List Made) (commands : List Taken) : Type 0 where
+  pub from : Seen
+  pub to : Seen
+  pub are : AreTaken from commands to
+  pub guest : from.guest ≡ seen.guest
+  pub actor : from.actor ≡ seen.actor
+  pub early : List Made
+  pub late : List Made
+  pub begins : from.own ≡ seen.own ++ early
+  pub ends : seen.own ++ part ≡ to.own ++ late
+
+-- by what the events of an access go beside its words: its looks at LPIs; or what each of the commands found that it took
+pub data Finding : Type 0 where
+  by_looks : Finding
+  by_commands : List Taken → Finding
+
+abbrev pub IsFinding : Seen → List Made → Finding → Type 0
+IsFinding seen part by_looks = Unit {0}
+IsFinding seen part (by_commands commands) = TookAmong seen part commands
+
+abbrev pub Agrees : GuestShape → List Made → Finding → Beside → Type 0
+Agrees shape part by_looks beside = AgreeWithLooks shape part (beside.targets 0)
+Agrees shape part (by_commands commands) beside = AgreeAll beside 0 commands
+
+-- they are those of the call, of an ITS with the maps as it was taken, whatever vCPUs the LPIs are for that agree with that
+pub record IsCallAsFound (seen : Seen) (part : List Made) (operation : Operation) (answer : Option ℕ) : Type 0 where
+  pub finding : Finding
+  pub is_finding : IsFinding seen part finding
+  pub call :
+      (beside : Beside) → beside.maps ≡ maps_taken part → Agrees (shape_of seen) part finding beside → IsCall (shape_of seen) beside (vcpu_of_actor (shape_of seen) seen.actor) operation (part_events seen part) answer
