@@ -13,7 +13,7 @@ use Rattle.scn_base.specs.declared.standing.Standing.{Standing}
 use Rattle.scn_base.specs.Standing.{is_resident, standing_after, opening_standing}
 use Rattle.scn_base.specs.Good.{is_formed, stands, stand_in_turn, IsGoodPreset, IsGoodGuest, IsGood}
 use Rattle.gic_soak.specs.Draw.{draw}
-use Rattle.gic_soak.specs.Generated.{shape, preset, guest, message, acknowledge, completion, deactivation, step, steps_from, generated}
+use Rattle.gic_soak.specs.Generated.{shape, preset, guest, message, acknowledge, end_of_interrupt, deactivation, step, steps_from, generated}
 
 -- what is drawn below a number is below it
 draw_below : (m x : ℕ) → 0 < m → (draw m x).0 < m
@@ -84,8 +84,8 @@ fine_acknowledge standing x loaded =
     let below = draw_below 2 x (lit< tt) in
     record { formed = grind (arith, nat_tests); stands_now = loaded (draw 2 x).0 below; same = refl }
 
-fine_completion : (standing : Standing) (x : ℕ) → AreLoaded standing → IsFine standing (completion x).0
-fine_completion standing x loaded =
+fine_end_of_interrupt : (standing : Standing) (x : ℕ) → AreLoaded standing → IsFine standing (end_of_interrupt x).0
+fine_end_of_interrupt standing x loaded =
     let below = draw_below 2 x (lit< tt) in
     record { formed = grind (arith, nat_tests); stands_now = loaded (draw 2 x).0 below; same = refl }
 
@@ -103,7 +103,7 @@ one_of P false false false first second third fourth p q r s = s
 fine_step : (standing : Standing) (x : ℕ) → AreLoaded standing → IsFine standing (step x).0
 fine_step standing x loaded =
     let y = (draw 8 x).1 in
-    one_of (IsFine standing) _ _ _ (message y) (acknowledge y) (completion y) (deactivation y) (fine_message standing y) (fine_acknowledge standing y loaded) (fine_completion standing y loaded)
+    one_of (IsFine standing) _ _ _ (message y) (acknowledge y) (end_of_interrupt y) (deactivation y) (fine_message standing y) (fine_acknowledge standing y loaded) (fine_end_of_interrupt standing y loaded)
     (fine_deactivation standing y loaded)
 
 formed_steps : (standing : Standing) (count x : ℕ) → AreLoaded standing → All (λ made. IsTrue (is_formed Schedule 2 (shape ∷ []) made)) (steps_from count x)

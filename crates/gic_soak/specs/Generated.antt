@@ -38,8 +38,8 @@ abbrev pub acknowledge : ℕ → Step × ℕ
 acknowledge x = let vcpu = draw 2 x in (Vcpu 0 vcpu.0 (Icc Iar1 None), vcpu.1)
 
 -- a vCPU writes an SPI to ICC_EOIR1: it ends the interrupt; the vCPU is drawn first
-abbrev pub completion : ℕ → Step × ℕ
-completion x = let vcpu = draw 2 x in let spi = draw 32 vcpu.1 in (Vcpu 0 vcpu.0 (Icc Eoir1 (Some (32 + spi.0))), spi.1)
+abbrev pub end_of_interrupt : ℕ → Step × ℕ
+end_of_interrupt x = let vcpu = draw 2 x in let spi = draw 32 vcpu.1 in (Vcpu 0 vcpu.0 (Icc Eoir1 (Some (32 + spi.0))), spi.1)
 
 -- vCPU 0 writes ones to GICD_ICACTIVER1: it deactivates all SPIs
 abbrev pub deactivation : ℕ → Step × ℕ
@@ -50,7 +50,7 @@ abbrev pub step : ℕ → Step × ℕ
 step x = let kind = draw 8 x in
     if nat_lt kind.0 3 then message kind.1
     else (if nat_lt kind.0 5 then acknowledge kind.1
-    else (if nat_lt kind.0 7 then completion kind.1
+    else (if nat_lt kind.0 7 then end_of_interrupt kind.1
     else deactivation kind.1))
 
 -- so many steps from a state on

@@ -1,7 +1,7 @@
 //! The generator of numbers, and the steps that it decides on.
 ghost use Rattle.std.specs.Prelude.{◌≡◌, ◌<◌};
 ghost use Rattle.gic_soak.specs.Draw.{draw as draw_from};
-ghost use Rattle.gic_soak.specs.Generated.{message as message_from, acknowledge as acknowledge_from, completion as completion_from, step as step_from};
+ghost use Rattle.gic_soak.specs.Generated.{message as message_from, acknowledge as acknowledge_from, end_of_interrupt as end_of_interrupt_from, step as step_from};
 
 use gic_base::{DeviceOp, FIRST_SPI, Frame, GuestOp, IccReg};
 use scn_base::Step;
@@ -18,7 +18,7 @@ pub(crate) const VCPUS: u32 = 2;
 /// How many SPIs it has.
 pub(crate) const SPIS: u32 = 32;
 
-/// How many kinds of step are drawn: three in eight are messages, two acknowledge, two end an interrupt, and one
+/// The kind of a step is drawn below this: three in eight are messages, two acknowledge, two end an interrupt, and one
 /// deactivates.
 const KINDS: u32 = 8;
 /// GICD_ICACTIVER1, the register of the SPIs 32 to 63.
@@ -27,6 +27,18 @@ const ICACTIVER1: u32 = 0x384;
 const REGISTER_SIZE: u32 = 4;
 /// All interrupts of a register.
 const ALL: u64 = 0xFFFF_FFFF;
+
+/// vCPU 0 deactivates all SPIs.
+const DEACTIVATION: Step = Step::Vcpu {
+    guest: 0,
+    vcpu: 0,
+    op: GuestOp::Mem {
+        frame: Frame::Dist,
+        offset: ICACTIVER1,
+        size: REGISTER_SIZE,
+        write: Some(ALL),
+    },
+};
 
 /// A linear congruential generator.
 #[derive(Drop)]
@@ -73,8 +85,8 @@ impl Generator {
     }
 
     /// A vCPU ends an SPI of group 1.
-    fn completion(&mut self) -> Step
-        ensures { completion_from self.old.state ≡ (result, self.new.state) }
+    fn end_of_interrupt(&mut self) -> Step
+        ensures { end_of_interrupt_from self.old.state ≡ (result, self.new.state) }
     {
         let vcpu = self.draw(VCPUS);
         let spi = FIRST_SPI + self.draw(SPIS);
@@ -95,20 +107,8 @@ impl Generator {
         match self.draw(KINDS) {
             0..=2 => self.message(),
             3 | 4 => self.acknowledge(),
-            5 | 6 => self.completion(),
+            5 | 6 => self.end_of_interrupt(),
             _ => DEACTIVATION,
         }
     }
 }
-
-/// vCPU 0 deactivates all SPIs.
-const DEACTIVATION: Step = Step::Vcpu {
-    guest: 0,
-    vcpu: 0,
-    op: GuestOp::Mem {
-        frame: Frame::Dist,
-        offset: ICACTIVER1,
-        size: REGISTER_SIZE,
-        write: Some(ALL),
-    },
-};

@@ -2,8 +2,8 @@
 #![tactic(auto)]
 
 mod generator;
-mod made;
+mod scenario;
 #[cfg(test)]
 mod tests;
 
-pub use made::generate;
+pub use scenario::generate;

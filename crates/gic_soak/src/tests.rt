@@ -26,7 +26,7 @@ fn acknowledge(number: u32) -> Step {
 }
 
 /// A vCPU writes an SPI to EOIR1.
-fn completion(number: u32, spi: u64) -> Step {
+fn end_of_interrupt(number: u32, spi: u64) -> Step {
     let reg = IccReg::Eoir1;
     let write = Some(spi);
     vcpu(number, GuestOp::Icc { reg, write })
@@ -59,13 +59,13 @@ fn preset(id: u32, prio: u8, target: u32) -> Preset {
 fn ten_steps_of_seven(rt: HostRuntime) -> Result<(), Fail> {
     let scenario = generate(rt.alloc(), 7, 10)?;
     let steps = [
-        completion(1, 49),
+        end_of_interrupt(1, 49),
         message(41),
         acknowledge(0),
         acknowledge(1),
-        completion(1, 51),
+        end_of_interrupt(1, 51),
         message(48),
-        completion(0, 61),
+        end_of_interrupt(0, 61),
         acknowledge(0),
         deactivation(),
         message(33),

@@ -1,6 +1,6 @@
 use Rattle.std.proofs.Common.{◌≡◌, ◌++◌, ◌-◌}
 use Rattle.gic_soak.specs.Generated.{steps_from}
-use Rattle.gic_soak.proofs.made.steps.Given as goal
+use Rattle.gic_soak.proofs.scenario.draw_steps.Given as goal
 
 -- the steps so far and the others are all
 abbrev pub invariant-loop : goal.invariant-loop

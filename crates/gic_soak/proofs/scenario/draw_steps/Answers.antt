@@ -1,6 +1,6 @@
 use Rattle.gic_soak.proofs.MadeLemmas.{steps_more}
 use Rattle.gic_soak.specs.Generated.{steps_from}
-use Rattle.gic_soak.proofs.made.steps.Goals as goal
+use Rattle.gic_soak.proofs.scenario.draw_steps.Goals as goal
 
 pub loop-preserved : goal.loop-preserved
 loop-preserved c =

@@ -58,8 +58,8 @@ fn guest(alloc: Global) -> Result<GuestSpec, AllocError>
     })
 }
 
-/// So many steps from a number on.
-fn steps(alloc: Global, number: u64, count: u32) -> Result<Steps, AllocError>
+/// So many steps, drawn from a number on.
+fn draw_steps(alloc: Global, number: u64, count: u32) -> Result<Steps, AllocError>
     ensures { IfOk result (λ steps. steps ≡ steps_from count number) }
 {
     let mut generator = Generator { state: number };
@@ -72,9 +72,9 @@ fn steps(alloc: Global, number: u64, count: u32) -> Result<Steps, AllocError>
 
 /// The scenario that a number stands for, with so many steps, at most 100000. It is without a fault, and the same each
 /// time. An error where memory for it is refused.
-pub fn generate(alloc: Global, number: u64, count: u32) -> Result<Scenario, NoMemory>
-    requires { count ≤ MAX_STEPS }
-    ensures scenario { IfOk result (λ scenario. scenario ≡ generated number count) }
+pub fn generate(alloc: Global, number: u64, steps: u32) -> Result<Scenario, NoMemory>
+    requires { steps ≤ MAX_STEPS }
+    ensures scenario { IfOk result (λ scenario. scenario ≡ generated number steps) }
     ensures good { IfOk result (IsGood Mode.Schedule) }
 {
     let mut guests = Guests::new(alloc);
@@ -83,6 +83,6 @@ pub fn generate(alloc: Global, number: u64, count: u32) -> Result<Scenario, NoMe
         pes: PES,
         lrs: LIST_REGISTERS,
         guests,
-        steps: steps(alloc, number, count)?,
+        steps: draw_steps(alloc, number, steps)?,
     })
 }
