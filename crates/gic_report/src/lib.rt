@@ -1,10 +1,13 @@
-//! The text of a run.
+//! The text of a run, and the line of one of a generated scenario.
 #![tactic(auto)]
 
 mod lines;
 mod show;
+mod soak;
 #[cfg(test)]
 mod tests;
 mod whole;
 
+pub use gic_soak::generate;
+pub use soak::soak_line;
 pub use whole::text;

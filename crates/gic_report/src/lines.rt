@@ -42,7 +42,7 @@ fn write_values(text: &mut String, values: &LrList) -> Result<(), AllocError>
 }
 
 /// Writes a label, and a number in hexadecimal digits.
-fn put_hex<const DIGITS: usize>(
+pub(crate) fn put_hex<const DIGITS: usize>(
     text: &mut String,
     label: &str,
     value: u64,
@@ -70,7 +70,7 @@ fn put_vcpu(text: &mut String, label: &str, value: Option<u32>) -> Result<(), Al
 }
 
 /// Writes a label, and a number in decimal digits.
-fn put_number(text: &mut String, label: &str, value: u64) -> Result<(), AllocError>
+pub(crate) fn put_number(text: &mut String, label: &str, value: u64) -> Result<(), AllocError>
     ensures { OnOk result (string_bytes text.new ≡ string_bytes text.old ++ (label.now ++ decimal value)) }
 {
     write!(text, "{label}{value}")

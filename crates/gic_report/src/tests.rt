@@ -1,9 +1,10 @@
-//! One text that has each kind of line.
+//! One text that has each kind of line, and the line of a generated scenario's run.
 
-use crate::text;
+use crate::{soak_line, text};
 use gic_base::{DeviceOp, Frame, GuestOp, IccReg, Key, PeOp};
 use scn_base::{
-    Answer, ColEnd, CpuEnd, DevEnd, End, EvtEnd, Guests, IrqEnd, ItsEnd, RunOut, Scenario, Step,
+    Answer, ColEnd, CpuEnd, DevEnd, End, Ends, EvtEnd, Guests, IrqEnd, ItsEnd, RunOut, Scenario,
+    Step,
 };
 use std::alloc::{AllocError, Global};
 use std::test::Fail;
@@ -184,5 +185,28 @@ fn writes_each_kind_of_line(rt: HostRuntime) -> Result<(), Fail> {
     };
     let written = text(alloc, &scenario, &out)?;
     assert_eq!(rt; str::from_utf8(written.as_slice())?, LINES);
+    Ok(())
+}
+
+/// The line of a run of five steps: the sum is 2 * 34 + 3 * 1023 + 5 * 2^63.
+const LINE: &str = "soak 18446744073709551615 5 reads=3 spurious=1 sum=0x8000000000000c41\n";
+
+#[test]
+fn writes_the_line_of_a_number(rt: HostRuntime) -> Result<(), Fail> {
+    let alloc = rt.alloc();
+    let lrs = [1023].to_vec(alloc)?;
+    let out = RunOut {
+        answers: vec![in alloc;
+            Answer::Nothing,
+            Answer::Value(34),
+            Answer::Value(1023),
+            Answer::Regs(lrs.into()),
+            Answer::Value(1 << 63),
+        ]?
+        .into(),
+        ends: Ends::new(alloc),
+    };
+    let written = soak_line(alloc, u64::MAX, &out)?;
+    assert_eq!(rt; str::from_utf8(written.as_slice())?, LINE);
     Ok(())
 }

@@ -1,36 +1,61 @@
 -- The rows of the table of answers, from what the tool has to write.
-use Rattle.std.proofs.Common.{◌≡◌, ℕ, ◌+◌, ◌<◌, ◌⊎◌, List, length, Contains, codes, lit<, Option, Some, None, IfSome, Result, Ok, Err, length-append, inl, inr, refl, sym, ap, ◌∙◌, subst, arith}
+use Rattle.std.proofs.Common.{◌≡◌, ℕ, ◌+◌, ◌<◌, ◌⊎◌, List, [], ◌++◌, length, Contains, codes, lit<, lit≤, Option, Some, None, IfSome, IsSomeAnd, Result, Ok, Err, length-append, inl, inr, refl, sym, ap, ◌∙◌, subst, arith}
 use Rattle.std.proofs.lemmas.Option.{same_Some}
 use Rattle.gic_io.specs.Faults.{HasRisen}
 use Rattle.gic_io.specs.Sink.{Grew, GrewByPrefix}
-use Rattle.gic_io.specs.Source.{HasReadCount}
+use Rattle.gic_io.specs.Source.{HasReadCount, HasReadAtMost}
 use Rattle.serde_json.specs.Data.{Data}
 use Rattle.scn_base.specs.declared.scenario.Scenario.{Scenario}
 use Rattle.scn_base.specs.declared.fault.Fault.{Fault}
 use Rattle.scn_base.specs.declared.step.Mode.TheVariants.{Schedule}
 use Rattle.scn_read.specs.Reading.{reading}
 use Rattle.gic_top.specs.declared.command.Command.{Command}
-use Rattle.gic_top.specs.declared.command.Command.TheVariants.{Run}
+use Rattle.gic_top.specs.declared.command.Command.TheVariants.{Run, Soak}
 use Rattle.gic_top.specs.declared.tool.Reply.{Reply}
 use Rattle.gic_top.specs.declared.tool.Reply.TheVariants.{Ran, Usage, BadJson, BadScenario, ReadFault, TooLong, NoMemory}
 use Rattle.gic_top.specs.Tool.{max_input, statuses, line, Spells, SpellsScenario, SpellsFault, IsOk, IsUsage, IsBadJson, IsBadScenario, IsReadFault, IsWriteFault, IsTooLong, IsNoMemory, IsRow, IsOutcome, IsWritten, IsRefusal, HasItsAnswer}
-use Rattle.gic_top.specs.Reply.{status_of, text_of, IsReplyOf, IsReplyFor}
+use Rattle.gic_top.specs.Reply.{status_of, text_of, IsReplyOf, IsSoakReply, IsReplyFor}
 
 -- a reply to a run is the row of its status
-run_row : (command : Option Command) (before after : Option (List ℕ)) (faults_before faults_after : ℕ) (wrote : List ℕ → Type 0) (reply : Reply) → command ≡ Some Run → IsReplyOf before after faults_before faults_after reply → wrote (text_of reply)
-    → IsRow command before after faults_before faults_after wrote (status_of reply)
-run_row command before after fb fa wrote (Ran text) asked is written = inl (refl, record { asked = asked; scenario = is.0; read = is.1; written = subst wrote is.2 written })
-run_row command before after fb fa wrote Usage asked is written = absurd is
-run_row command before after fb fa wrote BadJson asked is written = inr (inr (inl (refl, record { asked = asked; read = is; written = written })))
-run_row command before after fb fa wrote (BadScenario text) asked is written = inr (inr (inr (inl (refl, record { asked = asked; fault = is.0; read = is.1; written = subst wrote is.2 written }))))
-run_row command before after fb fa wrote ReadFault asked is written = inr (inr (inr (inr (inl (refl, record { asked = asked; risen = is; written = written })))))
-run_row command before after fb fa wrote TooLong asked is written = inr (inr (inr (inr (inr (inl (refl, record { asked = asked; taken = is; written = written }))))))
-run_row command before after fb fa wrote NoMemory asked is written = inr (inr (inr (inr (inr (inr (refl, record { asked = asked; taken = is; written = written }))))))
+run_row : (before after : Option (List ℕ)) (faults_before faults_after : ℕ) (wrote : List ℕ → Type 0) (reply : Reply) → IsReplyOf before after faults_before faults_after reply → wrote (text_of reply)
+    → IsRow (Some Run) before after faults_before faults_after wrote (status_of reply)
+run_row before after fb fa wrote (Ran text) is written = inl (refl, record { scenario = is.0; read = is.1; written = subst wrote is.2 written })
+run_row before after fb fa wrote Usage is written = absurd is
+run_row before after fb fa wrote BadJson is written = inr (inr (inl (refl, record { asked = refl; read = is; written = written })))
+run_row before after fb fa wrote (BadScenario text) is written = inr (inr (inr (inl (refl, record { asked = refl; fault = is.0; read = is.1; written = subst wrote is.2 written }))))
+run_row before after fb fa wrote ReadFault is written = inr (inr (inr (inr (inl (refl, record { asked = refl; risen = is; written = written })))))
+run_row before after fb fa wrote TooLong is written = inr (inr (inr (inr (inr (inl (refl, record { asked = refl; taken = is; written = written }))))))
+run_row before after fb fa wrote NoMemory is written = inr (inr (inr (inr (inr (inr (refl, record { asked = refl; taken = is; written = written }))))))
+
+-- where a source tells what it told before, nothing was read
+none_told : (before : Option (List ℕ)) → IfSome before (λ all. IsSomeAnd before (λ rest. all ≡ [] ++ rest))
+none_told None = tt
+none_told (Some all) = refl
+
+none_read : (before after : Option (List ℕ)) → after ≡ before → HasReadAtMost before after max_input
+none_read before after same =
+    record {
+      part = [];
+      within = lit≤ tt;
+      read = record { told = subst (λ now. IfSome before (λ all. IsSomeAnd now (λ rest. all ≡ [] ++ rest))) (sym same) (none_told before) };
+    }
+
+-- a reply to `soak` is the row of its status
+soak_row : (number steps : ℕ) (before after : Option (List ℕ)) (faults_before faults_after : ℕ) (wrote : List ℕ → Type 0) (reply : Reply) → after ≡ before → IsSoakReply number steps reply → wrote (text_of reply)
+    → IsRow (Some (Soak number steps)) before after faults_before faults_after wrote (status_of reply)
+soak_row number steps before after fb fa wrote (Ran text) same is written = inl (refl, record { unread = same; written = subst wrote is written })
+soak_row number steps before after fb fa wrote Usage same is written = absurd is
+soak_row number steps before after fb fa wrote BadJson same is written = absurd is
+soak_row number steps before after fb fa wrote (BadScenario text) same is written = absurd is
+soak_row number steps before after fb fa wrote ReadFault same is written = absurd is
+soak_row number steps before after fb fa wrote TooLong same is written = absurd is
+soak_row number steps before after fb fa wrote NoMemory same is written = inr (inr (inr (inr (inr (inr (refl, record { asked = refl; taken = none_read before after same; written = written }))))))
 
 -- a reply is the row of its status
 row_of : (command : Option Command) (before after : Option (List ℕ)) (faults_before faults_after : ℕ) (wrote : List ℕ → Type 0) (reply : Reply) → IsReplyFor command before after faults_before faults_after reply → wrote (text_of reply)
     → IsRow command before after faults_before faults_after wrote (status_of reply)
-row_of (Some Run) before after fb fa wrote reply is written = run_row (Some Run) before after fb fa wrote reply refl is written
+row_of (Some Run) before after fb fa wrote reply is written = run_row before after fb fa wrote reply is written
+row_of (Some (Soak number steps)) before after fb fa wrote reply is written = soak_row number steps before after fb fa wrote reply is.0 is.1 written
 row_of None before after fb fa wrote reply is written = inr (inl (ap status_of is, record { asked = refl; written = subst (λ r. wrote (text_of r)) is written }))
 
 -- a reply that was written is an outcome
@@ -104,6 +129,11 @@ no_memory_row status o e = let row = o.row in grind arith
 pub no_command_status : {command : Option Command} {before after : Option (List ℕ)} {fb fa : ℕ} {tb ta : Option (List ℕ)} {kb ka : ℕ} (status : ℕ) → IsOutcome command before after fb fa tb ta kb ka status → command ≡ None → (status ≡ 2) ⊎ (status ≡ 6)
 no_command_status status o other = let row = o.row in grind arith
 
+-- the status of `soak`, where the sink had no fault
+pub soak_status : {command : Option Command} {before after : Option (List ℕ)} {fb fa : ℕ} {tb ta : Option (List ℕ)} {kb ka : ℕ} (status : ℕ) → IsOutcome command before after fb fa tb ta kb ka status
+    → (number steps : ℕ) → command ≡ Some (Soak number steps) → (HasRisen kb ka → ⊥) → (status ≡ 0) ⊎ (status ≡ 9)
+soak_status status o number steps asked sure = let row = o.row in grind arith
+
 -- bytes spell one value
 one_value : (bytes : List ℕ) (a b : Data) → Spells bytes a → Spells bytes b → a ≡ b
 one_value bytes a b x y = same_Some a b (sym x.reads ∙ y.reads)
@@ -168,6 +198,7 @@ for_its_answer : (command : Option Command) (before after : Option (List ℕ)) (
     → IfSome before (λ bytes. HasItsAnswer bytes (status_of reply))
 for_its_answer command None after fb fa reply asked sure is = tt
 for_its_answer (Some Run) (Some bytes) after fb fa reply asked sure is = told_answer bytes after fb fa reply sure is
+for_its_answer (Some (Soak number steps)) (Some bytes) after fb fa reply asked sure is = let other : ◌≡◌ {A = Option Command} (Some (Soak number steps)) (Some Run) = asked in absurd cc
 for_its_answer None (Some bytes) after fb fa reply asked sure is = let none : ◌≡◌ {A = Option Command} None (Some Run) = asked in absurd cc
 
 -- the status where neither the source nor the sink had a fault

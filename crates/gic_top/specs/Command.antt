@@ -1,19 +1,49 @@
 -- What words ask for (own choice).
-use Rattle.std.specs.Prelude.{ℕ, List, [], ◌∷◌, map, codes, String, string_bytes, bytes_eq, Option, Some, None, if◌then◌else◌}
+use Rattle.std.specs.Prelude.{◌≡◌, ℕ, ◌-◌, ◌^◌, ◌<◌, ◌≤◌, ◌⊎◌, slice_index, length, ◌&&◌, nat_le, List, [], ◌∷◌, map, codes, decimal, String, string_bytes, bytes_eq, Option, Some, None, if◌then◌else◌, ⊤}
+use Rattle.std.specs.Str.Parse.{digits_value}
 use Rattle.std.specs.declared.alloc.Global.{Global}
 use Rattle.gic_top.specs.declared.command.Command.{Command}
-use Rattle.gic_top.specs.declared.command.Command.TheVariants.{Run}
+use Rattle.gic_top.specs.declared.command.Command.TheVariants.{Run, Soak}
+
+-- the number, of at most so much, whose decimal digits a word is: without a sign, and without zeros before them
+abbrev pub number_in : ℕ → List ℕ → Option ℕ
+number_in most word = let number = digits_value 10 word in if nat_le number most && bytes_eq word (decimal number) then Some number else None
+
+-- a word begins with a plus, or with a zero before another character
+abbrev pub IsPadded : List ℕ → Type 0
+IsPadded word = (slice_index word 0 ≡ 43) ⊎ ((slice_index word 0 ≡ 48) × (1 < length word))
 
 -- `run` stands alone
 abbrev pub run_with : List (List ℕ) → Option Command
 run_with [] = Some Run
 run_with (argument ∷ arguments) = None
 
+-- both numbers of `soak`
+abbrev pub soak_of : Option ℕ → Option ℕ → Option Command
+soak_of None steps = None
+soak_of (Some number) None = None
+soak_of (Some number) (Some steps) = Some (Soak number steps)
+
+-- `soak` has a number below 2^64, and a count of at most 100000 steps
+abbrev pub soak_with : List (List ℕ) → Option Command
+soak_with [] = None
+soak_with (number ∷ []) = None
+soak_with (number ∷ steps ∷ []) = soak_of (number_in (2 ^ 64 - 1) number) (number_in 100000 steps)
+soak_with (number ∷ steps ∷ argument ∷ arguments) = None
+
 -- the command that words are: the first names it, and the others are its arguments
 abbrev pub command_of : List (List ℕ) → Option Command
 command_of [] = None
-command_of (name ∷ arguments) = if bytes_eq name (codes "run") then run_with arguments else None
+command_of (name ∷ arguments) =
+    if bytes_eq name (codes "run") then run_with arguments
+    else (if bytes_eq name (codes "soak") then soak_with arguments
+    else None)
 
 -- the command that the words of a command line are
 abbrev pub command_in : List (String Global) → Option Command
 command_in words = command_of (map string_bytes words)
+
+-- a scenario that is to be made has at most 100000 steps
+abbrev pub HasFewSteps : Command → Type 0
+HasFewSteps Run = ⊤
+HasFewSteps (Soak number steps) = steps ≤ 100000

@@ -5,10 +5,10 @@ use Rattle.gic_io.specs.Source.{HasReadCount, HasReadAtMost}
 use Rattle.scn_base.specs.declared.scenario.Scenario.{Scenario}
 use Rattle.scn_base.specs.declared.fault.Fault.{Fault}
 use Rattle.gic_top.specs.declared.command.Command.{Command}
-use Rattle.gic_top.specs.declared.command.Command.TheVariants.{Run}
+use Rattle.gic_top.specs.declared.command.Command.TheVariants.{Run, Soak}
 use Rattle.gic_top.specs.declared.tool.Reply.{Reply}
 use Rattle.gic_top.specs.declared.tool.Reply.TheVariants.{Ran, Usage, BadJson, BadScenario, ReadFault, TooLong, NoMemory}
-use Rattle.gic_top.specs.Tool.{SpellsScenario, SpellsFault, IsNoJson, HasInput, max_input, run_text, fault_line, line}
+use Rattle.gic_top.specs.Tool.{SpellsScenario, SpellsFault, IsNoJson, HasInput, max_input, run_text, soak_text, fault_line, line}
 
 -- the status of a reply
 abbrev pub status_of : Reply → ℕ
@@ -52,7 +52,18 @@ IsReplyOf before after faults_before faults_after ReadFault = HasRisen faults_be
 IsReplyOf before after faults_before faults_after TooLong = HasReadCount before after (max_input + 1)
 IsReplyOf before after faults_before faults_after NoMemory = HasReadAtMost before after max_input
 
+-- the reply is the one to `soak`
+abbrev pub IsSoakReply : ℕ → ℕ → Reply → Type 0
+IsSoakReply number steps (Ran text) = text ≡ soak_text number steps
+IsSoakReply number steps Usage = ⊥
+IsSoakReply number steps BadJson = ⊥
+IsSoakReply number steps (BadScenario text) = ⊥
+IsSoakReply number steps ReadFault = ⊥
+IsSoakReply number steps TooLong = ⊥
+IsSoakReply number steps NoMemory = ⊤
+
 -- the reply is the one to a command, or to words that are none, and to what a source gave
 abbrev pub IsReplyFor : Option Command → Option (List ℕ) → Option (List ℕ) → ℕ → ℕ → Reply → Type 0
 IsReplyFor (Some Run) before after faults_before faults_after reply = IsReplyOf before after faults_before faults_after reply
+IsReplyFor (Some (Soak number steps)) before after faults_before faults_after reply = (after ≡ before) × IsSoakReply number steps reply
 IsReplyFor None before after faults_before faults_after reply = reply ≡ Usage

@@ -1,5 +1,5 @@
 -- What the top call answers to words and an input (own choice).
-use Rattle.std.specs.Prelude.{◌≡◌, ℕ, ◌+◌, ◌<◌, ◌≤◌, ◌⊎◌, List, [], ◌∷◌, ◌++◌, length, codes, IsUtf8, Option, Some, None, IfSome, OnSome, Ok, Err}
+use Rattle.std.specs.Prelude.{◌≡◌, ℕ, ◌+◌, ◌<◌, ◌≤◌, ◌⊎◌, List, [], ◌∷◌, ◌++◌, length, codes, IsUtf8, Option, Some, None, IfSome, OnSome, IsSome, Ok, Err}
 use Rattle.serde_json.specs.Data.{Data}
 use Rattle.serde_json.specs.Read.{read}
 use Rattle.gic_io.specs.Faults.{HasRisen}
@@ -11,9 +11,11 @@ use Rattle.scn_base.specs.declared.fault.Fault.{Fault}
 use Rattle.scn_read.specs.Reading.{reading}
 use Rattle.scn_base.specs.Shown.{fault_text}
 use Rattle.gic_ideal.specs.Eager.{eager}
+use Rattle.gic_soak.specs.Generated.{generated}
 use Rattle.gic_report.specs.Text.{text, newline}
+use Rattle.gic_report.specs.Soak.{soak_line}
 use Rattle.gic_top.specs.declared.command.Command.{Command}
-use Rattle.gic_top.specs.declared.command.Command.TheVariants.{Run}
+use Rattle.gic_top.specs.declared.command.Command.TheVariants.{Run, Soak}
 
 -- the bytes are UTF-8, and JSON that reads as this value
 pub record Spells (bytes : List ℕ) (value : Data) : Type 0 where
@@ -39,6 +41,10 @@ pub record SpellsFault (bytes : List ℕ) (fault : Fault) : Type 0 where
 -- the text of a scenario's run by the ideal controller
 abbrev pub run_text : Scenario → List ℕ
 run_text scenario = text scenario (eager scenario)
+
+-- the line of the run, by the ideal controller, of the scenario that a number stands for
+abbrev pub soak_text : ℕ → ℕ → List ℕ
+soak_text number steps = soak_line number (eager (generated number steps)).answers
 
 -- the line of a message
 abbrev pub line : List ℕ → List ℕ
@@ -66,11 +72,21 @@ pub record HasInput (before after : Option (List ℕ)) (P : List ℕ → Type 0)
   pub to_end : OnSome before (after ≡ Some [])
 
 -- a scenario was read, and the text of its run written
-pub record IsOk (command : Option Command) (before after : Option (List ℕ)) (wrote : List ℕ → Type 0) : Type 0 where
-  pub asked : command ≡ Some Run
+pub record IsRun (before after : Option (List ℕ)) (wrote : List ℕ → Type 0) : Type 0 where
   pub scenario : Scenario
   pub read : HasInput before after (λ bytes. SpellsScenario bytes scenario)
   pub written : wrote (run_text scenario)
+
+-- nothing was read, and the line of a number's scenario written
+pub record IsSoak (number steps : ℕ) (before after : Option (List ℕ)) (wrote : List ℕ → Type 0) : Type 0 where
+  pub unread : after ≡ before
+  pub written : wrote (soak_text number steps)
+
+-- what a command asks for was done
+abbrev pub IsOk : Option Command → Option (List ℕ) → Option (List ℕ) → (List ℕ → Type 0) → Type 0
+IsOk (Some Run) before after wrote = IsRun before after wrote
+IsOk (Some (Soak number steps)) before after wrote = IsSoak number steps before after wrote
+IsOk None before after wrote = ⊥
 
 -- the words are no command
 pub record IsUsage (command : Option Command) (wrote : List ℕ → Type 0) : Type 0 where
@@ -104,7 +120,7 @@ pub record IsTooLong (command : Option Command) (before after : Option (List ℕ
 
 -- memory was refused, before more bytes than the limit were taken from the source
 pub record IsNoMemory (command : Option Command) (before after : Option (List ℕ)) (wrote : List ℕ → Type 0) : Type 0 where
-  pub asked : command ≡ Some Run
+  pub asked : IsSome command
   pub taken : HasReadAtMost before after max_input
   pub written : wrote (line (codes "no memory"))
 

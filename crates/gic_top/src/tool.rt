@@ -1,18 +1,19 @@
 //! From words and an input to a status, and the text or message that is written.
 
-ghost use Rattle.std.specs.Prelude.{◌≡◌, ◌⊎◌, IfOk, IfErr, IfSome, Some, None, Contains};
+ghost use Rattle.std.specs.Prelude.{◌≡◌, ◌≢◌, ◌≤◌, ◌⊎◌, ℕ, IfOk, IfErr, IfSome, Some, None, Contains};
 ghost use Rattle.gic_io.specs.Faults.{HasRisen};
 ghost use Rattle.gic_io.specs.Sink.{Grew};
 ghost use Rattle.scn_base.specs.Good.{IsGood};
-ghost use Rattle.gic_top.specs.Command.{command_in};
-ghost use Rattle.gic_top.specs.Tool.{statuses, run_text, fault_line as line_of, IsOk, IsUsage, IsBadJson, IsBadScenario, IsReadFault, IsWriteFault, IsTooLong, IsNoMemory, IsOutcome, IsWritten, IsRefusal, HasItsAnswer};
-ghost use Rattle.gic_top.specs.Reply.{status_of, text_of, IsReplyTo, IsReplyOf, IsReplyFor};
+ghost use Rattle.gic_top.specs.Command.{command_in, HasFewSteps};
+ghost use Rattle.gic_top.specs.Tool.{statuses, run_text, soak_text, fault_line as line_of, IsOk, IsUsage, IsBadJson, IsBadScenario, IsReadFault, IsWriteFault, IsTooLong, IsNoMemory, IsOutcome, IsWritten, IsRefusal, HasItsAnswer};
+ghost use Rattle.gic_top.specs.Reply.{status_of, text_of, IsReplyTo, IsReplyOf, IsSoakReply, IsReplyFor};
 
 use crate::command::Command;
 use gic_base::NoMemory;
 use gic_ideal::eager;
 use gic_io::{Bytes, ReadError, Sink, Source, read_all, write_all};
-use gic_report::text;
+use gic_report::{generate, soak_line, text};
+use scn_base::MAX_STEPS;
 use scn_read::{Fault, Mode, ReadRefusal, Scenario, read};
 use serde_json::Value;
 use std::alloc::{AllocError, Global};
@@ -40,7 +41,7 @@ pub const NO_MEMORY: u8 = 9;
 /// What the tool has to write.
 #[derive(Drop)]
 enum Reply {
-    /// The text of a run.
+    /// The text of a run, or the line of a generated scenario's.
     Ran(Bytes),
     Usage,
     BadJson,
@@ -97,6 +98,27 @@ fn run(alloc: Global, scenario: &Scenario) -> Result<Bytes, NoMemory>
     text(alloc, scenario, &out)
 }
 
+/// The line of the run of the scenario that a number stands for.
+fn soak(alloc: Global, number: u64, steps: u32) -> Result<Bytes, NoMemory>
+    requires { steps ≤ MAX_STEPS }
+    ensures { IfOk result (λ written. written ≡ soak_text number steps) }
+{
+    let scenario = generate(alloc, number, steps)?;
+    let out = eager(alloc, &scenario)?;
+    soak_line(alloc, number, &out)
+}
+
+/// The reply to `soak`.
+fn reply_to_soak(alloc: Global, number: u64, steps: u32) -> Reply
+    requires { steps ≤ MAX_STEPS }
+    ensures { IsSoakReply number steps result }
+{
+    match soak(alloc, number, steps) {
+        Ok(line) => Reply::Ran(line),
+        Err(NoMemory) => Reply::NoMemory,
+    }
+}
+
 /// The reply to the bytes of an input.
 fn reply_to(alloc: Global, bytes: &[u8]) -> Result<Reply, NoMemory>
     ensures { IfOk result (IsReplyTo bytes.now) }
@@ -127,11 +149,13 @@ fn reply_of<S: Source>(alloc: Global, source: &mut S) -> Reply
 
 /// The reply to a command, or to words that are none, and to what a source has left.
 fn reply_for<S: Source>(alloc: Global, command: Option<Command>, source: &mut S) -> Reply
+    requires { IfSome command HasFewSteps }
     ensures reply { IsReplyFor command (S.left source.old) (S.left source.new) (S.faults source.old) (S.faults source.new) result }
-    ensures unread { command ≡ None → source.new ≡ source.old }
+    ensures unread { command ≢ Some Command.Run → source.new ≡ source.old }
 {
     match command {
         Some(Command::Run) => reply_of(alloc, source),
+        Some(Command::Soak { number, steps }) => reply_to_soak(alloc, number, steps),
         None => Reply::Usage,
     }
 }
@@ -156,9 +180,10 @@ pub fn refuse_words<K: Sink>(sink: &mut K) -> u8
 
 /// Does what the words ask for, and answers the status with which the program ends.
 ///
-/// `run` reads a scenario from the source, in JSON, and writes the text of its run to the sink. A text or
-/// a message is built whole before its first byte is written. The words are those after the program's
-/// name. The status is [`OK`] or another of this module's.
+/// `run` reads a scenario from the source, in JSON, and writes the text of its run to the sink. `soak N STEPS` makes
+/// the scenario of the number N, of so many steps, and writes one line of its run. A text or a message is built whole
+/// before its first byte is written. The words are those after the program's name. The status is [`OK`] or another of
+/// this module's.
 pub fn run_tool<S: Source, K: Sink>(
     alloc: Global,
     words: &[String],
@@ -188,15 +213,20 @@ pub fn run_tool<S: Source, K: Sink>(
     ensures no_memory { result ≡ 9 →
         IsNoMemory (command_in words.now) (S.left source.old) (S.left source.new) (Grew (K.taken sink.old) (K.taken sink.new)) }
 
-    // Words that are no command are refused, and nothing is read.
+    // Words that are no command are refused, and only `run` reads.
     ensures usage_where_no_command { command_in words.now ≡ None → (result ≡ 2) ⊎ (result ≡ 6) }
-    ensures unread_where_no_command { command_in words.now ≡ None → source.new ≡ source.old }
+    ensures unread_unless_run { command_in words.now ≢ Some Command.Run → source.new ≡ source.old }
 
     // Where no fault comes from outside, each input has its answer.
     ensures complete { command_in words.now ≡ Some Command.Run
         → ¬ HasRisen (S.faults source.old) (S.faults source.new)
         → ¬ HasRisen (K.faults sink.old) (K.faults sink.new)
         → IfSome (S.left source.old) (λ bytes. HasItsAnswer bytes result) }
+
+    // `soak` needs no input.
+    ensures soak_complete { (number steps : ℕ) → command_in words.now ≡ Some (Command.Soak number steps)
+        → ¬ HasRisen (K.faults sink.old) (K.faults sink.new)
+        → (result ≡ 0) ⊎ (result ≡ 9) }
 {
     let reply = reply_for(alloc, Command::of(words), source);
     tell(sink, &reply)

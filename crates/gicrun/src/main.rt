@@ -1,7 +1,7 @@
 //! Runs a scenario of guests, devices and interrupts, and writes what the guests read.
 #![tactic(auto)]
 
-ghost use Rattle.std.specs.Prelude.{◌≡◌, Some, None, Contains, IfOk, IfErr, IfSome};
+ghost use Rattle.std.specs.Prelude.{◌≡◌, ◌≢◌, ◌⊎◌, ℕ, Some, None, Contains, IfOk, IfErr, IfSome};
 ghost use Rattle.gic_io.specs.Faults.{HasRisen};
 ghost use Rattle.gic_top.specs.Command.{command_in};
 ghost use Rattle.gic_top.specs.Tool.{statuses, IsOutcome, IsRefusal, HasItsAnswer};
@@ -33,11 +33,14 @@ fn status<S: Source, K: Sink>(
     ensures closed { Contains statuses result }
     ensures outcome { IfOk words (λ words. IsOutcome (command_in words.items) (S.left source.old) (S.left source.new) (S.faults source.old) (S.faults source.new)
         (K.taken sink.old) (K.taken sink.new) (K.faults sink.old) (K.faults sink.new) result) }
-    ensures unread_where_no_command { IfOk words (λ words. command_in words.items ≡ None → source.new ≡ source.old) }
+    ensures unread_unless_run { IfOk words (λ words. command_in words.items ≢ Some Command.Run → source.new ≡ source.old) }
     ensures complete { IfOk words (λ words. command_in words.items ≡ Some Command.Run
         → ¬ HasRisen (S.faults source.old) (S.faults source.new)
         → ¬ HasRisen (K.faults sink.old) (K.faults sink.new)
         → IfSome (S.left source.old) (λ bytes. HasItsAnswer bytes result)) }
+    ensures soak_complete { IfOk words (λ words. (number steps : ℕ) → command_in words.items ≡ Some (Command.Soak number steps)
+        → ¬ HasRisen (K.faults sink.old) (K.faults sink.new)
+        → (result ≡ 0) ⊎ (result ≡ 9)) }
 
     // Where there were no words.
     ensures refused { IfErr words (λ _. IsRefusal (K.taken sink.old) (K.taken sink.new) (K.faults sink.old) (K.faults sink.new) result) }
