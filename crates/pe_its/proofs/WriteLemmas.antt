@@ -491,7 +491,7 @@ makes_write old a b c d new offset size value reg half is_new can is takes_so ta
       part = part;
       adds = all.adds;
       call = record { beside = own; maps = refl; call = call_of own refl (agree_all own 0 made.took (λ m. (let same : 0 + m ≡ m = omega arith in ap (targets_of made.took) same))) };
-      found = record { finding = by_commands made.took; is_finding = among; call = call_of };
+      found = record { finding = by_commands made.took; kind = sym takes_so; is_finding = among; call = call_of };
       piece = all.piece;
       proper = proper_of old new part operation None all.adds all.after all.piece;
       stays = all.stays;

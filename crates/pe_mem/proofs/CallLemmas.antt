@@ -32,7 +32,7 @@ use Rattle.gic_call.specs.declared.event.Event.{Event}
 use Rattle.gic_call.specs.declared.event.Place.{Place}
 use Rattle.gic_call.specs.Call.{access_events}
 use Rattle.gic_call.specs.Trace.{Makes, access_places}
-use Rattle.pe_mem.specs.Found.{by_looks, goes_by_target}
+use Rattle.pe_mem.specs.Found.{by_looks, goes_by_target, takes_its_by}
 use Rattle.pe_mem.proofs.TargetLemmas.{events_with, makes_targeted, places_with, value_with, with_targets}
 
 -- What a vCPU has that can make an access.
@@ -134,6 +134,12 @@ call_with old new frame offset size write value answer beside answers made agree
       answers = answers ∙ made.reads ∙ ap (read_answer write) (sym (value_with shape t serves.view frame offset size));
     }
 
+plain_kind : (seen : Seen) (frame : Frame) (offset size : ℕ) (write : Option ℕ) → IsPlain seen frame offset size write → takes_its_by (shape_of seen) (access_of frame offset size write) ≡ false
+plain_kind seen Dist offset size write plain = refl
+plain_kind seen (Redist vcpu) offset size write plain = refl
+plain_kind seen Memory offset size write plain = refl
+plain_kind seen Its offset size write plain = plain
+
 pub makes_access :
     (old new : Seen) (frame : Frame) (offset size : ℕ) (write : Option ℕ) (value : ℕ) (answer : Option ℕ) → IsPort new → CanAccess old → IsPlain old frame offset size write → answer ≡ read_answer write value
     → ServesAccess old new frame offset size write value → MakesAccess old new frame offset size write answer
@@ -157,6 +163,7 @@ makes_access old new frame offset size write value answer is_new can plain answe
       found =
           record {
             finding = by_looks;
+            kind = sym (plain_kind old frame offset size write plain);
             is_finding = tt;
             call = λ beside maps agrees. call beside (λ id there bit. let is = made.found id there bit in agrees id is.look is.there is.step_is ∙ sym is.target_is);
           };

@@ -1,19 +1,24 @@
 -- What an access finds of the vCPUs that LPIs are for (own choice): its events are those of its call with whatever vCPUs agree with that.
-use Rattle.std.specs.Prelude.{◌≡◌, ℕ, ◌&&◌, ◌||◌, not, Bool, false, List, ◌++◌, Contains, Option, Some}
+use Rattle.std.specs.Prelude.{◌≡◌, ℕ, ◌&&◌, ◌||◌, not, Bool, true, false, List, ◌++◌, Contains, Option, Some}
 use Rattle.gic_base.specs.declared.interrupt.Key.TheVariants.{Lpi}
 use Rattle.gic_base.specs.declared.operation.Frame.{Frame}
-use Rattle.gic_base.specs.declared.operation.Frame.TheVariants.{Redist}
+use Rattle.gic_base.specs.declared.operation.Frame.TheVariants.{Redist, Its}
+use Rattle.gic_base.specs.declared.operation.GuestOp.{GuestOp}
+use Rattle.gic_base.specs.declared.operation.GuestOp.TheVariants.{Mem}
 use Rattle.gic_base.specs.declared.shape.GuestShape.{GuestShape}
 use Rattle.gic_rmap.specs.declared.map.Reg.TheVariants.{Ctlr}
 use Rattle.gic_rmap.specs.declared.map.RegRef.{RegRef}
 use Rattle.gic_rmap.specs.declared.map.RegRef.TheVariants.{Plain}
 use Rattle.gic_rmap.specs.Contents.{enable_lpis_after}
 use Rattle.gic_rmap.specs.Map.{decoded}
+use Rattle.gic_imap.specs.Map.{decoded as its_decoded}
 use Rattle.gic_open.specs.declared.plain.PlainWord.TheVariants.{Pendbaser}
 use Rattle.gic_word.specs.Record.{target_in}
 use Rattle.gic_word.specs.Word.{irq_of}
 use Rattle.gic_call.specs.Access.{is_in_table, is_table_zero}
+use Rattle.gic_call.specs.Call.{takes_turn}
 use Rattle.gic_call.specs.declared.event.Operation.{Operation}
+use Rattle.gic_call.specs.declared.event.Operation.TheVariants.{Access}
 use Rattle.gic_call.specs.Trace.{Beside, IsCall}
 use Rattle.gic_call.specs.View.{View}
 use Rattle.port_core.specs.declared.run.Made.{Made}
@@ -63,10 +68,23 @@ pub record TookAmong (seen : Seen) (part : List Made) (commands : List Taken) : 
   pub begins : from.own ≡ seen.own ++ early
   pub ends : seen.own ++ part ≡ to.own ++ late
 
--- by what the events of an access go beside its words: its looks at LPIs; or what each of the commands found that it took
+-- by what the events of an access go beside its words: its looks at LPIs; where it takes the ITS, what each of the commands found that it took
 pub data Finding : Type 0 where
   by_looks : Finding
   by_commands : List Taken → Finding
+
+abbrev pub is_by_commands : Finding → Bool
+is_by_commands by_looks = false
+is_by_commands (by_commands commands) = true
+
+-- an access takes the ITS: a write of one of its registers that does
+abbrev pub takes_turn_by : GuestShape → GuestOp → Bool
+takes_turn_by shape (Mem Its offset size write) = takes_turn shape (its_decoded offset size) write
+takes_turn_by shape op = false
+
+abbrev pub takes_its_by : GuestShape → Operation → Bool
+takes_its_by shape (Access op) = takes_turn_by shape op
+takes_its_by shape operation = false
 
 abbrev pub IsFinding : Seen → List Made → Finding → Type 0
 IsFinding seen part by_looks = Unit {0}
@@ -79,6 +97,7 @@ Agrees shape part (by_commands commands) beside = AgreeAll beside 0 commands
 -- they are those of the call, of an ITS with the maps as it was taken, whatever vCPUs the LPIs are for that agree with that
 pub record IsCallAsFound (seen : Seen) (part : List Made) (operation : Operation) (answer : Option ℕ) : Type 0 where
   pub finding : Finding
+  pub kind : is_by_commands finding ≡ takes_its_by (shape_of seen) operation
   pub is_finding : IsFinding seen part finding
   pub call :
       (beside : Beside) → beside.maps ≡ maps_taken part → Agrees (shape_of seen) part finding beside → IsCall (shape_of seen) beside (vcpu_of_actor (shape_of seen) seen.actor) operation (part_events seen part) answer

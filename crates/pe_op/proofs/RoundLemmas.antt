@@ -29,8 +29,8 @@ use Rattle.pe_icc.proofs.AmidLemmas.{leads_then}
 use Rattle.pe_icc.proofs.IccLemmas.{part_proper, part_runs}
 use Rattle.pe_icc.proofs.ReenterLemmas.{enter_leads, good_leads, idle_again, piece_leads}
 use Rattle.pe_mem.specs.Call.{IsPieceOf, MakesAccess, StopsAccess, access_of}
-use Rattle.pe_mem.specs.Found.{Agrees, IsCallAsFound}
-use Rattle.pe_op.specs.Operation.{DoesOperation, LeavesFirst, StopsOperation, takes_turn_by}
+use Rattle.pe_mem.specs.Found.{Agrees, IsCallAsFound, takes_its_by, takes_turn_by}
+use Rattle.pe_op.specs.Operation.{DoesOperation, LeavesFirst, StopsOperation}
 use Rattle.pe_op.proofs.AboutLemmas.{access_answers, access_between, maps_between}
 use Rattle.pe_op.proofs.FoundLemmas.{agrees_within, finding_between}
 
@@ -143,6 +143,7 @@ round_found old new before after access frame offset size write answer round is_
     let shape : shape_of round.mid ≡ shape_of old = ap shape_of leaves.adds.new_is in
     record {
       finding = made.finding;
+      kind = made.kind ∙ ap (λ shape. takes_its_by shape (access_of frame offset size write)) shape;
       is_finding = finding_between old round.mid round.mid2 leaves.part access enters.part made.finding leaves.adds round.adds made.is_finding;
       call =
           λ beside maps agrees.

@@ -1,13 +1,9 @@
 -- One operation of a vCPU that is on a PE: an access of a register of its CPU interface; or a memory-mapped access, round which it leaves its PE and enters
 -- it again (own choice).
-use Rattle.std.specs.Prelude.{◌≡◌, ℕ, Bool, true, false, List, [], ◌∷◌, ◌++◌, map, Option, Some, is_some, is_none}
-use Rattle.gic_base.specs.declared.operation.Frame.TheVariants.{Its}
+use Rattle.std.specs.Prelude.{◌≡◌, ℕ, true, false, List, [], ◌∷◌, ◌++◌, map, Option, Some, is_some, is_none}
 use Rattle.gic_base.specs.declared.operation.GuestOp.{GuestOp}
 use Rattle.gic_base.specs.declared.operation.GuestOp.TheVariants.{Icc, Mem}
-use Rattle.gic_base.specs.declared.shape.GuestShape.{GuestShape}
-use Rattle.gic_imap.specs.Map.{decoded}
 use Rattle.gic_call.specs.declared.event.Operation.TheVariants.{Access}
-use Rattle.gic_call.specs.Call.{takes_turn}
 use Rattle.vcpu_state.specs.declared.loaded.Loaded.{Loaded}
 use Rattle.vcpu_state.specs.Holding.{held_keys}
 use Rattle.port_core.specs.declared.run.Made.{Made}
@@ -23,17 +19,12 @@ use Rattle.pe_loop.specs.Stay.{IsUp}
 use Rattle.pe_icc.specs.Amid.{IsRunning, IsAble, IsSame}
 use Rattle.pe_icc.specs.Icc.{IsLight}
 use Rattle.pe_icc.specs.Operate.{finds_kick}
-use Rattle.pe_mem.specs.Found.{IsCallAsFound}
+use Rattle.pe_mem.specs.Found.{IsCallAsFound, takes_turn_by}
 
 -- the value that an operation writes; a read has none
 abbrev pub written_by : GuestOp → Option ℕ
 written_by (Icc reg write) = write
 written_by (Mem frame offset size write) = write
-
--- a write that takes the ITS
-abbrev pub takes_turn_by : GuestShape → GuestOp → Bool
-takes_turn_by shape (Mem Its offset size write) = takes_turn shape (decoded offset size) write
-takes_turn_by shape op = false
 
 -- before anything else, each interrupt that the vCPU held left its interface, and then nothing was there
 pub record LeavesFirst (old : Seen) (vcpu : Loaded) (part : List Made) : Type 0 where
