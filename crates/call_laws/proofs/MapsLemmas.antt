@@ -40,7 +40,7 @@ beside_maps actor (Queue offset Runs) h = refl
 beside_maps actor (Queue offset (Done words)) h = absurd (cc)
 beside_maps actor (Queue offset (Stalls fault)) h = refl
 
-tables_kept : (event : Event) (maps : Maps) → keeps_maps event ≡ true → tables_after event maps ≡ maps
+pub tables_kept : (event : Event) (maps : Maps) → keeps_maps event ≡ true → tables_after event maps ≡ maps
 tables_kept (Raise key) maps h = refl
 tables_kept (Up key) maps h = refl
 tables_kept (Down key) maps h = refl

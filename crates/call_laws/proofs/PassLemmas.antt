@@ -12,11 +12,12 @@ use Rattle.gic_base.specs.declared.interrupt.Key.TheVariants.{Private, Spi, Lpi}
 use Rattle.gic_base.specs.declared.operation.DeviceOp.{DeviceOp}
 use Rattle.gic_base.specs.declared.operation.DeviceOp.TheVariants.{Message, Wire, Msi}
 use Rattle.gic_base.specs.declared.operation.Frame.{Frame}
-use Rattle.gic_base.specs.declared.operation.Frame.TheVariants.{Dist, Redist}
+use Rattle.gic_base.specs.declared.operation.Frame.TheVariants.{Dist, Redist, Its, Ram as Memory}
 use Rattle.gic_base.specs.declared.operation.Kind.{Kind}
 use Rattle.gic_base.specs.declared.operation.Kind.TheVariants.{ClearPending, SetPending, Routing}
 use Rattle.gic_base.specs.declared.shape.GuestShape.{GuestShape}
 use Rattle.gic_base.specs.Interrupt.{has_interrupt, interrupt_count, key_at}
+use Rattle.gic_reg.specs.Condition.{has_part}
 use Rattle.gic_dmap.specs.declared.contents.Enables.{Enables}
 use Rattle.gic_dmap.specs.declared.map.Reg.TheVariants.{Ctlr as DistCtlr, SetSpi, ClrSpi, Router}
 use Rattle.gic_dmap.specs.declared.map.RegRef.{RegRef as DistRef}
@@ -39,7 +40,7 @@ use Rattle.gic_call.specs.declared.event.QueueChange.{QueueChange}
 use Rattle.gic_call.specs.declared.event.QueueChange.TheVariants.{Done, Stalls}
 use Rattle.gic_call.specs.declared.touch.Touching.{Touching}
 use Rattle.gic_call.specs.declared.touch.Touching.TheVariants.{Enables as CopyEnables, Forget as ForgetLpi, Register}
-use Rattle.gic_call.specs.Access.{part_key, part_touch, part_event, part_events, part_at, router_touch, copy_at, dist_events, is_table_zero, is_in_table, pended_at, redist_events, memory_written}
+use Rattle.gic_call.specs.Access.{part_touch, part_event, part_events, part_at, router_touch, copy_at, dist_events, is_table_zero, is_in_table, pended_at, redist_events, memory_written}
 use Rattle.gic_call.specs.Call.{sgi_at, icc_raises, device_events}
 use Rattle.gic_call.specs.Command.{lpi_event, queue_event, command_parts, command_words, next_offset}
 use Rattle.gic_call.specs.Trace.{Happened, is_beside, Beside, Makes, ArePartsThen, IsCommand, AreCommands, AreStarted, left_by}
@@ -51,12 +52,19 @@ use Rattle.call_laws.proofs.OneLemmas.{queue_is}
 use Rattle.call_laws.proofs.ReadLemmas.{beside_passes}
 use Rattle.call_laws.proofs.RunLemmas.{events_of}
 
+-- what such an operation does to an interrupt: to an LPI no more than that it becomes pending, or has its copies of the enables
+abbrev pub is_plain_touch : Key → Touching → Bool
+is_plain_touch (Lpi id) (Register SetPending value) = true
+is_plain_touch (Lpi id) (CopyEnables en0 en1) = true
+is_plain_touch (Lpi id) touching = false
+is_plain_touch key touching = true
+
 -- a test that each event of an operation passes that is no access of a CPU interface, and takes no command
 pub record PassesNamed (test : Event → Bool) : Type 0 where
   pub raise : (key : Key) → test (Raise key) ≡ true
   pub up : (key : Key) → test (Up key) ≡ true
   pub down : (key : Key) → test (Down key) ≡ true
-  pub touch : (key : Key) (touching : Touching) → test (Touch key touching) ≡ true
+  pub touch : (key : Key) (touching : Touching) → is_plain_touch key touching ≡ true → test (Touch key touching) ≡ true
   pub enable : (vcpu : ℕ) → test (Enable vcpu) ≡ true
   pub ctlr_begin : (enables : Enables) → test (CtlrBegin enables) ≡ true
   pub ctlr_end : test CtlrEnd ≡ true
@@ -81,24 +89,35 @@ module _ (test : Event → Bool) (passes : PassesNamed test) where
   either false one other h k = k
 
   parts_all : (shape : GuestShape) (frame : Frame) (kind : Kind) (first count : ℕ) (write : Option ℕ) → IsTrue (list_all test (part_events shape frame kind first count write))
-  parts_all shape frame kind first count write = all_found test (part_event shape frame kind first write) 0 count (λ i. of i (part_key shape frame kind (first + i)))
+  parts_all shape frame kind first count write = all_found test (part_event shape frame kind first write) 0 count (λ i. by frame i)
     where
-      of : (i : ℕ) (o : Option Key) → IsTrue (option_map_or test (option_map (λ key. Touch key (part_touch kind write i)) o) true)
-      of i None = refl
-      of i (Some key) = passes.touch key (part_touch kind write i)
+      of : (key : Key) (i : ℕ) (b : Bool) → is_plain_touch key (part_touch kind write i) ≡ true → IsTrue (option_map_or test (option_map (λ key. Touch key (part_touch kind write i)) (cond b (Some key) None)) true)
+      of key i false plain = refl
+      of key i true plain = passes.touch key (part_touch kind write i) plain
+
+      by : (frame : Frame) (i : ℕ) → IsTrue (option_map_or test (part_event shape frame kind first write i) true)
+      by Dist i = of (Spi (first + i)) i (has_interrupt shape (Spi (first + i)) && has_part kind (Spi (first + i))) refl
+      by (Redist vcpu) i = of (Private vcpu (first + i)) i (has_interrupt shape (Private vcpu (first + i)) && has_part kind (Private vcpu (first + i))) refl
+      by Its i = refl
+      by Memory i = refl
 
   copies_all : (shape : GuestShape) (enables : Enables) (places : List ℕ) → IsTrue (list_all test (map (copy_at shape enables) places ++ CtlrEnd ∷ []))
   copies_all shape enables [] = and_from (test CtlrEnd) true passes.ctlr_end refl
-  copies_all shape enables (place ∷ places) = and_from (test (copy_at shape enables place)) (list_all test (map (copy_at shape enables) places ++ CtlrEnd ∷ [])) (passes.touch (key_at shape place) (CopyEnables enables.group0 enables.group1)) (copies_all shape enables places)
+  copies_all shape enables (place ∷ places) =
+      and_from (test (copy_at shape enables place)) (list_all test (map (copy_at shape enables) places ++ CtlrEnd ∷ [])) (passes.touch (key_at shape place) (CopyEnables enables.group0 enables.group1) (plain (key_at shape place))) (copies_all shape enables places)
+    where
+      plain : (key : Key) → is_plain_touch key (CopyEnables enables.group0 enables.group1) ≡ true
+      plain (Lpi id) = refl
+      plain key = refl
 
   pub dist_all : (shape : GuestShape) (view : View) (ref : DistRef) (write : Option ℕ) → IsTrue (list_all test (dist_events shape view ref write))
   dist_all shape view (DistBits kind first count) write = parts_all shape Dist kind first count write
-  dist_all shape view (DistPlain (Router id) half) write = either (has_interrupt shape (Spi id)) (Touch (Spi id) (router_touch half write (part_at shape view Dist Routing id 0)) ∷ []) [] (and_from (test (Touch (Spi id) (router_touch half write (part_at shape view Dist Routing id 0)))) true (passes.touch (Spi id) (router_touch half write (part_at shape view Dist Routing id 0))) refl) refl
+  dist_all shape view (DistPlain (Router id) half) write = either (has_interrupt shape (Spi id)) (Touch (Spi id) (router_touch half write (part_at shape view Dist Routing id 0)) ∷ []) [] (and_from (test (Touch (Spi id) (router_touch half write (part_at shape view Dist Routing id 0)))) true (passes.touch (Spi id) (router_touch half write (part_at shape view Dist Routing id 0)) refl) refl) refl
   dist_all shape view (DistPlain reg half) None = refl
   dist_all shape view (DistPlain DistCtlr half) (Some value) =
       and_from (test (CtlrBegin (enables_in value))) (list_all test (map (copy_at shape (enables_in value)) (range_with_len 0 (interrupt_count shape)) ++ CtlrEnd ∷ [])) (passes.ctlr_begin (enables_in value)) (copies_all shape (enables_in value) (range_with_len 0 (interrupt_count shape)))
   dist_all shape view (DistPlain SetSpi half) (Some value) = either (has_interrupt shape (Spi (message_intid value))) (Raise (Spi (message_intid value)) ∷ []) [] (and_from (test (Raise (Spi (message_intid value)))) true (passes.raise (Spi (message_intid value))) refl) refl
-  dist_all shape view (DistPlain ClrSpi half) (Some value) = either (has_interrupt shape (Spi (message_intid value))) (Touch (Spi (message_intid value)) (Register ClearPending 1) ∷ []) [] (and_from (test (Touch (Spi (message_intid value)) (Register ClearPending 1))) true (passes.touch (Spi (message_intid value)) (Register ClearPending 1)) refl) refl
+  dist_all shape view (DistPlain ClrSpi half) (Some value) = either (has_interrupt shape (Spi (message_intid value))) (Touch (Spi (message_intid value)) (Register ClearPending 1) ∷ []) [] (and_from (test (Touch (Spi (message_intid value)) (Register ClearPending 1))) true (passes.touch (Spi (message_intid value)) (Register ClearPending 1) refl) refl) refl
   dist_all shape view (DistPlain reg half) (Some value) = refl
   dist_all shape view DistReserved write = refl
 
@@ -110,7 +129,7 @@ module _ (test : Event → Bool) (passes : PassesNamed test) where
       (all_found test (λ number. pended_at shape view vcpu (8192 + number)) 0 shape.lpis (λ i. of i (is_number vcpu (view.targets (8192 + i)) && is_in_table shape view vcpu (8192 + i))))
     where
       of : (i : ℕ) (b : Bool) → IsTrue (option_map_or test (cond b (Some (Touch (Lpi (8192 + i)) (Register SetPending 1))) None) true)
-      of i true = passes.touch (Lpi (8192 + i)) (Register SetPending 1)
+      of i true = passes.touch (Lpi (8192 + i)) (Register SetPending 1) refl
       of i false = refl
 
   pub redist_all : (shape : GuestShape) (view : View) (vcpu : ℕ) (ref : RedistRef) (write : Option ℕ) → IsTrue (list_all test (redist_events shape view vcpu ref write))

@@ -47,14 +47,14 @@ use Rattle.serial_laws.proofs.ShowRuns.{part_shows, quiet_shows}
 
 -- Actors of parts.
 
-all_late : (P : CoreMoment → Type 0) (early late : List CoreMoment) → All P (early ++ late) → All P late
+pub all_late : (P : CoreMoment → Type 0) (early late : List CoreMoment) → All P (early ++ late) → All P late
 all_late P [] late all = all
 all_late P (moment ∷ early) late all = all_late P early late (All-tail P moment (early ++ late) all)
 
-abbrev IsThere : ℕ → CoreMoment → Type 0
+abbrev pub IsThere : ℕ → CoreMoment → Type 0
 IsThere n moment = moment.actor < n
 
-part_there : (n : ℕ) (part : WholePart) (late : List CoreMoment) → All (IsThere n) (moments_in part ++ late) → part.actor < n
+pub part_there : (n : ℕ) (part : WholePart) (late : List CoreMoment) → All (IsThere n) (moments_in part ++ late) → part.actor < n
 part_there n part late all =
     All-head (IsThere n) (moment_by part.actor (begins part.operation part.lrs)) (map (moment_by part.actor) (map makes part.steps ++ ends part.answer ∷ []) ++ late) all
 

@@ -1,0 +1,4 @@
+pub mod SteadyLemmas
+pub mod HereRuns
+pub mod LookRuns
+pub mod EndRuns

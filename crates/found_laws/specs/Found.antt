@@ -1,0 +1,34 @@
+-- Parts of a run that are told with what they found (own choice).
+use Rattle.std.specs.Prelude.{◌≡◌, ℕ, false, List, ◌++◌}
+use Rattle.gic_history.specs.History.{opening_course}
+use Rattle.scn_base.specs.declared.guest.GuestSpec.{GuestSpec}
+use Rattle.scn_base.specs.Good.{IsGoodGuest}
+use Rattle.port_core.specs.Port.{Seen}
+use Rattle.port_core.specs.Run.{CoreState, opening, seat_at}
+use Rattle.core_proper.specs.Called.{MakesCall}
+use Rattle.core_proper.specs.Ideal.{end_of_moments}
+use Rattle.core_proper.specs.Parts.{CoreMoment}
+use Rattle.core_proper.specs.Proper.{IsProperRun}
+use Rattle.core_laws.specs.Laws.{AreCalls}
+use Rattle.serial_laws.specs.Serial.{WholePart, moments_in}
+use Rattle.pe_mem.specs.Found.{IsCallAsFound, takes_its_by}
+
+-- a port tells of an actor in a state of a guest
+pub record IsToldOf (guest : GuestSpec) (state : CoreState) (actor : ℕ) (seen : Seen) : Type 0 where
+  pub guest_is : seen.guest ≡ guest
+  pub actor_is : seen.actor ≡ actor
+  pub local_is : seen.local ≡ (seat_at state actor).local
+  pub own_is : seen.own ≡ (seat_at state actor).own
+
+-- of a part after other moments it is told that it is its call, and so with whatever vCPUs the LPIs are for that agree with what it found
+pub record IsFoundPart (guest : GuestSpec) (number : ℕ) (early : List CoreMoment) (part : WholePart) : Type 0 where
+  pub seen : Seen
+  pub told : IsToldOf guest (end_of_moments guest.shape (opening guest number) early) part.actor seen
+  pub made : MakesCall seen part.steps part.operation part.answer
+  pub found : IsCallAsFound seen part.steps part.operation part.answer
+
+-- such a part is its call in the run, while nobody else acts, where it takes no commands of the ITS
+abbrev pub LookedPartsAreCalls : Type 0
+LookedPartsAreCalls =
+    (guest : GuestSpec) (number : ℕ) (early : List CoreMoment) (part : WholePart) → IsGoodGuest guest → IsProperRun guest number (early ++ moments_in part) → AreCalls guest.shape (opening guest number) (opening_course guest) early
+    → takes_its_by guest.shape part.operation ≡ false → IsFoundPart guest number early part → AreCalls guest.shape (opening guest number) (opening_course guest) (early ++ moments_in part)
