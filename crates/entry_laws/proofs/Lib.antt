@@ -1,0 +1,9 @@
+pub mod RisingLemmas
+pub mod PlaceLemmas
+pub mod PlanLemmas
+pub mod DueLemmas
+pub mod EnterSteps
+pub mod HomeRuns
+pub mod StayLemmas
+pub mod EntryRuns
+pub mod WorkedLemmas
