@@ -1,13 +1,13 @@
 -- An access of a vCPU that is alone finds all that is there for it.
-use Rattle.std.proofs.Common.{◌≡◌, ◌≢◌, ℕ, ◌<◌, ◌==◌, ◌&&◌, ◌||◌, inl, inr, true≢false, Bool, true, false, IsTrue, List, map, Option, Some, None, is_none, is_some, refl, sym, ap, ◌∙◌, subst}
+use Rattle.std.proofs.Common.{◌≡◌, ℕ, ◌<◌, ◌&&◌, ◌||◌, Bool, true, false, IsTrue, List, map, Option, Some, None, is_none, refl, sym, ap, ◌∙◌, subst}
 use Rattle.std.specs.Option.{option_map_or}
-use Rattle.std.proofs.lemmas.Bool.{cases_eq, and_parts, and_from, eqb-true, lt-ltb}
+use Rattle.std.proofs.lemmas.Bool.{and_parts, and_from, eqb-true}
 use Rattle.gic_base.specs.declared.icc.IccReg.{IccReg}
 use Rattle.gic_base.specs.declared.icc.IccReg.TheVariants.{Eoir0, Eoir1, Dir}
 use Rattle.gic_base.specs.declared.interrupt.Key.{Key}
 use Rattle.gic_base.specs.declared.shape.GuestShape.{GuestShape}
 use Rattle.gic_base.specs.Interrupt.{has_interrupt, intid_of}
-use Rattle.gic_history.specs.Fresh.{Turn, asks_first, changes_of, comes_first, doing_of, ended_by, is_far_active}
+use Rattle.gic_history.specs.Fresh.{asks_first, comes_first, ended_by, is_far_active}
 use Rattle.gic_history.specs.State.{interface_at, shown_at, is_home, standing_at}
 use Rattle.gic_prio.specs.Delivery.{first_of, is_before, is_deliverable, is_group_enabled, takes_kind}
 use Rattle.gic_prio.specs.Interface.{InterfaceState, candidates_at}
@@ -21,30 +21,23 @@ use Rattle.scn_base.specs.Good.{IsGoodGuest}
 use Rattle.port_core.specs.declared.local.Local.{Local}
 use Rattle.port_core.specs.declared.local.Phase.{Phase}
 use Rattle.port_core.specs.declared.local.Phase.TheVariants.{Folding}
-use Rattle.port_core.specs.declared.word_id.WordId.TheVariants.{Irq as IrqWord, Vcpu}
-use Rattle.port_core.specs.Actor.{actor_count}
 use Rattle.port_core.specs.After.{interface_of, shown}
 use Rattle.port_core.specs.Condition.{is_ready}
-use Rattle.port_core.specs.Run.{CoreState, opening, seat_at}
+use Rattle.port_core.specs.Run.{CoreState, opening}
 use Rattle.core_proper.specs.Ideal.{end_of_moments}
 use Rattle.core_proper.specs.Parts.{CoreMoment}
 use Rattle.core_proper.specs.Progress.{Progress, opening_progress, progress_in}
 use Rattle.core_proper.specs.Proper.{IsProperRun}
-use Rattle.core_proper.specs.Scan.{has_key}
-use Rattle.core_laws.specs.Related.{bare, but_lpis, is_folding}
+use Rattle.core_laws.specs.Related.{is_folding}
 use Rattle.core_laws.proofs.AccessLemmas.{shown_same}
-use Rattle.core_laws.proofs.CpuLemmas.{with_lpis}
-use Rattle.core_fresh.specs.Excuse.{followed_in, is_current, IsExcused}
+use Rattle.core_fresh.specs.Excuse.{followed_in}
 use Rattle.core_regs.specs.Followed.{Followed}
 use Rattle.core_fresh.specs.First.{MayAsk}
-use Rattle.core_fresh.specs.Index.{owes_kick, waits_for}
+use Rattle.core_fresh.specs.Index.{waits_for}
 use Rattle.core_fresh.specs.Waiting.{record_in}
-use Rattle.core_regs.specs.Asks.{IsUnkicked}
-use Rattle.core_fresh.proofs.CopySteps.{copies_are_current}
 use Rattle.core_fresh.proofs.FarSteps.{far_ends_are_known}
 use Rattle.core_fresh.proofs.FirstRuns.{first_comes_first}
 use Rattle.core_fresh.proofs.Frame.{IsAt, progress_on}
-use Rattle.core_fresh.proofs.WantRuns.{wants_are_kept}
 use Rattle.core_home.specs.UpToDate.{FindsAll}
 use Rattle.core_lone.specs.Lone.{IsAlone, IsReadyFor, LoneAccessesFindAll}
 use Rattle.core_lone.proofs.HereLemmas.{end_is, local_is, an_actor, nobody_holds}

@@ -1,5 +1,5 @@
 -- What a vCPU that is alone, with nothing at its interface, is to find in the words: each interrupt at which the plan over the guest with all taken back looks.
-use Rattle.std.proofs.Common.{◌≡◌, ◌≢◌, ℕ, ◌<◌, ◌&&◌, ◌||◌, inl, inr, Bool, true, false, cond, IsTrue, List, [], ◌∷◌, filter, map, Contains, Option, Some, None, is_none, refl, sym, ap, ◌∙◌, subst}
+use Rattle.std.proofs.Common.{◌≡◌, ℕ, ◌<◌, ◌&&◌, ◌||◌, inl, inr, Bool, true, false, cond, IsTrue, List, [], ◌∷◌, filter, map, Contains, Some, None, is_none, refl, sym, ap, ◌∙◌, subst}
 use Rattle.std.proofs.lemmas.Bool.{and_parts, and_from, eqb-true}
 use Rattle.gic_base.specs.declared.interrupt.Key.{Key}
 use Rattle.gic_base.specs.declared.shape.GuestShape.{GuestShape}
@@ -9,11 +9,11 @@ use Rattle.gic_call.specs.Move.{left}
 use Rattle.gic_history.specs.Fresh.{Track}
 use Rattle.gic_history.specs.History.{IsHistory}
 use Rattle.gic_history.specs.Moves.{home}
-use Rattle.gic_history.specs.State.{Ideal, Standing, interface_at, is_home, is_of, shown_at, standing_at}
+use Rattle.gic_history.specs.State.{interface_at, is_home, is_of, shown_at, standing_at}
 use Rattle.gic_prio.specs.declared.candidate.Candidate.{Candidate}
 use Rattle.gic_prio.specs.declared.cpu.CpuRec.{CpuRec}
 use Rattle.gic_prio.specs.Delivery.{is_deliverable, is_group_enabled, takes_kind}
-use Rattle.gic_prio.specs.Interface.{candidate_of, candidates_at}
+use Rattle.gic_prio.specs.Interface.{candidates_at}
 use Rattle.gic_word.specs.declared.record.Irq.{Irq}
 use Rattle.gic_word.specs.Record.{is_number, is_ripe}
 use Rattle.history_laws.proofs.StandLemmas.{home_nowhere, of_key, standing_of_key}

@@ -1,17 +1,14 @@
 -- A step of a vCPU while it enters: how far its scan is, with what it found as the guest has it.
-use Rattle.std.proofs.Common.{◌≡◌, ℕ, ◌+◌, ◌-◌, ◌<◌, ◌≤◌, ◌==◌, ◌&&◌, ◌||◌, inl, inr, true≢false, not, Bool, true, false, IsTrue, List, [], ◌∷◌, ◌++◌, Contains, Option, Some, None, is_none, unwrap_or, if◌then◌else◌, refl, sym, ap, ◌∙◌, subst, arith}
-use Rattle.std.proofs.lemmas.Bool.{and_parts, eqb-true}
+use Rattle.std.proofs.Common.{◌≡◌, ℕ, ◌+◌, ◌<◌, ◌≤◌, ◌==◌, ◌&&◌, ◌||◌, inl, inr, true≢false, not, Bool, true, false, IsTrue, List, [], ◌∷◌, ◌++◌, Contains, Option, None, is_none, unwrap_or, if◌then◌else◌, refl, sym, ap, ◌∙◌, subst, arith}
+use Rattle.std.proofs.lemmas.Bool.{and_parts}
 use Rattle.std.proofs.lemmas.List.{append-nil}
 use Rattle.std.proofs.lemmas.List.Elements.{Contains-push_cases}
 use Rattle.gic_base.specs.declared.interrupt.Key.{Key}
 use Rattle.gic_base.specs.declared.shape.GuestShape.{GuestShape}
 use Rattle.gic_base.specs.Interrupt.{has_interrupt, is_of_vcpu}
 use Rattle.gic_base.specs.Shape.{IsShape}
-use Rattle.gic_history.specs.Fresh.{Track}
-use Rattle.gic_word.specs.declared.record.Irq.{Irq as IrqRecord}
 use Rattle.gic_word.specs.Word.{irq_of}
 use Rattle.ideal_guest.specs.declared.guest.IdealGuest.{IdealGuest}
-use Rattle.ideal_guest.specs.Ideal.{cpu_at}
 use Rattle.its_tab.specs.Maps.{Maps}
 use Rattle.vcpu_refill.specs.declared.offer.Offer.{Offer}
 use Rattle.port_core.specs.declared.local.Local.{Local}
@@ -19,28 +16,23 @@ use Rattle.port_core.specs.declared.local.Phase.{Phase}
 use Rattle.port_core.specs.declared.local.Phase.TheVariants.{Off, Scanning, Claiming, Loaded, Folding}
 use Rattle.port_core.specs.declared.run.Made.{Made}
 use Rattle.port_core.specs.declared.step.CoreStep.{CoreStep}
-use Rattle.port_core.specs.declared.step.CoreStep.TheVariants.{Look, Raise, Claim, GiveBack, Release, Poll, Kick, Touch, Want, WireUp, WireDown, EnableLpis, RamLook, RamPut, CtlrTake, CtlrEnd, TurnTake, CommandDone, TurnRelease, Mark, TakeIndex}
+use Rattle.port_core.specs.declared.step.CoreStep.TheVariants.{Look, Claim, Poll, Kick, Mark, TakeIndex}
 use Rattle.port_core.specs.declared.word_id.WordId.TheVariants.{Irq, Vcpu, Queue, Ctlr, Plain, Index}
-use Rattle.port_core.specs.After.{index_taken, is_settled_by_look, local_after, looked, phase_after}
+use Rattle.port_core.specs.After.{is_settled_by_look, local_after, phase_after}
 use Rattle.port_core.specs.Effect.{succeeds}
-use Rattle.port_core.specs.Local.{has_no_cand, settled}
+use Rattle.port_core.specs.Local.{settled}
 use Rattle.port_core.specs.Place.{index_bit, index_bits, index_words}
-use Rattle.port_core.specs.Run.{CoreState}
 use Rattle.port_core.proofs.StepTies.{none_is}
-use Rattle.core_proper.specs.Progress.{Progress, after_claim, changed_by, claim_left, filled, goes_on, is_end_of, looks_on, scan_on}
+use Rattle.core_proper.specs.Progress.{Progress, after_claim, changed_by, claim_left, is_end_of}
 use Rattle.core_proper.specs.Proper.{IsProperStep, is_empty}
-use Rattle.core_proper.specs.Scan.{Purpose, planned, trapped, bare, Scan, idle, taking, looking, claiming, ended_scan, has_key, is_idle, next_cand, offered, scan_allows, scan_looked, tried, without_key, word_taken}
+use Rattle.core_proper.specs.Scan.{planned, Scan, idle, taking, looking, claiming, has_key, is_idle, offered, scan_allows, scan_looked, without_key, word_taken}
 use Rattle.core_proper.proofs.ScanLemmas.{IsNext, bit_of_key, next_is, own_of_bit}
 use Rattle.core_laws.specs.Related.{is_folding}
 use Rattle.core_laws.proofs.KickSteps.{is_poll}
-use Rattle.core_fresh.specs.Scan.{Covers, offer_in}
-use Rattle.core_fresh.specs.Waiting.{IsDue}
-use Rattle.core_fresh.proofs.ScanLemmas.{all_found, all_taken}
 use Rattle.core_fresh.proofs.ScanSteps.{is_scan_step, only_idle, with_made}
 use Rattle.core_late.proofs.PollLemmas.{inverse}
-use Rattle.entry_laws.proofs.DueLemmas.{IsShown}
 use Rattle.entry_laws.proofs.PlaceLemmas.{bit_in, offer_home}
-use Rattle.entry_laws.proofs.PlanLemmas.{AreFound, HasPlan, IsFound, Passes, fills, none_found}
+use Rattle.entry_laws.proofs.PlanLemmas.{AreFound, HasPlan, IsFound}
 use Rattle.entry_laws.proofs.RisingLemmas.{rises_push}
 
 -- while it scans it has nothing at its interface, and gives nothing back
@@ -248,73 +240,4 @@ module _ (shape : GuestShape) (good : IsShape shape) (guest : IdealGuest) (vcpu 
   enters_made (Mark k v) other proper no_end seen failed untrapped now = enters_mark k v proper now
   enters_made (TakeIndex w) other proper no_end seen failed untrapped now = enters_take w proper untrapped now
   enters_made (Poll reg write) other proper no_end seen failed untrapped now = absurd (true≢false other)
-  enters_made (Raise key) other proper no_end seen failed untrapped now = enters_quiet (Raise key) proper refl refl refl now
-  enters_made (GiveBack key back) other proper no_end seen failed untrapped now = enters_quiet (GiveBack key back) proper refl refl refl now
-  enters_made (Release key) other proper no_end seen failed untrapped now = enters_quiet (Release key) proper refl refl refl now
-  enters_made (Touch key s kind) other proper no_end seen failed untrapped now = enters_quiet (Touch key s kind) proper refl refl refl now
-  enters_made (Want key) other proper no_end seen failed untrapped now = enters_quiet (Want key) proper refl refl refl now
-  enters_made (WireUp key) other proper no_end seen failed untrapped now = enters_quiet (WireUp key) proper refl refl refl now
-  enters_made (WireDown key) other proper no_end seen failed untrapped now = enters_quiet (WireDown key) proper refl refl refl now
-  enters_made (EnableLpis v) other proper no_end seen failed untrapped now = enters_quiet (EnableLpis v) proper refl refl refl now
-  enters_made (RamLook i) other proper no_end seen failed untrapped now = enters_quiet (RamLook i) proper refl refl refl now
-  enters_made (RamPut i s value) other proper no_end seen failed untrapped now = enters_quiet (RamPut i s value) proper refl refl refl now
-  enters_made (CtlrTake s value) other proper no_end seen failed untrapped now = enters_quiet (CtlrTake s value) proper refl refl refl now
-  enters_made CtlrEnd other proper no_end seen failed untrapped now = enters_quiet CtlrEnd proper refl refl refl now
-  enters_made (TurnTake s) other proper no_end seen failed untrapped now = enters_quiet (TurnTake s) proper refl refl refl now
-  enters_made (CommandDone offset stalled ending) other proper no_end seen failed untrapped now = enters_quiet (CommandDone offset stalled ending) proper refl refl refl now
-  enters_made TurnRelease other proper no_end seen failed untrapped now = enters_quiet TurnRelease proper refl refl refl now
-
--- The scan goes on.
-
-ended_filled : (local : Local) (scan : Scan) → is_filled scan ≡ true → is_filled (ended_scan local scan) ≡ true
-ended_filled local idle h = refl
-ended_filled local (taking purpose words) h = h
-ended_filled local (looking purpose from offers) h = h
-ended_filled local (claiming [] (t ∷ ts)) h = refl
-ended_filled local (claiming (c ∷ cs) ts) h = refl
-ended_filled local (claiming [] []) h = of (has_no_cand local)
-  where
-    of : (b : Bool) → is_filled (if b then idle else claiming [] []) ≡ true
-    of true = refl
-    of false = refl
-
--- what is so where the vCPU fills its registers: it has the guest's CPU record, and what the plan looks at is due, and in the words as it is in the guest
-pub record IsReady (shape : GuestShape) (guest : IdealGuest) (state : CoreState) (track : Track) (vcpu : ℕ) (local : Local) : Type 0 where
-  pub cpu : local.cpu ≡ cpu_at guest vcpu
-  pub shown : (key : Key) → IsTrue (has_interrupt shape key) → Passes shape guest vcpu key → IsShown shape guest state track vcpu key
-
-module _ (shape : GuestShape) (good : IsShape shape) (guest : IdealGuest) (state : CoreState) (track : Track) (vcpu n : ℕ) (few : vcpu < shape.vcpus) (q : Progress) (lrs : q.lrs ≡ n) (ready : IsScanning q.local → IsReady shape guest state track vcpu q.local) where
-  abbrev Then : Progress → Type 0
-  Then on = Enters shape guest vcpu n (record on { scan = ended_scan on.local on.scan })
-
-  fills_it : (from : ℕ) (offers : List Offer) → AreFound shape guest vcpu from offers → IsScanning q.local → ((key : Key) → IsDue shape state track vcpu key → Contains offers (offer_in shape state key)) → Then (filled shape vcpu planned offers q)
-  fills_it from offers are is covers =
-      let now = ready is in
-      let on = filled shape vcpu planned offers q in
-      has (ended_filled on.local on.scan refl)
-      (fills shape guest vcpu from good few offers are (λ key there passes. let is = now.shown key there passes in subst (Contains offers) is.same (covers key is.due)) q.local.cpu q.lrs n now.cpu lrs)
-
-  looks_so : (from : ℕ) (offers : List Offer) → AreFound shape guest vcpu from offers → IsScanning q.local → Covers shape state track vcpu q (looking planned from offers) → Then (looks_on shape vcpu planned from offers q)
-  looks_so from offers are is covers = of (is_none (next_cand shape vcpu q.local.cands from)) refl
-    where
-      of : (b : Bool) → is_none (next_cand shape vcpu q.local.cands from) ≡ b → Then (if b then filled shape vcpu planned offers q else record q { scan = looking planned from offers })
-      of true e = fills_it from offers are is (all_found shape state track vcpu good from offers q covers e)
-      of false e = looks from offers refl are (record { empty = is.empty; stays = is.stays })
-
-  pub enters_on : Enters shape guest vcpu n q → Covers shape state track vcpu q q.scan → Enters shape guest vcpu n (scan_on shape vcpu q)
-  enters_on (takes words e is) covers = subst (λ s. Then (goes_on shape vcpu s q)) (sym e) (of (words == index_words shape) refl)
-    where
-      here : Covers shape state track vcpu q (taking planned words)
-      here = subst (Covers shape state track vcpu q) e covers
-
-      of : (b : Bool) → (words == index_words shape) ≡ b → Then (if b then looks_on shape vcpu planned 0 [] q else q)
-      of true h = looks_so 0 [] (none_found shape guest vcpu 0) is (all_taken shape state track vcpu good words q h here)
-      of false h = takes words (ap (ended_scan q.local) e) (record { empty = is.empty; stays = is.stays })
-  enters_on (looks from offers e are is) covers = subst (λ s. Then (goes_on shape vcpu s q)) (sym e) (looks_so from offers are is (subst (Covers shape state track vcpu q) e covers))
-  enters_on (has f plan) covers = of q.scan refl f
-    where
-      of : (scan : Scan) → q.scan ≡ scan → is_filled scan ≡ true → Then (goes_on shape vcpu scan q)
-      of idle e f = has (ended_filled q.local q.scan (ap is_filled e)) plan
-      of (taking purpose words) e f = absurd (true≢false (sym f))
-      of (looking purpose from offers) e f = absurd (true≢false (sym f))
-      of (claiming claims others) e f = has (ended_filled q.local q.scan (ap is_filled e)) plan
+  enters_made step other proper no_end seen failed untrapped now = enters_quiet step proper refl refl refl now

@@ -1,33 +1,26 @@
 -- A vCPU that enters while nobody else acts has the registers of the guest with all that stands at interfaces taken back.
-use Rattle.std.proofs.Common.{◌≡◌, ℕ, ◌+◌, ◌<◌, ◌==◌, ◌&&◌, true≢false, not, Bool, true, false, cond, IsTrue, All, List, [], ◌∷◌, ◌++◌, filter, fold, map, take, Option, Some, None, unwrap_or, refl, sym, ap, ◌∙◌, subst}
+use Rattle.std.proofs.Common.{◌≡◌, ℕ, ◌==◌, ◌&&◌, true≢false, not, true, false, IsTrue, List, [], ◌∷◌, ◌++◌, take, None, unwrap_or, refl, sym, ap, ◌∙◌, subst}
 use Rattle.std.specs.List.{list_all}
-use Rattle.std.specs.Option.{option_map_or, option_to_list}
-use Rattle.std.proofs.lemmas.Bool.{and_parts, lt-ltb}
-use Rattle.std.proofs.lemmas.List.{append-nil, append_assoc}
+use Rattle.std.proofs.lemmas.Bool.{and_parts}
+use Rattle.std.proofs.lemmas.List.{append-nil}
 use Rattle.std.proofs.lemmas.List.Sums.{fold-append}
 use Rattle.gic_base.specs.declared.interrupt.Key.{Key}
 use Rattle.gic_base.specs.declared.shape.GuestShape.{GuestShape}
 use Rattle.gic_base.specs.Interrupt.{has_interrupt}
 use Rattle.gic_call.specs.declared.event.Moment.TheVariants.{End}
 use Rattle.gic_call.specs.declared.event.Operation.TheVariants.{Residence}
-use Rattle.gic_call.specs.Trace.{Happened, IsCall, is_beside, named_of}
 use Rattle.gic_history.specs.Fresh.{Track}
-use Rattle.gic_history.specs.History.{Course, GoesOn, IsHistory, course_of, gone_on, last_of, opening_course, vcpu_of}
+use Rattle.gic_history.specs.History.{Course, IsHistory, gone_on, last_of, opening_course}
 use Rattle.gic_history.specs.Moves.{home}
-use Rattle.gic_history.specs.Named.{names}
-use Rattle.gic_history.specs.State.{Ideal}
 use Rattle.gic_ich.specs.declared.regs.IchRegs.{IchRegs}
 use Rattle.gic_word.specs.Word.{irq_of}
 use Rattle.gic_ideal.specs.Shown.{offers_of}
 use Rattle.history_laws.proofs.CourseLemmas.{goes_before}
 use Rattle.home_laws.proofs.HomeLaws.{history_tidy}
 use Rattle.home_laws.proofs.HomeLemmas.{home_rest}
-use Rattle.home_laws.proofs.SpotLemmas.{IsTidy}
 use Rattle.ideal_guest.specs.declared.guest.IdealGuest.{IdealGuest}
 use Rattle.ideal_guest.specs.Ideal.{cpu_at}
 use Rattle.scn_base.specs.declared.guest.GuestSpec.{GuestSpec}
-use Rattle.scn_base.specs.Good.{IsGoodGuest}
-use Rattle.call_laws.proofs.RunLemmas.{lone_ended}
 use Rattle.vcpu_refill.specs.declared.offer.Offer.{Offer}
 use Rattle.vcpu_refill.specs.Plan.{plan, regs_of}
 use Rattle.port_core.specs.declared.local.Local.{Local}
@@ -38,23 +31,19 @@ use Rattle.port_core.specs.declared.word_id.WordId.TheVariants.{Irq}
 use Rattle.port_core.specs.After.{local_after}
 use Rattle.port_core.specs.Condition.{Meets}
 use Rattle.port_core.specs.Effect.{succeeds}
-use Rattle.port_core.specs.Forms.{vcpu_of as word_of_vcpu}
-use Rattle.port_core.specs.Port.{events_of as events_made}
-use Rattle.port_core.specs.Run.{CoreState, Seat, opening, seat_at, word_in}
-use Rattle.port_core.specs.Stands.{stands_for}
+use Rattle.port_core.specs.Run.{CoreState, opening, seat_at, word_in}
 use Rattle.port_core.specs.Step.{CanStep, word_of}
 use Rattle.core_proper.specs.Ideal.{after_moment, end_of_moments, ideal_of}
-use Rattle.core_proper.specs.Parts.{CoreMoment, begins, ends, makes}
-use Rattle.core_proper.specs.Progress.{Progress, begun, changed_by, is_end_of, opening_progress, progress_in, progressed, stepped}
+use Rattle.core_proper.specs.Parts.{CoreMoment, ends, makes}
+use Rattle.core_proper.specs.Progress.{Progress, begun, changed_by, opening_progress, progress_in, progressed, stepped}
 use Rattle.core_proper.specs.Proper.{IsProperEnd, IsProperRun}
-use Rattle.core_proper.specs.Scan.{Scan, is_idle, planned, taking}
+use Rattle.core_proper.specs.Scan.{is_idle, planned, taking}
 use Rattle.core_proper.proofs.PartLemmas.{ideal_append}
-use Rattle.core_proper.proofs.ScanLemmas.{failed_on, kept_on, local_on, lrs_on}
+use Rattle.core_proper.proofs.ScanLemmas.{failed_on, kept_on, local_on}
 use Rattle.core_laws.specs.Related.{is_folding}
 use Rattle.core_laws.proofs.AfterLemmas.{later}
 use Rattle.core_laws.proofs.HistorySteps.{runs_history}
 use Rattle.core_laws.proofs.KickSteps.{is_poll, unkicked_before}
-use Rattle.core_laws.proofs.StandingLemmas.{home_is}
 use Rattle.core_laws.proofs.StepContext.{IsStep}
 use Rattle.core_regs.specs.Asks.{IsUnkicked}
 use Rattle.core_regs.specs.Followed.{Followed}
@@ -62,26 +51,23 @@ use Rattle.core_regs.proofs.StandRuns.{lrs_made}
 use Rattle.core_fresh.specs.Excuse.{followed_in}
 use Rattle.core_fresh.specs.Scan.{Covers}
 use Rattle.core_fresh.specs.Waiting.{record_in}
-use Rattle.core_fresh.proofs.Frame.{IsAt, follow, is_step, lasts, progress_is, progress_on}
-use Rattle.core_fresh.proofs.ProgressLemmas.{far_on}
+use Rattle.core_fresh.proofs.Frame.{follow, is_step, lasts, progress_is, progress_on}
 use Rattle.core_fresh.proofs.RunFrame.{IsNextOf, end_more, followed_more, proper_before, progress_more}
 use Rattle.core_fresh.proofs.ScanRuns.{scans_overlook_none}
 use Rattle.core_fresh.proofs.ScanSteps.{leaves, with_made}
 use Rattle.core_late.proofs.PollLemmas.{inverse, proper_so, seat_so}
 use Rattle.core_lone.proofs.EaseRuns.{ease_is_up_to_date}
-use Rattle.core_lone.proofs.HereLemmas.{end_is, local_is}
-use Rattle.core_lone.proofs.LoneLemmas.{cpu_is}
-use Rattle.serial_laws.specs.Serial.{WholePart, call_of, moment_by, moments_in, piece_of}
-use Rattle.serial_laws.proofs.AloneRuns.{AllRest, next_at}
-use Rattle.serial_laws.proofs.AlongRuns.{IsAlong, IsLonePart, NamesNone, alone, along_on, history_at, ideal_at, more, next_so, one_on, opens_along, p_at, p_on, proper_at, seat_on, so_far, state_at, state_so, there, unwanted, up_now, whole_is}
-use Rattle.serial_laws.proofs.SerialRuns.{ideal_next}
+use Rattle.serial_laws.specs.Serial.{WholePart, moment_by, moments_in}
+use Rattle.serial_laws.proofs.AloneRuns.{next_at}
+use Rattle.serial_laws.proofs.AlongRuns.{IsAlong, IsLonePart, next_so, one_on, p_at, p_on, so_far, state_at, whole_is}
 use Rattle.entry_laws.specs.Entry.{EntriesShowHome, HasEntered, IsEntry, ShowsRegisters, looks_for_kick}
-use Rattle.entry_laws.proofs.DueLemmas.{seen_home, shown_due}
-use Rattle.entry_laws.proofs.EnterSteps.{Enters, IsReady, IsScanning, enters_made, enters_on, has, is_filled, looks, q_of, takes}
-use Rattle.entry_laws.proofs.HomeRuns.{home_stays, rests_unwanted}
-use Rattle.entry_laws.proofs.PlaceLemmas.{offer_home, offers_are, offers_in}
+use Rattle.entry_laws.proofs.EnterSteps.{Enters, IsScanning, enters_made, has, looks, takes}
+use Rattle.entry_laws.proofs.FillSteps.{IsReady, enters_on}
+use Rattle.entry_laws.proofs.HomeRuns.{rests_unwanted}
+use Rattle.entry_laws.proofs.InsideRuns.{IsInside, e_on, home_at, home_before, inside_all, inside_on, no_end, opens_inside, ready_at, seen_at}
+use Rattle.entry_laws.proofs.PlaceLemmas.{offer_home, offers_are}
 use Rattle.entry_laws.proofs.PlanLemmas.{HasPlan}
-use Rattle.entry_laws.proofs.StayLemmas.{failed_before, far_stays, untrapped_before}
+use Rattle.entry_laws.proofs.StayLemmas.{failed_before, untrapped_before}
 
 module _ (guest : GuestSpec) (number : ℕ) (early : List CoreMoment) (part : WholePart) (lone : IsLonePart guest number early part) (resides : part.operation ≡ Residence) where
   abbrev shape : GuestShape
@@ -93,136 +79,8 @@ module _ (guest : GuestSpec) (number : ℕ) (early : List CoreMoment) (part : Wh
   abbrev v : ℕ
   v = part.actor
 
-  -- the guest with all taken back, before the part
   abbrev back : IdealGuest
-  back = home (last_of guest (ideal_of guest.shape (opening guest number) early))
-
-  -- How far the part is.
-
-  names_nothing : NamesNone guest.shape part
-  names_nothing view key = ap (λ op. names shape view v op key) resides
-
-  -- what it stands for from here on is beside
-  record IsInside (pre late : List Made) : Type 0 where
-    along : IsAlong guest number early part pre
-    local : Local
-    own : List Made
-    seat_is : seat_at (state_at guest number early part pre) part.actor ≡ record { local = local; own = own }
-    named : named_of (Some part.actor) (events_made guest.shape part.actor local own late) ≡ []
-    far : (p_at guest number early part pre).far ≡ None
-    lrs : (p_at guest number early part pre).lrs ≡ part.lrs
-
-  no_end : (pre : List Made) → IsAlong guest number early part pre → (key : Key) → is_end_of shape v (p_at guest number early part pre).operation key ≡ false
-  no_end pre along key = ap (λ o. is_end_of shape v o key) (along.operation ∙ ap Some resides)
-
-  opens_inside : IsInside [] part.steps
-  opens_inside = record {
-    along = opens_along guest number early part lone;
-    local = (seat_at (end_of_moments shape start early) v).local;
-    own = (seat_at (end_of_moments shape start early) v).own;
-    seat_is = ap (λ (s : CoreState). seat_at s v) (end_more shape start early (moment_by v (begins part.operation part.lrs)));
-    named = named;
-    far = ap (λ (q : Progress). q.far) (progress_more guest number early v (begins part.operation part.lrs));
-    lrs = ap (λ (q : Progress). q.lrs) (progress_more guest number early v (begins part.operation part.lrs));
-  }
-    where
-      piece : List Happened
-      piece = piece_of shape (end_of_moments shape start early) part
-
-      named : named_of (Some v) (piece_of shape (end_of_moments shape start early) part) ≡ []
-      named =
-          let ended = lone_ended guest (ideal_of shape start early) v part.operation (piece_of shape (end_of_moments shape start early) part) part.answer lone.good (subst (IsHistory guest) (ideal_next guest number lone.good early part lone.proper lone.history lone.rest lone.first) lone.history) in
-          let call : IsCall shape ended.ended.beside (vcpu_of shape v) Residence (piece_of shape (end_of_moments shape start early) part) part.answer =
-          subst (λ op. IsCall shape ended.ended.beside (vcpu_of shape v) op (piece_of shape (end_of_moments shape start early) part) part.answer) resides ended.is_call in
-          (subst (λ o. IsCall shape ended.ended.beside o Residence (piece_of shape (end_of_moments shape start early) part) part.answer) (ap (λ b. cond b (Some v) None) (lt-ltb v shape.vcpus lone.few)) call).0
-
-  module _ (pre late : List Made) (made : Made) (e : part.steps ≡ pre ++ made ∷ late) where
-    e_on : part.steps ≡ (pre ++ made ∷ []) ++ late
-    e_on = e ∙ sym (append_assoc pre (made ∷ []) late)
-
-    next : IsNextOf guest number (so_far early part pre) v (makes made)
-    next = next_so guest number early part lone pre late made e
-
-    inside_on : IsInside pre (made ∷ late) → IsInside (pre ++ made ∷ []) late
-    inside_on is = of (stands_for shape v is.local is.own made.step made.found) refl is.named
-      where
-        rest : List Happened
-        rest = events_made shape v (local_after shape v is.local made.step made.found) (is.own ++ made ∷ []) late
-
-        stands_so : (o : Option Happened) → stands_for shape v is.local is.own made.step made.found ≡ o → stands_for shape v (seat_at (state_at guest number early part pre) v).local (seat_at (state_at guest number early part pre) v).own made.step made.found ≡ o
-        stands_so o f = ap (λ (s : Seat). stands_for shape v s.local s.own made.step made.found) is.seat_is ∙ f
-
-        inside : IsAlong guest number early part (pre ++ made ∷ []) → named_of (Some v) (events_made shape v (local_after shape v is.local made.step made.found) (is.own ++ made ∷ []) late) ≡ [] → IsInside (pre ++ made ∷ []) late
-        inside along named = record {
-          along = along;
-          local = local_after shape v is.local made.step made.found;
-          own = is.own ++ made ∷ [];
-          seat_is = seat_on guest number early part lone pre late made e is.local is.own is.seat_is;
-          named = named;
-          far =
-              ap (λ (q : Progress). q.far) (p_on guest number early part pre made) ∙ far_on shape v made (p_at guest number early part pre)
-              ∙ far_stays shape v made.found (succeeds shape v (p_at guest number early part pre).local made.step made.found) (p_at guest number early part pre) made.step (proper_so guest number v lone.good (so_far early part pre) made next) (no_end pre is.along) is.far;
-          lrs =
-              ap (λ (q : Progress). q.lrs) (p_on guest number early part pre made)
-              ∙ lrs_on shape v (with_made shape v made (p_at guest number early part pre) (changed_by shape v made.step made.found (succeeds shape v (p_at guest number early part pre).local made.step made.found) (p_at guest number early part pre)))
-              ∙ lrs_made shape v made (p_at guest number early part pre) ∙ is.lrs;
-        }
-
-        of : (o : Option Happened) → stands_for shape v is.local is.own made.step made.found ≡ o → named_of (Some v) (option_to_list o ++ events_made shape v (local_after shape v is.local made.step made.found) (is.own ++ made ∷ []) late) ≡ [] → IsInside (pre ++ made ∷ []) late
-        of None f named = inside (along_on guest number early part lone pre late made e is.along None (stands_so None f) refl) named
-        of (Some one) f named = by (is_beside (Some v) one.event) refl named
-          where
-            by : (b : Bool) → is_beside (Some v) one.event ≡ b → cond (not b) (one ∷ named_of (Some v) (events_made shape v (local_after shape v is.local made.step made.found) (is.own ++ made ∷ []) late)) (named_of (Some v) (events_made shape v (local_after shape v is.local made.step made.found) (is.own ++ made ∷ []) late)) ≡ []
-                → IsInside (pre ++ made ∷ []) late
-            by true b named = inside (along_on guest number early part lone pre late made e is.along (Some one) (stands_so (Some one) f) b) named
-            by false b named = absurd (cc)
-
-  inside_all : (mid late pre : List Made) → part.steps ≡ pre ++ (mid ++ late) → IsInside pre (mid ++ late) → IsInside (pre ++ mid) late
-  inside_all [] late pre e is = subst (λ xs. IsInside xs late) (sym (append-nil pre)) is
-  inside_all (made ∷ mid) late pre e is =
-      subst (λ xs. IsInside xs late) (append_assoc pre (made ∷ []) mid) (inside_all mid late (pre ++ made ∷ []) (e ∙ sym (append_assoc pre (made ∷ []) (mid ++ late))) (inside_on pre (mid ++ late) made e is))
-
-  -- The guest with all taken back.
-
-  module _ (pre late : List Made) (e : part.steps ≡ pre ++ late) (along : IsAlong guest number early part pre) where
-    abbrev at : Followed
-    at = followed_in guest number (so_far early part pre)
-
-    parts : GoesOn (opening_course guest) (ideal_of shape start early) × GoesOn (course_of (opening_course guest) (ideal_of shape start early)) (more guest number early part pre)
-    parts = goes_before (opening_course guest) (ideal_of shape start early) (more guest number early part pre) (subst (IsHistory guest) (ideal_at guest number early part pre) (history_at guest number early part lone pre late e))
-
-    home_at : home (last_of guest (ideal_of shape start (so_far early part pre))) ≡ back
-    home_at =
-        ap (λ ms. home (last_of guest ms)) (ideal_at guest number early part pre)
-        ∙ ap (λ (c : Course). home c.ideal) (fold-append gone_on (opening_course guest) (ideal_of shape start early) (more guest number early part pre))
-        ∙ home_stays shape (course_of (opening_course guest) (ideal_of shape start early)) (more guest number early part pre) parts.1 (history_tidy guest (ideal_of shape start early) lone.good parts.0) along.quiet
-
-    home_now : home at.ideal ≡ back
-    home_now = ap home (sym (state_so guest (ideal_of shape start (so_far early part pre)))) ∙ home_at
-
-    run : IsProperRun guest number (so_far early part pre)
-    run = proper_at guest number early part lone pre late e
-
-    mine : (p_at guest number early part pre).local ≡ (seat_at (state_at guest number early part pre) v).local
-    mine = local_is guest number (so_far early part pre) lone.good run v (there guest number early part lone)
-
-    ready_at : IsUnkicked shape (state_at guest number early part pre) v → IsScanning (p_at guest number early part pre).local → IsReady shape back (state_at guest number early part pre) at.track v (p_at guest number early part pre).local
-    ready_at free is = subst (λ g. IsReady shape g (state_at guest number early part pre) at.track v (p_at guest number early part pre).local) home_now (record {
-      cpu =
-          sym (cpu_is guest number (so_far early part pre) v lone.good run lone.few (alone guest number early part lone pre late e along mine) free is.stays)
-          ∙ sym (ap (λ (g : IdealGuest). cpu_at g v) (home_rest at.ideal));
-      shown =
-          shown_due guest number (so_far early part pre) v lone.good run (history_at guest number early part lone pre late e) lone.few (up_now guest number early part lone pre late e along) (alone guest number early part lone pre late e along mine)
-          (unwanted guest number early part lone pre late e along names_nothing) (ap (λ (l : Local). l.at) (sym mine) ∙ is.empty);
-    })
-
-    -- a word that nobody holds says what the guest has
-    seen_at : (key : Key) → IsTrue (has_interrupt shape key) → (record_in shape (state_at guest number early part pre) key).holder ≡ None → (let o : Offer = record { key = key; irq = record_in shape (state_at guest number early part pre) key } in o) ≡ offer_home back key
-    seen_at key here free =
-        let held = end_is guest number lone.good (so_far early part pre) run in
-        seen_home guest number (so_far early part pre) v lone.good run (history_at guest number early part lone pre late e) lone.few (up_now guest number early part lone pre late e along) (alone guest number early part lone pre late e along mine)
-        (unwanted guest number early part lone pre late e along names_nothing) key here free (home_is held.sound held.related key here free)
-        ∙ ap (λ g. offer_home g key) home_now
+  back = home_before guest number early part
 
   -- Step by step.
 
@@ -230,7 +88,7 @@ module _ (guest : GuestSpec) (number : ℕ) (early : List CoreMoment) (part : Wh
   GoingAt pre =
       IsUnkicked shape (state_at guest number early part pre) v → (p_at guest number early part pre).failed ≡ false → (p_at guest number early part pre).scanned ≡ false → Enters shape back v part.lrs (p_at guest number early part pre)
 
-  module _ (pre late : List Made) (made : Made) (e : part.steps ≡ pre ++ made ∷ late) (inside : IsInside pre (made ∷ late)) where
+  module _ (pre late : List Made) (made : Made) (e : part.steps ≡ pre ++ made ∷ late) (inside : IsInside guest number early part pre (made ∷ late)) where
     abbrev state : CoreState
     state = state_at guest number early part pre
 
@@ -241,7 +99,7 @@ module _ (guest : GuestSpec) (number : ℕ) (early : List CoreMoment) (part : Wh
     on = pre ++ made ∷ []
 
     acts : IsNextOf guest number (so_far early part pre) v (makes made)
-    acts = next pre late made e
+    acts = next_so guest number early part lone pre late made e
 
     is : IsStep shape (state_at guest number early part pre) (followed_in guest number (so_far early part pre)).ideal v made.step made.found made.left made.tables
     is = is_step shape lone.good.shape (state_at guest number early part pre) (followed_in guest number (so_far early part pre)) (progress_on shape (opening_progress guest number) (so_far early part pre)) v made acts.at acts.acts
@@ -278,7 +136,7 @@ module _ (guest : GuestSpec) (number : ℕ) (early : List CoreMoment) (part : Wh
         subst (IsReady shape back (later is) next_track v) local_q
         (subst (λ (f : Followed). IsReady shape back (later is) f.track v (p_at guest number early part (pre ++ made ∷ [])).local) followed_is
         (subst (λ s. IsReady shape back s (followed_in guest number (so_far early part (pre ++ made ∷ []))).track v (p_at guest number early part (pre ++ made ∷ [])).local) state_is
-        (ready_at (pre ++ made ∷ []) late (e_on pre late made e) (inside_on pre late made e inside).along free (subst IsScanning (sym local_q) scanning))))
+        (ready_at guest number early part lone resides (pre ++ made ∷ []) late (e_on guest number early part lone resides pre late made e) (inside_on guest number early part lone resides pre late made e inside).along free (subst IsScanning (sym local_q) scanning))))
 
     covers_q : IsUnkicked shape (later is) v → q.failed ≡ false → Covers shape (later is) next_track v q q.scan
     unfolding is
@@ -300,11 +158,10 @@ module _ (guest : GuestSpec) (number : ℕ) (early : List CoreMoment) (part : Wh
     seen : (k : Key) → made.step ≡ Look (Irq k) → IsTrue (has_interrupt shape k) × ((irq_of made.found).holder ≡ None → (irq_of made.found).want ≡ false → (let o : Offer = record { key = k; irq = irq_of made.found } in o) ≡ offer_home back k)
     seen k step_is =
         let here : IsTrue (has_interrupt shape k) = subst (CanStep shape v) step_is is.takes.can in
-        let irq : irq_of made.found ≡ record_in shape state k = ap irq_of (is.takes.found ∙ ap (λ s. word_in shape state (word_of shape v s)) step_is) in
-        (
+        let irq : irq_of made.found ≡ record_in shape state k = ap irq_of (is.takes.found ∙ ap (λ s. word_in shape state (word_of shape v s)) step_is) in (
           here,
           λ free unwanted.
-              ap (λ i. let o : Offer = record { key = k; irq = i } in o) irq ∙ seen_at pre (made ∷ late) e inside.along k here (ap (λ i. i.holder) (sym irq) ∙ free),
+              ap (λ i. let o : Offer = record { key = k; irq = i } in o) irq ∙ seen_at guest number early part lone resides pre (made ∷ late) e inside.along k here (ap (λ i. i.holder) (sym irq) ∙ free),
         )
 
     -- each step after the look for a kick
@@ -314,7 +171,7 @@ module _ (guest : GuestSpec) (number : ℕ) (early : List CoreMoment) (part : Wh
         let done = succeeds shape v p.local made.step made.found in
         let now = going before.0 (failed_before shape v made.found done p made.step no_poll before.1 (failed_q failed)) (untrapped_before shape v made.found done p made.step no_poll (untrapped_q untrapped)) in
         then_on free failed
-        (enters_made shape lone.good.shape back v part.lrs p made.found made.left made.tables made.step no_poll (proper_so guest number v lone.good (so_far early part pre) made acts) (no_end pre inside.along) seen (failed_q failed) (untrapped_q untrapped) now)
+        (enters_made shape lone.good.shape back v part.lrs p made.found made.left made.tables made.step no_poll (proper_so guest number v lone.good (so_far early part pre) made acts) (no_end guest number early part lone resides pre inside.along) seen (failed_q failed) (untrapped_q untrapped) now)
 
     -- and that look
     going_looks : made.step ≡ Poll None None → GoingAt (pre ++ made ∷ [])
@@ -331,11 +188,11 @@ module _ (guest : GuestSpec) (number : ℕ) (early : List CoreMoment) (part : Wh
         stays : is_folding q.local.phase ≡ false
         stays = ap (λ s. is_folding (local_after shape v p.local s made.found).phase) step_is
 
-  goes_all : (late pre : List Made) → part.steps ≡ pre ++ late → IsInside pre late → IsTrue (list_all (λ made. not (looks_for_kick made.step)) late) → GoingAt pre → GoingAt part.steps
+  goes_all : (late pre : List Made) → part.steps ≡ pre ++ late → IsInside guest number early part pre late → IsTrue (list_all (λ made. not (looks_for_kick made.step)) late) → GoingAt pre → GoingAt part.steps
   goes_all [] pre e inside last going = subst GoingAt (sym (e ∙ append-nil pre)) going
   goes_all (made ∷ late) pre e inside last going =
       let two = and_parts (not (looks_for_kick made.step)) (list_all (λ made. not (looks_for_kick made.step)) late) last in
-      goes_all late (pre ++ made ∷ []) (e_on pre late made e) (inside_on pre late made e inside) two.1 (going_on pre late made e inside (same_look made.step (inverse (looks_for_kick made.step) two.0)) going)
+      goes_all late (pre ++ made ∷ []) (e_on guest number early part lone resides pre late made e) (inside_on guest number early part lone resides pre late made e inside) two.1 (going_on pre late made e inside (same_look made.step (inverse (looks_for_kick made.step) two.0)) going)
     where
       same_look : (step : CoreStep) → looks_for_kick step ≡ false → is_poll step ≡ false
       same_look (Poll reg write) h = h
@@ -364,27 +221,27 @@ module _ (guest : GuestSpec) (number : ℕ) (early : List CoreMoment) (part : Wh
       ∙ ap (λ (c : Course). c.ideal) (fold-append gone_on (opening_course guest) (ideal_of shape start (so_far early part part.steps)) (End v part.answer ∷ []))
 
   module _ (entry : IsEntry part) where
-    inside_look : IsInside entry.before (entry.look ∷ entry.after)
-    inside_look = inside_all entry.before (entry.look ∷ entry.after) [] entry.steps (subst (IsInside []) entry.steps opens_inside)
+    inside_look : IsInside guest number early part entry.before (entry.look ∷ entry.after)
+    inside_look = inside_all guest number early part lone resides entry.before (entry.look ∷ entry.after) [] entry.steps (subst (IsInside guest number early part []) entry.steps (opens_inside guest number early part lone resides))
 
     goes_so : GoingAt part.steps
     goes_so =
-        goes_all entry.after (entry.before ++ entry.look ∷ []) (e_on entry.before entry.after entry.look entry.steps) (inside_on entry.before entry.after entry.look entry.steps inside_look) entry.last
+        goes_all entry.after (entry.before ++ entry.look ∷ []) (e_on guest number early part lone resides entry.before entry.after entry.look entry.steps) (inside_on guest number early part lone resides entry.before entry.after entry.look entry.steps inside_look) entry.last
         (going_looks entry.before entry.after entry.look entry.steps inside_look entry.scans)
 
     home_whole : home (last_of guest (ideal_of shape start (early ++ moments_in part))) ≡ back
     home_whole =
         ap home last_whole
-        ∙ home_at part.steps [] (sym (append-nil part.steps))
-        (subst (IsAlong guest number early part) (sym entry.steps) (inside_all (entry.look ∷ entry.after) [] entry.before (entry.steps ∙ ap (λ xs. entry.before ++ xs) (sym (append-nil (entry.look ∷ entry.after)))) (subst (IsInside entry.before) (sym (append-nil (entry.look ∷ entry.after))) inside_look)).along)
+        ∙ home_at guest number early part lone resides part.steps [] (sym (append-nil part.steps))
+        (subst (IsAlong guest number early part) (sym entry.steps) (inside_all guest number early part lone resides (entry.look ∷ entry.after) [] entry.before (entry.steps ∙ ap (λ xs. entry.before ++ xs) (sym (append-nil (entry.look ∷ entry.after)))) (subst (IsInside guest number early part entry.before) (sym (append-nil (entry.look ∷ entry.after))) inside_look)).along)
 
     has_plan : HasEntered guest.shape (end_of_moments guest.shape (opening guest number) (early ++ moments_in part)) part.actor (progress_in guest number (early ++ moments_in part) part.actor) → HasPlan shape back v part.lrs (p_at guest number early part part.steps).regs
     has_plan entered =
         of (goes_so (subst (λ s. IsUnkicked shape s v) state_whole entered.unkicked) (sym (ap (λ (r : Progress). r.failed) p_whole) ∙ entered.none_failed) (sym (ap (λ (r : Progress). r.scanned) p_whole) ∙ entered.untrapped))
       where
         of : Enters shape back v part.lrs (p_at guest number early part part.steps) → HasPlan shape back v part.lrs (p_at guest number early part part.steps).regs
-        of (takes words e is) = absurd (true≢false (sym ends_idle ∙ ap is_idle e))
-        of (looks from offers e are is) = absurd (true≢false (sym ends_idle ∙ ap is_idle e))
+        of (takes words e scanning) = absurd (true≢false (sym ends_idle ∙ ap is_idle e))
+        of (looks from offers e are scanning) = absurd (true≢false (sym ends_idle ∙ ap is_idle e))
         of (has e plan) = plan
 
     shows : HasEntered guest.shape (end_of_moments guest.shape (opening guest number) (early ++ moments_in part)) part.actor (progress_in guest number (early ++ moments_in part) part.actor)

@@ -1,5 +1,5 @@
 -- What stays so along a part: the guest with all taken back while interrupts only move and actors read; and an actor between parts wants nothing.
-use Rattle.std.proofs.Common.{◌≡◌, ◌≢◌, ℕ, ◌<◌, true≢false, true, false, IsTrue, All, List, [], ◌∷◌, Option, Some, None, is_some, refl, sym, ap, ◌∙◌, subst}
+use Rattle.std.proofs.Common.{◌≡◌, ℕ, true≢false, true, IsTrue, All, List, [], ◌∷◌, None, is_some, refl, sym, ap, ◌∙◌, subst}
 use Rattle.std.proofs.lemmas.List.Elements.{All-head, All-tail}
 use Rattle.gic_base.specs.declared.shape.GuestShape.{GuestShape}
 use Rattle.gic_call.specs.declared.event.Event.{Event}

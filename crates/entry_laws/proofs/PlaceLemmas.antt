@@ -1,5 +1,5 @@
 -- The interrupts of a guest in key order, and those of a vCPU's index.
-use Rattle.std.proofs.Common.{◌≡◌, ℕ, ◌+◌, ◌<◌, ◌≤◌, zero, suc, IsTrue, List, map, Contains, refl, sym, ap, ◌∙◌, subst, arith}
+use Rattle.std.proofs.Common.{◌≡◌, ℕ, ◌+◌, ◌<◌, ◌≤◌, zero, suc, IsTrue, List, map, Contains, refl, sym, ap, subst, arith}
 use Rattle.std.specs.List.{range_with_len}
 use Rattle.std.proofs.lemmas.Grind.{common_steps}
 use Rattle.gic_base.specs.declared.interrupt.Key.{Key}

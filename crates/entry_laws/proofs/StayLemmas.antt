@@ -1,12 +1,12 @@
 -- What was so before a step of a vCPU that is no look for a kick, and what is so after each step of a call that ends nothing.
-use Rattle.std.proofs.Common.{◌≡◌, ℕ, ◌==◌, ◌&&◌, ◌||◌, true≢false, not, Bool, true, false, IsTrue, Option, Some, None, unwrap_or, if◌then◌else◌, refl, sym, ap, ◌∙◌, subst}
+use Rattle.std.proofs.Common.{◌≡◌, ℕ, ◌==◌, ◌&&◌, ◌||◌, true≢false, not, Bool, true, false, IsTrue, Some, None, unwrap_or, if◌then◌else◌, refl, sym, ap, ◌∙◌, subst}
 use Rattle.std.proofs.lemmas.Bool.{and_parts}
 use Rattle.gic_base.specs.declared.interrupt.Key.{Key}
 use Rattle.gic_base.specs.declared.shape.GuestShape.{GuestShape}
 use Rattle.gic_word.specs.Record.{is_number}
 use Rattle.gic_word.specs.Word.{irq_of}
 use Rattle.port_core.specs.declared.step.CoreStep.{CoreStep}
-use Rattle.port_core.specs.declared.step.CoreStep.TheVariants.{Look, Raise, Claim, GiveBack, Release, Poll, Kick, Touch, Want, WireUp, WireDown, EnableLpis, RamLook, RamPut, CtlrTake, CtlrEnd, TurnTake, CommandDone, TurnRelease, Mark, TakeIndex}
+use Rattle.port_core.specs.declared.step.CoreStep.TheVariants.{Look, Claim, Poll, Kick, TakeIndex}
 use Rattle.port_core.specs.declared.word_id.WordId.TheVariants.{Irq, Vcpu, Queue, Ctlr, Plain, Index}
 use Rattle.port_core.specs.Forms.{vcpu_of}
 use Rattle.core_proper.specs.Progress.{Progress, after_claim, after_poll, begun, changed_by, is_end_of}

@@ -42,7 +42,7 @@ use Rattle.core_home.proofs.UpToDateRuns.{stays_up_to_date}
 use Rattle.core_late.specs.Late.{AccessesComeFirst, has_done_none, is_access_first}
 use Rattle.core_late.proofs.HistoryLemmas.{clause_from, kept_both}
 use Rattle.core_late.proofs.LateRuns.{none_owed}
-use Rattle.core_late.proofs.PollLemmas.{proper_so, seat_so}
+use Rattle.core_late.proofs.PollLemmas.{proper_so}
 use Rattle.core_lone.specs.Lone.{IsAlone}
 use Rattle.core_lone.proofs.HereLemmas.{end_is}
 use Rattle.serial_laws.specs.Serial.{WholePart, moment_by, moments_in}

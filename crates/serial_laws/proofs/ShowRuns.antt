@@ -1,10 +1,9 @@
 -- Within a part nobody else acts: each access of it shows the guest with all that stands at interfaces taken back.
-use Rattle.std.proofs.Common.{◌≡◌, ℕ, ◌+◌, ◌<◌, ◌⊎◌, ◌||◌, ◌&&◌, inl, inr, true≢false, not, Bool, true, false, cond, IsTrue, All, List, [], ◌∷◌, ◌++◌, fold, length, map, Option, Some, None, unwrap_or, refl, sym, ap, ◌∙◌, subst, arith}
+use Rattle.std.proofs.Common.{◌≡◌, ℕ, ◌⊎◌, ◌||◌, ◌&&◌, inl, inr, true≢false, not, Bool, true, false, cond, IsTrue, List, [], ◌∷◌, ◌++◌, Option, Some, None, unwrap_or, refl, sym, ap, ◌∙◌, subst}
 use Rattle.std.specs.List.{list_all}
 use Rattle.std.specs.Option.{option_map_or, option_to_list}
-use Rattle.std.proofs.lemmas.Bool.{cases_eq, and_parts, and_from}
-use Rattle.std.proofs.lemmas.List.{append-nil, append_assoc, map-append}
-use Rattle.std.proofs.lemmas.List.Elements.{All-nil, All-cons, All-append, All-head, All-tail}
+use Rattle.std.proofs.lemmas.Bool.{and_parts}
+use Rattle.std.proofs.lemmas.List.{append-nil, append_assoc}
 use Rattle.std.proofs.lemmas.List.Sums.{fold-append}
 use Rattle.gic_base.specs.declared.icc.IccReg.{IccReg}
 use Rattle.gic_base.specs.declared.icc.IccReg.TheVariants.{Iar0, Iar1, Hppir0, Hppir1, Eoir0, Eoir1, Dir}
@@ -13,20 +12,17 @@ use Rattle.gic_base.specs.declared.operation.GuestOp.TheVariants.{Icc}
 use Rattle.gic_base.specs.declared.shape.GuestShape.{GuestShape}
 use Rattle.gic_base.specs.Interrupt.{has_interrupt}
 use Rattle.gic_call.specs.declared.event.Event.{Event}
-use Rattle.gic_call.specs.declared.event.Event.TheVariants.{Cpu, Reach, Take, Leave, Read}
-use Rattle.gic_call.specs.declared.event.Moment.{Moment}
-use Rattle.gic_call.specs.declared.event.Moment.TheVariants.{Begin, Happens, End}
+use Rattle.gic_call.specs.declared.event.Event.TheVariants.{Cpu}
+use Rattle.gic_call.specs.declared.event.Moment.TheVariants.{Begin}
 use Rattle.gic_call.specs.declared.event.Operation.TheVariants.{Access}
 use Rattle.gic_call.specs.Trace.{Happened, is_beside, named_of}
-use Rattle.gic_history.specs.Fresh.{Doing, asks_first, doing_of, ended_by as ended_in}
-use Rattle.gic_history.specs.History.{Course, IsHistory, course_of, gone_on, last_of, opening_course}
+use Rattle.gic_history.specs.Fresh.{asks_first, ended_by as ended_in}
+use Rattle.gic_history.specs.History.{Course, course_of, gone_on, last_of, opening_course}
 use Rattle.gic_history.specs.Moves.{happened}
 use Rattle.gic_history.specs.Named.{names}
 use Rattle.gic_history.specs.State.{Ideal}
-use Rattle.history_laws.proofs.CourseLemmas.{goes_before}
 use Rattle.home_laws.specs.Home.{ShowsHome}
 use Rattle.scn_base.specs.declared.guest.GuestSpec.{GuestSpec}
-use Rattle.scn_base.specs.Good.{IsGoodGuest}
 use Rattle.eager_laws.proofs.FreshLemmas.{is_no_access}
 use Rattle.call_laws.specs.Calls.{AllShow, Shows}
 use Rattle.call_laws.proofs.ReadLemmas.{beside_passes}
@@ -36,42 +32,30 @@ use Rattle.port_core.specs.declared.run.Made.{Made}
 use Rattle.port_core.specs.declared.step.CoreStep.TheVariants.{Poll}
 use Rattle.port_core.specs.declared.word_id.WordId.TheVariants.{Irq as IrqWord}
 use Rattle.gic_word.specs.Record.{is_number}
-use Rattle.port_core.specs.Actor.{actor_count}
 use Rattle.port_core.specs.After.{local_after}
 use Rattle.port_core.specs.Forms.{vcpu_of}
 use Rattle.port_core.specs.Local.{is_at}
 use Rattle.port_core.specs.Port.{events_of as events_made}
 use Rattle.port_core.specs.Run.{CoreState, Seat, opening, seat_at}
 use Rattle.port_core.specs.Stands.{stands_for}
-use Rattle.core_proper.specs.Ideal.{after_moment, end_of_moments, event_moments, ideal_moments, ideal_of}
-use Rattle.core_proper.specs.Parts.{Act, makes, begins, ends, CoreMoment}
-use Rattle.core_proper.specs.Progress.{Progress, Debt, paid, after_end, before_next, ended_by, is_end_of, is_paid, progress_in, stepped}
+use Rattle.core_proper.specs.Ideal.{end_of_moments, event_moments, ideal_moments, ideal_of}
+use Rattle.core_proper.specs.Parts.{makes, begins, CoreMoment}
+use Rattle.core_proper.specs.Progress.{Progress, Debt, paid, after_end, before_next, ended_by, is_end_of, is_paid}
 use Rattle.core_proper.specs.Proper.{IsProperRun, asks_first as asks_by, may_access}
 use Rattle.core_proper.proofs.PartLemmas.{ideal_append}
-use Rattle.core_regs.specs.Followed.{Followed, followed_by, follows, opening_followed}
 use Rattle.core_fresh.specs.Excuse.{followed_in}
 use Rattle.core_fresh.specs.Far.{HasLookedFar}
-use Rattle.core_fresh.specs.Index.{owes_kick}
 use Rattle.core_fresh.specs.Waiting.{record_in}
-use Rattle.core_fresh.proofs.ProgressLemmas.{operation_on}
-use Rattle.core_fresh.proofs.RunFrame.{IsNextOf, end_more, followed_more, proper_before, progress_more}
-use Rattle.core_fresh.proofs.TrackLemmas.{doing_here}
-use Rattle.core_home.specs.UpToDate.{IsUpToDate, changes_nothing, moves_or_reads}
+use Rattle.core_fresh.proofs.RunFrame.{IsNextOf, end_more}
 use Rattle.core_home.proofs.ShowRuns.{up_to_date_shows_home}
-use Rattle.core_home.proofs.UpToDateRuns.{stays_up_to_date}
-use Rattle.core_late.specs.Late.{AccessesComeFirst, has_done_none, is_access_first}
-use Rattle.core_late.proofs.HistoryLemmas.{clause_from, kept_both}
-use Rattle.core_late.proofs.LateRuns.{none_owed}
-use Rattle.core_late.proofs.PollLemmas.{IsPolled, polled, proper_so, seat_so}
+use Rattle.core_late.proofs.PollLemmas.{IsPolled, polled, seat_so}
 use Rattle.core_late.proofs.StayLemmas.{IsAccess, access_so}
 use Rattle.core_late.proofs.LeavingLemmas.{is_access}
-use Rattle.core_lone.specs.Lone.{IsAlone, IsReadyFor, IsReadyToAsk}
+use Rattle.core_lone.specs.Lone.{IsReadyFor, IsReadyToAsk}
 use Rattle.core_lone.proofs.HereLemmas.{end_is}
 use Rattle.core_lone.proofs.LoneRuns.{ended_there, lone_accesses_find_all, not_folding}
-use Rattle.serial_laws.specs.Serial.{WholePart, moment_by, moments_in}
+use Rattle.serial_laws.specs.Serial.{WholePart, moment_by}
 use Rattle.serial_laws.proofs.AlongRuns.{IsAlong, IsLonePart, NamesNone, alone, along_on, history_at, next_so, one_on, opens_along, p_at, proper_at, seat_on, so_far, state_at, state_so, there, unwanted, up_now}
-use Rattle.serial_laws.proofs.FirstRuns.{beside_done}
-use Rattle.serial_laws.proofs.PartLemmas.{seat_next}
 use Rattle.serial_laws.proofs.QuietLemmas.{beside_no_access}
 use Rattle.serial_laws.proofs.WantLemmas.{names_none}
 
