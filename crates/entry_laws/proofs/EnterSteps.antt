@@ -31,7 +31,7 @@ use Rattle.core_laws.specs.Related.{is_folding}
 use Rattle.core_laws.proofs.KickSteps.{is_poll}
 use Rattle.core_fresh.proofs.ScanSteps.{is_scan_step, only_idle, with_made}
 use Rattle.core_late.proofs.PollLemmas.{inverse}
-use Rattle.entry_laws.proofs.PlaceLemmas.{bit_in, offer_home}
+use Rattle.entry_laws.proofs.PlaceLemmas.{bit_in, offer_as, offer_home}
 use Rattle.entry_laws.proofs.PlanLemmas.{AreFound, HasPlan, IsFound}
 use Rattle.entry_laws.proofs.RisingLemmas.{rises_push}
 
@@ -98,7 +98,7 @@ module _ (shape : GuestShape) (good : IsShape shape) (guest : IdealGuest) (vcpu 
 
   -- the next candidate
   enters_look :
-      (k : Key) → IsTrue (has_interrupt shape k) → IsProperStep shape vcpu p (Look (Irq k)) → ((irq_of found).holder ≡ None → (irq_of found).want ≡ false → (let o : Offer = record { key = k; irq = irq_of found } in o) ≡ offer_home guest k) → Now p → Now (q_of (Look (Irq k)))
+      (k : Key) → IsTrue (has_interrupt shape k) → IsProperStep shape vcpu p (Look (Irq k)) → ((irq_of found).holder ≡ None → (irq_of found).want ≡ false → offer_as k (irq_of found) ≡ offer_home guest k) → Now p → Now (q_of (Look (Irq k)))
   enters_look k there proper seen now = of now
     where
       allowed : (scan : Scan) → p.scan ≡ scan → IsTrue (scan_allows shape vcpu p.local scan (Look (Irq k)))
@@ -119,7 +119,7 @@ module _ (shape : GuestShape) (good : IsShape shape) (guest : IdealGuest) (vcpu 
       more from offers are next = by (is_none (irq_of found).holder && not (irq_of found).want) refl
         where
           one : Offer
-          one = record { key = k; irq = irq_of found }
+          one = offer_as k (irq_of found)
 
           in_index : next.bit < index_bits shape
           in_index = let below = next.search.below in let above = next.search.above in omega (arith, below, above)
@@ -227,7 +227,7 @@ module _ (shape : GuestShape) (good : IsShape shape) (guest : IdealGuest) (vcpu 
   -- each step but a look for a kick
   pub enters_made :
       (step : CoreStep) → is_poll step ≡ false → IsProperStep shape vcpu p step → ((key : Key) → is_end_of shape vcpu p.operation key ≡ false)
-      → ((k : Key) → step ≡ Look (Irq k) → IsTrue (has_interrupt shape k) × ((irq_of found).holder ≡ None → (irq_of found).want ≡ false → (let o : Offer = record { key = k; irq = irq_of found } in o) ≡ offer_home guest k)) → (q_of step).failed ≡ false → (q_of step).scanned ≡ false
+      → ((k : Key) → step ≡ Look (Irq k) → IsTrue (has_interrupt shape k) × ((irq_of found).holder ≡ None → (irq_of found).want ≡ false → offer_as k (irq_of found) ≡ offer_home guest k)) → (q_of step).failed ≡ false → (q_of step).scanned ≡ false
       → Now p → Now (q_of step)
   enters_made (Look (Irq k)) other proper no_end seen failed untrapped now = let is = seen k refl in enters_look k is.0 proper is.1 now
   enters_made (Look (Vcpu v)) other proper no_end seen failed untrapped now = enters_quiet (Look (Vcpu v)) proper refl refl refl now

@@ -21,7 +21,6 @@ use Rattle.home_laws.proofs.HomeLemmas.{home_rest}
 use Rattle.ideal_guest.specs.declared.guest.IdealGuest.{IdealGuest}
 use Rattle.ideal_guest.specs.Ideal.{cpu_at}
 use Rattle.scn_base.specs.declared.guest.GuestSpec.{GuestSpec}
-use Rattle.vcpu_refill.specs.declared.offer.Offer.{Offer}
 use Rattle.vcpu_refill.specs.Plan.{plan, regs_of}
 use Rattle.port_core.specs.declared.local.Local.{Local}
 use Rattle.port_core.specs.declared.run.Made.{Made}
@@ -65,7 +64,7 @@ use Rattle.entry_laws.proofs.EnterSteps.{Enters, IsScanning, enters_made, has, l
 use Rattle.entry_laws.proofs.FillSteps.{IsReady, enters_on}
 use Rattle.entry_laws.proofs.HomeRuns.{rests_unwanted}
 use Rattle.entry_laws.proofs.InsideRuns.{IsInside, e_on, home_at, home_before, inside_all, inside_on, no_end, opens_inside, ready_at, seen_at}
-use Rattle.entry_laws.proofs.PlaceLemmas.{offer_home, offers_are}
+use Rattle.entry_laws.proofs.PlaceLemmas.{offer_as, offer_home, offers_are}
 use Rattle.entry_laws.proofs.PlanLemmas.{HasPlan}
 use Rattle.entry_laws.proofs.StayLemmas.{failed_before, untrapped_before}
 
@@ -94,9 +93,6 @@ module _ (guest : GuestSpec) (number : ℕ) (early : List CoreMoment) (part : Wh
 
     abbrev p : Progress
     p = p_at guest number early part pre
-
-    abbrev on : List Made
-    on = pre ++ made ∷ []
 
     acts : IsNextOf guest number (so_far early part pre) v (makes made)
     acts = next_so guest number early part lone pre late made e
@@ -155,13 +151,13 @@ module _ (guest : GuestSpec) (number : ℕ) (early : List CoreMoment) (part : Wh
         (enters_on shape lone.good.shape back (later is) next_track v part.lrs lone.few q lrs_q (ready_q free) now (covers_q (free_on free) (failed_q failed)))
 
     -- a look at an interrupt
-    seen : (k : Key) → made.step ≡ Look (Irq k) → IsTrue (has_interrupt shape k) × ((irq_of made.found).holder ≡ None → (irq_of made.found).want ≡ false → (let o : Offer = record { key = k; irq = irq_of made.found } in o) ≡ offer_home back k)
+    seen : (k : Key) → made.step ≡ Look (Irq k) → IsTrue (has_interrupt shape k) × ((irq_of made.found).holder ≡ None → (irq_of made.found).want ≡ false → offer_as k (irq_of made.found) ≡ offer_home back k)
     seen k step_is =
         let here : IsTrue (has_interrupt shape k) = subst (CanStep shape v) step_is is.takes.can in
         let irq : irq_of made.found ≡ record_in shape state k = ap irq_of (is.takes.found ∙ ap (λ s. word_in shape state (word_of shape v s)) step_is) in (
           here,
           λ free unwanted.
-              ap (λ i. let o : Offer = record { key = k; irq = i } in o) irq ∙ seen_at guest number early part lone resides pre (made ∷ late) e inside.along k here (ap (λ i. i.holder) (sym irq) ∙ free),
+              ap (offer_as k) irq ∙ seen_at guest number early part lone resides pre (made ∷ late) e inside.along k here (ap (λ i. i.holder) (sym irq) ∙ free),
         )
 
     -- each step after the look for a kick
@@ -199,9 +195,6 @@ module _ (guest : GuestSpec) (number : ℕ) (early : List CoreMoment) (part : Wh
       same_look step h = refl
 
   -- At its end.
-
-  abbrev whole : List CoreMoment
-  whole = early ++ moments_in part
 
   ends_now : IsNextOf guest number (so_far early part part.steps) v (ends part.answer)
   ends_now = next_at guest number lone.good (so_far early part part.steps) v (ends part.answer) (subst (IsProperRun guest number) (whole_is guest number early part) lone.proper)

@@ -19,7 +19,6 @@ use Rattle.ideal_guest.specs.declared.guest.IdealGuest.{IdealGuest}
 use Rattle.ideal_guest.specs.Ideal.{cpu_at}
 use Rattle.scn_base.specs.declared.guest.GuestSpec.{GuestSpec}
 use Rattle.call_laws.proofs.RunLemmas.{lone_ended}
-use Rattle.vcpu_refill.specs.declared.offer.Offer.{Offer}
 use Rattle.port_core.specs.declared.local.Local.{Local}
 use Rattle.port_core.specs.declared.run.Made.{Made}
 use Rattle.port_core.specs.After.{local_after}
@@ -51,7 +50,7 @@ use Rattle.entry_laws.proofs.DueLemmas.{seen_home, shown_due}
 use Rattle.entry_laws.proofs.EnterSteps.{IsScanning}
 use Rattle.entry_laws.proofs.FillSteps.{IsReady}
 use Rattle.entry_laws.proofs.HomeRuns.{home_stays}
-use Rattle.entry_laws.proofs.PlaceLemmas.{offer_home}
+use Rattle.entry_laws.proofs.PlaceLemmas.{offer_as, offer_home}
 use Rattle.entry_laws.proofs.StayLemmas.{far_stays}
 
 module _ (guest : GuestSpec) (number : ℕ) (early : List CoreMoment) (part : WholePart) where
@@ -101,9 +100,6 @@ module _ (guest : GuestSpec) (number : ℕ) (early : List CoreMoment) (part : Wh
     lrs = ap (λ (q : Progress). q.lrs) (progress_more guest number early v (begins part.operation part.lrs));
   }
     where
-      piece : List Happened
-      piece = piece_of shape (end_of_moments shape start early) part
-
       named : named_of (Some v) (piece_of shape (end_of_moments shape start early) part) ≡ []
       named =
           let ended = lone_ended guest (ideal_of shape start early) v part.operation (piece_of shape (end_of_moments shape start early) part) part.answer lone.good (subst (IsHistory guest) (ideal_next guest number lone.good early part lone.proper lone.history lone.rest lone.first) lone.history) in
@@ -121,9 +117,6 @@ module _ (guest : GuestSpec) (number : ℕ) (early : List CoreMoment) (part : Wh
     pub inside_on : IsInside guest number early part pre (made ∷ late) → IsInside guest number early part (pre ++ made ∷ []) late
     inside_on is = of (stands_for shape v is.local is.own made.step made.found) refl is.named
       where
-        rest : List Happened
-        rest = events_made shape v (local_after shape v is.local made.step made.found) (is.own ++ made ∷ []) late
-
         stands_so : (o : Option Happened) → stands_for shape v is.local is.own made.step made.found ≡ o → stands_for shape v (seat_at (state_at guest number early part pre) v).local (seat_at (state_at guest number early part pre) v).own made.step made.found ≡ o
         stands_so o f = ap (λ (s : Seat). stands_for shape v s.local s.own made.step made.found) is.seat_is ∙ f
 
@@ -192,7 +185,7 @@ module _ (guest : GuestSpec) (number : ℕ) (early : List CoreMoment) (part : Wh
     })
 
     -- a word that nobody holds says what the guest has
-    pub seen_at : (key : Key) → IsTrue (has_interrupt shape key) → (record_in shape (state_at guest number early part pre) key).holder ≡ None → (let o : Offer = record { key = key; irq = record_in shape (state_at guest number early part pre) key } in o) ≡ offer_home back key
+    pub seen_at : (key : Key) → IsTrue (has_interrupt shape key) → (record_in shape (state_at guest number early part pre) key).holder ≡ None → offer_as key (record_in shape (state_at guest number early part pre) key) ≡ offer_home back key
     seen_at key here free =
         let held = end_is guest number lone.good (so_far early part pre) run in
         seen_home guest number (so_far early part pre) v lone.good run (history_at guest number early part lone pre late e) lone.few (up_now guest number early part lone pre late e along) (alone guest number early part lone pre late e along mine)

@@ -9,6 +9,7 @@ use Rattle.gic_base.specs.Interrupt.{has_interrupt, interrupt_count, is_of_vcpu,
 use Rattle.gic_base.specs.Shape.{IsShape}
 use Rattle.gic_ideal.specs.Shown.{offers_of}
 use Rattle.gic_open.proofs.KeyLemmas.{key_at_place, key_at_there, place_within}
+use Rattle.gic_word.specs.declared.record.Irq.{Irq}
 use Rattle.history_laws.proofs.SpreadSteps.{place_at}
 use Rattle.ideal_guest.specs.declared.guest.IdealGuest.{IdealGuest}
 use Rattle.ideal_guest.specs.Ideal.{irq_at}
@@ -18,9 +19,12 @@ use Rattle.port_core.specs.Place.{index_bit}
 use Rattle.core_home.proofs.ListLemmas.{range_has, range_within}
 use Rattle.entry_laws.proofs.RisingLemmas.{Rises}
 
--- an interrupt with its record in a guest, and all of them in key order
+-- an interrupt with a record, and with its record in a guest, and all of a guest's in key order
+abbrev pub offer_as : Key → Irq → Offer
+offer_as key irq = record { key = key; irq = irq }
+
 abbrev pub offer_home : IdealGuest → Key → Offer
-offer_home guest key = record { key = key; irq = irq_at guest key }
+offer_home guest key = offer_as key (irq_at guest key)
 
 abbrev pub offers_in : GuestShape → IdealGuest → List Offer
 offers_in shape guest = map (λ place. offer_home guest (key_at shape place)) (range_with_len 0 (interrupt_count shape))
