@@ -89,7 +89,7 @@ module _ (shape : GuestShape) (good : IsShape shape) (at : Followed) (tidy : IsT
   abbrev pub cpu : CpuRec
   cpu = cpu_at state.guest vcpu
 
-  pub home_shape : (home state).shape ≡ shape
+  home_shape : (home state).shape ≡ shape
   home_shape = ap (λ (g : IdealGuest). g.shape) (home_rest state) ∙ tidy.shape_is
 
   pub home_cpu : cpu_at (home state) vcpu ≡ cpu
@@ -134,7 +134,7 @@ module _ (shape : GuestShape) (good : IsShape shape) (at : Followed) (tidy : IsT
   abbrev shown_home : Key → Candidate
   shown_home key = record { id = intid_of key; prio = (irq_at (home state) key).prio; group = (irq_at (home state) key).group }
 
-  abbrev pub delivers : Key → Bool
+  abbrev delivers : Key → Bool
   delivers key = is_deliverable key (irq_at (home state) key) vcpu cpu shape
 
   record IsAt (key : Key) (c : Candidate) : Type 0 where
@@ -166,7 +166,7 @@ module _ (shape : GuestShape) (good : IsShape shape) (at : Followed) (tidy : IsT
           ∙ ap (λ b. cond b (Some (shown_home key)) None) is.delivered ∙ ap Some is.is
 
   -- one that is deliverable is the vCPU's own
-  pub own_of : (key : Key) → IsTrue (has_interrupt shape key) → IsTrue (delivers key) → is_of_vcpu vcpu key ≡ true
+  own_of : (key : Key) → IsTrue (has_interrupt shape key) → IsTrue (delivers key) → is_of_vcpu vcpu key ≡ true
   own_of key there h = routed_own shape key (irq_at state.guest key).route vcpu (tidy.records key there).valid.route (same_route (where_is key there))
     where
       target : is_number vcpu (target_in (irq_at (home state) key).route shape) ≡ true
