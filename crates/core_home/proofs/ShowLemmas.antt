@@ -83,20 +83,20 @@ not_other false h = refl
 -- An access while the guest is up to date.
 
 module _ (shape : GuestShape) (good : IsShape shape) (at : Followed) (tidy : IsTidy shape at.ideal) (all : AllAsReached shape at) (rest : IsUpToDate shape at) (vcpu : ℕ) (few : vcpu < shape.vcpus) where
-  abbrev state : Ideal
+  abbrev pub state : Ideal
   state = at.ideal
 
-  abbrev cpu : CpuRec
+  abbrev pub cpu : CpuRec
   cpu = cpu_at state.guest vcpu
 
   home_shape : (home state).shape ≡ shape
   home_shape = ap (λ (g : IdealGuest). g.shape) (home_rest state) ∙ tidy.shape_is
 
-  home_cpu : cpu_at (home state) vcpu ≡ cpu
+  pub home_cpu : cpu_at (home state) vcpu ≡ cpu
   home_cpu = ap (λ g. cpu_at g vcpu) (home_rest state)
 
   -- an interrupt is at no interface, or stands at one as it was reached
-  data Where (key : Key) : Type 0 where
+  pub data Where (key : Key) : Type 0 where
     nowhere : ((v : ℕ) → of_key state key v ≡ []) → irq_at (home state) key ≡ irq_at state.guest key → Where key
     somewhere : (w : ℕ) (entry : Entry) → IsThere shape key (of_key state key) (record { vcpu = w; entry = entry }) → irq_at (home state) key ≡ left w (record { irq = irq_at state.guest key; entry = entry }) → IsAsReached shape at w (standing_of_key key entry) → Where key
 
@@ -107,7 +107,7 @@ module _ (shape : GuestShape) (good : IsShape shape) (at : Followed) (tidy : IsT
       not_none true e = refl
       not_none false e = absurd (let none = none_filtered (is_of key) (standing_at state w) e in cc)
 
-  where_is : (key : Key) → IsTrue (has_interrupt shape key) → Where key
+  pub where_is : (key : Key) → IsTrue (has_interrupt shape key) → Where key
   where_is key there = of (tidy.placed key).spot (tidy.placed key).is
     where
       of : (spot : Option Spot) → IsSpot shape key (of_key state key) spot → Where key
@@ -147,7 +147,7 @@ module _ (shape : GuestShape) (good : IsShape shape) (at : Followed) (tidy : IsT
     key : Key
     is_at : IsAt key c
 
-  abbrev interface : List Candidate
+  abbrev pub interface : List Candidate
   interface = candidates_at (interface_at state vcpu)
 
   abbrev among : List Candidate
@@ -229,7 +229,7 @@ module _ (shape : GuestShape) (good : IsShape shape) (at : Followed) (tidy : IsT
         home_is = home_irq shape state tidy standing.key is.there (Some (record { vcpu = vcpu; entry = standing.entry })) is;
       }
 
-  abbrev as_shown : Standing → Candidate
+  abbrev pub as_shown : Standing → Candidate
   as_shown standing = record { id = intid_of standing.key; prio = (irq_at state.guest standing.key).prio; group = (irq_at state.guest standing.key).group }
 
   record IsOne (c : Candidate) : Type 0 where
@@ -296,7 +296,7 @@ module _ (shape : GuestShape) (good : IsShape shape) (at : Followed) (tidy : IsT
 
   -- The first of them.
 
-  abbrev home_back : Key → ℕ → Entry → Irq
+  abbrev pub home_back : Key → ℕ → Entry → Irq
   home_back key w entry = left w (record { irq = irq_at state.guest key; entry = entry })
 
   same_number : (a b : ℕ) (o : Option ℕ) → is_number a o ≡ true → is_number b o ≡ true → a ≡ b
@@ -304,7 +304,7 @@ module _ (shape : GuestShape) (good : IsShape shape) (at : Followed) (tidy : IsT
   same_number a b (Some n) h k = grind (arith, common_steps, h, k)
 
   -- one that stands somewhere and is deliverable with all taken back is a candidate at the interface
-  stands_there : (key : Key) (w : ℕ) (entry : Entry) → IsThere shape key (of_key state key) (record { vcpu = w; entry = entry }) → IsAsReached shape at w (standing_of_key key entry) → IsTrue (is_deliverable key (home_back key w entry) vcpu cpu shape) → Contains interface (as_shown (standing_of_key key entry))
+  pub stands_there : (key : Key) (w : ℕ) (entry : Entry) → IsThere shape key (of_key state key) (record { vcpu = w; entry = entry }) → IsAsReached shape at w (standing_of_key key entry) → IsTrue (is_deliverable key (home_back key w entry) vcpu cpu shape) → Contains interface (as_shown (standing_of_key key entry))
   stands_there key w entry is reached h = of entry.pending refl
     where
       irq : Irq
@@ -341,7 +341,7 @@ module _ (shape : GuestShape) (good : IsShape shape) (at : Followed) (tidy : IsT
           let here : of_key state key vcpu ≡ standing_of_key key entry ∷ [] = subst (λ v. of_key state key v ≡ standing_of_key key entry ∷ []) same is.here in
           to_interface (standing_of_key key entry) (filtered_from (is_of key) (standing_at state vcpu) (standing_of_key key entry) (subst (λ l. Contains l (standing_of_key key entry)) (sym here) (Contains-here (standing_of_key key entry) []))) e inactive enabled
 
-  is_home_so : (key : Key) → ((v : ℕ) → of_key state key v ≡ []) → is_home state key ≡ true
+  pub is_home_so : (key : Key) → ((v : ℕ) → of_key state key v ≡ []) → is_home state key ≡ true
   is_home_so key none = ap not (any_nowhere (is_of key) state.at (λ n. none_passes (is_of key) (standing_at state n) (none n)))
 
   module _ (reg : IccReg) (write : Option ℕ) (finds : FindsAll shape state vcpu reg write) where

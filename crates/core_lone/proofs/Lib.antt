@@ -1,4 +1,5 @@
 pub mod HereLemmas
 pub mod EaseRuns
+pub mod LoneLemmas
 pub mod LoneRuns
 pub mod WorkedLemmas

@@ -1,13 +1,13 @@
 -- An access of a vCPU that is alone finds all that is there for it.
-use Rattle.std.proofs.Common.{◌≡◌, ◌≢◌, ℕ, ◌<◌, ◌==◌, ◌&&◌, ◌||◌, inl, inr, true≢false, Bool, true, false, IsTrue, List, map, Option, Some, None, is_none, is_some, refl, sym, ap, ◌∙◌, subst}
+use Rattle.std.proofs.Common.{◌≡◌, ℕ, ◌<◌, ◌&&◌, ◌||◌, Bool, true, false, IsTrue, List, map, Option, Some, None, is_none, refl, sym, ap, ◌∙◌, subst}
 use Rattle.std.specs.Option.{option_map_or}
-use Rattle.std.proofs.lemmas.Bool.{cases_eq, and_parts, and_from, eqb-true, lt-ltb}
+use Rattle.std.proofs.lemmas.Bool.{and_parts, and_from, eqb-true}
 use Rattle.gic_base.specs.declared.icc.IccReg.{IccReg}
 use Rattle.gic_base.specs.declared.icc.IccReg.TheVariants.{Eoir0, Eoir1, Dir}
 use Rattle.gic_base.specs.declared.interrupt.Key.{Key}
 use Rattle.gic_base.specs.declared.shape.GuestShape.{GuestShape}
 use Rattle.gic_base.specs.Interrupt.{has_interrupt, intid_of}
-use Rattle.gic_history.specs.Fresh.{Turn, asks_first, changes_of, comes_first, doing_of, ended_by, is_far_active}
+use Rattle.gic_history.specs.Fresh.{asks_first, comes_first, ended_by, is_far_active}
 use Rattle.gic_history.specs.State.{interface_at, shown_at, is_home, standing_at}
 use Rattle.gic_prio.specs.Delivery.{first_of, is_before, is_deliverable, is_group_enabled, takes_kind}
 use Rattle.gic_prio.specs.Interface.{InterfaceState, candidates_at}
@@ -21,33 +21,27 @@ use Rattle.scn_base.specs.Good.{IsGoodGuest}
 use Rattle.port_core.specs.declared.local.Local.{Local}
 use Rattle.port_core.specs.declared.local.Phase.{Phase}
 use Rattle.port_core.specs.declared.local.Phase.TheVariants.{Folding}
-use Rattle.port_core.specs.declared.word_id.WordId.TheVariants.{Irq as IrqWord, Vcpu}
-use Rattle.port_core.specs.Actor.{actor_count}
 use Rattle.port_core.specs.After.{interface_of, shown}
 use Rattle.port_core.specs.Condition.{is_ready}
-use Rattle.port_core.specs.Run.{CoreState, opening, seat_at}
+use Rattle.port_core.specs.Run.{CoreState, opening}
 use Rattle.core_proper.specs.Ideal.{end_of_moments}
 use Rattle.core_proper.specs.Parts.{CoreMoment}
 use Rattle.core_proper.specs.Progress.{Progress, opening_progress, progress_in}
 use Rattle.core_proper.specs.Proper.{IsProperRun}
-use Rattle.core_proper.specs.Scan.{has_key}
-use Rattle.core_laws.specs.Related.{bare, but_lpis, is_folding}
+use Rattle.core_laws.specs.Related.{is_folding}
 use Rattle.core_laws.proofs.AccessLemmas.{shown_same}
-use Rattle.core_laws.proofs.CpuLemmas.{with_lpis}
-use Rattle.core_fresh.specs.Excuse.{followed_in, is_current, IsExcused}
+use Rattle.core_fresh.specs.Excuse.{followed_in}
 use Rattle.core_regs.specs.Followed.{Followed}
 use Rattle.core_fresh.specs.First.{MayAsk}
-use Rattle.core_fresh.specs.Index.{owes_kick, waits_for}
+use Rattle.core_fresh.specs.Index.{waits_for}
 use Rattle.core_fresh.specs.Waiting.{record_in}
-use Rattle.core_regs.specs.Asks.{IsUnkicked}
-use Rattle.core_fresh.proofs.CopySteps.{copies_are_current}
 use Rattle.core_fresh.proofs.FarSteps.{far_ends_are_known}
 use Rattle.core_fresh.proofs.FirstRuns.{first_comes_first}
 use Rattle.core_fresh.proofs.Frame.{IsAt, progress_on}
-use Rattle.core_fresh.proofs.WantRuns.{wants_are_kept}
 use Rattle.core_home.specs.UpToDate.{FindsAll}
 use Rattle.core_lone.specs.Lone.{IsAlone, IsReadyFor, LoneAccessesFindAll}
-use Rattle.core_lone.proofs.HereLemmas.{end_is, p_is, local_is, an_actor, nobody_holds}
+use Rattle.core_lone.proofs.HereLemmas.{end_is, local_is, an_actor, nobody_holds}
+use Rattle.core_lone.proofs.LoneLemmas.{cpu_is, none_excused, not_wanted, record_is}
 
 -- an end names an interrupt of the guest
 pub ended_there : (shape : GuestShape) (vcpu : ℕ) (reg : IccReg) (write : Option ℕ) (key : Key) → ended_by shape vcpu reg write ≡ Some key → IsTrue (has_interrupt shape key)
@@ -84,40 +78,7 @@ module _ (guest : GuestSpec) (number : ℕ) (moments : List CoreMoment) (vcpu : 
   here : IsAt shape state at (progress_on shape (opening_progress guest number) moments)
   here = end_is guest number good moments proper
 
-  -- a call that goes on is the vCPU's
-  nobody_else : (turn : Turn) → turn.actor < actor_count shape → IsTrue (is_current at.track turn) → turn.actor ≡ vcpu
-  nobody_else turn there current = elim (cases_eq turn.actor vcpu) [
-    | inl e ↦ e
-    | inr differ ↦
-        let none : (doing_of at.track turn.actor).operation ≡ None = here.calls turn.actor there ∙ ap (λ (q : Progress). q.operation) (p_is guest number moments good proper turn.actor) ∙ alone.nobody turn.actor there differ in
-        absurd (true≢false (sym current ∙ ap (λ o. is_some o && (doing_of at.track turn.actor).number == turn.number) none))
-  ]
-
-  none_excused : (key : Key) → IsExcused shape state at.track vcpu key → ⊥
-  none_excused key excused = elim (cases_eq excused.actor vcpu) [
-    | inl e ↦ true≢false (sym (subst (λ n. IsTrue (owes_kick vcpu (seat_at state n).local)) e excused.owes) ∙ alone.owes_none)
-    | inr differ ↦ by (changes_of shape at.track key).last excused.last differ
-  ]
-    where
-      by : (o : Option Turn) → IsTrue (option_map_or (λ turn. turn.actor == excused.actor && is_current at.track turn) o false) → excused.actor ≢ vcpu → ⊥
-      by None h differ = true≢false (sym h)
-      by (Some turn) h differ =
-          let both = and_parts (turn.actor == excused.actor) (is_current at.track turn) h in
-          let same = eqb-true turn.actor excused.actor both.0 in
-          differ (sym same ∙ nobody_else turn (subst (λ n. n < actor_count shape) (sym same) excused.there) both.1)
-
   -- What the access finds.
-
-  record_is : (key : Key) → IsTrue (has_interrupt shape key) → (record_in shape state key).holder ≡ None → bare (record_in shape state key) ≡ irq_at at.ideal.guest key
-  record_is key there none = (here.related.words (IrqWord key) there).home none
-
-  cpu_is : IsUnkicked shape state vcpu → is_folding (p vcpu).local.phase ≡ false → cpu_at at.ideal.guest vcpu ≡ (p vcpu).local.cpu
-  cpu_is unkicked stays =
-      let ideal = cpu_at at.ideal.guest vcpu in
-      let own = (p vcpu).local.cpu in
-      let lpis : ideal.lpis ≡ own.lpis = here.related.words (Vcpu vcpu) (lt-ltb vcpu shape.vcpus few) ∙ sym (copies_are_current guest number moments vcpu good proper few unkicked stays) in
-      let rest : but_lpis ideal ≡ but_lpis own = (here.related.seats vcpu few).cpu.same ∙ ap (λ (l : Local). but_lpis l.cpu) (sym (local_is guest number moments good proper vcpu (an_actor guest number moments good proper vcpu few))) in
-      ap (with_lpis ideal.lpis) rest ∙ ap (λ b. with_lpis b own) lpis
 
   interface_is : cpu_at at.ideal.guest vcpu ≡ (p vcpu).local.cpu → interface_at at.ideal vcpu ≡ interface_of (p vcpu).local
   interface_is cpu =
@@ -129,8 +90,8 @@ module _ (guest : GuestSpec) (number : ℕ) (moments : List CoreMoment) (vcpu : 
       → option_map_or (is_before (record { id = intid_of key; prio = (irq_at at.ideal.guest key).prio; group = (irq_at at.ideal.guest key).group })) (first_of (candidates_at (interface_at at.ideal vcpu))) true ≡ false
   none_first asks key there none deliverable =
       subst (λ (i : InterfaceState). option_map_or (is_before (record { id = intid_of key; prio = (irq_at at.ideal.guest key).prio; group = (irq_at at.ideal.guest key).group })) (first_of (candidates_at i)) true ≡ false) (sym (interface_is cpu))
-      (subst (λ (i : Irq). option_map_or (is_before (record { id = intid_of key; prio = i.prio; group = i.group })) (first_of (candidates_at (interface_of (p vcpu).local))) true ≡ false) (record_is key there none)
-      (first_comes_first guest number moments vcpu key good proper few may (record { waiting = record { there = there; home = none; unwanted = unwanted; waits = waits }; told = none_excused key }) deliverable_here))
+      (subst (λ (i : Irq). option_map_or (is_before (record { id = intid_of key; prio = i.prio; group = i.group })) (first_of (candidates_at (interface_of (p vcpu).local))) true ≡ false) (record_is guest number moments vcpu good proper few alone key there none)
+      (first_comes_first guest number moments vcpu key good proper few may (record { waiting = record { there = there; home = none; unwanted = unwanted; waits = waits }; told = none_excused guest number moments vcpu good proper few alone key }) deliverable_here))
     where
       may : MayAsk shape state vcpu (p vcpu)
       may = (ready.first asks).asks
@@ -139,10 +100,10 @@ module _ (guest : GuestSpec) (number : ℕ) (moments : List CoreMoment) (vcpu : 
       word = record_in shape state key
 
       cpu : cpu_at at.ideal.guest vcpu ≡ (p vcpu).local.cpu
-      cpu = cpu_is (ready.first asks).asks.unkicked (not_folding (p vcpu).local.phase (ready.first asks).asks.loaded.ready)
+      cpu = cpu_is guest number moments vcpu good proper few alone (ready.first asks).asks.unkicked (not_folding (p vcpu).local.phase (ready.first asks).asks.loaded.ready)
 
       deliverable_here : IsTrue (is_deliverable key (record_in shape state key) vcpu (p vcpu).local.cpu shape)
-      deliverable_here = subst (λ (i : Irq). IsTrue (is_deliverable key i vcpu (p vcpu).local.cpu shape)) (sym (record_is key there none)) (subst (λ c. IsTrue (is_deliverable key (irq_at at.ideal.guest key) vcpu c shape)) cpu deliverable)
+      deliverable_here = subst (λ (i : Irq). IsTrue (is_deliverable key i vcpu (p vcpu).local.cpu shape)) (sym (record_is guest number moments vcpu good proper few alone key there none)) (subst (λ c. IsTrue (is_deliverable key (irq_at at.ideal.guest key) vcpu c shape)) cpu deliverable)
 
       waits : IsTrue (waits_for shape vcpu (record_in shape state key))
       waits =
@@ -151,13 +112,7 @@ module _ (guest : GuestSpec) (number : ℕ) (moments : List CoreMoment) (vcpu : 
           ap (λ b. b || is_number vcpu (record_in shape state key).act_by) (and_from (is_none (record_in shape state key).act_by) (is_ripe (record_in shape state key) vcpu shape) two.1 two.0)
 
       unwanted : (record_in shape state key).want ≡ false
-      unwanted = of (record_in shape state key).want refl
-        where
-          of : (b : Bool) → (record_in shape state key).want ≡ b → b ≡ false
-          of false e = refl
-          of true e =
-              let wanted = wants_are_kept guest number moments good proper.parted key there e in
-              absurd (true≢false (sym wanted.wants ∙ ap (has_key key) ((ready.first asks).unwanted wanted.actor wanted.there)))
+      unwanted = not_wanted guest number moments vcpu good proper few alone (ready.first asks).unwanted key there
 
   first_is : asks_first reg write ≡ true → (key : Key) → IsTrue (has_interrupt shape key) → comes_first at.ideal vcpu key ≡ false
   first_is asks key there = of (comes_first at.ideal vcpu key) refl
@@ -190,7 +145,7 @@ module _ (guest : GuestSpec) (number : ℕ) (moments : List CoreMoment) (vcpu : 
       of true e =
           let both = and_parts (is_home at.ideal key) (is_number vcpu (irq_at at.ideal.guest key).act_by) e in
           let none = nobody_holds guest number moments good proper key there both.0 in
-          absurd (none_excused key (far_ends_are_known guest number moments vcpu key good proper few (ready.ends key ends none) none (ap (λ (i : Irq). i.act_by) (record_is key there none) ∙ active (irq_at at.ideal.guest key).act_by both.1)))
+          absurd (none_excused guest number moments vcpu good proper few alone key (far_ends_are_known guest number moments vcpu key good proper few (ready.ends key ends none) none (ap (λ (i : Irq). i.act_by) (record_is guest number moments vcpu good proper few alone key there none) ∙ active (irq_at at.ideal.guest key).act_by both.1)))
 
   pub finds : FindsAll shape at.ideal vcpu reg write
   finds = record { first = first_is; end = far_is }

@@ -96,7 +96,7 @@ AllRest guest number moments = (actor : ℕ) → actor < actor_count guest.shape
 pub rest_opens : (guest : GuestSpec) (number : ℕ) → AllRest guest number []
 rest_opens guest number actor there = record { operation = refl; wants = refl }
 
-none_wanted : (keys : List Key) → IsTrue (wants_nothing keys) → keys ≡ []
+pub none_wanted : (keys : List Key) → IsTrue (wants_nothing keys) → keys ≡ []
 none_wanted [] h = refl
 none_wanted (key ∷ keys) h = absurd (cc)
 

@@ -3,6 +3,7 @@ pub mod PartLemmas
 pub mod FirstRuns
 pub mod AloneRuns
 pub mod WantLemmas
+pub mod AlongRuns
 pub mod ShowRuns
 pub mod SerialRuns
 pub mod WorkedLemmas

@@ -121,7 +121,7 @@ module _ (guest : GuestSpec) (number : ℕ) (good : IsGoodGuest guest) (early : 
     | inl other ↦ quiet_shows part.actor piece (last_of guest (ideal_of shape start early)) (call_quiet shape ended.ended.beside (vcpu_of shape part.actor) part.operation piece part.answer other ended.is_call)
     | inr icc ↦
         let few = (subst (IsGoodCall shape part.actor) icc.is able).0 in
-        part_shows guest number early part icc.reg icc.write good proper history rest first up few icc.is (icc_raises shape part.actor icc.reg icc.write) (raises_all is_no_access named_so shape part.actor icc.reg icc.write)
+        part_shows guest number early part icc.reg icc.write (record { good = good; proper = proper; history = history; rest = rest; first = first; up = up; few = few }) icc.is (icc_raises shape part.actor icc.reg icc.write) (raises_all is_no_access named_so shape part.actor icc.reg icc.write)
         (seat_at before part.actor).local (seat_at before part.actor).own refl
         (named_first shape ended.ended.beside part.actor icc.reg icc.write piece part.answer few (subst (λ op. IsCall shape ended.ended.beside (vcpu_of shape part.actor) op piece part.answer) icc.is ended.is_call))
   ]

@@ -1,4 +1,4 @@
--- What an access that asks for the first interrupt wants: nothing.
+-- What a call that names no interrupt wants: nothing.
 use Rattle.std.proofs.Common.{◌≡◌, ℕ, not, true≢false, Bool, true, false, if◌then◌else◌, IsTrue, [], filter, Option, Some, None, unwrap_or, refl, sym, ap, ◌∙◌, subst}
 use Rattle.std.specs.Option.{option_map_or}
 use Rattle.gic_base.specs.declared.icc.IccReg.{IccReg}
@@ -7,6 +7,7 @@ use Rattle.gic_base.specs.declared.interrupt.Key.{Key}
 use Rattle.gic_base.specs.declared.operation.GuestOp.TheVariants.{Icc}
 use Rattle.gic_base.specs.declared.shape.GuestShape.{GuestShape}
 use Rattle.gic_base.specs.Interrupt.{is_same_key}
+use Rattle.gic_call.specs.declared.event.Operation.{Operation}
 use Rattle.gic_call.specs.declared.event.Operation.TheVariants.{Access}
 use Rattle.gic_call.specs.View.{View}
 use Rattle.gic_history.specs.Fresh.{asks_first}
@@ -83,21 +84,22 @@ wants_stay shape actor (Mark k v) found done p other none = none
 wants_stay shape actor (TakeIndex w) found done p other none = none
 
 -- an access that asks for the first interrupt names none
-names_none : (shape : GuestShape) (view : View) (actor : ℕ) (reg : IccReg) (write : Option ℕ) (key : Key) → asks_first reg write ≡ true → names shape view actor (Access (Icc reg write)) key ≡ false
+pub names_none : (shape : GuestShape) (view : View) (actor : ℕ) (reg : IccReg) (write : Option ℕ) (key : Key) → asks_first reg write ≡ true → names shape view actor (Access (Icc reg write)) key ≡ false
 names_none shape view actor Iar0 None key asks = refl
 names_none shape view actor Iar1 None key asks = refl
 names_none shape view actor Hppir0 None key asks = refl
 names_none shape view actor Hppir1 None key asks = refl
 names_none shape view actor reg write key asks = absurd (true≢false (sym asks))
 
-asks_none : (shape : GuestShape) (actor : ℕ) (p : Progress) (reg : IccReg) (write : Option ℕ) → asks_first reg write ≡ true → p.operation ≡ Some (Access (Icc reg write)) → (step : CoreStep) → IsTrue (keeps_want shape actor p step) → is_want step ≡ false
+asks_none : (shape : GuestShape) (actor : ℕ) (p : Progress) (operation : Operation) → ((view : View) (key : Key) → names shape view actor operation key ≡ false) → p.operation ≡ Some operation → (step : CoreStep) → IsTrue (keeps_want shape actor p step) → is_want step ≡ false
 unfolding is_want
-asks_none shape actor p reg write asks operation (Want key) keeps =
-    absurd (true≢false (sym (subst (λ o. option_map_or (λ operation. names shape (known_view shape actor p.own) actor operation key) o false ≡ true) operation keeps) ∙ names_none shape (known_view shape actor p.own) actor reg write key asks))
-asks_none shape actor p reg write asks operation step keeps = refl
+asks_none shape actor p operation none is (Want key) keeps =
+    absurd (true≢false (sym (subst (λ o. option_map_or (λ operation. names shape (known_view shape actor p.own) actor operation key) o false ≡ true) is keeps) ∙ none (known_view shape actor p.own) key))
+asks_none shape actor p operation none is step keeps = refl
 
-pub wants_none : (shape : GuestShape) (actor : ℕ) (made : Made) (p : Progress) (reg : IccReg) (write : Option ℕ) → asks_first reg write ≡ true → p.operation ≡ Some (Access (Icc reg write)) → IsTrue (keeps_want shape actor p made.step) → p.wants ≡ []
+-- while a call names none nothing is wanted
+pub wants_none : (shape : GuestShape) (actor : ℕ) (made : Made) (p : Progress) (operation : Operation) → ((view : View) (key : Key) → names shape view actor operation key ≡ false) → p.operation ≡ Some operation → IsTrue (keeps_want shape actor p made.step) → p.wants ≡ []
     → (stepped shape actor made p).wants ≡ []
-wants_none shape actor made p reg write asks operation keeps none =
+wants_none shape actor made p operation none is keeps unwanted =
     wants_on shape actor (with_made shape actor made p (changed_by shape actor made.step made.found (succeeds shape actor p.local made.step made.found) p))
-    ∙ wants_stay shape actor made.step made.found (succeeds shape actor p.local made.step made.found) p (asks_none shape actor p reg write asks operation made.step keeps) none
+    ∙ wants_stay shape actor made.step made.found (succeeds shape actor p.local made.step made.found) p (asks_none shape actor p operation none is made.step keeps) unwanted

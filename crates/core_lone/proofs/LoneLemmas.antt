@@ -1,0 +1,92 @@
+-- What is so of a vCPU that is alone.
+use Rattle.std.proofs.Common.{◌≡◌, ◌≢◌, ℕ, ◌<◌, ◌==◌, ◌&&◌, inl, inr, true≢false, Bool, true, false, IsTrue, List, [], Option, Some, None, is_some, refl, sym, ap, ◌∙◌, subst}
+use Rattle.std.specs.Option.{option_map_or}
+use Rattle.std.proofs.lemmas.Bool.{cases_eq, and_parts, eqb-true, lt-ltb}
+use Rattle.gic_base.specs.declared.interrupt.Key.{Key}
+use Rattle.gic_base.specs.declared.shape.GuestShape.{GuestShape}
+use Rattle.gic_base.specs.Interrupt.{has_interrupt}
+use Rattle.gic_history.specs.Fresh.{Turn, changes_of, doing_of}
+use Rattle.ideal_guest.specs.Ideal.{irq_at, cpu_at}
+use Rattle.scn_base.specs.declared.guest.GuestSpec.{GuestSpec}
+use Rattle.scn_base.specs.Good.{IsGoodGuest}
+use Rattle.port_core.specs.declared.local.Local.{Local}
+use Rattle.port_core.specs.declared.word_id.WordId.TheVariants.{Irq as IrqWord, Vcpu}
+use Rattle.port_core.specs.Actor.{actor_count}
+use Rattle.port_core.specs.Run.{CoreState, opening, seat_at}
+use Rattle.core_proper.specs.Ideal.{end_of_moments}
+use Rattle.core_proper.specs.Parts.{CoreMoment}
+use Rattle.core_proper.specs.Progress.{Progress, opening_progress, progress_in}
+use Rattle.core_proper.specs.Proper.{IsProperRun}
+use Rattle.core_proper.specs.Scan.{has_key}
+use Rattle.core_laws.specs.Related.{bare, but_lpis, is_folding}
+use Rattle.core_laws.proofs.CpuLemmas.{with_lpis}
+use Rattle.core_fresh.specs.Excuse.{followed_in, is_current, IsExcused}
+use Rattle.core_regs.specs.Followed.{Followed}
+use Rattle.core_fresh.specs.Index.{owes_kick}
+use Rattle.core_fresh.specs.Waiting.{record_in}
+use Rattle.core_regs.specs.Asks.{IsUnkicked}
+use Rattle.core_fresh.proofs.CopySteps.{copies_are_current}
+use Rattle.core_fresh.proofs.Frame.{IsAt, progress_on}
+use Rattle.core_fresh.proofs.WantRuns.{wants_are_kept}
+use Rattle.core_lone.specs.Lone.{IsAlone}
+use Rattle.core_lone.proofs.HereLemmas.{end_is, p_is, local_is, an_actor}
+
+module _ (guest : GuestSpec) (number : ℕ) (moments : List CoreMoment) (vcpu : ℕ) (good : IsGoodGuest guest) (proper : IsProperRun guest number moments) (few : vcpu < guest.shape.vcpus) (alone : IsAlone guest number moments vcpu) where
+  abbrev shape : GuestShape
+  shape = guest.shape
+
+  abbrev state : CoreState
+  state = end_of_moments guest.shape (opening guest number) moments
+
+  abbrev at : Followed
+  at = followed_in guest number moments
+
+  abbrev p : ℕ → Progress
+  p = progress_in guest number moments
+
+  here : IsAt shape state at (progress_on shape (opening_progress guest number) moments)
+  here = end_is guest number good moments proper
+
+  -- a call that goes on is the vCPU's
+  nobody_else : (turn : Turn) → turn.actor < actor_count shape → IsTrue (is_current at.track turn) → turn.actor ≡ vcpu
+  nobody_else turn there current = elim (cases_eq turn.actor vcpu) [
+    | inl e ↦ e
+    | inr differ ↦
+        let none : (doing_of at.track turn.actor).operation ≡ None = here.calls turn.actor there ∙ ap (λ (q : Progress). q.operation) (p_is guest number moments good proper turn.actor) ∙ alone.nobody turn.actor there differ in
+        absurd (true≢false (sym current ∙ ap (λ o. is_some o && (doing_of at.track turn.actor).number == turn.number) none))
+  ]
+
+  -- each change was told
+  pub none_excused : (key : Key) → IsExcused shape state at.track vcpu key → ⊥
+  none_excused key excused = elim (cases_eq excused.actor vcpu) [
+    | inl e ↦ true≢false (sym (subst (λ n. IsTrue (owes_kick vcpu (seat_at state n).local)) e excused.owes) ∙ alone.owes_none)
+    | inr differ ↦ by (changes_of shape at.track key).last excused.last differ
+  ]
+    where
+      by : (o : Option Turn) → IsTrue (option_map_or (λ turn. turn.actor == excused.actor && is_current at.track turn) o false) → excused.actor ≢ vcpu → ⊥
+      by None h differ = true≢false (sym h)
+      by (Some turn) h differ =
+          let both = and_parts (turn.actor == excused.actor) (is_current at.track turn) h in
+          let same = eqb-true turn.actor excused.actor both.0 in
+          differ (sym same ∙ nobody_else turn (subst (λ n. n < actor_count shape) (sym same) excused.there) both.1)
+
+  -- a word says what the ideal controller's record does
+  pub record_is : (key : Key) → IsTrue (has_interrupt shape key) → (record_in shape state key).holder ≡ None → bare (record_in shape state key) ≡ irq_at at.ideal.guest key
+  record_is key there none = (here.related.words (IrqWord key) there).home none
+
+  -- and the vCPU has the CPU record of that
+  pub cpu_is : IsUnkicked shape state vcpu → is_folding (p vcpu).local.phase ≡ false → cpu_at at.ideal.guest vcpu ≡ (p vcpu).local.cpu
+  cpu_is unkicked stays =
+      let ideal = cpu_at at.ideal.guest vcpu in
+      let own = (p vcpu).local.cpu in
+      let lpis : ideal.lpis ≡ own.lpis = here.related.words (Vcpu vcpu) (lt-ltb vcpu shape.vcpus few) ∙ sym (copies_are_current guest number moments vcpu good proper few unkicked stays) in
+      let rest : but_lpis ideal ≡ but_lpis own = (here.related.seats vcpu few).cpu.same ∙ ap (λ (l : Local). but_lpis l.cpu) (sym (local_is guest number moments good proper vcpu (an_actor guest number moments good proper vcpu few))) in
+      ap (with_lpis ideal.lpis) rest ∙ ap (λ b. with_lpis b own) lpis
+
+  -- where no actor wants an interrupt, no access waits for one
+  pub not_wanted : ((actor : ℕ) → actor < actor_count shape → (p actor).wants ≡ []) → (key : Key) → IsTrue (has_interrupt shape key) → (record_in shape state key).want ≡ false
+  not_wanted none key there = of (record_in shape state key).want refl
+    where
+      of : (b : Bool) → (record_in shape state key).want ≡ b → b ≡ false
+      of false e = refl
+      of true e = let wanted = wants_are_kept guest number moments good proper.parted key there e in absurd (true≢false (sym wanted.wants ∙ ap (has_key key) (none wanted.actor wanted.there)))

@@ -1,0 +1,11 @@
+pub mod RisingLemmas
+pub mod PlaceLemmas
+pub mod PlanLemmas
+pub mod DueLemmas
+pub mod EnterSteps
+pub mod FillSteps
+pub mod HomeRuns
+pub mod StayLemmas
+pub mod InsideRuns
+pub mod EntryRuns
+pub mod WorkedLemmas
