@@ -1,0 +1,5 @@
+pub mod PartLemmas
+pub mod MapsLemmas
+pub mod ListLemmas
+pub mod CommandLemmas
+pub mod CommandLaws
