@@ -1,5 +1,5 @@
 -- Laws of the LPIs that the maps of an ITS give no vCPU, under the eager controller.
-use Rattle.std.specs.Prelude.{ℕ, ◌<◌, IsTrue}
+use Rattle.std.specs.Prelude.{ℕ}
 use Rattle.gic_base.specs.declared.operation.DeviceOp.{DeviceOp}
 use Rattle.gic_base.specs.declared.operation.GuestOp.{GuestOp}
 use Rattle.gic_call.specs.Call.{device_events}
@@ -10,7 +10,7 @@ use Rattle.ideal_guest.specs.Opening.{opening}
 use Rattle.ideal_guest.specs.Sound.{IsSound}
 use Rattle.gic_ideal.specs.Deeds.{op_events}
 use Rattle.scn_base.specs.declared.guest.GuestSpec.{GuestSpec}
-use Rattle.scn_base.specs.Good.{IsGoodGuest, is_good_op, is_good_event}
+use Rattle.scn_base.specs.Good.{IsGoodGuest}
 use Rattle.map_laws.specs.Mapped.{AreForNone}
 
 -- they are for none as a good guest opens
@@ -23,8 +23,7 @@ CommandsLeaveNone = (guest : IdealGuest) → IsSound guest → AreForNone guest 
 
 -- after an operation of a vCPU, with all commands that it starts
 abbrev pub AccessesLeaveNone : Type 0
-AccessesLeaveNone =
-    (guest : IdealGuest) (vcpu : ℕ) (op : GuestOp) → IsSound guest → AreForNone guest → vcpu < guest.shape.vcpus → IsTrue (is_good_op guest.shape op) → AreForNone (after_events (op_events op guest vcpu) guest)
+AccessesLeaveNone = (guest : IdealGuest) (vcpu : ℕ) (op : GuestOp) → IsSound guest → AreForNone guest → AreForNone (after_events (op_events op guest vcpu) guest)
 
 -- and after what a device does
 abbrev pub DevicesLeaveNone : Type 0

@@ -3,4 +3,4 @@
 
 mod laws;
 
-pub use laws::commands_leave_none;
+pub use laws::{accesses_leave_none, commands_leave_none, devices_leave_none, open_for_none};
