@@ -23,14 +23,13 @@ use Rattle.gic_dmap.specs.declared.map.RegRef.{RegRef as DistRef}
 use Rattle.gic_dmap.specs.declared.map.RegRef.TheVariants.{Bits as DistBits, Plain as DistPlain, Reserved as DistReserved}
 use Rattle.gic_dmap.specs.Contents.{enables_in, message_intid}
 use Rattle.gic_dmap.specs.Map.{decoded as dist_decoded}
-use Rattle.gic_frame.specs.declared.bank.Half.{Half}
 use Rattle.gic_frame.specs.Guest.{has_lpis}
 use Rattle.gic_frame.specs.Half.{half_written}
 use Rattle.gic_imap.specs.declared.map.Reg.{Reg as ItsReg}
-use Rattle.gic_imap.specs.declared.map.Reg.TheVariants.{Ctlr as ItsCtlrReg, Cbaser as CbaserReg, Cwriter as CwriterReg, Baser0 as Baser0Reg, Baser1 as Baser1Reg}
+use Rattle.gic_imap.specs.declared.map.Reg.TheVariants.{Cbaser as CbaserReg, Cwriter as CwriterReg, Baser0 as Baser0Reg, Baser1 as Baser1Reg}
 use Rattle.gic_imap.specs.declared.map.RegRef.{RegRef as ItsRef}
 use Rattle.gic_imap.specs.declared.map.RegRef.TheVariants.{Plain as ItsPlain, Reserved as ItsReserved}
-use Rattle.gic_imap.specs.Contents.{queue_offset, retries}
+use Rattle.gic_imap.specs.Contents.{retries}
 use Rattle.gic_imap.specs.Map.{decoded as its_decoded}
 use Rattle.gic_open.specs.declared.plain.PlainWord.TheVariants.{Ram, Pendbaser, Cbaser, Cwriter}
 use Rattle.gic_ram.specs.Access.{part_of, inserted}
@@ -47,8 +46,8 @@ use Rattle.gic_call.specs.declared.event.Event.TheVariants.{Raise, Touch, Put, C
 use Rattle.gic_call.specs.declared.event.QueueChange.TheVariants.{Runs}
 use Rattle.gic_call.specs.declared.touch.Touching.{Touching}
 use Rattle.gic_call.specs.declared.touch.Touching.TheVariants.{Register, Enables as CopyEnables}
-use Rattle.gic_call.specs.Access.{part_touch, part_event, part_events, part_at, of_spi, router_touch, copy_at, ctlr_events, dist_events, is_table_zero, is_in_table, pended_at, redist_events, is_in_queue, its_written, memory_written}
-use Rattle.gic_call.specs.Call.{sgi_at, icc_raises, icc_events, its_events, access_events, device_events}
+use Rattle.gic_call.specs.Access.{part_touch, part_event, part_events, part_at, of_spi, router_touch, copy_at, dist_events, is_table_zero, is_in_table, pended_at, redist_events, is_in_queue, its_written, memory_written}
+use Rattle.gic_call.specs.Call.{sgi_at, icc_events, its_events, access_events, device_events}
 use Rattle.gic_call.specs.View.{View, is_its_enabled}
 use Rattle.history_laws.proofs.QuietLemmas.{all_both, all_found}
 use Rattle.map_laws.proofs.EventLemmas.{is_calm}

@@ -1,5 +1,5 @@
 -- The law of the next command of a queue.
-use Rattle.std.proofs.Common.{◌≡◌, ℕ, cond, is_none, List, [], ◌∷◌, Option, Some, None, Result, Ok, Err, map, refl, sym, ap, ◌∙◌, subst}
+use Rattle.std.proofs.Common.{◌≡◌, ℕ, cond, is_none, [], ◌∷◌, Option, Some, None, Result, Ok, Err, map, refl, sym, ap, ◌∙◌, subst}
 use Rattle.std.specs.Option.{option_map, option_map_or}
 use Rattle.std.proofs.lemmas.List.Sums.{fold-append}
 use Rattle.std.proofs.lemmas.Option.{none-some}
@@ -10,16 +10,12 @@ use Rattle.its_tab.specs.After.{maps_after}
 use Rattle.its_tab.specs.Collection.{has_target}
 use Rattle.its_tab.specs.Fault.{number_of, fault_of, fault_number}
 use Rattle.its_tab.proofs.TableLemmas.{unmapped}
-use Rattle.gic_call.specs.declared.command.Part.{Part}
-use Rattle.gic_call.specs.declared.event.Event.{Event}
 use Rattle.gic_call.specs.declared.event.Event.TheVariants.{Queue}
 use Rattle.gic_call.specs.declared.event.QueueChange.TheVariants.{Done, Stalls}
 use Rattle.gic_call.specs.Command.{parts, lpi_event, command_words, next_offset, decoded_parts, command_parts, queue_event, maps_by, maps_done}
-use Rattle.gic_call.specs.View.{View}
 use Rattle.ideal_guest.specs.declared.guest.IdealGuest.{IdealGuest}
 use Rattle.ideal_guest.specs.Ideal.{view_of, after_event, after_events, after_command}
 use Rattle.ideal_guest.specs.Sound.{IsSound}
-use Rattle.ideal_guest.proofs.KeyLemmas.{IsWhole}
 use Rattle.ideal_guest.proofs.QueueLemmas.{kept_parts, bad_command}
 use Rattle.map_laws.specs.Laws.{CommandsLeaveNone}
 use Rattle.map_laws.specs.Mapped.{AreForNone}

@@ -1,6 +1,6 @@
 -- What a command without a fault makes of an LPI that the maps give no vCPU after it.
-use Rattle.std.proofs.Common.{◌≡◌, ℕ, ◌+◌, ◌==◌, ◌&&◌, nat_le, nat_lt, ◌⊎◌, inl, inr, not, Bool, true, false, cond, is_none, is_some, IsTrue, List, [], ◌∷◌, ◌++◌, Option, Some, None, IsSome, refl, sym, ap, ◌∙◌, subst, arith, true≢false}
-use Rattle.std.specs.List.{list_all, list_any, range_with_len}
+use Rattle.std.proofs.Common.{◌≡◌, ℕ, ◌+◌, ◌==◌, nat_le, nat_lt, ◌⊎◌, inl, inr, not, Bool, true, false, cond, is_none, is_some, IsTrue, List, [], Option, Some, None, IsSome, refl, sym, ap, ◌∙◌, subst, arith}
+use Rattle.std.specs.List.{list_all, list_any}
 use Rattle.std.specs.Option.{option_map}
 use Rattle.std.specs.Ordering.{is_eq, nat_cmp}
 use Rattle.std.specs.Cmp.{tied_itself, nat_cmp_total}
@@ -10,17 +10,15 @@ use Rattle.std.proofs.lemmas.Grind.{common_steps}
 use Rattle.std.proofs.lemmas.List.Folds.{list_all-append, list_any-append}
 use Rattle.std.proofs.lemmas.Map.Entries.{lookup-filter-keys}
 use Rattle.std.proofs.lemmas.Map.Lookups.{exact_unsigned}
-use Rattle.std.proofs.lemmas.Option.{none-some, same_Some}
-use Rattle.gic_base.specs.declared.interrupt.Key.TheVariants.{Lpi}
+use Rattle.std.proofs.lemmas.Option.{same_Some}
 use Rattle.gic_base.specs.declared.shape.GuestShape.{GuestShape}
-use Rattle.gic_base.specs.Interrupt.{has_interrupt}
 use Rattle.gic_word.specs.Record.{is_number}
 use Rattle.its_cmd.specs.declared.command.Command.{Command}
 use Rattle.its_cmd.specs.declared.command.Command.TheVariants.{Movi, Int, Clear, Sync, Mapd, Mapc, Mapti, Mapi, Inv, Invall, Movall, Discard}
 use Rattle.its_tab.specs.Maps.{Maps, event_cmp, pair_of, id_of, target_of, with_event, with_collection, without_event, without_collection}
 use Rattle.its_tab.specs.After.{without_events, recollected, maps_after, IsValid}
 use Rattle.its_tab.specs.Collection.{collection_of, has_target}
-use Rattle.its_tab.specs.Fault.{fault_of, faults, first_fault, on_mapping}
+use Rattle.its_tab.specs.Fault.{fault_of, faults, on_mapping}
 use Rattle.its_tab.proofs.AfterLemmas.{all_clear, there, some_from_test, kept_valid}
 use Rattle.its_tab.proofs.MapLemmas.{equal_from_test, lookup-insert_entry, lookup-removed}
 use Rattle.its_tab.proofs.TableLemmas.{event_order, same_event}
@@ -31,7 +29,7 @@ use Rattle.gic_call.specs.Command.{lpis_of_device, lpis_of_collection, lpis_for,
 use Rattle.history_laws.proofs.CourseLemmas.{mark_is}
 use Rattle.call_laws.proofs.EnableLemmas.{in_range}
 use Rattle.call_laws.proofs.NamedLemmas.{IsIn, in_filter}
-use Rattle.map_laws.proofs.ListLemmas.{or_first, or_later, each_all, one_all, filter_all, each_any, one_any, in_device}
+use Rattle.map_laws.proofs.ListLemmas.{or_first, each_all, one_all, filter_all, each_any, one_any, in_device}
 use Rattle.map_laws.proofs.MapsLemmas.{HasTarget, collected, owned, targeted, target_from}
 use Rattle.map_laws.proofs.PartLemmas.{leaves_none, gives_none, clash}
 

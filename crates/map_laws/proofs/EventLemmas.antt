@@ -18,7 +18,7 @@ use Rattle.gic_call.specs.declared.event.Event.{Event}
 use Rattle.gic_call.specs.declared.event.Event.TheVariants.{Raise, Up, Down, Enable, Touch, Cpu, Put, CtlrBegin, Queue}
 use Rattle.gic_call.specs.declared.event.QueueChange.TheVariants.{Runs, Done, Stalls}
 use Rattle.gic_call.specs.declared.touch.Touching.{Touching}
-use Rattle.gic_call.specs.declared.touch.Touching.TheVariants.{Read, Register, Enables}
+use Rattle.gic_call.specs.declared.touch.Touching.TheVariants.{Register, Enables}
 use Rattle.gic_call.specs.Touch.{touched}
 use Rattle.ideal_guest.specs.declared.guest.IdealGuest.{IdealGuest}
 use Rattle.ideal_guest.specs.Ideal.{cpu_at, candidates, changed_irq, after_acknowledge, after_deactivation, after_access, after_event, after_events}

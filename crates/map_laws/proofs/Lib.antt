@@ -7,3 +7,4 @@ pub mod OpeningLemmas
 pub mod EventLemmas
 pub mod CalmLemmas
 pub mod OperationLaws
+pub mod WorkedLemmas

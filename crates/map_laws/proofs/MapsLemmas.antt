@@ -1,5 +1,5 @@
 -- When the maps give an LPI a vCPU.
-use Rattle.std.proofs.Common.{◌≡◌, ℕ, Bool, true, false, Option, Some, None, is_some, refl, sym, ap, ◌∙◌, subst}
+use Rattle.std.proofs.Common.{◌≡◌, ℕ, true, Option, Some, None, is_some, refl, sym, ap, ◌∙◌}
 use Rattle.std.specs.Option.{option_map, option_and_then}
 use Rattle.its_tab.specs.Maps.{Maps, pair_of, id_of, target_of, owner_of, IsSound}
 use Rattle.its_tab.specs.Collection.{collection_of, has_target}

@@ -1,12 +1,12 @@
 -- The laws of operations.
-use Rattle.std.proofs.Common.{◌≡◌, ℕ, zero, suc, Bool, true, false, cond, Option, Some, None, refl, sym, subst}
+use Rattle.std.proofs.Common.{ℕ, zero, suc, Bool, true, false, cond, Option, sym, subst}
 use Rattle.gic_base.specs.declared.operation.Frame.{Frame}
 use Rattle.gic_base.specs.declared.operation.Frame.TheVariants.{Dist, Redist, Its, Ram as Memory}
 use Rattle.gic_base.specs.declared.operation.GuestOp.{GuestOp}
 use Rattle.gic_base.specs.declared.operation.GuestOp.TheVariants.{Icc, Mem}
 use Rattle.gic_imap.specs.Map.{decoded as its_decoded}
 use Rattle.gic_open.specs.declared.plain.PlainWord.TheVariants.{Cbaser}
-use Rattle.gic_call.specs.Call.{icc_events, its_events, its_starts, access_events, starts_commands, device_events}
+use Rattle.gic_call.specs.Call.{icc_events, its_events, its_starts, access_events, device_events}
 use Rattle.gic_call.specs.Command.{takes_command, command_events, queue_places}
 use Rattle.gic_call.proofs.CallLemmas.{its_valid}
 use Rattle.ideal_guest.specs.declared.guest.IdealGuest.{IdealGuest}

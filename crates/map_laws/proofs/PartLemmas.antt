@@ -1,5 +1,5 @@
 -- What the parts of a command make of an LPI that is for no vCPU, or is to be.
-use Rattle.std.proofs.Common.{◌≡◌, ℕ, ◌==◌, ◌⊎◌, inl, inr, ◌||◌, not, Bool, true, false, cond, IsTrue, List, [], ◌∷◌, map, Option, Some, None, refl, sym, ap, ◌∙◌, slice_index_or}
+use Rattle.std.proofs.Common.{◌≡◌, ℕ, ◌==◌, ◌⊎◌, inl, inr, ◌||◌, not, Bool, true, false, cond, IsTrue, List, [], ◌∷◌, map, Option, Some, None, refl, ap, ◌∙◌, slice_index_or}
 use Rattle.std.specs.List.{list_all, list_any}
 use Rattle.std.proofs.lemmas.Bool.{and_parts}
 use Rattle.gic_base.specs.declared.interrupt.Key.{Key}
@@ -88,7 +88,7 @@ module _ (id : ℕ) (shape : GuestShape) (view : View) (targets : ℕ → Option
       → target_at (after_events (map (lpi_event shape view targets) parts) guest) id ≡ None
   parts_none [] guest whole all (inl none) = none
   parts_none [] guest whole all (inr some) = absurd (cc)
-  parts_none (part ∷ parts) guest whole all now = 
+  parts_none (part ∷ parts) guest whole all now =
       let both = and_parts (leaves_none id part) (list_all (leaves_none id) parts) all in
       parts_none parts (after_event guest (lpi_event shape view targets part)) (guest_whole (lpi_event shape view targets part) guest whole) both.1 (of both.0 (gives_none id part) refl now)
     where

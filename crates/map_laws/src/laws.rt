@@ -1,5 +1,6 @@
 //! Laws of the LPIs that the maps of an ITS give no vCPU, under the eager controller.
 ghost use Rattle.map_laws.specs.Laws.{OpenForNone, CommandsLeaveNone, AccessesLeaveNone, DevicesLeaveNone};
+ghost use Rattle.map_laws.specs.Worked.{UnmappedIsForNone};
 
 /// A law of every good guest as it opens: each LPI that the maps give no vCPU is for no vCPU.
 pub fn open_for_none()
@@ -22,4 +23,10 @@ pub fn accesses_leave_none()
 /// give no vCPU holds again after it.
 pub fn devices_leave_none()
     ensures { DevicesLeaveNone }
+{}
+
+/// A law of a worked guest: an LPI that is mapped to a collection of vCPU 0 is for that vCPU, and for none after a MAPC that unmaps
+/// the collection, though its event still has it.
+pub fn unmapped_is_for_none()
+    ensures { UnmappedIsForNone }
 {}

@@ -3,4 +3,7 @@
 
 mod laws;
 
-pub use laws::{accesses_leave_none, commands_leave_none, devices_leave_none, open_for_none};
+pub use laws::{
+    accesses_leave_none, commands_leave_none, devices_leave_none, open_for_none,
+    unmapped_is_for_none,
+};
