@@ -116,9 +116,6 @@ redist_calm shape view vcpu RedistReserved write = refl
 its_calm : (shape : GuestShape) (view : View) (ref : ItsRef) (write : Option ℕ) → list_all is_calm (its_events shape view ref write) ≡ true
 its_calm shape view (ItsPlain reg half) (Some value) = either (has_lpis shape) (its_written view reg half value) [] (of reg) refl
   where
-    writer : ℕ
-    writer = half_written half (view.words Cwriter) value
-
     of : (reg : ItsReg) → list_all is_calm (its_written view reg half value) ≡ true
     of CbaserReg = either (is_its_enabled view) [] _ refl refl
     of CwriterReg = either (is_in_queue view (half_written half (view.words Cwriter) value)) _ [] (either (view.is_stalled && retries (view.words Cbaser) (half_written half (view.words Cwriter) value)) (Queue view.offset Runs ∷ []) [] refl refl) refl

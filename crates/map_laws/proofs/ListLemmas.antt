@@ -15,7 +15,7 @@ pub or_first : (a b : Bool) → a ≡ true → (a || b) ≡ true
 or_first true b h = refl
 or_first false b h = absurd (cc)
 
-pub or_later : (a b : Bool) → b ≡ true → (a || b) ≡ true
+or_later : (a b : Bool) → b ≡ true → (a || b) ≡ true
 or_later true b h = refl
 or_later false b h = h
 

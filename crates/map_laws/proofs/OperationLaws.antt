@@ -22,8 +22,8 @@ use Rattle.map_laws.proofs.CalmLemmas.{access_calm, icc_calm, device_calm}
 use Rattle.map_laws.proofs.CommandLaws.{commands_leave_none}
 use Rattle.map_laws.proofs.EventLemmas.{events_none}
 
--- all commands that are taken
-commands_none : (most : ℕ) (guest : IdealGuest) → IsSound guest → AreForNone guest → AreForNone (after_commands most guest)
+-- after the commands that are taken, of at most so many
+pub commands_none : (most : ℕ) (guest : IdealGuest) → IsSound guest → AreForNone guest → AreForNone (after_commands most guest)
 commands_none zero guest sound none = none
 commands_none (suc most) guest sound none = of (takes_command (view_of guest)) (commands_none most (after_command guest) (sound_events guest (command_events guest.shape (view_of guest)) sound (command_follows guest sound)) (commands_leave_none guest sound none))
   where
@@ -32,9 +32,11 @@ commands_none (suc most) guest sound none = of (takes_command (view_of guest)) (
     of false later = none
 
 module _ (guest : IdealGuest) (sound : IsSound guest) (none : AreForNone guest) where
-  access_none : (frame : Frame) (offset size : ℕ) (write : Option ℕ) → AreForNone (after_events (access_events guest.shape (view_of guest) frame offset size write) guest)
+  -- after the events of an access, before any command
+  pub access_none : (frame : Frame) (offset size : ℕ) (write : Option ℕ) → AreForNone (after_events (access_events guest.shape (view_of guest) frame offset size write) guest)
   access_none frame offset size write = events_none (access_events guest.shape (view_of guest) frame offset size write) guest (whole_of guest sound) none (access_calm guest.shape (view_of guest) frame offset size write)
 
+  -- after an access of the ITS, where it starts commands and where it starts none
   its_none : (offset size : ℕ) (write : Option ℕ) (b : Bool)
       → AreForNone (cond b (after_queued (after_events (its_events guest.shape (view_of guest) (its_decoded offset size) write) guest)) (after_events (its_events guest.shape (view_of guest) (its_decoded offset size) write) guest))
   its_none offset size write true =

@@ -29,7 +29,7 @@ leaves_none id (Map i target) = not (id == i)
 leaves_none id (Retarget i (Some target)) = not (id == i)
 leaves_none id part = true
 
--- a part takes from it the vCPU that it has
+-- a part takes its vCPU from it
 abbrev pub gives_none : ℕ → Part → Bool
 gives_none id (Forget i) = id == i
 gives_none id (Retarget i None) = id == i
@@ -44,7 +44,7 @@ not_clash true n t = absurd (cc)
 not_clash false n t = absurd (cc)
 
 -- an LPI that the guest does not have is for none
-pub absent : (guest : IdealGuest) (id : ℕ) → has_interrupt guest.shape (Lpi id) ≡ false → target_at guest id ≡ None
+absent : (guest : IdealGuest) (id : ℕ) → has_interrupt guest.shape (Lpi id) ≡ false → target_at guest id ≡ None
 absent guest id e = ap (λ b. target_in (cond b (slice_index_or guest.irqs (place_of guest.shape (Lpi id)) (opening_irq false (Lpi id))) (opening_irq false (Lpi id))).route guest.shape) e
 
 -- after a change of the record of an interrupt

@@ -4,6 +4,6 @@ use Rattle.its_tab.specs.Collection.{has_target}
 use Rattle.ideal_guest.specs.declared.guest.IdealGuest.{IdealGuest}
 use Rattle.ideal_guest.specs.Ideal.{view_of}
 
--- each LPI that no event has whose collection is mapped is for no vCPU
+-- each LPI without an event, or whose event is in a collection that is not mapped, is for no vCPU
 abbrev pub AreForNone : IdealGuest → Type 0
 AreForNone guest = (id : ℕ) → has_target guest.tables id ≡ false → (view_of guest).targets id ≡ None
