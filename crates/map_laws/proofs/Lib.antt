@@ -1,0 +1,10 @@
+pub mod PartLemmas
+pub mod MapsLemmas
+pub mod ListLemmas
+pub mod CommandLemmas
+pub mod CommandLaws
+pub mod OpeningLemmas
+pub mod EventLemmas
+pub mod CalmLemmas
+pub mod OperationLaws
+pub mod WorkedLemmas
