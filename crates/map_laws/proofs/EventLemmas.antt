@@ -17,24 +17,18 @@ use Rattle.its_tab.specs.Collection.{has_target}
 use Rattle.gic_call.specs.declared.event.Event.{Event}
 use Rattle.gic_call.specs.declared.event.Event.TheVariants.{Raise, Up, Down, Enable, Touch, Cpu, Put, CtlrBegin, Queue}
 use Rattle.gic_call.specs.declared.event.QueueChange.TheVariants.{Runs, Done, Stalls}
-use Rattle.gic_call.specs.declared.touch.Touching.{Touching}
 use Rattle.gic_call.specs.declared.touch.Touching.TheVariants.{Register, Enables}
 use Rattle.gic_call.specs.Touch.{touched}
 use Rattle.ideal_guest.specs.declared.guest.IdealGuest.{IdealGuest}
 use Rattle.ideal_guest.specs.Ideal.{cpu_at, candidates, changed_irq, after_acknowledge, after_deactivation, after_access, after_event, after_events}
 use Rattle.ideal_guest.proofs.KeyLemmas.{IsWhole, whole_changed_at, tables_access}
 use Rattle.call_laws.proofs.MomentLemmas.{target_at, guest_whole}
+use Rattle.call_laws.proofs.PassLemmas.{is_plain_touch}
 use Rattle.map_laws.specs.Mapped.{AreForNone}
 use Rattle.map_laws.proofs.PartLemmas.{changed_none}
 
--- a touch of an LPI by an access: what sets it pending, and a copy of the enables
-abbrev pub is_still : Touching → Bool
-is_still (Register SetPending value) = true
-is_still (Enables en0 en1) = true
-is_still touching = false
-
 abbrev pub is_calm : Event → Bool
-is_calm (Touch (Lpi id) touching) = is_still touching
+is_calm (Touch key touching) = is_plain_touch key touching
 is_calm (Queue offset (Done words)) = false
 is_calm event = true
 
