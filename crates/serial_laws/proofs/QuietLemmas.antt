@@ -21,6 +21,7 @@ use Rattle.call_laws.proofs.PassLemmas.{PassesBeside, PassesNamed, both_all, dev
 use Rattle.call_laws.proofs.ReadLemmas.{beside_passes}
 use Rattle.call_laws.proofs.RunLemmas.{events_of}
 use Rattle.call_laws.proofs.TurnLemmas.{its_all}
+use Rattle.serial_laws.specs.Serial.{is_icc}
 
 pub beside_no_access : (actor : Option ℕ) (event : Event) → is_beside actor event ≡ true → is_no_access event ≡ true
 beside_no_access actor (Cpu vcpu reg write) h = absurd (cc)
@@ -60,11 +61,6 @@ its_call shape beside vcpu offset size value piece answer is =
     (makes_all is_no_access beside_so (Some vcpu) is.view (ItsBegin ∷ access_events shape is.view Its offset size (Some value)) _ [] is.register is.written (its_some shape is.view (its_decoded offset size) value))
     (started_all is_no_access beside_so (starts_commands shape is.view Its offset size (Some value)) (Some vcpu) shape beside (its_written_by shape is.view (access_events shape is.view Its offset size (Some value))) is.views is.commands is.started))
     (makes_all is_no_access beside_so (Some vcpu) is.view (ItsEnd ∷ []) [] [] is.last is.ended refl))
-
--- an operation is an access of a CPU interface
-abbrev pub is_icc : Operation → Bool
-is_icc (Access (Icc reg write)) = true
-is_icc operation = false
 
 pub call_quiet : (shape : GuestShape) (beside : Beside) (actor : Option ℕ) (operation : Operation) (piece : List Happened) (answer : Option ℕ) → is_icc operation ≡ false → IsCall shape beside actor operation piece answer → IsTrue (list_all is_no_access (events_of piece))
 call_quiet shape beside (Some vcpu) (Access (Icc reg write)) piece answer other is = absurd (cc)

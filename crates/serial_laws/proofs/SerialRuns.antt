@@ -1,5 +1,5 @@
 -- Runs of whole parts, one after the other, are the eager controller's.
-use Rattle.std.proofs.Common.{◌≡◌, ℕ, ◌<◌, ◌⊎◌, inl, inr, false, cond, IsTrue, All, List, [], ◌∷◌, ◌++◌, length, map, Option, Some, None, refl, sym, ap, ◌∙◌, subst}
+use Rattle.std.proofs.Common.{◌≡◌, ℕ, ◌<◌, ◌⊎◌, inl, inr, true, false, cond, IsTrue, All, List, [], ◌∷◌, ◌++◌, length, map, Option, Some, None, refl, sym, ap, ◌∙◌, subst}
 use Rattle.std.proofs.lemmas.Bool.{lt-ltb}
 use Rattle.std.proofs.lemmas.List.{append-nil, append_assoc}
 use Rattle.std.proofs.lemmas.List.Elements.{All-nil, All-cons, All-head, All-tail}
@@ -38,11 +38,11 @@ use Rattle.core_late.specs.Late.{AccessesComeFirst, is_access_first}
 use Rattle.core_late.proofs.HistoryLemmas.{clause_from, kept_both}
 use Rattle.core_lone.proofs.EaseRuns.{ease_is_up_to_date}
 use Rattle.core_lone.proofs.HereLemmas.{end_is}
-use Rattle.serial_laws.specs.Serial.{AreFit, SerialRunsAreEager, WholePart, call_of, calls_of, moment_by, moments_in, moments_of, piece_of}
+use Rattle.serial_laws.specs.Serial.{AreFit, SerialRunsAreEager, WholePart, call_of, calls_of, is_icc, moment_by, moments_in, moments_of, piece_of}
 use Rattle.serial_laws.proofs.AloneRuns.{AllRest, rest_after, rest_opens}
 use Rattle.serial_laws.proofs.FirstRuns.{call_first}
 use Rattle.serial_laws.proofs.PartLemmas.{part_stands, parts_stand}
-use Rattle.serial_laws.proofs.QuietLemmas.{call_quiet, is_icc, named_so}
+use Rattle.serial_laws.proofs.QuietLemmas.{call_quiet, named_so}
 use Rattle.serial_laws.proofs.ShowRuns.{part_shows, quiet_shows}
 
 -- Actors of parts.
@@ -116,12 +116,12 @@ module _ (guest : GuestSpec) (number : ℕ) (good : IsGoodGuest guest) (early : 
       (kept_both is_access_first (ideal_of shape start early) (call_moments (call_of shape before part)) (opening_followed guest) first
       (call_first shape ended.ended.beside part.actor part.operation piece part.answer (followed_in guest number early) (subst (λ n. part.actor < n) (sym (end_is guest number good early proper_early).doings_each) there) ended.is_call))
 
-  pub shows_so : IsUpToDate shape (followed_in guest number early) → IsGoodCall shape part.actor part.operation → AllShow part.actor (last_of guest (ideal_of shape start early)) piece
+  pub shows_so : (is_icc part.operation ≡ true → IsUpToDate shape (followed_in guest number early)) → IsGoodCall shape part.actor part.operation → AllShow part.actor (last_of guest (ideal_of shape start early)) piece
   shows_so up able = elim (icc_or_not part.operation) [
     | inl other ↦ quiet_shows part.actor piece (last_of guest (ideal_of shape start early)) (call_quiet shape ended.ended.beside (vcpu_of shape part.actor) part.operation piece part.answer other ended.is_call)
     | inr icc ↦
         let few = (subst (IsGoodCall shape part.actor) icc.is able).0 in
-        part_shows guest number early part icc.reg icc.write (record { good = good; proper = proper; history = history; rest = rest; first = first; up = up; few = few }) icc.is (icc_raises shape part.actor icc.reg icc.write) (raises_all is_no_access named_so shape part.actor icc.reg icc.write)
+        part_shows guest number early part icc.reg icc.write (record { good = good; proper = proper; history = history; rest = rest; first = first; up = up (ap is_icc icc.is); few = few }) icc.is (icc_raises shape part.actor icc.reg icc.write) (raises_all is_no_access named_so shape part.actor icc.reg icc.write)
         (seat_at before part.actor).local (seat_at before part.actor).own refl
         (named_first shape ended.ended.beside part.actor icc.reg icc.write piece part.answer few (subst (λ op. IsCall shape ended.ended.beside (vcpu_of shape part.actor) op piece part.answer) icc.is ended.is_call))
   ]
@@ -141,7 +141,7 @@ module _ (guest : GuestSpec) (number : ℕ) (good : IsGoodGuest guest) where
       let proper_now = proper_before guest number next (moments_of parts) proper_all in
       let history_all = subst (λ ms. IsHistory guest (ideal_of guest.shape start ms)) all history in
       let history_now = (goes_before (opening_course guest) (ideal_of guest.shape start next) (ideal_of guest.shape (end_of_moments guest.shape start next) (moments_of parts)) (subst (IsHistory guest) (ideal_append guest.shape start next (moments_of parts)) history_all)).0 in
-      let up = ease_is_up_to_date guest number early good (proper_before guest number early (moments_in part) proper_now) first (record { nobody = λ actor there. (rest actor there).operation; ease = fit.0.ease }) in
+      let up = λ (icc : is_icc part.operation ≡ true). ease_is_up_to_date guest number early good (proper_before guest number early (moments_in part) proper_now) first (record { nobody = λ actor there. (rest actor there).operation; ease = fit.0.ease icc }) in
       let shows = shows_so guest number good early part proper_now history_now rest first up fit.0.good in
       let later = passing parts next proper_all history_all (rest_after guest number early part proper_now rest) (first_next guest number good early part proper_now history_now rest first) fit.1 in (
         record { good = fit.0.good; shows = shows; moves = fit.0.moves },

@@ -1,7 +1,9 @@
 -- Runs of the core in which one part follows the other (own choice).
-use Rattle.std.specs.Prelude.{◌≡◌, ℕ, ◌<◌, List, [], ◌∷◌, ◌++◌, map, Option}
+use Rattle.std.specs.Prelude.{◌≡◌, ℕ, ◌<◌, Bool, true, false, List, [], ◌∷◌, ◌++◌, map, Option}
 use Rattle.gic_base.specs.declared.shape.GuestShape.{GuestShape}
+use Rattle.gic_base.specs.declared.operation.GuestOp.TheVariants.{Icc}
 use Rattle.gic_call.specs.declared.event.Operation.{Operation}
+use Rattle.gic_call.specs.declared.event.Operation.TheVariants.{Access}
 use Rattle.gic_call.specs.Trace.{Happened}
 use Rattle.ideal_guest.specs.Opening.{opening as opening_guest}
 use Rattle.gic_history.specs.Moves.{home}
@@ -50,10 +52,15 @@ abbrev pub calls_of : GuestShape → CoreState → List WholePart → List LoneC
 calls_of shape state [] = []
 calls_of shape state (part ∷ parts) = call_of shape state part ∷ calls_of shape (end_of_moments shape state (moments_in part)) parts
 
--- what a part has to be after other moments: each vCPU is at ease as it begins; it is for an operation that its actor can ask for; and a command that moves the LPIs of a
--- vCPU to itself moves no other
+-- an operation is an access of a register of the CPU interface
+abbrev pub is_icc : Operation → Bool
+is_icc (Access (Icc reg write)) = true
+is_icc operation = false
+
+-- what a part has to be after other moments: where it is for an access of a CPU interface, each vCPU is at ease as it begins; it is for an operation that its actor can
+-- ask for; and a command that moves the LPIs of a vCPU to itself moves no other
 pub record IsFit (guest : GuestSpec) (number : ℕ) (early : List CoreMoment) (part : WholePart) : Type 0 where
-  pub ease : (vcpu : ℕ) → vcpu < guest.shape.vcpus → IsAtEase guest.shape (end_of_moments guest.shape (opening guest number) early) vcpu (progress_in guest number early vcpu)
+  pub ease : is_icc part.operation ≡ true → (vcpu : ℕ) → vcpu < guest.shape.vcpus → IsAtEase guest.shape (end_of_moments guest.shape (opening guest number) early) vcpu (progress_in guest number early vcpu)
   pub good : IsGoodCall guest.shape part.actor part.operation
   pub moves : AllMoveOwn (home (last_of guest (ideal_of guest.shape (opening guest number) early))) (map (λ (one : Happened). one.event) (piece_of guest.shape (end_of_moments guest.shape (opening guest number) early) part))
 

@@ -3,8 +3,9 @@ ghost use Rattle.serial_laws.specs.Serial.{SerialRunsAreEager};
 ghost use Rattle.serial_laws.specs.Worked.{WorkedPartsAreFit};
 
 /// A law of every proper run of a good guest in which each part ends before the next one begins, and makes its call: where, as a
-/// part begins, each vCPU has nothing at its interface, or is not kicked, gives nothing back and owes no scan, the guest with all
-/// that stands at interfaces taken back goes on as the eager controller's, and each part answers what that answers.
+/// part for an access of a CPU interface begins, each vCPU has nothing at its interface, or is not kicked, gives nothing back and
+/// owes no scan, the guest with all that stands at interfaces taken back goes on as the eager controller's, and each part answers
+/// what that answers.
 pub fn serial_runs_are_eager()
     ensures { SerialRunsAreEager }
 {}
