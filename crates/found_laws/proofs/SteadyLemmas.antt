@@ -9,7 +9,7 @@ use Rattle.gic_base.specs.Interrupt.{has_interrupt, is_same_key}
 use Rattle.gic_word.specs.declared.record.Irq.{Irq}
 use Rattle.gic_word.specs.Causes.{raised, wire_up, wire_down}
 use Rattle.gic_call.specs.declared.event.Event.{Event}
-use Rattle.gic_call.specs.declared.event.Event.TheVariants.{Raise, Up, Down, Touch, Reach, Take, Leave, Enable, Cpu, Read, Put, CtlrBegin, CtlrEnd, ItsBegin, ItsEnd, Queue}
+use Rattle.gic_call.specs.declared.event.Event.TheVariants.{Raise, Up, Down, Touch, Reach, Take, Leave, Enable, Queue}
 use Rattle.gic_call.specs.declared.event.QueueChange.TheVariants.{Runs, Done, Stalls}
 use Rattle.gic_call.specs.declared.touch.Touching.{Touching}
 use Rattle.gic_call.specs.declared.touch.Touching.TheVariants.{Register, Enables as CopyEnables}
@@ -34,24 +34,11 @@ is_steady (Queue offset change) = false
 is_steady event = true
 
 pub beside_steady : (actor : Option ℕ) (event : Event) → is_beside actor event ≡ true → is_steady event ≡ true
-beside_steady actor (Raise key) h = refl
-beside_steady actor (Up key) h = refl
-beside_steady actor (Down key) h = refl
 beside_steady actor (Touch key touching) h = absurd (cc)
-beside_steady actor (Reach key u) h = refl
-beside_steady actor (Take key u) h = refl
-beside_steady actor (Leave key u) h = refl
-beside_steady actor (Enable u) h = refl
-beside_steady actor (Cpu u reg write) h = refl
-beside_steady actor (Read at) h = refl
-beside_steady actor (Put other value) h = refl
-beside_steady actor (CtlrBegin enables) h = refl
-beside_steady actor CtlrEnd h = refl
-beside_steady actor ItsBegin h = refl
-beside_steady actor ItsEnd h = refl
 beside_steady actor (Queue offset Runs) h = refl
 beside_steady actor (Queue offset (Done words)) h = absurd (cc)
 beside_steady actor (Queue offset (Stalls fault)) h = absurd (cc)
+beside_steady actor event h = refl
 
 pub named_steady : PassesNamed is_steady
 named_steady = record {
@@ -70,24 +57,10 @@ named_steady = record {
 }
 
 pub steady_maps : (event : Event) → is_steady event ≡ true → keeps_maps event ≡ true
-steady_maps (Raise key) h = refl
-steady_maps (Up key) h = refl
-steady_maps (Down key) h = refl
-steady_maps (Touch key touching) h = refl
-steady_maps (Reach key u) h = refl
-steady_maps (Take key u) h = refl
-steady_maps (Leave key u) h = refl
-steady_maps (Enable u) h = refl
-steady_maps (Cpu u reg write) h = refl
-steady_maps (Read at) h = refl
-steady_maps (Put other value) h = refl
-steady_maps (CtlrBegin enables) h = refl
-steady_maps CtlrEnd h = refl
-steady_maps ItsBegin h = refl
-steady_maps ItsEnd h = refl
 steady_maps (Queue offset Runs) h = refl
 steady_maps (Queue offset (Done words)) h = absurd (cc)
 steady_maps (Queue offset (Stalls fault)) h = refl
+steady_maps event h = refl
 
 -- For which vCPUs LPIs are.
 
@@ -117,17 +90,10 @@ module _ (actor : ℕ) (state : Ideal) (whole : IsWhole state.guest) (id : ℕ) 
   steady_targets (Reach key u) h = event_targets actor state whole id (Reach key u) refl
   steady_targets (Take key u) h = event_targets actor state whole id (Take key u) refl
   steady_targets (Leave key u) h = event_targets actor state whole id (Leave key u) refl
-  steady_targets (Enable u) h = refl
-  steady_targets (Cpu u reg write) h = refl
-  steady_targets (Read at) h = refl
-  steady_targets (Put other value) h = refl
-  steady_targets (CtlrBegin enables) h = refl
-  steady_targets CtlrEnd h = refl
-  steady_targets ItsBegin h = refl
-  steady_targets ItsEnd h = refl
   steady_targets (Queue offset Runs) h = refl
   steady_targets (Queue offset (Done words)) h = absurd (cc)
   steady_targets (Queue offset (Stalls fault)) h = absurd (cc)
+  steady_targets event h = refl
 
 -- What a call notes of them.
 
@@ -169,22 +135,10 @@ retold call s t same is = record { here = is.here; place = is.place; done = is.d
 enabling_steady : (actor : ℕ) (state : Ideal) (event : Event) (call : Call) (t : ℕ → Option ℕ) → is_steady event ≡ true → ((id : ℕ) → targets_in (happened actor event state) id ≡ t id) → IsEnabling call t → IsEnabling (next_call state actor event call) t
 enabling_steady actor state (Enable u) call t h now is = enabling_again actor state u call t now is
 enabling_steady actor state (Touch key touching) call t h now is = enabling_touched state actor key touching call t now is
-enabling_steady actor state (Raise key) call t h now is = enabling_on actor state (Raise key) call t now is refl refl refl
-enabling_steady actor state (Up key) call t h now is = enabling_on actor state (Up key) call t now is refl refl refl
-enabling_steady actor state (Down key) call t h now is = enabling_on actor state (Down key) call t now is refl refl refl
-enabling_steady actor state (Reach key u) call t h now is = enabling_on actor state (Reach key u) call t now is refl refl refl
-enabling_steady actor state (Take key u) call t h now is = enabling_on actor state (Take key u) call t now is refl refl refl
-enabling_steady actor state (Leave key u) call t h now is = enabling_on actor state (Leave key u) call t now is refl refl refl
-enabling_steady actor state (Cpu u reg write) call t h now is = enabling_on actor state (Cpu u reg write) call t now is refl refl refl
-enabling_steady actor state (Read at) call t h now is = enabling_on actor state (Read at) call t now is refl refl refl
-enabling_steady actor state (Put other value) call t h now is = enabling_on actor state (Put other value) call t now is refl refl refl
-enabling_steady actor state (CtlrBegin enables) call t h now is = enabling_on actor state (CtlrBegin enables) call t now is refl refl refl
-enabling_steady actor state CtlrEnd call t h now is = enabling_on actor state CtlrEnd call t now is refl refl refl
-enabling_steady actor state ItsBegin call t h now is = enabling_on actor state ItsBegin call t now is refl refl refl
-enabling_steady actor state ItsEnd call t h now is = enabling_on actor state ItsEnd call t now is refl refl refl
 enabling_steady actor state (Queue offset Runs) call t h now is = enabling_on actor state (Queue offset Runs) call t now is refl refl refl
 enabling_steady actor state (Queue offset (Done words)) call t h now is = absurd (cc)
 enabling_steady actor state (Queue offset (Stalls fault)) call t h now is = absurd (cc)
+enabling_steady actor state event call t h now is = enabling_on actor state event call t now is refl refl refl
 
 windows_steady : (actor : ℕ) (state : Ideal) (event : Event) (call : Call) (t : ℕ → Option ℕ) → is_steady event ≡ true → ((id : ℕ) → targets_in (happened actor event state) id ≡ t id) → AreWindows call (t ∷ []) → IsNoting (next_call state actor event call) t
 windows_steady actor state (Enable u) call t h now are = inr (retold (next_call state actor (Enable u) call) (targets_in (happened actor (Enable u) state)) t now (enabling state actor u call t are))
