@@ -9,7 +9,7 @@ use Rattle.gic_base.specs.Interrupt.{has_interrupt, interrupt_count, place_of}
 use Rattle.gic_base.specs.Shape.{IsShape}
 use Rattle.gic_open.proofs.KeyLemmas.{place_within}
 use Rattle.gic_call.specs.declared.event.Event.{Event}
-use Rattle.gic_call.specs.declared.event.Event.TheVariants.{Raise, Up, Down, Touch, Reach, Take, Leave, Enable, Cpu, Read, Put, CtlrBegin, CtlrEnd, ItsBegin, ItsEnd, Queue}
+use Rattle.gic_call.specs.declared.event.Event.TheVariants.{Raise, Up, Down, Touch, Leave, Queue}
 use Rattle.gic_call.specs.declared.event.Found.{Found}
 use Rattle.gic_call.specs.declared.event.Moment.TheVariants.{Happens}
 use Rattle.gic_call.specs.Valid.{CanHappen}
@@ -45,17 +45,7 @@ done_kept actor event doing key = of event
     of (Up k) same h = more (Some k) h
     of (Down k) same h = more (Some k) h
     of (Touch k touching) same h = more (Some k) h
-    of (Reach k vcpu) same h = h
-    of (Take k vcpu) same h = h
-    of (Leave k vcpu) same h = h
-    of (Enable vcpu) same h = h
-    of (Cpu vcpu reg write) same h = h
-    of (Read place) same h = h
-    of (Put word value) same h = h
-    of (CtlrBegin enables) same h = h
-    of CtlrEnd same h = h
-    of ItsBegin same h = h
-    of ItsEnd same h = h
+    of event same h = h
 
 -- an event that changes an interrupt, and is no leave, is one of those that its actor has done then
 done_now : (actor : ℕ) (event : Event) (doing : Doing) (key : Key) → changed_by event ≡ Some key → ((vcpu : ℕ) → event ≡ Leave key vcpu → ⊥) → Contains (after_doing actor event doing).done key

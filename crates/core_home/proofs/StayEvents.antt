@@ -15,7 +15,7 @@ use Rattle.gic_word.specs.Record.{is_number, is_pending, is_ripe}
 use Rattle.gic_prio.specs.declared.cpu.CpuRec.{CpuRec}
 use Rattle.gic_prio.specs.Delivery.{is_deliverable, is_group_enabled, takes_kind}
 use Rattle.gic_call.specs.declared.event.Event.{Event}
-use Rattle.gic_call.specs.declared.event.Event.TheVariants.{Raise, Up, Down, Touch, Reach, Take, Leave, Enable, Cpu, Read, Put, CtlrBegin, CtlrEnd, ItsBegin, ItsEnd, Queue}
+use Rattle.gic_call.specs.declared.event.Event.TheVariants.{Raise, Up, Down, Touch, Reach, Take, Leave, Enable, Cpu, Queue}
 use Rattle.gic_call.specs.declared.event.Found.{Found}
 use Rattle.gic_call.specs.declared.event.Moment.TheVariants.{Happens}
 use Rattle.gic_call.specs.declared.event.QueueChange.TheVariants.{Runs, Done, Stalls}
@@ -51,58 +51,17 @@ is_leave event = false
 -- what is to leave stays so, but for what leaves
 leaves_more : (ideal : Ideal) (event : Event) (track : Track) (pair : ℕ × Key) → is_leave event ≡ false → Contains track.leaving pair → Contains (after_leaving ideal event track).leaving pair
 leaves_more ideal (Leave key vcpu) track pair e h = absurd (true≢false e)
-leaves_more ideal (Raise key) track pair e h = Contains-append_left track.leaving [] pair h
-leaves_more ideal (Up key) track pair e h = Contains-append_left track.leaving [] pair h
-leaves_more ideal (Down key) track pair e h = Contains-append_left track.leaving [] pair h
-leaves_more ideal (Enable vcpu) track pair e h = Contains-append_left track.leaving [] pair h
-leaves_more ideal (Touch key touching) track pair e h = Contains-append_left track.leaving [] pair h
-leaves_more ideal (Reach key vcpu) track pair e h = Contains-append_left track.leaving [] pair h
-leaves_more ideal (Take key vcpu) track pair e h = Contains-append_left track.leaving [] pair h
 leaves_more ideal (Cpu vcpu reg write) track pair e h = Contains-append_left track.leaving (left_behind ideal track (Cpu vcpu reg write)) pair h
-leaves_more ideal (Read place) track pair e h = Contains-append_left track.leaving [] pair h
-leaves_more ideal (Put word value) track pair e h = Contains-append_left track.leaving [] pair h
-leaves_more ideal (CtlrBegin enables) track pair e h = Contains-append_left track.leaving [] pair h
-leaves_more ideal CtlrEnd track pair e h = Contains-append_left track.leaving [] pair h
-leaves_more ideal ItsBegin track pair e h = Contains-append_left track.leaving [] pair h
-leaves_more ideal ItsEnd track pair e h = Contains-append_left track.leaving [] pair h
-leaves_more ideal (Queue offset change) track pair e h = Contains-append_left track.leaving [] pair h
+leaves_more ideal event track pair e h = Contains-append_left track.leaving [] pair h
 
 not_leave : (event : Event) → IsTrue (is_other event) → is_leave event ≡ false
 not_leave (Leave key vcpu) h = absurd (cc)
-not_leave (Raise key) h = refl
-not_leave (Up key) h = refl
-not_leave (Down key) h = refl
-not_leave (Enable vcpu) h = refl
-not_leave (Touch key touching) h = refl
-not_leave (Reach key vcpu) h = refl
-not_leave (Take key vcpu) h = refl
-not_leave (Cpu vcpu reg write) h = refl
-not_leave (Read place) h = refl
-not_leave (Put word value) h = refl
-not_leave (CtlrBegin enables) h = refl
-not_leave CtlrEnd h = refl
-not_leave ItsBegin h = refl
-not_leave ItsEnd h = refl
-not_leave (Queue offset change) h = refl
+not_leave event h = refl
 
 -- an event that is neither a move nor an access is of what it changes
 subject_changed : (event : Event) → IsTrue (is_other event) → subject event ≡ changed_by event
-subject_changed (Leave key vcpu) h = refl
-subject_changed (Raise key) h = refl
-subject_changed (Up key) h = refl
-subject_changed (Down key) h = refl
-subject_changed (Enable vcpu) h = refl
-subject_changed (Touch key touching) h = refl
 subject_changed (Reach key vcpu) h = absurd (cc)
-subject_changed (Take key vcpu) h = refl
-subject_changed (Cpu vcpu reg write) h = refl
-subject_changed (Read place) h = refl
-subject_changed (Put word value) h = refl
-subject_changed (CtlrBegin enables) h = refl
-subject_changed CtlrEnd h = refl
-subject_changed ItsBegin h = refl
-subject_changed ItsEnd h = refl
-subject_changed (Queue offset change) h = refl
+subject_changed event h = refl
 
 -- the record of an interrupt that it does not change stays
 unchanged : (shape : GuestShape) (key : Key) (event : Event) (irq : Irq) → option_map_or (is_same_key key) (changed_by event) false ≡ false → change_by shape key event irq ≡ irq
@@ -114,29 +73,20 @@ unchanged shape key event irq h = refl
 
 -- a vCPU that takes LPIs goes on to
 kind_on : (ideal : Ideal) (actor : ℕ) (event : Event) (key : Key) (vcpu : ℕ) → IsTrue (is_other event) → IsTrue (takes_kind key (cpu_at ideal.guest vcpu)) → IsTrue (takes_kind key (cpu_at (happened actor event ideal).guest vcpu))
-kind_on ideal actor (Raise other) key vcpu h is = is
-kind_on ideal actor (Up other) key vcpu h is = is
-kind_on ideal actor (Down other) key vcpu h is = is
 kind_on ideal actor (Enable v) key vcpu h is = stored_cases (λ c. IsTrue (takes_kind key c)) ideal.guest.cpus v vcpu (record (cpu_at ideal.guest v) { lpis = true }) _ (enabled key) is
   where
     enabled : (k : Key) → IsTrue (takes_kind k (record (cpu_at ideal.guest v) { lpis = true }))
     enabled (Private w id) = refl
     enabled (Spi id) = refl
     enabled (Lpi id) = refl
-kind_on ideal actor (Touch other touching) key vcpu h is = is
 kind_on ideal actor (Reach other v) key vcpu h is = absurd (cc)
 kind_on ideal actor (Take other v) key vcpu h is = absurd (cc)
 kind_on ideal actor (Leave other v) key vcpu h is = absurd (cc)
 kind_on ideal actor (Cpu v reg write) key vcpu h is = absurd (cc)
-kind_on ideal actor (Read place) key vcpu h is = is
-kind_on ideal actor (Put word value) key vcpu h is = is
-kind_on ideal actor (CtlrBegin enables) key vcpu h is = is
-kind_on ideal actor CtlrEnd key vcpu h is = is
-kind_on ideal actor ItsBegin key vcpu h is = is
-kind_on ideal actor ItsEnd key vcpu h is = is
 kind_on ideal actor (Queue offset Runs) key vcpu h is = is
 kind_on ideal actor (Queue offset (Done words)) key vcpu h is = is
 kind_on ideal actor (Queue offset (Stalls fault)) key vcpu h is = is
+kind_on ideal actor event key vcpu h is = is
 
 -- What any event leaves of what it is not of.
 
