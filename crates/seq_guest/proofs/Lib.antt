@@ -1,0 +1,17 @@
+pub mod FrameLemmas
+pub mod FoundLemmas
+pub mod KindLemmas
+pub mod EntryLemmas
+pub mod MoveLemmas
+pub mod LookLemmas
+pub mod SpotLemmas
+pub mod PartsLemmas
+pub mod SeatLemmas
+pub mod GuestLemmas
+pub mod PlacesLemmas
+pub mod KickLemmas
+pub mod ShowLemmas
+pub mod OpeningLemmas
+pub mod CpusLemmas
+pub mod OperateLemmas
+pub mod DeviceLemmas

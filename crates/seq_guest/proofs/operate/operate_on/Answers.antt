@@ -1,0 +1,15 @@
+-- It is on its PE.
+use Rattle.std.proofs.Common.{sym, subst}
+use Rattle.std.specs.Prelude.{IfOk}
+use Rattle.gic_call.specs.declared.event.Operation.TheVariants.{Access}
+use Rattle.seq_guest.specs.declared.place.Place.TheVariants.{Pe}
+use Rattle.seq_guest.specs.Parts.{HaveCall}
+use Rattle.seq_guest.specs.Moves.{Moves}
+use Rattle.seq_guest.proofs.OperateLemmas.{moves_where_done}
+use Rattle.seq_guest.proofs.operate.operate_on.Goals as goal
+
+pub returns-clause-moves : goal.returns-clause-moves
+returns-clause-moves g c =
+    let old = g.P.Port.seen c.args.port.now in
+    let new = g.P.Port.seen c.guest_op.new.port in
+    subst (λ place. IfOk c.guest_op.result (λ answer. Moves (HaveCall old.actor (Access c.args.op.now) answer) old new place (Pe c.guest_op.new.vcpu))) (sym c.in-Pe.is) (moves_where_done c.guest_op.result old new c.args.op.now c.in-Pe.vcpu c.guest_op.new.vcpu c.guest_op.ensures.done)

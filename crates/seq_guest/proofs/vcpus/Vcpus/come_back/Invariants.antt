@@ -1,0 +1,13 @@
+-- The vCPUs so far.
+use Rattle.std.proofs.Common.{◌≡◌}
+use Rattle.port_seq.specs.Ports.{told}
+use Rattle.seq_guest.specs.Place.{returned}
+use Rattle.seq_guest.specs.Parts.{AreResidences}
+use Rattle.seq_guest.specs.Guest.{GoesOn, ChangesSpots, for_all, for_below}
+use Rattle.seq_guest.proofs.vcpus.Vcpus.come_back.Given as goal
+
+abbrev pub invariant-loop-vcpu : goal.invariant-loop-vcpu
+invariant-loop-vcpu l =
+    GoesOn AreResidences (told l.initial.port) (told l.port) l.initial.self l.self
+    × ChangesSpots (for_below l.vcpu (for_all returned)) l.initial.self l.self
+    × (l.vcpu-end ≡ (told l.initial.port).guest.shape.vcpus)

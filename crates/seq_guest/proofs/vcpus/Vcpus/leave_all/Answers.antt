@@ -1,0 +1,27 @@
+-- Each leaves.
+use Rattle.std.proofs.Common.{refl, subst, ap, rules}
+use Rattle.gic_base.specs.declared.shape.GuestShape.{GuestShape}
+use Rattle.port_seq.specs.Ports.{told}
+use Rattle.seq_guest.specs.Place.{left}
+use Rattle.seq_guest.specs.Guest.{ChangesSpots, for_all, for_below}
+use Rattle.seq_guest.proofs.GuestLemmas.{goes_none, goes_then}
+use Rattle.seq_guest.proofs.PlacesLemmas.{below_none, below_more, below_all}
+use Rattle.seq_guest.proofs.vcpus.Vcpus.leave_all.Goals as goal
+
+pub loop-vcpu-init : goal.loop-vcpu-init
+loop-vcpu-init c = let first = told c.args.port.now in (goes_none first first.actor c.args.self.now c.requires, below_none (for_all left) c.args.self.now, ap (λ (shape : GuestShape). shape.vcpus) c.shape-vcpu-end.ensures)
+
+pub loop-vcpu-preserved : goal.loop-vcpu-preserved
+loop-vcpu-preserved c =
+    let so = c.loop-vcpu.invariant in
+    let change = for_all left in (
+      goes_then (told c.args.port.now) (told c.loop-vcpu.port) (told c.leave_one.new.port) c.args.self.now c.loop-vcpu.self c.leave_one.new.self so.0 c.leave_one.ensures.goes_on,
+      below_more change c.loop-vcpu.vcpu c.args.self.now c.loop-vcpu.self c.leave_one.new.self so.1 c.leave_one.ensures.spots,
+      so.2,
+    )
+
+pub returns-clause-spots : goal.returns-clause-spots
+returns-clause-spots c =
+    let so = c.loop-vcpu.invariant in
+    let change = for_all left in
+    below_all (told c.args.port.now) change c.args.self.now c.loop-vcpu.self c.requires (λ vcpu. refl) (subst (λ n. ChangesSpots (for_below n change) c.args.self.now c.loop-vcpu.self) (search rules) so.1)

@@ -1,0 +1,7 @@
+-- Others leave for a while, or nothing happens.
+use Rattle.port_seq.specs.Ports.{told}
+use Rattle.seq_guest.proofs.GuestLemmas.{goes_none}
+use Rattle.seq_guest.proofs.vcpus.Vcpus.make_way.Goals as goal
+
+pub returns-else-is_of_registers-clause-goes_on : goal.returns-else-is_of_registers-clause-goes_on
+returns-else-is_of_registers-clause-goes_on c = let first = told c.args.port.now in goes_none first first.actor c.args.self.now c.requires

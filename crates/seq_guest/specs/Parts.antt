@@ -1,0 +1,86 @@
+-- Parts of an actor, one after the other: each is what the actor did for one call (own choice).
+use Rattle.std.specs.Prelude.{◌≡◌, ℕ, ◌==◌, List, [], ◌∷◌, ◌++◌, All, filter, map, Option, None}
+use Rattle.std.specs.List.{flat_map}
+use Rattle.gic_call.specs.declared.event.Operation.{Operation}
+use Rattle.gic_call.specs.declared.event.Operation.TheVariants.{Residence}
+use Rattle.gic_base.specs.declared.shape.GuestShape.{GuestShape}
+use Rattle.port_core.specs.declared.run.Entry.{Entry}
+use Rattle.port_core.specs.declared.run.Made.{Made}
+use Rattle.port_core.specs.Port.{Seen, seen_after}
+use Rattle.core_proper.specs.Called.{MakesCall}
+use Rattle.core_proper.specs.Parts.{Act, part_of, entry_by}
+use Rattle.core_proper.specs.Progress.{Progress, progress_of}
+use Rattle.pe_mem.specs.Found.{IsCallAsFound}
+use Rattle.serial_laws.specs.Serial.{WholePart}
+
+-- what an actor did for one call: the call, the list registers of its PE (0 for a device), the steps, and the answer
+pub record Part : Type 0 where
+  pub operation : Operation
+  pub lrs : ℕ
+  pub steps : List Made
+  pub answer : Option ℕ
+
+-- a part of a vCPU that enters a PE, leaves one, or looks whether it was kicked
+abbrev pub residence : ℕ → List Made → Part
+residence lrs steps = record { operation = Residence; lrs = lrs; steps = steps; answer = None }
+
+-- the steps of some parts, and what the actor did with their beginnings and ends
+abbrev pub steps_in : List Part → List Made
+steps_in parts = flat_map (λ part. part.steps) parts
+
+abbrev pub acts_of : Part → List Act
+acts_of part = part_of part.operation part.lrs part.steps part.answer
+
+abbrev pub acts_in : List Part → List Act
+acts_in parts = flat_map acts_of parts
+
+-- one is its call, with its answer, and that by what it found of the vCPUs that LPIs are for
+pub record IsCallFound (seen : Seen) (part : Part) : Type 0 where
+  pub made : MakesCall seen part.steps part.operation part.answer
+  pub found : IsCallAsFound seen part.steps part.operation part.answer
+
+-- so is each of them
+abbrev pub AreCalls : Seen → List Part → Type 0
+AreCalls seen [] = Unit {0}
+AreCalls seen (part ∷ parts) = IsCallFound seen part × AreCalls (seen_after seen part.steps) parts
+
+-- what an actor has for itself after some parts of it
+pub record IsSeatAfter (before after : Seen) (parts : List Part) : Type 0 where
+  pub local : after.local ≡ (seen_after before (steps_in parts)).local
+  pub own : after.own ≡ (seen_after before (steps_in parts)).own
+
+-- Parts of several actors of a guest, one after the other.
+
+-- a part with its actor, and without it
+abbrev pub by_actor : ℕ → Part → WholePart
+by_actor actor part = record { actor = actor; operation = part.operation; lrs = part.lrs; steps = part.steps; answer = part.answer }
+
+abbrev pub part_in : WholePart → Part
+part_in one = record { operation = one.operation; lrs = one.lrs; steps = one.steps; answer = one.answer }
+
+-- what they add to the steps of all actors
+abbrev pub entries_in : List WholePart → List Entry
+entries_in parts = flat_map (λ one. map (entry_by one.actor) one.steps) parts
+
+-- those of an actor
+abbrev pub parts_by : ℕ → List WholePart → List Part
+parts_by actor parts = map part_in (filter (λ one. one.actor == actor) parts)
+
+-- all of them enter a PE, leave one, or look for a kick
+pub record AreResidences (parts : List WholePart) : Type 0 where
+  pub each : All (λ one. one.operation ≡ Residence) parts
+
+-- one of them is this call of an actor, with this answer, and all others are residences
+pub record HaveCall (actor : ℕ) (operation : Operation) (answer : Option ℕ) (parts : List WholePart) : Type 0 where
+  pub early : List WholePart
+  pub call : Part
+  pub late : List WholePart
+  pub split : parts ≡ early ++ by_actor actor call ∷ late
+  pub operation_is : call.operation ≡ operation
+  pub answer_is : call.answer ≡ answer
+  pub before : AreResidences early
+  pub after : AreResidences late
+
+-- the protocol of each actor after them
+abbrev pub progress_after : GuestShape → List WholePart → (ℕ → Progress) → ℕ → Progress
+progress_after shape parts progress actor = progress_of shape actor (progress actor) (acts_in (parts_by actor parts))

@@ -1,0 +1,113 @@
+//! An operation of a vCPU of a guest.
+ghost use Rattle.std.specs.Prelude.{◌≡◌, ◌≢◌, ℕ, ◌<◌, true, IsTrue, IfOk, OnOk};
+ghost use Rattle.gic_call.specs.declared.event.Operation.TheVariants.{Access};
+ghost use Rattle.port_core.specs.Port.{shape_of};
+ghost use Rattle.scn_base.specs.Good.{is_good_op};
+ghost use Rattle.port_seq.specs.Ports.{told};
+ghost use Rattle.seq_guest.specs.Operation.{is_of_registers as is_of_registers_by};
+ghost use Rattle.seq_guest.specs.Parts.{AreResidences, HaveCall};
+ghost use Rattle.seq_guest.specs.Place.{aside, pe, spot_of, gone_aside, returned, IsAt, HasRegisters};
+ghost use Rattle.seq_guest.specs.Moves.{Moves};
+ghost use Rattle.seq_guest.specs.Guest.{AreAt, GoesOn, NoneKicked, spot_at, ChangesSpots, for_none, but_one};
+
+use crate::place::Place;
+use crate::vcpus::Vcpus;
+use gic_base::{Frame, GuestOp, NoMemory};
+use pe_op::guest_op;
+use port_core::Port;
+use port_seq::GuestPort;
+use std::sync::Wait;
+
+/// Whether an operation accesses a register of the distributor, of a redistributor or of the ITS: one that may be of interrupts
+/// that other vCPUs have at their interfaces.
+fn is_of_registers(op: &GuestOp) -> bool
+    ensures { result ≡ is_of_registers_by op.now }
+{
+    match op {
+        GuestOp::Icc { .. } => false,
+        GuestOp::Mem { frame, .. } => match frame {
+            Frame::Dist | Frame::Redist { .. } | Frame::Its => true,
+            Frame::Ram => false,
+        },
+    }
+}
+
+/// The vCPU, which is on a PE, does an operation. `NoMemory` comes only at a write that takes the ITS.
+fn operate_on<P: Port, R: Wait>(
+    rt: &R,
+    port: &mut P,
+    place: &mut Place,
+    op: &GuestOp,
+) -> Result<Option<u64>, NoMemory>
+    requires at { IsAt (P.seen port.old) place.old }
+    requires on { spot_of place.old ≡ pe }
+    requires good { IsTrue (is_good_op (shape_of (P.seen port.old)) op.now) }
+    ensures moves { IfOk result (λ answer. Moves (HaveCall (P.seen port.old).actor (Access op.now) answer) (P.seen port.old) (P.seen port.new) place.old place.new) }
+    ensures spot { spot_of place.new ≡ spot_of place.old }
+    ensures registers { (lrs : ℕ) → HasRegisters lrs place.old → HasRegisters lrs place.new }
+{
+    match place {
+        Place::Pe(vcpu) => guest_op(rt, port, vcpu, op),
+        Place::Shelf(_) | Place::Aside(_) => unreachable!(),
+    }
+}
+
+impl Vcpus {
+    /// A vCPU that is on a PE does an operation. `NoMemory` comes only at a write that takes the ITS.
+    fn operate_one<R: Wait>(
+        &mut self,
+        rt: &R,
+        port: &mut GuestPort,
+        vcpu: u32,
+        op: &GuestOp,
+    ) -> Result<Option<u64>, NoMemory>
+        requires at { AreAt (told port.old) self.old }
+        requires there { vcpu < (told port.old).guest.shape.vcpus }
+        requires on { spot_at self.old vcpu ≡ pe }
+        requires good { IsTrue (is_good_op (told port.old).guest.shape op.now) }
+        ensures goes_on { IfOk result (λ answer. GoesOn (HaveCall vcpu (Access op.now) answer) (told port.old) (told port.new) self.old self.new) }
+        ensures spots { ChangesSpots for_none self.old self.new }
+    {
+        port.set_actor(vcpu);
+        operate_on(rt, port, &mut self.places[vcpu as usize], op)
+    }
+
+    /// Where an operation accesses a register over interrupts, each vCPU that is on a PE leaves it for a while, but for the one
+    /// that does the operation.
+    fn make_way(&mut self, port: &mut GuestPort, vcpu: u32, op: &GuestOp)
+        requires { AreAt (told port.old) self.old }
+        ensures goes_on { GoesOn AreResidences (told port.old) (told port.new) self.old self.new }
+        ensures spots { IsTrue (is_of_registers_by op.now) → ChangesSpots (but_one vcpu gone_aside) self.old self.new }
+        ensures own { spot_at self.new vcpu ≡ spot_at self.old vcpu }
+        ensures back { (other : ℕ) → spot_at self.old other ≢ aside → returned (spot_at self.new other) ≡ spot_at self.old other }
+    {
+        if is_of_registers(op) {
+            self.step_aside(port, vcpu);
+        }
+    }
+
+    /// A vCPU that is on a PE does an operation, and no other vCPU is on one while that accesses a register over interrupts.
+    /// `NoMemory` comes only at a write that takes the ITS.
+    pub fn operate<R: Wait>(
+        &mut self,
+        rt: &R,
+        port: &mut GuestPort,
+        vcpu: u32,
+        op: &GuestOp,
+    ) -> Result<Option<u64>, NoMemory>
+        requires at { AreAt (told port.old) self.old }
+        requires there { vcpu < (told port.old).guest.shape.vcpus }
+        requires on { spot_at self.old vcpu ≡ pe }
+        requires none { (other : ℕ) → spot_at self.old other ≢ aside }
+        requires good { IsTrue (is_good_op (told port.old).guest.shape op.now) }
+        ensures goes_on { IfOk result (λ answer. GoesOn (HaveCall vcpu (Access op.now) answer) (told port.old) (told port.new) self.old self.new) }
+        ensures spots { OnOk result (ChangesSpots for_none self.old self.new) }
+        ensures quiet { OnOk result (NoneKicked (told port.new) self.new) }
+    {
+        self.make_way(port, vcpu, op);
+        let answer = self.operate_one(rt, port, vcpu, op)?;
+        self.come_back(port);
+        self.answer_kicks(rt, port);
+        Ok(answer)
+    }
+}
