@@ -2,7 +2,6 @@
 ghost use Rattle.pe_icc.specs.Laws.{EntryRuns, ExitRests};
 
 /// A law of an entry: after it, the vCPU is where its accesses find it and leave it.
-#[tactic(auto, using(crate::proofs::LawLemmas::entry_runs))]
 pub fn entry_runs()
     ensures { EntryRuns }
 {}

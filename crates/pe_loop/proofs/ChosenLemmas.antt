@@ -1,5 +1,5 @@
 -- What was chosen for a list register is claimed, and its causes are taken.
-use Rattle.std.proofs.Common.{◌≡◌, ◌≢◌, ℕ, ◌<◌, nat_lt, length, arith, ◌⊎◌, inl, inr, ◌&&◌, ◌||◌, not, Bool, true, false, if◌then◌else◌, IsTrue, List, [], ◌∷◌, ◌++◌, map, Some, None, option_to_list, append-nil, refl, sym, ap, subst, ◌∙◌}
+use Rattle.std.proofs.Common.{◌≡◌, ◌≢◌, ℕ, ◌<◌, nat_lt, length, arith, ◌⊎◌, inl, inr, ◌==◌, ◌&&◌, ◌||◌, not, Bool, true, false, if◌then◌else◌, IsTrue, List, [], ◌∷◌, ◌++◌, map, Some, None, option_to_list, append-nil, refl, sym, ap, subst, ◌∙◌}
 use Rattle.std.specs.List.{cons_option}
 use Rattle.std.specs.Option.{option_map}
 use Rattle.std.proofs.lemmas.List.Sums.{fold-append}
@@ -52,8 +52,10 @@ use Rattle.pe_loop.specs.Claiming.{Claims, IsRight, IsClaimable, IsTakeable, Tak
 use Rattle.pe_loop.specs.Counting.{are_quiet}
 use Rattle.pe_loop.specs.Moves.{are_moves}
 use Rattle.pe_loop.specs.Scanning.{told_by}
+use Rattle.pe_loop.specs.Steps.{all_are, all_hit, is_claim}
 use Rattle.pe_loop.proofs.CountLemmas.{quiet_append}
 use Rattle.pe_loop.proofs.MoveLemmas.{claim_moves, moves_join}
+use Rattle.pe_loop.proofs.StepLemmas.{and_one, are_append, hit_append}
 use Rattle.pe_loop.proofs.ClaimLemmas.{claim_proper, claim_stepped, ended_more, first_left, first_tried, has_first, has_none, take_left, take_tried}
 use Rattle.core_proper.proofs.ReachLemmas.{entry_added, reached_local}
 use Rattle.pe_loop.proofs.ReachLemmas.{bare_of, active_reached, may_take_causes, reached_irq, taken_local, whole_reached}
@@ -66,6 +68,8 @@ pub record Tried (old new : Seen) (key : Key) (irq : IrqRecord) (done : Bool) : 
   pub adds : Adds old new (made ∷ [])
   pub none_taken : IsTrue (takes_none (made ∷ []))
   pub quiet : IsTrue (are_quiet (made ∷ []))
+  pub steps_are : IsTrue (all_are is_claim (made ∷ []))
+  pub hit : done ≡ all_hit (made ∷ [])
   pub moves : IsTrue (are_moves old.actor (part_events old (made ∷ [])))
   pub others : (other : Key) → IsTrue (has_interrupt (shape_of old) other) → other ≢ key → known (shape_of old) old.actor new.own (Irq other) ≡ known (shape_of old) old.actor old.own (Irq other)
   pub local : new.local ≡ (if done then claimed_at (shape_of old) old.actor key irq old.local else old.local)
@@ -91,6 +95,8 @@ tries old new key irq done good there claims =
       adds = add.adds;
       none_taken = ap (λ b. b && true) (handed_none step found old add.tables refl add.handed);
       quiet = refl;
+      steps_are = refl;
+      hit = claims.hit ∙ sym (and_one (found == packed irq));
       moves = ap (λ b. are_moves actor (option_to_list (if b then claim_event actor key old.local else None) ++ [])) claims.done_is ∙ claim_moves actor key old.local done;
       others = λ other is differ.
           let off : is_on shape actor (Irq other) made ≡ false = places_apart shape (Irq key) (Irq other) good there is (λ e. differ (sym (key_is key other e))) in
@@ -142,6 +148,8 @@ chosen_missed old new choice good can claims =
       adds = it.adds;
       none_taken = it.none_taken;
       quiet = it.quiet;
+      steps_are = it.steps_are;
+      whole_is = it.hit;
       moves = it.moves;
       same = ap back it.local;
       at = ap (λ local. local.at) it.local ∙ sym (append-nil old.local.at);
@@ -170,6 +178,8 @@ chosen_whole old new choice good can not_both claims =
       adds = it.adds;
       none_taken = it.none_taken;
       quiet = it.quiet;
+      steps_are = it.steps_are;
+      whole_is = it.hit;
       moves = it.moves;
       same = ap back local;
       at = ap (λ local. local.at) local;
@@ -362,6 +372,8 @@ chosen_both old mid new choice claimed port can both claims takes =
       adds = adds_join old mid new (first.made ∷ []) (second.made ∷ []) first.adds second.adds;
       none_taken = none_append (first.made ∷ []) (second.made ∷ []) first.none_taken second.none_taken;
       quiet = quiet_append (first.made ∷ []) (second.made ∷ []) first.quiet second.quiet;
+      steps_are = are_append is_claim (first.made ∷ []) (second.made ∷ []) first.steps_are second.steps_are;
+      whole_is = whole_where done ∙ second.hit ∙ ap (λ b. b && all_hit (second.made ∷ [])) first.hit ∙ sym (hit_append (first.made ∷ []) (second.made ∷ []));
       moves = moves_join old mid (first.made ∷ []) (second.made ∷ []) first.adds first.moves second.moves;
       same = ap back state.0 ∙ ap back came.local;
       at = state.1;
@@ -389,6 +401,10 @@ chosen_both old mid new choice claimed port can both claims takes =
           ∙ by_done done here takes regs trapping failed p;
     })
   where
+    whole_where : (done : Bool) → is_whole (if done then Whole else Bare) ≡ done
+    whole_where true = refl
+    whole_where false = refl
+
     by_done : (done : Bool) (here takes : List Key) (regs : IchRegs) (trapping failed : Bool) (p : Progress)
         → claims_by new here takes (if done then regs else without_take choice.key regs) trapping (failed || not done) p
         ≡ claims_by new here takes (regs_left (if done then Whole else Bare) choice.key regs) trapping (failed || not (is_whole (if done then Whole else Bare))) p

@@ -133,6 +133,7 @@ claims_so old new key irq found seen is back may add left =
       found = found;
       adds = subst (λ word. AddsStep old new (Claim key word) found) is add;
       done_is = ap (λ word. found == word && may_move (shape_of old) old.actor old.local key (irq_of found)) (sym is) ∙ of (found == seen) refl;
+      hit = ap (λ word. found == word) is;
       found_is = λ e. ap irq_of (eqb-true found seen e) ∙ back;
       left = subst (λ word. IsIrqWord (shape_of old) key (left_by old (Claim key word) found)) is left;
     }

@@ -37,10 +37,12 @@ use Rattle.core_proper.proofs.PartLemmas.{proper_append}
 use Rattle.port_call.proofs.PieceLemmas.{seen_nil}
 use Rattle.port_call.proofs.TryLemmas.{none_append}
 use Rattle.pe_loop.specs.Claiming.{IsRight, IsClaimable, regs_left, is_whole, IsNoneOf, claims_by, ClaimsSome, ClaimsAt, CanClaimAt, IsPlanOf, IsBlank, IsRegsAt, IsLoadedAt, IsClaiming, ClaimsAll}
+use Rattle.pe_loop.specs.Steps.{all_hit, is_claim}
 use Rattle.pe_loop.proofs.MoveLemmas.{moves_join}
 use Rattle.pe_loop.proofs.CountLemmas.{quiet_append}
 use Rattle.pe_loop.proofs.PlanLemmas.{IsPlanned, planned_so}
 use Rattle.pe_loop.proofs.StoreLemmas.{loaded_more, loaded_none, not_held, regs_more, regs_none}
+use Rattle.pe_loop.proofs.StepLemmas.{are_append, hit_append, not_both, or_none}
 
 -- Nothing yet.
 
@@ -98,6 +100,8 @@ nothing_claimed seen fill vcpu port plan_is blank =
       adds = record { new_is = sym (seen_nil seen) };
       none_taken = refl;
       quiet = refl;
+      steps_are = refl;
+      failed_is = refl;
       moves = refl;
       same = refl;
       known_as = λ i choice above e. (plan.found i choice e).known_as;
@@ -235,6 +239,9 @@ some_claimed old now new fill before loaded after place failed more choice good 
       adds = adds_join old now new so.part chosen.part so.adds chosen.adds;
       none_taken = none_append so.part chosen.part so.none_taken chosen.none_taken;
       quiet = quiet_append so.part chosen.part so.quiet chosen.quiet;
+      steps_are = are_append is_claim so.part chosen.part so.steps_are chosen.steps_are;
+      failed_is =
+          ap (λ b. b || more) so.failed_is ∙ ap (λ b. not (all_hit so.part) || b) (it.failed_is ∙ ap not chosen.whole_is) ∙ not_both (all_hit so.part) (all_hit chosen.part) ∙ ap not (sym (hit_append so.part chosen.part));
       moves = moves_join old now so.part chosen.part so.adds so.moves chosen.moves;
       same = ap back chosen.same ∙ so.same;
       known_as = λ i other above is_other.
@@ -276,6 +283,8 @@ none_claimed old now fill before loaded place failed good plan_is few e so =
       adds = so.adds;
       none_taken = so.none_taken;
       quiet = so.quiet;
+      steps_are = so.steps_are;
+      failed_is = or_none failed ∙ so.failed_is;
       moves = so.moves;
       same = so.same;
       known_as = λ i other above is. so.known_as i other (omega (arith, above)) is;
@@ -329,6 +338,8 @@ all_claimed old now fill before loaded failed port plan_is so =
       adds = so.adds;
       none_taken = so.none_taken;
       quiet = so.quiet;
+      steps_are = so.steps_are;
+      failed_is = so.failed_is;
       moves = so.moves;
       same = so.same;
       loaded = is.same;

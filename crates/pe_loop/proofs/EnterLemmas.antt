@@ -1,6 +1,7 @@
 -- A vCPU enters a PE.
-use Rattle.std.proofs.Common.{◌≡◌, ℕ, zero, suc, ◌+◌, ◌^◌, ◌<◌, ◌≤◌, ◌==◌, ◌&&◌, ◌||◌, not, Bool, true, false, if◌then◌else◌, IsTrue, List, [], ◌∷◌, ◌++◌, map, Option, Some, None, Contains, replicate, slice_index_or, refl, sym, ap, subst, ◌∙◌, arith}
+use Rattle.std.proofs.Common.{◌≡◌, ℕ, zero, suc, ◌+◌, ◌^◌, ◌<◌, ◌≤◌, ◌==◌, ◌&&◌, ◌||◌, not, Bool, true, false, if◌then◌else◌, IsTrue, List, [], ◌∷◌, ◌++◌, append-nil, map, Option, Some, None, Contains, replicate, slice_index_or, refl, sym, ap, subst, ◌∙◌, arith}
 use Rattle.std.specs.List.{list_all}
+use Rattle.std.proofs.lemmas.List.{append_assoc}
 use Rattle.std.proofs.lemmas.Option.{none-some}
 use Rattle.std.proofs.lemmas.Bool.{and_parts, eq-eqb, eqb-true, ltb-true}
 use Rattle.gic_aff.specs.declared.sgi.Targets.{Targets}
@@ -50,7 +51,9 @@ use Rattle.pe_loop.specs.Marking.{MarksRest}
 use Rattle.pe_loop.specs.Moves.{are_moves}
 use Rattle.pe_loop.specs.Scanning.{told_by, phase_taken, IsScanAt, Rounds}
 use Rattle.pe_loop.specs.Stay.{IsOff, IsOpen}
+use Rattle.pe_loop.specs.Steps.{all_hit, IsEntryPart}
 use Rattle.pe_loop.proofs.MoveLemmas.{moves_join, moves_unnamed}
+use Rattle.pe_loop.proofs.StepLemmas.{turned}
 use Rattle.pe_loop.proofs.CountLemmas.{looks_append, quiet_append, quiet_none, taken_append}
 use Rattle.pe_loop.proofs.JoinLemmas.{two_on, two_proper, same_proper, same_progress, two_silent}
 use Rattle.pe_loop.proofs.IndexLemmas.{less_words, still_taking}
@@ -72,6 +75,11 @@ ends_well old mid marks =
     record {
       part = so.part;
       adds = so.adds;
+      marks = so.part;
+      kick = [];
+      part_is = sym (append-nil so.part);
+      marks_are = so.steps_are;
+      kick_is = refl;
       none_taken = so.none_taken;
       quiet = so.quiet;
       silent = so.silent;
@@ -109,6 +117,11 @@ ends_kicked old mid new vcpu found marks vcpu_is added =
     record {
       part = so.part ++ made ∷ [];
       adds = adds_join old mid new so.part (made ∷ []) so.adds add.adds;
+      marks = so.part;
+      kick = made ∷ [];
+      part_is = refl;
+      marks_are = so.steps_are;
+      kick_is = ap (λ (seen : Seen). Kick seen.actor ∷ []) so.adds.new_is;
       none_taken = none_append so.part (made ∷ []) so.none_taken (ap (λ b. b && true) (handed_none (Kick mid.actor) found mid add.tables refl add.handed));
       quiet = quiet_append so.part (made ∷ []) so.quiet refl;
       silent = two_silent old mid so.part (made ∷ []) so.adds so.silent refl;
@@ -181,6 +194,11 @@ scans_so old mid new vcpu lrs found kept cpu fill few off add round cpu_is entri
     record {
       part = made ∷ rest;
       adds = adds;
+      look = made;
+      rest = rest;
+      part_is = refl;
+      look_is = refl;
+      rest_is = round.steps_are;
       none_taken = none_append (made ∷ []) rest (ap (λ b. b && true) (handed_none (Poll None None) found old add.tables refl add.handed)) round.none_taken;
       looks = omega (arith, same_count, looks_all, bits_all, poll_looks, poll_bits);
       silent = two_silent old mid (made ∷ []) rest add.adds refl round.silent;
@@ -352,6 +370,29 @@ entered_ends new loaded far p phase settled debt wants =
     or_true true = refl
     or_true false = refl
 
+-- its steps
+steps_so :
+    (old mid mid2 new : Seen) (lrs : ℕ) (fill : Fill) (ready loaded : Loaded) (failed : Bool) (scans : Scans old mid lrs fill) (claims : ClaimsAll mid mid2 fill ready loaded failed) (over : EndsScan mid2 new failed) → IsEntryPart old.actor (scans.part ++ (claims.part ++ over.part))
+steps_so old mid mid2 new lrs fill ready loaded failed scans claims over =
+    let first = scans.look ∷ scans.rest in
+    let actor : mid2.actor ≡ old.actor = ap (λ (seen : Seen). seen.actor) claims.adds.new_is ∙ ap (λ (seen : Seen). seen.actor) scans.adds.new_is in
+    record {
+      look = scans.look;
+      search = scans.rest;
+      claims = claims.part;
+      marks = over.marks;
+      kick = over.kick;
+      part_is =
+          ap (λ first. first ++ (claims.part ++ over.part)) scans.part_is ∙ ap (λ last. first ++ (claims.part ++ last)) over.part_is ∙ sym (append_assoc first claims.part (over.marks ++ over.kick))
+          ∙ sym (append_assoc (first ++ claims.part) over.marks over.kick);
+      look_is = scans.look_is;
+      search_is = scans.rest_is;
+      claims_are = claims.steps_are;
+      marks_are = over.marks_are;
+      kick_is =
+          over.kick_is ∙ ap (λ b. if b then Kick mid2.actor ∷ [] else []) claims.failed_is ∙ turned (all_hit claims.part) (Kick mid2.actor ∷ []) [] ∙ ap (λ actor. if all_hit claims.part then [] else Kick actor ∷ []) actor;
+    }
+
 pub enters_so :
     (old mid mid2 new : Seen) (vcpu : Shelved) (lrs : ℕ) (cpu : CpuRec) (fill : Fill) (ready loaded : Loaded) (failed : Bool) → 1 ≤ lrs → lrs ≤ 16 → IsOff old vcpu → Scans old mid lrs fill → cpu ≡ mid.local.cpu → IsReady vcpu cpu lrs fill ready → ClaimsAll mid mid2 fill ready loaded failed → EndsScan mid2 new failed
     → Enters old new vcpu lrs loaded
@@ -394,6 +435,7 @@ enters_so old mid mid2 new vcpu lrs cpu fill ready loaded failed some few off sc
     record {
       part = part;
       adds = adds;
+      steps = steps_so old mid mid2 new lrs fill ready loaded failed scans claims over;
       none_taken = none_append scans.part late scans.none_taken (none_append claims.part over.part claims.none_taken over.none_taken);
       looks =
           (let first = scans.looks in

@@ -4,6 +4,7 @@ pub mod LeaveLemmas
 pub mod FirstLemmas
 pub mod IndexLemmas
 pub mod CountLemmas
+pub mod StepLemmas
 pub mod MoveLemmas
 pub mod JoinLemmas
 pub mod LookLemmas

@@ -47,6 +47,8 @@ use Rattle.pe_loop.specs.Counting.{count_from, looks_in, bits_taken}
 use Rattle.core_proper.proofs.CandLemmas.{cand_same}
 use Rattle.core_proper.proofs.SearchLemmas.{found_in}
 use Rattle.pe_loop.proofs.CountLemmas.{count_first, count_same, looks_append, taken_append, taken_one}
+use Rattle.pe_loop.proofs.StepLemmas.{are_append}
+use Rattle.pe_loop.specs.Steps.{is_search}
 use Rattle.pe_loop.specs.Scanning.{told_by, looked_on, IsScanAt, TakesIndex, IsLookedOn, IsFound, AreFound, LooksAt, IsLooking}
 
 -- An offer.
@@ -149,6 +151,7 @@ no_looks seen chooser cpu =
       part = [];
       offers = [];
       adds = record { new_is = sym (seen_nil seen) };
+      steps_are = refl;
       same = refl;
       none_taken = refl;
       silent = refl;
@@ -270,6 +273,7 @@ one_look old now new before after later cpu from bit key good first key_is bit_i
       part = so.part ++ made ∷ [];
       offers = so.offers ++ offered key (irq_of look.found);
       adds = adds_join old now new so.part (made ∷ []) so.adds add.adds;
+      steps_are = are_append is_search so.part (made ∷ []) so.steps_are refl;
       same = look_same now new key look.found add old.local.cands ∙ so.same;
       none_taken = none_append so.part (made ∷ []) so.none_taken (ap (λ b. b && true) (handed_none (Look (IrqWord key)) look.found now add.tables refl add.handed));
       silent = events_then old now so.part (made ∷ []) so.adds ∙ ap (λ events. events ++ []) so.silent;

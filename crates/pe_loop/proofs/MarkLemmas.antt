@@ -35,7 +35,9 @@ use Rattle.port_call.proofs.TurnLemmas.{events_then}
 use Rattle.pe_loop.specs.Candidates.{EndsBefore}
 use Rattle.pe_loop.specs.Scanning.{told_by}
 use Rattle.pe_loop.specs.Marking.{claimed_by, IsMarking, MarksRest}
+use Rattle.pe_loop.specs.Steps.{is_mark}
 use Rattle.pe_loop.proofs.CountLemmas.{quiet_append}
+use Rattle.pe_loop.proofs.StepLemmas.{are_append}
 use Rattle.core_proper.proofs.CandLemmas.{cand_same}
 use Rattle.core_proper.proofs.SearchLemmas.{found_in, found_nowhere}
 
@@ -125,6 +127,7 @@ no_marks seen =
     record {
       part = [];
       adds = record { new_is = sym (seen_nil seen) };
+      steps_are = refl;
       same = refl;
       none_taken = refl;
       quiet = refl;
@@ -172,6 +175,7 @@ one_mark old now new from bit found key vcpu marks are first small bit_is own so
     record {
       part = so.part ++ made ∷ [];
       adds = adds_join old now new so.part (made ∷ []) so.adds add.adds;
+      steps_are = are_append is_mark so.part (made ∷ []) so.steps_are refl;
       same = ap back local ∙ so.same;
       none_taken = none_append so.part (made ∷ []) so.none_taken (ap (λ b. b && true) (handed_none (Mark key actor) found now add.tables refl add.handed));
       quiet = quiet_append so.part (made ∷ []) so.quiet refl;

@@ -24,11 +24,13 @@ use Rattle.port_call.specs.Piece.{steps_of}
 use Rattle.port_call.proofs.TryLemmas.{none_append}
 use Rattle.pe_loop.specs.Counting.{count_from, is_irq_look, looks_in, bits_taken, AreTaken}
 use Rattle.pe_loop.specs.Scanning.{told_by, looked_on, TakesIndex, LooksOver, IsFromIndex, Rounds}
+use Rattle.pe_loop.specs.Steps.{is_search}
 use Rattle.pe_loop.proofs.CountLemmas.{count_none, count_split, looks_append, taken_append}
 use Rattle.pe_loop.proofs.JoinLemmas.{two_on, two_proper, same_proper, same_progress, two_silent}
 use Rattle.pe_loop.proofs.LookLemmas.{all_taken}
 use Rattle.core_proper.proofs.SearchLemmas.{found_nowhere}
 use Rattle.pe_loop.proofs.MarkLemmas.{ends_before}
+use Rattle.pe_loop.proofs.StepLemmas.{are_append, takes_search}
 
 pub some_word : (shape : GuestShape) → 0 < index_words shape
 some_word shape = omega arith
@@ -106,6 +108,7 @@ rounds_so old mid new lrs before after cpu port takes cpu_is lrs_is vcpu_is fres
       offers = walk.offers;
       adds = adds;
       from_index = first_index takes.part walk.part (index_words shape) (some_word shape) takes.steps_are;
+      steps_are = are_append is_search takes.part walk.part (takes_search takes.part (range_with_len 0 (index_words shape)) takes.steps_are) walk.steps_are;
       none_taken = none_append takes.part walk.part takes.none_taken walk.none_taken;
       silent = two_silent old mid takes.part walk.part takes.adds takes.silent walk.silent;
       looks = λ none.

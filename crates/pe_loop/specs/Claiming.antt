@@ -1,5 +1,5 @@
 -- A vCPU claims what its plan chose (own choice).
-use Rattle.std.specs.Prelude.{◌≡◌, ◌≢◌, ◌⊎◌, ℕ, ◌<◌, ◌||◌, not, Bool, true, false, IsTrue, List, [], ◌∷◌, ◌++◌, map, length, All, Option, Some, None, option_to_list, if◌then◌else◌, ◌≤◌, drop, replicate}
+use Rattle.std.specs.Prelude.{◌≡◌, ◌≢◌, ◌⊎◌, ℕ, ◌<◌, ◌==◌, ◌||◌, not, Bool, true, false, IsTrue, List, [], ◌∷◌, ◌++◌, map, length, All, Option, Some, None, option_to_list, if◌then◌else◌, ◌≤◌, drop, replicate}
 use Rattle.std.specs.List.{cons_option, list_all, slice_index_or}
 use Rattle.std.specs.Option.{option_map}
 use Rattle.gic_base.specs.declared.interrupt.Key.{Key}
@@ -42,6 +42,7 @@ use Rattle.pe_loop.specs.declared.claims.Claimed.TheVariants.{Whole, Bare, Misse
 use Rattle.pe_loop.specs.Moves.{are_moves}
 use Rattle.pe_loop.specs.Counting.{are_quiet}
 use Rattle.pe_loop.specs.Scanning.{told_by, IsFound, AreFound}
+use Rattle.pe_loop.specs.Steps.{all_are, all_hit, is_claim}
 
 -- A claim.
 
@@ -50,6 +51,7 @@ pub record Claims (old new : Seen) (key : Key) (irq : IrqRecord) (done : Bool) :
   pub found : ℕ
   pub adds : AddsStep old new (Claim key (packed irq)) found
   pub done_is : succeeds (shape_of old) old.actor old.local (Claim key (packed irq)) found ≡ done
+  pub hit : done ≡ (found == packed irq)
   pub found_is : done ≡ true → irq_of found ≡ irq
   pub left : IsIrqWord (shape_of old) key (left_by old (Claim key (packed irq)) found)
 
@@ -144,6 +146,8 @@ pub record ClaimsChosen (old new : Seen) (choice : Choice) (claimed : Claimed) :
   pub adds : Adds old new part
   pub none_taken : IsTrue (takes_none part)
   pub quiet : IsTrue (are_quiet part)
+  pub steps_are : IsTrue (all_are is_claim part)
+  pub whole_is : is_whole claimed ≡ all_hit part
   pub moves : IsTrue (are_moves old.actor (part_events old part))
   pub same : record new.local { at = old.local.at; cands = old.local.cands } ≡ old.local
   pub at : new.local.at ≡ old.local.at ++ option_to_list (option_map at_of (choice_left claimed choice))
@@ -230,6 +234,8 @@ pub record IsClaiming (old now : Seen) (fill : Fill) (before loaded : Loaded) (p
   pub adds : Adds old now part
   pub none_taken : IsTrue (takes_none part)
   pub quiet : IsTrue (are_quiet part)
+  pub steps_are : IsTrue (all_are is_claim part)
+  pub failed_is : failed ≡ not (all_hit part)
   pub moves : IsTrue (are_moves old.actor (part_events old part))
   pub same : record now.local { at = old.local.at; cands = old.local.cands } ≡ old.local
   pub known_as : (i : ℕ) (choice : Choice) → place ≤ i → slice_index_or fill.choice i None ≡ Some choice → known (shape_of old) old.actor now.own (Irq choice.key) ≡ Some (packed choice.irq)
@@ -250,6 +256,8 @@ pub record ClaimsAll (old new : Seen) (fill : Fill) (before after : Loaded) (fai
   pub adds : Adds old new part
   pub none_taken : IsTrue (takes_none part)
   pub quiet : IsTrue (are_quiet part)
+  pub steps_are : IsTrue (all_are is_claim part)
+  pub failed_is : failed ≡ not (all_hit part)
   pub moves : IsTrue (are_moves old.actor (part_events old part))
   pub same : record new.local { at = old.local.at; cands = old.local.cands } ≡ old.local
   pub loaded : record after { regs = record after.regs { lr = before.regs.lr }; held = before.held } ≡ before

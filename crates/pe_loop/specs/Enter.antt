@@ -1,5 +1,5 @@
 -- A vCPU enters a PE (own choice).
-use Rattle.std.specs.Prelude.{◌≡◌, ℕ, Bool, false, IsTrue, List, [], map, replicate, Option, None, unwrap_or}
+use Rattle.std.specs.Prelude.{◌≡◌, ℕ, Bool, false, IsTrue, List, [], ◌∷◌, ◌++◌, map, replicate, Option, None, if◌then◌else◌, unwrap_or}
 use Rattle.gic_call.specs.declared.event.Operation.TheVariants.{Residence}
 use Rattle.gic_prio.specs.declared.cpu.CpuRec.{CpuRec}
 use Rattle.vcpu_refill.specs.declared.fill.Fill.{Fill}
@@ -9,6 +9,7 @@ use Rattle.vcpu_state.specs.declared.loaded.Loaded.{Loaded}
 use Rattle.vcpu_state.specs.Moves.{shelved_of}
 use Rattle.port_core.specs.declared.local.Phase.TheVariants.{Claiming}
 use Rattle.port_core.specs.declared.run.Made.{Made}
+use Rattle.port_core.specs.declared.step.CoreStep.TheVariants.{Kick, Poll}
 use Rattle.gic_ich.specs.declared.regs.IchRegs.{IchRegs}
 use Rattle.port_core.specs.Local.{has_no_cand, owes_no_kick}
 use Rattle.port_core.specs.Port.{Seen, Adds, shape_of, part_events}
@@ -17,12 +18,13 @@ use Rattle.core_proper.specs.Parts.{makes, part_of}
 use Rattle.core_proper.specs.Progress.{Progress, paid, begun, owed_after_scan, progress_of}
 use Rattle.core_proper.specs.Proper.{IsProper}
 use Rattle.core_proper.specs.Scan.{idle, keys_chosen, keys_of_both}
-use Rattle.port_call.specs.Piece.{takes_none, IsIdle}
+use Rattle.port_call.specs.Piece.{steps_of, takes_none, IsIdle}
 use Rattle.pe_loop.specs.Claiming.{claims_by, IsPlanOf}
 use Rattle.pe_loop.specs.Counting.{are_quiet, bits_taken, looks_in}
 use Rattle.pe_loop.specs.Moves.{are_moves}
 use Rattle.pe_loop.specs.Scanning.{told_by}
 use Rattle.pe_loop.specs.Stay.{IsUp}
+use Rattle.pe_loop.specs.Steps.{all_are, is_mark, is_search, IsEntryPart}
 
 -- The scan.
 
@@ -42,6 +44,11 @@ pub record IsPlanned (seen : Seen) (lrs : ℕ) (fill : Fill) (p q : Progress) : 
 pub record Scans (old new : Seen) (lrs : ℕ) (fill : Fill) : Type 0 where
   pub part : List Made
   pub adds : Adds old new part
+  pub look : Made
+  pub rest : List Made
+  pub part_is : part ≡ look ∷ rest
+  pub look_is : look.step ≡ Poll None None
+  pub rest_is : IsTrue (all_are is_search rest)
   pub none_taken : IsTrue (takes_none part)
   pub silent : part_events old part ≡ []
   pub looks : looks_in part ≡ bits_taken part
@@ -67,6 +74,11 @@ pub record IsReady (vcpu : Shelved) (cpu : CpuRec) (lrs : ℕ) (fill : Fill) (lo
 pub record EndsScan (old new : Seen) (failed : Bool) : Type 0 where
   pub part : List Made
   pub adds : Adds old new part
+  pub marks : List Made
+  pub kick : List Made
+  pub part_is : part ≡ marks ++ kick
+  pub marks_are : IsTrue (all_are is_mark marks)
+  pub kick_is : steps_of kick ≡ (if failed then Kick old.actor ∷ [] else [])
   pub none_taken : IsTrue (takes_none part)
   pub quiet : IsTrue (are_quiet part)
   pub silent : part_events old part ≡ []
@@ -100,6 +112,7 @@ pub record IsBetween (seen : Seen) (p : Progress) : Type 0 where
 pub record Enters (old new : Seen) (vcpu : Shelved) (lrs : ℕ) (loaded : Loaded) : Type 0 where
   pub part : List Made
   pub adds : Adds old new part
+  pub steps : IsEntryPart old.actor part
   pub none_taken : IsTrue (takes_none part)
   pub looks : looks_in part ≡ bits_taken part
   pub moves : IsTrue (are_moves old.actor (part_events old part))

@@ -1,3 +1,4 @@
+pub mod Steps
 pub mod Stay
 pub mod Moves
 pub mod Candidates

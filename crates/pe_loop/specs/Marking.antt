@@ -10,6 +10,7 @@ use Rattle.core_proper.specs.Scan.{claiming, ended_scan}
 use Rattle.port_call.specs.Piece.{takes_none}
 use Rattle.pe_loop.specs.Counting.{are_quiet}
 use Rattle.pe_loop.specs.Scanning.{told_by}
+use Rattle.pe_loop.specs.Steps.{all_are, is_mark}
 
 -- a scan that has nothing to claim and to take, with what a port tells
 abbrev pub claimed_by : Seen → Progress → Progress
@@ -19,6 +20,7 @@ claimed_by seen p = record (told_by seen p) { scan = ended_scan seen.local (clai
 pub record IsMarking (old now : Seen) (from : ℕ) : Type 0 where
   pub part : List Made
   pub adds : Adds old now part
+  pub steps_are : IsTrue (all_are is_mark part)
   pub same : record now.local { cands = old.local.cands } ≡ old.local
   pub none_taken : IsTrue (takes_none part)
   pub quiet : IsTrue (are_quiet part)

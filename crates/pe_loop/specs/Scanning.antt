@@ -24,6 +24,7 @@ use Rattle.core_proper.specs.Proper.{IsProper}
 use Rattle.core_proper.specs.Scan.{Purpose, Scan, taking, ended_scan, next_cand, offered}
 use Rattle.port_call.specs.Piece.{steps_of, takes_none}
 use Rattle.pe_loop.specs.Counting.{count_from, looks_in, bits_taken, AreTaken}
+use Rattle.pe_loop.specs.Steps.{all_are, is_search}
 
 -- an actor's protocol so far is that of what its port tells, with this scan in progress
 pub record IsScanAt (seen : Seen) (p : Progress) (scan : Scan) : Type 0 where
@@ -102,6 +103,7 @@ pub record IsLooking (old now : Seen) (before after : Kept) (cpu : CpuRec) (from
   pub part : List Made
   pub offers : List Offer
   pub adds : Adds old now part
+  pub steps_are : IsTrue (all_are is_search part)
   pub same : record now.local { cands = old.local.cands } ≡ old.local
   pub none_taken : IsTrue (takes_none part)
   pub silent : part_events old part ≡ []
@@ -141,6 +143,7 @@ pub record Rounds (old new : Seen) (lrs : ℕ) (kept : Kept) : Type 0 where
   pub offers : List Offer
   pub adds : Adds old new part
   pub from_index : IsFromIndex part
+  pub steps_are : IsTrue (all_are is_search part)
   pub none_taken : IsTrue (takes_none part)
   pub silent : part_events old part ≡ []
   pub looks : IsTrue (has_no_cand old.local) → looks_in part ≡ bits_taken part
