@@ -27,13 +27,13 @@ use Rattle.dev_port.specs.Device.{CanCall, IsDevicePart}
 use Rattle.serial_laws.specs.Serial.{WholePart}
 use Rattle.seq_guest.specs.declared.place.Place.{Place}
 use Rattle.seq_guest.specs.declared.vcpus.Vcpus.{Vcpus}
-use Rattle.seq_guest.specs.Parts.{Part, by_actor, steps_in, acts_of, acts_in, entries_in, parts_by, progress_after, IsCallFound, AreCalls, IsSeatAfter, AreResidences, HaveCall}
+use Rattle.seq_guest.specs.Parts.{Part, by_actor, steps_in, acts_of, acts_in, entries_in, parts_by, progress_after, IsCallFound, AreCalls, IsSeatAfter, AreOneCall, AreResidences, HaveCall}
 use Rattle.seq_guest.specs.Place.{IsAt, IsFollowed, HasRegisters}
 use Rattle.seq_guest.specs.Moves.{Moves}
 use Rattle.seq_guest.specs.Guest.{seen_by, AreAt, AreFollowed, IsSameGuest, GoesOn}
 use Rattle.seq_guest.proofs.FoundLemmas.{device_call}
 use Rattle.seq_guest.proofs.FrameLemmas.{at_same, followed_same, rest_same}
-use Rattle.seq_guest.proofs.KindLemmas.{residences_none, residences_join, call_one, call_after, call_before}
+use Rattle.seq_guest.proofs.KindLemmas.{residences_none, residences_join, call_one, call_last, call_before}
 use Rattle.seq_guest.proofs.MoveLemmas.{calls_join}
 use Rattle.seq_guest.proofs.PartsLemmas.{parts_of_one, parts_of_other, entries_of_one, parts_append, entries_append, steps_append, seat_none, TellsSame, calls_same}
 use Rattle.seq_guest.proofs.SeatLemmas.{IsLater, is_later, other_seat, other_same, set_get}
@@ -44,7 +44,7 @@ place_is told vcpus vcpu place at there is = slice_get_read vcpus.places.items t
 
 -- Nothing is done.
 
-pub goes_none : (told : GuestTold) (actor : ℕ) (vcpus : Vcpus) → AreAt told vcpus → GoesOn AreResidences told (record told { actor = actor }) vcpus vcpus
+unfoldable pub goes_none : (told : GuestTold) (actor : ℕ) (vcpus : Vcpus) → AreAt told vcpus → GoesOn AreResidences told (record told { actor = actor }) vcpus vcpus
 goes_none told actor vcpus at =
     record {
       same = record { home = refl; guest = refl; number = refl };
@@ -245,16 +245,27 @@ goes_both Early Late Both join one two three a b d first second =
           (second.goes_on (progress_after shape early progress) (first.goes_on progress so));
     }
 
--- residences alone; and a call after some, or before some
+-- residences alone; a call before some; and one between some, and what comes before it
 
 pub goes_then : (one two three : GuestTold) (a b d : Vcpus) → GoesOn AreResidences one two a b → GoesOn AreResidences two three b d → GoesOn AreResidences one three a d
 goes_then = goes_both AreResidences AreResidences AreResidences residences_join
 
-pub goes_to : (actor : ℕ) (operation : Operation) (answer : Option ℕ) (one two three : GuestTold) (a b d : Vcpus) → GoesOn AreResidences one two a b → GoesOn (HaveCall actor operation answer) two three b d → GoesOn (HaveCall actor operation answer) one three a d
-goes_to actor operation answer = goes_both AreResidences (HaveCall actor operation answer) (HaveCall actor operation answer) (call_after actor operation answer)
-
 pub goes_from : (actor : ℕ) (operation : Operation) (answer : Option ℕ) (one two three : GuestTold) (a b d : Vcpus) → GoesOn (HaveCall actor operation answer) one two a b → GoesOn AreResidences two three b d → GoesOn (HaveCall actor operation answer) one three a d
 goes_from actor operation answer = goes_both (HaveCall actor operation answer) AreResidences (HaveCall actor operation answer) (call_before actor operation answer)
+
+goes_to : (actor : ℕ) (operation : Operation) (answer : Option ℕ) (one two three : GuestTold) (a b d : Vcpus) → GoesOn AreResidences one two a b → GoesOn (AreOneCall actor operation answer) two three b d → GoesOn (HaveCall actor operation answer) one three a d
+goes_to actor operation answer = goes_both AreResidences (AreOneCall actor operation answer) (HaveCall actor operation answer) (call_last actor operation answer)
+
+pub record GoesAbout (actor : ℕ) (operation : Operation) (answer : Option ℕ) (old new : GuestTold) (before after : Vcpus) (early : List WholePart) : Type 0 where
+  pub goes_on : GoesOn (HaveCall actor operation answer) old new before after
+  pub early_is : goes_on.are.early ≡ early
+
+pub goes_about :
+    (actor : ℕ) (operation : Operation) (answer : Option ℕ) (one two three four : GuestTold) (a b d e : Vcpus) (first : GoesOn AreResidences one two a b) → GoesOn (AreOneCall actor operation answer) two three b d → GoesOn AreResidences three four d e
+    → GoesAbout actor operation answer one four a e first.parts
+unfolding goes_both goes_to goes_from call_last call_before
+goes_about actor operation answer one two three four a b d e first call second =
+    record { goes_on = goes_from actor operation answer one three four a d e (goes_to actor operation answer one two three a b d first call) second; early_is = refl }
 
 -- A device does one.
 

@@ -6,7 +6,7 @@ use Rattle.gic_call.specs.declared.event.Operation.{Operation}
 use Rattle.gic_call.specs.declared.event.Operation.TheVariants.{Residence}
 use Rattle.port_core.specs.declared.run.Made.{Made}
 use Rattle.serial_laws.specs.Serial.{WholePart}
-use Rattle.seq_guest.specs.Parts.{Part, by_actor, residence, AreResidences, HaveCall}
+use Rattle.seq_guest.specs.Parts.{Part, by_actor, residence, AreOneCall, AreResidences, HaveCall}
 
 Resides : WholePart → Type 0
 Resides one = one.operation ≡ Residence
@@ -24,23 +24,26 @@ unfolding Resides
 residences_join early late first second = record { each = All-append Resides early late first.each second.each }
 
 -- one call
+pub only_call : (actor : ℕ) (part : Part) → AreOneCall actor part.operation part.answer (by_actor actor part ∷ [])
+only_call actor part = record { call = part; alone = refl; operation_is = refl; answer_is = refl }
+
 pub call_one : (actor : ℕ) (part : Part) → HaveCall actor part.operation part.answer (by_actor actor part ∷ [])
 call_one actor part = record { early = []; call = part; late = []; split = refl; operation_is = refl; answer_is = refl; before = residences_none; after = residences_none }
 
-pub call_after : (actor : ℕ) (operation : Operation) (answer : Option ℕ) (early late : List WholePart) → AreResidences early → HaveCall actor operation answer late → HaveCall actor operation answer (early ++ late)
-call_after actor operation answer early late first have =
+unfoldable pub call_last : (actor : ℕ) (operation : Operation) (answer : Option ℕ) (early late : List WholePart) → AreResidences early → AreOneCall actor operation answer late → HaveCall actor operation answer (early ++ late)
+call_last actor operation answer early late first only =
     record {
-      early = early ++ have.early;
-      call = have.call;
-      late = have.late;
-      split = ap (λ late. early ++ late) have.split ∙ sym (append_assoc early have.early (by_actor actor have.call ∷ have.late));
-      operation_is = have.operation_is;
-      answer_is = have.answer_is;
-      before = residences_join early have.early first have.before;
-      after = have.after;
+      early = early;
+      call = only.call;
+      late = [];
+      split = ap (λ late. early ++ late) only.alone;
+      operation_is = only.operation_is;
+      answer_is = only.answer_is;
+      before = first;
+      after = residences_none;
     }
 
-pub call_before : (actor : ℕ) (operation : Operation) (answer : Option ℕ) (early late : List WholePart) → HaveCall actor operation answer early → AreResidences late → HaveCall actor operation answer (early ++ late)
+unfoldable pub call_before : (actor : ℕ) (operation : Operation) (answer : Option ℕ) (early late : List WholePart) → HaveCall actor operation answer early → AreResidences late → HaveCall actor operation answer (early ++ late)
 call_before actor operation answer early late have second =
     record {
       early = have.early;

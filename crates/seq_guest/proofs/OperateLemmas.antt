@@ -1,17 +1,25 @@
 -- An operation of a vCPU, as a part of its own.
-use Rattle.std.proofs.Common.{◌≡◌, ◌≢◌, ℕ, Option, IfOk, OnErr, refl}
+use Rattle.std.proofs.Common.{◌≡◌, ◌≢◌, ℕ, ◌==◌, true≢false, Bool, true, false, if◌then◌else◌, Option, IfOk, OnErr, refl, sym, ap, ◌∙◌}
 use Rattle.std.specs.Prelude.{Result, Ok, Err}
+use Rattle.std.proofs.lemmas.Bool.{ne_eqb}
 use Rattle.gic_base.specs.declared.memory.NoMemory.{NoMemory}
 use Rattle.gic_base.specs.declared.operation.GuestOp.{GuestOp}
+use Rattle.gic_base.specs.declared.operation.GuestOp.TheVariants.{Icc, Mem}
 use Rattle.gic_call.specs.declared.event.Operation.TheVariants.{Access}
 use Rattle.vcpu_state.specs.declared.loaded.Loaded.{Loaded}
 use Rattle.port_core.specs.Port.{Seen}
 use Rattle.pe_op.specs.Operation.{DoesOperation, StopsOperation}
+use Rattle.port_seq.specs.Told.{GuestTold}
+use Rattle.serial_laws.specs.Serial.{is_icc}
 use Rattle.seq_guest.specs.declared.place.Place.TheVariants.{Pe}
+use Rattle.seq_guest.specs.declared.vcpus.Vcpus.{Vcpus}
 use Rattle.seq_guest.specs.Place.{Spot, shelf, aside, pe, gone_aside, returned}
-use Rattle.seq_guest.specs.Parts.{Part, HaveCall}
+use Rattle.seq_guest.specs.Operation.{is_of_registers}
+use Rattle.seq_guest.specs.Parts.{Part, AreOneCall, AreResidences}
 use Rattle.seq_guest.specs.Moves.{Moves}
-use Rattle.seq_guest.proofs.KindLemmas.{call_one}
+use Rattle.seq_guest.specs.Guest.{AreAt, GoesOn, IsAlone, MakesWay, Operates, ChangesSpots, but_one, spot_at}
+use Rattle.seq_guest.proofs.GuestLemmas.{goes_about, goes_none, goes_then}
+use Rattle.seq_guest.proofs.KindLemmas.{only_call}
 use Rattle.seq_guest.proofs.MoveLemmas.{moves_once}
 
 -- what follows where it was done
@@ -19,12 +27,12 @@ pub if_ok : {A E : Type 0} {P Q : A → Type 0} (result : Result A E) → ((valu
 if_ok (Ok value) f so = f value so
 if_ok (Err error) f so = tt
 
-moves_by : (old new : Seen) (op : GuestOp) (before after : Loaded) (answer : Option ℕ) → DoesOperation old new op before after answer → Moves (HaveCall old.actor (Access op) answer) old new (Pe before) (Pe after)
+moves_by : (old new : Seen) (op : GuestOp) (before after : Loaded) (answer : Option ℕ) → DoesOperation old new op before after answer → Moves (AreOneCall old.actor (Access op) answer) old new (Pe before) (Pe after)
 moves_by old new op before after answer does =
     let part : Part = record { operation = Access op; lrs = before.regs.n; steps = does.part; answer = answer } in
-    moves_once (HaveCall old.actor (Access op) answer) old new (Pe before) (Pe after) part (call_one old.actor part) does.adds (record { made = does.call; found = does.found }) does.proper does.goes_on does.up
+    moves_once (AreOneCall old.actor (Access op) answer) old new (Pe before) (Pe after) part (only_call old.actor part) does.adds (record { made = does.call; found = does.found }) does.proper does.goes_on does.up
 
-pub moves_where_done : (result : Result (Option ℕ) NoMemory) (old new : Seen) (op : GuestOp) (before after : Loaded) → IfOk result (λ answer. DoesOperation old new op before after answer) → IfOk result (λ answer. Moves (HaveCall old.actor (Access op) answer) old new (Pe before) (Pe after))
+pub moves_where_done : (result : Result (Option ℕ) NoMemory) (old new : Seen) (op : GuestOp) (before after : Loaded) → IfOk result (λ answer. DoesOperation old new op before after answer) → IfOk result (λ answer. Moves (AreOneCall old.actor (Access op) answer) old new (Pe before) (Pe after))
 moves_where_done (Ok answer) old new op before after does = moves_by old new op before after answer does
 moves_where_done (Err error) old new op before after does = tt
 
@@ -45,3 +53,35 @@ pub back_from_aside : (spot : Spot) → spot ≢ aside → returned (gone_aside 
 back_from_aside shelf apart = refl
 back_from_aside aside apart = absurd (apart refl)
 back_from_aside pe apart = refl
+
+-- Others make way.
+
+gone_off : (spot : Spot) → gone_aside spot ≢ pe
+gone_off shelf e = cc
+gone_off aside e = cc
+gone_off pe e = cc
+
+alone_then : (a b : Vcpus) (vcpu : ℕ) → ChangesSpots (but_one vcpu gone_aside) a b → IsAlone vcpu b
+alone_then a b vcpu spots =
+    record {
+      others = λ other apart on.
+          gone_off (spot_at a other) (sym (spots.spot other ∙ ap (λ (t : Bool). if t then spot_at a other else gone_aside (spot_at a other)) (ne_eqb other vcpu apart)) ∙ on);
+    }
+
+not_both : (op : GuestOp) → is_icc (Access op) ≡ true → is_of_registers op ≡ true → ⊥
+not_both (Icc reg write) icc registers = true≢false (sym registers)
+not_both (Mem frame offset size write) icc registers = true≢false (sym icc)
+
+pub way_made : (old new : GuestTold) (a b : Vcpus) (vcpu : ℕ) (op : GuestOp) → is_of_registers op ≡ true → GoesOn AreResidences old new a b → ChangesSpots (but_one vcpu gone_aside) a b → MakesWay old new a b vcpu op
+way_made old new a b vcpu op is goes_on spots = record { goes_on = goes_on; none = λ icc. absurd (not_both op icc is); alone = λ is. alone_then a b vcpu spots }
+
+pub way_free : (told : GuestTold) (a : Vcpus) (vcpu : ℕ) (op : GuestOp) → is_of_registers op ≡ false → AreAt told a → MakesWay told told a a vcpu op
+unfolding goes_none
+way_free told a vcpu op is at = record { goes_on = goes_none told told.actor a at; none = λ icc. refl; alone = λ registers. absurd (true≢false (sym registers ∙ is)) }
+
+pub operates :
+    (first away done back last : GuestTold) (a b d e f : Vcpus) (vcpu : ℕ) (op : GuestOp) (answer : Option ℕ) → MakesWay first away a b vcpu op → GoesOn (AreOneCall vcpu (Access op) answer) away done b d → GoesOn AreResidences done back d e → GoesOn AreResidences back last e f
+    → Operates first last a f vcpu op answer
+operates first away done back last a b d e f vcpu op answer way does returns answers =
+    let about = goes_about vcpu (Access op) answer first away done last a b d f way.goes_on does (goes_then done back last d e f returns answers) in
+    record { goes_on = about.goes_on; between = away; there = b; way = way; early_is = about.early_is }

@@ -1,7 +1,9 @@
 -- The vCPUs of a guest, with what its port tells of them (own choice).
-use Rattle.std.specs.Prelude.{◌≡◌, ℕ, ◌<◌, ◌≤◌, ◌==◌, nat_lt, IsTrue, false, List, [], ◌∷◌, ◌++◌, length, map, if◌then◌else◌, Some, None, slice_get}
+use Rattle.std.specs.Prelude.{◌≡◌, ◌≢◌, ℕ, ◌<◌, ◌≤◌, ◌==◌, nat_lt, IsTrue, true, false, List, [], ◌∷◌, ◌++◌, length, map, if◌then◌else◌, Option, Some, None, slice_get}
 use Rattle.std.specs.Option.{option_map_or}
 use Rattle.std.specs.List.{range_with_len}
+use Rattle.gic_base.specs.declared.operation.GuestOp.{GuestOp}
+use Rattle.gic_call.specs.declared.event.Operation.TheVariants.{Access}
 use Rattle.gic_prio.specs.declared.cpu.CpuRec.{CpuRec}
 use Rattle.port_core.specs.declared.run.Made.{Made}
 use Rattle.port_core.specs.Actor.{actor_count}
@@ -11,13 +13,14 @@ use Rattle.core_proper.specs.Progress.{Progress}
 use Rattle.core_proper.specs.Proper.{IsProper, is_settled}
 use Rattle.core_regs.specs.Asks.{IsUnkicked}
 use Rattle.port_seq.specs.Told.{GuestTold, seen_of, state_of}
-use Rattle.serial_laws.specs.Serial.{WholePart}
+use Rattle.serial_laws.specs.Serial.{WholePart, is_icc}
 use Rattle.vcpu_state.specs.declared.loaded.Loaded.{Loaded}
 use Rattle.seq_guest.specs.declared.place.Place.{Place}
 use Rattle.seq_guest.specs.declared.place.Place.TheVariants.{Pe}
 use Rattle.seq_guest.specs.declared.vcpus.Vcpus.{Vcpus}
-use Rattle.seq_guest.specs.Parts.{IsSeatAfter, by_actor, residence, AreResidences, AreCalls, acts_in, entries_in, parts_by, progress_after}
+use Rattle.seq_guest.specs.Parts.{IsSeatAfter, by_actor, residence, AreResidences, AreCalls, HaveCall, acts_in, entries_in, parts_by, progress_after}
 use Rattle.seq_guest.specs.Moves.{BeginsScan}
+use Rattle.seq_guest.specs.Operation.{is_of_registers}
 use Rattle.seq_guest.specs.Place.{Spot, shelf, pe, spot_of, IsAt, IsFollowed, HasRegisters, IsShown}
 
 -- what is told of an actor of a guest
@@ -76,6 +79,25 @@ pub record ShowsList (old new : GuestTold) (before after : Vcpus) (vcpu : ℕ) (
   pub shows : Shows old mid before between vcpu
   pub list_is : IsShown (Pe shows.loaded) list
   pub later : GoesOn AreResidences mid new between after
+
+-- no other vCPU is on a PE
+pub record IsAlone (vcpu : ℕ) (vcpus : Vcpus) : Type 0 where
+  pub others : (other : ℕ) → other ≢ vcpu → spot_at vcpus other ≢ pe
+
+-- what comes before a vCPU's operation: nothing, where that accesses a register of the CPU interface; and where it accesses one of the distributor, of a redistributor or
+-- of the ITS, all other vCPUs have left their PEs after it
+pub record MakesWay (old new : GuestTold) (before after : Vcpus) (vcpu : ℕ) (op : GuestOp) : Type 0 where
+  pub goes_on : GoesOn AreResidences old new before after
+  pub none : is_icc (Access op) ≡ true → goes_on.parts ≡ []
+  pub alone : is_of_registers op ≡ true → IsAlone vcpu after
+
+-- a vCPU did an operation: its call, with residences before it and after it; the guest and its vCPUs are so as the call's part begins, and what came before it made way
+pub record Operates (old new : GuestTold) (before after : Vcpus) (vcpu : ℕ) (op : GuestOp) (answer : Option ℕ) : Type 0 where
+  pub goes_on : GoesOn (HaveCall vcpu (Access op) answer) old new before after
+  pub between : GuestTold
+  pub there : Vcpus
+  pub way : MakesWay old between before there vcpu op
+  pub early_is : goes_on.are.early ≡ way.goes_on.parts
 
 -- no vCPU that is on a PE is kicked
 pub record NoneKicked (told : GuestTold) (vcpus : Vcpus) : Type 0 where

@@ -70,6 +70,13 @@ parts_by actor parts = map part_in (filter (λ one. one.actor == actor) parts)
 pub record AreResidences (parts : List WholePart) : Type 0 where
   pub each : All (λ one. one.operation ≡ Residence) parts
 
+-- they are this call of an actor, with this answer, and nothing else
+pub record AreOneCall (actor : ℕ) (operation : Operation) (answer : Option ℕ) (parts : List WholePart) : Type 0 where
+  pub call : Part
+  pub alone : parts ≡ by_actor actor call ∷ []
+  pub operation_is : call.operation ≡ operation
+  pub answer_is : call.answer ≡ answer
+
 -- one of them is this call of an actor, with this answer, and all others are residences
 pub record HaveCall (actor : ℕ) (operation : Operation) (answer : Option ℕ) (parts : List WholePart) : Type 0 where
   pub early : List WholePart

@@ -45,13 +45,7 @@ fn device_op<P: Port, R: Wait>(rt: &R, port: &mut P, op: &DeviceOp)
 
 impl Vcpus {
     /// A device of the guest does an operation, and the kicks are answered that this gives.
-    pub fn receive<R: Wait>(
-        &mut self,
-        rt: &R,
-        port: &mut GuestPort,
-        device: u32,
-        op: &DeviceOp,
-    )
+    pub fn receive<R: Wait>(&mut self, rt: &R, port: &mut GuestPort, device: u32, op: &DeviceOp)
         requires at { AreAt (told port.old) self.old }
         requires there { device < (told port.old).guest.shape.devices }
         requires good { IsTrue (is_good_event (told port.old).guest.shape op.now) }

@@ -5,10 +5,10 @@ ghost use Rattle.port_core.specs.Port.{shape_of};
 ghost use Rattle.scn_base.specs.Good.{is_good_op};
 ghost use Rattle.port_seq.specs.Ports.{told};
 ghost use Rattle.seq_guest.specs.Operation.{is_of_registers as is_of_registers_by};
-ghost use Rattle.seq_guest.specs.Parts.{AreResidences, HaveCall};
-ghost use Rattle.seq_guest.specs.Place.{aside, pe, spot_of, gone_aside, returned, IsAt, HasRegisters};
+ghost use Rattle.seq_guest.specs.Parts.{AreOneCall};
+ghost use Rattle.seq_guest.specs.Place.{aside, pe, spot_of, returned, IsAt, HasRegisters};
 ghost use Rattle.seq_guest.specs.Moves.{Moves};
-ghost use Rattle.seq_guest.specs.Guest.{AreAt, GoesOn, NoneKicked, spot_at, ChangesSpots, for_none, but_one};
+ghost use Rattle.seq_guest.specs.Guest.{AreAt, GoesOn, MakesWay, Operates, NoneKicked, spot_at, ChangesSpots, for_none};
 
 use crate::place::Place;
 use crate::vcpus::Vcpus;
@@ -42,7 +42,7 @@ fn operate_on<P: Port, R: Wait>(
     requires at { IsAt (P.seen port.old) place.old }
     requires on { spot_of place.old ≡ pe }
     requires good { IsTrue (is_good_op (shape_of (P.seen port.old)) op.now) }
-    ensures moves { IfOk result (λ answer. Moves (HaveCall (P.seen port.old).actor (Access op.now) answer) (P.seen port.old) (P.seen port.new) place.old place.new) }
+    ensures moves { IfOk result (λ answer. Moves (AreOneCall (P.seen port.old).actor (Access op.now) answer) (P.seen port.old) (P.seen port.new) place.old place.new) }
     ensures spot { spot_of place.new ≡ spot_of place.old }
     ensures registers { (lrs : ℕ) → HasRegisters lrs place.old → HasRegisters lrs place.new }
 {
@@ -65,7 +65,7 @@ impl Vcpus {
         requires there { vcpu < (told port.old).guest.shape.vcpus }
         requires on { spot_at self.old vcpu ≡ pe }
         requires good { IsTrue (is_good_op (told port.old).guest.shape op.now) }
-        ensures goes_on { IfOk result (λ answer. GoesOn (HaveCall vcpu (Access op.now) answer) (told port.old) (told port.new) self.old self.new) }
+        ensures goes_on { IfOk result (λ answer. GoesOn (AreOneCall vcpu (Access op.now) answer) (told port.old) (told port.new) self.old self.new) }
         ensures spots { ChangesSpots for_none self.old self.new }
     {
         port.set_actor(vcpu);
@@ -73,11 +73,10 @@ impl Vcpus {
     }
 
     /// Where an operation accesses a register over interrupts, each vCPU that is on a PE leaves it for a while, but for the one
-    /// that does the operation.
+    /// that does the operation; before any other operation nothing is done.
     fn make_way(&mut self, port: &mut GuestPort, vcpu: u32, op: &GuestOp)
         requires { AreAt (told port.old) self.old }
-        ensures goes_on { GoesOn AreResidences (told port.old) (told port.new) self.old self.new }
-        ensures spots { IsTrue (is_of_registers_by op.now) → ChangesSpots (but_one vcpu gone_aside) self.old self.new }
+        ensures way { MakesWay (told port.old) (told port.new) self.old self.new vcpu op.now }
         ensures own { spot_at self.new vcpu ≡ spot_at self.old vcpu }
         ensures back { (other : ℕ) → spot_at self.old other ≢ aside → returned (spot_at self.new other) ≡ spot_at self.old other }
     {
@@ -100,7 +99,7 @@ impl Vcpus {
         requires on { spot_at self.old vcpu ≡ pe }
         requires none { (other : ℕ) → spot_at self.old other ≢ aside }
         requires good { IsTrue (is_good_op (told port.old).guest.shape op.now) }
-        ensures goes_on { IfOk result (λ answer. GoesOn (HaveCall vcpu (Access op.now) answer) (told port.old) (told port.new) self.old self.new) }
+        ensures operates { IfOk result (Operates (told port.old) (told port.new) self.old self.new vcpu op.now) }
         ensures spots { OnOk result (ChangesSpots for_none self.old self.new) }
         ensures quiet { OnOk result (NoneKicked (told port.new) self.new) }
     {

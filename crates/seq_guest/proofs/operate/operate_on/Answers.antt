@@ -3,7 +3,7 @@ use Rattle.std.proofs.Common.{sym, subst}
 use Rattle.std.specs.Prelude.{IfOk}
 use Rattle.gic_call.specs.declared.event.Operation.TheVariants.{Access}
 use Rattle.seq_guest.specs.declared.place.Place.TheVariants.{Pe}
-use Rattle.seq_guest.specs.Parts.{HaveCall}
+use Rattle.seq_guest.specs.Parts.{AreOneCall}
 use Rattle.seq_guest.specs.Moves.{Moves}
 use Rattle.seq_guest.proofs.OperateLemmas.{moves_where_done}
 use Rattle.seq_guest.proofs.operate.operate_on.Goals as goal
@@ -12,4 +12,4 @@ pub returns-clause-moves : goal.returns-clause-moves
 returns-clause-moves g c =
     let old = g.P.Port.seen c.args.port.now in
     let new = g.P.Port.seen c.guest_op.new.port in
-    subst (λ place. IfOk c.guest_op.result (λ answer. Moves (HaveCall old.actor (Access c.args.op.now) answer) old new place (Pe c.guest_op.new.vcpu))) (sym c.in-Pe.is) (moves_where_done c.guest_op.result old new c.args.op.now c.in-Pe.vcpu c.guest_op.new.vcpu c.guest_op.ensures.done)
+    subst (λ place. IfOk c.guest_op.result (λ answer. Moves (AreOneCall old.actor (Access c.args.op.now) answer) old new place (Pe c.guest_op.new.vcpu))) (sym c.in-Pe.is) (moves_where_done c.guest_op.result old new c.args.op.now c.in-Pe.vcpu c.guest_op.new.vcpu c.guest_op.ensures.done)

@@ -3,7 +3,7 @@ use Rattle.std.proofs.Common.{refl, subst}
 use Rattle.gic_call.specs.declared.event.Operation.TheVariants.{Access}
 use Rattle.port_seq.specs.Ports.{told}
 use Rattle.port_seq.specs.Told.{GuestTold, seen_of}
-use Rattle.seq_guest.specs.Parts.{HaveCall}
+use Rattle.seq_guest.specs.Parts.{AreOneCall}
 use Rattle.seq_guest.specs.Moves.{Moves}
 use Rattle.seq_guest.proofs.GuestLemmas.{one_goes, place_is}
 use Rattle.seq_guest.proofs.OperateLemmas.{if_ok}
@@ -19,8 +19,8 @@ returns-clause-goes_on g c =
     let after = c.operate_on.new.place in
     let is = place_is old before c.args.vcpu place c.requires.at c.requires.there c.index_mut.ensures.value in
     if_ok c.operate_on.result
-    (λ answer (moves : Moves (HaveCall (told c.set_actor.new.self).actor (Access c.args.op.now) answer) (seen_of (told c.set_actor.new.self)) (seen_of new) place after).
-    one_goes (HaveCall c.args.vcpu (Access c.args.op.now) answer) old new before _ c.args.vcpu place after refl refl c.requires.there is c.requires.at (subst (λ (told : GuestTold). Moves (HaveCall told.actor (Access c.args.op.now) answer) (seen_of told) (seen_of new) place after) c.set_actor.ensures moves)
+    (λ answer (moves : Moves (AreOneCall (told c.set_actor.new.self).actor (Access c.args.op.now) answer) (seen_of (told c.set_actor.new.self)) (seen_of new) place after).
+    one_goes (AreOneCall c.args.vcpu (Access c.args.op.now) answer) old new before _ c.args.vcpu place after refl refl c.requires.there is c.requires.at (subst (λ (told : GuestTold). Moves (AreOneCall told.actor (Access c.args.op.now) answer) (seen_of told) (seen_of new) place after) c.set_actor.ensures moves)
     (c.operate_on.ensures.registers before.lrs (c.requires.at.places c.args.vcpu place is).1))
     c.operate_on.ensures.moves
 
