@@ -1,8 +1,10 @@
 pub mod FrameLemmas
 pub mod FoundLemmas
 pub mod KindLemmas
-pub mod EntryLemmas
+pub mod SearchLemmas
+pub mod LoneLemmas
 pub mod MoveLemmas
+pub mod ReenterLemmas
 pub mod LookLemmas
 pub mod SpotLemmas
 pub mod PartsLemmas

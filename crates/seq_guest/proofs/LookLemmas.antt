@@ -33,11 +33,11 @@ use Rattle.seq_guest.proofs.FrameLemmas.{IsSame, up_same}
 use Rattle.seq_guest.proofs.KindLemmas.{residences_one}
 use Rattle.seq_guest.proofs.MoveLemmas.{moves_once, residence_found}
 
-or_right : (a b : Bool) → IsTrue b → IsTrue (a || b)
+pub or_right : (a b : Bool) → IsTrue b → IsTrue (a || b)
 or_right true b h = refl
 or_right false b h = h
 
-keeps_all : (phase : Phase) → IsTrue (is_ready phase) → IsTrue (not (gives_back phase))
+pub keeps_all : (phase : Phase) → IsTrue (is_ready phase) → IsTrue (not (gives_back phase))
 keeps_all Off h = absurd (cc)
 keeps_all Scanning h = absurd (cc)
 keeps_all Claiming h = refl

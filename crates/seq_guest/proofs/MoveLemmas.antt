@@ -1,5 +1,5 @@
 -- Parts of a vCPU, one after the other.
-use Rattle.std.proofs.Common.{◌≡◌, ℕ, false, List, [], ◌∷◌, ◌++◌, map, None, append-nil, refl, sym, ap, subst, ◌∙◌}
+use Rattle.std.proofs.Common.{◌≡◌, ℕ, List, [], ◌∷◌, ◌++◌, map, None, append-nil, refl, sym, ap, subst, ◌∙◌}
 use Rattle.std.proofs.lemmas.Grind.{flat_map-append}
 use Rattle.std.proofs.lemmas.List.{map-append}
 use Rattle.std.proofs.lemmas.List.Sums.{fold-append}
@@ -10,21 +10,19 @@ use Rattle.port_core.specs.declared.run.Made.{Made}
 use Rattle.port_core.specs.Port.{Seen, Adds, shape_of, seen_after}
 use Rattle.port_core.proofs.PortLemmas.{adds_join, seen_joins}
 use Rattle.core_proper.specs.Called.{MakesCall}
-use Rattle.core_proper.specs.Parts.{begins, makes, ends}
 use Rattle.core_proper.specs.Progress.{Progress, progressed, progress_of}
 use Rattle.core_proper.specs.Proper.{IsProper}
 use Rattle.core_proper.proofs.PartLemmas.{proper_append}
 use Rattle.port_call.proofs.PieceLemmas.{seen_nil}
-use Rattle.pe_loop.specs.Enter.{Enters, IsBetween, MayEnter}
+use Rattle.pe_loop.specs.Enter.{Enters, IsBetween}
 use Rattle.pe_loop.specs.Leave.{Leaves}
 use Rattle.pe_icc.proofs.LawLemmas.{entry_runs, exit_rests}
 use Rattle.serial_laws.specs.Serial.{WholePart}
 use Rattle.seq_guest.specs.declared.place.Place.{Place}
-use Rattle.seq_guest.specs.declared.place.Place.TheVariants.{Shelf, Pe}
+use Rattle.seq_guest.specs.declared.place.Place.TheVariants.{Pe}
 use Rattle.seq_guest.specs.Parts.{Part, residence, steps_in, acts_of, acts_in, IsCallFound, AreCalls, by_actor, AreResidences}
 use Rattle.seq_guest.specs.Place.{IsAt, IsFollowed}
-use Rattle.seq_guest.specs.Moves.{Moves, Reenters}
-use Rattle.seq_guest.proofs.EntryLemmas.{entry_scans}
+use Rattle.seq_guest.specs.Moves.{Moves}
 use Rattle.seq_guest.proofs.FoundLemmas.{residence_call}
 use Rattle.seq_guest.proofs.KindLemmas.{residences_none, residences_one, residences_join}
 
@@ -92,41 +90,3 @@ moves_out old new vcpu after shelved between at leaves =
     let lrs = vcpu.regs.n in
     moves_once AreResidences old new (Pe vcpu) after (residence lrs leaves.part) (residences_one old.actor lrs leaves.part) leaves.adds (residence_found old lrs leaves.part leaves.call) (λ p run. (exit_rests old new lrs vcpu shelved leaves p run).proper)
     (λ p run. between (progress_of (shape_of old) old.actor p (acts_of (residence lrs leaves.part))) (exit_rests old new lrs vcpu shelved leaves p run).between) at
-
--- since the last look for a kick no scan of trap mode was begun
-entry_untrapped :
-    (old new : Seen) (vcpu : Shelved) (lrs : ℕ) (loaded : Loaded) (enters : Enters old new vcpu lrs loaded) (p : Progress) → IsBetween old p
-    → (progress_of (shape_of old) old.actor p (acts_in (residence lrs enters.part ∷ []))).scanned ≡ false
-entry_untrapped old new vcpu lrs loaded enters p between =
-    let shape = shape_of old in
-    let actor = old.actor in
-    let begin = progressed shape actor p (begins Residence lrs) in
-    let may : MayEnter old lrs begin
-    = record { idle = record { local = between.rest.local; own = between.rest.own; scan = between.rest.scan }; near = refl; lrs_is = refl; none_failed = between.none_failed } in
-    ap (λ acts. (progress_of shape actor p acts).scanned) (append-nil (acts_of (residence lrs enters.part)))
-    ∙ ap (λ (p : Progress). p.scanned) (fold-append (progressed shape actor) begin (map makes enters.part) (ends None ∷ []))
-    ∙ ap (λ (p : Progress). p.scanned) (enters.goes_on begin may).is
-
--- both, one after the other
-pub reenters :
-    (old mid new : Seen) (vcpu loaded : Loaded) (shelved : Shelved) → Leaves old mid vcpu shelved → Enters mid new shelved vcpu.regs.n loaded → Reenters old new vcpu loaded
-unfolding moves_once moves_then moves_out moves_in
-reenters old mid new vcpu loaded shelved leaves enters =
-    let lrs = vcpu.regs.n in
-    let shape = shape_of old in
-    let actor = old.actor in
-    let out = moves_out old mid vcpu (Shelf shelved) shelved (λ p so. so) leaves.off leaves in
-    let in_again = moves_in mid new (Shelf shelved) shelved lrs loaded (λ p so. so) enters in
-    let scans = entry_scans mid new shelved lrs loaded enters in
-    record {
-      moves = moves_then old mid new (Pe vcpu) (Shelf shelved) (Pe loaded) out in_again;
-      exit = leaves.part;
-      entry = enters.part;
-      parts_are = refl;
-      write = scans.write;
-      begins = scans.begins;
-      untrapped = λ p run.
-          ap (λ (p : Progress). p.scanned) (fold-append (progressed shape actor) p (acts_of (residence lrs leaves.part)) (acts_in (residence lrs enters.part ∷ [])))
-          ∙ ap (λ (seen : Seen). (progress_of (shape_of seen) seen.actor (progress_of shape actor p (acts_of (residence lrs leaves.part))) (acts_in (residence lrs enters.part ∷ []))).scanned) (sym leaves.adds.new_is)
-          ∙ entry_untrapped mid new shelved lrs loaded enters (progress_of shape actor p (acts_of (residence lrs leaves.part))) (exit_rests old mid lrs vcpu shelved leaves p run).between;
-    }

@@ -5,7 +5,6 @@ use Rattle.std.specs.List.{range_with_len}
 use Rattle.gic_base.specs.declared.operation.GuestOp.{GuestOp}
 use Rattle.gic_call.specs.declared.event.Operation.TheVariants.{Access}
 use Rattle.gic_prio.specs.declared.cpu.CpuRec.{CpuRec}
-use Rattle.port_core.specs.declared.run.Made.{Made}
 use Rattle.port_core.specs.Actor.{actor_count}
 use Rattle.port_core.specs.Port.{Seen}
 use Rattle.core_proper.specs.Called.{IsAtRest}
@@ -14,12 +13,12 @@ use Rattle.core_proper.specs.Proper.{IsProper, is_settled}
 use Rattle.core_regs.specs.Asks.{IsUnkicked}
 use Rattle.port_seq.specs.Told.{GuestTold, seen_of, state_of}
 use Rattle.serial_laws.specs.Serial.{WholePart, is_icc}
+use Rattle.entry_laws.specs.Entry.{HasEntered, IsEntry}
 use Rattle.vcpu_state.specs.declared.loaded.Loaded.{Loaded}
 use Rattle.seq_guest.specs.declared.place.Place.{Place}
 use Rattle.seq_guest.specs.declared.place.Place.TheVariants.{Pe}
 use Rattle.seq_guest.specs.declared.vcpus.Vcpus.{Vcpus}
-use Rattle.seq_guest.specs.Parts.{IsSeatAfter, by_actor, residence, AreResidences, AreCalls, HaveCall, acts_in, entries_in, parts_by, progress_after}
-use Rattle.seq_guest.specs.Moves.{BeginsScan}
+use Rattle.seq_guest.specs.Parts.{IsSeatAfter, AreResidences, AreCalls, HaveCall, acts_in, entries_in, parts_by, progress_after}
 use Rattle.seq_guest.specs.Operation.{is_of_registers}
 use Rattle.seq_guest.specs.Place.{Spot, shelf, pe, spot_of, IsAt, IsFollowed, HasRegisters, IsShown}
 
@@ -61,16 +60,17 @@ pub record GoesOn (Are : List WholePart → Type 0) (old new : GuestTold) (befor
 abbrev pub spot_at : Vcpus → ℕ → Spot
 spot_at vcpus vcpu = option_map_or spot_of (slice_get vcpus.places.items vcpu) shelf
 
--- a vCPU on a PE left it and entered it again, in two parts, and is so then; since the last look for a kick it began no scan of trap mode
+-- a vCPU on a PE left it and entered it again, in one part, with nothing else done: it holds what the scan of that entry chose
 pub record Shows (old new : GuestTold) (before after : Vcpus) (vcpu : ℕ) : Type 0 where
   pub goes_on : GoesOn AreResidences old new before after
-  pub exit : List Made
-  pub entry : List Made
-  pub parts_are : goes_on.parts ≡ by_actor vcpu (residence before.lrs exit) ∷ by_actor vcpu (residence before.lrs entry) ∷ []
-  pub begins : BeginsScan None entry
+  pub part : WholePart
+  pub alone : goes_on.parts ≡ part ∷ []
+  pub actor : part.actor ≡ vcpu
+  pub lrs : part.lrs ≡ before.lrs
+  pub entry : IsEntry part
+  pub entered : (progress : ℕ → Progress) → AreFollowed old before progress → HasEntered old.guest.shape (state_of new) vcpu (progress_after old.guest.shape goes_on.parts progress vcpu)
   pub loaded : Loaded
   pub place : slice_get after.places.items vcpu ≡ Some (Pe loaded)
-  pub untrapped : (progress : ℕ → Progress) → AreFollowed old before progress → (progress_after old.guest.shape goes_on.parts progress vcpu).scanned ≡ false
 
 -- and what its PE has then is this, before any kicks are answered
 pub record ShowsList (old new : GuestTold) (before after : Vcpus) (vcpu : ℕ) (list : List ℕ) : Type 0 where

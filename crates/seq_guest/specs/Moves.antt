@@ -1,14 +1,13 @@
 -- What a vCPU did over its port, in whole parts (own choice).
-use Rattle.std.specs.Prelude.{◌≡◌, ℕ, not, Bool, true, false, IsTrue, List, [], ◌∷◌, ◌++◌, map, Option, None}
-use Rattle.std.specs.List.{list_all}
+use Rattle.std.specs.Prelude.{◌≡◌, Bool, false, List, [], ◌∷◌, ◌++◌, map}
 use Rattle.port_core.specs.declared.run.Made.{Made}
-use Rattle.port_core.specs.declared.step.CoreStep.{CoreStep}
-use Rattle.port_core.specs.declared.step.CoreStep.TheVariants.{Look, Poll}
+use Rattle.port_core.specs.declared.step.CoreStep.TheVariants.{Look}
 use Rattle.port_core.specs.declared.word_id.WordId.TheVariants.{Vcpu}
 use Rattle.port_core.specs.Forms.{vcpu_of}
 use Rattle.port_core.specs.Port.{Seen, Adds, shape_of}
 use Rattle.core_proper.specs.Progress.{Progress, progress_of}
 use Rattle.core_proper.specs.Proper.{IsProper}
+use Rattle.pe_loop.specs.Steps.{IsEntryPart}
 use Rattle.pe_icc.specs.Amid.{IsRunning}
 use Rattle.vcpu_state.specs.declared.loaded.Loaded.{Loaded}
 use Rattle.serial_laws.specs.Serial.{WholePart}
@@ -28,28 +27,13 @@ pub record Moves (Are : List WholePart → Type 0) (old new : Seen) (before afte
   pub goes_on : (p : Progress) → IsFollowed old before p → IsFollowed new after (progress_of (shape_of old) old.actor p (acts_in parts))
   pub at : IsAt new after
 
--- a step is a look for a kick
-abbrev pub looks_for_kick : CoreStep → Bool
-looks_for_kick (Poll reg write) = true
-looks_for_kick step = false
-
--- with the last look for a kick among some steps a scan begins; a look with no register has nothing to write in a run
-pub record BeginsScan (write : Option ℕ) (steps : List Made) : Type 0 where
-  pub before : List Made
-  pub look : Made
-  pub after : List Made
-  pub split : steps ≡ before ++ look ∷ after
-  pub scans : look.step ≡ Poll None write
-  pub last : IsTrue (list_all (λ made. not (looks_for_kick made.step)) after)
-
--- a vCPU on a PE left it and entered it again, in two parts; since the last look for a kick it began no scan of trap mode
+-- a vCPU on a PE left it and entered it again, in one part; since the look for a kick in that entry it began no scan of trap mode
 pub record Reenters (old new : Seen) (before after : Loaded) : Type 0 where
   pub moves : Moves AreResidences old new (Pe before) (Pe after)
   pub exit : List Made
   pub entry : List Made
-  pub parts_are : moves.parts ≡ residence before.regs.n exit ∷ residence before.regs.n entry ∷ []
-  pub write : Option ℕ
-  pub begins : BeginsScan write entry
+  pub entry_is : IsEntryPart old.actor entry
+  pub alone : moves.parts ≡ residence before.regs.n (exit ++ entry) ∷ []
   pub untrapped : (p : Progress) → IsRunning old before p → (progress_of (shape_of old) old.actor p (acts_in moves.parts)).scanned ≡ false
 
 -- of one that is on none, this is not said

@@ -1,9 +1,10 @@
 -- It leaves, and it enters.
 use Rattle.std.proofs.Common.{subst}
 use Rattle.pe_loop.specs.Enter.{Enters}
+use Rattle.pe_loop.specs.Stay.{IsUp}
 use Rattle.vcpu_state.specs.declared.loaded.Loaded.{Loaded}
 use Rattle.seq_guest.specs.Moves.{Reenters}
-use Rattle.seq_guest.proofs.MoveLemmas.{reenters}
+use Rattle.seq_guest.proofs.ReenterLemmas.{reenters}
 use Rattle.seq_guest.proofs.place.reenter.Goals as goal
 
 pub returns-clause-reenters : goal.returns-clause-reenters
@@ -11,5 +12,5 @@ returns-clause-reenters g c =
     let old = g.P.Port.seen c.args.port.now in
     let mid = g.P.Port.seen c.leave-shelved.new.port in
     let new = g.P.Port.seen c.enter.new.port in
-    subst (λ (vcpu : Loaded). Enters mid new c.leave-shelved.result vcpu.regs.n c.enter.result → Reenters old new vcpu c.enter.result) c.copy_of.ensures
-    (reenters old mid new c.copy_of.result c.enter.result c.leave-shelved.result c.leave-shelved.ensures.leaves) c.enter.ensures
+    subst (λ (vcpu : Loaded). IsUp old vcpu → Enters mid new c.leave-shelved.result vcpu.regs.n c.enter.result → Reenters old new vcpu c.enter.result) c.copy_of.ensures
+    (λ up enters. reenters old mid new c.copy_of.result c.enter.result c.leave-shelved.result up c.leave-shelved.ensures.leaves enters) c.requires c.enter.ensures

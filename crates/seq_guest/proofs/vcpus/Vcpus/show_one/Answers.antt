@@ -18,7 +18,7 @@ returns-clause-shows c =
     let after = c.show_pe.new.place in
     let is = place_is first c.args.self.now c.args.vcpu before c.requires.at c.requires.there c.index_mut.ensures.value in
     one_shows first new c.args.self.now _ c.args.vcpu before after refl refl c.requires.there is c.requires.at (subst (λ told. ReentersAt (seen_of told) (seen_of new) before after) c.set_actor.ensures c.show_pe.ensures.reenters)
-    (c.show_pe.ensures.registers c.args.self.now.lrs (c.requires.at.places c.args.vcpu before is).1) c.show_pe.new.port.run
+    (c.show_pe.ensures.registers c.args.self.now.lrs (c.requires.at.places c.args.vcpu before is).1) c.args.port.now.good c.show_pe.new.port.run
 
 pub returns-clause-list : goal.returns-clause-list
 returns-clause-list c =
