@@ -2,5 +2,6 @@ pub mod Place
 pub mod Parts
 pub mod Moves
 pub mod Guest
+pub mod Shown
 pub mod Operation
 pub mod Device
