@@ -1,7 +1,10 @@
 -- A guest as its words and CPU records say that it is, while no interrupt is at a CPU interface (own choice).
-use Rattle.std.specs.Prelude.{◌≡◌, ℕ, false, IsTrue, List, length, map, All, None, slice_index_or}
+use Rattle.std.specs.Prelude.{◌≡◌, ℕ, Bool, false, IsTrue, List, length, map, All, None, slice_index_or, slice_set, if◌then◌else◌}
 use Rattle.std.specs.List.{range_with_len}
+use Rattle.gic_base.specs.declared.shape.GuestShape.{GuestShape}
+use Rattle.gic_open.specs.declared.plain.PlainWord.TheVariants.{Fault}
 use Rattle.gic_open.specs.Opening.{opening_cpu}
+use Rattle.gic_open.specs.Plain.{place_of_plain}
 use Rattle.gic_prio.specs.declared.cpu.CpuRec.{CpuRec}
 use Rattle.gic_word.specs.declared.record.Irq.{Irq}
 use Rattle.gic_word.specs.Word.{IsWord, irq_of}
@@ -23,6 +26,10 @@ cpu_at_home words cpus vcpu = record (slice_index_or cpus vcpu (opening_cpu fals
 abbrev pub cpus_at_home : List ℕ → List CpuRec → List CpuRec
 cpus_at_home words cpus = map (cpu_at_home words cpus) (range_with_len 0 (length words))
 
+-- the plain words, with the number of a fault only where the queue is stalled by it: else the word that keeps it says nothing
+abbrev pub plain_at_home : GuestShape → Bool → List ℕ → List ℕ
+plain_at_home shape is_stalled words = if is_stalled then words else slice_set words (place_of_plain shape Fault) 0
+
 -- the guest
 abbrev pub guest_of : GuestSpec → GuestWords → List CpuRec → IdealGuest
 guest_of spec words cpus =
@@ -32,7 +39,7 @@ guest_of spec words cpus =
       irqs = map home_irq words.irqs;
       cpus = cpus_at_home words.vcpus cpus;
       enables = (ctlr_of words.ctlr).enables;
-      words = words.plain;
+      words = plain_at_home spec.shape queue.stalled words.plain;
       offset = queue.offset;
       is_stalled = queue.stalled;
       tables = words.tables;

@@ -1,14 +1,17 @@
 //! A guest at home, from its words.
 ghost use Rattle.std.specs.Prelude.{◌≡◌, [], All, IfOk, length, map};
 ghost use Rattle.gic_ideal.specs.Ends.{end_of as end_between};
+ghost use Rattle.gic_base.specs.Shape.{IsShape};
+ghost use Rattle.gic_open.specs.Plain.{plain_count};
 ghost use Rattle.gic_word.specs.Word.{IsWord};
 ghost use Rattle.ideal_guest.specs.Opening.{opening};
 ghost use Rattle.scn_base.specs.Good.{IsGoodGuest};
-ghost use Rattle.guest_end.specs.Home.{home_irq as home_irq_of, cpus_at_home, IsAtEnd, guest_of};
+ghost use Rattle.guest_end.specs.Home.{home_irq as home_irq_of, cpus_at_home, plain_at_home, IsAtEnd, guest_of};
 
-use gic_base::NoMemory;
+use gic_base::{GuestShape, NoMemory};
 use gic_ideal::IdealGuest;
 use gic_list::ListOf;
+use gic_open::{PlainWord, place_of_plain};
 use gic_prio::CpuRec;
 use gic_word::{Irq, unpack};
 use its_tab::empty;
@@ -55,6 +58,24 @@ fn home_cpus(alloc: Global, words: &[u64], cpus: &[CpuRec]) -> Result<ListOf<Cpu
     Ok(list)
 }
 
+/// The plain words, with the number of a fault only where the queue is stalled.
+fn home_plain(
+    alloc: Global,
+    shape: &GuestShape,
+    is_stalled: bool,
+    words: &[u64],
+) -> Result<ListOf<u64>, AllocError>
+    requires shape { IsShape shape.now }
+    requires each { length words.now ≡ plain_count shape.now }
+    ensures { IfOk result (λ list. list ≡ plain_at_home shape.now is_stalled words.now) }
+{
+    let mut list = words.to_vec(alloc)?;
+    if !is_stalled {
+        list[place_of_plain(PlainWord::Fault, shape)] = 0;
+    }
+    Ok(ListOf::from(list))
+}
+
 /// The guest at home, but for the tables of its ITS.
 fn without_tables(
     alloc: Global,
@@ -72,7 +93,7 @@ fn without_tables(
         irqs: home_irqs(alloc, words.irqs.as_slice())?,
         cpus: home_cpus(alloc, words.vcpus.as_slice(), cpus)?,
         enables: CtlrWord::of(words.ctlr).enables,
-        words: ListOf::from(words.plain.as_slice().to_vec(alloc)?),
+        words: home_plain(alloc, &spec.shape, queue.stalled, words.plain.as_slice())?,
         offset: queue.offset,
         is_stalled: queue.stalled,
         tables: empty(alloc),

@@ -19,6 +19,25 @@ use Rattle.port_ops.specs.Props.{port_prop}
 use Rattle.port_seq.specs.Told.{GuestTold, seen_of, state_of}
 use Rattle.port_ops.specs.World.{HasTurn}
 
+-- of a guest is told what a port of it keeps: the guest is good and has the actor, the steps so far are a run, and the actor that has taken the tables has the ITS
+pub record IsTold (told : GuestTold) : Type 0 where
+  pub good : IsGoodGuest told.guest
+  pub there : told.actor < actor_count told.guest.shape
+  pub run : ∥ IsRun told.guest.shape (opening told.guest told.number) told.world ∥₁
+  pub turn : ForSome told.taken (HasTurn told.guest.shape (state_of told))
+
+-- no actor of the guest has the ITS
+abbrev pub IsFree : GuestTold → Type 0
+IsFree told = (actor : ℕ) → actor < actor_count told.guest.shape → (seat_at (state_of told) actor).local.turn ≡ false
+
+-- then none has taken the tables
+pub untaken : (told : GuestTold) → IsTold told → IsFree told → told.taken ≡ None
+untaken told is free = of told.taken refl
+  where
+    of : (taken : Option ℕ) → told.taken ≡ taken → taken ≡ None
+    of None e = refl
+    of (Some actor) e = absurd (let has = is.turn actor e in let yes = has.turn in let no = free actor has.there in cc)
+
 -- the state of a guest is sound
 pub told_sound : (told : GuestTold) → IsGoodGuest told.guest → IsRun told.guest.shape (opening told.guest told.number) told.world → IsSound told.guest.shape (state_of told)
 told_sound told good run = run_sound told.guest.shape (opening told.guest told.number) told.world good.shape (opens_sound told.guest told.number good) run

@@ -1,0 +1,58 @@
+-- How a guest of the core is told of at the end of a run, with no interrupt at a CPU interface (own choice).
+use Rattle.std.specs.Prelude.{◌≡◌, ℕ, ◌<◌, List, [], map}
+use Rattle.std.specs.List.{range_with_len}
+use Rattle.gic_base.specs.declared.shape.GuestShape.{GuestShape}
+use Rattle.gic_prio.specs.declared.cpu.CpuRec.{CpuRec}
+use Rattle.ideal_guest.specs.declared.guest.IdealGuest.{IdealGuest}
+use Rattle.ideal_guest.specs.Opening.{opening as opening_guest}
+use Rattle.gic_history.specs.History.{last_of, opening_course}
+use Rattle.gic_history.specs.Moves.{home}
+use Rattle.gic_ideal.specs.Ends.{end_of}
+use Rattle.scn_base.specs.declared.guest.GuestSpec.{GuestSpec}
+use Rattle.scn_base.specs.Good.{IsGoodGuest}
+use Rattle.port_core.specs.declared.end.GuestWords.{GuestWords}
+use Rattle.port_core.specs.Run.{CoreState, opening, seat_at}
+use Rattle.port_ops.specs.Words.{words_at_end}
+use Rattle.core_proper.specs.Ideal.{end_of_moments, ideal_of}
+use Rattle.core_proper.specs.Parts.{CoreMoment, IsPartedRun}
+use Rattle.core_laws.specs.Laws.{AreCalls}
+use Rattle.guest_end.specs.Home.{plain_at_home, guest_of, IsAtEnd}
+
+-- no interrupt is at a CPU interface
+abbrev pub AreEmpty : GuestShape → CoreState → Type 0
+AreEmpty shape state = (vcpu : ℕ) → vcpu < shape.vcpus → (seat_at state vcpu).local.at ≡ []
+
+-- what is told of a state: its words and maps, and the CPU record that each vCPU has, by number
+abbrev pub words_in : GuestShape → CoreState → GuestWords
+words_in shape state = words_at_end shape state.words state.maps
+
+abbrev pub cpus_in : GuestShape → CoreState → List CpuRec
+cpus_in shape state = map (λ vcpu. (seat_at state vcpu).local.cpu) (range_with_len 0 shape.vcpus)
+
+-- the guest that they say
+abbrev pub told_in : GuestSpec → CoreState → IdealGuest
+told_in guest state = guest_of guest (words_in guest.shape state) (cpus_in guest.shape state)
+
+-- a guest without the number of a fault, unless its queue is stalled by it
+abbrev pub without_past_fault : IdealGuest → IdealGuest
+without_past_fault guest = record guest { words = plain_at_home guest.shape guest.is_stalled guest.words }
+
+-- the state of the core, and the ideal controller's guest with all that stands at interfaces taken back, at the end of a run
+abbrev pub state_after : GuestSpec → ℕ → List CoreMoment → CoreState
+state_after guest number moments = end_of_moments guest.shape (opening guest number) moments
+
+abbrev pub home_after : GuestSpec → ℕ → List CoreMoment → IdealGuest
+home_after guest number moments = home (last_of guest (ideal_of guest.shape (opening guest number) moments))
+
+-- an end can be told from the words and records of a run's end; the guest that they say is that one, but for a fault by which nothing is stalled; and it has
+-- the same end lines
+pub record EndsAtHome (guest : GuestSpec) (number : ℕ) (moments : List CoreMoment) : Type 0 where
+  pub told : IsAtEnd guest (words_in guest.shape (state_after guest number moments)) (cpus_in guest.shape (state_after guest number moments))
+  pub guest_is : told_in guest (state_after guest number moments) ≡ without_past_fault (home_after guest number moments)
+  pub lines : end_of (opening_guest guest) (told_in guest (state_after guest number moments)) ≡ end_of (opening_guest guest) (home_after guest number moments)
+
+-- so ends every run of a good guest whose parts make their calls, with no interrupt at a CPU interface
+abbrev pub RunsEndAtHome : Type 0
+RunsEndAtHome =
+    (guest : GuestSpec) (number : ℕ) (moments : List CoreMoment) → IsGoodGuest guest → IsPartedRun guest number moments → AreCalls guest.shape (opening guest number) (opening_course guest) moments
+    → AreEmpty guest.shape (state_after guest number moments) → EndsAtHome guest number moments
