@@ -1,12 +1,11 @@
 -- A part that is told with what it found is its call in the run.
-use Rattle.std.proofs.Common.{◌≡◌, ℕ, ◌<◌, inl, not, ◌||◌, Bool, true, false, cond, IsTrue, All, List, [], ◌∷◌, ◌++◌, map, length, Option, option_map, Some, None, refl, sym, ap, ◌∙◌, subst}
+use Rattle.std.proofs.Common.{◌≡◌, ℕ, inl, ◌<◌, not, ◌||◌, Bool, true, false, cond, IsTrue, All, List, [], ◌∷◌, ◌++◌, length, map, Option, option_map, Some, None, refl, sym, ap, ◌∙◌, subst}
 use Rattle.std.specs.List.{list_all, list_any}
 use Rattle.std.proofs.lemmas.Bool.{and_from, and_parts}
-use Rattle.std.proofs.lemmas.List.{append-nil}
+use Rattle.std.proofs.lemmas.List.{append-nil, append_assoc}
 use Rattle.std.proofs.lemmas.List.Elements.{filter_map-append}
+use Rattle.std.proofs.lemmas.List.Folds.{list_any-append}
 use Rattle.std.proofs.lemmas.List.Sums.{fold-append}
-use Rattle.std.specs.Option.{option_to_list}
-use Rattle.gic_base.specs.Interrupt.{interrupt_count}
 use Rattle.gic_base.specs.Shape.{IsShape}
 use Rattle.gic_base.specs.declared.operation.Frame.TheVariants.{Dist, Redist, Its, Ram}
 use Rattle.gic_base.specs.declared.operation.GuestOp.TheVariants.{Icc, Mem}
@@ -17,30 +16,36 @@ use Rattle.gic_imap.specs.Map.{decoded as its_decoded}
 use Rattle.gic_imap.specs.declared.map.RegRef.{RegRef as ItsRef}
 use Rattle.gic_imap.specs.declared.map.RegRef.TheVariants.{Plain as ItsPlain, Reserved as ItsReserved}
 use Rattle.gic_call.specs.declared.event.Event.{Event}
+use Rattle.gic_call.specs.declared.event.Event.TheVariants.{Queue, Touch}
 use Rattle.gic_call.specs.declared.event.Operation.{Operation}
 use Rattle.gic_call.specs.declared.event.Operation.TheVariants.{Access, Device, Residence}
-use Rattle.gic_call.specs.declared.event.Place.{Place}
 use Rattle.gic_call.specs.declared.event.Moment.TheVariants.{Begin}
+use Rattle.gic_call.specs.declared.event.Place.{Place}
+use Rattle.gic_call.specs.declared.event.QueueChange.TheVariants.{Runs, Done, Stalls}
 use Rattle.gic_call.specs.Call.{icc_events, its_events}
 use Rattle.gic_call.specs.Trace.{Beside, Happened, IsCall, IsItsWrite, Makes}
 use Rattle.gic_call.specs.View.{View}
-use Rattle.call_laws.proofs.PassLemmas.{device_all, dist_all, memory_all, raises_all, redist_all}
-use Rattle.call_laws.proofs.ReadLemmas.{beside_passes}
-use Rattle.call_laws.proofs.RunLemmas.{events_of}
-use Rattle.call_laws.proofs.TurnLemmas.{its_all}
+use Rattle.its_tab.specs.Collection.{has_target}
 use Rattle.ideal_guest.proofs.KeyLemmas.{IsWhole}
+use Rattle.gic_history.specs.State.{Ideal}
 use Rattle.gic_history.specs.History.{Call, Course, IsEnded, begun, course_of, gone_on, opening_course, targets_in, vcpu_of}
 use Rattle.history_laws.proofs.CourseLemmas.{begun_here}
 use Rattle.scn_base.specs.declared.guest.GuestSpec.{GuestSpec}
 use Rattle.scn_base.specs.Good.{IsGoodGuest}
-use Rattle.eager_laws.proofs.CourseLemmas.{call_after}
-use Rattle.eager_laws.proofs.WindowLemmas.{beside_of, call_ends, is_no_turn, maps_after, operation_after, piece_after}
+use Rattle.eager_laws.proofs.CourseLemmas.{call_after, call_append, state_after}
+use Rattle.eager_laws.proofs.WindowLemmas.{AreWindows, HaveHeads, Targets, beside_of, call_ends, heads_of, is_no_turn, maps_after, operation_after, piece_after}
+use Rattle.call_laws.proofs.CommandLemmas.{events_both}
 use Rattle.call_laws.proofs.MapsLemmas.{keeps_maps, maps_taken as its_maps_taken}
+use Rattle.call_laws.proofs.PassLemmas.{device_all, dist_all, memory_all, raises_all, redist_all}
+use Rattle.call_laws.proofs.ReadLemmas.{beside_passes}
+use Rattle.call_laws.proofs.RunLemmas.{events_of}
+use Rattle.call_laws.proofs.TurnLemmas.{its_all}
+use Rattle.map_laws.specs.Mapped.{AreForNone}
 use Rattle.port_core.specs.declared.run.Made.{Made}
 use Rattle.port_core.specs.Actor.{actor_count}
 use Rattle.port_core.specs.Known.{no_maps}
-use Rattle.port_core.specs.Port.{shape_of, part_events, events_of as port_events}
-use Rattle.port_core.specs.Run.{CoreState, IsRun, Seat, opening, seat_at}
+use Rattle.port_core.specs.Port.{events_of as port_events, local_by, part_events, shape_of}
+use Rattle.port_core.specs.Run.{CoreState, IsRun, opening, seat_at}
 use Rattle.port_core.proofs.RunLemmas.{run_splits}
 use Rattle.core_proper.specs.Called.{maps_taken, vcpu_of_actor}
 use Rattle.core_proper.specs.Ideal.{after_moment, end_of_moments, ideal_moments, ideal_of}
@@ -51,13 +56,18 @@ use Rattle.core_laws.specs.Laws.{AreCalls}
 use Rattle.core_laws.proofs.HistorySteps.{IsAt, run_leads}
 use Rattle.core_laws.proofs.PrefixLemmas.{parted_before}
 use Rattle.serial_laws.specs.Serial.{WholePart, moment_by, moments_in}
-use Rattle.serial_laws.proofs.PartLemmas.{seat_next, seats_along}
 use Rattle.serial_laws.proofs.SerialRuns.{IsThere, all_late, part_there}
-use Rattle.pe_mem.specs.Found.{AgreeWithLooks, Agrees, Finding, by_commands, by_looks, is_by_commands, takes_its_by}
-use Rattle.found_laws.specs.Found.{IsFoundPart, LookedPartsAreCalls}
-use Rattle.found_laws.proofs.HereRuns.{AreHere, calls_along, handed_out_all, happened_in, here_all, maps_along, next_state, stood, take_turns}
+use Rattle.its_exec.specs.Queue.{Taken}
+use Rattle.its_exec.specs.Run.{AgreeAll}
+use Rattle.pe_mem.specs.Found.{AgreeWithLooks, Agrees, Finding, IsFinding, TookAmong, are_before, by_commands, by_looks, is_before, is_by_commands, takes_its_by}
+use Rattle.found_laws.specs.Found.{FoundPartsAreCalls, IsFoundPart}
+use Rattle.found_laws.proofs.CommandRuns.{IsCome, agree_all, own_taken, steps_taken, whole_so}
+use Rattle.found_laws.proofs.HereRuns.{AreHere, after_steps, calls_along, handed_out_all, happened_in, happened_is, happened_join, here_all, here_join, ideal_after, ideal_is, local_after_steps, own_after_steps, so_after}
 use Rattle.found_laws.proofs.LookRuns.{looks_agree}
-use Rattle.found_laws.proofs.SteadyLemmas.{beside_steady, is_steady, named_steady, noted_heads, noting_after, steady_maps}
+use Rattle.found_laws.proofs.SteadyLemmas.{beside_steady, is_steady, maps_steady, named_steady, noted_heads, noting_after, steady_maps, targets_steady}
+use Rattle.found_laws.proofs.TurnCalls.{IsTurnCall, turn_call}
+use Rattle.found_laws.proofs.TurnRuns.{all_wait, is_ending, maps_along, take_turns, taken_waits, waits}
+use Rattle.found_laws.proofs.WindowRuns.{begun_after, begun_past, windows_along}
 
 -- The events of a call that takes no commands of the ITS.
 
@@ -86,13 +96,6 @@ call_steady shape beside actor operation piece answer free is = absurd is
 
 -- The steps of a part.
 
-happened_is : (shape : GuestShape) (actor : ℕ) (steps : List Made) (state : CoreState) → actor < length state.seats → happened_in shape actor state steps ≡ port_events shape actor (seat_at state actor).local (seat_at state actor).own steps
-happened_is shape actor [] state there = refl
-happened_is shape actor (made ∷ steps) state there =
-    ap (λ later. option_to_list (stood shape actor state made) ++ later)
-    (happened_is shape actor steps (next_state shape actor state made) (subst (λ n. actor < n) (sym (seats_along shape (moment_by actor (makes made) ∷ []) state)) there)
-    ∙ ap (λ (s : Seat). port_events shape actor s.local s.own steps) (seat_next shape actor made state there))
-
 part_entries : (actor : ℕ) (answer : Option ℕ) (steps : List Made) → entries_of (map (moment_by actor) (map makes steps ++ ends answer ∷ [])) ≡ map (entry_by actor) steps
 part_entries actor answer [] = refl
 part_entries actor answer (made ∷ steps) = ap (λ entries. entry_by actor made ∷ entries) (part_entries actor answer steps)
@@ -118,10 +121,45 @@ keep_maps (event ∷ events) h =
     let parts = and_parts (is_steady event) (list_all is_steady events) h in
     and_from (keeps_maps event) (list_all keeps_maps events) (steady_maps event parts.0) (keep_maps events parts.1)
 
+-- what comes before the commands
+before_steady : (events : List Event) → IsTrue (list_all is_before events) → IsTrue (list_all is_steady events) × IsTrue (list_all (λ event. not (is_ending event)) events)
+before_steady [] h = (refl, refl)
+before_steady (event ∷ events) h =
+    let parts = and_parts (is_before event) (list_all is_before events) h in
+    let rest = before_steady events parts.1 in (
+      and_from (is_steady event) (list_all is_steady events) (steady event parts.0) rest.0,
+      and_from (not (is_ending event)) (list_all (λ event. not (is_ending event)) events) (endless event parts.0) rest.1,
+    )
+  where
+    steady : (event : Event) → is_before event ≡ true → is_steady event ≡ true
+    steady (Touch key touching) h = absurd (cc)
+    steady (Queue offset Runs) h = refl
+    steady (Queue offset (Done words)) h = absurd (cc)
+    steady (Queue offset (Stalls fault)) h = absurd (cc)
+    steady event h = refl
+
+    endless : (event : Event) → is_before event ≡ true → not (is_ending event) ≡ true
+    endless (Queue offset Runs) h = refl
+    endless (Queue offset (Done words)) h = absurd (cc)
+    endless (Queue offset (Stalls fault)) h = absurd (cc)
+    endless event h = refl
+
+events_before : (piece : List Happened) → are_before piece ≡ true → IsTrue (list_all is_before (events_of piece))
+events_before [] h = refl
+events_before (one ∷ piece) h = let parts = and_parts (is_before one.event) (are_before piece) h in and_from (is_before one.event) (list_all is_before (events_of piece)) parts.0 (events_before piece parts.1)
+
+-- the same steps after the same list
+cut_same : (own one two : List Made) → own ++ one ≡ own ++ two → one ≡ two
+cut_same [] one two e = e
+cut_same (made ∷ own) one two e = cut_same own one two (same_rest made made (own ++ one) (own ++ two) e)
+  where
+    same_rest : (x y : Made) (xs ys : List Made) → x ∷ xs ≡ y ∷ ys → xs ≡ ys
+    same_rest x y xs ys e = cc
+
 -- The call.
 
 module _ (guest : GuestSpec) (number : ℕ) (early : List CoreMoment) (part : WholePart) (good : IsGoodGuest guest) (proper : IsProperRun guest number (early ++ moments_in part)) (calls : AreCalls guest.shape (opening guest number) (opening_course guest) early)
-    (free : takes_its_by guest.shape part.operation ≡ false) (told : IsFoundPart guest number early part) where
+    (told : IsFoundPart guest number early part) where
   abbrev shape : GuestShape
   shape = guest.shape
 
@@ -149,6 +187,9 @@ module _ (guest : GuestSpec) (number : ℕ) (early : List CoreMoment) (part : Wh
   there : part.actor < actor_count shape
   there = part_there (actor_count shape) part [] (subst (All (IsThere (actor_count shape))) (sym (append-nil (moments_in part))) (all_late (IsThere (actor_count shape)) early (moments_in part) proper.parted.actors))
 
+  in_seats : part.actor < length before.seats
+  in_seats = subst (λ n. part.actor < n) (sym at.sound.actors) there
+
   run : IsRun shape before (map (entry_by part.actor) part.steps)
   run =
       subst (IsRun shape before) (part_entries part.actor part.answer part.steps)
@@ -159,55 +200,190 @@ module _ (guest : GuestSpec) (number : ℕ) (early : List CoreMoment) (part : Wh
   here = here_all shape good.shape part.actor part.steps before course.ideal at.sound at.related at.known run
 
   whole : IsWhole course.ideal.guest
-  whole = record { shape = subst IsShape (sym at.related.shape_is) good.shape; each = at.related.irqs_each ∙ ap interrupt_count (sym at.related.shape_is) }
+  whole = whole_so shape good.shape before course.ideal at.related
 
   -- as it is told, and as it is in the run
-  events_are : part_events told.seen part.steps ≡ piece
-  events_are =
-      ap (λ (g : GuestSpec). port_events g.shape told.seen.actor told.seen.local told.seen.own part.steps) told.told.guest_is
-      ∙ ap (λ actor. port_events shape actor told.seen.local told.seen.own part.steps) told.told.actor_is
-      ∙ ap (λ local. port_events shape part.actor local told.seen.own part.steps) told.told.local_is
-      ∙ ap (λ own. port_events shape part.actor (seat_at before part.actor).local own part.steps) told.told.own_is
-      ∙ sym (happened_is shape part.actor part.steps before (subst (λ n. part.actor < n) (sym at.sound.actors) there))
+  told_is : (steps : List Made) → part_events told.seen steps ≡ happened_in shape part.actor before steps
+  told_is steps =
+      ap (λ (g : GuestSpec). port_events g.shape told.seen.actor told.seen.local told.seen.own steps) told.told.guest_is
+      ∙ ap (λ actor. port_events shape actor told.seen.local told.seen.own steps) told.told.actor_is
+      ∙ ap (λ local. port_events shape part.actor local told.seen.own steps) told.told.local_is
+      ∙ ap (λ own. port_events shape part.actor (seat_at before part.actor).local own steps) told.told.own_is
+      ∙ sym (happened_is shape part.actor steps before in_seats)
 
   as_run : (beside : Beside) → IsCall (shape_of told.seen) beside (vcpu_of_actor (shape_of told.seen) told.seen.actor) part.operation (part_events told.seen part.steps) part.answer → IsCall shape beside (vcpu_of shape part.actor) part.operation piece part.answer
   as_run beside is =
-      subst (λ xs. IsCall shape beside (vcpu_of shape part.actor) part.operation xs part.answer) events_are
+      subst (λ xs. IsCall shape beside (vcpu_of shape part.actor) part.operation xs part.answer) (told_is part.steps)
       (subst (λ actor. IsCall shape beside (vcpu_of shape actor) part.operation (part_events told.seen part.steps) part.answer) told.told.actor_is
       (subst (λ (g : GuestSpec). IsCall g.shape beside (vcpu_of g.shape told.seen.actor) part.operation (part_events told.seen part.steps) part.answer) told.told.guest_is is))
 
-  steady : IsTrue (list_all is_steady (events_of piece))
-  steady = call_steady shape told.made.beside (vcpu_of shape part.actor) part.operation piece part.answer free (as_run told.made.beside told.made.call)
+  kind_is : is_by_commands told.found.finding ≡ takes_its_by shape part.operation
+  kind_is = told.found.kind ∙ ap (λ (g : GuestSpec). takes_its_by g.shape part.operation) told.told.guest_is
 
-  maps_are : last.maps ≡ maps_taken part.steps
-  maps_are = of (take_turns piece) refl ∙ sym (maps_along shape part.actor course.ideal.guest.tables no_maps part.steps before course.ideal here refl steady)
+  opened : AreWindows first (targets_in course.ideal ∷ [])
+  opened = record { place = refl; heads = ((λ id. refl), tt) }
+
+  taken_are : IsTrue (waits (events_of piece)) → maps_taken part.steps ≡ cond (take_turns piece) course.ideal.guest.tables no_maps
+  taken_are = maps_along shape part.actor course.ideal.guest.tables no_maps part.steps before course.ideal here refl
+
+  -- with the maps that the part took, and the vCPUs that its windows begin with
+  abbrev beside : List Targets → Beside
+  beside firsts = beside_of (maps_taken part.steps) firsts
+
+  ended : (firsts : List Targets) → last.maps ≡ maps_taken part.steps → HaveHeads last firsts → Agrees (shape_of told.seen) part.steps told.found.finding (beside_of (maps_taken part.steps) firsts) → IsEnded shape part.actor last part.answer
+  ended firsts maps_are heads agrees =
+      call_ends shape part.actor last part.operation piece (maps_taken part.steps) firsts part.answer (operation_after part.actor (events_of piece) course.ideal first)
+      (piece_after part.actor (events_of piece) course.ideal first ∙ sym (handed_out_all shape part.actor part.steps before course.ideal here)) maps_are heads
+      (as_run (beside firsts) (told.found.call (beside firsts) refl agrees))
+
+  -- Where it takes no commands.
+
+  module _ (free : takes_its_by guest.shape part.operation ≡ false) where
+    steady : IsTrue (list_all is_steady (events_of piece))
+    steady = call_steady shape told.made.beside (vcpu_of shape part.actor) part.operation piece part.answer free (as_run told.made.beside told.made.call)
+
+    maps_are : last.maps ≡ maps_taken part.steps
+    maps_are = of (take_turns piece) refl ∙ sym (taken_are (all_wait (events_of piece) (keep_maps (events_of piece) steady)))
+      where
+        of : (b : Bool) → take_turns (happened_in shape part.actor before part.steps) ≡ b
+            → (call_after part.actor (events_of (happened_in shape part.actor before part.steps)) course.ideal (begun course.ideal part.operation)).maps ≡ cond (take_turns (happened_in shape part.actor before part.steps)) course.ideal.guest.tables no_maps
+        of true e = its_maps_taken part.actor course.ideal.guest.tables (events_of piece) course.ideal first refl (keep_maps (events_of piece) steady) e ∙ ap (λ b. cond b course.ideal.guest.tables no_maps) (sym e)
+        of false e = maps_after part.actor (events_of piece) course.ideal first (no_turns (events_of piece) e) ∙ ap (λ b. cond b course.ideal.guest.tables no_maps) (sym e)
+
+    agrees_looks : (finding : Finding) → is_by_commands finding ≡ false → Agrees (shape_of told.seen) part.steps finding (beside (targets_in course.ideal ∷ []))
+    agrees_looks by_looks kind = subst (λ (g : GuestSpec). AgreeWithLooks g.shape part.steps (targets_in course.ideal)) (sym told.told.guest_is) (looks_agree shape part.actor (targets_in course.ideal) part.steps before course.ideal here steady whole (λ id. refl))
+    agrees_looks (by_commands commands) kind = absurd (cc)
+
+    looked : IsEnded shape part.actor last part.answer
+    looked =
+        ended (targets_in course.ideal ∷ []) maps_are
+        (noted_heads last (targets_in course.ideal) (noting_after part.actor (events_of piece) course.ideal first (targets_in course.ideal) steady whole (λ id. refl) (inl opened)))
+        (agrees_looks told.found.finding (kind_is ∙ free))
+
+  -- Where it takes them.
+
+  module _ (takes : takes_its_by guest.shape part.operation ≡ true) (none : AreForNone (course_of (opening_course guest) (ideal_of guest.shape (opening guest number) early)).ideal.guest) where
+    turn : IsTurnCall piece
+    turn = turn_call shape told.made.beside (vcpu_of shape part.actor) part.operation piece part.answer takes (as_run told.made.beside told.made.call)
+
+    split : events_of piece ≡ events_of turn.register ++ events_of turn.late
+    split = ap events_of turn.split ∙ events_both turn.register turn.late
+
+    maps_are_its : last.maps ≡ maps_taken part.steps
+    maps_are_its =
+        ap (λ es. (call_after part.actor es course.ideal first).maps) split
+        ∙ ap (λ (c : Call). c.maps) (call_append part.actor (events_of turn.register) (events_of turn.late) course.ideal first)
+        ∙ maps_after part.actor (events_of turn.late) (state_after part.actor (events_of turn.register) course.ideal) (call_after part.actor (events_of turn.register) course.ideal first) turn.later
+        ∙ its_maps_taken part.actor course.ideal.guest.tables (events_of turn.register) course.ideal first refl turn.keeps turn.takes
+        ∙ sym (ap (λ b. cond b course.ideal.guest.tables no_maps) some)
+        ∙ sym (taken_are (subst (λ es. IsTrue (waits es)) (sym split) (taken_waits (events_of turn.register) (events_of turn.late) turn.keeps turn.takes)))
+      where
+        some : take_turns piece ≡ true
+        some =
+            ap (list_any (λ event. not (is_no_turn event))) split ∙ list_any-append (λ event. not (is_no_turn event)) (events_of turn.register) (events_of turn.late)
+            ∙ ap (λ b. b || list_any (λ event. not (is_no_turn event)) (events_of turn.late)) turn.takes
+
+    abbrev firsts : List Targets
+    firsts = targets_in course.ideal ∷ begun_after part.actor (events_of piece) course.ideal
+
+    -- the commands among the steps
+    module _ (commands : List Taken) (among : TookAmong told.seen part.steps commands) where
+      abbrev pre : List Made
+      pre = among.early
+
+      abbrev post : List Made
+      post = steps_taken commands ++ among.late
+
+      steps_are : part.steps ≡ among.early ++ (steps_taken commands ++ among.late)
+      steps_are =
+          cut_same told.seen.own part.steps (among.early ++ (steps_taken commands ++ among.late))
+          (among.ends ∙ ap (λ own. own ++ among.late) (own_taken commands among.from among.to among.are ∙ ap (λ own. own ++ steps_taken commands) among.begins)
+          ∙ append_assoc (told.seen.own ++ among.early) (steps_taken commands) among.late ∙ append_assoc told.seen.own among.early (steps_taken commands ++ among.late))
+
+      abbrev state1 : CoreState
+      state1 = after_steps shape part.actor before among.early
+
+      abbrev ideal1 : Ideal
+      ideal1 = ideal_after shape part.actor before course.ideal among.early
+
+      heres : AreHere shape part.actor before course.ideal pre × AreHere shape part.actor state1 ideal1 post
+      heres = here_join shape part.actor pre post before course.ideal (subst (AreHere shape part.actor before course.ideal) steps_are here)
+
+      early_is : IsTrue (list_all is_steady (events_of (happened_in shape part.actor before among.early))) × IsTrue (list_all (λ event. not (is_ending event)) (events_of (happened_in shape part.actor before among.early)))
+      early_is = before_steady (events_of (happened_in shape part.actor before pre)) (events_before (happened_in shape part.actor before pre) (subst (λ xs. IsTrue (are_before xs)) (told_is pre) among.before))
+
+      now : (id : ℕ) → targets_in ideal1 id ≡ targets_in course.ideal id
+      now id = ap (λ (i : Ideal). targets_in i id) (ideal_is shape part.actor pre before course.ideal) ∙ targets_steady part.actor (events_of (happened_in shape part.actor before pre)) course.ideal id early_is.0 whole
+
+      none_then : AreForNone ideal1.guest
+      none_then id lost =
+          now id ∙ none id (ap (λ maps. has_target maps id) (sym (ap (λ (i : Ideal). i.guest.tables) (ideal_is shape part.actor pre before course.ideal) ∙ maps_steady part.actor (events_of (happened_in shape part.actor before pre)) course.ideal early_is.0)) ∙ lost)
+
+      come : IsCome shape part.actor (local_by shape part.actor (seat_at before part.actor).local pre) ((seat_at before part.actor).own ++ pre) post state1 ideal1 0 firsts (targets_in course.ideal)
+      come = record {
+        so = so_after shape good.shape part.actor pre before course.ideal heres.0 (record { sound = at.sound; related = at.related });
+        there = there;
+        local_is = local_after_steps shape part.actor pre before in_seats;
+        own_is = own_after_steps shape part.actor pre before in_seats;
+        here = heres.1;
+        none = none_then;
+        now = now;
+        early = [];
+        number_is = refl;
+        firsts_are = ap (λ xs. targets_in course.ideal ∷ xs) begins_so;
+      }
+        where
+          begins_so : begun_after part.actor (events_of (happened_in shape part.actor before part.steps)) course.ideal ≡ begun_after part.actor (events_of (happened_in shape part.actor state1 post)) ideal1
+          begins_so =
+              ap (λ xs. begun_after part.actor (events_of xs) course.ideal) (ap (happened_in shape part.actor before) steps_are ∙ happened_join shape part.actor pre post before)
+              ∙ ap (λ es. begun_after part.actor es course.ideal) (events_both (happened_in shape part.actor before pre) (happened_in shape part.actor state1 post))
+              ∙ begun_past part.actor (events_of (happened_in shape part.actor before pre)) (events_of (happened_in shape part.actor state1 post)) course.ideal early_is.1
+              ∙ ap (begun_after part.actor (events_of (happened_in shape part.actor state1 post))) (sym (ideal_is shape part.actor pre before course.ideal))
+
+      guest_is_so : among.from.guest ≡ guest
+      guest_is_so = among.guest ∙ told.told.guest_is
+
+      actor_is_so : among.from.actor ≡ part.actor
+      actor_is_so = among.actor ∙ told.told.actor_is
+
+      come_from : IsCome (shape_of among.from) among.from.actor among.from.local among.from.own post state1 ideal1 0 firsts (targets_in course.ideal)
+      come_from =
+          subst (λ own. IsCome (shape_of among.from) among.from.actor among.from.local own post state1 ideal1 0 firsts (targets_in course.ideal)) (ap (λ own. own ++ pre) (sym told.told.own_is) ∙ sym among.begins)
+          (subst (λ local. IsCome (shape_of among.from) among.from.actor local ((seat_at before part.actor).own ++ pre) post state1 ideal1 0 firsts (targets_in course.ideal)) (sym local_is_so)
+          (subst (λ actor. IsCome (shape_of among.from) actor (local_by shape part.actor (seat_at before part.actor).local pre) ((seat_at before part.actor).own ++ pre) post state1 ideal1 0 firsts (targets_in course.ideal)) (sym actor_is_so)
+          (subst (λ (g : GuestSpec). IsCome g.shape part.actor (local_by shape part.actor (seat_at before part.actor).local pre) ((seat_at before part.actor).own ++ pre) post state1 ideal1 0 firsts (targets_in course.ideal)) (sym guest_is_so) come)))
+        where
+          local_is_so : among.from.local ≡ local_by shape part.actor (seat_at before part.actor).local pre
+          local_is_so =
+              among.local ∙ ap (λ (g : GuestSpec). local_by g.shape told.seen.actor told.seen.local pre) told.told.guest_is ∙ ap (λ actor. local_by shape actor told.seen.local pre) told.told.actor_is
+              ∙ ap (λ local. local_by shape part.actor local pre) told.told.local_is
+
+      agrees_among : AgreeAll (beside_of (maps_taken part.steps) firsts) 0 commands
+      agrees_among =
+          agree_all (maps_taken part.steps) firsts commands among.from among.to 0 state1 ideal1 (targets_in course.ideal) among.late (subst (λ (g : GuestSpec). IsShape g.shape) (sym guest_is_so) good.shape) among.are come_from
+
+    agrees_commands : (finding : Finding) → is_by_commands finding ≡ true → IsFinding told.seen part.steps finding → Agrees (shape_of told.seen) part.steps finding (beside_of (maps_taken part.steps) firsts)
+    agrees_commands by_looks kind is = absurd (cc)
+    agrees_commands (by_commands commands) kind is = agrees_among commands is
+
+    commanded : IsEnded shape part.actor last part.answer
+    commanded =
+        ended firsts maps_are_its (heads_of last firsts (windows_along part.actor (events_of piece) course.ideal first (targets_in course.ideal ∷ []) turn.enables opened))
+        (agrees_commands told.found.finding (kind_is ∙ takes) told.found.is_finding)
+
+  -- Either way.
+
+  is_ended : (takes_its_by guest.shape part.operation ≡ true → AreForNone course.ideal.guest) → IsEnded shape part.actor last part.answer
+  is_ended none = of (takes_its_by shape part.operation) refl
     where
-      of : (b : Bool) → take_turns (happened_in shape part.actor before part.steps) ≡ b
-          → (call_after part.actor (events_of (happened_in shape part.actor before part.steps)) course.ideal (begun course.ideal part.operation)).maps ≡ cond (take_turns (happened_in shape part.actor before part.steps)) course.ideal.guest.tables no_maps
-      of true e = its_maps_taken part.actor course.ideal.guest.tables (events_of piece) course.ideal first refl (keep_maps (events_of piece) steady) e ∙ ap (λ b. cond b course.ideal.guest.tables no_maps) (sym e)
-      of false e = maps_after part.actor (events_of piece) course.ideal first (no_turns (events_of piece) e) ∙ ap (λ b. cond b course.ideal.guest.tables no_maps) (sym e)
+      of : (b : Bool) → takes_its_by guest.shape part.operation ≡ b → IsEnded shape part.actor last part.answer
+      of true e = commanded e (none e)
+      of false e = looked e
 
-  abbrev beside : Beside
-  beside = beside_of (maps_taken part.steps) (targets_in course.ideal ∷ [])
-
-  agrees : (finding : Finding) → is_by_commands finding ≡ false → Agrees (shape_of told.seen) part.steps finding beside
-  agrees by_looks kind = subst (λ (g : GuestSpec). AgreeWithLooks g.shape part.steps (targets_in course.ideal)) (sym told.told.guest_is) (looks_agree shape part.actor (targets_in course.ideal) part.steps before course.ideal here steady whole (λ id. refl))
-  agrees (by_commands commands) kind = absurd (cc)
-
-  is_free : takes_its_by (shape_of told.seen) part.operation ≡ false
-  is_free = ap (λ (g : GuestSpec). takes_its_by g.shape part.operation) told.told.guest_is ∙ free
-
-  ended : IsEnded shape part.actor last part.answer
-  ended =
-      call_ends shape part.actor last part.operation piece (maps_taken part.steps) (targets_in course.ideal ∷ []) part.answer (operation_after part.actor (events_of piece) course.ideal first)
-      (piece_after part.actor (events_of piece) course.ideal first ∙ sym (handed_out_all shape part.actor part.steps before course.ideal here)) maps_are
-      (noted_heads last (targets_in course.ideal) (noting_after part.actor (events_of piece) course.ideal first (targets_in course.ideal) steady whole (λ id. refl) (inl (record { place = refl; heads = ((λ id. refl), tt) }))))
-      (as_run beside (told.found.call beside refl (agrees told.found.finding (told.found.kind ∙ is_free))))
-
-  looked : AreCalls shape start (opening_course guest) (early ++ moments_in part)
-  looked =
+  found : (takes_its_by guest.shape part.operation ≡ true → AreForNone course.ideal.guest) → AreCalls shape start (opening_course guest) (early ++ moments_in part)
+  found none =
       calls_both shape start (opening_course guest) early (moments_in part) calls
-      (tt, calls_along shape part.actor part.answer part.steps before (gone_on course (Begin part.actor part.operation)) first here (begun_here course part.actor part.operation (subst (λ n. part.actor < n) (sym at.each) there)) ended)
+      (tt, calls_along shape part.actor part.answer part.steps before (gone_on course (Begin part.actor part.operation)) first here (begun_here course part.actor part.operation (subst (λ n. part.actor < n) (sym at.each) there)) (is_ended none))
 
-pub looked_parts_are_calls : LookedPartsAreCalls
-looked_parts_are_calls guest number early part good proper calls free told = looked guest number early part good proper calls free told
+pub found_parts_are_calls : FoundPartsAreCalls
+found_parts_are_calls guest number early part good proper calls none told = found guest number early part good proper calls told none

@@ -1,42 +1,23 @@
 -- The steps of an actor while nobody else acts, beside the ideal controller.
-use Rattle.std.proofs.Common.{◌≡◌, ℕ, ◌⊎◌, inl, inr, ◌==◌, ◌||◌, not, Bool, true, false, cond, if◌then◌else◌, IsTrue, List, [], ◌∷◌, ◌++◌, map, Option, Some, None, slice_index_or, refl, sym, ap, ◌∙◌, subst}
-use Rattle.std.specs.List.{filter_map, list_all, list_any, cons_option}
-use Rattle.std.proofs.lemmas.Bool.{and_parts}
-use Rattle.std.specs.Option.{option_map_or, option_to_list}
+use Rattle.std.proofs.Common.{◌≡◌, ℕ, ◌<◌, List, [], ◌∷◌, ◌++◌, length, map, Option, Some, None, refl, sym, ap, ◌∙◌, subst}
+use Rattle.std.specs.Option.{option_to_list}
+use Rattle.std.proofs.lemmas.List.{append-nil, append_assoc}
 use Rattle.gic_base.specs.declared.shape.GuestShape.{GuestShape}
 use Rattle.gic_base.specs.Shape.{IsShape}
-use Rattle.gic_base.specs.declared.icc.IccReg.{IccReg}
-use Rattle.gic_call.specs.declared.event.Event.TheVariants.{Cpu, ItsBegin, Put, Reach, Read, Take}
-use Rattle.gic_call.specs.declared.event.Found.TheVariants.{Answer, Nothing, Word as FoundWord}
-use Rattle.gic_call.specs.declared.event.Place.TheVariants.{Word}
 use Rattle.gic_call.specs.declared.event.Moment.TheVariants.{Happens}
 use Rattle.gic_call.specs.Trace.{Happened}
-use Rattle.its_tab.specs.Maps.{Maps}
-use Rattle.gic_open.specs.Plain.{plain_at}
-use Rattle.gic_prio.specs.Interface.{interface_answer}
-use Rattle.port_core.specs.After.{interface_of}
-use Rattle.port_core.specs.Local.{is_at}
 use Rattle.gic_history.specs.State.{Ideal}
 use Rattle.gic_history.specs.Moves.{happened}
 use Rattle.gic_history.specs.History.{Call, Course, IsCallEnded, IsEnded, call_of, course_of, gone_on, made as made_by, seeing}
 use Rattle.history_laws.proofs.CourseLemmas.{made_here}
-use Rattle.history_laws.proofs.TurnSteps.{tables_are}
 use Rattle.eager_laws.specs.Moments.{happenings}
-use Rattle.eager_laws.proofs.CourseLemmas.{call_after}
-use Rattle.eager_laws.proofs.WindowLemmas.{is_no_turn, next_call}
-use Rattle.call_laws.proofs.MapsLemmas.{tables_kept}
+use Rattle.eager_laws.proofs.CourseLemmas.{call_after, state_after}
+use Rattle.eager_laws.proofs.WindowLemmas.{next_call}
 use Rattle.call_laws.proofs.RunLemmas.{events_of}
 use Rattle.port_core.specs.declared.run.Made.{Made}
-use Rattle.port_core.specs.declared.local.Local.{Local}
-use Rattle.port_core.specs.declared.step.CoreStep.{CoreStep}
-use Rattle.port_core.specs.declared.step.CoreStep.TheVariants.{Look, Raise, Claim, GiveBack, Release, Poll, Kick, Touch, Want, WireUp, WireDown, EnableLpis, RamLook, RamPut, CtlrTake, CtlrEnd, TurnTake, CommandDone, TurnRelease, Mark, TakeIndex}
-use Rattle.port_core.specs.Effect.{succeeds}
-use Rattle.port_core.specs.Run.{CoreState, IsRun, IsSound, Takes, after, is_taking, seat_at}
-use Rattle.port_core.specs.declared.word_id.WordId.{WordId}
-use Rattle.port_core.specs.declared.word_id.WordId.TheVariants.{Ctlr, Index, Irq, Plain, Queue, Vcpu}
-use Rattle.port_core.specs.Condition.{fault_place}
-use Rattle.port_core.specs.Forms.{vcpu_of}
-use Rattle.port_core.specs.Stands.{event_done, look_event, plain_event, poll_event, silent, stands_for, with_found}
+use Rattle.port_core.specs.Port.{events_of as port_events, local_by}
+use Rattle.port_core.specs.Run.{CoreState, IsRun, IsSound, Seat, Takes, after, seat_at}
+use Rattle.port_core.specs.Stands.{stands_for}
 use Rattle.port_core.proofs.StepLemmas.{steps_sound}
 use Rattle.core_proper.specs.Ideal.{event_moments}
 use Rattle.core_proper.specs.Parts.{ends, entry_by, makes}
@@ -47,7 +28,7 @@ use Rattle.core_laws.specs.Simulates.{IsSimulatedAs}
 use Rattle.core_laws.proofs.KnownSteps.{keeps_known}
 use Rattle.core_laws.proofs.RunSteps.{entry_simulates}
 use Rattle.serial_laws.specs.Serial.{moment_by}
-use Rattle.found_laws.proofs.SteadyLemmas.{is_steady, steady_maps}
+use Rattle.serial_laws.proofs.PartLemmas.{seat_next, seats_along}
 
 -- what a step of an actor stands for in a state, and the state after it
 abbrev pub stood : GuestShape → ℕ → CoreState → Made → Option Happened
@@ -126,106 +107,80 @@ calls_along shape actor answer (made ∷ steps) state course call here is ended 
         along (gone_on course (Happens actor one.event one.found)) (next_call course.ideal actor one.event call) rest
         (made_here course actor one.event one.found call is ∙ ap (λ f. Some (seeing (happened actor one.event course.ideal) (made_by course.ideal one.event f call))) sim.hands) ended
 
--- Which of them take the ITS.
+-- Some steps, and more after them.
 
-abbrev no_turn : Option Happened → Bool
-no_turn o = option_map_or (λ (one : Happened). is_no_turn one.event) o true
+-- the state after some steps, and the ideal controller's after what they stand for
+abbrev pub after_steps : GuestShape → ℕ → CoreState → List Made → CoreState
+after_steps shape actor state [] = state
+after_steps shape actor state (made ∷ steps) = after_steps shape actor (next_state shape actor state made) steps
 
--- a step that hands out the maps is the one that takes it, and no other
-record IsTurn (maps : Maps) (tables : Option Maps) (o : Option Happened) : Type 0 where
-  pub handed : tables ≡ Some maps
-  pub event : o ≡ Some (record { event = ItsBegin; found = Nothing })
+abbrev pub ideal_after : GuestShape → ℕ → CoreState → Ideal → List Made → Ideal
+ideal_after shape actor state ideal [] = ideal
+ideal_after shape actor state ideal (made ∷ steps) = ideal_after shape actor (next_state shape actor state made) (followed_by actor (stood shape actor state made) ideal) steps
 
-record IsNoTurn (tables : Option Maps) (o : Option Happened) : Type 0 where
-  pub none : tables ≡ None
-  pub event : IsTrue (no_turn o)
+pub happened_join : (shape : GuestShape) (actor : ℕ) (early late : List Made) (state : CoreState) → happened_in shape actor state (early ++ late) ≡ happened_in shape actor state early ++ happened_in shape actor (after_steps shape actor state early) late
+happened_join shape actor [] late state = refl
+happened_join shape actor (made ∷ early) late state =
+    let next = next_state shape actor state made in
+    ap (λ xs. option_to_list (stood shape actor state made) ++ xs) (happened_join shape actor early late next)
+    ∙ sym (append_assoc (option_to_list (stood shape actor state made)) (happened_in shape actor next early) (happened_in shape actor (after_steps shape actor next early) late))
 
-where_done : (b : Bool) (o : Option Happened) → IsTrue (no_turn o) → IsTrue (no_turn (cond b o None))
-where_done true o h = h
-where_done false o h = refl
+pub here_join : (shape : GuestShape) (actor : ℕ) (early late : List Made) (state : CoreState) (ideal : Ideal) → AreHere shape actor state ideal (early ++ late)
+    → AreHere shape actor state ideal early × AreHere shape actor (after_steps shape actor state early) (ideal_after shape actor state ideal early) late
+here_join shape actor [] late state ideal here = (tt, here)
+here_join shape actor (made ∷ early) late state ideal here =
+    let rest = here_join shape actor early late (next_state shape actor state made) (followed_by actor (stood shape actor state made) ideal) here.1 in ((here.0, rest.0), rest.1)
 
-either_no : (b : Bool) (one other : Option Happened) → IsTrue (no_turn one) → IsTrue (no_turn other) → IsTrue (no_turn (cond b one other))
-either_no true one other h k = h
-either_no false one other h k = k
+pub ideal_join : (shape : GuestShape) (actor : ℕ) (early late : List Made) (state : CoreState) (ideal : Ideal)
+    → ideal_after shape actor state ideal (early ++ late) ≡ ideal_after shape actor (after_steps shape actor state early) (ideal_after shape actor state ideal early) late
+ideal_join shape actor [] late state ideal = refl
+ideal_join shape actor (made ∷ early) late state ideal = ideal_join shape actor early late (next_state shape actor state made) (followed_by actor (stood shape actor state made) ideal)
 
-module _ (shape : GuestShape) (actor : ℕ) (local : Local) (own : List Made) (maps : Maps) (found : ℕ) where
-  look_no : (word : WordId) → IsTrue (no_turn (look_event word found))
-  look_no Queue = refl
-  look_no Ctlr = refl
-  look_no (Vcpu vcpu) = refl
-  look_no (Irq key) = refl
-  look_no (Plain index) = refl
-  look_no (Index vcpu number) = refl
-
-  poll_no : (reg : Option IccReg) (write : Option ℕ) → IsTrue (no_turn (poll_event actor reg write found local))
-  poll_no None write = refl
-  poll_no (Some reg) write = either_no (vcpu_of found).kick None (with_found (Cpu actor reg write) (Answer (interface_answer reg write (interface_of local)))) refl refl
-
-  not_turn : (b : Bool) (tables : Option Maps) (o : Option Happened) → tables ≡ None → IsTrue (no_turn o) → IsTurn maps tables (cond b o None) ⊎ IsNoTurn tables (cond b o None)
-  not_turn b tables o none other = inr (record { none = none; event = where_done b o other })
-
-  by_step : (step : CoreStep) (b : Bool) (tables : Option Maps) → tables ≡ (if is_taking step then (if b then Some maps else None) else None)
-      → IsTurn maps tables (cond b (event_done shape actor local own step found) None) ⊎ IsNoTurn tables (cond b (event_done shape actor local own step found) None)
-  by_step (TurnTake seen) true tables e = inl (record { handed = e; event = refl })
-  by_step (TurnTake seen) false tables e = inr (record { none = e; event = refl })
-  by_step (Look word) b tables e = not_turn b tables (look_event word found) e (look_no word)
-  by_step (Raise key) b tables e = not_turn b tables _ e refl
-  by_step (Claim key seen) b tables e = not_turn b tables _ e (claim (is_at key local.at))
-    where
-      claim : (c : Bool) → IsTrue (no_turn (silent (cond c (Take key actor) (Reach key actor))))
-      claim true = refl
-      claim false = refl
-  by_step (GiveBack key back) b tables e = not_turn b tables None e refl
-  by_step (Release key) b tables e = not_turn b tables _ e refl
-  by_step (Poll reg write) b tables e = not_turn b tables (poll_event actor reg write found local) e (poll_no reg write)
-  by_step (Kick vcpu) b tables e = not_turn b tables None e refl
-  by_step (Touch key seen kind) b tables e = not_turn b tables _ e refl
-  by_step (Want key) b tables e = not_turn b tables None e refl
-  by_step (WireUp key) b tables e = not_turn b tables _ e refl
-  by_step (WireDown key) b tables e = not_turn b tables _ e refl
-  by_step (EnableLpis vcpu) b tables e = not_turn b tables _ e refl
-  by_step (RamLook index) b tables e = not_turn b tables (plain_event shape index (Read (Word (plain_at shape index))) found) e (either_no (index == fault_place shape) None (with_found (Read (Word (plain_at shape index))) (FoundWord found)) refl refl)
-  by_step (RamPut index seen value) b tables e = not_turn b tables (plain_event shape index (Put (plain_at shape index) value) found) e (either_no (index == fault_place shape) None (with_found (Put (plain_at shape index) value) (FoundWord found)) refl refl)
-  by_step (CtlrTake seen value) b tables e = not_turn b tables _ e refl
-  by_step CtlrEnd b tables e = not_turn b tables _ e refl
-  by_step (CommandDone offset stalled ending) b tables e = not_turn b tables _ e refl
-  by_step TurnRelease b tables e = not_turn b tables _ e refl
-  by_step (Mark key vcpu) b tables e = not_turn b tables None e refl
-  by_step (TakeIndex word) b tables e = not_turn b tables None e refl
-
-turns : (shape : GuestShape) (actor : ℕ) (state : CoreState) (made : Made) → Takes shape state (entry_by actor made) → IsTurn state.maps made.tables (stood shape actor state made) ⊎ IsNoTurn made.tables (stood shape actor state made)
-turns shape actor state made takes =
-    by_step shape actor (seat_at state actor).local (seat_at state actor).own state.maps made.found made.step (succeeds shape actor (seat_at state actor).local made.step made.found) made.tables takes.tables
-
--- the events of some steps take the ITS
-abbrev pub take_turns : List Happened → Bool
-take_turns piece = list_any (λ event. not (is_no_turn event)) (events_of piece)
-
--- the first maps that are handed out are those of the ITS all along
-pub maps_along :
-    (shape : GuestShape) (actor : ℕ) (maps other : Maps) (steps : List Made) (state : CoreState) (ideal : Ideal) → AreHere shape actor state ideal steps → ideal.guest.tables ≡ maps → IsTrue (list_all is_steady (events_of (happened_in shape actor state steps)))
-    → slice_index_or (filter_map (λ (made : Made). made.tables) steps) 0 other ≡ cond (take_turns (happened_in shape actor state steps)) maps other
-maps_along shape actor maps other [] state ideal here now steady = refl
-maps_along shape actor maps other (made ∷ steps) state ideal here now steady =
-    of (stood shape actor state made) (turns shape actor state made here.0.takes) steady (maps_along shape actor maps other steps (next_state shape actor state made) (followed_by actor (stood shape actor state made) ideal) here.1)
+pub ideal_is : (shape : GuestShape) (actor : ℕ) (steps : List Made) (state : CoreState) (ideal : Ideal) → ideal_after shape actor state ideal steps ≡ state_after actor (events_of (happened_in shape actor state steps)) ideal
+ideal_is shape actor [] state ideal = refl
+ideal_is shape actor (made ∷ steps) state ideal = ideal_is shape actor steps (next_state shape actor state made) (followed_by actor (stood shape actor state made) ideal) ∙ of (stood shape actor state made)
   where
     later : List Happened
     later = happened_in shape actor (next_state shape actor state made) steps
 
-    handed : List Maps
-    handed = filter_map (λ (made : Made). made.tables) steps
+    of : (o : Option Happened) → state_after actor (events_of later) (followed_by actor o ideal) ≡ state_after actor (events_of (option_to_list o ++ later)) ideal
+    of None = refl
+    of (Some one) = refl
 
-    Along : Ideal → Type 0
-    Along ideal = ideal.guest.tables ≡ maps → IsTrue (list_all is_steady (events_of (happened_in shape actor (next_state shape actor state made) steps)))
-        → slice_index_or (filter_map (λ (made : Made). made.tables) steps) 0 other ≡ cond (take_turns (happened_in shape actor (next_state shape actor state made) steps)) maps other
+-- a state of the core, and the ideal controller's that it agrees with
+pub record IsSo (shape : GuestShape) (state : CoreState) (ideal : Ideal) : Type 0 where
+  pub sound : IsSound shape state
+  pub related : Related shape state ideal
 
-    of : (o : Option Happened) → IsTurn state.maps made.tables o ⊎ IsNoTurn made.tables o → IsTrue (list_all is_steady (events_of (option_to_list o ++ later))) → Along (followed_by actor o ideal)
-        → slice_index_or (cons_option made.tables handed) 0 other ≡ cond (take_turns (option_to_list o ++ later)) maps other
-    of o (inl turn) steady along =
-        ap (λ t. slice_index_or (cons_option t handed) 0 other) turn.handed ∙ sym here.0.related.maps ∙ now ∙ sym (ap (λ o. cond (take_turns (option_to_list o ++ later)) maps other) turn.event)
-    of None (inr idle) steady along = ap (λ t. slice_index_or (cons_option t handed) 0 other) idle.none ∙ along now steady
-    of (Some one) (inr idle) steady along =
-        let parts = and_parts (is_steady one.event) (list_all is_steady (events_of later)) steady in
-        ap (λ t. slice_index_or (cons_option t handed) 0 other) idle.none
-        ∙ along (tables_are actor one.event ideal ∙ tables_kept one.event ideal.guest.tables (steady_maps one.event parts.0) ∙ now) parts.1
-        ∙ ap (λ b. cond (not b || take_turns later) maps other) (sym idle.event)
+pub so_after : (shape : GuestShape) → IsShape shape → (actor : ℕ) (steps : List Made) (state : CoreState) (ideal : Ideal) → AreHere shape actor state ideal steps → IsSo shape state ideal
+    → IsSo shape (after_steps shape actor state steps) (ideal_after shape actor state ideal steps)
+so_after shape good actor [] state ideal here so = so
+so_after shape good actor (made ∷ steps) state ideal here so =
+    so_after shape good actor steps (next_state shape actor state made) (followed_by actor (stood shape actor state made) ideal) here.1
+    (record { sound = steps_sound shape state (entry_by actor made) good here.0.sound here.0.takes; related = of (stood shape actor state made) here.0.simulated })
+  where
+    of : (o : Option Happened) → IsSimulatedAs shape (next_state shape actor state made) ideal actor o → Related shape (next_state shape actor state made) (followed_by actor o ideal)
+    of None related = related
+    of (Some one) is = is.related
+
+-- What the actor has for itself meanwhile.
+
+there_next : (shape : GuestShape) (actor : ℕ) (made : Made) (state : CoreState) → actor < length state.seats → actor < length (next_state shape actor state made).seats
+there_next shape actor made state there = subst (λ n. actor < n) (sym (seats_along shape (moment_by actor (makes made) ∷ []) state)) there
+
+pub local_after_steps : (shape : GuestShape) (actor : ℕ) (steps : List Made) (state : CoreState) → actor < length state.seats → (seat_at (after_steps shape actor state steps) actor).local ≡ local_by shape actor (seat_at state actor).local steps
+local_after_steps shape actor [] state there = refl
+local_after_steps shape actor (made ∷ steps) state there =
+    local_after_steps shape actor steps (next_state shape actor state made) (there_next shape actor made state there) ∙ ap (λ (s : Seat). local_by shape actor s.local steps) (seat_next shape actor made state there)
+
+pub own_after_steps : (shape : GuestShape) (actor : ℕ) (steps : List Made) (state : CoreState) → actor < length state.seats → (seat_at (after_steps shape actor state steps) actor).own ≡ (seat_at state actor).own ++ steps
+own_after_steps shape actor [] state there = sym (append-nil (seat_at state actor).own)
+own_after_steps shape actor (made ∷ steps) state there =
+    own_after_steps shape actor steps (next_state shape actor state made) (there_next shape actor made state there) ∙ ap (λ (s : Seat). s.own ++ steps) (seat_next shape actor made state there)
+    ∙ append_assoc (seat_at state actor).own (made ∷ []) steps
+
+pub happened_is : (shape : GuestShape) (actor : ℕ) (steps : List Made) (state : CoreState) → actor < length state.seats → happened_in shape actor state steps ≡ port_events shape actor (seat_at state actor).local (seat_at state actor).own steps
+happened_is shape actor [] state there = refl
+happened_is shape actor (made ∷ steps) state there =
+    ap (λ later. option_to_list (stood shape actor state made) ++ later)
+    (happened_is shape actor steps (next_state shape actor state made) (there_next shape actor made state there) ∙ ap (λ (s : Seat). port_events shape actor s.local s.own steps) (seat_next shape actor made state there))

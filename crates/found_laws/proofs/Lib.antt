@@ -1,4 +1,12 @@
 pub mod SteadyLemmas
 pub mod HereRuns
+pub mod TurnRuns
+pub mod WindowRuns
+pub mod TurnCalls
 pub mod LookRuns
+pub mod NoneRuns
+pub mod FirstRuns
+pub mod CommandRuns
 pub mod EndRuns
+pub mod EagerRuns
+pub mod WorkedLemmas

@@ -47,7 +47,7 @@ entry_there key at h = of (entry_for key at) refl h
     of (Some entry) e h = (entry, e)
 
 -- a word says where its interrupt goes, whoever holds that
-word_route : (shape : GuestShape) (state : CoreState) (ideal : Ideal) (id : ℕ) → IsSound shape state → Related shape state ideal → IsTrue (has_word shape (IrqWord (Lpi id))) → (irq_of (word_in shape state (IrqWord (Lpi id)))).route ≡ (irq_at ideal.guest (Lpi id)).route
+pub word_route : (shape : GuestShape) (state : CoreState) (ideal : Ideal) (id : ℕ) → IsSound shape state → Related shape state ideal → IsTrue (has_word shape (IrqWord (Lpi id))) → (irq_of (word_in shape state (IrqWord (Lpi id)))).route ≡ (irq_at ideal.guest (Lpi id)).route
 word_route shape state ideal id sound related there = of (irq_of (word_in shape state (IrqWord (Lpi id)))).holder refl
   where
     of : (o : Option ℕ) → (irq_of (word_in shape state (IrqWord (Lpi id)))).holder ≡ o → (irq_of (word_in shape state (IrqWord (Lpi id)))).route ≡ (irq_at ideal.guest (Lpi id)).route

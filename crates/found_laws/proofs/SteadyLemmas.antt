@@ -21,9 +21,10 @@ use Rattle.gic_history.specs.State.{Ideal}
 use Rattle.gic_history.specs.Moves.{handed_out, happened}
 use Rattle.gic_history.specs.History.{Call, is_passed, made, targets_in}
 use Rattle.history_laws.proofs.StateLemmas.{guest_is}
-use Rattle.eager_laws.proofs.CourseLemmas.{call_after}
+use Rattle.history_laws.proofs.TurnSteps.{tables_are}
+use Rattle.eager_laws.proofs.CourseLemmas.{call_after, state_after}
 use Rattle.eager_laws.proofs.WindowLemmas.{AreWindows, HaveHeads, IsEnabling, IsHead, enabled_heads, enabling, enabling_touched, heads_of, next_call, windows_within}
-use Rattle.call_laws.proofs.MapsLemmas.{keeps_maps}
+use Rattle.call_laws.proofs.MapsLemmas.{keeps_maps, tables_kept}
 use Rattle.call_laws.proofs.PassLemmas.{PassesNamed, is_plain_touch}
 use Rattle.call_laws.proofs.TargetLemmas.{by_record, either, event_targets}
 
@@ -94,6 +95,20 @@ module _ (actor : ℕ) (state : Ideal) (whole : IsWhole state.guest) (id : ℕ) 
   steady_targets (Queue offset (Done words)) h = absurd (cc)
   steady_targets (Queue offset (Stalls fault)) h = absurd (cc)
   steady_targets event h = refl
+
+-- after some such events
+
+pub targets_steady : (actor : ℕ) (events : List Event) (state : Ideal) (id : ℕ) → IsTrue (list_all is_steady events) → IsWhole state.guest → targets_in (state_after actor events state) id ≡ targets_in state id
+targets_steady actor [] state id all whole = refl
+targets_steady actor (event ∷ events) state id all whole =
+    let parts = and_parts (is_steady event) (list_all is_steady events) all in
+    targets_steady actor events (happened actor event state) id parts.1 ((guest_is actor event state).whole whole) ∙ steady_targets actor state whole id event parts.0
+
+pub maps_steady : (actor : ℕ) (events : List Event) (state : Ideal) → IsTrue (list_all is_steady events) → (state_after actor events state).guest.tables ≡ state.guest.tables
+maps_steady actor [] state all = refl
+maps_steady actor (event ∷ events) state all =
+    let parts = and_parts (is_steady event) (list_all is_steady events) all in
+    maps_steady actor events (happened actor event state) parts.1 ∙ tables_are actor event state ∙ tables_kept event state.guest.tables (steady_maps event parts.0)
 
 -- What a call notes of them.
 

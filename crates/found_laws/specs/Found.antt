@@ -1,16 +1,17 @@
 -- Parts of a run that are told with what they found (own choice).
-use Rattle.std.specs.Prelude.{◌≡◌, ℕ, false, List, ◌++◌}
-use Rattle.gic_history.specs.History.{opening_course}
+use Rattle.std.specs.Prelude.{◌≡◌, ℕ, true, List, [], ◌∷◌, ◌++◌}
+use Rattle.gic_history.specs.History.{last_of, opening_course}
+use Rattle.map_laws.specs.Mapped.{AreForNone}
 use Rattle.scn_base.specs.declared.guest.GuestSpec.{GuestSpec}
 use Rattle.scn_base.specs.Good.{IsGoodGuest}
 use Rattle.port_core.specs.Port.{Seen}
 use Rattle.port_core.specs.Run.{CoreState, opening, seat_at}
 use Rattle.core_proper.specs.Called.{MakesCall}
-use Rattle.core_proper.specs.Ideal.{end_of_moments}
+use Rattle.core_proper.specs.Ideal.{end_of_moments, ideal_of}
 use Rattle.core_proper.specs.Parts.{CoreMoment}
 use Rattle.core_proper.specs.Proper.{IsProperRun}
 use Rattle.core_laws.specs.Laws.{AreCalls}
-use Rattle.serial_laws.specs.Serial.{WholePart, moments_in}
+use Rattle.serial_laws.specs.Serial.{AreFit, IsEager, WholePart, moments_in, moments_of}
 use Rattle.pe_mem.specs.Found.{IsCallAsFound, takes_its_by}
 
 -- a port tells of an actor in a state of a guest
@@ -27,8 +28,19 @@ pub record IsFoundPart (guest : GuestSpec) (number : ℕ) (early : List CoreMome
   pub made : MakesCall seen part.steps part.operation part.answer
   pub found : IsCallAsFound seen part.steps part.operation part.answer
 
--- such a part is its call in the run, while nobody else acts, where it takes no commands of the ITS
-abbrev pub LookedPartsAreCalls : Type 0
-LookedPartsAreCalls =
+-- such a part is its call in the run, while nobody else acts; where it takes the ITS, as long as each LPI that the maps give no vCPU is for none as it begins
+abbrev pub FoundPartsAreCalls : Type 0
+FoundPartsAreCalls =
     (guest : GuestSpec) (number : ℕ) (early : List CoreMoment) (part : WholePart) → IsGoodGuest guest → IsProperRun guest number (early ++ moments_in part) → AreCalls guest.shape (opening guest number) (opening_course guest) early
-    → takes_its_by guest.shape part.operation ≡ false → IsFoundPart guest number early part → AreCalls guest.shape (opening guest number) (opening_course guest) (early ++ moments_in part)
+    → (takes_its_by guest.shape part.operation ≡ true → AreForNone (last_of guest (ideal_of guest.shape (opening guest number) early)).guest)
+    → IsFoundPart guest number early part → AreCalls guest.shape (opening guest number) (opening_course guest) (early ++ moments_in part)
+
+-- each of some parts is told so, one after the other
+abbrev pub AreFoundParts : GuestSpec → ℕ → List CoreMoment → List WholePart → Type 0
+AreFoundParts guest number early [] = Unit {0}
+AreFoundParts guest number early (part ∷ parts) = IsFoundPart guest number early part × AreFoundParts guest number (early ++ moments_in part) parts
+
+-- a proper run of such parts that are fit is the eager controller's: each of them is its call, since each finds the LPIs that the maps give no vCPU for none
+abbrev pub FoundRunsAreEager : Type 0
+FoundRunsAreEager =
+    (guest : GuestSpec) (number : ℕ) (parts : List WholePart) → IsGoodGuest guest → IsProperRun guest number (moments_of parts) → AreFoundParts guest number [] parts → AreFit guest number [] parts → IsEager guest number parts

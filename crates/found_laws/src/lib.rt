@@ -3,4 +3,4 @@
 
 mod laws;
 
-pub use laws::looked_parts_are_calls;
+pub use laws::{found_parts_are_calls, found_runs_are_eager, worked_parts_are_found};

@@ -168,7 +168,7 @@ command_on : (own part : List Made) → IsTrue (are_within part) → since_comma
 unfolding command_step
 command_on own part h = fold-append command_step [] own part ∙ command_from (since_command own) part h
 
-first_on : (old new : Seen) (part : List Made) (id : ℕ) → Adds old new part → IsTrue (are_within part) → first_step new id ≡ option_or (first_step old id) (find (is_on (shape_of old) old.actor (Irq (Lpi id))) part)
+pub first_on : (old new : Seen) (part : List Made) (id : ℕ) → Adds old new part → IsTrue (are_within part) → first_step new id ≡ option_or (first_step old id) (find (is_on (shape_of old) old.actor (Irq (Lpi id))) part)
 first_on old new part id add within =
     ap (λ seen. first_step seen id) add.new_is
     ∙ ap (find (is_on (shape_of old) old.actor (Irq (Lpi id)))) (command_on old.own part within)

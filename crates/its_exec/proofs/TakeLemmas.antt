@@ -1,9 +1,10 @@
 -- A command that was taken: its events.
 use Rattle.std.proofs.Common.{◌≡◌, ℕ, Bool, ◌%◌, true, false, if◌then◌else◌, List, [], ◌∷◌, ◌++◌, map, All, Option, Some, None, Result, Ok, is_none, option_map, refl, sym, ap, subst, ◌∙◌}
+use Rattle.std.proofs.lemmas.List.{append_assoc}
 use Rattle.std.proofs.lemmas.List.Elements.{All-nil, All-cons}
 use Rattle.std.proofs.lemmas.List.Sums.{fold-append}
 use Rattle.gic_base.specs.declared.shape.GuestShape.{GuestShape}
-use Rattle.gic_open.specs.declared.plain.PlainWord.TheVariants.{ItsCtlr, Cbaser, Cwriter}
+use Rattle.gic_open.specs.declared.plain.PlainWord.TheVariants.{ItsCtlr, Cbaser, Cwriter, Fault as FaultWord}
 use Rattle.gic_imap.specs.Contents.{queue_bytes}
 use Rattle.gic_call.specs.declared.command.Part.{Part}
 use Rattle.gic_call.specs.declared.event.Event.{Event}
@@ -37,10 +38,11 @@ use Rattle.its_exec.specs.Config.{HoldsCommand}
 use Rattle.its_exec.specs.Known.{KnowsQueue, Fetches, AgreeWith, takes_next}
 use Rattle.its_exec.specs.Queue.{Taken, AreTaken, TakesAll, IsReady, MakesStep, StallsAt, TakesCommand}
 use Rattle.its_exec.proofs.FetchLemmas.{address_even}
+use Rattle.its_exec.proofs.FrameLemmas.{within_joins}
 use Rattle.its_exec.proofs.LookLemmas.{word_held, offset_held, stalled_held, takes_by}
 use Rattle.its_exec.proofs.PartLemmas.{reads_beside, good_then}
 use Rattle.its_exec.proofs.CommandLemmas.{parts_of, parts_then, write_stays}
-use Rattle.its_exec.proofs.QueueLemmas.{command_all, next_address, holds_next, good_event, bad_event, known_stored, fetched_ready, ended_same}
+use Rattle.its_exec.proofs.QueueLemmas.{command_all, next_address, holds_next, good_event, bad_event, known_stored, fetched_ready, ended_same, stored_within}
 
 -- the view as the command was fetched, with the vCPUs that the LPIs are for
 abbrev as_of : Seen → (ℕ → Option ℕ) → View
@@ -127,6 +129,16 @@ took_good old mid done new shape tables queue offset fetched command result whol
       last = done;
       steps = fetches.part ++ late;
       adds = adds_join old mid new fetches.part late fetches.reading.adds (adds_join mid done new all.steps (made ∷ []) all.adds makes.adds.adds);
+      one =
+          record {
+            fresh = ready.fresh;
+            first = fetches.part ++ all.steps;
+            adds = adds_join old mid done fetches.part all.steps fetches.reading.adds all.adds;
+            within = within_joins fetches.part all.steps fetches.reading.within all.within;
+            ending = made;
+            ends = refl;
+            split = sym (append_assoc fetches.part all.steps (made ∷ []));
+          };
       local_is =
           (let back : Local → Local → Local = λ l m. record l { marks = m.marks } in
           ap (λ l. back l old.local) (ended_same done new offset false (Some fetched.words) makes) ∙ ap (back done.local) (sym fetches.reading.local) ∙ all.local_is.same ∙ fetches.reading.local);
@@ -200,6 +212,16 @@ took_bad old mid new shape tables queue fetched result fault whole ready takes f
       last = end;
       steps = fetches.part ++ late;
       adds = adds_join old mid new fetches.part late fetches.reading.adds (adds_join mid end new put (made ∷ []) stores.adds stalls.ends.adds.adds);
+      one =
+          record {
+            fresh = ready.fresh;
+            first = fetches.part ++ put;
+            adds = adds_join old mid end fetches.part put fetches.reading.adds stores.adds;
+            within = within_joins fetches.part put fetches.reading.within (stored_within mid end FaultWord fault stores);
+            ending = made;
+            ends = refl;
+            split = sym (append_assoc fetches.part put (made ∷ []));
+          };
       local_is = ap (λ (l : Local). record l { marks = old.local.marks }) (ended_same end new queue.offset true None stalls.ends ∙ stores.local_is ∙ fetches.reading.local);
       is = λ actor targets agree.
           (let view = as_of mid targets in

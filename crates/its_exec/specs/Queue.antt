@@ -1,5 +1,5 @@
 -- The command queue, as an actor that has the ITS goes over it.
-use Rattle.std.specs.Prelude.{◌≡◌, ℕ, ◌+◌, ◌%◌, true, false, IsTrue, List, [], ◌∷◌, fold, Option, Some, None, Ok}
+use Rattle.std.specs.Prelude.{◌≡◌, ℕ, ◌+◌, ◌%◌, true, false, IsTrue, List, [], ◌∷◌, ◌++◌, fold, Option, Some, None, Ok}
 use Rattle.gic_base.specs.declared.shape.GuestShape.{GuestShape}
 use Rattle.gic_call.specs.Command.{queue_address, command_words, queue_event}
 use Rattle.gic_call.specs.declared.event.Event.TheVariants.{Queue as QueueEvent}
@@ -14,7 +14,7 @@ use Rattle.its_tab.specs.Maps.{Maps}
 use Rattle.port_core.specs.declared.step.CoreStep.{CoreStep}
 use Rattle.port_core.specs.declared.step.CoreStep.TheVariants.{RamLook, CommandDone}
 use Rattle.port_core.specs.Condition.{fault_place}
-use Rattle.port_core.specs.Known.{known_maps}
+use Rattle.port_core.specs.Known.{known_maps, ends_command}
 use Rattle.port_core.specs.declared.run.Made.{Made}
 use Rattle.port_core.specs.Port.{Seen, Adds, AddsStep, shape_of, part_events}
 use Rattle.core_proper.specs.Progress.{Progress}
@@ -30,7 +30,7 @@ use Rattle.its_exec.specs.declared.known.KnownQueue.{KnownQueue}
 use Rattle.its_exec.specs.Config.{HoldsCommand}
 use Rattle.its_exec.specs.declared.queue.QueueEnd.{QueueEnd}
 use Rattle.its_exec.specs.declared.queue.QueueEnd.TheVariants.{Empty, Stalled}
-use Rattle.its_exec.specs.Known.{KnowsQueue, Reading, AgreeWith, takes_next}
+use Rattle.its_exec.specs.Known.{KnowsQueue, Reading, AgreeWith, are_within, takes_next}
 use Rattle.its_exec.specs.Plan.{IsFresh}
 
 -- the actor has the ITS with these tables, and is where a command begins
@@ -115,12 +115,23 @@ pub record AreOfCommand (old new : Seen) (fault : Option ℕ) (actor : Option �
   pub command : IsCommand actor (shape_of old) view piece
   pub left : HaveSameIts (left_by (shape_of old) view (queue_event (shape_of old) view)) (view_by new)
 
+-- some steps are those of one command: the actor was where a command begins, then came steps that end none, and then the one that ends it
+pub record AreOfOne (old last : Seen) (steps : List Made) : Type 0 where
+  pub fresh : IsFresh old
+  pub first : List Made
+  pub adds : Adds old last first
+  pub within : IsTrue (are_within first)
+  pub ending : Made
+  pub ends : IsTrue (ends_command ending.step)
+  pub split : steps ≡ first ++ ending ∷ []
+
 -- the actor took a command, which has this fault or none: what is to be seen of its steps are the events of that command, whatever vCPUs the LPIs are
 -- for that it did not find; and they are proper. It has for itself what it had, but for the interrupt whose marks it sent last
 pub record TakesCommand (old new : Seen) (fault : Option ℕ) : Type 0 where
   pub last : Seen
   pub steps : List Made
   pub adds : Adds old new steps
+  pub one : AreOfOne old last steps
   pub local_is : record new.local { marks = old.local.marks } ≡ old.local
   pub is : (actor : Option ℕ) (targets : ℕ → Option ℕ) → AgreeWith last (known_maps old.own) targets → AreOfCommand old new fault actor targets (part_events old steps)
   pub piece : (p : Progress) → IsIdle old p → IsItsWrite p → p.wants ≡ [] → IsGoodPiece old p steps

@@ -1,6 +1,7 @@
 pub mod ChangeLemmas
 pub mod StoredLemmas
 pub mod MakesLemmas
+pub mod BeforeLemmas
 pub mod RegisterLemmas
 pub mod WriteLemmas
 pub mod ReadLemmas

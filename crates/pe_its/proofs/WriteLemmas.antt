@@ -33,7 +33,7 @@ use Rattle.port_core.specs.declared.local.Local.{Local}
 use Rattle.port_core.specs.declared.run.Made.{Made}
 use Rattle.port_core.specs.declared.word_id.WordId.TheVariants.{Irq}
 use Rattle.port_core.specs.Known.{is_on, known_maps, no_maps, since_command, ends_command}
-use Rattle.port_core.specs.Port.{Seen, IsPort, Adds, shape_of, seen_after, part_events}
+use Rattle.port_core.specs.Port.{Seen, IsPort, Adds, local_by, shape_of, seen_after, part_events}
 use Rattle.port_core.proofs.PortLemmas.{adds_join}
 use Rattle.core_proper.specs.Called.{vcpu_of_actor, maps_taken}
 use Rattle.core_proper.specs.Progress.{Progress}
@@ -60,8 +60,9 @@ use Rattle.pe_mem.proofs.CallLemmas.{can_ease, can_turn, can_after, proper_of}
 use Rattle.pe_mem.proofs.ServeLemmas.{one_made, none_made}
 use Rattle.pe_its.specs.Write.{BeginsWrite, RunsAll, RunsIf, ServesWrite, StopsWrite, StopsInTurn}
 use Rattle.pe_its.proofs.MakesLemmas.{makes_join, makes_reads, makes_with, looks_then}
-use Rattle.pe_mem.specs.Found.{TookAmong, by_commands}
-use Rattle.pe_mem.proofs.FoundLemmas.{among_after, among_before}
+use Rattle.pe_mem.specs.Found.{TookAmong, are_before, by_commands}
+use Rattle.pe_mem.proofs.FoundLemmas.{among_after, among_before, before_both}
+use Rattle.pe_its.proofs.BeforeLemmas.{made_before, turn_before, written_before}
 
 -- The vCPUs that the LPIs are for, as the commands found them.
 
@@ -170,6 +171,8 @@ among_home a b part commands b_is among =
       actor = among.actor ∙ ap (λ (seen : Seen). seen.actor) b_is;
       early = among.early;
       late = among.late;
+      before = subst (λ (seen : Seen). IsTrue (are_before (part_events seen among.early))) b_is among.before;
+      local = among.local ∙ ap (λ (seen : Seen). local_by (shape_of seen) seen.actor seen.local among.early) b_is;
       begins = among.begins ∙ ap (λ xs. xs ++ among.early) own;
       ends = ap (λ xs. xs ++ part) (sym own) ∙ among.ends;
     }
@@ -221,6 +224,8 @@ ran true old new shape its is same runs =
             actor = refl;
             early = [];
             late = told.part;
+            before = refl;
+            local = refl;
             begins = sym (append-nil old.own);
             ends = sym (append_assoc old.own run.steps told.part) ∙ ap (λ own. own ++ told.part) (sym (ap (λ (seen : Seen). seen.own) run.adds.new_is));
           };
@@ -241,7 +246,7 @@ ran false old new shape its is same runs =
       commands = [];
       events = refl;
       took = [];
-      among = record { from = old; to = old; are = refl; guest = refl; actor = refl; early = []; late = []; begins = sym (append-nil old.own); ends = refl };
+      among = record { from = old; to = old; are = refl; guest = refl; actor = refl; early = []; late = []; before = refl; local = refl; begins = sym (append-nil old.own); ends = refl };
       started = λ actor beside agrees. record { views = []; are = none_made actor its };
     }
 
@@ -261,6 +266,9 @@ inside_call old new reg half value serves =
     let first = inside_begins old mid reg half value serves.starts begins in
     let actor_is : start.actor ≡ old.actor = ap (λ seen. seen.actor) looks.reading.adds.new_is in
     let register : List Happened = queue_reads begins.queue ++ part_events start writes.part in
+    let before : IsTrue (are_before (part_events old first.part))
+    = ap are_before (events_then old start looks.part writes.part looks.reading.adds ∙ ap (λ events. events ++ part_events start writes.part) looks.events)
+    ∙ before_both (queue_reads begins.queue) (part_events start writes.part) refl (made_before (Some start.actor) view events [] [] (part_events start writes.part) writes.made (written_before view reg half value)) in
     let By : ℕ → Type 0 = λ actor. Makes (Some actor) view events (its_write_places reg) [] register in
     record {
       inside = inside_joins old mid new first run.inside;
@@ -274,7 +282,7 @@ inside_call old new reg half value serves =
           ∙ ap (λ events. register ++ events) run.events;
       written = subst By actor_is (looks_then (Some start.actor) view begins.queue events (its_write_places reg) (part_events start writes.part) writes.made writes.looked);
       took = run.took;
-      among = among_after old mid first.part run.inside.part run.took first.adds run.among;
+      among = among_after old mid first.part run.inside.part run.took first.adds before run.among;
       started = λ beside agrees.
           (let Of : Bool → Type 0 = λ b. Started b (Some old.actor) (shape_of old) beside (its_written_by (shape_of old) view events) run.commands in
           let At : GuestShape → Type 0 = λ shape. Started serves.starts (Some old.actor) shape beside (its_written_by shape view events) run.commands in
@@ -486,7 +494,7 @@ makes_write old a b c d new offset size value reg half is_new can is takes_so ta
     subst By (sym is_actor) whole) in
     let own : Beside = record { maps = maps_taken part; targets = targets_of made.took } in
     let among : TookAmong old part made.took
-    = among_after old a turn (inside.part ++ give) made.took takes.adds (among_before a inside.part give made.took (among_home a b inside.part made.took b_is made.among)) in
+    = among_after old a turn (inside.part ++ give) made.took takes.adds (turn_before (part_events old turn) takes.events) (among_before a inside.part give made.took (among_home a b inside.part made.took b_is made.among)) in
     record {
       part = part;
       adds = all.adds;

@@ -1,13 +1,21 @@
 -- What an access found stays so among more steps of its actor.
-use Rattle.std.proofs.Common.{◌≡◌, List, ◌++◌, sym, ap, ◌∙◌}
+use Rattle.std.proofs.Common.{◌≡◌, true, IsTrue, List, ◌++◌, sym, ap, subst, ◌∙◌}
+use Rattle.std.proofs.lemmas.Bool.{and_from}
 use Rattle.std.proofs.lemmas.List.{append_assoc}
+use Rattle.std.proofs.lemmas.List.Folds.{list_all-append}
+use Rattle.gic_call.specs.Trace.{Happened}
 use Rattle.port_core.specs.declared.run.Made.{Made}
-use Rattle.port_core.specs.Port.{Seen, Adds}
+use Rattle.port_core.specs.Port.{Seen, Adds, local_by, part_events, shape_of}
+use Rattle.port_core.proofs.PortLemmas.{local_joins}
+use Rattle.port_call.proofs.TurnLemmas.{events_then}
 use Rattle.its_exec.specs.Queue.{Taken}
-use Rattle.pe_mem.specs.Found.{TookAmong}
+use Rattle.pe_mem.specs.Found.{TookAmong, are_before, is_before}
 
-pub among_after : (old mid : Seen) (front part : List Made) (commands : List Taken) → Adds old mid front → TookAmong mid part commands → TookAmong old (front ++ part) commands
-among_after old mid front part commands adds among =
+pub before_both : (first next : List Happened) → IsTrue (are_before first) → IsTrue (are_before next) → are_before (first ++ next) ≡ true
+before_both first next one two = list_all-append (λ (happened : Happened). is_before happened.event) first next ∙ and_from (are_before first) (are_before next) one two
+
+pub among_after : (old mid : Seen) (front part : List Made) (commands : List Taken) → Adds old mid front → IsTrue (are_before (part_events old front)) → TookAmong mid part commands → TookAmong old (front ++ part) commands
+among_after old mid front part commands adds before among =
     let own : mid.own ≡ old.own ++ front = ap (λ (seen : Seen). seen.own) adds.new_is in
     record {
       from = among.from;
@@ -17,6 +25,10 @@ among_after old mid front part commands adds among =
       actor = among.actor ∙ ap (λ (seen : Seen). seen.actor) adds.new_is;
       early = front ++ among.early;
       late = among.late;
+      before = ap are_before (events_then old mid front among.early adds) ∙ before_both (part_events old front) (part_events mid among.early) before among.before;
+      local =
+          among.local ∙ ap (λ (seen : Seen). local_by (shape_of seen) seen.actor seen.local among.early) adds.new_is
+          ∙ sym (local_joins (shape_of old) old.actor old.local front among.early);
       begins = among.begins ∙ ap (λ xs. xs ++ among.early) own ∙ append_assoc old.own front among.early;
       ends = sym (append_assoc old.own front part) ∙ ap (λ xs. xs ++ part) (sym own) ∙ among.ends;
     }
@@ -31,6 +43,8 @@ among_before old part more commands among =
       actor = among.actor;
       early = among.early;
       late = among.late ++ more;
+      before = among.before;
+      local = among.local;
       begins = among.begins;
       ends = sym (append_assoc old.own part more) ∙ ap (λ xs. xs ++ more) among.ends ∙ append_assoc among.to.own among.late more;
     }

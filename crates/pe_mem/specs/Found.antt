@@ -1,5 +1,6 @@
 -- What an access finds of the vCPUs that LPIs are for (own choice): its events are those of its call with whatever vCPUs agree with that.
-use Rattle.std.specs.Prelude.{◌≡◌, ℕ, ◌&&◌, ◌||◌, not, Bool, true, false, List, ◌++◌, Contains, Option, Some}
+use Rattle.std.specs.Prelude.{◌≡◌, ℕ, ◌&&◌, ◌||◌, not, Bool, true, false, IsTrue, List, ◌++◌, Contains, Option, Some}
+use Rattle.std.specs.List.{list_all}
 use Rattle.gic_base.specs.declared.interrupt.Key.TheVariants.{Lpi}
 use Rattle.gic_base.specs.declared.operation.Frame.{Frame}
 use Rattle.gic_base.specs.declared.operation.Frame.TheVariants.{Redist, Its}
@@ -17,14 +18,17 @@ use Rattle.gic_word.specs.Record.{target_in}
 use Rattle.gic_word.specs.Word.{irq_of}
 use Rattle.gic_call.specs.Access.{is_in_table, is_table_zero}
 use Rattle.gic_call.specs.Call.{takes_turn}
+use Rattle.gic_call.specs.declared.event.Event.{Event}
+use Rattle.gic_call.specs.declared.event.Event.TheVariants.{Touch, Queue}
 use Rattle.gic_call.specs.declared.event.Operation.{Operation}
 use Rattle.gic_call.specs.declared.event.Operation.TheVariants.{Access}
-use Rattle.gic_call.specs.Trace.{Beside, IsCall}
+use Rattle.gic_call.specs.declared.event.QueueChange.TheVariants.{Runs}
+use Rattle.gic_call.specs.Trace.{Beside, Happened, IsCall}
 use Rattle.gic_call.specs.View.{View}
 use Rattle.port_core.specs.declared.run.Made.{Made}
 use Rattle.port_core.specs.declared.step.CoreStep.TheVariants.{Look}
 use Rattle.port_core.specs.declared.word_id.WordId.TheVariants.{Irq}
-use Rattle.port_core.specs.Port.{Seen, shape_of, part_events}
+use Rattle.port_core.specs.Port.{Seen, local_by, shape_of, part_events}
 use Rattle.core_proper.specs.Called.{maps_taken, vcpu_of_actor}
 use Rattle.its_exec.specs.Queue.{AreTaken, Taken}
 use Rattle.its_exec.specs.Run.{AgreeAll}
@@ -56,7 +60,18 @@ goes_by_target shape view frame offset size write id = false
 
 -- Calls as they are found.
 
--- commands that an access took among its steps: what its actor's list was as the first began and as the last ended
+-- an event that touches no interrupt and ends no command
+abbrev pub is_before : Event → Bool
+is_before (Touch key touching) = false
+is_before (Queue offset Runs) = true
+is_before (Queue offset change) = false
+is_before event = true
+
+abbrev pub are_before : List Happened → Bool
+are_before events = list_all (λ (happened : Happened). is_before happened.event) events
+
+-- commands that an access took among its steps: what its actor had for itself and in its list as the first began, before which nothing was touched and no
+-- command ended, and what its list was as the last ended
 pub record TookAmong (seen : Seen) (part : List Made) (commands : List Taken) : Type 0 where
   pub from : Seen
   pub to : Seen
@@ -65,6 +80,8 @@ pub record TookAmong (seen : Seen) (part : List Made) (commands : List Taken) : 
   pub actor : from.actor ≡ seen.actor
   pub early : List Made
   pub late : List Made
+  pub before : IsTrue (are_before (part_events seen early))
+  pub local : from.local ≡ local_by (shape_of seen) seen.actor seen.local early
   pub begins : from.own ≡ seen.own ++ early
   pub ends : seen.own ++ part ≡ to.own ++ late
 

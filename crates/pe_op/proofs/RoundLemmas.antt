@@ -144,7 +144,7 @@ round_found old new before after access frame offset size write answer round is_
     record {
       finding = made.finding;
       kind = made.kind ∙ ap (λ shape. takes_its_by shape (access_of frame offset size write)) shape;
-      is_finding = finding_between old round.mid round.mid2 leaves.part access enters.part made.finding leaves.adds round.adds made.is_finding;
+      is_finding = finding_between old round.mid round.mid2 leaves.part access enters.part made.finding leaves.adds (ap (are_moves old.actor) leaves.events ∙ only_leave old.actor (held_keys before)) round.adds made.is_finding;
       call =
           λ beside maps agrees.
           call_between old new before after access frame offset size write answer round beside is_one

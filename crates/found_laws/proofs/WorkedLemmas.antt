@@ -1,0 +1,94 @@
+-- The worked run, part by part, as a port tells of it.
+use Rattle.std.proofs.Common.{◌≡◌, ℕ, false, List, [], Some, None, refl, slice_index_or, sym, take, arith}
+use Rattle.std.proofs.lemmas.List.Elements.{All-nil}
+use Rattle.gic_base.specs.declared.icc.IccReg.TheVariants.{Eoir1, Iar1}
+use Rattle.gic_prio.specs.Levels.{least_in, with_level, without_level}
+use Rattle.gic_call.specs.declared.event.Event.TheVariants.{Cpu, Raise}
+use Rattle.gic_call.specs.declared.event.Found.TheVariants.{Answer, Nothing}
+use Rattle.gic_call.specs.declared.event.Operation.TheVariants.{Residence}
+use Rattle.gic_call.specs.Trace.{Beside, IsCall}
+use Rattle.gic_call.specs.View.{View}
+use Rattle.gic_history.specs.State.{opening as opening_ideal, view_at}
+use Rattle.gic_history.proofs.CallLemmas.{hands_one}
+use Rattle.vcpu_refill.specs.Ranking.{in_places}
+use Rattle.port_core.specs.Port.{Seen, part_events}
+use Rattle.port_core.specs.Run.{opening, seat_at}
+use Rattle.core_proper.specs.Called.{maps_taken, vcpu_of_actor}
+use Rattle.core_proper.specs.Ideal.{end_of_moments}
+use Rattle.core_proper.specs.Parts.{CoreMoment}
+use Rattle.core_proper.specs.Worked.{spi, worked_guest}
+use Rattle.serial_laws.specs.Serial.{WholePart, moments_of}
+use Rattle.serial_laws.specs.Worked.{worked_parts}
+use Rattle.serial_laws.proofs.WorkedLemmas.{worked_parts_are_fit}
+use Rattle.pe_mem.specs.Found.{by_looks, takes_its_by}
+use Rattle.found_laws.specs.Found.{AreFoundParts, IsFoundPart}
+use Rattle.found_laws.specs.Worked.{WorkedPartsAreFound}
+use Rattle.found_laws.proofs.EagerRuns.{found_runs_are_eager}
+
+-- what is found of the guest as it opens
+abbrev opened : View
+opened = view_at (opening_ideal worked_guest)
+
+-- what a port tells of an actor after some moments
+abbrev told_at : List CoreMoment → ℕ → Seen
+told_at early actor =
+    let seat = seat_at (end_of_moments worked_guest.shape (opening worked_guest 0) early) actor in
+    record {
+      home = record { words = 0; slots = 0; views_name = 0; atom = 0; block = 0; offset = 0; slot_names = [] };
+      guest = worked_guest;
+      number = 0;
+      actor = actor;
+      local = seat.local;
+      own = seat.own;
+      taken = false;
+      world = None;
+    }
+
+-- its parts in order, and the moments before each
+abbrev part_at : ℕ → WholePart
+part_at number = slice_index_or worked_parts number (record { actor = 0; operation = Residence; lrs = 4; steps = []; answer = None })
+
+abbrev before : ℕ → List CoreMoment
+before number = moments_of (take number worked_parts)
+
+-- a part whose events are its call, whichever vCPUs the LPIs are for
+found_so : (early : List CoreMoment) (part : WholePart) → takes_its_by worked_guest.shape part.operation ≡ false
+    → ((beside : Beside) → beside.maps ≡ maps_taken part.steps → IsCall worked_guest.shape beside (vcpu_of_actor worked_guest.shape part.actor) part.operation (part_events (told_at early part.actor) part.steps) part.answer) → IsFoundPart worked_guest 0 early part
+found_so early part free call = record {
+  seen = told_at early part.actor;
+  told = record { guest_is = refl; actor_is = refl; local_is = refl; own_is = refl };
+  made = record { beside = record { maps = maps_taken part.steps; targets = λ number id. None }; maps = refl; call = call (record { maps = maps_taken part.steps; targets = λ number id. None }) refl };
+  found = record { finding = by_looks; kind = sym free; is_finding = tt; call = λ beside maps agrees. call beside maps };
+}
+
+worked_found : AreFoundParts worked_guest 0 [] worked_parts
+unfolding least_in with_level without_level in_places
+worked_found = (
+  found_so (before 0) (part_at 0) refl (λ beside maps. (refl, refl)),
+  (
+    found_so (before 1) (part_at 1) refl
+        (λ beside maps.
+        record { view = record opened { maps = beside.maps }; maps = refl; made = record { events_are = refl; found = hands_one (record opened { maps = beside.maps }) (Raise spi) Nothing refl; reads = All-nil _ }; answers = refl }),
+    (
+      found_so (before 2) (part_at 2) refl (λ beside maps. (refl, refl)),
+      (
+        found_so (before 3) (part_at 3) refl
+            (λ beside maps. record { view = opened; made = record { events_are = refl; found = hands_one opened (Cpu 0 Iar1 None) (Answer (Some 40)) ((Some 40), refl); reads = All-nil _ }; answers = (0, omega arith, refl) }),
+        (
+          found_so (before 4) (part_at 4) refl
+              (λ beside maps. record { view = opened; made = record { events_are = refl; found = hands_one opened (Cpu 0 Eoir1 (Some 40)) (Answer None) (None, refl); reads = All-nil _ }; answers = (0, omega arith, refl) }),
+          (
+            found_so (before 5) (part_at 5) refl
+                (λ beside maps. record { view = opened; made = record { events_are = refl; found = hands_one opened (Cpu 0 Iar1 None) (Answer (Some 1023)) ((Some 1023), refl); reads = All-nil _ }; answers = (0, omega arith, refl) }),
+            (found_so (before 6) (part_at 6) refl (λ beside maps. (refl, refl)), tt),
+          ),
+        ),
+      ),
+    ),
+  ),
+)
+
+pub worked_parts_are_found : WorkedPartsAreFound
+worked_parts_are_found =
+    let fit = worked_parts_are_fit in
+    record { good = fit.good; proper = fit.proper; found = worked_found; fit = fit.fit; eager = found_runs_are_eager worked_guest 0 worked_parts fit.good fit.proper worked_found fit.fit }
