@@ -1,8 +1,9 @@
 -- The vCPUs and the devices of a guest, one after the other.
-use Rattle.std.proofs.Common.{◌≡◌, ◌≢◌, ℕ, ◌+◌, ◌<◌, ◌≤◌, IsTrue, List, [], ◌∷◌, ◌++◌, map, length, set, get_or, Option, Some, None, inl, inr, append-nil, refl, sym, ap, subst, ◌∙◌, arith}
+use Rattle.std.proofs.Common.{◌≡◌, ◌≢◌, ℕ, ◌+◌, ◌<◌, ◌≤◌, IsTrue, List, [], ◌∷◌, ◌++◌, map, length, set, get_or, All, if◌then◌else◌, Option, Some, None, inl, inr, append-nil, refl, sym, ap, subst, ◌∙◌, arith}
 use Rattle.std.specs.Prelude.{slice_get}
-use Rattle.std.proofs.lemmas.Bool.{cases_eq, le-ltb}
+use Rattle.std.proofs.lemmas.Bool.{cases_eq, le-ltb, lt-ltb}
 use Rattle.std.proofs.lemmas.List.{length-set, append_assoc}
+use Rattle.std.proofs.lemmas.List.Elements.{All-nil, All-cons, All-head, All-tail, All-append}
 use Rattle.std.proofs.lemmas.List.Sums.{fold-append}
 use Rattle.std.proofs.lemmas.Grind.{flat_map-append}
 use Rattle.std.proofs.lemmas.Option.{slice_get_within, slice_get_read}
@@ -27,7 +28,7 @@ use Rattle.dev_port.specs.Device.{CanCall, IsDevicePart}
 use Rattle.serial_laws.specs.Serial.{WholePart}
 use Rattle.seq_guest.specs.declared.place.Place.{Place}
 use Rattle.seq_guest.specs.declared.vcpus.Vcpus.{Vcpus}
-use Rattle.seq_guest.specs.Parts.{Part, by_actor, steps_in, acts_of, acts_in, entries_in, parts_by, progress_after, IsCallFound, AreCalls, IsSeatAfter, AreOneCall, AreResidences, HaveCall}
+use Rattle.seq_guest.specs.Parts.{Part, by_actor, steps_in, acts_of, acts_in, entries_in, parts_by, progress_after, IsCallFound, AreCalls, IsSeatAfter, IsOfGuest, AreOneCall, AreResidences, HaveCall}
 use Rattle.seq_guest.specs.Place.{IsAt, IsFollowed, HasRegisters}
 use Rattle.seq_guest.specs.Moves.{Moves}
 use Rattle.seq_guest.specs.Guest.{seen_by, AreAt, AreFollowed, IsSameGuest, GoesOn}
@@ -52,6 +53,7 @@ goes_none told actor vcpus at =
       at = record { each = at.each; places = at.places; devices = at.devices };
       parts = [];
       are = residences_none;
+      formed = All-nil (IsOfGuest told.guest.shape vcpus.lrs);
       world = sym (append-nil told.world);
       seats = λ actor. seat_none (seen_by told actor) (seen_by told actor) refl refl;
       calls = λ actor. tt;
@@ -104,6 +106,13 @@ progress_other shape actor other parts progress apart = ap (λ parts. progress_o
 own_same : (old new : GuestTold) (steps : List Made) (other : ℕ) → other ≢ old.actor → IsLater old new steps → (seen_by new other).own ≡ (seen_by old other).own
 own_same old new steps other apart later = ap (λ (seat : Seat). seat.own) (other_seat old new steps other apart later)
 
+formed_one : (shape : GuestShape) (lrs vcpu : ℕ) (parts : List Part) → vcpu < shape.vcpus → All (λ part. part.lrs ≡ lrs) parts → All (IsOfGuest shape lrs) (map (by_actor vcpu) parts)
+formed_one shape lrs vcpu [] there all = All-nil (IsOfGuest shape lrs)
+formed_one shape lrs vcpu (part ∷ parts) there all =
+    All-cons (IsOfGuest shape lrs) (by_actor vcpu part) (map (by_actor vcpu) parts)
+    (record { there = omega (arith, there); lrs_is = All-head (λ (part : Part). part.lrs ≡ lrs) part parts all ∙ ap (λ b. if b then lrs else 0) (sym (lt-ltb vcpu shape.vcpus there)) })
+    (formed_one shape lrs vcpu parts there (All-tail (λ (part : Part). part.lrs ≡ lrs) part parts all))
+
 pub one_goes :
     (Are : List WholePart → Type 0) (told new : GuestTold) (before next : Vcpus) (vcpu : ℕ) (place after : Place) → next.lrs ≡ before.lrs → next.places.items ≡ set before.places.items vcpu after → vcpu < told.guest.shape.vcpus → slice_get before.places.items vcpu ≡ Some place → AreAt told before
     → Moves Are (seen_by told vcpu) (seen_of new) place after → HasRegisters before.lrs after → GoesOn Are told new before next
@@ -135,6 +144,7 @@ one_goes Are told new before next vcpu place after lrs is there has at moves reg
           };
       parts = all;
       are = moves.are;
+      formed = formed_one told.guest.shape before.lrs vcpu moves.parts there (moves.registers before.lrs (at.places vcpu place has).1 registers);
       world = later.world ∙ ap (λ entries. told.world ++ entries) (sym (entries_of_one vcpu moves.parts));
       seats = seats_one old new moves.parts moves.adds;
       calls = calls_one old moves.parts moves.calls;
@@ -192,7 +202,7 @@ seats_then one two three actor early late same first second =
           ∙ ap (λ steps. (seen_by one actor).own ++ steps) (sym (steps_append early late));
     }
 
-followed_as : (told : GuestTold) (vcpus : Vcpus) (one other : ℕ → Progress) → ((actor : ℕ) → one actor ≡ other actor) → AreFollowed told vcpus one → AreFollowed told vcpus other
+pub followed_as : (told : GuestTold) (vcpus : Vcpus) (one other : ℕ → Progress) → ((actor : ℕ) → one actor ≡ other actor) → AreFollowed told vcpus one → AreFollowed told vcpus other
 followed_as told vcpus one other same so =
     record {
       places = λ vcpu place e. subst (IsFollowed (seen_by told vcpu) place) (same vcpu) (so.places vcpu place e);
@@ -221,6 +231,9 @@ goes_both Early Late Both join one two three a b d first second =
       at = second.at;
       parts = early ++ late;
       are = join early late first.are second.are;
+      formed =
+          All-append (IsOfGuest shape a.lrs) early late first.formed
+          (subst (λ n. All (IsOfGuest shape n) late) first.lrs (subst (λ (guest : GuestSpec). All (IsOfGuest guest.shape b.lrs) late) first.same.guest second.formed));
       world =
           second.world
           ∙ ap (λ world. world ++ entries_in late) first.world
@@ -276,6 +289,9 @@ device_found : (seen : Seen) (op : DeviceOp) (steps : List Made) → MakesCall s
 unfolding device_part
 device_found seen op steps made = record { made = made; found = device_call seen op steps None made }
 
+device_formed : (shape : GuestShape) (lrs actor : ℕ) (part : Part) → shape.vcpus ≤ actor → actor < actor_count shape → part.lrs ≡ 0 → IsOfGuest shape lrs (by_actor actor part)
+device_formed shape lrs actor part past there none = record { there = there; lrs_is = none ∙ ap (λ b. if b then lrs else 0) (sym (le-ltb actor shape.vcpus past)) }
+
 pub device_goes : (told new : GuestTold) (vcpus : Vcpus) (actor : ℕ) (op : DeviceOp) (part : List Made) → told.guest.shape.vcpus ≤ actor → actor < actor_count told.guest.shape → AreAt told vcpus → IsDevicePart (seen_by told actor) (seen_of new) op part → GoesOn (HaveCall actor (Device op) None) told new vcpus vcpus
 unfolding device_part
 device_goes told new vcpus actor op part past there at does =
@@ -306,6 +322,7 @@ device_goes told new vcpus actor op part past there at does =
           };
       parts = all;
       are = call_one actor (device_part op part);
+      formed = All-cons (IsOfGuest told.guest.shape vcpus.lrs) (by_actor actor (device_part op part)) [] (device_formed told.guest.shape vcpus.lrs actor (device_part op part) past there refl) (All-nil (IsOfGuest told.guest.shape vcpus.lrs));
       world = later.world ∙ ap (λ entries. told.world ++ entries) (ap (map (entry_by actor)) (sym (append-nil part)) ∙ sym (entries_of_one actor parts));
       seats = seats_one old new parts adds;
       calls = calls_one old parts (device_found (seen_of old) op part does.call, tt);

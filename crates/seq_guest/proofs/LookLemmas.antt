@@ -114,7 +114,7 @@ looks_once old new vcpu kicked up looks =
     record {
       looks = looks;
       moves =
-          moves_once AreResidences old new (Pe vcpu) (Pe vcpu) (residence vcpu.regs.n (made ∷ [])) (residences_one old.actor vcpu.regs.n (made ∷ [])) looks.adds (residence_found old vcpu.regs.n (made ∷ []) (look_call old vcpu made is up)) (λ p run. (look_runs old new vcpu made is looks.adds up p run).proper)
+          moves_once AreResidences old new (Pe vcpu) (Pe vcpu) (residence vcpu.regs.n (made ∷ [])) (residences_one old.actor vcpu.regs.n (made ∷ [])) (λ n one two. one) looks.adds (residence_found old vcpu.regs.n (made ∷ []) (look_call old vcpu made is up)) (λ p run. (look_runs old new vcpu made is looks.adds up p run).proper)
           (λ p run. (look_runs old new vcpu made is looks.adds up p run).runs) (up_same old new vcpu same up);
       alone = refl;
     }

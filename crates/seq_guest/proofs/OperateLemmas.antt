@@ -30,7 +30,7 @@ if_ok (Err error) f so = tt
 moves_by : (old new : Seen) (op : GuestOp) (before after : Loaded) (answer : Option ℕ) → DoesOperation old new op before after answer → Moves (AreOneCall old.actor (Access op) answer) old new (Pe before) (Pe after)
 moves_by old new op before after answer does =
     let part : Part = record { operation = Access op; lrs = before.regs.n; steps = does.part; answer = answer } in
-    moves_once (AreOneCall old.actor (Access op) answer) old new (Pe before) (Pe after) part (only_call old.actor part) does.adds (record { made = does.call; found = does.found }) does.proper does.goes_on does.up
+    moves_once (AreOneCall old.actor (Access op) answer) old new (Pe before) (Pe after) part (only_call old.actor part) (λ n one two. one) does.adds (record { made = does.call; found = does.found }) does.proper does.goes_on does.up
 
 pub moves_where_done : (result : Result (Option ℕ) NoMemory) (old new : Seen) (op : GuestOp) (before after : Loaded) → IfOk result (λ answer. DoesOperation old new op before after answer) → IfOk result (λ answer. Moves (AreOneCall old.actor (Access op) answer) old new (Pe before) (Pe after))
 moves_where_done (Ok answer) old new op before after does = moves_by old new op before after answer does

@@ -1,5 +1,5 @@
 -- Parts of several actors, one after the other.
-use Rattle.std.proofs.Common.{◌≡◌, ◌≢◌, ℕ, ◌==◌, Bool, if◌then◌else◌, List, [], ◌∷◌, ◌++◌, map, filter, append-nil, refl, sym, ap, subst, ◌∙◌}
+use Rattle.std.proofs.Common.{◌≡◌, ◌≢◌, ℕ, ◌==◌, Bool, IsTrue, if◌then◌else◌, List, [], ◌∷◌, ◌++◌, map, filter, append-nil, refl, sym, ap, subst, ◌∙◌}
 use Rattle.std.proofs.lemmas.Bool.{eq-eqb, ne_eqb}
 use Rattle.std.proofs.lemmas.Grind.{flat_map-append}
 use Rattle.std.proofs.lemmas.List.{map-append}
@@ -11,7 +11,7 @@ use Rattle.port_core.specs.declared.run.Made.{Made}
 use Rattle.port_core.specs.Port.{Seen, seen_after, local_by, events_of}
 use Rattle.core_proper.specs.Called.{MakesCall, vcpu_of_actor}
 use Rattle.core_proper.specs.Parts.{entry_by}
-use Rattle.pe_mem.specs.Found.{Finding, by_looks, by_commands, IsFinding, Agrees, takes_its_by, IsCallAsFound}
+use Rattle.pe_mem.specs.Found.{are_before, Finding, by_looks, by_commands, IsFinding, Agrees, takes_its_by, IsCallAsFound}
 use Rattle.serial_laws.specs.Serial.{WholePart}
 use Rattle.seq_guest.specs.Parts.{Part, by_actor, part_in, steps_in, entries_in, parts_by, IsCallFound, AreCalls, IsSeatAfter}
 
@@ -84,9 +84,22 @@ finding_same one other steps (by_commands commands) same is =
       actor = is.actor ∙ sym same.actor;
       early = is.early;
       late = is.late;
+      before =
+          subst (λ guest. Before guest other.actor other.local other.own) (sym same.guest)
+          (subst (λ actor. Before one.guest actor other.local other.own) (sym same.actor)
+          (subst (λ local. Before one.guest one.actor local other.own) (sym same.local) (subst (λ own. Before one.guest one.actor one.local own) (sym same.own) is.before)));
+      local =
+          is.local
+          ∙ sym
+          (ap (λ (guest : GuestSpec). local_by guest.shape other.actor other.local is.early) same.guest
+          ∙ ap (λ actor. local_by one.guest.shape actor other.local is.early) same.actor
+          ∙ ap (λ local. local_by one.guest.shape one.actor local is.early) same.local);
       begins = is.begins ∙ ap (λ own. own ++ is.early) (sym same.own);
       ends = ap (λ own. own ++ steps) same.own ∙ is.ends;
     }
+  where
+    Before : GuestSpec → ℕ → Local → List Made → Type 0
+    Before guest actor local own = IsTrue (are_before (events_of guest.shape actor local own is.early))
 
 found_same : (one other : Seen) (part : Part) → TellsSame one other → IsCallAsFound one part.steps part.operation part.answer → IsCallAsFound other part.steps part.operation part.answer
 found_same one other part same found =

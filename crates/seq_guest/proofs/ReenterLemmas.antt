@@ -135,7 +135,7 @@ reenters old mid new vcpu loaded shelved up leaves enters =
     (enter_leads mid new shelved lrs loaded enters Residence paid) in
     record {
       moves =
-          moves_once AreResidences old new (Pe vcpu) (Pe loaded) (residence lrs part) (residences_one old.actor lrs part) (adds_join old mid new leaves.part enters.part leaves.adds enters.adds)
+          moves_once AreResidences old new (Pe vcpu) (Pe loaded) (residence lrs part) (residences_one old.actor lrs part) (λ n one two. one) (adds_join old mid new leaves.part enters.part leaves.adds enters.adds)
           (residence_found old lrs part (again_call old mid new vcpu loaded shelved up leaves enters)) (λ p run. (runs_again old new vcpu loaded part enters.up leads p run).proper) (λ p run. (runs_again old new vcpu loaded part enters.up leads p run).runs) enters.up;
       exit = leaves.part;
       entry = enters.part;

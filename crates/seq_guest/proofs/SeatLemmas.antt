@@ -17,7 +17,7 @@ use Rattle.seq_guest.proofs.FrameLemmas.{IsSame}
 
 -- What an actor did leaves the others as they were.
 
-seat_stays : (shape : GuestShape) (state : CoreState) (actor other : ℕ) (steps : List Made) → other ≢ actor → seat_at (end_of shape state (map (entry_by actor) steps)) other ≡ seat_at state other
+pub seat_stays : (shape : GuestShape) (state : CoreState) (actor other : ℕ) (steps : List Made) → other ≢ actor → seat_at (end_of shape state (map (entry_by actor) steps)) other ≡ seat_at state other
 seat_stays shape state actor other [] apart = refl
 seat_stays shape state actor other (made ∷ steps) apart =
     seat_stays shape (after shape state (entry_by actor made)) actor other steps apart ∙ get_or-set_other state.seats actor other _ no_seat apart

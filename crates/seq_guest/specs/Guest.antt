@@ -1,5 +1,5 @@
 -- The vCPUs of a guest, with what its port tells of them (own choice).
-use Rattle.std.specs.Prelude.{◌≡◌, ◌≢◌, ℕ, ◌<◌, ◌≤◌, ◌==◌, nat_lt, IsTrue, true, false, List, [], ◌∷◌, ◌++◌, length, map, if◌then◌else◌, Option, Some, None, slice_get}
+use Rattle.std.specs.Prelude.{◌≡◌, ◌≢◌, ℕ, ◌<◌, ◌≤◌, ◌==◌, nat_lt, IsTrue, true, false, List, [], ◌∷◌, ◌++◌, length, map, All, if◌then◌else◌, Option, Some, None, slice_get}
 use Rattle.std.specs.Option.{option_map_or}
 use Rattle.std.specs.List.{range_with_len}
 use Rattle.gic_base.specs.declared.operation.GuestOp.{GuestOp}
@@ -18,7 +18,7 @@ use Rattle.vcpu_state.specs.declared.loaded.Loaded.{Loaded}
 use Rattle.seq_guest.specs.declared.place.Place.{Place}
 use Rattle.seq_guest.specs.declared.place.Place.TheVariants.{Pe}
 use Rattle.seq_guest.specs.declared.vcpus.Vcpus.{Vcpus}
-use Rattle.seq_guest.specs.Parts.{IsSeatAfter, AreResidences, AreCalls, HaveCall, acts_in, entries_in, parts_by, progress_after}
+use Rattle.seq_guest.specs.Parts.{IsSeatAfter, IsOfGuest, AreResidences, AreCalls, HaveCall, acts_in, entries_in, parts_by, progress_after}
 use Rattle.seq_guest.specs.Operation.{is_of_registers}
 use Rattle.seq_guest.specs.Place.{Spot, shelf, pe, spot_of, IsAt, IsFollowed, HasRegisters, IsShown}
 
@@ -50,6 +50,7 @@ pub record GoesOn (Are : List WholePart → Type 0) (old new : GuestTold) (befor
   pub at : AreAt new after
   pub parts : List WholePart
   pub are : Are parts
+  pub formed : All (IsOfGuest old.guest.shape before.lrs) parts
   pub world : new.world ≡ old.world ++ entries_in parts
   pub seats : (actor : ℕ) → IsSeatAfter (seen_by old actor) (seen_by new actor) (parts_by actor parts)
   pub calls : (actor : ℕ) → AreCalls (seen_by old actor) (parts_by actor parts)

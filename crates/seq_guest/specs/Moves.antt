@@ -1,5 +1,5 @@
 -- What a vCPU did over its port, in whole parts (own choice).
-use Rattle.std.specs.Prelude.{◌≡◌, Bool, false, List, [], ◌∷◌, ◌++◌, map}
+use Rattle.std.specs.Prelude.{◌≡◌, ℕ, Bool, false, List, [], ◌∷◌, ◌++◌, map, All}
 use Rattle.port_core.specs.declared.run.Made.{Made}
 use Rattle.port_core.specs.declared.step.CoreStep.TheVariants.{Look}
 use Rattle.port_core.specs.declared.word_id.WordId.TheVariants.{Vcpu}
@@ -14,13 +14,14 @@ use Rattle.serial_laws.specs.Serial.{WholePart}
 use Rattle.seq_guest.specs.declared.place.Place.{Place}
 use Rattle.seq_guest.specs.declared.place.Place.TheVariants.{Shelf, Aside, Pe}
 use Rattle.seq_guest.specs.Parts.{Part, residence, steps_in, acts_in, AreCalls, by_actor, AreResidences}
-use Rattle.seq_guest.specs.Place.{IsAt, IsFollowed}
+use Rattle.seq_guest.specs.Place.{IsAt, IsFollowed, HasRegisters}
 
 -- a vCPU did some parts, one after the other, that are so: each is its call, they are proper wherever its protocol was as its place says, and it is where its place
 -- says after them, with its protocol so far
 pub record Moves (Are : List WholePart → Type 0) (old new : Seen) (before after : Place) : Type 0 where
   pub parts : List Part
   pub are : Are (map (by_actor old.actor) parts)
+  pub registers : (lrs : ℕ) → HasRegisters lrs before → HasRegisters lrs after → All (λ part. part.lrs ≡ lrs) parts
   pub adds : Adds old new (steps_in parts)
   pub calls : AreCalls old parts
   pub proper : (p : Progress) → IsFollowed old before p → IsProper (shape_of old) old.actor p (acts_in parts)

@@ -1,11 +1,13 @@
 -- Parts of an actor, one after the other: each is what the actor did for one call (own choice).
-use Rattle.std.specs.Prelude.{◌≡◌, ℕ, ◌==◌, List, [], ◌∷◌, ◌++◌, All, filter, map, Option, None}
+use Rattle.std.specs.Prelude.{◌≡◌, ℕ, ◌<◌, ◌==◌, if◌then◌else◌, List, [], ◌∷◌, ◌++◌, All, filter, map, Option, None}
 use Rattle.std.specs.List.{flat_map}
 use Rattle.gic_call.specs.declared.event.Operation.{Operation}
 use Rattle.gic_call.specs.declared.event.Operation.TheVariants.{Residence}
 use Rattle.gic_base.specs.declared.shape.GuestShape.{GuestShape}
 use Rattle.port_core.specs.declared.run.Entry.{Entry}
 use Rattle.port_core.specs.declared.run.Made.{Made}
+use Rattle.port_core.specs.Actor.{actor_count}
+use Rattle.port_core.specs.Local.{is_vcpu}
 use Rattle.port_core.specs.Port.{Seen, seen_after}
 use Rattle.core_proper.specs.Called.{MakesCall}
 use Rattle.core_proper.specs.Parts.{Act, part_of, entry_by}
@@ -65,6 +67,11 @@ entries_in parts = flat_map (λ one. map (entry_by one.actor) one.steps) parts
 -- those of an actor
 abbrev pub parts_by : ℕ → List WholePart → List Part
 parts_by actor parts = map part_in (filter (λ one. one.actor == actor) parts)
+
+-- one is of an actor of the guest; a vCPU is on a PE with so many list registers, and a device has none
+pub record IsOfGuest (shape : GuestShape) (lrs : ℕ) (one : WholePart) : Type 0 where
+  pub there : one.actor < actor_count shape
+  pub lrs_is : one.lrs ≡ (if is_vcpu shape one.actor then lrs else 0)
 
 -- all of them enter a PE, leave one, or look for a kick
 pub record AreResidences (parts : List WholePart) : Type 0 where

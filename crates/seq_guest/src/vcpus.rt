@@ -29,7 +29,7 @@ impl Vcpus {
     ghost use Rattle.seq_guest.specs.Place.{shelf, pe, IsShown, entered, left, gone_aside, returned};
     ghost use Rattle.core_regs.specs.Asks.{IsUnkicked};
     ghost use Rattle.port_seq.specs.Told.{state_of};
-    ghost use Rattle.seq_guest.specs.Guest.{AreAt, IsSameGuest, GoesOn, Shows, ShowsList, NoneKicked, spot_at, ChangesSpots, for_none, for_one, but_one, for_all};
+    ghost use Rattle.seq_guest.specs.Guest.{AreAt, GoesOn, Shows, ShowsList, NoneKicked, spot_at, ChangesSpots, for_none, for_one, but_one, for_all};
 
     /// The vCPUs of a guest that just opened, the number of which is told, by PEs with so many list registers (1 to 16): none
     /// stands on a PE. An error where memory is refused.
@@ -41,7 +41,7 @@ impl Vcpus {
     ) -> Result<Vcpus, AllocError>
         requires opened { told port.old ≡ opening_told (told port.old).home (told port.old).guest guest }
         requires lrs { 1 ≤ lrs × lrs ≤ MAX_LIST_REGISTERS }
-        ensures same { IsSameGuest (told port.old) (told port.new) }
+        ensures same { told port.new ≡ record (told port.old) { actor = (told port.new).actor } }
         ensures at { IfOk result (λ vcpus. AreAt (told port.new) vcpus) }
         ensures lrs { IfOk result (λ vcpus. vcpus.lrs ≡ lrs) }
         ensures spots { IfOk result (λ vcpus. (vcpu : ℕ) → spot_at vcpus vcpu ≡ shelf) }

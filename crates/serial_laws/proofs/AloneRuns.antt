@@ -65,11 +65,11 @@ next_at guest number good early actor act proper = runs_on guest number good Kep
 
 -- The moments of one actor.
 
-own_all : (actor : ℕ) (acts : List Act) → own_acts actor (map (moment_by actor) acts) ≡ acts
+pub own_all : (actor : ℕ) (acts : List Act) → own_acts actor (map (moment_by actor) acts) ≡ acts
 own_all actor [] = refl
 own_all actor (act ∷ acts) = own_here actor act (map (moment_by actor) acts) ∙ ap (λ rest. act ∷ rest) (own_all actor acts)
 
-own_none : (actor other : ℕ) (acts : List Act) → other ≢ actor → own_acts other (map (moment_by actor) acts) ≡ []
+pub own_none : (actor other : ℕ) (acts : List Act) → other ≢ actor → own_acts other (map (moment_by actor) acts) ≡ []
 own_none actor other [] differ = refl
 own_none actor other (act ∷ acts) differ = own_other actor other act (map (moment_by actor) acts) differ ∙ own_none actor other acts differ
 

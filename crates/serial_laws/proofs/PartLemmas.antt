@@ -14,7 +14,7 @@ use Rattle.port_core.specs.Port.{events_of}
 use Rattle.port_core.specs.Run.{CoreState, Seat, no_seat, seat_at}
 use Rattle.port_core.specs.Stands.{stands_for}
 use Rattle.core_proper.specs.Ideal.{after_moment, end_of_moments, event_moments, ideal_of}
-use Rattle.core_proper.specs.Parts.{Act, makes, begins, ends, CoreMoment}
+use Rattle.core_proper.specs.Parts.{Act, makes, begins, ends, CoreMoment, entries_of, entry_by}
 use Rattle.core_proper.proofs.PartLemmas.{ideal_append}
 use Rattle.serial_laws.specs.Serial.{WholePart, calls_of, call_of, moment_by, moments_in, moments_of}
 
@@ -33,6 +33,15 @@ pub seat_next : (shape : GuestShape) (actor : ℕ) (made : Made) (state : CoreSt
     → seat_at (after_moment shape state (moment_by actor (makes made))) actor ≡ record { local = local_after shape actor (seat_at state actor).local made.step made.found; own = (seat_at state actor).own ++ made ∷ [] }
 seat_next shape actor made state there =
     get_or-set_same state.seats actor (let s : Seat = record { local = local_after shape actor (seat_at state actor).local made.step made.found; own = (seat_at state actor).own ++ made ∷ [] } in s) no_seat there
+
+-- The steps of a part.
+
+steps_entries : (actor : ℕ) (answer : Option ℕ) (steps : List Made) → entries_of (map (moment_by actor) (map makes steps ++ ends answer ∷ [])) ≡ map (entry_by actor) steps
+steps_entries actor answer [] = refl
+steps_entries actor answer (made ∷ steps) = ap (λ entries. entry_by actor made ∷ entries) (steps_entries actor answer steps)
+
+pub part_entries : (part : WholePart) → entries_of (moments_in part) ≡ map (entry_by part.actor) part.steps
+part_entries part = steps_entries part.actor part.answer part.steps
 
 -- The history of a part is its call.
 

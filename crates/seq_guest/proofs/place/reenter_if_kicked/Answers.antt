@@ -12,7 +12,7 @@ returns-then-kicked-clause-moves g c =
     let mid = g.P.Port.seen c.is_kicked-kicked.new.port in
     let new = g.P.Port.seen c.reenter.new.port in
     let looks = looks_once old mid c.args.vcpu.now c.is_kicked-kicked.result c.requires c.is_kicked-kicked.ensures in
-    moves_then old mid new (Pe c.args.vcpu.now) (Pe c.args.vcpu.now) (Pe c.reenter.new.vcpu) looks.moves c.reenter.ensures.reenters.moves
+    moves_then old mid new (Pe c.args.vcpu.now) (Pe c.args.vcpu.now) (Pe c.reenter.new.vcpu) (λ n one. one) looks.moves c.reenter.ensures.reenters.moves
 
 pub returns-else-kicked-clause-moves : goal.returns-else-kicked-clause-moves
 returns-else-kicked-clause-moves g c =
