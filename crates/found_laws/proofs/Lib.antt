@@ -3,6 +3,9 @@ pub mod HereRuns
 pub mod TurnRuns
 pub mod WindowRuns
 pub mod TurnCalls
+pub mod OwnLemmas
+pub mod BegunRuns
+pub mod MoveRuns
 pub mod LookRuns
 pub mod NoneRuns
 pub mod FirstRuns

@@ -1,5 +1,5 @@
 -- The worked run, part by part, as a port tells of it.
-use Rattle.std.proofs.Common.{◌≡◌, ℕ, false, List, [], Some, None, refl, slice_index_or, sym, take, arith}
+use Rattle.std.proofs.Common.{◌≡◌, ℕ, false, List, [], ◌∷◌, ◌++◌, Some, None, refl, slice_index_or, sym, take, arith}
 use Rattle.std.proofs.lemmas.List.Elements.{All-nil}
 use Rattle.gic_base.specs.declared.icc.IccReg.TheVariants.{Eoir1, Iar1}
 use Rattle.gic_prio.specs.Levels.{least_in, with_level, without_level}
@@ -17,11 +17,11 @@ use Rattle.core_proper.specs.Called.{maps_taken, vcpu_of_actor}
 use Rattle.core_proper.specs.Ideal.{end_of_moments}
 use Rattle.core_proper.specs.Parts.{CoreMoment}
 use Rattle.core_proper.specs.Worked.{spi, worked_guest}
-use Rattle.serial_laws.specs.Serial.{WholePart, moments_of}
+use Rattle.serial_laws.specs.Serial.{AreFit, WholePart, moments_in, moments_of}
 use Rattle.serial_laws.specs.Worked.{worked_parts}
 use Rattle.serial_laws.proofs.WorkedLemmas.{worked_parts_are_fit}
 use Rattle.pe_mem.specs.Found.{by_looks, takes_its_by}
-use Rattle.found_laws.specs.Found.{AreFoundParts, IsFoundPart}
+use Rattle.found_laws.specs.Found.{AreAble, AreFoundParts, IsFoundPart}
 use Rattle.found_laws.specs.Worked.{WorkedPartsAreFound}
 use Rattle.found_laws.proofs.EagerRuns.{found_runs_are_eager}
 
@@ -88,7 +88,12 @@ worked_found = (
   ),
 )
 
+able_by : (parts : List WholePart) (early : List CoreMoment) → AreFit worked_guest 0 early parts → AreAble worked_guest 0 early parts
+able_by [] early fit = tt
+able_by (part ∷ parts) early fit = (record { ease = fit.0.ease; good = fit.0.good }, able_by parts (early ++ moments_in part) fit.1)
+
 pub worked_parts_are_found : WorkedPartsAreFound
 worked_parts_are_found =
     let fit = worked_parts_are_fit in
-    record { good = fit.good; proper = fit.proper; found = worked_found; fit = fit.fit; eager = found_runs_are_eager worked_guest 0 worked_parts fit.good fit.proper worked_found fit.fit }
+    let able = able_by worked_parts [] fit.fit in
+    record { good = fit.good; proper = fit.proper; found = worked_found; able = able; fit = found_runs_are_eager worked_guest 0 worked_parts fit.good fit.proper worked_found able }

@@ -9,9 +9,10 @@ pub fn found_parts_are_calls()
     ensures { FoundPartsAreCalls }
 {}
 
-/// A law of every proper run of a good guest in which each part ends before the next one begins, of which its actor's port tells
-/// what it found: where the parts are fit as `serial_runs_are_eager` asks, the guest with all that stands at interfaces taken back
-/// goes on as the eager controller's, and each part answers what that answers.
+/// A law of every proper run of a good guest in which each part ends before the next one begins, and of which its actor's port tells
+/// what it found: where each part is for an operation that its actor can ask for, and, as a part for an access of a CPU interface
+/// begins, each vCPU is at ease, the parts are their calls and meet all that `serial_runs_are_eager` asks. So the guest with all that
+/// stands at interfaces taken back goes on as the eager controller's, and each part answers what that answers.
 pub fn found_runs_are_eager()
     ensures { FoundRunsAreEager }
 {}
