@@ -13,3 +13,4 @@ pub mod CommandRuns
 pub mod EndRuns
 pub mod EagerRuns
 pub mod WorkedLemmas
+pub mod WriteLemmas
