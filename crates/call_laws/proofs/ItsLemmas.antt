@@ -86,7 +86,7 @@ module _ (guest : GuestSpec) (moments : List Moment) (actor : ℕ) (piece : List
     split_is : piece ≡ is.register ++ (is.commands ++ is.last)
     split_is = is.split ∙ append_assoc is.register is.commands is.last
 
-    events_are : events_of piece ≡ events_of is.register ++ (events_of is.commands ++ events_of is.last)
+    pub events_are : events_of piece ≡ events_of is.register ++ (events_of is.commands ++ events_of is.last)
     events_are = ap events_of split_is ∙ events_both is.register (is.commands ++ is.last) ∙ ap (λ es. events_of is.register ++ es) (events_both is.commands is.last)
 
     runs : IsHomeRun false before is.register × IsHomeRun (marks_after is.register false) (after_events (events_of is.register) before) (is.commands ++ is.last)
@@ -95,14 +95,14 @@ module _ (guest : GuestSpec) (moments : List Moment) (actor : ℕ) (piece : List
     abbrev guest1 : IdealGuest
     guest1 = after_events (events_of is.register) before
 
-    runs1 : IsHomeRun (marks_after is.register false) guest1 is.commands × IsHomeRun (marks_after is.commands (marks_after is.register false)) (after_events (events_of is.commands) guest1) is.last
+    pub runs1 : IsHomeRun (marks_after is.register false) guest1 is.commands × IsHomeRun (marks_after is.commands (marks_after is.register false)) (after_events (events_of is.commands) guest1) is.last
     runs1 = run_split is.commands is.last (marks_after is.register false) guest1 runs.1
 
     abbrev guest2 : IdealGuest
     guest2 = after_events (events_of is.commands) guest1
 
     -- what all events of the register pass
-    register_all : (test : Event → Bool) → ((actor : Option ℕ) (event : Event) → is_beside actor event ≡ true → test event ≡ true) → IsTrue (list_all test (ItsBegin ∷ mine)) → IsTrue (list_all test (events_of is.register))
+    pub register_all : (test : Event → Bool) → ((actor : Option ℕ) (event : Event) → is_beside actor event ≡ true → test event ≡ true) → IsTrue (list_all test (ItsBegin ∷ mine)) → IsTrue (list_all test (events_of is.register))
     register_all test beside all = beside_passes test beside (Some vcpu) is.register (subst (λ es. IsTrue (list_all test es)) (sym is.written.events_are) all)
 
     keep_maps : IsTrue (list_all keeps_maps (events_of is.register))
@@ -116,7 +116,7 @@ module _ (guest : GuestSpec) (moments : List Moment) (actor : ℕ) (piece : List
 
     -- The maps that the call took.
 
-    maps_same : is.view.maps ≡ before.tables
+    pub maps_same : is.view.maps ≡ before.tables
     maps_same =
         is.maps ∙ run.ended.maps ∙ ap (λ es. (call_after actor es state open_call).maps) events_are
         ∙ ap (λ (c : Call). c.maps) (call_append actor (events_of is.register) (events_of is.commands ++ events_of is.last) state open_call)
@@ -131,7 +131,7 @@ module _ (guest : GuestSpec) (moments : List Moment) (actor : ℕ) (piece : List
 
     -- The register.
 
-    made_is : IsMade before (Some vcpu) is.view (ItsBegin ∷ mine) (its_places guest.shape (its_decoded offset size) (Some value)) is.register
+    pub made_is : IsMade before (Some vcpu) is.view (ItsBegin ∷ mine) (its_places guest.shape (its_decoded offset size) (Some value)) is.register
     made_is = record { whole = home_whole state run.tidy.whole; run = runs.0; made = is.written }
 
     guest1_is : guest1 ≡ after_events mine before
@@ -158,10 +158,10 @@ module _ (guest : GuestSpec) (moments : List Moment) (actor : ℕ) (piece : List
     -- The commands.
 
     module _ (events_same : mine ≡ eager) where
-      guest1_eager : guest1 ≡ after_events eager before
+      pub guest1_eager : guest1 ≡ after_events eager before
       guest1_eager = guest1_is ∙ ap (λ es. after_events es before) events_same
 
-      sound1 : IsSound guest1
+      pub sound1 : IsSound guest1
       sound1 = sound_run is.register false before runs.0 keep_maps rest.sound
 
       turn_piece : IsTurnPiece 0 0 before (its_events before.shape (view_of before) (its_decoded offset size) (Some value))
@@ -170,7 +170,7 @@ module _ (guest : GuestSpec) (moments : List Moment) (actor : ℕ) (piece : List
       order1 : IsQueueInOrder guest1
       order1 = subst IsQueueInOrder (ap (λ s. after_events (its_events s (view_of before) (its_decoded offset size) (Some value)) before) run.shape_is ∙ sym guest1_eager) (turn_piece.order rest.order)
 
-      known1 : HaveSameIts is.view (view_of before) → HaveSameIts (its_written_by guest.shape is.view mine) (view_of guest1)
+      pub known1 : HaveSameIts is.view (view_of before) → HaveSameIts (its_written_by guest.shape is.view mine) (view_of guest1)
       known1 known =
           subst (λ es. HaveSameIts (its_written_by guest.shape is.view es) (view_of guest1)) (sym events_same)
           (subst (λ g. HaveSameIts (its_written_by guest.shape is.view eager) (view_of g)) (sym guest1_eager)
@@ -184,13 +184,13 @@ module _ (guest : GuestSpec) (moments : List Moment) (actor : ℕ) (piece : List
       abbrev state1 : Ideal
       state1 = state_after actor (events_of is.register) state
 
-      follow : Follows actor state before (events_of is.register) × Follows actor state1 guest1 (events_of is.commands ++ events_of is.last)
+      pub follow : Follows actor state before (events_of is.register) × Follows actor state1 guest1 (events_of is.commands ++ events_of is.last)
       follow = follows_split actor (events_of is.register) (events_of is.commands ++ events_of is.last) state before (subst (Follows actor state before) events_are run.follows)
 
       whole : IsWhole before
       whole = home_whole state run.tidy.whole
 
-      at1 : IsAt guest1 call1 0
+      pub at1 : IsAt guest1 call1 0
       at1 =
           let window = grown actor (events_of is.register) state before open_call follow.0 between refl in
           record {
@@ -204,7 +204,7 @@ module _ (guest : GuestSpec) (moments : List Moment) (actor : ℕ) (piece : List
           of id x (inl (inr none)) = absurd none
           of id x (inr among) = seen_kept before id (events_of is.register) x whole (keep_targets id) among
 
-      targets1 : HasTargets run.ended.beside (call_after actor (events_of is.commands ++ events_of is.last) state1 call1)
+      pub targets1 : HasTargets run.ended.beside (call_after actor (events_of is.commands ++ events_of is.last) state1 call1)
       targets1 =
           subst (HasTargets run.ended.beside) (ap (λ es. call_after actor es state open_call) events_are ∙ call_append actor (events_of is.register) (events_of is.commands ++ events_of is.last) state open_call)
           (λ number id few. run.ended.targets number id few)

@@ -27,7 +27,7 @@ use Rattle.call_laws.proofs.RunLemmas.{events_of, IsHomeRun, Follows}
 
 -- What is known of the ITS.
 
-same_then : (one two three : View) → HaveSameIts one two → HaveSameIts one three → HaveSameIts two three
+pub same_then : (one two three : View) → HaveSameIts one two → HaveSameIts one three → HaveSameIts two three
 same_then one two three first second = record {
   ctlr = sym first.ctlr ∙ second.ctlr;
   cbaser = sym first.cbaser ∙ second.cbaser;
@@ -52,6 +52,14 @@ left_same shape one other by same =
     queue_is shape by (λ e. HaveSameIts (left_by shape one e) (left_by shape other e))
     (λ fault. record { ctlr = same.ctlr; cbaser = same.cbaser; cwriter = same.cwriter; offset = refl; stalled = refl; maps = same.maps })
     (record { ctlr = same.ctlr; cbaser = same.cbaser; cwriter = same.cwriter; offset = refl; stalled = refl; maps = ap (λ maps. maps_done maps (command_words shape by)) same.maps })
+
+-- after a command, whose doublewords are those of the guest
+pub left_after : (shape : GuestShape) (guest : IdealGuest) (view : View) → IsSound guest → guest.shape ≡ shape → HaveSameIts view (view_of guest) → command_words shape view ≡ command_words shape (view_of guest)
+    → HaveSameIts (left_by shape view (queue_event shape view)) (view_of (after_command guest))
+left_after shape guest view sound shape_is known words =
+    subst (λ e. HaveSameIts (left_by shape view e) (view_of (after_command guest))) (sym (queue_same shape guest view known words))
+    (same_after (left_by shape view (queue_event shape (view_of guest))) (left_by shape (view_of guest) (queue_event shape (view_of guest))) (view_of (after_command guest)) (left_same shape view (view_of guest) (view_of guest) known)
+    (subst (λ s. HaveSameIts (left_by s (view_of guest) (queue_event s (view_of guest))) (view_of (after_command guest))) shape_is (command_known 0 0 guest sound)))
 
 -- Commands that are taken, one after the other, until none is.
 
@@ -102,10 +110,7 @@ module _ (shape : GuestShape) (actor vcpu : ℕ) (beside : Beside) where
       let one = one_done shape actor vcpu beside b guest whole shape_is view known number are.targets_are state call at are.own (events_of are.rest ++ after) are.command runs.0 moves.0 follow.0 targets_now in
       let words = words_are shape actor vcpu beside b guest whole shape_is view known number are.targets_are state call at are.own are.command runs.0 in
       let next = after_command guest in
-      let left : HaveSameIts (left_by shape view (queue_event shape view)) (view_of (after_command guest)) =
-      subst (λ e. HaveSameIts (left_by shape view e) (view_of (after_command guest))) (sym (queue_same shape guest view known words))
-      (same_after (left_by shape view (queue_event shape (view_of guest))) (left_by shape (view_of guest) (queue_event shape (view_of guest))) (view_of (after_command guest)) (left_same shape view (view_of guest) (view_of guest) known)
-      (subst (λ s. HaveSameIts (left_by s (view_of guest) (queue_event s (view_of guest))) (view_of (after_command guest))) shape_is (command_known 0 0 guest sound))) in
+      let left = left_after shape guest view sound shape_is known words in
       let later = commands_done views (number + 1) (left_by shape view (queue_event shape view)) are.rest after (marks_after are.own b) (after_command guest) (state_after actor (events_of are.own) state) (call_after actor (events_of are.own) state call) are.later
       (sound_command 0 0 guest sound) (command_shape 0 0 guest sound ∙ shape_is) left (subst (λ g. AllMoveOwn g (events_of are.rest)) one.goes moves.1) one.at (subst (λ g. IsHomeRun (marks_after are.own b) g are.rest) one.goes runs.1)
       (subst (λ g. Follows actor (state_after actor (events_of are.own) state) g (events_of are.rest)) one.goes follow.1) (subst (HasTargets beside) (call_append actor (events_of are.own) (events_of are.rest ++ after) state call) targets_now) in

@@ -273,3 +273,10 @@ call_ends shape actor call operation piece maps firsts answer o p m are is =
       targets = λ number id l. in_window (call.done ++ call.targets ∷ []) firsts number id are.heads (omega (arith, l, length-append call.done (call.targets ∷ [])));
       is_call = subst (λ op. IsCall shape (beside_of maps firsts) (vcpu_of shape actor) op call.piece answer) (sym o) (subst (λ xs. IsCall shape (beside_of maps firsts) (vcpu_of shape actor) operation xs answer) (sym p) is);
     }
+
+-- of these maps and vCPUs
+pub call_ends_by :
+    (shape : GuestShape) (actor : ℕ) (call : Call) (operation : Operation) (piece : List Happened) (maps : Maps) (firsts : List Targets) (answer : Option ℕ) (o : call.operation ≡ operation) (p : call.piece ≡ piece) (m : call.maps ≡ maps) (are : HaveHeads call firsts)
+    (is : IsCall shape (beside_of maps firsts) (vcpu_of shape actor) operation piece answer) → (call_ends shape actor call operation piece maps firsts answer o p m are is).beside ≡ beside_of maps firsts
+unfolding call_ends
+call_ends_by shape actor call operation piece maps firsts answer o p m are is = refl

@@ -1,40 +1,72 @@
 -- Runs of parts that are told with what they found, one after the other, are the eager controller's.
-use Rattle.std.proofs.Common.{◌≡◌, ℕ, ◌<◌, IsTrue, List, [], ◌∷◌, ◌++◌, refl, sym, ap, ◌∙◌, subst}
+use Rattle.std.proofs.Common.{◌≡◌, ℕ, ◌<◌, Bool, true, false, IsTrue, List, [], ◌∷◌, ◌++◌, Option, Some, None, is_none, refl, sym, ap, ◌∙◌, subst}
+use Rattle.std.specs.List.{list_all}
+use Rattle.std.proofs.lemmas.Bool.{and_from, and_parts}
 use Rattle.std.proofs.lemmas.List.{append-nil, append_assoc}
+use Rattle.std.proofs.lemmas.List.Elements.{All-replicate}
+use Rattle.gic_base.specs.declared.interrupt.Key.TheVariants.{Lpi}
+use Rattle.gic_base.specs.declared.operation.Frame.TheVariants.{Its}
+use Rattle.gic_base.specs.declared.operation.GuestOp.TheVariants.{Mem}
 use Rattle.gic_base.specs.declared.shape.GuestShape.{GuestShape}
+use Rattle.gic_imap.specs.Map.{decoded as its_decoded}
+use Rattle.gic_call.specs.declared.event.Event.{Event}
+use Rattle.gic_call.specs.declared.event.Event.TheVariants.{Touch}
+use Rattle.gic_call.specs.declared.event.Moment.{Moment}
 use Rattle.gic_call.specs.declared.event.Operation.{Operation}
 use Rattle.gic_call.specs.declared.event.Operation.TheVariants.{Access, Device, Residence}
+use Rattle.gic_call.specs.declared.touch.Touching.TheVariants.{Retarget as RetargetLpi}
+use Rattle.gic_call.specs.Trace.{Happened, IsCall, IsItsWrite}
 use Rattle.ideal_guest.specs.declared.guest.IdealGuest.{IdealGuest}
 use Rattle.ideal_guest.specs.Ideal.{after_events}
 use Rattle.ideal_guest.specs.Opening.{opening as opening_guest}
 use Rattle.its_tab.specs.Collection.{has_target}
+use Rattle.its_tab.specs.Maps.{Maps}
 use Rattle.gic_history.specs.State.{Ideal}
 use Rattle.gic_history.specs.Moves.{home}
-use Rattle.gic_history.specs.History.{last_of, opening_course}
+use Rattle.gic_history.specs.History.{Call, IsHistory, IsWhole as IsWholeHistory, actor_count, last_of, opening_course, targets_in, vcpu_of}
 use Rattle.home_laws.proofs.HomeLaws.{history_tidy}
 use Rattle.home_laws.proofs.HomeLemmas.{home_rest}
 use Rattle.home_laws.proofs.SpotLemmas.{IsTidy}
 use Rattle.scn_base.specs.declared.guest.GuestSpec.{GuestSpec}
 use Rattle.scn_base.specs.Good.{IsGoodGuest, is_good_event, is_good_op}
 use Rattle.eager_laws.proofs.EventLemmas.{shape_events}
-use Rattle.call_laws.specs.Calls.{IsAtRest, eager_events}
+use Rattle.eager_laws.proofs.WindowLemmas.{Targets, beside_of}
+use Rattle.call_laws.specs.Calls.{AllMoveOwn, IsAtRest, IsLoneCall, eager_events, lone_call}
 use Rattle.call_laws.specs.Runs.{IsGoodCall, LoneCall, eager_after_all}
+use Rattle.call_laws.proofs.EndLemmas.{calls_end_again}
 use Rattle.call_laws.proofs.RestLaws.{rest_stays}
+use Rattle.call_laws.proofs.RunLemmas.{LoneRun, events_of as lone_events, lone_run}
 use Rattle.call_laws.proofs.TargetLemmas.{home_targets}
 use Rattle.map_laws.specs.Mapped.{AreForNone}
 use Rattle.map_laws.proofs.OpeningLemmas.{open_for_none}
 use Rattle.map_laws.proofs.OperationLaws.{accesses_leave_none, devices_leave_none}
 use Rattle.port_core.specs.Run.{CoreState, opening}
+use Rattle.core_proper.specs.Called.{maps_taken}
 use Rattle.core_proper.specs.Ideal.{end_of_moments, ideal_of}
 use Rattle.core_proper.specs.Parts.{CoreMoment}
 use Rattle.core_proper.specs.Proper.{IsProperRun}
 use Rattle.core_laws.specs.Laws.{AreCalls}
 use Rattle.core_laws.proofs.HistorySteps.{runs_history}
 use Rattle.core_fresh.proofs.RunFrame.{proper_before}
-use Rattle.serial_laws.specs.Serial.{AreFit, IsFit, WholePart, calls_of, moments_in, moments_of}
-use Rattle.serial_laws.proofs.SerialRuns.{serial_runs_are_eager}
-use Rattle.found_laws.specs.Found.{AreFoundParts, FoundRunsAreEager}
-use Rattle.found_laws.proofs.EndRuns.{found_parts_are_calls}
+use Rattle.core_late.specs.Late.{AccessesComeFirst}
+use Rattle.core_lone.proofs.EaseRuns.{ease_is_up_to_date}
+use Rattle.serial_laws.specs.Serial.{AreFit, IsFit, WholePart, calls_of, moments_in, moments_of, piece_of}
+use Rattle.serial_laws.proofs.AloneRuns.{AllRest, rest_after, rest_opens}
+use Rattle.serial_laws.proofs.SerialRuns.{first_next, ideal_next, serial_runs_are_eager, shows_so}
+use Rattle.pe_mem.specs.Found.{takes_its_by}
+use Rattle.found_laws.specs.Found.{AreAble, AreFoundParts, FoundRunsAreEager, IsAble, IsFoundPart}
+use Rattle.found_laws.proofs.EndRuns.{commanded, commanded_by, commanded_call, found_parts_are_calls, in_seats, steady}
+use Rattle.found_laws.proofs.HereRuns.{happened_in, happened_is}
+use Rattle.found_laws.proofs.MoveRuns.{its_own}
+use Rattle.found_laws.proofs.OwnLemmas.{is_no_move, own_none}
+use Rattle.found_laws.proofs.SteadyLemmas.{is_steady}
+use Rattle.found_laws.proofs.TurnCalls.{read_takes_none}
+use Rattle.found_laws.proofs.WindowRuns.{begun_after}
+
+-- As a guest opens, no call is open.
+
+opens_whole : (guest : GuestSpec) → IsWholeHistory guest []
+opens_whole guest = All-replicate (λ (call : Option Call). IsTrue (is_none call)) (actor_count guest.shape) None refl
 
 -- LPIs that the maps give no vCPU.
 
@@ -74,21 +106,51 @@ moments_join : (one two : List WholePart) → moments_of (one ++ two) ≡ moment
 moments_join [] two = refl
 moments_join (part ∷ one) two = ap (λ ms. moments_in part ++ ms) (moments_join one two) ∙ sym (append_assoc (moments_in part) (moments_of one) (moments_of two))
 
+-- A part that takes no ITS moves no LPI.
+
+steady_still : (events : List Event) → IsTrue (list_all is_steady events) → IsTrue (list_all is_no_move events)
+steady_still [] h = refl
+steady_still (event ∷ events) h =
+    let parts = and_parts (is_steady event) (list_all is_steady events) h in
+    and_from (is_no_move event) (list_all is_no_move events) (of event parts.0) (steady_still events parts.1)
+  where
+    of : (event : Event) → is_steady event ≡ true → is_no_move event ≡ true
+    of (Touch (Lpi id) (RetargetLpi target)) h = absurd (cc)
+    of event h = refl
+
+its_moves : (guest : GuestSpec) (moments : List Moment) (actor : ℕ) (operation : Operation) (piece : List Happened) (answer : Option ℕ) (run : LoneRun guest moments actor operation piece answer) → takes_its_by guest.shape operation ≡ true → IsAtRest (home (last_of guest moments))
+    → (maps : Maps) (firsts : List Targets) → run.ended.beside ≡ beside_of maps firsts → firsts ≡ targets_in (last_of guest moments) ∷ begun_after actor (lone_events piece) (last_of guest moments) → AllMoveOwn (home (last_of guest moments)) (lone_events piece)
+its_moves guest moments actor (Access (Mem Its offset size (Some value))) piece answer run takes rest maps firsts is firsts_are = of (vcpu_of guest.shape actor) run.is_call
+  where
+    of : (o : Option ℕ) → IsCall guest.shape run.ended.beside o (Access (Mem Its offset size (Some value))) piece answer → AllMoveOwn (home (last_of guest moments)) (lone_events piece)
+    of None is_call = absurd is_call
+    of (Some vcpu) is_call =
+        its_own guest moments actor piece answer offset size value run vcpu takes (subst (λ b. IsItsWrite b guest.shape run.ended.beside vcpu offset size value piece answer) takes is_call) rest maps firsts is firsts_are
+its_moves guest moments actor (Access (Mem Its offset size None)) piece answer run takes rest maps firsts is firsts_are = absurd (read_takes_none guest.shape (its_decoded offset size) takes)
+its_moves guest moments actor (Access op) piece answer run takes rest maps firsts is firsts_are = absurd (cc)
+its_moves guest moments actor (Device op) piece answer run takes rest maps firsts is firsts_are = absurd (cc)
+its_moves guest moments actor Residence piece answer run takes rest maps firsts is firsts_are = absurd (cc)
+
 module _ (guest : GuestSpec) (number : ℕ) (good : IsGoodGuest guest) where
+  abbrev start : CoreState
+  start = opening guest number
+
+  abbrev past : List CoreMoment → List Moment
+  past early = ideal_of guest.shape (opening guest number) early
+
+  abbrev Calls : List CoreMoment → Type 0
+  Calls moments = AreCalls guest.shape (opening guest number) (opening_course guest) moments
+
   good_calls : (parts : List WholePart) (early : List CoreMoment) (state : CoreState) → AreFit guest number early parts → AreGood guest.shape (calls_of guest.shape state parts)
   good_calls [] early state fit = tt
   good_calls (part ∷ parts) early state fit = (fit.0.good, good_calls parts (early ++ moments_in part) (end_of_moments guest.shape state (moments_in part)) fit.1)
 
-  -- the premise of the law of one part
-  none_after : (parts : List WholePart) → IsProperRun guest number (moments_of parts) → AreCalls guest.shape (opening guest number) (opening_course guest) (moments_of parts) → AreFit guest number [] parts
-      → AreForNone (last_of guest (ideal_of guest.shape (opening guest number) (moments_of parts))).guest
-  none_after parts proper calls fit =
-      let moments = ideal_of guest.shape (opening guest number) (moments_of parts) in
-      let history = (runs_history guest number (moments_of parts) good proper.parted calls).history in
-      none_home guest.shape (last_of guest moments) (history_tidy guest moments good history)
-      (subst AreForNone (sym (serial_runs_are_eager guest number parts good proper calls fit).ends)
+  -- after some parts the guest with all taken back is the eager controller's
+  calm_so : (parts : List WholePart) → IsProperRun guest number (moments_of parts) → Calls (moments_of parts) → AreFit guest number [] parts → IsCalm guest.shape (home (last_of guest (past (moments_of parts))))
+  calm_so parts proper calls fit =
+      subst (IsCalm guest.shape) (sym (serial_runs_are_eager guest number parts good proper calls fit).ends)
       (calm_after_all guest.shape (calls_of guest.shape (opening guest number) parts) (opening_guest guest) (record { shape_is = refl; rest = rest_stays.opens guest good; none = open_for_none guest good })
-      (good_calls parts [] (opening guest number) fit)).none)
+      (good_calls parts [] (opening guest number) fit))
 
   -- one more part that is fit
   fit_more : (parts : List WholePart) (part : WholePart) (early : List CoreMoment) → AreFit guest number early parts → IsFit guest number (early ++ moments_of parts) part → AreFit guest number early (parts ++ part ∷ [])
@@ -96,24 +158,92 @@ module _ (guest : GuestSpec) (number : ℕ) (good : IsGoodGuest guest) where
   fit_more (one ∷ parts) part early fit more =
       (fit.0, fit_more parts part (early ++ moments_in one) fit.1 (subst (λ ms. IsFit guest number ms part) (sym (append_assoc early (moments_in one) (moments_of parts))) more))
 
-  abbrev Calls : List CoreMoment → Type 0
-  Calls moments = AreCalls guest.shape (opening guest number) (opening_course guest) moments
+  -- where some parts are over, each of them its call
+  record IsSoFar (early : List CoreMoment) : Type 0 where
+    calls : Calls early
+    rest : AllRest guest number early
+    first : AccessesComeFirst guest number early
+    whole : IsWholeHistory guest (past early)
 
-  all_calls : (parts before : List WholePart) → IsProperRun guest number (moments_of before ++ moments_of parts) → Calls (moments_of before) → AreFit guest number [] before → AreFoundParts guest number (moments_of before) parts → AreFit guest number (moments_of before) parts
-      → Calls (moments_of before ++ moments_of parts)
-  all_calls [] before proper calls fit found fits = subst Calls (sym (append-nil (moments_of before))) calls
-  all_calls (part ∷ parts) before proper calls fit found fits =
+  module _ (early : List CoreMoment) (part : WholePart) (proper : IsProperRun guest number (early ++ moments_in part)) (so : IsSoFar early) (calm : IsCalm guest.shape (home (last_of guest (past early)))) (told : IsFoundPart guest number early part) (able : IsAble guest number early part) where
+    proper_early : IsProperRun guest number early
+    proper_early = proper_before guest number early (moments_in part) proper
+
+    history_early : IsHistory guest (past early)
+    history_early = (runs_history guest number early good proper_early.parted so.calls).history
+
+    -- the premise of the law of one part
+    none_now : AreForNone (last_of guest (past early)).guest
+    none_now = none_home guest.shape (last_of guest (past early)) (history_tidy guest (past early) good history_early) calm.none
+
+    calls_next : Calls (early ++ moments_in part)
+    calls_next = found_parts_are_calls guest number early part good proper so.calls (λ takes. none_now) told
+
+    history : IsHistory guest (past (early ++ moments_in part))
+    history = (runs_history guest number (early ++ moments_in part) good proper.parted calls_next).history
+
+    abbrev piece : List Happened
+    piece = piece_of guest.shape (end_of_moments guest.shape (opening guest number) early) part
+
+    next_is : past (early ++ moments_in part) ≡ past early ++ lone_call part.actor part.operation piece part.answer
+    next_is = ideal_next guest number good early part proper history so.rest so.first
+
+    lone : IsLoneCall guest (past early) part.actor part.operation piece part.answer
+    lone = record {
+      good = good;
+      whole = so.whole;
+      history = subst (IsHistory guest) next_is history;
+      shows =
+          shows_so guest number good early part proper history so.rest so.first
+          (λ icc. ease_is_up_to_date guest number early good proper_early so.first (record { nobody = λ actor there. (so.rest actor there).operation; ease = able.ease icc })) able.good;
+    }
+
+    so_next : IsSoFar (early ++ moments_in part)
+    so_next = record {
+      calls = calls_next;
+      rest = rest_after guest number early part proper so.rest;
+      first = first_next guest number good early part proper history so.rest so.first;
+      whole = subst (IsWholeHistory guest) (sym next_is) (calls_end_again guest (past early) part.actor part.operation piece part.answer lone);
+    }
+
+    -- it moves no other LPI where it moves those of a vCPU to itself
+    same_piece : happened_in guest.shape part.actor (end_of_moments guest.shape (opening guest number) early) part.steps ≡ piece
+    same_piece = happened_is guest.shape part.actor part.steps (end_of_moments guest.shape (opening guest number) early) (in_seats guest number early part good proper so.calls told)
+
+    moves : AllMoveOwn (home (last_of guest (past early))) (lone_events piece)
+    moves = subst (λ xs. AllMoveOwn (home (last_of guest (past early))) (lone_events xs)) same_piece (of (takes_its_by guest.shape part.operation) refl)
+      where
+        mine : List Happened
+        mine = happened_in guest.shape part.actor (end_of_moments guest.shape (opening guest number) early) part.steps
+
+        of : (b : Bool) → takes_its_by guest.shape part.operation ≡ b → AllMoveOwn (home (last_of guest (past early))) (lone_events (happened_in guest.shape part.actor (end_of_moments guest.shape (opening guest number) early) part.steps))
+        of false free = own_none (lone_events mine) (home (last_of guest (past early))) (steady_still (lone_events mine) (steady guest number early part good proper so.calls told free))
+        of true takes =
+            let run = subst (λ xs. LoneRun guest (past early) part.actor part.operation xs part.answer) (sym same_piece) (lone_run guest (past early) part.actor part.operation piece part.answer lone) in
+            its_moves guest (past early) part.actor part.operation mine part.answer
+            (record run { ended = commanded guest number early part good proper so.calls told takes none_now; is_call = commanded_call guest number early part good proper so.calls told takes none_now }) takes calm.rest
+            (maps_taken part.steps) (targets_in (last_of guest (past early)) ∷ begun_after part.actor (lone_events mine) (last_of guest (past early))) (commanded_by guest number early part good proper so.calls told takes none_now) refl
+
+    fit_now : IsFit guest number early part
+    fit_now = record { ease = able.ease; good = able.good; moves = moves }
+
+  -- all of them
+  all_so : (parts before : List WholePart) → IsProperRun guest number (moments_of before ++ moments_of parts) → IsSoFar (moments_of before) → AreFit guest number [] before → AreFoundParts guest number (moments_of before) parts → AreAble guest number (moments_of before) parts
+      → Calls (moments_of before ++ moments_of parts) × AreFit guest number [] (before ++ parts)
+  all_so [] before proper so fit found able = (subst Calls (sym (append-nil (moments_of before))) so.calls, subst (AreFit guest number []) (sym (append-nil before)) fit)
+  all_so (part ∷ parts) before proper so fit found able =
       let so_far = moments_of before in
       let next = so_far ++ moments_in part in
       let split : so_far ++ (moments_in part ++ moments_of parts) ≡ next ++ moments_of parts = sym (append_assoc so_far (moments_in part) (moments_of parts)) in
       let proper_all = subst (IsProperRun guest number) split proper in
       let proper_next = proper_before guest number next (moments_of parts) proper_all in
-      let calls_next = found_parts_are_calls guest number so_far part good proper_next calls (λ takes. none_after before (proper_before guest number so_far (moments_in part) proper_next) calls fit) found.0 in
+      let calm = calm_so before (proper_before guest number so_far (moments_in part) proper_next) so.calls fit in
       let same : moments_of (before ++ part ∷ []) ≡ next = moments_join before (part ∷ []) ∙ ap (λ ms. so_far ++ ms) (append-nil (moments_in part)) in
-      subst Calls (ap (λ ms. ms ++ moments_of parts) same ∙ sym split)
-      (all_calls parts (before ++ part ∷ []) (subst (λ ms. IsProperRun guest number (ms ++ moments_of parts)) (sym same) proper_all) (subst Calls (sym same) calls_next) (fit_more before part [] fit fits.0)
-      (subst (λ ms. AreFoundParts guest number ms parts) (sym same) found.1) (subst (λ ms. AreFit guest number ms parts) (sym same) fits.1))
+      let later = all_so parts (before ++ part ∷ []) (subst (λ ms. IsProperRun guest number (ms ++ moments_of parts)) (sym same) proper_all) (subst IsSoFar (sym same) (so_next so_far part proper_next so calm found.0 able.0))
+      (fit_more before part [] fit (fit_now so_far part proper_next so calm found.0 able.0)) (subst (λ ms. AreFoundParts guest number ms parts) (sym same) found.1) (subst (λ ms. AreAble guest number ms parts) (sym same) able.1) in
+      (subst Calls (ap (λ ms. ms ++ moments_of parts) same ∙ sym split) later.0, subst (AreFit guest number []) (append_assoc before (part ∷ []) parts) later.1)
 
 pub found_runs_are_eager : FoundRunsAreEager
-found_runs_are_eager guest number parts good proper found fit =
-    serial_runs_are_eager guest number parts good proper (all_calls guest number good parts [] proper tt tt found fit) fit
+found_runs_are_eager guest number parts good proper found able =
+    let all = all_so guest number good parts [] proper (record { calls = tt; rest = rest_opens guest number; first = refl; whole = opens_whole guest }) tt found able in
+    record { calls = all.0; fit = all.1; eager = serial_runs_are_eager guest number parts good proper all.0 all.1 }

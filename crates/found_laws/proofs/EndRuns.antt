@@ -33,7 +33,7 @@ use Rattle.history_laws.proofs.CourseLemmas.{begun_here}
 use Rattle.scn_base.specs.declared.guest.GuestSpec.{GuestSpec}
 use Rattle.scn_base.specs.Good.{IsGoodGuest}
 use Rattle.eager_laws.proofs.CourseLemmas.{call_after, call_append, state_after}
-use Rattle.eager_laws.proofs.WindowLemmas.{AreWindows, HaveHeads, Targets, beside_of, call_ends, heads_of, is_no_turn, maps_after, operation_after, piece_after}
+use Rattle.eager_laws.proofs.WindowLemmas.{AreWindows, HaveHeads, Targets, beside_of, call_ends, call_ends_by, heads_of, is_no_turn, maps_after, operation_after, piece_after}
 use Rattle.call_laws.proofs.CommandLemmas.{events_both}
 use Rattle.call_laws.proofs.MapsLemmas.{keeps_maps, maps_taken as its_maps_taken}
 use Rattle.call_laws.proofs.PassLemmas.{device_all, dist_all, memory_all, raises_all, redist_all}
@@ -181,13 +181,13 @@ module _ (guest : GuestSpec) (number : ℕ) (early : List CoreMoment) (part : Wh
   abbrev last : Call
   last = call_after part.actor (events_of piece) course.ideal first
 
-  at : IsAt shape before course
+  pub at : IsAt shape before course
   at = (run_leads guest number early good (parted_before guest number early (moments_in part) proper.parted) calls).at
 
   there : part.actor < actor_count shape
   there = part_there (actor_count shape) part [] (subst (All (IsThere (actor_count shape))) (sym (append-nil (moments_in part))) (all_late (IsThere (actor_count shape)) early (moments_in part) proper.parted.actors))
 
-  in_seats : part.actor < length before.seats
+  pub in_seats : part.actor < length before.seats
   in_seats = subst (λ n. part.actor < n) (sym at.sound.actors) there
 
   run : IsRun shape before (map (entry_by part.actor) part.steps)
@@ -196,7 +196,7 @@ module _ (guest : GuestSpec) (number : ℕ) (early : List CoreMoment) (part : Wh
       (subst (λ state. IsRun shape state (entries_of (moments_in part))) (sym (same_end shape start early))
       (run_splits shape start (entries_of early) (entries_of (moments_in part)) (subst (IsRun shape start) (filter_map-append (λ (moment : CoreMoment). option_map (entry_by moment.actor) (step_of moment.act)) early (moments_in part)) proper.parted.run)).1)
 
-  here : AreHere shape part.actor before course.ideal part.steps
+  pub here : AreHere shape part.actor before course.ideal part.steps
   here = here_all shape good.shape part.actor part.steps before course.ideal at.sound at.related at.known run
 
   whole : IsWhole course.ideal.guest
@@ -239,7 +239,7 @@ module _ (guest : GuestSpec) (number : ℕ) (early : List CoreMoment) (part : Wh
   -- Where it takes no commands.
 
   module _ (free : takes_its_by guest.shape part.operation ≡ false) where
-    steady : IsTrue (list_all is_steady (events_of piece))
+    pub steady : IsTrue (list_all is_steady (events_of piece))
     steady = call_steady shape told.made.beside (vcpu_of shape part.actor) part.operation piece part.answer free (as_run told.made.beside told.made.call)
 
     maps_are : last.maps ≡ maps_taken part.steps
@@ -366,10 +366,21 @@ module _ (guest : GuestSpec) (number : ℕ) (early : List CoreMoment) (part : Wh
     agrees_commands by_looks kind is = absurd (cc)
     agrees_commands (by_commands commands) kind is = agrees_among commands is
 
-    commanded : IsEnded shape part.actor last part.answer
+    pub commanded : IsEnded shape part.actor last part.answer
     commanded =
         ended firsts maps_are_its (heads_of last firsts (windows_along part.actor (events_of piece) course.ideal first (targets_in course.ideal ∷ []) turn.enables opened))
         (agrees_commands told.found.finding (kind_is ∙ takes) told.found.is_finding)
+
+    -- the vCPUs of its commands are those that the LPIs are for as each of them begins
+    pub commanded_by : commanded.beside ≡ beside_of (maps_taken part.steps) firsts
+    unfolding ended commanded
+    commanded_by = call_ends_by shape part.actor last part.operation piece (maps_taken part.steps) firsts part.answer _ _ _ _ _
+
+    pub commanded_call : IsCall guest.shape commanded.beside (vcpu_of guest.shape part.actor) part.operation piece part.answer
+    commanded_call =
+        subst (λ op. IsCall guest.shape commanded.beside (vcpu_of guest.shape part.actor) op piece part.answer) (operation_after part.actor (events_of piece) course.ideal first)
+        (subst (λ xs. IsCall guest.shape commanded.beside (vcpu_of guest.shape part.actor) last.operation xs part.answer)
+        (piece_after part.actor (events_of piece) course.ideal first ∙ sym (handed_out_all shape part.actor part.steps before course.ideal here)) commanded.is_call)
 
   -- Either way.
 

@@ -3,6 +3,9 @@ pub mod HereRuns
 pub mod TurnRuns
 pub mod WindowRuns
 pub mod TurnCalls
+pub mod OwnLemmas
+pub mod BegunRuns
+pub mod MoveRuns
 pub mod LookRuns
 pub mod NoneRuns
 pub mod FirstRuns
@@ -10,3 +13,4 @@ pub mod CommandRuns
 pub mod EndRuns
 pub mod EagerRuns
 pub mod WorkedLemmas
+pub mod WriteLemmas

@@ -39,12 +39,7 @@ use Rattle.call_laws.proofs.TargetLemmas.{beside_targets, event_targets}
 use Rattle.map_laws.specs.Mapped.{AreForNone}
 use Rattle.map_laws.proofs.CommandLemmas.{command_loses}
 use Rattle.map_laws.proofs.PartLemmas.{gives_none, leaves_none, parts_none}
-
-same_head : (one two : Event) (first next : List Event) → one ∷ first ≡ two ∷ next → one ≡ two
-same_head one two first next e = cc
-
-same_tail : (one two : Event) (first next : List Event) → one ∷ first ≡ two ∷ next → first ≡ next
-same_tail one two first next e = cc
+use Rattle.found_laws.proofs.OwnLemmas.{same_head, same_tail}
 
 -- Pieces of an actor, who is this vCPU if it is one: what is beside the events that are named keeps what is said of the state.
 

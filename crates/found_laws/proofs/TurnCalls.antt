@@ -67,7 +67,7 @@ module _ (shape : GuestShape) (beside : Beside) (vcpu offset size value : ℕ) (
     later = late_all is_no_turn no_turn_passes refl;
   }
 
-read_takes_none : (shape : GuestShape) (ref : ItsRef) → takes_turn shape ref None ≡ true → ⊥
+pub read_takes_none : (shape : GuestShape) (ref : ItsRef) → takes_turn shape ref None ≡ true → ⊥
 read_takes_none shape (ItsPlain reg half) h = cc
 read_takes_none shape ItsReserved h = cc
 
