@@ -1,6 +1,6 @@
 -- What is true of all that the guests of a port tell.
 use Rattle.std.specs.Prelude.{◌≡◌, ℕ, ◌<◌, List, [], ◌∷◌, length, map, slice_index_or, All, None}
-use Rattle.std.proofs.Common.{zero, suc, sym, ap, subst, arith}
+use Rattle.std.proofs.Common.{zero, suc, subst, arith}
 use Rattle.std.proofs.lemmas.List.{get_or_default, length-map}
 use Rattle.port_core.specs.Port.{IsPort}
 use Rattle.port_seq.specs.declared.guest.GuestPort.{GuestPort}
