@@ -1,6 +1,5 @@
 -- A vCPU that enters while nobody else acts: each of its claims finds the word that it expects, and so it is not kicked then.
-use Rattle.std.proofs.Common.{◌≡◌, ◌≢◌, ℕ, ◌<◌, ◌==◌, ◌&&◌, ◌||◌, true≢false, not, Bool, true, false, if◌then◌else◌, IsTrue, List, [], ◌∷◌, ◌++◌, append-nil, map, slice_index_or, Option, Some, None, unwrap_or, refl, sym, ap, subst, ◌∙◌}
-use Rattle.std.specs.List.{list_all}
+use Rattle.std.proofs.Common.{◌≡◌, ◌≢◌, ℕ, ◌<◌, ◌&&◌, ◌||◌, true≢false, not, Bool, true, false, if◌then◌else◌, IsTrue, List, [], ◌∷◌, ◌++◌, append-nil, map, slice_index_or, Some, None, unwrap_or, refl, sym, ap, subst, ◌∙◌}
 use Rattle.std.proofs.lemmas.Bool.{and_parts, eq-eqb, eqb-true, lt-ltb}
 use Rattle.std.proofs.lemmas.List.{append_assoc, map-append}
 use Rattle.std.proofs.lemmas.List.Folds.{list_all-append}
@@ -9,17 +8,14 @@ use Rattle.gic_base.specs.declared.interrupt.Key.{Key}
 use Rattle.gic_base.specs.declared.shape.GuestShape.{GuestShape}
 use Rattle.gic_base.specs.Shape.{IsShape}
 use Rattle.gic_call.specs.declared.event.Operation.TheVariants.{Residence}
-use Rattle.port_core.specs.declared.local.Local.{Local}
 use Rattle.port_core.specs.declared.run.Made.{Made}
 use Rattle.port_core.specs.declared.step.CoreStep.{CoreStep}
 use Rattle.port_core.specs.declared.step.CoreStep.TheVariants.{Look, Claim, Kick, Mark, Poll, TakeIndex}
-use Rattle.port_core.specs.declared.word_id.WordId.{WordId}
 use Rattle.port_core.specs.declared.word_id.WordId.TheVariants.{Irq, Vcpu}
-use Rattle.port_core.specs.declared.words.VcpuWord.{VcpuWord}
 use Rattle.port_core.specs.Effect.{succeeds, word_after}
 use Rattle.port_core.specs.Forms.{packed_vcpu, vcpu_of}
 use Rattle.port_core.specs.Known.{is_on, known}
-use Rattle.port_core.specs.Place.{has_word, place_of_word}
+use Rattle.port_core.specs.Place.{place_of_word}
 use Rattle.port_core.specs.Run.{CoreState, IsRun, IsSound, Takes, after, end_of, seat_at, word_in}
 use Rattle.port_core.specs.Step.{word_of}
 use Rattle.port_core.proofs.PlaceLemmas.{word_same}

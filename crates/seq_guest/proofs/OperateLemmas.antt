@@ -1,5 +1,5 @@
 -- An operation of a vCPU, as a part of its own.
-use Rattle.std.proofs.Common.{◌≡◌, ◌≢◌, ℕ, ◌==◌, true≢false, Bool, true, false, if◌then◌else◌, Option, IfOk, OnErr, refl, sym, ap, ◌∙◌}
+use Rattle.std.proofs.Common.{◌≡◌, ◌≢◌, ℕ, true≢false, Bool, true, false, if◌then◌else◌, Option, IfOk, OnErr, refl, sym, ap, ◌∙◌}
 use Rattle.std.specs.Prelude.{Result, Ok, Err}
 use Rattle.std.proofs.lemmas.Bool.{ne_eqb}
 use Rattle.gic_base.specs.declared.memory.NoMemory.{NoMemory}

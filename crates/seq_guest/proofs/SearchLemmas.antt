@@ -27,7 +27,7 @@ use Rattle.port_core.specs.declared.word_id.WordId.{WordId}
 use Rattle.port_core.specs.declared.word_id.WordId.TheVariants.{Irq}
 use Rattle.port_core.specs.Known.{is_on, known}
 use Rattle.port_core.specs.Local.{has_no_cand}
-use Rattle.port_core.specs.Place.{index_bit, index_words}
+use Rattle.port_core.specs.Place.{index_words}
 use Rattle.port_core.specs.Step.{word_of}
 use Rattle.port_call.proofs.MemoryLemmas.{on_own}
 use Rattle.core_proper.specs.Progress.{Progress, after_claim, changed_by, filled, goes_on, looks_on, scan_on}

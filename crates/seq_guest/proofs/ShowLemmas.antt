@@ -15,7 +15,7 @@ use Rattle.port_core.specs.declared.run.Made.{Made}
 use Rattle.port_core.specs.declared.step.CoreStep.{CoreStep}
 use Rattle.port_core.specs.declared.step.CoreStep.TheVariants.{Kick, Poll}
 use Rattle.port_core.specs.Port.{Adds}
-use Rattle.port_core.specs.Run.{CoreState, IsRun, IsSound, opening}
+use Rattle.port_core.specs.Run.{IsRun, IsSound, opening}
 use Rattle.port_core.proofs.RunLemmas.{run_splits}
 use Rattle.port_call.specs.Piece.{steps_of}
 use Rattle.core_proper.specs.Parts.{entry_by, part_of}
@@ -26,14 +26,14 @@ use Rattle.port_seq.specs.Kept.{told_sound}
 use Rattle.port_seq.specs.Told.{GuestTold, seen_of, state_of}
 use Rattle.pe_loop.specs.Steps.{all_are, all_hit, is_claim, is_mark, is_search, IsEntryPart}
 use Rattle.pe_icc.specs.Amid.{IsRunning}
-use Rattle.entry_laws.specs.Entry.{HasEntered, IsEntry, looks_for_kick}
+use Rattle.entry_laws.specs.Entry.{IsEntry, looks_for_kick}
 use Rattle.seq_guest.specs.declared.place.Place.{Place}
 use Rattle.seq_guest.specs.declared.place.Place.TheVariants.{Shelf, Aside, Pe}
 use Rattle.seq_guest.specs.declared.vcpus.Vcpus.{Vcpus}
 use Rattle.seq_guest.specs.Parts.{acts_in, acts_of, by_actor, residence, steps_in, AreResidences, progress_after}
 use Rattle.seq_guest.specs.Place.{HasRegisters}
 use Rattle.seq_guest.specs.Moves.{Reenters, ReentersAt}
-use Rattle.seq_guest.specs.Guest.{seen_by, AreAt, AreFollowed, Shows}
+use Rattle.seq_guest.specs.Guest.{seen_by, AreAt, Shows}
 use Rattle.seq_guest.proofs.GuestLemmas.{one_goes, one_parts, progress_mine}
 use Rattle.seq_guest.proofs.LoneLemmas.{part_unkicked}
 use Rattle.seq_guest.proofs.PlacesLemmas.{get_same}

@@ -1,5 +1,5 @@
 -- What `show` answers is what the ideal controller shows.
-use Rattle.std.proofs.Common.{◌≡◌, ℕ, ◌<◌, List, [], ◌∷◌, ◌++◌, take, append-nil, sym, ap, subst, ◌∙◌}
+use Rattle.std.proofs.Common.{◌≡◌, ℕ, ◌<◌, [], ◌∷◌, ◌++◌, take, append-nil, sym, ap, subst, ◌∙◌}
 use Rattle.gic_base.specs.declared.shape.GuestShape.{GuestShape}
 use Rattle.gic_history.specs.History.{last_of}
 use Rattle.gic_history.specs.Moves.{home}
@@ -8,18 +8,15 @@ use Rattle.gic_ideal.specs.Shown.{registers_of}
 use Rattle.ideal_guest.specs.declared.guest.IdealGuest.{IdealGuest}
 use Rattle.port_core.specs.Run.{CoreState, opening}
 use Rattle.core_proper.specs.Ideal.{end_of_moments, ideal_of}
-use Rattle.core_proper.specs.Parts.{CoreMoment, part_of}
+use Rattle.core_proper.specs.Parts.{part_of}
 use Rattle.core_proper.specs.Progress.{Progress, progress_in, progress_of}
-use Rattle.port_seq.specs.Told.{GuestTold}
 use Rattle.serial_laws.specs.Serial.{WholePart, moments_in}
 use Rattle.serial_laws.proofs.AloneRuns.{progress_mine}
 use Rattle.entry_laws.specs.Entry.{HasEntered}
 use Rattle.entry_laws.proofs.EntryRuns.{entries_show_home}
 use Rattle.seq_guest.specs.declared.place.Place.TheVariants.{Pe}
-use Rattle.seq_guest.specs.declared.vcpus.Vcpus.{Vcpus}
-use Rattle.seq_guest.specs.Parts.{Part, acts_in, acts_of, part_in, progress_after}
-use Rattle.seq_guest.specs.Guest.{ShowsList}
-use Rattle.seq_guest.specs.Shown.{IsShownAfter, ShownIsHome}
+use Rattle.seq_guest.specs.Parts.{acts_in, acts_of, part_in, progress_after}
+use Rattle.seq_guest.specs.Shown.{ShownIsHome}
 use Rattle.seq_guest.proofs.PartsLemmas.{parts_of_one}
 
 -- an actor after a part of it, alone

@@ -1,5 +1,5 @@
 -- The vCPUs of a guest, with what its port tells of them (own choice).
-use Rattle.std.specs.Prelude.{◌≡◌, ◌≢◌, ℕ, ◌<◌, ◌≤◌, ◌==◌, nat_lt, IsTrue, true, false, List, [], ◌∷◌, ◌++◌, length, map, All, if◌then◌else◌, Option, Some, None, slice_get}
+use Rattle.std.specs.Prelude.{◌≡◌, ◌≢◌, ℕ, ◌<◌, ◌≤◌, ◌==◌, nat_lt, IsTrue, true, List, [], ◌∷◌, ◌++◌, length, map, All, if◌then◌else◌, Option, Some, slice_get}
 use Rattle.std.specs.Option.{option_map_or}
 use Rattle.std.specs.List.{range_with_len}
 use Rattle.gic_base.specs.declared.operation.GuestOp.{GuestOp}
