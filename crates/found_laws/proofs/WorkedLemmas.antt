@@ -10,6 +10,7 @@ use Rattle.gic_call.specs.Trace.{Beside, IsCall}
 use Rattle.gic_call.specs.View.{View}
 use Rattle.gic_history.specs.State.{opening as opening_ideal, view_at}
 use Rattle.gic_history.proofs.CallLemmas.{hands_one}
+use Rattle.scn_base.specs.declared.guest.GuestSpec.{GuestSpec}
 use Rattle.vcpu_refill.specs.Ranking.{in_places}
 use Rattle.port_core.specs.Port.{Seen, part_events}
 use Rattle.port_core.specs.Run.{opening, seat_at}
@@ -29,13 +30,13 @@ use Rattle.found_laws.proofs.EagerRuns.{found_runs_are_eager}
 abbrev opened : View
 opened = view_at (opening_ideal worked_guest)
 
--- what a port tells of an actor after some moments
-abbrev told_at : List CoreMoment → ℕ → Seen
-told_at early actor =
-    let seat = seat_at (end_of_moments worked_guest.shape (opening worked_guest 0) early) actor in
+-- what a port tells of an actor of a guest after some moments
+abbrev pub told_in : GuestSpec → List CoreMoment → ℕ → Seen
+told_in guest early actor =
+    let seat = seat_at (end_of_moments guest.shape (opening guest 0) early) actor in
     record {
       home = record { words = 0; slots = 0; views_name = 0; atom = 0; block = 0; offset = 0; slot_names = [] };
-      guest = worked_guest;
+      guest = guest;
       number = 0;
       actor = actor;
       local = seat.local;
@@ -53,9 +54,9 @@ before number = moments_of (take number worked_parts)
 
 -- a part whose events are its call, whichever vCPUs the LPIs are for
 found_so : (early : List CoreMoment) (part : WholePart) → takes_its_by worked_guest.shape part.operation ≡ false
-    → ((beside : Beside) → beside.maps ≡ maps_taken part.steps → IsCall worked_guest.shape beside (vcpu_of_actor worked_guest.shape part.actor) part.operation (part_events (told_at early part.actor) part.steps) part.answer) → IsFoundPart worked_guest 0 early part
+    → ((beside : Beside) → beside.maps ≡ maps_taken part.steps → IsCall worked_guest.shape beside (vcpu_of_actor worked_guest.shape part.actor) part.operation (part_events (told_in worked_guest early part.actor) part.steps) part.answer) → IsFoundPart worked_guest 0 early part
 found_so early part free call = record {
-  seen = told_at early part.actor;
+  seen = told_in worked_guest early part.actor;
   told = record { guest_is = refl; actor_is = refl; local_is = refl; own_is = refl };
   made = record { beside = record { maps = maps_taken part.steps; targets = λ number id. None }; maps = refl; call = call (record { maps = maps_taken part.steps; targets = λ number id. None }) refl };
   found = record { finding = by_looks; kind = sym free; is_finding = tt; call = λ beside maps agrees. call beside maps };

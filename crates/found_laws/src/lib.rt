@@ -3,4 +3,6 @@
 
 mod laws;
 
-pub use laws::{found_parts_are_calls, found_runs_are_eager, worked_parts_are_found};
+pub use laws::{
+    found_parts_are_calls, found_runs_are_eager, worked_command_is_found, worked_parts_are_found,
+};
