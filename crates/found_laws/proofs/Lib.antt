@@ -13,4 +13,5 @@ pub mod CommandRuns
 pub mod EndRuns
 pub mod EagerRuns
 pub mod WorkedLemmas
-pub mod WriteLemmas
+pub mod WorkedWrites
+pub mod WorkedCommands

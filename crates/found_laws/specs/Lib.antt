@@ -1,3 +1,3 @@
 pub mod Found
 pub mod Worked
-pub mod WorkedWrite
+pub mod WorkedCommand

@@ -1,7 +1,7 @@
 //! Laws of parts that are told with what they found.
 ghost use Rattle.found_laws.specs.Found.{FoundPartsAreCalls, FoundRunsAreEager};
 ghost use Rattle.found_laws.specs.Worked.{WorkedPartsAreFound};
-ghost use Rattle.found_laws.specs.WorkedWrite.{WorkedWriteIsFound};
+ghost use Rattle.found_laws.specs.WorkedCommand.{WorkedCommandIsFound};
 
 /// A law of every proper run of a good guest whose parts so far are their calls: a part that follows, of which its actor's port
 /// tells what it found, is its call; where it takes the ITS, with the LPIs that the maps give no vCPU for none as it begins.
@@ -23,7 +23,8 @@ pub fn worked_parts_are_found()
     ensures { WorkedPartsAreFound }
 {}
 
-/// So does a worked part that takes the ITS: a vCPU enables it by a write of GITS_CTLR, and finds no command to take.
-pub fn worked_write_is_found()
-    ensures { WorkedWriteIsFound }
+/// So do three worked parts that take the ITS: a vCPU makes a queue, adds a command to it, and enables the ITS, which takes the
+/// command, finds that it has a fault, and stalls the queue.
+pub fn worked_command_is_found()
+    ensures { WorkedCommandIsFound }
 {}

@@ -4,5 +4,5 @@
 mod laws;
 
 pub use laws::{
-    found_parts_are_calls, found_runs_are_eager, worked_parts_are_found, worked_write_is_found,
+    found_parts_are_calls, found_runs_are_eager, worked_command_is_found, worked_parts_are_found,
 };
