@@ -1,0 +1,78 @@
+-- Parts that are told with what they found, one after the other: each is its call, and is fit where those of CPU interfaces begin with ease.
+use Rattle.std.proofs.Common.{◌≡◌, ◌≢◌, ℕ, ◌<◌, inl, inr, true, List, [], ◌∷◌, ◌++◌, map, length, refl, sym, ap, ◌∙◌, subst}
+use Rattle.std.proofs.lemmas.Bool.{cases_eq}
+use Rattle.std.proofs.lemmas.List.{append-nil, append_assoc}
+use Rattle.scn_base.specs.Good.{IsGoodGuest}
+use Rattle.scn_base.specs.declared.guest.GuestSpec.{GuestSpec}
+use Rattle.port_core.specs.Port.{seen_after}
+use Rattle.port_core.specs.Run.{CoreState, IsRun, end_of, opening, seat_at}
+use Rattle.port_seq.specs.Told.{GuestTold, state_of}
+use Rattle.core_proper.specs.Ideal.{end_of_moments}
+use Rattle.core_proper.specs.Parts.{CoreMoment, entries_of, entry_by}
+use Rattle.core_proper.specs.Proper.{IsProperRun}
+use Rattle.core_proper.proofs.PartLemmas.{same_end}
+use Rattle.core_fresh.proofs.RunFrame.{proper_before}
+use Rattle.serial_laws.specs.Serial.{WholePart, moments_in, moments_of}
+use Rattle.serial_laws.proofs.PartLemmas.{part_entries}
+use Rattle.found_laws.specs.Found.{AreFoundParts, IsFoundPart}
+use Rattle.seq_guest.specs.Parts.{AreCalls as AreFoundCalls, IsCallFound, part_in, parts_by}
+use Rattle.seq_guest.specs.Guest.{seen_by}
+use Rattle.seq_guest.proofs.PartsLemmas.{calls_same}
+use Rattle.seq_laws.proofs.MomentLemmas.{entries_both, mine_first, others_first}
+use Rattle.seq_laws.proofs.SeenLemmas.{told_after, seen_mine, seen_other}
+
+-- the parts of each actor are told with what they found, from a guest on
+abbrev pub AreTold : GuestTold → List WholePart → Type 0
+AreTold told parts = (actor : ℕ) → AreFoundCalls (seen_by told actor) (parts_by actor parts)
+
+module _ (told : GuestTold) (early : List CoreMoment) (same : entries_of early ≡ told.world) where
+  -- the state of the guest is that of the moments
+  pub state_is : end_of_moments told.guest.shape (opening told.guest told.number) early ≡ state_of told
+  state_is = same_end told.guest.shape (opening told.guest told.number) early ∙ ap (end_of told.guest.shape (opening told.guest told.number)) same
+
+  module _ (part : WholePart) (parts : List WholePart) where
+    pub entries_then : entries_of (early ++ moments_in part) ≡ (told_after told part).world
+    entries_then = entries_both early (moments_in part) ∙ ap (λ xs. xs ++ entries_of (moments_in part)) same ∙ ap (λ ys. told.world ++ ys) (part_entries part)
+
+    module _ (are : AreTold told (part ∷ parts)) where
+      mine : AreFoundCalls (seen_by told part.actor) (part_in part ∷ parts_by part.actor parts)
+      mine = subst (AreFoundCalls (seen_by told part.actor)) (mine_first part.actor part parts refl) (are part.actor)
+
+      pub first_found : IsFoundPart told.guest told.number early part
+      first_found =
+          record {
+            seen = seen_by told part.actor;
+            told =
+                record {
+                  guest_is = refl;
+                  actor_is = refl;
+                  local_is = ap (λ (state : CoreState). (seat_at state part.actor).local) (sym state_is);
+                  own_is = ap (λ (state : CoreState). (seat_at state part.actor).own) (sym state_is);
+                };
+            made = mine.0.made;
+            found = mine.0.found;
+          }
+
+      pub told_then : IsGoodGuest told.guest → IsRun told.guest.shape (opening told.guest told.number) (told_after told part).world → AreTold (told_after told part) parts
+      told_then good run actor = elim (cases_eq actor part.actor) [
+        | inl is ↦
+            subst (λ n. AreFoundCalls (seen_by (told_after told part) n) (parts_by n parts)) (sym is)
+            (calls_same (seen_after (seen_by told part.actor) part.steps) (seen_by (told_after told part) part.actor) (parts_by part.actor parts) (seen_mine told part good run) mine.1)
+        | inr apart ↦
+            calls_same (seen_by told actor) (seen_by (told_after told part) actor) (parts_by actor parts) (seen_other told part good run actor apart)
+            (subst (AreFoundCalls (seen_by told actor)) (others_first actor part parts (λ e. apart (sym e))) (are actor))
+      ]
+
+-- Part by part.
+
+pub parts_follow : (told : GuestTold) (early : List CoreMoment) (parts : List WholePart) → IsGoodGuest told.guest → entries_of early ≡ told.world → IsProperRun told.guest told.number (early ++ moments_of parts) → AreTold told parts → AreFoundParts told.guest told.number early parts
+parts_follow told early [] good same proper are = tt
+parts_follow told early (part ∷ parts) good same proper are =
+    let guest = told.guest in
+    let number = told.number in
+    let next = early ++ moments_in part in
+    let all : early ++ (moments_in part ++ moments_of parts) ≡ next ++ moments_of parts = sym (append_assoc early (moments_in part) (moments_of parts)) in
+    let proper_all = subst (IsProperRun guest number) all proper in
+    let entries = entries_then told early same part parts in
+    let run = subst (IsRun guest.shape (opening guest number)) entries (proper_before guest number next (moments_of parts) proper_all).parted.run in
+    (first_found told early same part parts are, parts_follow (told_after told part) next parts good entries proper_all (told_then told early same part parts are good run))
