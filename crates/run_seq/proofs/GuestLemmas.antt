@@ -1,0 +1,90 @@
+-- A guest of a machine after one of its actors acted.
+use Rattle.std.proofs.Common.{◌≡◌, ℕ, ◌<◌, true, List, [], ◌++◌, Option, refl, sym, ap, ◌∙◌, subst}
+use Rattle.std.proofs.Props.{props}
+use Rattle.std.proofs.Math.Logic.{∥∥₁_elim, ∥∥₁_map, ∥∥₁_prop}
+use Rattle.gic_call.specs.declared.event.Operation.{Operation}
+use Rattle.gic_ideal.specs.Shown.{registers_of}
+use Rattle.ideal_guest.specs.Ideal.{after_events}
+use Rattle.ideal_guest.specs.declared.guest.IdealGuest.{IdealGuest}
+use Rattle.scn_base.specs.declared.guest.GuestSpec.{GuestSpec}
+use Rattle.scn_base.specs.declared.pes.VcpuName.{VcpuName}
+use Rattle.scn_base.specs.Standing.{is_resident}
+use Rattle.port_core.specs.Run.{IsRun, opening}
+use Rattle.port_seq.specs.Told.{GuestTold}
+use Rattle.call_laws.specs.Calls.{IsEagerCall, eager_events, eager_read}
+use Rattle.call_laws.specs.Runs.{IsGoodCall}
+use Rattle.serial_laws.specs.Serial.{WholePart, is_icc}
+use Rattle.seq_guest.specs.declared.vcpus.Vcpus.{Vcpus}
+use Rattle.seq_guest.specs.Parts.{AreResidences, HaveCall}
+use Rattle.seq_guest.specs.Guest.{GoesOn, NoneKicked, ShowsList, spot_at}
+use Rattle.seq_laws.specs.Done.{home_after}
+use Rattle.seq_laws.specs.Laws.{KeepsHome, PassesHome, ShowsHomeOf}
+use Rattle.seq_laws.proofs.DoneLaws.{calls_pass_home, registers_show_home, residences_keep_home}
+use Rattle.run_seq.specs.Machine.{IsGuestAt, place_by}
+
+module _ (pes : List (Option VcpuName)) (lrs : ℕ) (guest : GuestSpec) (number : ℕ) (old new : GuestTold) (before after : Vcpus) (early : List WholePart) (ideal : IdealGuest) (at : IsGuestAt pes lrs guest number old before early ideal)
+    (run : ∥ IsRun new.guest.shape (opening new.guest new.number) new.world ∥₁) (later : List (Option VcpuName)) (spots : (vcpu : ℕ) → spot_at after vcpu ≡ place_by (is_resident later number vcpu)) (quiet : NoneKicked new after) where
+  -- vCPUs entered and left
+  module _ (goes : GoesOn AreResidences old new before after) where
+    kept : ∥ KeepsHome guest number new after early goes.parts ∥₁
+    kept = ∥∥₁_elim at.done ∥∥₁_prop (λ done. ∥∥₁_map run (λ ran. residences_keep_home guest number old new before after early done ran goes))
+
+    pub resides_at : IsGuestAt later lrs guest number new after (early ++ goes.parts) ideal
+    resides_at = record {
+      done = ∥∥₁_map kept (λ (keeps : KeepsHome guest number new after early goes.parts). keeps.done);
+      at = goes.at;
+      guest_is = goes.same.guest ∙ at.guest_is;
+      lrs_is = goes.lrs ∙ at.lrs_is;
+      spots = spots;
+      quiet = quiet;
+      home_is = at.home_is ∙ ∥∥₁_elim kept (Prim.hlevel props) (λ keeps. sym keeps.home_is);
+    }
+
+  -- one of its actors called
+  module _ (actor : ℕ) (operation : Operation) (answer : Option ℕ) (goes : GoesOn (HaveCall actor operation answer) old new before after) (first : is_icc operation ≡ true → goes.are.early ≡ []) (good : IsGoodCall guest.shape actor operation) where
+    passed : ∥ PassesHome guest number new after early goes.parts actor operation answer ∥₁
+    passed = ∥∥₁_elim at.done ∥∥₁_prop (λ done. ∥∥₁_map run (λ ran. calls_pass_home guest number old new before after early actor operation answer done ran goes first at.quiet good))
+
+    pub eager_call : IsEagerCall actor operation answer ideal (home_after guest number (early ++ goes.parts))
+    eager_call = record {
+      goes = ∥∥₁_elim passed (Prim.hlevel props) (λ passes. subst (λ before. home_after guest number (early ++ goes.parts) ≡ eager_step before) (sym at.home_is) passes.call.goes);
+      answers = ∥∥₁_elim passed (Prim.hlevel props) (λ passes. subst (λ before. answer ≡ eager_read operation actor before) (sym at.home_is) passes.call.answers);
+    }
+      where
+        eager_step : IdealGuest → IdealGuest
+        eager_step before = after_events (eager_events operation actor before) before
+
+    pub calls_at : IsGuestAt later lrs guest number new after (early ++ goes.parts) (home_after guest number (early ++ goes.parts))
+    calls_at = record {
+      done = ∥∥₁_map passed (λ (passes : PassesHome guest number new after early goes.parts actor operation answer). passes.done);
+      at = goes.at;
+      guest_is = goes.same.guest ∙ at.guest_is;
+      lrs_is = goes.lrs ∙ at.lrs_is;
+      spots = spots;
+      quiet = quiet;
+      home_is = refl;
+    }
+
+  -- a vCPU showed its registers
+  module _ (vcpu : ℕ) (list : List ℕ) (few : vcpu < guest.shape.vcpus) (shows : ShowsList old new before after vcpu list) where
+    abbrev shown_parts : List WholePart
+    shown_parts = shows.shows.goes_on.parts ++ shows.later.parts
+
+    shown : ∥ ShowsHomeOf guest number before.lrs new after early shown_parts vcpu list ∥₁
+    shown = ∥∥₁_elim at.done ∥∥₁_prop (λ done. ∥∥₁_map run (λ ran. registers_show_home guest number old new before after early vcpu list done ran at.quiet few shows))
+
+    pub shows_at : IsGuestAt later lrs guest number new after (early ++ shown_parts) ideal
+    shows_at = record {
+      done = ∥∥₁_map shown (λ (shows : ShowsHomeOf guest number before.lrs new after early shown_parts vcpu list). shows.done);
+      at = shows.later.at;
+      guest_is = shows.later.same.guest ∙ shows.shows.goes_on.same.guest ∙ at.guest_is;
+      lrs_is = shows.later.lrs ∙ shows.shows.goes_on.lrs ∙ at.lrs_is;
+      spots = spots;
+      quiet = quiet;
+      home_is = at.home_is ∙ ∥∥₁_elim shown (Prim.hlevel props) (λ shows. sym shows.home_is);
+    }
+
+    pub list_is : list ≡ registers_of lrs ideal vcpu
+    list_is =
+        ∥∥₁_elim shown (Prim.hlevel props)
+        (λ shows. shows.shown ∙ ap (λ n. registers_of n (home_after guest number early) vcpu) at.lrs_is ∙ ap (λ (home : IdealGuest). registers_of lrs home vcpu) (sym at.home_is))

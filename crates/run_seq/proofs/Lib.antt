@@ -1,0 +1,17 @@
+pub mod ResidentLemmas
+pub mod OnceLemmas
+pub mod MachineLemmas
+pub mod CallLemmas
+pub mod GuestLemmas
+pub mod AnswerLemmas
+pub mod StepLemmas
+pub mod ActLemmas
+pub mod ReadyLemmas
+pub mod LendLemmas
+pub mod PlaceLemmas
+pub mod PortLemmas
+pub mod RunLemmas
+pub mod OpenLemmas
+pub mod CloseLemmas
+pub mod EndLemmas
+pub mod LeftLemmas

@@ -1,0 +1,7 @@
+-- The step, once its PEs are noted.
+use Rattle.port_seq.specs.Ports.{told_all}
+use Rattle.run_seq.proofs.PlaceLemmas.{does_step}
+use Rattle.run_seq.proofs.machine.Machine.step.Goals as goal
+
+pub returns : goal.returns
+returns g c = does_step c.args.self.now c.act.new.self (told_all c.args.port.now) (told_all c.act.new.port) c.args.step.now c.in_ok-answer.answer c.move_pes.new.pes c.in_ok-answer.ensures c.move_pes.ensures.value

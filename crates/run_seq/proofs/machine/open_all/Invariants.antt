@@ -1,0 +1,12 @@
+-- The first guests have their vCPUs.
+use Rattle.std.proofs.Common.{◌≡◌, length}
+use Rattle.port_seq.specs.Ports.{told_all}
+use Rattle.run_seq.specs.Opened.{AreOpened}
+use Rattle.run_seq.specs.Run.{SamePorts}
+use Rattle.run_seq.proofs.machine.open_all.Given as goal
+
+abbrev pub invariant-loop-guest : goal.invariant-loop-guest
+invariant-loop-guest l =
+    SamePorts (told_all l.initial.port) (told_all l.port)
+    × AreOpened l.scenario.guests l.scenario.lrs (told_all l.port) l.guests.items l.guest
+    × (l.guest-end ≡ length l.scenario.guests)

@@ -1,0 +1,13 @@
+-- The records of the first guests.
+use Rattle.std.proofs.Common.{◌≡◌, length, take}
+use Rattle.std.specs.List.{flat_map}
+use Rattle.port_seq.specs.Ports.{told_all}
+use Rattle.seq_guest.specs.Guest.{cpus_of}
+use Rattle.run_seq.specs.Run.{SamePorts}
+use Rattle.run_seq.proofs.scheduled.all_cpus.Given as goal
+
+abbrev pub invariant-loop-guest : goal.invariant-loop-guest
+invariant-loop-guest l =
+    SamePorts (told_all l.initial.port) (told_all l.port)
+    × (l.cpus ≡ flat_map cpus_of (take l.guest (told_all l.initial.port).guests))
+    × (l.guest-end ≡ length (told_all l.initial.port).guests)

@@ -1,0 +1,8 @@
+-- The first steps are done.
+use Rattle.std.proofs.Common.{take, drop}
+use Rattle.port_seq.specs.Ports.{told_all}
+use Rattle.run_seq.proofs.RunLemmas.{RunsSoFar}
+use Rattle.run_seq.proofs.scheduled.run_on.Given as goal
+
+abbrev pub invariant-loop-step : goal.invariant-loop-step
+invariant-loop-step g l = RunsSoFar l.scenario l.machine (told_all l.port) l.answers (take l.step-index l.step-items) (drop l.step-index l.step-items)

@@ -1,0 +1,140 @@
+-- The PEs and the vCPUs of a schedule, over the port of its guests (own choice).
+use Rattle.std.specs.Prelude.{◌≡◌, ℕ, ◌<◌, Bool, true, false, IsTrue, List, [], ◌++◌, length, map, All, Option, Some, None, slice_get, slice_set}
+use Rattle.ideal_guest.specs.declared.guest.IdealGuest.{IdealGuest}
+use Rattle.ideal_guest.specs.Opening.{opening as opening_guest}
+use Rattle.gic_ideal.specs.Eager.{after_step, step_answer}
+use Rattle.scn_base.specs.declared.guest.GuestSpec.{GuestSpec}
+use Rattle.scn_base.specs.declared.outcome.Answer.{Answer}
+use Rattle.scn_base.specs.declared.pes.VcpuName.{VcpuName}
+use Rattle.scn_base.specs.declared.scenario.Scenario.{Scenario}
+use Rattle.scn_base.specs.declared.standing.Standing.{Standing}
+use Rattle.scn_base.specs.declared.step.Mode.TheVariants.{Schedule}
+use Rattle.scn_base.specs.declared.step.Step.{Step}
+use Rattle.scn_base.specs.Good.{is_formed, shapes_of, stands}
+use Rattle.scn_base.specs.Standing.{ResidentsExist, is_resident, opening_pes, pes_after}
+use Rattle.port_core.specs.Run.{IsRun, opening}
+use Rattle.port_seq.specs.Told.{GuestTold, SeqTold, guest_at}
+use Rattle.serial_laws.specs.Serial.{WholePart}
+use Rattle.seq_guest.specs.declared.vcpus.Vcpus.{Vcpus}
+use Rattle.seq_guest.specs.Place.{Spot, pe, shelf}
+use Rattle.seq_guest.specs.Guest.{AreAt, NoneKicked, spot_at}
+use Rattle.seq_laws.specs.Done.{HasDone, home_after}
+use Rattle.run_seq.specs.declared.machine.Machine.{Machine}
+use Rattle.run_seq.specs.Calls.{calls_among, step_call}
+use Rattle.std.specs.Option.{option_to_list}
+
+-- One guest.
+
+-- between two steps a vCPU that stands on a PE is on it
+abbrev pub place_by : Bool → Spot
+place_by true = pe
+place_by false = shelf
+
+-- a guest of a port, with its vCPUs as they stand on these PEs, each of which has so many list registers: these parts were done to it, none of its vCPUs that is
+-- on a PE is kicked, and with all that stands at interfaces taken back it is this guest of the ideal controller
+pub record IsGuestAt (pes : List (Option VcpuName)) (lrs : ℕ) (guest : GuestSpec) (number : ℕ) (told : GuestTold) (vcpus : Vcpus) (parts : List WholePart) (ideal : IdealGuest) : Type 0 where
+  pub done : ∥ HasDone guest number told vcpus parts ∥₁
+  pub at : AreAt told vcpus
+  pub guest_is : told.guest ≡ guest
+  pub lrs_is : vcpus.lrs ≡ lrs
+  pub spots : (vcpu : ℕ) → spot_at vcpus vcpu ≡ place_by (is_resident pes number vcpu)
+  pub quiet : NoneKicked told vcpus
+  pub home_is : ideal ≡ home_after guest number parts
+
+-- All guests.
+
+-- no vCPU stands on two PEs
+pub record StandsOnce (pes : List (Option VcpuName)) : Type 0 where
+  pub same : (one other : ℕ) (name : VcpuName) → slice_get pes one ≡ Some (Some name) → slice_get pes other ≡ Some (Some name) → one ≡ other
+
+-- what a machine has of the guests of a scenario whose PEs have so many list registers: by their numbers these parts were done to them, and they are these guests
+-- of the ideal controller
+pub record IsMachineAt (specs : List GuestSpec) (lrs : ℕ) (machine : Machine) (told : SeqTold) (parts : ℕ → List WholePart) (ideals : List IdealGuest) : Type 0 where
+  pub lrs_is : machine.lrs ≡ lrs
+  pub guests : length machine.guests.items ≡ length specs
+  pub ports : length told.guests ≡ length specs
+  pub ideals_each : length ideals ≡ length specs
+  pub residents : ResidentsExist (shapes_of specs) machine.pes
+  pub once : StandsOnce machine.pes
+  pub each :
+      (number : ℕ) (guest : GuestSpec) (vcpus : Vcpus) (ideal : IdealGuest) → slice_get specs number ≡ Some guest → slice_get machine.guests.items number ≡ Some vcpus → slice_get ideals number ≡ Some ideal
+      → IsGuestAt machine.pes lrs guest number (guest_at told number) vcpus (parts number) ideal
+
+-- One guest acts.
+
+-- a guest of a machine, by its number, has vCPUs, and its port tells of it
+pub record HasGuest (machine : Machine) (told : SeqTold) (number : ℕ) : Type 0 where
+  pub vcpus : Vcpus
+  pub vcpus_are : slice_get machine.guests.items number ≡ Some vcpus
+  pub port : number < length told.guests
+  pub at : AreAt (guest_at told number) vcpus
+
+-- the vCPUs of one guest of a machine, and the guest, become what this says, and all others stay
+pub record GuestActs (number : ℕ) (Does : GuestTold → GuestTold → Vcpus → Vcpus → Type 0) (machine next : Machine) (told later : SeqTold) : Type 0 where
+  pub before : Vcpus
+  pub before_is : slice_get machine.guests.items number ≡ Some before
+  pub after : Vcpus
+  pub guest : GuestTold
+  pub next_is : next.guests.items ≡ slice_set machine.guests.items number after
+  pub lrs : next.lrs ≡ machine.lrs
+  pub pes : next.pes ≡ machine.pes
+  pub told_is : later.guests ≡ slice_set told.guests number guest
+  pub run : ∥ IsRun guest.guest.shape (opening guest.guest guest.number) guest.world ∥₁
+  pub does : Does (guest_at told number) guest before after
+
+-- A step.
+
+-- a step can be done: it is formed, and may follow the steps before it
+pub record CanDo (specs : List GuestSpec) (machine : Machine) (step : Step) : Type 0 where
+  pub standing : Standing
+  pub pes : standing.pes ≡ machine.pes
+  pub formed : IsTrue (is_formed Schedule (length machine.pes) (shapes_of specs) step)
+  pub stands : IsTrue (stands Schedule standing step)
+
+-- of a machine and its port it is said of which scenario's guests they are
+pub record IsMachine (machine : Machine) (told : SeqTold) : Type 0 where
+  pub specs : List GuestSpec
+  pub lrs : ℕ
+  pub parts : ℕ → List WholePart
+  pub ideals : List IdealGuest
+  pub at : IsMachineAt specs lrs machine told parts ideals
+
+-- and that the step can be done
+pub record IsReady (machine : Machine) (told : SeqTold) (step : Step) : Type 0 where
+  pub of : IsMachine machine told
+  pub can : CanDo of.specs machine step
+
+-- after a step each guest had the parts of the step's call done to it, if there is one of this guest, with its answer, and entries, exits and looks for kicks; the guests of the ideal
+-- controller are those after the step, and the answer is what that answers
+pub record HasDoneStep (specs : List GuestSpec) (lrs : ℕ) (machine next : Machine) (later : SeqTold) (parts : ℕ → List WholePart) (ideals : List IdealGuest) (step : Step) (answer : Answer) : Type 0 where
+  pub more : ℕ → List WholePart
+  pub calls : (number : ℕ) (guest : GuestSpec) → slice_get specs number ≡ Some guest → calls_among (more number) ≡ option_to_list (step_call number guest.shape step answer)
+  pub pes : next.pes ≡ pes_after step machine.pes
+  pub answer_is : answer ≡ step_answer lrs machine.pes step ideals
+  pub at : IsMachineAt specs lrs next later (λ number. parts number ++ more number) (after_step step ideals)
+
+-- so it is of whatever scenario they are
+abbrev pub DoesStep : Machine → Machine → SeqTold → SeqTold → Step → Answer → Type 0
+DoesStep machine next told later step answer =
+    (specs : List GuestSpec) (lrs : ℕ) (parts : ℕ → List WholePart) (ideals : List IdealGuest) → IsMachineAt specs lrs machine told parts ideals → CanDo specs machine step
+    → HasDoneStep specs lrs machine next later parts ideals step answer
+
+-- Opening and closing.
+
+-- a machine of a scenario as it opens: nothing was called, and the vCPUs stand on the PEs in their order
+pub record OpensMachine (scenario : Scenario) (machine : Machine) (told : SeqTold) : Type 0 where
+  pub parts : ℕ → List WholePart
+  pub calls : (number : ℕ) (guest : GuestSpec) → slice_get scenario.guests number ≡ Some guest → calls_among (parts number) ≡ []
+  pub pes : machine.pes ≡ opening_pes scenario.pes (shapes_of scenario.guests)
+  pub at : IsMachineAt scenario.guests scenario.lrs machine told parts (map opening_guest scenario.guests)
+
+-- after it nobody stands on a PE, and no more was called
+pub record HasClosed (specs : List GuestSpec) (lrs : ℕ) (next : Machine) (later : SeqTold) (parts : ℕ → List WholePart) (ideals : List IdealGuest) : Type 0 where
+  pub more : ℕ → List WholePart
+  pub calls : (number : ℕ) (guest : GuestSpec) → slice_get specs number ≡ Some guest → calls_among (more number) ≡ []
+  pub pes : All (λ resident. resident ≡ None) next.pes
+  pub at : IsMachineAt specs lrs next later (λ number. parts number ++ more number) ideals
+
+abbrev pub Closes : Machine → Machine → SeqTold → SeqTold → Type 0
+Closes machine next told later =
+    (specs : List GuestSpec) (lrs : ℕ) (parts : ℕ → List WholePart) (ideals : List IdealGuest) → IsMachineAt specs lrs machine told parts ideals → HasClosed specs lrs next later parts ideals

@@ -1,0 +1,24 @@
+-- The vCPUs of guests that just opened (own choice).
+use Rattle.std.specs.Prelude.{◌≡◌, ℕ, List, length, Some, slice_get}
+use Rattle.scn_base.specs.declared.guest.GuestSpec.{GuestSpec}
+use Rattle.port_seq.specs.Told.{GuestTold, SeqTold, guest_at, opening_told}
+use Rattle.seq_guest.specs.declared.vcpus.Vcpus.{Vcpus}
+use Rattle.seq_guest.specs.Place.{shelf}
+use Rattle.seq_guest.specs.Guest.{AreAt, spot_at}
+
+-- a guest of a port as it opened, whichever of its actors is told
+pub record JustOpened (guest : GuestSpec) (number : ℕ) (told : GuestTold) : Type 0 where
+  pub is : told ≡ record (opening_told told.home guest number) { actor = told.actor }
+
+-- with its vCPUs, each of which is on no PE
+pub record IsOpened (guest : GuestSpec) (number lrs : ℕ) (told : GuestTold) (vcpus : Vcpus) : Type 0 where
+  pub opened : JustOpened guest number told
+  pub at : AreAt told vcpus
+  pub lrs_is : vcpus.lrs ≡ lrs
+  pub spots : (vcpu : ℕ) → spot_at vcpus vcpu ≡ shelf
+
+-- so it is of the first of the guests
+pub record AreOpened (specs : List GuestSpec) (lrs : ℕ) (told : SeqTold) (guests : List Vcpus) (count : ℕ) : Type 0 where
+  pub ports : length told.guests ≡ length specs
+  pub each : length guests ≡ count
+  pub ones : (number : ℕ) (guest : GuestSpec) (vcpus : Vcpus) → slice_get specs number ≡ Some guest → slice_get guests number ≡ Some vcpus → IsOpened guest number lrs (guest_at told number) vcpus

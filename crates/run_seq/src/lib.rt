@@ -1,0 +1,12 @@
+//! The scheduled run: the steps of a scenario one after the other, each through the words of its guest and the list registers
+//! of a PE.
+#![tactic(auto)]
+
+mod machine;
+mod outcome;
+mod scheduled;
+mod watch;
+
+pub use outcome::Done;
+pub use scheduled::{run, run_on};
+pub use watch::SeqWatch;

@@ -1,0 +1,110 @@
+//! The scheduled run of a scenario.
+ghost use Rattle.std.specs.Prelude.{◌≡◌, ◌+◌, ◌<◌, ◌≤◌, List, IfOk, IfSome, OnOk, length, map};
+ghost use Rattle.std.specs.List.{flat_map};
+ghost use Rattle.scn_base.specs.declared.step.Mode.TheVariants.{Schedule};
+ghost use Rattle.scn_base.specs.Good.{IsGood};
+ghost use Rattle.ideal_guest.specs.declared.guest.IdealGuest.{IdealGuest};
+ghost use Rattle.ideal_guest.specs.Opening.{opening};
+ghost use Rattle.gic_ideal.specs.Eager.{eager};
+ghost use Rattle.gic_ideal.specs.Ends.{ends_of as ends_between};
+ghost use Rattle.port_seq.specs.Ports.{told_all};
+ghost use Rattle.port_seq.specs.Told.{IsOpening, words_of_end};
+ghost use Rattle.seq_guest.specs.Guest.{cpus_of};
+ghost use Rattle.run_seq.specs.Run.{HasRun, HaveEnded, AllEndAt, SamePorts};
+
+use crate::machine::{Machine, first_of};
+use crate::outcome::Done;
+use crate::watch::SeqWatch;
+use gic_base::NoMemory;
+use gic_list::ListOf;
+use gic_prio::CpuRec;
+use guest_end::end_of;
+use port_core::EndWords;
+use port_seq::SeqPort;
+use scn_base::{Answers, Ends, Guests, RunOut, Scenario};
+use seq_guest::{CpuRecs, add_cpus};
+use std::alloc::{AllocError, Global};
+use std::sync::Wait;
+
+/// The records of the CPU interfaces of all guests, by guest and vCPU. An error where memory for them is refused.
+fn all_cpus(alloc: Global, port: &mut SeqPort, guests: &Guests) -> Result<CpuRecs, AllocError>
+    requires each { length (told_all port.old).guests ≡ length guests.now }
+    requires few { length guests.now ≤ 4 }
+    ensures same { SamePorts (told_all port.old) (told_all port.new) }
+    ensures cpus { IfOk result (λ cpus. cpus ≡ flat_map cpus_of (told_all port.old).guests) }
+{
+    let mut cpus = CpuRecs::new(alloc);
+    for guest in 0..guests.len() as u32 {
+        port.set_actor(first_of(guest));
+        add_cpus(port.current_mut(), &mut cpus)?;
+    }
+    Ok(cpus)
+}
+
+/// Does the steps of a scenario one after the other, on the words of its guests as they opened: what they answered, and the
+/// records of the CPU interfaces once each vCPU that is on a PE has left it. `NoMemory` comes where memory is refused for an
+/// answer, or for a command of an ITS.
+pub fn run_on<R: Wait>(
+    rt: &R,
+    alloc: Global,
+    port: &mut SeqPort,
+    scenario: &Scenario,
+) -> Result<Done, NoMemory>
+    requires good { IsGood Schedule scenario.now }
+    requires opening { IsOpening scenario.now.guests (told_all port.old) }
+    ensures { IfOk result (λ done. HasRun scenario.now done (told_all port.new)) }
+{
+    let mut machine = Machine::opening(rt, alloc, port, scenario)?;
+    let mut answers = Answers::new(alloc);
+    for step in scenario.steps.as_slice() {
+        answers.push(machine.step(rt, alloc, port, step)?)?;
+    }
+    machine.close(rt, alloc, port)?;
+    let cpus = all_cpus(alloc, port, &scenario.guests)?;
+    Ok(Done { answers, cpus })
+}
+
+/// How each guest ended, by its words and the records of its CPU interfaces. An error where memory is refused.
+fn ends_of(
+    alloc: Global,
+    guests: &Guests,
+    words: &EndWords,
+    cpus: &[CpuRec],
+) -> Result<Ends, NoMemory>
+    requires { HaveEnded guests.now words.now cpus.now }
+    ensures { IfOk result (λ ends. (ideals : List IdealGuest) → AllEndAt guests.now words.now cpus.now ideals → ends ≡ ends_between (map opening guests.now) ideals) }
+{
+    let mut ends = ListOf::new(alloc);
+    let mut rest = cpus;
+    for (guest, spec) in guests.as_slice().iter().enumerate() {
+        let (own, later) = rest.split_at(spec.shape.vcpus as usize);
+        ends.push(end_of(alloc, spec, &words.as_slice()[guest], own)?)?;
+        rest = later;
+    }
+    Ok(ends)
+}
+
+/// Runs a scenario: its steps one after the other, through the words of its guests and the list registers of its PEs, and shows
+/// the run to the watch, which was shown less than 2^64 - 1 before. An error where memory is refused.
+pub fn run<R: Wait, W: SeqWatch>(
+    rt: &R,
+    alloc: Global,
+    scenario: &Scenario,
+    watch: &mut W,
+) -> Result<RunOut, NoMemory>
+    requires good { IsGood Schedule scenario.now }
+    requires room { W.scheduled watch.old < 18446744073709551615 }
+    ensures value { IfOk result (λ out. out ≡ eager scenario.now) }
+    ensures counted { OnOk result (W.scheduled watch.new ≡ W.scheduled watch.old + 1) }
+    ensures last { OnOk result (IfSome (W.last_schedule watch.new) (λ shown. shown ≡ scenario.now)) }
+{
+    let mut port = SeqPort::start(alloc, scenario)?;
+    let done = run_on(rt, alloc, &mut port, scenario)?;
+    watch.show_schedule(scenario, &port, &done);
+    let words = port.finish(alloc)?;
+    let ends = ends_of(alloc, &scenario.guests, &words, done.cpus.as_slice())?;
+    Ok(RunOut {
+        answers: done.answers,
+        ends,
+    })
+}

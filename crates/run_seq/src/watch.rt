@@ -1,0 +1,25 @@
+//! Who watches runs.
+ghost use Rattle.std.specs.Prelude.{◌≡◌, ℕ, ◌+◌, ◌<◌, Option, IfSome};
+ghost use Rattle.scn_base.specs.declared.scenario.Scenario.{Scenario as ScenarioOf};
+ghost use Rattle.port_seq.specs.Ports.{told_all};
+ghost use Rattle.run_seq.specs.Run.{HasRun};
+
+use crate::outcome::Done;
+use port_seq::SeqPort;
+use scn_base::Scenario;
+
+/// Who is shown each scheduled run, before its words are closed.
+pub trait SeqWatch {
+    /// How many runs were shown so far.
+    ghost scheduled: { Self → ℕ };
+
+    /// The scenario of the run that was shown last, or none where the object does not tell it.
+    ghost last_schedule: { Self → Option ScenarioOf };
+
+    /// Shows a run: the scenario, the port on which all its steps were done, and what they answered. It takes no memory.
+    fn show_schedule(&mut self, scenario: &Scenario, port: &SeqPort, done: &Done)
+        requires room { scheduled self.old < 18446744073709551615 }
+        requires run { HasRun scenario.now done.now (told_all port.now) }
+        ensures counted { scheduled self.new ≡ scheduled self.old + 1 }
+        ensures last { IfSome (last_schedule self.new) (λ shown. shown ≡ scenario.now) };
+}
