@@ -13,7 +13,6 @@ pub mod GuestLemmas
 pub mod PlacesLemmas
 pub mod KickLemmas
 pub mod ShowLemmas
-pub mod ShownLemmas
 pub mod OpeningLemmas
 pub mod CpusLemmas
 pub mod OperateLemmas

@@ -2,6 +2,5 @@ pub mod Place
 pub mod Parts
 pub mod Moves
 pub mod Guest
-pub mod Shown
 pub mod Operation
 pub mod Device

@@ -4,11 +4,9 @@
 
 mod cpus;
 mod device;
-mod laws;
 mod operate;
 mod place;
 mod vcpus;
 
 pub use cpus::{CpuRecs, add_cpus};
-pub use laws::shown_is_home;
 pub use vcpus::Vcpus;

@@ -178,17 +178,6 @@ impl Vcpus {
         }
     }
 
-    /// Each vCPU that is on a PE leaves it.
-    pub fn leave_all(&mut self, port: &mut GuestPort)
-        requires { AreAt (told port.old) self.old }
-        ensures goes_on { GoesOn AreResidences (told port.old) (told port.new) self.old self.new }
-        ensures spots { ChangesSpots (for_all left) self.old self.new }
-    {
-        for vcpu in 0..port.shape().vcpus {
-            self.leave_one(port, vcpu);
-        }
-    }
-
     /// A vCPU that stands on no PE enters one.
     pub fn enter<R: Wait>(&mut self, rt: &R, port: &mut GuestPort, vcpu: u32)
         requires at { AreAt (told port.old) self.old }
