@@ -2,7 +2,7 @@
 #![tactic(auto)]
 
 use gic_io::{SureSink, SureSource};
-use gic_top::run_tool;
+use gic_top::{NOTHING_SHOWN, run_tool};
 use std::process::ExitCode;
 use std::{env, fs};
 
@@ -32,7 +32,8 @@ fn is_as_written(rt: &HostRuntime, folder: &str, name: &str) -> anyhow::Result<b
     let words = [String::from_str(alloc, "run")?];
     let mut source = SureSource::of(input);
     let mut sink = SureSink::new(alloc);
-    let status = run_tool(alloc, &words, &mut source, &mut sink);
+    let mut shown = NOTHING_SHOWN;
+    let status = run_tool(rt, alloc, &words, &mut source, &mut sink, &mut shown);
     let is_so = sink.taken() == Some(text.as_slice());
     let what = if is_so { "as written" } else { "otherwise" };
     println!(rt; "{name}: status {status}, {what}")?;

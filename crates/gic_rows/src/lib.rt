@@ -9,6 +9,8 @@ mod interface;
 #[cfg(test)]
 mod its;
 #[cfg(test)]
+mod list_registers;
+#[cfg(test)]
 mod memory_mapped;
 #[cfg(test)]
 mod refused;

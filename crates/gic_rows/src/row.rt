@@ -1,9 +1,10 @@
 //! A worked scenario, and its run.
 
 use gic_io::{SureSink, SureSource};
-use gic_top::run_tool;
+use gic_top::{NOTHING_SHOWN, run_tool};
 use std::alloc::{AllocError, Global};
 use std::process::Abort;
+use std::sync::Wait;
 use std::test::Fail;
 
 /// A scenario, and what `run` writes of it.
@@ -51,13 +52,19 @@ fn text_of(alloc: Global, lines: &[&str]) -> Result<String, AllocError> {
 }
 
 /// Runs each row, and compares the status and all that is written.
-pub(crate) fn check(rt: &impl Abort, alloc: Global, status: u8, rows: &[Row]) -> Result<(), Fail> {
+pub(crate) fn check(
+    rt: &(impl Abort + Wait),
+    alloc: Global,
+    status: u8,
+    rows: &[Row],
+) -> Result<(), Fail> {
     let words = [String::from_str(alloc, "run")?];
     for row in rows {
         let input = input_of(alloc, row)?;
         let mut source = SureSource::of(input.into_bytes());
         let mut sink = SureSink::new(alloc);
-        let answered = run_tool(alloc, &words, &mut source, &mut sink);
+        let mut shown = NOTHING_SHOWN;
+        let answered = run_tool(rt, alloc, &words, &mut source, &mut sink, &mut shown);
         let text = text_of(alloc, row.lines)?;
         let taken = str::from_utf8(sink.taken().ok_or("not told")?)?;
         assert_eq!(rt; taken, text.as_str(), "{}", row.shows);

@@ -5,10 +5,11 @@ ghost use Rattle.std.specs.Prelude.{◌≤◌};
 use gic_ideal::eager;
 use gic_io::{MemSource, SureSink};
 use gic_report::generate;
-use gic_top::{OK, USAGE, run_tool};
+use gic_top::{NOTHING_SHOWN, OK, USAGE, run_tool};
 use scn_base::Answer;
 use std::alloc::{AllocError, Global};
 use std::process::Abort;
+use std::sync::Wait;
 use std::test::Fail;
 
 /// Words, each with the line that is written.
@@ -43,7 +44,7 @@ const USAGES: [&[&str]; 12] = [
 
 /// Runs the tool over a source whose first read would be a fault, and compares the status and all that is written.
 fn check(
-    rt: &impl Abort,
+    rt: &(impl Abort + Wait),
     alloc: Global,
     words: &[&str],
     status: u8,
@@ -55,7 +56,15 @@ fn check(
     }
     let mut source = MemSource::of(Vec::new(alloc), vec![in alloc; 1]?, 1);
     let mut sink = SureSink::new(alloc);
-    let answered = run_tool(alloc, all.as_slice(), &mut source, &mut sink);
+    let mut shown = NOTHING_SHOWN;
+    let answered = run_tool(
+        rt,
+        alloc,
+        all.as_slice(),
+        &mut source,
+        &mut sink,
+        &mut shown,
+    );
     let taken = str::from_utf8(sink.taken().ok_or("not told")?)?;
     assert_eq!(rt; taken, line, "{words:?}");
     assert_eq!(rt; answered, status, "{words:?}");

@@ -62,8 +62,13 @@ max_input = 16777216
 abbrev pub statuses : List ℕ
 statuses = 0 ∷ 2 ∷ 3 ∷ 4 ∷ 5 ∷ 6 ∷ 7 ∷ 9 ∷ []
 
+-- a watch that was shown `before` runs was shown one more, the last; where it tells the scenario of that, it is this one
+pub record WasShown (before after : ℕ) (last : Option Scenario) (scenario : Scenario) : Type 0 where
+  pub counted : after ≡ before + 1
+  pub told : IfSome last (λ shown. shown ≡ scenario)
+
 -- The rows of the table of answers to a command, or to words that are none. Where the source told the bytes that it had left before the call, they are `before`, and
--- `after` those that it then has left; `wrote` says what the sink took.
+-- `after` those that it then has left; `wrote` says what the sink took, and `showed` the run of which scenario the watch was shown.
 
 -- an input was read to its end, which is within the limit, and P holds of it, where it was told
 pub record HasInput (before after : Option (List ℕ)) (P : List ℕ → Type 0) : Type 0 where
@@ -71,22 +76,24 @@ pub record HasInput (before after : Option (List ℕ)) (P : List ℕ → Type 0)
   pub within : IfSome before (λ bytes. length bytes ≤ max_input)
   pub to_end : OnSome before (after ≡ Some [])
 
--- a scenario was read, and the text of its run written
-pub record IsRun (before after : Option (List ℕ)) (wrote : List ℕ → Type 0) : Type 0 where
+-- a scenario was read, its run shown, and the text of that written
+pub record IsRun (before after : Option (List ℕ)) (wrote : List ℕ → Type 0) (showed : Scenario → Type 0) : Type 0 where
   pub scenario : Scenario
   pub read : HasInput before after (λ bytes. SpellsScenario bytes scenario)
+  pub shown : showed scenario
   pub written : wrote (run_text scenario)
 
--- nothing was read, and the line of a number's scenario written
-pub record IsSoak (number steps : ℕ) (before after : Option (List ℕ)) (wrote : List ℕ → Type 0) : Type 0 where
+-- nothing was read, the run of a number's scenario shown, and its line written
+pub record IsSoak (number steps : ℕ) (before after : Option (List ℕ)) (wrote : List ℕ → Type 0) (showed : Scenario → Type 0) : Type 0 where
   pub unread : after ≡ before
+  pub shown : showed (generated number steps)
   pub written : wrote (soak_text number steps)
 
 -- what a command asks for was done
-abbrev pub IsOk : Option Command → Option (List ℕ) → Option (List ℕ) → (List ℕ → Type 0) → Type 0
-IsOk (Some Run) before after wrote = IsRun before after wrote
-IsOk (Some (Soak number steps)) before after wrote = IsSoak number steps before after wrote
-IsOk None before after wrote = ⊥
+abbrev pub IsOk : Option Command → Option (List ℕ) → Option (List ℕ) → (List ℕ → Type 0) → (Scenario → Type 0) → Type 0
+IsOk (Some Run) before after wrote showed = IsRun before after wrote showed
+IsOk (Some (Soak number steps)) before after wrote showed = IsSoak number steps before after wrote showed
+IsOk None before after wrote showed = ⊥
 
 -- the words are no command
 pub record IsUsage (command : Option Command) (wrote : List ℕ → Type 0) : Type 0 where
@@ -125,9 +132,9 @@ pub record IsNoMemory (command : Option Command) (before after : Option (List �
   pub written : wrote (line (codes "no memory"))
 
 -- the row of a status, each but that of a fault of the sink
-abbrev pub IsRow : Option Command → Option (List ℕ) → Option (List ℕ) → ℕ → ℕ → (List ℕ → Type 0) → ℕ → Type 0
-IsRow command before after faults_before faults_after wrote status =
-    ((status ≡ 0) × IsOk command before after wrote)
+abbrev pub IsRow : Option Command → Option (List ℕ) → Option (List ℕ) → ℕ → ℕ → (List ℕ → Type 0) → (Scenario → Type 0) → ℕ → Type 0
+IsRow command before after faults_before faults_after wrote showed status =
+    ((status ≡ 0) × IsOk command before after wrote showed)
     ⊎ (((status ≡ 2) × IsUsage command wrote)
     ⊎ (((status ≡ 3) × IsBadJson command before after wrote)
     ⊎ (((status ≡ 4) × IsBadScenario command before after wrote)
@@ -136,15 +143,15 @@ IsRow command before after faults_before faults_after wrote status =
     ⊎ ((status ≡ 9) × IsNoMemory command before after wrote))))))
 
 -- the sink's count of faults rose, and the sink took some first bytes of what another row gives
-pub record IsWriteFault (command : Option Command) (before after : Option (List ℕ)) (faults_before faults_after : ℕ) (taken_before taken_after : Option (List ℕ)) (sink_before sink_after : ℕ) : Type 0 where
+pub record IsWriteFault (command : Option Command) (before after : Option (List ℕ)) (faults_before faults_after : ℕ) (taken_before taken_after : Option (List ℕ)) (sink_before sink_after : ℕ) (showed : Scenario → Type 0) : Type 0 where
   pub risen : HasRisen sink_before sink_after
   pub other : ℕ
-  pub row : IsRow command before after faults_before faults_after (GrewByPrefix taken_before taken_after) other
+  pub row : IsRow command before after faults_before faults_after (GrewByPrefix taken_before taken_after) showed other
 
--- the whole table: what a status says of the command, of the source, and of what the sink took
-pub record IsOutcome (command : Option Command) (before after : Option (List ℕ)) (faults_before faults_after : ℕ) (taken_before taken_after : Option (List ℕ)) (sink_before sink_after : ℕ) (status : ℕ) : Type 0 where
-  pub row : IsRow command before after faults_before faults_after (Grew taken_before taken_after) status
-      ⊎ ((status ≡ 6) × IsWriteFault command before after faults_before faults_after taken_before taken_after sink_before sink_after)
+-- the whole table: what a status says of the command, of the source, of what the sink took, and of the run that was shown
+pub record IsOutcome (command : Option Command) (before after : Option (List ℕ)) (faults_before faults_after : ℕ) (taken_before taken_after : Option (List ℕ)) (sink_before sink_after : ℕ) (showed : Scenario → Type 0) (status : ℕ) : Type 0 where
+  pub row : IsRow command before after faults_before faults_after (Grew taken_before taken_after) showed status
+      ⊎ ((status ≡ 6) × IsWriteFault command before after faults_before faults_after taken_before taken_after sink_before sink_after showed)
 
 -- `text` was written, and the status is its own; or the sink's count of faults rose, and the sink took some first bytes
 pub record IsWritten (taken_before taken_after : Option (List ℕ)) (sink_before sink_after : ℕ) (text : List ℕ) (own status : ℕ) : Type 0 where

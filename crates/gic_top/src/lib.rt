@@ -2,11 +2,13 @@
 #![tactic(auto)]
 
 mod command;
+mod shown;
 #[cfg(test)]
 mod tests;
 mod tool;
 
 pub use command::Command;
+pub use shown::{NOTHING_SHOWN, Shown};
 pub use tool::{
     BAD_JSON, BAD_SCENARIO, MAX_INPUT, NO_MEMORY, OK, READ_FAULT, TOO_LONG, USAGE, WRITE_FAULT,
     refuse_words, run_tool,

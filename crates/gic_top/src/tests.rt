@@ -1,8 +1,8 @@
 //! Words and inputs of each kind, and faults of the outside, through the whole tool.
 
 use crate::{
-    BAD_JSON, BAD_SCENARIO, NO_MEMORY, OK, READ_FAULT, TOO_LONG, USAGE, WRITE_FAULT, refuse_words,
-    run_tool,
+    BAD_JSON, BAD_SCENARIO, NO_MEMORY, NOTHING_SHOWN, OK, READ_FAULT, TOO_LONG, USAGE, WRITE_FAULT,
+    refuse_words, run_tool,
 };
 use gic_io::{MemSink, MemSource, SureSink, SureSource};
 use std::alloc::{AllocError, Global};
@@ -50,12 +50,18 @@ fn answers_inputs(rt: HostRuntime) -> Result<(), Fail> {
     for (input, status, text) in INPUTS {
         let mut source = SureSource::of(Vec::from_slice(alloc, input)?);
         let mut sink = SureSink::new(alloc);
-        assert_eq!(rt;
-            run_tool(alloc, words.as_slice(), &mut source, &mut sink),
-            status,
-            "{input:?}"
+        let mut shown = NOTHING_SHOWN;
+        let answered = run_tool(
+            &rt,
+            alloc,
+            words.as_slice(),
+            &mut source,
+            &mut sink,
+            &mut shown,
         );
+        assert_eq!(rt; answered, status, "{input:?}");
         assert_eq!(rt; sink.taken(), Some(text.as_bytes()), "{input:?}");
+        assert_eq!(rt; shown.scheduled, u64::from(status == OK), "{input:?}");
     }
     Ok(())
 }
@@ -68,11 +74,16 @@ fn other_words_are_refused(rt: HostRuntime) -> Result<(), Fail> {
         // A first read would be a fault.
         let mut source = MemSource::of(Vec::new(alloc), vec![in alloc; 1]?, 1);
         let mut sink = SureSink::new(alloc);
-        assert_eq!(rt;
-            run_tool(alloc, words.as_slice(), &mut source, &mut sink),
-            USAGE,
-            "{words:?}"
+        let mut shown = NOTHING_SHOWN;
+        let answered = run_tool(
+            &rt,
+            alloc,
+            words.as_slice(),
+            &mut source,
+            &mut sink,
+            &mut shown,
         );
+        assert_eq!(rt; answered, USAGE, "{words:?}");
         assert_eq!(rt; sink.taken(), Some(b"usage\n".as_slice()), "{words:?}");
         assert_eq!(rt; source.faults(), 0, "{words:?}");
     }
@@ -83,23 +94,31 @@ fn other_words_are_refused(rt: HostRuntime) -> Result<(), Fail> {
 fn pieces_and_faults(rt: HostRuntime) -> Result<(), Fail> {
     let alloc = rt.alloc();
     let words = words_of(alloc, &["run"])?;
-    // How much a call moves, the calls of the source and of the sink that fail, the status, the text.
-    let cases: [(usize, u64, u64, u8, &str); 5] = [
-        (1, 0, 0, OK, FIRST_TEXT),
-        (7, 0, 0, OK, FIRST_TEXT),
-        (10, 2, 0, READ_FAULT, "read fault\n"),
-        (10, 0, 2, WRITE_FAULT, "2 0x000000"),
-        (10, 0, 1, WRITE_FAULT, ""),
+    // How much a call moves, the calls of the source and of the sink that fail, the status, the text, the runs that are
+    // shown.
+    let cases: [(usize, u64, u64, u8, &str, u64); 5] = [
+        (1, 0, 0, OK, FIRST_TEXT, 1),
+        (7, 0, 0, OK, FIRST_TEXT, 1),
+        (10, 2, 0, READ_FAULT, "read fault\n", 0),
+        (10, 0, 2, WRITE_FAULT, "2 0x000000", 1),
+        (10, 0, 1, WRITE_FAULT, "", 1),
     ];
-    for (cut, source_fails, sink_fails, status, text) in cases {
+    for (cut, source_fails, sink_fails, status, text, runs) in cases {
         let bytes = Vec::from_slice(alloc, FIRST)?;
         let mut source = MemSource::of(bytes, vec![in alloc; source_fails]?, cut);
         let mut sink = MemSink::of(alloc, vec![in alloc; sink_fails]?, cut);
-        assert_eq!(rt;
-            run_tool(alloc, words.as_slice(), &mut source, &mut sink),
-            status
+        let mut shown = NOTHING_SHOWN;
+        let answered = run_tool(
+            &rt,
+            alloc,
+            words.as_slice(),
+            &mut source,
+            &mut sink,
+            &mut shown,
         );
+        assert_eq!(rt; answered, status);
         assert_eq!(rt; sink.taken(), Some(text.as_bytes()));
+        assert_eq!(rt; shown.scheduled, runs);
     }
     Ok(())
 }
@@ -126,10 +145,16 @@ fn long_inputs(rt: HostRuntime) -> Result<(), Fail> {
     ] {
         let mut source = SureSource::of(vec![in alloc; b' '; spaces]?);
         let mut sink = SureSink::new(alloc);
-        assert_eq!(rt;
-            run_tool(alloc, words.as_slice(), &mut source, &mut sink),
-            status
+        let mut shown = NOTHING_SHOWN;
+        let answered = run_tool(
+            &rt,
+            alloc,
+            words.as_slice(),
+            &mut source,
+            &mut sink,
+            &mut shown,
         );
+        assert_eq!(rt; answered, status);
         assert_eq!(rt; sink.taken(), Some(text.as_bytes()));
     }
     Ok(())

@@ -1,22 +1,24 @@
 //! From words and an input to a status, and the text or message that is written.
 
-ghost use Rattle.std.specs.Prelude.{◌≡◌, ◌≢◌, ◌≤◌, ◌⊎◌, ℕ, IfOk, IfErr, IfSome, Some, None, Contains};
+ghost use Rattle.std.specs.Prelude.{◌≡◌, ◌≢◌, ◌<◌, ◌≤◌, ◌⊎◌, ℕ, IfOk, IfErr, IfSome, OnOk, Some, None, Contains};
 ghost use Rattle.gic_io.specs.Faults.{HasRisen};
 ghost use Rattle.gic_io.specs.Sink.{Grew};
 ghost use Rattle.scn_base.specs.Good.{IsGood};
+ghost use Rattle.gic_soak.specs.Generated.{generated};
 ghost use Rattle.gic_top.specs.Command.{command_in, HasFewSteps};
-ghost use Rattle.gic_top.specs.Tool.{statuses, run_text, soak_text, fault_line as line_of, IsOk, IsUsage, IsBadJson, IsBadScenario, IsReadFault, IsWriteFault, IsTooLong, IsNoMemory, IsOutcome, IsWritten, IsRefusal, HasItsAnswer};
-ghost use Rattle.gic_top.specs.Reply.{status_of, text_of, IsReplyTo, IsReplyOf, IsSoakReply, IsReplyFor};
+ghost use Rattle.gic_top.specs.Tool.{statuses, run_text, soak_text, fault_line as line_of, IsOk, IsUsage, IsBadJson, IsBadScenario, IsReadFault, IsWriteFault, IsTooLong, IsNoMemory, IsOutcome, IsWritten, IsRefusal, HasItsAnswer, WasShown};
+ghost use Rattle.gic_top.specs.Reply.{status_of, text_of, IsReplyTo, IsReplyOf, IsSoakReply, IsReplyFor, IsUnrun};
 
 use crate::command::Command;
 use gic_base::NoMemory;
-use gic_ideal::eager;
 use gic_io::{Bytes, ReadError, Sink, Source, read_all, write_all};
 use gic_report::{generate, soak_line, text};
+use run_seq::SeqWatch;
 use scn_base::MAX_STEPS;
 use scn_read::{Fault, Mode, ReadRefusal, Scenario, read};
 use serde_json::Value;
 use std::alloc::{AllocError, Global};
+use std::sync::Wait;
 
 /// The most bytes of an input.
 pub const MAX_INPUT: usize = 16_777_216;
@@ -89,39 +91,69 @@ fn fault_line(alloc: Global, fault: Fault) -> Result<Bytes, NoMemory>
     Ok(Bytes::from(line.into_bytes()))
 }
 
-/// The text of a scenario's run.
-fn run(alloc: Global, scenario: &Scenario) -> Result<Bytes, NoMemory>
-    requires { IsGood Mode.Schedule scenario.now }
-    ensures { IfOk result (λ written. written ≡ run_text scenario.now) }
+/// The text of a scenario's run, which is shown to the watch.
+fn run<R: Wait, W: SeqWatch>(
+    rt: &R,
+    alloc: Global,
+    scenario: &Scenario,
+    watch: &mut W,
+) -> Result<Bytes, NoMemory>
+    requires good { IsGood Mode.Schedule scenario.now }
+    requires room { W.scheduled watch.old < 18446744073709551615 }
+    ensures written { IfOk result (λ written. written ≡ run_text scenario.now) }
+    ensures shown { OnOk result (WasShown (W.scheduled watch.old) (W.scheduled watch.new) (W.last_schedule watch.new) scenario.now) }
 {
-    let out = eager(alloc, scenario)?;
+    let out = run_seq::run(rt, alloc, scenario, watch)?;
     text(alloc, scenario, &out)
 }
 
-/// The line of the run of the scenario that a number stands for.
-fn soak(alloc: Global, number: u64, steps: u32) -> Result<Bytes, NoMemory>
-    requires { steps ≤ MAX_STEPS }
-    ensures { IfOk result (λ written. written ≡ soak_text number steps) }
+/// The line of the run of the scenario that a number stands for. The run is shown to the watch.
+fn soak<R: Wait, W: SeqWatch>(
+    rt: &R,
+    alloc: Global,
+    number: u64,
+    steps: u32,
+    watch: &mut W,
+) -> Result<Bytes, NoMemory>
+    requires few { steps ≤ MAX_STEPS }
+    requires room { W.scheduled watch.old < 18446744073709551615 }
+    ensures written { IfOk result (λ written. written ≡ soak_text number steps) }
+    ensures shown { OnOk result (WasShown (W.scheduled watch.old) (W.scheduled watch.new) (W.last_schedule watch.new) (generated number steps)) }
 {
     let scenario = generate(alloc, number, steps)?;
-    let out = eager(alloc, &scenario)?;
+    let out = run_seq::run(rt, alloc, &scenario, watch)?;
     soak_line(alloc, number, &out)
 }
 
 /// The reply to `soak`.
-fn reply_to_soak(alloc: Global, number: u64, steps: u32) -> Reply
-    requires { steps ≤ MAX_STEPS }
-    ensures { IsSoakReply number steps result }
+fn reply_to_soak<R: Wait, W: SeqWatch>(
+    rt: &R,
+    alloc: Global,
+    number: u64,
+    steps: u32,
+    watch: &mut W,
+) -> Reply
+    requires few { steps ≤ MAX_STEPS }
+    requires room { W.scheduled watch.old < 18446744073709551615 }
+    ensures reply { IsSoakReply (WasShown (W.scheduled watch.old) (W.scheduled watch.new) (W.last_schedule watch.new)) number steps result }
+    ensures unwatched { IsUnrun result → watch.new ≡ watch.old }
 {
-    match soak(alloc, number, steps) {
+    match soak(rt, alloc, number, steps, watch) {
         Ok(line) => Reply::Ran(line),
         Err(NoMemory) => Reply::NoMemory,
     }
 }
 
-/// The reply to the bytes of an input.
-fn reply_to(alloc: Global, bytes: &[u8]) -> Result<Reply, NoMemory>
-    ensures { IfOk result (IsReplyTo bytes.now) }
+/// The reply to the bytes of an input. A run is shown to the watch.
+fn reply_to<R: Wait, W: SeqWatch>(
+    rt: &R,
+    alloc: Global,
+    bytes: &[u8],
+    watch: &mut W,
+) -> Result<Reply, NoMemory>
+    requires room { W.scheduled watch.old < 18446744073709551615 }
+    ensures reply { IfOk result (IsReplyTo (WasShown (W.scheduled watch.old) (W.scheduled watch.new) (W.last_schedule watch.new)) bytes.now) }
+    ensures unwatched { IfOk result (λ reply. IsUnrun reply → watch.new ≡ watch.old) }
 {
     let value = match Value::from_slice(alloc, bytes) {
         Ok(value) => value,
@@ -129,33 +161,50 @@ fn reply_to(alloc: Global, bytes: &[u8]) -> Result<Reply, NoMemory>
         Err(_) => return Ok(Reply::BadJson),
     };
     match read(alloc, &value, Mode::Schedule) {
-        Ok(scenario) => Ok(Reply::Ran(run(alloc, &scenario)?)),
+        Ok(scenario) => Ok(Reply::Ran(run(rt, alloc, &scenario, watch)?)),
         Err(ReadRefusal::Bad(fault)) => Ok(Reply::BadScenario(fault_line(alloc, fault)?)),
         Err(ReadRefusal::NoMemory) => Err(NoMemory),
     }
 }
 
-/// The reply to what a source has left.
-fn reply_of<S: Source>(alloc: Global, source: &mut S) -> Reply
-    ensures reply { IsReplyOf (S.left source.old) (S.left source.new) (S.faults source.old) (S.faults source.new) result }
+/// The reply to what a source has left. A run is shown to the watch.
+fn reply_of<R: Wait, S: Source, W: SeqWatch>(
+    rt: &R,
+    alloc: Global,
+    source: &mut S,
+    watch: &mut W,
+) -> Reply
+    requires room { W.scheduled watch.old < 18446744073709551615 }
+    ensures reply { IsReplyOf (WasShown (W.scheduled watch.old) (W.scheduled watch.new) (W.last_schedule watch.new))
+        (S.left source.old) (S.left source.new) (S.faults source.old) (S.faults source.new) result }
+    ensures unwatched { IsUnrun result → watch.new ≡ watch.old }
 {
     match read_all(alloc, source, MAX_INPUT) {
-        Ok(bytes) => reply_to(alloc, bytes.as_slice()).unwrap_or(Reply::NoMemory),
+        Ok(bytes) => reply_to(rt, alloc, bytes.as_slice(), watch).unwrap_or(Reply::NoMemory),
         Err(ReadError::ReadFault) => Reply::ReadFault,
         Err(ReadError::TooLong) => Reply::TooLong,
         Err(ReadError::NoMemory) => Reply::NoMemory,
     }
 }
 
-/// The reply to a command, or to words that are none, and to what a source has left.
-fn reply_for<S: Source>(alloc: Global, command: Option<Command>, source: &mut S) -> Reply
-    requires { IfSome command HasFewSteps }
-    ensures reply { IsReplyFor command (S.left source.old) (S.left source.new) (S.faults source.old) (S.faults source.new) result }
+/// The reply to a command, or to words that are none, and to what a source has left. A run is shown to the watch.
+fn reply_for<R: Wait, S: Source, W: SeqWatch>(
+    rt: &R,
+    alloc: Global,
+    command: Option<Command>,
+    source: &mut S,
+    watch: &mut W,
+) -> Reply
+    requires few { IfSome command HasFewSteps }
+    requires room { W.scheduled watch.old < 18446744073709551615 }
+    ensures reply { IsReplyFor (WasShown (W.scheduled watch.old) (W.scheduled watch.new) (W.last_schedule watch.new))
+        command (S.left source.old) (S.left source.new) (S.faults source.old) (S.faults source.new) result }
     ensures unread { command ≢ Some Command.Run → source.new ≡ source.old }
+    ensures unwatched { IsUnrun result → watch.new ≡ watch.old }
 {
     match command {
-        Some(Command::Run) => reply_of(alloc, source),
-        Some(Command::Soak { number, steps }) => reply_to_soak(alloc, number, steps),
+        Some(Command::Run) => reply_of(rt, alloc, source, watch),
+        Some(Command::Soak { number, steps }) => reply_to_soak(rt, alloc, number, steps, watch),
         None => Reply::Usage,
     }
 }
@@ -181,23 +230,30 @@ pub fn refuse_words<K: Sink>(sink: &mut K) -> u8
 /// Does what the words ask for, and answers the status with which the program ends.
 ///
 /// `run` reads a scenario from the source, in JSON, and writes the text of its run to the sink. `soak N STEPS` makes
-/// the scenario of the number N, of so many steps, and writes one line of its run. A text or a message is built whole
-/// before its first byte is written. The words are those after the program's name. The status is [`OK`] or another of
-/// this module's.
-pub fn run_tool<S: Source, K: Sink>(
+/// the scenario of the number N, of so many steps, and writes one line of its run. Each run goes through the interrupt
+/// words of its guests and the list registers of its PEs, and is shown to the watch, which was shown less than 2^64 - 1
+/// before. A text or a message is built whole before its first byte is written. The words are those after the program's
+/// name. The status is [`OK`] or another of this module's.
+pub fn run_tool<R: Wait, S: Source, K: Sink, W: SeqWatch>(
+    rt: &R,
     alloc: Global,
     words: &[String],
     source: &mut S,
     sink: &mut K,
+    watch: &mut W,
 ) -> u8
-    // The status is one of the table's, and says what was read and written.
+    requires room { W.scheduled watch.old < 18446744073709551615 }
+
+    // The status is one of the table's, and says what was read, shown and written.
     ensures closed { Contains statuses result }
     ensures outcome { IsOutcome (command_in words.now) (S.left source.old) (S.left source.new) (S.faults source.old) (S.faults source.new)
-        (K.taken sink.old) (K.taken sink.new) (K.faults sink.old) (K.faults sink.new) result }
+        (K.taken sink.old) (K.taken sink.new) (K.faults sink.old) (K.faults sink.new)
+        (WasShown (W.scheduled watch.old) (W.scheduled watch.new) (W.last_schedule watch.new)) result }
 
     // The same, status by status.
     ensures ok { result ≡ 0 →
-        IsOk (command_in words.now) (S.left source.old) (S.left source.new) (Grew (K.taken sink.old) (K.taken sink.new)) }
+        IsOk (command_in words.now) (S.left source.old) (S.left source.new) (Grew (K.taken sink.old) (K.taken sink.new))
+        (WasShown (W.scheduled watch.old) (W.scheduled watch.new) (W.last_schedule watch.new)) }
     ensures usage { result ≡ 2 → IsUsage (command_in words.now) (Grew (K.taken sink.old) (K.taken sink.new)) }
     ensures bad_json { result ≡ 3 →
         IsBadJson (command_in words.now) (S.left source.old) (S.left source.new) (Grew (K.taken sink.old) (K.taken sink.new)) }
@@ -207,7 +263,8 @@ pub fn run_tool<S: Source, K: Sink>(
         IsReadFault (command_in words.now) (S.faults source.old) (S.faults source.new) (Grew (K.taken sink.old) (K.taken sink.new)) }
     ensures write_fault { result ≡ 6 →
         IsWriteFault (command_in words.now) (S.left source.old) (S.left source.new) (S.faults source.old) (S.faults source.new)
-        (K.taken sink.old) (K.taken sink.new) (K.faults sink.old) (K.faults sink.new) }
+        (K.taken sink.old) (K.taken sink.new) (K.faults sink.old) (K.faults sink.new)
+        (WasShown (W.scheduled watch.old) (W.scheduled watch.new) (W.last_schedule watch.new)) }
     ensures too_long { result ≡ 7 →
         IsTooLong (command_in words.now) (S.left source.old) (S.left source.new) (Grew (K.taken sink.old) (K.taken sink.new)) }
     ensures no_memory { result ≡ 9 →
@@ -216,6 +273,9 @@ pub fn run_tool<S: Source, K: Sink>(
     // Words that are no command are refused, and only `run` reads.
     ensures usage_where_no_command { command_in words.now ≡ None → (result ≡ 2) ⊎ (result ≡ 6) }
     ensures unread_unless_run { command_in words.now ≢ Some Command.Run → source.new ≡ source.old }
+
+    // The watch is as it was, but where a run was made, or may have been.
+    ensures unwatched { result ≢ 0 → result ≢ 6 → result ≢ 9 → watch.new ≡ watch.old }
 
     // Where no fault comes from outside, each input has its answer.
     ensures complete { command_in words.now ≡ Some Command.Run
@@ -228,6 +288,6 @@ pub fn run_tool<S: Source, K: Sink>(
         → ¬ HasRisen (K.faults sink.old) (K.faults sink.new)
         → (result ≡ 0) ⊎ (result ≡ 9) }
 {
-    let reply = reply_for(alloc, Command::of(words), source);
+    let reply = reply_for(rt, alloc, Command::of(words), source, watch);
     tell(sink, &reply)
 }

@@ -1,38 +1,46 @@
 //! Runs a scenario of guests, devices and interrupts, and writes what the guests read.
 #![tactic(auto)]
 
-ghost use Rattle.std.specs.Prelude.{◌≡◌, ◌≢◌, ◌⊎◌, ℕ, Some, None, Contains, IfOk, IfErr, IfSome};
+ghost use Rattle.std.specs.Prelude.{◌≡◌, ◌≢◌, ◌<◌, ◌⊎◌, ℕ, Some, None, Contains, IfOk, IfErr, IfSome};
 ghost use Rattle.gic_io.specs.Faults.{HasRisen};
 ghost use Rattle.gic_top.specs.Command.{command_in};
-ghost use Rattle.gic_top.specs.Tool.{statuses, IsOutcome, IsRefusal, HasItsAnswer};
+ghost use Rattle.gic_top.specs.Tool.{statuses, IsOutcome, IsRefusal, HasItsAnswer, WasShown};
 
 use gic_io::{Sink, Source, StdSink, StdSource};
-use gic_top::{Command, refuse_words, run_tool};
+use gic_top::{Command, NOTHING_SHOWN, refuse_words, run_tool};
+use run_seq::SeqWatch;
 use std::alloc::{AllocError, Global};
 use std::env;
+use std::io::ErrorKind;
 use std::process::ExitCode;
 use std::rt::Env;
+use std::sync::Wait;
 
-/// The words after the program's name. A word that is no text leaves none of them, so that no command
-/// is taken for another.
+/// The words after the program's name; an error where memory for them is refused. A word that is no text leaves
+/// none of them, so that no command is taken for another.
 fn words(rt: &(impl Env + Alloc<A = Global>)) -> Result<Vec<String>, AllocError> {
     match env::args(rt) {
         Ok(words) => words.skip(1).collect(rt.alloc()),
+        Err(error) if error.kind() == ErrorKind::OutOfMemory => Err(AllocError),
         Err(_) => Ok(Vec::new(rt.alloc())),
     }
 }
 
 /// Hands the words to the tool, and answers its status. Where memory for the words was refused, that is
-/// written, and nothing is read.
-fn status<S: Source, K: Sink>(
+/// written, and nothing is read or run.
+fn status<R: Wait, S: Source, K: Sink, W: SeqWatch>(
+    rt: &R,
     alloc: Global,
     words: Result<Vec<String>, AllocError>,
     source: &mut S,
     sink: &mut K,
+    watch: &mut W,
 ) -> u8
+    requires room { W.scheduled watch.old < 18446744073709551615 }
     ensures closed { Contains statuses result }
     ensures outcome { IfOk words (λ words. IsOutcome (command_in words.items) (S.left source.old) (S.left source.new) (S.faults source.old) (S.faults source.new)
-        (K.taken sink.old) (K.taken sink.new) (K.faults sink.old) (K.faults sink.new) result) }
+        (K.taken sink.old) (K.taken sink.new) (K.faults sink.old) (K.faults sink.new)
+        (WasShown (W.scheduled watch.old) (W.scheduled watch.new) (W.last_schedule watch.new)) result) }
     ensures unread_unless_run { IfOk words (λ words. command_in words.items ≢ Some Command.Run → source.new ≡ source.old) }
     ensures complete { IfOk words (λ words. command_in words.items ≡ Some Command.Run
         → ¬ HasRisen (S.faults source.old) (S.faults source.new)
@@ -45,9 +53,10 @@ fn status<S: Source, K: Sink>(
     // Where there were no words.
     ensures refused { IfErr words (λ _. IsRefusal (K.taken sink.old) (K.taken sink.new) (K.faults sink.old) (K.faults sink.new) result) }
     ensures unread { IfErr words (λ _. source.new ≡ source.old) }
+    ensures unwatched { IfErr words (λ _. watch.new ≡ watch.old) }
 {
     match words {
-        Ok(words) => run_tool(alloc, words.as_slice(), source, sink),
+        Ok(words) => run_tool(rt, alloc, words.as_slice(), source, sink, watch),
         Err(_) => refuse_words(sink),
     }
 }
@@ -55,5 +64,7 @@ fn status<S: Source, K: Sink>(
 fn main(rt: HostRuntime) -> ExitCode {
     let mut source = StdSource::new(&rt);
     let mut sink = StdSink::new(&rt);
-    ExitCode::from(status(rt.alloc(), words(&rt), &mut source, &mut sink))
+    let mut shown = NOTHING_SHOWN;
+    let words = words(&rt);
+    ExitCode::from(status(&rt, rt.alloc(), words, &mut source, &mut sink, &mut shown))
 }
