@@ -1,7 +1,23 @@
-//! The scheduled run beside the ideal controller: worked scenarios, and the texts of both.
+//! The scheduled run beside the ideal controller: worked, generated and drawn scenarios, and the texts of both.
 #![tactic(auto)]
 
 #[cfg(test)]
+mod access;
+#[cfg(test)]
+mod command;
+#[cfg(test)]
 mod compare;
+#[cfg(test)]
+mod dice;
+#[cfg(test)]
+mod draw;
+#[cfg(test)]
+mod drawn;
+#[cfg(test)]
+mod generated;
+#[cfg(test)]
+mod guests;
+#[cfg(test)]
+mod keep;
 #[cfg(test)]
 mod rows;
