@@ -3,7 +3,9 @@
 
 use gic_io::{SureSink, SureSource};
 use gic_top::{NOTHING_SHOWN, run_tool};
+use std::alloc::Global;
 use std::process::ExitCode;
+use std::sync::Wait;
 use std::{env, fs};
 
 /// How the name of a scenario ends, and that of its text.
@@ -24,20 +26,20 @@ fn names_in(rt: &HostRuntime, folder: &str) -> anyhow::Result<Vec<String>> {
     Ok(names)
 }
 
-/// Runs a scenario, prints its status, and says whether what was written is its text.
-fn is_as_written(rt: &HostRuntime, folder: &str, name: &str) -> anyhow::Result<bool> {
-    let alloc = rt.alloc();
-    let input = fs::read(rt, format!(in alloc; "{folder}/{name}{SCENARIO}")?)?;
-    let text = fs::read(rt, format!(in alloc; "{folder}/{name}{TEXT}")?)?;
+/// The bytes of a file of a folder.
+fn bytes_of(rt: &HostRuntime, folder: &str, name: &str, ending: &str) -> anyhow::Result<Vec<u8>> {
+    let path = format!(in rt.alloc(); "{folder}/{name}{ending}")?;
+    Ok(fs::read(rt, path)?)
+}
+
+/// Runs a scenario: its status, and whether what was written is its text.
+fn run<R: Wait>(rt: &R, alloc: Global, input: Vec<u8>, text: &[u8]) -> anyhow::Result<(u8, bool)> {
     let words = [String::from_str(alloc, "run")?];
     let mut source = SureSource::of(input);
     let mut sink = SureSink::new(alloc);
     let mut shown = NOTHING_SHOWN;
     let status = run_tool(rt, alloc, &words, &mut source, &mut sink, &mut shown);
-    let is_so = sink.taken() == Some(text.as_slice());
-    let what = if is_so { "as written" } else { "otherwise" };
-    println!(rt; "{name}: status {status}, {what}")?;
-    Ok(is_so)
+    Ok((status, sink.taken() == Some(text)))
 }
 
 fn main(rt: HostRuntime) -> anyhow::Result<ExitCode> {
@@ -48,7 +50,12 @@ fn main(rt: HostRuntime) -> anyhow::Result<ExitCode> {
     };
     let mut all = true;
     for name in &names_in(&rt, folder.as_str())? {
-        all &= is_as_written(&rt, folder.as_str(), name.as_str())?;
+        let input = bytes_of(&rt, folder.as_str(), name.as_str(), SCENARIO)?;
+        let text = bytes_of(&rt, folder.as_str(), name.as_str(), TEXT)?;
+        let (status, is_so) = run(&rt, rt.alloc(), input, text.as_slice())?;
+        let what = if is_so { "as written" } else { "otherwise" };
+        println!(rt; "{name}: status {status}, {what}")?;
+        all &= is_so;
     }
     Ok(if all {
         ExitCode::SUCCESS
