@@ -1,7 +1,12 @@
-//! A worked scenario, and its run.
+//! A worked scenario, and its runs: by the tool, and by the ideal controller.
 
-use gic_io::{SureSink, SureSource};
-use gic_top::{NOTHING_SHOWN, run_tool};
+use gic_ideal::eager;
+use gic_io::{Bytes, SureSink, SureSource};
+use gic_report::text;
+use gic_top::{NOTHING_SHOWN, OK, run_tool};
+use scn_base::Mode;
+use scn_read::read;
+use serde_json::Value;
 use std::alloc::{AllocError, Global};
 use std::process::Abort;
 use std::sync::Wait;
@@ -51,7 +56,16 @@ fn text_of(alloc: Global, lines: &[&str]) -> Result<String, AllocError> {
     Ok(text)
 }
 
-/// Runs each row, and compares the status and all that is written.
+/// The text of a scenario's run by the ideal controller.
+fn ideal_text(alloc: Global, input: &str) -> Result<Bytes, Fail> {
+    let value = Value::from_str(alloc, input)?;
+    match read(alloc, &value, Mode::Schedule) {
+        Ok(scenario) => Ok(text(alloc, &scenario, &eager(alloc, &scenario)?)?),
+        Err(_) => Err(Fail::from("not read")),
+    }
+}
+
+/// Runs each row, and compares the status and all that is written, and the text of a run by the ideal controller.
 pub(crate) fn check(
     rt: &(impl Abort + Wait),
     alloc: Global,
@@ -61,11 +75,20 @@ pub(crate) fn check(
     let words = [String::from_str(alloc, "run")?];
     for row in rows {
         let input = input_of(alloc, row)?;
+        let text = text_of(alloc, row.lines)?;
+        if status == OK {
+            let ideal = ideal_text(alloc, input.as_str())?;
+            assert_eq!(rt;
+                str::from_utf8(ideal.as_slice())?,
+                text.as_str(),
+                "{}",
+                row.shows
+            );
+        }
         let mut source = SureSource::of(input.into_bytes());
         let mut sink = SureSink::new(alloc);
         let mut shown = NOTHING_SHOWN;
         let answered = run_tool(rt, alloc, &words, &mut source, &mut sink, &mut shown);
-        let text = text_of(alloc, row.lines)?;
         let taken = str::from_utf8(sink.taken().ok_or("not told")?)?;
         assert_eq!(rt; taken, text.as_str(), "{}", row.shows);
         assert_eq!(rt; answered, status, "{}", row.shows);

@@ -22,6 +22,11 @@ use Rattle.seq_guest.proofs.GuestLemmas.{goes_about, goes_none, goes_then}
 use Rattle.seq_guest.proofs.KindLemmas.{only_call}
 use Rattle.seq_guest.proofs.MoveLemmas.{moves_once}
 
+-- what follows where memory was refused
+pub on_err : {A E : Type 0} {P Q : Type 0} (result : Result A E) → (P → Q) → OnErr result P → OnErr result Q
+on_err (Ok value) f so = tt
+on_err (Err error) f so = f so
+
 -- what follows where it was done
 pub if_ok : {A E : Type 0} {P Q : A → Type 0} (result : Result A E) → ((value : A) → P value → Q value) → IfOk result P → IfOk result Q
 if_ok (Ok value) f so = f value so

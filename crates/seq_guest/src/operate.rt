@@ -1,7 +1,8 @@
 //! An operation of a vCPU of a guest.
-ghost use Rattle.std.specs.Prelude.{◌≡◌, ◌≢◌, ℕ, ◌<◌, true, IsTrue, IfOk, OnOk};
+ghost use Rattle.std.specs.Prelude.{◌≡◌, ◌≢◌, ℕ, ◌<◌, true, IsTrue, IfOk, OnOk, OnErr};
 ghost use Rattle.gic_call.specs.declared.event.Operation.TheVariants.{Access};
 ghost use Rattle.port_core.specs.Port.{shape_of};
+ghost use Rattle.pe_mem.specs.Found.{takes_turn_by};
 ghost use Rattle.scn_base.specs.Good.{is_good_op};
 ghost use Rattle.port_seq.specs.Ports.{told};
 ghost use Rattle.seq_guest.specs.Operation.{is_of_registers as is_of_registers_by};
@@ -43,6 +44,7 @@ fn operate_on<P: Port, R: Wait>(
     requires on { spot_of place.old ≡ pe }
     requires good { IsTrue (is_good_op (shape_of (P.seen port.old)) op.now) }
     ensures moves { IfOk result (λ answer. Moves (AreOneCall (P.seen port.old).actor (Access op.now) answer) (P.seen port.old) (P.seen port.new) place.old place.new) }
+    ensures memory { OnErr result (takes_turn_by (shape_of (P.seen port.old)) op.now ≡ true) }
     ensures spot { spot_of place.new ≡ spot_of place.old }
     ensures registers { (lrs : ℕ) → HasRegisters lrs place.old → HasRegisters lrs place.new }
 {
@@ -66,6 +68,7 @@ impl Vcpus {
         requires on { spot_at self.old vcpu ≡ pe }
         requires good { IsTrue (is_good_op (told port.old).guest.shape op.now) }
         ensures goes_on { IfOk result (λ answer. GoesOn (AreOneCall vcpu (Access op.now) answer) (told port.old) (told port.new) self.old self.new) }
+        ensures memory { OnErr result (takes_turn_by (told port.old).guest.shape op.now ≡ true) }
         ensures spots { ChangesSpots for_none self.old self.new }
     {
         port.set_actor(vcpu);
@@ -100,6 +103,7 @@ impl Vcpus {
         requires none { (other : ℕ) → spot_at self.old other ≢ aside }
         requires good { IsTrue (is_good_op (told port.old).guest.shape op.now) }
         ensures operates { IfOk result (Operates (told port.old) (told port.new) self.old self.new vcpu op.now) }
+        ensures memory { OnErr result (takes_turn_by (told port.old).guest.shape op.now ≡ true) }
         ensures spots { OnOk result (ChangesSpots for_none self.old self.new) }
         ensures quiet { OnOk result (NoneKicked (told port.new) self.new) }
     {

@@ -1,6 +1,7 @@
 -- It does an operation.
-use Rattle.std.proofs.Common.{refl, subst}
+use Rattle.std.proofs.Common.{◌≡◌, true, OnErr, refl, subst}
 use Rattle.gic_call.specs.declared.event.Operation.TheVariants.{Access}
+use Rattle.pe_mem.specs.Found.{takes_turn_by}
 use Rattle.port_seq.specs.Ports.{told}
 use Rattle.port_seq.specs.Told.{GuestTold, seen_of}
 use Rattle.seq_guest.specs.Parts.{AreOneCall}
@@ -27,3 +28,6 @@ returns-clause-goes_on g c =
 pub returns-clause-spots : goal.returns-clause-spots
 returns-clause-spots g c =
     same_spot c.args.self.now _ c.args.vcpu c.index_mut.result.now c.operate_on.new.place refl (place_is (told c.args.port.now) c.args.self.now c.args.vcpu c.index_mut.result.now c.requires.at c.requires.there c.index_mut.ensures.value) c.operate_on.ensures.spot
+
+pub returns-clause-memory : goal.returns-clause-memory
+returns-clause-memory g c = subst (λ (told : GuestTold). OnErr c.operate_on.result (takes_turn_by told.guest.shape c.args.op.now ≡ true)) c.set_actor.ensures c.operate_on.ensures.memory
