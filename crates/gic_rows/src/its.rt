@@ -6,13 +6,13 @@ use gic_top::OK;
 use std::test::Fail;
 
 /// Two vCPUs, each on a PE, 16 LPIs, and memory for tables and commands.
-const GUEST: &str = r#""pes":2,"guests":[{"vcpus":2,"lpis":16,"ram":65536,"on":true}]"#;
+pub(crate) const GUEST: &str = r#""pes":2,"guests":[{"vcpus":2,"lpis":16,"ram":65536,"on":true}]"#;
 
 /// The same with as many LPIs as there can be.
 const ALL_LPIS: &str = r#""pes":2,"guests":[{"vcpus":2,"lpis":4096,"ram":65536,"on":true}]"#;
 
 /// LPI 8195 is enabled at priority 0xA0 in the configuration table at 0x3000.
-const CONFIGURED: &[&str] = &[mem!(0, "ram", 0x3003, 1, 0xA1)];
+pub(crate) const CONFIGURED: &[&str] = &[mem!(0, "ram", 0x3003, 1, 0xA1)];
 
 /// The redistributor of a vCPU gets its LPI tables, and listens to LPIs.
 const LPIS_OF_0: &[&str] = &[
@@ -21,53 +21,54 @@ const LPIS_OF_0: &[&str] = &[
     gicr!(0, 0x0, 4, 1),
 ];
 
-const LPIS_OF_1: &[&str] = &[
+pub(crate) const LPIS_OF_1: &[&str] = &[
     gicr!(1, 0x70, 8, 0x300D),
     gicr!(1, 0x78, 8, 0x4000000000010000),
     gicr!(1, 0x0, 4, 1),
 ];
 
 /// The queue is one page at 0x1000, and the ITS is enabled.
-const ENABLED: &[&str] = &[
+pub(crate) const ENABLED: &[&str] = &[
     mem!(0, "gits", 0x80, 8, 0x8000000000001000),
     mem!(0, "gits", 0x0, 4, 1),
 ];
 
 /// The first four commands: device 8 gets 5 bits of events; collection 1 goes to vCPU 1; event 3 is LPI 8195 of
 /// collection 1; and vCPU 1 waits for all of it.
-const MAPD: &[&str] = &[
+pub(crate) const MAPD: &[&str] = &[
     mem!(0, "ram", 0x1000, 8, 0x0000000800000008),
     mem!(0, "ram", 0x1008, 8, 4),
     mem!(0, "ram", 0x1010, 8, 0x8000000000002000),
 ];
 
-const MAPC: &[&str] = &[
+pub(crate) const MAPC: &[&str] = &[
     mem!(0, "ram", 0x1020, 8, 9),
     mem!(0, "ram", 0x1030, 8, 0x8000000000010001),
 ];
 
-const MAPTI: &[&str] = &[
+pub(crate) const MAPTI: &[&str] = &[
     mem!(0, "ram", 0x1040, 8, 0x000000080000000A),
     mem!(0, "ram", 0x1048, 8, 0x0000200300000003),
     mem!(0, "ram", 0x1050, 8, 1),
 ];
 
-const SYNC: &[&str] = &[
+pub(crate) const SYNC: &[&str] = &[
     mem!(0, "ram", 0x1060, 8, 5),
     mem!(0, "ram", 0x1070, 8, 0x10000),
 ];
 
 /// The four commands are run, and CREADR is read.
-const DONE: &[&str] = &[mem!(0, "gits", 0x88, 8, 0x80), mem!(0, "gits", 0x90, 8)];
+pub(crate) const DONE: &[&str] = &[mem!(0, "gits", 0x88, 8, 0x80), mem!(0, "gits", 0x90, 8)];
 
 const CPU_0: &str = "cpu 0 0 vmcr=0xf04c000a ap0=0x00000000 ap1=0x00000000 lpis=1";
 
-const CPU_1: &str = "cpu 0 1 vmcr=0xf04c000a ap0=0x00000000 ap1=0x00000000 lpis=1";
+pub(crate) const CPU_1: &str = "cpu 0 1 vmcr=0xf04c000a ap0=0x00000000 ap1=0x00000000 lpis=1";
 
 /// vCPU 1 with the level of priority 0xA0 active.
 const CPU_1_A0: &str = "cpu 0 1 vmcr=0xf04c000a ap0=0x00000000 ap1=0x00100000 lpis=1";
 
-const LPI_8195: &str = "irq 0 8195 en=1 grp=1 prio=0xa0 cfg=edge line=0 rise=0 soft=0 act=- to=1";
+pub(crate) const LPI_8195: &str =
+    "irq 0 8195 en=1 grp=1 prio=0xa0 cfg=edge line=0 rise=0 soft=0 act=- to=1";
 
 const ITS_80: &str =
     "its 0 ctlr=0x00000001 cbaser=0x8000000000001000 cwriter=0x0000000000000080 creadr=0x0000000000000080 fault=0";
