@@ -9,10 +9,10 @@ use std::test::Fail;
 const BASE: &str = r#""guests":[{"on":true,"irqs":[{"id":40},{"id":41},{"id":42,"prio":32}]}]"#;
 
 /// The same on a PE with one list register, and with two.
-const ONE_LR: &str =
+pub(crate) const ONE_LR: &str =
     r#""lrs":1,"guests":[{"on":true,"irqs":[{"id":40},{"id":41},{"id":42,"prio":32}]}]"#;
 
-const TWO_LRS: &str =
+pub(crate) const TWO_LRS: &str =
     r#""lrs":2,"guests":[{"on":true,"irqs":[{"id":40},{"id":41},{"id":42,"prio":32}]}]"#;
 
 /// The same with 40 level-sensitive.
@@ -24,11 +24,12 @@ const FIRST: &str =
     r#""pes":1,"lrs":4,"guests":[{"vcpus":1,"spis":32,"on":true,"irqs":[{"id":40}]}]"#;
 
 /// The vCPU with the level of priority 0xA0 active.
-const CPU_A0: &str = "cpu 0 0 vmcr=0xf04c000a ap0=0x00000000 ap1=0x00100000 lpis=0";
+pub(crate) const CPU_A0: &str = "cpu 0 0 vmcr=0xf04c000a ap0=0x00000000 ap1=0x00100000 lpis=0";
 
 const PENDING_40: &str = "irq 0 40 en=1 grp=1 prio=0xa0 cfg=edge line=0 rise=0 soft=1 act=- to=0";
 
-const ACTIVE_40: &str = "irq 0 40 en=1 grp=1 prio=0xa0 cfg=edge line=0 rise=0 soft=0 act=0 to=0";
+pub(crate) const ACTIVE_40: &str =
+    "irq 0 40 en=1 grp=1 prio=0xa0 cfg=edge line=0 rise=0 soft=0 act=0 to=0";
 
 const PENDING_41: &str = "irq 0 41 en=1 grp=1 prio=0xa0 cfg=edge line=0 rise=0 soft=1 act=- to=0";
 

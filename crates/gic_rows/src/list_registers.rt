@@ -1,21 +1,10 @@
 //! What the list registers of a PE hold after each step.
 
+use crate::interface::{ACTIVE_40, CPU_A0, ONE_LR, TWO_LRS};
 use crate::row::{Row, check};
 use crate::steps::{LRS, icc, message};
 use gic_top::OK;
 use std::test::Fail;
-
-/// A guest of one vCPU with 40 and 41 at priority 0xA0 and 42 at 0x20, on a PE with one list register, and with two.
-const ONE_LR: &str =
-    r#""lrs":1,"guests":[{"on":true,"irqs":[{"id":40},{"id":41},{"id":42,"prio":32}]}]"#;
-
-const TWO_LRS: &str =
-    r#""lrs":2,"guests":[{"on":true,"irqs":[{"id":40},{"id":41},{"id":42,"prio":32}]}]"#;
-
-/// The vCPU with the level of priority 0xA0 active.
-const CPU_A0: &str = "cpu 0 0 vmcr=0xf04c000a ap0=0x00000000 ap1=0x00100000 lpis=0";
-
-const ACTIVE_40: &str = "irq 0 40 en=1 grp=1 prio=0xa0 cfg=edge line=0 rise=0 soft=0 act=0 to=0";
 
 #[rattlefmt::skip]
 const STEP_BY_STEP: [Row; 4] = [

@@ -4,8 +4,9 @@ use crate::{
     BAD_JSON, BAD_SCENARIO, NO_MEMORY, NOTHING_SHOWN, OK, READ_FAULT, TOO_LONG, USAGE, WRITE_FAULT,
     refuse_words, run_tool,
 };
-use gic_io::{MemSink, MemSource, SureSink, SureSource};
+use gic_io::{MemSink, MemSource, Sink, Source, SureSink, SureSource};
 use std::alloc::{AllocError, Global};
+use std::sync::Wait;
 use std::test::Fail;
 
 const FIRST: &[u8] =
@@ -35,6 +36,19 @@ const NO_COMMANDS: [&[&str]; 5] = [
     &["Run"],
 ];
 
+/// Runs the tool: its status, and how many runs were shown.
+fn answer<R: Wait, S: Source, K: Sink>(
+    rt: &R,
+    alloc: Global,
+    words: &[String],
+    source: &mut S,
+    sink: &mut K,
+) -> (u8, u64) {
+    let mut shown = NOTHING_SHOWN;
+    let status = run_tool(rt, alloc, words, source, sink, &mut shown);
+    (status, shown.scheduled)
+}
+
 fn words_of(alloc: Global, words: &[&str]) -> Result<Vec<String>, AllocError> {
     let mut all = Vec::new(alloc);
     for word in words {
@@ -50,18 +64,10 @@ fn answers_inputs(rt: HostRuntime) -> Result<(), Fail> {
     for (input, status, text) in INPUTS {
         let mut source = SureSource::of(Vec::from_slice(alloc, input)?);
         let mut sink = SureSink::new(alloc);
-        let mut shown = NOTHING_SHOWN;
-        let answered = run_tool(
-            &rt,
-            alloc,
-            words.as_slice(),
-            &mut source,
-            &mut sink,
-            &mut shown,
-        );
+        let (answered, runs_shown) = answer(&rt, alloc, words.as_slice(), &mut source, &mut sink);
         assert_eq!(rt; answered, status, "{input:?}");
         assert_eq!(rt; sink.taken(), Some(text.as_bytes()), "{input:?}");
-        assert_eq!(rt; shown.scheduled, u64::from(status == OK), "{input:?}");
+        assert_eq!(rt; runs_shown, u64::from(status == OK), "{input:?}");
     }
     Ok(())
 }
@@ -74,18 +80,11 @@ fn other_words_are_refused(rt: HostRuntime) -> Result<(), Fail> {
         // A first read would be a fault.
         let mut source = MemSource::of(Vec::new(alloc), vec![in alloc; 1]?, 1);
         let mut sink = SureSink::new(alloc);
-        let mut shown = NOTHING_SHOWN;
-        let answered = run_tool(
-            &rt,
-            alloc,
-            words.as_slice(),
-            &mut source,
-            &mut sink,
-            &mut shown,
-        );
+        let (answered, runs_shown) = answer(&rt, alloc, words.as_slice(), &mut source, &mut sink);
         assert_eq!(rt; answered, USAGE, "{words:?}");
         assert_eq!(rt; sink.taken(), Some(b"usage\n".as_slice()), "{words:?}");
         assert_eq!(rt; source.faults(), 0, "{words:?}");
+        assert_eq!(rt; runs_shown, 0, "{words:?}");
     }
     Ok(())
 }
@@ -107,18 +106,10 @@ fn pieces_and_faults(rt: HostRuntime) -> Result<(), Fail> {
         let bytes = Vec::from_slice(alloc, FIRST)?;
         let mut source = MemSource::of(bytes, vec![in alloc; source_fails]?, cut);
         let mut sink = MemSink::of(alloc, vec![in alloc; sink_fails]?, cut);
-        let mut shown = NOTHING_SHOWN;
-        let answered = run_tool(
-            &rt,
-            alloc,
-            words.as_slice(),
-            &mut source,
-            &mut sink,
-            &mut shown,
-        );
+        let (answered, runs_shown) = answer(&rt, alloc, words.as_slice(), &mut source, &mut sink);
         assert_eq!(rt; answered, status);
         assert_eq!(rt; sink.taken(), Some(text.as_bytes()));
-        assert_eq!(rt; shown.scheduled, runs);
+        assert_eq!(rt; runs_shown, runs);
     }
     Ok(())
 }
@@ -145,17 +136,10 @@ fn long_inputs(rt: HostRuntime) -> Result<(), Fail> {
     ] {
         let mut source = SureSource::of(vec![in alloc; b' '; spaces]?);
         let mut sink = SureSink::new(alloc);
-        let mut shown = NOTHING_SHOWN;
-        let answered = run_tool(
-            &rt,
-            alloc,
-            words.as_slice(),
-            &mut source,
-            &mut sink,
-            &mut shown,
-        );
+        let (answered, runs_shown) = answer(&rt, alloc, words.as_slice(), &mut source, &mut sink);
         assert_eq!(rt; answered, status);
         assert_eq!(rt; sink.taken(), Some(text.as_bytes()));
+        assert_eq!(rt; runs_shown, 0);
     }
     Ok(())
 }
