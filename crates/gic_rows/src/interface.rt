@@ -6,7 +6,8 @@ use gic_top::OK;
 use std::test::Fail;
 
 /// A guest of one vCPU with 40 and 41 at priority 0xA0 and 42 at 0x20.
-const BASE: &str = r#""guests":[{"on":true,"irqs":[{"id":40},{"id":41},{"id":42,"prio":32}]}]"#;
+pub(crate) const BASE: &str =
+    r#""guests":[{"on":true,"irqs":[{"id":40},{"id":41},{"id":42,"prio":32}]}]"#;
 
 /// The same on a PE with one list register, and with two.
 pub(crate) const ONE_LR: &str =

@@ -33,32 +33,45 @@ pub(crate) const ENABLED: &[&str] = &[
     mem!(0, "gits", 0x0, 4, 1),
 ];
 
+/// Doublewords of a command in the queue, each behind its address.
+macro_rules! command {
+    ($($address:literal $value:literal),*) => {
+        &[$(mem!(0, "ram", $address, 8, $value)),*]
+    };
+}
+
+/// The ITS with a queue of four commands that is stalled at an offset, of two digits with the bit that says so, by a fault.
+macro_rules! stalled {
+    ($offset:literal, $fault:literal) => {
+        concat!(
+            "its 0 ctlr=0x00000001 cbaser=0x8000000000001000 cwriter=0x0000000000000080 creadr=0x00000000000000",
+            $offset,
+            " fault=",
+            $fault
+        )
+    };
+}
+
+pub(crate) use command;
+pub(crate) use stalled;
+
 /// The first four commands: device 8 gets 5 bits of events; collection 1 goes to vCPU 1; event 3 is LPI 8195 of
 /// collection 1; and vCPU 1 waits for all of it.
-pub(crate) const MAPD: &[&str] = &[
-    mem!(0, "ram", 0x1000, 8, 0x0000000800000008),
-    mem!(0, "ram", 0x1008, 8, 4),
-    mem!(0, "ram", 0x1010, 8, 0x8000000000002000),
-];
+pub(crate) const MAPD: &[&str] =
+    command!(0x1000 0x0000000800000008, 0x1008 4, 0x1010 0x8000000000002000);
 
-pub(crate) const MAPC: &[&str] = &[
-    mem!(0, "ram", 0x1020, 8, 9),
-    mem!(0, "ram", 0x1030, 8, 0x8000000000010001),
-];
+pub(crate) const MAPC: &[&str] = command!(0x1020 9, 0x1030 0x8000000000010001);
 
-pub(crate) const MAPTI: &[&str] = &[
-    mem!(0, "ram", 0x1040, 8, 0x000000080000000A),
-    mem!(0, "ram", 0x1048, 8, 0x0000200300000003),
-    mem!(0, "ram", 0x1050, 8, 1),
-];
+pub(crate) const MAPTI: &[&str] =
+    command!(0x1040 0x000000080000000A, 0x1048 0x0000200300000003, 0x1050 1);
 
-pub(crate) const SYNC: &[&str] = &[
-    mem!(0, "ram", 0x1060, 8, 5),
-    mem!(0, "ram", 0x1070, 8, 0x10000),
-];
+pub(crate) const SYNC: &[&str] = command!(0x1060 5, 0x1070 0x10000);
 
 /// The four commands are run, and CREADR is read.
 pub(crate) const DONE: &[&str] = &[mem!(0, "gits", 0x88, 8, 0x80), mem!(0, "gits", 0x90, 8)];
+
+/// A command of an unknown number in the place of the second.
+const UNKNOWN: &[&str] = command!(0x1020 0x7F, 0x1030 0x8000000000010001);
 
 const CPU_0: &str = "cpu 0 0 vmcr=0xf04c000a ap0=0x00000000 ap1=0x00000000 lpis=1";
 
@@ -184,20 +197,14 @@ const STALLS: [Row; 7] = [
     Row {
         shows: "a command of an unknown number stalls the queue", before: GUEST,
         steps: &[
-            CONFIGURED, LPIS_OF_1, ENABLED, MAPD,
-            &[mem!(0, "ram", 0x1020, 8, 0x7F), mem!(0, "ram", 0x1030, 8, 0x8000000000010001)], MAPTI, SYNC, DONE,
+            CONFIGURED, LPIS_OF_1, ENABLED, MAPD, UNKNOWN, MAPTI, SYNC, DONE,
         ],
-        lines: &[
-            "18 0x0000000000000021", CPU_1,
-            "its 0 ctlr=0x00000001 cbaser=0x8000000000001000 cwriter=0x0000000000000080 creadr=0x0000000000000021 fault=10",
-            "dev 0 8 bits=5", "end 18 1",
-        ],
+        lines: &["18 0x0000000000000021", CPU_1, stalled!("21", 10), "dev 0 8 bits=5", "end 18 1"],
     },
     Row {
         shows: "a command that was mended is tried again by Retry", before: GUEST,
         steps: &[
-            CONFIGURED, LPIS_OF_1, ENABLED, MAPD,
-            &[mem!(0, "ram", 0x1020, 8, 0x7F), mem!(0, "ram", 0x1030, 8, 0x8000000000010001)], MAPTI, SYNC, DONE,
+            CONFIGURED, LPIS_OF_1, ENABLED, MAPD, UNKNOWN, MAPTI, SYNC, DONE,
             &[mem!(0, "ram", 0x1020, 8, 9), mem!(0, "gits", 0x88, 8, 0x81), mem!(0, "gits", 0x90, 8)],
         ],
         lines: &[
@@ -209,11 +216,7 @@ const STALLS: [Row; 7] = [
         shows: "the last event of a device with 5 bits", before: GUEST,
         steps: &[
             CONFIGURED, LPIS_OF_1, ENABLED, MAPD, MAPC,
-            &[
-                mem!(0, "ram", 0x1040, 8, 0x000000080000000A), mem!(0, "ram", 0x1048, 8, 0x000020030000001F),
-                mem!(0, "ram", 0x1050, 8, 1),
-            ],
-            SYNC, DONE,
+            command!(0x1040 0x000000080000000A, 0x1048 0x000020030000001F, 0x1050 1), SYNC, DONE,
         ],
         lines: &[
             "18 0x0000000000000080", CPU_1, LPI_8195, ITS_80, "dev 0 8 bits=5", "evt 0 8 31 8195 1", "col 0 1 1",
@@ -224,27 +227,15 @@ const STALLS: [Row; 7] = [
         shows: "an event past the last stalls the queue", before: GUEST,
         steps: &[
             CONFIGURED, LPIS_OF_1, ENABLED, MAPD, MAPC,
-            &[
-                mem!(0, "ram", 0x1040, 8, 0x000000080000000A), mem!(0, "ram", 0x1048, 8, 0x0000200300000020),
-                mem!(0, "ram", 0x1050, 8, 1),
-            ],
-            SYNC, DONE,
+            command!(0x1040 0x000000080000000A, 0x1048 0x0000200300000020, 0x1050 1), SYNC, DONE,
         ],
-        lines: &[
-            "18 0x0000000000000041", CPU_1,
-            "its 0 ctlr=0x00000001 cbaser=0x8000000000001000 cwriter=0x0000000000000080 creadr=0x0000000000000041 fault=4",
-            "dev 0 8 bits=5", "col 0 1 1", "end 18 1",
-        ],
+        lines: &["18 0x0000000000000041", CPU_1, stalled!("41", 4), "dev 0 8 bits=5", "col 0 1 1", "end 18 1"],
     },
     Row {
         shows: "the last of 4096 LPIs, which its table does not enable", before: ALL_LPIS,
         steps: &[
             CONFIGURED, LPIS_OF_1, ENABLED, MAPD, MAPC,
-            &[
-                mem!(0, "ram", 0x1040, 8, 0x000000080000000A), mem!(0, "ram", 0x1048, 8, 0x00002FFF00000003),
-                mem!(0, "ram", 0x1050, 8, 1),
-            ],
-            SYNC, DONE,
+            command!(0x1040 0x000000080000000A, 0x1048 0x00002FFF00000003, 0x1050 1), SYNC, DONE,
         ],
         lines: &[
             "18 0x0000000000000080", CPU_1,
@@ -256,23 +247,14 @@ const STALLS: [Row; 7] = [
         shows: "an INTID past the last LPI stalls the queue", before: ALL_LPIS,
         steps: &[
             CONFIGURED, LPIS_OF_1, ENABLED, MAPD, MAPC,
-            &[
-                mem!(0, "ram", 0x1040, 8, 0x000000080000000A), mem!(0, "ram", 0x1048, 8, 0x0000300000000003),
-                mem!(0, "ram", 0x1050, 8, 1),
-            ],
-            SYNC, DONE,
+            command!(0x1040 0x000000080000000A, 0x1048 0x0000300000000003, 0x1050 1), SYNC, DONE,
         ],
-        lines: &[
-            "18 0x0000000000000041", CPU_1,
-            "its 0 ctlr=0x00000001 cbaser=0x8000000000001000 cwriter=0x0000000000000080 creadr=0x0000000000000041 fault=6",
-            "dev 0 8 bits=5", "col 0 1 1", "end 18 1",
-        ],
+        lines: &["18 0x0000000000000041", CPU_1, stalled!("41", 6), "dev 0 8 bits=5", "col 0 1 1", "end 18 1"],
     },
     Row {
         shows: "a write of CBASER, while the ITS is disabled, ends a stall and empties the queue", before: GUEST,
         steps: &[
-            CONFIGURED, LPIS_OF_1, ENABLED, MAPD,
-            &[mem!(0, "ram", 0x1020, 8, 0x7F), mem!(0, "ram", 0x1030, 8, 0x8000000000010001)], MAPTI, SYNC, DONE,
+            CONFIGURED, LPIS_OF_1, ENABLED, MAPD, UNKNOWN, MAPTI, SYNC, DONE,
             &[
                 mem!(0, "gits", 0x0, 4, 0), mem!(0, "gits", 0x80, 8, 0x8000000000001000), mem!(0, "gits", 0x90, 8),
                 mem!(0, "gits", 0x88, 8), mem!(0, "gits", 0x0, 4),

@@ -19,8 +19,6 @@ mod refused;
 #[cfg(test)]
 mod row;
 #[cfg(test)]
-mod soak;
-#[cfg(test)]
 mod steps;
 #[cfg(test)]
 mod vcpus;

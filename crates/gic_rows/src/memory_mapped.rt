@@ -1,24 +1,17 @@
 //! The distributor and the redistributors, by their registers.
 
+use crate::interface::{ACTIVE_40, BASE, CPU_A0};
 use crate::row::{Row, check};
 use crate::steps::{gicr, icc, mem, message, wire};
 use gic_top::OK;
 use std::test::Fail;
 
-/// A guest of one vCPU with 40 and 41 at priority 0xA0 and 42 at 0x20.
-const BASE: &str = r#""guests":[{"on":true,"irqs":[{"id":40},{"id":41},{"id":42,"prio":32}]}]"#;
-
-/// The same with two vCPUs, each on a PE.
+/// Two vCPUs, each on a PE, with 40 and 41 at priority 0xA0 and 42 at 0x20.
 const TWO_VCPUS: &str =
     r#""pes":2,"guests":[{"vcpus":2,"on":true,"irqs":[{"id":40},{"id":41},{"id":42,"prio":32}]}]"#;
 
 /// Two vCPUs, LPIs and memory.
 const WITH_LPIS: &str = r#""pes":2,"guests":[{"vcpus":2,"lpis":16,"ram":65536,"on":true}]"#;
-
-/// vCPU 0 with the level of priority 0xA0 active.
-const CPU_A0: &str = "cpu 0 0 vmcr=0xf04c000a ap0=0x00000000 ap1=0x00100000 lpis=0";
-
-const ACTIVE_40: &str = "irq 0 40 en=1 grp=1 prio=0xa0 cfg=edge line=0 rise=0 soft=0 act=0 to=0";
 
 /// An SPI of group 1 that is as a guest opens but for its group.
 macro_rules! grouped {

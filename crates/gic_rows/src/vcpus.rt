@@ -1,5 +1,6 @@
 //! Several vCPUs, PEs and guests: SGIs, entries and exits, ends of interrupts by another vCPU.
 
+use crate::interface::{ACTIVE_40, CPU_A0};
 use crate::row::{Row, check};
 use crate::steps::{enter, exit, icc, message};
 use gic_top::OK;
@@ -13,12 +14,8 @@ const TWO_PES: &str =
 const TALKING: &str =
     r#""pes":2,"guests":[{"vcpus":2,"on":true,"irqs":[{"id":5,"vcpu":0},{"id":5,"vcpu":1}]}]"#;
 
-/// vCPU 0 or 1 with the level of priority 0xA0 active.
-const CPU_0_A0: &str = "cpu 0 0 vmcr=0xf04c000a ap0=0x00000000 ap1=0x00100000 lpis=0";
-
+/// vCPU 1 with the level of priority 0xA0 active.
 const CPU_1_A0: &str = "cpu 0 1 vmcr=0xf04c000a ap0=0x00000000 ap1=0x00100000 lpis=0";
-
-const ACTIVE_40: &str = "irq 0 40 en=1 grp=1 prio=0xa0 cfg=edge line=0 rise=0 soft=0 act=0 to=0";
 
 #[rattlefmt::skip]
 const SGIS: [Row; 4] = [
@@ -34,7 +31,7 @@ const SGIS: [Row; 4] = [
         shows: "an SGI to the sender itself", before: TALKING,
         steps: &[&[icc!(0, "SGI1R", 0x05000001), icc!(0, "IAR1"), icc!(1, "IAR1")]],
         lines: &[
-            "2 0x0000000000000005", "3 0x00000000000003ff", CPU_0_A0,
+            "2 0x0000000000000005", "3 0x00000000000003ff", CPU_A0,
             "irq 0 v0:5 en=1 grp=1 prio=0xa0 cfg=edge line=0 rise=0 soft=0 act=0 to=0", "end 3 2",
         ],
     },
@@ -62,7 +59,7 @@ const MOVES: [Row; 5] = [
     Row {
         shows: "a pending interrupt goes with its vCPU to another PE", before: TWO_PES,
         steps: &[&[message!(40), exit!(0), enter!(1, 0), icc!(0, "IAR1")]],
-        lines: &["4 0x0000000000000028", CPU_0_A0, ACTIVE_40, "end 4 1"],
+        lines: &["4 0x0000000000000028", CPU_A0, ACTIVE_40, "end 4 1"],
     },
     Row {
         shows: "an active interrupt and the running priority go too", before: TWO_PES,
@@ -81,7 +78,7 @@ const MOVES: [Row; 5] = [
             &[message!(40), icc!(0, "IAR1"), message!(41), icc!(1, "IAR1"), icc!(1, "EOIR1", 40), icc!(1, "RPR")],
         ],
         lines: &[
-            "2 0x0000000000000028", "4 0x0000000000000029", "6 0x00000000000000ff", CPU_0_A0, ACTIVE_40,
+            "2 0x0000000000000028", "4 0x0000000000000029", "6 0x00000000000000ff", CPU_A0, ACTIVE_40,
             "irq 0 41 en=1 grp=1 prio=0xa0 cfg=edge line=0 rise=0 soft=0 act=1 to=1", "end 6 3",
         ],
     },

@@ -1,4 +1,4 @@
-//! The scheduled run beside the ideal controller: worked, generated and drawn scenarios, and the texts of both.
+//! The scheduled run beside the ideal controller: worked, generated and drawn scenarios, the texts of both, and the lines of `soak`.
 #![tactic(auto)]
 
 #[cfg(test)]
@@ -21,3 +21,5 @@ mod guests;
 mod keep;
 #[cfg(test)]
 mod rows;
+#[cfg(test)]
+mod soak;
