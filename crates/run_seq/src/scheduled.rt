@@ -42,8 +42,7 @@ fn all_cpus(alloc: Global, port: &mut SeqPort, guests: &Guests) -> Result<CpuRec
 }
 
 /// Does the steps of a scenario one after the other, on the words of its guests as they opened: what they answered, and the
-/// records of the CPU interfaces once each vCPU that is on a PE has left it. `NoMemory` comes where memory is refused for an
-/// answer, or for a command of an ITS.
+/// records of the CPU interfaces once each vCPU that is on a PE has left it. An error may come wherever memory is asked for.
 pub fn run_on<R: Wait>(
     rt: &R,
     alloc: Global,
