@@ -96,6 +96,8 @@ pub fn run<R: Wait, W: SeqWatch>(
     ensures value { IfOk result (λ out. out ≡ eager scenario.now) }
     ensures counted { OnOk result (W.scheduled watch.new ≡ W.scheduled watch.old + 1) }
     ensures last { OnOk result (IfSome (W.last_schedule watch.new) (λ shown. shown ≡ scenario.now)) }
+    ensures never_falls { W.scheduled watch.old ≤ W.scheduled watch.new }
+    ensures once { W.scheduled watch.new ≤ W.scheduled watch.old + 1 }
 {
     let mut port = SeqPort::start(alloc, scenario)?;
     let done = run_on(rt, alloc, &mut port, scenario)?;
