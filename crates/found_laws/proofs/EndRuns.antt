@@ -15,6 +15,8 @@ use Rattle.gic_rmap.specs.Map.{decoded as redist_decoded}
 use Rattle.gic_imap.specs.Map.{decoded as its_decoded}
 use Rattle.gic_imap.specs.declared.map.RegRef.{RegRef as ItsRef}
 use Rattle.gic_imap.specs.declared.map.RegRef.TheVariants.{Plain as ItsPlain, Reserved as ItsReserved}
+use Rattle.gic_word.specs.Record.{target_in}
+use Rattle.gic_word.specs.Word.{irq_of}
 use Rattle.gic_call.specs.declared.event.Event.{Event}
 use Rattle.gic_call.specs.declared.event.Event.TheVariants.{Queue, Touch}
 use Rattle.gic_call.specs.declared.event.Operation.{Operation}
@@ -59,11 +61,11 @@ use Rattle.serial_laws.specs.Serial.{WholePart, moment_by, moments_in}
 use Rattle.serial_laws.proofs.SerialRuns.{IsThere, all_late, part_there}
 use Rattle.its_exec.specs.Queue.{Taken}
 use Rattle.its_exec.specs.Run.{AgreeAll}
-use Rattle.pe_mem.specs.Found.{AgreeWithLooks, Agrees, Finding, IsFinding, TookAmong, are_before, by_commands, by_looks, is_before, is_by_commands, takes_its_by}
+use Rattle.pe_mem.specs.Found.{Agrees, Finding, IsFinding, TookAmong, are_before, by_commands, by_looks, is_before, is_by_commands, takes_its_by}
 use Rattle.found_laws.specs.Found.{FoundPartsAreCalls, IsFoundPart}
 use Rattle.found_laws.proofs.CommandRuns.{IsCome, agree_all, own_taken, steps_taken, whole_so}
 use Rattle.found_laws.proofs.HereRuns.{AreHere, after_steps, calls_along, handed_out_all, happened_in, happened_is, happened_join, here_all, here_join, ideal_after, ideal_is, local_after_steps, own_after_steps, so_after}
-use Rattle.found_laws.proofs.LookRuns.{looks_agree}
+use Rattle.found_laws.proofs.LookRuns.{look_agrees}
 use Rattle.found_laws.proofs.SteadyLemmas.{beside_steady, is_steady, maps_steady, named_steady, noted_heads, noting_after, steady_maps, targets_steady}
 use Rattle.found_laws.proofs.TurnCalls.{IsTurnCall, turn_call}
 use Rattle.found_laws.proofs.TurnRuns.{all_wait, is_ending, maps_along, take_turns, taken_waits, waits}
@@ -230,7 +232,7 @@ module _ (guest : GuestSpec) (number : ℕ) (early : List CoreMoment) (part : Wh
   abbrev beside : List Targets → Beside
   beside firsts = beside_of (maps_taken part.steps) firsts
 
-  ended : (firsts : List Targets) → last.maps ≡ maps_taken part.steps → HaveHeads last firsts → Agrees (shape_of told.seen) part.steps told.found.finding (beside_of (maps_taken part.steps) firsts) → IsEnded shape part.actor last part.answer
+  ended : (firsts : List Targets) → last.maps ≡ maps_taken part.steps → HaveHeads last firsts → Agrees told.found.finding (beside_of (maps_taken part.steps) firsts) → IsEnded shape part.actor last part.answer
   ended firsts maps_are heads agrees =
       call_ends shape part.actor last part.operation piece (maps_taken part.steps) firsts part.answer (operation_after part.actor (events_of piece) course.ideal first)
       (piece_after part.actor (events_of piece) course.ideal first ∙ sym (handed_out_all shape part.actor part.steps before course.ideal here)) maps_are heads
@@ -250,15 +252,21 @@ module _ (guest : GuestSpec) (number : ℕ) (early : List CoreMoment) (part : Wh
         of true e = its_maps_taken part.actor course.ideal.guest.tables (events_of piece) course.ideal first refl (keep_maps (events_of piece) steady) e ∙ ap (λ b. cond b course.ideal.guest.tables no_maps) (sym e)
         of false e = maps_after part.actor (events_of piece) course.ideal first (no_turns (events_of piece) e) ∙ ap (λ b. cond b course.ideal.guest.tables no_maps) (sym e)
 
-    agrees_looks : (finding : Finding) → is_by_commands finding ≡ false → Agrees (shape_of told.seen) part.steps finding (beside (targets_in course.ideal ∷ []))
-    agrees_looks by_looks kind = subst (λ (g : GuestSpec). AgreeWithLooks g.shape part.steps (targets_in course.ideal)) (sym told.told.guest_is) (looks_agree shape part.actor (targets_in course.ideal) part.steps before course.ideal here steady whole (λ id. refl))
-    agrees_looks (by_commands commands) kind = absurd (cc)
+    agrees_looks : (finding : Finding) → is_by_commands finding ≡ false → IsFinding told.seen part.steps finding → Agrees finding (beside (targets_in course.ideal ∷ []))
+    agrees_looks (by_looks goes_by targets) kind is =
+        λ id going.
+        let at = is id going in
+        let found
+        = look_agrees shape part.actor at.early at.late at.look before course.ideal id (subst (AreHere shape part.actor before course.ideal) at.split here)
+        (subst (λ steps. IsTrue (list_all is_steady (events_of (happened_in shape part.actor before steps)))) at.split steady) whole at.step_is in
+        found ∙ sym (at.target_is ∙ ap (λ (g : GuestSpec). target_in (irq_of at.look.found).route g.shape) told.told.guest_is)
+    agrees_looks (by_commands commands) kind is = absurd (cc)
 
     looked : IsEnded shape part.actor last part.answer
     looked =
         ended (targets_in course.ideal ∷ []) maps_are
         (noted_heads last (targets_in course.ideal) (noting_after part.actor (events_of piece) course.ideal first (targets_in course.ideal) steady whole (λ id. refl) (inl opened)))
-        (agrees_looks told.found.finding (kind_is ∙ free))
+        (agrees_looks told.found.finding (kind_is ∙ free) told.found.is_finding)
 
   -- Where it takes them.
 
@@ -362,8 +370,8 @@ module _ (guest : GuestSpec) (number : ℕ) (early : List CoreMoment) (part : Wh
       agrees_among =
           agree_all (maps_taken part.steps) firsts commands among.from among.to 0 state1 ideal1 (targets_in course.ideal) among.late (subst (λ (g : GuestSpec). IsShape g.shape) (sym guest_is_so) good.shape) among.are come_from
 
-    agrees_commands : (finding : Finding) → is_by_commands finding ≡ true → IsFinding told.seen part.steps finding → Agrees (shape_of told.seen) part.steps finding (beside_of (maps_taken part.steps) firsts)
-    agrees_commands by_looks kind is = absurd (cc)
+    agrees_commands : (finding : Finding) → is_by_commands finding ≡ true → IsFinding told.seen part.steps finding → Agrees finding (beside_of (maps_taken part.steps) firsts)
+    agrees_commands (by_looks goes_by targets) kind is = absurd (cc)
     agrees_commands (by_commands commands) kind is = agrees_among commands is
 
     pub commanded : IsEnded shape part.actor last part.answer

@@ -1,8 +1,8 @@
 -- Looks find for which vCPUs LPIs are, and nobody moves them meanwhile.
-use Rattle.std.proofs.Common.{◌≡◌, ℕ, zero, suc, arith, Bool, true, false, cond, IsTrue, List, [], ◌∷◌, ◌++◌, Option, Some, None, is_some, ◌<◌, refl, sym, ap, ◌∙◌, subst}
+use Rattle.std.proofs.Common.{◌≡◌, ℕ, arith, Bool, true, false, cond, IsTrue, List, ◌∷◌, ◌++◌, Option, Some, None, is_some, ◌<◌, refl, sym, ap, ◌∙◌, subst}
 use Rattle.std.specs.List.{list_all}
-use Rattle.std.specs.Option.{option_to_list}
 use Rattle.std.proofs.lemmas.Bool.{and_parts, eq-eqb, ltb-true}
+use Rattle.std.proofs.lemmas.List.Folds.{list_all-append}
 use Rattle.gic_base.specs.declared.interrupt.Key.TheVariants.{Lpi}
 use Rattle.gic_base.specs.declared.shape.GuestShape.{GuestShape}
 use Rattle.gic_base.specs.declared.interrupt.Key.{Key}
@@ -10,12 +10,11 @@ use Rattle.gic_word.specs.declared.record.Irq.{Irq as IrqRecord}
 use Rattle.gic_word.specs.Valid.{is_vcpu_or_none}
 use Rattle.gic_word.specs.Record.{is_number, target_in}
 use Rattle.gic_word.specs.Word.{irq_of}
-use Rattle.gic_call.specs.Trace.{Happened}
 use Rattle.ideal_guest.specs.Ideal.{irq_at}
 use Rattle.ideal_guest.proofs.KeyLemmas.{IsWhole}
 use Rattle.gic_history.specs.State.{Ideal}
 use Rattle.gic_history.specs.History.{targets_in}
-use Rattle.history_laws.proofs.StateLemmas.{guest_is}
+use Rattle.call_laws.proofs.CommandLemmas.{events_both}
 use Rattle.call_laws.proofs.RunLemmas.{events_of}
 use Rattle.port_core.specs.declared.at_list.AtIrq.{AtIrq}
 use Rattle.port_core.specs.declared.run.Made.{Made}
@@ -26,11 +25,9 @@ use Rattle.port_core.specs.Local.{back_of, entry_for, is_at}
 use Rattle.port_core.specs.Place.{has_word}
 use Rattle.port_core.specs.Step.{CanStep, word_of}
 use Rattle.port_core.specs.Run.{CoreState, IsSound, word_in}
-use Rattle.core_laws.specs.Laws.{followed_by}
 use Rattle.core_laws.specs.Related.{Related, in_word, locals_of}
-use Rattle.pe_mem.specs.Found.{AgreeWithLooks}
-use Rattle.found_laws.proofs.HereRuns.{AreHere, IsHere, happened_in, next_state, stood}
-use Rattle.found_laws.proofs.SteadyLemmas.{is_steady, steady_targets}
+use Rattle.found_laws.proofs.HereRuns.{AreHere, IsHere, after_steps, happened_in, happened_join, here_join, ideal_after, ideal_is}
+use Rattle.found_laws.proofs.SteadyLemmas.{is_steady, targets_steady}
 
 back_route : (vcpu : ℕ) (at : AtIrq) (irq : IrqRecord) → (in_word vcpu at irq).route ≡ irq.route
 back_route vcpu at irq = of at.given
@@ -67,20 +64,17 @@ look_finds shape actor state ideal made id here is =
     ap (λ s. target_in (irq_at ideal.guest (Lpi id)).route s) here.related.shape_is
     ∙ ap (λ r. target_in r shape) (sym same ∙ ap (λ n. (irq_of n).route) (sym found))
 
-pub looks_agree :
-    (shape : GuestShape) (actor : ℕ) (t : ℕ → Option ℕ) (steps : List Made) (state : CoreState) (ideal : Ideal) → AreHere shape actor state ideal steps → IsTrue (list_all is_steady (events_of (happened_in shape actor state steps))) → IsWhole ideal.guest
-    → ((id : ℕ) → targets_in ideal id ≡ t id) → AgreeWithLooks shape steps t
-looks_agree shape actor t [] state ideal here steady whole now id made (k, l, at) is = absurd (omega (arith, l))
-looks_agree shape actor t (first ∷ steps) state ideal here steady whole now id made (zero, l, at) is = sym (now id) ∙ look_finds shape actor state ideal made id (subst (IsHere shape actor state ideal) at here.0) is
-looks_agree shape actor t (first ∷ steps) state ideal here steady whole now id made (suc k, l, at) is =
-    of (stood shape actor state first) steady (looks_agree shape actor t steps (next_state shape actor state first) (followed_by actor (stood shape actor state first) ideal) here.1) id made (k, omega (arith, l), at) is
-  where
-    later : List Happened
-    later = happened_in shape actor (next_state shape actor state first) steps
-
-    of : (o : Option Happened) → IsTrue (list_all is_steady (events_of (option_to_list o ++ later)))
-        → (IsTrue (list_all is_steady (events_of later)) → IsWhole (followed_by actor o ideal).guest → ((id : ℕ) → targets_in (followed_by actor o ideal) id ≡ t id) → AgreeWithLooks shape steps t) → AgreeWithLooks shape steps t
-    of None steady agree = agree steady whole now
-    of (Some one) steady agree =
-        let parts = and_parts (is_steady one.event) (list_all is_steady (events_of later)) steady in
-        agree parts.1 ((guest_is actor one.event ideal).whole whole) (λ id. steady_targets actor ideal whole id one.event parts.0 ∙ now id)
+-- a look among some steps found for which vCPU the LPI was as they began
+pub look_agrees :
+    (shape : GuestShape) (actor : ℕ) (early late : List Made) (look : Made) (state : CoreState) (ideal : Ideal) (id : ℕ) → AreHere shape actor state ideal (early ++ look ∷ late)
+    → IsTrue (list_all is_steady (events_of (happened_in shape actor state (early ++ look ∷ late)))) → IsWhole ideal.guest → look.step ≡ Look (IrqWord (Lpi id)) → targets_in ideal id ≡ target_in (irq_of look.found).route shape
+look_agrees shape actor early late look state ideal id here steady whole is =
+    let rest = look ∷ late in
+    let middle = after_steps shape actor state early in
+    let first = events_of (happened_in shape actor state early) in
+    let later = events_of (happened_in shape actor middle rest) in
+    let split : events_of (happened_in shape actor state (early ++ rest)) ≡ first ++ later = ap events_of (happened_join shape actor early rest state) ∙ events_both (happened_in shape actor state early) (happened_in shape actor middle rest) in
+    let parts = and_parts (list_all is_steady first) (list_all is_steady later) (sym (ap (list_all is_steady) split ∙ list_all-append is_steady first later) ∙ steady) in
+    let now : targets_in (ideal_after shape actor state ideal early) id ≡ targets_in ideal id
+    = ap (λ (i : Ideal). targets_in i id) (ideal_is shape actor early state ideal) ∙ targets_steady actor first ideal id parts.0 whole in
+    sym now ∙ look_finds shape actor middle (ideal_after shape actor state ideal early) look id (here_join shape actor early rest state ideal here).1.0 is

@@ -1,5 +1,5 @@
 -- The worked run, part by part, as a port tells of it.
-use Rattle.std.proofs.Common.{◌≡◌, ℕ, false, List, [], ◌∷◌, ◌++◌, Some, None, refl, slice_index_or, sym, take, arith}
+use Rattle.std.proofs.Common.{◌≡◌, ℕ, false, List, [], ◌∷◌, ◌++◌, Some, None, refl, slice_index_or, take, arith}
 use Rattle.std.proofs.lemmas.List.Elements.{All-nil}
 use Rattle.gic_base.specs.declared.icc.IccReg.TheVariants.{Eoir1, Iar1}
 use Rattle.gic_prio.specs.Levels.{least_in, with_level, without_level}
@@ -21,7 +21,8 @@ use Rattle.core_proper.specs.Worked.{spi, worked_guest}
 use Rattle.serial_laws.specs.Serial.{AreFit, WholePart, moments_in, moments_of}
 use Rattle.serial_laws.specs.Worked.{worked_parts}
 use Rattle.serial_laws.proofs.WorkedLemmas.{worked_parts_are_fit}
-use Rattle.pe_mem.specs.Found.{by_looks, takes_its_by}
+use Rattle.pe_mem.specs.Found.{takes_its_by}
+use Rattle.pe_mem.proofs.FoundLemmas.{found_by_none}
 use Rattle.found_laws.specs.Found.{AreAble, AreFoundParts, IsFoundPart}
 use Rattle.found_laws.specs.Worked.{WorkedPartsAreFound}
 use Rattle.found_laws.proofs.EagerRuns.{found_runs_are_eager}
@@ -59,7 +60,7 @@ found_so early part free call = record {
   seen = told_in worked_guest early part.actor;
   told = record { guest_is = refl; actor_is = refl; local_is = refl; own_is = refl };
   made = record { beside = record { maps = maps_taken part.steps; targets = λ number id. None }; maps = refl; call = call (record { maps = maps_taken part.steps; targets = λ number id. None }) refl };
-  found = record { finding = by_looks; kind = sym free; is_finding = tt; call = λ beside maps agrees. call beside maps };
+  found = found_by_none (told_in worked_guest early part.actor) part.steps part.operation part.answer free call;
 }
 
 worked_found : AreFoundParts worked_guest 0 [] worked_parts

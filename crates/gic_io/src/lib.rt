@@ -6,6 +6,7 @@
 #![tactic(auto)]
 
 mod fault;
+mod gate;
 mod memory;
 mod reading;
 mod sinks;
@@ -16,6 +17,7 @@ mod unread;
 mod writing;
 
 pub use fault::Failed;
+pub use gate::{Gate, OpenGate};
 pub use memory::{MemSink, MemSource};
 pub use reading::{Bytes, ReadError, read_all};
 pub use sinks::Sink;

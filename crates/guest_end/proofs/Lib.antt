@@ -1,1 +1,2 @@
 mod HomeLemmas
+pub mod EndsLemmas

@@ -1,1 +1,3 @@
 pub mod Home
+pub mod Ends
+pub mod Outcome

@@ -1,6 +1,6 @@
 -- A piece of a memory-mapped access, as the whole call.
 use Rattle.std.proofs.Common.{◌≡◌, ℕ, ◌&&◌, ◌||◌, not, Bool, true, false, cond, IsTrue, List, [], ◌∷◌, map, Option, Some, None, refl, sym, ap, subst, ◌∙◌}
-use Rattle.std.proofs.lemmas.Bool.{and_parts}
+use Rattle.std.proofs.lemmas.Bool.{and_from, and_parts}
 use Rattle.gic_base.specs.declared.operation.Frame.{Frame}
 use Rattle.gic_base.specs.declared.operation.Frame.TheVariants.{Dist, Redist, Its, Ram as Memory}
 use Rattle.gic_imap.specs.Map.{decoded as its_decoded}
@@ -156,16 +156,17 @@ makes_access old new frame offset size write value answer is_new can plain answe
     (let Of : Option ℕ → Type 0 = λ actor. IsCall (shape_of old) beside actor operation (part_events old part) answer in
     subst Of (sym actor) (plain_call old beside frame offset size write answer (part_events old part) plain (call_with old new frame offset size write value answer beside answers made agree))) in
     let own : Beside = record { maps = maps_taken part; targets = λ number. serves.view.targets } in
+    let goes : ℕ → Bool = λ id. has_interrupt (shape_of old) (Lpi id) && goes_by_target (shape_of old) serves.view frame offset size write id in
     record {
       part = part;
       adds = serves.adds;
       call = record { beside = own; maps = refl; call = call own (λ id there bit. refl) };
       found =
           record {
-            finding = by_looks;
+            finding = by_looks goes serves.view.targets;
             kind = sym (plain_kind old frame offset size write plain);
-            is_finding = tt;
-            call = λ beside maps agrees. call beside (λ id there bit. let is = made.found id there bit in agrees id is.look is.there is.step_is ∙ sym is.target_is);
+            is_finding = λ id going. let both = and_parts (has_interrupt (shape_of old) (Lpi id)) (goes_by_target (shape_of old) serves.view frame offset size write id) going in made.found id both.0 both.1;
+            call = λ beside maps agrees. call beside (λ id there bit. agrees id (and_from (has_interrupt (shape_of old) (Lpi id)) (goes_by_target (shape_of old) serves.view frame offset size write id) there bit));
           };
       piece = serves.piece operation by;
       proper = proper_of old new part operation answer serves.adds after (serves.piece operation by);

@@ -2,7 +2,7 @@
 use Rattle.std.proofs.Common.{zero, suc, ◌≡◌, ℕ, ◌+◌, ◌-◌, ◌<◌, ◌≤◌, ◌&&◌, not, nat_le, nat_lt, true≢false, Bool, true, false, if◌then◌else◌, IsTrue, IfSome, List, [], ◌∷◌, ◌++◌, map, All, Option, Some, None, is_none, refl, sym, ap, subst, ◌∙◌, arith}
 use Rattle.std.specs.List.{range_with_len, filter_map, flat_map}
 use Rattle.std.specs.Option.{option_map_or}
-use Rattle.std.proofs.lemmas.List.Elements.{All-cons, All-nil, All-append, Contains-append_right}
+use Rattle.std.proofs.lemmas.List.Elements.{All-cons, All-nil, All-append}
 use Rattle.gic_base.specs.declared.interrupt.Key.TheVariants.{Lpi}
 use Rattle.gic_base.specs.declared.shape.GuestShape.{GuestShape}
 use Rattle.gic_base.specs.Interrupt.{intid_of}
@@ -42,12 +42,10 @@ use Rattle.pe_mem.proofs.EachLemmas.{found_below, all_below, events_of_touched, 
 use Rattle.pe_mem.proofs.ServeLemmas.{nothing_known, one_made}
 use Rattle.pe_mem.proofs.TableLemmas.{TableBase, TableSoFar, is_pended, pend_at, last_read_before, unread_of}
 use Rattle.gic_base.specs.Interrupt.{has_interrupt}
-use Rattle.gic_word.specs.Record.{target_in}
-use Rattle.gic_word.specs.Word.{irq_of}
-use Rattle.port_core.specs.declared.step.CoreStep.TheVariants.{Look}
-use Rattle.port_core.specs.declared.word_id.WordId.TheVariants.{Irq as IrqWord}
 use Rattle.std.proofs.lemmas.Bool.{and_parts, leb-true, ltb-true}
-use Rattle.pe_mem.specs.Found.{IsFoundFor, reads_bit}
+use Rattle.pe_mem.specs.Found.{reads_bit}
+use Rattle.pe_mem.specs.Looked.{IsLookedAt, all_events, comes_before}
+use Rattle.pe_mem.proofs.LookedLemmas.{looked_after}
 
 and_true : (a : Bool) → IsTrue a → IsTrue (a && true)
 and_true true h = refl
@@ -301,18 +299,18 @@ enables_table old mid start new vcpu found pendbaser last was some add reads so 
     lpi_range : (id : ℕ) → IsTrue (has_interrupt shape (Lpi id)) → (8192 ≤ id) × (id < 8192 + shape.lpis)
     lpi_range id there = let both = and_parts (nat_le 8192 id) (nat_lt id (8192 + shape.lpis)) there in (leb-true 8192 id both.0, ltb-true id (8192 + shape.lpis) both.1)
 
-    found_so : (id : ℕ) → IsTrue (has_interrupt shape (Lpi id)) → IsTrue (reads_bit shape view vcpu id) → IsFoundFor shape part id (view.targets id)
+    found_so : (id : ℕ) → IsTrue (has_interrupt shape (Lpi id)) → IsTrue (reads_bit shape view vcpu id) → IsLookedAt old part id (view.targets id)
     found_so id there bit =
         let range = lpi_range id there in
         let number : 8192 + (id - 8192) ≡ id = omega (arith, range.0) in
         let few : id - 8192 < (shape_of start).lpis = below (id - 8192) (omega (arith, range.0, range.1)) in
-        let is = base.found (id - 8192) few (subst (λ s. IsTrue (is_pended s pendbaser base.words (id - 8192))) (sym same) (in_table id number (and_parts (not (is_table_zero pendbaser)) (is_in_table shape view vcpu id) bit).1)) in
-        record {
-          look = is.look;
-          there = Contains-append_right (one.step ∷ []) (reads.look ∷ [] ++ base.part) is.look (Contains-append_right (reads.look ∷ []) base.part is.look is.there);
-          step_is = is.step_is ∙ ap (λ n. Look (IrqWord (Lpi n))) number;
-          target_is = is.target_is ∙ ap (target_in (irq_of is.look.found).route) same;
-        }
+        let target = base.targets (id - 8192) in
+        let its = 8192 + (id - 8192) in
+        let is : IsLookedAt start base.part its target
+        = base.found (id - 8192) few (subst (λ s. IsTrue (is_pended s pendbaser base.words (id - 8192))) (sym same) (in_table id number (and_parts (not (is_table_zero pendbaser)) (is_in_table shape view vcpu id) bit).1)) in
+        let from : IsLookedAt mid (reads.look ∷ [] ++ base.part) its target = looked_after mid start (reads.look ∷ []) base.part its target reads.adds (ap (all_events (comes_before its)) reads.events) is in
+        let By : ℕ → Type 0 = λ n. IsLookedAt old part n target in
+        subst By number (looked_after old mid (one.step ∷ []) (reads.look ∷ [] ++ base.part) its target one.adds (ap (all_events (comes_before its)) one.events) from)
       where
         in_table : (id : ℕ) → 8192 + (id - 8192) ≡ id → IsTrue (is_in_table shape view vcpu id) → IsTrue (is_pended shape pendbaser base.words (id - 8192))
         in_table id number h = subst (λ n. IsTrue (is_in_table shape view vcpu n)) (sym number) h

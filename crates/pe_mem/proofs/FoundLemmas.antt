@@ -1,15 +1,17 @@
 -- What an access found stays so among more steps of its actor.
-use Rattle.std.proofs.Common.{◌≡◌, true, IsTrue, List, ◌++◌, sym, ap, subst, ◌∙◌}
+use Rattle.std.proofs.Common.{◌≡◌, ℕ, true, false, IsTrue, List, ◌++◌, Option, None, sym, ap, ◌∙◌}
 use Rattle.std.proofs.lemmas.Bool.{and_from}
 use Rattle.std.proofs.lemmas.List.{append_assoc}
 use Rattle.std.proofs.lemmas.List.Folds.{list_all-append}
-use Rattle.gic_call.specs.Trace.{Happened}
+use Rattle.gic_call.specs.declared.event.Operation.{Operation}
+use Rattle.gic_call.specs.Trace.{Beside, Happened, IsCall}
 use Rattle.port_core.specs.declared.run.Made.{Made}
 use Rattle.port_core.specs.Port.{Seen, Adds, local_by, part_events, shape_of}
 use Rattle.port_core.proofs.PortLemmas.{local_joins}
+use Rattle.core_proper.specs.Called.{maps_taken, vcpu_of_actor}
 use Rattle.port_call.proofs.TurnLemmas.{events_then}
 use Rattle.its_exec.specs.Queue.{Taken}
-use Rattle.pe_mem.specs.Found.{TookAmong, are_before, is_before}
+use Rattle.pe_mem.specs.Found.{IsCallAsFound, TookAmong, are_before, by_looks, is_before, takes_its_by}
 
 pub before_both : (first next : List Happened) → IsTrue (are_before first) → IsTrue (are_before next) → are_before (first ++ next) ≡ true
 before_both first next one two = list_all-append (λ (happened : Happened). is_before happened.event) first next ∙ and_from (are_before first) (are_before next) one two
@@ -48,3 +50,8 @@ among_before old part more commands among =
       begins = among.begins;
       ends = sym (append_assoc old.own part more) ∙ ap (λ xs. xs ++ more) among.ends ∙ append_assoc among.to.own among.late more;
     }
+
+-- a call that goes by no vCPU that an LPI is for
+pub found_by_none : (seen : Seen) (part : List Made) (operation : Operation) (answer : Option ℕ) → takes_its_by (shape_of seen) operation ≡ false
+    → ((beside : Beside) → beside.maps ≡ maps_taken part → IsCall (shape_of seen) beside (vcpu_of_actor (shape_of seen) seen.actor) operation (part_events seen part) answer) → IsCallAsFound seen part operation answer
+found_by_none seen part operation answer free call = record { finding = by_looks (λ id. false) (λ id. None); kind = sym free; is_finding = λ id going. absurd (cc); call = λ beside maps agrees. call beside maps }

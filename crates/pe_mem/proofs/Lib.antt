@@ -1,3 +1,4 @@
+pub mod LookedLemmas
 pub mod PartLemmas
 pub mod EachLemmas
 pub mod PartsLemmas

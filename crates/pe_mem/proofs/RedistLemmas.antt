@@ -48,7 +48,8 @@ use Rattle.pe_mem.proofs.ServeLemmas.{nothing_known, none_made, read_made, freel
 use Rattle.pe_mem.proofs.UpdateLemmas.{stored_view, is_put, put_made}
 use Rattle.gic_base.specs.declared.interrupt.Key.TheVariants.{Lpi}
 use Rattle.gic_base.specs.Interrupt.{has_interrupt}
-use Rattle.pe_mem.specs.Found.{IsFoundFor, reads_bit}
+use Rattle.pe_mem.specs.Found.{reads_bit}
+use Rattle.pe_mem.specs.Looked.{IsLookedAt}
 
 and_true : (a : Bool) → IsTrue a → IsTrue (a && true)
 and_true true h = refl
@@ -224,7 +225,7 @@ pub writes_ctlr : (old new : Seen) (vcpu : ℕ) (reg : Reg) (half : Half) (value
 writes_ctlr old new vcpu reg half value e rises enables =
     let shape = shape_of old in
     let Of : Bool → Type 0 = λ b.
-    (serves : Serves old new (λ view. if b then enable_events shape view vcpu else []) (λ view. if b then (if view.lpis vcpu then [] else table_places shape view vcpu) else []) (λ view. if b then enable_events shape (before_enabling vcpu view) vcpu else [])) × ((id : ℕ) → IsTrue (has_interrupt shape (Lpi id)) → IsTrue (b && reads_bit shape serves.view vcpu id) → IsFoundFor shape serves.part id (serves.view.targets id)) in
+    (serves : Serves old new (λ view. if b then enable_events shape view vcpu else []) (λ view. if b then (if view.lpis vcpu then [] else table_places shape view vcpu) else []) (λ view. if b then enable_events shape (before_enabling vcpu view) vcpu else [])) × ((id : ℕ) → IsTrue (has_interrupt shape (Lpi id)) → IsTrue (b && reads_bit shape serves.view vcpu id) → IsLookedAt old serves.part id (serves.view.targets id)) in
     let one : Of true = (enables.serves, enables.found) in
     let both = subst Of (sym rises) one in
     write_by old new vcpu reg Ctlr half value e (record { serves = both.0; found = both.1 })
@@ -233,7 +234,7 @@ pub keeps_ctlr : (old : Seen) (vcpu : ℕ) (reg : Reg) (half : Half) (value : �
 keeps_ctlr old vcpu reg half value ease e stays =
     let shape = shape_of old in
     let Of : Bool → Type 0 = λ b.
-    (serves : Serves old old (λ view. if b then enable_events shape view vcpu else []) (λ view. if b then (if view.lpis vcpu then [] else table_places shape view vcpu) else []) (λ view. if b then enable_events shape (before_enabling vcpu view) vcpu else [])) × ((id : ℕ) → IsTrue (has_interrupt shape (Lpi id)) → IsTrue (b && reads_bit shape serves.view vcpu id) → IsFoundFor shape serves.part id (serves.view.targets id)) in
+    (serves : Serves old old (λ view. if b then enable_events shape view vcpu else []) (λ view. if b then (if view.lpis vcpu then [] else table_places shape view vcpu) else []) (λ view. if b then enable_events shape (before_enabling vcpu view) vcpu else [])) × ((id : ℕ) → IsTrue (has_interrupt shape (Lpi id)) → IsTrue (b && reads_bit shape serves.view vcpu id) → IsLookedAt old serves.part id (serves.view.targets id)) in
     let none : Of false = (serves_nothing old (λ view. []) (λ view. []) (λ view. []) ease (λ view. refl) (λ view. refl), λ id there bit. absurd (cc)) in
     let both = subst Of (sym stays) none in
     write_by old old vcpu reg Ctlr half value e (record { serves = both.0; found = both.1 })

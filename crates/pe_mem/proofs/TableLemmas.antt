@@ -1,11 +1,11 @@
 -- EnableLPIs rises: the pending table, LPI by LPI.
-use Rattle.std.proofs.Common.{append-nil, add-one, zero, suc, ◌≡◌, ◌≢◌, ◌⊎◌, inl, inr, true≢false, lit<, ℕ, ◌+◌, ◌*◌, ◌/◌, ◌%◌, ◌<◌, ◌≤◌, ◌==◌, ◌&&◌, ◌||◌, not, Bool, true, false, if◌then◌else◌, nat_lt, nat_le, IsTrue, IfSome, List, [], ◌∷◌, ◌++◌, All, Option, Some, None, refl, sym, ap, subst, ◌∙◌, arith}
+use Rattle.std.proofs.Common.{append-nil, add-one, zero, suc, ◌≡◌, ◌≢◌, ◌⊎◌, inl, inr, true≢false, ℕ, ◌+◌, ◌*◌, ◌/◌, ◌%◌, ◌<◌, ◌≤◌, ◌==◌, ◌&&◌, ◌||◌, not, Bool, true, false, if◌then◌else◌, nat_lt, nat_le, IsTrue, IfSome, List, [], ◌∷◌, ◌++◌, All, Option, Some, None, refl, sym, ap, subst, ◌∙◌, arith}
 use Rattle.std.specs.List.{range_with_len, filter_map, list_any}
 use Rattle.std.specs.Option.{option_map_or, option_to_list}
 use Rattle.std.proofs.lemmas.List.Folds.{list_any-append}
 use Rattle.std.proofs.lemmas.Bool.{eq-eqb, ne_eqb, leb-true, lt-ltb, le-leb, cases_eq}
 use Rattle.std.proofs.lemmas.List.{append_assoc}
-use Rattle.std.proofs.lemmas.List.Elements.{All-cons, All-nil, All-append, Contains-append_left, Contains-append_right, filter-append}
+use Rattle.std.proofs.lemmas.List.Elements.{All-cons, All-nil, All-append, filter-append}
 use Rattle.gic_base.specs.declared.interrupt.Key.{Key}
 use Rattle.gic_base.specs.declared.interrupt.Key.TheVariants.{Lpi}
 use Rattle.gic_base.specs.declared.shape.GuestShape.{GuestShape}
@@ -19,8 +19,7 @@ use Rattle.gic_open.specs.Plain.{place_of_plain, plain_count}
 use Rattle.gic_ram.specs.declared.access.Part.{Part}
 use Rattle.gic_ram.specs.Access.{part_of, extracted}
 use Rattle.gic_word.specs.declared.record.Irq.{Irq}
-use Rattle.gic_word.specs.Record.{is_number, target_in}
-use Rattle.gic_word.specs.Word.{irq_of}
+use Rattle.gic_word.specs.Record.{is_number}
 use Rattle.gic_call.specs.declared.event.Event.{Event}
 use Rattle.gic_call.specs.declared.event.Event.TheVariants.{Touch, Read, Enable}
 use Rattle.gic_call.specs.declared.event.Found.{Found}
@@ -59,10 +58,11 @@ use Rattle.its_exec.specs.Parts.{LooksAtTarget}
 use Rattle.its_exec.proofs.FrameLemmas.{Leaves, leaves, knows_on, all_steps, off_each}
 use Rattle.its_exec.proofs.LookLemmas.{lpi_place, plain_leaves_plain, plain_known, word_held}
 use Rattle.pe_mem.specs.Call.{NamesBy, IsPieceOf, is_key_of}
-use Rattle.pe_mem.specs.Found.{IsFoundFor}
+use Rattle.pe_mem.specs.Looked.{IsLookedAt, all_events, comes_after, comes_before}
 use Rattle.pe_mem.specs.Each.{touched_at}
 use Rattle.pe_mem.specs.Pending.{part_of_number, is_pended_in, pend, FetchesWord, GetsWord, PendsIf, PendsWhere, DoesNumber}
 use Rattle.pe_mem.specs.declared.pending.Fetched.{Fetched}
+use Rattle.pe_mem.proofs.LookedLemmas.{all_both, before_higher, looked_before, looked_here}
 use Rattle.pe_mem.proofs.EachLemmas.{with_irq, found_irq, found_below, own_nil, own_joins, own_of_piece, key_early, stays_on, stays_self, ease_on}
 
 -- The table.
@@ -192,7 +192,8 @@ pub record TableBase (old now : Seen) (vcpu pendbaser n : ℕ) : Type 0 where
   pub words : ℕ → ℕ
   pub named : named_of (Some old.actor) (part_events old part) ≡ filter_map (touched_at (pend_at pended) irqs) (range_with_len 0 n)
   pub flags : (m : ℕ) → m < n → pended m ≡ (is_number vcpu (targets m) && is_pended (shape_of old) pendbaser words m)
-  pub found : (m : ℕ) → m < n → IsTrue (is_pended (shape_of old) pendbaser words m) → IsFoundFor (shape_of old) part (8192 + m) (targets m)
+  pub found : (m : ℕ) → m < n → IsTrue (is_pended (shape_of old) pendbaser words m) → IsLookedAt old part (8192 + m) (targets m)
+  pub below : IsTrue (all_events (comes_before (8192 + n)) (part_events old part))
   pub reads : (m : ℕ) → m < n → IfSome (part_of_number (shape_of old) pendbaser m) (λ p. IsLastRead (Word (Ram p.index)) (FoundWord (words p.index)) (part_events old part))
   pub other : IsUnread (Word (Pendbaser vcpu)) (part_events old part)
   pub stays : StaysAtEase old.local now.local
@@ -232,6 +233,7 @@ table_none old vcpu pendbaser ease known =
             named = refl;
             flags = λ m h. absurd (omega (arith, h));
             found = λ m h bit. absurd (omega (arith, h));
+            below = refl;
             reads = λ m h. absurd (omega (arith, h));
             other = All-nil (λ h. h.event ≡ Read (Word (Pendbaser vcpu)) → ⊥);
             stays = stays_self old.local ease;
@@ -289,26 +291,35 @@ found_kept pended irqs n flag irq =
     let other : (m == n) ≡ false = ne_eqb m n (λ e. omega (arith, e, h)) in
     ap (λ (b : Bool). touched_at (λ k. if (if b then flag else pended m) then Some (Touch (Lpi (8192 + k)) pend) else None) (λ k. if b then irq else irqs m) m) other)
 
--- what some steps found, more steps did
-found_more : (shape : GuestShape) (early late : List Made) (id : ℕ) (target : Option ℕ) → IsFoundFor shape early id target → IsFoundFor shape (early ++ late) id target
-found_more shape early late id target is = record { look = is.look; there = Contains-append_left early late is.look is.there; step_is = is.step_is; target_is = is.target_is }
-
 -- with one number more
 found_all :
-    (shape : GuestShape) (pendbaser n : ℕ) (part : List Made) (targets : ℕ → Option ℕ) (words : ℕ → ℕ) (target : Option ℕ) → ((m : ℕ) → m < n → IsTrue (is_pended shape pendbaser words m) → IsFoundFor shape part (8192 + m) (targets m))
-    → (IsTrue (is_pended shape pendbaser words n) → IsFoundFor shape part (8192 + n) target)
-    → (m : ℕ) → m < n + 1 → IsTrue (is_pended shape pendbaser words m) → IsFoundFor shape part (8192 + m) (with_target targets n target m)
+    (old : Seen) (pendbaser n : ℕ) (part : List Made) (targets : ℕ → Option ℕ) (words : ℕ → ℕ) (target : Option ℕ) → ((m : ℕ) → m < n → IsTrue (is_pended (shape_of old) pendbaser words m) → IsLookedAt old part (8192 + m) (targets m))
+    → (IsTrue (is_pended (shape_of old) pendbaser words n) → IsLookedAt old part (8192 + n) target)
+    → (m : ℕ) → m < n + 1 → IsTrue (is_pended (shape_of old) pendbaser words m) → IsLookedAt old part (8192 + m) (with_target targets n target m)
 unfolding with_target
-found_all shape pendbaser n part targets words target before here =
-    next_below (λ m. IsTrue (is_pended shape pendbaser words m) → IsFoundFor shape part (8192 + m) (with_target targets n target m)) n
-    (λ m h bit. subst (IsFoundFor shape part (8192 + m)) (sym (ap (λ (b : Bool). if b then target else targets m) (ne_eqb m n (λ e. omega (arith, e, h))))) (before m h bit))
-    (λ bit. subst (IsFoundFor shape part (8192 + n)) (sym (ap (λ (b : Bool). if b then target else targets n) (eq-eqb n n refl))) (here bit))
+found_all old pendbaser n part targets words target before here =
+    next_below (λ m. IsTrue (is_pended (shape_of old) pendbaser words m) → IsLookedAt old part (8192 + m) (with_target targets n target m)) n
+    (λ m h bit. subst (IsLookedAt old part (8192 + m)) (sym (ap (λ (b : Bool). if b then target else targets m) (ne_eqb m n (λ e. omega (arith, e, h))))) (before m h bit))
+    (λ bit. subst (IsLookedAt old part (8192 + n)) (sym (ap (λ (b : Bool). if b then target else targets n) (eq-eqb n n refl))) (here bit))
+
+-- what comes before the look at a number's LPI, with nothing more, comes before that at the next
+below_next : (n : ℕ) (early : List Happened) → IsTrue (all_events (comes_before (8192 + n)) early) → IsTrue (all_events (comes_before (8192 + (n + 1))) early)
+below_next n early all = before_higher (8192 + n) (8192 + (n + 1)) (omega arith) early all
+
+-- so it does with the touch of the number's LPI, which comes after the look at it and those at lower ones
+below_touched : (n : ℕ) (irq : Irq) (early : List Happened) → IsTrue (all_events (comes_before (8192 + n)) early) → IsTrue (all_events (comes_before (8192 + (n + 1))) (early ++ (record { event = Touch (Lpi (8192 + n)) pend; found = Record irq }) ∷ []))
+below_touched n irq early all =
+    let h : 8192 + n < 8192 + (n + 1) = omega arith in
+    all_both (comes_before (8192 + (n + 1))) early ((record { event = Touch (Lpi (8192 + n)) pend; found = Record irq }) ∷ []) (below_next n early all) (ap (λ b. b && true) (lt-ltb (8192 + n) (8192 + (n + 1)) h))
+
+touched_late : (n m : ℕ) (irq : Irq) → m < n + 1 → IsTrue (all_events (comes_after (8192 + m)) ((record { event = Touch (Lpi (8192 + n)) pend; found = Record irq }) ∷ []))
+touched_late n m irq h = ap (λ b. b && true) (le-leb (8192 + m) (8192 + n) (omega (arith, h)))
 
 -- steps after which nothing more is to be seen
 base_kept :
     (old now next : Seen) (vcpu pendbaser n : ℕ) (base : TableBase old now vcpu pendbaser n) (target : Option ℕ) (late : List Made) → Adds now next late → part_events now late ≡ [] → next.local ≡ now.local → IsTrue (takes_none late)
     → ((operation : Operation) → ((key : Key) → is_end_of (shape_of now) now.actor (Some operation) key ≡ false) → IsPieceOf now operation late) → Knows next (Word (Pendbaser vcpu)) (FoundWord pendbaser)
-    → (is_number vcpu target && is_pended (shape_of old) pendbaser base.words n) ≡ false → (IsTrue (is_pended (shape_of old) pendbaser base.words n) → IsFoundFor (shape_of old) base.part (8192 + n) target)
+    → (is_number vcpu target && is_pended (shape_of old) pendbaser base.words n) ≡ false → (IsTrue (is_pended (shape_of old) pendbaser base.words n) → IsLookedAt old base.part (8192 + n) target)
     → IfSome (part_of_number (shape_of old) pendbaser n) (λ p. IsLastRead (Word (Ram p.index)) (FoundWord (base.words p.index)) (part_events old base.part)) → TableBase old next vcpu pendbaser (n + 1)
 unfolding happens with_flag
 base_kept old now next vcpu pendbaser n base target late adds silent same none piece known flag looked read =
@@ -329,7 +340,10 @@ base_kept old now next vcpu pendbaser n base target late adds silent same none p
           ap (named_of (Some old.actor)) events ∙ base.named ∙ sym (found_kept base.pended base.irqs n false irq)
           ∙ sym (filter_map_none (touched_at (pend_at (with_flag base.pended n false)) (with_irq base.irqs n irq)) n missing);
       flags = flags_more (shape_of old) vcpu pendbaser n base.pended base.targets base.words false target base.flags flag;
-      found = let all = found_all (shape_of old) pendbaser n base.part base.targets base.words target base.found looked in λ m h bit. found_more (shape_of old) base.part late (8192 + m) (with_target base.targets n target m) (all m h bit);
+      found =
+          let all = found_all old pendbaser n base.part base.targets base.words target base.found looked in
+          λ m h bit. looked_before old now base.part late (8192 + m) (with_target base.targets n target m) base.adds (ap (all_events (comes_after (8192 + m))) silent) (all m h bit);
+      below = ap (all_events (comes_before (8192 + (n + 1)))) events ∙ below_next n (part_events old base.part) base.below;
       reads = let all = next_below (Reads (part_events old base.part)) n base.reads read in λ m h. subst (λ piece. Reads piece m) (sym events) (all m h);
       other = subst (IsUnread (Word (Pendbaser vcpu))) (sym events) base.other;
       stays = subst (StaysAtEase old.local) (sym same) base.stays;
@@ -364,7 +378,7 @@ lpi_there shape number h = both (nat_le 8192 (8192 + number)) (nat_lt (8192 + nu
 base_touched :
     (old now next : Seen) (vcpu pendbaser n word found : ℕ) (part : Part) (base : TableBase old now vcpu pendbaser n) (target : Option ℕ) → vcpu < (shape_of now).vcpus → n < (shape_of now).lpis → part.index < (shape_of now).ram / 8 → is_table_zero pendbaser ≡ false
     → part_of_number (shape_of now) pendbaser n ≡ Some part → is_pended_in pendbaser (extracted word part) n ≡ true → Knows now (Word (Ram part.index)) (FoundWord word) → (touches : Touches now next (Lpi (8192 + n)) pend found)
-    → (is_number vcpu target && is_pended (shape_of old) pendbaser base.words n) ≡ true → IsFoundFor (shape_of old) base.part (8192 + n) target
+    → (is_number vcpu target && is_pended (shape_of old) pendbaser base.words n) ≡ true → IsLookedAt old base.part (8192 + n) target
     → IfSome (part_of_number (shape_of old) pendbaser n) (λ p. IsLastRead (Word (Ram p.index)) (FoundWord (base.words p.index)) (part_events old base.part)) → TableBase old next vcpu pendbaser (n + 1)
 unfolding IsUnread happens with_flag
 base_touched old now next vcpu pendbaser n word found part base target vcpu_there below inside unset here bit holds touches flag looked read =
@@ -393,7 +407,10 @@ base_touched old now next vcpu pendbaser n word found part base target vcpu_ther
           ∙ ap (λ early. early ++ more) (base.named ∙ sym (found_kept base.pended base.irqs n true irq))
           ∙ sym (filter_map_found (touched_at (pend_at (with_flag base.pended n true)) (with_irq base.irqs n irq)) n happened there);
       flags = flags_more (shape_of old) vcpu pendbaser n base.pended base.targets base.words true target base.flags flag;
-      found = let all = found_all (shape_of old) pendbaser n base.part base.targets base.words target base.found (λ bit. looked) in λ m h bit. found_more (shape_of old) base.part late (8192 + m) (with_target base.targets n target m) (all m h bit);
+      found =
+          let all = found_all old pendbaser n base.part base.targets base.words target base.found (λ bit. looked) in
+          λ m h bit. looked_before old now base.part late (8192 + m) (with_target base.targets n target m) base.adds (ap (all_events (comes_after (8192 + m))) touches.events ∙ touched_late n m irq h) (all m h bit);
+      below = ap (all_events (comes_before (8192 + (n + 1)))) events ∙ below_touched n irq (part_events old base.part) base.below;
       reads =
           let all = next_below (Reads (part_events old base.part)) n base.reads read in
           λ m h. subst (λ piece. Reads piece m) (sym events) (read_more (part_of_number (shape_of old) pendbaser m) (all m h));
@@ -483,7 +500,8 @@ at_read old now next vcpu pendbaser n part last fetched same inside here gets so
       named =
           ap (named_of (Some old.actor)) events ∙ filter-append (λ h. not (is_beside (Some old.actor) h.event)) early more ∙ append-nil (named_of (Some old.actor) early) ∙ base.named;
       flags = λ m h. base.flags m h ∙ ap (λ b. is_number vcpu (base.targets m) && b) (sym (kept m h));
-      found = λ m h bit. found_more (shape_of old) base.part late (8192 + m) (base.targets m) (base.found m h (sym (kept m h) ∙ bit));
+      found = λ m h bit. looked_before old now base.part late (8192 + m) (base.targets m) base.adds (ap (all_events (comes_after (8192 + m))) reads.events) (base.found m h (sym (kept m h) ∙ bit));
+      below = ap (all_events (comes_before (8192 + n))) events ∙ all_both (comes_before (8192 + n)) early more base.below refl;
       reads = λ m h. subst (λ piece. Last piece m) (sym events) (read_on (part_of_number (shape_of old) pendbaser m) (apart m h) (base.reads m h));
       other =
           subst (IsUnread (Word (Pendbaser vcpu))) (sym events)
@@ -572,7 +590,7 @@ over old now next vcpu pendbaser n part fetched at here base holds known read =
 
 -- no bit, or an LPI that is for another vCPU
 number_left : (old now : Seen) (vcpu pendbaser n : ℕ) (part : Part) (fetched : Fetched) (target : Option ℕ) (at : AtNumber old now vcpu pendbaser n part fetched) → part_of_number (shape_of old) pendbaser n ≡ Some part
-    → (is_number vcpu target && is_pended (shape_of old) pendbaser at.base.words n) ≡ false → (IsTrue (is_pended (shape_of old) pendbaser at.base.words n) → IsFoundFor (shape_of old) at.base.part (8192 + n) target)
+    → (is_number vcpu target && is_pended (shape_of old) pendbaser at.base.words n) ≡ false → (IsTrue (is_pended (shape_of old) pendbaser at.base.words n) → IsLookedAt old at.base.part (8192 + n) target)
     → TableSoFar old now vcpu pendbaser (n + 1) (Some fetched)
 unfolding base_kept
 number_left old now vcpu pendbaser n part fetched target at here flag looked =
@@ -603,7 +621,8 @@ at_looked old now mid vcpu pendbaser n part fetched target vcpu_there below insi
             words = base.words;
             named = ap (named_of (Some old.actor)) events ∙ base.named;
             flags = base.flags;
-            found = λ m h bit. found_more (shape_of old) base.part late (8192 + m) (base.targets m) (base.found m h bit);
+            found = λ m h bit. looked_before old now base.part late (8192 + m) (base.targets m) base.adds (ap (all_events (comes_after (8192 + m))) looks.silent) (base.found m h bit);
+            below = ap (all_events (comes_before (8192 + n))) events ∙ base.below;
             reads = λ m h. subst (λ piece. Reads piece m) (sym events) (base.reads m h);
             other = subst (IsUnread (Word (Pendbaser vcpu))) (sym events) base.other;
             stays = subst (StaysAtEase old.local) (sym looks.local_is) base.stays;
@@ -628,19 +647,14 @@ at_looked old now mid vcpu pendbaser n part fetched target vcpu_there below insi
 
 -- that found for which vCPU it is
 found_here : (old now mid : Seen) (vcpu pendbaser n : ℕ) (part : Part) (fetched : Fetched) (target : Option ℕ) (vcpu_there : vcpu < (shape_of now).vcpus) (below : n < (shape_of now).lpis) (inside : part.index < (shape_of now).ram / 8) (looks : LooksAtTarget now mid (8192 + n) target)
-    (at : AtNumber old now vcpu pendbaser n part fetched) → IsFoundFor (shape_of old) (at_looked old now mid vcpu pendbaser n part fetched target vcpu_there below inside looks at).base.part (8192 + n) target
+    (at : AtNumber old now vcpu pendbaser n part fetched) → IsLookedAt old (at_looked old now mid vcpu pendbaser n part fetched target vcpu_there below inside looks at).base.part (8192 + n) target
 unfolding at_looked
-found_here old now mid vcpu pendbaser n part fetched target vcpu_there below inside looks at = record {
-  look = looks.look;
-  there = Contains-append_right at.base.part (looks.look ∷ []) looks.look (0, lit< tt, refl);
-  step_is = looks.step_is;
-  target_is = looks.target_is ∙ ap (target_in (irq_of looks.look.found).route) (ap shape_of at.base.adds.new_is);
-}
+found_here old now mid vcpu pendbaser n part fetched target vcpu_there below inside looks at = looked_here old now mid at.base.part (8192 + n) target at.base.adds at.base.below looks
 
 -- the LPI becomes pending
 number_pended :
     (old now next : Seen) (vcpu pendbaser n found : ℕ) (part : Part) (fetched : Fetched) (target : Option ℕ) (at : AtNumber old now vcpu pendbaser n part fetched) → shape_of now ≡ shape_of old → vcpu < (shape_of now).vcpus → n < (shape_of now).lpis
-    → part.index < (shape_of now).ram / 8 → is_table_zero pendbaser ≡ false → part_of_number (shape_of old) pendbaser n ≡ Some part → is_pended_in pendbaser (extracted fetched.word part) n ≡ true → is_number vcpu target ≡ true → IsFoundFor (shape_of old) at.base.part (8192 + n) target
+    → part.index < (shape_of now).ram / 8 → is_table_zero pendbaser ≡ false → part_of_number (shape_of old) pendbaser n ≡ Some part → is_pended_in pendbaser (extracted fetched.word part) n ≡ true → is_number vcpu target ≡ true → IsLookedAt old at.base.part (8192 + n) target
     → (touches : Touches now next (Lpi (8192 + n)) pend found) → TableSoFar old next vcpu pendbaser (n + 1) (Some fetched)
 unfolding base_touched IsUnread
 number_pended old now next vcpu pendbaser n found part fetched target at same vcpu_there below inside unset here bit its looked touches =
@@ -685,7 +699,7 @@ unfolding base_kept
 table_outside old now vcpu pendbaser n last here so =
     record { base = base'; last_is = of last so.last_is }
   where
-    none_there : IsTrue (is_pended (shape_of old) pendbaser so.base.words n) → IsFoundFor (shape_of old) so.base.part (8192 + n) None
+    none_there : IsTrue (is_pended (shape_of old) pendbaser so.base.words n) → IsLookedAt old so.base.part (8192 + n) None
     none_there bit = absurd (no_bit ((pending_address pendbaser (8192 + n)).1) (subst (λ o. IsTrue (is_pended_in pendbaser (option_map_or (λ part. extracted (so.base.words part.index) part) o 0) n)) here bit))
 
     base' : TableBase old now vcpu pendbaser (n + 1)
@@ -730,7 +744,7 @@ number_rest old mid next vcpu pendbaser n part fetched at words vcpu_there below
     let looked = at_looked old mid pends.mid vcpu pendbaser n part fetched pends.target (subst There (sym same) vcpu_there) (subst Below (sym same) below) (subst In (sym same) inside) pends.looks at in
     of looked (found_here old mid pends.mid vcpu pendbaser n part fetched pends.target (subst There (sym same) vcpu_there) (subst Below (sym same) below) (subst In (sym same) inside) pends.looks at) inside (is_number vcpu pends.target) refl pends.rest
   where
-    of : (looked : AtNumber old pends.mid vcpu pendbaser n part fetched) → IsFoundFor (shape_of old) looked.base.part (8192 + n) pends.target → part.index < (shape_of old).ram / 8 → (its : Bool) → is_number vcpu pends.target ≡ its → PendsIf its pends.mid next (8192 + n) → TableSoFar old next vcpu pendbaser (n + 1) (Some fetched)
+    of : (looked : AtNumber old pends.mid vcpu pendbaser n part fetched) → IsLookedAt old looked.base.part (8192 + n) pends.target → part.index < (shape_of old).ram / 8 → (its : Bool) → is_number vcpu pends.target ≡ its → PendsIf its pends.mid next (8192 + n) → TableSoFar old next vcpu pendbaser (n + 1) (Some fetched)
     of looked has inside true its touches =
         let same : shape_of pends.mid ≡ shape_of old = ap shape_of looked.base.adds.new_is in
         let There : GuestShape → Type 0 = λ shape. vcpu < shape.vcpus in

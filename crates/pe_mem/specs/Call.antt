@@ -24,7 +24,8 @@ use Rattle.core_proper.specs.Progress.{Progress, is_end_of}
 use Rattle.core_proper.specs.Proper.{is_settled}
 use Rattle.port_call.specs.Piece.{IsIdle, IsGoodPiece, IsPiece, takes_none}
 use Rattle.port_call.specs.Rest.{StaysAtEase}
-use Rattle.pe_mem.specs.Found.{IsCallAsFound, IsFoundFor, goes_by_target}
+use Rattle.pe_mem.specs.Found.{IsCallAsFound, goes_by_target}
+use Rattle.pe_mem.specs.Looked.{IsLookedAt}
 
 -- a vCPU can make one: it has nothing at its interface, owes nothing, and has neither the ITS nor the mark of GICD_CTLR
 pub record CanAccess (seen : Seen) : Type 0 where
@@ -105,4 +106,4 @@ pub record ServesAccess (old new : Seen) (frame : Frame) (offset size : ℕ) (wr
       Serves old new (λ view. access_events (shape_of old) view frame offset size write) (λ view. access_places (shape_of old) view frame offset size write)
       (λ view. named_by_access (shape_of old) view frame offset size write)
   pub reads : read_answer write value ≡ read_answer write (access_value (shape_of old) serves.view frame offset size)
-  pub found : (id : ℕ) → IsTrue (has_interrupt (shape_of old) (Lpi id)) → IsTrue (goes_by_target (shape_of old) serves.view frame offset size write id) → IsFoundFor (shape_of old) serves.part id (serves.view.targets id)
+  pub found : (id : ℕ) → IsTrue (has_interrupt (shape_of old) (Lpi id)) → IsTrue (goes_by_target (shape_of old) serves.view frame offset size write id) → IsLookedAt old serves.part id (serves.view.targets id)

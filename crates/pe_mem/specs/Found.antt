@@ -1,7 +1,6 @@
 -- What an access finds of the vCPUs that LPIs are for (own choice): its events are those of its call with whatever vCPUs agree with that.
-use Rattle.std.specs.Prelude.{◌≡◌, ℕ, ◌&&◌, ◌||◌, not, Bool, true, false, IsTrue, List, ◌++◌, Contains, Option, Some}
+use Rattle.std.specs.Prelude.{◌≡◌, ℕ, ◌&&◌, ◌||◌, not, Bool, true, false, IsTrue, List, ◌++◌, Option, Some}
 use Rattle.std.specs.List.{list_all}
-use Rattle.gic_base.specs.declared.interrupt.Key.TheVariants.{Lpi}
 use Rattle.gic_base.specs.declared.operation.Frame.{Frame}
 use Rattle.gic_base.specs.declared.operation.Frame.TheVariants.{Redist, Its}
 use Rattle.gic_base.specs.declared.operation.GuestOp.{GuestOp}
@@ -14,8 +13,6 @@ use Rattle.gic_rmap.specs.Contents.{enable_lpis_after}
 use Rattle.gic_rmap.specs.Map.{decoded}
 use Rattle.gic_imap.specs.Map.{decoded as its_decoded}
 use Rattle.gic_open.specs.declared.plain.PlainWord.TheVariants.{Pendbaser}
-use Rattle.gic_word.specs.Record.{target_in}
-use Rattle.gic_word.specs.Word.{irq_of}
 use Rattle.gic_call.specs.Access.{is_in_table, is_table_zero}
 use Rattle.gic_call.specs.Call.{takes_turn}
 use Rattle.gic_call.specs.declared.event.Event.{Event}
@@ -26,23 +23,11 @@ use Rattle.gic_call.specs.declared.event.QueueChange.TheVariants.{Runs}
 use Rattle.gic_call.specs.Trace.{Beside, Happened, IsCall}
 use Rattle.gic_call.specs.View.{View}
 use Rattle.port_core.specs.declared.run.Made.{Made}
-use Rattle.port_core.specs.declared.step.CoreStep.TheVariants.{Look}
-use Rattle.port_core.specs.declared.word_id.WordId.TheVariants.{Irq}
 use Rattle.port_core.specs.Port.{Seen, local_by, shape_of, part_events}
 use Rattle.core_proper.specs.Called.{maps_taken, vcpu_of_actor}
 use Rattle.its_exec.specs.Queue.{AreTaken, Taken}
 use Rattle.its_exec.specs.Run.{AgreeAll}
-
--- of each LPI that some steps looked at, the vCPU is the one that each look found
-abbrev pub AgreeWithLooks : GuestShape → List Made → (ℕ → Option ℕ) → Type 0
-AgreeWithLooks shape part targets = (id : ℕ) (made : Made) → Contains part made → made.step ≡ Look (Irq (Lpi id)) → targets id ≡ target_in (irq_of made.found).route shape
-
--- a look among some steps found that an LPI is for this vCPU, or for none
-pub record IsFoundFor (shape : GuestShape) (part : List Made) (id : ℕ) (target : Option ℕ) : Type 0 where
-  pub look : Made
-  pub there : Contains part look
-  pub step_is : look.step ≡ Look (Irq (Lpi id))
-  pub target_is : target ≡ target_in (irq_of look.found).route shape
+use Rattle.pe_mem.specs.Looked.{IsLookedAt}
 
 -- as EnableLPIs of a vCPU becomes 1, its pending table is read, and an LPI has its bit there
 abbrev pub reads_bit : GuestShape → View → ℕ → ℕ → Bool
@@ -85,13 +70,14 @@ pub record TookAmong (seen : Seen) (part : List Made) (commands : List Taken) : 
   pub begins : from.own ≡ seen.own ++ early
   pub ends : seen.own ++ part ≡ to.own ++ late
 
--- by what the events of an access go beside its words: its looks at LPIs; where it takes the ITS, what each of the commands found that it took
+-- by what the events of an access go beside its words: the vCPUs that its looks at these LPIs found; where it takes the ITS, what each of the commands found that
+-- it took
 pub data Finding : Type 0 where
-  by_looks : Finding
+  by_looks : (goes_by : ℕ → Bool) (targets : ℕ → Option ℕ) → Finding
   by_commands : List Taken → Finding
 
 abbrev pub is_by_commands : Finding → Bool
-is_by_commands by_looks = false
+is_by_commands (by_looks goes_by targets) = false
 is_by_commands (by_commands commands) = true
 
 -- an access takes the ITS: a write of one of its registers that does
@@ -103,13 +89,15 @@ abbrev pub takes_its_by : GuestShape → Operation → Bool
 takes_its_by shape (Access op) = takes_turn_by shape op
 takes_its_by shape operation = false
 
+-- it looked at each of these LPIs in its place; or it took the commands among its steps
 abbrev pub IsFinding : Seen → List Made → Finding → Type 0
-IsFinding seen part by_looks = Unit {0}
+IsFinding seen part (by_looks goes_by targets) = (id : ℕ) → goes_by id ≡ true → IsLookedAt seen part id (targets id)
 IsFinding seen part (by_commands commands) = TookAmong seen part commands
 
-abbrev pub Agrees : GuestShape → List Made → Finding → Beside → Type 0
-Agrees shape part by_looks beside = AgreeWithLooks shape part (beside.targets 0)
-Agrees shape part (by_commands commands) beside = AgreeAll beside 0 commands
+-- the vCPUs that LPIs are for agree with that
+abbrev pub Agrees : Finding → Beside → Type 0
+Agrees (by_looks goes_by targets) beside = (id : ℕ) → goes_by id ≡ true → beside.targets 0 id ≡ targets id
+Agrees (by_commands commands) beside = AgreeAll beside 0 commands
 
 -- they are those of the call, of an ITS with the maps as it was taken, whatever vCPUs the LPIs are for that agree with that
 pub record IsCallAsFound (seen : Seen) (part : List Made) (operation : Operation) (answer : Option ℕ) : Type 0 where
@@ -117,4 +105,4 @@ pub record IsCallAsFound (seen : Seen) (part : List Made) (operation : Operation
   pub kind : is_by_commands finding ≡ takes_its_by (shape_of seen) operation
   pub is_finding : IsFinding seen part finding
   pub call :
-      (beside : Beside) → beside.maps ≡ maps_taken part → Agrees (shape_of seen) part finding beside → IsCall (shape_of seen) beside (vcpu_of_actor (shape_of seen) seen.actor) operation (part_events seen part) answer
+      (beside : Beside) → beside.maps ≡ maps_taken part → Agrees finding beside → IsCall (shape_of seen) beside (vcpu_of_actor (shape_of seen) seen.actor) operation (part_events seen part) answer

@@ -1,4 +1,5 @@
 pub mod Part
+pub mod Looked
 pub mod Found
 pub mod Call
 pub mod Each

@@ -18,7 +18,8 @@ use Rattle.port_core.specs.declared.run.Made.{Made}
 use Rattle.port_core.specs.Port.{Seen, Adds, shape_of, part_events}
 use Rattle.port_call.specs.Piece.{takes_none, IsPiece}
 use Rattle.pe_mem.specs.Call.{Serves, ServesFreely}
-use Rattle.pe_mem.specs.Found.{IsFoundFor, goes_by, reads_bit}
+use Rattle.pe_mem.specs.Found.{goes_by, reads_bit}
+use Rattle.pe_mem.specs.Looked.{IsLookedAt}
 
 -- an access, and what it reads
 pub record ServesRedist (old new : Seen) (vcpu : ℕ) (reference : RegRef) (write : Option ℕ) (value : ℕ) : Type 0 where
@@ -26,7 +27,7 @@ pub record ServesRedist (old new : Seen) (vcpu : ℕ) (reference : RegRef) (writ
       Serves old new (λ view. redist_events (shape_of old) view vcpu reference write) (λ view. redist_places (shape_of old) view vcpu reference write)
       (λ view. redist_events (shape_of old) (before_enabling vcpu view) vcpu reference write)
   pub reads : read_answer write value ≡ read_answer write (redist_value (shape_of old) serves.view vcpu reference)
-  pub found : (id : ℕ) → IsTrue (has_interrupt (shape_of old) (Lpi id)) → IsTrue (goes_by (shape_of old) serves.view vcpu reference write id) → IsFoundFor (shape_of old) serves.part id (serves.view.targets id)
+  pub found : (id : ℕ) → IsTrue (has_interrupt (shape_of old) (Lpi id)) → IsTrue (goes_by (shape_of old) serves.view vcpu reference write id) → IsLookedAt old serves.part id (serves.view.targets id)
 
 -- a read of a register that has no part for each interrupt
 pub record ReadsRedist (old new : Seen) (vcpu : ℕ) (reg : Reg) (value : ℕ) : Type 0 where
@@ -38,7 +39,7 @@ pub record WritesRedist (old new : Seen) (vcpu : ℕ) (reg : Reg) (half : Half) 
   pub serves :
       Serves old new (λ view. redist_written (shape_of old) view vcpu reg half value) (λ view. redist_places (shape_of old) view vcpu (Plain reg half) (Some value))
       (λ view. redist_written (shape_of old) (before_enabling vcpu view) vcpu reg half value)
-  pub found : (id : ℕ) → IsTrue (has_interrupt (shape_of old) (Lpi id)) → IsTrue (goes_by (shape_of old) serves.view vcpu (Plain reg half) (Some value) id) → IsFoundFor (shape_of old) serves.part id (serves.view.targets id)
+  pub found : (id : ℕ) → IsTrue (has_interrupt (shape_of old) (Lpi id)) → IsTrue (goes_by (shape_of old) serves.view vcpu (Plain reg half) (Some value) id) → IsLookedAt old serves.part id (serves.view.targets id)
 
 -- an actor looked at EnableLPIs of a vCPU, and found this
 pub record LooksAtLpis (old new : Seen) (vcpu : ℕ) (enabled : Bool) : Type 0 where
@@ -57,4 +58,4 @@ StoresTable old new vcpu word changed = ServesFreely old new (λ view. if view.l
 pub record EnablesLpis (old new : Seen) (vcpu : ℕ) : Type 0 where
   pub serves :
       Serves old new (λ view. enable_events (shape_of old) view vcpu) (λ view. if view.lpis vcpu then [] else table_places (shape_of old) view vcpu) (λ view. enable_events (shape_of old) (before_enabling vcpu view) vcpu)
-  pub found : (id : ℕ) → IsTrue (has_interrupt (shape_of old) (Lpi id)) → IsTrue (reads_bit (shape_of old) serves.view vcpu id) → IsFoundFor (shape_of old) serves.part id (serves.view.targets id)
+  pub found : (id : ℕ) → IsTrue (has_interrupt (shape_of old) (Lpi id)) → IsTrue (reads_bit (shape_of old) serves.view vcpu id) → IsLookedAt old serves.part id (serves.view.targets id)

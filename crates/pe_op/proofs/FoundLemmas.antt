@@ -1,16 +1,21 @@
 -- A call goes by the vCPUs of LPIs as they were found, between moves too.
-use Rattle.std.proofs.Common.{◌≡◌, ℕ, true, IsTrue, List, [], ◌∷◌, ◌++◌, refl}
+use Rattle.std.proofs.Common.{◌≡◌, ℕ, Bool, true, IsTrue, List, [], ◌∷◌, ◌++◌, Option, Some, None, refl}
 use Rattle.std.proofs.lemmas.Bool.{and_from, and_parts}
-use Rattle.std.proofs.lemmas.List.Elements.{Contains-append_left, Contains-append_right}
+use Rattle.gic_base.specs.declared.icc.IccReg.{IccReg}
+use Rattle.gic_base.specs.declared.operation.GuestOp.TheVariants.{Icc}
 use Rattle.gic_base.specs.declared.shape.GuestShape.{GuestShape}
 use Rattle.gic_call.specs.declared.event.Event.{Event}
-use Rattle.gic_call.specs.declared.event.Event.TheVariants.{Queue, Touch}
-use Rattle.gic_call.specs.Trace.{Beside, Happened}
+use Rattle.gic_call.specs.declared.event.Event.TheVariants.{Enable, Queue, Touch}
+use Rattle.gic_call.specs.declared.event.Operation.TheVariants.{Access}
+use Rattle.gic_call.specs.Trace.{Beside, Happened, IsCall}
 use Rattle.port_core.specs.declared.run.Made.{Made}
-use Rattle.port_core.specs.Port.{Seen, Adds, part_events}
+use Rattle.port_core.specs.Port.{Seen, Adds, part_events, shape_of}
+use Rattle.core_proper.specs.Called.{MakesCall, vcpu_of_actor}
 use Rattle.pe_loop.specs.Moves.{are_moves, is_move}
-use Rattle.pe_mem.specs.Found.{Agrees, Finding, IsFinding, are_before, by_commands, by_looks, is_before}
-use Rattle.pe_mem.proofs.FoundLemmas.{among_after, among_before}
+use Rattle.pe_mem.specs.Found.{Finding, IsCallAsFound, IsFinding, by_commands, by_looks, is_before}
+use Rattle.pe_mem.specs.Looked.{all_events, comes_after, comes_before}
+use Rattle.pe_mem.proofs.FoundLemmas.{among_after, among_before, found_by_none}
+use Rattle.pe_mem.proofs.LookedLemmas.{looked_after, looked_before}
 
 -- a move touches no interrupt, and ends no command
 move_before : (actor : ℕ) (event : Event) → IsTrue (is_move actor event) → is_before event ≡ true
@@ -18,21 +23,41 @@ move_before actor (Touch key touching) h = absurd (cc)
 move_before actor (Queue offset change) h = absurd (cc)
 move_before actor event h = refl
 
-moves_before : (actor : ℕ) (events : List Happened) → IsTrue (are_moves actor events) → are_before events ≡ true
-moves_before actor [] h = refl
-moves_before actor (one ∷ events) h =
+-- nor does it store EnableLPIs: it may stand before a look at an LPI and after one
+move_early : (id actor : ℕ) (event : Event) → IsTrue (is_move actor event) → comes_before id event ≡ true
+move_early id actor (Touch key touching) h = absurd (cc)
+move_early id actor event h = refl
+
+move_late : (id actor : ℕ) (event : Event) → IsTrue (is_move actor event) → comes_after id event ≡ true
+move_late id actor (Touch key touching) h = absurd (cc)
+move_late id actor (Enable vcpu) h = absurd (cc)
+move_late id actor event h = refl
+
+moves_all : (test : Event → Bool) (actor : ℕ) → ((event : Event) → IsTrue (is_move actor event) → test event ≡ true) → (events : List Happened) → IsTrue (are_moves actor events) → IsTrue (all_events test events)
+moves_all test actor each [] h = refl
+moves_all test actor each (one ∷ events) h =
     let parts = and_parts (is_move actor one.event) (are_moves actor events) h in
-    and_from (is_before one.event) (are_before events) (move_before actor one.event parts.0) (moves_before actor events parts.1)
+    and_from (test one.event) (all_events test events) (each one.event parts.0) (moves_all test actor each events parts.1)
 
+-- what an access found is found between moves too
 pub finding_between :
-    (old mid mid2 : Seen) (front access back : List Made) (finding : Finding) → Adds old mid front → IsTrue (are_moves old.actor (part_events old front)) → Adds mid mid2 access → IsFinding mid access finding
+    (old mid mid2 : Seen) (front access back : List Made) (finding : Finding) → Adds old mid front → IsTrue (are_moves old.actor (part_events old front)) → Adds mid mid2 access → IsTrue (are_moves old.actor (part_events mid2 back)) → IsFinding mid access finding
     → IsFinding old (front ++ (access ++ back)) finding
-finding_between old mid mid2 front access back by_looks first moves adds is = tt
-finding_between old mid mid2 front access back (by_commands commands) first moves adds is =
-    among_after old mid front (access ++ back) commands first (moves_before old.actor (part_events old front) moves) (among_before mid access back commands is)
+finding_between old mid mid2 front access back (by_looks goes_by targets) first moves adds last is =
+    λ id going.
+    looked_after old mid front (access ++ back) id (targets id) first (moves_all (comes_before id) old.actor (move_early id old.actor) (part_events old front) moves)
+    (looked_before mid mid2 access back id (targets id) adds (moves_all (comes_after id) old.actor (move_late id old.actor) (part_events mid2 back) last) (is id going))
+finding_between old mid mid2 front access back (by_commands commands) first moves adds last is =
+    among_after old mid front (access ++ back) commands first (moves_all is_before old.actor (move_before old.actor) (part_events old front) moves) (among_before mid access back commands is)
 
--- what agrees with all the steps agrees with those of the access
-pub agrees_within : (shape : GuestShape) (front access back : List Made) (finding : Finding) (beside : Beside) → Agrees shape (front ++ (access ++ back)) finding beside → Agrees shape access finding beside
-agrees_within shape front access back by_looks beside agrees =
-    λ id made there step. agrees id made (Contains-append_right front (access ++ back) made (Contains-append_left access back made there)) step
-agrees_within shape front access back (by_commands commands) beside agrees = agrees
+-- An access of the CPU interface goes by none.
+
+any_icc :
+    (shape : GuestShape) (one other : Beside) (actor : Option ℕ) (reg : IccReg) (write : Option ℕ) (piece : List Happened) (answer : Option ℕ) → IsCall shape one actor (Access (Icc reg write)) piece answer → IsCall shape other actor (Access (Icc reg write)) piece answer
+any_icc shape one other (Some vcpu) reg write piece answer is = is
+any_icc shape one other None reg write piece answer is = absurd is
+
+pub icc_found : (seen : Seen) (part : List Made) (reg : IccReg) (write answer : Option ℕ) → MakesCall seen part (Access (Icc reg write)) answer → IsCallAsFound seen part (Access (Icc reg write)) answer
+icc_found seen part reg write answer makes =
+    found_by_none seen part (Access (Icc reg write)) answer refl
+    (λ beside maps. any_icc (shape_of seen) makes.beside beside (vcpu_of_actor (shape_of seen) seen.actor) reg write (part_events seen part) answer makes.call)

@@ -29,10 +29,10 @@ use Rattle.pe_icc.proofs.AmidLemmas.{leads_then}
 use Rattle.pe_icc.proofs.IccLemmas.{part_proper, part_runs}
 use Rattle.pe_icc.proofs.ReenterLemmas.{enter_leads, good_leads, idle_again, piece_leads}
 use Rattle.pe_mem.specs.Call.{IsPieceOf, MakesAccess, StopsAccess, access_of}
-use Rattle.pe_mem.specs.Found.{Agrees, IsCallAsFound, takes_its_by, takes_turn_by}
+use Rattle.pe_mem.specs.Found.{IsCallAsFound, takes_its_by, takes_turn_by}
 use Rattle.pe_op.specs.Operation.{DoesOperation, LeavesFirst, StopsOperation}
 use Rattle.pe_op.proofs.AboutLemmas.{access_answers, access_between, maps_between}
-use Rattle.pe_op.proofs.FoundLemmas.{agrees_within, finding_between}
+use Rattle.pe_op.proofs.FoundLemmas.{finding_between}
 
 -- The round.
 
@@ -141,15 +141,14 @@ round_found old new before after access frame offset size write answer round is_
     let leaves = round.leaves in
     let enters = round.enters in
     let shape : shape_of round.mid ≡ shape_of old = ap shape_of leaves.adds.new_is in
+    let actor : round.mid2.actor ≡ old.actor = ap (λ (seen : Seen). seen.actor) round.adds.new_is ∙ ap (λ (seen : Seen). seen.actor) leaves.adds.new_is in
     record {
       finding = made.finding;
       kind = made.kind ∙ ap (λ shape. takes_its_by shape (access_of frame offset size write)) shape;
-      is_finding = finding_between old round.mid round.mid2 leaves.part access enters.part made.finding leaves.adds (ap (are_moves old.actor) leaves.events ∙ only_leave old.actor (held_keys before)) round.adds made.is_finding;
-      call =
-          λ beside maps agrees.
-          call_between old new before after access frame offset size write answer round beside is_one
-          (made.call beside (maps ∙ round_maps old new before after access round)
-          (subst (λ shape. Agrees shape access made.finding beside) (sym shape) (agrees_within (shape_of old) leaves.part access enters.part made.finding beside agrees)));
+      is_finding =
+          finding_between old round.mid round.mid2 leaves.part access enters.part made.finding leaves.adds (ap (are_moves old.actor) leaves.events ∙ only_leave old.actor (held_keys before)) round.adds
+          (ap (λ actor. are_moves actor (part_events round.mid2 enters.part)) (sym actor) ∙ enters.moves) made.is_finding;
+      call = λ beside maps agrees. call_between old new before after access frame offset size write answer round beside is_one (made.call beside (maps ∙ round_maps old new before after access round) agrees);
     }
 
 round_answers : (seen : Seen) (access : List Made) (frame : Frame) (offset size : ℕ) (write answer : Option ℕ) → is_vcpu (shape_of seen) seen.actor ≡ true → MakesCall seen access (access_of frame offset size write) answer → is_some answer ≡ is_none write

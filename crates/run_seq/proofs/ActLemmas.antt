@@ -23,7 +23,7 @@ use Rattle.scn_base.specs.Good.{is_good_event, is_good_op, shapes_of}
 use Rattle.scn_base.specs.Standing.{has_vcpu, is_resident, passes, pes_after, resident_of, vcpu_name}
 use Rattle.port_seq.specs.Told.{SeqTold, guest_at}
 use Rattle.serial_laws.specs.Serial.{WholePart}
-use Rattle.seq_guest.specs.Place.{entered, left}
+use Rattle.pe_place.specs.Place.{entered, left}
 use Rattle.run_seq.specs.declared.machine.Machine.{Machine}
 use Rattle.run_seq.specs.Acts.{ActsAs, Exits, Operates, Places, Receives, ShowsPe, CallsOnce, ShowsVcpu}
 use Rattle.run_seq.specs.Calls.{step_call}

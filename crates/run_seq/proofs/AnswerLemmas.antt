@@ -11,7 +11,7 @@ use Rattle.ideal_guest.specs.Call.{op_answer}
 use Rattle.ideal_guest.specs.Ideal.{access_answer}
 use Rattle.gic_ideal.specs.Eager.{at_guest}
 use Rattle.eager_laws.specs.Moments.{op_read}
-use Rattle.run_seq.specs.Acts.{answer_by}
+use Rattle.guest_end.specs.Outcome.{answer_by}
 use Rattle.run_seq.specs.Calls.{CallMade, value_of}
 use Rattle.run_seq.proofs.MachineLemmas.{IsButFor, but_for_set}
 

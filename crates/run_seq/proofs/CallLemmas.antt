@@ -5,7 +5,7 @@ use Rattle.std.proofs.lemmas.List.Elements.{All-head, All-tail, filter-append}
 use Rattle.gic_call.specs.declared.event.Operation.{Operation}
 use Rattle.gic_call.specs.declared.event.Operation.TheVariants.{Residence}
 use Rattle.serial_laws.specs.Serial.{WholePart}
-use Rattle.seq_guest.specs.Parts.{AreResidences, HaveCall, by_actor}
+use Rattle.pe_place.specs.Parts.{AreResidences, HaveCall, by_actor}
 use Rattle.run_seq.specs.Calls.{CallMade, call_made, calls_among, is_residence}
 
 pub calls_append : (early late : List WholePart) → calls_among (early ++ late) ≡ calls_among early ++ calls_among late

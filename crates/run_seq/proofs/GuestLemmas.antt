@@ -15,7 +15,7 @@ use Rattle.call_laws.specs.Calls.{IsEagerCall, eager_events, eager_read}
 use Rattle.call_laws.specs.Runs.{IsGoodCall}
 use Rattle.serial_laws.specs.Serial.{WholePart, is_icc}
 use Rattle.seq_guest.specs.declared.vcpus.Vcpus.{Vcpus}
-use Rattle.seq_guest.specs.Parts.{AreResidences, HaveCall}
+use Rattle.pe_place.specs.Parts.{AreResidences, HaveCall}
 use Rattle.seq_guest.specs.Guest.{GoesOn, NoneKicked, ShowsList, spot_at}
 use Rattle.seq_laws.specs.Done.{home_after}
 use Rattle.seq_laws.specs.Laws.{KeepsHome, PassesHome, ShowsHomeOf}

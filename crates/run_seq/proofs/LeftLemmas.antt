@@ -20,10 +20,10 @@ use Rattle.scn_base.specs.declared.scenario.Scenario.{Scenario}
 use Rattle.scn_base.specs.Standing.{is_resident, passes}
 use Rattle.core_proper.specs.Proper.{is_settled}
 use Rattle.port_seq.specs.Told.{GuestTold, SeqTold, guest_at, no_told}
-use Rattle.seq_guest.specs.declared.place.Place.{Place}
-use Rattle.seq_guest.specs.declared.place.Place.TheVariants.{Shelf, Aside, Pe}
+use Rattle.pe_place.specs.declared.place.Place.{Place}
+use Rattle.pe_place.specs.declared.place.Place.TheVariants.{Shelf, Aside, Pe}
 use Rattle.seq_guest.specs.declared.vcpus.Vcpus.{Vcpus}
-use Rattle.seq_guest.specs.Place.{IsAt, shelf, spot_of}
+use Rattle.pe_place.specs.Place.{IsAt, shelf, spot_of}
 use Rattle.seq_guest.specs.Guest.{AreAt, cpus_of, seen_by, spot_at}
 use Rattle.seq_laws.specs.Done.{AreSerial, HasDone}
 use Rattle.seq_laws.proofs.EaseLemmas.{placed}

@@ -18,7 +18,7 @@ use Rattle.port_seq.specs.Told.{GuestTold, HasActor, SeqTold, current, guest_at,
 use Rattle.port_seq.proofs.GuestsLemmas.{told_lent}
 use Rattle.serial_laws.specs.Serial.{WholePart}
 use Rattle.seq_guest.specs.declared.vcpus.Vcpus.{Vcpus}
-use Rattle.seq_guest.specs.Parts.{AreResidences, HaveCall}
+use Rattle.pe_place.specs.Parts.{AreResidences, HaveCall}
 use Rattle.seq_guest.specs.Guest.{AreAt, ChangesSpots, GoesOn, NoneKicked, Operates, Shows, ShowsList, for_none}
 use Rattle.seq_guest.proofs.OpeningLemmas.{at_told}
 use Rattle.run_seq.specs.declared.machine.Machine.{Machine}

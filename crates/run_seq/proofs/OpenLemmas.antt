@@ -22,7 +22,7 @@ use Rattle.port_seq.specs.Ports.{told_all}
 use Rattle.port_seq.specs.Told.{GuestTold, SeqTold, guest_at}
 use Rattle.serial_laws.specs.Serial.{WholePart}
 use Rattle.seq_guest.specs.declared.vcpus.Vcpus.{Vcpus}
-use Rattle.seq_guest.specs.Place.{pe, shelf}
+use Rattle.pe_place.specs.Place.{pe, shelf}
 use Rattle.seq_guest.specs.Guest.{spot_at}
 use Rattle.seq_laws.proofs.DoneLaws.{guests_open_at_home}
 use Rattle.run_seq.specs.declared.machine.Machine.{Machine}

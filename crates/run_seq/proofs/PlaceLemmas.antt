@@ -11,7 +11,7 @@ use Rattle.scn_base.specs.Standing.{pes_after, resident_of, vcpu_name}
 use Rattle.port_seq.specs.declared.port.SeqPort.{SeqPort}
 use Rattle.port_seq.specs.Ports.{told_all}
 use Rattle.port_seq.specs.Told.{SeqTold}
-use Rattle.seq_guest.specs.Place.{entered, left}
+use Rattle.pe_place.specs.Place.{entered, left}
 use Rattle.run_seq.specs.declared.machine.Machine.{Machine}
 use Rattle.run_seq.specs.Acts.{ActsAs, Exits, HasLoaded, HasVcpu, MovesVcpu, Places, ShowsPe}
 use Rattle.run_seq.specs.Machine.{DoesStep, GuestActs, HasDoneStep, IsReady}

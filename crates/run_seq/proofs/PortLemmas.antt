@@ -15,7 +15,7 @@ use Rattle.port_seq.specs.Ports.{told, told_all}
 use Rattle.port_seq.specs.Told.{GuestTold, IsOpening, SeqTold, current, guest_at, no_told, opening_told, telling}
 use Rattle.port_seq.proofs.GuestsLemmas.{told_lent}
 use Rattle.seq_guest.specs.declared.vcpus.Vcpus.{Vcpus}
-use Rattle.seq_guest.specs.Place.{shelf}
+use Rattle.pe_place.specs.Place.{shelf}
 use Rattle.seq_guest.specs.Guest.{AreAt, cpus_of, spot_at}
 use Rattle.run_seq.specs.Opened.{AreOpened, IsOpened}
 use Rattle.run_seq.specs.Run.{SamePorts}

@@ -29,7 +29,7 @@ use Rattle.run_seq.specs.declared.machine.Machine.{Machine}
 use Rattle.run_seq.specs.Calls.{calls_among, step_call, steps_calls}
 use Rattle.run_seq.specs.Machine.{CanDo, DoesStep, HasDoneStep, IsMachineAt, IsReady, OpensMachine}
 use Rattle.run_seq.proofs.CallLemmas.{calls_append}
-use Rattle.run_seq.proofs.EndLemmas.{drop_next}
+use Rattle.guest_end.proofs.EndsLemmas.{drop_next}
 
 -- a step leaves as many PEs
 pub pes_each : (step : Step) (pes : List (Option VcpuName)) → length (pes_after step pes) ≡ length pes

@@ -25,11 +25,12 @@ use Rattle.port_seq.specs.Told.{GuestTold, SeqTold, guest_at}
 use Rattle.call_laws.specs.Runs.{IsGoodCall}
 use Rattle.serial_laws.specs.Serial.{WholePart}
 use Rattle.seq_guest.specs.declared.vcpus.Vcpus.{Vcpus}
-use Rattle.seq_guest.specs.Place.{Spot, entered, left, pe, shelf}
+use Rattle.pe_place.specs.Place.{Spot, entered, left, pe, shelf}
 use Rattle.seq_guest.specs.Guest.{spot_at}
 use Rattle.seq_laws.specs.Done.{home_after}
 use Rattle.run_seq.specs.declared.machine.Machine.{Machine}
-use Rattle.run_seq.specs.Acts.{CallsOnce, MovesVcpu, ShowsVcpu, answer_by}
+use Rattle.guest_end.specs.Outcome.{answer_by}
+use Rattle.run_seq.specs.Acts.{CallsOnce, MovesVcpu, ShowsVcpu}
 use Rattle.run_seq.specs.Calls.{CallMade, calls_among, step_call}
 use Rattle.run_seq.specs.Machine.{GuestActs, HasDoneStep, IsGuestAt, IsMachineAt, StandsOnce, place_by}
 use Rattle.run_seq.proofs.AnswerLemmas.{but_for_change, call_elsewhere, call_here, read_is_answer, value_again}

@@ -5,8 +5,9 @@ use Rattle.gic_base.specs.declared.operation.GuestOp.{GuestOp}
 use Rattle.gic_base.specs.declared.operation.PeOp.TheVariants.{Enter, Exit, Lrs}
 use Rattle.gic_call.specs.declared.event.Operation.{Operation}
 use Rattle.gic_call.specs.declared.event.Operation.TheVariants.{Access, Device as DeviceCall}
+use Rattle.guest_end.specs.Outcome.{answer_by}
 use Rattle.scn_base.specs.declared.outcome.Answer.{Answer}
-use Rattle.scn_base.specs.declared.outcome.Answer.TheVariants.{Nothing, Value, Regs}
+use Rattle.scn_base.specs.declared.outcome.Answer.TheVariants.{Nothing, Regs}
 use Rattle.scn_base.specs.declared.pes.VcpuName.{VcpuName}
 use Rattle.scn_base.specs.declared.step.Step.{Step}
 use Rattle.scn_base.specs.declared.step.Step.TheVariants.{Vcpu, Device, Pe}
@@ -15,8 +16,8 @@ use Rattle.scn_base.specs.Standing.{resident_of}
 use Rattle.port_seq.specs.Told.{GuestTold, SeqTold, guest_at}
 use Rattle.serial_laws.specs.Serial.{is_icc}
 use Rattle.seq_guest.specs.declared.vcpus.Vcpus.{Vcpus}
-use Rattle.seq_guest.specs.Parts.{AreResidences, HaveCall}
-use Rattle.seq_guest.specs.Place.{Spot, aside, pe, entered, left}
+use Rattle.pe_place.specs.Parts.{AreResidences, HaveCall}
+use Rattle.pe_place.specs.Place.{Spot, aside, pe, entered, left}
 use Rattle.seq_guest.specs.Guest.{ChangesSpots, GoesOn, NoneKicked, ShowsList, for_none, for_one, spot_at}
 use Rattle.run_seq.specs.declared.machine.Machine.{Machine}
 use Rattle.run_seq.specs.Machine.{GuestActs, HasGuest}
@@ -67,11 +68,6 @@ pub record CanReceive (machine : Machine) (told : SeqTold) (number device : ℕ)
   pub good : IsTrue (is_good_event (guest_at told number).guest.shape op)
 
 -- Steps.
-
--- what a step answers that read a value, or read nothing
-abbrev pub answer_by : Option ℕ → Answer
-answer_by (Some value) = Value value
-answer_by None = Nothing
 
 -- nothing was done
 pub record IsIdle (machine next : Machine) (told later : SeqTold) : Type 0 where

@@ -16,7 +16,7 @@ use Rattle.port_core.specs.Run.{IsRun, opening}
 use Rattle.port_seq.specs.Told.{GuestTold, SeqTold, guest_at}
 use Rattle.serial_laws.specs.Serial.{WholePart}
 use Rattle.seq_guest.specs.declared.vcpus.Vcpus.{Vcpus}
-use Rattle.seq_guest.specs.Place.{Spot, pe, shelf}
+use Rattle.pe_place.specs.Place.{Spot, pe, shelf}
 use Rattle.seq_guest.specs.Guest.{AreAt, NoneKicked, spot_at}
 use Rattle.seq_laws.specs.Done.{HasDone, home_after}
 use Rattle.run_seq.specs.declared.machine.Machine.{Machine}

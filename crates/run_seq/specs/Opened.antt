@@ -3,7 +3,7 @@ use Rattle.std.specs.Prelude.{◌≡◌, ℕ, List, length, Some, slice_get}
 use Rattle.scn_base.specs.declared.guest.GuestSpec.{GuestSpec}
 use Rattle.port_seq.specs.Told.{GuestTold, SeqTold, guest_at, opening_told}
 use Rattle.seq_guest.specs.declared.vcpus.Vcpus.{Vcpus}
-use Rattle.seq_guest.specs.Place.{shelf}
+use Rattle.pe_place.specs.Place.{shelf}
 use Rattle.seq_guest.specs.Guest.{AreAt, spot_at}
 
 -- a guest of a port as it opened, whichever of its actors is told

@@ -1,26 +1,21 @@
 -- The run of a schedule over its port (own choice).
-use Rattle.std.specs.Prelude.{◌≡◌, ℕ, ◌<◌, IsTrue, List, [], ◌∷◌, length, map, take, drop, Some, slice_get}
+use Rattle.std.specs.Prelude.{◌≡◌, ℕ, ◌<◌, IsTrue, List, [], length, map, Some, slice_get}
 use Rattle.std.specs.List.{flat_map}
 use Rattle.ideal_guest.specs.declared.guest.IdealGuest.{IdealGuest}
 use Rattle.ideal_guest.specs.Opening.{opening as opening_guest}
 use Rattle.gic_ideal.specs.Eager.{after_steps, eager}
-use Rattle.gic_ideal.specs.Ends.{end_of}
-use Rattle.gic_prio.specs.declared.cpu.CpuRec.{CpuRec}
-use Rattle.guest_end.specs.Home.{IsAtEnd, guest_of}
 use Rattle.scn_base.specs.declared.guest.GuestSpec.{GuestSpec}
 use Rattle.scn_base.specs.declared.outcome.Answer.{Answer}
 use Rattle.scn_base.specs.declared.scenario.Scenario.{Scenario}
 use Rattle.scn_base.specs.declared.step.Step.{Step}
-use Rattle.scn_base.specs.Good.{IsGoodGuest}
-use Rattle.port_core.specs.declared.end.GuestWords.{GuestWords}
 use Rattle.port_core.specs.Actor.{actor_count}
 use Rattle.core_proper.specs.Proper.{is_settled}
 use Rattle.port_seq.specs.Told.{GuestTold, SeqTold, guest_at}
 use Rattle.serial_laws.specs.Serial.{WholePart}
-use Rattle.seq_guest.specs.Parts.{entries_in}
+use Rattle.pe_place.specs.Parts.{entries_in}
 use Rattle.seq_guest.specs.Guest.{cpus_of, seen_by}
 use Rattle.seq_laws.specs.Done.{AreSerial, home_after}
-use Rattle.run_seq.specs.declared.outcome.Done.{Done}
+use Rattle.guest_end.specs.declared.outcome.Done.{Done}
 use Rattle.run_seq.specs.Calls.{calls_among, steps_calls}
 
 -- a guest whose vCPUs all left: nothing is at their interfaces, and no actor owes anything or has the ITS or the mark of GICD_CTLR
@@ -54,23 +49,3 @@ pub record HasRun (scenario : Scenario) (done : Done) (told : SeqTold) : Type 0 
 pub record SamePorts (old new : SeqTold) : Type 0 where
   pub ports : length new.guests ≡ length old.guests
   pub same : (number : ℕ) → guest_at new number ≡ record (guest_at old number) { actor = (guest_at new number).actor }
-
--- How guests ended.
-
--- a guest ended with these words and CPU records, and its end lines are those of this guest of the ideal controller
-pub record EndsAt (guest : GuestSpec) (words : GuestWords) (cpus : List CpuRec) (ideal : IdealGuest) : Type 0 where
-  pub good : IsGoodGuest guest
-  pub ended : IsAtEnd guest words cpus
-  pub vcpus : length words.vcpus ≡ guest.shape.vcpus
-  pub lines : end_of (opening_guest guest) (guest_of guest words cpus) ≡ end_of (opening_guest guest) ideal
-
--- so did each of some guests, the CPU records of which stand one guest's after the other's
-abbrev pub AllEndAt : List GuestSpec → List GuestWords → List CpuRec → List IdealGuest → Type 0
-AllEndAt [] [] cpus [] = Unit {0}
-AllEndAt (guest ∷ guests) (one ∷ words) cpus (ideal ∷ ideals) = EndsAt guest one (take guest.shape.vcpus cpus) ideal × AllEndAt guests words (drop guest.shape.vcpus cpus) ideals
-AllEndAt guests words cpus ideals = ⊥
-
--- it is told of which guests of the ideal controller that is
-pub record HaveEnded (guests : List GuestSpec) (words : List GuestWords) (cpus : List CpuRec) : Type 0 where
-  pub ideals : List IdealGuest
-  pub all : AllEndAt guests words cpus ideals

@@ -3,10 +3,9 @@
 #![tactic(auto)]
 
 mod machine;
-mod outcome;
 mod scheduled;
 mod watch;
 
-pub use outcome::Done;
+pub use guest_end::Done;
 pub use scheduled::{run, run_on};
 pub use watch::SeqWatch;

@@ -6,9 +6,9 @@ ghost use Rattle.scn_base.specs.Good.{IsGoodGuest};
 ghost use Rattle.port_seq.specs.Ports.{told_all};
 ghost use Rattle.port_seq.specs.Told.{IsOpening};
 ghost use Rattle.run_seq.specs.Opened.{AreOpened};
-ghost use Rattle.run_seq.specs.Acts.{answer_by};
 
 use gic_base::{Actor, DeviceOp, GuestOp, NoMemory, PeOp};
+use guest_end::answer_of;
 use port_seq::SeqPort;
 use scn_base::{Answer, LrList, Pes, Scenario, Step, VcpuName, move_pes, opening_pes};
 use seq_guest::Vcpus;
@@ -60,22 +60,12 @@ fn zeros(alloc: Global, lrs: u32) -> Result<LrList, AllocError>
     Ok(LrList::from(vec![in alloc; 0; lrs as usize + 1]?))
 }
 
-/// What a step answers that read a value, or read nothing.
-fn answer_of(value: Option<u64>) -> Answer
-    ensures { result ≡ answer_by value }
-{
-    match value {
-        Some(value) => Answer::Value(value),
-        None => Answer::Nothing,
-    }
-}
-
 impl Machine {
     ghost use Rattle.std.specs.Prelude.{OnOk};
     ghost use Rattle.gic_call.specs.declared.event.Operation.TheVariants.{Access, Device as DeviceCall};
     ghost use Rattle.scn_base.specs.declared.step.Step.TheVariants.{Pe as PeStep};
     ghost use Rattle.port_seq.specs.Told.{guest_at};
-    ghost use Rattle.seq_guest.specs.Place.{entered, left};
+    ghost use Rattle.pe_place.specs.Place.{entered, left};
     ghost use Rattle.run_seq.specs.Machine.{HasGuest, GuestActs, IsMachine, IsReady, DoesStep, OpensMachine, Closes};
     ghost use Rattle.scn_base.specs.declared.step.Mode.TheVariants.{Schedule};
     ghost use Rattle.scn_base.specs.Good.{IsGood};

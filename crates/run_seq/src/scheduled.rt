@@ -1,28 +1,21 @@
 //! The scheduled run of a scenario.
-ghost use Rattle.std.specs.Prelude.{◌≡◌, ◌+◌, ◌<◌, ◌≤◌, List, IfOk, IfSome, OnOk, length, map};
+ghost use Rattle.std.specs.Prelude.{◌≡◌, ◌+◌, ◌<◌, ◌≤◌, IfOk, IfSome, OnOk, length};
 ghost use Rattle.std.specs.List.{flat_map};
 ghost use Rattle.scn_base.specs.declared.step.Mode.TheVariants.{Schedule};
 ghost use Rattle.scn_base.specs.Good.{IsGood};
-ghost use Rattle.ideal_guest.specs.declared.guest.IdealGuest.{IdealGuest};
-ghost use Rattle.ideal_guest.specs.Opening.{opening};
 ghost use Rattle.gic_ideal.specs.Eager.{eager};
-ghost use Rattle.gic_ideal.specs.Ends.{ends_of as ends_between};
 ghost use Rattle.port_seq.specs.Ports.{told_all};
 ghost use Rattle.port_seq.specs.Told.{IsOpening, words_of_end};
 ghost use Rattle.seq_guest.specs.Guest.{cpus_of};
-ghost use Rattle.run_seq.specs.Run.{HasRun, HaveEnded, AllEndAt, SamePorts};
+ghost use Rattle.run_seq.specs.Run.{HasRun, SamePorts};
 
 use crate::machine::{Machine, first_of};
-use crate::outcome::Done;
 use crate::watch::SeqWatch;
 use gic_base::NoMemory;
-use gic_list::ListOf;
-use gic_prio::CpuRec;
-use guest_end::end_of;
-use port_core::EndWords;
+use guest_end::{CpuRecs, Done, ends_of};
 use port_seq::SeqPort;
-use scn_base::{Answers, Ends, Guests, RunOut, Scenario};
-use seq_guest::{CpuRecs, add_cpus};
+use scn_base::{Answers, Guests, RunOut, Scenario};
+use seq_guest::add_cpus;
 use std::alloc::{AllocError, Global};
 use std::sync::Wait;
 
@@ -61,26 +54,6 @@ pub fn run_on<R: Wait>(
     machine.close(rt, alloc, port)?;
     let cpus = all_cpus(alloc, port, &scenario.guests)?;
     Ok(Done { answers, cpus })
-}
-
-/// How each guest ended, by its words and the records of its CPU interfaces. An error where memory is refused.
-fn ends_of(
-    alloc: Global,
-    guests: &Guests,
-    words: &EndWords,
-    cpus: &[CpuRec],
-) -> Result<Ends, NoMemory>
-    requires { HaveEnded guests.now words.now cpus.now }
-    ensures { IfOk result (λ ends. (ideals : List IdealGuest) → AllEndAt guests.now words.now cpus.now ideals → ends ≡ ends_between (map opening guests.now) ideals) }
-{
-    let mut ends = ListOf::new(alloc);
-    let mut rest = cpus;
-    for (guest, spec) in guests.as_slice().iter().enumerate() {
-        let (own, later) = rest.split_at(spec.shape.vcpus as usize);
-        ends.push(end_of(alloc, spec, &words.as_slice()[guest], own)?)?;
-        rest = later;
-    }
-    Ok(ends)
 }
 
 /// Runs a scenario: its steps one after the other, through the words of its guests and the list registers of its PEs, and shows

@@ -4,7 +4,7 @@ ghost use Rattle.scn_base.specs.declared.scenario.Scenario.{Scenario as Scenario
 ghost use Rattle.port_seq.specs.Ports.{told_all};
 ghost use Rattle.run_seq.specs.Run.{HasRun};
 
-use crate::outcome::Done;
+use guest_end::Done;
 use port_seq::SeqPort;
 use scn_base::Scenario;
 

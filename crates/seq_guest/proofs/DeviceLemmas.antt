@@ -4,8 +4,8 @@ use Rattle.gic_base.specs.declared.operation.DeviceOp.{DeviceOp}
 use Rattle.gic_call.specs.declared.event.Operation.TheVariants.{Device}
 use Rattle.port_seq.specs.Told.{GuestTold, seen_of}
 use Rattle.seq_guest.specs.declared.vcpus.Vcpus.{Vcpus}
-use Rattle.seq_guest.specs.Device.{DoesEvent}
-use Rattle.seq_guest.specs.Parts.{HaveCall}
+use Rattle.pe_place.specs.Device.{DoesEvent}
+use Rattle.pe_place.specs.Parts.{HaveCall}
 use Rattle.seq_guest.specs.Guest.{AreAt, GoesOn}
 use Rattle.seq_guest.proofs.GuestLemmas.{device_goes}
 

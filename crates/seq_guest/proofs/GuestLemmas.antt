@@ -26,17 +26,17 @@ use Rattle.core_proper.proofs.RestLemmas.{rests_again}
 use Rattle.port_seq.specs.Told.{GuestTold, seen_of}
 use Rattle.dev_port.specs.Device.{CanCall, IsDevicePart}
 use Rattle.serial_laws.specs.Serial.{WholePart}
-use Rattle.seq_guest.specs.declared.place.Place.{Place}
+use Rattle.pe_place.specs.declared.place.Place.{Place}
 use Rattle.seq_guest.specs.declared.vcpus.Vcpus.{Vcpus}
-use Rattle.seq_guest.specs.Parts.{Part, by_actor, steps_in, acts_of, acts_in, entries_in, parts_by, progress_after, IsCallFound, AreCalls, IsSeatAfter, IsOfGuest, AreOneCall, AreResidences, HaveCall}
-use Rattle.seq_guest.specs.Place.{IsAt, IsFollowed, HasRegisters}
-use Rattle.seq_guest.specs.Moves.{Moves}
+use Rattle.pe_place.specs.Parts.{Part, by_actor, steps_in, acts_of, acts_in, entries_in, parts_by, progress_after, IsCallFound, AreCalls, IsSeatAfter, IsOfGuest, AreOneCall, AreResidences, HaveCall}
+use Rattle.pe_place.specs.Place.{IsAt, IsFollowed, HasRegisters}
+use Rattle.pe_place.specs.Moves.{Moves}
 use Rattle.seq_guest.specs.Guest.{seen_by, AreAt, AreFollowed, IsSameGuest, GoesOn}
-use Rattle.seq_guest.proofs.FoundLemmas.{device_call}
-use Rattle.seq_guest.proofs.FrameLemmas.{at_same, followed_same, rest_same}
-use Rattle.seq_guest.proofs.KindLemmas.{residences_none, residences_join, call_one, call_last, call_before}
-use Rattle.seq_guest.proofs.MoveLemmas.{calls_join}
-use Rattle.seq_guest.proofs.PartsLemmas.{parts_of_one, parts_of_other, entries_of_one, parts_append, entries_append, steps_append, seat_none, TellsSame, calls_same}
+use Rattle.pe_place.proofs.FoundLemmas.{device_call}
+use Rattle.pe_place.proofs.FrameLemmas.{at_same, followed_same, rest_same}
+use Rattle.pe_place.proofs.KindLemmas.{residences_none, residences_join, call_one, call_last, call_before}
+use Rattle.pe_place.proofs.MoveLemmas.{calls_join}
+use Rattle.pe_place.proofs.PartsLemmas.{parts_of_one, parts_of_other, entries_of_one, parts_append, entries_append, steps_append, seat_none, TellsSame, calls_same}
 use Rattle.seq_guest.proofs.SeatLemmas.{IsLater, is_later, other_seat, other_same, set_get}
 
 -- a vCPU has a place

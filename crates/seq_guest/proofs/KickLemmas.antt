@@ -18,11 +18,11 @@ use Rattle.port_core.proofs.RunLemmas.{run_splits}
 use Rattle.core_proper.specs.Parts.{entry_by}
 use Rattle.core_regs.specs.Asks.{IsUnkicked}
 use Rattle.port_seq.specs.Told.{GuestTold, seen_of, state_of}
-use Rattle.seq_guest.specs.declared.place.Place.{Place}
-use Rattle.seq_guest.specs.declared.place.Place.TheVariants.{Shelf, Aside, Pe}
+use Rattle.pe_place.specs.declared.place.Place.{Place}
+use Rattle.pe_place.specs.declared.place.Place.TheVariants.{Shelf, Aside, Pe}
 use Rattle.seq_guest.specs.declared.vcpus.Vcpus.{Vcpus}
-use Rattle.seq_guest.specs.Place.{shelf, aside, pe, spot_of}
-use Rattle.seq_guest.specs.Moves.{LooksForKick, WasNotKicked}
+use Rattle.pe_place.specs.Place.{shelf, aside, pe, spot_of}
+use Rattle.pe_place.specs.Moves.{LooksForKick, WasNotKicked}
 use Rattle.seq_guest.specs.Guest.{AreAt, IsSameGuest, NoneKicked, ChangesSpots, for_none, spot_at}
 use Rattle.seq_guest.proofs.PlacesLemmas.{past_spot}
 use Rattle.seq_guest.proofs.SeatLemmas.{IsLater, is_later, later_state, some_is}

@@ -1,13 +1,5 @@
-pub mod FrameLemmas
-pub mod FoundLemmas
-pub mod KindLemmas
 pub mod SearchLemmas
 pub mod LoneLemmas
-pub mod MoveLemmas
-pub mod ReenterLemmas
-pub mod LookLemmas
-pub mod SpotLemmas
-pub mod PartsLemmas
 pub mod SeatLemmas
 pub mod GuestLemmas
 pub mod PlacesLemmas

@@ -11,10 +11,10 @@ use Rattle.port_core.proofs.OpeningLemmas.{seat_opens}
 use Rattle.core_proper.specs.Proper.{is_settled}
 use Rattle.pe_loop.specs.Stay.{IsOff}
 use Rattle.port_seq.specs.Told.{GuestTold, opening_told, state_of}
-use Rattle.seq_guest.specs.declared.place.Place.{Place}
-use Rattle.seq_guest.specs.declared.place.Place.TheVariants.{Shelf}
+use Rattle.pe_place.specs.declared.place.Place.{Place}
+use Rattle.pe_place.specs.declared.place.Place.TheVariants.{Shelf}
 use Rattle.seq_guest.specs.declared.vcpus.Vcpus.{Vcpus}
-use Rattle.seq_guest.specs.Place.{IsAt, HasRegisters}
+use Rattle.pe_place.specs.Place.{IsAt, HasRegisters}
 use Rattle.seq_guest.specs.Guest.{seen_by, AreAt}
 
 -- where each vCPU is then

@@ -6,9 +6,9 @@ use Rattle.std.proofs.lemmas.Bool.{cases_eq, cases_lt, eq-eqb, ne_eqb, lt-ltb, l
 use Rattle.std.proofs.lemmas.List.{get_or-set_same, length-set}
 use Rattle.std.proofs.lemmas.Option.{slice_get-get_or, slice_get_past, slice_get_within}
 use Rattle.port_seq.specs.Told.{GuestTold}
-use Rattle.seq_guest.specs.declared.place.Place.{Place}
+use Rattle.pe_place.specs.declared.place.Place.{Place}
 use Rattle.seq_guest.specs.declared.vcpus.Vcpus.{Vcpus}
-use Rattle.seq_guest.specs.Place.{Spot, shelf, spot_of, gone_aside}
+use Rattle.pe_place.specs.Place.{Spot, shelf, spot_of, gone_aside}
 use Rattle.seq_guest.proofs.SeatLemmas.{some_is}
 use Rattle.seq_guest.specs.Guest.{AreAt, spot_at, ChangesSpots, for_none, for_one, but_one, for_below}
 

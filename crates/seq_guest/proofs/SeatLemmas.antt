@@ -13,7 +13,7 @@ use Rattle.port_core.proofs.RunLemmas.{runs_joined}
 use Rattle.core_proper.specs.Parts.{entry_by}
 use Rattle.port_seq.specs.Told.{GuestTold, seen_of, state_of}
 use Rattle.seq_guest.specs.Guest.{seen_by, IsSameGuest}
-use Rattle.seq_guest.proofs.FrameLemmas.{IsSame}
+use Rattle.pe_place.proofs.FrameLemmas.{IsSame}
 
 -- What an actor did leaves the others as they were.
 

@@ -27,12 +27,12 @@ use Rattle.port_seq.specs.Told.{GuestTold, seen_of, state_of}
 use Rattle.pe_loop.specs.Steps.{all_are, all_hit, is_claim, is_mark, is_search, IsEntryPart}
 use Rattle.pe_icc.specs.Amid.{IsRunning}
 use Rattle.entry_laws.specs.Entry.{IsEntry, looks_for_kick}
-use Rattle.seq_guest.specs.declared.place.Place.{Place}
-use Rattle.seq_guest.specs.declared.place.Place.TheVariants.{Shelf, Aside, Pe}
+use Rattle.pe_place.specs.declared.place.Place.{Place}
+use Rattle.pe_place.specs.declared.place.Place.TheVariants.{Shelf, Aside, Pe}
 use Rattle.seq_guest.specs.declared.vcpus.Vcpus.{Vcpus}
-use Rattle.seq_guest.specs.Parts.{acts_in, acts_of, by_actor, residence, steps_in, AreResidences, progress_after}
-use Rattle.seq_guest.specs.Place.{HasRegisters}
-use Rattle.seq_guest.specs.Moves.{Reenters, ReentersAt}
+use Rattle.pe_place.specs.Parts.{acts_in, acts_of, by_actor, residence, steps_in, AreResidences, progress_after}
+use Rattle.pe_place.specs.Place.{HasRegisters}
+use Rattle.pe_place.specs.Moves.{Reenters, ReentersAt}
 use Rattle.seq_guest.specs.Guest.{seen_by, AreAt, Shows}
 use Rattle.seq_guest.proofs.GuestLemmas.{one_goes, one_parts, progress_mine}
 use Rattle.seq_guest.proofs.LoneLemmas.{part_unkicked}

@@ -15,12 +15,12 @@ use Rattle.port_seq.specs.Told.{GuestTold, seen_of, state_of}
 use Rattle.serial_laws.specs.Serial.{WholePart, is_icc}
 use Rattle.entry_laws.specs.Entry.{HasEntered, IsEntry}
 use Rattle.vcpu_state.specs.declared.loaded.Loaded.{Loaded}
-use Rattle.seq_guest.specs.declared.place.Place.{Place}
-use Rattle.seq_guest.specs.declared.place.Place.TheVariants.{Pe}
+use Rattle.pe_place.specs.declared.place.Place.{Place}
+use Rattle.pe_place.specs.declared.place.Place.TheVariants.{Pe}
 use Rattle.seq_guest.specs.declared.vcpus.Vcpus.{Vcpus}
-use Rattle.seq_guest.specs.Parts.{IsSeatAfter, IsOfGuest, AreResidences, AreCalls, HaveCall, acts_in, entries_in, parts_by, progress_after}
+use Rattle.pe_place.specs.Parts.{IsSeatAfter, IsOfGuest, AreResidences, AreCalls, HaveCall, acts_in, entries_in, parts_by, progress_after}
 use Rattle.seq_guest.specs.Operation.{is_of_registers}
-use Rattle.seq_guest.specs.Place.{Spot, shelf, pe, spot_of, IsAt, IsFollowed, HasRegisters, IsShown}
+use Rattle.pe_place.specs.Place.{Spot, shelf, pe, spot_of, IsAt, IsFollowed, HasRegisters, IsShown}
 
 -- what is told of an actor of a guest
 abbrev pub seen_by : GuestTold → ℕ → Seen

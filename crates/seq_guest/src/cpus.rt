@@ -3,14 +3,10 @@ ghost use Rattle.std.specs.Prelude.{◌≡◌, ◌++◌, OnOk};
 ghost use Rattle.port_seq.specs.Ports.{told};
 ghost use Rattle.seq_guest.specs.Guest.{cpus_of};
 
-use gic_list::ListOf;
-use gic_prio::CpuRec;
+use guest_end::CpuRecs;
 use port_core::Port;
 use port_seq::GuestPort;
 use std::alloc::AllocError;
-
-/// The records of CPU interfaces, in order of guest and vCPU.
-pub type CpuRecs = ListOf<CpuRec>;
 
 /// Adds the records of the CPU interfaces of a guest's vCPUs to a list, by vCPU. An error where memory for them is refused.
 pub fn add_cpus(port: &mut GuestPort, cpus: &mut CpuRecs) -> Result<(), AllocError>

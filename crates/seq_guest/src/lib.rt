@@ -5,8 +5,7 @@
 mod cpus;
 mod device;
 mod operate;
-mod place;
 mod vcpus;
 
-pub use cpus::{CpuRecs, add_cpus};
+pub use cpus::add_cpus;
 pub use vcpus::Vcpus;

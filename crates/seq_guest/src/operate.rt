@@ -6,15 +6,14 @@ ghost use Rattle.pe_mem.specs.Found.{takes_turn_by};
 ghost use Rattle.scn_base.specs.Good.{is_good_op};
 ghost use Rattle.port_seq.specs.Ports.{told};
 ghost use Rattle.seq_guest.specs.Operation.{is_of_registers as is_of_registers_by};
-ghost use Rattle.seq_guest.specs.Parts.{AreOneCall};
-ghost use Rattle.seq_guest.specs.Place.{aside, pe, spot_of, returned, IsAt, HasRegisters};
-ghost use Rattle.seq_guest.specs.Moves.{Moves};
+ghost use Rattle.pe_place.specs.Parts.{AreOneCall};
+ghost use Rattle.pe_place.specs.Place.{aside, pe, spot_of, returned, IsAt, HasRegisters};
+ghost use Rattle.pe_place.specs.Moves.{Moves};
 ghost use Rattle.seq_guest.specs.Guest.{AreAt, GoesOn, MakesWay, Operates, NoneKicked, spot_at, ChangesSpots, for_none};
 
-use crate::place::Place;
 use crate::vcpus::Vcpus;
 use gic_base::{Frame, GuestOp, NoMemory};
-use pe_op::guest_op;
+use pe_place::operate_on;
 use port_core::Port;
 use port_seq::GuestPort;
 use std::sync::Wait;
@@ -30,27 +29,6 @@ fn is_of_registers(op: &GuestOp) -> bool
             Frame::Dist | Frame::Redist { .. } | Frame::Its => true,
             Frame::Ram => false,
         },
-    }
-}
-
-/// The vCPU, which is on a PE, does an operation. `NoMemory` comes only at a write that takes the ITS.
-fn operate_on<P: Port, R: Wait>(
-    rt: &R,
-    port: &mut P,
-    place: &mut Place,
-    op: &GuestOp,
-) -> Result<Option<u64>, NoMemory>
-    requires at { IsAt (P.seen port.old) place.old }
-    requires on { spot_of place.old ≡ pe }
-    requires good { IsTrue (is_good_op (shape_of (P.seen port.old)) op.now) }
-    ensures moves { IfOk result (λ answer. Moves (AreOneCall (P.seen port.old).actor (Access op.now) answer) (P.seen port.old) (P.seen port.new) place.old place.new) }
-    ensures memory { OnErr result (takes_turn_by (shape_of (P.seen port.old)) op.now ≡ true) }
-    ensures spot { spot_of place.new ≡ spot_of place.old }
-    ensures registers { (lrs : ℕ) → HasRegisters lrs place.old → HasRegisters lrs place.new }
-{
-    match place {
-        Place::Pe(vcpu) => guest_op(rt, port, vcpu, op),
-        Place::Shelf(_) | Place::Aside(_) => unreachable!(),
     }
 }
 

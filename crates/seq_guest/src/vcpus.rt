@@ -4,7 +4,7 @@ ghost use Rattle.gic_base.specs.declared.held.TheConstants.{MAX_LIST_REGISTERS};
 ghost use Rattle.port_seq.specs.Ports.{told};
 ghost use Rattle.port_seq.specs.Told.{opening_told};
 
-use crate::place::{Place, answer_kick, come_back, enter_pe, leave_pe, show_pe, step_aside};
+use pe_place::{Place, answer_kick, come_back, enter_pe, leave_pe, show_pe, step_aside};
 use port_core::Port;
 use port_seq::GuestPort;
 use scn_base::LrList;
@@ -24,9 +24,9 @@ pub struct Vcpus {
 }
 
 impl Vcpus {
-    ghost use Rattle.seq_guest.specs.Parts.{AreResidences};
-    ghost use Rattle.seq_guest.specs.declared.place.Place.{Place};
-    ghost use Rattle.seq_guest.specs.Place.{shelf, pe, IsShown, entered, left, gone_aside, returned};
+    ghost use Rattle.pe_place.specs.Parts.{AreResidences};
+    ghost use Rattle.pe_place.specs.declared.place.Place.{Place};
+    ghost use Rattle.pe_place.specs.Place.{shelf, pe, IsShown, entered, left, gone_aside, returned};
     ghost use Rattle.core_regs.specs.Asks.{IsUnkicked};
     ghost use Rattle.port_seq.specs.Told.{state_of};
     ghost use Rattle.seq_guest.specs.Guest.{AreAt, GoesOn, Shows, ShowsList, NoneKicked, spot_at, ChangesSpots, for_none, for_one, but_one, for_all};

@@ -7,7 +7,7 @@ use Rattle.scn_base.specs.declared.guest.GuestSpec.{GuestSpec}
 use Rattle.seq_laws.specs.Laws.{ShowsHomeOf}
 use Rattle.seq_laws.proofs.ShowLemmas.{shown_here}
 use Rattle.serial_laws.specs.Serial.{moments_of}
-use Rattle.seq_guest.specs.Parts.{AreResidences, HaveCall}
+use Rattle.pe_place.specs.Parts.{AreResidences, HaveCall}
 use Rattle.seq_laws.specs.Done.{AreSerial, HasDone}
 
 pub guests_open_at_home : GuestsOpenAtHome

@@ -1,5 +1,5 @@
 -- A guest to which more was done.
-use Rattle.std.proofs.Common.{◌≡◌, ℕ, ◌<◌, ◌≤◌, true, false, IsTrue, All, List, [], ◌∷◌, ◌++◌, Option, refl, sym, ap, ◌∙◌, subst}
+use Rattle.std.proofs.Common.{◌≡◌, ℕ, ◌<◌, true, false, All, List, [], ◌∷◌, ◌++◌, Option, refl, sym, ap, ◌∙◌, subst}
 use Rattle.std.proofs.lemmas.List.{append-nil, append_assoc}
 use Rattle.std.proofs.lemmas.List.Elements.{All-append, All-head, All-tail}
 use Rattle.gic_call.specs.declared.event.Operation.{Operation}
@@ -10,13 +10,12 @@ use Rattle.history_laws.proofs.CourseLemmas.{goes_before}
 use Rattle.ideal_guest.specs.Opening.{opening as opening_guest}
 use Rattle.scn_base.specs.declared.guest.GuestSpec.{GuestSpec}
 use Rattle.scn_base.specs.Good.{IsGoodGuest}
-use Rattle.port_core.specs.Actor.{actor_count}
 use Rattle.port_core.specs.Run.{CoreState, IsRun, opening}
 use Rattle.port_seq.specs.Told.{GuestTold}
 use Rattle.core_proper.specs.Ideal.{end_of_moments, ideal_of}
 use Rattle.core_proper.specs.Parts.{CoreMoment}
-use Rattle.core_proper.specs.Progress.{Progress, progress_in}
-use Rattle.core_proper.specs.Proper.{IsProper, IsProperRun}
+use Rattle.core_proper.specs.Progress.{progress_in}
+use Rattle.core_proper.specs.Proper.{IsProperRun}
 use Rattle.core_proper.proofs.PartLemmas.{ideal_append}
 use Rattle.core_laws.specs.Laws.{AreCalls}
 use Rattle.core_laws.proofs.HistorySteps.{runs_history}
@@ -33,10 +32,10 @@ use Rattle.found_laws.proofs.EagerRuns.{found_runs_are_eager}
 use Rattle.entry_laws.specs.Entry.{HasEntered, IsEntry, ShowsRegisters}
 use Rattle.entry_laws.proofs.EntryRuns.{entries_show_home}
 use Rattle.seq_guest.specs.declared.vcpus.Vcpus.{Vcpus}
-use Rattle.seq_guest.specs.Parts.{AreResidences, HaveCall, IsOfGuest, acts_in, by_actor, entries_in, parts_by, progress_after}
-use Rattle.seq_guest.specs.Guest.{AreFollowed, GoesOn, NoneKicked}
+use Rattle.pe_place.specs.Parts.{AreResidences, HaveCall, IsOfGuest, by_actor, entries_in, progress_after}
+use Rattle.seq_guest.specs.Guest.{GoesOn, NoneKicked}
 use Rattle.seq_guest.proofs.GuestLemmas.{followed_as}
-use Rattle.seq_guest.proofs.PartsLemmas.{entries_append}
+use Rattle.pe_place.proofs.PartsLemmas.{entries_append}
 use Rattle.seq_laws.specs.Done.{AreSerial, HasDone, home_after}
 use Rattle.seq_laws.proofs.EagerLemmas.{calls_append, eager_append, answers_append, residences_do_nothing, one_call_does}
 use Rattle.seq_laws.proofs.EaseLemmas.{all_at_ease}

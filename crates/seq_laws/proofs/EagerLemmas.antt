@@ -9,11 +9,10 @@ use Rattle.ideal_guest.specs.declared.guest.IdealGuest.{IdealGuest}
 use Rattle.ideal_guest.specs.Ideal.{after_events}
 use Rattle.port_core.specs.Run.{CoreState}
 use Rattle.core_proper.specs.Ideal.{after_moment, end_of_moments}
-use Rattle.core_proper.specs.Parts.{CoreMoment}
 use Rattle.call_laws.specs.Calls.{IsEagerCall, eager_events, eager_read}
 use Rattle.call_laws.specs.Runs.{AnswerEagerly, LoneCall, eager_after, eager_after_all}
 use Rattle.serial_laws.specs.Serial.{WholePart, call_of, calls_of, moments_in, moments_of}
-use Rattle.seq_guest.specs.Parts.{AreResidences, HaveCall, by_actor}
+use Rattle.pe_place.specs.Parts.{HaveCall, by_actor}
 
 pub calls_append : (shape : GuestShape) (state : CoreState) (early late : List WholePart) → calls_of shape state (early ++ late) ≡ calls_of shape state early ++ calls_of shape (end_of_moments shape state (moments_of early)) late
 calls_append shape state [] late = refl

@@ -1,22 +1,21 @@
 -- Between two steps of a schedule each vCPU is at ease.
-use Rattle.std.proofs.Common.{◌≡◌, ℕ, ◌<◌, ◌≤◌, ◌⊎◌, arith, inl, inr, true, false, IsTrue, List, [], Option, Some, length, refl, sym, ap, ◌∙◌, subst}
+use Rattle.std.proofs.Common.{◌≡◌, ℕ, ◌<◌, arith, inl, inr, false, IsTrue, Some, length, refl, sym, ap, ◌∙◌, subst}
 use Rattle.std.specs.Prelude.{slice_get}
 use Rattle.std.specs.Option.{option_map_or}
 use Rattle.std.proofs.lemmas.Option.{slice_get_cases}
 use Rattle.port_core.specs.declared.local.Phase.{Phase}
 use Rattle.port_core.specs.declared.local.Phase.TheVariants.{Off, Scanning, Claiming, Loaded as LoadedPhase, Folding}
 use Rattle.port_core.specs.Condition.{is_ready}
-use Rattle.port_core.specs.Run.{CoreState}
 use Rattle.core_proper.specs.Progress.{Progress, is_paid}
 use Rattle.core_proper.specs.Proper.{is_empty}
 use Rattle.core_laws.specs.Related.{is_folding}
 use Rattle.core_lone.specs.Lone.{IsAtEase}
 use Rattle.port_seq.specs.Told.{GuestTold, state_of}
-use Rattle.seq_guest.specs.declared.place.Place.{Place}
-use Rattle.seq_guest.specs.declared.place.Place.TheVariants.{Shelf, Aside, Pe}
+use Rattle.pe_place.specs.declared.place.Place.{Place}
+use Rattle.pe_place.specs.declared.place.Place.TheVariants.{Shelf, Aside, Pe}
 use Rattle.seq_guest.specs.declared.vcpus.Vcpus.{Vcpus}
-use Rattle.seq_guest.specs.Place.{IsAt, IsFollowed, shelf, spot_of}
-use Rattle.seq_guest.specs.Guest.{seen_by, spot_at, AreAt, AreFollowed, NoneKicked}
+use Rattle.pe_place.specs.Place.{IsAt, IsFollowed, shelf, spot_of}
+use Rattle.seq_guest.specs.Guest.{seen_by, AreAt, AreFollowed, NoneKicked}
 
 not_folding : (phase : Phase) → IsTrue (is_ready phase) → is_folding phase ≡ false
 not_folding Off h = absurd (cc)

@@ -1,23 +1,22 @@
 -- Parts that are told with what they found, one after the other: each is its call, and is fit where those of CPU interfaces begin with ease.
-use Rattle.std.proofs.Common.{◌≡◌, ◌≢◌, ℕ, ◌<◌, inl, inr, true, List, [], ◌∷◌, ◌++◌, map, length, refl, sym, ap, ◌∙◌, subst}
+use Rattle.std.proofs.Common.{◌≡◌, ℕ, inl, inr, List, [], ◌∷◌, ◌++◌, refl, sym, ap, ◌∙◌, subst}
 use Rattle.std.proofs.lemmas.Bool.{cases_eq}
-use Rattle.std.proofs.lemmas.List.{append-nil, append_assoc}
+use Rattle.std.proofs.lemmas.List.{append_assoc}
 use Rattle.scn_base.specs.Good.{IsGoodGuest}
-use Rattle.scn_base.specs.declared.guest.GuestSpec.{GuestSpec}
 use Rattle.port_core.specs.Port.{seen_after}
 use Rattle.port_core.specs.Run.{CoreState, IsRun, end_of, opening, seat_at}
 use Rattle.port_seq.specs.Told.{GuestTold, state_of}
 use Rattle.core_proper.specs.Ideal.{end_of_moments}
-use Rattle.core_proper.specs.Parts.{CoreMoment, entries_of, entry_by}
+use Rattle.core_proper.specs.Parts.{CoreMoment, entries_of}
 use Rattle.core_proper.specs.Proper.{IsProperRun}
 use Rattle.core_proper.proofs.PartLemmas.{same_end}
 use Rattle.core_fresh.proofs.RunFrame.{proper_before}
 use Rattle.serial_laws.specs.Serial.{WholePart, moments_in, moments_of}
 use Rattle.serial_laws.proofs.PartLemmas.{part_entries}
 use Rattle.found_laws.specs.Found.{AreFoundParts, IsFoundPart}
-use Rattle.seq_guest.specs.Parts.{AreCalls as AreFoundCalls, IsCallFound, part_in, parts_by}
+use Rattle.pe_place.specs.Parts.{AreCalls as AreFoundCalls, part_in, parts_by}
 use Rattle.seq_guest.specs.Guest.{seen_by}
-use Rattle.seq_guest.proofs.PartsLemmas.{calls_same}
+use Rattle.pe_place.proofs.PartsLemmas.{calls_same}
 use Rattle.seq_laws.proofs.MomentLemmas.{entries_both, mine_first, others_first}
 use Rattle.seq_laws.proofs.SeenLemmas.{told_after, seen_mine, seen_other}
 

@@ -1,5 +1,5 @@
 -- The moments of parts, one after the other: the steps and the acts of each actor in them.
-use Rattle.std.proofs.Common.{◌≡◌, ◌≢◌, ℕ, ◌<◌, ◌≤◌, ◌==◌, ◌&&◌, not, nat_le, Bool, true, false, if◌then◌else◌, IsTrue, All, inl, inr, List, [], ◌∷◌, ◌++◌, map, filter, Option, refl, sym, ap, ◌∙◌, subst, arith}
+use Rattle.std.proofs.Common.{◌≡◌, ◌≢◌, ℕ, ◌<◌, ◌≤◌, ◌==◌, ◌&&◌, nat_le, Bool, true, false, if◌then◌else◌, IsTrue, All, inl, inr, List, [], ◌∷◌, ◌++◌, map, filter, Option, refl, sym, ap, ◌∙◌, subst}
 use Rattle.std.specs.Option.{option_map}
 use Rattle.std.proofs.lemmas.Bool.{cases_eq, eq-eqb, ne_eqb, and_from, le-leb}
 use Rattle.std.proofs.lemmas.List.{append_assoc}
@@ -8,12 +8,12 @@ use Rattle.gic_base.specs.declared.shape.GuestShape.{GuestShape}
 use Rattle.port_core.specs.declared.run.Made.{Made}
 use Rattle.port_core.specs.Actor.{actor_count}
 use Rattle.port_core.specs.Local.{is_vcpu}
-use Rattle.core_proper.specs.Parts.{Act, begins, makes, ends, CoreMoment, are_parts, entries_of, entry_by, has_registers, own_acts, part_of, step_of}
+use Rattle.core_proper.specs.Parts.{Act, makes, ends, CoreMoment, are_parts, entries_of, entry_by, has_registers, own_acts, part_of, step_of}
 use Rattle.core_laws.proofs.PrefixLemmas.{own_both}
 use Rattle.serial_laws.specs.Serial.{WholePart, moment_by, moments_in, moments_of}
 use Rattle.serial_laws.proofs.AloneRuns.{own_all, own_none}
 use Rattle.serial_laws.proofs.PartLemmas.{part_entries}
-use Rattle.seq_guest.specs.Parts.{IsOfGuest, acts_in, acts_of, entries_in, part_in, parts_by}
+use Rattle.pe_place.specs.Parts.{IsOfGuest, acts_in, acts_of, entries_in, part_in, parts_by}
 
 -- Some parts after others.
 

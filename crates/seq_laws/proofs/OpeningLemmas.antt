@@ -1,6 +1,5 @@
 -- A guest as it opens: nothing was done.
-use Rattle.std.proofs.Common.{◌≡◌, ℕ, ◌<◌, ◌≤◌, List, [], Some, refl, sym, ap, ◌∙◌, subst, arith}
-use Rattle.std.specs.Prelude.{slice_get}
+use Rattle.std.proofs.Common.{◌≡◌, ℕ, ◌<◌, [], refl, sym, ap, ◌∙◌, subst, arith}
 use Rattle.std.specs.Option.{option_map_or}
 use Rattle.std.proofs.lemmas.Option.{slice_get_within}
 use Rattle.std.proofs.lemmas.List.Elements.{All-nil}
@@ -13,13 +12,12 @@ use Rattle.port_core.proofs.OpeningLemmas.{seat_opens}
 use Rattle.port_seq.specs.Told.{GuestTold, opening_told, state_of}
 use Rattle.core_proper.specs.Called.{IsAtRest}
 use Rattle.core_proper.specs.Progress.{opening_progress}
-use Rattle.pe_loop.specs.Enter.{IsBetween}
 use Rattle.serial_laws.proofs.SerialRuns.{serial_runs_are_eager}
-use Rattle.seq_guest.specs.declared.place.Place.{Place}
-use Rattle.seq_guest.specs.declared.place.Place.TheVariants.{Shelf, Aside, Pe}
+use Rattle.pe_place.specs.declared.place.Place.{Place}
+use Rattle.pe_place.specs.declared.place.Place.TheVariants.{Shelf, Aside, Pe}
 use Rattle.seq_guest.specs.declared.vcpus.Vcpus.{Vcpus}
-use Rattle.seq_guest.specs.Parts.{IsOfGuest}
-use Rattle.seq_guest.specs.Place.{IsFollowed, shelf, spot_of}
+use Rattle.pe_place.specs.Parts.{IsOfGuest}
+use Rattle.pe_place.specs.Place.{IsFollowed, shelf, spot_of}
 use Rattle.seq_guest.specs.Guest.{seen_by, spot_at, AreAt}
 use Rattle.seq_laws.proofs.MomentLemmas.{IsThere}
 use Rattle.seq_laws.specs.Done.{AreSerial, HasDone, home_after}

@@ -1,18 +1,17 @@
 -- A proper run of parts with more parts after them.
-use Rattle.std.proofs.Common.{◌≡◌, ℕ, ◌<◌, ◌≤◌, false, IsTrue, All, List, [], ◌∷◌, ◌++◌, refl, sym, ap, ◌∙◌, subst}
+use Rattle.std.proofs.Common.{◌≡◌, ℕ, ◌<◌, ◌≤◌, false, IsTrue, All, List, ◌++◌, sym, ap, ◌∙◌, subst}
 use Rattle.std.proofs.lemmas.Grind.{flat_map-append}
-use Rattle.std.proofs.lemmas.List.Elements.{All-append}
 use Rattle.std.proofs.lemmas.List.Sums.{fold-append}
 use Rattle.scn_base.specs.declared.guest.GuestSpec.{GuestSpec}
 use Rattle.port_core.specs.Actor.{actor_count}
 use Rattle.port_core.specs.Run.{IsRun, opening}
-use Rattle.core_proper.specs.Parts.{are_parts, own_acts}
+use Rattle.core_proper.specs.Parts.{are_parts}
 use Rattle.core_proper.specs.Progress.{opening_progress, progress_in, progress_of, progressed}
 use Rattle.core_proper.specs.Proper.{IsProper, IsProperRun}
 use Rattle.core_proper.proofs.PartLemmas.{proper_append}
 use Rattle.serial_laws.specs.Serial.{WholePart, moments_of}
-use Rattle.seq_guest.specs.Parts.{IsOfGuest, acts_in, acts_of, entries_in, parts_by, progress_after}
-use Rattle.seq_guest.proofs.PartsLemmas.{parts_append}
+use Rattle.pe_place.specs.Parts.{IsOfGuest, acts_in, acts_of, entries_in, parts_by, progress_after}
+use Rattle.pe_place.proofs.PartsLemmas.{parts_append}
 use Rattle.seq_laws.proofs.MomentLemmas.{entries_parts, own_parts, parts_formed, parts_there}
 
 -- what an actor does in both

@@ -1,5 +1,5 @@
 -- What is told of the actors of a guest after a part of one of them.
-use Rattle.std.proofs.Common.{◌≡◌, ◌≢◌, ℕ, ◌<◌, ◌==◌, Bool, true, if◌then◌else◌, List, [], ◌∷◌, ◌++◌, map, filter, length, refl, sym, ap, ◌∙◌, subst}
+use Rattle.std.proofs.Common.{◌≡◌, ◌≢◌, ℕ, ◌==◌, Bool, if◌then◌else◌, List, [], ◌∷◌, ◌++◌, map, filter, length, refl, ap, ◌∙◌}
 use Rattle.std.proofs.lemmas.Bool.{eq-eqb}
 use Rattle.gic_base.specs.declared.shape.GuestShape.{GuestShape}
 use Rattle.scn_base.specs.Good.{IsGoodGuest}
@@ -14,7 +14,7 @@ use Rattle.port_seq.specs.Told.{GuestTold, state_of}
 use Rattle.core_proper.specs.Parts.{entry_by}
 use Rattle.serial_laws.specs.Serial.{WholePart}
 use Rattle.seq_guest.specs.Guest.{seen_by}
-use Rattle.seq_guest.proofs.PartsLemmas.{TellsSame}
+use Rattle.pe_place.proofs.PartsLemmas.{TellsSame}
 use Rattle.seq_guest.proofs.SeatLemmas.{seat_stays}
 
 -- a guest after a part

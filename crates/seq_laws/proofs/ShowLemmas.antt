@@ -1,8 +1,7 @@
 -- The registers of a vCPU that left its PE and entered it again.
-use Rattle.std.proofs.Common.{◌≡◌, ℕ, ◌<◌, List, [], ◌∷◌, ◌++◌, Some, refl, sym, ap, ◌∙◌, subst}
-use Rattle.std.specs.Prelude.{slice_get, take}
+use Rattle.std.proofs.Common.{◌≡◌, ℕ, ◌<◌, List, [], ◌∷◌, ◌++◌, sym, ap, ◌∙◌, subst}
+use Rattle.std.specs.Prelude.{take}
 use Rattle.std.proofs.lemmas.List.{append_assoc}
-use Rattle.gic_base.specs.declared.shape.GuestShape.{GuestShape}
 use Rattle.gic_ich.specs.declared.regs.IchRegs.{IchRegs}
 use Rattle.gic_ideal.specs.Shown.{registers_of}
 use Rattle.ideal_guest.specs.declared.guest.IdealGuest.{IdealGuest}
@@ -14,12 +13,12 @@ use Rattle.core_proper.specs.Ideal.{end_of_moments}
 use Rattle.core_proper.specs.Progress.{Progress, progress_in}
 use Rattle.entry_laws.specs.Entry.{HasEntered, ShowsRegisters}
 use Rattle.serial_laws.specs.Serial.{WholePart, moments_of}
-use Rattle.seq_guest.specs.declared.place.Place.TheVariants.{Pe}
+use Rattle.pe_place.specs.declared.place.Place.TheVariants.{Pe}
 use Rattle.seq_guest.specs.declared.vcpus.Vcpus.{Vcpus}
-use Rattle.seq_guest.specs.Parts.{AreResidences, entries_in, progress_after}
-use Rattle.seq_guest.specs.Guest.{GoesOn, NoneKicked, Shows, ShowsList, seen_by}
+use Rattle.pe_place.specs.Parts.{AreResidences, entries_in, progress_after}
+use Rattle.seq_guest.specs.Guest.{GoesOn, NoneKicked, Shows}
 use Rattle.seq_laws.specs.Done.{AreSerial, HasDone, home_after}
-use Rattle.seq_laws.specs.Laws.{KeepsHome, RegistersShowHome, ResidencesKeepHome, ShowsHomeOf}
+use Rattle.seq_laws.specs.Laws.{KeepsHome, ResidencesKeepHome, ShowsHomeOf}
 use Rattle.seq_laws.proofs.DoneLemmas.{entry_shows}
 use Rattle.seq_laws.proofs.FollowLemmas.{state_is}
 use Rattle.seq_laws.proofs.MomentLemmas.{entries_parts}

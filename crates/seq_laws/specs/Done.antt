@@ -13,7 +13,7 @@ use Rattle.core_proper.specs.Proper.{IsProperRun}
 use Rattle.found_laws.specs.Found.{AreAble, AreFoundParts}
 use Rattle.serial_laws.specs.Serial.{WholePart, moments_of}
 use Rattle.seq_guest.specs.declared.vcpus.Vcpus.{Vcpus}
-use Rattle.seq_guest.specs.Parts.{IsOfGuest, entries_in}
+use Rattle.pe_place.specs.Parts.{IsOfGuest, entries_in}
 use Rattle.seq_guest.specs.Guest.{AreAt, AreFollowed}
 
 -- the guest that some parts lead to, with all that stands at interfaces taken back

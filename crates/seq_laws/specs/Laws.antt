@@ -11,8 +11,8 @@ use Rattle.call_laws.specs.Calls.{IsEagerCall}
 use Rattle.call_laws.specs.Runs.{IsGoodCall}
 use Rattle.serial_laws.specs.Serial.{WholePart, is_icc}
 use Rattle.seq_guest.specs.declared.vcpus.Vcpus.{Vcpus}
-use Rattle.seq_guest.specs.Parts.{AreResidences, HaveCall}
-use Rattle.seq_guest.specs.Place.{shelf}
+use Rattle.pe_place.specs.Parts.{AreResidences, HaveCall}
+use Rattle.pe_place.specs.Place.{shelf}
 use Rattle.seq_guest.specs.Guest.{AreAt, GoesOn, NoneKicked, ShowsList, spot_at}
 use Rattle.seq_laws.specs.Done.{HasDone, home_after}
 

@@ -2,9 +2,9 @@
 use Rattle.std.proofs.Common.{refl, ap, ◌∙◌, subst}
 use Rattle.port_seq.specs.Ports.{told, told_all}
 use Rattle.port_seq.specs.Told.{telling}
-use Rattle.seq_guest.specs.Parts.{AreResidences}
+use Rattle.pe_place.specs.Parts.{AreResidences}
 use Rattle.seq_guest.specs.Guest.{GoesOn}
-use Rattle.seq_guest.specs.Place.{left}
+use Rattle.pe_place.specs.Place.{left}
 use Rattle.run_seq.specs.Acts.{MovesVcpu}
 use Rattle.run_seq.proofs.LendLemmas.{IsLent, acts_by, goes_from_any, lent_at, lent_told}
 use Rattle.run_seq.proofs.machine.Machine.leave.Goals as goal

@@ -4,7 +4,7 @@ use Rattle.port_seq.specs.Ports.{told, told_all}
 use Rattle.port_seq.specs.Told.{GuestTold, guest_at, telling}
 use Rattle.std.proofs.lemmas.Option.{slice_get_within}
 use Rattle.gic_call.specs.declared.event.Operation.TheVariants.{Device as DeviceCall}
-use Rattle.seq_guest.specs.Parts.{HaveCall}
+use Rattle.pe_place.specs.Parts.{HaveCall}
 use Rattle.seq_guest.specs.Guest.{GoesOn}
 use Rattle.run_seq.specs.Acts.{CallsOnce}
 use Rattle.run_seq.proofs.LendLemmas.{IsLent, acts_by, event_from_any, first_there, lent_at, lent_told}

@@ -1,7 +1,7 @@
 -- The vCPUs so far.
 use Rattle.std.proofs.Common.{◌≡◌, false}
 use Rattle.port_seq.specs.Ports.{told}
-use Rattle.seq_guest.specs.Parts.{AreResidences}
+use Rattle.pe_place.specs.Parts.{AreResidences}
 use Rattle.seq_guest.specs.Guest.{GoesOn, ChangesSpots, for_none}
 use Rattle.seq_guest.proofs.KickLemmas.{NoneBelow}
 use Rattle.seq_guest.proofs.vcpus.Vcpus.answer_each.Given as goal

@@ -1,6 +1,6 @@
 -- The rounds so far.
 use Rattle.port_seq.specs.Ports.{told}
-use Rattle.seq_guest.specs.Parts.{AreResidences}
+use Rattle.pe_place.specs.Parts.{AreResidences}
 use Rattle.seq_guest.specs.Guest.{GoesOn, ChangesSpots, for_none}
 use Rattle.seq_guest.proofs.vcpus.Vcpus.answer_kicks.Given as goal
 

@@ -2,8 +2,8 @@
 use Rattle.std.proofs.Common.{refl, sym, subst, ◌∙◌}
 use Rattle.port_seq.specs.Ports.{told}
 use Rattle.port_seq.specs.Told.{seen_of}
-use Rattle.seq_guest.specs.Parts.{AreResidences}
-use Rattle.seq_guest.specs.Moves.{Moves, WasNotKicked}
+use Rattle.pe_place.specs.Parts.{AreResidences}
+use Rattle.pe_place.specs.Moves.{Moves, WasNotKicked}
 use Rattle.seq_guest.proofs.GuestLemmas.{one_goes, place_is}
 use Rattle.seq_guest.proofs.KickLemmas.{was_quiet}
 use Rattle.seq_guest.proofs.PlacesLemmas.{same_spot, spot_then}

@@ -2,9 +2,9 @@
 use Rattle.std.proofs.Common.{refl, subst}
 use Rattle.port_seq.specs.Ports.{told}
 use Rattle.port_seq.specs.Told.{seen_of}
-use Rattle.seq_guest.specs.Place.{returned}
-use Rattle.seq_guest.specs.Parts.{AreResidences}
-use Rattle.seq_guest.specs.Moves.{Moves}
+use Rattle.pe_place.specs.Place.{returned}
+use Rattle.pe_place.specs.Parts.{AreResidences}
+use Rattle.pe_place.specs.Moves.{Moves}
 use Rattle.seq_guest.proofs.GuestLemmas.{one_goes, place_is}
 use Rattle.seq_guest.proofs.PlacesLemmas.{one_spot}
 use Rattle.seq_guest.proofs.vcpus.Vcpus.bring_back.Goals as goal

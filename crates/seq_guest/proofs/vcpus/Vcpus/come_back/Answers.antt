@@ -2,7 +2,7 @@
 use Rattle.std.proofs.Common.{refl, subst, ap, rules}
 use Rattle.gic_base.specs.declared.shape.GuestShape.{GuestShape}
 use Rattle.port_seq.specs.Ports.{told}
-use Rattle.seq_guest.specs.Place.{returned}
+use Rattle.pe_place.specs.Place.{returned}
 use Rattle.seq_guest.specs.Guest.{ChangesSpots, for_all, for_below}
 use Rattle.seq_guest.proofs.GuestLemmas.{goes_none, goes_then}
 use Rattle.seq_guest.proofs.PlacesLemmas.{below_none, below_more, below_all}

@@ -1,8 +1,8 @@
 -- The vCPUs so far.
 use Rattle.std.proofs.Common.{◌≡◌}
 use Rattle.port_seq.specs.Ports.{told}
-use Rattle.seq_guest.specs.Place.{returned}
-use Rattle.seq_guest.specs.Parts.{AreResidences}
+use Rattle.pe_place.specs.Place.{returned}
+use Rattle.pe_place.specs.Parts.{AreResidences}
 use Rattle.seq_guest.specs.Guest.{GoesOn, ChangesSpots, for_all, for_below}
 use Rattle.seq_guest.proofs.vcpus.Vcpus.come_back.Given as goal
 

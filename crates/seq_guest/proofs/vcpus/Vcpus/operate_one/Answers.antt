@@ -4,10 +4,10 @@ use Rattle.gic_call.specs.declared.event.Operation.TheVariants.{Access}
 use Rattle.pe_mem.specs.Found.{takes_turn_by}
 use Rattle.port_seq.specs.Ports.{told}
 use Rattle.port_seq.specs.Told.{GuestTold, seen_of}
-use Rattle.seq_guest.specs.Parts.{AreOneCall}
-use Rattle.seq_guest.specs.Moves.{Moves}
+use Rattle.pe_place.specs.Parts.{AreOneCall}
+use Rattle.pe_place.specs.Moves.{Moves}
 use Rattle.seq_guest.proofs.GuestLemmas.{one_goes, place_is}
-use Rattle.seq_guest.proofs.OperateLemmas.{if_ok}
+use Rattle.pe_place.proofs.OperateLemmas.{if_ok}
 use Rattle.seq_guest.proofs.PlacesLemmas.{same_spot}
 use Rattle.seq_guest.proofs.vcpus.Vcpus.operate_one.Goals as goal
 

@@ -1,8 +1,8 @@
 -- And the kicks are answered.
-use Rattle.seq_guest.specs.declared.place.Place.TheVariants.{Pe}
+use Rattle.pe_place.specs.declared.place.Place.TheVariants.{Pe}
 use Rattle.port_seq.specs.Ports.{told}
 use Rattle.seq_guest.proofs.GuestLemmas.{goes_then}
-use Rattle.seq_guest.proofs.OperateLemmas.{if_ok}
+use Rattle.pe_place.proofs.OperateLemmas.{if_ok}
 use Rattle.seq_guest.proofs.vcpus.Vcpus.show.Goals as goal
 
 pub answer_kicks-requires : goal.answer_kicks-requires

@@ -2,10 +2,10 @@
 use Rattle.std.proofs.Common.{refl, subst}
 use Rattle.port_seq.specs.Ports.{told}
 use Rattle.port_seq.specs.Told.{seen_of}
-use Rattle.seq_guest.specs.Place.{IsShown}
-use Rattle.seq_guest.specs.Moves.{ReentersAt}
+use Rattle.pe_place.specs.Place.{IsShown}
+use Rattle.pe_place.specs.Moves.{ReentersAt}
 use Rattle.seq_guest.proofs.GuestLemmas.{place_is}
-use Rattle.seq_guest.proofs.OperateLemmas.{if_ok}
+use Rattle.pe_place.proofs.OperateLemmas.{if_ok}
 use Rattle.seq_guest.proofs.PlacesLemmas.{same_spot, place_set}
 use Rattle.seq_guest.proofs.ShowLemmas.{one_shows}
 use Rattle.seq_guest.proofs.vcpus.Vcpus.show_one.Goals as goal

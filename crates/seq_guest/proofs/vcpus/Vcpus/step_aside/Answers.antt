@@ -2,7 +2,7 @@
 use Rattle.std.proofs.Common.{subst, ap, rules}
 use Rattle.gic_base.specs.declared.shape.GuestShape.{GuestShape}
 use Rattle.port_seq.specs.Ports.{told}
-use Rattle.seq_guest.specs.Place.{gone_aside}
+use Rattle.pe_place.specs.Place.{gone_aside}
 use Rattle.seq_guest.specs.Guest.{ChangesSpots, but_one, for_below}
 use Rattle.seq_guest.proofs.GuestLemmas.{goes_none, goes_then}
 use Rattle.seq_guest.proofs.PlacesLemmas.{below_none, below_more, below_all, still_but}

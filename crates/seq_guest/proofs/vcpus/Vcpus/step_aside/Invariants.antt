@@ -1,8 +1,8 @@
 -- The vCPUs so far.
 use Rattle.std.proofs.Common.{◌≡◌}
 use Rattle.port_seq.specs.Ports.{told}
-use Rattle.seq_guest.specs.Place.{gone_aside}
-use Rattle.seq_guest.specs.Parts.{AreResidences}
+use Rattle.pe_place.specs.Place.{gone_aside}
+use Rattle.pe_place.specs.Parts.{AreResidences}
 use Rattle.seq_guest.specs.Guest.{GoesOn, ChangesSpots, but_one, for_below}
 use Rattle.seq_guest.proofs.vcpus.Vcpus.step_aside.Given as goal
 

@@ -1,0 +1,28 @@
+-- How guests ended (own choice).
+use Rattle.std.specs.Prelude.{◌≡◌, List, [], ◌∷◌, length, take, drop}
+use Rattle.gic_ideal.specs.Ends.{end_of}
+use Rattle.gic_prio.specs.declared.cpu.CpuRec.{CpuRec}
+use Rattle.ideal_guest.specs.declared.guest.IdealGuest.{IdealGuest}
+use Rattle.ideal_guest.specs.Opening.{opening as opening_guest}
+use Rattle.port_core.specs.declared.end.GuestWords.{GuestWords}
+use Rattle.scn_base.specs.declared.guest.GuestSpec.{GuestSpec}
+use Rattle.scn_base.specs.Good.{IsGoodGuest}
+use Rattle.guest_end.specs.Home.{IsAtEnd, guest_of}
+
+-- a guest ended with these words and CPU records, and its end lines are those of this guest of the ideal controller
+pub record EndsAt (guest : GuestSpec) (words : GuestWords) (cpus : List CpuRec) (ideal : IdealGuest) : Type 0 where
+  pub good : IsGoodGuest guest
+  pub ended : IsAtEnd guest words cpus
+  pub vcpus : length words.vcpus ≡ guest.shape.vcpus
+  pub lines : end_of (opening_guest guest) (guest_of guest words cpus) ≡ end_of (opening_guest guest) ideal
+
+-- so did each of some guests, the CPU records of which stand one guest's after the other's
+abbrev pub AllEndAt : List GuestSpec → List GuestWords → List CpuRec → List IdealGuest → Type 0
+AllEndAt [] [] cpus [] = Unit {0}
+AllEndAt (guest ∷ guests) (one ∷ words) cpus (ideal ∷ ideals) = EndsAt guest one (take guest.shape.vcpus cpus) ideal × AllEndAt guests words (drop guest.shape.vcpus cpus) ideals
+AllEndAt guests words cpus ideals = ⊥
+
+-- it is told of which guests of the ideal controller that is
+pub record HaveEnded (guests : List GuestSpec) (words : List GuestWords) (cpus : List CpuRec) : Type 0 where
+  pub ideals : List IdealGuest
+  pub all : AllEndAt guests words cpus ideals

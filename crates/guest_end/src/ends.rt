@@ -1,0 +1,35 @@
+//! How the guests of a scenario ended.
+ghost use Rattle.std.specs.Prelude.{◌≡◌, List, IfOk, map};
+ghost use Rattle.gic_ideal.specs.Ends.{ends_of as ends_between};
+ghost use Rattle.ideal_guest.specs.declared.guest.IdealGuest.{IdealGuest};
+ghost use Rattle.ideal_guest.specs.Opening.{opening};
+ghost use Rattle.guest_end.specs.Ends.{HaveEnded, AllEndAt};
+
+use crate::home::end_of;
+use gic_base::NoMemory;
+use gic_list::ListOf;
+use gic_prio::CpuRec;
+use port_core::EndWords;
+use scn_base::{Ends, Guests};
+use std::alloc::Global;
+
+/// How each guest ended, by its words and the records of its CPU interfaces, which stand one guest's after the other's. An error
+/// where memory is refused.
+pub fn ends_of(
+    alloc: Global,
+    guests: &Guests,
+    words: &EndWords,
+    cpus: &[CpuRec],
+) -> Result<Ends, NoMemory>
+    requires { HaveEnded guests.now words.now cpus.now }
+    ensures { IfOk result (λ ends. (ideals : List IdealGuest) → AllEndAt guests.now words.now cpus.now ideals → ends ≡ ends_between (map opening guests.now) ideals) }
+{
+    let mut ends = ListOf::new(alloc);
+    let mut rest = cpus;
+    for (guest, spec) in guests.as_slice().iter().enumerate() {
+        let (own, later) = rest.split_at(spec.shape.vcpus as usize);
+        ends.push(end_of(alloc, spec, &words.as_slice()[guest], own)?)?;
+        rest = later;
+    }
+    Ok(ends)
+}

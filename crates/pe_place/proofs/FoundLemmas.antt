@@ -1,0 +1,30 @@
+-- A call that is no access goes by no vCPU that an LPI is for.
+use Rattle.std.proofs.Common.{◌≡◌, ℕ, List, Option, Some, None, refl, sym, ◌∙◌}
+use Rattle.gic_base.specs.declared.operation.DeviceOp.{DeviceOp}
+use Rattle.gic_base.specs.declared.shape.GuestShape.{GuestShape}
+use Rattle.gic_call.specs.declared.event.Operation.TheVariants.{Device, Residence}
+use Rattle.gic_call.specs.Trace.{Beside, Happened, IsCall}
+use Rattle.port_core.specs.declared.run.Made.{Made}
+use Rattle.port_core.specs.Port.{Seen, shape_of, part_events}
+use Rattle.core_proper.specs.Called.{MakesCall, vcpu_of_actor}
+use Rattle.pe_mem.specs.Found.{IsCallAsFound}
+use Rattle.pe_mem.proofs.FoundLemmas.{found_by_none}
+
+any_residence :
+    (shape : GuestShape) (one other : Beside) (actor : Option ℕ) (piece : List Happened) (answer : Option ℕ) → IsCall shape one actor Residence piece answer → IsCall shape other actor Residence piece answer
+any_residence shape one other (Some vcpu) piece answer is = is
+any_residence shape one other None piece answer is = absurd is
+
+pub residence_call : (seen : Seen) (steps : List Made) (answer : Option ℕ) → MakesCall seen steps Residence answer → IsCallAsFound seen steps Residence answer
+residence_call seen steps answer makes =
+    found_by_none seen steps Residence answer refl (λ beside maps. any_residence (shape_of seen) makes.beside beside (vcpu_of_actor (shape_of seen) seen.actor) (part_events seen steps) answer makes.call)
+
+same_device :
+    (shape : GuestShape) (one other : Beside) (actor : Option ℕ) (op : DeviceOp) (piece : List Happened) (answer : Option ℕ) → one.maps ≡ other.maps → IsCall shape one actor (Device op) piece answer → IsCall shape other actor (Device op) piece answer
+same_device shape one other (Some vcpu) op piece answer same is = absurd is
+same_device shape one other None op piece answer same is = record { view = is.view; maps = is.maps ∙ same; made = is.made; answers = is.answers }
+
+pub device_call : (seen : Seen) (op : DeviceOp) (steps : List Made) (answer : Option ℕ) → MakesCall seen steps (Device op) answer → IsCallAsFound seen steps (Device op) answer
+device_call seen op steps answer makes =
+    found_by_none seen steps (Device op) answer refl
+    (λ beside maps. same_device (shape_of seen) makes.beside beside (vcpu_of_actor (shape_of seen) seen.actor) op (part_events seen steps) answer (makes.maps ∙ sym maps) makes.call)

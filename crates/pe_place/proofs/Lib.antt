@@ -1,0 +1,9 @@
+pub mod FrameLemmas
+pub mod FoundLemmas
+pub mod KindLemmas
+pub mod MoveLemmas
+pub mod LookLemmas
+pub mod ReenterLemmas
+pub mod SpotLemmas
+pub mod PartsLemmas
+pub mod OperateLemmas

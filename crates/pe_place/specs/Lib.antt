@@ -1,0 +1,4 @@
+pub mod Parts
+pub mod Place
+pub mod Moves
+pub mod Device

@@ -1,0 +1,36 @@
+//! An operation of a vCPU that is on a PE.
+ghost use Rattle.std.specs.Prelude.{◌≡◌, ℕ, true, IsTrue, IfOk, OnErr};
+ghost use Rattle.gic_call.specs.declared.event.Operation.TheVariants.{Access};
+ghost use Rattle.port_core.specs.Port.{shape_of};
+ghost use Rattle.pe_mem.specs.Found.{takes_turn_by};
+ghost use Rattle.scn_base.specs.Good.{is_good_op};
+ghost use Rattle.pe_place.specs.Parts.{AreOneCall};
+ghost use Rattle.pe_place.specs.Place.{pe, spot_of, IsAt, HasRegisters};
+ghost use Rattle.pe_place.specs.Moves.{Moves};
+
+use crate::place::Place;
+use gic_base::{GuestOp, NoMemory};
+use pe_op::guest_op;
+use port_core::Port;
+use std::sync::Wait;
+
+/// The vCPU, which is on a PE, does an operation: what it reads. `NoMemory` comes only at a write that takes the ITS.
+pub fn operate_on<P: Port, R: Wait>(
+    rt: &R,
+    port: &mut P,
+    place: &mut Place,
+    op: &GuestOp,
+) -> Result<Option<u64>, NoMemory>
+    requires at { IsAt (P.seen port.old) place.old }
+    requires on { spot_of place.old ≡ pe }
+    requires good { IsTrue (is_good_op (shape_of (P.seen port.old)) op.now) }
+    ensures moves { IfOk result (λ answer. Moves (AreOneCall (P.seen port.old).actor (Access op.now) answer) (P.seen port.old) (P.seen port.new) place.old place.new) }
+    ensures memory { OnErr result (takes_turn_by (shape_of (P.seen port.old)) op.now ≡ true) }
+    ensures spot { spot_of place.new ≡ spot_of place.old }
+    ensures registers { (lrs : ℕ) → HasRegisters lrs place.old → HasRegisters lrs place.new }
+{
+    match place {
+        Place::Pe(vcpu) => guest_op(rt, port, vcpu, op),
+        Place::Shelf(_) | Place::Aside(_) => unreachable!(),
+    }
+}
