@@ -1,0 +1,21 @@
+-- One more PE is there.
+use Rattle.std.proofs.Common.{◌≡◌, ◌+◌, [], true, nat_lt, sym, ap, subst, ◌∙◌, arith}
+use Rattle.std.proofs.lemmas.Bool.{lt-ltb}
+use Rattle.thr_trip.specs.Seat.{IsFreeSeat}
+use Rattle.vcpu_shelf.specs.Shelf.{shelf_told, seat_told}
+use Rattle.thr_cast.specs.Crew.{HaveWorkers}
+use Rattle.thr_cast.proofs.WorkerLemmas.{pe_came}
+use Rattle.thr_cast.proofs.crew.add_pes.Goals as goal
+
+pub loop-pe-preserved : goal.loop-pe-preserved
+loop-pe-preserved g c =
+    let shelf = shelf_told c.args.shelf.now in
+    let own = c.split-own.ensures.new in
+    let told = c.new.ensures in
+    let free : IsFreeSeat shelf (seat_told c.new.result.seat) = record { of = ap (λ seat. seat.home) (told ∙ own); none = ap (λ seat. seat.out) (told ∙ own) } in
+    let some : nat_lt 0 (c.loop-pe.pe + 1) ≡ true = lt-ltb 0 (c.loop-pe.pe + 1) (omega arith) in
+    let more = pe_came shelf c.loop-pe.workers.items [] (nat_lt 0 c.loop-pe.pe) c.new.result c.loop-pe.invariant.workers free in
+    record {
+      seat = c.split-own.ensures.same ∙ c.loop-pe.invariant.seat;
+      workers = subst (λ pes. HaveWorkers shelf c.push.new.self.items [] pes) (sym some) (subst (λ items. HaveWorkers shelf items [] true) (sym c.in_ok-push.ensures.items) more);
+    }

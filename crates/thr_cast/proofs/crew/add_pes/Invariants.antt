@@ -1,0 +1,12 @@
+-- The first PEs are there.
+use Rattle.std.proofs.Common.{◌≡◌, [], nat_lt}
+use Rattle.vcpu_shelf.specs.Shelf.{shelf_told, seat_told}
+use Rattle.thr_cast.specs.Crew.{HaveWorkers}
+use Rattle.thr_cast.proofs.crew.add_pes.Given as goal
+
+abbrev pub invariant-loop-pe : goal.invariant-loop-pe
+invariant-loop-pe g l =
+    record {
+      seat : seat_told l.seat ≡ seat_told l.initial.seat;
+      workers : HaveWorkers (shelf_told l.shelf) l.workers.items [] (nat_lt 0 l.pe);
+    }

@@ -1,0 +1,64 @@
+-- A device does one more operation.
+use Rattle.std.proofs.Common.{◌≡◌, ℕ, ◌<◌, ◌==◌, ◌&&◌, suc, All, Bool, true, false, IsTrue, nat_le, List, length, take, if◌then◌else◌, None, Some, refl, sym, ap, subst, ◌∙◌}
+use Rattle.std.specs.Prelude.{slice_get}
+use Rattle.std.proofs.Math.Logic.{∥∥₁_map}
+use Rattle.core_proper.specs.Called.{IsAtRest}
+use Rattle.core_proper.specs.Parts.{has_registers}
+use Rattle.core_proper.proofs.RestLemmas.{rests_again}
+use Rattle.eager_laws.specs.Calls.{Made}
+use Rattle.gic_base.specs.declared.operation.DeviceOp.{DeviceOp}
+use Rattle.gic_call.specs.declared.event.Operation.TheVariants.{Device}
+use Rattle.pe_place.specs.Device.{DoesEvent}
+use Rattle.pe_place.specs.Parts.{Part}
+use Rattle.pe_place.proofs.FoundLemmas.{device_call}
+use Rattle.port_core.specs.Local.{is_vcpu}
+use Rattle.port_core.specs.Port.{Seen, shape_of}
+use Rattle.port_table.specs.Told.{WordsTold, words_at}
+use Rattle.scn_base.specs.declared.guest.GuestSpec.{GuestSpec}
+use Rattle.scn_base.specs.declared.step.Step.{Step}
+use Rattle.scn_base.specs.Good.{is_good_event}
+use Rattle.dev_port.specs.Device.{CanCall}
+use Rattle.thr_trip.specs.Device.{DeviceTold, IsDevice, Receives, calls_done, opened}
+use Rattle.thr_trip.specs.Gone.{HasGone}
+use Rattle.thr_trip.specs.Script.{calls_received}
+use Rattle.thr_trip.proofs.CallLemmas.{received_more}
+use Rattle.thr_trip.proofs.GoneLemmas.{goes_on_by, same_after, same_twice}
+
+-- None.
+pub receives_none : (script : List DeviceOp) (seen : Seen) → CanCall seen → Receives (take 0 script) seen seen
+receives_none script seen ready = record { actor = record { home = refl; guest = refl; number = refl; actor = refl }; ready = ready; goes_on = λ from gone. gone }
+
+no_registers : (from old : Seen) (calls : List Made) → is_vcpu (shape_of old) old.actor ≡ false → HasGone from old (IsAtRest old) calls → IsTrue (has_registers (shape_of from) from.actor 0)
+no_registers from old calls is gone =
+    let none : is_vcpu (shape_of from) from.actor ≡ false = subst (λ (seen : Seen). is_vcpu (shape_of seen) seen.actor ≡ false) gone.adds.new_is is in
+    ap (λ (vcpu : Bool). if vcpu then nat_le 1 0 && nat_le 0 16 else 0 == 0) none
+
+-- One more.
+pub receives_more : (script : List DeviceOp) (first old new : Seen) (done : ℕ) (op : DeviceOp) → slice_get script done ≡ Some op → Receives (take done script) first old → DoesEvent old new op → Receives (take (suc done) script) first new
+receives_more script first old new done op there so does =
+    let part : Part = record { operation = Device op; lrs = 0; steps = does.part; answer = None } in
+    record {
+      actor = same_twice first old new so.actor (same_after old new does.part does.done.adds);
+      ready = does.done.after;
+      goes_on = λ from gone.
+          let here = so.goes_on from gone in
+          let calls = calls_received (take done script) in
+          subst (HasGone from new (IsAtRest new)) (sym (received_more script done op there))
+          (goes_on_by from old new (IsAtRest old) (IsAtRest new) calls part (no_registers from old calls so.ready.device here) does.done.adds (record { made = does.done.call; found = device_call old op does.part None does.done.call }) does.done.proper
+          (λ p rest. rests_again old new p does.part (Device op) 0 None rest (does.done.proper p rest) does.done.adds) here);
+    }
+
+-- All of its script.
+pub device_done : (words : List WordsTold) (steps : List Step) (device : DeviceTold) (new : Seen) → IsDevice words steps device → device.done ≡ false → Receives device.script device.seen new → IsDevice words steps (record device { done = true; seen = new })
+device_done words steps device new is none receives =
+    let same = receives.actor in
+    let from = opened words device in
+    record {
+      of = record { guest = subst (λ number. number < length words) (sym same.number) is.of.guest; home = ap (λ number. (words_at words number).home) same.number ∙ is.of.home ∙ sym same.home };
+      actor = same_twice from device.seen new is.actor same;
+      number = same.number ∙ is.number;
+      ready = receives.ready;
+      script = is.script;
+      good = subst (λ (guest : GuestSpec). All (λ op. IsTrue (is_good_event guest.shape op)) device.script) (sym same.guest) is.good;
+      gone = ∥∥₁_map is.gone (λ gone. receives.goes_on from (subst (HasGone from device.seen (IsAtRest device.seen)) (ap (λ done. calls_done done device.script) none) gone));
+    }

@@ -1,0 +1,59 @@
+-- An actor goes on by one part.
+use Rattle.std.proofs.Common.{◌≡◌, IsTrue, List, [], ◌∷◌, ◌++◌, append-nil, refl, sym, ap, subst, ◌∙◌}
+use Rattle.std.proofs.lemmas.Grind.{flat_map-append}
+use Rattle.std.proofs.lemmas.List.Elements.{All-nil, All-cons, All-append}
+use Rattle.std.proofs.lemmas.List.Sums.{fold-append}
+use Rattle.core_proper.specs.Parts.{has_registers}
+use Rattle.core_proper.specs.Progress.{Progress, opening_progress, progressed, progress_of}
+use Rattle.core_proper.specs.Proper.{IsProper}
+use Rattle.core_proper.proofs.PartLemmas.{proper_append}
+use Rattle.eager_laws.specs.Calls.{Made, made_of}
+use Rattle.pe_place.specs.Parts.{Part, AreCalls, IsCallFound, acts_in, acts_of, steps_in}
+use Rattle.pe_place.proofs.MoveLemmas.{calls_join}
+use Rattle.port_core.specs.declared.run.Made.{Made as Step}
+use Rattle.port_core.specs.Port.{Seen, Adds, shape_of}
+use Rattle.port_core.proofs.PortLemmas.{adds_join}
+use Rattle.thr_trip.specs.Gone.{HasGone, IsSameActor}
+use Rattle.thr_trip.proofs.CallLemmas.{calls_more}
+
+-- it is the same actor
+pub same_after : (old new : Seen) (part : List Step) → Adds old new part → IsSameActor old new
+same_after old new part adds =
+    let is = adds.new_is in record { home = ap (λ seen. seen.home) is; guest = ap (λ seen. seen.guest) is; number = ap (λ seen. seen.number) is; actor = ap (λ seen. seen.actor) is }
+
+pub same_twice : (one two three : Seen) → IsSameActor one two → IsSameActor two three → IsSameActor one three
+same_twice one two three a b = record { home = b.home ∙ a.home; guest = b.guest ∙ a.guest; number = b.number ∙ a.number; actor = b.actor ∙ a.actor }
+
+-- it did one part, wherever its protocol was so, and it is so after that
+pub goes_on_by :
+    (from old new : Seen) (Before After : Progress → Type 0) (calls : List Made) (part : Part) → IsTrue (has_registers (shape_of from) from.actor part.lrs) → Adds old new part.steps → IsCallFound old part
+    → ((p : Progress) → Before p → IsProper (shape_of old) old.actor p (acts_of part)) → ((p : Progress) → Before p → After (progress_of (shape_of old) old.actor p (acts_of part))) → HasGone from old Before calls
+    → HasGone from new After (calls ++ made_of part.operation part.answer [])
+goes_on_by from old new Before After calls part registers adds call proper goes_on gone =
+    let shape = shape_of from in
+    let actor = from.actor in
+    let here = gone.adds.new_is in
+    let start = opening_progress from.guest from.number actor in
+    let more : List Part = part ∷ [] in
+    let acts : acts_in (gone.parts ++ more) ≡ acts_in gone.parts ++ acts_of part = flat_map-append acts_of gone.parts more ∙ ap (λ late. acts_in gone.parts ++ late) (append-nil (acts_of part)) in
+    let steps : steps_in (gone.parts ++ more) ≡ steps_in gone.parts ++ part.steps = flat_map-append (λ (part : Part). part.steps) gone.parts more ∙ ap (λ late. steps_in gone.parts ++ late) (append-nil part.steps) in
+    let middle = progress_of shape actor start (acts_in gone.parts) in
+    let Kept : Part → Type 0 = λ part. IsTrue (has_registers shape actor part.lrs) in
+    record {
+      parts = gone.parts ++ more;
+      adds = subst (Adds from new) (sym steps) (adds_join from old new (steps_in gone.parts) part.steps gone.adds adds);
+      registers = All-append Kept gone.parts more gone.registers (All-cons Kept part [] registers (All-nil Kept));
+      are = calls_join from gone.parts more gone.are (subst (λ seen. AreCalls seen more) here (call, tt));
+      proper =
+          subst (IsProper shape actor start) (sym acts)
+          ((proper_append shape actor start (acts_in gone.parts) (acts_of part)).1
+          (gone.proper, subst (λ (seen : Seen). IsProper (shape_of seen) seen.actor middle (acts_of part)) here (proper middle gone.followed)));
+      calls_are = calls_more gone.parts part ∙ ap (λ calls. calls ++ made_of part.operation part.answer []) gone.calls_are;
+      followed =
+          subst After (sym (ap (progress_of shape actor start) acts ∙ fold-append (progressed shape actor) start (acts_in gone.parts) (acts_of part)))
+          (subst (λ (seen : Seen). After (progress_of (shape_of seen) seen.actor middle (acts_of part))) here (goes_on middle gone.followed));
+    }
+
+-- an actor that has done nothing
+pub gone_nowhere : (from : Seen) (Followed : Progress → Type 0) → Adds from from [] → Followed (opening_progress from.guest from.number from.actor) → HasGone from from Followed []
+gone_nowhere from Followed adds so = record { parts = []; adds = adds; registers = All-nil (λ (part : Part). IsTrue (has_registers (shape_of from) from.actor part.lrs)); are = tt; proper = tt; calls_are = refl; followed = so }

@@ -1,0 +1,4 @@
+pub mod CallLemmas
+pub mod GoneLemmas
+pub mod VisitLemmas
+pub mod DeviceLemmas

@@ -1,0 +1,158 @@
+-- A vCPU enters a PE, does operations there, and leaves it.
+use Rattle.std.proofs.Common.{◌≡◌, ℕ, ◌<◌, ◌≤◌, ◌&&◌, ◌==◌, All, Bool, true, false, true≢false, IsTrue, nat_le, List, [], ◌∷◌, ◌++◌, append-nil, length, length-append, if◌then◌else◌, Option, Some, refl, sym, ap, subst, ◌∙◌, arith}
+use Rattle.std.specs.Prelude.{slice_get}
+use Rattle.std.proofs.Math.Logic.{∥∥₁_map}
+use Rattle.std.proofs.lemmas.Option.{slice_get_within}
+use Rattle.gic_base.specs.declared.operation.GuestOp.{GuestOp}
+use Rattle.gic_call.specs.declared.event.Operation.TheVariants.{Access}
+use Rattle.core_proper.specs.Parts.{has_registers}
+use Rattle.core_proper.specs.Progress.{Progress}
+use Rattle.eager_laws.specs.Calls.{Made}
+use Rattle.pe_icc.specs.Amid.{IsRunning, IsSame}
+use Rattle.pe_icc.proofs.LawLemmas.{entry_runs, exit_rests}
+use Rattle.pe_loop.specs.Enter.{Enters, IsBetween}
+use Rattle.pe_loop.specs.Leave.{Leaves}
+use Rattle.pe_loop.specs.Stay.{IsUp}
+use Rattle.pe_op.specs.Operation.{DoesOperation, StopsOperation}
+use Rattle.pe_place.specs.Parts.{Part, residence}
+use Rattle.pe_place.proofs.MoveLemmas.{residence_found}
+use Rattle.port_core.specs.Local.{is_vcpu}
+use Rattle.port_core.specs.Port.{Seen, shape_of}
+use Rattle.vcpu_state.specs.declared.loaded.Loaded.{Loaded}
+use Rattle.vcpu_state.specs.declared.shelved.Shelved.{Shelved}
+use Rattle.vcpu_state.specs.Moves.{shelved_of}
+use Rattle.scn_base.specs.declared.guest.GuestSpec.{GuestSpec}
+use Rattle.scn_base.specs.declared.pes.VcpuName.{VcpuName}
+use Rattle.scn_base.specs.declared.step.Step.{Step}
+use Rattle.scn_base.specs.Good.{is_good_op}
+use Rattle.port_table.specs.Told.{WordsTold, opening_seen, words_at}
+use Rattle.thr_trip.specs.Gone.{HasGone, IsSameActor}
+use Rattle.thr_trip.specs.Operate.{Operates}
+use Rattle.thr_trip.specs.Script.{all_vcpus, calls_answered, vcpu_ops}
+use Rattle.thr_trip.specs.Trip.{IsTrip, TripTold, opened}
+use Rattle.thr_trip.proofs.CallLemmas.{answered_more}
+use Rattle.thr_trip.proofs.GoneLemmas.{goes_on_by, same_after, same_twice}
+
+-- The list registers of a vCPU's PE are as many as a part asks for.
+
+within_16 : (n : ℕ) → 1 ≤ n → n ≤ 16 → IsTrue (nat_le 1 n && nat_le n 16)
+within_16 n few most = grind arith
+
+vcpu_registers : (from old : Seen) (Before : Progress → Type 0) (calls : List Made) (n : ℕ) → is_vcpu (shape_of old) old.actor ≡ true → 1 ≤ n → n ≤ 16 → HasGone from old Before calls → IsTrue (has_registers (shape_of from) from.actor n)
+vcpu_registers from old Before calls n is_one few most gone =
+    let is : is_vcpu (shape_of from) from.actor ≡ true = subst (λ (seen : Seen). is_vcpu (shape_of seen) seen.actor ≡ true) gone.adds.new_is is_one in
+    ap (λ (vcpu : Bool). if vcpu then nat_le 1 n && nat_le n 16 else n == 0) is ∙ within_16 n few most
+
+-- Operations on the PE.
+
+pub operates_none : (script : List GuestOp) (seen : Seen) (vcpu : Loaded) (answers : List (Option ℕ)) → IsUp seen vcpu → length answers ≤ length script → Operates script seen seen vcpu vcpu answers answers false
+operates_none script seen vcpu answers up most =
+    record {
+      actor = record { home = refl; guest = refl; number = refl; actor = refl };
+      up = up;
+      same = record { base = refl; lrs = refl };
+      most = most;
+      goes_on = λ none from gone. gone;
+    }
+
+same_vcpu : (one two three : Loaded) → IsSame one two → IsSame two three → IsSame one three
+same_vcpu one two three a b =
+    record { base = ap (λ (base : Shelved). record base { cpu = one.base.cpu }) b.base ∙ a.base; lrs = b.lrs ∙ a.lrs }
+
+pub operates_more :
+    (script : List GuestOp) (first old new : Seen) (start before after : Loaded) (answered answers : List (Option ℕ)) (op : GuestOp) (answer : Option ℕ) → Operates script first old start before answered answers false
+    → slice_get script (length answers) ≡ Some op → DoesOperation old new op before after answer
+    → Operates script first new start after answered (answers ++ answer ∷ []) false
+operates_more script first old new start before after answered answers op answer so there does =
+    let part : Part = record { operation = Access op; lrs = before.regs.n; steps = does.part; answer = answer } in
+    let within = slice_get_within script (length answers) op there in
+    record {
+      actor = same_twice first old new so.actor (same_after old new does.part does.adds);
+      up = does.up;
+      same = same_vcpu start before after so.same does.same;
+      most = omega (arith, length-append answers (answer ∷ []), within);
+      goes_on = λ none from gone.
+          let here = so.goes_on none from gone in
+          let registers = vcpu_registers from old (IsRunning old before) (calls_answered script answers) before.regs.n so.up.on.actor.is_one so.up.lrs.0 so.up.lrs.1 here in
+          subst (HasGone from new (IsRunning new after)) (sym (answered_more script answers op answer there))
+          (goes_on_by from old new (IsRunning old before) (IsRunning new after) (calls_answered script answers) part registers does.adds (record { made = does.call; found = does.found }) does.proper does.goes_on here);
+    }
+
+pub operates_stopped :
+    (script : List GuestOp) (first old new : Seen) (start before after : Loaded) (answered answers : List (Option ℕ)) (op : GuestOp) → Operates script first old start before answered answers false → StopsOperation old new op before after
+    → Operates script first new start after answered answers true
+operates_stopped script first old new start before after answered answers op so stops =
+    record {
+      actor = same_twice first old new so.actor (same_after old new stops.part stops.adds);
+      up = stops.up;
+      same = same_vcpu start before after so.same stops.same;
+      most = so.most;
+      goes_on = λ none. absurd (true≢false none);
+    }
+
+-- The entry before them, and the exit after them.
+
+pub enters_by :
+    (from old new : Seen) (vcpu : Shelved) (lrs : ℕ) (loaded : Loaded) (calls : List Made) → is_vcpu (shape_of old) old.actor ≡ true → 1 ≤ lrs → lrs ≤ 16 → Enters old new vcpu lrs loaded → HasGone from old (IsBetween old) calls
+    → HasGone from new (IsRunning new loaded) calls
+enters_by from old new vcpu lrs loaded calls is_one few most enters gone =
+    subst (HasGone from new (IsRunning new loaded)) (append-nil calls)
+    (goes_on_by from old new (IsBetween old) (IsRunning new loaded) calls (residence lrs enters.part) (vcpu_registers from old (IsBetween old) calls lrs is_one few most gone) enters.adds
+    (residence_found old lrs enters.part enters.call) enters.whole_part (λ p between. entry_runs old new vcpu lrs loaded enters p between) gone)
+
+pub leaves_by :
+    (from old new : Seen) (vcpu : Loaded) (shelved : Shelved) (calls : List Made) → IsUp old vcpu → Leaves old new vcpu shelved → HasGone from old (IsRunning old vcpu) calls → HasGone from new (IsBetween new) calls
+leaves_by from old new vcpu shelved calls up leaves gone =
+    let lrs = vcpu.regs.n in
+    subst (HasGone from new (IsBetween new)) (append-nil calls)
+    (goes_on_by from old new (IsRunning old vcpu) (IsBetween new) calls (residence lrs leaves.part) (vcpu_registers from old (IsRunning old vcpu) calls lrs up.on.actor.is_one up.lrs.0 up.lrs.1 gone) leaves.adds
+    (residence_found old lrs leaves.part leaves.call) (λ p run. (exit_rests old new lrs vcpu shelved leaves p run).proper) (λ p run. (exit_rests old new lrs vcpu shelved leaves p run).between) gone)
+
+-- A whole visit, of a vCPU that is not spent.
+
+module _ (words : List WordsTold) (steps : List Step) (trip : TripTold) (is : IsTrip words steps trip) (fresh : trip.spent ≡ false) (entered operated left : Seen) (loaded after : Loaded) (back : Shelved) (lrs next : ℕ) (answers : List (Option ℕ)) (refused : Bool) (few : 1 ≤ lrs) (most : lrs ≤ 16) (enters : Enters trip.seen entered trip.vcpu lrs loaded) (operates : Operates trip.script entered operated loaded after trip.answers answers refused) (leaves : Leaves operated left after back) (back_is : back ≡ shelved_of after) (next_is : next ≡ length answers) where
+  -- how it is after it
+  abbrev pub visited : TripTold
+  visited = record { vcpu = record back { next = next }; place = trip.place; script = trip.script; answers = answers; spent = refused; seen = left }
+
+  same_actor : IsSameActor trip.seen left
+  same_actor = same_twice trip.seen operated left (same_twice trip.seen entered operated (same_after trip.seen entered enters.part enters.adds) operates.actor) (same_after operated left leaves.part leaves.adds)
+
+  same_guest : trip.vcpu.guest ≡ back.guest
+  same_guest = sym (ap (λ (vcpu : Shelved). vcpu.guest) back_is ∙ ap (λ (vcpu : Shelved). vcpu.guest) operates.same.base ∙ ap (λ (vcpu : Shelved). vcpu.guest) enters.kept)
+
+  same_number : trip.vcpu.vcpu ≡ back.vcpu
+  same_number = sym (ap (λ (vcpu : Shelved). vcpu.vcpu) back_is ∙ ap (λ (vcpu : Shelved). vcpu.vcpu) operates.same.base ∙ ap (λ (vcpu : Shelved). vcpu.vcpu) enters.kept)
+
+  -- what is said of a vCPU by its name
+  by_name : (Says : ℕ → ℕ → Type 0) → Says trip.vcpu.guest trip.vcpu.vcpu → Says back.guest back.vcpu
+  by_name Says so = subst (λ number. Says back.guest number) same_number (subst (λ guest. Says guest trip.vcpu.vcpu) same_guest so)
+
+  goes_on : HasGone (opened words trip) trip.seen (IsBetween trip.seen) (calls_answered trip.script trip.answers) → refused ≡ false → HasGone (opened words trip) left (IsBetween left) (calls_answered trip.script answers)
+  goes_on gone none =
+      let from = opened words trip in
+      leaves_by from operated left after back (calls_answered trip.script answers) operates.up leaves
+      (operates.goes_on none from (enters_by from trip.seen entered trip.vcpu lrs loaded (calls_answered trip.script trip.answers) is.off.actor.is_one few most enters gone))
+
+  pub visited_is : IsTrip words steps visited
+  visited_is =
+      let from : ℕ → ℕ → Seen = λ guest vcpu. opening_seen (words_at words guest) vcpu in
+      let name : ℕ → ℕ → VcpuName = λ guest vcpu. record { guest = guest; vcpu = vcpu } in
+      let off = leaves.off in
+      record {
+        of =
+            record {
+              guest = subst (λ number. number < length words) (sym same_actor.number) is.of.guest;
+              home = ap (λ number. (words_at words number).home) same_actor.number ∙ is.of.home ∙ sym same_actor.home;
+            };
+        actor = by_name (λ guest vcpu. IsSameActor (from guest vcpu) left) (same_twice (opened words trip) trip.seen left is.actor same_actor);
+        off = record { actor = record { guest = off.actor.guest; number = off.actor.number; is_one = off.actor.is_one }; cpu = off.cpu; empty = off.empty; settled = off.settled };
+        place = by_name (λ guest vcpu. slice_get (all_vcpus words) trip.place ≡ Some (name guest vcpu)) is.place;
+        script = by_name (λ guest vcpu. trip.script ≡ vcpu_ops guest vcpu steps) is.script;
+        good = subst (λ (guest : GuestSpec). All (λ op. IsTrue (is_good_op guest.shape op)) trip.script) (sym same_actor.guest) is.good;
+        next = next_is;
+        most = operates.most;
+        gone = λ none.
+            by_name (λ guest vcpu. ∥ HasGone (from guest vcpu) left (IsBetween left) (calls_answered trip.script answers) ∥₁)
+            (∥∥₁_map (is.gone fresh) (λ gone. goes_on gone none));
+      }

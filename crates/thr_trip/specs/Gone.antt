@@ -1,0 +1,27 @@
+-- How far an actor has gone since its guest opened (own choice).
+use Rattle.std.specs.Prelude.{◌≡◌, IsTrue, List, All}
+use Rattle.core_proper.specs.Parts.{has_registers}
+use Rattle.core_proper.specs.Progress.{Progress, opening_progress, progress_of}
+use Rattle.core_proper.specs.Proper.{IsProper}
+use Rattle.eager_laws.specs.Calls.{Made}
+use Rattle.pe_place.specs.Parts.{Part, AreCalls, acts_in, steps_in}
+use Rattle.port_core.specs.Port.{Seen, Adds, shape_of}
+use Rattle.thr_trip.specs.Script.{calls_in}
+
+-- two ports are of one actor of the same words
+pub record IsSameActor (one other : Seen) : Type 0 where
+  pub home : other.home ≡ one.home
+  pub guest : other.guest ≡ one.guest
+  pub number : other.number ≡ one.number
+  pub actor : other.actor ≡ one.actor
+
+-- since it opened so, an actor did some parts, one after the other, and nothing else: each is its call, they are proper, those of steps are these calls, and its protocol
+-- is so after them
+pub record HasGone (from seen : Seen) (Followed : Progress → Type 0) (calls : List Made) : Type 0 where
+  pub parts : List Part
+  pub adds : Adds from seen (steps_in parts)
+  pub registers : All (λ part. IsTrue (has_registers (shape_of from) from.actor part.lrs)) parts
+  pub are : AreCalls from parts
+  pub proper : IsProper (shape_of from) from.actor (opening_progress from.guest from.number from.actor) (acts_in parts)
+  pub calls_are : calls_in parts ≡ calls
+  pub followed : Followed (progress_of (shape_of from) from.actor (opening_progress from.guest from.number from.actor) (acts_in parts))

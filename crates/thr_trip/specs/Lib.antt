@@ -1,0 +1,9 @@
+pub mod Script
+pub mod Gone
+pub mod Trip
+pub mod Device
+pub mod Told
+pub mod Operate
+pub mod Worker
+pub mod Seat
+pub mod Finish

@@ -1,0 +1,18 @@
+-- Operations of a vCPU while it is on a PE (own choice).
+use Rattle.std.specs.Prelude.{◌≡◌, ℕ, ◌≤◌, Bool, false, List, length, Option}
+use Rattle.gic_base.specs.declared.operation.GuestOp.{GuestOp}
+use Rattle.pe_icc.specs.Amid.{IsRunning, IsSame}
+use Rattle.pe_loop.specs.Stay.{IsUp}
+use Rattle.port_core.specs.Port.{Seen}
+use Rattle.vcpu_state.specs.declared.loaded.Loaded.{Loaded}
+use Rattle.thr_trip.specs.Gone.{HasGone, IsSameActor}
+use Rattle.thr_trip.specs.Script.{calls_answered}
+
+-- a vCPU on a PE did further operations of its script; unless memory was refused for one, it went on by these, with the answers that were added
+pub record Operates (script : List GuestOp) (old new : Seen) (before after : Loaded) (answered answers : List (Option ℕ)) (refused : Bool) : Type 0 where
+  pub actor : IsSameActor old new
+  pub up : IsUp new after
+  pub same : IsSame before after
+  pub most : length answers ≤ length script
+  pub goes_on :
+      refused ≡ false → (from : Seen) → HasGone from old (IsRunning old before) (calls_answered script answered) → HasGone from new (IsRunning new after) (calls_answered script answers)

@@ -1,0 +1,42 @@
+-- A vCPU on its way from PE to PE (own choice).
+use Rattle.std.specs.Prelude.{◌≡◌, ℕ, ◌≤◌, ◌||◌, ◌==◌, Bool, false, IsTrue, All, List, length, Option, Some, slice_get}
+use Rattle.gic_base.specs.declared.operation.GuestOp.{GuestOp}
+use Rattle.pe_loop.specs.Enter.{IsBetween}
+use Rattle.pe_loop.specs.Stay.{IsOff}
+use Rattle.port_core.specs.Port.{Seen, shape_of}
+use Rattle.port_table.specs.Told.{WordsTold, PortIsOf, words_at, opening_seen}
+use Rattle.scn_base.specs.declared.step.Step.{Step}
+use Rattle.scn_base.specs.Good.{is_good_op}
+use Rattle.vcpu_state.specs.declared.shelved.Shelved.{Shelved}
+use Rattle.thr_trip.specs.Gone.{HasGone, IsSameActor}
+use Rattle.thr_trip.specs.Script.{all_vcpus, calls_answered, vcpu_ops}
+
+-- what a vCPU on its way has: itself, its place, its script, the answers so far, whether memory was refused for an operation, and what its port tells
+pub record TripTold : Type 0 where
+  pub vcpu : Shelved
+  pub place : ℕ
+  pub script : List GuestOp
+  pub answers : List (Option ℕ)
+  pub spent : Bool
+  pub seen : Seen
+
+-- its port as it was split off
+abbrev pub opened : List WordsTold → TripTold → Seen
+opened words trip = opening_seen (words_at words trip.vcpu.guest) trip.vcpu.vcpu
+
+-- a vCPU of a run is on no PE, at its own place, with its own script and port; and unless it is spent, it did the first operations of the script, with these answers,
+-- and beside them only entered and left
+pub record IsTrip (words : List WordsTold) (steps : List Step) (trip : TripTold) : Type 0 where
+  pub of : PortIsOf words trip.seen
+  pub actor : IsSameActor (opened words trip) trip.seen
+  pub off : IsOff trip.seen trip.vcpu
+  pub place : slice_get (all_vcpus words) trip.place ≡ Some (record { guest = trip.vcpu.guest; vcpu = trip.vcpu.vcpu })
+  pub script : trip.script ≡ vcpu_ops trip.vcpu.guest trip.vcpu.vcpu steps
+  pub good : All (λ op. IsTrue (is_good_op (shape_of trip.seen) op)) trip.script
+  pub next : trip.vcpu.next ≡ length trip.answers
+  pub most : length trip.answers ≤ length trip.script
+  pub gone : trip.spent ≡ false → ∥ HasGone (opened words trip) trip.seen (IsBetween trip.seen) (calls_answered trip.script trip.answers) ∥₁
+
+-- it is done: its script is, or memory was refused
+abbrev pub is_done : TripTold → Bool
+is_done trip = trip.spent || length trip.answers == length trip.script

@@ -1,0 +1,20 @@
+//! What the threads of a run do: a PE that takes vCPUs, each of which enters it, does operations of its script and leaves it, and
+//! a device that does the operations of its own.
+#![tactic(auto)]
+
+mod device;
+mod naming;
+mod pe;
+mod rider;
+mod travel;
+mod trip;
+mod visit;
+mod worker;
+
+pub use device::DeviceRun;
+pub use naming::Naming;
+pub use pe::PeRun;
+pub use rider::{Loner, Rider, Turns};
+pub use trip::Trip;
+pub use visit::Passes;
+pub use worker::{Worker, run_all};

@@ -1,0 +1,9 @@
+pub mod Word
+pub mod View
+pub mod Rule
+pub mod Reserve
+pub mod Told
+pub mod Scan
+pub mod Found
+pub mod Answer
+pub mod Shelf
