@@ -22,7 +22,8 @@ impl<T: Rider> PeRun<T> {
 
     /// The PE of a number, with its seat at the shelf.
     pub fn new(pe: u32, seat: ShelfSeat<T>) -> Self
-        ensures { seat_told result.seat ≡ seat_told seat }
+        ensures pe { result.pe ≡ pe }
+        ensures seat { seat_told result.seat ≡ seat_told seat }
     {
         PeRun { pe, seat }
     }

@@ -11,7 +11,7 @@ pub loop-pe-preserved : goal.loop-pe-preserved
 loop-pe-preserved g c =
     let shelf = shelf_told c.args.shelf.now in
     let own = c.split-own.ensures.new in
-    let told = c.new.ensures in
+    let told = c.new.ensures.seat in
     let free : IsFreeSeat shelf (seat_told c.new.result.seat) = record { of = ap (λ seat. seat.home) (told ∙ own); none = ap (λ seat. seat.out) (told ∙ own) } in
     let some : nat_lt 0 (c.loop-pe.pe + 1) ≡ true = lt-ltb 0 (c.loop-pe.pe + 1) (omega arith) in
     let more = pe_came shelf c.loop-pe.workers.items [] (nat_lt 0 c.loop-pe.pe) c.new.result c.loop-pe.invariant.workers free in
