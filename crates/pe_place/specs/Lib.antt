@@ -1,4 +1,5 @@
 pub mod Parts
+pub mod Calls
 pub mod Place
 pub mod Moves
 pub mod Device

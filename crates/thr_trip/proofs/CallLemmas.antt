@@ -6,8 +6,9 @@ use Rattle.gic_base.specs.declared.operation.DeviceOp.{DeviceOp}
 use Rattle.gic_base.specs.declared.operation.GuestOp.{GuestOp}
 use Rattle.gic_call.specs.declared.event.Operation.{Operation}
 use Rattle.gic_call.specs.declared.event.Operation.TheVariants.{Access, Device, Residence}
+use Rattle.pe_place.specs.Calls.{calls_in}
 use Rattle.pe_place.specs.Parts.{Part}
-use Rattle.thr_trip.specs.Script.{calls_answered, calls_in, calls_received}
+use Rattle.thr_trip.specs.Script.{calls_answered, calls_received}
 
 -- one more part
 

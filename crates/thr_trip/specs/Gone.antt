@@ -4,9 +4,9 @@ use Rattle.core_proper.specs.Parts.{has_registers}
 use Rattle.core_proper.specs.Progress.{Progress, opening_progress, progress_of}
 use Rattle.core_proper.specs.Proper.{IsProper}
 use Rattle.eager_laws.specs.Calls.{Made}
+use Rattle.pe_place.specs.Calls.{calls_in}
 use Rattle.pe_place.specs.Parts.{Part, AreCalls, acts_in, steps_in}
 use Rattle.port_core.specs.Port.{Seen, Adds, shape_of}
-use Rattle.thr_trip.specs.Script.{calls_in}
 
 -- two ports are of one actor of the same words
 pub record IsSameActor (one other : Seen) : Type 0 where

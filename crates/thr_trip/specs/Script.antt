@@ -1,11 +1,10 @@
--- What the steps of a scenario give each actor to do, and which calls some operations and some parts are (own choice).
+-- What the steps of a scenario give each actor to do, and which calls some operations are (own choice).
 use Rattle.std.specs.Prelude.{ℕ, ◌==◌, ◌&&◌, List, [], ◌∷◌, map, Option, None, if◌then◌else◌}
 use Rattle.std.specs.List.{flat_map, range_with_len}
-use Rattle.eager_laws.specs.Calls.{Made, answer_of, made_of}
+use Rattle.eager_laws.specs.Calls.{Made, answer_of}
 use Rattle.gic_base.specs.declared.operation.DeviceOp.{DeviceOp}
 use Rattle.gic_base.specs.declared.operation.GuestOp.{GuestOp}
 use Rattle.gic_call.specs.declared.event.Operation.TheVariants.{Access, Device}
-use Rattle.pe_place.specs.Parts.{Part}
 use Rattle.port_table.specs.Told.{WordsTold}
 use Rattle.scn_base.specs.declared.pes.VcpuName.{VcpuName}
 use Rattle.scn_base.specs.declared.step.Step.{Step}
@@ -40,8 +39,3 @@ calls_answered (op ∷ script) (answer ∷ answers) = (record { operation = Acce
 -- the calls that a device's operations are
 abbrev pub calls_received : List DeviceOp → List Made
 calls_received script = map (λ op. record { operation = Device op; answer = answer_of None }) script
-
--- the calls of some parts that are of steps: entering, leaving and looking for a kick are not
-abbrev pub calls_in : List Part → List Made
-calls_in [] = []
-calls_in (part ∷ parts) = made_of part.operation part.answer (calls_in parts)

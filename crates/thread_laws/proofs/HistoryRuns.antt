@@ -23,8 +23,9 @@ use Rattle.core_laws.proofs.HistorySteps.{own_other, runs_history}
 use Rattle.core_laws.proofs.PrefixLemmas.{whole_is}
 use Rattle.end_laws.specs.End.{AreEmpty}
 use Rattle.end_laws.proofs.EndRuns.{runs_end}
+use Rattle.pe_place.specs.Calls.{calls_in}
 use Rattle.pe_place.specs.Parts.{AreCalls, Part, acts_in}
-use Rattle.thread_laws.specs.History.{ThreadsAreAHistory, calls_in}
+use Rattle.thread_laws.specs.History.{ThreadsAreAHistory}
 use Rattle.thread_laws.specs.Woven.{ActorHasDone}
 use Rattle.thread_laws.proofs.ThreadRuns.{calls_open}
 use Rattle.thread_laws.proofs.ToldParts.{IsIdle, told_by}

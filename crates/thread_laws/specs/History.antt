@@ -1,9 +1,9 @@
 -- What the actors of a guest did side by side is one history of the ideal controller, with the same answers (own choice).
-use Rattle.std.specs.Prelude.{◌≡◌, ℕ, ◌<◌, ◌≤◌, List, [], ◌∷◌}
+use Rattle.std.specs.Prelude.{◌≡◌, ℕ, ◌<◌, ◌≤◌, List, []}
 use Rattle.gic_history.specs.History.{IsWhole, opening_course}
 use Rattle.scn_base.specs.declared.guest.GuestSpec.{GuestSpec}
 use Rattle.scn_base.specs.Good.{IsGoodGuest}
-use Rattle.eager_laws.specs.Calls.{Made as MadeCall, calls_of, made_of}
+use Rattle.eager_laws.specs.Calls.{calls_of}
 use Rattle.port_core.specs.declared.run.Entry.{Entry}
 use Rattle.port_core.specs.Actor.{actor_count}
 use Rattle.port_core.specs.Run.{IsRun, end_of, opening}
@@ -12,13 +12,9 @@ use Rattle.core_proper.specs.Parts.{CoreMoment}
 use Rattle.core_proper.specs.Proper.{IsProperRun}
 use Rattle.core_laws.specs.Laws.{AreCalls, IsHistoryOf}
 use Rattle.end_laws.specs.End.{AreEmpty, EndsAtHome}
+use Rattle.pe_place.specs.Calls.{calls_in}
 use Rattle.pe_place.specs.Parts.{Part}
 use Rattle.thread_laws.specs.Woven.{AreWoven, HaveDone}
-
--- the operations of some parts with what they answer, but for those with which a vCPU enters a PE, leaves one, or looks whether it was kicked
-abbrev pub calls_in : List Part → List MadeCall
-calls_in [] = []
-calls_in (part ∷ parts) = made_of part.operation part.answer (calls_in parts)
 
 -- each actor's parts are its calls in a history of the ideal controller, and no others are there
 pub record HaveCalls (guest : GuestSpec) (number : ℕ) (parts : ℕ → List Part) (moments : List CoreMoment) : Type 0 where
