@@ -100,7 +100,7 @@ module _ (scenario : Scenario) (words : List WordsTold) (set : IsSet scenario wo
   within : guest < length scenario.guests
   within = subst (λ n. guest < n) set.each there
 
-  guest_shape : slice_get (shapes_of scenario.guests) guest ≡ Some (words_at words guest).guest.shape
+  pub guest_shape : slice_get (shapes_of scenario.guests) guest ≡ Some (words_at words guest).guest.shape
   guest_shape = shape_there scenario.guests guest within ∙ ap (λ (g : GuestSpec). Some g.shape) (sym (set.guest guest there))
 
   -- a vCPU that has done nothing

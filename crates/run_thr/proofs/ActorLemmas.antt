@@ -1,0 +1,60 @@
+-- What an actor of a guest did in a run, and that one choice names the parts of all of them.
+use Rattle.std.proofs.Common.{◌≡◌, ℕ, ◌<◌, ◌==◌, zero, suc, Bool, true, false, if◌then◌else◌, List, refl, sym, ap, subst, ◌∙◌, arith}
+use Rattle.std.proofs.Math.Logic.{∥∥₁_elim, ∥∥₁_map, ∥∥₁_prop}
+use Rattle.std.proofs.lemmas.Bool.{eqb-true, eqb-false}
+use Rattle.eager_laws.specs.Calls.{Made as MadeCall}
+use Rattle.pe_place.specs.Parts.{steps_in}
+use Rattle.port_core.specs.declared.run.Made.{Made}
+use Rattle.port_core.specs.Port.{Seen, local_by}
+use Rattle.port_core.specs.Run.{opening_local_of}
+use Rattle.port_table.specs.Told.{WordsTold, opening_seen}
+use Rattle.thread_laws.specs.Woven.{ActorHasDone}
+use Rattle.run_thr.specs.Run.{ActorHasRun}
+
+-- One actor.
+
+module _ (words : WordsTold) (actor : ℕ) (own : List Made) (calls : List MadeCall) (run : ActorHasRun words actor own calls) where
+  own_are : own ≡ steps_in run.gone.parts
+  own_are = sym run.own_is ∙ ap (λ (seen : Seen). seen.own) run.gone.adds.new_is
+
+  pub actor_done : ActorHasDone words.guest words.number actor own run.gone.parts
+  actor_done = record {
+    from = opening_seen words actor;
+    guest_is = refl;
+    number_is = refl;
+    actor_is = refl;
+    local_is = refl;
+    own_is = refl;
+    steps = own_are;
+    registers = run.gone.registers;
+    calls = run.gone.are;
+    proper = run.gone.proper;
+  }
+
+  -- what it has for itself, its steps made of what it opened with
+  pub actor_local : run.seen.local ≡ local_by words.guest.shape actor (opening_local_of words.guest words.number actor) own
+  actor_local = ap (λ (seen : Seen). seen.local) run.gone.adds.new_is ∙ ap (local_by words.guest.shape actor (opening_local_of words.guest words.number actor)) (sym own_are)
+
+-- All actors.
+
+-- something of which this is so
+pub record One {X : Type 0} (Is : X → Type 0) : Type 0 where
+  pub one : X
+  pub is : Is one
+
+-- one choice of them for the numbers below a count
+pub record Chosen {X : Type 0} (Is : ℕ → X → Type 0) (count : ℕ) : Type 0 where
+  pub choice : ℕ → X
+  pub each : (n : ℕ) → n < count → Is n (choice n)
+
+module _ {X : Type 0} (none : X) (Is : ℕ → X → Type 0) where
+  one_more : (count : ℕ) → One (Is count) → Chosen Is count → Chosen Is (suc count)
+  one_more count last chosen = record { choice = λ n. if n == count then last.one else chosen.choice n; each = λ n there. of n there (n == count) refl }
+    where
+      of : (n : ℕ) → n < suc count → (last_is : Bool) → (n == count) ≡ last_is → Is n (if last_is then last.one else chosen.choice n)
+      of n there true e = subst (λ k. Is k last.one) (sym (eqb-true n count e)) last.is
+      of n there false e = let apart = eqb-false n count e in chosen.each n (omega (arith, there, apart))
+
+  pub choose : (count : ℕ) → ((n : ℕ) → n < count → ∥ One (Is n) ∥₁) → ∥ Chosen Is count ∥₁
+  choose zero each = ∣ record { choice = λ n. none; each = λ n there. absurd (omega (arith, there)) } ∣₁
+  choose (suc count) each = ∥∥₁_elim (each count (omega arith)) ∥∥₁_prop (λ last. ∥∥₁_map (choose count (λ n there. each n (omega (arith, there)))) (one_more count last))

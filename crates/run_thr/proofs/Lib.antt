@@ -1,0 +1,9 @@
+pub mod JoinLemmas
+pub mod RollLemmas
+pub mod ActorLemmas
+pub mod EndLemmas
+pub mod CrewLemmas
+pub mod WholeLemmas
+pub mod StrangerLemmas
+pub mod GuestLemmas
+pub mod HistoryLemmas

@@ -1,0 +1,6 @@
+-- The run is of these words and these steps.
+use Rattle.port_table.specs.All.{told_words}
+use Rattle.run_thr.proofs.threaded.run_on.Given as goal
+
+abbrev pub ghosts-run_as : goal.ghosts-run_as
+ghosts-run_as g a = record { words = told_words a.words.now; steps = a.scenario.now.steps }

@@ -1,0 +1,11 @@
+//! The run of a scenario on threads, through the words of its guests.
+#![tactic(auto)]
+
+mod crew;
+mod history;
+mod threaded;
+mod watch;
+
+pub use history::run;
+pub use threaded::run_on;
+pub use watch::ThrWatch;
