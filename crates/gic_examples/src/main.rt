@@ -1,17 +1,40 @@
 //! Runs each scenario of a folder, and compares what is written with the text beside it.
 #![tactic(auto)]
 
-use gic_io::{SureSink, SureSource};
+use gic_io::{OpenGate, SureSink, SureSource};
 use gic_top::{NOTHING_SHOWN, run_tool};
-use std::alloc::Global;
+use std::alloc::{AllocError, Global};
 use std::process::ExitCode;
 use std::sync::Wait;
+use std::thread::Threads;
 use std::{env, fs};
 
 /// How the name of a scenario ends, and that of its text.
 const SCENARIO: &str = ".json";
 
 const TEXT: &str = ".txt";
+
+/// How the name of a scenario begins that is run on threads. Its text is the same in every schedule.
+const ON_THREADS: &str = "threads-";
+
+/// The words for such a scenario, and those for every other one.
+const THREADS: [&str; 3] = ["threads", "3", "2"];
+
+const IN_ORDER: [&str; 1] = ["run"];
+
+/// The words with which a scenario of this name is run.
+fn words_for(alloc: Global, name: &str) -> Result<Vec<String>, AllocError> {
+    let words: &[&str] = if name.starts_with(ON_THREADS) {
+        &THREADS
+    } else {
+        &IN_ORDER
+    };
+    let mut all = Vec::new(alloc);
+    for word in words {
+        all.push(String::from_str(alloc, word)?)?;
+    }
+    Ok(all)
+}
 
 /// The names of the scenarios of a folder, without their ending, in order.
 fn names_in(rt: &HostRuntime, folder: &str) -> anyhow::Result<Vec<String>> {
@@ -33,12 +56,26 @@ fn bytes_of(rt: &HostRuntime, folder: &str, name: &str, ending: &str) -> anyhow:
 }
 
 /// Runs a scenario: its status, and whether what was written is its text.
-fn run<R: Wait>(rt: &R, alloc: Global, input: Vec<u8>, text: &[u8]) -> anyhow::Result<(u8, bool)> {
-    let words = [String::from_str(alloc, "run")?];
+fn run<R: Threads + Wait + Sync>(
+    rt: &R,
+    alloc: Global,
+    name: &str,
+    input: Vec<u8>,
+    text: &[u8],
+) -> anyhow::Result<(u8, bool)> {
+    let words = words_for(alloc, name)?;
     let mut source = SureSource::of(input);
     let mut sink = SureSink::new(alloc);
     let mut shown = NOTHING_SHOWN;
-    let status = run_tool(rt, alloc, &words, &mut source, &mut sink, &mut shown);
+    let status = run_tool(
+        rt,
+        alloc,
+        words.as_slice(),
+        &mut source,
+        &mut sink,
+        &OpenGate,
+        &mut shown,
+    );
     Ok((status, sink.taken() == Some(text)))
 }
 
@@ -52,7 +89,7 @@ fn main(rt: HostRuntime) -> anyhow::Result<ExitCode> {
     for name in &names_in(&rt, folder.as_str())? {
         let input = bytes_of(&rt, folder.as_str(), name.as_str(), SCENARIO)?;
         let text = bytes_of(&rt, folder.as_str(), name.as_str(), TEXT)?;
-        let (status, is_so) = run(&rt, rt.alloc(), input, text.as_slice())?;
+        let (status, is_so) = run(&rt, rt.alloc(), name.as_str(), input, text.as_slice())?;
         let what = if is_so { "as written" } else { "otherwise" };
         println!(rt; "{name}: status {status}, {what}")?;
         all &= is_so;

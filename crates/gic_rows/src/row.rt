@@ -1,7 +1,7 @@
 //! A worked scenario, and its runs: by the tool, and by the ideal controller.
 
 use gic_ideal::eager;
-use gic_io::{Bytes, SureSink, SureSource};
+use gic_io::{Bytes, OpenGate, SureSink, SureSource};
 use gic_report::text;
 use gic_top::{NOTHING_SHOWN, OK, run_tool};
 use scn_base::Mode;
@@ -11,6 +11,7 @@ use std::alloc::{AllocError, Global};
 use std::process::Abort;
 use std::sync::Wait;
 use std::test::Fail;
+use std::thread::Threads;
 
 /// A scenario, and what `run` writes of it.
 pub(crate) struct Row {
@@ -67,7 +68,7 @@ fn ideal_text(alloc: Global, input: &str) -> Result<Bytes, Fail> {
 
 /// Runs each row, and compares the status and all that is written, and the text of a run by the ideal controller.
 pub(crate) fn check(
-    rt: &(impl Abort + Wait),
+    rt: &(impl Abort + Threads + Wait + Sync),
     alloc: Global,
     status: u8,
     rows: &[Row],
@@ -88,7 +89,15 @@ pub(crate) fn check(
         let mut source = SureSource::of(input.into_bytes());
         let mut sink = SureSink::new(alloc);
         let mut shown = NOTHING_SHOWN;
-        let answered = run_tool(rt, alloc, &words, &mut source, &mut sink, &mut shown);
+        let answered = run_tool(
+            rt,
+            alloc,
+            &words,
+            &mut source,
+            &mut sink,
+            &OpenGate,
+            &mut shown,
+        );
         let taken = str::from_utf8(sink.taken().ok_or("not told")?)?;
         assert_eq!(rt; taken, text.as_str(), "{}", row.shows);
         assert_eq!(rt; answered, status, "{}", row.shows);

@@ -1,5 +1,5 @@
 -- The rows of the table of answers, from what the tool has to write.
-use Rattle.std.proofs.Common.{◌≡◌, ℕ, ◌+◌, ◌<◌, ◌≤◌, ◌⊎◌, List, [], ◌++◌, length, Contains, codes, lit<, lit≤, Option, Some, None, IfSome, OnSome, IsSomeAnd, Result, Ok, Err, IfOk, length-append, append-nil, inl, inr, refl, sym, ap, ◌∙◌, subst, arith}
+use Rattle.std.proofs.Common.{◌≡◌, ℕ, ◌+◌, ◌<◌, ◌≤◌, ◌⊎◌, List, [], ◌++◌, length, Contains, codes, lit<, lit≤, Option, Some, None, IfSome, OnSome, IsSome, IsSomeAnd, Result, Ok, Err, IfOk, OnOk, length-append, append-nil, inl, inr, refl, sym, ap, ◌∙◌, subst, arith}
 use Rattle.std.specs.Result.{result_unwrap_or}
 use Rattle.std.proofs.lemmas.Option.{same_Some}
 use Rattle.gic_io.specs.Faults.{HasRisen}
@@ -8,25 +8,45 @@ use Rattle.gic_io.specs.Source.{HasReadCount, HasReadAtMost}
 use Rattle.serde_json.specs.Data.{Data}
 use Rattle.scn_base.specs.declared.scenario.Scenario.{Scenario}
 use Rattle.scn_base.specs.declared.fault.Fault.{Fault}
-use Rattle.scn_base.specs.declared.step.Mode.TheVariants.{Schedule}
+use Rattle.scn_base.specs.declared.step.Mode.{Mode}
+use Rattle.scn_base.specs.declared.step.Mode.TheVariants.{Schedule, Threads as OnThreads}
 use Rattle.scn_read.specs.Reading.{reading}
 use Rattle.gic_top.specs.declared.command.Command.{Command}
-use Rattle.gic_top.specs.declared.command.Command.TheVariants.{Run, Soak}
+use Rattle.gic_top.specs.declared.command.Command.TheVariants.{Run, Threads, Soak}
 use Rattle.gic_top.specs.declared.tool.Reply.{Reply}
 use Rattle.gic_top.specs.declared.tool.Reply.TheVariants.{Ran, Usage, BadJson, BadScenario, ReadFault, TooLong, NoMemory}
-use Rattle.gic_top.specs.Tool.{max_input, statuses, line, HasInput, IsNoJson, Spells, SpellsScenario, SpellsFault, IsOk, IsUsage, IsBadJson, IsBadScenario, IsReadFault, IsWriteFault, IsTooLong, IsNoMemory, IsRow, IsOutcome, IsWritten, IsRefusal, HasItsAnswer}
+use Rattle.gic_top.specs.Tool.{max_input, statuses, input_mode, line, HasInput, IsNoJson, Spells, SpellsScenario, SpellsFault, IsRun, IsOk, IsUsage, IsBadJson, IsBadScenario, IsReadFault, IsWriteFault, IsTooLong, IsNoMemory, IsRow, IsOutcome, IsWritten, IsRefusal, HasItsAnswer, WasShown}
 use Rattle.gic_top.specs.Reply.{status_of, text_of, IsReplyTo, IsReplyOf, IsSoakReply, IsReplyFor, IsUnrun}
 
--- a reply to a run is the row of its status
-run_row : (before after : Option (List ℕ)) (faults_before faults_after : ℕ) (wrote : List ℕ → Type 0) (showed : Scenario → Type 0) (reply : Reply) → IsReplyOf showed before after faults_before faults_after reply → wrote (text_of reply)
-    → IsRow (Some Run) before after faults_before faults_after wrote showed (status_of reply)
-run_row before after fb fa wrote showed (Ran text) is written = inl (refl, record { scenario = is.0; read = is.1; shown = is.2; written = subst wrote is.3 written })
-run_row before after fb fa wrote showed Usage is written = absurd is
-run_row before after fb fa wrote showed BadJson is written = inr (inr (inl (refl, record { asked = refl; read = is; written = written })))
-run_row before after fb fa wrote showed (BadScenario text) is written = inr (inr (inr (inl (refl, record { asked = refl; fault = is.0; read = is.1; written = subst wrote is.2 written }))))
-run_row before after fb fa wrote showed ReadFault is written = inr (inr (inr (inr (inl (refl, record { asked = refl; risen = is; written = written })))))
-run_row before after fb fa wrote showed TooLong is written = inr (inr (inr (inr (inr (inl (refl, record { asked = refl; taken = is; written = written }))))))
-run_row before after fb fa wrote showed NoMemory is written = inr (inr (inr (inr (inr (inr (refl, record { asked = refl; taken = is; written = written }))))))
+-- one more run was shown, and where the watch tells of which scenario, it tells this
+pub shown_once : {A E : Type 0} (result : Result A E) (before after : ℕ) (last : Option Scenario) (scenario : Scenario) → OnOk result (after ≡ before + 1) → OnOk result (IfSome last (λ shown. shown ≡ scenario))
+    → OnOk result (WasShown before after last scenario)
+shown_once (Ok value) before after last scenario counted told = record { counted = counted; told = told }
+shown_once (Err error) before after last scenario counted told = tt
+
+-- a reply to an input is the row of its status, where the command is done as a run in this mode is
+read_row : (mode : Mode) (command : Option Command) (before after : Option (List ℕ)) (faults_before faults_after : ℕ) (wrote : List ℕ → Type 0) (showed : Mode → Scenario → Type 0) (reply : Reply) → input_mode command ≡ Some mode
+    → (IsRun mode before after wrote showed → IsOk command before after wrote showed)
+    → IsReplyOf mode showed before after faults_before faults_after reply → wrote (text_of reply) → IsRow command before after faults_before faults_after wrote showed (status_of reply)
+read_row mode command before after fb fa wrote showed reply asked ok is written = row reply is written
+  where
+    reads : IsSome (input_mode command)
+    reads = subst IsSome (sym asked) refl
+
+    row : (reply : Reply) → IsReplyOf mode showed before after fb fa reply → wrote (text_of reply) → IsRow command before after fb fa wrote showed (status_of reply)
+    row (Ran text) is written =
+        let run = is.2 in
+        inl (refl, ok (record { scenario = is.0; out = run.out; read = is.1; shown = run.shown; answers = run.answers; written = subst wrote run.text_is written }))
+    row Usage is written = absurd is
+    row BadJson is written = inr (inr (inl (refl, record { asked = reads; read = is; written = written })))
+    row (BadScenario text) is written = inr (inr (inr (inl (refl, record { mode = mode; fault = is.0; asked = asked; read = is.1; written = subst wrote is.2 written }))))
+    row ReadFault is written = inr (inr (inr (inr (inl (refl, record { asked = reads; risen = is; written = written })))))
+    row TooLong is written = inr (inr (inr (inr (inr (inl (refl, record { asked = reads; taken = is; written = written }))))))
+    row NoMemory is written = inr (inr (inr (inr (inr (inr (refl, record { asked = some command asked; taken = is; written = written }))))))
+      where
+        some : (asked : Option Command) → input_mode asked ≡ Some mode → IsSome asked
+        some None is = let none : ◌≡◌ {A = Option Mode} None (Some mode) = is in absurd cc
+        some (Some command) is = refl
 
 -- where a source tells what it told before, nothing was read
 none_told : (before : Option (List ℕ)) → IfSome before (λ all. IsSomeAnd before (λ rest. all ≡ [] ++ rest))
@@ -42,7 +62,7 @@ none_read before after same =
     }
 
 -- a reply to `soak` is the row of its status
-soak_row : (number steps : ℕ) (before after : Option (List ℕ)) (faults_before faults_after : ℕ) (wrote : List ℕ → Type 0) (showed : Scenario → Type 0) (reply : Reply) → after ≡ before → IsSoakReply showed number steps reply → wrote (text_of reply)
+soak_row : (number steps : ℕ) (before after : Option (List ℕ)) (faults_before faults_after : ℕ) (wrote : List ℕ → Type 0) (showed : Mode → Scenario → Type 0) (reply : Reply) → after ≡ before → IsSoakReply (showed Schedule) number steps reply → wrote (text_of reply)
     → IsRow (Some (Soak number steps)) before after faults_before faults_after wrote showed (status_of reply)
 soak_row number steps before after fb fa wrote showed (Ran text) same is written = inl (refl, record { unread = same; shown = is.0; written = subst wrote is.1 written })
 soak_row number steps before after fb fa wrote showed Usage same is written = absurd is
@@ -53,14 +73,15 @@ soak_row number steps before after fb fa wrote showed TooLong same is written = 
 soak_row number steps before after fb fa wrote showed NoMemory same is written = inr (inr (inr (inr (inr (inr (refl, record { asked = refl; taken = none_read before after same; written = written }))))))
 
 -- a reply is the row of its status
-row_of : (command : Option Command) (before after : Option (List ℕ)) (faults_before faults_after : ℕ) (wrote : List ℕ → Type 0) (showed : Scenario → Type 0) (reply : Reply) → IsReplyFor showed command before after faults_before faults_after reply → wrote (text_of reply)
+row_of : (command : Option Command) (before after : Option (List ℕ)) (faults_before faults_after : ℕ) (wrote : List ℕ → Type 0) (showed : Mode → Scenario → Type 0) (reply : Reply) → IsReplyFor showed command before after faults_before faults_after reply → wrote (text_of reply)
     → IsRow command before after faults_before faults_after wrote showed (status_of reply)
-row_of (Some Run) before after fb fa wrote showed reply is written = run_row before after fb fa wrote showed reply is written
+row_of (Some Run) before after fb fa wrote showed reply is written = read_row Schedule (Some Run) before after fb fa wrote showed reply refl (λ run. run) is written
+row_of (Some (Threads pes per_turn)) before after fb fa wrote showed reply is written = read_row OnThreads (Some (Threads pes per_turn)) before after fb fa wrote showed reply refl (λ run. run) is written
 row_of (Some (Soak number steps)) before after fb fa wrote showed reply is written = soak_row number steps before after fb fa wrote showed reply is.0 is.1 written
 row_of None before after fb fa wrote showed reply is written = inr (inl (ap status_of is, record { asked = refl; written = subst (λ r. wrote (text_of r)) is written }))
 
 -- a reply that was written is an outcome
-written_row : (command : Option Command) (before after : Option (List ℕ)) (faults_before faults_after : ℕ) (taken_before taken_after : Option (List ℕ)) (sink_before sink_after : ℕ) (showed : Scenario → Type 0) (reply : Reply) (status : ℕ)
+written_row : (command : Option Command) (before after : Option (List ℕ)) (faults_before faults_after : ℕ) (taken_before taken_after : Option (List ℕ)) (sink_before sink_after : ℕ) (showed : Mode → Scenario → Type 0) (reply : Reply) (status : ℕ)
     → IsReplyFor showed command before after faults_before faults_after reply
     → ((status ≡ status_of reply) × Grew taken_before taken_after (text_of reply)) ⊎ ((status ≡ 6) × HasRisen sink_before sink_after × GrewByPrefix taken_before taken_after (text_of reply))
     → IsOutcome command before after faults_before faults_after taken_before taken_after sink_before sink_after showed status
@@ -71,13 +92,13 @@ written_row command before after fb fa tb ta kb ka showed reply status is (inr p
   row = inr (part.0, record { risen = part.1; other = status_of reply; row = row_of command before after fb fa (GrewByPrefix tb ta) showed reply is part.2 });
 }
 
-pub outcome : (command : Option Command) (before after : Option (List ℕ)) (faults_before faults_after : ℕ) (taken_before taken_after : Option (List ℕ)) (sink_before sink_after : ℕ) (showed : Scenario → Type 0) (reply : Reply) (status : ℕ)
+pub outcome : (command : Option Command) (before after : Option (List ℕ)) (faults_before faults_after : ℕ) (taken_before taken_after : Option (List ℕ)) (sink_before sink_after : ℕ) (showed : Mode → Scenario → Type 0) (reply : Reply) (status : ℕ)
     → IsReplyFor showed command before after faults_before faults_after reply → IsWritten taken_before taken_after sink_before sink_after (text_of reply) (status_of reply) status
     → IsOutcome command before after faults_before faults_after taken_before taken_after sink_before sink_after showed status
 outcome command before after fb fa tb ta kb ka showed reply status is done = written_row command before after fb fa tb ta kb ka showed reply status is done.written
 
 -- each status of a row is one of the table's
-row_closed : (command : Option Command) (before after : Option (List ℕ)) (faults_before faults_after : ℕ) (wrote : List ℕ → Type 0) (showed : Scenario → Type 0) (status : ℕ) → IsRow command before after faults_before faults_after wrote showed status → Contains statuses status
+row_closed : (command : Option Command) (before after : Option (List ℕ)) (faults_before faults_after : ℕ) (wrote : List ℕ → Type 0) (showed : Mode → Scenario → Type 0) (status : ℕ) → IsRow command before after faults_before faults_after wrote showed status → Contains statuses status
 row_closed command before after fb fa wrote showed status (inl row) = subst (Contains statuses) (sym row.0) (0, lit< tt, refl)
 row_closed command before after fb fa wrote showed status (inr (inl row)) = subst (Contains statuses) (sym row.0) (1, lit< tt, refl)
 row_closed command before after fb fa wrote showed status (inr (inr (inl row))) = subst (Contains statuses) (sym row.0) (2, lit< tt, refl)
@@ -86,7 +107,7 @@ row_closed command before after fb fa wrote showed status (inr (inr (inr (inr (i
 row_closed command before after fb fa wrote showed status (inr (inr (inr (inr (inr (inl row)))))) = subst (Contains statuses) (sym row.0) (6, lit< tt, refl)
 row_closed command before after fb fa wrote showed status (inr (inr (inr (inr (inr (inr row)))))) = subst (Contains statuses) (sym row.0) (7, lit< tt, refl)
 
-outcome_closed : (command : Option Command) (before after : Option (List ℕ)) (faults_before faults_after : ℕ) (wrote : List ℕ → Type 0) (showed : Scenario → Type 0) (part : Type 0) (status : ℕ) → IsRow command before after faults_before faults_after wrote showed status ⊎ ((status ≡ 6) × part) → Contains statuses status
+outcome_closed : (command : Option Command) (before after : Option (List ℕ)) (faults_before faults_after : ℕ) (wrote : List ℕ → Type 0) (showed : Mode → Scenario → Type 0) (part : Type 0) (status : ℕ) → IsRow command before after faults_before faults_after wrote showed status ⊎ ((status ≡ 6) × part) → Contains statuses status
 outcome_closed command before after fb fa wrote showed part status (inl row) = row_closed command before after fb fa wrote showed status row
 outcome_closed command before after fb fa wrote showed part status (inr fault) = subst (Contains statuses) (sym fault.0) (5, lit< tt, refl)
 
@@ -99,39 +120,39 @@ pub refused_closed : (tb ta : Option (List ℕ)) (kb ka : ℕ) (status : ℕ) �
 refused_closed tb ta kb ka status done = written_closed tb ta kb ka (line (codes "no memory")) status done.written
 
 -- the row of each status, of an outcome
-pub closed : {command : Option Command} {before after : Option (List ℕ)} {fb fa : ℕ} {tb ta : Option (List ℕ)} {kb ka : ℕ} {showed : Scenario → Type 0} (status : ℕ) → IsOutcome command before after fb fa tb ta kb ka showed status → Contains statuses status
+pub closed : {command : Option Command} {before after : Option (List ℕ)} {fb fa : ℕ} {tb ta : Option (List ℕ)} {kb ka : ℕ} {showed : Mode → Scenario → Type 0} (status : ℕ) → IsOutcome command before after fb fa tb ta kb ka showed status → Contains statuses status
 closed {command = command} {before = before} {after = after} {fb = fb} {fa = fa} {tb = tb} {ta = ta} {kb = kb} {ka = ka} {showed = showed} status o = outcome_closed command before after fb fa (Grew tb ta) showed (IsWriteFault command before after fb fa tb ta kb ka showed) status o.row
 
-pub ok_row : {command : Option Command} {before after : Option (List ℕ)} {fb fa : ℕ} {tb ta : Option (List ℕ)} {kb ka : ℕ} {showed : Scenario → Type 0} (status : ℕ) → IsOutcome command before after fb fa tb ta kb ka showed status → status ≡ 0 → IsOk command before after (Grew tb ta) showed
+pub ok_row : {command : Option Command} {before after : Option (List ℕ)} {fb fa : ℕ} {tb ta : Option (List ℕ)} {kb ka : ℕ} {showed : Mode → Scenario → Type 0} (status : ℕ) → IsOutcome command before after fb fa tb ta kb ka showed status → status ≡ 0 → IsOk command before after (Grew tb ta) showed
 ok_row status o e = let row = o.row in grind arith
 
-pub usage_row : {command : Option Command} {before after : Option (List ℕ)} {fb fa : ℕ} {tb ta : Option (List ℕ)} {kb ka : ℕ} {showed : Scenario → Type 0} (status : ℕ) → IsOutcome command before after fb fa tb ta kb ka showed status → status ≡ 2 → IsUsage command (Grew tb ta)
+pub usage_row : {command : Option Command} {before after : Option (List ℕ)} {fb fa : ℕ} {tb ta : Option (List ℕ)} {kb ka : ℕ} {showed : Mode → Scenario → Type 0} (status : ℕ) → IsOutcome command before after fb fa tb ta kb ka showed status → status ≡ 2 → IsUsage command (Grew tb ta)
 usage_row status o e = let row = o.row in grind arith
 
-pub bad_json_row : {command : Option Command} {before after : Option (List ℕ)} {fb fa : ℕ} {tb ta : Option (List ℕ)} {kb ka : ℕ} {showed : Scenario → Type 0} (status : ℕ) → IsOutcome command before after fb fa tb ta kb ka showed status → status ≡ 3 → IsBadJson command before after (Grew tb ta)
+pub bad_json_row : {command : Option Command} {before after : Option (List ℕ)} {fb fa : ℕ} {tb ta : Option (List ℕ)} {kb ka : ℕ} {showed : Mode → Scenario → Type 0} (status : ℕ) → IsOutcome command before after fb fa tb ta kb ka showed status → status ≡ 3 → IsBadJson command before after (Grew tb ta)
 bad_json_row status o e = let row = o.row in grind arith
 
-pub bad_scenario_row : {command : Option Command} {before after : Option (List ℕ)} {fb fa : ℕ} {tb ta : Option (List ℕ)} {kb ka : ℕ} {showed : Scenario → Type 0} (status : ℕ) → IsOutcome command before after fb fa tb ta kb ka showed status → status ≡ 4 → IsBadScenario command before after (Grew tb ta)
+pub bad_scenario_row : {command : Option Command} {before after : Option (List ℕ)} {fb fa : ℕ} {tb ta : Option (List ℕ)} {kb ka : ℕ} {showed : Mode → Scenario → Type 0} (status : ℕ) → IsOutcome command before after fb fa tb ta kb ka showed status → status ≡ 4 → IsBadScenario command before after (Grew tb ta)
 bad_scenario_row status o e = let row = o.row in grind arith
 
-pub read_fault_row : {command : Option Command} {before after : Option (List ℕ)} {fb fa : ℕ} {tb ta : Option (List ℕ)} {kb ka : ℕ} {showed : Scenario → Type 0} (status : ℕ) → IsOutcome command before after fb fa tb ta kb ka showed status → status ≡ 5 → IsReadFault command fb fa (Grew tb ta)
+pub read_fault_row : {command : Option Command} {before after : Option (List ℕ)} {fb fa : ℕ} {tb ta : Option (List ℕ)} {kb ka : ℕ} {showed : Mode → Scenario → Type 0} (status : ℕ) → IsOutcome command before after fb fa tb ta kb ka showed status → status ≡ 5 → IsReadFault command fb fa (Grew tb ta)
 read_fault_row status o e = let row = o.row in grind arith
 
-pub write_fault_row : {command : Option Command} {before after : Option (List ℕ)} {fb fa : ℕ} {tb ta : Option (List ℕ)} {kb ka : ℕ} {showed : Scenario → Type 0} (status : ℕ) → IsOutcome command before after fb fa tb ta kb ka showed status → status ≡ 6 → IsWriteFault command before after fb fa tb ta kb ka showed
+pub write_fault_row : {command : Option Command} {before after : Option (List ℕ)} {fb fa : ℕ} {tb ta : Option (List ℕ)} {kb ka : ℕ} {showed : Mode → Scenario → Type 0} (status : ℕ) → IsOutcome command before after fb fa tb ta kb ka showed status → status ≡ 6 → IsWriteFault command before after fb fa tb ta kb ka showed
 write_fault_row status o e = let row = o.row in grind arith
 
-pub too_long_row : {command : Option Command} {before after : Option (List ℕ)} {fb fa : ℕ} {tb ta : Option (List ℕ)} {kb ka : ℕ} {showed : Scenario → Type 0} (status : ℕ) → IsOutcome command before after fb fa tb ta kb ka showed status → status ≡ 7 → IsTooLong command before after (Grew tb ta)
+pub too_long_row : {command : Option Command} {before after : Option (List ℕ)} {fb fa : ℕ} {tb ta : Option (List ℕ)} {kb ka : ℕ} {showed : Mode → Scenario → Type 0} (status : ℕ) → IsOutcome command before after fb fa tb ta kb ka showed status → status ≡ 7 → IsTooLong command before after (Grew tb ta)
 too_long_row status o e = let row = o.row in grind arith
 
-pub no_memory_row : {command : Option Command} {before after : Option (List ℕ)} {fb fa : ℕ} {tb ta : Option (List ℕ)} {kb ka : ℕ} {showed : Scenario → Type 0} (status : ℕ) → IsOutcome command before after fb fa tb ta kb ka showed status → status ≡ 9 → IsNoMemory command before after (Grew tb ta)
+pub no_memory_row : {command : Option Command} {before after : Option (List ℕ)} {fb fa : ℕ} {tb ta : Option (List ℕ)} {kb ka : ℕ} {showed : Mode → Scenario → Type 0} (status : ℕ) → IsOutcome command before after fb fa tb ta kb ka showed status → status ≡ 9 → IsNoMemory command before after (Grew tb ta)
 no_memory_row status o e = let row = o.row in grind arith
 
 -- the status for words that are no command
-pub no_command_status : {command : Option Command} {before after : Option (List ℕ)} {fb fa : ℕ} {tb ta : Option (List ℕ)} {kb ka : ℕ} {showed : Scenario → Type 0} (status : ℕ) → IsOutcome command before after fb fa tb ta kb ka showed status → command ≡ None → (status ≡ 2) ⊎ (status ≡ 6)
+pub no_command_status : {command : Option Command} {before after : Option (List ℕ)} {fb fa : ℕ} {tb ta : Option (List ℕ)} {kb ka : ℕ} {showed : Mode → Scenario → Type 0} (status : ℕ) → IsOutcome command before after fb fa tb ta kb ka showed status → command ≡ None → (status ≡ 2) ⊎ (status ≡ 6)
 no_command_status status o other = let row = o.row in grind arith
 
 -- the status of `soak`, where the sink had no fault
-pub soak_status : {command : Option Command} {before after : Option (List ℕ)} {fb fa : ℕ} {tb ta : Option (List ℕ)} {kb ka : ℕ} {showed : Scenario → Type 0} (status : ℕ) → IsOutcome command before after fb fa tb ta kb ka showed status
+pub soak_status : {command : Option Command} {before after : Option (List ℕ)} {fb fa : ℕ} {tb ta : Option (List ℕ)} {kb ka : ℕ} {showed : Mode → Scenario → Type 0} (status : ℕ) → IsOutcome command before after fb fa tb ta kb ka showed status
     → (number steps : ℕ) → command ≡ Some (Soak number steps) → (HasRisen kb ka → ⊥) → (status ≡ 0) ⊎ (status ≡ 9)
 soak_status status o number steps asked sure = let row = o.row in grind arith
 
@@ -140,10 +161,10 @@ one_value : (bytes : List ℕ) (a b : Data) → Spells bytes a → Spells bytes 
 one_value bytes a b x y = same_Some a b (sym x.reads ∙ y.reads)
 
 -- no bytes spell a scenario and a fault
-no_both : (bytes : List ℕ) (scenario : Scenario) (fault : Fault) → SpellsScenario bytes scenario → SpellsFault bytes fault → ⊥
-no_both bytes scenario fault s f =
+no_both : (mode : Mode) (bytes : List ℕ) (scenario : Scenario) (fault : Fault) → SpellsScenario mode bytes scenario → SpellsFault mode bytes fault → ⊥
+no_both mode bytes scenario fault s f =
     let same : s.value ≡ f.value = one_value bytes s.value f.value s.spelled f.spelled in
-    let clash : ◌≡◌ {A = Result Scenario Fault} (Ok scenario) (Err fault) = sym s.scenario_is ∙ ap (reading Schedule) same ∙ f.fault_is in
+    let clash : ◌≡◌ {A = Result Scenario Fault} (Ok scenario) (Err fault) = sym s.scenario_is ∙ ap (reading mode) same ∙ f.fault_is in
     cc
 
 -- more bytes than the limit were taken, so there were more
@@ -152,34 +173,34 @@ taken_past bytes None taken = absurd taken.read.told
 taken_past bytes (Some rest) taken = omega (arith, ap length taken.read.told, length-append taken.part rest, taken.counted)
 
 -- the reply to bytes that were told is the answer that they have
-told_answer : (showed : Scenario → Type 0) (bytes : List ℕ) (after : Option (List ℕ)) (faults_before faults_after : ℕ) (reply : Reply) → (HasRisen faults_before faults_after → ⊥) → IsReplyOf showed (Some bytes) after faults_before faults_after reply
-    → HasItsAnswer bytes (status_of reply)
-told_answer showed bytes after fb fa (Ran text) sure is =
+told_answer : (mode : Mode) (showed : Mode → Scenario → Type 0) (bytes : List ℕ) (after : Option (List ℕ)) (faults_before faults_after : ℕ) (reply : Reply) → (HasRisen faults_before faults_after → ⊥) → IsReplyOf mode showed (Some bytes) after faults_before faults_after reply
+    → HasItsAnswer mode bytes (status_of reply)
+told_answer mode showed bytes after fb fa (Ran text) sure is =
     let input = is.1 in
     record {
       accepted = λ scenario other within. inl refl;
       no_json = λ none within. absurd (none input.input.value input.input.spelled);
-      faulty = λ fault other within. absurd (no_both bytes is.0 fault input.input other);
+      faulty = λ fault other within. absurd (no_both mode bytes is.0 fault input.input other);
       too_long = λ past. absurd (omega (arith, past, input.within));
     }
-told_answer showed bytes after fb fa Usage sure is = absurd is
-told_answer showed bytes after fb fa BadJson sure is =
+told_answer mode showed bytes after fb fa Usage sure is = absurd is
+told_answer mode showed bytes after fb fa BadJson sure is =
     record {
       accepted = λ scenario other within. absurd (is.input other.value other.spelled);
       no_json = λ none within. inl refl;
       faulty = λ fault other within. absurd (is.input other.value other.spelled);
       too_long = λ past. absurd (omega (arith, past, is.within));
     }
-told_answer showed bytes after fb fa (BadScenario text) sure is =
+told_answer mode showed bytes after fb fa (BadScenario text) sure is =
     let input = is.1 in
     record {
-      accepted = λ scenario other within. absurd (no_both bytes scenario is.0 other input.input);
+      accepted = λ scenario other within. absurd (no_both mode bytes scenario is.0 other input.input);
       no_json = λ none within. absurd (none input.input.value input.input.spelled);
       faulty = λ fault other within. inl refl;
       too_long = λ past. absurd (omega (arith, past, input.within));
     }
-told_answer showed bytes after fb fa ReadFault sure is = absurd (sure is)
-told_answer showed bytes after fb fa TooLong sure is =
+told_answer mode showed bytes after fb fa ReadFault sure is = absurd (sure is)
+told_answer mode showed bytes after fb fa TooLong sure is =
     let past : max_input < length bytes = taken_past bytes after is in
     record {
       accepted = λ scenario other within. absurd (omega (arith, past, within));
@@ -187,7 +208,7 @@ told_answer showed bytes after fb fa TooLong sure is =
       faulty = λ fault other within. absurd (omega (arith, past, within));
       too_long = λ past. inl refl;
     }
-told_answer showed bytes after fb fa NoMemory sure is =
+told_answer mode showed bytes after fb fa NoMemory sure is =
     record {
       accepted = λ scenario other within. inr refl;
       no_json = λ none within. inr refl;
@@ -195,25 +216,37 @@ told_answer showed bytes after fb fa NoMemory sure is =
       too_long = λ past. inr refl;
     }
 
-for_its_answer : (showed : Scenario → Type 0) (command : Option Command) (before after : Option (List ℕ)) (faults_before faults_after : ℕ) (reply : Reply) → command ≡ Some Run → (HasRisen faults_before faults_after → ⊥) → IsReplyFor showed command before after faults_before faults_after reply
-    → IfSome before (λ bytes. HasItsAnswer bytes (status_of reply))
-for_its_answer showed command None after fb fa reply asked sure is = tt
-for_its_answer showed (Some Run) (Some bytes) after fb fa reply asked sure is = told_answer showed bytes after fb fa reply sure is
-for_its_answer showed (Some (Soak number steps)) (Some bytes) after fb fa reply asked sure is = let other : ◌≡◌ {A = Option Command} (Some (Soak number steps)) (Some Run) = asked in absurd cc
-for_its_answer showed None (Some bytes) after fb fa reply asked sure is = let none : ◌≡◌ {A = Option Command} None (Some Run) = asked in absurd cc
+-- so it is of a reply to a command that reads
+for_mode : (mode : Mode) (showed : Mode → Scenario → Type 0) (before after : Option (List ℕ)) (faults_before faults_after : ℕ) (reply : Reply) → (HasRisen faults_before faults_after → ⊥) → IsReplyOf mode showed before after faults_before faults_after reply
+    → IfSome before (λ bytes. HasItsAnswer mode bytes (status_of reply))
+for_mode mode showed None after fb fa reply sure is = tt
+for_mode mode showed (Some bytes) after fb fa reply sure is = told_answer mode showed bytes after fb fa reply sure is
+
+for_its_answer : (showed : Mode → Scenario → Type 0) (command : Option Command) (before after : Option (List ℕ)) (faults_before faults_after : ℕ) (reply : Reply) → (HasRisen faults_before faults_after → ⊥) → IsReplyFor showed command before after faults_before faults_after reply
+    → IfSome (input_mode command) (λ mode. IfSome before (λ bytes. HasItsAnswer mode bytes (status_of reply)))
+for_its_answer showed (Some Run) before after fb fa reply sure is = for_mode Schedule showed before after fb fa reply sure is
+for_its_answer showed (Some (Threads pes per_turn)) before after fb fa reply sure is = for_mode OnThreads showed before after fb fa reply sure is
+for_its_answer showed (Some (Soak number steps)) before after fb fa reply sure is = tt
+for_its_answer showed None before after fb fa reply sure is = tt
 
 -- the status where neither the source nor the sink had a fault
 status_there : (tb ta : Option (List ℕ)) (kb ka : ℕ) (text : List ℕ) (own status : ℕ) → (HasRisen kb ka → ⊥) → ((status ≡ own) × Grew tb ta text) ⊎ ((status ≡ 6) × HasRisen kb ka × GrewByPrefix tb ta text) → status ≡ own
 status_there tb ta kb ka text own status sure (inl whole) = whole.0
 status_there tb ta kb ka text own status sure (inr part) = absurd (sure part.1)
 
-pub its_answer : (showed : Scenario → Type 0) (command : Option Command) (before after : Option (List ℕ)) (faults_before faults_after : ℕ) (taken_before taken_after : Option (List ℕ)) (sink_before sink_after : ℕ) (reply : Reply) (status : ℕ)
+-- what holds of each mode, where a fact is known of it, holds once the fact is
+where_so : {A P : Type 0} (asked : Option A) (Q : A → Type 0) → (P → IfSome asked Q) → IfSome asked (λ a. P → Q a)
+where_so None Q each = tt
+where_so (Some a) Q each = each
+
+pub its_answer : (showed : Mode → Scenario → Type 0) (command : Option Command) (before after : Option (List ℕ)) (faults_before faults_after : ℕ) (taken_before taken_after : Option (List ℕ)) (sink_before sink_after : ℕ) (reply : Reply) (status : ℕ)
     → IsReplyFor showed command before after faults_before faults_after reply → IsWritten taken_before taken_after sink_before sink_after (text_of reply) (status_of reply) status
-    → command ≡ Some Run → (HasRisen faults_before faults_after → ⊥) → (HasRisen sink_before sink_after → ⊥)
-    → IfSome before (λ bytes. HasItsAnswer bytes status)
-its_answer showed command before after fb fa tb ta kb ka reply status is done asked sure sure_sink =
-    subst (λ (s : ℕ). IfSome before (λ bytes. HasItsAnswer bytes s)) (sym (status_there tb ta kb ka (text_of reply) (status_of reply) status sure_sink done.written))
-    (for_its_answer showed command before after fb fa reply asked sure is)
+    → IfSome (input_mode command) (λ mode. (HasRisen faults_before faults_after → ⊥) → (HasRisen sink_before sink_after → ⊥) → IfSome before (λ bytes. HasItsAnswer mode bytes status))
+its_answer showed command before after fb fa tb ta kb ka reply status is done =
+    where_so (input_mode command) (λ mode. (HasRisen kb ka → ⊥) → IfSome before (λ bytes. HasItsAnswer mode bytes status))
+    (λ sure. where_so (input_mode command) (λ mode. IfSome before (λ bytes. HasItsAnswer mode bytes status))
+    (λ sure_sink. subst (λ (s : ℕ). IfSome (input_mode command) (λ mode. IfSome before (λ bytes. HasItsAnswer mode bytes s))) (sym (status_there tb ta kb ka (text_of reply) (status_of reply) status sure_sink done.written))
+    (for_its_answer showed command before after fb fa reply sure is)))
 
 -- a status that is not 0, 6 or 9 is that of a reply before which no run is made
 unrun_there : (tb ta : Option (List ℕ)) (kb ka : ℕ) (text : List ℕ) (own status : ℕ) → (status ≡ 6 → ⊥) → ((status ≡ own) × Grew tb ta text) ⊎ ((status ≡ 6) × HasRisen kb ka × GrewByPrefix tb ta text) → status ≡ own
@@ -237,7 +270,7 @@ unrun tb ta kb ka reply status done written whole refused =
 
 -- An input that was read to its end, and the reply to its bytes.
 
-module _ (showed : Scenario → Type 0) (before after : Option (List ℕ)) (faults_before faults_after : ℕ) (bytes : List ℕ) (whole : IfSome before (λ all. bytes ≡ all)) (within : length bytes ≤ max_input) (ended : OnSome before (after ≡ Some [])) where
+module _ (mode : Mode) (showed : Mode → Scenario → Type 0) (before after : Option (List ℕ)) (faults_before faults_after : ℕ) (bytes : List ℕ) (whole : IfSome before (λ all. bytes ≡ all)) (within : length bytes ≤ max_input) (ended : OnSome before (after ≡ Some [])) where
   input_of : (told : Option (List ℕ)) (P : List ℕ → Type 0) → IfSome told (λ all. bytes ≡ all) → P bytes → IfSome told P
   input_of None P same holds = tt
   input_of (Some all) P same holds = subst P same holds
@@ -252,15 +285,15 @@ module _ (showed : Scenario → Type 0) (before after : Option (List ℕ)) (faul
   at_most : HasReadAtMost before after max_input
   at_most = record { part = bytes; within = within; read = record { told = rest_of before whole ended } }
 
-  reply_is : (reply : Reply) → IsReplyTo showed bytes reply → IsReplyOf showed before after faults_before faults_after reply
-  reply_is (Ran text) is = (is.0, input (λ all. SpellsScenario all is.0) is.1, is.2, is.3)
+  reply_is : (reply : Reply) → IsReplyTo mode showed bytes reply → IsReplyOf mode showed before after faults_before faults_after reply
+  reply_is (Ran text) is = (is.0, input (λ all. SpellsScenario mode all is.0) is.1, is.2)
   reply_is Usage is = absurd is
   reply_is BadJson is = input IsNoJson is
-  reply_is (BadScenario text) is = (is.0, input (λ all. SpellsFault all is.0) is.1, is.2)
+  reply_is (BadScenario text) is = (is.0, input (λ all. SpellsFault mode all is.0) is.1, is.2)
   reply_is ReadFault is = absurd is
   reply_is TooLong is = absurd is
   reply_is NoMemory is = at_most
 
-  pub whole_reply : {E : Type 0} (result : Result Reply E) → IfOk result (IsReplyTo showed bytes) → IsReplyOf showed before after faults_before faults_after (result_unwrap_or result NoMemory)
+  pub whole_reply : {E : Type 0} (result : Result Reply E) → IfOk result (IsReplyTo mode showed bytes) → IsReplyOf mode showed before after faults_before faults_after (result_unwrap_or result NoMemory)
   whole_reply (Ok reply) is = reply_is reply is
   whole_reply (Err error) is = at_most

@@ -1,13 +1,27 @@
 -- What words ask for (own choice).
-use Rattle.std.specs.Prelude.{◌≡◌, ℕ, ◌-◌, ◌^◌, ◌<◌, ◌≤◌, ◌⊎◌, slice_index, length, ◌&&◌, nat_le, List, [], ◌∷◌, map, codes, decimal, String, string_bytes, bytes_eq, Option, Some, None, if◌then◌else◌, ⊤}
+use Rattle.std.specs.Prelude.{◌≡◌, ℕ, ◌-◌, ◌^◌, ◌<◌, ◌≤◌, ◌⊎◌, slice_index, length, ◌&&◌, nat_le, zero, suc, List, [], ◌∷◌, map, codes, decimal, String, string_bytes, bytes_eq, Option, Some, None, if◌then◌else◌, ⊤}
 use Rattle.std.specs.Str.Parse.{digits_value}
 use Rattle.std.specs.declared.alloc.Global.{Global}
 use Rattle.gic_top.specs.declared.command.Command.{Command}
-use Rattle.gic_top.specs.declared.command.Command.TheVariants.{Run, Soak}
+use Rattle.gic_top.specs.declared.command.Command.TheVariants.{Run, Threads, Soak}
 
 -- the number, of at most so much, whose decimal digits a word is: without a sign, and without zeros before them
 abbrev pub number_in : ℕ → List ℕ → Option ℕ
 number_in most word = let number = digits_value 10 word in if nat_le number most && bytes_eq word (decimal number) then Some number else None
+
+-- none in place of zero
+abbrev pub nonzero : Option ℕ → Option ℕ
+nonzero None = None
+nonzero (Some zero) = None
+nonzero (Some (suc less)) = Some (suc less)
+
+-- the number, from 1 to so much, whose decimal digits a word is
+abbrev pub count_in : ℕ → List ℕ → Option ℕ
+count_in most word = nonzero (number_in most word)
+
+-- a number is 1 to so much
+abbrev pub IsCount : ℕ → ℕ → Type 0
+IsCount most count = 1 ≤ count × count ≤ most
 
 -- a word begins with a plus, or with a zero before another character
 abbrev pub IsPadded : List ℕ → Type 0
@@ -17,6 +31,19 @@ IsPadded word = (slice_index word 0 ≡ 43) ⊎ ((slice_index word 0 ≡ 48) × 
 abbrev pub run_with : List (List ℕ) → Option Command
 run_with [] = Some Run
 run_with (argument ∷ arguments) = None
+
+-- both counts of `threads`
+abbrev pub threads_of : Option ℕ → Option ℕ → Option Command
+threads_of None per_turn = None
+threads_of (Some pes) None = None
+threads_of (Some pes) (Some per_turn) = Some (Threads pes per_turn)
+
+-- `threads` has 1 to 8 PEs, and 1 to 1000 operations of a vCPU while it is on one
+abbrev pub threads_with : List (List ℕ) → Option Command
+threads_with [] = None
+threads_with (pes ∷ []) = None
+threads_with (pes ∷ per_turn ∷ []) = threads_of (count_in 8 pes) (count_in 1000 per_turn)
+threads_with (pes ∷ per_turn ∷ argument ∷ arguments) = None
 
 -- both numbers of `soak`
 abbrev pub soak_of : Option ℕ → Option ℕ → Option Command
@@ -36,14 +63,16 @@ abbrev pub command_of : List (List ℕ) → Option Command
 command_of [] = None
 command_of (name ∷ arguments) =
     if bytes_eq name (codes "run") then run_with arguments
+    else (if bytes_eq name (codes "threads") then threads_with arguments
     else (if bytes_eq name (codes "soak") then soak_with arguments
-    else None)
+    else None))
 
 -- the command that the words of a command line are
 abbrev pub command_in : List (String Global) → Option Command
 command_in words = command_of (map string_bytes words)
 
--- a scenario that is to be made has at most 100000 steps
-abbrev pub HasFewSteps : Command → Type 0
-HasFewSteps Run = ⊤
-HasFewSteps (Soak number steps) = steps ≤ 100000
+-- a scenario that is to be made has at most 100000 steps, and a run on threads 1 to 8 PEs and 1 to 1000 operations of a vCPU while it is on one
+abbrev pub IsInBounds : Command → Type 0
+IsInBounds Run = ⊤
+IsInBounds (Threads pes per_turn) = IsCount 8 pes × IsCount 1000 per_turn
+IsInBounds (Soak number steps) = steps ≤ 100000

@@ -6,16 +6,19 @@ use Rattle.gic_io.specs.Faults.{HasRisen}
 use Rattle.gic_io.specs.Sink.{Grew, GrewByPrefix}
 use Rattle.gic_io.specs.Source.{HasReadCount, HasReadAtMost}
 use Rattle.scn_base.specs.declared.scenario.Scenario.{Scenario}
-use Rattle.scn_base.specs.declared.step.Mode.TheVariants.{Schedule}
+use Rattle.scn_base.specs.declared.outcome.RunOut.{RunOut}
+use Rattle.scn_base.specs.declared.step.Mode.{Mode}
+use Rattle.scn_base.specs.declared.step.Mode.TheVariants.{Schedule, Threads as OnThreads}
 use Rattle.scn_base.specs.declared.fault.Fault.{Fault}
 use Rattle.scn_read.specs.Reading.{reading}
 use Rattle.scn_base.specs.Shown.{fault_text}
 use Rattle.gic_ideal.specs.Eager.{eager}
+use Rattle.run_thr.specs.History.{IsOneHistory}
 use Rattle.gic_soak.specs.Generated.{generated}
 use Rattle.gic_report.specs.Text.{text, newline}
 use Rattle.gic_report.specs.Soak.{soak_line}
 use Rattle.gic_top.specs.declared.command.Command.{Command}
-use Rattle.gic_top.specs.declared.command.Command.TheVariants.{Run, Soak}
+use Rattle.gic_top.specs.declared.command.Command.TheVariants.{Run, Threads, Soak}
 
 -- the bytes are UTF-8, and JSON that reads as this value
 pub record Spells (bytes : List ℕ) (value : Data) : Type 0 where
@@ -26,21 +29,22 @@ pub record Spells (bytes : List ℕ) (value : Data) : Type 0 where
 abbrev pub IsNoJson : List ℕ → Type 0
 IsNoJson bytes = (value : Data) → Spells bytes value → ⊥
 
--- the bytes spell this scenario
-pub record SpellsScenario (bytes : List ℕ) (scenario : Scenario) : Type 0 where
+-- the bytes spell this scenario, to be run in this mode
+pub record SpellsScenario (mode : Mode) (bytes : List ℕ) (scenario : Scenario) : Type 0 where
   pub value : Data
   pub spelled : Spells bytes value
-  pub scenario_is : reading Schedule value ≡ Ok scenario
+  pub scenario_is : reading mode value ≡ Ok scenario
 
--- the bytes spell a value that has this fault as a scenario
-pub record SpellsFault (bytes : List ℕ) (fault : Fault) : Type 0 where
+-- the bytes spell a value that has this fault as a scenario to be run in this mode
+pub record SpellsFault (mode : Mode) (bytes : List ℕ) (fault : Fault) : Type 0 where
   pub value : Data
   pub spelled : Spells bytes value
-  pub fault_is : reading Schedule value ≡ Err fault
+  pub fault_is : reading mode value ≡ Err fault
 
--- the text of a scenario's run by the ideal controller
-abbrev pub run_text : Scenario → List ℕ
-run_text scenario = text scenario (eager scenario)
+-- what a run may answer: where steps are done in order, what the ideal controller answers; on threads, what it answers in a history that holds each actor's steps in order
+abbrev pub MayAnswer : Mode → Scenario → RunOut → Type 0
+MayAnswer Schedule scenario out = out ≡ eager scenario
+MayAnswer OnThreads scenario out = IsOneHistory scenario out
 
 -- the line of the run, by the ideal controller, of the scenario that a number stands for
 abbrev pub soak_text : ℕ → ℕ → List ℕ
@@ -67,8 +71,20 @@ pub record WasShown (before after : ℕ) (last : Option Scenario) (scenario : Sc
   pub counted : after ≡ before + 1
   pub told : IfSome last (λ shown. shown ≡ scenario)
 
+-- of each mode, the run of which scenario the watch was shown
+abbrev pub ShownIn : (Scenario → Type 0) → (Scenario → Type 0) → Mode → Scenario → Type 0
+ShownIn scheduled threaded Schedule = scheduled
+ShownIn scheduled threaded OnThreads = threaded
+
+-- the mode of the runs for which a command reads its input; none where it reads none
+abbrev pub input_mode : Option Command → Option Mode
+input_mode (Some Run) = Some Schedule
+input_mode (Some (Threads pes per_turn)) = Some OnThreads
+input_mode (Some (Soak number steps)) = None
+input_mode None = None
+
 -- The rows of the table of answers to a command, or to words that are none. Where the source told the bytes that it had left before the call, they are `before`, and
--- `after` those that it then has left; `wrote` says what the sink took, and `showed` the run of which scenario the watch was shown.
+-- `after` those that it then has left; `wrote` says what the sink took, and `showed` the run of which scenario the watch was shown, in which mode.
 
 -- an input was read to its end, which is within the limit, and P holds of it, where it was told
 pub record HasInput (before after : Option (List ℕ)) (P : List ℕ → Type 0) : Type 0 where
@@ -76,22 +92,25 @@ pub record HasInput (before after : Option (List ℕ)) (P : List ℕ → Type 0)
   pub within : IfSome before (λ bytes. length bytes ≤ max_input)
   pub to_end : OnSome before (after ≡ Some [])
 
--- a scenario was read, its run shown, and the text of that written
-pub record IsRun (before after : Option (List ℕ)) (wrote : List ℕ → Type 0) (showed : Scenario → Type 0) : Type 0 where
+-- a scenario was read, its run in this mode shown, and the text of what that may answer written
+pub record IsRun (mode : Mode) (before after : Option (List ℕ)) (wrote : List ℕ → Type 0) (showed : Mode → Scenario → Type 0) : Type 0 where
   pub scenario : Scenario
-  pub read : HasInput before after (λ bytes. SpellsScenario bytes scenario)
-  pub shown : showed scenario
-  pub written : wrote (run_text scenario)
+  pub out : RunOut
+  pub read : HasInput before after (λ bytes. SpellsScenario mode bytes scenario)
+  pub shown : showed mode scenario
+  pub answers : MayAnswer mode scenario out
+  pub written : wrote (text scenario out)
 
 -- nothing was read, the run of a number's scenario shown, and its line written
-pub record IsSoak (number steps : ℕ) (before after : Option (List ℕ)) (wrote : List ℕ → Type 0) (showed : Scenario → Type 0) : Type 0 where
+pub record IsSoak (number steps : ℕ) (before after : Option (List ℕ)) (wrote : List ℕ → Type 0) (showed : Mode → Scenario → Type 0) : Type 0 where
   pub unread : after ≡ before
-  pub shown : showed (generated number steps)
+  pub shown : showed Schedule (generated number steps)
   pub written : wrote (soak_text number steps)
 
 -- what a command asks for was done
-abbrev pub IsOk : Option Command → Option (List ℕ) → Option (List ℕ) → (List ℕ → Type 0) → (Scenario → Type 0) → Type 0
-IsOk (Some Run) before after wrote showed = IsRun before after wrote showed
+abbrev pub IsOk : Option Command → Option (List ℕ) → Option (List ℕ) → (List ℕ → Type 0) → (Mode → Scenario → Type 0) → Type 0
+IsOk (Some Run) before after wrote showed = IsRun Schedule before after wrote showed
+IsOk (Some (Threads pes per_turn)) before after wrote showed = IsRun OnThreads before after wrote showed
 IsOk (Some (Soak number steps)) before after wrote showed = IsSoak number steps before after wrote showed
 IsOk None before after wrote showed = ⊥
 
@@ -102,26 +121,27 @@ pub record IsUsage (command : Option Command) (wrote : List ℕ → Type 0) : Ty
 
 -- the input is no JSON
 pub record IsBadJson (command : Option Command) (before after : Option (List ℕ)) (wrote : List ℕ → Type 0) : Type 0 where
-  pub asked : command ≡ Some Run
+  pub asked : IsSome (input_mode command)
   pub read : HasInput before after IsNoJson
   pub written : wrote (line (codes "bad json"))
 
--- the input spells a value that has a fault as a scenario
+-- the input spells a value that has a fault as a scenario for the command's mode
 pub record IsBadScenario (command : Option Command) (before after : Option (List ℕ)) (wrote : List ℕ → Type 0) : Type 0 where
-  pub asked : command ≡ Some Run
+  pub mode : Mode
   pub fault : Fault
-  pub read : HasInput before after (λ bytes. SpellsFault bytes fault)
+  pub asked : input_mode command ≡ Some mode
+  pub read : HasInput before after (λ bytes. SpellsFault mode bytes fault)
   pub written : wrote (fault_line fault)
 
 -- the source's count of faults rose
 pub record IsReadFault (command : Option Command) (faults_before faults_after : ℕ) (wrote : List ℕ → Type 0) : Type 0 where
-  pub asked : command ≡ Some Run
+  pub asked : IsSome (input_mode command)
   pub risen : HasRisen faults_before faults_after
   pub written : wrote (line (codes "read fault"))
 
 -- more bytes than the limit were taken from the source
 pub record IsTooLong (command : Option Command) (before after : Option (List ℕ)) (wrote : List ℕ → Type 0) : Type 0 where
-  pub asked : command ≡ Some Run
+  pub asked : IsSome (input_mode command)
   pub taken : HasReadCount before after (max_input + 1)
   pub written : wrote (line (codes "too long"))
 
@@ -132,7 +152,7 @@ pub record IsNoMemory (command : Option Command) (before after : Option (List �
   pub written : wrote (line (codes "no memory"))
 
 -- the row of a status, each but that of a fault of the sink
-abbrev pub IsRow : Option Command → Option (List ℕ) → Option (List ℕ) → ℕ → ℕ → (List ℕ → Type 0) → (Scenario → Type 0) → ℕ → Type 0
+abbrev pub IsRow : Option Command → Option (List ℕ) → Option (List ℕ) → ℕ → ℕ → (List ℕ → Type 0) → (Mode → Scenario → Type 0) → ℕ → Type 0
 IsRow command before after faults_before faults_after wrote showed status =
     ((status ≡ 0) × IsOk command before after wrote showed)
     ⊎ (((status ≡ 2) × IsUsage command wrote)
@@ -143,13 +163,13 @@ IsRow command before after faults_before faults_after wrote showed status =
     ⊎ ((status ≡ 9) × IsNoMemory command before after wrote))))))
 
 -- the sink's count of faults rose, and the sink took some first bytes of what another row gives
-pub record IsWriteFault (command : Option Command) (before after : Option (List ℕ)) (faults_before faults_after : ℕ) (taken_before taken_after : Option (List ℕ)) (sink_before sink_after : ℕ) (showed : Scenario → Type 0) : Type 0 where
+pub record IsWriteFault (command : Option Command) (before after : Option (List ℕ)) (faults_before faults_after : ℕ) (taken_before taken_after : Option (List ℕ)) (sink_before sink_after : ℕ) (showed : Mode → Scenario → Type 0) : Type 0 where
   pub risen : HasRisen sink_before sink_after
   pub other : ℕ
   pub row : IsRow command before after faults_before faults_after (GrewByPrefix taken_before taken_after) showed other
 
 -- the whole table: what a status says of the command, of the source, of what the sink took, and of the run that was shown
-pub record IsOutcome (command : Option Command) (before after : Option (List ℕ)) (faults_before faults_after : ℕ) (taken_before taken_after : Option (List ℕ)) (sink_before sink_after : ℕ) (showed : Scenario → Type 0) (status : ℕ) : Type 0 where
+pub record IsOutcome (command : Option Command) (before after : Option (List ℕ)) (faults_before faults_after : ℕ) (taken_before taken_after : Option (List ℕ)) (sink_before sink_after : ℕ) (showed : Mode → Scenario → Type 0) (status : ℕ) : Type 0 where
   pub row : IsRow command before after faults_before faults_after (Grew taken_before taken_after) showed status
       ⊎ ((status ≡ 6) × IsWriteFault command before after faults_before faults_after taken_before taken_after sink_before sink_after showed)
 
@@ -163,9 +183,9 @@ abbrev pub IsRefusal : Option (List ℕ) → Option (List ℕ) → ℕ → ℕ �
 IsRefusal taken_before taken_after sink_before sink_after status =
     IsWritten taken_before taken_after sink_before sink_after (line (codes "no memory")) 9 status
 
--- every input has its answer, where memory is not refused
-pub record HasItsAnswer (bytes : List ℕ) (status : ℕ) : Type 0 where
-  pub accepted : (scenario : Scenario) → SpellsScenario bytes scenario → length bytes ≤ max_input → (status ≡ 0) ⊎ (status ≡ 9)
+-- every input of a run in this mode has its answer, where memory is not refused
+pub record HasItsAnswer (mode : Mode) (bytes : List ℕ) (status : ℕ) : Type 0 where
+  pub accepted : (scenario : Scenario) → SpellsScenario mode bytes scenario → length bytes ≤ max_input → (status ≡ 0) ⊎ (status ≡ 9)
   pub no_json : IsNoJson bytes → length bytes ≤ max_input → (status ≡ 3) ⊎ (status ≡ 9)
-  pub faulty : (fault : Fault) → SpellsFault bytes fault → length bytes ≤ max_input → (status ≡ 4) ⊎ (status ≡ 9)
+  pub faulty : (fault : Fault) → SpellsFault mode bytes fault → length bytes ≤ max_input → (status ≡ 4) ⊎ (status ≡ 9)
   pub too_long : max_input < length bytes → (status ≡ 7) ⊎ (status ≡ 9)

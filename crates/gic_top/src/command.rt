@@ -1,15 +1,25 @@
 //! The commands, and their reading from words.
 
 ghost use Rattle.std.specs.Prelude.{◌≡◌, ◌≤◌, ◌↔◌, IsTrue, IfSome, map, string_bytes};
-ghost use Rattle.gic_top.specs.Command.{command_in, number_in, IsPadded, run_with as command_with, soak_with as soak_command_with, HasFewSteps};
+ghost use Rattle.gic_top.specs.Command.{command_in, number_in, count_in, IsPadded, IsCount, run_with as command_with, threads_with as threads_command_with, soak_with as soak_command_with, IsInBounds};
 
-use scn_base::MAX_STEPS;
+use scn_base::{MAX_PES, MAX_STEPS};
+
+/// The most operations of a vCPU while it is on a PE that `threads` can ask for.
+const MAX_PER_TURN: u32 = 1000;
 
 /// What the words of a command line ask for.
 #[derive(Clone, Copy, Debug, PartialEq, Eq)]
 pub enum Command {
     /// `run`: reads a scenario, does its steps in order, and writes the text.
     Run,
+    /// `threads P Q`: reads a scenario, does its steps on threads, and writes the text.
+    Threads {
+        /// How many PEs there are, each a thread: 1 to 8.
+        pes: u32,
+        /// How many operations a vCPU does at most while it is on a PE: 1 to 1000.
+        per_turn: u32,
+    },
     /// `soak N STEPS`: makes the scenario of a number, does its steps in order, and writes one line.
     Soak {
         number: u64,
@@ -39,6 +49,15 @@ fn number_of(word: &str, most: u64) -> Option<u64>
     (number <= most).then_some(number)
 }
 
+/// The number that a word writes so, if it is 1 to `most`.
+fn count_of(word: &str, most: u32) -> Option<u32>
+    ensures value { result ≡ count_in most word.now }
+    ensures within { IfSome result (IsCount most) }
+{
+    let count = number_of(word, u64::from(most))? as u32;
+    (count != 0).then_some(count)
+}
+
 /// `run` and its arguments, of which there are none.
 fn run_with(arguments: &[String]) -> Option<Command>
     ensures { result ≡ command_with (map string_bytes arguments.now) }
@@ -46,10 +65,23 @@ fn run_with(arguments: &[String]) -> Option<Command>
     arguments.is_empty().then_some(Command::Run)
 }
 
+/// `threads` and its arguments, which are two counts.
+fn threads_with(arguments: &[String]) -> Option<Command>
+    ensures value { result ≡ threads_command_with (map string_bytes arguments.now) }
+    ensures bounded { IfSome result IsInBounds }
+{
+    let [pes, per_turn] = arguments else {
+        return None;
+    };
+    let pes = count_of(pes.as_str(), MAX_PES)?;
+    let per_turn = count_of(per_turn.as_str(), MAX_PER_TURN)?;
+    Some(Command::Threads { pes, per_turn })
+}
+
 /// `soak` and its arguments, which are two numbers.
 fn soak_with(arguments: &[String]) -> Option<Command>
     ensures value { result ≡ soak_command_with (map string_bytes arguments.now) }
-    ensures few { IfSome result HasFewSteps }
+    ensures bounded { IfSome result IsInBounds }
 {
     let [number, steps] = arguments else {
         return None;
@@ -64,11 +96,12 @@ impl Command {
     /// arguments. None where they are of no form that is built. Capitals count.
     pub fn of(words: &[String]) -> Option<Command>
         ensures value { result ≡ command_in words.now }
-        ensures few { IfSome result HasFewSteps }
+        ensures bounded { IfSome result IsInBounds }
     {
         let (name, arguments) = words.split_first()?;
         match name.as_str() {
             "run" => run_with(arguments),
+            "threads" => threads_with(arguments),
             "soak" => soak_with(arguments),
             _ => None,
         }

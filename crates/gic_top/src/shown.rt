@@ -3,7 +3,9 @@
 ghost use Rattle.std.specs.Prelude.{None};
 
 use port_seq::SeqPort;
+use port_table::{RootSeat, SharedWords};
 use run_seq::{Done, SeqWatch};
+use run_thr::ThrWatch;
 use scn_base::Scenario;
 
 /// How many runs were shown, of each kind. It keeps nothing else of them.
@@ -11,7 +13,7 @@ use scn_base::Scenario;
 pub struct Shown {
     /// Runs whose steps were done one after the other.
     pub scheduled: u64,
-    /// Runs whose steps were done by threads. No command makes one yet.
+    /// Runs whose steps were done by threads.
     pub threaded: u64,
 }
 
@@ -28,5 +30,21 @@ impl SeqWatch for Shown {
 
     fn show_schedule(&mut self, _scenario: &Scenario, _port: &SeqPort, _done: &Done) {
         self.scheduled += 1;
+    }
+}
+
+impl ThrWatch for Shown {
+    ghost threaded = { λ shown. shown.threaded };
+
+    ghost last_threads = { λ shown. None };
+
+    fn show_threads(
+        &mut self,
+        _scenario: &Scenario,
+        _words: &SharedWords,
+        _root: &RootSeat,
+        _done: &Done,
+    ) {
+        self.threaded += 1;
     }
 }

@@ -1,18 +1,23 @@
 //! Words and inputs of each kind, and faults of the outside, through the whole tool.
 
 use crate::{
-    BAD_JSON, BAD_SCENARIO, NO_MEMORY, NOTHING_SHOWN, OK, READ_FAULT, TOO_LONG, USAGE, WRITE_FAULT,
-    refuse_words, run_tool,
+    BAD_JSON, BAD_SCENARIO, NO_MEMORY, NOTHING_SHOWN, OK, READ_FAULT, Shown, TOO_LONG, USAGE,
+    WRITE_FAULT, refuse_words, run_tool,
 };
-use gic_io::{MemSink, MemSource, Sink, Source, SureSink, SureSource};
+use gic_io::{MemSink, MemSource, OpenGate, Sink, Source, SureSink, SureSource};
 use std::alloc::{AllocError, Global};
 use std::sync::Wait;
 use std::test::Fail;
+use std::thread::Threads;
 
 const FIRST: &[u8] =
     br#"{"pes":1,"lrs":4,"guests":[{"vcpus":1,"spis":32,"on":true,"irqs":[{"id":40}]}],"steps":[{"dev":[0,0],"message":40},{"vcpu":[0,0],"icc":"IAR1"},{"vcpu":[0,0],"icc":"EOIR1","write":40},{"vcpu":[0,0],"icc":"IAR1"}]}"#;
 
 const FIRST_TEXT: &str = "2 0x0000000000000028\n4 0x00000000000003ff\nend 4 2\n";
+
+/// A vCPU that sends SGI 5 to itself.
+const ITSELF: &[u8] =
+    br#"{"guests":[{"on":true,"irqs":[{"id":5,"vcpu":0}]}],"steps":[{"vcpu":[0,0],"icc":"SGI1R","write":83886081},{"vcpu":[0,0],"icc":"IAR1"},{"vcpu":[0,0],"icc":"EOIR1","write":5},{"vcpu":[0,0],"icc":"IAR1"}]}"#;
 
 /// Inputs of `run`, each with the status and all that is written.
 const INPUTS: [(&[u8], u8, &str); 5] = [
@@ -28,25 +33,32 @@ const INPUTS: [(&[u8], u8, &str); 5] = [
 ];
 
 /// Words that are no command.
-const NO_COMMANDS: [&[&str]; 5] = [
+const NO_COMMANDS: [&[&str]; 12] = [
     &["threads", "9", "1"],
+    &["threads", "0", "1"],
+    &["threads", "1", "0"],
+    &["threads", "1", "1001"],
+    &["threads", "1", "+1"],
+    &["threads", "1"],
+    &["threads", "1", "1", "1"],
+    &["Threads", "1", "1"],
     &["run", "x"],
     &["threads", "02", "1"],
     &[],
     &["Run"],
 ];
 
-/// Runs the tool: its status, and how many runs were shown.
-fn answer<R: Wait, S: Source, K: Sink>(
+/// Runs the tool: its status, and what was shown.
+fn answer<R: Threads + Wait + Sync, S: Source, K: Sink>(
     rt: &R,
     alloc: Global,
     words: &[String],
     source: &mut S,
     sink: &mut K,
-) -> (u8, u64) {
+) -> (u8, Shown) {
     let mut shown = NOTHING_SHOWN;
-    let status = run_tool(rt, alloc, words, source, sink, &mut shown);
-    (status, shown.scheduled)
+    let status = run_tool(rt, alloc, words, source, sink, &OpenGate, &mut shown);
+    (status, shown)
 }
 
 fn words_of(alloc: Global, words: &[&str]) -> Result<Vec<String>, AllocError> {
@@ -64,10 +76,60 @@ fn answers_inputs(rt: HostRuntime) -> Result<(), Fail> {
     for (input, status, text) in INPUTS {
         let mut source = SureSource::of(Vec::from_slice(alloc, input)?);
         let mut sink = SureSink::new(alloc);
-        let (answered, runs_shown) = answer(&rt, alloc, words.as_slice(), &mut source, &mut sink);
+        let (answered, shown) = answer(&rt, alloc, words.as_slice(), &mut source, &mut sink);
         assert_eq!(rt; answered, status, "{input:?}");
         assert_eq!(rt; sink.taken(), Some(text.as_bytes()), "{input:?}");
-        assert_eq!(rt; runs_shown, u64::from(status == OK), "{input:?}");
+        assert_eq!(rt;
+            shown,
+            Shown {
+                scheduled: u64::from(status == OK),
+                threaded: 0
+            },
+            "{input:?}"
+        );
+    }
+    Ok(())
+}
+
+/// Inputs of `threads`, each with the status and all that is written: without a device it is the same in every run.
+const THREADS_INPUTS: [(&[u8], u8, &str); 4] = [
+    (
+        ITSELF,
+        OK,
+        "2 0x0000000000000005\n4 0x00000000000003ff\nend 4 2\n",
+    ),
+    (
+        br#"{"guests":[{}],"steps":[{"pe":0,"lrs":true}]}"#,
+        BAD_SCENARIO,
+        "bad scenario: code 7 step 1\n",
+    ),
+    (br#"{"pes":1"#, BAD_JSON, "bad json\n"),
+    (
+        br#"{"guests":[{}],"steps":[{"vcpu":[0,0],"icc":"IAR2"}]}"#,
+        BAD_SCENARIO,
+        "bad scenario: code 3 step 1\n",
+    ),
+];
+
+#[test]
+fn answers_inputs_of_threads(rt: HostRuntime) -> Result<(), Fail> {
+    let alloc = rt.alloc();
+    for words in [["threads", "1", "1"], ["threads", "8", "1000"]] {
+        let words = words_of(alloc, &words)?;
+        for (input, status, text) in THREADS_INPUTS {
+            let mut source = SureSource::of(Vec::from_slice(alloc, input)?);
+            let mut sink = SureSink::new(alloc);
+            let (answered, shown) = answer(&rt, alloc, words.as_slice(), &mut source, &mut sink);
+            assert_eq!(rt; answered, status, "{input:?}");
+            assert_eq!(rt; sink.taken(), Some(text.as_bytes()), "{input:?}");
+            assert_eq!(rt;
+                shown,
+                Shown {
+                    scheduled: 0,
+                    threaded: u64::from(status == OK)
+                }
+            );
+        }
     }
     Ok(())
 }
@@ -80,11 +142,11 @@ fn other_words_are_refused(rt: HostRuntime) -> Result<(), Fail> {
         // A first read would be a fault.
         let mut source = MemSource::of(Vec::new(alloc), vec![in alloc; 1]?, 1);
         let mut sink = SureSink::new(alloc);
-        let (answered, runs_shown) = answer(&rt, alloc, words.as_slice(), &mut source, &mut sink);
+        let (answered, shown) = answer(&rt, alloc, words.as_slice(), &mut source, &mut sink);
         assert_eq!(rt; answered, USAGE, "{words:?}");
         assert_eq!(rt; sink.taken(), Some(b"usage\n".as_slice()), "{words:?}");
         assert_eq!(rt; source.faults(), 0, "{words:?}");
-        assert_eq!(rt; runs_shown, 0, "{words:?}");
+        assert_eq!(rt; shown, NOTHING_SHOWN, "{words:?}");
     }
     Ok(())
 }
@@ -106,10 +168,16 @@ fn pieces_and_faults(rt: HostRuntime) -> Result<(), Fail> {
         let bytes = Vec::from_slice(alloc, FIRST)?;
         let mut source = MemSource::of(bytes, vec![in alloc; source_fails]?, cut);
         let mut sink = MemSink::of(alloc, vec![in alloc; sink_fails]?, cut);
-        let (answered, runs_shown) = answer(&rt, alloc, words.as_slice(), &mut source, &mut sink);
+        let (answered, shown) = answer(&rt, alloc, words.as_slice(), &mut source, &mut sink);
         assert_eq!(rt; answered, status);
         assert_eq!(rt; sink.taken(), Some(text.as_bytes()));
-        assert_eq!(rt; runs_shown, runs);
+        assert_eq!(rt;
+            shown,
+            Shown {
+                scheduled: runs,
+                threaded: 0
+            }
+        );
     }
     Ok(())
 }
@@ -136,10 +204,10 @@ fn long_inputs(rt: HostRuntime) -> Result<(), Fail> {
     ] {
         let mut source = SureSource::of(vec![in alloc; b' '; spaces]?);
         let mut sink = SureSink::new(alloc);
-        let (answered, runs_shown) = answer(&rt, alloc, words.as_slice(), &mut source, &mut sink);
+        let (answered, shown) = answer(&rt, alloc, words.as_slice(), &mut source, &mut sink);
         assert_eq!(rt; answered, status);
         assert_eq!(rt; sink.taken(), Some(text.as_bytes()));
-        assert_eq!(rt; runs_shown, 0);
+        assert_eq!(rt; shown, NOTHING_SHOWN);
     }
     Ok(())
 }

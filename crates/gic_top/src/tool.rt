@@ -5,20 +5,22 @@ ghost use Rattle.gic_io.specs.Faults.{HasRisen};
 ghost use Rattle.gic_io.specs.Sink.{Grew};
 ghost use Rattle.scn_base.specs.Good.{IsGood};
 ghost use Rattle.gic_soak.specs.Generated.{generated};
-ghost use Rattle.gic_top.specs.Command.{command_in, HasFewSteps};
-ghost use Rattle.gic_top.specs.Tool.{statuses, run_text, soak_text, fault_line as line_of, IsOk, IsUsage, IsBadJson, IsBadScenario, IsReadFault, IsWriteFault, IsTooLong, IsNoMemory, IsOutcome, IsWritten, IsRefusal, HasItsAnswer, WasShown};
-ghost use Rattle.gic_top.specs.Reply.{status_of, text_of, IsReplyTo, IsReplyOf, IsSoakReply, IsReplyFor, IsUnrun};
+ghost use Rattle.gic_top.specs.Command.{command_in, IsInBounds};
+ghost use Rattle.gic_top.specs.Tool.{statuses, input_mode, soak_text, fault_line as line_of, MayAnswer, ShownIn, IsOk, IsUsage, IsBadJson, IsBadScenario, IsReadFault, IsWriteFault, IsTooLong, IsNoMemory, IsOutcome, IsWritten, IsRefusal, HasItsAnswer, WasShown};
+ghost use Rattle.gic_top.specs.Reply.{mode_of, status_of, text_of, IsWay, IsRunText, IsReplyTo, IsReplyOf, IsSoakReply, IsReplyFor, IsUnrun};
 
 use crate::command::Command;
 use gic_base::NoMemory;
-use gic_io::{Bytes, ReadError, Sink, Source, read_all, write_all};
+use gic_io::{Bytes, Gate, ReadError, Sink, Source, read_all, write_all};
 use gic_report::{generate, soak_line, text};
 use run_seq::SeqWatch;
-use scn_base::MAX_STEPS;
+use run_thr::ThrWatch;
+use scn_base::{MAX_STEPS, RunOut};
 use scn_read::{Fault, Mode, ReadRefusal, Scenario, read};
 use serde_json::Value;
 use std::alloc::{AllocError, Global};
 use std::sync::Wait;
+use std::thread::Threads;
 
 /// The most bytes of an input.
 pub const MAX_INPUT: usize = 16_777_216;
@@ -91,19 +93,74 @@ fn fault_line(alloc: Global, fault: Fault) -> Result<Bytes, NoMemory>
     Ok(Bytes::from(line.into_bytes()))
 }
 
-/// The text of a scenario's run, which is shown to the watch.
-fn run<R: Wait, W: SeqWatch>(
+/// How a scenario that is read is run.
+#[derive(Clone, Copy, Debug, PartialEq, Eq)]
+enum Way {
+    /// Its steps one after the other.
+    InOrder,
+    /// Its vCPUs and devices on threads.
+    OnPes {
+        /// How many PEs there are, each a thread.
+        pes: u32,
+        /// How many operations a vCPU does at most while it is on one.
+        per_turn: u32,
+    },
+}
+
+impl Way {
+    /// For which mode the scenario is read.
+    fn mode(self) -> Mode
+        ensures { result ≡ mode_of self }
+    {
+        match self {
+            Way::InOrder => Mode::Schedule,
+            Way::OnPes { .. } => Mode::Threads,
+        }
+    }
+}
+
+/// Runs a scenario, and shows that to the watch.
+fn make_run<R: Threads + Wait + Sync, G: Gate + Sync, W: SeqWatch + ThrWatch>(
     rt: &R,
     alloc: Global,
+    way: Way,
     scenario: &Scenario,
+    gate: &G,
+    watch: &mut W,
+) -> Result<RunOut, NoMemory>
+    requires good { IsGood (mode_of way) scenario.now }
+    requires way { IsWay way }
+    requires room { W.scheduled watch.old < 18446744073709551615 }
+    requires threads_room { W.threaded watch.old < 18446744073709551615 }
+    ensures answers { IfOk result (MayAnswer (mode_of way) scenario.now) }
+    ensures shown { OnOk result (ShownIn (WasShown (W.scheduled watch.old) (W.scheduled watch.new) (W.last_schedule watch.new))
+        (WasShown (W.threaded watch.old) (W.threaded watch.new) (W.last_threads watch.new)) (mode_of way) scenario.now) }
+{
+    match way {
+        Way::InOrder => run_seq::run(rt, alloc, scenario, watch),
+        Way::OnPes { pes, per_turn } => {
+            run_thr::run(rt, alloc, scenario, pes, per_turn, gate, watch)
+        }
+    }
+}
+
+/// The text of a scenario's run, which is shown to the watch.
+fn run<R: Threads + Wait + Sync, G: Gate + Sync, W: SeqWatch + ThrWatch>(
+    rt: &R,
+    alloc: Global,
+    way: Way,
+    scenario: &Scenario,
+    gate: &G,
     watch: &mut W,
 ) -> Result<Bytes, NoMemory>
-    requires good { IsGood Mode.Schedule scenario.now }
+    requires good { IsGood (mode_of way) scenario.now }
+    requires way { IsWay way }
     requires room { W.scheduled watch.old < 18446744073709551615 }
-    ensures written { IfOk result (λ written. written ≡ run_text scenario.now) }
-    ensures shown { OnOk result (WasShown (W.scheduled watch.old) (W.scheduled watch.new) (W.last_schedule watch.new) scenario.now) }
+    requires threads_room { W.threaded watch.old < 18446744073709551615 }
+    ensures { IfOk result (IsRunText (mode_of way) (ShownIn (WasShown (W.scheduled watch.old) (W.scheduled watch.new) (W.last_schedule watch.new))
+        (WasShown (W.threaded watch.old) (W.threaded watch.new) (W.last_threads watch.new))) scenario.now) }
 {
-    let out = run_seq::run(rt, alloc, scenario, watch)?;
+    let out = make_run(rt, alloc, way, scenario, gate, watch)?;
     text(alloc, scenario, &out)
 }
 
@@ -145,14 +202,19 @@ fn reply_to_soak<R: Wait, W: SeqWatch>(
 }
 
 /// The reply to the bytes of an input. A run is shown to the watch.
-fn reply_to<R: Wait, W: SeqWatch>(
+fn reply_to<R: Threads + Wait + Sync, G: Gate + Sync, W: SeqWatch + ThrWatch>(
     rt: &R,
     alloc: Global,
+    way: Way,
     bytes: &[u8],
+    gate: &G,
     watch: &mut W,
 ) -> Result<Reply, NoMemory>
+    requires way { IsWay way }
     requires room { W.scheduled watch.old < 18446744073709551615 }
-    ensures reply { IfOk result (IsReplyTo (WasShown (W.scheduled watch.old) (W.scheduled watch.new) (W.last_schedule watch.new)) bytes.now) }
+    requires threads_room { W.threaded watch.old < 18446744073709551615 }
+    ensures reply { IfOk result (IsReplyTo (mode_of way) (ShownIn (WasShown (W.scheduled watch.old) (W.scheduled watch.new) (W.last_schedule watch.new))
+        (WasShown (W.threaded watch.old) (W.threaded watch.new) (W.last_threads watch.new))) bytes.now) }
     ensures unwatched { IfOk result (λ reply. IsUnrun reply → watch.new ≡ watch.old) }
 {
     let value = match Value::from_slice(alloc, bytes) {
@@ -160,27 +222,34 @@ fn reply_to<R: Wait, W: SeqWatch>(
         Err(error) if error.is_memory() => return Err(NoMemory),
         Err(_) => return Ok(Reply::BadJson),
     };
-    match read(alloc, &value, Mode::Schedule) {
-        Ok(scenario) => Ok(Reply::Ran(run(rt, alloc, &scenario, watch)?)),
+    match read(alloc, &value, way.mode()) {
+        Ok(scenario) => Ok(Reply::Ran(run(rt, alloc, way, &scenario, gate, watch)?)),
         Err(ReadRefusal::Bad(fault)) => Ok(Reply::BadScenario(fault_line(alloc, fault)?)),
         Err(ReadRefusal::NoMemory) => Err(NoMemory),
     }
 }
 
 /// The reply to what a source has left. A run is shown to the watch.
-fn reply_of<R: Wait, S: Source, W: SeqWatch>(
+fn reply_of<R: Threads + Wait + Sync, S: Source, G: Gate + Sync, W: SeqWatch + ThrWatch>(
     rt: &R,
     alloc: Global,
+    way: Way,
     source: &mut S,
+    gate: &G,
     watch: &mut W,
 ) -> Reply
+    requires way { IsWay way }
     requires room { W.scheduled watch.old < 18446744073709551615 }
-    ensures reply { IsReplyOf (WasShown (W.scheduled watch.old) (W.scheduled watch.new) (W.last_schedule watch.new))
+    requires threads_room { W.threaded watch.old < 18446744073709551615 }
+    ensures reply { IsReplyOf (mode_of way) (ShownIn (WasShown (W.scheduled watch.old) (W.scheduled watch.new) (W.last_schedule watch.new))
+        (WasShown (W.threaded watch.old) (W.threaded watch.new) (W.last_threads watch.new)))
         (S.left source.old) (S.left source.new) (S.faults source.old) (S.faults source.new) result }
     ensures unwatched { IsUnrun result → watch.new ≡ watch.old }
 {
     match read_all(alloc, source, MAX_INPUT) {
-        Ok(bytes) => reply_to(rt, alloc, bytes.as_slice(), watch).unwrap_or(Reply::NoMemory),
+        Ok(bytes) => {
+            reply_to(rt, alloc, way, bytes.as_slice(), gate, watch).unwrap_or(Reply::NoMemory)
+        }
         Err(ReadError::ReadFault) => Reply::ReadFault,
         Err(ReadError::TooLong) => Reply::TooLong,
         Err(ReadError::NoMemory) => Reply::NoMemory,
@@ -188,22 +257,28 @@ fn reply_of<R: Wait, S: Source, W: SeqWatch>(
 }
 
 /// The reply to a command, or to words that are none, and to what a source has left. A run is shown to the watch.
-fn reply_for<R: Wait, S: Source, W: SeqWatch>(
+fn reply_for<R: Threads + Wait + Sync, S: Source, G: Gate + Sync, W: SeqWatch + ThrWatch>(
     rt: &R,
     alloc: Global,
     command: Option<Command>,
     source: &mut S,
+    gate: &G,
     watch: &mut W,
 ) -> Reply
-    requires few { IfSome command HasFewSteps }
+    requires bounded { IfSome command IsInBounds }
     requires room { W.scheduled watch.old < 18446744073709551615 }
-    ensures reply { IsReplyFor (WasShown (W.scheduled watch.old) (W.scheduled watch.new) (W.last_schedule watch.new))
+    requires threads_room { W.threaded watch.old < 18446744073709551615 }
+    ensures reply { IsReplyFor (ShownIn (WasShown (W.scheduled watch.old) (W.scheduled watch.new) (W.last_schedule watch.new))
+        (WasShown (W.threaded watch.old) (W.threaded watch.new) (W.last_threads watch.new)))
         command (S.left source.old) (S.left source.new) (S.faults source.old) (S.faults source.new) result }
-    ensures unread { command ≢ Some Command.Run → source.new ≡ source.old }
+    ensures unread { input_mode command ≡ None → source.new ≡ source.old }
     ensures unwatched { IsUnrun result → watch.new ≡ watch.old }
 {
     match command {
-        Some(Command::Run) => reply_of(rt, alloc, source, watch),
+        Some(Command::Run) => reply_of(rt, alloc, Way::InOrder, source, gate, watch),
+        Some(Command::Threads { pes, per_turn }) => {
+            reply_of(rt, alloc, Way::OnPes { pes, per_turn }, source, gate, watch)
+        }
         Some(Command::Soak { number, steps }) => reply_to_soak(rt, alloc, number, steps, watch),
         None => Reply::Usage,
     }
@@ -229,31 +304,42 @@ pub fn refuse_words<K: Sink>(sink: &mut K) -> u8
 
 /// Does what the words ask for, and answers the status with which the program ends.
 ///
-/// `run` reads a scenario from the source, in JSON, and writes the text of its run to the sink. `soak N STEPS` makes
-/// the scenario of the number N, of so many steps, and writes one line of its run. Each run goes through the interrupt
-/// words of its guests and the list registers of its PEs, and is shown to the watch, which was shown less than 2^64 - 1
-/// before. A text or a message is built whole before its first byte is written. The words are those after the program's
-/// name. The status is [`OK`] or another of this module's.
-pub fn run_tool<R: Wait, S: Source, K: Sink, W: SeqWatch>(
+/// `run` reads a scenario from the source, in JSON, does its steps one after the other, and writes the text of the run to the
+/// sink. `threads P Q` does so on P PEs, each a thread, with up to Q operations of a vCPU while it is on one, and each device in a
+/// thread of its own; the PEs pass the gate. `soak N STEPS` makes the scenario of the number N, of so many steps, and writes one
+/// line of its run. Each run goes through the interrupt words of its guests and the list registers of its PEs, and is shown to the
+/// watch, which was shown less than 2^64 - 1 of either kind before. A text or a message is built whole before its first byte is
+/// written. The words are those after the program's name. The status is [`OK`] or another of this module's.
+pub fn run_tool<
+    R: Threads + Wait + Sync,
+    S: Source,
+    K: Sink,
+    G: Gate + Sync,
+    W: SeqWatch + ThrWatch,
+>(
     rt: &R,
     alloc: Global,
     words: &[String],
     source: &mut S,
     sink: &mut K,
+    gate: &G,
     watch: &mut W,
 ) -> u8
     requires room { W.scheduled watch.old < 18446744073709551615 }
+    requires threads_room { W.threaded watch.old < 18446744073709551615 }
 
     // The status is one of the table's, and says what was read, shown and written.
     ensures closed { Contains statuses result }
     ensures outcome { IsOutcome (command_in words.now) (S.left source.old) (S.left source.new) (S.faults source.old) (S.faults source.new)
         (K.taken sink.old) (K.taken sink.new) (K.faults sink.old) (K.faults sink.new)
-        (WasShown (W.scheduled watch.old) (W.scheduled watch.new) (W.last_schedule watch.new)) result }
+        (ShownIn (WasShown (W.scheduled watch.old) (W.scheduled watch.new) (W.last_schedule watch.new))
+        (WasShown (W.threaded watch.old) (W.threaded watch.new) (W.last_threads watch.new))) result }
 
     // The same, status by status.
     ensures ok { result ≡ 0 →
         IsOk (command_in words.now) (S.left source.old) (S.left source.new) (Grew (K.taken sink.old) (K.taken sink.new))
-        (WasShown (W.scheduled watch.old) (W.scheduled watch.new) (W.last_schedule watch.new)) }
+        (ShownIn (WasShown (W.scheduled watch.old) (W.scheduled watch.new) (W.last_schedule watch.new))
+        (WasShown (W.threaded watch.old) (W.threaded watch.new) (W.last_threads watch.new))) }
     ensures usage { result ≡ 2 → IsUsage (command_in words.now) (Grew (K.taken sink.old) (K.taken sink.new)) }
     ensures bad_json { result ≡ 3 →
         IsBadJson (command_in words.now) (S.left source.old) (S.left source.new) (Grew (K.taken sink.old) (K.taken sink.new)) }
@@ -264,30 +350,31 @@ pub fn run_tool<R: Wait, S: Source, K: Sink, W: SeqWatch>(
     ensures write_fault { result ≡ 6 →
         IsWriteFault (command_in words.now) (S.left source.old) (S.left source.new) (S.faults source.old) (S.faults source.new)
         (K.taken sink.old) (K.taken sink.new) (K.faults sink.old) (K.faults sink.new)
-        (WasShown (W.scheduled watch.old) (W.scheduled watch.new) (W.last_schedule watch.new)) }
+        (ShownIn (WasShown (W.scheduled watch.old) (W.scheduled watch.new) (W.last_schedule watch.new))
+        (WasShown (W.threaded watch.old) (W.threaded watch.new) (W.last_threads watch.new))) }
     ensures too_long { result ≡ 7 →
         IsTooLong (command_in words.now) (S.left source.old) (S.left source.new) (Grew (K.taken sink.old) (K.taken sink.new)) }
     ensures no_memory { result ≡ 9 →
         IsNoMemory (command_in words.now) (S.left source.old) (S.left source.new) (Grew (K.taken sink.old) (K.taken sink.new)) }
 
-    // Words that are no command are refused, and only `run` reads.
+    // Words that are no command are refused, and only a command that reads its input does.
     ensures usage_where_no_command { command_in words.now ≡ None → (result ≡ 2) ⊎ (result ≡ 6) }
-    ensures unread_unless_run { command_in words.now ≢ Some Command.Run → source.new ≡ source.old }
+    ensures unread_unless_asked { input_mode (command_in words.now) ≡ None → source.new ≡ source.old }
 
     // The watch is as it was, but where a run was made, or may have been.
     ensures unwatched { result ≢ 0 → result ≢ 6 → result ≢ 9 → watch.new ≡ watch.old }
 
     // Where no fault comes from outside, each input has its answer.
-    ensures complete { command_in words.now ≡ Some Command.Run
-        → ¬ HasRisen (S.faults source.old) (S.faults source.new)
+    ensures complete { IfSome (input_mode (command_in words.now)) (λ mode.
+        ¬ HasRisen (S.faults source.old) (S.faults source.new)
         → ¬ HasRisen (K.faults sink.old) (K.faults sink.new)
-        → IfSome (S.left source.old) (λ bytes. HasItsAnswer bytes result) }
+        → IfSome (S.left source.old) (λ bytes. HasItsAnswer mode bytes result)) }
 
     // `soak` needs no input.
     ensures soak_complete { (number steps : ℕ) → command_in words.now ≡ Some (Command.Soak number steps)
         → ¬ HasRisen (K.faults sink.old) (K.faults sink.new)
         → (result ≡ 0) ⊎ (result ≡ 9) }
 {
-    let reply = reply_for(rt, alloc, Command::of(words), source, watch);
+    let reply = reply_for(rt, alloc, Command::of(words), source, gate, watch);
     tell(sink, &reply)
 }

@@ -4,17 +4,19 @@
 ghost use Rattle.std.specs.Prelude.{◌≡◌, ◌≢◌, ◌<◌, ◌⊎◌, ℕ, Some, None, Contains, IfOk, IfErr, IfSome};
 ghost use Rattle.gic_io.specs.Faults.{HasRisen};
 ghost use Rattle.gic_top.specs.Command.{command_in};
-ghost use Rattle.gic_top.specs.Tool.{statuses, IsOutcome, IsRefusal, HasItsAnswer, WasShown};
+ghost use Rattle.gic_top.specs.Tool.{statuses, input_mode, ShownIn, IsOutcome, IsRefusal, HasItsAnswer, WasShown};
 
-use gic_io::{Sink, Source, StdSink, StdSource};
+use gic_io::{Gate, OpenGate, Sink, Source, StdSink, StdSource};
 use gic_top::{Command, NOTHING_SHOWN, refuse_words, run_tool};
 use run_seq::SeqWatch;
+use run_thr::ThrWatch;
 use std::alloc::{AllocError, Global};
 use std::env;
 use std::io::ErrorKind;
 use std::process::ExitCode;
 use std::rt::Env;
 use std::sync::Wait;
+use std::thread::Threads;
 
 /// The words after the program's name; an error where memory for them is refused. A word that is no text leaves
 /// none of them, so that no command is taken for another.
@@ -28,24 +30,27 @@ fn words(rt: &(impl Env + Alloc<A = Global>)) -> Result<Vec<String>, AllocError>
 
 /// Hands the words to the tool, and answers its status. Where memory for the words was refused, that is
 /// written, and nothing is read or run.
-fn status<R: Wait, S: Source, K: Sink, W: SeqWatch>(
+fn status<R: Threads + Wait + Sync, S: Source, K: Sink, G: Gate + Sync, W: SeqWatch + ThrWatch>(
     rt: &R,
     alloc: Global,
     words: Result<Vec<String>, AllocError>,
     source: &mut S,
     sink: &mut K,
+    gate: &G,
     watch: &mut W,
 ) -> u8
     requires room { W.scheduled watch.old < 18446744073709551615 }
+    requires threads_room { W.threaded watch.old < 18446744073709551615 }
     ensures closed { Contains statuses result }
     ensures outcome { IfOk words (λ words. IsOutcome (command_in words.items) (S.left source.old) (S.left source.new) (S.faults source.old) (S.faults source.new)
         (K.taken sink.old) (K.taken sink.new) (K.faults sink.old) (K.faults sink.new)
-        (WasShown (W.scheduled watch.old) (W.scheduled watch.new) (W.last_schedule watch.new)) result) }
-    ensures unread_unless_run { IfOk words (λ words. command_in words.items ≢ Some Command.Run → source.new ≡ source.old) }
-    ensures complete { IfOk words (λ words. command_in words.items ≡ Some Command.Run
-        → ¬ HasRisen (S.faults source.old) (S.faults source.new)
+        (ShownIn (WasShown (W.scheduled watch.old) (W.scheduled watch.new) (W.last_schedule watch.new))
+        (WasShown (W.threaded watch.old) (W.threaded watch.new) (W.last_threads watch.new))) result) }
+    ensures unread_unless_asked { IfOk words (λ words. input_mode (command_in words.items) ≡ None → source.new ≡ source.old) }
+    ensures complete { IfOk words (λ words. IfSome (input_mode (command_in words.items)) (λ mode.
+        ¬ HasRisen (S.faults source.old) (S.faults source.new)
         → ¬ HasRisen (K.faults sink.old) (K.faults sink.new)
-        → IfSome (S.left source.old) (λ bytes. HasItsAnswer bytes result)) }
+        → IfSome (S.left source.old) (λ bytes. HasItsAnswer mode bytes result))) }
     ensures soak_complete { IfOk words (λ words. (number steps : ℕ) → command_in words.items ≡ Some (Command.Soak number steps)
         → ¬ HasRisen (K.faults sink.old) (K.faults sink.new)
         → (result ≡ 0) ⊎ (result ≡ 9)) }
@@ -56,7 +61,7 @@ fn status<R: Wait, S: Source, K: Sink, W: SeqWatch>(
     ensures unwatched { IfErr words (λ _. watch.new ≡ watch.old) }
 {
     match words {
-        Ok(words) => run_tool(rt, alloc, words.as_slice(), source, sink, watch),
+        Ok(words) => run_tool(rt, alloc, words.as_slice(), source, sink, gate, watch),
         Err(_) => refuse_words(sink),
     }
 }
@@ -66,5 +71,13 @@ fn main(rt: HostRuntime) -> ExitCode {
     let mut sink = StdSink::new(&rt);
     let mut shown = NOTHING_SHOWN;
     let words = words(&rt);
-    ExitCode::from(status(&rt, rt.alloc(), words, &mut source, &mut sink, &mut shown))
+    ExitCode::from(status(
+        &rt,
+        rt.alloc(),
+        words,
+        &mut source,
+        &mut sink,
+        &OpenGate,
+        &mut shown,
+    ))
 }

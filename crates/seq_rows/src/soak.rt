@@ -3,7 +3,7 @@
 ghost use Rattle.std.specs.Prelude.{◌≤◌};
 
 use gic_ideal::eager;
-use gic_io::{MemSource, SureSink};
+use gic_io::{MemSource, OpenGate, SureSink};
 use gic_report::generate;
 use gic_top::{NOTHING_SHOWN, OK, USAGE, run_tool};
 use scn_base::Answer;
@@ -11,6 +11,7 @@ use std::alloc::{AllocError, Global};
 use std::process::Abort;
 use std::sync::Wait;
 use std::test::Fail;
+use std::thread::Threads;
 
 /// Words, each with the line that is written.
 #[rattlefmt::skip]
@@ -44,7 +45,7 @@ const USAGES: [&[&str]; 12] = [
 
 /// Runs the tool over a source whose first read would be a fault, and compares the status and all that is written.
 fn check(
-    rt: &(impl Abort + Wait),
+    rt: &(impl Abort + Threads + Wait + Sync),
     alloc: Global,
     words: &[&str],
     status: u8,
@@ -63,6 +64,7 @@ fn check(
         all.as_slice(),
         &mut source,
         &mut sink,
+        &OpenGate,
         &mut shown,
     );
     let taken = str::from_utf8(sink.taken().ok_or("not told")?)?;

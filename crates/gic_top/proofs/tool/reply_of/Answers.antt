@@ -1,15 +1,17 @@
 use Rattle.std.proofs.Common.{IfOk, sym, subst}
-use Rattle.gic_top.specs.Reply.{IsReplyTo, IsReplyOf}
-use Rattle.gic_top.specs.Tool.{WasShown}
+use Rattle.gic_top.specs.Reply.{mode_of, IsReplyTo, IsReplyOf}
+use Rattle.gic_top.specs.Tool.{ShownIn, WasShown}
 use Rattle.gic_top.proofs.ReplyLemmas.{whole_reply}
 use Rattle.gic_top.proofs.tool.reply_of.Goals as goal
 
 pub returns-in-Ok-clause-reply : goal.returns-in-Ok-clause-reply
 returns-in-Ok-clause-reply g c =
-    let source = g.S.Source in let watch = g.W.SeqWatch in
-    let read = c.read_all.new.source in let seen = c.reply_to.new.watch in
-    let showed = WasShown (watch.scheduled c.args.watch.now) (watch.scheduled seen) (watch.last_schedule seen) in
+    let source = g.S.Source in let scheduled = g.W.SeqWatch in let threaded = g.W.ThrWatch in
+    let read = c.read_all.new.source in let watch = c.args.watch.now in let seen = c.reply_to.new.watch in
+    let mode = mode_of c.args.way in
+    let showed = ShownIn (WasShown (scheduled.scheduled watch) (scheduled.scheduled seen) (scheduled.last_schedule seen))
+    (WasShown (threaded.threaded watch) (threaded.threaded seen) (threaded.last_threads seen)) in
     let before = source.left c.args.source.now in let after = source.left read in
-    subst (IsReplyOf showed before after (source.faults c.args.source.now) (source.faults read)) (sym c.unwrap_or.ensures)
-    (whole_reply showed before after (source.faults c.args.source.now) (source.faults read) c.in-Ok.bytes c.in-Ok.ensures.whole c.in-Ok.ensures.at_most_max c.in-Ok.ensures.ended c.reply_to.result
-    (subst (λ bytes. IfOk c.reply_to.result (IsReplyTo showed bytes)) c.as_slice.ensures c.reply_to.ensures.reply))
+    subst (IsReplyOf mode showed before after (source.faults c.args.source.now) (source.faults read)) (sym c.unwrap_or.ensures)
+    (whole_reply mode showed before after (source.faults c.args.source.now) (source.faults read) c.in-Ok.bytes c.in-Ok.ensures.whole c.in-Ok.ensures.at_most_max c.in-Ok.ensures.ended c.reply_to.result
+    (subst (λ bytes. IfOk c.reply_to.result (IsReplyTo mode showed bytes)) c.as_slice.ensures c.reply_to.ensures.reply))

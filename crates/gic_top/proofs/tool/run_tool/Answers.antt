@@ -1,17 +1,17 @@
-use Rattle.std.proofs.Common.{◌≡◌, ◌≢◌, Some, subst}
-use Rattle.gic_top.specs.declared.command.Command.TheVariants.{Run}
+use Rattle.std.proofs.Common.{◌≡◌, None, subst}
 use Rattle.gic_top.specs.Command.{command_in}
 use Rattle.gic_top.specs.Reply.{IsReplyFor}
-use Rattle.gic_top.specs.Tool.{WasShown}
+use Rattle.gic_top.specs.Tool.{input_mode, ShownIn, WasShown}
 use Rattle.gic_top.proofs.ReplyLemmas.{outcome, closed, ok_row, usage_row, bad_json_row, bad_scenario_row, read_fault_row, write_fault_row, too_long_row, no_memory_row, no_command_status, soak_status, its_answer, unrun}
 use Rattle.gic_top.proofs.tool.run_tool.Goals as goal
 
 pub returns : goal.returns
 returns g c =
-    let source = g.S.Source in let sink = g.K.Sink in let watch = g.W.SeqWatch in let read = c.reply_for-reply.new.source in let wrote = c.tell.new.sink in
+    let source = g.S.Source in let sink = g.K.Sink in let scheduled = g.W.SeqWatch in let threaded = g.W.ThrWatch in let read = c.reply_for-reply.new.source in let wrote = c.tell.new.sink in
     let command = command_in c.args.words.now in
-    let seen = c.reply_for-reply.new.watch in
-    let showed = WasShown (watch.scheduled c.args.watch.now) (watch.scheduled seen) (watch.last_schedule seen) in
+    let watch = c.args.watch.now in let seen = c.reply_for-reply.new.watch in
+    let showed = ShownIn (WasShown (scheduled.scheduled watch) (scheduled.scheduled seen) (scheduled.last_schedule seen))
+    (WasShown (threaded.threaded watch) (threaded.threaded seen) (threaded.last_threads seen)) in
     let reply = subst (λ asked. IsReplyFor showed asked (source.left c.args.source.now) (source.left read) (source.faults c.args.source.now) (source.faults read) c.reply_for-reply.result)
     c.of.ensures.value c.reply_for-reply.ensures.reply in
     let o = outcome command (source.left c.args.source.now) (source.left read) (source.faults c.args.source.now) (source.faults read)
@@ -30,7 +30,7 @@ returns g c =
       too_long = too_long_row status o;
       no_memory = no_memory_row status o;
       usage_where_no_command = no_command_status status o;
-      unread_unless_run = subst (λ asked. asked ≢ Some Run → read ≡ c.args.source.now) c.of.ensures.value c.reply_for-reply.ensures.unread;
+      unread_unless_asked = subst (λ asked. input_mode asked ≡ None → read ≡ c.args.source.now) c.of.ensures.value c.reply_for-reply.ensures.unread;
       unwatched = λ ok cut refused. c.reply_for-reply.ensures.unwatched
           (unrun (sink.taken c.args.sink.now) (sink.taken wrote) (sink.faults c.args.sink.now) (sink.faults wrote) c.reply_for-reply.result c.tell.result c.tell.ensures ok cut refused);
       complete = its_answer showed command (source.left c.args.source.now) (source.left read) (source.faults c.args.source.now) (source.faults read)
