@@ -3,6 +3,7 @@ pub mod StayEvents
 pub mod StayAccess
 pub mod StayRuns
 pub mod ListLemmas
+pub mod InterfaceLemmas
 pub mod ShowLemmas
 pub mod ShowRuns
 pub mod WorkedLemmas

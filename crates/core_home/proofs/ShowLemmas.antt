@@ -1,9 +1,8 @@
 -- What an access of a CPU interface finds while the guest is up to date is what the guest with all taken back has.
-use Rattle.std.proofs.Common.{◌≡◌, ◌≢◌, ℕ, ◌<◌, ◌==◌, ◌&&◌, ◌||◌, ◌⊎◌, not, inl, inr, true≢false, Bool, true, false, cond, IsTrue, List, [], ◌∷◌, map, filter, Contains, Option, Some, None, is_none, refl, sym, ap, ◌∙◌, subst, arith}
+use Rattle.std.proofs.Common.{◌≡◌, ◌≢◌, ℕ, ◌<◌, ◌==◌, ◌&&◌, ◌||◌, ◌⊎◌, not, inl, inr, true≢false, Bool, true, false, cond, IsTrue, List, [], ◌∷◌, map, filter, Contains, Option, Some, None, refl, sym, ap, ◌∙◌, subst}
 use Rattle.std.specs.List.{list_any, filter_map, range_with_len}
 use Rattle.std.specs.Option.{option_map_or}
 use Rattle.std.proofs.lemmas.Bool.{cases_eq, and_parts, and_from, eqb-true, eq-eqb}
-use Rattle.std.proofs.lemmas.Grind.{common_steps}
 use Rattle.gic_base.specs.declared.icc.IccReg.{IccReg}
 use Rattle.gic_base.specs.declared.icc.IccReg.TheVariants.{Eoir0, Eoir1, Dir}
 use Rattle.gic_base.specs.declared.interrupt.Key.{Key}
@@ -14,13 +13,13 @@ use Rattle.gic_base.proofs.KeyLemmas.{same_key, same_itself}
 use Rattle.gic_open.proofs.KeyLemmas.{key_at_place, key_at_there, place_within}
 use Rattle.gic_word.specs.declared.record.Group.TheVariants.{G0, G1}
 use Rattle.gic_word.specs.declared.record.Irq.{Irq}
-use Rattle.gic_word.specs.Record.{is_forwarded, is_number, is_pending, is_ripe, target_in}
+use Rattle.gic_word.specs.Record.{is_forwarded, is_number, is_pending, target_in}
 use Rattle.gic_prio.specs.declared.candidate.Candidate.{Candidate}
 use Rattle.gic_prio.specs.declared.cpu.CpuRec.{CpuRec}
 use Rattle.gic_prio.specs.Access.{taken_by, deactivated_by}
-use Rattle.gic_prio.specs.Delivery.{first_of, is_before, is_deliverable, is_group_enabled, takes_kind}
+use Rattle.gic_prio.specs.Delivery.{first_of, is_before, is_deliverable}
 use Rattle.gic_prio.specs.Signal.{dir_deactivates, eoir_deactivates, intid_written}
-use Rattle.gic_prio.specs.Interface.{AtInterface, candidate_of, candidates_at}
+use Rattle.gic_prio.specs.Interface.{AtInterface, candidates_at}
 use Rattle.gic_prio.proofs.AccessLemmas.{taken_first}
 use Rattle.gic_prio.proofs.FirstLemmas.{first_is}
 use Rattle.gic_call.specs.declared.moves.Entry.{Entry}
@@ -37,26 +36,17 @@ use Rattle.home_laws.proofs.CpuLemmas.{named_own}
 use Rattle.home_laws.proofs.HomeLemmas.{home_irq, home_rest}
 use Rattle.home_laws.proofs.MoveLemmas.{routed_own}
 use Rattle.home_laws.proofs.SpotLemmas.{Spot, IsSpot, IsThere, IsTidy}
-use Rattle.vcpu_refill.proofs.ElementLemmas.{Contains-cases, Contains-here, Contains-there, Contains-map, Contains-nothing, map_cases}
+use Rattle.vcpu_refill.proofs.ElementLemmas.{Contains-here, Contains-there}
 use Rattle.vcpu_refill.proofs.StandLemmas.{in_filter_map, from_filter_map}
 use Rattle.core_regs.specs.Followed.{Followed}
 use Rattle.core_home.specs.UpToDate.{IsUpToDate, FindsAll}
 use Rattle.core_home.specs.Stay.{IsAsReached}
-use Rattle.core_home.proofs.ListLemmas.{filtered_from, none_passes, range_has, range_within, first_agrees}
+use Rattle.core_home.proofs.InterfaceLemmas.{IsOne, as_shown, delivers_back, from_interface, same_id, stands_among}
+use Rattle.core_home.proofs.ListLemmas.{none_passes, range_has, range_within, first_agrees}
 use Rattle.core_home.proofs.StayEvents.{AllAsReached, delivered}
 use Rattle.core_home.proofs.StayLemmas.{there_so, stands_so}
 
 -- Records.
-
--- a record taken back with all the causes that an interface has of it is as with these
-back_ripe : (irq : Irq) (entry : Entry) (vcpu w : ℕ) (shape : GuestShape) → irq.rise ≡ false → irq.soft ≡ false → IsTrue (is_ripe (record irq { rise = entry.rise; soft = entry.soft }) vcpu shape) → IsTrue (is_ripe (left w (record { irq = irq; entry = entry })) vcpu shape)
-back_ripe irq entry vcpu w shape rise soft ripe =
-    subst (λ b. IsTrue (is_ripe (record irq { rise = b; soft = irq.soft || entry.soft }) vcpu shape)) (ap (λ b. b || entry.rise) (sym rise))
-    (subst (λ b. IsTrue (is_ripe (record irq { rise = entry.rise; soft = b }) vcpu shape)) (ap (λ b. b || entry.soft) (sym soft)) ripe)
-
--- one that is not pending at the interface has no cause there, so what is pending once it is taken back is in the record
-back_pending : (irq : Irq) (entry : Entry) (w : ℕ) → IsTrue (entry.pending || not (entry.rise || entry.soft)) → entry.pending ≡ false → is_pending (left w (record { irq = irq; entry = entry })) ≡ true → is_pending irq ≡ true
-back_pending irq entry w causes unpending h = grind (arith, common_steps, causes, unpending, h)
 
 -- an end is of the interrupt that the INTID written names
 ended_key : (shape : GuestShape) (vcpu : ℕ) (reg : IccReg) (write : Option ℕ) (cpu : CpuRec) (id : ℕ) → deactivated_by reg write cpu ≡ Some id → ended_by shape vcpu reg write ≡ key_of id vcpu shape
@@ -71,10 +61,6 @@ ended_key shape vcpu reg write cpu id e = of reg write e
     of Eoir1 (Some value) h = ap (λ i. key_of i vcpu shape) (some_if (eoir_deactivates G1 (intid_written value) cpu) (intid_written value) h)
     of Dir (Some value) h = ap (λ i. key_of i vcpu shape) (some_if (dir_deactivates (intid_written value) cpu) (intid_written value) h)
     of r o h = absurd (cc)
-
--- two candidates with one INTID are one, and else one is before the other
-same_id : (a b : Candidate) → is_before a b ≡ false → is_before b a ≡ false → a.id ≡ b.id
-same_id a b h k = grind (arith, common_steps, h, k)
 
 not_other : (b : Bool) → (b ≡ true → ⊥) → b ≡ false
 not_other true h = absurd (h refl)
@@ -113,21 +99,6 @@ module _ (shape : GuestShape) (good : IsShape shape) (at : Followed) (tidy : IsT
       of : (spot : Option Spot) → IsSpot shape key (of_key state key) spot → Where key
       of None is = nowhere is (home_irq shape state tidy key there None is)
       of (Some one) is = somewhere one.vcpu one.entry is (home_irq shape state tidy key there (Some one) is) (all key one.vcpu one.entry is.here (rest.unchanged key there (not_home key one.vcpu (standing_of_key key one.entry) is.here)))
-
-  -- nothing is to leave
-  none_leaves : (w : ℕ) (key : Key) → w < shape.vcpus → Contains at.track.leaving (w, key) → ⊥
-  none_leaves w key within h = true≢false (sym (rest.none_late w within) ∙ ap not (among_any at.track.leaving h))
-    where
-      among_any : (list : List (ℕ × Key)) → Contains list (w, key) → list_any (λ (pair : ℕ × Key). pair.0 == w) list ≡ true
-      among_any [] h = absurd (Contains-nothing (w, key) h)
-      among_any (pair ∷ list) h = elim (Contains-cases pair (w, key) list h) [
-        | inl e ↦ ap (λ b. b || list_any (λ (p : ℕ × Key). p.0 == w) list) (eq-eqb pair.0 w (ap (λ (p : ℕ × Key). p.0) e))
-        | inr later ↦ or_later (pair.0 == w) (list_any (λ (p : ℕ × Key). p.0 == w) list) (among_any list later)
-      ]
-        where
-          or_later : (a b : Bool) → b ≡ true → (a || b) ≡ true
-          or_later true b h = refl
-          or_later false b h = h
 
   -- Candidates.
 
@@ -229,68 +200,18 @@ module _ (shape : GuestShape) (good : IsShape shape) (at : Followed) (tidy : IsT
         home_is = home_irq shape state tidy standing.key is.there (Some (record { vcpu = vcpu; entry = standing.entry })) is;
       }
 
-  abbrev pub as_shown : Standing → Candidate
-  as_shown standing = record { id = intid_of standing.key; prio = (irq_at state.guest standing.key).prio; group = (irq_at state.guest standing.key).group }
-
-  record IsOne (c : Candidate) : Type 0 where
-    standing : Standing
-    among_it : Contains (standing_at state vcpu) standing
-    pending : standing.entry.pending ≡ true
-    inactive : standing.entry.active ≡ false
-    enabled : IsTrue (is_group_enabled (irq_at state.guest standing.key).group cpu)
-    is : as_shown standing ≡ c
-
-  -- a candidate at the interface
-  from_interface : (c : Candidate) → Contains interface c → IsOne c
-  from_interface c h = of (from_filter_map (candidate_of cpu) (map (shown_at state) (standing_at state vcpu)) c h)
-    where
-      of : (one : AtInterface) × Contains (map (shown_at state) (standing_at state vcpu)) one × (candidate_of cpu one ≡ Some c) → IsOne c
-      of (one, has, e) = by (map_cases (shown_at state) (standing_at state vcpu) one has)
-        where
-          by : (standing : Standing) × Contains (standing_at state vcpu) standing × (shown_at state standing ≡ one) → IsOne c
-          by (standing, there, same) = test (standing.entry.pending && not standing.entry.active && is_group_enabled (irq_at state.guest standing.key).group cpu) refl (ap (candidate_of cpu) same ∙ e)
-            where
-              test : (b : Bool) → (standing.entry.pending && not standing.entry.active && is_group_enabled (irq_at state.guest standing.key).group cpu) ≡ b → cond b (Some (as_shown standing)) None ≡ Some c → IsOne c
-              test false t h = absurd (cc)
-              test true t h =
-                  let parts = and_parts (standing.entry.pending && not standing.entry.active) (is_group_enabled (irq_at state.guest standing.key).group cpu) t in
-                  let two = and_parts standing.entry.pending (not standing.entry.active) parts.0 in
-                  record { standing = standing; among_it = there; pending = two.0; inactive = not_true standing.entry.active two.1; enabled = parts.1; is = some_same (as_shown standing) c h }
-                where
-                  some_same : (x y : Candidate) → Some x ≡ Some y → x ≡ y
-                  some_same x y h = cc
-
-                  not_true : (b : Bool) → IsTrue (not b) → b ≡ false
-                  not_true true h = absurd (cc)
-                  not_true false h = refl
-
-  to_interface : (standing : Standing) → Contains (standing_at state vcpu) standing → standing.entry.pending ≡ true → standing.entry.active ≡ false → IsTrue (is_group_enabled (irq_at state.guest standing.key).group cpu) → Contains interface (as_shown standing)
-  to_interface standing there pending inactive enabled =
-      in_filter_map (candidate_of cpu) (map (shown_at state) (standing_at state vcpu)) (shown_at state standing) (as_shown standing) (Contains-map (shown_at state) (standing_at state vcpu) standing there)
-      (ap (λ (b : Bool). cond b (Some (as_shown standing)) None)
-      (and_from (standing.entry.pending && not standing.entry.active) (is_group_enabled (irq_at state.guest standing.key).group cpu) (and_from standing.entry.pending (not standing.entry.active) pending (ap not inactive)) enabled))
-
   -- the interface's candidates are the guest's with all taken back
   shown_there : (c : Candidate) → Contains interface c → Contains among c
-  shown_there c h = of (from_interface c h)
+  shown_there c h = of (from_interface shape at vcpu c h)
     where
-      of : IsOne c → Contains among c
+      of : IsOne shape at vcpu c → Contains among c
       of one =
           let key = one.standing.key in
-          let entry = one.standing.entry in
-          let irq = irq_at state.guest key in
           let standing = standing_is one.standing one.among_it in
-          let wholly = standing.so.pending one.pending in
-          let back : Irq = left vcpu (record { irq = irq; entry = entry }) in
-          let none : is_none back.act_by ≡ true = ap (λ (b : Bool). is_none (cond b (Some vcpu) None)) one.inactive in
-          let ripe = back_ripe irq entry vcpu vcpu shape wholly.no_rise wholly.no_soft wholly.ripe in
-          let delivers_it : IsTrue (is_deliverable key back vcpu cpu shape) =
-          and_from (is_ripe back vcpu shape && is_none back.act_by && is_group_enabled back.group cpu) (takes_kind key cpu)
-          (and_from (is_ripe back vcpu shape && is_none back.act_by) (is_group_enabled back.group cpu) (and_from (is_ripe back vcpu shape) (is_none back.act_by) ripe none) one.enabled) wholly.kind in
           in_home key c (record {
             there = standing.at_it.there;
             own = standing.at_it.own;
-            delivered = subst (λ (i : Irq). IsTrue (is_deliverable key i vcpu cpu shape)) (sym standing.home_is) delivers_it;
+            delivered = subst (λ (i : Irq). IsTrue (is_deliverable key i vcpu cpu shape)) (sym standing.home_is) (delivers_back shape at vcpu c one (standing.so.pending one.pending));
             is = ap (λ (i : Irq). let shown : Candidate = record { id = intid_of key; prio = i.prio; group = i.group } in shown) standing.home_is ∙ one.is;
           })
 
@@ -299,47 +220,9 @@ module _ (shape : GuestShape) (good : IsShape shape) (at : Followed) (tidy : IsT
   abbrev pub home_back : Key → ℕ → Entry → Irq
   home_back key w entry = left w (record { irq = irq_at state.guest key; entry = entry })
 
-  same_number : (a b : ℕ) (o : Option ℕ) → is_number a o ≡ true → is_number b o ≡ true → a ≡ b
-  same_number a b None h k = absurd (cc)
-  same_number a b (Some n) h k = grind (arith, common_steps, h, k)
-
   -- one that stands somewhere and is deliverable with all taken back is a candidate at the interface
-  pub stands_there : (key : Key) (w : ℕ) (entry : Entry) → IsThere shape key (of_key state key) (record { vcpu = w; entry = entry }) → IsAsReached shape at w (standing_of_key key entry) → IsTrue (is_deliverable key (home_back key w entry) vcpu cpu shape) → Contains interface (as_shown (standing_of_key key entry))
-  stands_there key w entry is reached h = of entry.pending refl
-    where
-      irq : Irq
-      irq = irq_at state.guest key
-
-      back : Irq
-      back = left w (record { irq = irq_at state.guest key; entry = entry })
-
-      rest_is : IsTrue (is_ripe back vcpu shape && is_none back.act_by && is_group_enabled back.group cpu)
-      rest_is = (and_parts (is_ripe back vcpu shape && is_none back.act_by && is_group_enabled back.group cpu) (takes_kind key cpu) h).0
-
-      enabled : IsTrue (is_group_enabled back.group cpu)
-      enabled = (and_parts (is_ripe back vcpu shape && is_none back.act_by) (is_group_enabled back.group cpu) rest_is).1
-
-      two : IsTrue (is_ripe back vcpu shape) × IsTrue (is_none back.act_by)
-      two = and_parts (is_ripe back vcpu shape) (is_none back.act_by) (and_parts (is_ripe back vcpu shape && is_none back.act_by) (is_group_enabled back.group cpu) rest_is).0
-
-      inactive : entry.active ≡ false
-      inactive = by entry.active two.1
-        where
-          by : (b : Bool) → IsTrue (is_none (cond b (Some w) None)) → b ≡ false
-          by true h = absurd (cc)
-          by false h = refl
-
-      ripe_parts : (i : Irq) (v : ℕ) → IsTrue (is_ripe i v shape) → IsTrue (is_pending i) × IsTrue (is_number v (target_in i.route shape))
-      ripe_parts i v r =
-          let first = and_parts (is_pending i && i.enabled && is_forwarded i) (is_number v (target_in i.route shape)) r in
-          ((and_parts (is_pending i) i.enabled (and_parts (is_pending i && i.enabled) (is_forwarded i) first.0).0).0, first.1)
-
-      of : (b : Bool) → entry.pending ≡ b → Contains interface (as_shown (standing_of_key key entry))
-      of false e = absurd (none_leaves w key is.few (reached.leaves e inactive (back_pending irq entry w is.entry.causes e (ripe_parts back vcpu two.0).0)))
-      of true e =
-          let same : w ≡ vcpu = same_number w vcpu (target_in irq.route shape) (ripe_parts (record irq { rise = entry.rise; soft = entry.soft }) w (reached.pending e).ripe).1 (ripe_parts back vcpu two.0).1 in
-          let here : of_key state key vcpu ≡ standing_of_key key entry ∷ [] = subst (λ v. of_key state key v ≡ standing_of_key key entry ∷ []) same is.here in
-          to_interface (standing_of_key key entry) (filtered_from (is_of key) (standing_at state vcpu) (standing_of_key key entry) (subst (λ l. Contains l (standing_of_key key entry)) (sym here) (Contains-here (standing_of_key key entry) []))) e inactive enabled
+  pub stands_there : (key : Key) (w : ℕ) (entry : Entry) → IsThere shape key (of_key state key) (record { vcpu = w; entry = entry }) → IsAsReached shape at w (standing_of_key key entry) → IsTrue (is_deliverable key (home_back key w entry) vcpu cpu shape) → Contains interface (as_shown at.ideal (standing_of_key key entry))
+  stands_there key w entry is reached h = stands_among shape at vcpu key w entry is reached (rest.none_late w is.few) h
 
   pub is_home_so : (key : Key) → ((v : ℕ) → of_key state key v ≡ []) → is_home state key ≡ true
   is_home_so key none = ap not (any_nowhere (is_of key) state.at (λ n. none_passes (is_of key) (standing_at state n) (none n)))
@@ -367,9 +250,9 @@ module _ (shape : GuestShape) (good : IsShape shape) (at : Followed) (tidy : IsT
 
     -- what IAR acknowledges has all its causes at the interface
     causes_so : (found : Candidate) → taken_by reg write cpu interface ≡ Some found → IsTrue (has_no_cause state.guest vcpu found.id)
-    causes_so found e = of (from_interface found (first_is interface found (taken_first reg write cpu interface found e)).among)
+    causes_so found e = of (from_interface shape at vcpu found (first_is interface found (taken_first reg write cpu interface found e)).among)
       where
-        of : IsOne found → IsTrue (has_no_cause state.guest vcpu found.id)
+        of : IsOne shape at vcpu found → IsTrue (has_no_cause state.guest vcpu found.id)
         of one =
             let key = one.standing.key in
             let standing = standing_is one.standing one.among_it in

@@ -1,29 +1,38 @@
 -- Where a proper run has come.
-use Rattle.std.proofs.Common.{◌≡◌, ℕ, ◌<◌, true≢false, not, true, false, IsTrue, List, [], ◌∷◌, ◌++◌, Option, Some, None, refl, sym, ap, ◌∙◌, subst, arith}
+use Rattle.std.proofs.Common.{◌≡◌, ℕ, ◌<◌, true≢false, not, true, false, IsTrue, List, [], ◌∷◌, ◌++◌, map, Option, Some, None, refl, sym, ap, ◌∙◌, subst, arith}
 use Rattle.std.specs.List.{list_any}
-use Rattle.std.proofs.lemmas.Bool.{eq-eqb, ltb-true}
+use Rattle.std.proofs.lemmas.Bool.{eq-eqb, lt-ltb, ltb-true}
 use Rattle.std.proofs.lemmas.List.Sums.{fold-append}
 use Rattle.gic_base.specs.declared.interrupt.Key.{Key}
 use Rattle.gic_base.specs.declared.shape.GuestShape.{GuestShape}
 use Rattle.gic_base.specs.Interrupt.{has_interrupt}
-use Rattle.gic_history.specs.State.{is_home, is_of}
+use Rattle.gic_history.specs.State.{interface_at, shown_at, is_home, is_of, standing_at}
+use Rattle.gic_prio.specs.Interface.{InterfaceState}
 use Rattle.gic_word.specs.Record.{is_number}
+use Rattle.ideal_guest.specs.Ideal.{irq_at, cpu_at}
 use Rattle.history_laws.proofs.StandLemmas.{any_somewhere}
 use Rattle.scn_base.specs.declared.guest.GuestSpec.{GuestSpec}
 use Rattle.scn_base.specs.Good.{IsGoodGuest}
-use Rattle.port_core.specs.declared.word_id.WordId.TheVariants.{Irq as IrqWord}
+use Rattle.port_core.specs.declared.local.Local.{Local}
+use Rattle.port_core.specs.declared.word_id.WordId.TheVariants.{Irq as IrqWord, Vcpu}
 use Rattle.port_core.specs.Actor.{actor_count}
 use Rattle.gic_word.specs.Valid.{is_vcpu_or_none}
+use Rattle.port_core.specs.After.{interface_of, shown}
 use Rattle.port_core.specs.Local.{is_at}
 use Rattle.port_core.specs.Run.{CoreState, opening, seat_at}
 use Rattle.core_proper.specs.Ideal.{after_moment, end_of_moments}
 use Rattle.core_proper.specs.Parts.{Act, CoreMoment}
 use Rattle.core_proper.specs.Progress.{Progress, opening_progress, progress_in}
 use Rattle.core_proper.specs.Proper.{IsProperRun}
+use Rattle.core_laws.specs.Related.{bare, but_lpis, is_folding}
+use Rattle.core_laws.proofs.AccessLemmas.{shown_same}
+use Rattle.core_laws.proofs.CpuLemmas.{with_lpis}
 use Rattle.core_laws.proofs.StandingLemmas.{any_stands}
+use Rattle.core_regs.specs.Asks.{IsUnkicked}
 use Rattle.core_fresh.specs.Excuse.{followed_in}
 use Rattle.core_regs.specs.Followed.{Followed}
 use Rattle.core_fresh.specs.Waiting.{record_in}
+use Rattle.core_fresh.proofs.CopySteps.{copies_are_current}
 use Rattle.core_fresh.proofs.Frame.{IsAt, follow, at_next, at_opens, moved_on, progress_is, progress_on}
 use Rattle.core_fresh.proofs.RunFrame.{IsNextOf, end_more, followed_more, runs_on}
 
@@ -85,3 +94,22 @@ module _ (guest : GuestSpec) (number : ℕ) (moments : List CoreMoment) (good : 
       of : (o : Option ℕ) → (record_in shape state key).holder ≡ o → o ≡ None
       of None e = refl
       of (Some v) e = absurd (true≢false (sym home ∙ held_away key there v e))
+
+  -- a word says what the ideal controller's record does
+  pub record_is : (key : Key) → IsTrue (has_interrupt shape key) → (record_in shape state key).holder ≡ None → bare (record_in shape state key) ≡ irq_at at.ideal.guest key
+  record_is key there none = (here.related.words (IrqWord key) there).home none
+
+  -- a vCPU that is not kicked and does not give back what it has has the CPU record of that
+  pub cpu_is : (vcpu : ℕ) → vcpu < shape.vcpus → IsUnkicked shape state vcpu → is_folding (p vcpu).local.phase ≡ false → cpu_at at.ideal.guest vcpu ≡ (p vcpu).local.cpu
+  cpu_is vcpu few unkicked stays =
+      let ideal = cpu_at at.ideal.guest vcpu in
+      let own = (p vcpu).local.cpu in
+      let lpis : ideal.lpis ≡ own.lpis = here.related.words (Vcpu vcpu) (lt-ltb vcpu shape.vcpus few) ∙ sym (copies_are_current guest number moments vcpu good proper few unkicked stays) in
+      let rest : but_lpis ideal ≡ but_lpis own = (here.related.seats vcpu few).cpu.same ∙ ap (λ (l : Local). but_lpis l.cpu) (sym (local_is vcpu (an_actor vcpu few))) in
+      ap (with_lpis ideal.lpis) rest ∙ ap (λ b. with_lpis b own) lpis
+
+  -- and its interface as an access sees it
+  pub interface_is : (vcpu : ℕ) → vcpu < shape.vcpus → cpu_at at.ideal.guest vcpu ≡ (p vcpu).local.cpu → interface_at at.ideal vcpu ≡ interface_of (p vcpu).local
+  interface_is vcpu few cpu =
+      ap (λ c. let i : InterfaceState = record { cpu = c; at = map (shown_at at.ideal) (standing_at at.ideal vcpu) } in i) cpu
+      ∙ ap (λ list. let i : InterfaceState = record { cpu = (p vcpu).local.cpu; at = list } in i) (shown_same here.sound here.related vcpu few ∙ ap (λ (l : Local). map shown l.at) (sym (local_is vcpu (an_actor vcpu few))))

@@ -1,16 +1,13 @@
 -- What is so of a vCPU that is alone.
 use Rattle.std.proofs.Common.{◌≡◌, ◌≢◌, ℕ, ◌<◌, ◌==◌, ◌&&◌, inl, inr, true≢false, Bool, true, false, IsTrue, List, [], Option, Some, None, is_some, refl, sym, ap, ◌∙◌, subst}
 use Rattle.std.specs.Option.{option_map_or}
-use Rattle.std.proofs.lemmas.Bool.{cases_eq, and_parts, eqb-true, lt-ltb}
+use Rattle.std.proofs.lemmas.Bool.{cases_eq, and_parts, eqb-true}
 use Rattle.gic_base.specs.declared.interrupt.Key.{Key}
 use Rattle.gic_base.specs.declared.shape.GuestShape.{GuestShape}
 use Rattle.gic_base.specs.Interrupt.{has_interrupt}
 use Rattle.gic_history.specs.Fresh.{Turn, changes_of, doing_of}
-use Rattle.ideal_guest.specs.Ideal.{irq_at, cpu_at}
 use Rattle.scn_base.specs.declared.guest.GuestSpec.{GuestSpec}
 use Rattle.scn_base.specs.Good.{IsGoodGuest}
-use Rattle.port_core.specs.declared.local.Local.{Local}
-use Rattle.port_core.specs.declared.word_id.WordId.TheVariants.{Irq as IrqWord, Vcpu}
 use Rattle.port_core.specs.Actor.{actor_count}
 use Rattle.port_core.specs.Run.{CoreState, opening, seat_at}
 use Rattle.core_proper.specs.Ideal.{end_of_moments}
@@ -18,18 +15,14 @@ use Rattle.core_proper.specs.Parts.{CoreMoment}
 use Rattle.core_proper.specs.Progress.{Progress, opening_progress, progress_in}
 use Rattle.core_proper.specs.Proper.{IsProperRun}
 use Rattle.core_proper.specs.Scan.{has_key}
-use Rattle.core_laws.specs.Related.{bare, but_lpis, is_folding}
-use Rattle.core_laws.proofs.CpuLemmas.{with_lpis}
 use Rattle.core_fresh.specs.Excuse.{followed_in, is_current, IsExcused}
 use Rattle.core_regs.specs.Followed.{Followed}
 use Rattle.core_fresh.specs.Index.{owes_kick}
 use Rattle.core_fresh.specs.Waiting.{record_in}
-use Rattle.core_regs.specs.Asks.{IsUnkicked}
-use Rattle.core_fresh.proofs.CopySteps.{copies_are_current}
 use Rattle.core_fresh.proofs.Frame.{IsAt, progress_on}
 use Rattle.core_fresh.proofs.WantRuns.{wants_are_kept}
 use Rattle.core_lone.specs.Lone.{IsAlone}
-use Rattle.core_lone.proofs.HereLemmas.{end_is, p_is, local_is, an_actor}
+use Rattle.core_lone.proofs.HereLemmas.{end_is, p_is}
 
 module _ (guest : GuestSpec) (number : ℕ) (moments : List CoreMoment) (vcpu : ℕ) (good : IsGoodGuest guest) (proper : IsProperRun guest number moments) (few : vcpu < guest.shape.vcpus) (alone : IsAlone guest number moments vcpu) where
   abbrev shape : GuestShape
@@ -69,19 +62,6 @@ module _ (guest : GuestSpec) (number : ℕ) (moments : List CoreMoment) (vcpu : 
           let both = and_parts (turn.actor == excused.actor) (is_current at.track turn) h in
           let same = eqb-true turn.actor excused.actor both.0 in
           differ (sym same ∙ nobody_else turn (subst (λ n. n < actor_count shape) (sym same) excused.there) both.1)
-
-  -- a word says what the ideal controller's record does
-  pub record_is : (key : Key) → IsTrue (has_interrupt shape key) → (record_in shape state key).holder ≡ None → bare (record_in shape state key) ≡ irq_at at.ideal.guest key
-  record_is key there none = (here.related.words (IrqWord key) there).home none
-
-  -- and the vCPU has the CPU record of that
-  pub cpu_is : IsUnkicked shape state vcpu → is_folding (p vcpu).local.phase ≡ false → cpu_at at.ideal.guest vcpu ≡ (p vcpu).local.cpu
-  cpu_is unkicked stays =
-      let ideal = cpu_at at.ideal.guest vcpu in
-      let own = (p vcpu).local.cpu in
-      let lpis : ideal.lpis ≡ own.lpis = here.related.words (Vcpu vcpu) (lt-ltb vcpu shape.vcpus few) ∙ sym (copies_are_current guest number moments vcpu good proper few unkicked stays) in
-      let rest : but_lpis ideal ≡ but_lpis own = (here.related.seats vcpu few).cpu.same ∙ ap (λ (l : Local). but_lpis l.cpu) (sym (local_is guest number moments good proper vcpu (an_actor guest number moments good proper vcpu few))) in
-      ap (with_lpis ideal.lpis) rest ∙ ap (λ b. with_lpis b own) lpis
 
   -- where no actor wants an interrupt, no access waits for one
   pub not_wanted : ((actor : ℕ) → actor < actor_count shape → (p actor).wants ≡ []) → (key : Key) → IsTrue (has_interrupt shape key) → (record_in shape state key).want ≡ false

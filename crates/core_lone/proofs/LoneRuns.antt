@@ -1,47 +1,23 @@
 -- An access of a vCPU that is alone finds all that is there for it.
-use Rattle.std.proofs.Common.{◌≡◌, ℕ, ◌<◌, ◌&&◌, ◌||◌, Bool, true, false, IsTrue, List, map, Option, Some, None, is_none, refl, sym, ap, ◌∙◌, subst}
-use Rattle.std.specs.Option.{option_map_or}
-use Rattle.std.proofs.lemmas.Bool.{and_parts, and_from, eqb-true}
+use Rattle.std.proofs.Common.{◌≡◌, ℕ, ◌<◌, Bool, true, false, IsTrue, List, Option, Some, refl}
 use Rattle.gic_base.specs.declared.icc.IccReg.{IccReg}
 use Rattle.gic_base.specs.declared.icc.IccReg.TheVariants.{Eoir0, Eoir1, Dir}
 use Rattle.gic_base.specs.declared.interrupt.Key.{Key}
 use Rattle.gic_base.specs.declared.shape.GuestShape.{GuestShape}
-use Rattle.gic_base.specs.Interrupt.{has_interrupt, intid_of}
+use Rattle.gic_base.specs.Interrupt.{has_interrupt}
 use Rattle.gic_history.specs.Fresh.{asks_first, comes_first, ended_by, is_far_active}
-use Rattle.gic_history.specs.State.{interface_at, shown_at, is_home, standing_at}
-use Rattle.gic_prio.specs.Delivery.{first_of, is_before, is_deliverable, is_group_enabled, takes_kind}
-use Rattle.gic_prio.specs.Interface.{InterfaceState, candidates_at}
-use Rattle.gic_word.specs.declared.record.Irq.{Irq}
-use Rattle.gic_word.specs.Record.{is_number, is_ripe}
-use Rattle.ideal_guest.specs.Ideal.{irq_at, cpu_at}
 use Rattle.ideal_guest.proofs.KeyLemmas.{key_there}
 use Rattle.gic_prio.specs.Signal.{intid_written}
 use Rattle.scn_base.specs.declared.guest.GuestSpec.{GuestSpec}
 use Rattle.scn_base.specs.Good.{IsGoodGuest}
-use Rattle.port_core.specs.declared.local.Local.{Local}
-use Rattle.port_core.specs.declared.local.Phase.{Phase}
-use Rattle.port_core.specs.declared.local.Phase.TheVariants.{Folding}
-use Rattle.port_core.specs.After.{interface_of, shown}
-use Rattle.port_core.specs.Condition.{is_ready}
-use Rattle.port_core.specs.Run.{CoreState, opening}
-use Rattle.core_proper.specs.Ideal.{end_of_moments}
 use Rattle.core_proper.specs.Parts.{CoreMoment}
-use Rattle.core_proper.specs.Progress.{Progress, opening_progress, progress_in}
 use Rattle.core_proper.specs.Proper.{IsProperRun}
-use Rattle.core_laws.specs.Related.{is_folding}
-use Rattle.core_laws.proofs.AccessLemmas.{shown_same}
 use Rattle.core_fresh.specs.Excuse.{followed_in}
 use Rattle.core_regs.specs.Followed.{Followed}
-use Rattle.core_fresh.specs.First.{MayAsk}
-use Rattle.core_fresh.specs.Index.{waits_for}
-use Rattle.core_fresh.specs.Waiting.{record_in}
-use Rattle.core_fresh.proofs.FarSteps.{far_ends_are_known}
-use Rattle.core_fresh.proofs.FirstRuns.{first_comes_first}
-use Rattle.core_fresh.proofs.Frame.{IsAt, progress_on}
 use Rattle.core_home.specs.UpToDate.{FindsAll}
 use Rattle.core_lone.specs.Lone.{IsAlone, IsReadyFor, LoneAccessesFindAll}
-use Rattle.core_lone.proofs.HereLemmas.{end_is, local_is, an_actor, nobody_holds}
-use Rattle.core_lone.proofs.LoneLemmas.{cpu_is, none_excused, not_wanted, record_is}
+use Rattle.core_lone.proofs.AskLemmas.{far_known, none_first}
+use Rattle.core_lone.proofs.LoneLemmas.{none_excused, not_wanted}
 
 -- an end names an interrupt of the guest
 pub ended_there : (shape : GuestShape) (vcpu : ℕ) (reg : IccReg) (write : Option ℕ) (key : Key) → ended_by shape vcpu reg write ≡ Some key → IsTrue (has_interrupt shape key)
@@ -50,102 +26,26 @@ ended_there shape vcpu Eoir1 (Some value) key e = key_there (intid_written value
 ended_there shape vcpu Dir (Some value) key e = key_there (intid_written value) vcpu shape key e
 ended_there shape vcpu reg write key e = absurd (cc)
 
-pub not_folding : (phase : Phase) → IsTrue (is_ready phase) → is_folding phase ≡ false
-not_folding phase h = of (is_folding phase) refl
-  where
-    of : (b : Bool) → is_folding phase ≡ b → b ≡ false
-    of false e = refl
-    of true e = absurd (clash phase e h)
-      where
-        clash : (p : Phase) → is_folding p ≡ true → IsTrue (is_ready p) → ⊥
-        clash Folding e h = cc
-        clash p e h = cc
-
 module _ (guest : GuestSpec) (number : ℕ) (moments : List CoreMoment) (vcpu : ℕ) (reg : IccReg) (write : Option ℕ) (good : IsGoodGuest guest) (proper : IsProperRun guest number moments) (few : vcpu < guest.shape.vcpus)
     (alone : IsAlone guest number moments vcpu) (ready : IsReadyFor guest number moments vcpu reg write) where
   abbrev shape : GuestShape
   shape = guest.shape
 
-  abbrev state : CoreState
-  state = end_of_moments guest.shape (opening guest number) moments
-
   abbrev at : Followed
   at = followed_in guest number moments
 
-  abbrev p : ℕ → Progress
-  p = progress_in guest number moments
-
-  here : IsAt shape state at (progress_on shape (opening_progress guest number) moments)
-  here = end_is guest number good moments proper
-
   -- What the access finds.
 
-  interface_is : cpu_at at.ideal.guest vcpu ≡ (p vcpu).local.cpu → interface_at at.ideal vcpu ≡ interface_of (p vcpu).local
-  interface_is cpu =
-      ap (λ c. let i : InterfaceState = record { cpu = c; at = map (shown_at at.ideal) (standing_at at.ideal vcpu) } in i) cpu
-      ∙ ap (λ list. let i : InterfaceState = record { cpu = (p vcpu).local.cpu; at = list } in i) (shown_same here.sound here.related vcpu few ∙ ap (λ (l : Local). map shown l.at) (sym (local_is guest number moments good proper vcpu (an_actor guest number moments good proper vcpu few))))
-
-  -- with the record and the interface that the core has
-  none_first : asks_first reg write ≡ true → (key : Key) → IsTrue (has_interrupt shape key) → (record_in shape state key).holder ≡ None → IsTrue (is_deliverable key (irq_at at.ideal.guest key) vcpu (cpu_at at.ideal.guest vcpu) shape)
-      → option_map_or (is_before (record { id = intid_of key; prio = (irq_at at.ideal.guest key).prio; group = (irq_at at.ideal.guest key).group })) (first_of (candidates_at (interface_at at.ideal vcpu))) true ≡ false
-  none_first asks key there none deliverable =
-      subst (λ (i : InterfaceState). option_map_or (is_before (record { id = intid_of key; prio = (irq_at at.ideal.guest key).prio; group = (irq_at at.ideal.guest key).group })) (first_of (candidates_at i)) true ≡ false) (sym (interface_is cpu))
-      (subst (λ (i : Irq). option_map_or (is_before (record { id = intid_of key; prio = i.prio; group = i.group })) (first_of (candidates_at (interface_of (p vcpu).local))) true ≡ false) (record_is guest number moments vcpu good proper few alone key there none)
-      (first_comes_first guest number moments vcpu key good proper few may (record { waiting = record { there = there; home = none; unwanted = unwanted; waits = waits }; told = none_excused guest number moments vcpu good proper few alone key }) deliverable_here))
-    where
-      may : MayAsk shape state vcpu (p vcpu)
-      may = (ready.first asks).asks
-
-      word : Irq
-      word = record_in shape state key
-
-      cpu : cpu_at at.ideal.guest vcpu ≡ (p vcpu).local.cpu
-      cpu = cpu_is guest number moments vcpu good proper few alone (ready.first asks).asks.unkicked (not_folding (p vcpu).local.phase (ready.first asks).asks.loaded.ready)
-
-      deliverable_here : IsTrue (is_deliverable key (record_in shape state key) vcpu (p vcpu).local.cpu shape)
-      deliverable_here = subst (λ (i : Irq). IsTrue (is_deliverable key i vcpu (p vcpu).local.cpu shape)) (sym (record_is guest number moments vcpu good proper few alone key there none)) (subst (λ c. IsTrue (is_deliverable key (irq_at at.ideal.guest key) vcpu c shape)) cpu deliverable)
-
-      waits : IsTrue (waits_for shape vcpu (record_in shape state key))
-      waits =
-          let parts = and_parts (is_ripe (record_in shape state key) vcpu shape && is_none (record_in shape state key).act_by && is_group_enabled (record_in shape state key).group (p vcpu).local.cpu) (takes_kind key (p vcpu).local.cpu) deliverable_here in
-          let two = and_parts (is_ripe (record_in shape state key) vcpu shape) (is_none (record_in shape state key).act_by) (and_parts (is_ripe (record_in shape state key) vcpu shape && is_none (record_in shape state key).act_by) (is_group_enabled (record_in shape state key).group (p vcpu).local.cpu) parts.0).0 in
-          ap (λ b. b || is_number vcpu (record_in shape state key).act_by) (and_from (is_none (record_in shape state key).act_by) (is_ripe (record_in shape state key) vcpu shape) two.1 two.0)
-
-      unwanted : (record_in shape state key).want ≡ false
-      unwanted = not_wanted guest number moments vcpu good proper few alone (ready.first asks).unwanted key there
-
   first_is : asks_first reg write ≡ true → (key : Key) → IsTrue (has_interrupt shape key) → comes_first at.ideal vcpu key ≡ false
-  first_is asks key there = of (comes_first at.ideal vcpu key) refl
-    where
-      irq : Irq
-      irq = irq_at at.ideal.guest key
-
-      before_it : Bool
-      before_it = option_map_or (is_before (record { id = intid_of key; prio = (irq_at at.ideal.guest key).prio; group = (irq_at at.ideal.guest key).group })) (first_of (candidates_at (interface_at at.ideal vcpu))) true
-
-      of : (b : Bool) → comes_first at.ideal vcpu key ≡ b → b ≡ false
-      of false e = refl
-      of true e =
-          let both = and_parts (is_home at.ideal key && is_deliverable key (irq_at at.ideal.guest key) vcpu (cpu_at at.ideal.guest vcpu) at.ideal.guest.shape) (option_map_or (is_before (record { id = intid_of key; prio = (irq_at at.ideal.guest key).prio; group = (irq_at at.ideal.guest key).group })) (first_of (candidates_at (interface_at at.ideal vcpu))) true) e in
-          let two = and_parts (is_home at.ideal key) (is_deliverable key (irq_at at.ideal.guest key) vcpu (cpu_at at.ideal.guest vcpu) at.ideal.guest.shape) both.0 in
-          sym both.1 ∙ none_first asks key there (nobody_holds guest number moments good proper key there two.0) (subst (λ (g : GuestShape). IsTrue (is_deliverable key (irq_at at.ideal.guest key) vcpu (cpu_at at.ideal.guest vcpu) g)) here.related.shape_is two.1)
+  first_is asks key there =
+      none_first guest number moments vcpu good proper few (ready.first asks).asks key there (none_excused guest number moments vcpu good proper few alone key) (not_wanted guest number moments vcpu good proper few alone (ready.first asks).unwanted key there)
 
   far_is : (key : Key) → ended_by shape vcpu reg write ≡ Some key → is_far_active at.ideal vcpu key ≡ false
   far_is key ends = of (is_far_active at.ideal vcpu key) refl
     where
-      there : IsTrue (has_interrupt shape key)
-      there = ended_there shape vcpu reg write key ends
-
-      active : (o : Option ℕ) → is_number vcpu o ≡ true → o ≡ Some vcpu
-      active None h = absurd (cc)
-      active (Some v) h = ap Some (eqb-true v vcpu h)
-
       of : (b : Bool) → is_far_active at.ideal vcpu key ≡ b → b ≡ false
       of false e = refl
-      of true e =
-          let both = and_parts (is_home at.ideal key) (is_number vcpu (irq_at at.ideal.guest key).act_by) e in
-          let none = nobody_holds guest number moments good proper key there both.0 in
-          absurd (none_excused guest number moments vcpu good proper few alone key (far_ends_are_known guest number moments vcpu key good proper few (ready.ends key ends none) none (ap (λ (i : Irq). i.act_by) (record_is guest number moments vcpu good proper few alone key there none) ∙ active (irq_at at.ideal.guest key).act_by both.1)))
+      of true e = absurd (none_excused guest number moments vcpu good proper few alone key (far_known guest number moments vcpu good proper few key (ended_there shape vcpu reg write key ends) (ready.ends key ends) e))
 
   pub finds : FindsAll shape at.ideal vcpu reg write
   finds = record { first = first_is; end = far_is }

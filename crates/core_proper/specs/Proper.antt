@@ -12,7 +12,7 @@ use Rattle.port_core.specs.declared.local.Local.{Local}
 use Rattle.port_core.specs.declared.local.Phase.{Phase}
 use Rattle.port_core.specs.declared.local.Phase.TheVariants.{Folding}
 use Rattle.port_core.specs.declared.step.CoreStep.{CoreStep}
-use Rattle.port_core.specs.declared.step.CoreStep.TheVariants.{Claim, Poll, Touch, Want, RamPut, CtlrTake, TurnTake, TakeIndex}
+use Rattle.port_core.specs.declared.step.CoreStep.TheVariants.{Claim, CommandDone, Poll, Touch, Want, RamPut, CtlrTake, TurnTake, TakeIndex}
 use Rattle.port_core.specs.Known.{known, known_view}
 use Rattle.port_core.specs.Local.{is_at, owes_nothing}
 use Rattle.port_core.specs.Actor.{actor_count}
@@ -80,14 +80,15 @@ gives_back phase = false
 abbrev pub ends_refill : Progress → Bool
 ends_refill p = is_empty p.local.at || (is_paid p.debt && not (gives_back p.local.phase))
 
--- The want: an actor asks only for an interrupt that its call names, and touches it before its part ends
-abbrev pub keeps_want : GuestShape → ℕ → Progress → CoreStep → Bool
-keeps_want shape actor p (Want key) = option_map_or (λ operation. names shape (known_view shape actor p.own) actor operation key) p.operation false
-keeps_want shape actor p step = true
-
+-- The want: an actor asks only for an interrupt that its call names, and touches it before its part ends, and before the command of the ITS that it is in ends
 abbrev pub wants_nothing : List Key → Bool
 wants_nothing [] = true
 wants_nothing (key ∷ keys) = false
+
+abbrev pub keeps_want : GuestShape → ℕ → Progress → CoreStep → Bool
+keeps_want shape actor p (Want key) = option_map_or (λ operation. names shape (known_view shape actor p.own) actor operation key) p.operation false
+keeps_want shape actor p (CommandDone offset stalled ending) = wants_nothing p.wants
+keeps_want shape actor p step = true
 
 -- The settled end: at the end of a part the actor owes no kick and no mark, has no candidate, and has neither the ITS nor the mark of GICD_CTLR
 abbrev pub is_settled : Local → Bool

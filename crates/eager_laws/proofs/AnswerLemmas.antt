@@ -187,5 +187,5 @@ eager_possible scenario good =
           let moments = history_of n scenario.steps (opening guest) in
           let is = eager_history scenario n guest good at in
           let opened : slice_get guests n ≡ Some (opening guest) = slice_get-map opening scenario.guests n ∙ ap (option_map opening) at in
-          record { moments = moments; is = is.is; calls = is.calls; ends = end_at guests closed n (opening guest) (home (last_of guest moments)) opened is.ends };
+          ∣ record { moments = moments; is = is.is; calls = is.calls; ends = end_at guests closed n (opening guest) (home (last_of guest moments)) opened is.ends } ∣₁;
     }

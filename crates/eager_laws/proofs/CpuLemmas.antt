@@ -196,11 +196,11 @@ module _ (guest : IdealGuest) (sound : IsSound guest) (vcpu : ℕ) (there : vcpu
         of true e = absurd (true≢false (sym (same_itself key) ∙ only_here guest.shape.vcpus vcpu (changed_irq key (λ before. (reached before).irq) guest) key key (reached (irq_at guest key)).entry e there))
         of false e = refl
 
-    acknowledge : (b : Bool) → asks_first reg write ≡ b → IsTrue (not b || list_all (λ k. not (comes_first first vcpu k) || is_excused first one vcpu k) (keys_in guest.shape))
-    acknowledge false e = refl
-    acknowledge true e =
-        all_keys guest.shape (λ k. not (comes_first first vcpu k) || is_excused first one vcpu k)
-        (λ place within. or_true (not (comes_first first vcpu (key_at guest.shape place))) (is_excused first one vcpu (key_at guest.shape place)) (ap not (ap (λ s. comes_first s vcpu (key_at guest.shape place)) reaches ∙ firsts e place within)))
+    acknowledge : (later : List Moment) (b : Bool) → asks_first reg write ≡ b → IsTrue (not b || list_all (λ k. not (comes_first first vcpu k) || is_excused later first one vcpu k) (keys_in guest.shape))
+    acknowledge later false e = refl
+    acknowledge later true e =
+        all_keys guest.shape (λ k. not (comes_first first vcpu k) || is_excused later first one vcpu k)
+        (λ place within. or_true (not (comes_first first vcpu (key_at guest.shape place))) (is_excused later first one vcpu (key_at guest.shape place)) (ap not (ap (λ s. comes_first s vcpu (key_at guest.shape place)) reaches ∙ firsts e place within)))
 
     ending : (o : Option Key) → ended_by guest.shape vcpu reg write ≡ o → IsTrue (option_map_or (λ k. not (is_far_active first vcpu k) || is_last_open guest.shape one vcpu k) o true)
     ending None e = refl
@@ -210,7 +210,7 @@ module _ (guest : IdealGuest) (sound : IsSound guest) (vcpu : ℕ) (there : vcpu
 
     now : IsFreshAt first one (Cpu vcpu reg write)
     now = record {
-      acknowledge = acknowledge (asks_first reg write) refl;
+      acknowledge = λ later. acknowledge later (asks_first reg write) refl;
       interface = ap (λ xs. list_all (λ (standing : Standing). list_all (is_open one vcpu) (changes_of guest.shape one standing.key).since) xs)
           (ap (λ s. standing_at s vcpu) reaches ∙ here_at guest.shape.vcpus vcpu there (changed_irq key (λ before. (reached before).irq) guest) ((record { key = key; entry = (reached (irq_at guest key)).entry }) ∷ []))
           ∙ ap (λ since. list_all (is_open one vcpu) since && true) (since_none guest.shape early key);
@@ -295,11 +295,11 @@ module _ (guest : IdealGuest) (vcpu : ℕ) (there : vcpu < guest.shape.vcpus) (r
       event_then vcpu (Cpu vcpu reg write) (handed_out (settled guest) (Cpu vcpu reg write)) (settled guest) early late now
       (rest (tracked (settled guest) (Happens vcpu (Cpu vcpu reg write) (handed_out (settled guest) (Cpu vcpu reg write))) early) (ap (λ xs. xs ++ left_behind (settled guest) early (Cpu vcpu reg write)) none ∙ unused_left early))
     where
-      acknowledge : (b : Bool) → asks_first reg write ≡ b → IsTrue (not b || list_all (λ k. not (comes_first (settled guest) vcpu k) || is_excused (settled guest) early vcpu k) (keys_in guest.shape))
-      acknowledge false e = refl
-      acknowledge true e =
-          all_keys guest.shape (λ k. not (comes_first (settled guest) vcpu k) || is_excused (settled guest) early vcpu k)
-          (λ place within. or_true (not (comes_first (settled guest) vcpu (key_at guest.shape place))) (is_excused (settled guest) early vcpu (key_at guest.shape place)) (ap not (firsts e place within)))
+      acknowledge : (later : List Moment) (b : Bool) → asks_first reg write ≡ b → IsTrue (not b || list_all (λ k. not (comes_first (settled guest) vcpu k) || is_excused later (settled guest) early vcpu k) (keys_in guest.shape))
+      acknowledge later false e = refl
+      acknowledge later true e =
+          all_keys guest.shape (λ k. not (comes_first (settled guest) vcpu k) || is_excused later (settled guest) early vcpu k)
+          (λ place within. or_true (not (comes_first (settled guest) vcpu (key_at guest.shape place))) (is_excused later (settled guest) early vcpu (key_at guest.shape place)) (ap not (firsts e place within)))
 
       ending : (o : Option Key) → ended_by guest.shape vcpu reg write ≡ o → IsTrue (option_map_or (λ k. not (is_far_active (settled guest) vcpu k) || is_last_open guest.shape early vcpu k) o true)
       ending None e = refl
@@ -313,7 +313,7 @@ module _ (guest : IdealGuest) (vcpu : ℕ) (there : vcpu < guest.shape.vcpus) (r
 
       now : IsFreshAt (settled guest) early (Cpu vcpu reg write)
       now = record {
-        acknowledge = acknowledge (asks_first reg write) refl;
+        acknowledge = λ later. acknowledge later (asks_first reg write) refl;
         interface = ap (λ xs. list_all (λ (standing : Standing). list_all (is_open early vcpu) (changes_of guest.shape early standing.key).since) xs) (nothing_at guest vcpu);
         end = ending (ended_by guest.shape vcpu reg write) refl;
       }

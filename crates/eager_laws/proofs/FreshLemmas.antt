@@ -14,20 +14,20 @@ use Rattle.gic_call.specs.declared.event.Operation.{Operation}
 use Rattle.ideal_guest.specs.declared.guest.IdealGuest.{IdealGuest}
 use Rattle.gic_history.specs.State.{Ideal}
 use Rattle.gic_history.specs.Moves.{handed_out, happened}
-use Rattle.gic_history.specs.Fresh.{Track, is_fresh_at_acknowledge, is_fresh_at_interface, is_fresh_at_end, has_left_all, after_changes, after_leaving, tracked, of_event, of_end, is_kept_from}
+use Rattle.gic_history.specs.Fresh.{Track, is_acknowledged_from, is_fresh_at_acknowledge, is_fresh_at_interface, is_fresh_at_end, has_left_all, after_changes, after_leaving, tracked, of_event, of_end, is_kept_from}
 use Rattle.eager_laws.specs.Moments.{settled, happenings, moment_of, call_moments}
 use Rattle.eager_laws.proofs.CourseLemmas.{state_after}
 
 -- moments from a state on keep the four clauses
 pub record IsFreshFrom (state : Ideal) (track : Track) (moments : List Moment) : Type 0 where
-  pub acknowledge : IsTrue (is_kept_from (of_event is_fresh_at_acknowledge) state track moments)
+  pub acknowledge : IsTrue (is_acknowledged_from state track moments)
   pub interface : IsTrue (is_kept_from (of_event is_fresh_at_interface) state track moments)
   pub end : IsTrue (is_kept_from (of_event is_fresh_at_end) state track moments)
   pub deactivation : IsTrue (is_kept_from of_end state track moments)
 
--- an event keeps the three that are of events
+-- an event keeps the three that are of events, whatever comes after it
 pub record IsFreshAt (state : Ideal) (track : Track) (event : Event) : Type 0 where
-  pub acknowledge : IsTrue (is_fresh_at_acknowledge state track event)
+  pub acknowledge : (later : List Moment) → IsTrue (is_fresh_at_acknowledge later state track event)
   pub interface : IsTrue (is_fresh_at_interface state track event)
   pub end : IsTrue (is_fresh_at_end state track event)
 
@@ -37,7 +37,7 @@ none_fresh state track = record { acknowledge = refl; interface = refl; end = re
 pub event_then : (actor : ℕ) (event : Event) (found : Found) (state : Ideal) (track : Track) (moments : List Moment) → IsFreshAt state track event → IsFreshFrom (happened actor event state) (tracked state (Happens actor event found) track) moments → IsFreshFrom state track (Happens actor event found ∷ moments)
 event_then actor event found state track moments now later =
     record {
-      acknowledge = and_from (is_fresh_at_acknowledge state track event) (is_kept_from (of_event is_fresh_at_acknowledge) (happened actor event state) (tracked state (Happens actor event found) track) moments) now.acknowledge later.acknowledge;
+      acknowledge = and_from (is_fresh_at_acknowledge moments state track event) (is_acknowledged_from (happened actor event state) (tracked state (Happens actor event found) track) moments) (now.acknowledge moments) later.acknowledge;
       interface = and_from (is_fresh_at_interface state track event) (is_kept_from (of_event is_fresh_at_interface) (happened actor event state) (tracked state (Happens actor event found) track) moments) now.interface later.interface;
       end = and_from (is_fresh_at_end state track event) (is_kept_from (of_event is_fresh_at_end) (happened actor event state) (tracked state (Happens actor event found) track) moments) now.end later.end;
       deactivation = later.deactivation;
@@ -61,22 +61,22 @@ is_no_access (Cpu vcpu reg write) = false
 is_no_access event = true
 
 pub quiet_event : (event : Event) (state : Ideal) (track : Track) → IsTrue (is_no_access event) → IsFreshAt state track event
-quiet_event (Raise key) state track h = record { acknowledge = refl; interface = refl; end = refl }
-quiet_event (Up key) state track h = record { acknowledge = refl; interface = refl; end = refl }
-quiet_event (Down key) state track h = record { acknowledge = refl; interface = refl; end = refl }
-quiet_event (Enable vcpu) state track h = record { acknowledge = refl; interface = refl; end = refl }
-quiet_event (Touch key touch) state track h = record { acknowledge = refl; interface = refl; end = refl }
-quiet_event (Reach key vcpu) state track h = record { acknowledge = refl; interface = refl; end = refl }
-quiet_event (Take key vcpu) state track h = record { acknowledge = refl; interface = refl; end = refl }
-quiet_event (Leave key vcpu) state track h = record { acknowledge = refl; interface = refl; end = refl }
+quiet_event (Raise key) state track h = record { acknowledge = λ later. refl; interface = refl; end = refl }
+quiet_event (Up key) state track h = record { acknowledge = λ later. refl; interface = refl; end = refl }
+quiet_event (Down key) state track h = record { acknowledge = λ later. refl; interface = refl; end = refl }
+quiet_event (Enable vcpu) state track h = record { acknowledge = λ later. refl; interface = refl; end = refl }
+quiet_event (Touch key touch) state track h = record { acknowledge = λ later. refl; interface = refl; end = refl }
+quiet_event (Reach key vcpu) state track h = record { acknowledge = λ later. refl; interface = refl; end = refl }
+quiet_event (Take key vcpu) state track h = record { acknowledge = λ later. refl; interface = refl; end = refl }
+quiet_event (Leave key vcpu) state track h = record { acknowledge = λ later. refl; interface = refl; end = refl }
 quiet_event (Cpu vcpu reg write) state track h = absurd (cc)
-quiet_event (Read place) state track h = record { acknowledge = refl; interface = refl; end = refl }
-quiet_event (Put word value) state track h = record { acknowledge = refl; interface = refl; end = refl }
-quiet_event (CtlrBegin enables) state track h = record { acknowledge = refl; interface = refl; end = refl }
-quiet_event CtlrEnd state track h = record { acknowledge = refl; interface = refl; end = refl }
-quiet_event ItsBegin state track h = record { acknowledge = refl; interface = refl; end = refl }
-quiet_event ItsEnd state track h = record { acknowledge = refl; interface = refl; end = refl }
-quiet_event (Queue offset change) state track h = record { acknowledge = refl; interface = refl; end = refl }
+quiet_event (Read place) state track h = record { acknowledge = λ later. refl; interface = refl; end = refl }
+quiet_event (Put word value) state track h = record { acknowledge = λ later. refl; interface = refl; end = refl }
+quiet_event (CtlrBegin enables) state track h = record { acknowledge = λ later. refl; interface = refl; end = refl }
+quiet_event CtlrEnd state track h = record { acknowledge = λ later. refl; interface = refl; end = refl }
+quiet_event ItsBegin state track h = record { acknowledge = λ later. refl; interface = refl; end = refl }
+quiet_event ItsEnd state track h = record { acknowledge = λ later. refl; interface = refl; end = refl }
+quiet_event (Queue offset change) state track h = record { acknowledge = λ later. refl; interface = refl; end = refl }
 
 -- nobody has to leave after it, where nobody had to before
 changes_leaving : (shape : GuestShape) (actor : ℕ) (event : Event) (track : Track) → (after_changes shape actor event track).leaving ≡ track.leaving

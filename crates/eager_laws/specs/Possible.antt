@@ -29,4 +29,4 @@ pub record IsPossibleOf (scenario : Scenario) (out : RunOut) (n : ℕ) (guest : 
 pub record IsPossible (scenario : Scenario) (out : RunOut) : Type 0 where
   pub answers : length out.answers ≡ length scenario.steps
   pub ends : length out.ends ≡ length scenario.guests
-  pub each : (n : ℕ) (guest : GuestSpec) → slice_get scenario.guests n ≡ Some guest → IsPossibleOf scenario out n guest
+  pub each : (n : ℕ) (guest : GuestSpec) → slice_get scenario.guests n ≡ Some guest → ∥ IsPossibleOf scenario out n guest ∥₁

@@ -44,8 +44,8 @@ use Rattle.core_home.proofs.ShowLemmas.{Where, home_cpu, is_home_so, nowhere, so
 use Rattle.core_home.proofs.StayEvents.{AllAsReached}
 use Rattle.core_home.proofs.StayRuns.{stand_so}
 use Rattle.core_lone.specs.Lone.{IsAlone}
-use Rattle.core_lone.proofs.HereLemmas.{end_is, nobody_holds}
-use Rattle.core_lone.proofs.LoneLemmas.{none_excused, not_wanted, record_is}
+use Rattle.core_lone.proofs.HereLemmas.{end_is, nobody_holds, record_is}
+use Rattle.core_lone.proofs.LoneLemmas.{none_excused, not_wanted}
 use Rattle.entry_laws.proofs.PlaceLemmas.{offer_as, offer_home}
 use Rattle.entry_laws.proofs.PlanLemmas.{Passes}
 
@@ -90,7 +90,7 @@ module _ (guest : GuestSpec) (number : ℕ) (moments : List CoreMoment) (vcpu : 
   pub seen_home : (key : Key) → IsTrue (has_interrupt guest.shape key) → (record_in guest.shape state key).holder ≡ None → is_home at.ideal key ≡ true → offer_in guest.shape state key ≡ offer_home back key
   seen_home key there free is =
       ap (offer_as key)
-      (bare_is (record_in shape state key) free (not_wanted guest number moments vcpu good proper few alone none key there) ∙ record_is guest number moments vcpu good proper few alone key there free ∙ sym (home_irq shape at.ideal tidy key there None (λ w. home_nowhere at.ideal key is w)))
+      (bare_is (record_in shape state key) free (not_wanted guest number moments vcpu good proper few alone none key there) ∙ record_is guest number moments good proper key there free ∙ sym (home_irq shape at.ideal tidy key there None (λ w. home_nowhere at.ideal key is w)))
 
   module _ (empty : (seat_at state vcpu).local.at ≡ []) where
     here : IsAt shape state at (progress_on shape (opening_progress guest number) moments)

@@ -41,8 +41,7 @@ use Rattle.core_fresh.proofs.ProgressLemmas.{far_on}
 use Rattle.core_fresh.proofs.RunFrame.{IsNextOf, end_more, progress_more}
 use Rattle.core_fresh.proofs.ScanSteps.{with_made}
 use Rattle.core_late.proofs.PollLemmas.{proper_so}
-use Rattle.core_lone.proofs.HereLemmas.{end_is, local_is}
-use Rattle.core_lone.proofs.LoneLemmas.{cpu_is}
+use Rattle.core_lone.proofs.HereLemmas.{cpu_is, end_is, local_is}
 use Rattle.serial_laws.specs.Serial.{WholePart, moment_by, piece_of}
 use Rattle.serial_laws.proofs.AlongRuns.{IsAlong, IsLonePart, NamesNone, alone, along_on, history_at, ideal_at, more, next_so, opens_along, p_at, p_on, proper_at, seat_on, so_far, state_at, state_so, there, unwanted, up_now}
 use Rattle.serial_laws.proofs.SerialRuns.{ideal_next}
@@ -177,7 +176,7 @@ module _ (guest : GuestSpec) (number : ℕ) (early : List CoreMoment) (part : Wh
     pub ready_at : IsUnkicked shape (state_at guest number early part pre) v → IsScanning (p_at guest number early part pre).local → IsReady shape back (state_at guest number early part pre) at.track v (p_at guest number early part pre).local
     ready_at free is = subst (λ g. IsReady shape g (state_at guest number early part pre) at.track v (p_at guest number early part pre).local) home_now (record {
       cpu =
-          sym (cpu_is guest number (so_far early part pre) v lone.good run lone.few (alone guest number early part lone pre late e along mine) free is.stays)
+          sym (cpu_is guest number (so_far early part pre) lone.good run v lone.few free is.stays)
           ∙ sym (ap (λ (g : IdealGuest). cpu_at g v) (home_rest at.ideal));
       shown =
           shown_due guest number (so_far early part pre) v lone.good run (history_at guest number early part lone pre late e) lone.few (up_now guest number early part lone pre late e along) (alone guest number early part lone pre late e along mine)

@@ -12,7 +12,7 @@ use Rattle.gic_call.specs.View.{View}
 use Rattle.gic_history.specs.State.{opening, view_at}
 use Rattle.gic_history.specs.History.{Course, GoesOn, IsHistory, opening_course, last_of}
 use Rattle.gic_history.specs.Laws.{IsFreshHistory, WorkedHistoriesAreFresh, EachClauseRefuses, WhatIsNotAllowed, EachLpiHasItsPlace}
-use Rattle.gic_history.specs.Worked.{worked_guest, message, wire_up, reach, leave, reads, ends, writes, takes_over, ends_and_leaves, leaves_and_ends, served, preempted, withdrawn, migrated, refilled, take, begins_message, ends_message, repeated, returned, in_flight, overlooked, outdated, unended, kept, pending_irq}
+use Rattle.gic_history.specs.Worked.{worked_guest, message, wire_up, reach, leave, reads, ends, writes, takes_over, ends_and_leaves, leaves_and_ends, served, preempted, withdrawn, migrated, refilled, take, begins_message, ends_message, repeated, returned, in_flight, begins_clear, clears, awaited, overlooked, outdated, unended, kept, pending_irq}
 use Rattle.gic_history.proofs.CallLemmas.{call_ended, hands_one, goes_on}
 
 -- where the worked histories begin
@@ -137,6 +137,15 @@ in_flight_is =
     let four : GoesOn from (begins_message ++ reads 0 Iar1 1023 ++ ends_message ++ reach 0 40) = goes_on from (begins_message ++ reads 0 Iar1 1023 ++ ends_message) (reach 0 40) three (((omega arith, refl), (record { within = refl; can = (refl, omega arith); allowed = refl; hands = refl }, (call_ended worked_guest.shape 0 _ None refl (λ id. refl) (refl, refl), tt)))) in
     goes_on from (begins_message ++ reads 0 Iar1 1023 ++ ends_message ++ reach 0 40) (reads 0 Iar1 40) four (((omega arith, refl), (record { within = refl; can = (omega arith, refl); allowed = refl; hands = refl }, (call_ended worked_guest.shape 0 _ (Some 40) refl (λ id. refl) (record { view = opened; made = record { events_are = refl; found = hands_one opened (Cpu 0 Iar1 None) (Answer (Some 40)) ((Some 40), refl); reads = All-nil _ }; answers = (0, omega arith, refl) }), tt))))
 
+awaited_is : IsHistory worked_guest awaited
+unfolding least_in with_level without_level
+awaited_is =
+    let pending : View = view_at (last_of worked_guest (message 40)) in
+    let one : GoesOn from (message 40) = ((omega arith, refl), (record { within = refl; can = refl; allowed = refl; hands = refl }, (call_ended worked_guest.shape 2 _ None refl (λ id. refl) (record { view = opened; maps = refl; made = record { events_are = refl; found = hands_one opened (Raise (Spi 40)) Nothing refl; reads = All-nil _ }; answers = refl }), tt))) in
+    let two : GoesOn from (message 40 ++ begins_clear) = goes_on from (message 40) (begins_clear) one ((omega arith, refl), tt) in
+    let three : GoesOn from (message 40 ++ begins_clear ++ reads 0 Iar1 1023) = goes_on from (message 40 ++ begins_clear) (reads 0 Iar1 1023) two (((omega arith, refl), (record { within = refl; can = (omega arith, refl); allowed = refl; hands = refl }, (call_ended worked_guest.shape 0 _ (Some 1023) refl (λ id. refl) (record { view = opened; made = record { events_are = refl; found = hands_one opened (Cpu 0 Iar1 None) (Answer (Some 1023)) ((Some 1023), refl); reads = All-nil _ }; answers = (0, omega arith, refl) }), tt)))) in
+    goes_on from (message 40 ++ begins_clear ++ reads 0 Iar1 1023) clears three ((record { within = refl; can = record { there = refl; fits = refl }; allowed = refl; hands = refl }, (call_ended worked_guest.shape 1 _ None refl (λ id. refl) (record { view = pending; targets = refl; made = record { events_are = refl; found = hands_one pending (Touch (Spi 40) (Register ClearPending 1)) (Record pending_irq) refl; reads = All-nil _ }; answers = refl }), tt)))
+
 served_fresh : IsFreshHistory served
 unfolding least_in with_level without_level
 served_fresh = record { history = served_is; fresh = record { acknowledge = refl; interface = refl; end = refl; deactivation = refl } }
@@ -169,8 +178,12 @@ in_flight_fresh : IsFreshHistory in_flight
 unfolding least_in with_level without_level
 in_flight_fresh = record { history = in_flight_is; fresh = record { acknowledge = refl; interface = refl; end = refl; deactivation = refl } }
 
+awaited_fresh : IsFreshHistory awaited
+unfolding least_in with_level without_level
+awaited_fresh = record { history = awaited_is; fresh = record { acknowledge = refl; interface = refl; end = refl; deactivation = refl } }
+
 pub worked : WorkedHistoriesAreFresh
-worked = record { served = served_fresh; preempted = preempted_fresh; withdrawn = withdrawn_fresh; migrated = migrated_fresh; refilled = refilled_fresh; repeated = repeated_fresh; returned = returned_fresh; in_flight = in_flight_fresh }
+worked = record { served = served_fresh; preempted = preempted_fresh; withdrawn = withdrawn_fresh; migrated = migrated_fresh; refilled = refilled_fresh; repeated = repeated_fresh; returned = returned_fresh; in_flight = in_flight_fresh; awaited = awaited_fresh }
 
 pub refused : EachClauseRefuses
 unfolding least_in with_level without_level

@@ -1,5 +1,5 @@
 -- Fresh histories: a change reaches a CPU interface no later than its call ends (own choice; the architecture asks for finite time).
-use Rattle.std.specs.Prelude.{ℕ, ◌+◌, ◌&&◌, ◌||◌, ◌==◌, not, Bool, true, false, IsTrue, List, [], ◌∷◌, ◌++◌, map, fold, filter, filter_map, length, nat_lt, replicate, Option, Some, None, is_some, slice_index_or, slice_set, if◌then◌else◌}
+use Rattle.std.specs.Prelude.{ℕ, ◌+◌, ◌&&◌, ◌||◌, ◌==◌, not, Bool, true, false, IsTrue, List, [], ◌∷◌, ◌++◌, map, fold, filter, replicate, Option, Some, None, is_some, slice_index_or, slice_set, if◌then◌else◌}
 use Rattle.std.specs.List.{list_all, list_any, range_with_len}
 use Rattle.std.specs.Option.{option_map_or, option_and_then}
 use Rattle.gic_base.specs.declared.icc.IccReg.{IccReg}
@@ -19,10 +19,10 @@ use Rattle.gic_call.specs.declared.event.Moment.TheVariants.{Begin, Happens, End
 use Rattle.gic_call.specs.declared.event.Operation.{Operation}
 use Rattle.scn_base.specs.declared.guest.GuestSpec.{GuestSpec}
 use Rattle.ideal_guest.specs.Ideal.{irq_at, cpu_at}
-use Rattle.gic_history.specs.State.{Ideal, opening, standing_at, moved_at, is_home, interface_at, view_at}
+use Rattle.gic_history.specs.State.{Ideal, opening, standing_at, moved_at, is_home, interface_at}
 use Rattle.gic_history.specs.Moves.{happened}
 use Rattle.gic_history.specs.History.{actor_count}
-use Rattle.gic_history.specs.Named.{key_in, named_by}
+use Rattle.gic_history.specs.Named.{key_in}
 
 -- Calls and changes.
 
@@ -70,20 +70,26 @@ abbrev pub is_open : Track → ℕ → Turn → Bool
 is_open track vcpu turn =
     let doing = doing_of track turn.actor in not (turn.actor == vcpu) && is_some doing.operation && doing.number == turn.number
 
-abbrev pub times : Key → List Key → ℕ
-times key keys = length (filter (is_same_key key) keys)
+-- an event is of an interrupt, of those that a call makes
+abbrev pub is_event_of : Key → Event → Bool
+is_event_of key event = option_map_or (is_same_key key) (key_in event) false
 
--- an actor's call names an interrupt, and did not make all its events of it
-abbrev pub has_left : Ideal → ℕ → Doing → Key → Bool
-has_left state actor doing key =
-    option_map_or (λ operation. nat_lt (times key doing.done) (times key (filter_map key_in (named_by state.guest.shape (view_at state) actor operation)))) doing.operation false
+-- a command ends with it, or what a call does before the next command
+abbrev pub ends_turn : Event → Bool
+ends_turn (Queue offset change) = true
+ends_turn event = false
 
--- an open call names it and has not done all for it
-abbrev pub is_pending_in : Ideal → Track → ℕ → Key → ℕ → Bool
-is_pending_in state track vcpu key actor = not (actor == vcpu) && has_left state actor (doing_of track actor) key
+-- further on in a history an actor makes an event of an interrupt in the call, or the command of one, that it is in
+abbrev pub is_to_come : ℕ → Key → List Moment → Bool
+is_to_come actor key [] = false
+is_to_come actor key (Begin other operation ∷ moments) = not (other == actor) && is_to_come actor key moments
+is_to_come actor key (Happens other event found ∷ moments) =
+    if other == actor then is_event_of key event || (not (ends_turn event) && is_to_come actor key moments) else is_to_come actor key moments
+is_to_come actor key (End other answer ∷ moments) = not (other == actor) && is_to_come actor key moments
 
-abbrev pub is_named_open : Ideal → Track → ℕ → Key → Bool
-is_named_open state track vcpu key = list_any (is_pending_in state track vcpu key) (range_with_len 0 (actor_count state.guest.shape))
+-- an open call of another actor names it and has not done all for it: it has an event of it still to make
+abbrev pub is_awaited : GuestShape → List Moment → ℕ → Key → Bool
+is_awaited shape later vcpu key = list_any (λ actor. not (actor == vcpu) && is_to_come actor key later) (range_with_len 0 (actor_count shape))
 
 -- its last change was made in an open call
 abbrev pub is_last_open : GuestShape → Track → ℕ → Key → Bool
@@ -105,16 +111,17 @@ comes_first state vcpu key =
     is_home state key && is_deliverable key irq vcpu (cpu_at state.guest vcpu) state.guest.shape
     && option_map_or (is_before (record { id = intid_of key; prio = irq.prio; group = irq.group })) (first_of (candidates_at (interface_at state vcpu))) true
 
-abbrev pub is_excused : Ideal → Track → ℕ → Key → Bool
-is_excused state track vcpu key = is_last_open state.guest.shape track vcpu key || is_named_open state track vcpu key
+abbrev pub is_excused : List Moment → Ideal → Track → ℕ → Key → Bool
+is_excused later state track vcpu key = is_last_open state.guest.shape track vcpu key || is_awaited state.guest.shape later vcpu key
 
 abbrev pub keys_in : GuestShape → List Key
 keys_in shape = map (key_at shape) (range_with_len 0 (interrupt_count shape))
 
-abbrev pub is_fresh_at_acknowledge : Ideal → Track → Event → Bool
-is_fresh_at_acknowledge state track (Cpu vcpu reg write) =
-    not (asks_first reg write) || list_all (λ key. not (comes_first state vcpu key) || is_excused state track vcpu key) (keys_in state.guest.shape)
-is_fresh_at_acknowledge state track event = true
+-- (the moments are those that come after the access)
+abbrev pub is_fresh_at_acknowledge : List Moment → Ideal → Track → Event → Bool
+is_fresh_at_acknowledge later state track (Cpu vcpu reg write) =
+    not (asks_first reg write) || list_all (λ key. not (comes_first state vcpu key) || is_excused later state track vcpu key) (keys_in state.guest.shape)
+is_fresh_at_acknowledge later state track event = true
 
 -- at the interface: at each access, each change of what stands there, since it got there, was made in an open call
 abbrev pub is_fresh_at_interface : Ideal → Track → Event → Bool
@@ -217,9 +224,18 @@ is_kept_from clause state track (moment ∷ moments) =
 abbrev pub is_kept : (Ideal → Track → Moment → Bool) → GuestSpec → List Moment → Bool
 is_kept clause guest moments = is_kept_from clause (opening guest) (opening_track guest.shape) moments
 
--- a history of a guest is fresh
+-- the first clause goes by what is still to come, so it is asked of each event with the rest of the history
+abbrev pub is_acknowledged_from : Ideal → Track → List Moment → Bool
+is_acknowledged_from state track [] = true
+is_acknowledged_from state track (moment ∷ moments) =
+    of_event (is_fresh_at_acknowledge moments) state track moment && is_acknowledged_from (after_moment state moment) (tracked state moment track) moments
+
+abbrev pub is_acknowledged : GuestSpec → List Moment → Bool
+is_acknowledged guest moments = is_acknowledged_from (opening guest) (opening_track guest.shape) moments
+
+-- a history of a guest is fresh: how far its calls got is told by the history itself, so it is asked of one in which all calls ended
 pub record IsFresh (guest : GuestSpec) (moments : List Moment) : Type 0 where
-  pub acknowledge : IsTrue (is_kept (of_event is_fresh_at_acknowledge) guest moments)
+  pub acknowledge : IsTrue (is_acknowledged guest moments)
   pub interface : IsTrue (is_kept (of_event is_fresh_at_interface) guest moments)
   pub end : IsTrue (is_kept (of_event is_fresh_at_end) guest moments)
   pub deactivation : IsTrue (is_kept of_end guest moments)

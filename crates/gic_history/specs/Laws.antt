@@ -1,7 +1,7 @@
 -- Laws of worked histories: the definitions say of them what a reader expects.
 use Rattle.std.specs.Prelude.{◌≡◌, ◌++◌, Bool, true, false, List, [], ◌∷◌, Some, None, option_map}
 use Rattle.gic_call.specs.declared.event.Moment.{Moment}
-use Rattle.gic_history.specs.Fresh.{IsFresh, is_kept, of_event, of_end, is_fresh_at_acknowledge, is_fresh_at_interface, is_fresh_at_end}
+use Rattle.gic_history.specs.Fresh.{IsFresh, is_acknowledged, is_kept, of_event, of_end, is_fresh_at_interface, is_fresh_at_end}
 use Rattle.gic_base.specs.declared.interrupt.Key.TheVariants.{Spi}
 use Rattle.gic_base.specs.declared.operation.Kind.TheVariants.{ClearPending}
 use Rattle.gic_call.specs.declared.event.Event.TheVariants.{Touch, Reach, Take, Leave, Queue, ItsBegin, ItsEnd, CtlrEnd}
@@ -10,7 +10,7 @@ use Rattle.gic_call.specs.declared.touch.Touching.TheVariants.{Register}
 use Rattle.gic_history.specs.History.{IsHistory, last_of, call_of, course_of, opening_course}
 use Rattle.gic_history.specs.Moves.{is_allowed, happened}
 use Rattle.gic_history.specs.State.{opening}
-use Rattle.gic_history.specs.Worked.{worked_guest, served, preempted, withdrawn, message, wire_up, reach, migrated, refilled, repeated, returned, in_flight, overlooked, outdated, unended, kept, lpi_guest, passed_by}
+use Rattle.gic_history.specs.Worked.{worked_guest, served, preempted, withdrawn, message, wire_up, reach, migrated, refilled, repeated, returned, in_flight, awaited, overlooked, outdated, unended, kept, lpi_guest, passed_by}
 
 -- moments are a fresh history of the worked guest
 pub record IsFreshHistory (moments : List Moment) : Type 0 where
@@ -18,7 +18,8 @@ pub record IsFreshHistory (moments : List Moment) : Type 0 where
   pub fresh : IsFresh worked_guest moments
 
 -- a message that is served, one of a higher priority over it, one that is withdrawn, one that is routed to another vCPU, a level interrupt whose wire stays up,
--- a message that comes twice, one whose interrupt leaves an interface and gets there again, and one whose call is open at an acknowledge
+-- a message that comes twice, one whose interrupt leaves an interface and gets there again, one whose call is open at an acknowledge, and one that a call which is open then
+-- is still to clear
 pub record WorkedHistoriesAreFresh : Type 0 where
   pub served : IsFreshHistory served
   pub preempted : IsFreshHistory preempted
@@ -28,11 +29,12 @@ pub record WorkedHistoriesAreFresh : Type 0 where
   pub repeated : IsFreshHistory repeated
   pub returned : IsFreshHistory returned
   pub in_flight : IsFreshHistory in_flight
+  pub awaited : IsFreshHistory awaited
 
 -- which of the four clauses of fresh moments of the worked guest keep
 abbrev pub kept_clauses : List Moment → List Bool
 kept_clauses moments =
-    is_kept (of_event is_fresh_at_acknowledge) worked_guest moments
+    is_acknowledged worked_guest moments
     ∷ is_kept (of_event is_fresh_at_interface) worked_guest moments
     ∷ is_kept (of_event is_fresh_at_end) worked_guest moments
     ∷ is_kept of_end worked_guest moments

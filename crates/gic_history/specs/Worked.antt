@@ -150,6 +150,16 @@ ends_message = End 2 None ∷ []
 abbrev pub in_flight : List Moment
 in_flight = begins_message ++ reads 0 Iar1 1023 ++ ends_message ++ reach 0 40 ++ reads 0 Iar1 40
 
+-- an acknowledge finds nothing while the call of another vCPU is open that is still to clear the interrupt, whose message ended before
+abbrev pub begins_clear : List Moment
+begins_clear = Begin 1 (Access (Mem Dist 0x48 4 (Some 40))) ∷ []
+
+abbrev pub clears : List Moment
+clears = Happens 1 (Touch (Spi 40) (Register ClearPending 1)) (Record pending_irq) ∷ End 1 None ∷ []
+
+abbrev pub awaited : List Moment
+awaited = message 40 ++ begins_clear ++ reads 0 Iar1 1023 ++ clears
+
 -- Histories that are not.
 
 -- an acknowledge finds nothing after the call of a message ended

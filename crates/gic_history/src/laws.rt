@@ -1,7 +1,7 @@
 //! Laws of worked histories.
 ghost use Rattle.gic_history.specs.Laws.{WorkedHistoriesAreFresh, EachClauseRefuses, WhatIsNotAllowed, EachLpiHasItsPlace};
 
-/// A law of eight worked histories of a guest with two vCPUs: they are histories, and fresh.
+/// A law of nine worked histories of a guest with two vCPUs: they are histories, and fresh.
 #[tactic(auto, using(crate::proofs::WorkedLemmas::worked))]
 pub fn worked_histories_are_fresh()
     ensures { WorkedHistoriesAreFresh }

@@ -2,6 +2,7 @@
 use Rattle.std.specs.Prelude.{◌≡◌, ℕ, ◌+◌, ◌<◌, ◌≤◌, ◌⊎◌, List, [], ◌∷◌, ◌++◌, length, codes, IsUtf8, Option, Some, None, IfSome, OnSome, IsSome, Ok, Err}
 use Rattle.serde_json.specs.Data.{Data}
 use Rattle.serde_json.specs.Read.{read}
+use Rattle.eager_laws.specs.Possible.{IsPossible}
 use Rattle.gic_io.specs.Faults.{HasRisen}
 use Rattle.gic_io.specs.Sink.{Grew, GrewByPrefix}
 use Rattle.gic_io.specs.Source.{HasReadCount, HasReadAtMost}
@@ -13,7 +14,6 @@ use Rattle.scn_base.specs.declared.fault.Fault.{Fault}
 use Rattle.scn_read.specs.Reading.{reading}
 use Rattle.scn_base.specs.Shown.{fault_text}
 use Rattle.gic_ideal.specs.Eager.{eager}
-use Rattle.run_thr.specs.History.{IsOneHistory}
 use Rattle.gic_soak.specs.Generated.{generated}
 use Rattle.gic_report.specs.Text.{text, newline}
 use Rattle.gic_report.specs.Soak.{soak_line}
@@ -41,10 +41,10 @@ pub record SpellsFault (mode : Mode) (bytes : List ℕ) (fault : Fault) : Type 0
   pub spelled : Spells bytes value
   pub fault_is : reading mode value ≡ Err fault
 
--- what a run may answer: where steps are done in order, what the ideal controller answers; on threads, what it answers in a history that holds each actor's steps in order
+-- what a run may answer: where steps are done in order, what the ideal controller answers; on threads, what it answers in a fresh history that holds each actor's steps in order
 abbrev pub MayAnswer : Mode → Scenario → RunOut → Type 0
 MayAnswer Schedule scenario out = out ≡ eager scenario
-MayAnswer OnThreads scenario out = IsOneHistory scenario out
+MayAnswer OnThreads scenario out = IsPossible scenario out
 
 -- the line of the run, by the ideal controller, of the scenario that a number stands for
 abbrev pub soak_text : ℕ → ℕ → List ℕ

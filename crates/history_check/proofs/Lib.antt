@@ -1,3 +1,4 @@
+pub mod ExcuseLemmas
 pub mod ReadyLemmas
 pub mod ShownLemmas
 pub mod TrackLemmas

@@ -1,5 +1,5 @@
 //! Three of the clauses of fresh: at the interface, at an end of interrupt, and at the end of a call. The fourth, at an
-//! acknowledge, asks besides what an open call has not done yet.
+//! acknowledge, asks besides what an open call has still to do.
 ghost use Rattle.std.specs.Prelude.{◌≡◌, ◌<◌, ◌==◌, [], ◌∷◌, IsTrue, IfSome, Some, None, false, fold};
 ghost use Rattle.std.specs.List.{list_all, list_any};
 ghost use Rattle.std.specs.Option.{option_map_or};

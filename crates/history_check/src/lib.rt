@@ -1,9 +1,11 @@
-//! A plain program that checks histories of the ideal controller: its state while interrupts stand at CPU interfaces, and
-//! which events are allowed there.
+//! A plain program that checks histories of the ideal controller: its state while interrupts stand at CPU interfaces, which
+//! events are allowed there, and the clauses of fresh.
 #![tactic(auto)]
 
 mod access;
 mod allowed;
+mod coming;
+mod excuse;
 mod fresh;
 mod happen;
 mod history;
@@ -13,6 +15,8 @@ mod standing;
 mod state;
 mod track;
 
+pub use coming::{is_awaited, is_to_come, key_in};
+pub use excuse::{asks_first, comes_first, is_fresh_at_acknowledge};
 pub use standing::Standing;
 pub use state::State;
 pub use track::{Changes, Doing, Leaving, Track, Turn};

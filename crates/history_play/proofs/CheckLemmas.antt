@@ -1,8 +1,8 @@
 -- A history that was played so far, and one more moment.
-use Rattle.std.proofs.Common.{◌≡◌, ℕ, ◌+◌, ◌<◌, zero, suc, Bool, IsTrue, List, [], ◌∷◌, ◌++◌, length, replicate, take, get_or, Option, Some, None, is_some, IsTrue, refl, sym, ap, ◌∙◌, subst, arith, slice_index_or, slice_get, nat_le}
+use Rattle.std.proofs.Common.{◌≡◌, ℕ, ◌+◌, ◌<◌, ◌≤◌, zero, suc, Bool, IsTrue, List, [], ◌∷◌, ◌++◌, length, replicate, take, drop, drop_of_length-le, get_or, Option, Some, None, is_some, IsTrue, refl, sym, ap, ◌∙◌, subst, arith, slice_index_or, slice_get, nat_le}
 use Rattle.std.specs.List.{list_all}
 use Rattle.std.proofs.lemmas.Bool.{and_from}
-use Rattle.std.proofs.lemmas.List.{length-replicate}
+use Rattle.std.proofs.lemmas.List.{length-replicate, take_more, take_all, drop_more}
 use Rattle.gic_base.specs.Interrupt.{interrupt_count}
 use Rattle.gic_base.specs.declared.shape.GuestShape.{GuestShape}
 use Rattle.gic_call.specs.declared.event.Moment.{Moment}
@@ -12,23 +12,22 @@ use Rattle.gic_history.specs.State.{Ideal, opening}
 use Rattle.gic_history.specs.History.{Call, Course, actor_count, opening_course, gone_on}
 use Rattle.gic_history.specs.Fresh.{Doing, Track, opening_track, tracked, after_moment, IsFresh}
 use Rattle.history_check.specs.Ready.{IsReady}
-use Rattle.history_named.specs.Asked.{is_asked_by}
-use Rattle.history_play.specs.Coming.{AreOne, IsFine, IsCause, CanFollow}
+use Rattle.history_play.specs.Coming.{AreOne, IsFine, IsCause}
 use Rattle.history_play.specs.Kept.{IsKept}
-use Rattle.history_play.specs.Played.{IsAllowed, course_at, track_at, IsRefused}
+use Rattle.history_play.specs.Played.{IsAllowed, course_at, track_at, IsFreshBefore, IsRefused}
 use Rattle.history_play.specs.declared.verdict.Cause.{Cause}
-use Rattle.history_play.proofs.CourseLemmas.{goes_on, shape_kept, kept_more, is_asked_in}
-use Rattle.history_play.proofs.PlayedLemmas.{course_more, track_more, allowed_more, fresh_more}
+use Rattle.history_play.proofs.CourseLemmas.{goes_on, shape_kept, kept_more}
+use Rattle.history_play.proofs.PlayedLemmas.{course_more, track_more, allowed_more, fresh_more, all_fresh}
 
--- so many moments were played, to this state and this track
-pub record IsPlayed (guest : GuestSpec) (moments : List Moment) (number : ℕ) (state : Ideal) (track : Track) : Type 0 where
+-- so many moments were played, to this state and this track, and others come after them
+pub record IsPlayed (guest : GuestSpec) (moments later : List Moment) (number : ℕ) (state : Ideal) (track : Track) : Type 0 where
   pub ready : IsReady state
   pub kept : IsKept state.guest.shape number track
   pub state_is : (course_at guest moments).ideal ≡ state
   pub track_is : track_at guest moments ≡ track
   pub one : AreOne (course_at guest moments) track
   pub allowed : IsAllowed guest moments
-  pub fresh : IsFresh guest moments
+  pub fresh : IsFreshBefore guest moments later
 
 -- Before the first moment.
 
@@ -47,7 +46,6 @@ opening_kept shape =
       followed = record {
         places = record { changes = length-replicate (interrupt_count shape) _ };
         actors = length-replicate (actor_count shape) _;
-        asked = all_replicate (is_asked_by shape) (actor_count shape) (record { operation = None; number = 0; done = [] }) refl;
       };
       numbers = all_replicate (λ doing. nat_le doing.number 0) (actor_count shape) (record { operation = None; number = 0; done = [] }) refl;
     }
@@ -59,10 +57,10 @@ opening_one guest =
       calls = λ j. none_called (actor_count guest.shape) j;
     }
 
-pub opened : (guest : GuestSpec) (state : Ideal) (track : Track) → IsReady state → state ≡ opening guest → track ≡ opening_track guest.shape → IsPlayed guest [] 0 state track
-opened guest state track ready is tracks =
-    subst (λ t. IsPlayed guest [] 0 state t) (sym tracks)
-    (subst (λ s. IsPlayed guest [] 0 s (opening_track guest.shape)) (sym is)
+pub opened : (guest : GuestSpec) (later : List Moment) (state : Ideal) (track : Track) → IsReady state → state ≡ opening guest → track ≡ opening_track guest.shape → IsPlayed guest [] later 0 state track
+opened guest later state track ready is tracks =
+    subst (λ t. IsPlayed guest [] later 0 state t) (sym tracks)
+    (subst (λ s. IsPlayed guest [] later 0 s (opening_track guest.shape)) (sym is)
     (record {
       ready = subst IsReady is ready;
       kept = opening_kept guest.shape;
@@ -80,42 +78,56 @@ gone_ideal course (Begin actor operation) = refl
 gone_ideal course (Happens actor event found) = refl
 gone_ideal course (End actor answer) = refl
 
-asked_of : (state : Ideal) (moment : Moment) → CanFollow state moment → IsTrue (is_asked_in state.guest.shape moment)
-asked_of state (Begin actor operation) can = can.1
-asked_of state (Happens actor event found) can = refl
-asked_of state (End actor answer) can = refl
-
 -- from the course and the track themselves
-more : (guest : GuestSpec) (moments : List Moment) (number : ℕ) (moment : Moment) → IsPlayed guest moments number (course_at guest moments).ideal (track_at guest moments) → IsFine (course_at guest moments) (track_at guest moments) moment → CanFollow (course_at guest moments).ideal moment
+more : (guest : GuestSpec) (moments later : List Moment) (number : ℕ) (moment : Moment) → IsPlayed guest moments (moment ∷ later) number (course_at guest moments).ideal (track_at guest moments) → IsFine (course_at guest moments) (track_at guest moments) moment later
     → IsReady (after_moment (course_at guest moments).ideal moment)
-    → IsPlayed guest (moments ++ moment ∷ []) (number + 1) (after_moment (course_at guest moments).ideal moment) (tracked (course_at guest moments).ideal moment (track_at guest moments))
-more guest moments number moment so fine can ready =
+    → IsPlayed guest (moments ++ moment ∷ []) later (number + 1) (after_moment (course_at guest moments).ideal moment) (tracked (course_at guest moments).ideal moment (track_at guest moments))
+more guest moments later number moment so fine ready =
     let course = course_at guest moments in
     let track = track_at guest moments in
     record {
       ready = ready;
-      kept = subst (λ shape. IsKept shape (number + 1) (tracked course.ideal moment track)) (sym (shape_kept course.ideal moment)) (kept_more course.ideal number track moment so.kept (asked_of course.ideal moment can));
+      kept = subst (λ shape. IsKept shape (number + 1) (tracked course.ideal moment track)) (sym (shape_kept course.ideal moment)) (kept_more course.ideal number track moment so.kept);
       state_is = ap (λ (c : Course). c.ideal) (course_more (opening_course guest) moments moment) ∙ gone_ideal course moment;
       track_is = track_more guest moments moment;
       one = subst (λ c. AreOne c (tracked course.ideal moment track)) (sym (course_more (opening_course guest) moments moment)) (goes_on course track moment so.one);
-      allowed = allowed_more guest moments moment so.allowed fine;
-      fresh = fresh_more guest moments moment so.fresh fine;
+      allowed = allowed_more guest moments moment so.allowed fine.coming;
+      fresh = fresh_more guest moments later moment so.fresh fine;
     }
 
 -- the same where only the state and the track are known to be theirs
-pub goes : (guest : GuestSpec) (moments : List Moment) (number : ℕ) (moment : Moment) (state state' : Ideal) (track track' : Track) → IsPlayed guest moments number state track
-    → ((course : Course) → course.ideal ≡ state → AreOne course track → IsFine course track moment) → CanFollow state moment
-    → IsReady state' → state' ≡ after_moment state moment → track' ≡ tracked state moment track → IsPlayed guest (moments ++ moment ∷ []) (number + 1) state' track'
-goes guest moments number moment state state' track track' so fine can ready is tracks =
+pub goes : (guest : GuestSpec) (moments later : List Moment) (number : ℕ) (moment : Moment) (state state' : Ideal) (track track' : Track) → IsPlayed guest moments (moment ∷ later) number state track
+    → ((course : Course) → course.ideal ≡ state → AreOne course track → IsFine course track moment later)
+    → IsReady state' → state' ≡ after_moment state moment → track' ≡ tracked state moment track → IsPlayed guest (moments ++ moment ∷ []) later (number + 1) state' track'
+goes guest moments later number moment state state' track track' so fine ready is tracks =
     let course = course_at guest moments in
     let own = track_at guest moments in
-    let played : IsPlayed guest moments number course.ideal own = subst (λ s. IsPlayed guest moments number s own) (sym so.state_is) (subst (λ t. IsPlayed guest moments number state t) (sym so.track_is) so) in
-    let good : IsFine course own moment = subst (λ t. IsFine course t moment) (sym so.track_is) (fine course so.state_is so.one) in
-    let may : CanFollow course.ideal moment = subst (λ s. CanFollow s moment) (sym so.state_is) can in
+    let played : IsPlayed guest moments (moment ∷ later) number course.ideal own =
+    subst (λ s. IsPlayed guest moments (moment ∷ later) number s own) (sym so.state_is) (subst (λ t. IsPlayed guest moments (moment ∷ later) number state t) (sym so.track_is) so) in
+    let good : IsFine course own moment later = subst (λ t. IsFine course t moment later) (sym so.track_is) (fine course so.state_is so.one) in
     let there : IsReady (after_moment course.ideal moment) = subst (λ s. IsReady (after_moment s moment)) (sym so.state_is) (subst IsReady is ready) in
-    let next = more guest moments number moment played good may there in
-    subst (λ s. IsPlayed guest (moments ++ moment ∷ []) (number + 1) s track') (ap (λ s. after_moment s moment) so.state_is ∙ sym is)
-    (subst (λ t. IsPlayed guest (moments ++ moment ∷ []) (number + 1) (after_moment course.ideal moment) t) (ap (λ s. tracked s moment own) so.state_is ∙ ap (λ t. tracked state moment t) so.track_is ∙ sym tracks) next)
+    let next = more guest moments later number moment played good there in
+    subst (λ s. IsPlayed guest (moments ++ moment ∷ []) later (number + 1) s track') (ap (λ s. after_moment s moment) so.state_is ∙ sym is)
+    (subst (λ t. IsPlayed guest (moments ++ moment ∷ []) later (number + 1) (after_moment course.ideal moment) t) (ap (λ s. tracked s moment own) so.state_is ∙ ap (λ t. tracked state moment t) so.track_is ∙ sym tracks) next)
+
+-- the same of a list, by an index
+pub goes_in : (guest : GuestSpec) (moments later : List Moment) (number : ℕ) (moment : Moment) (state state' : Ideal) (track track' : Track) → number < length moments → later ≡ drop (number + 1) moments
+    → IsPlayed guest (take number moments) (drop number moments) number state track
+    → ((course : Course) → course.ideal ≡ state → AreOne course track → IsFine course track (get_or moments number moment) later)
+    → IsReady state' → state' ≡ after_moment state (get_or moments number moment) → track' ≡ tracked state (get_or moments number moment) track → IsPlayed guest (take (number + 1) moments) (drop (number + 1) moments) (number + 1) state' track'
+goes_in guest moments later number moment state state' track track' within rest so fine ready is tracks =
+    let one = get_or moments number moment in
+    let first : IsPlayed guest (take number moments) (one ∷ later) number state track =
+    subst (λ ms. IsPlayed guest (take number moments) ms number state track) (drop_more moments number moment within ∙ ap (λ ms. one ∷ ms) (sym rest)) so in
+    subst (λ ms. IsPlayed guest (take (number + 1) moments) ms (number + 1) state' track') rest
+    (subst (λ ms. IsPlayed guest ms later (number + 1) state' track') (sym (take_more moments number moment within))
+    (goes guest (take number moments) later number one state state' track track' first fine ready is tracks))
+
+-- all were played
+pub plays_all : (guest : GuestSpec) (moments : List Moment) (number : ℕ) (state : Ideal) (track : Track) → length moments ≤ number → IsPlayed guest (take number moments) (drop number moments) number state track → IsFresh guest moments
+plays_all guest moments number state track all so =
+    let whole : IsFreshBefore guest moments (drop number moments) = subst (λ ms. IsFreshBefore guest ms (drop number moments)) (take_all number moments all) so.fresh in
+    all_fresh guest moments (subst (λ ms. IsFreshBefore guest moments ms) (drop_of_length-le moments all) whole)
 
 -- The first that does not go on.
 
@@ -124,14 +136,15 @@ there_at [] i d h = absurd (omega (arith, h))
 there_at (x ∷ xs) zero d h = refl
 there_at (x ∷ xs) (suc i) d h = there_at xs i d (omega (arith, h))
 
-pub refuses : (guest : GuestSpec) (moments : List Moment) (number : ℕ) (moment : Moment) (cause : Cause) (state : Ideal) (track : Track) → number < length moments → slice_get moments number ≡ Some moment → IsPlayed guest (take number moments) number state track
-    → ((course : Course) → course.ideal ≡ state → AreOne course track → IsCause cause course track moment) → IsRefused guest moments (record { moment = number; cause = cause })
-refuses guest moments number moment cause state track within there so why =
+pub refuses : (guest : GuestSpec) (moments later : List Moment) (number : ℕ) (moment : Moment) (cause : Cause) (state : Ideal) (track : Track) → number < length moments → later ≡ drop (number + 1) moments → slice_get moments number ≡ Some moment → IsPlayed guest (take number moments) (drop number moments) number state track
+    → ((course : Course) → course.ideal ≡ state → AreOne course track → IsCause cause course track moment later) → IsRefused guest moments (record { moment = number; cause = cause })
+refuses guest moments later number moment cause state track within rest there so why =
     record {
       within = within;
       allowed = so.allowed;
       fresh = so.fresh;
       moment = moment;
       there = there;
-      cause = subst (λ t. IsCause cause (course_at guest (take number moments)) t moment) (sym so.track_is) (why (course_at guest (take number moments)) so.state_is so.one);
+      cause = subst (λ ms. IsCause cause (course_at guest (take number moments)) (track_at guest (take number moments)) moment ms) rest
+          (subst (λ t. IsCause cause (course_at guest (take number moments)) t moment later) (sym so.track_is) (why (course_at guest (take number moments)) so.state_is so.one));
     }

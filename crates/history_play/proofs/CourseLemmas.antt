@@ -19,7 +19,6 @@ use Rattle.gic_history.specs.Moves.{happened, with_entry, without}
 use Rattle.gic_history.specs.History.{Call, Course, call_of, seeing, made, gone_on}
 use Rattle.gic_history.specs.Fresh.{Doing, Track, Changes, doing_of, after_changes, after_leaving, after_doing, tracked, after_moment}
 use Rattle.gic_call.specs.declared.event.Operation.{Operation}
-use Rattle.history_named.specs.Asked.{is_asked, is_asked_by}
 use Rattle.history_check.proofs.ReadyLemmas.{all_set}
 use Rattle.history_check.proofs.TrackLemmas.{past_end}
 use Rattle.history_check.specs.Track.{doing_in}
@@ -218,45 +217,32 @@ number_at n [] i all = omega arith
 number_at n (x ∷ doings) zero all = nat_le_more x.number n (and_parts (nat_le x.number n) (list_all (λ doing. nat_le doing.number n) doings) all).0
 number_at n (x ∷ doings) (suc i) all = number_at n doings i (and_parts (nat_le x.number n) (list_all (λ doing. nat_le doing.number n) doings) all).1
 
-asked_at : (shape : GuestShape) (doings : List Doing) (i : ℕ) → IsTrue (list_all (is_asked_by shape) doings) → IsTrue (is_asked_by shape (slice_index_or doings i (record { operation = None; number = 0; done = [] })))
-asked_at shape [] i all = refl
-asked_at shape (x ∷ doings) zero all = (and_parts (is_asked_by shape x) (list_all (is_asked_by shape) doings) all).0
-asked_at shape (x ∷ doings) (suc i) all = asked_at shape doings i (and_parts (is_asked_by shape x) (list_all (is_asked_by shape) doings) all).1
-
 -- an actor does something else
-kept_doing : (shape : GuestShape) (n : ℕ) (track : Track) (actor : ℕ) (doing : Doing) (changes : List Changes) (leaving : List (ℕ × Key)) → IsKept shape n track → length changes ≡ length track.changes → IsTrue (is_asked_by shape doing) → doing.number ≤ n + 1
+kept_doing : (shape : GuestShape) (n : ℕ) (track : Track) (actor : ℕ) (doing : Doing) (changes : List Changes) (leaving : List (ℕ × Key)) → IsKept shape n track → length changes ≡ length track.changes → doing.number ≤ n + 1
     → IsKept shape (n + 1) (record { doings = slice_set track.doings actor doing; changes = changes; leaving = leaving })
-kept_doing shape n track actor doing changes leaving kept len asked number =
+kept_doing shape n track actor doing changes leaving kept len number =
     record {
       followed = record {
         places = record { changes = len ∙ kept.followed.places.changes };
         actors = length-set track.doings actor doing ∙ kept.followed.actors;
-        asked = all_set (is_asked_by shape) track.doings actor doing kept.followed.asked asked;
       };
       numbers = all_set (λ doing. nat_le doing.number (n + 1)) track.doings actor doing (numbers_more n track.doings kept.numbers) (to_nat_le doing.number (n + 1) number);
     }
 
--- what has to hold of a moment for that: a call begins for such an operation
-abbrev pub is_asked_in : GuestShape → Moment → Bool
-is_asked_in shape (Begin actor operation) = is_asked shape operation
-is_asked_in shape moment = true
-
-pub kept_more : (state : Ideal) (n : ℕ) (track : Track) (moment : Moment) → IsKept state.guest.shape n track → IsTrue (is_asked_in state.guest.shape moment) → IsKept state.guest.shape (n + 1) (tracked state moment track)
-kept_more state n track (Begin actor operation) kept asked =
+pub kept_more : (state : Ideal) (n : ℕ) (track : Track) (moment : Moment) → IsKept state.guest.shape n track → IsKept state.guest.shape (n + 1) (tracked state moment track)
+kept_more state n track (Begin actor operation) kept =
     let at = number_at n track.doings actor kept.numbers in
-    kept_doing state.guest.shape n track actor (record { operation = Some operation; number = (doing_of track actor).number + 1; done = [] }) track.changes track.leaving kept refl asked (omega arith)
-kept_more state n track (End actor answer) kept asked =
+    kept_doing state.guest.shape n track actor (record { operation = Some operation; number = (doing_of track actor).number + 1; done = [] }) track.changes track.leaving kept refl (omega arith)
+kept_more state n track (End actor answer) kept =
     let at = number_at n track.doings actor kept.numbers in
-    kept_doing state.guest.shape n track actor (record (doing_of track actor) { operation = None }) track.changes track.leaving kept refl refl (omega arith)
-kept_more state n track (Happens actor event found) kept asked =
+    kept_doing state.guest.shape n track actor (record (doing_of track actor) { operation = None }) track.changes track.leaving kept refl (omega arith)
+kept_more state n track (Happens actor event found) kept =
     let shape = state.guest.shape in
     let after = after_leaving state event (after_changes shape actor event track) in
     let doing = after_doing actor event (doing_of track actor) in
     let number = number_same actor n event (doing_of track actor) (number_at n track.doings actor kept.numbers) in
-    let same = operation_same actor event (doing_of track actor) in
-    let operation = subst (λ (o : Option Operation). IsTrue (option_map_or (is_asked shape) o true)) (sym same) (asked_at shape track.doings actor kept.followed.asked) in
     subst (λ (ds : List Doing). IsKept shape (n + 1) (record { doings = slice_set ds actor doing; changes = after.changes; leaving = after.leaving })) (sym (doings_same state shape actor event track))
-    (kept_doing shape n track actor doing after.changes after.leaving kept (changes_same state shape actor event track) operation number)
+    (kept_doing shape n track actor doing after.changes after.leaving kept (changes_same state shape actor event track) number)
 
 -- an actor that is none is in no call
 pub none_busy : (doings : List Doing) (actor : ℕ) → nat_lt actor (length doings) ≡ false → false ≡ is_some (doing_in doings actor).operation

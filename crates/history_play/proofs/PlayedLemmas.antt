@@ -1,14 +1,15 @@
 -- A history with one more moment.
-use Rattle.std.proofs.Common.{◌≡◌, Bool, true, IsTrue, List, [], ◌∷◌, ◌++◌, refl, Option, None, Some, is_some}
+use Rattle.std.proofs.Common.{◌≡◌, Bool, true, IsTrue, List, [], ◌∷◌, ◌++◌, refl, subst, sym, Option, None, Some, is_some}
 use Rattle.std.proofs.lemmas.Bool.{and_parts, and_from}
+use Rattle.std.proofs.lemmas.List.{append_assoc, append-nil}
 use Rattle.gic_call.specs.declared.event.Moment.{Moment}
 use Rattle.gic_call.specs.declared.event.Moment.TheVariants.{Begin, Happens, End}
 use Rattle.scn_base.specs.declared.guest.GuestSpec.{GuestSpec}
-use Rattle.gic_history.specs.State.{Ideal}
+use Rattle.gic_history.specs.State.{Ideal, opening}
 use Rattle.gic_history.specs.History.{Call, Course, opening_course, call_of, gone_on, course_of, IsCallEnded, IsNext, GoesOn}
-use Rattle.gic_history.specs.Fresh.{Track, opening_track, tracked, after_moment, of_event, of_end, is_fresh_at_acknowledge, is_fresh_at_interface, is_fresh_at_end, is_kept_from, IsFresh}
+use Rattle.gic_history.specs.Fresh.{Track, opening_track, tracked, after_moment, of_event, of_end, is_fresh_at_acknowledge, is_fresh_at_interface, is_fresh_at_end, is_kept_from, is_acknowledged_from, IsFresh}
 use Rattle.history_play.specs.Coming.{IsComing, IsFine}
-use Rattle.history_play.specs.Played.{GoesOnFreely, IsAllowed, course_at, track_from, track_at}
+use Rattle.history_play.specs.Played.{GoesOnFreely, IsAllowed, course_at, track_from, track_at, is_acknowledged_before, IsFreshBefore}
 
 pub course_more : (course : Course) (moments : List Moment) (moment : Moment) → course_of course (moments ++ moment ∷ []) ≡ gone_on (course_of course moments) moment
 course_more course [] moment = refl
@@ -39,19 +40,52 @@ kept_more_from clause course track (End actor answer ∷ moments) moment so here
     let parts = and_parts (clause course.ideal track m) (is_kept_from clause course.ideal (tracked course.ideal m track) moments) so in
     and_from (clause course.ideal track m) (is_kept_from clause course.ideal (tracked course.ideal m track) (moments ++ moment ∷ [])) parts.0 (kept_more_from clause (gone_on course m) (tracked course.ideal m track) moments moment parts.1 here)
 
+-- the first clause: what comes after one of the moments stays the same
+before_more :
+    (course : Course) (track : Track) (moments later : List Moment) (moment : Moment) → IsTrue (is_acknowledged_before course.ideal track moments (moment ∷ later)) → IsTrue (of_event (is_fresh_at_acknowledge later) (course_of course moments).ideal (track_from course.ideal track moments) moment)
+    → IsTrue (is_acknowledged_before course.ideal track (moments ++ moment ∷ []) later)
+before_more course track [] later moment so here = and_from (of_event (is_fresh_at_acknowledge later) course.ideal track moment) true here refl
+before_more course track (Begin actor operation ∷ moments) later moment so here = before_more (gone_on course (Begin actor operation)) (tracked course.ideal (Begin actor operation) track) moments later moment so here
+before_more course track (Happens actor event found ∷ moments) later moment so here =
+    let m = Happens actor event found in
+    let after = after_moment course.ideal m in
+    let parts = and_parts (is_fresh_at_acknowledge (moments ++ moment ∷ later) course.ideal track event) (is_acknowledged_before after (tracked course.ideal m track) moments (moment ∷ later)) so in
+    let first : IsTrue (is_fresh_at_acknowledge ((moments ++ moment ∷ []) ++ later) course.ideal track event) = subst (λ ms. IsTrue (is_fresh_at_acknowledge ms course.ideal track event)) (sym (append_assoc moments (moment ∷ []) later)) parts.0 in
+    and_from (is_fresh_at_acknowledge ((moments ++ moment ∷ []) ++ later) course.ideal track event) (is_acknowledged_before after (tracked course.ideal m track) (moments ++ moment ∷ []) later) first
+    (before_more (gone_on course m) (tracked course.ideal m track) moments later moment parts.1 here)
+before_more course track (End actor answer ∷ moments) later moment so here = before_more (gone_on course (End actor answer)) (tracked course.ideal (End actor answer) track) moments later moment so here
+
+-- where nothing comes after them it is the clause of all
+before_none : (state : Ideal) (track : Track) (moments : List Moment) → IsTrue (is_acknowledged_before state track moments []) → IsTrue (is_acknowledged_from state track moments)
+before_none state track [] so = refl
+before_none state track (moment ∷ moments) so =
+    let after = after_moment state moment in
+    let parts = and_parts (of_event (is_fresh_at_acknowledge (moments ++ [])) state track moment) (is_acknowledged_before after (tracked state moment track) moments []) so in
+    let first : IsTrue (of_event (is_fresh_at_acknowledge moments) state track moment) = subst (λ ms. IsTrue (of_event (is_fresh_at_acknowledge ms) state track moment)) (append-nil moments) parts.0 in
+    and_from (of_event (is_fresh_at_acknowledge moments) state track moment) (is_acknowledged_from after (tracked state moment track) moments) first (before_none after (tracked state moment track) moments parts.1)
+
 pub track_more : (guest : GuestSpec) (moments : List Moment) (moment : Moment) → track_at guest (moments ++ moment ∷ []) ≡ tracked (course_at guest moments).ideal moment (track_at guest moments)
 track_more guest moments moment = track_more_from (opening_course guest) (opening_track guest.shape) moments moment
 
-pub allowed_more : (guest : GuestSpec) (moments : List Moment) (moment : Moment) → IsAllowed guest moments → IsFine (course_at guest moments) (track_at guest moments) moment → IsAllowed guest (moments ++ moment ∷ [])
-allowed_more guest moments moment so fine = goes_more (opening_course guest) moments moment so fine.coming
+pub allowed_more : (guest : GuestSpec) (moments : List Moment) (moment : Moment) → IsAllowed guest moments → IsComing (course_at guest moments) moment → IsAllowed guest (moments ++ moment ∷ [])
+allowed_more guest moments moment so coming = goes_more (opening_course guest) moments moment so coming
 
-pub fresh_more : (guest : GuestSpec) (moments : List Moment) (moment : Moment) → IsFresh guest moments → IsFine (course_at guest moments) (track_at guest moments) moment → IsFresh guest (moments ++ moment ∷ [])
-fresh_more guest moments moment so fine =
+pub fresh_more : (guest : GuestSpec) (moments later : List Moment) (moment : Moment) → IsFreshBefore guest moments (moment ∷ later) → IsFine (course_at guest moments) (track_at guest moments) moment later → IsFreshBefore guest (moments ++ moment ∷ []) later
+fresh_more guest moments later moment so fine =
     record {
-      acknowledge = kept_more_from (of_event is_fresh_at_acknowledge) (opening_course guest) (opening_track guest.shape) moments moment so.acknowledge fine.acknowledge;
+      acknowledge = before_more (opening_course guest) (opening_track guest.shape) moments later moment so.acknowledge fine.acknowledge;
       interface = kept_more_from (of_event is_fresh_at_interface) (opening_course guest) (opening_track guest.shape) moments moment so.interface fine.interface;
       end = kept_more_from (of_event is_fresh_at_end) (opening_course guest) (opening_track guest.shape) moments moment so.end fine.end;
       deactivation = kept_more_from of_end (opening_course guest) (opening_track guest.shape) moments moment so.deactivation fine.deactivation;
+    }
+
+pub all_fresh : (guest : GuestSpec) (moments : List Moment) → IsFreshBefore guest moments [] → IsFresh guest moments
+all_fresh guest moments so =
+    record {
+      acknowledge = before_none (opening guest) (opening_track guest.shape) moments so.acknowledge;
+      interface = so.interface;
+      end = so.end;
+      deactivation = so.deactivation;
     }
 
 -- Histories.

@@ -1,5 +1,5 @@
 -- Which moment may come next in a history, and why one may not.
-use Rattle.std.specs.Prelude.{◌≡◌, ℕ, ◌<◌, not, Bool, true, false, IsTrue, is_some, length}
+use Rattle.std.specs.Prelude.{◌≡◌, ℕ, ◌<◌, Bool, true, false, IsTrue, List, is_some, length}
 use Rattle.its_cmd.specs.Command.{decoded}
 use Rattle.its_tab.specs.Fault.{fault_number}
 use Rattle.gic_call.specs.declared.event.Event.{Event}
@@ -11,7 +11,6 @@ use Rattle.gic_call.specs.Valid.{CanHappen}
 use Rattle.gic_history.specs.State.{Ideal}
 use Rattle.gic_history.specs.History.{Course, actor_count, call_of, IsNext}
 use Rattle.gic_history.specs.Fresh.{Track, doing_of, is_fresh_at_acknowledge, is_fresh_at_interface, is_fresh_at_end, of_event, of_end}
-use Rattle.history_named.specs.Asked.{is_asked}
 use Rattle.history_play.specs.declared.verdict.Cause.{Cause}
 use Rattle.history_play.specs.declared.verdict.Cause.TheVariants.{Unknown, Forbidden, Acknowledge, Interface, End, Deactivation}
 
@@ -20,39 +19,38 @@ abbrev pub IsComing : Course → Moment → Type 0
 IsComing course (EndOfCall actor answer) = IsTrue (is_some (call_of course actor))
 IsComing course moment = IsNext course moment
 
--- the program does not know a moment: its operation is none that a guest can be asked for, or it is the end of a command that has a fault
+-- the program does not know a moment: it is the end of a command that has a fault
 abbrev pub is_unknown : Ideal → Moment → Bool
-is_unknown state (Begin actor operation) = not (is_asked state.guest.shape operation)
 is_unknown state (Happens actor (Queue offset (Done words)) found) = is_some (fault_number state.guest.shape state.guest.tables (decoded words))
 is_unknown state moment = false
 
--- why a moment does not come next in a fresh history
-abbrev pub IsCause : Cause → Course → Track → Moment → Type 0
-IsCause Unknown course track moment = IsTrue (is_unknown course.ideal moment)
-IsCause Forbidden course track moment = IsComing course moment → ⊥
-IsCause Acknowledge course track moment = of_event is_fresh_at_acknowledge course.ideal track moment ≡ false
-IsCause Interface course track moment = of_event is_fresh_at_interface course.ideal track moment ≡ false
-IsCause End course track moment = of_event is_fresh_at_end course.ideal track moment ≡ false
-IsCause Deactivation course track moment = of_end course.ideal track moment ≡ false
+-- why a moment does not come next in a fresh history, where these come after it
+abbrev pub IsCause : Cause → Course → Track → Moment → List Moment → Type 0
+IsCause Unknown course track moment later = IsTrue (is_unknown course.ideal moment)
+IsCause Forbidden course track moment later = IsComing course moment → ⊥
+IsCause Acknowledge course track moment later = of_event (is_fresh_at_acknowledge later) course.ideal track moment ≡ false
+IsCause Interface course track moment later = of_event is_fresh_at_interface course.ideal track moment ≡ false
+IsCause End course track moment later = of_event is_fresh_at_end course.ideal track moment ≡ false
+IsCause Deactivation course track moment later = of_end course.ideal track moment ≡ false
 
--- an event is fresh: each clause of fresh holds of it, but for that of ends of calls
-pub record IsEventFresh (state : Ideal) (track : Track) (event : Event) : Type 0 where
-  pub acknowledge : is_fresh_at_acknowledge state track event ≡ true
+-- an event is fresh, where these moments come after it: each clause of fresh holds of it, but for that of ends of calls
+pub record IsEventFresh (state : Ideal) (track : Track) (event : Event) (later : List Moment) : Type 0 where
+  pub acknowledge : is_fresh_at_acknowledge later state track event ≡ true
   pub interface : is_fresh_at_interface state track event ≡ true
   pub end : is_fresh_at_end state track event ≡ true
 
 -- one of them does not
-abbrev pub IsStale : Cause → Ideal → Track → Event → Type 0
-IsStale Acknowledge state track event = is_fresh_at_acknowledge state track event ≡ false
-IsStale Interface state track event = is_fresh_at_interface state track event ≡ false
-IsStale End state track event = is_fresh_at_end state track event ≡ false
-IsStale cause state track event = ⊥
+abbrev pub IsStale : Cause → Ideal → Track → Event → List Moment → Type 0
+IsStale Acknowledge state track event later = is_fresh_at_acknowledge later state track event ≡ false
+IsStale Interface state track event later = is_fresh_at_interface state track event ≡ false
+IsStale End state track event later = is_fresh_at_end state track event ≡ false
+IsStale cause state track event later = ⊥
 
 -- it does
-pub record IsFine (course : Course) (track : Track) (moment : Moment) : Type 0 where
+pub record IsFine (course : Course) (track : Track) (moment : Moment) (later : List Moment) : Type 0 where
   pub known : is_unknown course.ideal moment ≡ false
   pub coming : IsComing course moment
-  pub acknowledge : IsTrue (of_event is_fresh_at_acknowledge course.ideal track moment)
+  pub acknowledge : IsTrue (of_event (is_fresh_at_acknowledge later) course.ideal track moment)
   pub interface : IsTrue (of_event is_fresh_at_interface course.ideal track moment)
   pub end : IsTrue (of_event is_fresh_at_end course.ideal track moment)
   pub deactivation : IsTrue (of_end course.ideal track moment)
@@ -64,6 +62,6 @@ pub record AreOne (course : Course) (track : Track) : Type 0 where
 
 -- a state can follow a moment: there is such an actor, the guest can have the event, and the program knows it
 abbrev pub CanFollow : Ideal → Moment → Type 0
-CanFollow state (Begin actor operation) = (actor < actor_count state.guest.shape) × IsTrue (is_asked state.guest.shape operation)
+CanFollow state (Begin actor operation) = actor < actor_count state.guest.shape
 CanFollow state (Happens actor event found) = (actor < actor_count state.guest.shape) × CanHappen state.guest.shape event × (is_unknown state (Happens actor event found) ≡ false)
 CanFollow state (EndOfCall actor answer) = actor < actor_count state.guest.shape

@@ -1,9 +1,15 @@
 -- What holds of each state and track that the program reaches.
-use Rattle.std.specs.Prelude.{ℕ, IsTrue, nat_le}
+use Rattle.std.specs.Prelude.{◌≡◌, ℕ, IsTrue, nat_le, length}
 use Rattle.std.specs.List.{list_all}
 use Rattle.gic_base.specs.declared.shape.GuestShape.{GuestShape}
+use Rattle.gic_history.specs.History.{actor_count}
 use Rattle.gic_history.specs.Fresh.{Track}
-use Rattle.history_named.specs.Asked.{IsFollowed}
+use Rattle.history_check.specs.Track.{HasPlaces}
+
+-- a track of a guest's history has a place for each interrupt and for each actor
+pub record IsFollowed (shape : GuestShape) (track : Track) : Type 0 where
+  pub places : HasPlaces shape track
+  pub actors : length track.doings ≡ actor_count shape
 
 -- after so many moments there are no more calls and commands of an actor
 pub record IsKept (shape : GuestShape) (moments : ℕ) (track : Track) : Type 0 where

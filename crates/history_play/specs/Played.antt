@@ -1,10 +1,10 @@
 -- The histories that the program plays.
-use Rattle.std.specs.Prelude.{◌<◌, List, [], ◌∷◌, length, take, slice_get, Some, ◌≡◌}
+use Rattle.std.specs.Prelude.{◌≡◌, ◌<◌, ◌+◌, ◌&&◌, Bool, true, IsTrue, List, [], ◌∷◌, ◌++◌, length, take, drop, slice_get, Some}
 use Rattle.gic_call.specs.declared.event.Moment.{Moment}
 use Rattle.scn_base.specs.declared.guest.GuestSpec.{GuestSpec}
 use Rattle.gic_history.specs.State.{Ideal, opening}
 use Rattle.gic_history.specs.History.{Course, opening_course, gone_on, course_of}
-use Rattle.gic_history.specs.Fresh.{Track, opening_track, tracked, after_moment, IsFresh}
+use Rattle.gic_history.specs.Fresh.{Track, opening_track, tracked, after_moment, is_fresh_at_acknowledge, is_fresh_at_interface, is_fresh_at_end, of_event, of_end, is_kept}
 use Rattle.history_play.specs.Coming.{IsComing, IsCause}
 use Rattle.history_play.specs.declared.whole.Refusal.{Refusal}
 
@@ -28,11 +28,24 @@ track_from state track (moment ∷ moments) = track_from (after_moment state mom
 abbrev pub track_at : GuestSpec → List Moment → Track
 track_at guest moments = track_from (opening guest) (opening_track guest.shape) moments
 
+-- the first clause of fresh, of some moments after which others come
+abbrev pub is_acknowledged_before : Ideal → Track → List Moment → List Moment → Bool
+is_acknowledged_before state track [] later = true
+is_acknowledged_before state track (moment ∷ moments) later =
+    of_event (is_fresh_at_acknowledge (moments ++ later)) state track moment && is_acknowledged_before (after_moment state moment) (tracked state moment track) moments later
+
+-- moments are a fresh history of a guest, where others come after them
+pub record IsFreshBefore (guest : GuestSpec) (moments later : List Moment) : Type 0 where
+  pub acknowledge : IsTrue (is_acknowledged_before (opening guest) (opening_track guest.shape) moments later)
+  pub interface : IsTrue (is_kept (of_event is_fresh_at_interface) guest moments)
+  pub end : IsTrue (is_kept (of_event is_fresh_at_end) guest moments)
+  pub deactivation : IsTrue (is_kept of_end guest moments)
+
 -- the first moment that does not go on with a fresh history, and why: all before it do
 pub record IsRefused (guest : GuestSpec) (moments : List Moment) (refusal : Refusal) : Type 0 where
   pub within : refusal.moment < length moments
   pub allowed : IsAllowed guest (take refusal.moment moments)
-  pub fresh : IsFresh guest (take refusal.moment moments)
+  pub fresh : IsFreshBefore guest (take refusal.moment moments) (drop refusal.moment moments)
   pub moment : Moment
   pub there : slice_get moments refusal.moment ≡ Some moment
-  pub cause : IsCause refusal.cause (course_at guest (take refusal.moment moments)) (track_at guest (take refusal.moment moments)) moment
+  pub cause : IsCause refusal.cause (course_at guest (take refusal.moment moments)) (track_at guest (take refusal.moment moments)) moment (drop (refusal.moment + 1) moments)

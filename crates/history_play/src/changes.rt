@@ -9,8 +9,7 @@ ghost use Rattle.history_check.specs.Track.{HasPlaces};
 use gic_base::{GuestShape, Key, place_of};
 use gic_call::Event;
 use gic_list::ListOf;
-use history_check::{Changes, Track, Turn};
-use history_named::key_in;
+use history_check::{Changes, Track, Turn, key_in};
 use std::alloc::{AllocError, Global};
 
 /// The same call again.

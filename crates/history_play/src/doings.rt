@@ -5,8 +5,7 @@ ghost use Rattle.gic_history.specs.Fresh.{after_doing};
 use gic_base::Key;
 use gic_call::Event;
 use gic_list::ListOf;
-use history_check::Doing;
-use history_named::key_in;
+use history_check::{Doing, key_in};
 use std::alloc::{AllocError, Global};
 
 /// The same interrupts again.

@@ -1,26 +1,26 @@
 //! Whether a moment may come next in a history, and whether that is fresh then.
-ghost use Rattle.std.specs.Prelude.{◌≡◌, ℕ, ◌<◌, ◌↔◌, is_some, IfOk, IfSome, IfNone, IsTrue};
+ghost use Rattle.std.specs.Prelude.{◌≡◌, ℕ, ◌<◌, ◌↔◌, List, is_some, IfOk, IfSome, IfNone, IsTrue};
 ghost use Rattle.gic_call.specs.Valid.{CanHappen};
+ghost use Rattle.gic_call.specs.declared.event.Moment.{Moment};
 ghost use Rattle.gic_history.specs.History.{Course, IsHappening};
 ghost use Rattle.gic_history.specs.State.{Ideal};
 ghost use Rattle.gic_history.specs.Fresh.{doing_of};
 ghost use Rattle.history_check.specs.Ready.{IsReady};
 ghost use Rattle.history_check.specs.Track.{doing_in};
-ghost use Rattle.history_named.specs.Asked.{IsFollowed};
 ghost use Rattle.history_play.specs.Coming.{is_unknown, IsCause, IsFine, IsEventFresh, IsStale, AreOne, CanFollow};
+ghost use Rattle.history_play.specs.Kept.{IsFollowed};
 
 use crate::can::can_happen;
 use crate::found::is_same;
 use gic_base::IccReg;
 use gic_call::{Event, Found, Moment, Operation, QueueChange};
-use history_check::{Doing, State, Track};
-use history_named::{is_asked, is_fresh_at_acknowledge};
+use history_check::{Doing, State, Track, is_fresh_at_acknowledge};
 use std::alloc::{AllocError, Global};
 
 /// Why a moment does not come next in a fresh history.
 #[derive(Clone, Copy, Debug, PartialEq, Eq, Hash)]
 pub enum Cause {
-    /// This program does not know it: an operation that no guest can be asked for, or the end of a command with a fault.
+    /// This program does not know it: the end of a command with a fault.
     Unknown,
     /// It is not allowed: a call begins in another, ends or does something outside of one, or an event may not happen, or
     /// does not hand out what is there.
@@ -54,24 +54,23 @@ fn is_within(track: &Track, actor: u32) -> bool
 
 /// Why a call does not begin next.
 fn cause_of_begin(state: &State, track: &Track, actor: u32, operation: &Operation) -> Option<Cause>
-    requires followed { IsFollowed state.now.guest.shape track.now }
-    ensures none { IfNone result ((course : Course) → course.ideal ≡ state.now → AreOne course track.now → IsFine course track.now (Moment.Begin actor operation.now)) }
-    ensures some { IfSome result (λ cause. (course : Course) → course.ideal ≡ state.now → AreOne course track.now → IsCause cause course track.now (Moment.Begin actor operation.now)) }
+    requires { IsReady state.now }
+    ensures none { (later : List Moment) → IfNone result ((course : Course) → course.ideal ≡ state.now → AreOne course track.now → IsFine course track.now (Moment.Begin actor operation.now) later) }
+    ensures some { (later : List Moment) → IfSome result (λ cause. (course : Course) → course.ideal ≡ state.now → AreOne course track.now → IsCause cause course track.now (Moment.Begin actor operation.now) later) }
     ensures follow { IfNone result (CanFollow state.now (Moment.Begin actor operation.now)) }
 {
-    if actor as usize >= track.doings.len() || is_within(track, actor) {
+    let _ = operation;
+    let shape = state.shape();
+    if actor >= shape.vcpus + shape.devices || is_within(track, actor) {
         return Some(Cause::Forbidden);
-    }
-    if !is_asked(state.shape(), operation) {
-        return Some(Cause::Unknown);
     }
     None
 }
 
 /// Whether a call does not end next.
 fn cause_of_end(track: &Track, actor: u32, answer: Option<u64>) -> Option<Cause>
-    ensures none { IfNone result ((course : Course) → AreOne course track.now → IsFine course track.now (Moment.End actor answer)) }
-    ensures some { IfSome result (λ cause. (course : Course) → AreOne course track.now → IsCause cause course track.now (Moment.End actor answer)) }
+    ensures none { (state : Ideal) (later : List Moment) → IfNone result ((course : Course) → course.ideal ≡ state → AreOne course track.now → IsFine course track.now (Moment.End actor answer) later) }
+    ensures some { (state : Ideal) (later : List Moment) → IfSome result (λ cause. (course : Course) → course.ideal ≡ state → AreOne course track.now → IsCause cause course track.now (Moment.End actor answer) later) }
     ensures follow { (state : Ideal) → IsFollowed state.guest.shape track.now → IfNone result (CanFollow state (Moment.End actor answer)) }
 {
     let _ = answer;
@@ -123,7 +122,7 @@ fn is_faulty(state: &State, event: &Event) -> bool
     }
 }
 
-/// Why an access of a CPU interface register is not fresh.
+/// Why an access of a CPU interface register is not fresh, where these moments come after it.
 fn staleness_of_access(
     alloc: Global,
     state: &State,
@@ -131,14 +130,15 @@ fn staleness_of_access(
     vcpu: u32,
     reg: IccReg,
     write: Option<u64>,
+    later: &[Moment],
 ) -> Result<Option<Cause>, AllocError>
     requires ready { IsReady state.now }
     requires followed { IsFollowed state.now.guest.shape track.now }
     requires there { vcpu < state.now.guest.shape.vcpus }
-    ensures none { IfOk result (λ cause. IfNone cause (IsEventFresh state.now track.now (Event.Cpu vcpu reg write))) }
-    ensures some { IfOk result (λ cause. IfSome cause (λ cause. IsStale cause state.now track.now (Event.Cpu vcpu reg write))) }
+    ensures none { IfOk result (λ cause. IfNone cause (IsEventFresh state.now track.now (Event.Cpu vcpu reg write) later.now)) }
+    ensures some { IfOk result (λ cause. IfSome cause (λ cause. IsStale cause state.now track.now (Event.Cpu vcpu reg write) later.now)) }
 {
-    if !is_fresh_at_acknowledge(alloc, track, state, vcpu, reg, write)? {
+    if !is_fresh_at_acknowledge(alloc, track, state, vcpu, reg, write, later)? {
         return Ok(Some(Cause::Acknowledge));
     }
     if !track.is_fresh_at_interface(state, vcpu, reg, write) {
@@ -150,28 +150,29 @@ fn staleness_of_access(
     Ok(None)
 }
 
-/// Why an event is not fresh.
+/// Why an event is not fresh, where these moments come after it.
 fn staleness(
     alloc: Global,
     state: &State,
     track: &Track,
     event: &Event,
+    later: &[Moment],
 ) -> Result<Option<Cause>, AllocError>
     requires ready { IsReady state.now }
     requires followed { IsFollowed state.now.guest.shape track.now }
     requires can { CanHappen state.now.guest.shape event.now }
-    ensures none { IfOk result (λ cause. IfNone cause (IsEventFresh state.now track.now event.now)) }
-    ensures some { IfOk result (λ cause. IfSome cause (λ cause. IsStale cause state.now track.now event.now)) }
+    ensures none { IfOk result (λ cause. IfNone cause (IsEventFresh state.now track.now event.now later.now)) }
+    ensures some { IfOk result (λ cause. IfSome cause (λ cause. IsStale cause state.now track.now event.now later.now)) }
 {
     match *event {
         Event::Cpu { vcpu, reg, write } => {
-            staleness_of_access(alloc, state, track, vcpu, reg, write)
+            staleness_of_access(alloc, state, track, vcpu, reg, write, later)
         }
         _ => Ok(None),
     }
 }
 
-/// Why an event does not happen next.
+/// Why an event does not happen next, where these moments come after it.
 fn cause_of_event(
     alloc: Global,
     state: &State,
@@ -179,11 +180,12 @@ fn cause_of_event(
     actor: u32,
     event: &Event,
     found: &Found,
+    later: &[Moment],
 ) -> Result<Option<Cause>, AllocError>
     requires ready { IsReady state.now }
     requires followed { IsFollowed state.now.guest.shape track.now }
-    ensures none { IfOk result (λ cause. IfNone cause ((course : Course) → course.ideal ≡ state.now → AreOne course track.now → IsFine course track.now (Moment.Happens actor event.now found.now))) }
-    ensures some { IfOk result (λ cause. IfSome cause (λ cause. (course : Course) → course.ideal ≡ state.now → AreOne course track.now → IsCause cause course track.now (Moment.Happens actor event.now found.now))) }
+    ensures none { IfOk result (λ cause. IfNone cause ((course : Course) → course.ideal ≡ state.now → AreOne course track.now → IsFine course track.now (Moment.Happens actor event.now found.now) later.now)) }
+    ensures some { IfOk result (λ cause. IfSome cause (λ cause. (course : Course) → course.ideal ≡ state.now → AreOne course track.now → IsCause cause course track.now (Moment.Happens actor event.now found.now) later.now)) }
     ensures follow { IfOk result (λ cause. IfNone cause (CanFollow state.now (Moment.Happens actor event.now found.now))) }
 {
     if !may_happen(alloc, state, track, actor, event, found)? {
@@ -192,21 +194,22 @@ fn cause_of_event(
     if is_faulty(state, event) {
         return Ok(Some(Cause::Unknown));
     }
-    staleness(alloc, state, track, event)
+    staleness(alloc, state, track, event, later)
 }
 
-/// Why a moment does not come next in a fresh history; none where it does. Of the end of a call it asks that the actor is
-/// in one, and not what an ended call has to be. `AllocError` where memory is refused.
+/// Why a moment does not come next in a fresh history, where these come after it; none where it does. Of the end of a call it
+/// asks that the actor is in one, and not what an ended call has to be. `AllocError` where memory is refused.
 pub fn judge(
     alloc: Global,
     state: &State,
     track: &Track,
     moment: &Moment,
+    later: &[Moment],
 ) -> Result<Option<Cause>, AllocError>
     requires ready { IsReady state.now }
     requires followed { IsFollowed state.now.guest.shape track.now }
-    ensures none { IfOk result (λ cause. IfNone cause ((course : Course) → course.ideal ≡ state.now → AreOne course track.now → IsFine course track.now moment.now)) }
-    ensures some { IfOk result (λ cause. IfSome cause (λ cause. (course : Course) → course.ideal ≡ state.now → AreOne course track.now → IsCause cause course track.now moment.now)) }
+    ensures none { IfOk result (λ cause. IfNone cause ((course : Course) → course.ideal ≡ state.now → AreOne course track.now → IsFine course track.now moment.now later.now)) }
+    ensures some { IfOk result (λ cause. IfSome cause (λ cause. (course : Course) → course.ideal ≡ state.now → AreOne course track.now → IsCause cause course track.now moment.now later.now)) }
     ensures follow { IfOk result (λ cause. IfNone cause (CanFollow state.now moment.now)) }
 {
     match moment {
@@ -215,7 +218,7 @@ pub fn judge(
             actor,
             event,
             found,
-        } => cause_of_event(alloc, state, track, *actor, event, found),
+        } => cause_of_event(alloc, state, track, *actor, event, found, later),
         Moment::End { actor, answer } => Ok(cause_of_end(track, *actor, *answer)),
     }
 }

@@ -1,5 +1,5 @@
 //! Whether a list of moments is a fresh history of a guest.
-ghost use Rattle.std.specs.Prelude.{◌≡◌, IfOk, IfSome, IfNone};
+ghost use Rattle.std.specs.Prelude.{◌≡◌, ◌<◌, ◌+◌, IfOk, IfSome, IfNone, length, drop};
 ghost use Rattle.gic_history.specs.Fresh.{IsFresh};
 ghost use Rattle.scn_base.specs.Good.{IsGoodGuest};
 ghost use Rattle.history_play.specs.Played.{IsAllowed, IsRefused};
@@ -20,6 +20,14 @@ pub struct Refusal {
     pub cause: Cause,
 }
 
+/// The moments after the one with an index.
+fn moments_after(moments: &[Moment], number: usize) -> &[Moment]
+    requires { number < length moments.now }
+    ensures { result.now ≡ drop (number + 1) moments.now }
+{
+    &moments[number + 1..]
+}
+
 /// Plays a list of moments from a guest's opening: none where each of them is allowed and all are a fresh history, and else
 /// the first that does not go on with one. Of the end of a call it asks that the actor is in one, and not what an ended call
 /// has to be. `NoMemory` where memory is refused.
@@ -37,7 +45,8 @@ pub fn check(
     let mut track = opening_track(alloc, &guest.shape)?;
     for number in 0..moments.len() {
         let moment = &moments[number];
-        if let Some(cause) = judge(alloc, &state, &track, moment)? {
+        let later = moments_after(moments, number);
+        if let Some(cause) = judge(alloc, &state, &track, moment, later)? {
             return Ok(Some(Refusal {
                 moment: number,
                 cause,

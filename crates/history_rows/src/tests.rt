@@ -362,6 +362,54 @@ fn in_flight() -> [Row; 6] {
     ]
 }
 
+/// vCPU 1 is about to clear the pending state of SPI 40 by a write of GICD_CLRSPI_NSR.
+fn begins_clear() -> Row {
+    begin(
+        1,
+        GuestOp::Mem {
+            frame: Frame::Dist,
+            offset: 0x48,
+            size: 4,
+            write: Some(40),
+        },
+    )
+}
+
+/// The touch of a call that clears the pending state of an SPI.
+fn clearing() -> Touching {
+    Touching::Register {
+        kind: Kind::ClearPending,
+        value: 1,
+    }
+}
+
+/// An acknowledge finds nothing while the call of vCPU 1 is open that is still to clear the interrupt.
+fn awaited() -> [Row; 5] {
+    let event = Event::Touch {
+        key: Key::Spi(40),
+        touching: clearing(),
+    };
+    let found = Found::Record { irq: pending_irq() };
+    [
+        message(40),
+        begins_clear(),
+        reads(0, IccReg::Iar1, 1023),
+        happens(1, event, found),
+        end(1, None),
+    ]
+}
+
+/// The call that is open then ends without that, and only the next one does it.
+fn put_off() -> [Row; 5] {
+    [
+        message(40),
+        begins_clear(),
+        reads(0, IccReg::Iar1, 1023),
+        end(1, None),
+        writes(0x48, 4, 40, clearing()),
+    ]
+}
+
 #[test]
 fn worked_histories_are_fresh(rt: HostRuntime) -> Result<(), Fail> {
     let alloc = rt.alloc();
@@ -377,6 +425,17 @@ fn what_leaves_comes_again(rt: HostRuntime) -> Result<(), Fail> {
     let alloc = rt.alloc();
     assert_eq!(rt; play(alloc, returned().as_slice())?, None);
     assert_eq!(rt; play(alloc, in_flight().as_slice())?, None);
+    Ok(())
+}
+
+#[test]
+fn an_open_call_is_awaited(rt: HostRuntime) -> Result<(), Fail> {
+    let alloc = rt.alloc();
+    assert_eq!(rt; play(alloc, awaited().as_slice())?, None);
+    assert_eq!(rt;
+        play(alloc, put_off().as_slice())?,
+        refused(5, Cause::Acknowledge)
+    );
     Ok(())
 }
 

@@ -55,7 +55,7 @@ module _ (shape : GuestShape) (key : Key) (there : IsTrue (has_interrupt shape k
       }
 
   -- some leave one vCPU's interface, and all that stand there, and then those of several
-  leave_all : (xs : List Standing) (state : Ideal) (vcpu : ℕ) → vcpu < shape.vcpus → IsBack shape key irq state → IsBack shape key irq (fold (λ now standing. after_leave standing.key vcpu now) state xs)
+  pub leave_all : (xs : List Standing) (state : Ideal) (vcpu : ℕ) → vcpu < shape.vcpus → IsBack shape key irq state → IsBack shape key irq (fold (λ now standing. after_leave standing.key vcpu now) state xs)
   leave_all [] state vcpu few is = is
   leave_all (x ∷ xs) state vcpu few is = leave_all xs (after_leave x.key vcpu state) vcpu few (leave_back state x.key vcpu few is)
 
@@ -112,7 +112,7 @@ module _ (key : Key) (vcpu : ℕ) where
       of true e h = subst (λ k. of_key (after_leave k vcpu state) key vcpu ≡ []) (sym (same_key x.key key e)) (leave_gone state key vcpu few)
       of false e h = leave_none state key x.key vcpu vcpu few (only (ap (λ b. b || list_any (is_of key) xs) e ∙ h))
 
-  emptied_gone : (state : Ideal) → vcpu < length state.at → of_key (emptied state vcpu) key vcpu ≡ []
+  pub emptied_gone : (state : Ideal) → vcpu < length state.at → of_key (emptied state vcpu) key vcpu ≡ []
   emptied_gone state few = gone_all (standing_at state vcpu) state few (none_filtered (is_of key) (standing_at state vcpu))
 
 -- and none comes back as others leave
@@ -185,11 +185,11 @@ whole_leave state other vcpu whole = of (find (is_of other) (standing_at state v
     of None = whole
     of (Some one) = whole_changed other (λ before. left vcpu (moved_of state other one)) state.guest whole
 
-record IsRest (before after : IdealGuest) : Type 0 where
+pub record IsRest (before after : IdealGuest) : Type 0 where
   pub rest : with_irqs after [] ≡ with_irqs before []
   pub whole : IsWhole before → IsWhole after
 
-rest_all : (xs : List Standing) (state : Ideal) (vcpu : ℕ) → IsRest state.guest (fold (λ now standing. after_leave standing.key vcpu now) state xs).guest
+pub rest_all : (xs : List Standing) (state : Ideal) (vcpu : ℕ) → IsRest state.guest (fold (λ now standing. after_leave standing.key vcpu now) state xs).guest
 rest_all [] state vcpu = record { rest = refl; whole = λ w. w }
 rest_all (x ∷ xs) state vcpu =
     let later = rest_all xs (after_leave x.key vcpu state) vcpu in

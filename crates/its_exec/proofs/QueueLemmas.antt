@@ -59,7 +59,7 @@ use Rattle.port_call.specs.Memory.{view_by}
 use Rattle.port_call.specs.Rest.{IsAtEase}
 use Rattle.port_call.proofs.KnownLemmas.{are_off}
 use Rattle.port_call.proofs.RestLemmas.{owes_none}
-use Rattle.port_call.proofs.PieceLemmas.{piece_one}
+use Rattle.port_call.proofs.PieceLemmas.{command_done}
 use Rattle.its_exec.specs.declared.fetch.Fetched.{Fetched}
 use Rattle.its_exec.specs.declared.known.KnownQueue.{KnownQueue}
 use Rattle.its_exec.specs.Command.{DoesCommand}
@@ -511,7 +511,7 @@ moved_is old new offset makes =
       step_is = refl;
       local_is = ended_local old new step makes ∙ same (succeeds (shape_of old) old.actor old.local step makes.found);
       events = refl;
-      piece = piece_one old made refl refl;
+      piece = command_done old made offset false None refl;
     }
   where
     same : (b : Bool) → (if b then old.local else old.local) ≡ old.local

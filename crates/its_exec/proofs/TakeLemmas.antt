@@ -23,13 +23,14 @@ use Rattle.its_queue.specs.Queue.{advanced}
 use Rattle.its_tab.specs.After.{maps_after}
 use Rattle.its_tab.specs.Fault.{fault_of, fault_number, number_of}
 use Rattle.its_tab.specs.Maps.{Maps}
+use Rattle.core_proper.specs.Progress.{Progress}
 use Rattle.port_core.specs.declared.local.Local.{Local}
 use Rattle.port_core.specs.declared.step.CoreStep.TheVariants.{CommandDone}
 use Rattle.port_core.specs.Known.{known_maps}
 use Rattle.port_core.specs.Port.{Seen, made_by, shape_of, part_events}
 use Rattle.port_core.proofs.PortLemmas.{adds_join}
 use Rattle.port_call.specs.Memory.{view_by}
-use Rattle.port_call.proofs.PieceLemmas.{piece_one}
+use Rattle.port_call.proofs.PieceLemmas.{command_done}
 use Rattle.port_call.proofs.TurnLemmas.{events_then}
 use Rattle.its_exec.specs.declared.fetch.Fetched.{Fetched}
 use Rattle.its_exec.specs.declared.known.KnownQueue.{KnownQueue}
@@ -189,7 +190,7 @@ took_good old mid done new shape tables queue offset fetched command result whol
           good_then old mid p fetches.part late fetches.reading.adds (fetches.reading.piece p idle)
           (λ q stays idle_mid.
           good_then mid done q all.steps (made ∷ []) all.adds (all.piece q idle_mid (write_stays p q stays write) (ap (λ r. r.wants) stays.same ∙ none) has)
-          (λ r stays_too idle_done. piece_one done made refl refl r idle_done));
+          (λ r stays_too idle_done. command_done done made _ _ _ refl r idle_done (ap (λ (s : Progress). s.wants) stays_too.same ∙ ap (λ (s : Progress). s.wants) stays.same ∙ none)));
     }
 
 -- a bad one
@@ -263,7 +264,7 @@ took_bad old mid new shape tables queue fetched result fault whole ready takes f
       piece = λ p idle write none.
           good_then old mid p fetches.part late fetches.reading.adds (fetches.reading.piece p idle)
           (λ q stays idle_mid.
-          good_then mid end q put (made ∷ []) stores.adds (stores.piece q idle_mid) (λ r stays_too idle_end. piece_one end made refl refl r idle_end));
+          good_then mid end q put (made ∷ []) stores.adds (stores.piece q idle_mid) (λ r stays_too idle_end. command_done end made _ _ _ refl r idle_end (ap (λ (s : Progress). s.wants) stays_too.same ∙ ap (λ (s : Progress). s.wants) stays.same ∙ none)));
     }
 
 -- Commands, one after the other.

@@ -18,7 +18,7 @@ use Rattle.port_core.specs.Known.{known_maps, ends_command}
 use Rattle.port_core.specs.declared.run.Made.{Made}
 use Rattle.port_core.specs.Port.{Seen, Adds, AddsStep, shape_of, part_events}
 use Rattle.core_proper.specs.Progress.{Progress}
-use Rattle.port_call.specs.Piece.{IsIdle, IsGoodPiece, IsPiece}
+use Rattle.port_call.specs.Piece.{IsIdle, IsGoodPiece, IsRestedPiece}
 use Rattle.gic_call.specs.Trace.{Happened, HaveSameIts, IsCommand, left_by}
 use Rattle.gic_call.specs.View.{View}
 use Rattle.its_exec.specs.Command.{IsItsWrite}
@@ -57,7 +57,7 @@ pub record MovesQueue (old new : Seen) (offset : ℕ) : Type 0 where
   pub step_is : made.step ≡ CommandDone offset false None
   pub local_is : new.local ≡ old.local
   pub events : part_events old (made ∷ []) ≡ (record { event = QueueEvent offset Runs; found = Nothing }) ∷ []
-  pub piece : IsPiece old (made ∷ [])
+  pub piece : IsRestedPiece old (made ∷ [])
 
 -- it holds the next command as it was fetched
 pub record HoldsNext (seen : Seen) (queue : KnownQueue) (fetched : Fetched) : Type 0 where

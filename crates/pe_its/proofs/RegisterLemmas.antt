@@ -27,11 +27,11 @@ use Rattle.port_core.specs.Known.{known_maps}
 use Rattle.port_core.specs.Port.{Seen, Adds, shape_of, part_events}
 use Rattle.port_core.proofs.PortLemmas.{adds_join}
 use Rattle.port_call.specs.Memory.{view_by}
-use Rattle.port_call.specs.Piece.{IsPiece}
+use Rattle.port_call.specs.Piece.{IsRestedPiece}
 use Rattle.port_call.specs.Plain.{is_event_word}
 use Rattle.port_call.specs.Store.{Stores}
-use Rattle.port_call.proofs.PieceLemmas.{seen_nil, piece_nil}
-use Rattle.port_call.proofs.TurnLemmas.{piece_then, events_then}
+use Rattle.port_call.proofs.PieceLemmas.{seen_nil, piece_nil, rested}
+use Rattle.port_call.proofs.TurnLemmas.{rested_then, events_then}
 use Rattle.pe_mem.proofs.ServeLemmas.{none_made}
 use Rattle.its_exec.specs.declared.known.KnownQueue.{KnownQueue}
 use Rattle.its_exec.specs.Known.{KnowsQueue}
@@ -103,7 +103,7 @@ control_writes old new queue value ctlr is stores ready half =
           subst Left is
           (queue_same new put (record queue { ctlr = ctlr }) (put_same shape ItsCtlr ctlr stores.last.found) (put_other shape ItsCtlr Cbaser ctlr queue.cbaser (λ e. omega (arith, e))) (put_other shape ItsCtlr Cwriter ctlr queue.cwriter (λ e. omega (arith, e)))
           refl refl (sym (stored_maps old new ItsCtlr ctlr stores)) (control_knows old new ctlr queue stores ready.knows));
-      piece = stores.piece;
+      piece = rested old _ stores.piece;
     }
 
 -- Places that were looked at.
@@ -132,7 +132,7 @@ cbaser_ignored old queue half value on =
       looked = control_looked view queue [] refl (All-nil (λ h. h.event ≡ Read (Word ItsCtlr) → ⊥));
       starts_are = refl;
       left = never;
-      piece = piece_nil old;
+      piece = rested old [] (piece_nil old);
     }
 
 some_is : (m n : ℕ) → Some m ≡ Some n → m ≡ n
@@ -175,7 +175,7 @@ cbaser_writes old a b new queue half value (Some found) off first moves changes 
       looked = control_looked view queue (part_events old (one ++ (two ++ three))) refl (subst (IsUnread (Word ItsCtlr)) (sym events_are) unread);
       starts_are = refl;
       left = never;
-      piece = piece_then old a one (two ++ three) first.adds first.piece (piece_then a b two three moves.adds moves.piece stored.piece);
+      piece = rested_then old a one (two ++ three) first.adds (rested old one first.piece) (rested_then a b two three moves.adds moves.piece (rested b three stored.piece));
     }
 
 -- GITS_BASER0 and GITS_BASER1.
@@ -220,7 +220,7 @@ baser_ignored old queue table half value on =
       looked = subst Looked (sym (baser_places table)) (control_looked view queue [] refl (All-nil (λ h. h.event ≡ Read (Word ItsCtlr) → ⊥)));
       starts_are = baser_starts view table half value;
       left = never;
-      piece = piece_nil old;
+      piece = rested old [] (piece_nil old);
     }
 
 pub baser_writes : (old new : Seen) (queue : KnownQueue) (table : Table) (half : Half) (value : ℕ) (result : Option ℕ) → enabled_in queue.ctlr ≡ false → ChangesWord old new (baser_word table) (changed_by (BaserChange half value)) result
@@ -250,7 +250,7 @@ baser_writes old new queue table half value (Some found) off changes =
       looked = subst Looked (sym (baser_places table)) (control_looked view queue (part_events old part) refl (stored_unread old new word changes.value (Word ItsCtlr) (baser_kept table) stored (baser_apart table)));
       starts_are = baser_starts view table half value;
       left = never;
-      piece = stored.piece;
+      piece = rested old _ stored.piece;
     }
 
 -- GITS_CWRITER.
@@ -296,7 +296,7 @@ cwriter_ignored old new queue half value keeps =
           (missed_unread old new Cwriter QueuePlace refl keeps.looks (λ e. absurd (cc)));
       starts_are = out;
       left = never;
-      piece = keeps.looks.piece;
+      piece = rested old _ keeps.looks.piece;
     }
 
 -- the end of a stall, if there is one
@@ -306,7 +306,7 @@ record RetryPart (old new : Seen) (actor : Option ℕ) (view : View) (events : L
   local_is : new.local ≡ old.local
   made : Makes actor view events [] [] (part_events old part)
   unread : (place : Place) → IsUnread place (part_events old part)
-  piece : IsPiece old part
+  piece : IsRestedPiece old part
 
 retry_part : (b : Bool) (old new : Seen) (actor : Option ℕ) (view : View) (offset : ℕ) → Retries b old new offset → RetryPart old new actor view (if b then QueueEvent offset Runs ∷ [] else [])
 retry_part true old new actor view offset moves =
@@ -318,7 +318,7 @@ retry_part false old new actor view offset same =
       local_is = ap (λ seen. seen.local) same;
       made = none_made actor view;
       unread = λ place. All-nil (λ h. h.event ≡ Read place → ⊥);
-      piece = piece_nil old;
+      piece = rested old [] (piece_nil old);
     }
 
 retry_left : (b : Bool) (shape : GuestShape) (seen : Seen) (its : View) (queue : KnownQueue) → its.words ItsCtlr ≡ queue.ctlr → its.words Cbaser ≡ queue.cbaser → its.words Cwriter ≡ queue.cwriter → its.offset ≡ queue.offset → its.is_stalled ≡ queue.stalled
@@ -371,7 +371,7 @@ cwriter_writes old mid new queue after half value found offset changes offset_is
           subst Left (sym (ap choose inside.0))
           (retry_left again shape new put (record queue { cwriter = to }) (put_other shape Cwriter ItsCtlr to queue.ctlr (λ e. omega (arith, e))) (put_other shape Cwriter Cbaser to queue.cbaser (λ e. omega (arith, e))) (put_same shape Cwriter to found) refl refl
           (sym maps) known);
-      piece = piece_then old mid one retry.part stored.adds stored.piece retry.piece;
+      piece = rested_then old mid one retry.part stored.adds (rested old one stored.piece) retry.piece;
     }
 
 -- the offset is what was stored

@@ -38,7 +38,7 @@ use Rattle.port_core.proofs.PortLemmas.{adds_join}
 use Rattle.core_proper.specs.Called.{vcpu_of_actor, maps_taken}
 use Rattle.core_proper.specs.Progress.{Progress}
 use Rattle.port_call.specs.Memory.{view_by}
-use Rattle.port_call.specs.Piece.{IsIdle, IsGoodPiece, IsPiece}
+use Rattle.port_call.specs.Piece.{IsIdle, IsGoodPiece, IsPiece, IsRestedPiece}
 use Rattle.port_call.specs.Rest.{IsAtEase, StaysAtEase}
 use Rattle.port_call.specs.Turn.{is_miss, is_turn_step, TakesTurn, GivesTurn}
 use Rattle.port_call.proofs.KnownLemmas.{maps_handed}
@@ -115,6 +115,9 @@ record Inside (old new : Seen) : Type 0 where
 inside_piece : (old new : Seen) (part : List Made) → Adds old new part → new.local ≡ old.local → IsPiece old part → Inside old new
 inside_piece old new part adds same piece = record { part = part; adds = adds; local_is = ap (λ (l : Local). record l { marks = old.local.marks }) same; piece = λ p idle write none. piece p idle }
 
+inside_rested : (old new : Seen) (part : List Made) → Adds old new part → new.local ≡ old.local → IsRestedPiece old part → Inside old new
+inside_rested old new part adds same piece = record { part = part; adds = adds; local_is = ap (λ (l : Local). record l { marks = old.local.marks }) same; piece = λ p idle write none. piece p idle none }
+
 inside_joins : (old mid new : Seen) → Inside old mid → Inside mid new → Inside old new
 inside_joins old mid new one two =
     let back : Local → Local → Local = λ l m. record l { marks = m.marks } in
@@ -142,7 +145,7 @@ inside_begins : (old mid : Seen) (reg : Reg) (half : Half) (value : ℕ) (starts
 inside_begins old mid reg half value starts begins =
     let looks = begins.looks in
     let writes = begins.writes in
-    inside_joins old begins.start mid (inside_piece old begins.start looks.part looks.reading.adds looks.reading.local looks.reading.piece) (inside_piece begins.start mid writes.part writes.adds writes.local_is writes.piece)
+    inside_joins old begins.start mid (inside_piece old begins.start looks.part looks.reading.adds looks.reading.local looks.reading.piece) (inside_rested begins.start mid writes.part writes.adds writes.local_is writes.piece)
 
 inside_stops : (old new : Seen) (reg : Reg) (half : Half) (value : ℕ) → StopsWrite old new reg half value → Inside old new
 inside_stops old new reg half value stops =
@@ -251,7 +254,7 @@ ran false old new shape its is same runs =
     }
 
 inside_call : (old new : Seen) (reg : Reg) (half : Half) (value : ℕ) → ServesWrite old new reg half value → InsideCall old new reg half value
-unfolding inside_begins inside_joins inside_piece
+unfolding inside_begins inside_joins inside_piece inside_rested
 inside_call old new reg half value serves =
     let begins = serves.begins in
     let looks = begins.looks in

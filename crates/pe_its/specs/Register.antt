@@ -20,7 +20,7 @@ use Rattle.port_core.specs.declared.run.Made.{Made}
 use Rattle.port_core.specs.Known.{known_maps}
 use Rattle.port_core.specs.Port.{Seen, Adds, shape_of, part_events}
 use Rattle.port_call.specs.Memory.{view_by}
-use Rattle.port_call.specs.Piece.{IsPiece}
+use Rattle.port_call.specs.Piece.{IsRestedPiece}
 use Rattle.its_exec.specs.declared.known.KnownQueue.{KnownQueue}
 use Rattle.its_exec.specs.Queue.{IsReady, MovesQueue}
 
@@ -70,7 +70,7 @@ pub record WritesRegister (old new : Seen) (queue : KnownQueue) (reg : Reg) (hal
   pub looked : All (IsLooked view queue (part_events old part)) (its_write_places reg)
   pub starts_are : starts_commands view reg half value ≡ starts
   pub left : IsTrue starts → HaveSameIts (its_written_by (shape_of old) view (its_written view reg half value)) (view_by new)
-  pub piece : IsPiece old part
+  pub piece : IsRestedPiece old part
 
 -- a write of GITS_CWRITER ends a stall, or does not
 abbrev pub Retries : Bool → Seen → Seen → ℕ → Type 0

@@ -20,7 +20,7 @@ use Rattle.core_proper.specs.Progress.{Progress, is_paid, changed_by, scan_on, s
 use Rattle.core_proper.specs.Proper.{is_empty, gives_back, wants_nothing, is_settled, IsProper, IsProperStep, IsProperEnd, keeps_scan, keeps_trap_scan, keeps_failed_claim, keeps_far_end, keeps_refill, keeps_want, keeps_seen}
 use Rattle.core_proper.specs.Scan.{Scan, idle, taking, looking, claiming, is_idle, scan_allows}
 use Rattle.core_proper.proofs.PartLemmas.{proper_append}
-use Rattle.port_call.specs.Piece.{IsIdle, StaysSo, IsGoodPiece, IsPiece, is_plain, goes_by_known}
+use Rattle.port_call.specs.Piece.{IsIdle, StaysSo, IsGoodPiece, IsPiece, IsRestedPiece, is_plain, goes_by_known}
 
 -- no scan
 
@@ -72,7 +72,7 @@ plain_changes shape actor (RamPut i seen value) found done p h = unchanged p p r
 plain_changes shape actor (CtlrTake seen value) found done p h = unchanged p p refl
 plain_changes shape actor CtlrEnd found done p h = unchanged p p refl
 plain_changes shape actor (TurnTake seen) found done p h = unchanged p p refl
-plain_changes shape actor (CommandDone offset stalled ending) found done p h = unchanged p p refl
+plain_changes shape actor (CommandDone offset stalled ending) found done p h = absurd (cc)
 plain_changes shape actor TurnRelease found done p h = unchanged p p refl
 plain_changes shape actor (Mark key v) found done p h = unchanged p p refl
 
@@ -103,7 +103,7 @@ plain_is_free shape actor p (RamPut i seen value) h = record { trap = refl; fail
 plain_is_free shape actor p (CtlrTake seen value) h = record { trap = refl; failed = refl; far = refl; refill = refl; want = refl }
 plain_is_free shape actor p CtlrEnd h = record { trap = refl; failed = refl; far = refl; refill = refl; want = refl }
 plain_is_free shape actor p (TurnTake seen) h = record { trap = refl; failed = refl; far = refl; refill = refl; want = refl }
-plain_is_free shape actor p (CommandDone offset stalled ending) h = record { trap = refl; failed = refl; far = refl; refill = refl; want = refl }
+plain_is_free shape actor p (CommandDone offset stalled ending) h = absurd (cc)
 plain_is_free shape actor p TurnRelease h = record { trap = refl; failed = refl; far = refl; refill = refl; want = refl }
 plain_is_free shape actor p (Mark key v) h = record { trap = refl; failed = refl; far = refl; refill = refl; want = refl }
 
@@ -218,6 +218,54 @@ good_joins seen p early late first second =
 
 pub piece_joins : (seen : Seen) (early late : List Made) → IsPiece seen early → IsPiece (seen_after seen early) late → IsPiece seen (early ++ late)
 piece_joins seen early late one two p is = let first = one p is in good_joins seen p early late first (two (progress_of (shape_of seen) seen.actor p (map makes early)) first.ends)
+
+-- The end of a command of the ITS, of an actor that asks for no interrupt.
+
+done_proper : (shape : GuestShape) (actor : ℕ) (p : Progress) (offset : ℕ) (stalled : Bool) (ending : Option (List ℕ)) → p.scan ≡ idle → p.wants ≡ [] → IsProperStep shape actor p (CommandDone offset stalled ending)
+done_proper shape actor p offset stalled ending idle_so none = record {
+  scan = scan_free shape actor p (CommandDone offset stalled ending) idle_so;
+  trap = refl;
+  failed = refl;
+  far = refl;
+  refill = refl;
+  want = ap wants_nothing none;
+  seen = refl;
+}
+
+-- an actor after it
+done_stepped : (shape : GuestShape) (actor : ℕ) (made : Made) (p : Progress) (offset : ℕ) (stalled : Bool) (ending : Option (List ℕ)) → made.step ≡ CommandDone offset stalled ending → p.scan ≡ idle
+    → stepped shape actor made p ≡ record p { local = local_after shape actor p.local made.step made.found; own = p.own ++ made ∷ [] }
+done_stepped shape actor made p offset stalled ending e idle_so =
+    let local = local_after shape actor p.local made.step made.found in
+    let own = p.own ++ made ∷ [] in
+    let By : CoreStep → Progress = λ step. scan_on shape actor (record (changed_by shape actor step made.found (succeeds shape actor p.local step made.found) p) { local = local; own = own }) in
+    ap By e ∙ idle_on shape actor (record p { local = local; own = own }) idle_so
+
+pub command_done : (seen : Seen) (made : Made) (offset : ℕ) (stalled : Bool) (ending : Option (List ℕ)) → made.step ≡ CommandDone offset stalled ending → IsRestedPiece seen (made ∷ [])
+command_done seen made offset stalled ending e p is none =
+    let shape = shape_of seen in
+    let idle_so = idle_is p.scan is.scan in
+    let after = done_stepped shape seen.actor made p offset stalled ending e idle_so in
+    let back : Progress → Progress = λ q. record q { local = p.local; own = p.own; failed = p.failed } in
+    record {
+      proper = (subst (IsProperStep shape seen.actor p) (sym e) (done_proper shape seen.actor p offset stalled ending idle_so none), tt);
+      stays = record { same = ap back after; failed = λ h. ap (λ (q : Progress). q.failed) (sym after) ∙ h };
+      ends = record {
+        local = ap (λ (q : Progress). q.local) after ∙ ap (λ local. local_after shape seen.actor local made.step made.found) is.local;
+        own = ap (λ (q : Progress). q.own) after ∙ ap (λ own. own ++ made ∷ []) is.own;
+        scan = ap (λ (q : Progress). is_idle q.scan) after ∙ is.scan;
+      };
+    }
+
+-- pieces of an actor that asks for no interrupt
+
+pub rested : (seen : Seen) (part : List Made) → IsPiece seen part → IsRestedPiece seen part
+rested seen part piece p is none = piece p is
+
+pub rested_joins : (seen : Seen) (early late : List Made) → IsRestedPiece seen early → IsRestedPiece (seen_after seen early) late → IsRestedPiece seen (early ++ late)
+rested_joins seen early late one two p is none =
+    let first = one p is none in
+    good_joins seen p early late first (two (progress_of (shape_of seen) seen.actor p (map makes early)) first.ends (ap (λ (q : Progress). q.wants) first.stays.same ∙ none))
 
 -- Whole parts.
 

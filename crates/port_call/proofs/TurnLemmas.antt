@@ -29,9 +29,9 @@ use Rattle.port_core.specs.Port.{Seen, IsPort, Adds, AddsStep, made_by, shape_of
 use Rattle.port_core.specs.Stands.{event_done}
 use Rattle.port_core.specs.Valid.{CanFind}
 use Rattle.port_core.proofs.PortLemmas.{adds_join, events_join}
-use Rattle.port_call.specs.Piece.{IsPiece, goes_by_known}
+use Rattle.port_call.specs.Piece.{IsPiece, IsRestedPiece, goes_by_known}
 use Rattle.port_call.specs.Turn.{is_miss, is_queue_read, Misses, TakesTurn, TriesTurn}
-use Rattle.port_call.proofs.PieceLemmas.{piece_one, piece_joins}
+use Rattle.port_call.proofs.PieceLemmas.{piece_one, piece_joins, rested_joins}
 use Rattle.port_call.proofs.SettleLemmas.{handed_none}
 
 -- Pieces as ports tell them.
@@ -41,6 +41,11 @@ pub piece_then : (old mid : Seen) (early late : List Made) → Adds old mid earl
 piece_then old mid early late add one two =
     let Piece : Seen → Type 0 = λ seen. IsPiece seen late in
     piece_joins old early late one (subst Piece add.new_is two)
+
+pub rested_then : (old mid : Seen) (early late : List Made) → Adds old mid early → IsRestedPiece old early → IsRestedPiece mid late → IsRestedPiece old (early ++ late)
+rested_then old mid early late add one two =
+    let Piece : Seen → Type 0 = λ seen. IsRestedPiece seen late in
+    rested_joins old early late one (subst Piece add.new_is two)
 
 pub events_then : (old mid : Seen) (early late : List Made) → Adds old mid early → part_events old (early ++ late) ≡ part_events old early ++ part_events mid late
 events_then old mid early late add =

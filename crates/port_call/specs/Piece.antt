@@ -1,11 +1,11 @@
 -- Pieces of a part: steps that an actor makes while no scan is in progress, after which it is as far in its protocol as before (own choice).
-use Rattle.std.specs.Prelude.{◌≡◌, Bool, true, false, IsTrue, List, map, is_none}
+use Rattle.std.specs.Prelude.{◌≡◌, Bool, true, false, IsTrue, List, [], map, is_none}
 use Rattle.std.specs.List.{list_all}
 use Rattle.std.specs.Option.{option_map_or}
 use Rattle.gic_word.specs.Record.{is_number}
 use Rattle.port_core.specs.declared.run.Made.{Made}
 use Rattle.port_core.specs.declared.step.CoreStep.{CoreStep}
-use Rattle.port_core.specs.declared.step.CoreStep.TheVariants.{Look, Claim, Poll, Touch, Want, TakeIndex}
+use Rattle.port_core.specs.declared.step.CoreStep.TheVariants.{Look, Claim, Poll, Touch, Want, TakeIndex, CommandDone}
 use Rattle.port_core.specs.declared.word_id.WordId.TheVariants.{Irq}
 use Rattle.port_core.specs.Known.{known}
 use Rattle.port_core.specs.Port.{Seen, shape_of, seen_after, word_by}
@@ -43,6 +43,10 @@ pub record IsGoodPiece (seen : Seen) (p : Progress) (part : List Made) : Type 0 
 abbrev pub IsPiece : Seen → List Made → Type 0
 IsPiece seen part = (p : Progress) → IsIdle seen p → IsGoodPiece seen p part
 
+-- so it is where besides the actor asks for no interrupt, as where a command of the ITS ends
+abbrev pub IsRestedPiece : Seen → List Made → Type 0
+IsRestedPiece seen part = (p : Progress) → IsIdle seen p → p.wants ≡ [] → IsGoodPiece seen p part
+
 -- a step of which the protocol asks nothing while no scan is in progress, but for the word that it expects
 abbrev pub is_plain : CoreStep → Bool
 is_plain (Look (Irq key)) = false
@@ -51,6 +55,7 @@ is_plain (Poll reg write) = false
 is_plain (Touch key seen kind) = false
 is_plain (Want key) = false
 is_plain (TakeIndex word) = false
+is_plain (CommandDone offset stalled ending) = false
 is_plain step = true
 
 -- a step that goes by a word that was seen goes by the one that the actor's last step on it left

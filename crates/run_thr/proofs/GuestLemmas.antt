@@ -13,6 +13,7 @@ use Rattle.end_laws.specs.End.{AreEmpty, cpus_in, told_in, words_in}
 use Rattle.gic_base.specs.declared.shape.GuestShape.{GuestShape}
 use Rattle.gic_call.specs.declared.event.Moment.{Moment}
 use Rattle.gic_frame.proofs.TestLemmas.{is_under}
+use Rattle.gic_history.specs.Fresh.{IsFresh}
 use Rattle.gic_history.specs.History.{IsHistory, IsWhole, last_of}
 use Rattle.gic_history.specs.Moves.{home}
 use Rattle.gic_ideal.specs.Ends.{end_of as end_between}
@@ -72,10 +73,11 @@ row_same {X = X} f g (suc count) from same =
     ap (λ (x : X). x ∷ map f (range_with_len (from + 1) count)) (same from (omega arith))
     ∙ ap (λ (xs : List X). g from ∷ xs) (row_same f g count (from + 1) (λ n few. same n (omega (arith, few))))
 
--- a history of a guest, in which all calls ended and each actor made its calls of these steps, which ends as this guest does
+-- a fresh history of a guest, in which all calls ended and each actor made its calls of these steps, which ends as this guest does
 pub record HasHistoryOf (guest : GuestSpec) (number : ℕ) (steps : List Step) (answers : List Answer) (ideal : IdealGuest) : Type 0 where
   pub moments : List Moment
   pub history : IsHistory guest moments
+  pub fresh : IsFresh guest moments
   pub whole : IsWhole guest moments
   pub calls : (actor : ℕ) → calls_of actor moments ≡ steps_for guest.shape number actor steps answers
   pub lines : end_between (opening_guest guest) ideal ≡ end_between (opening_guest guest) (home (last_of guest moments))
@@ -148,6 +150,7 @@ module _ (words : WordsTold) (root : RootTold) (left : GuestWords) (ended : Ends
     history_of parts has own = record {
       moments = ideal_of shape opens has.moments;
       history = has.is.history;
+      fresh = has.fresh;
       whole = has.whole;
       calls = λ actor. of actor (cases_lt actor (actor_count shape));
       lines = subst (λ (s : CoreState). end_between (opening_guest words.guest) (told_in words.guest s) ≡ end_between (opening_guest words.guest) (home (last_of words.guest (ideal_of shape opens has.moments)))) has.state (has.end empty).lines;

@@ -6,6 +6,7 @@ use Rattle.std.proofs.Math.Logic.{∥∥₁_map}
 use Rattle.std.proofs.lemmas.List.{length-map, map-append}
 use Rattle.std.proofs.lemmas.List.Elements.{All-get_or}
 use Rattle.std.proofs.lemmas.Option.{get_or_from_slice_get, slice_get-get_or, slice_get_cases, slice_get_within}
+use Rattle.eager_laws.specs.Possible.{IsPossible}
 use Rattle.gic_ideal.specs.Ends.{end_of, ends_of}
 use Rattle.gic_prio.specs.declared.cpu.CpuRec.{CpuRec}
 use Rattle.guest_end.specs.declared.outcome.Done.{Done}
@@ -24,7 +25,6 @@ use Rattle.scn_base.specs.declared.scenario.Scenario.{Scenario}
 use Rattle.scn_base.specs.declared.step.Mode.TheVariants.{Threads}
 use Rattle.scn_base.specs.Good.{IsGood, IsGoodGuest, shapes_of}
 use Rattle.thr_trip.specs.Script.{vcpus_of}
-use Rattle.run_thr.specs.History.{IsOneHistory}
 use Rattle.run_thr.specs.Run.{GuestHasRun, HasRun, cpu_of, local_of}
 use Rattle.run_thr.proofs.GuestLemmas.{HasHistoryOf, TellsHistory, cpus_by, guest_tells}
 
@@ -195,7 +195,7 @@ module _ (scenario : Scenario) (done : Done) (words : List WordsTold) (root : Li
     have_ended cpus same = record { ideals = ideals; all = ended_by cpus same }
 
     -- so what comes out is one history of each
-    pub one_history : (ends : List End) → ends ≡ ends_of (map opening scenario.guests) ideals → IsOneHistory scenario (record { answers = done.answers; ends = ends })
+    pub one_history : (ends : List End) → ends ≡ ends_of (map opening scenario.guests) ideals → IsPossible scenario (record { answers = done.answers; ends = ends })
     one_history ends ends_are = record {
       answers = run.answers;
       ends = ap length ends_are ∙ ends_each scenario.guests ideals ideals_each;
@@ -205,8 +205,7 @@ module _ (scenario : Scenario) (done : Done) (words : List WordsTold) (root : Li
           let ended = end_at scenario.guests ideals n guest (ideal_told told.0) here (get_of_map ideal_told tolds n told.0 told.1) in
           ∥∥₁_map (history_told n guest told.0 here told.1) (λ (has : HasHistoryOf guest n scenario.steps done.answers (ideal_told told.0)). record {
             moments = has.moments;
-            history = has.history;
-            whole = has.whole;
+            is = record { history = has.history; fresh = has.fresh; whole = has.whole };
             calls = has.calls;
             ends = ap (λ (es : List End). slice_get es n) ends_are ∙ ended ∙ ap Some has.lines;
           });

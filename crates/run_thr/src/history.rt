@@ -1,8 +1,8 @@
 //! The run of a scenario on threads, with what it answers.
 ghost use Rattle.std.specs.Prelude.{◌≡◌, ◌+◌, ◌<◌, ◌≤◌, IfOk, IfSome, OnOk};
+ghost use Rattle.eager_laws.specs.Possible.{IsPossible};
 ghost use Rattle.scn_base.specs.declared.step.Mode.TheVariants.{Threads as OnThreads};
 ghost use Rattle.scn_base.specs.Good.{IsGood};
-ghost use Rattle.run_thr.specs.History.{IsOneHistory};
 
 use crate::threaded::run_on;
 use crate::watch::ThrWatch;
@@ -17,7 +17,7 @@ use std::thread::Threads;
 
 /// Runs a scenario on so many PEs (1 to 8), each a thread, with up to so many operations (1 to 1000) of a vCPU while it is on one,
 /// and each device a thread, and shows the run to the watch, which was shown less than 2^64 - 1 before. What it answers is what
-/// one history of the ideal controller says of each guest. An error where memory is refused.
+/// one fresh history of the ideal controller says of each guest. An error where memory is refused.
 pub fn run<R: Threads + Wait + Sync, G: Gate + Sync, W: ThrWatch>(
     rt: &R,
     alloc: Global,
@@ -31,7 +31,7 @@ pub fn run<R: Threads + Wait + Sync, G: Gate + Sync, W: ThrWatch>(
     requires pes { 1 ≤ pes × pes ≤ 8 }
     requires per_turn { 1 ≤ per_turn × per_turn ≤ 1000 }
     requires room { W.threaded watch.old < 18446744073709551615 }
-    ensures possible { IfOk result (λ out. IsOneHistory scenario.now out) }
+    ensures possible { IfOk result (λ out. IsPossible scenario.now out) }
     ensures counted { OnOk result (W.threaded watch.new ≡ W.threaded watch.old + 1) }
     ensures last { OnOk result (IfSome (W.last_threads watch.new) (λ shown. shown ≡ scenario.now)) }
     ensures never_falls { W.threaded watch.old ≤ W.threaded watch.new }

@@ -9,14 +9,16 @@ use Rattle.gic_base.specs.declared.interrupt.Key.{Key}
 use Rattle.gic_base.specs.declared.shape.GuestShape.{GuestShape}
 use Rattle.gic_call.specs.declared.event.Event.{Event}
 use Rattle.gic_call.specs.declared.event.Event.TheVariants.{Cpu, Reach, Take, Leave, Read}
+use Rattle.gic_call.specs.declared.event.Found.{Found}
 use Rattle.gic_call.specs.declared.event.Moment.{Moment}
 use Rattle.gic_call.specs.declared.event.Moment.TheVariants.{Begin, Happens, End}
 use Rattle.gic_call.specs.Trace.{Happened, is_beside}
 use Rattle.gic_call.specs.View.{View}
-use Rattle.gic_history.specs.Fresh.{Doing, doing_of}
+use Rattle.gic_history.specs.Fresh.{Doing, Track, doing_of, tracked}
 use Rattle.gic_history.specs.History.{Course, IsHistory, course_of, gone_on, last_of, opening_course}
 use Rattle.gic_history.specs.Moves.{happened}
 use Rattle.gic_history.specs.Named.{names}
+use Rattle.gic_history.specs.State.{Ideal}
 use Rattle.history_laws.proofs.CourseLemmas.{goes_before}
 use Rattle.scn_base.specs.declared.guest.GuestSpec.{GuestSpec}
 use Rattle.scn_base.specs.Good.{IsGoodGuest}
@@ -37,6 +39,7 @@ use Rattle.core_fresh.specs.Index.{owes_kick}
 use Rattle.core_fresh.proofs.ProgressLemmas.{operation_on}
 use Rattle.core_fresh.proofs.RunFrame.{IsNextOf, end_more, followed_more, proper_before, progress_more}
 use Rattle.core_fresh.proofs.TrackLemmas.{doing_here}
+use Rattle.core_home.proofs.StayLemmas.{stored_cases}
 use Rattle.core_home.specs.UpToDate.{IsUpToDate, changes_nothing, moves_or_reads}
 use Rattle.core_home.proofs.UpToDateRuns.{stays_up_to_date}
 use Rattle.core_late.specs.Late.{AccessesComeFirst, has_done_none, is_access_first}
@@ -47,7 +50,6 @@ use Rattle.core_lone.specs.Lone.{IsAlone}
 use Rattle.core_lone.proofs.HereLemmas.{end_is}
 use Rattle.serial_laws.specs.Serial.{WholePart, moment_by, moments_in}
 use Rattle.serial_laws.proofs.AloneRuns.{AllRest, next_at, progress_other}
-use Rattle.serial_laws.proofs.FirstRuns.{beside_done}
 use Rattle.serial_laws.proofs.PartLemmas.{seat_next}
 use Rattle.serial_laws.proofs.WantLemmas.{wants_none}
 
@@ -85,6 +87,15 @@ quiet_clause [] at quiet = refl
 quiet_clause (moment ∷ moments) at quiet =
     and_from (is_access_first at.ideal at.track moment) (clause_from is_access_first (follows at moment) moments) (nothing_first at moment (All-head (λ m. IsTrue (changes_nothing m)) moment moments quiet))
     (quiet_clause moments (follows at moment) (All-tail (λ m. IsTrue (changes_nothing m)) moment moments quiet))
+
+-- what is beside the events of a call is of no interrupt of it
+beside_done : (ideal : Ideal) (track : Track) (actor : ℕ) (vcpu : Option ℕ) (event : Event) (found : Found) → is_beside vcpu event ≡ true → IsTrue (has_done_none (doing_of track actor).done)
+    → IsTrue (has_done_none (doing_of (tracked ideal (Happens actor event found) track) actor).done)
+beside_done ideal track actor vcpu (Read place) found h none = stored_cases (λ (d : Doing). IsTrue (has_done_none d.done)) track.doings actor actor _ _ none none
+beside_done ideal track actor vcpu (Reach key w) found h none = stored_cases (λ (d : Doing). IsTrue (has_done_none d.done)) track.doings actor actor _ _ none none
+beside_done ideal track actor vcpu (Take key w) found h none = stored_cases (λ (d : Doing). IsTrue (has_done_none d.done)) track.doings actor actor _ _ none none
+beside_done ideal track actor vcpu (Leave key w) found h none = stored_cases (λ (d : Doing). IsTrue (has_done_none d.done)) track.doings actor actor _ _ none none
+beside_done ideal track actor vcpu event found h none = absurd (cc)
 
 not_true : (b : Bool) → (IsTrue b → ⊥) → b ≡ false
 not_true true h = absurd (h refl)

@@ -1,9 +1,11 @@
 pub mod QuietLemmas
 pub mod PartLemmas
-pub mod FirstRuns
+pub mod EndsLemmas
+pub mod AccessRuns
 pub mod AloneRuns
 pub mod WantLemmas
 pub mod AlongRuns
+pub mod ReadyRuns
 pub mod ShowRuns
 pub mod SerialRuns
 pub mod WorkedLemmas

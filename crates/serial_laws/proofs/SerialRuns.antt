@@ -1,5 +1,5 @@
 -- Runs of whole parts, one after the other, are the eager controller's.
-use Rattle.std.proofs.Common.{◌≡◌, ℕ, ◌<◌, ◌⊎◌, inl, inr, true, false, cond, IsTrue, All, List, [], ◌∷◌, ◌++◌, length, map, Option, Some, None, refl, sym, ap, ◌∙◌, subst}
+use Rattle.std.proofs.Common.{◌≡◌, ℕ, ◌<◌, ◌⊎◌, inl, inr, true, false, cond, All, List, [], ◌∷◌, ◌++◌, length, map, Option, Some, None, refl, sym, ap, ◌∙◌, subst}
 use Rattle.std.proofs.lemmas.Bool.{lt-ltb}
 use Rattle.std.proofs.lemmas.List.{append-nil, append_assoc}
 use Rattle.std.proofs.lemmas.List.Elements.{All-nil, All-cons, All-head, All-tail}
@@ -27,20 +27,19 @@ use Rattle.port_core.specs.Actor.{actor_count}
 use Rattle.port_core.specs.Run.{CoreState, opening, seat_at}
 use Rattle.core_proper.specs.Ideal.{after_moment, end_of_moments, ideal_of}
 use Rattle.core_proper.specs.Parts.{CoreMoment, begins, makes, ends}
+use Rattle.core_proper.specs.Progress.{Progress}
 use Rattle.core_proper.specs.Proper.{IsProperRun}
 use Rattle.core_proper.proofs.PartLemmas.{ideal_append}
 use Rattle.core_laws.proofs.HistorySteps.{runs_history}
-use Rattle.core_regs.specs.Followed.{opening_followed}
 use Rattle.core_fresh.specs.Excuse.{followed_in}
 use Rattle.core_fresh.proofs.RunFrame.{proper_before}
 use Rattle.core_home.specs.UpToDate.{IsUpToDate}
-use Rattle.core_late.specs.Late.{AccessesComeFirst, is_access_first}
-use Rattle.core_late.proofs.HistoryLemmas.{clause_from, kept_both}
+use Rattle.core_late.specs.Late.{AccessesComeFirst}
 use Rattle.core_lone.proofs.EaseRuns.{ease_is_up_to_date}
-use Rattle.core_lone.proofs.HereLemmas.{end_is}
+use Rattle.core_lone.proofs.HereLemmas.{end_is, p_is}
 use Rattle.serial_laws.specs.Serial.{AreFit, SerialRunsAreEager, WholePart, call_of, calls_of, is_icc, moment_by, moments_in, moments_of, piece_of}
 use Rattle.serial_laws.proofs.AloneRuns.{AllRest, rest_after, rest_opens}
-use Rattle.serial_laws.proofs.FirstRuns.{call_first}
+use Rattle.serial_laws.proofs.AccessRuns.{rests_first}
 use Rattle.serial_laws.proofs.PartLemmas.{part_stands, parts_stand}
 use Rattle.serial_laws.proofs.QuietLemmas.{call_quiet, named_so}
 use Rattle.serial_laws.proofs.ShowRuns.{part_shows, quiet_shows}
@@ -112,9 +111,9 @@ module _ (guest : GuestSpec) (number : ℕ) (good : IsGoodGuest guest) (early : 
 
   pub first_next : AccessesComeFirst guest number (early ++ moments_in part)
   first_next =
-      subst (λ ms. IsTrue (clause_from is_access_first (opening_followed guest) ms)) (sym ideal_next)
-      (kept_both is_access_first (ideal_of shape start early) (call_moments (call_of shape before part)) (opening_followed guest) first
-      (call_first shape ended.ended.beside part.actor part.operation piece part.answer (followed_in guest number early) (subst (λ n. part.actor < n) (sym (end_is guest number good early proper_early).doings_each) there) ended.is_call))
+      rests_first guest (ideal_of shape start (early ++ moments_in part)) good history
+      (λ actor within.
+      (end_is guest number good (early ++ moments_in part) proper).calls actor within ∙ ap (λ (q : Progress). q.operation) (p_is guest number (early ++ moments_in part) good proper actor) ∙ (rest_after guest number early part proper rest actor within).operation)
 
   pub shows_so : (is_icc part.operation ≡ true → IsUpToDate shape (followed_in guest number early)) → IsGoodCall shape part.actor part.operation → AllShow part.actor (last_of guest (ideal_of shape start early)) piece
   shows_so up able = elim (icc_or_not part.operation) [

@@ -1,16 +1,14 @@
 -- Within a part nobody else acts: each access of it shows the guest with all that stands at interfaces taken back.
-use Rattle.std.proofs.Common.{◌≡◌, ℕ, ◌⊎◌, ◌||◌, ◌&&◌, inl, inr, true≢false, not, Bool, true, false, cond, IsTrue, List, [], ◌∷◌, ◌++◌, Option, Some, None, unwrap_or, refl, sym, ap, ◌∙◌, subst}
+use Rattle.std.proofs.Common.{◌≡◌, ℕ, ◌⊎◌, inl, inr, true≢false, not, Bool, true, false, cond, IsTrue, List, [], ◌∷◌, ◌++◌, Option, Some, None, refl, sym, ap, ◌∙◌, subst}
 use Rattle.std.specs.List.{list_all}
-use Rattle.std.specs.Option.{option_map_or, option_to_list}
+use Rattle.std.specs.Option.{option_to_list}
 use Rattle.std.proofs.lemmas.Bool.{and_parts}
 use Rattle.std.proofs.lemmas.List.{append-nil, append_assoc}
 use Rattle.std.proofs.lemmas.List.Sums.{fold-append}
 use Rattle.gic_base.specs.declared.icc.IccReg.{IccReg}
-use Rattle.gic_base.specs.declared.icc.IccReg.TheVariants.{Iar0, Iar1, Hppir0, Hppir1, Eoir0, Eoir1, Dir}
 use Rattle.gic_base.specs.declared.interrupt.Key.{Key}
 use Rattle.gic_base.specs.declared.operation.GuestOp.TheVariants.{Icc}
 use Rattle.gic_base.specs.declared.shape.GuestShape.{GuestShape}
-use Rattle.gic_base.specs.Interrupt.{has_interrupt}
 use Rattle.gic_call.specs.declared.event.Event.{Event}
 use Rattle.gic_call.specs.declared.event.Event.TheVariants.{Cpu}
 use Rattle.gic_call.specs.declared.event.Moment.TheVariants.{Begin}
@@ -30,33 +28,29 @@ use Rattle.call_laws.proofs.RunLemmas.{events_of}
 use Rattle.port_core.specs.declared.local.Local.{Local}
 use Rattle.port_core.specs.declared.run.Made.{Made}
 use Rattle.port_core.specs.declared.step.CoreStep.TheVariants.{Poll}
-use Rattle.port_core.specs.declared.word_id.WordId.TheVariants.{Irq as IrqWord}
-use Rattle.gic_word.specs.Record.{is_number}
 use Rattle.port_core.specs.After.{local_after}
 use Rattle.port_core.specs.Forms.{vcpu_of}
-use Rattle.port_core.specs.Local.{is_at}
 use Rattle.port_core.specs.Port.{events_of as events_made}
 use Rattle.port_core.specs.Run.{CoreState, Seat, opening, seat_at}
 use Rattle.port_core.specs.Stands.{stands_for}
 use Rattle.core_proper.specs.Ideal.{end_of_moments, event_moments, ideal_moments, ideal_of}
 use Rattle.core_proper.specs.Parts.{makes, begins, CoreMoment}
-use Rattle.core_proper.specs.Progress.{Progress, Debt, paid, after_end, before_next, ended_by, is_end_of, is_paid}
-use Rattle.core_proper.specs.Proper.{IsProperRun, asks_first as asks_by, may_access}
+use Rattle.core_proper.specs.Proper.{IsProperRun}
 use Rattle.core_proper.proofs.PartLemmas.{ideal_append}
 use Rattle.core_fresh.specs.Excuse.{followed_in}
 use Rattle.core_fresh.specs.Far.{HasLookedFar}
 use Rattle.core_fresh.specs.Waiting.{record_in}
 use Rattle.core_fresh.proofs.RunFrame.{IsNextOf, end_more}
 use Rattle.core_home.proofs.ShowRuns.{up_to_date_shows_home}
-use Rattle.core_late.proofs.PollLemmas.{IsPolled, polled, seat_so}
+use Rattle.core_late.proofs.PollLemmas.{seat_so}
 use Rattle.core_late.proofs.StayLemmas.{IsAccess, access_so}
 use Rattle.core_late.proofs.LeavingLemmas.{is_access}
 use Rattle.core_lone.specs.Lone.{IsReadyFor, IsReadyToAsk}
-use Rattle.core_lone.proofs.HereLemmas.{end_is}
-use Rattle.core_lone.proofs.LoneRuns.{ended_there, lone_accesses_find_all, not_folding}
+use Rattle.core_lone.proofs.LoneRuns.{lone_accesses_find_all}
 use Rattle.serial_laws.specs.Serial.{WholePart, moment_by}
-use Rattle.serial_laws.proofs.AlongRuns.{IsAlong, IsLonePart, NamesNone, alone, along_on, history_at, next_so, one_on, opens_along, p_at, proper_at, seat_on, so_far, state_at, state_so, there, unwanted, up_now}
+use Rattle.serial_laws.proofs.AlongRuns.{IsAlong, IsLonePart, NamesNone, alone, along_on, history_at, next_so, one_on, opens_along, p_at, proper_at, seat_on, so_far, state_at, state_so, unwanted, up_now}
 use Rattle.serial_laws.proofs.QuietLemmas.{beside_no_access}
+use Rattle.serial_laws.proofs.ReadyRuns.{looked_far, may_ask}
 use Rattle.serial_laws.proofs.WantLemmas.{names_none}
 
 -- What is no access.
@@ -69,47 +63,6 @@ pub quiet_shows : (actor : ℕ) (piece : List Happened) (state : Ideal) → IsTr
 quiet_shows actor [] state quiet = tt
 quiet_shows actor (one ∷ piece) state quiet =
     let parts = and_parts (is_no_access one.event) (list_all is_no_access (events_of piece)) quiet in (shows_none state one.event parts.0, quiet_shows actor piece (happened actor one.event state) parts.1)
-
--- What an access asks for, and what it ends.
-
-asks_no_end : (shape : GuestShape) (vcpu : ℕ) (reg : IccReg) (write : Option ℕ) → asks_first reg write ≡ true → ended_by shape vcpu reg write ≡ None
-asks_no_end shape vcpu Iar0 None h = refl
-asks_no_end shape vcpu Iar1 None h = refl
-asks_no_end shape vcpu Hppir0 None h = refl
-asks_no_end shape vcpu Hppir1 None h = refl
-asks_no_end shape vcpu reg write h = absurd (true≢false (sym h))
-
-asks_so : (reg : IccReg) (write : Option ℕ) → asks_first reg write ≡ true → asks_by reg ≡ true
-asks_so Iar0 None h = refl
-asks_so Iar1 None h = refl
-asks_so Hppir0 None h = refl
-asks_so Hppir1 None h = refl
-asks_so reg write h = absurd (true≢false (sym h))
-
-ends_same : (shape : GuestShape) (vcpu : ℕ) (reg : IccReg) (write : Option ℕ) (key : Key) → ended_in shape vcpu reg write ≡ Some key → ended_by shape vcpu reg write ≡ Some key
-ends_same shape vcpu Eoir0 (Some value) key e = e
-ends_same shape vcpu Eoir1 (Some value) key e = e
-ends_same shape vcpu Dir (Some value) key e = e
-ends_same shape vcpu reg write key e = absurd (cc)
-
-paid_so : (debt : Debt) → IsTrue (may_access debt None) → IsTrue (is_paid debt)
-paid_so paid h = refl
-paid_so after_end h = absurd (cc)
-paid_so before_next h = absurd (cc)
-
-scanned_so : (trapping asks scanned : Bool) → asks ≡ true → IsTrue (not (trapping && asks) || scanned) → IsTrue (not trapping || scanned)
-scanned_so true true scanned e h = h
-scanned_so false asks scanned e h = refl
-scanned_so true false scanned e h = absurd (true≢false (sym e))
-
-inactive_so : (far : Option Bool) → IsTrue (not (unwrap_or far true)) → far ≡ Some false
-inactive_so None h = absurd (cc)
-inactive_so (Some true) h = absurd (cc)
-inactive_so (Some false) h = refl
-
-right_of : (a b : Bool) → a ≡ false → IsTrue (a || b) → IsTrue b
-right_of false b e h = h
-right_of true b e h = absurd (true≢false e)
 
 -- A part for an access of a CPU interface.
 
@@ -132,43 +85,17 @@ module _ (guest : GuestSpec) (number : ℕ) (early : List CoreMoment) (part : Wh
 
     -- the access
     module _ (step_is : made.step ≡ Poll (Some reg) write) (unkicked : (vcpu_of made.found).kick ≡ false) where
-      p : Progress
-      p = p_at guest number early part pre
-
       run : IsProperRun guest number (so_far early part pre)
       run = proper_at guest number early part lone pre (made ∷ late) e
 
-      polls : IsPolled shape (state_at guest number early part pre) v (p_at guest number early part pre) reg write
-      polls = polled guest number v lone.good (so_far early part pre) made next reg write step_is unkicked
-
       asks_ready : asks_first reg write ≡ true → IsReadyToAsk guest number (so_far early part pre) v
       asks_ready asks = record {
-        asks = record {
-          unkicked = polls.free;
-          none_failed = polls.none_failed;
-          loaded = polls.loaded;
-          paid = paid_so (p_at guest number early part pre).debt (subst (λ o. IsTrue (may_access (p_at guest number early part pre).debt o)) (asks_no_end shape v reg write asks) polls.proper.refill);
-          scanned = scanned_so (p_at guest number early part pre).trapping (asks_by reg) (p_at guest number early part pre).scanned (asks_so reg write asks) polls.proper.trap;
-        };
+        asks = may_ask guest number (so_far early part pre) v made reg write lone.good next step_is unkicked asks;
         unwanted = unwanted guest number early part lone pre (made ∷ late) e along (names_nothing asks);
       }
 
       looked : (key : Key) → ended_in shape v reg write ≡ Some key → (record_in shape (state_at guest number early part pre) key).holder ≡ None → HasLookedFar shape (state_at guest number early part pre) v (p_at guest number early part pre) key
-      looked key named none =
-          let is : IsTrue (has_interrupt shape key) = ended_there shape v reg write key named in
-          let here = end_is guest number lone.good (so_far early part pre) run in
-          let away : is_at key (p_at guest number early part pre).local.at ≡ false = ap (λ (l : Local). is_at key l.at) (seat_so guest number v lone.good (so_far early part pre) made next).local ∙ sym (here.sound.ties v (IrqWord key) (there guest number early part lone) is) ∙ ap (is_number v) none in
-          let far : IsTrue (is_at key (p_at guest number early part pre).local.at || (is_end_of shape v (p_at guest number early part pre).operation key && not (unwrap_or (p_at guest number early part pre).far true))) =
-          subst (λ o. IsTrue (option_map_or (λ key. is_at key (p_at guest number early part pre).local.at || (is_end_of shape v (p_at guest number early part pre).operation key && not (unwrap_or (p_at guest number early part pre).far true))) o true)) (ends_same shape v reg write key named) polls.proper.far in
-          let both = and_parts (is_end_of shape v (p_at guest number early part pre).operation key) (not (unwrap_or (p_at guest number early part pre).far true)) (right_of (is_at key (p_at guest number early part pre).local.at) (is_end_of shape v (p_at guest number early part pre).operation key && not (unwrap_or (p_at guest number early part pre).far true)) away far) in
-          record {
-            there = is;
-            unkicked = polls.free;
-            stays = not_folding (p_at guest number early part pre).local.phase polls.ready;
-            none_failed = polls.none_failed;
-            ends = both.0;
-            inactive = inactive_so (p_at guest number early part pre).far both.1;
-          }
+      looked = looked_far guest number (so_far early part pre) v made reg write lone.good next step_is unkicked
 
       ready : IsReadyFor guest number (so_far early part pre) v reg write
       ready = record { first = asks_ready; ends = looked }

@@ -18,10 +18,11 @@ use Rattle.port_core.proofs.OpeningLemmas.{seat_opens}
 use Rattle.core_proper.specs.Ideal.{after_moment, event_moments, ideal_of}
 use Rattle.core_proper.specs.Parts.{Act, CoreMoment, begins, ends, makes, own_acts}
 use Rattle.core_proper.proofs.PartLemmas.{same_end}
-use Rattle.core_laws.specs.Whole.{within_after}
+use Rattle.core_laws.specs.Whole.{AreEnded, within_after}
 use Rattle.core_laws.proofs.HistorySteps.{own_other, runs_history}
 use Rattle.core_laws.proofs.PrefixLemmas.{whole_is}
 use Rattle.end_laws.specs.End.{AreEmpty}
+use Rattle.fresh_laws.proofs.FreshRuns.{fresh_runs}
 use Rattle.end_laws.proofs.EndRuns.{runs_end}
 use Rattle.pe_place.specs.Calls.{calls_in}
 use Rattle.pe_place.specs.Parts.{AreCalls, Part, acts_in}
@@ -130,6 +131,7 @@ threads_are_a_history guest number world parts good run done =
     let woven = weaves.woven in
     let parted = weaves.proper.parted in
     let calls = calls_open guest number moments good parted.actors parted.run (λ n there. opens_idle guest number n there _ (parts n) (done n there) (own_acts n moments) (woven.own n there)) in
+    let ended : AreEnded guest.shape moments = λ n there. ap (fold within_after false) (woven.own n there) ∙ parts_over (parts n) in
     let state = same_end guest.shape (opening guest number) moments ∙ ap (end_of guest.shape (opening guest number)) woven.entries in
     record {
       moments = moments;
@@ -137,7 +139,8 @@ threads_are_a_history guest number world parts good run done =
       proper = weaves.proper;
       are_calls = calls;
       is = runs_history guest number moments good parted calls;
-      whole = whole_is guest number moments good parted calls (λ n there. ap (fold within_after false) (woven.own n there) ∙ parts_over (parts n));
+      fresh = fresh_runs guest number moments good weaves.proper calls ended;
+      whole = whole_is guest number moments good parted calls ended;
       calls = record {
         each = λ n there. calls_along guest.shape n moments (opening guest number) Residence ∙ ap (acts_calls Residence) (woven.own n there) ∙ parts_calls (parts n) Residence;
         others = λ n past. calls_along guest.shape n moments (opening guest number) Residence ∙ ap (acts_calls Residence) (none_other (actor_count guest.shape) n moments past parted.actors);

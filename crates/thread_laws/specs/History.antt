@@ -1,5 +1,6 @@
 -- What the actors of a guest did side by side is one history of the ideal controller, with the same answers (own choice).
 use Rattle.std.specs.Prelude.{◌≡◌, ℕ, ◌<◌, ◌≤◌, List, []}
+use Rattle.gic_history.specs.Fresh.{IsFresh}
 use Rattle.gic_history.specs.History.{IsWhole, opening_course}
 use Rattle.scn_base.specs.declared.guest.GuestSpec.{GuestSpec}
 use Rattle.scn_base.specs.Good.{IsGoodGuest}
@@ -21,7 +22,7 @@ pub record HaveCalls (guest : GuestSpec) (number : ℕ) (parts : ℕ → List Pa
   pub each : (actor : ℕ) → actor < actor_count guest.shape → calls_of actor (ideal_of guest.shape (opening guest number) moments) ≡ calls_in (parts actor)
   pub others : (actor : ℕ) → actor_count guest.shape ≤ actor → calls_of actor (ideal_of guest.shape (opening guest number) moments) ≡ []
 
--- what actors did side by side, with these steps in the order in which they came, are moments of a proper run, which stands for a history of the ideal
+-- what actors did side by side, with these steps in the order in which they came, are moments of a proper run, which stands for a fresh history of the ideal
 -- controller in which all calls ended, and each actor made its calls, with the same answers; the words and actors at its end say what that has then; and
 -- where no interrupt is at a CPU interface, the guest that they say is that one, with all that stands at interfaces taken back
 pub record HasHistory (guest : GuestSpec) (number : ℕ) (world : List Entry) (parts : ℕ → List Part) : Type 0 where
@@ -30,6 +31,7 @@ pub record HasHistory (guest : GuestSpec) (number : ℕ) (world : List Entry) (p
   pub proper : IsProperRun guest number moments
   pub are_calls : AreCalls guest.shape (opening guest number) (opening_course guest) moments
   pub is : IsHistoryOf guest number moments
+  pub fresh : IsFresh guest (ideal_of guest.shape (opening guest number) moments)
   pub whole : IsWhole guest (ideal_of guest.shape (opening guest number) moments)
   pub calls : HaveCalls guest number parts moments
   pub state : end_of_moments guest.shape (opening guest number) moments ≡ end_of guest.shape (opening guest number) world

@@ -1,0 +1,83 @@
+//! What open calls have still to do, as the moments that come after say.
+ghost use Rattle.std.specs.Prelude.{◌≡◌, ◌==◌, ◌&&◌, not};
+ghost use Rattle.gic_base.specs.Shape.{IsShape};
+ghost use Rattle.gic_history.specs.Named.{key_in as key_of_event};
+ghost use Rattle.gic_history.specs.Fresh.{is_event_of as is_event_of_key, ends_turn as ends_turn_with, is_to_come as is_to_come_in, is_awaited as is_awaited_in};
+
+use gic_base::{GuestShape, Key};
+use gic_call::{Event, Moment};
+
+/// The interrupt that an event changes or reads, if it is one of a call.
+pub fn key_in(event: &Event) -> Option<Key>
+    ensures { result ≡ key_of_event event.now }
+{
+    match *event {
+        Event::Raise { key } | Event::Up { key } | Event::Down { key } | Event::Touch { key, .. } =>
+            Some(key),
+        _ => None,
+    }
+}
+
+/// Whether an event is of an interrupt, of those that a call makes.
+fn is_event_of(key: Key, event: &Event) -> bool
+    ensures { result ≡ is_event_of_key key event.now }
+{
+    key_in(event) == Some(key)
+}
+
+/// Whether a command ends with an event, or what a call does before the next command.
+fn ends_turn(event: &Event) -> bool
+    ensures { result ≡ ends_turn_with event.now }
+{
+    matches!(event, Event::Queue { .. })
+}
+
+/// Whether an actor makes an event of an interrupt in the call, or the command of one, that it is in, where these moments
+/// come next.
+pub fn is_to_come(later: &[Moment], actor: u32, key: Key) -> bool
+    ensures { result ≡ is_to_come_in actor key later.now }
+{
+    for moment in later {
+        match moment {
+            Moment::Happens {
+                actor: other,
+                event,
+                ..
+            } => {
+                if *other == actor && is_event_of(key, event) {
+                    return true;
+                }
+                if *other == actor && ends_turn(event) {
+                    return false;
+                }
+            }
+            Moment::Begin { actor: other, .. } | Moment::End { actor: other, .. } => {
+                if *other == actor {
+                    return false;
+                }
+            }
+        }
+    }
+    false
+}
+
+/// Whether an actor is not the vCPU, and makes an event of an interrupt in the call, or the command of one, that it is in.
+fn is_others(later: &[Moment], vcpu: u32, key: Key, actor: u32) -> bool
+    ensures { result ≡ (not (actor == vcpu) && is_to_come_in actor key later.now) }
+{
+    actor != vcpu && is_to_come(later, actor, key)
+}
+
+/// Whether an actor other than a vCPU makes an event of an interrupt in the call, or the command of one, that it is in, where
+/// these moments come next.
+pub fn is_awaited(shape: &GuestShape, later: &[Moment], vcpu: u32, key: Key) -> bool
+    requires { IsShape shape.now }
+    ensures { result ≡ is_awaited_in shape.now later.now vcpu key }
+{
+    for actor in 0..shape.vcpus + shape.devices {
+        if is_others(later, vcpu, key, actor) {
+            return true;
+        }
+    }
+    false
+}

@@ -1,3 +1,0 @@
-pub mod AccessLemmas
-pub mod CommandLemmas
-pub mod ExcuseLemmas

@@ -1,9 +1,0 @@
-use Rattle.std.proofs.Common.{◌≡◌, filter}
-use Rattle.std.specs.List.{range_with_len}
-use Rattle.gic_word.specs.Record.{is_number}
-use Rattle.gic_history.specs.State.{view_at}
-use Rattle.history_named.proofs.command.lpis_for.Given as goal
-
--- those of the LPIs so far
-abbrev pub invariant-loop-number : goal.invariant-loop-number
-invariant-loop-number l = l.lpis ≡ filter (λ id. is_number l.vcpu ((view_at l.state).targets id)) (range_with_len 8192 l.number)
