@@ -6,6 +6,11 @@ ghost use Rattle.gic_io.specs.Faults.{HasRisen};
 ghost use Rattle.gic_top.specs.Command.{command_in};
 ghost use Rattle.gic_top.specs.Tool.{statuses, input_mode, ShownIn, IsOutcome, IsRefusal, HasItsAnswer, WasShown};
 
+mod explain;
+mod noted;
+
+use crate::explain::explain;
+use crate::noted::Noted;
 use gic_io::{Gate, OpenGate, Sink, Source, StdSink, StdSource};
 use gic_top::{Command, NOTHING_SHOWN, refuse_words, run_tool};
 use run_seq::SeqWatch;
@@ -67,11 +72,15 @@ fn status<R: Threads + Wait + Sync, S: Source, K: Sink, G: Gate + Sync, W: SeqWa
 }
 
 fn main(rt: HostRuntime) -> ExitCode {
-    let mut source = StdSource::new(&rt);
+    let mut source = Noted::new(rt.alloc(), StdSource::new(&rt));
     let mut sink = StdSink::new(&rt);
     let mut shown = NOTHING_SHOWN;
     let words = words(&rt);
-    ExitCode::from(status(
+    let command = words
+        .as_ref()
+        .ok()
+        .and_then(|words| Command::of(words.as_slice()));
+    let status = status(
         &rt,
         rt.alloc(),
         words,
@@ -79,5 +88,8 @@ fn main(rt: HostRuntime) -> ExitCode {
         &mut sink,
         &OpenGate,
         &mut shown,
-    ))
+    );
+    // The status is what it is, whether or not this can be told.
+    let _ = explain(&rt, rt.alloc(), command, status, source.bytes());
+    ExitCode::from(status)
 }

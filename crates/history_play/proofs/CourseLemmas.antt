@@ -18,7 +18,6 @@ use Rattle.gic_history.specs.State.{Ideal, standing_at, moved_at, with_irq, with
 use Rattle.gic_history.specs.Moves.{happened, with_entry, without}
 use Rattle.gic_history.specs.History.{Call, Course, call_of, seeing, made, gone_on}
 use Rattle.gic_history.specs.Fresh.{Doing, Track, Changes, doing_of, after_changes, after_leaving, after_doing, tracked, after_moment}
-use Rattle.gic_call.specs.declared.event.Operation.{Operation}
 use Rattle.history_check.proofs.ReadyLemmas.{all_set}
 use Rattle.history_check.proofs.TrackLemmas.{past_end}
 use Rattle.history_check.specs.Track.{doing_in}

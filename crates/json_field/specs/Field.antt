@@ -1,5 +1,5 @@
 -- What the fields of a JSON object hold: how numbers, flags, texts, lists and pairs are written (own choice).
-use Rattle.std.specs.Prelude.{ℕ, ◌+◌, ◌*◌, ◌&&◌, List, [], ◌∷◌, length, take, drop, Bool, false, nat_lt, nat_le, if◌then◌else◌, Option, Some, None, option_map, option_and_then, unwrap_or, codes}
+use Rattle.std.specs.Prelude.{ℕ, ◌+◌, ◌*◌, ◌&&◌, not, find, List, [], ◌∷◌, length, take, drop, Bool, false, nat_lt, nat_le, if◌then◌else◌, Option, Some, None, option_map, option_and_then, unwrap_or, codes}
 use Rattle.std.specs.Option.{option_map_or, option_zip}
 use Rattle.std.specs.List.{list_all, list_any}
 use Rattle.std.specs.Char.{digit_value}
@@ -43,6 +43,10 @@ names (member name d ms) = name ∷ names ms
 -- the value is an object, each field of which has one of these names
 abbrev pub has_only : List (List ℕ) → Data → Bool
 has_only allowed d = option_map_or (λ ms. list_all (λ name. list_any (bytes_eq name) allowed) (names ms)) (as_object d) false
+
+-- the first field of an object, in the order of its fields, that has none of these names
+abbrev pub other_field : List (List ℕ) → Data → Option (List ℕ)
+other_field allowed d = option_and_then (λ ms. find (λ name. not (list_any (bytes_eq name) allowed)) (names ms)) (as_object d)
 
 -- the elements of an array
 abbrev pub list_of : Data → Option (List Data)

@@ -1,10 +1,10 @@
 //! What the fields of a JSON object hold.
-ghost use Rattle.std.specs.Prelude.{◌≡◌, ◌<◌, ◌≤◌, IfSome, option_map, option_copied, length, map, string_bytes};
+ghost use Rattle.std.specs.Prelude.{◌≡◌, ◌<◌, ◌≤◌, not, find, IfSome, option_map, option_copied, length, map, string_bytes};
 ghost use Rattle.std.specs.List.{list_all, list_any};
 ghost use Rattle.std.specs.Str.{bytes_eq};
 ghost use Rattle.std.specs.BTreeMap.{keys};
 ghost use Rattle.serde_json.specs.View.{view};
-ghost use Rattle.json_field.specs.Field.{hex_digit as hex_digit_of, hex_digits as hex_digits_after, hex_number as hex_number_of, number_of as number_in, has_only as has_only_of, list_of as list_in, number_at as number_in_field, number_or as number_or_default, flag_or as flag_or_default, flag_at as flag_in_field, text_at as text_in_field, list_at as list_in_field, elements_at as elements_in_field, list_or_empty as list_or_none, pair_at as pair_in_field};
+ghost use Rattle.json_field.specs.Field.{hex_digit as hex_digit_of, hex_digits as hex_digits_after, hex_number as hex_number_of, number_of as number_in, has_only as has_only_of, other_field as other_field_of, list_of as list_in, number_at as number_in_field, number_or as number_or_default, flag_or as flag_or_default, flag_at as flag_in_field, text_at as text_in_field, list_at as list_in_field, elements_at as elements_in_field, list_or_empty as list_or_none, pair_at as pair_in_field};
 
 use serde_json::{Map, Value};
 
@@ -176,5 +176,27 @@ pub fn has_only(value: &Value, allowed: &[&str]) -> bool
     match value.as_object() {
         Some(fields) => are_among(fields, allowed),
         None => false,
+    }
+}
+
+/// The first name of a field that is none of these.
+fn first_other<'v>(fields: &'v Map<String, Value>, allowed: &[&str]) -> Option<&'v String>
+    ensures { option_copied result
+        ≡ find (λ key. not (list_any (λ name. bytes_eq (string_bytes key) name.now) allowed.now)) (keys fields.now) }
+{
+    fields.keys().find(|name| !is_among(name.as_str(), allowed))
+}
+
+/// The first field of an object, in the order of its fields, that has none of these names. None where each has one, or the value
+/// is no object.
+pub fn other_field<'v>(value: &'v Value, allowed: &[&str]) -> Option<&'v str>
+    ensures { option_copied result ≡ other_field_of (map (λ name. name.now) allowed.now) (view value.now) }
+{
+    match value.as_object() {
+        Some(fields) => match first_other(fields, allowed) {
+            Some(name) => Some(name.as_str()),
+            None => None,
+        },
+        None => None,
     }
 }

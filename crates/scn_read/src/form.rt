@@ -43,18 +43,29 @@ pub(crate) const UP: &str = "up";
 pub(crate) const PE: &str = "pe";
 
 /// The forms of steps, each by what it does.
-#[derive(Clone, Copy)]
-pub(crate) enum Form {
+#[derive(Clone, Copy, Debug, PartialEq, Eq)]
+pub enum Form {
+    /// A vCPU accesses a register of its CPU interface: `icc`.
     AccessRegister,
+    /// A vCPU accesses the distributor: `gicd`.
     AccessDistributor,
+    /// A vCPU accesses a redistributor: `gicr`.
     AccessRedistributor,
+    /// A vCPU accesses the ITS: `gits`.
     AccessIts,
+    /// A vCPU accesses memory: `ram`.
     AccessMemory,
+    /// A device sends a message to an SPI: `message`.
     SendMessage,
+    /// A device moves a wire: `wire`.
     MoveWire,
+    /// A device sends an event to the ITS: `msi`.
     SendMsi,
+    /// A vCPU enters a PE: `enter`.
     EnterPe,
+    /// The vCPU of a PE leaves it: `exit`.
     ExitPe,
+    /// The list registers of a PE are shown: `lrs`.
     ShowPe,
 }
 
@@ -74,17 +85,17 @@ const FORMS: [Form; 11] = [
 ];
 
 /// One row of the table of forms.
-#[derive(Clone, Copy)]
-pub(crate) struct Row {
+#[derive(Clone, Copy, Debug)]
+pub struct Row {
     /// The field that names the form.
-    pub(crate) name: &'static str,
+    pub name: &'static str,
     /// All fields that a step of the form may have.
-    pub(crate) fields: &'static [&'static str],
+    pub fields: &'static [&'static str],
 }
 
 impl Form {
     /// The row of the form.
-    pub(crate) fn row(self) -> Row
+    pub fn row(self) -> Row
         ensures name { result.name.now ≡ (row_of self).name }
         ensures fields { map (λ field. field.now) result.fields.now ≡ (row_of self).fields }
     {
@@ -111,8 +122,8 @@ impl Form {
         value.get(self.row().name).is_some()
     }
 
-    /// The form that a step names, if it names one.
-    pub(crate) fn of(value: &Value) -> Option<Form>
+    /// The form that a step names: the first, where it has the fields of two; then it has a field that its form has not.
+    pub fn of(value: &Value) -> Option<Form>
         ensures { result ≡ form_of (view value.now) }
     {
         first_named(&FORMS, value)

@@ -32,7 +32,7 @@ const ON: &str = "on";
 
 const IRQS: &str = "irqs";
 /// The fields of a guest.
-const GUEST_FIELDS: [&str; 8] = [VCPUS, SPIS, ESPIS, DEVICES, LPIS, RAM, ON, IRQS];
+pub const GUEST_FIELDS: [&str; 8] = [VCPUS, SPIS, ESPIS, DEVICES, LPIS, RAM, ON, IRQS];
 
 /// How many a guest has of each kind, as it is written: also where that is more than there may be.
 #[derive(Clone, Copy)]

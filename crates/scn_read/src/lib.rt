@@ -10,7 +10,10 @@ mod reading;
 mod refusal;
 mod step;
 
-pub use reading::read;
+pub use form::{Form, Row};
+pub use guest::GUEST_FIELDS;
+pub use preset::{PRIVATE_FIELDS, SHARED_FIELDS};
+pub use reading::{SCENARIO_FIELDS, read};
 pub use refusal::ReadRefusal;
 pub use scn_base::{
     ADDRESS, Answer, Answers, ColEnd, ColEnds, CpuEnd, CpuEnds, DevEnd, DevEnds, End, Ends, EvtEnd,

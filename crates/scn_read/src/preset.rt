@@ -23,9 +23,9 @@ const TO: &str = "to";
 
 const VCPU: &str = "vcpu";
 /// The fields of a preset of a private interrupt.
-const PRIVATE_FIELDS: [&str; 5] = [ID, PRIO, EDGE, GROUP, VCPU];
+pub const PRIVATE_FIELDS: [&str; 5] = [ID, PRIO, EDGE, GROUP, VCPU];
 /// The fields of a preset of a shared interrupt.
-const SHARED_FIELDS: [&str; 5] = [ID, PRIO, EDGE, GROUP, TO];
+pub const SHARED_FIELDS: [&str; 5] = [ID, PRIO, EDGE, GROUP, TO];
 
 /// How many a guest has of what presets name, as far as there may be.
 #[derive(Clone, Copy)]

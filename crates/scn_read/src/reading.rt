@@ -25,7 +25,7 @@ const GUESTS: &str = "guests";
 
 const STEPS: &str = "steps";
 /// The fields of a scenario.
-const SCENARIO_FIELDS: [&str; 4] = [PES, LRS, GUESTS, STEPS];
+pub const SCENARIO_FIELDS: [&str; 4] = [PES, LRS, GUESTS, STEPS];
 
 /// The step of a fault outside of the steps.
 const OUTSIDE: u32 = 0;

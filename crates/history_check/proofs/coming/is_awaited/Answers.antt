@@ -1,4 +1,4 @@
-use Rattle.std.proofs.Common.{◌≡◌, ℕ, Bool, ◌==◌, ◌&&◌, not, sym, ◌∙◌, arith}
+use Rattle.std.proofs.Common.{ℕ, Bool, ◌==◌, ◌&&◌, not, sym, ◌∙◌, arith}
 use Rattle.gic_history.specs.History.{actor_count}
 use Rattle.gic_history.specs.Fresh.{is_to_come}
 use Rattle.history_check.proofs.ExcuseLemmas.{none_more, any_found}

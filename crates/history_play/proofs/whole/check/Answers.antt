@@ -1,4 +1,4 @@
-use Rattle.std.proofs.Common.{◌+◌, ◌<◌, ◌≤◌, length, arith}
+use Rattle.std.proofs.Common.{◌<◌, length, arith}
 use Rattle.history_play.proofs.CheckLemmas.{opened, goes_in, plays_all, refuses, there_at}
 use Rattle.history_play.proofs.whole.check.Goals as goal
 
