@@ -1,0 +1,92 @@
+-- Actors of a guest by itself that are split off and joined again.
+use Rattle.std.proofs.Common.{◌≡◌, ℕ, zero, suc, ◌+◌, ◌<◌, false, List, [], ◌∷◌, ◌++◌, length, map, set, sym, ap, subst, ◌∙◌, arith}
+use Rattle.std.proofs.lemmas.List.{get_or-map, get_or-set_same}
+use Rattle.gic_base.specs.declared.operation.Actor.{Actor}
+use Rattle.gic_base.specs.declared.operation.Actor.TheVariants.{Device}
+use Rattle.scn_base.specs.declared.guest.GuestSpec.{GuestSpec}
+use Rattle.port_core.specs.declared.local.Local.{Local}
+use Rattle.port_core.specs.Actor.{guest_of}
+use Rattle.port_core.specs.Port.{Seen, IsPort, local_by}
+use Rattle.port_core.specs.Run.{opening_local_of}
+use Rattle.port_table.specs.Out.{AreOut}
+use Rattle.port_table.specs.Told.{WordsTold, RootTold, AreRoots, HasNoTurn, PortIsOf, AllDone, no_words, words_at, root_at, number_in, opening_root, opening_seen, with_split, with_joined, splitting, joining_in}
+use Rattle.port_table.proofs.OutLemmas.{out_opens, out_split, out_join, none_out}
+use Rattle.embed_example.specs.Alone.{IsAlone, IsRow}
+use Rattle.embed_example.specs.Same.{IsSame}
+
+module _ (words : List WordsTold) (alone : IsAlone words) where
+  first : 0 < length words
+  first = let one = alone.one in omega (arith, one)
+
+  first_root : (root : List RootTold) → AreRoots words root → 0 < length root
+  first_root root are = let one = alone.one in let each = are.each in omega (arith, one, each)
+
+  -- as the guest opens
+  pub row_opens : (root : List RootTold) → AreRoots words root → root ≡ map opening_root words → IsRow words root [] []
+  row_opens root are fresh =
+      let at : root_at root 0 ≡ opening_root (words_at words 0) = ap (λ r. root_at r 0) fresh ∙ get_or-map opening_root words 0 no_words (opening_root no_words) first in
+      record {
+        roots = are;
+        split_is = ap (λ (r : RootTold). r.split) at;
+        out_are = subst (λ r. AreOut (words_at words 0) r []) (sym at) (out_opens (words_at words 0));
+      }
+
+  -- an actor is split off
+  pub row_split :
+      (root new : List RootTold) (split out : List ℕ) (actor : Actor) (number : ℕ) → guest_of actor ≡ 0 → number_in words actor ≡ number → IsRow words root split out → AreRoots words new → new ≡ splitting words actor root
+      → IsRow words new (split ++ number ∷ []) (number ∷ out)
+  row_split root new split out actor number guest is row are made =
+      let at : root_at new 0 ≡ with_split number (root_at root 0) =
+      ap (λ r. root_at r 0) made
+      ∙ ap (λ g. root_at (set root g (with_split (number_in words actor) (root_at root g))) 0) guest
+      ∙ get_or-set_same root 0 (with_split (number_in words actor) (root_at root 0)) (opening_root no_words) (first_root root row.roots)
+      ∙ ap (λ n. with_split n (root_at root 0)) is in
+      record {
+        roots = are;
+        split_is = ap (λ (r : RootTold). r.split) at ∙ ap (λ s. s ++ number ∷ []) row.split_is;
+        out_are = subst (λ r. AreOut (words_at words 0) r (number ∷ out)) (sym at) (out_split (words_at words 0) (root_at root 0) out number row.out_are);
+      }
+
+  -- an actor has not the ITS
+  idle_port : (seen : Seen) → IsPort seen → seen.guest ≡ (words_at words 0).guest → seen.number ≡ (words_at words 0).number → seen.local.turn ≡ false → HasNoTurn (words_at words 0) (record { actor = seen.actor; own = seen.own })
+  idle_port seen port guest number idle =
+      subst (λ n. (local_by (words_at words 0).guest.shape seen.actor (opening_local_of (words_at words 0).guest n seen.actor) seen.own).turn ≡ false) number
+      (subst (λ (g : GuestSpec). (local_by g.shape seen.actor (opening_local_of g seen.number seen.actor) seen.own).turn ≡ false) guest (ap (λ (l : Local). l.turn) (sym port.made) ∙ idle))
+
+  -- it is joined again
+  pub row_join :
+      (root new : List RootTold) (split out : List ℕ) (number : ℕ) (seen : Seen) → IsPort seen → seen.guest ≡ (words_at words 0).guest → seen.number ≡ 0 → seen.actor ≡ number → seen.local.turn ≡ false → IsRow words root split (number ∷ out)
+      → AreRoots words new → new ≡ joining_in seen root → IsRow words new split out
+  row_join root new split out number seen port guest zero_is actor idle row are made =
+      let at : root_at new 0 ≡ with_joined seen.actor seen.own (root_at root 0) =
+      ap (λ r. root_at r 0) made
+      ∙ ap (λ g. root_at (set root g (with_joined seen.actor seen.own (root_at root g))) 0) zero_is
+      ∙ get_or-set_same root 0 (with_joined seen.actor seen.own (root_at root 0)) (opening_root no_words) (first_root root row.roots) in
+      let outs = subst (λ n. AreOut (words_at words 0) (root_at root 0) (n ∷ out)) (sym actor) row.out_are in
+      record {
+        roots = are;
+        split_is = ap (λ (r : RootTold). r.split) at ∙ row.split_is;
+        out_are =
+            subst (λ r. AreOut (words_at words 0) r out) (sym at)
+            (out_join (words_at words 0) (root_at root 0) out seen.actor seen.own outs (idle_port seen port guest (zero_is ∙ sym alone.number) idle));
+      }
+
+  -- while no actor is out, all is done
+  pub row_done : (root : List RootTold) (split : List ℕ) → IsRow words root split [] → AllDone words root
+  row_done root split row zero there = none_out (words_at words 0) (root_at root 0) row.out_are
+  row_done root split row (suc n) there = let one = alone.one in absurd (omega (arith, one, there))
+
+-- the port of an actor that was split off is of the words, and stays so
+pub row_port : (words : List WordsTold) (actor : ℕ) (old new : Seen) → IsAlone words → old ≡ opening_seen (words_at words 0) actor → IsSame old new → (new.guest ≡ (words_at words 0).guest) × (new.number ≡ 0) × (new.actor ≡ actor)
+row_port words actor old new alone is same = (
+  same.guest ∙ ap (λ s. s.guest) is,
+  same.number ∙ ap (λ s. s.number) is ∙ alone.number,
+  same.actor ∙ ap (λ s. s.actor) is,
+)
+
+pub row_of : (words : List WordsTold) (old new : Seen) → PortIsOf words old → IsSame old new → PortIsOf words new
+row_of words old new of same = record { guest = subst (λ n. n < length words) (sym same.number) of.guest; home = ap (λ n. (words_at words n).home) same.number ∙ of.home ∙ sym same.home }
+
+-- the device comes after the vCPUs
+pub device_number : (words : List WordsTold) (device : ℕ) → IsAlone words → number_in words (Device 0 device) ≡ 2 + device
+device_number words device alone = ap (λ n. n + device) alone.vcpus

@@ -1,0 +1,58 @@
+//! A small VMM over the libraries of this repository: the same machine in one thread and on threads, and what its guest reads.
+#![tactic(auto)]
+
+mod device;
+mod exit;
+mod fault;
+mod machine;
+mod one_thread;
+mod program;
+mod signals;
+mod threads;
+mod turns;
+mod vcpu;
+mod waking;
+
+use gic_word::{pending, unpack};
+use port_core::GuestWords;
+use std::io;
+use vcpu::Vcpu;
+
+/// Prints what a vCPU read, in order.
+fn print_reads(rt: &impl Print, number: u32, vcpu: &Vcpu) -> io::Result<()> {
+    for read in &vcpu.reads {
+        let exit = read.exit;
+        let value = read.value;
+        println!(rt; "vcpu {number} reads {exit}: 0x{value:x}")?;
+    }
+    Ok(())
+}
+
+/// An interrupt's word says that it is neither pending nor active.
+fn is_idle(word: &u64) -> bool {
+    unpack(*word).is_some_and(|irq| !pending(&irq) && irq.act_by.is_none())
+}
+
+/// So do all words of interrupts that a guest ended with.
+fn are_idle(guest: &GuestWords) -> bool {
+    guest.irqs.iter().all(is_idle)
+}
+
+fn main(rt: HostRuntime) -> anyhow::Result<()> {
+    let (boot, other) = (program::first(), program::second());
+    println!(rt; "one thread")?;
+    let mut first = Vcpu::new(rt.alloc(), &boot)?;
+    let mut second = Vcpu::new(rt.alloc(), &other)?;
+    one_thread::run(&rt, rt.alloc(), &mut first, &mut second)?;
+    print_reads(&rt, 0, &first)?;
+    print_reads(&rt, 1, &second)?;
+    println!(rt; "threads")?;
+    let mut first = Vcpu::new(rt.alloc(), &boot)?;
+    let mut second = Vcpu::new(rt.alloc(), &other)?;
+    let ends = threads::run(&rt, rt.alloc(), &mut first, &mut second)?;
+    print_reads(&rt, 0, &first)?;
+    print_reads(&rt, 1, &second)?;
+    let are_all_idle = ends.iter().all(are_idle);
+    println!(rt; "no interrupt is left: {are_all_idle}")?;
+    Ok(())
+}

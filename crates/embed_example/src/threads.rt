@@ -1,0 +1,165 @@
+//! The machine on threads: each vCPU and the device with a port of its own over words that all share.
+ghost use Rattle.std.specs.Prelude.{◌≡◌, IfOk, OnOk, map};
+ghost use Rattle.std.specs.Thread.{IsSync};
+ghost use Rattle.port_table.specs.All.{told_words, told_root};
+ghost use Rattle.port_table.specs.Ports.{seen_of};
+ghost use Rattle.port_table.specs.Told.{AreRoots, AllDone, opening_root};
+ghost use Rattle.embed_example.specs.Alone.{IsAlone};
+ghost use Rattle.embed_example.specs.Same.{Rests};
+
+use crate::device::Device;
+use crate::fault::Fault;
+use crate::machine::SHAPE;
+use crate::signals::Signals;
+use crate::turns::TakesTurns;
+use crate::vcpu::Vcpu;
+use crate::waking::Waking;
+use gic_base::Actor;
+use port_core::{EndWords, Port};
+use port_rest::one_guest;
+use port_table::{RootSeat, SharedWords, TablePort, finish, join, split, start};
+use scn_base::Mode;
+use std::alloc::Global;
+use std::sync::Wait;
+use std::thread::{Threads, join_mut};
+
+/// A thread: one turn after the other, until all is done.
+#[tactic(auto, using(crate::proofs::SameLemmas::same_joins, crate::proofs::SameLemmas::same_here))]
+fn run_one<P: Port, T: TakesTurns, R: Wait>(
+    rt: &R,
+    port: &mut P,
+    who: &mut T,
+    signals: &Signals,
+) -> Result<(), Fault>
+    requires { (P.seen port.old).number ≡ 0 }
+    ensures { OnOk result (Rests (P.seen port.old) (P.seen port.new)) }
+{
+    for _ in rt.forever() {
+        signals.noted(who.turn(rt, port, signals))?;
+        if who.is_through() {
+            return Ok(());
+        }
+        if signals.is_stopped() {
+            return Err(Fault::Stopped);
+        }
+        signals.sleep(rt, port.actor());
+    }
+    unreachable!()
+}
+
+/// The thread of a vCPU and that of the device.
+fn run_two<R: Threads + Wait + Sync>(
+    rt: &R,
+    one: &mut Waking<'_, TablePort<'_>>,
+    two: &mut Waking<'_, TablePort<'_>>,
+    vcpu: &mut Vcpu,
+    signals: &Signals,
+) -> Result<(), Fault>
+    requires one { (seen_of one.old.port).number ≡ 0 }
+    requires two { (seen_of two.old.port).number ≡ 0 }
+    ensures one { OnOk result (Rests (seen_of one.old.port) (seen_of one.new.port)) }
+    ensures two { OnOk result (Rests (seen_of two.old.port) (seen_of two.new.port)) }
+{
+    let mut device = Device::new();
+    let (vcpu_went, device_went) = join_mut(
+        rt,
+        &mut || run_one(rt, one, vcpu, signals),
+        &mut || run_one(rt, two, &mut device, signals),
+    );
+    vcpu_went?;
+    device_went
+}
+
+/// The threads of both vCPUs and of the device.
+fn run_three<R: Threads + Wait + Sync>(
+    rt: &R,
+    one: &mut Waking<'_, TablePort<'_>>,
+    two: &mut Waking<'_, TablePort<'_>>,
+    three: &mut Waking<'_, TablePort<'_>>,
+    first: &mut Vcpu,
+    second: &mut Vcpu,
+    signals: &Signals,
+) -> Result<(), Fault>
+    requires one { (seen_of one.old.port).number ≡ 0 }
+    requires two { (seen_of two.old.port).number ≡ 0 }
+    requires three { (seen_of three.old.port).number ≡ 0 }
+    ensures one { OnOk result (Rests (seen_of one.old.port) (seen_of one.new.port)) }
+    ensures two { OnOk result (Rests (seen_of two.old.port) (seen_of two.new.port)) }
+    ensures three { OnOk result (Rests (seen_of three.old.port) (seen_of three.new.port)) }
+{
+    let (first_went, others_went) = join_mut(
+        rt,
+        &mut || run_one(rt, one, first, signals),
+        &mut || -> Result<(), Fault>
+            requires { IsSync R.row × ((seen_of two.now.port).number ≡ 0) × ((seen_of three.now.port).number ≡ 0) }
+            ensures { OnOk result (Rests (seen_of two.entry.now.port) (seen_of two.exit.now.port) × Rests (seen_of three.entry.now.port) (seen_of three.exit.now.port)) }
+        { run_two(rt, two, three, second, signals) },
+    );
+    first_went?;
+    others_went
+}
+
+/// Each actor gets a port, and a thread, and the root has their steps after that.
+fn run_all<R: Threads + Wait + Sync>(
+    rt: &R,
+    words: &SharedWords,
+    root: RootSeat,
+    first: &mut Vcpu,
+    second: &mut Vcpu,
+) -> Result<RootSeat, Fault>
+    requires alone { IsAlone (told_words words.now) }
+    requires roots { AreRoots (told_words words.now) (told_root root) }
+    requires fresh { told_root root ≡ map opening_root (told_words words.now) }
+    ensures roots { IfOk result (λ root. AreRoots (told_words words.now) (told_root root)) }
+    ensures done { IfOk result (λ root. AllDone (told_words words.now) (told_root root)) }
+{
+    let signals = Signals::new();
+    let mut root = root;
+    let mut one = Waking {
+        port: split(words, &mut root, Actor::Vcpu { guest: 0, vcpu: 0 }),
+        signals: &signals,
+    };
+    let mut two = Waking {
+        port: split(words, &mut root, Actor::Vcpu { guest: 0, vcpu: 1 }),
+        signals: &signals,
+    };
+    let device = Actor::Device {
+        guest: 0,
+        device: 0,
+    };
+    let mut three = Waking {
+        port: split(words, &mut root, device),
+        signals: &signals,
+    };
+    run_three(rt, &mut one, &mut two, &mut three, first, second, &signals)?;
+    join(words, &mut root, three.port);
+    join(words, &mut root, two.port);
+    join(words, &mut root, one.port);
+    Ok(root)
+}
+
+/// The words of the machine as it opens, and its root.
+fn open(alloc: Global) -> Result<(SharedWords, RootSeat), Fault>
+    ensures alone { IfOk result (λ both. IsAlone (told_words both.0)) }
+    ensures roots { IfOk result (λ both. AreRoots (told_words both.0) (told_root both.1)) }
+    ensures fresh { IfOk result (λ both. told_root both.1 ≡ map opening_root (told_words both.0)) }
+{
+    let scenario = one_guest(alloc, SHAPE, false, &[])?;
+    let guests = scenario.guests.as_slice();
+    if guests.len() != 1 || guests[0].shape != SHAPE || !scenario.is_good(alloc, Mode::Threads)? {
+        return Err(Fault::BadGuest);
+    }
+    Ok(start(alloc, &scenario)?)
+}
+
+/// Runs the machine from its opening: the words that its guest ends with.
+pub fn run<R: Threads + Wait + Sync>(
+    rt: &R,
+    alloc: Global,
+    first: &mut Vcpu,
+    second: &mut Vcpu,
+) -> Result<EndWords, Fault> {
+    let (words, root) = open(alloc)?;
+    let root = run_all(rt, &words, root, first, second)?;
+    Ok(finish(alloc, words, root)?)
+}

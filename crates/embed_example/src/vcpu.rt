@@ -1,0 +1,158 @@
+//! The loop of a vCPU.
+ghost use Rattle.std.specs.Prelude.{◌≡◌, IfSome, OnOk};
+ghost use Rattle.pe_loop.specs.Stay.{IsOff, IsUp};
+ghost use Rattle.embed_example.specs.Same.{IsSame};
+
+use crate::exit::Exit;
+use crate::fault::Fault;
+use crate::machine::{DOORBELL, LIST_REGISTERS, operation_of};
+use crate::signals::Signals;
+use crate::turns::TakesTurns;
+use gic_base::IccReg;
+use pe_icc::icc_op;
+use pe_loop::{enter, leave};
+use pe_op::guest_op;
+use port_core::Port;
+use port_rest::is_off;
+use std::alloc::{AllocError, Global};
+use std::sync::Wait;
+use vcpu_state::{Loaded, Shelved};
+
+/// What HPPIR1 reads where no interrupt of group 1 is pending.
+const NO_INTERRUPT: u64 = 1023;
+
+/// A value that guest code read, and by which exit.
+#[derive(Clone, Copy, Debug, PartialEq, Eq)]
+pub struct Read {
+    pub exit: Exit,
+    pub value: u64,
+}
+
+/// A vCPU as the VMM has it: its code, as the exits that it makes, the next of them, and what it read.
+#[derive(Drop)]
+pub struct Vcpu {
+    code: Vec<Exit>,
+    next: usize,
+    pub reads: Vec<Read>,
+}
+
+/// What comes of an exit.
+enum After {
+    /// Guest code goes on, with the value that it reads, if it reads one.
+    GoesOn(Option<u64>),
+    /// It waits, since no interrupt is there.
+    Waits,
+}
+
+/// The vCPU of a port, which is on no PE. None where the port is no vCPU's, or it is in the middle of a call.
+fn shelved<P: Port>(port: &P) -> Option<Shelved>
+    requires { (P.seen port.now).number ≡ 0 }
+    ensures { IfSome result (λ vcpu. IsOff (P.seen port.now) vcpu) }
+{
+    let vcpu = port.actor();
+    if vcpu >= port.shape().vcpus || !is_off(port.local_ref()) {
+        return None;
+    }
+    Some(Shelved {
+        guest: 0,
+        vcpu,
+        cpu: port.local_ref().cpu,
+        next: 0,
+    })
+}
+
+/// Handles an exit of a vCPU that is on a PE.
+#[tactic(auto, using(crate::proofs::SameLemmas::same_adds, crate::proofs::SameLemmas::same_here))]
+fn handle<P: Port, R: Wait>(
+    rt: &R,
+    port: &mut P,
+    vcpu: &mut Loaded,
+    exit: Exit,
+    signals: &Signals,
+) -> Result<After, Fault>
+    requires up { IsUp (P.seen port.old) vcpu.old }
+    ensures up { IsUp (P.seen port.new) vcpu.new }
+    ensures same { IsSame (P.seen port.old) (P.seen port.new) }
+{
+    match exit {
+        Exit::WaitForInterrupt => {
+            let first = icc_op(rt, port, vcpu, IccReg::Hppir1, None);
+            if first == Some(NO_INTERRUPT) {
+                return Ok(After::Waits);
+            }
+            Ok(After::GoesOn(None))
+        }
+        Exit::Mmio { address, .. } if address == DOORBELL => {
+            signals.ring();
+            Ok(After::GoesOn(None))
+        }
+        Exit::Mmio { .. } | Exit::Register { .. } => {
+            let Some(op) = operation_of(&port.shape(), exit) else {
+                return Err(Fault::UnknownAccess);
+            };
+            Ok(After::GoesOn(guest_op(rt, port, vcpu, &op)?))
+        }
+    }
+}
+
+impl Vcpu {
+    /// A vCPU that is to run this code. An error where memory is refused.
+    pub fn new(alloc: Global, code: &[Exit]) -> Result<Self, AllocError> {
+        Ok(Vcpu {
+            code: Vec::from_slice(alloc, code)?,
+            next: 0,
+            reads: Vec::new(alloc),
+        })
+    }
+
+    /// Runs guest code on a PE, from exit to exit, until it waits for an interrupt or is through.
+    #[tactic(auto, using(crate::proofs::SameLemmas::same_joins, crate::proofs::SameLemmas::same_here))]
+    fn run<P: Port, R: Wait>(
+        &mut self,
+        rt: &R,
+        port: &mut P,
+        vcpu: &mut Loaded,
+        signals: &Signals,
+    ) -> Result<(), Fault>
+        requires up { IsUp (P.seen port.old) vcpu.old }
+        ensures up { OnOk result (IsUp (P.seen port.new) vcpu.new) }
+        ensures same { OnOk result (IsSame (P.seen port.old) (P.seen port.new)) }
+    {
+        for (number, exit) in self.code.iter().enumerate().skip(self.next) {
+            match handle(rt, port, vcpu, *exit, signals)? {
+                After::GoesOn(None) => {}
+                After::GoesOn(Some(value)) => self.reads.push(Read { exit: *exit, value })?,
+                After::Waits => {
+                    self.next = number;
+                    return Ok(());
+                }
+            }
+        }
+        self.next = self.code.len();
+        Ok(())
+    }
+}
+
+impl TakesTurns for Vcpu {
+    /// The vCPU enters a PE, runs guest code there, and leaves it.
+    #[tactic(auto, using(crate::proofs::SameLemmas::same_adds, crate::proofs::SameLemmas::same_joins, crate::proofs::SameLemmas::same_here, crate::proofs::SameLemmas::rests_off))]
+    fn turn<P: Port, R: Wait>(
+        &mut self,
+        rt: &R,
+        port: &mut P,
+        signals: &Signals,
+    ) -> Result<(), Fault> {
+        let Some(vcpu) = shelved(port) else {
+            return Err(Fault::NotAtRest);
+        };
+        let mut loaded = enter(port, vcpu, LIST_REGISTERS);
+        self.run(rt, port, &mut loaded, signals)?;
+        leave(port, loaded);
+        Ok(())
+    }
+
+    /// Whether all of its code was run.
+    fn is_through(&self) -> bool {
+        self.next == self.code.len()
+    }
+}
