@@ -1,0 +1,186 @@
+"""The worked scenarios of the repository, each with what the reader says of it."""
+import json
+import re
+from typing import NamedTuple
+
+from .rattle import NoData, Source, Struct, end_of, find, split
+
+BAD = re.compile(r"bad scenario: code (\d+) step (\d+)")
+# A document's row of a fault: the code, a scenario between backticks, and the message.
+FAULT_ROW = re.compile(r"\| \d \| `(\{.*\})` \| `(bad scenario: .*)` \|")
+MAX_STEPS = 100_000
+
+
+class Row(NamedTuple):
+    """A scenario as JSON, and the code and the step of its fault; none where it has no fault."""
+    place: str
+    text: str
+    fault: tuple | None
+
+
+def fault_in(told):
+    """The fault that a text names."""
+    bad = BAD.match(told)
+    return (int(bad[1]), int(bad[2])) if bad else None
+
+
+def examples(root):
+    """The scenarios of examples/, each with its text."""
+    for path in sorted(root.glob("examples/*.json")):
+        yield Row(f"examples/{path.name}", path.read_text(), fault_in(path.with_suffix(".txt").read_text()))
+
+
+def documented(root):
+    """The scenarios in the table of faults."""
+    for row in FAULT_ROW.finditer((root / "docs/SCENARIO.md").read_text()):
+        yield Row("docs/SCENARIO.md", row[1], fault_in(row[2]))
+
+
+def sources(root):
+    """The sources of all crates: each with the crate's and the module's name."""
+    for crate in sorted((root / "crates").iterdir()):
+        modules = {}
+        for path in sorted((crate / "src").glob("*.rt")):
+            modules[path.stem] = Source(modules, path.read_text())
+        yield from ((crate.name, module, source) for module, source in modules.items())
+
+
+def tests(root):
+    """The scenarios of all tests, of whatever form."""
+    for crate, module, source in sources(root):
+        own = MADE.get((crate, module))
+        rows = [*of_tables(source), *of_calls(source, is_made=own is not None), *(own(source) if own else [])]
+        rows += of_texts(source, {text for _, text, _ in rows})
+        yield from dict.fromkeys(Row(f"crates/{crate}/src/{module}.rt: {name}", text, fault) for name, text, fault in rows)
+
+
+def of_tables(source):
+    """The rows of the tables that are constants of a file: of structs, of an input, a status and a text, or of
+    a text with its fault and what is told of it."""
+    for name in source.constants:
+        for entry in table_of(source, name):
+            if isinstance(entry, Struct) and {"before", "steps", "lines"} <= set(entry):
+                yield f"{name}, {entry['shows']}", joined(entry), fault_in(entry["lines"][0])
+            elif isinstance(entry, Struct) and {"scenario", "text"} <= set(entry):
+                yield name, entry["scenario"], fault_in(entry["text"])
+            elif isinstance(entry, tuple) and len(entry) == 3 and is_scenario(entry[0]):
+                yield name, as_text(entry[0]), fault_in(entry[2])
+            elif isinstance(entry, tuple) and len(entry) == 2 and is_fault(entry[0]):
+                yield name, entry[0][0], entry[0][1:]
+
+
+def is_fault(entry):
+    """A text with a code and a step."""
+    return isinstance(entry, tuple) and len(entry) == 3 and isinstance(entry[0], str) and all(type(it) is int for it in entry[1:])
+
+
+def table_of(source, name):
+    """The elements of a constant that is a list; none where it is no list of data. One of scenarios has to be read, and whole."""
+    has_scenarios = not {("name", "before"), ("name", "scenario")}.isdisjoint(source.constants[name])
+    try:
+        table = source.constant(name)
+    except NoData:
+        if has_scenarios:
+            raise
+        return []
+    if has_scenarios and source.types[name][-2] != ("number", len(table)):
+        raise NoData(f"{name} has {len(table)} rows")
+    return table if isinstance(table, list) else []
+
+
+def joined(row):
+    """The scenario of a row whose steps are in parts."""
+    steps = ",".join(step for part in row["steps"] for step in part)
+    return f'{{{row["before"]},"steps":[{steps}]}}'
+
+
+def as_text(text):
+    """A text, or the text of its bytes."""
+    return text.decode(errors="replace") if isinstance(text, bytes) else text
+
+
+def is_scenario(text):
+    """A text is an object with guests and steps."""
+    try:
+        value = json.loads(as_text(text)) if isinstance(text, (str, bytes)) else None
+    except ValueError:
+        return False
+    return isinstance(value, dict) and {"guests", "steps"} <= set(value)
+
+
+def of_calls(source, is_made):
+    """The rows of the calls that go over a table: each of it, between two texts, with its fault. A call with what a test makes in its code
+    is no such call; `is_made` says that the file has some."""
+    for at, token in enumerate(source.tokens):
+        if token != ("name", "expect_faults") or source.tokens[at - 1] == ("name", "fn") or source.tokens[at + 1] != ("mark", "("):
+            continue
+        arguments = split(source.tokens[at + 2:end_of(source.tokens, at + 1)], ",")
+        known = values_before(source, at)
+        try:
+            before, table, after = (source.value(tokens, known) for tokens in arguments[3:6])
+        except NoData:
+            if is_made:
+                continue
+            raise
+        for middle, fault in table:
+            yield arguments[4][-1][1], before + middle + after, fault
+
+
+def values_before(source, end):
+    """The values of the names that a file binds before a place, each by its last binding, as far as they are data."""
+    known = {}
+    for at in range(end):
+        if source.tokens[at] != ("name", "let"):
+            continue
+        if source.tokens[at + 1] == ("name", "mut"):
+            known.pop(source.tokens[at + 2][1], None)
+        elif source.tokens[at + 2] == ("mark", "="):
+            name = source.tokens[at + 1][1]
+            known.pop(name, None)
+            try:
+                known[name] = source.value(source.tokens[at + 3:find(source.tokens, at + 3, ";")], known)
+            except NoData:
+                pass
+    return known
+
+
+def of_texts(source, within):
+    """The texts that are whole scenarios by themselves and in no row: of each its test asks that it is read."""
+    for kind, text in source.tokens:
+        if kind == "text" and is_scenario(text) and as_text(text) not in within:
+            yield "a text", as_text(text), None
+
+
+# Scenarios that tests make in their code, made here in the same way.
+
+def many(source):
+    """All steps of a guest."""
+    steps = ",".join(step for part in source.constant("PARTS") for step in part)
+    yield "GUEST and PARTS", f'{source.constant("GUEST")}{steps}]}}', None
+
+
+def registers(source):
+    """A read and a write of each register."""
+    before = '{"guests":[{}],"steps":[{"vcpu":[0,0],"icc":"'
+    for name, is_read, is_written in source.constant("REGISTERS"):
+        yield "REGISTERS", f'{before}{name}"}}]}}', None if is_read else (3, 1)
+        yield "REGISTERS", f'{before}{name}","write":40}}]}}', None if is_written else (3, 1)
+
+
+def full(source):
+    """As many steps as there may be, the first of which is none, and one more."""
+    before = '{"guests":[{}],"steps":[{}' + ",7" * (MAX_STEPS - 1)
+    yield "counts_steps", before + "]}", (1, 1)
+    yield "counts_steps", before + ",7]}", (2, 0)
+
+
+MADE = {("thr_rows", "many"): many, ("scn_rows", "steps"): registers, ("scn_rows", "outside"): full}
+
+
+def left_out(root, rows):
+    """The texts in sources that look like a part of a scenario and are in no row."""
+    whole = "\n".join(row.text for row in rows if len(row.text) < MAX_STEPS)
+    for crate, module, source in sources(root):
+        for kind, text in source.tokens:
+            if kind == "text" and '"guests"' in as_text(text) and as_text(text) not in whole:
+                yield f"crates/{crate}/src/{module}.rt: {as_text(text)[:60]}"
