@@ -1,1 +1,1 @@
-pub mod SameLemmas
+pub mod RestLemmas

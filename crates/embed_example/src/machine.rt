@@ -1,11 +1,10 @@
 //! The machine: what its guest has, and where the frames of the GIC are among the guest physical addresses.
-ghost use Rattle.std.specs.Prelude.{◌<◌, ◌%◌, ◌≡◌, IsTrue, IfSome};
-ghost use Rattle.gic_ram.specs.Access.{is_size as is_size_of};
-ghost use Rattle.scn_base.specs.Good.{fits as fits_in, has_frame as has_frame_in, is_inside as is_inside_of, is_good_op as is_good_op_of};
+ghost use Rattle.std.specs.Prelude.{◌<◌, IsTrue, IfSome};
+ghost use Rattle.scn_base.specs.Good.{is_good_op as is_good_op_of};
 
 use crate::exit::Exit;
 use gic_base::{Frame, GuestOp, GuestShape};
-use gic_ram::split;
+use scn_base::is_good_op;
 
 /// Two vCPUs, SPIs 32 to 63, LPIs 8192 to 8207 with an ITS, 64 KiB of memory that the GIC reads, and one device.
 pub const SHAPE: GuestShape = GuestShape {
@@ -65,68 +64,6 @@ fn frame_at(address: u64) -> Option<(Frame, u32)> {
     Some((Frame::Ram, offset_in(address, 0, SHAPE.ram)?))
 }
 
-/// A size that an access may have, and a value that fits it.
-fn is_fit(size: u32, write: Option<u64>) -> bool
-    ensures size { IsTrue result → IsTrue (is_size_of size) }
-    ensures fits { IsTrue result → IsTrue (fits_in size write) }
-{
-    let most = match size {
-        1 => u64::from(u8::MAX),
-        2 => u64::from(u16::MAX),
-        4 => u64::from(u32::MAX),
-        8 => u64::MAX,
-        _ => return false,
-    };
-    write.is_none_or(|value| value <= most)
-}
-
-/// The guest has what is accessed.
-fn is_there(shape: &GuestShape, frame: Frame) -> bool
-    ensures { IsTrue result → IsTrue (has_frame_in shape.now frame) }
-{
-    match frame {
-        Frame::Redist { vcpu } => vcpu < shape.vcpus,
-        Frame::Dist | Frame::Its | Frame::Ram => true,
-    }
-}
-
-/// An access lies in its frame.
-fn is_inside(shape: &GuestShape, frame: Frame, offset: u32, size: u32) -> bool
-    requires size { IsTrue (is_size_of size) }
-    requires ram { shape.now.ram % 8 ≡ 0 }
-    ensures { IsTrue result → IsTrue (is_inside_of shape.now frame offset size) }
-{
-    match frame {
-        Frame::Dist => offset < GICD_BYTES,
-        Frame::Redist { .. } => offset < GICR_BYTES,
-        Frame::Its => offset < GITS_BYTES,
-        Frame::Ram => split(u64::from(offset), size, shape.ram).is_some(),
-    }
-}
-
-/// The guest can do an operation.
-fn is_good(shape: &GuestShape, op: &GuestOp) -> bool
-    ensures { IsTrue result → IsTrue (is_good_op_of shape.now op.now) }
-{
-    match *op {
-        GuestOp::Icc { reg, write } => match write {
-            None => reg.is_readable(),
-            Some(_) => reg.is_writable(),
-        },
-        GuestOp::Mem {
-            frame,
-            offset,
-            size,
-            write,
-        } => {
-            if !is_fit(size, write) || shape.ram % 8 != 0 {
-                return false;
-            }
-            is_there(shape, frame) && is_inside(shape, frame, offset, size)
-        }
-    }
-}
-
 /// The operation that an exit is. None where it is none that the guest can do.
 pub fn operation_of(shape: &GuestShape, exit: Exit) -> Option<GuestOp>
     ensures { IfSome result (λ op. IsTrue (is_good_op_of shape.now op)) }
@@ -148,5 +85,5 @@ pub fn operation_of(shape: &GuestShape, exit: Exit) -> Option<GuestOp>
         }
         Exit::WaitForInterrupt => return None,
     };
-    is_good(shape, &op).then_some(op)
+    (shape.is_in_range() && is_good_op(shape, &op)).then_some(op)
 }

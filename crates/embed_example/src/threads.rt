@@ -5,7 +5,7 @@ ghost use Rattle.port_table.specs.All.{told_words, told_root};
 ghost use Rattle.port_table.specs.Ports.{seen_of};
 ghost use Rattle.port_table.specs.Told.{AreRoots, AllDone, opening_root};
 ghost use Rattle.embed_example.specs.Alone.{IsAlone};
-ghost use Rattle.embed_example.specs.Same.{Rests};
+ghost use Rattle.embed_example.specs.Rest.{Rests};
 
 use crate::device::Device;
 use crate::fault::Fault;
@@ -24,7 +24,7 @@ use std::sync::Wait;
 use std::thread::{Threads, join_mut};
 
 /// A thread: one turn after the other, until all is done.
-#[tactic(auto, using(crate::proofs::SameLemmas::same_joins, crate::proofs::SameLemmas::same_here))]
+#[tactic(auto, using(port_core::proofs::SameLemmas::same_twice, port_core::proofs::SameLemmas::same_here))]
 fn run_one<P: Port, T: TakesTurns, R: Wait>(
     rt: &R,
     port: &mut P,

@@ -1,6 +1,6 @@
 //! Who takes turns: a vCPU, or a device.
 ghost use Rattle.std.specs.Prelude.{◌≡◌, OnOk};
-ghost use Rattle.embed_example.specs.Same.{Rests};
+ghost use Rattle.embed_example.specs.Rest.{Rests};
 
 use crate::fault::Fault;
 use crate::signals::Signals;

@@ -1,7 +1,7 @@
 //! The loop of a vCPU.
 ghost use Rattle.std.specs.Prelude.{◌≡◌, IfSome, OnOk};
 ghost use Rattle.pe_loop.specs.Stay.{IsOff, IsUp};
-ghost use Rattle.embed_example.specs.Same.{IsSame};
+ghost use Rattle.port_core.specs.Port.{IsSameActor};
 
 use crate::exit::Exit;
 use crate::fault::Fault;
@@ -62,7 +62,7 @@ fn shelved<P: Port>(port: &P) -> Option<Shelved>
 }
 
 /// Handles an exit of a vCPU that is on a PE.
-#[tactic(auto, using(crate::proofs::SameLemmas::same_adds, crate::proofs::SameLemmas::same_here))]
+#[tactic(auto, using(port_core::proofs::SameLemmas::same_after, port_core::proofs::SameLemmas::same_here))]
 fn handle<P: Port, R: Wait>(
     rt: &R,
     port: &mut P,
@@ -72,7 +72,7 @@ fn handle<P: Port, R: Wait>(
 ) -> Result<After, Fault>
     requires up { IsUp (P.seen port.old) vcpu.old }
     ensures up { IsUp (P.seen port.new) vcpu.new }
-    ensures same { IsSame (P.seen port.old) (P.seen port.new) }
+    ensures same { IsSameActor (P.seen port.old) (P.seen port.new) }
 {
     match exit {
         Exit::WaitForInterrupt => {
@@ -106,7 +106,7 @@ impl Vcpu {
     }
 
     /// Runs guest code on a PE, from exit to exit, until it waits for an interrupt or is through.
-    #[tactic(auto, using(crate::proofs::SameLemmas::same_joins, crate::proofs::SameLemmas::same_here))]
+    #[tactic(auto, using(port_core::proofs::SameLemmas::same_twice, port_core::proofs::SameLemmas::same_here))]
     fn run<P: Port, R: Wait>(
         &mut self,
         rt: &R,
@@ -116,7 +116,7 @@ impl Vcpu {
     ) -> Result<(), Fault>
         requires up { IsUp (P.seen port.old) vcpu.old }
         ensures up { OnOk result (IsUp (P.seen port.new) vcpu.new) }
-        ensures same { OnOk result (IsSame (P.seen port.old) (P.seen port.new)) }
+        ensures same { OnOk result (IsSameActor (P.seen port.old) (P.seen port.new)) }
     {
         for (number, exit) in self.code.iter().enumerate().skip(self.next) {
             match handle(rt, port, vcpu, *exit, signals)? {
@@ -135,7 +135,7 @@ impl Vcpu {
 
 impl TakesTurns for Vcpu {
     /// The vCPU enters a PE, runs guest code there, and leaves it.
-    #[tactic(auto, using(crate::proofs::SameLemmas::same_adds, crate::proofs::SameLemmas::same_joins, crate::proofs::SameLemmas::same_here, crate::proofs::SameLemmas::rests_off))]
+    #[tactic(auto, using(port_core::proofs::SameLemmas::same_after, port_core::proofs::SameLemmas::same_twice, port_core::proofs::SameLemmas::same_here, crate::proofs::RestLemmas::rests_off))]
     fn turn<P: Port, R: Wait>(
         &mut self,
         rt: &R,

@@ -1,2 +1,3 @@
 mod HomeLemmas
 pub mod EndsLemmas
+pub mod PropLemmas

@@ -1,20 +1,17 @@
 //! Operations of two vCPUs and of a device of one guest, one after the other, and what they read.
-ghost use Rattle.std.specs.Prelude.{◌≡◌, ◌%◌, IsTrue, IfSome, None};
-ghost use Rattle.gic_ram.specs.Access.{is_size as is_size_of};
-ghost use Rattle.scn_base.specs.Good.{fits as fits_in, has_frame as has_frame_in, is_inside as is_inside_of, is_good_op as is_good_op_of};
+ghost use Rattle.std.specs.Prelude.{◌≡◌, IsTrue, IfSome, None};
 ghost use Rattle.dev_port.specs.Device.{CanCall};
 ghost use Rattle.port_seq.specs.Ports.{told};
 ghost use Rattle.pe_loop.specs.Stay.{IsUp};
 
 use dev_port::{message, msi};
 use gic_base::{Frame, GuestOp, GuestShape, IccReg, Key, key_of};
-use gic_ram::split;
 use pe_loop::{enter, leave};
 use pe_op::guest_op;
 use port_core::Port;
 use port_rest::{is_off, is_settled, one_guest};
 use port_seq::{GuestPort, SeqPort};
-use scn_base::{Mode, Preset, Scenario};
+use scn_base::{Mode, Preset, Scenario, is_good_op};
 use std::alloc::{AllocError, Global};
 use std::sync::Wait;
 use std::test::Fail;
@@ -119,67 +116,6 @@ fn fresh(alloc: Global) -> Result<Scenario, AllocError> {
     one_guest(alloc, SMALL, false, &[])
 }
 
-/// A size that an access may have, and a value that fits it.
-fn is_fit(size: u32, write: Option<u64>) -> bool
-    ensures size { IsTrue result → IsTrue (is_size_of size) }
-    ensures fits { IsTrue result → IsTrue (fits_in size write) }
-{
-    let limit = match size {
-        1 => 0x100,
-        2 => 0x1_0000,
-        4 => 0x1_0000_0000,
-        8 => return true,
-        _ => return false,
-    };
-    write.is_none_or(|value| value < limit)
-}
-
-/// The guest has what is accessed.
-fn is_there(shape: &GuestShape, frame: Frame) -> bool
-    ensures { IsTrue result → IsTrue (has_frame_in shape.now frame) }
-{
-    match frame {
-        Frame::Redist { vcpu } => vcpu < shape.vcpus,
-        Frame::Dist | Frame::Its | Frame::Ram => true,
-    }
-}
-
-/// An access lies in its frame.
-fn is_inside(shape: &GuestShape, frame: Frame, offset: u32, size: u32) -> bool
-    requires size { IsTrue (is_size_of size) }
-    requires ram { shape.now.ram % 8 ≡ 0 }
-    ensures { IsTrue result → IsTrue (is_inside_of shape.now frame offset size) }
-{
-    match frame {
-        Frame::Dist => offset < 0x1_0000,
-        Frame::Redist { .. } | Frame::Its => offset < 0x2_0000,
-        Frame::Ram => split(u64::from(offset), size, shape.ram).is_some(),
-    }
-}
-
-/// An operation is one that a vCPU of the guest can do.
-fn is_good(shape: &GuestShape, op: &GuestOp) -> bool
-    ensures { IsTrue result → IsTrue (is_good_op_of shape.now op.now) }
-{
-    match *op {
-        GuestOp::Icc { reg, write } => match write {
-            None => reg.is_readable(),
-            Some(_) => reg.is_writable(),
-        },
-        GuestOp::Mem {
-            frame,
-            offset,
-            size,
-            write,
-        } => {
-            if !is_fit(size, write) || shape.ram % 8 != 0 {
-                return false;
-            }
-            is_there(shape, frame) && is_inside(shape, frame, offset, size)
-        }
-    }
-}
-
 /// The vCPU that is told enters a PE. None where it may not.
 fn enter_told<P: Port>(port: &mut P) -> Option<Loaded>
     requires { (P.seen port.old).number ≡ 0 }
@@ -206,7 +142,8 @@ fn operate<P: Port, R: Wait>(rt: &R, port: &mut P, vcpu: Loaded, does: &Does) ->
     ensures guest { IfSome result (λ vcpu. (P.seen port.new).number ≡ (P.seen port.old).number) }
 {
     let (op, read) = does;
-    if !is_good(&port.shape(), op) {
+    let shape = port.shape();
+    if !(shape.is_in_range() && is_good_op(&shape, op)) {
         return None;
     }
     let mut vcpu = vcpu;

@@ -18,3 +18,4 @@ pub mod StepLemmas
 pub mod RunLemmas
 pub mod OpeningLemmas
 pub mod PortLemmas
+pub mod SameLemmas

@@ -57,6 +57,13 @@ seen_after seen part =
 pub record Adds (old new : Seen) (part : List Made) : Type 0 where
   pub new_is : new ≡ seen_after old part
 
+-- two ports are of one actor of the same words
+pub record IsSameActor (one other : Seen) : Type 0 where
+  pub home : other.home ≡ one.home
+  pub guest : other.guest ≡ one.guest
+  pub number : other.number ≡ one.number
+  pub actor : other.actor ≡ one.actor
+
 -- the ITS is given back with its tables, and they change where the actor has taken them
 abbrev pub keeps_tables : Bool → CoreStep → Bool
 keeps_tables taken TurnRelease = not taken

@@ -4,17 +4,12 @@ use Rattle.std.specs.Prelude.{slice_get, slice_set}
 use Rattle.std.specs.Option.{option_map_or}
 use Rattle.std.proofs.lemmas.List.Elements.{All-get_or}
 use Rattle.std.specs.List.{range_with_len}
-use Rattle.std.specs.Prelude.{◌^◌, IfSome}
 use Rattle.std.proofs.Math.Logic.{∥∥₁_elim, ∥∥₁_map}
 use Rattle.std.proofs.Props.{props}
 use Rattle.std.proofs.lemmas.List.{length-map, length-set}
 use Rattle.std.proofs.lemmas.Option.{get_or_from_slice_get, slice_get_within}
 use Rattle.std.proofs.lemmas.List.FromFn.{length-range_with_len}
-use Rattle.gic_base.specs.declared.shape.GuestShape.{GuestShape}
 use Rattle.gic_prio.specs.declared.cpu.CpuRec.{CpuRec}
-use Rattle.gic_word.specs.declared.record.Route.{Route}
-use Rattle.gic_word.specs.declared.record.Route.TheVariants.{Affinity, Target}
-use Rattle.gic_word.specs.Word.{IsRoute, IsSeat}
 use Rattle.ideal_guest.specs.declared.guest.IdealGuest.{IdealGuest}
 use Rattle.ideal_guest.specs.Opening.{opening}
 use Rattle.gic_ideal.specs.Ends.{end_of, ends_of}
@@ -44,25 +39,11 @@ use Rattle.end_laws.proofs.EndRuns.{runs_end}
 use Rattle.guest_end.specs.declared.outcome.Done.{Done}
 use Rattle.guest_end.specs.Ends.{AllEndAt, EndsAt, HaveEnded}
 use Rattle.guest_end.proofs.EndsLemmas.{all_end}
+use Rattle.guest_end.proofs.PropLemmas.{end_prop}
 use Rattle.run_seq.specs.Run.{GuestHasRun, HasRun}
 use Rattle.run_seq.proofs.StepLemmas.{there_in}
 
 -- A guest that has run.
-
-some_prop : (shape : GuestShape) (bits : Option ℕ) (event : ℕ) → IsProp (IfSome bits (λ bits. event < 2 ^ bits))
-some_prop shape None event = Prim.hlevel props
-some_prop shape (Some bits) event = Prim.hlevel props
-
-seat_prop : (seat : Option ℕ) → IsProp (IsSeat seat)
-seat_prop None = Prim.hlevel props
-seat_prop (Some vcpu) = Prim.hlevel props
-
-route_prop : (route : Route) → IsProp (IsRoute route)
-route_prop (Affinity affinity) = Prim.hlevel props
-route_prop (Target target) = seat_prop target
-
-end_prop : (guest : GuestSpec) (words : GuestWords) (cpus : List CpuRec) → IsProp (IsAtEnd guest words cpus)
-end_prop guest words cpus = Prim.hlevel (some_prop, seat_prop, route_prop, props)
 
 module _ (told : GuestTold) (lrs : ℕ) (steps : List Step) (answers : List Answer) (ideal : IdealGuest) where
   abbrev pub Ends : GuestSpec → ℕ → Type 0

@@ -1,6 +1,6 @@
 -- What a guest did in a run on threads is one history of it.
-use Rattle.std.proofs.Common.{◌≡◌, ℕ, ◌+◌, ◌<◌, ◌≤◌, ◌⊎◌, zero, suc, inl, inr, IsTrue, All, List, [], ◌∷◌, map, Option, Some, None, refl, sym, ap, subst, ◌∙◌, arith}
-use Rattle.std.specs.Prelude.{◌^◌, IfSome, slice_get}
+use Rattle.std.proofs.Common.{◌≡◌, ℕ, ◌+◌, ◌<◌, ◌≤◌, ◌⊎◌, zero, suc, inl, inr, IsTrue, All, List, [], ◌∷◌, map, Some, refl, sym, ap, subst, ◌∙◌, arith}
+use Rattle.std.specs.Prelude.{slice_get}
 use Rattle.std.specs.List.{range_with_len}
 use Rattle.std.proofs.Math.Logic.{∥∥₁_elim, ∥∥₁_map}
 use Rattle.std.proofs.Props.{props}
@@ -18,11 +18,9 @@ use Rattle.gic_history.specs.History.{IsHistory, IsWhole, last_of}
 use Rattle.gic_history.specs.Moves.{home}
 use Rattle.gic_ideal.specs.Ends.{end_of as end_between}
 use Rattle.gic_prio.specs.declared.cpu.CpuRec.{CpuRec}
-use Rattle.gic_word.specs.declared.record.Route.{Route}
-use Rattle.gic_word.specs.declared.record.Route.TheVariants.{Affinity, Target}
-use Rattle.gic_word.specs.Word.{IsRoute, IsSeat}
 use Rattle.guest_end.specs.Ends.{EndsAt}
 use Rattle.guest_end.specs.Home.{IsAtEnd, guest_of}
+use Rattle.guest_end.proofs.PropLemmas.{end_prop}
 use Rattle.ideal_guest.specs.declared.guest.IdealGuest.{IdealGuest}
 use Rattle.ideal_guest.specs.Opening.{opening as opening_guest}
 use Rattle.pe_place.specs.Calls.{calls_in}
@@ -48,23 +46,6 @@ use Rattle.thread_laws.proofs.HistoryRuns.{threads_are_a_history}
 use Rattle.run_thr.specs.Run.{ActorHasRun, GuestHasRun, local_of}
 use Rattle.run_thr.proofs.ActorLemmas.{Chosen, One, actor_done, actor_local, choose}
 use Rattle.run_thr.proofs.StrangerLemmas.{no_steps}
-
--- It is known of a guest's end without who knows it.
-
-some_prop : (bits : Option ℕ) (event : ℕ) → IsProp (IfSome bits (λ bits. event < 2 ^ bits))
-some_prop None event = Prim.hlevel props
-some_prop (Some bits) event = Prim.hlevel props
-
-seat_prop : (seat : Option ℕ) → IsProp (IsSeat seat)
-seat_prop None = Prim.hlevel props
-seat_prop (Some vcpu) = Prim.hlevel props
-
-route_prop : (route : Route) → IsProp (IsRoute route)
-route_prop (Affinity affinity) = Prim.hlevel props
-route_prop (Target target) = seat_prop target
-
-end_prop : (guest : GuestSpec) (words : GuestWords) (cpus : List CpuRec) → IsProp (IsAtEnd guest words cpus)
-end_prop guest words cpus = Prim.hlevel (some_prop, seat_prop, route_prop, props)
 
 -- One row for another.
 row_same : {X : Type 0} (f g : ℕ → X) (count from : ℕ) → ((n : ℕ) → n < from + count → f n ≡ g n) → map f (range_with_len from count) ≡ map g (range_with_len from count)

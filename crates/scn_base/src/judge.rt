@@ -1,81 +1,18 @@
 //! The faults of steps.
 ghost use Rattle.std.specs.Prelude.{◌≡◌, ◌<◌, ◌&&◌, IsTrue, length};
 ghost use Rattle.gic_base.specs.Shape.{IsShape};
-ghost use Rattle.gic_ram.specs.Access.{is_size as is_size_of};
 ghost use Rattle.gic_base.specs.Interrupt.{has_interrupt};
 ghost use Rattle.scn_base.specs.Standing.{IsStanding};
-ghost use Rattle.scn_base.specs.Good.{is_usable as is_usable_for, fits as fits_in, has_frame as has_frame_in, is_inside as is_inside_of, has_wire as has_wire_of, may_move as may_move_by};
+ghost use Rattle.scn_base.specs.Good.{has_wire as has_wire_of, may_move as may_move_by};
 ghost use Rattle.scn_base.specs.StepFault.{step_fault};
 
 use crate::fault::{
     ADDRESS, LIMIT, NOT_LOADED, PE_BUSY, PE_STEP, UNKNOWN_ACTOR, UNKNOWN_REGISTER, WIRE_LEVEL,
 };
+use crate::good::{fits, has_frame, is_inside, is_size, is_usable};
 use crate::standing::{MovedWire, Standing};
 use crate::step::{Mode, Step};
-use gic_base::{DeviceOp, Frame, GuestOp, GuestShape, IccReg, Key, PeOp, SGI_COUNT, key_of};
-use gic_ram::split;
-
-/// The bytes of the distributor's frame.
-const DISTRIBUTOR_BYTES: u32 = 0x1_0000;
-/// The bytes of a redistributor's two frames.
-const REDISTRIBUTOR_BYTES: u32 = 0x2_0000;
-/// The bytes of the two frames of the ITS.
-const ITS_BYTES: u32 = 0x2_0000;
-
-/// Whether a register can be written, where there is a value to write, or else read.
-fn is_usable(reg: IccReg, write: Option<u64>) -> bool
-    ensures { result ≡ is_usable_for reg write }
-{
-    match write {
-        Some(_) => reg.is_writable(),
-        None => reg.is_readable(),
-    }
-}
-
-/// Whether an access has one of the sizes.
-fn is_size(size: u32) -> bool
-    ensures { result ≡ is_size_of size }
-{
-    matches!(size, 1 | 2 | 4 | 8)
-}
-
-/// Whether a value, if there is one, fits in 1, 2, 4 or 8 bytes.
-fn fits(size: u32, write: Option<u64>) -> bool
-    requires { IsTrue (is_size_of size) }
-    ensures { result ≡ fits_in size write }
-{
-    let most = match size {
-        1 => u64::from(u8::MAX),
-        2 => u64::from(u16::MAX),
-        4 => u64::from(u32::MAX),
-        _ => u64::MAX,
-    };
-    write.is_none_or(|value| value <= most)
-}
-
-/// Whether a guest has what is accessed.
-fn has_frame(shape: &GuestShape, frame: Frame) -> bool
-    ensures { result ≡ has_frame_in shape.now frame }
-{
-    match frame {
-        Frame::Redist { vcpu } => vcpu < shape.vcpus,
-        Frame::Dist | Frame::Its | Frame::Ram => true,
-    }
-}
-
-/// Whether an access of 1, 2, 4 or 8 bytes lies in its frame.
-fn is_inside(shape: &GuestShape, frame: Frame, offset: u32, size: u32) -> bool
-    requires shape { IsShape shape.now }
-    requires size { IsTrue (is_size_of size) }
-    ensures { result ≡ is_inside_of shape.now frame offset size }
-{
-    match frame {
-        Frame::Dist => offset < DISTRIBUTOR_BYTES,
-        Frame::Redist { .. } => offset < REDISTRIBUTOR_BYTES,
-        Frame::Its => offset < ITS_BYTES,
-        Frame::Ram => split(u64::from(offset), size, shape.ram).is_some(),
-    }
-}
+use gic_base::{DeviceOp, GuestOp, GuestShape, Key, PeOp, SGI_COUNT, key_of};
 
 /// Whether the wire of a guest's interrupt can be moved: there are wires of PPIs and of SPIs.
 fn is_wired(shape: &GuestShape, key: Key) -> bool

@@ -2,6 +2,7 @@
 #![tactic(auto)]
 
 mod fault;
+mod good;
 mod guest;
 mod judge;
 mod outcome;
@@ -17,6 +18,7 @@ pub use fault::{
     ADDRESS, Fault, LIMIT, NOT_LOADED, PE_BUSY, PE_STEP, SHAPE, UNKNOWN_ACTOR, UNKNOWN_REGISTER,
     WIRE_LEVEL, both, codes_are_fixed, first_code,
 };
+pub use good::is_good_op;
 pub use guest::{GuestSpec, Guests, PresetList};
 pub use outcome::{
     Answer, Answers, ColEnd, ColEnds, CpuEnd, CpuEnds, DevEnd, DevEnds, End, Ends, EvtEnd, EvtEnds,

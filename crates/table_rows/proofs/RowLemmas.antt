@@ -8,40 +8,19 @@ use Rattle.port_core.specs.declared.local.Local.{Local}
 use Rattle.port_core.specs.declared.run.Made.{Made}
 use Rattle.port_core.specs.declared.step.CoreStep.{CoreStep}
 use Rattle.port_core.specs.Actor.{guest_of, has_actor}
-use Rattle.port_core.specs.Port.{Seen, Adds, AddsStep, IsPort, local_by}
+use Rattle.port_core.specs.Port.{Seen, AddsStep, IsPort, IsSameActor, local_by}
+use Rattle.port_core.proofs.SameLemmas.{same_after}
 use Rattle.port_core.specs.Run.{opening_local_of}
 use Rattle.port_table.specs.Out.{AreOut}
 use Rattle.port_table.specs.Told.{WordsTold, RootTold, AreRoots, HasActor, HadNone, HasNoTurn, PortIsOf, AllDone, no_words, words_at, root_at, number_in, opening_root, opening_seen, with_split, with_joined, splitting, joining_in}
 use Rattle.port_table.specs.View.{is_among}
 use Rattle.port_table.proofs.OutLemmas.{out_opens, out_split, out_join, none_out}
 use Rattle.table_rows.specs.Row.{IsRow}
-use Rattle.table_rows.specs.Rows.{IsAlone, IsSame}
-
--- a call that adds a part
-pub same_adds : (old new : Seen) (part : List Made) → Adds old new part → IsSame old new
-same_adds old new part adds =
-    record {
-      home = ap (λ s. s.home) adds.new_is;
-      guest = ap (λ s. s.guest) adds.new_is;
-      number = ap (λ s. s.number) adds.new_is;
-      actor = ap (λ s. s.actor) adds.new_is;
-    }
-
-pub same_joins : (one two three : Seen) → IsSame one two → IsSame two three → IsSame one three
-same_joins one two three early late =
-    record {
-      home = late.home ∙ early.home;
-      guest = late.guest ∙ early.guest;
-      number = late.number ∙ early.number;
-      actor = late.actor ∙ early.actor;
-    }
-
-pub same_here : (seen : Seen) → IsSame seen seen
-same_here seen = record { home = refl; guest = refl; number = refl; actor = refl }
+use Rattle.table_rows.specs.Rows.{IsAlone}
 
 -- one step
-pub same_step : (old new : Seen) (step : CoreStep) (found : ℕ) → AddsStep old new step found → IsSame old new
-same_step old new step found adds = same_adds old new _ adds.adds
+pub same_step : (old new : Seen) (step : CoreStep) (found : ℕ) → AddsStep old new step found → IsSameActor old new
+same_step old new step found adds = same_after old new _ adds.adds
 
 -- The root.
 
@@ -112,14 +91,14 @@ module _ (words : List WordsTold) (alone : IsAlone words) where
   row_done root split row (suc n) there = let one = alone.one in absurd (omega (arith, one, there))
 
 -- the port of an actor that was split off is of the words, and stays so
-pub row_port : (words : List WordsTold) (actor : ℕ) (old new : Seen) → IsAlone words → old ≡ opening_seen (words_at words 0) actor → IsSame old new → (new.guest ≡ (words_at words 0).guest) × (new.number ≡ 0) × (new.actor ≡ actor)
+pub row_port : (words : List WordsTold) (actor : ℕ) (old new : Seen) → IsAlone words → old ≡ opening_seen (words_at words 0) actor → IsSameActor old new → (new.guest ≡ (words_at words 0).guest) × (new.number ≡ 0) × (new.actor ≡ actor)
 row_port words actor old new alone is same = (
   same.guest ∙ ap (λ s. s.guest) is,
   same.number ∙ ap (λ s. s.number) is ∙ alone.number,
   same.actor ∙ ap (λ s. s.actor) is,
 )
 
-pub row_of : (words : List WordsTold) (old new : Seen) → PortIsOf words old → IsSame old new → PortIsOf words new
+pub row_of : (words : List WordsTold) (old new : Seen) → PortIsOf words old → IsSameActor old new → PortIsOf words new
 row_of words old new of same = record { guest = subst (λ n. n < length words) (sym same.number) of.guest; home = ap (λ n. (words_at words n).home) same.number ∙ of.home ∙ sym same.home }
 
 -- the number of a device

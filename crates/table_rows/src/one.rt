@@ -3,7 +3,8 @@ ghost use Rattle.std.specs.Prelude.{◌≡◌, IfSome, map};
 ghost use Rattle.std.specs.Thread.{IsSync};
 ghost use Rattle.port_table.specs.All.{told_words, told_root};
 ghost use Rattle.port_table.specs.Told.{AreRoots, AllDone, opening_root};
-ghost use Rattle.table_rows.specs.Rows.{IsAlone, IsSame};
+ghost use Rattle.port_core.specs.Port.{IsSameActor};
+ghost use Rattle.table_rows.specs.Rows.{IsAlone};
 
 use crate::rows::{is_idle, open, scenario, send, send_event};
 use gic_base::{Actor, IccReg};
@@ -23,10 +24,10 @@ use vcpu_state::Shelved;
 const LIST_REGISTERS: u32 = 4;
 
 /// A vCPU enters a PE, acknowledges an interrupt of group 1, and leaves. None where it may not, or reads something else.
-#[tactic(auto, using(crate::proofs::RowLemmas::same_adds, crate::proofs::RowLemmas::same_joins))]
+#[tactic(auto, using(port_core::proofs::SameLemmas::same_after, port_core::proofs::SameLemmas::same_twice))]
 fn visit<P: Port, R: Wait>(rt: &R, port: &mut P, answer: u64) -> Option<()>
     requires { (P.seen port.old).number ≡ 0 }
-    ensures { IfSome result (λ done. IsSame (P.seen port.old) (P.seen port.new)) }
+    ensures { IfSome result (λ done. IsSameActor (P.seen port.old) (P.seen port.new)) }
 {
     let vcpu = port.actor();
     if vcpu >= port.shape().vcpus || !is_off(port.local_ref()) {

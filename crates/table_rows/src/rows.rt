@@ -3,7 +3,8 @@ ghost use Rattle.std.specs.Prelude.{◌≡◌, IsTrue, IfOk, IfSome, false, map}
 ghost use Rattle.dev_port.specs.Device.{CanCall};
 ghost use Rattle.port_table.specs.All.{told_words, told_root};
 ghost use Rattle.port_table.specs.Told.{AreRoots, opening_root};
-ghost use Rattle.table_rows.specs.Rows.{IsAlone, IsSame};
+ghost use Rattle.port_core.specs.Port.{IsSameActor};
+ghost use Rattle.table_rows.specs.Rows.{IsAlone};
 
 use dev_port::{message, msi};
 use gic_base::{GuestShape, Key, key_of};
@@ -65,9 +66,9 @@ fn is_device<P: Port>(port: &P) -> bool
 }
 
 /// A device sends a message of an SPI. None where it may not.
-#[tactic(auto, using(crate::proofs::RowLemmas::same_adds))]
+#[tactic(auto, using(port_core::proofs::SameLemmas::same_after))]
 pub(crate) fn send<P: Port>(port: &mut P, spi: u32) -> Option<()>
-    ensures { IfSome result (λ done. IsSame (P.seen port.old) (P.seen port.new)) }
+    ensures { IfSome result (λ done. IsSameActor (P.seen port.old) (P.seen port.new)) }
 {
     if !is_device(port) || key_of(spi, 0, &port.shape()) != Some(Key::Spi(spi)) {
         return None;
@@ -77,9 +78,9 @@ pub(crate) fn send<P: Port>(port: &mut P, spi: u32) -> Option<()>
 }
 
 /// A device sends a message of an event to the ITS. None where it may not.
-#[tactic(auto, using(crate::proofs::RowLemmas::same_adds))]
+#[tactic(auto, using(port_core::proofs::SameLemmas::same_after))]
 pub(crate) fn send_event<P: Port, R: Wait>(rt: &R, port: &mut P) -> Option<()>
-    ensures { IfSome result (λ done. IsSame (P.seen port.old) (P.seen port.new)) }
+    ensures { IfSome result (λ done. IsSameActor (P.seen port.old) (P.seen port.new)) }
 {
     if !is_device(port) {
         return None;

@@ -5,7 +5,8 @@ ghost use Rattle.gic_base.specs.declared.operation.Actor.TheVariants.{Device as 
 ghost use Rattle.port_table.specs.All.{told_words, told_root};
 ghost use Rattle.port_table.specs.Ports.{seen_of};
 ghost use Rattle.port_table.specs.Told.{AreRoots, AllDone, opening_root};
-ghost use Rattle.table_rows.specs.Rows.{IsAlone, IsSame, Goes};
+ghost use Rattle.port_core.specs.Port.{IsSameActor};
+ghost use Rattle.table_rows.specs.Rows.{IsAlone, Goes};
 
 use crate::rows::{SHAPE, is_idle, open, scenario, send};
 use gic_base::Actor;
@@ -25,7 +26,7 @@ const MESSAGES: u32 = 1000;
 const OWN: u32 = 4;
 
 /// A device sends its messages, every other one of the shared interrupt. None where it may not.
-#[tactic(auto, using(crate::proofs::RowLemmas::same_joins))]
+#[tactic(auto, using(port_core::proofs::SameLemmas::same_twice))]
 fn raise_all<P: Port>(port: &mut P, own: u32) -> Option<()>
     requires { own < 1000 }
     ensures { IfSome result (λ done. Goes (P.seen port.old) (P.seen port.new)) }

@@ -1,8 +1,9 @@
 -- Who is there, as actors come.
-use Rattle.std.proofs.Common.{◌≡◌, ℕ, ◌+◌, ◌<◌, suc, All, false, List, [], ◌∷◌, ◌++◌, append-nil, length, length-append, take, sym, ap, subst, ◌∙◌, arith}
+use Rattle.std.proofs.Common.{◌≡◌, ℕ, ◌+◌, ◌<◌, All, false, List, [], ◌∷◌, ◌++◌, append-nil, length, length-append, take, sym, ap, subst, ◌∙◌, arith}
 use Rattle.std.proofs.lemmas.Grind.{take_at_read}
 use Rattle.std.proofs.lemmas.List.{append_assoc, map-append}
 use Rattle.std.proofs.lemmas.List.Elements.{All-nil, All-cons, All-append}
+use Rattle.std.proofs.lemmas.List.FromFn.{map-range_with_len_more}
 use Rattle.port_table.specs.Told.{WordsTold, no_words, words_at}
 use Rattle.thr_trip.specs.declared.device.DeviceRun.{DeviceRun}
 use Rattle.thr_trip.specs.declared.naming.Naming.{Ghosts}
@@ -14,7 +15,6 @@ use Rattle.vcpu_shelf.proofs.PlaceLemmas.{in_place_push}
 use Rattle.thr_cast.specs.declared.cast.Cast.{Cast}
 use Rattle.thr_cast.specs.Cast.{HasCast, first_devices, name_of, names_of}
 use Rattle.thr_cast.specs.Names.{DeviceName, all_devices, devices_of}
-use Rattle.thr_cast.proofs.ListLemmas.{row_more}
 use Rattle.thr_cast.proofs.NameLemmas.{all_devices_more, all_vcpus_more, length-vcpus_of}
 
 module _ {J : Type 0} {run : Ghosts J} (words : List WordsTold) (guest : ℕ) (old new : Cast J run) where
@@ -38,10 +38,7 @@ module _ {J : Type 0} {run : Ghosts J} (words : List WordsTold) (guest : ℕ) (o
   device_came vcpus count device cast pushed same guest_is number_is fresh =
       let Fresh : DeviceRun J run → Type 0 = λ device. device.done ≡ false in
       let name : ℕ → ℕ → DeviceName = λ guest device. record { guest = guest; device = device } in
-      let none : 0 + count ≡ count = omega arith in
-      let later : suc count ≡ count + 1 = omega arith in
-      let longer : first_devices guest (count + 1) ≡ first_devices guest count ++ name guest count ∷ []
-      = ap (first_devices guest) (sym later) ∙ row_more (name guest) count 0 ∙ ap (λ n. first_devices guest count ++ name guest n ∷ []) none in
+      let longer : first_devices guest (count + 1) ≡ first_devices guest count ++ name guest count ∷ [] = map-range_with_len_more (name guest) 0 count count (omega arith) in
       let last : name_of (device_told device) ≡ name guest count = ap (λ g. name g device.device) guest_is ∙ ap (name guest) number_is in
       record {
         each = ap length same ∙ cast.each;

@@ -1,4 +1,4 @@
-pub mod ListLemmas
+pub mod OkLemmas
 pub mod SplitLemmas
 pub mod CastLemmas
 pub mod ComingLemmas

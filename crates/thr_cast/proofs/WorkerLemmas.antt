@@ -16,7 +16,7 @@ use Rattle.thr_trip.specs.Told.{device_told}
 use Rattle.thr_trip.specs.Worker.{CanWork}
 use Rattle.vcpu_shelf.specs.Shelf.{seat_told}
 use Rattle.vcpu_shelf.specs.Told.{ShelfTold}
-use Rattle.thr_cast.specs.Crew.{HaveWorkers, devices_in, has_pe, joined_all}
+use Rattle.thr_cast.specs.Crew.{HaveWorkers, devices_in, has_pe, joined_all, pe_numbers}
 
 -- all of a list and one more
 pub all_more : {X : Type 0} (P : X → Type 0) (xs : List X) (x : X) → All P xs → P x → All P (xs ++ x ∷ [])
@@ -60,6 +60,16 @@ pub pe_more : {J : Type 0} {run : Ghosts J} (early late : List (Hand J run)) →
 pe_more [] late = refl
 pe_more (Pe pe ∷ early) late = refl
 pe_more (Device device ∷ early) late = pe_more early late
+
+pub numbers_more : {J : Type 0} {run : Ghosts J} (early : List (Hand J run)) (pe : PeRun (Trip J run)) → pe_numbers (early ++ Pe pe ∷ []) ≡ pe_numbers early ++ pe.pe ∷ []
+numbers_more [] pe = refl
+numbers_more (Pe first ∷ early) pe = ap (λ rest. first.pe ∷ rest) (numbers_more early pe)
+numbers_more (Device device ∷ early) pe = numbers_more early pe
+
+pub numbers_stay : {J : Type 0} {run : Ghosts J} (early : List (Hand J run)) (device : DeviceRun J run) → pe_numbers (early ++ Device device ∷ []) ≡ pe_numbers early
+numbers_stay [] device = refl
+numbers_stay (Pe first ∷ early) device = ap (λ rest. first.pe ∷ rest) (numbers_stay early device)
+numbers_stay (Device first ∷ early) device = numbers_stay early device
 
 or_true : (b : Bool) → (b || true) ≡ true
 or_true true = refl

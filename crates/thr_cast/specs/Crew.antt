@@ -1,5 +1,5 @@
 -- Ports that were joined again, one after the other (own choice).
-use Rattle.std.specs.Prelude.{◌≡◌, true, false, Bool, List, [], ◌∷◌, All}
+use Rattle.std.specs.Prelude.{◌≡◌, ℕ, true, false, Bool, List, [], ◌∷◌, All}
 use Rattle.port_core.specs.Port.{Seen}
 use Rattle.port_table.specs.Told.{RootTold, joining_in}
 use Rattle.thr_trip.specs.declared.device.DeviceRun.{DeviceRun}
@@ -30,6 +30,12 @@ abbrev pub has_pe : {J : Type 0} {run : Ghosts J} → List (Worker (Trip J run) 
 has_pe [] = false
 has_pe (Pe pe ∷ workers) = true
 has_pe (Device device ∷ workers) = has_pe workers
+
+-- the numbers of the PEs among them, in their order
+abbrev pub pe_numbers : {J : Type 0} {run : Ghosts J} → List (Worker (Trip J run) (DeviceRun J run)) → List ℕ
+pe_numbers [] = []
+pe_numbers (Pe pe ∷ workers) = pe.pe ∷ pe_numbers workers
+pe_numbers (Device device ∷ workers) = pe_numbers workers
 
 -- a PE found all vCPUs done, and a device is done
 abbrev pub IsOver : {J : Type 0} {run : Ghosts J} → ShelfTold → Worker (Trip J run) (DeviceRun J run) → Type 0

@@ -1,5 +1,6 @@
 //! Who has a thread in a run: PEs, each with a seat at the shelf of vCPUs, and devices.
 ghost use Rattle.std.specs.Prelude.{◌≡◌, ◌<◌, ◌≤◌, [], false, true, All, IfOk, OnOk, length, map, nat_lt};
+ghost use Rattle.std.specs.List.{range_with_len};
 ghost use Rattle.port_table.specs.All.{told_words, told_root};
 ghost use Rattle.port_table.specs.Told.{AreRoots};
 ghost use Rattle.thr_trip.specs.Device.{IsDevice};
@@ -7,7 +8,7 @@ ghost use Rattle.thr_trip.specs.Seat.{IsFreeSeat};
 ghost use Rattle.thr_trip.specs.Told.{device_told};
 ghost use Rattle.vcpu_shelf.specs.Shelf.{shelf_told, seat_told};
 ghost use Rattle.vcpu_shelf.specs.Told.{SawAllDone};
-ghost use Rattle.thr_cast.specs.Crew.{HaveWorkers, IsOver, devices_in, has_pe, joined_all};
+ghost use Rattle.thr_cast.specs.Crew.{HaveWorkers, IsOver, devices_in, has_pe, joined_all, pe_numbers};
 
 use port_table::{RootSeat, SharedWords, join};
 use std::alloc::AllocError;
@@ -28,6 +29,7 @@ pub fn add_pes<'a, J: Naming + Send>(
     requires none { workers.old.items ≡ [] }
     ensures same { seat_told seat.new ≡ seat_told seat.old }
     ensures workers { OnOk result (HaveWorkers (shelf_told shelf.now) workers.new.items [] (nat_lt 0 pes)) }
+    ensures numbers { OnOk result (pe_numbers workers.new.items ≡ range_with_len 0 pes) }
 {
     for pe in 0..pes {
         let own = vcpu_shelf::split(shelf, seat);
@@ -36,13 +38,14 @@ pub fn add_pes<'a, J: Naming + Send>(
     Ok(())
 }
 
-/// The devices come, which have done nothing yet. An error where memory is refused.
+/// The devices come, which have done nothing yet, after the workers that are there. An error where memory is refused.
 pub fn add_devices<'a, J: Naming + Send>(
     devices: Vec<DeviceRun<'a, J>>,
     workers: &mut Vec<Hand<'a, J>>,
 ) -> Result<(), AllocError>
     requires fresh { All (λ device. device.done ≡ false) devices.items }
     ensures workers { (shelf : _) (pes : _) → HaveWorkers shelf workers.old.items [] pes → OnOk result (HaveWorkers shelf workers.new.items (map device_told devices.entry.items) pes) }
+    ensures numbers { OnOk result (pe_numbers workers.new.items ≡ pe_numbers workers.old.items) }
 {
     for device in devices {
         workers.push(Worker::Device(device))?;

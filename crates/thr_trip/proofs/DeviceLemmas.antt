@@ -22,7 +22,8 @@ use Rattle.thr_trip.specs.Device.{DeviceTold, IsDevice, Receives, calls_done, op
 use Rattle.thr_trip.specs.Gone.{HasGone}
 use Rattle.thr_trip.specs.Script.{calls_received}
 use Rattle.thr_trip.proofs.CallLemmas.{received_more}
-use Rattle.thr_trip.proofs.GoneLemmas.{goes_on_by, same_after, same_twice}
+use Rattle.thr_trip.proofs.GoneLemmas.{goes_on_by}
+use Rattle.port_core.proofs.SameLemmas.{same_after, same_twice}
 
 -- None.
 pub receives_none : (script : List DeviceOp) (seen : Seen) → CanCall seen → Receives (take 0 script) seen seen

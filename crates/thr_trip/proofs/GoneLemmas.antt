@@ -13,16 +13,8 @@ use Rattle.pe_place.proofs.MoveLemmas.{calls_join}
 use Rattle.port_core.specs.declared.run.Made.{Made as Step}
 use Rattle.port_core.specs.Port.{Seen, Adds, shape_of}
 use Rattle.port_core.proofs.PortLemmas.{adds_join}
-use Rattle.thr_trip.specs.Gone.{HasGone, IsSameActor}
+use Rattle.thr_trip.specs.Gone.{HasGone}
 use Rattle.thr_trip.proofs.CallLemmas.{calls_more}
-
--- it is the same actor
-pub same_after : (old new : Seen) (part : List Step) → Adds old new part → IsSameActor old new
-same_after old new part adds =
-    let is = adds.new_is in record { home = ap (λ seen. seen.home) is; guest = ap (λ seen. seen.guest) is; number = ap (λ seen. seen.number) is; actor = ap (λ seen. seen.actor) is }
-
-pub same_twice : (one two three : Seen) → IsSameActor one two → IsSameActor two three → IsSameActor one three
-same_twice one two three a b = record { home = b.home ∙ a.home; guest = b.guest ∙ a.guest; number = b.number ∙ a.number; actor = b.actor ∙ a.actor }
 
 -- it did one part, wherever its protocol was so, and it is so after that
 pub goes_on_by :

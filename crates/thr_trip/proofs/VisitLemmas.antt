@@ -17,7 +17,7 @@ use Rattle.pe_op.specs.Operation.{DoesOperation, StopsOperation}
 use Rattle.pe_place.specs.Parts.{Part, residence}
 use Rattle.pe_place.proofs.MoveLemmas.{residence_found}
 use Rattle.port_core.specs.Local.{is_vcpu}
-use Rattle.port_core.specs.Port.{Seen, shape_of}
+use Rattle.port_core.specs.Port.{Seen, shape_of, IsSameActor}
 use Rattle.vcpu_state.specs.declared.loaded.Loaded.{Loaded}
 use Rattle.vcpu_state.specs.declared.shelved.Shelved.{Shelved}
 use Rattle.vcpu_state.specs.Moves.{shelved_of}
@@ -26,12 +26,13 @@ use Rattle.scn_base.specs.declared.pes.VcpuName.{VcpuName}
 use Rattle.scn_base.specs.declared.step.Step.{Step}
 use Rattle.scn_base.specs.Good.{is_good_op}
 use Rattle.port_table.specs.Told.{WordsTold, opening_seen, words_at}
-use Rattle.thr_trip.specs.Gone.{HasGone, IsSameActor}
+use Rattle.thr_trip.specs.Gone.{HasGone}
 use Rattle.thr_trip.specs.Operate.{Operates}
 use Rattle.thr_trip.specs.Script.{all_vcpus, calls_answered, vcpu_ops}
 use Rattle.thr_trip.specs.Trip.{IsTrip, TripTold, opened}
 use Rattle.thr_trip.proofs.CallLemmas.{answered_more}
-use Rattle.thr_trip.proofs.GoneLemmas.{goes_on_by, same_after, same_twice}
+use Rattle.thr_trip.proofs.GoneLemmas.{goes_on_by}
+use Rattle.port_core.proofs.SameLemmas.{same_after, same_twice}
 
 -- The list registers of a vCPU's PE are as many as a part asks for.
 

@@ -4,11 +4,11 @@ use Rattle.core_proper.specs.Called.{IsAtRest}
 use Rattle.dev_port.specs.Device.{CanCall}
 use Rattle.eager_laws.specs.Calls.{Made}
 use Rattle.gic_base.specs.declared.operation.DeviceOp.{DeviceOp}
-use Rattle.port_core.specs.Port.{Seen, shape_of}
+use Rattle.port_core.specs.Port.{Seen, shape_of, IsSameActor}
 use Rattle.port_table.specs.Told.{WordsTold, PortIsOf, words_at, opening_seen}
 use Rattle.scn_base.specs.declared.step.Step.{Step}
 use Rattle.scn_base.specs.Good.{is_good_event}
-use Rattle.thr_trip.specs.Gone.{HasGone, IsSameActor}
+use Rattle.thr_trip.specs.Gone.{HasGone}
 use Rattle.thr_trip.specs.Script.{calls_received, device_ops}
 
 -- what a device has: its guest, its number there, its script, whether that is done, and what its port tells

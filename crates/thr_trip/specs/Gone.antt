@@ -8,13 +8,6 @@ use Rattle.pe_place.specs.Calls.{calls_in}
 use Rattle.pe_place.specs.Parts.{Part, AreCalls, acts_in, steps_in}
 use Rattle.port_core.specs.Port.{Seen, Adds, shape_of}
 
--- two ports are of one actor of the same words
-pub record IsSameActor (one other : Seen) : Type 0 where
-  pub home : other.home ≡ one.home
-  pub guest : other.guest ≡ one.guest
-  pub number : other.number ≡ one.number
-  pub actor : other.actor ≡ one.actor
-
 -- since it opened so, an actor did some parts, one after the other, and nothing else: each is its call, they are proper, those of steps are these calls, and its protocol
 -- is so after them
 pub record HasGone (from seen : Seen) (Followed : Progress → Type 0) (calls : List Made) : Type 0 where

@@ -3,9 +3,9 @@ use Rattle.std.specs.Prelude.{◌≡◌, ℕ, ◌≤◌, Bool, false, List, leng
 use Rattle.gic_base.specs.declared.operation.GuestOp.{GuestOp}
 use Rattle.pe_icc.specs.Amid.{IsRunning, IsSame}
 use Rattle.pe_loop.specs.Stay.{IsUp}
-use Rattle.port_core.specs.Port.{Seen}
+use Rattle.port_core.specs.Port.{Seen, IsSameActor}
 use Rattle.vcpu_state.specs.declared.loaded.Loaded.{Loaded}
-use Rattle.thr_trip.specs.Gone.{HasGone, IsSameActor}
+use Rattle.thr_trip.specs.Gone.{HasGone}
 use Rattle.thr_trip.specs.Script.{calls_answered}
 
 -- a vCPU on a PE did further operations of its script; unless memory was refused for one, it went on by these, with the answers that were added

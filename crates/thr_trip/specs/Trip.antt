@@ -3,12 +3,12 @@ use Rattle.std.specs.Prelude.{◌≡◌, ℕ, ◌≤◌, ◌||◌, ◌==◌, Boo
 use Rattle.gic_base.specs.declared.operation.GuestOp.{GuestOp}
 use Rattle.pe_loop.specs.Enter.{IsBetween}
 use Rattle.pe_loop.specs.Stay.{IsOff}
-use Rattle.port_core.specs.Port.{Seen, shape_of}
+use Rattle.port_core.specs.Port.{Seen, shape_of, IsSameActor}
 use Rattle.port_table.specs.Told.{WordsTold, PortIsOf, words_at, opening_seen}
 use Rattle.scn_base.specs.declared.step.Step.{Step}
 use Rattle.scn_base.specs.Good.{is_good_op}
 use Rattle.vcpu_state.specs.declared.shelved.Shelved.{Shelved}
-use Rattle.thr_trip.specs.Gone.{HasGone, IsSameActor}
+use Rattle.thr_trip.specs.Gone.{HasGone}
 use Rattle.thr_trip.specs.Script.{all_vcpus, calls_answered, vcpu_ops}
 
 -- what a vCPU on its way has: itself, its place, its script, the answers so far, whether memory was refused for an operation, and what its port tells

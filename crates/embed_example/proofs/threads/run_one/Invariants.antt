@@ -1,9 +1,9 @@
 -- The port is the same actor's.
 use Rattle.std.proofs.Common.{◌≡◌}
-use Rattle.embed_example.specs.Same.{IsSame}
+use Rattle.port_core.specs.Port.{IsSameActor}
 use Rattle.embed_example.proofs.threads.run_one.Given as goal
 
 abbrev pub invariant-loop : goal.invariant-loop
 invariant-loop g l =
     (goal.iterator-loop g).can_next l.iterator' × (goal.iterator-loop g).is_finite l.iterator'
-    × IsSame (g.P.Port.seen l.fn.port) (g.P.Port.seen l.port) × ((g.P.Port.seen l.port).number ≡ 0)
+    × IsSameActor (g.P.Port.seen l.fn.port) (g.P.Port.seen l.port) × ((g.P.Port.seen l.port).number ≡ 0)

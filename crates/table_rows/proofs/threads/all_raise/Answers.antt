@@ -4,7 +4,8 @@ use Rattle.port_table.specs.All.{told_words, told_root}
 use Rattle.port_table.specs.Ports.{seen_of}
 use Rattle.port_table.specs.Kept.{table_is_port}
 use Rattle.port_table.specs.Told.{RootTold, splitting}
-use Rattle.table_rows.proofs.RowLemmas.{row_opens, row_split, row_join, row_done, row_port, same_joins, device_number, device_port}
+use Rattle.port_core.proofs.SameLemmas.{same_twice}
+use Rattle.table_rows.proofs.RowLemmas.{row_opens, row_split, row_join, row_done, row_port, device_number, device_port}
 use Rattle.table_rows.proofs.threads.all_raise.Goals as goal
 
 pub returns-clause-done : goal.returns-clause-done
@@ -24,8 +25,8 @@ returns-clause-done g c =
     let raised = c.in_ok-raise_four.ensures in
     let looked_1 = c.in_ok-first.ensures in
     let looked_2 = c.in_ok-second.ensures in
-    let port_1 = row_port words 2 (seen_of c.split-one.result) (seen_of c.index.new.port) alone (device_port words c.device.result 0 (seen_of c.split-one.result) alone c.device.ensures c.split-one.ensures.port) (same_joins _ _ _ raised.one.same looked_1.same) in
-    let port_2 = row_port words 3 (seen_of c.split-two.result) (seen_of c.index-2.new.port) alone (device_port words c.device-2.result 1 (seen_of c.split-two.result) alone c.device-2.ensures c.split-two.ensures.port) (same_joins _ _ _ raised.two.same looked_2.same) in
+    let port_1 = row_port words 2 (seen_of c.split-one.result) (seen_of c.index.new.port) alone (device_port words c.device.result 0 (seen_of c.split-one.result) alone c.device.ensures c.split-one.ensures.port) (same_twice _ _ _ raised.one.same looked_1.same) in
+    let port_2 = row_port words 3 (seen_of c.split-two.result) (seen_of c.index-2.new.port) alone (device_port words c.device-2.result 1 (seen_of c.split-two.result) alone c.device-2.ensures c.split-two.ensures.port) (same_twice _ _ _ raised.two.same looked_2.same) in
     let port_3 = row_port words 4 (seen_of c.split-three.result) (seen_of c.raise_four.new.three) alone (device_port words c.device-3.result 2 (seen_of c.split-three.result) alone c.device-3.ensures c.split-three.ensures.port) raised.three.same in
     let port_4 = row_port words 5 (seen_of c.split-four.result) (seen_of c.raise_four.new.four) alone (device_port words c.device-4.result 3 (seen_of c.split-four.result) alone c.device-4.ensures c.split-four.ensures.port) raised.four.same in
     let row_5 = row_join words alone root_4 (told_root c.join.new.root) _ _ 5 (seen_of c.raise_four.new.four) (table_is_port c.raise_four.new.four) port_4.0 port_4.1 port_4.2 raised.four.idle row_4 c.join.ensures.roots c.join.ensures.root in

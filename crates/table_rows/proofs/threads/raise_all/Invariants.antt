@@ -1,6 +1,6 @@
 -- The port is the same actor's.
-use Rattle.table_rows.specs.Rows.{IsSame}
+use Rattle.port_core.specs.Port.{IsSameActor}
 use Rattle.table_rows.proofs.threads.raise_all.Given as goal
 
 abbrev pub invariant-loop-message : goal.invariant-loop-message
-invariant-loop-message g l = IsSame (g.P.Port.seen l.fn.port) (g.P.Port.seen l.port)
+invariant-loop-message g l = IsSameActor (g.P.Port.seen l.fn.port) (g.P.Port.seen l.port)

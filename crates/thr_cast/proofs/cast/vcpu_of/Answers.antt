@@ -12,7 +12,7 @@ use Rattle.thr_trip.specs.Script.{vcpu_ops}
 use Rattle.scn_base.specs.declared.guest.GuestSpec.{GuestSpec}
 use Rattle.thr_trip.specs.Trip.{IsTrip, TripTold}
 use Rattle.thr_cast.proofs.CastLemmas.{few_ops, opens_trip}
-use Rattle.thr_cast.proofs.ListLemmas.{on_ok}
+use Rattle.thr_cast.proofs.OkLemmas.{on_ok}
 use Rattle.thr_cast.proofs.SplitLemmas.{split_more}
 use Rattle.thr_cast.proofs.cast.vcpu_of.Goals as goal
 

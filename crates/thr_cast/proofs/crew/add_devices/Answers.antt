@@ -5,8 +5,8 @@ use Rattle.std.proofs.lemmas.List.{map-append}
 use Rattle.thr_trip.specs.declared.device.DeviceRun.{DeviceRun}
 use Rattle.thr_trip.specs.Device.{DeviceTold}
 use Rattle.thr_trip.specs.Told.{device_told}
-use Rattle.thr_cast.specs.Crew.{HaveWorkers}
-use Rattle.thr_cast.proofs.WorkerLemmas.{device_came, nothing_left, one_of, yielded_all, yielded_more}
+use Rattle.thr_cast.specs.Crew.{HaveWorkers, pe_numbers}
+use Rattle.thr_cast.proofs.WorkerLemmas.{device_came, nothing_left, numbers_stay, one_of, yielded_all, yielded_more}
 use Rattle.thr_cast.proofs.crew.add_devices.Goals as goal
 
 pub loop-device-preserved : goal.loop-device-preserved
@@ -30,6 +30,7 @@ loop-device-preserved g c =
           let more = device_came shelf at.workers.items (map told at.yielded) pes device (at.invariant.have shelf pes before) fresh in
           subst (λ (devices : List DeviceTold). HaveWorkers shelf c.push.new.self.items devices pes) (sym (map-append told at.yielded (device ∷ [])))
           (subst (λ items. HaveWorkers shelf items (map told at.yielded ++ told device ∷ []) pes) (sym c.in_ok-push.ensures.items) more);
+      numbers = ap (λ items. pe_numbers items) c.in_ok-push.ensures.items ∙ numbers_stay at.workers.items device ∙ at.invariant.numbers;
     }
 
 pub returns : goal.returns
@@ -39,4 +40,4 @@ returns g c =
     let told : Run → DeviceTold = λ device. device_told device in
     let empty : into_iter_items at.device-iterator ≡ [] = nothing_left _ (sym at.invariant.left ∙ c.in-None.ensures.steps.0) in
     let all = yielded_all c.args.devices.items at.yielded _ at.invariant.rest empty in
-    record { workers = λ shelf pes before. subst (λ (devices : List Run). HaveWorkers shelf at.workers.items (map told devices) pes) all (at.invariant.have shelf pes before) }
+    record { workers = λ shelf pes before. subst (λ (devices : List Run). HaveWorkers shelf at.workers.items (map told devices) pes) all (at.invariant.have shelf pes before); numbers = at.invariant.numbers }

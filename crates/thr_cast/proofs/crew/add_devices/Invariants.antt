@@ -3,7 +3,7 @@ use Rattle.std.proofs.Common.{◌≡◌, Bool, ◌++◌, [], length, map}
 use Rattle.std.specs.Vec.Iter.{into_iter_items, into_iter_len}
 use Rattle.thr_trip.specs.Told.{device_told}
 use Rattle.vcpu_shelf.specs.Told.{ShelfTold}
-use Rattle.thr_cast.specs.Crew.{HaveWorkers}
+use Rattle.thr_cast.specs.Crew.{HaveWorkers, pe_numbers}
 use Rattle.thr_cast.proofs.crew.add_devices.Given as goal
 
 abbrev pub invariant-loop-device : goal.invariant-loop-device
@@ -14,4 +14,5 @@ invariant-loop-device g l =
       rest : l.yielded ++ into_iter_items l.device-iterator ≡ l.fn.devices.items;
       left : into_iter_len l.device-iterator ≡ length (into_iter_items l.device-iterator);
       have : (shelf : ShelfTold) (pes : Bool) → HaveWorkers shelf l.initial.workers.items [] pes → HaveWorkers shelf l.workers.items (map device_told l.yielded) pes;
+      numbers : pe_numbers l.workers.items ≡ pe_numbers l.initial.workers.items;
     }

@@ -1,10 +1,12 @@
 -- One more PE is there.
-use Rattle.std.proofs.Common.{◌≡◌, ◌+◌, [], true, nat_lt, sym, ap, subst, ◌∙◌, arith}
+use Rattle.std.proofs.Common.{◌≡◌, ◌+◌, [], ◌++◌, ◌∷◌, true, nat_lt, add-one, sym, ap, subst, ◌∙◌, arith}
 use Rattle.std.proofs.lemmas.Bool.{lt-ltb}
 use Rattle.thr_trip.specs.Seat.{IsFreeSeat}
 use Rattle.vcpu_shelf.specs.Shelf.{shelf_told, seat_told}
-use Rattle.thr_cast.specs.Crew.{HaveWorkers}
-use Rattle.thr_cast.proofs.WorkerLemmas.{pe_came}
+use Rattle.std.specs.List.{range_with_len}
+use Rattle.gic_call.proofs.RangeLemmas.{range_with_len_more}
+use Rattle.thr_cast.specs.Crew.{HaveWorkers, pe_numbers}
+use Rattle.thr_cast.proofs.WorkerLemmas.{pe_came, numbers_more}
 use Rattle.thr_cast.proofs.crew.add_pes.Goals as goal
 
 pub loop-pe-preserved : goal.loop-pe-preserved
@@ -18,4 +20,9 @@ loop-pe-preserved g c =
     record {
       seat = c.split-own.ensures.same ∙ c.loop-pe.invariant.seat;
       workers = subst (λ pes. HaveWorkers shelf c.push.new.self.items [] pes) (sym some) (subst (λ items. HaveWorkers shelf items [] true) (sym c.in_ok-push.ensures.items) more);
+      numbers =
+          ap (λ items. pe_numbers items) c.in_ok-push.ensures.items ∙ numbers_more c.loop-pe.workers.items c.new.result
+          ∙ ap (λ numbers. numbers ++ c.new.result.pe ∷ []) c.loop-pe.invariant.numbers
+          ∙ ap (λ pe. range_with_len 0 c.loop-pe.pe ++ pe ∷ []) c.new.ensures.pe
+          ∙ sym (rw add-one (range_with_len_more 0 c.loop-pe.pe c.loop-pe.pe (omega arith)));
     }

@@ -1,7 +1,7 @@
 -- The vCPU is on its PE.
 use Rattle.pe_loop.specs.Stay.{IsUp}
-use Rattle.embed_example.specs.Same.{IsSame}
+use Rattle.port_core.specs.Port.{IsSameActor}
 use Rattle.embed_example.proofs.vcpu.Vcpu.run.Given as goal
 
 abbrev pub invariant-loop-number : goal.invariant-loop-number
-invariant-loop-number g l = IsUp (g.P.Port.seen l.port) l.vcpu × IsSame (g.P.Port.seen l.fn.port) (g.P.Port.seen l.port)
+invariant-loop-number g l = IsUp (g.P.Port.seen l.port) l.vcpu × IsSameActor (g.P.Port.seen l.fn.port) (g.P.Port.seen l.port)

@@ -1,0 +1,24 @@
+-- An actor that rests.
+use Rattle.std.proofs.Common.{◌≡◌, ◌&&◌, not, Bool, true, false, IsTrue, refl}
+use Rattle.port_core.specs.declared.local.Local.{Local}
+use Rattle.port_core.specs.Port.{Seen, IsSameActor}
+use Rattle.core_proper.specs.Proper.{is_settled}
+use Rattle.pe_loop.specs.Stay.{IsOff}
+use Rattle.vcpu_state.specs.declared.shelved.Shelved.{Shelved}
+use Rattle.embed_example.specs.Rest.{Rests}
+
+-- one that owes nothing and has neither the ITS nor the mark of GICD_CTLR
+settled_idle : (local : Local) → IsTrue (is_settled local) → local.turn ≡ false
+settled_idle local settled = of _ local.turn (not local.ctlr) settled
+  where
+    of : (owes turn other : Bool) → IsTrue (owes && not turn && other) → turn ≡ false
+    of owes false other h = refl
+    of true true other h = absurd (cc)
+    of false true other h = absurd (cc)
+
+pub rests_settled : (old new : Seen) → IsSameActor old new → IsTrue (is_settled new.local) → Rests old new
+rests_settled old new same settled = record { same = same; idle = settled_idle new.local settled }
+
+-- so does a vCPU that is on no PE
+pub rests_off : (old new : Seen) (vcpu : Shelved) → IsSameActor old new → IsOff new vcpu → Rests old new
+rests_off old new vcpu same off = rests_settled old new same off.settled

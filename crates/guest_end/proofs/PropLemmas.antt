@@ -1,0 +1,26 @@
+-- That a guest is at its end is a proposition: it is known without who knows it.
+use Rattle.std.proofs.Common.{ℕ, ◌<◌, List, Option, Some, None}
+use Rattle.std.specs.Prelude.{◌^◌, IfSome}
+use Rattle.std.proofs.Props.{props}
+use Rattle.gic_prio.specs.declared.cpu.CpuRec.{CpuRec}
+use Rattle.gic_word.specs.declared.record.Route.{Route}
+use Rattle.gic_word.specs.declared.record.Route.TheVariants.{Affinity, Target}
+use Rattle.gic_word.specs.Word.{IsRoute, IsSeat}
+use Rattle.port_core.specs.declared.end.GuestWords.{GuestWords}
+use Rattle.scn_base.specs.declared.guest.GuestSpec.{GuestSpec}
+use Rattle.guest_end.specs.Home.{IsAtEnd}
+
+some_prop : (bits : Option ℕ) (event : ℕ) → IsProp (IfSome bits (λ bits. event < 2 ^ bits))
+some_prop None event = Prim.hlevel props
+some_prop (Some bits) event = Prim.hlevel props
+
+seat_prop : (seat : Option ℕ) → IsProp (IsSeat seat)
+seat_prop None = Prim.hlevel props
+seat_prop (Some vcpu) = Prim.hlevel props
+
+route_prop : (route : Route) → IsProp (IsRoute route)
+route_prop (Affinity affinity) = Prim.hlevel props
+route_prop (Target target) = seat_prop target
+
+pub end_prop : (guest : GuestSpec) (words : GuestWords) (cpus : List CpuRec) → IsProp (IsAtEnd guest words cpus)
+end_prop guest words cpus = Prim.hlevel (some_prop, seat_prop, route_prop, props)
