@@ -1,5 +1,5 @@
 -- Where something is amiss with a scenario, and with which field (own choice).
-use Rattle.std.specs.Prelude.{ℕ, ◌-◌, List, nat_eq, nat_le, if◌then◌else◌, Option, Some, None, option_and_then, slice_get, codes}
+use Rattle.std.specs.Prelude.{◌≡◌, ℕ, ◌-◌, List, All, nat_eq, nat_le, if◌then◌else◌, Option, Some, None, option_and_then, slice_get, codes}
 use Rattle.serde_json.specs.Data.{Data}
 use Rattle.json_field.specs.Field.{elements_at}
 use Rattle.scn_read.specs.declared.form.Form.{Form}
@@ -64,3 +64,13 @@ amiss_at Scenario d = amiss_in scenario_fields scenario_rules d
 amiss_at (Guest guest) d = amiss_among (Guest guest) (elements_at (codes "guests") d)
 amiss_at (Preset guest preset) d = amiss_among (Preset guest preset) (elements_at (codes "guests") d)
 amiss_at (Step number) d = option_and_then (λ step. step_amiss (form_of step) step) (step_in number d)
+
+-- nothing is amiss with a guest's fields, nor with those of its presets
+pub record IsFitGuest (d : Data) : Type 0 where
+  pub own : amiss_in guest_fields guest_rules d ≡ None
+  pub presets : All (λ d. preset_amiss d ≡ None) (elements_at (codes "irqs") d)
+
+-- nothing is amiss with the fields of all that stands outside of the steps
+pub record AllFit (d : Data) : Type 0 where
+  pub own : amiss_in scenario_fields scenario_rules d ≡ None
+  pub guests : All IsFitGuest (elements_at (codes "guests") d)

@@ -1,3 +1,4 @@
 pub mod Field
 pub mod Table
 pub mod Hint
+pub mod Law

@@ -1,9 +1,9 @@
 //! Where a fault is, and what it means.
-ghost use Rattle.std.specs.Prelude.{◌≡◌, map, option_map, option_and_then, slice_get, IfSome, Some};
+ghost use Rattle.std.specs.Prelude.{◌≡◌, map, option_map, option_and_then, slice_get, All, IfSome, IfNone, Some, None};
 ghost use Rattle.serde_json.specs.View.{view};
 ghost use Rattle.scn_hint.specs.Field.{told};
 ghost use Rattle.scn_read.specs.Form.{form_of};
-ghost use Rattle.scn_hint.specs.Hint.{name_of, guest_in, step_number, amiss_at, amiss_in_guest, amiss_among, preset_amiss as preset_amiss_in, step_amiss as step_amiss_in, step_in};
+ghost use Rattle.scn_hint.specs.Hint.{AllFit, IsFitGuest, name_of, guest_in, step_number, amiss_at, amiss_in_guest, amiss_among, preset_amiss as preset_amiss_in, step_amiss as step_amiss_in, step_in};
 
 use crate::field::{Amiss, What, first_amiss};
 use crate::table::{GUEST_RULES, PRIVATE_RULES, SCENARIO_RULES, SHARED_RULES, rules_of};
@@ -88,7 +88,8 @@ fn step_amiss(value: &Value) -> Option<Amiss<'_>>
 
 /// The first of some presets with which something is amiss, and with which of its fields.
 fn first_preset(values: &[Value]) -> Option<(usize, Amiss<'_>)>
-    ensures { IfSome result (λ found. option_and_then preset_amiss_in (slice_get (map view values.now) found.0) ≡ Some (told found.1)) }
+    ensures found { IfSome result (λ found. option_and_then preset_amiss_in (slice_get (map view values.now) found.0) ≡ Some (told found.1)) }
+    ensures none { IfNone result (All (λ d. preset_amiss_in d ≡ None) (map view values.now)) }
 {
     for (preset, value) in values.iter().enumerate() {
         if let Some(found) = preset_amiss(value) {
@@ -103,6 +104,7 @@ fn guest_amiss(guest: usize, value: &Value) -> Option<(Place, Amiss<'_>)>
     ensures guest { IfSome result (λ found. guest_in found.0 ≡ Some guest) }
     ensures outside { IfSome result (λ found. step_number found.0 ≡ 0) }
     ensures amiss { IfSome result (λ found. amiss_in_guest found.0 (view value.now) ≡ Some (told found.1)) }
+    ensures none { IfNone result (IsFitGuest (view value.now)) }
 {
     if let Some(found) = first_amiss(value, &GUEST_FIELDS, &GUEST_RULES) {
         return Some((Place::Guest(guest), found));
@@ -115,6 +117,7 @@ fn guest_amiss(guest: usize, value: &Value) -> Option<(Place, Amiss<'_>)>
 fn first_guest(values: &[Value]) -> Option<(Place, Amiss<'_>)>
     ensures outside { IfSome result (λ found. step_number found.0 ≡ 0) }
     ensures amiss { IfSome result (λ found. amiss_among found.0 (map view values.now) ≡ Some (told found.1)) }
+    ensures none { IfNone result (All IsFitGuest (map view values.now)) }
 {
     for (guest, value) in values.iter().enumerate() {
         if let Some(found) = guest_amiss(guest, value) {
@@ -128,6 +131,7 @@ fn first_guest(values: &[Value]) -> Option<(Place, Amiss<'_>)>
 fn outside(value: &Value) -> Option<(Place, Amiss<'_>)>
     ensures outside { IfSome result (λ found. step_number found.0 ≡ 0) }
     ensures amiss { IfSome result (λ found. amiss_at found.0 (view value.now) ≡ Some (told found.1)) }
+    ensures none { IfNone result (AllFit (view value.now)) }
 {
     if let Some(found) = first_amiss(value, &SCENARIO_FIELDS, &SCENARIO_RULES) {
         return Some((Place::Scenario, found));
@@ -143,11 +147,12 @@ fn step_at(value: &Value, number: u32) -> Option<&Value>
     elements_at(value, STEPS).get(index)
 }
 
-/// What is known of a fault of a scenario's value: where it is, and of a fault of shape a field with which something is amiss there, where one is
-/// found. A step that names no form has none.
+/// What is known of a fault of a scenario's value: where it is, and of a fault of shape a field with which something is amiss there, wherever there
+/// is one. A step that names no form has none, nor has a guest or a preset that is no object.
 pub fn hint_of(value: &Value, fault: Fault) -> Hint<'_>
     ensures fault { result.fault ≡ fault }
-    ensures amiss { IfSome result.amiss (λ found. amiss_at result.place (view value.now) ≡ Some (told found)) }
+    ensures amiss { fault.code ≡ 1 → option_map told result.amiss ≡ amiss_at result.place (view value.now) }
+    ensures none { fault.code ≡ 1 → fault.step ≡ 0 → IfNone result.amiss (AllFit (view value.now)) }
     ensures only_shape { IfSome result.amiss (λ found. fault.code ≡ 1) }
     ensures step { step_number result.place ≡ fault.step }
 {

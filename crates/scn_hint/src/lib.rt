@@ -3,9 +3,11 @@
 
 mod field;
 mod hint;
+mod law;
 mod table;
 #[cfg(test)]
 mod tests;
 
 pub use field::{Amiss, Kind, Rule, What, first_amiss};
 pub use hint::{Hint, Place, code_name, hint_of};
+pub use law::fields_are_told;
