@@ -26,7 +26,7 @@ use Rattle.scn_hint.specs.Law.{FieldsAreTold}
 
 -- One field.
 
--- what is told where a test fails, where it holds no number, say, and where a field that has to be there is not
+-- what is told of a field that is there, by whether it holds what it should, and of one that is not, by whether it has to be
 abbrev unless : Bool → Option What
 unless b = if b then None else Some WrongKind
 

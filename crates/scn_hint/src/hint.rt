@@ -148,7 +148,7 @@ fn step_at(value: &Value, number: u32) -> Option<&Value>
 }
 
 /// What is known of a fault of a scenario's value: where it is, and of a fault of shape a field with which something is amiss there, wherever there
-/// is one. A step that names no form has none, nor has a guest or a preset that is no object.
+/// is one. A step that names no form has none, nor has a guest that is no object.
 pub fn hint_of(value: &Value, fault: Fault) -> Hint<'_>
     ensures fault { result.fault ≡ fault }
     ensures amiss { fault.code ≡ 1 → option_map told result.amiss ≡ amiss_at result.place (view value.now) }
