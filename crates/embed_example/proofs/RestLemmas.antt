@@ -3,6 +3,7 @@ use Rattle.std.proofs.Common.{◌≡◌, ◌&&◌, not, Bool, true, false, IsTru
 use Rattle.port_core.specs.declared.local.Local.{Local}
 use Rattle.port_core.specs.Port.{Seen, IsSameActor}
 use Rattle.core_proper.specs.Proper.{is_settled}
+use Rattle.dev_port.specs.Device.{CanCall}
 use Rattle.pe_loop.specs.Stay.{IsOff}
 use Rattle.vcpu_state.specs.declared.shelved.Shelved.{Shelved}
 use Rattle.embed_example.specs.Rest.{Rests}
@@ -16,9 +17,9 @@ settled_idle local settled = of _ local.turn (not local.ctlr) settled
     of true true other h = absurd (cc)
     of false true other h = absurd (cc)
 
-pub rests_settled : (old new : Seen) → IsSameActor old new → IsTrue (is_settled new.local) → Rests old new
-rests_settled old new same settled = record { same = same; idle = settled_idle new.local settled }
+pub rests_device : (old new : Seen) → IsSameActor old new → CanCall new → Rests old new
+rests_device old new same can = let device = can.device in record { same = same; idle = settled_idle new.local can.settled; off = λ vcpu. absurd (cc) }
 
 -- so does a vCPU that is on no PE
 pub rests_off : (old new : Seen) (vcpu : Shelved) → IsSameActor old new → IsOff new vcpu → Rests old new
-rests_off old new vcpu same off = rests_settled old new same off.settled
+rests_off old new vcpu same off = record { same = same; idle = settled_idle new.local off.settled; off = λ _. off.empty }

@@ -33,7 +33,7 @@ impl Device {
 
 impl TakesTurns for Device {
     /// Once its doorbell is rung it sends its message to the ITS, and raises its SPI.
-    #[tactic(auto, using(port_core::proofs::SameLemmas::same_after, port_core::proofs::SameLemmas::same_twice, port_core::proofs::SameLemmas::same_here, crate::proofs::RestLemmas::rests_settled))]
+    #[tactic(auto, using(port_core::proofs::SameLemmas::same_after, port_core::proofs::SameLemmas::same_twice, port_core::proofs::SameLemmas::same_here, crate::proofs::RestLemmas::rests_device))]
     fn turn<P: Port, R: Wait>(
         &mut self,
         rt: &R,

@@ -145,8 +145,7 @@ fn open(alloc: Global) -> Result<(SharedWords, RootSeat), Fault>
     ensures fresh { IfOk result (λ both. told_root both.1 ≡ map opening_root (told_words both.0)) }
 {
     let scenario = one_guest(alloc, SHAPE, false, &[])?;
-    let guests = scenario.guests.as_slice();
-    if guests.len() != 1 || guests[0].shape != SHAPE || !scenario.is_good(alloc, Mode::Threads)? {
+    if !scenario.is_good(alloc, Mode::Threads)? {
         return Err(Fault::BadGuest);
     }
     Ok(start(alloc, &scenario)?)
