@@ -51,7 +51,7 @@ pub record IsSimulation (guest : GuestSpec) (number : ℕ) (entries : List Entry
 abbrev pub RunsAreSimulated : Type 0
 RunsAreSimulated = (guest : GuestSpec) (number : ℕ) (entries : List Entry) → IsGoodGuest guest → IsRun guest.shape (opening guest number) entries → IsSimulation guest number entries
 
--- The same of runs with their parts.
+-- Runs that are told with their parts are simulated too.
 
 -- where a part ends, what it stands for is the call that it was begun for, with this answer
 abbrev pub IsCallAt : GuestShape → Course → ℕ → Act → Type 0

@@ -20,7 +20,7 @@ pub fn dist_access(offset: u32, size: u32, write: Option<u64>) -> gic_dmap::RegR
     gic_dmap::decode(offset, size)
 }
 
-/// The same in a redistributor: its RD frame, and its SGI frame from 0x10000.
+/// What an access of a redistributor is of: its RD frame, and its SGI frame from 0x10000.
 #[tactic(auto, using(crate::proofs::FitLemmas::redist_fits))]
 pub fn redist_access(offset: u32, size: u32, write: Option<u64>) -> gic_rmap::RegRef
     requires size { IsTrue (is_size size) }
@@ -32,7 +32,7 @@ pub fn redist_access(offset: u32, size: u32, write: Option<u64>) -> gic_rmap::Re
     gic_rmap::decode(offset, size)
 }
 
-/// The same in the ITS: its control frame, and its translation frame from 0x10000.
+/// What an access of the ITS is of: its control frame, and its translation frame from 0x10000.
 #[tactic(auto, using(crate::proofs::FitLemmas::its_fits))]
 pub fn its_access(offset: u32, size: u32, write: Option<u64>) -> gic_imap::RegRef
     requires size { IsTrue (is_size size) }

@@ -158,7 +158,7 @@ mod tests {
         route: Route::Affinity(1),
     };
 
-    /// The same interrupt, active by vCPU 1 and risen again.
+    /// `PENDING`, active by vCPU 1 and risen again.
     const ACTIVE: Irq = Irq {
         act_by: Some(1),
         ..PENDING

@@ -68,10 +68,10 @@ pub const HCR_EOICOUNT: u32 = 1 << HCR_EOICOUNT_FIELD.place;
 /// What is asked while group 1 alone is enabled at the vCPU: maintenance interrupts where group 0 is
 /// enabled or group 1 disabled.
 pub const HCR_GROUP_1_ALONE: u32 = HCR_EN + HCR_VGRP0EIE + HCR_VGRP1DIE;
-/// The same where some deliverable interrupts have no list register: a maintenance interrupt also where
-/// none is pending any more.
+/// What is asked where, besides, some deliverable interrupts have no list register: a maintenance interrupt
+/// also where none is pending any more.
 pub const HCR_GROUP_1_CUT: u32 = HCR_GROUP_1_ALONE + HCR_NPIE;
-/// The same where not even the active interrupts have a list register each: every access is trapped.
+/// What is asked where not even the active interrupts have a list register each: every access is trapped.
 pub const HCR_GROUP_1_TRAPPING: u32 = HCR_GROUP_1_ALONE + HCR_TC + HCR_TALL0 + HCR_TALL1 + HCR_TDIR;
 
 /// A law of the masks: each is the bit of its number alone.

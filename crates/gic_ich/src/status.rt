@@ -117,7 +117,7 @@ mod tests {
     const PENDING_42: u64 = 0x5020_0000_0000_002a;
     /// Active 40, whose end is to be seen.
     const ACTIVE_40: u64 = 0x90a0_0200_0000_0028;
-    /// The same, ended.
+    /// Interrupt 40 after its end.
     const ENDED_40: u64 = 0x10a0_0200_0000_0028;
 
     /// The first two list registers, ICH_HCR, and ICH_MISR, where group 1 alone is enabled.

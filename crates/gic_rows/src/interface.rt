@@ -9,14 +9,14 @@ use std::test::Fail;
 pub(crate) const BASE: &str =
     r#""guests":[{"on":true,"irqs":[{"id":40},{"id":41},{"id":42,"prio":32}]}]"#;
 
-/// The same on a PE with one list register, and with two.
+/// The guest of `BASE` on a PE with one list register, and with two.
 pub(crate) const ONE_LR: &str =
     r#""lrs":1,"guests":[{"on":true,"irqs":[{"id":40},{"id":41},{"id":42,"prio":32}]}]"#;
 
 pub(crate) const TWO_LRS: &str =
     r#""lrs":2,"guests":[{"on":true,"irqs":[{"id":40},{"id":41},{"id":42,"prio":32}]}]"#;
 
-/// The same with 40 level-sensitive.
+/// The guest of `BASE` with 40 level-sensitive.
 const LEVEL: &str =
     r#""guests":[{"on":true,"irqs":[{"id":40,"edge":false},{"id":41},{"id":42,"prio":32}]}]"#;
 

@@ -8,7 +8,7 @@ use std::test::Fail;
 /// Two vCPUs, each on a PE, 16 LPIs, and memory for tables and commands.
 pub(crate) const GUEST: &str = r#""pes":2,"guests":[{"vcpus":2,"lpis":16,"ram":65536,"on":true}]"#;
 
-/// The same with as many LPIs as there can be.
+/// The guest of `GUEST` with as many LPIs as there can be.
 const ALL_LPIS: &str = r#""pes":2,"guests":[{"vcpus":2,"lpis":4096,"ram":65536,"on":true}]"#;
 
 /// LPI 8195 is enabled at priority 0xA0 in the configuration table at 0x3000.

@@ -24,7 +24,7 @@ macro_rules! grouped {
     };
 }
 
-/// The same with priority 0xA0.
+/// An SPI of group 1 and priority 0xA0 that is else as a guest opens.
 macro_rules! grouped_at_a0 {
     ($id:literal) => {
         concat!(

@@ -335,7 +335,7 @@ pub fn run_tool<
         (ShownIn (WasShown (W.scheduled watch.old) (W.scheduled watch.new) (W.last_schedule watch.new))
         (WasShown (W.threaded watch.old) (W.threaded watch.new) (W.last_threads watch.new))) result }
 
-    // The same, status by status.
+    // What was read, shown and written, status by status.
     ensures ok { result ≡ 0 →
         IsOk (command_in words.now) (S.left source.old) (S.left source.new) (Grew (K.taken sink.old) (K.taken sink.new))
         (ShownIn (WasShown (W.scheduled watch.old) (W.scheduled watch.new) (W.last_schedule watch.new))

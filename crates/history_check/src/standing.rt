@@ -40,7 +40,7 @@ impl Standing {
 }
 
 impl Standing {
-    /// The same again.
+    /// A second standing, equal to this one.
     pub(crate) fn copied(&self) -> Standing
         ensures { result ≡ self.now }
     {

@@ -12,7 +12,7 @@ use gic_list::ListOf;
 use history_check::{Changes, Track, Turn, key_in};
 use std::alloc::{AllocError, Global};
 
-/// The same call again.
+/// A second value of a call, equal to it.
 pub(crate) fn copied(turn: &Turn) -> Turn
     ensures { result ≡ turn.now }
 {

@@ -8,7 +8,7 @@ use gic_list::ListOf;
 use history_check::{Doing, key_in};
 use std::alloc::{AllocError, Global};
 
-/// The same interrupts again.
+/// A second list of the same interrupts.
 pub(crate) fn copied_keys(alloc: Global, keys: &[Key]) -> Result<ListOf<Key>, AllocError>
     ensures { IfOk result (λ all. all ≡ keys.now) }
 {

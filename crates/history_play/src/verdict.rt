@@ -45,7 +45,7 @@ fn is_busy(doings: &[Doing], actor: u32) -> bool
     }
 }
 
-/// The same of the actors of a track.
+/// Whether an actor is in a call, by a track.
 fn is_within(track: &Track, actor: u32) -> bool
     ensures { result ≡ is_some (doing_of track.now actor).operation }
 {

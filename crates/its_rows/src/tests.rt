@@ -274,7 +274,7 @@ fn wrapped<P: Port, R: Wait>(rt: &R, port: &mut P) -> Option<Outcome> {
     run_to(rt, port, 0x20)
 }
 
-/// The same on guests of their own.
+/// What a queue with Retry and one without come to, on guests of their own.
 fn retried_of<R: Wait>(rt: &R, alloc: Global) -> Result<Option<(Outcome, Outcome)>, AllocError> {
     match guest(alloc)? {
         Some(mut port) => Ok(retried(rt, &mut port)),

@@ -217,7 +217,7 @@ fn outcome<P: Port, R: Wait>(
     Some((registers(port)?, lpi_state(port)?))
 }
 
-/// The same on a guest of its own.
+/// What the writes leave of the registers and of the LPI, on a guest of its own.
 fn outcome_of<R: Wait>(
     rt: &R,
     alloc: Global,

@@ -203,7 +203,7 @@ fn first_other<P: Port, R: Wait>(
     None
 }
 
-/// The same in a guest that just opened. The number of the accesses where it can't be made.
+/// The first access that goes otherwise, in a guest that just opened; the number of the accesses where it can't be made.
 fn play<R: Wait>(
     rt: &R,
     alloc: Global,

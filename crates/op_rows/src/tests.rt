@@ -243,7 +243,7 @@ fn first_other<R: Wait>(rt: &R, guest: &mut GuestPort, acts: &[Act]) -> Option<u
     None
 }
 
-/// The same in a guest that just opened; the number of the acts where it can't be made.
+/// The first act that does otherwise, in a guest that just opened; the number of the acts where it can't be made.
 fn play<R: Wait>(
     rt: &R,
     alloc: Global,
@@ -257,7 +257,7 @@ fn play<R: Wait>(
     Ok(first_other(rt, port.current_mut(), acts))
 }
 
-/// The same of acts that go on after others in one guest.
+/// The first act that does otherwise, of acts that go on after others in one guest.
 fn play_both<R: Wait>(
     rt: &R,
     alloc: Global,
@@ -379,7 +379,7 @@ fn set_up(byte: u64) -> [Act; 18] {
     ]
 }
 
-/// The same for LPIs of vCPU 0 as for those of vCPU 1.
+/// vCPU 0 gets its LPI tables and listens to LPIs, as vCPU 1 does.
 fn set_up_mine() -> [Act; 3] {
     [
         Vcpu(0, stores(MINE, 0x70, 8, 0x300D)),

@@ -103,7 +103,7 @@ pub fn claim_into<P: Port>(port: &mut P, vcpu: &mut Loaded, place: usize, choice
     }
 }
 
-/// The same where anything was chosen.
+/// Claims what was chosen for a place, if anything was: whether not all of it came.
 fn claim_place<P: Port>(
     port: &mut P,
     vcpu: &mut Loaded,

@@ -28,7 +28,7 @@ fn release<P: Port>(port: &mut P, key: Key, back: Back)
     settle(port);
 }
 
-/// The same of what is held at a place, if anything is, with what comes back of it.
+/// Gives back and releases what is held at a place, if anything is, with what comes back of it.
 fn release_held<P: Port>(port: &mut P, held: Option<HeldIrq>, back: Option<Back>)
     requires vcpu { IsTrue (is_vcpu (shape_of (P.seen port.old)) (P.seen port.old).actor) }
     requires can { CanReleaseHeld (P.seen port.old) held back }

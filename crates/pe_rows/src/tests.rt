@@ -159,7 +159,7 @@ fn visit_after<P: Port>(port: &mut P, causes: &[Cause], lrs: u32) -> Option<Stor
     visit(port, lrs)
 }
 
-/// The same in a guest that just opened.
+/// What an entry stores after these causes, in a guest that just opened.
 fn store(
     alloc: Global,
     edge: bool,

@@ -13,7 +13,7 @@ pub trait Tells<S, V> {
     ghost told: { Me S V → ℕ → Me S V → Type 0 };
 }
 
-/// The same as a table's step tells it. No value of it is made.
+/// What an operation tells its caller, as a step of the table tells it. No value of it is made.
 pub struct Telling<T> {
     marker: PhantomData<T>,
 }

@@ -27,7 +27,7 @@ const KEY: Key = Key::Spi(40);
 /// bit 26 says that its route is an affinity, that of vCPU 0.
 const OPENED: u64 = 0x0400_28F8;
 
-/// The same with a cause by software.
+/// The word of interrupt 40 as it opens, with a cause by software.
 const RAISED: u64 = OPENED + 1;
 
 /// An edge-triggered interrupt of group 1 and priority 0xA0, for vCPU 0.

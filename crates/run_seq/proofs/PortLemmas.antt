@@ -20,7 +20,7 @@ use Rattle.seq_guest.specs.Guest.{AreAt, cpus_of, spot_at}
 use Rattle.run_seq.specs.Opened.{AreOpened, IsOpened}
 use Rattle.run_seq.specs.Run.{SamePorts}
 
--- The same guests, whichever of their actors are told.
+-- The guests of a port are the same, whichever of their actors are told.
 
 -- one guest is lent, and another of its actors is told once it is back
 pub record IsBack (first : SeqTold) (number : ℕ) (guest : GuestTold) (last : SeqTold) : Type 0 where

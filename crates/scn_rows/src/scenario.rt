@@ -9,7 +9,7 @@ const FIRST: &str =
     r#"{"pes":1,"lrs":4,"guests":[{"vcpus":1,"spis":32,"on":true,"irqs":[{"id":40}]}],
     "steps":[{"dev":[0,0],"message":40},{"vcpu":[0,0],"icc":"IAR1"},
     {"vcpu":[0,0],"icc":"EOIR1","write":40},{"vcpu":[0,0],"icc":"IAR1"}]}"#;
-/// The same with numbers as hexadecimal texts.
+/// The scenario `FIRST` with numbers as hexadecimal texts.
 const FIRST_IN_HEX: &str =
     r#"{"pes":"0x1","lrs":"0x0000000000000004","guests":[{"vcpus":"0x01","spis":"0x20",
     "on":true,"irqs":[{"id":"0x28","prio":"0xa0"}]}],

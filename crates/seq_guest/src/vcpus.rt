@@ -142,7 +142,7 @@ impl Vcpus {
         answered
     }
 
-    /// The same until none is kicked.
+    /// Each vCPU that is kicked answers, one after the other, until none is kicked.
     pub(crate) fn answer_kicks<R: Wait>(&mut self, rt: &R, port: &mut GuestPort)
         requires { AreAt (told port.old) self.old }
         ensures goes_on { GoesOn AreResidences (told port.old) (told port.new) self.old self.new }
@@ -221,7 +221,7 @@ impl Vcpus {
         show_pe(alloc, port, &mut self.places[vcpu as usize])
     }
 
-    /// The same, and the kicks are answered that this gives.
+    /// What a vCPU's PE shows in its list registers, and the kicks are answered that this gives.
     pub fn show<R: Wait>(
         &mut self,
         rt: &R,

@@ -42,7 +42,7 @@ fn send_all<P: Port>(port: &mut P, spi: u32, messages: u32)
     }
 }
 
-/// The same of any actor: how many it sends, which is none where it may not.
+/// Sends messages as any actor: how many it sends, which is none where it may not.
 fn try_all<P: Port>(port: &mut P, spi: u32, messages: u32) -> u64
     ensures { result ≤ messages }
 {
@@ -125,7 +125,7 @@ fn raise<R: Threads + Sync>(
     early + late
 }
 
-/// The same in a guest that just opened. An error where memory is refused.
+/// How many messages are sent in a guest that just opened, by one device or by four. An error where memory is refused.
 pub(crate) fn all<R: Threads + Sync>(
     rt: &R,
     alloc: Global,

@@ -78,7 +78,7 @@ fn one_after_the_other<R: Wait>(rt: &R, words: &SharedWords, root: RootSeat) -> 
     Some(root)
 }
 
-/// The same in a thread of its own, to which the root goes and with which the words are shared.
+/// What one vCPU and one device do, in a thread of its own, to which the root goes and with which the words are shared.
 fn in_a_thread<R: Threads + Wait + Sync>(
     rt: &R,
     words: &SharedWords,
