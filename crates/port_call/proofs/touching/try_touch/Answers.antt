@@ -4,4 +4,4 @@ use Rattle.port_call.proofs.touching.try_touch.Goals as goal
 
 pub touch_seen-requires-clause-can : goal.touch_seen-requires-clause-can
 touch_seen-requires-clause-can g c =
-    looked_can (g.P.Port.seen c.args.port.now) (g.P.Port.seen c.look_home-seen.new.port) c.args.key c.args.kind c.in-Ok.seen c.requires.can c.in-Ok.ensures.home
+    looked_can (g.P.Port.seen c.args.port.now) (g.P.Port.seen c.look_home.new.port) c.args.key c.args.kind c.in_ok-seen.seen c.requires.can c.in_ok-seen.ensures.home
