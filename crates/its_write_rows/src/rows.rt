@@ -7,7 +7,8 @@ use crate::tests::{
 };
 use dev_port::msi;
 use gic_base::{Frame, GuestShape, NoMemory};
-use pe_its::{its_op, mem_op};
+use pe_its::its_op;
+use pe_op::mem_op;
 use port_core::Port;
 use port_rest::is_settled;
 use port_seq::{GuestPort, SeqPort};

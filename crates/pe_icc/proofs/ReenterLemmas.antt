@@ -3,7 +3,6 @@ use Rattle.std.proofs.Common.{◌≡◌, ℕ, ◌||◌, not, Bool, true, false, 
 use Rattle.gic_call.specs.declared.event.Operation.{Operation}
 use Rattle.vcpu_state.specs.declared.loaded.Loaded.{Loaded}
 use Rattle.vcpu_state.specs.declared.shelved.Shelved.{Shelved}
-use Rattle.vcpu_state.specs.Moves.{shelved_of}
 use Rattle.port_core.specs.declared.run.Made.{Made}
 use Rattle.port_core.specs.Port.{Seen, Adds, shape_of, part_events, seen_after}
 use Rattle.port_core.proofs.PortLemmas.{adds_join}
@@ -12,8 +11,8 @@ use Rattle.core_proper.specs.Progress.{Progress, Debt, paid, before_next, is_pai
 use Rattle.port_call.specs.Piece.{IsIdle, IsGoodPiece, IsPiece, StaysSo}
 use Rattle.port_call.proofs.PieceLemmas.{seen_nil}
 use Rattle.port_call.proofs.TryLemmas.{none_append}
+use Rattle.pe_loop.specs.Again.{LeavesThenEnters}
 use Rattle.pe_loop.specs.Enter.{MayEnter, Enters}
-use Rattle.pe_loop.specs.Leave.{Leaves}
 use Rattle.pe_loop.proofs.MoveLemmas.{moves_join, moves_unnamed, only_leave}
 use Rattle.pe_loop.specs.Moves.{are_moves}
 use Rattle.pe_icc.specs.Amid.{IsAmid, IsAble, IsSet, Leads, debt_of}
@@ -92,8 +91,11 @@ enter_leads mid new shelved lrs loaded enters operation debt =
           });
     }
 
-pub reenters_so : (old mid new : Seen) (before after : Loaded) (shelved : Shelved) → shelved ≡ shelved_of before → Leaves old mid before shelved → Enters mid new shelved before.regs.n after → Reenters old new before after
-reenters_so old mid new before after shelved is leaves enters =
+pub reenters_so : (old new : Seen) (before after : Loaded) → LeavesThenEnters old new before after → Reenters old new before after
+reenters_so old new before after round =
+    let mid = round.mid in
+    let leaves = round.leaves in
+    let enters = round.enters in
     let part = leaves.part ++ enters.part in
     let with_cpu : Shelved → Shelved = λ base. record base { cpu = before.base.cpu } in
     record {
@@ -102,11 +104,11 @@ reenters_so old mid new before after shelved is leaves enters =
       none_taken = none_append leaves.part enters.part leaves.none_taken enters.none_taken;
       moves = moves_unnamed old.actor (part_events old part) (moves_join old mid leaves.part enters.part leaves.adds (ap (are_moves old.actor) leaves.events ∙ only_leave old.actor _) enters.moves);
       up = enters.up;
-      same = record { base = ap with_cpu enters.kept ∙ ap with_cpu is; lrs = enters.lrs_is };
+      same = record { base = ap with_cpu enters.kept ∙ ap with_cpu round.shelved_is; lrs = enters.lrs_is };
       leads = λ operation debt.
           leads_then old mid leaves.part enters.part (MayReenter old operation before.regs.n debt) (MayReenter mid operation before.regs.n debt) (IsAble new after operation (owed_after_scan debt)) leaves.adds
           (piece_leads old mid leaves.part operation before.regs.n debt leaves.adds leaves.piece)
-          (enter_leads mid new shelved before.regs.n after enters operation debt);
+          (enter_leads mid new round.shelved before.regs.n after enters operation debt);
     }
 
 -- After an access.

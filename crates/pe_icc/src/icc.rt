@@ -6,10 +6,11 @@ ghost use Rattle.pe_icc.specs.Icc.{IsEnding, Tries, DoesAccess};
 
 use crate::operate::{Polled, poll_access};
 use crate::prepare::prepare;
-use crate::reenter::{reenter, refill};
+use crate::reenter::refill;
 use crate::sgi::send_sgis;
 use crate::stay::{Stay, copy_of};
 use gic_base::IccReg;
+use pe_loop::reenter;
 use port_core::Port;
 use std::sync::Wait;
 use vcpu_state::Loaded;

@@ -1,25 +1,13 @@
 //! A vCPU leaves its PE and enters it again in a call of it.
 ghost use Rattle.std.specs.Prelude.{◌≡◌, ◌≤◌};
-ghost use Rattle.pe_loop.specs.Stay.{IsOn};
 ghost use Rattle.pe_icc.specs.Amid.{IsSet, debt_of};
-ghost use Rattle.pe_icc.specs.Reenter.{Reenters, Refills};
+ghost use Rattle.pe_icc.specs.Reenter.{Refills};
 ghost use Rattle.core_proper.specs.Progress.{is_to_scan as is_to_scan_by};
 
 use gic_ich::misr;
-use pe_loop::{enter, leave};
+use pe_loop::reenter;
 use port_core::Port;
 use vcpu_state::Loaded;
-
-/// Takes a vCPU off its PE, and puts it there again.
-pub(crate) fn reenter<P: Port>(port: &mut P, vcpu: Loaded) -> Loaded
-    requires on { IsOn (P.seen port.old) vcpu }
-    requires lrs { 1 ≤ vcpu.regs.n × vcpu.regs.n ≤ 16 }
-    ensures { Reenters (P.seen port.old) (P.seen port.new) vcpu result }
-{
-    let lrs = vcpu.regs.n;
-    let shelved = leave(port, vcpu);
-    enter(port, shelved, lrs)
-}
 
 /// Whether a vCPU is to scan again after an access: a maintenance interrupt is asserted, it is in trap mode, or it took an
 /// interrupt to its interface to end it.

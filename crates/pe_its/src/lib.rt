@@ -1,4 +1,4 @@
-//! The accesses of a vCPU that has nothing at its interface to the ITS, and to any frame.
+//! The accesses of a vCPU that has nothing at its interface to the ITS.
 #![tactic(auto)]
 
 mod call;
@@ -7,5 +7,5 @@ mod read;
 mod register;
 mod write;
 
-pub use call::{its_op, mem_op};
+pub use call::its_op;
 pub use write::its_write;

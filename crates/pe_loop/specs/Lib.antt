@@ -8,3 +8,4 @@ pub mod Marking
 pub mod Claiming
 pub mod Leave
 pub mod Enter
+pub mod Again

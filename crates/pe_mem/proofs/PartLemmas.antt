@@ -73,18 +73,21 @@ pub shown_so : (shape : GuestShape) (key : Key) (kind : Kind) (access : PartAcce
 shown_so shape key kind access seen irq can word is = subst (λ irq. IsTrue (shows_route kind irq.route)) (sym is) (shown_by shape key kind access (irq_of seen) can word.irq)
 
 pub attempted :
-    (old new : Seen) (key : Key) (kind : Kind) (access : PartAccess) (seen found : ℕ) (irq : Irq) (touching : Touching) → CanAttempt (shape_of old) key kind access → IsIrqWord (shape_of old) key seen → irq ≡ irq_of seen
-    → touching ≡ touching_by access kind irq → found ≡ seen → Touches old new key touching found → Attempts old new key kind access irq
-attempted old new key kind access seen found irq touching can word is does same made =
-    let found_is : irq ≡ irq_of found = is ∙ ap irq_of (sym same) in
-    let By : Touching → Type 0 = λ touching. Touches old new key touching found in
+    (old new : Seen) (key : Key) (kind : Kind) (access : PartAccess) (seen : ℕ) (irq : Irq) (touching : Touching) → CanAttempt (shape_of old) key kind access → IsIrqWord (shape_of old) key seen → irq ≡ irq_of seen
+    → touching ≡ touching_by access kind irq → Touches old new key touching seen → Attempts old new key kind access irq
+attempted old new key kind access seen irq touching can word is does made =
+    let By : Touching → Type 0 = λ touching. Touches old new key touching seen in
     record {
-      found = found;
-      touches = subst By (does ∙ ap (touching_by access kind) found_is) made;
-      irq_is = found_is;
+      found = seen;
+      touches = subst By (does ∙ ap (touching_by access kind) is) made;
+      irq_is = is;
       packable = subst IsIrq (sym is) word.irq.packable;
       shown = shown_so (shape_of old) key kind access seen irq can word is;
     }
+
+-- where the look found a vCPU that holds it
+pub held_so : (old new : Seen) (key : Key) (kind : Kind) (access : PartAccess) (missed : Missed) → ((kind : Touching) → MissesTouch old new key kind missed) → Misses old new key kind access missed
+held_so old new key kind access missed misses = let irq = irq_of 0 in record { looked = irq; misses = misses (touching_by access kind irq) }
 
 pub missed_so : (old new : Seen) (key : Key) (kind : Kind) (access : PartAccess) (irq : Irq) (touching : Touching) (missed : Missed) → touching ≡ touching_by access kind irq → MissesTouch old new key touching missed → Misses old new key kind access missed
 missed_so old new key kind access irq touching missed does misses = let By : Touching → Type 0 = λ touching. MissesTouch old new key touching missed in record { looked = irq; misses = subst By does misses }

@@ -1,17 +1,15 @@
 //! One try of an access to the part of one interrupt.
 ghost use Rattle.std.specs.Prelude.{◌≡◌, ◌<◌, ◌^◌, IsTrue, IfOk, IfErr};
 ghost use Rattle.gic_base.specs.declared.operation.Kind.{Kind};
-ghost use Rattle.gic_base.specs.Interrupt.{has_interrupt};
 ghost use Rattle.gic_frame.specs.Part.{part_bits};
 ghost use Rattle.gic_word.specs.declared.record.Irq.{Irq};
 ghost use Rattle.gic_reg.specs.Condition.{shows_route};
 ghost use Rattle.gic_reg.specs.Touch.{part_read};
 ghost use Rattle.gic_call.specs.Touch.{CanTouch};
 ghost use Rattle.gic_word.specs.Word.{IsIrq, IsWord, irq_of};
-ghost use Rattle.port_core.specs.Local.{owes_no_mark};
 ghost use Rattle.port_core.specs.Port.{shape_of};
 ghost use Rattle.port_call.specs.Rest.{IsAtEase};
-ghost use Rattle.port_call.specs.Touch.{Asks, MissesTouch};
+ghost use Rattle.port_call.specs.Touch.{MissesTouch};
 ghost use Rattle.pe_mem.specs.Part.{touching_by, touching_of, part_answer, FitsPart, CanAttempt, Attempts, Misses, Accesses};
 
 use gic_base::{Key, Kind};
@@ -19,8 +17,8 @@ use gic_call::Touching;
 use gic_frame::Half;
 use gic_reg::read_part;
 use gic_word::Irq;
-use port_call::{Missed, settle};
-use port_core::{CoreStep, Port, WordId};
+use port_call::{Missed, look_home, touch_seen};
+use port_core::Port;
 
 /// An access to the part that an interrupt has in the registers of a kind.
 #[derive(Clone, Copy, Debug, PartialEq, Eq, Hash)]
@@ -61,17 +59,6 @@ fn record_in(word: u64) -> Irq
     gic_word::unpack(word).unwrap()
 }
 
-/// Asks the vCPU that holds an interrupt for it: notes that an access waits for it, and kicks the vCPU.
-fn ask<P: Port>(port: &mut P, key: Key, holder: u32)
-    requires there { IsTrue (has_interrupt (shape_of (P.seen port.old)) key) }
-    requires vcpu { holder < (shape_of (P.seen port.old)).vcpus }
-    requires marks { IsTrue (owes_no_mark (P.seen port.old).local) }
-    ensures { Asks (P.seen port.old) (P.seen port.new) key holder }
-{
-    port.step(CoreStep::Want { key });
-    port.step(CoreStep::Kick { vcpu: holder });
-}
-
 /// Tries an access to an interrupt's part, and answers the record that it found: it looks at the interrupt, and touches it
 /// where nobody holds it. Why it missed otherwise.
 pub(crate) fn attempt<P: Port>(
@@ -85,31 +72,10 @@ pub(crate) fn attempt<P: Port>(
     ensures done { IfOk result (λ irq. Attempts (P.seen port.old) (P.seen port.new) key kind access irq) }
     ensures missed { IfErr result (λ missed. Misses (P.seen port.old) (P.seen port.new) key kind access missed) }
 {
-    let seen = port.step(CoreStep::Look {
-        word: WordId::Irq(key),
-    });
+    let seen = look_home(port, key)?;
     let irq = record_in(seen);
-    if let Some(holder) = irq.holder {
-        ask(port, key, holder);
-        return Err(Missed::Held { holder });
-    }
-    let touching = access.touching(kind, &irq);
-    let found = port.step(CoreStep::Touch {
-        key,
-        seen,
-        kind: touching,
-    });
-    if found == seen {
-        settle(port);
-        return Ok(irq);
-    }
-    match record_in(found).holder {
-        Some(holder) => {
-            ask(port, key, holder);
-            Err(Missed::Held { holder })
-        }
-        None => Err(Missed::Changed { found }),
-    }
+    touch_seen(port, key, seen, access.touching(kind, &irq))?;
+    Ok(irq)
 }
 
 /// The access that reads, or writes a value.

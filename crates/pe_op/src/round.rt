@@ -6,9 +6,9 @@ ghost use Rattle.scn_base.specs.Good.{is_good_op};
 ghost use Rattle.pe_loop.specs.Stay.{IsUp};
 ghost use Rattle.pe_op.specs.Operation.{DoesOperation, StopsOperation};
 
+use crate::frame::mem_op;
 use gic_base::{Frame, NoMemory};
 use pe_icc::copy_of;
-use pe_its::mem_op;
 use pe_loop::{enter, leave};
 use port_core::Port;
 use std::sync::Wait;

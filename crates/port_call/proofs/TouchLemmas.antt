@@ -35,7 +35,7 @@ use Rattle.port_call.specs.About.{is_about, are_about, IsNaming, IsServed, IsTry
 use Rattle.port_call.specs.Piece.{IsIdle, StaysSo, IsGoodPiece, IsPiece, goes_by_known, takes_none}
 use Rattle.port_call.specs.Rest.{IsAtEase, StaysAtEase}
 use Rattle.port_call.specs.Settle.{vcpus_in, marks_sent, kicks_sent, Settles}
-use Rattle.port_call.specs.Touch.{Asks, Tries, MissesTouch, TouchesLate, Touches}
+use Rattle.port_call.specs.Touch.{Asks, FindsHome, HasFoundHome, Tries, MissesTouch, TouchesLate, Touches}
 use Rattle.port_call.proofs.MemoryLemmas.{on_own}
 use Rattle.port_call.proofs.PieceLemmas.{seen_nil, idle_is, idle_on, stays_on}
 use Rattle.port_call.proofs.RestLemmas.{owes_none, look_kept, kick_kept, told_at_ease}
@@ -437,9 +437,17 @@ pub late_marks : (old mid new : Seen) (key : Key) (kind : Touching) (seen found 
 late_marks old mid new key kind seen found owes late look add =
     ap owes_no_mark (late_tries mid new key kind seen found late (looked_known old mid key kind seen look) add).local_is ∙ looked_marks old mid key seen owes look
 
-pub there_still : (old mid new : Seen) (key : Key) (kind : Touching) (seen found : ℕ) → IsTrue (has_interrupt (shape_of old) key) → AddsStep old mid (Look (Irq key)) seen → AddsStep mid new (Touch key seen kind) found → IsTrue (has_interrupt (shape_of new) key)
-there_still old mid new key kind seen found there look add =
-    ap (λ shape. has_interrupt shape key) (ap shape_of add.adds.new_is ∙ ap shape_of look.adds.new_is) ∙ there
+pub there_still : (old new : Seen) (key : Key) (kind : Touching) (seen found : ℕ) → CanTouch (shape_of old) key kind → AddsStep old new (Touch key seen kind) found → IsTrue (has_interrupt (shape_of new) key)
+there_still old new key kind seen found can add = ap (λ shape. has_interrupt shape key) (ap shape_of add.adds.new_is) ∙ can.there
+
+-- after a look that found nobody an actor may touch the interrupt
+pub found_can : (seen : Seen) (key : Key) (kind : Touching) (word : ℕ) → CanTouch (shape_of seen) key kind → HasFoundHome seen key word → CanMake seen (Touch key word kind)
+found_can seen key kind word can looked =
+    let shape : shape_of seen ≡ shape_of looked.before = ap shape_of looked.finds.look.adds.new_is in
+    can_touch looked.before seen key kind word looked.ease (subst (λ shape. CanTouch shape key kind) shape can) looked.finds.word_is looked.finds.look
+
+pub looked_can : (old mid : Seen) (key : Key) (kind : Touching) (word : ℕ) → CanTouch (shape_of old) key kind → FindsHome old mid key word → CanTouch (shape_of mid) key kind
+looked_can old mid key kind word can finds = subst (λ shape. CanTouch shape key kind) (sym (ap shape_of finds.look.adds.new_is)) can
 
 -- numbers that differ
 pub not_eq : (found seen : ℕ) → (found ≡ seen → ⊥) → (found == seen) ≡ false

@@ -8,13 +8,14 @@ use Rattle.port_core.specs.declared.run.Made.{Made}
 use Rattle.port_core.specs.declared.step.CoreStep.TheVariants.{Look, Touch, Want, Kick}
 use Rattle.port_core.specs.declared.word_id.WordId.TheVariants.{Irq}
 use Rattle.port_core.specs.Local.{without_vcpu}
-use Rattle.port_core.specs.Port.{Seen, Adds, part_events}
+use Rattle.port_core.specs.Port.{Seen, Adds, AddsStep, part_events, shape_of}
 use Rattle.port_core.specs.Stands.{found_record}
+use Rattle.port_core.specs.Valid.{IsIrqWord}
 use Rattle.port_call.specs.declared.touching.Missed.{Missed}
 use Rattle.port_call.specs.declared.touching.Missed.TheVariants.{Held, Changed}
 use Rattle.port_call.specs.About.{are_about, IsNamedPiece, IsTry}
 use Rattle.port_call.specs.Piece.{steps_of, takes_none}
-use Rattle.port_call.specs.Rest.{StaysAtEase}
+use Rattle.port_call.specs.Rest.{IsAtEase, StaysAtEase}
 
 -- a look found the interrupt's word so
 pub record LooksOnly (key : Key) (word : ℕ) (tried : List Made) : Type 0 where
@@ -91,3 +92,24 @@ pub record Touches (old new : Seen) (key : Key) (kind : Touching) (found : ℕ) 
   pub none_taken : IsTrue (takes_none (misses ++ touch ∷ sent))
   pub events : part_events old (misses ++ touch ∷ sent) ≡ (record { event = TouchEvent key kind; found = found_record found }) ∷ []
   pub piece : IsNamedPiece old key (misses ++ touch ∷ sent)
+
+-- The two steps of a try, where nothing comes between.
+
+-- an actor looked at an interrupt, and found it by this word, which nobody holds
+pub record FindsHome (old new : Seen) (key : Key) (word : ℕ) : Type 0 where
+  pub look : AddsStep old new (Look (Irq key)) word
+  pub word_is : IsIrqWord (shape_of old) key word
+  pub home : (irq_of word).holder ≡ None
+
+-- that look is the last step of an actor that owed nothing before it
+pub record HasFoundHome (seen : Seen) (key : Key) (word : ℕ) : Type 0 where
+  pub before : Seen
+  pub ease : IsAtEase before.local
+  pub finds : FindsHome before seen key word
+
+-- with the look it is a touch; or a touch that was not made
+abbrev pub TouchesHome : Seen → Seen → Key → Touching → ℕ → Type 0
+TouchesHome looked new key kind word = (old : Seen) → IsAtEase old.local → FindsHome old looked key word → Touches old new key kind word
+
+abbrev pub MissesHome : Seen → Seen → Key → Touching → ℕ → Missed → Type 0
+MissesHome looked new key kind word missed = (old : Seen) → IsAtEase old.local → FindsHome old looked key word → MissesTouch old new key kind missed

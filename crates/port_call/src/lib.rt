@@ -14,5 +14,5 @@ pub use plain::read_plain;
 pub use send::settle;
 pub use store::put_plain;
 pub use tell::raise;
-pub use touching::{Missed, touch, try_touch};
+pub use touching::{Missed, look_home, touch, touch_seen, try_touch};
 pub use turn::{give_turn, take_turn};

@@ -1,10 +1,11 @@
 //! Touches of an interrupt, at no interface.
-ghost use Rattle.std.specs.Prelude.{◌≡◌, ◌<◌, IsTrue, IfOk, IfErr};
+ghost use Rattle.std.specs.Prelude.{◌≡◌, ◌<◌, IsTrue, IfOk, OnOk, IfErr};
+ghost use Rattle.gic_call.specs.declared.touch.Touching.{Touching};
 ghost use Rattle.gic_call.specs.Touch.{CanTouch};
 ghost use Rattle.gic_word.specs.Word.{IsWord, irq_of};
 ghost use Rattle.port_core.specs.Port.{shape_of};
 ghost use Rattle.port_call.specs.Rest.{IsAtEase};
-ghost use Rattle.port_call.specs.Touch.{MissesTouch, Touches};
+ghost use Rattle.port_call.specs.Touch.{FindsHome, HasFoundHome, MissesHome, MissesTouch, Touches, TouchesHome};
 ghost use Rattle.gic_base.specs.Interrupt.{has_interrupt};
 ghost use Rattle.port_core.specs.Local.{owes_no_mark};
 ghost use Rattle.port_call.specs.Touch.{Asks};
@@ -42,6 +43,49 @@ fn ask<P: Port>(port: &mut P, key: Key, holder: u32)
     port.step(CoreStep::Kick { vcpu: holder });
 }
 
+/// Looks at an interrupt of the guest, and answers its word, where nobody holds it. Held exactly where a vCPU does: it is asked
+/// for it then. The actor owes nothing. It takes no memory.
+pub fn look_home<P: Port>(port: &mut P, key: Key) -> Result<u64, Missed>
+    requires there { IsTrue (has_interrupt (shape_of (P.seen port.old)) key) }
+    requires ease { IsAtEase (P.seen port.old).local }
+    ensures home { IfOk result (λ word. FindsHome (P.seen port.old) (P.seen port.new) key word) }
+    ensures held { IfErr result (λ missed. (kind : Touching) → MissesTouch (P.seen port.old) (P.seen port.new) key kind missed) }
+{
+    let word = port.step(CoreStep::Look {
+        word: WordId::Irq(key),
+    });
+    match holder_in(word) {
+        Some(holder) => {
+            ask(port, key, holder);
+            Err(Missed::Held { holder })
+        }
+        None => Ok(word),
+    }
+}
+
+/// Touches an interrupt that the actor just looked at, with the word that it found without a holder. Held exactly where a vCPU
+/// holds it by now: it is asked for it then. Changed exactly where its word is another one without a holder. The marks and kicks
+/// that are owed for a touch are sent before it returns. It takes no memory.
+pub fn touch_seen<P: Port>(port: &mut P, key: Key, seen: u64, kind: Touching) -> Result<(), Missed>
+    requires can { CanTouch (shape_of (P.seen port.old)) key kind }
+    requires looked { HasFoundHome (P.seen port.old) key seen }
+    ensures touched { OnOk result (TouchesHome (P.seen port.old) (P.seen port.new) key kind seen) }
+    ensures missed { IfErr result (λ missed. MissesHome (P.seen port.old) (P.seen port.new) key kind seen missed) }
+{
+    let found = port.step(CoreStep::Touch { key, seen, kind });
+    if found == seen {
+        settle(port);
+        return Ok(());
+    }
+    match holder_in(found) {
+        Some(holder) => {
+            ask(port, key, holder);
+            Err(Missed::Held { holder })
+        }
+        None => Err(Missed::Changed { found }),
+    }
+}
+
 /// Tries to touch an interrupt of the guest, and answers the word that it found: it looks at it, and touches it where
 /// nobody holds it, with the word that was looked at. Held exactly where the last of these two found that a vCPU holds it;
 /// the vCPU is asked for it then. Changed exactly where the touch found a word without a holder that differs from the one
@@ -54,25 +98,9 @@ pub fn try_touch<P: Port>(port: &mut P, key: Key, kind: Touching) -> Result<u64,
     ensures touched { IfOk result (λ found. Touches (P.seen port.old) (P.seen port.new) key kind found) }
     ensures missed { IfErr result (λ missed. MissesTouch (P.seen port.old) (P.seen port.new) key kind missed) }
 {
-    let seen = port.step(CoreStep::Look {
-        word: WordId::Irq(key),
-    });
-    if let Some(holder) = holder_in(seen) {
-        ask(port, key, holder);
-        return Err(Missed::Held { holder });
-    }
-    let found = port.step(CoreStep::Touch { key, seen, kind });
-    if found == seen {
-        settle(port);
-        return Ok(found);
-    }
-    match holder_in(found) {
-        Some(holder) => {
-            ask(port, key, holder);
-            Err(Missed::Held { holder })
-        }
-        None => Err(Missed::Changed { found }),
-    }
+    let seen = look_home(port, key)?;
+    touch_seen(port, key, seen, kind)?;
+    Ok(seen)
 }
 
 /// Touches an interrupt of the guest, and answers the word that it found: it tries until nobody holds it, and asks who does

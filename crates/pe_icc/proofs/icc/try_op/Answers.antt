@@ -2,6 +2,7 @@
 use Rattle.std.proofs.Common.{refl, subst}
 use Rattle.pe_icc.specs.Operate.{Polls}
 use Rattle.pe_icc.proofs.IccLemmas.{done_owes, done_set, tried_again, tried_done}
+use Rattle.pe_icc.proofs.ReenterLemmas.{reenters_so}
 use Rattle.pe_icc.proofs.icc.try_op.Goals as goal
 
 pub send_sgis-requires : goal.send_sgis-requires
@@ -30,7 +31,7 @@ returns-in-Kicked g c =
     let mid2 = g.P.Port.seen c.poll_access.new.port in
     let ready = c.prepare-ready.result in
     tried_again old mid mid2 (g.P.Port.seen c.reenter.new.port) c.args.reg c.args.write c.args.stay ready (record { vcpu = c.reenter.result; owing = ready.owing }) c.poll_access.new.vcpu c.prepare-ready.ensures
-    (subst (Polls mid mid2 c.args.reg c.args.write ready.vcpu c.poll_access.new.vcpu) c.in-Kicked.is c.poll_access.ensures) c.reenter.ensures refl
+    (subst (Polls mid mid2 c.args.reg c.args.write ready.vcpu c.poll_access.new.vcpu) c.in-Kicked.is c.poll_access.ensures) (reenters_so mid2 (g.P.Port.seen c.reenter.new.port) c.poll_access.new.vcpu c.reenter.result c.reenter.ensures) refl
 
 pub returns-in-Done : goal.returns-in-Done
 returns-in-Done g c =

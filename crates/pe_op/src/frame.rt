@@ -1,0 +1,47 @@
+//! Accesses of any frame, each the whole call.
+ghost use Rattle.std.specs.Prelude.{◌≡◌, IsTrue, IfOk, OnErr, true};
+ghost use Rattle.gic_base.specs.declared.operation.Frame.TheVariants.{Its};
+ghost use Rattle.gic_imap.specs.Map.{decoded};
+ghost use Rattle.gic_ram.specs.Access.{is_size};
+ghost use Rattle.scn_base.specs.Good.{fits as fits_in, has_frame};
+ghost use Rattle.gic_call.specs.Call.{takes_turn};
+ghost use Rattle.port_core.specs.Port.{shape_of};
+ghost use Rattle.pe_mem.specs.Call.{CanAccess, MakesAccess, StopsAccess};
+ghost use Rattle.pe_its.specs.Write.{StopsInTurn};
+
+use gic_base::{Frame, NoMemory};
+use pe_its::its_op;
+use pe_mem::{dist_op, memory_op, redist_op};
+use port_core::Port;
+use std::sync::Wait;
+
+/// Makes an access of 1, 2, 4 or 8 bytes at a byte offset in a frame, or at an address of the guest's memory: a read, which
+/// answers its value, or a write of a value that fits the size (IHI 0069, "The GIC memory-mapped register maps"). It is
+/// `dist_op`, `redist_op`, `its_op` or `memory_op`; the guest has the vCPU whose redistributor is named. `NoMemory` comes only
+/// at a command of the ITS that maps something: then what was done is no whole call, but the ITS is given back. The vCPU has
+/// nothing at its interface and owes nothing, before and after.
+pub fn mem_op<P: Port, R: Wait>(
+    rt: &R,
+    port: &mut P,
+    frame: Frame,
+    offset: u32,
+    size: u32,
+    write: Option<u64>,
+) -> Result<Option<u64>, NoMemory>
+    requires can { CanAccess (P.seen port.old) }
+    requires there { IsTrue (has_frame (shape_of (P.seen port.old)) frame) }
+    requires size { IsTrue (is_size size) }
+    requires fits { IsTrue (fits_in size write) }
+    ensures made { IfOk result (λ answer. MakesAccess (P.seen port.old) (P.seen port.new) frame offset size write answer) }
+    ensures stopped { OnErr result (StopsAccess (P.seen port.old) (P.seen port.new) frame offset size write) }
+    ensures wants { OnErr result (StopsInTurn (P.seen port.old) (P.seen port.new) offset size write) }
+    ensures its { OnErr result (frame ≡ Its) }
+    ensures takes { OnErr result (takes_turn (shape_of (P.seen port.old)) (decoded offset size) write ≡ true) }
+{
+    match frame {
+        Frame::Dist => Ok(dist_op(rt, port, offset, size, write)),
+        Frame::Redist { vcpu } => Ok(redist_op(rt, port, vcpu, offset, size, write)),
+        Frame::Its => its_op(rt, port, offset, size, write),
+        Frame::Ram => Ok(memory_op(rt, port, offset, size, write)),
+    }
+}
