@@ -5,7 +5,7 @@ use Rattle.std.proofs.lemmas.Bool.{cases_eq}
 use Rattle.std.proofs.lemmas.List.{get_or-set_same, get_or-set_other}
 use Rattle.std.proofs.lemmas.Nat.{pow_below}
 use Rattle.std.proofs.lemmas.Nat.Bits.{bit_at-lt, bit_at_and, bit_at_not, bit_at-pow_other}
-use Rattle.gic_bits.specs.Bits.{has_bit}
+use Rattle.floor_histories.specs.Words.{has_bit}
 use Rattle.port_core.specs.declared.owed.Cands.{Cands}
 use Rattle.port_core.specs.Local.{is_cand, without_cand}
 

@@ -3,19 +3,10 @@ use Rattle.std.proofs.Common.{◌≡◌, ℕ, suc, ◌≤◌, ◌==◌, ◌&&◌
 use Rattle.std.specs.List.{list_all}
 use Rattle.std.proofs.lemmas.Bool.{eq-eqb, ne_eqb, cases_eq, eqb-true, ltb-true, lt-ltb}
 use Rattle.std.proofs.lemmas.List.Elements.{All-head, All-tail, All-weaker, All-contains}
-use Rattle.gic_base.specs.declared.icc.IccReg.{IccReg}
-use Rattle.gic_base.specs.declared.interrupt.Key.{Key}
-use Rattle.gic_base.specs.declared.interrupt.Key.TheVariants.{Private, Spi, Lpi}
-use Rattle.gic_base.specs.declared.shape.GuestShape.{GuestShape}
-use Rattle.gic_base.specs.Interrupt.{intid_of, is_same_key}
-use Rattle.gic_base.specs.Shape.{IsShape}
-use Rattle.gic_base.proofs.KeyLemmas.{same_itself}
-use Rattle.gic_word.specs.Causes.{has_active_state}
-use Rattle.gic_word.specs.Record.{is_number}
-use Rattle.gic_prio.specs.declared.candidate.Candidate.{Candidate}
-use Rattle.gic_prio.specs.Access.{taken_by, deactivated_by}
-use Rattle.gic_prio.specs.Interface.{AtInterface, InterfaceState, IsInterface, has_its_kind, candidates_at, acknowledged_entry as acknowledged_shown, deactivated_entry as deactivated_shown, changed_at as changed_shown, acknowledged_at, deactivated_at, interface_after}
-use Rattle.vcpu_refill.proofs.ElementLemmas.{Contains-here, Contains-there}
+use Rattle.floor_histories.specs.Words.{IccReg, Key, Private, Spi, Lpi, GuestShape, intid_of, is_same_key, IsShape, has_active_state, is_number}
+use Rattle.floor_histories.proofs.GicBase.KeyLemmas.{same_itself}
+use Rattle.floor_histories.specs.Registers.{Candidate, taken_by, deactivated_by, AtInterface, InterfaceState, IsInterface, has_its_kind, candidates_at, acknowledged_entry as acknowledged_shown, deactivated_entry as deactivated_shown, changed_at as changed_shown, acknowledged_at, deactivated_at, interface_after}
+use Rattle.floor_lists.proofs.VcpuRefill.ElementLemmas.{Contains-here, Contains-there}
 use Rattle.port_core.specs.declared.at_list.AtIrq.{AtIrq}
 use Rattle.port_core.specs.declared.local.Local.{Local}
 use Rattle.port_core.specs.After.{shown, interface_of, acknowledged_entry, deactivated_entry, changed_id, id_of, accessed}

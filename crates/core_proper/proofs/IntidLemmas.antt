@@ -1,11 +1,7 @@
 -- The INTIDs of a guest's interrupts.
 use Rattle.std.proofs.Common.{◌≡◌, ℕ, ◌+◌, ◌^◌, ◌<◌, ◌≤◌, ◌||◌, Bool, true, false, IsTrue, refl, sym, ap, ◌∙◌, arith}
 use Rattle.std.proofs.lemmas.Bool.{and_parts, eqb-true, leb-true, ltb-true}
-use Rattle.gic_base.specs.declared.interrupt.Key.{Key}
-use Rattle.gic_base.specs.declared.interrupt.Key.TheVariants.{Private, Spi, Lpi}
-use Rattle.gic_base.specs.declared.shape.GuestShape.{GuestShape}
-use Rattle.gic_base.specs.Interrupt.{intid_of, has_interrupt, is_of_vcpu, is_within}
-use Rattle.gic_base.specs.Shape.{IsShape}
+use Rattle.floor_histories.specs.Words.{Key, Private, Spi, Lpi, GuestShape, intid_of, has_interrupt, is_of_vcpu, is_within, IsShape}
 
 -- the INTIDs of a kind
 abbrev pub IsInRange : Key → Type 0

@@ -1,3 +1,12 @@
+pub use Rattle.floor_histories.proofs.GicBase
+pub use Rattle.floor_histories.proofs.GicCall
+pub use Rattle.floor_histories.proofs.GicFrame
+pub use Rattle.floor_histories.proofs.GicHistory
+pub use Rattle.floor_lists.proofs.GicIcv
+pub use Rattle.floor_lists.proofs.GicWord
+pub use Rattle.floor_histories.proofs.ItsTab
+pub use Rattle.port_core.proofs as PortCore
+pub use Rattle.floor_lists.proofs.VcpuRefill
 pub mod PartLemmas
 pub mod FollowLemmas
 pub mod WorkedLemmas

@@ -1,9 +1,8 @@
 -- Interrupts at an interface, each once.
 use Rattle.std.proofs.Common.{◌≡◌, ◌≢◌, ◌≤◌, not, Bool, true, false, cond, List, [], ◌∷◌, filter, length, All, Some, refl, sym, ap, ◌∙◌, arith}
 use Rattle.std.proofs.lemmas.List.Elements.{All-nil, All-cons, All-weaker}
-use Rattle.gic_base.specs.declared.interrupt.Key.{Key}
-use Rattle.gic_base.specs.Interrupt.{is_same_key}
-use Rattle.gic_base.proofs.KeyLemmas.{same_key, same_itself, other_key}
+use Rattle.floor_histories.specs.Words.{Key, is_same_key}
+use Rattle.floor_histories.proofs.GicBase.KeyLemmas.{same_key, same_itself, other_key}
 use Rattle.port_core.specs.declared.at_list.AtIrq.{AtIrq}
 use Rattle.port_core.specs.Local.{entry_for, without_at}
 use Rattle.port_core.specs.Valid.{IsOnce}

@@ -1,7 +1,7 @@
 -- Lists of parts and of moments that go on.
 use Rattle.std.proofs.Common.{◌≡◌, ◌↔◌, ℕ, List, [], ◌∷◌, ◌++◌, refl}
 use Rattle.std.proofs.lemmas.List.{append_assoc}
-use Rattle.gic_base.specs.declared.shape.GuestShape.{GuestShape}
+use Rattle.floor_histories.specs.Words.{GuestShape}
 use Rattle.port_core.specs.Run.{CoreState, seat_at, end_of}
 use Rattle.core_proper.specs.Ideal.{ideal_of, ideal_moments, after_moment, end_of_moments}
 use Rattle.core_proper.specs.Parts.{Act, begins, makes, ends, CoreMoment, entries_of}

@@ -2,16 +2,10 @@
 use Rattle.std.proofs.Common.{◌≡◌, ℕ, ◌&&◌, Bool, true, false, cond, if◌then◌else◌, IsTrue, List, [], ◌∷◌, ◌++◌, Option, Some, None, is_none, is_some, refl, ap, ◌∙◌}
 use Rattle.std.specs.Option.{option_map_or}
 use Rattle.std.proofs.lemmas.Bool.{and_parts, eqb-true}
-use Rattle.gic_base.specs.declared.interrupt.Key.{Key}
-use Rattle.gic_base.specs.declared.shape.GuestShape.{GuestShape}
-use Rattle.gic_base.specs.Interrupt.{is_same_key}
-use Rattle.gic_base.proofs.KeyLemmas.{same_itself}
-use Rattle.gic_call.specs.declared.moves.Moved.{Moved}
-use Rattle.gic_call.specs.Move.{reached, taken}
-use Rattle.gic_prio.specs.declared.cpu.CpuRec.{CpuRec}
-use Rattle.gic_prio.specs.Delivery.{is_deliverable, is_group_enabled, takes_kind}
-use Rattle.gic_word.specs.declared.record.Irq.{Irq as IrqRecord}
-use Rattle.gic_word.specs.Record.{is_number, is_ripe}
+use Rattle.floor_histories.specs.Words.{Key, GuestShape, is_same_key, Irq as IrqRecord, is_number, is_ripe}
+use Rattle.floor_histories.proofs.GicBase.KeyLemmas.{same_itself}
+use Rattle.floor_histories.specs.Calls.{Moved, reached, taken}
+use Rattle.floor_histories.specs.Registers.{CpuRec, is_deliverable, is_group_enabled, takes_kind}
 use Rattle.port_core.specs.declared.at_list.AtIrq.{AtIrq}
 use Rattle.port_core.specs.declared.local.Local.{Local}
 use Rattle.port_core.specs.After.{claimed_at}

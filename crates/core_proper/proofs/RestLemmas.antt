@@ -1,8 +1,8 @@
 -- An actor at rest is at rest again after a proper part.
 use Rattle.std.proofs.Common.{◌≡◌, ℕ, IsTrue, List, [], ◌∷◌, map, Option, refl, sym, ap, subst, ◌∙◌}
 use Rattle.std.proofs.lemmas.List.Sums.{fold-append}
-use Rattle.gic_base.specs.declared.interrupt.Key.{Key}
-use Rattle.gic_call.specs.declared.event.Operation.{Operation}
+use Rattle.floor_histories.specs.Words.{Key}
+use Rattle.floor_histories.specs.Calls.{Operation}
 use Rattle.port_core.specs.declared.run.Made.{Made}
 use Rattle.port_core.specs.Port.{Seen, Adds, shape_of}
 use Rattle.core_proper.specs.Called.{IsAtRest}

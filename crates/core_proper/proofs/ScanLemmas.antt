@@ -3,13 +3,9 @@ use Rattle.std.proofs.Common.{◌≡◌, ℕ, ◌-◌, ◌<◌, ◌==◌, true�
 use Rattle.std.specs.List.{range_with_len}
 use Rattle.std.specs.Option.{option_map, option_map_or}
 use Rattle.std.proofs.lemmas.Grind.{common_steps}
-use Rattle.gic_base.specs.declared.shape.GuestShape.{GuestShape}
-use Rattle.gic_base.specs.declared.interrupt.Key.{Key}
-use Rattle.gic_base.specs.Interrupt.{is_of_vcpu, is_same_key}
-use Rattle.gic_base.specs.Shape.{IsShape}
-use Rattle.gic_base.proofs.KeyLemmas.{same_key}
-use Rattle.gic_ich.specs.declared.regs.IchRegs.{IchRegs}
-use Rattle.vcpu_refill.specs.declared.offer.Offer.{Offer}
+use Rattle.floor_histories.specs.Words.{GuestShape, Key, is_of_vcpu, is_same_key, IsShape}
+use Rattle.floor_histories.proofs.GicBase.KeyLemmas.{same_key}
+use Rattle.floor_lists.specs.Lists.{IchRegs, Offer}
 use Rattle.port_core.specs.Local.{is_cand}
 use Rattle.port_core.specs.Place.{index_bit, index_bits, index_words, key_of_bit}
 use Rattle.core_proper.specs.Progress.{Progress, filled, looks_on, goes_on, scan_on}

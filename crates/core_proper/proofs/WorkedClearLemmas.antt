@@ -1,9 +1,9 @@
 -- The worked run of a clear of an interrupt at another vCPU's interface: each of its conditions computes.
 use Rattle.std.proofs.Common.{◌≡◌, ℕ, ◌<◌, Bool, true, false, IsTrue, refl, arith, zero, suc, All, nat_lt, slice_index_or}
 use Rattle.std.proofs.lemmas.List.Sums.{AllPass-from_list_all}
-use Rattle.gic_prio.specs.Levels.{least_in, with_level, without_level}
-use Rattle.vcpu_refill.specs.Ranking.{in_places}
-use Rattle.gic_word.specs.declared.record.Group.TheVariants.{G1}
+use Rattle.floor_histories.specs.Registers.{least_in, with_level, without_level}
+use Rattle.floor_lists.specs.Lists.{in_places}
+use Rattle.floor_histories.specs.Words.{G1}
 use Rattle.port_core.specs.declared.at_list.AtIrq.{AtIrq}
 use Rattle.port_core.specs.Actor.{actor_count}
 use Rattle.port_core.specs.Run.{opening, IsRun}

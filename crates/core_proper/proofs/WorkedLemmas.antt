@@ -2,10 +2,9 @@
 use Rattle.std.proofs.Common.{◌≡◌, ℕ, ◌<◌, ◌&&◌, Bool, true, false, IsTrue, List, [], ◌∷◌, refl, arith, zero, suc, All, nat_lt, Option, slice_index_or}
 use Rattle.std.proofs.lemmas.Grind.{common_steps}
 use Rattle.std.proofs.lemmas.List.Sums.{AllPass-from_list_all}
-use Rattle.gic_base.specs.declared.shape.GuestShape.{GuestShape}
-use Rattle.gic_prio.specs.Levels.{least_in, with_level, without_level}
-use Rattle.vcpu_refill.specs.Ranking.{in_places}
-use Rattle.gic_word.specs.declared.record.Group.TheVariants.{G1}
+use Rattle.floor_histories.specs.Words.{GuestShape, G1}
+use Rattle.floor_histories.specs.Registers.{least_in, with_level, without_level}
+use Rattle.floor_lists.specs.Lists.{in_places}
 use Rattle.port_core.specs.declared.at_list.AtIrq.{AtIrq}
 use Rattle.port_core.specs.declared.run.Made.{Made}
 use Rattle.port_core.specs.Actor.{actor_count}

@@ -1,9 +1,8 @@
 -- What a call over a port says of the part that it adds to its actor's list (own choice).
 use Rattle.std.specs.Prelude.{◌≡◌, ℕ, IsTrue, List, [], filter_map, Option, Some, None, if◌then◌else◌, slice_index_or}
-use Rattle.gic_base.specs.declared.shape.GuestShape.{GuestShape}
-use Rattle.gic_call.specs.declared.event.Operation.{Operation}
-use Rattle.gic_call.specs.Trace.{Beside, IsCall}
-use Rattle.its_tab.specs.Maps.{Maps}
+use Rattle.floor_histories.specs.Words.{GuestShape}
+use Rattle.floor_histories.specs.Calls.{Operation, Beside, IsCall}
+use Rattle.floor_histories.specs.Registers.{Maps}
 use Rattle.port_core.specs.declared.run.Made.{Made}
 use Rattle.port_core.specs.Known.{no_maps}
 use Rattle.port_core.specs.Local.{is_vcpu}

@@ -1,10 +1,9 @@
 -- What a run with its parts says of the ideal controller: its history, moment by moment.
 use Rattle.std.specs.Prelude.{ℕ, List, [], ◌∷◌, ◌++◌, fold, Option}
 use Rattle.std.specs.Option.{option_map_or}
-use Rattle.gic_base.specs.declared.shape.GuestShape.{GuestShape}
-use Rattle.gic_call.specs.declared.event.Moment.{Moment}
-use Rattle.gic_call.specs.declared.event.Moment.TheVariants.{Begin, Happens, End}
-use Rattle.gic_call.specs.Trace.{Happened}
+use Rattle.floor_histories.specs.Words.{GuestShape}
+use Rattle.floor_histories.specs.Calls.{Moment, Begin, Happens, Happened}
+use Rattle.floor_histories.specs.GicCall.declared.event.Moment.TheVariants.{End}
 use Rattle.port_core.specs.Run.{CoreState, Seat, seat_at, after}
 use Rattle.port_core.specs.Stands.{stands_for}
 use Rattle.core_proper.specs.Parts.{Act, begins, makes, ends, CoreMoment, step_of, entry_by}

@@ -1,12 +1,11 @@
 -- Laws of runs with their parts.
 use Rattle.std.specs.Prelude.{◌∷◌, replicate, ◌≡◌, ◌↔◌, ◌<◌, ℕ, List, ◌++◌, Option}
-use Rattle.gic_base.specs.declared.shape.GuestShape.{GuestShape}
-use Rattle.gic_call.specs.declared.event.Operation.{Operation}
+use Rattle.floor_histories.specs.Words.{GuestShape}
+use Rattle.floor_histories.specs.Calls.{Operation, GuestSpec}
 use Rattle.port_core.specs.declared.run.Made.{Made}
 use Rattle.port_core.specs.Port.{Seen, Adds, shape_of}
 use Rattle.port_core.specs.Run.{CoreState, Seat, seat_at, opening, end_of}
 use Rattle.port_core.specs.Actor.{actor_count}
-use Rattle.scn_base.specs.declared.guest.GuestSpec.{GuestSpec}
 use Rattle.core_proper.specs.Called.{IsAtRest}
 use Rattle.core_proper.specs.Ideal.{ideal_of, end_of_moments}
 use Rattle.core_proper.specs.Parts.{Act, CoreMoment, entries_of, part_of}

@@ -1,3 +1,17 @@
+pub use Rattle.floor_histories.specs.Calls
+pub use Rattle.floor_histories.specs.Histories
+pub use Rattle.floor_lists.specs.Lists
+pub use Rattle.floor_histories.specs.Registers
+pub use Rattle.floor_histories.specs.Words
+pub use Rattle.floor_histories.specs.GicBase
+pub use Rattle.floor_histories.specs.GicCall
+pub use Rattle.floor_histories.specs.GicDmap
+pub use Rattle.floor_histories.specs.GicHistory
+pub use Rattle.floor_histories.specs.GicImap
+pub use Rattle.floor_histories.specs.GicRmap
+pub use Rattle.floor_lists.specs.GicWord
+pub use Rattle.floor_histories.specs.ItsCmd
+pub use Rattle.port_core.specs as PortCore
 pub mod Parts
 pub mod Ideal
 pub mod Scan

@@ -1,9 +1,8 @@
 -- Runs of the core with their parts: the steps that an actor makes for one call.
 use Rattle.std.specs.Prelude.{ℕ, ◌<◌, ◌==◌, ◌&&◌, not, Bool, true, false, IsTrue, List, [], ◌∷◌, ◌++◌, map, filter, filter_map, All, nat_le, if◌then◌else◌, Option, Some, None}
 use Rattle.std.specs.Option.{option_map}
-use Rattle.gic_base.specs.declared.shape.GuestShape.{GuestShape}
-use Rattle.scn_base.specs.declared.guest.GuestSpec.{GuestSpec}
-use Rattle.gic_call.specs.declared.event.Operation.{Operation}
+use Rattle.floor_histories.specs.Words.{GuestShape}
+use Rattle.floor_histories.specs.Calls.{GuestSpec, Operation}
 use Rattle.port_core.specs.declared.run.Entry.{Entry}
 use Rattle.port_core.specs.declared.run.Made.{Made}
 use Rattle.port_core.specs.Local.{is_vcpu}

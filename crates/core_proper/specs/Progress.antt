@@ -1,25 +1,10 @@
 -- What an actor's own list of steps and parts says of its protocol: a fold over the list.
 use Rattle.std.specs.Prelude.{ℕ, ◌==◌, ◌&&◌, ◌||◌, not, Bool, true, false, List, [], ◌∷◌, ◌++◌, fold, filter, is_none, if◌then◌else◌, Option, Some, None, option_to_list, unwrap_or}
 use Rattle.std.specs.Option.{option_map, option_map_or}
-use Rattle.gic_base.specs.declared.icc.IccReg.{IccReg}
-use Rattle.gic_base.specs.declared.icc.IccReg.TheVariants.{Eoir0, Eoir1, Dir}
-use Rattle.gic_base.specs.declared.interrupt.Key.{Key}
-use Rattle.gic_base.specs.declared.operation.GuestOp.TheVariants.{Icc, Mem}
-use Rattle.gic_base.specs.declared.shape.GuestShape.{GuestShape}
-use Rattle.gic_base.specs.Interrupt.{is_same_key, key_of}
-use Rattle.gic_call.specs.declared.event.Operation.{Operation}
-use Rattle.gic_call.specs.declared.event.Operation.TheVariants.{Access}
-use Rattle.gic_ich.specs.declared.regs.IchRegs.{IchRegs}
-use Rattle.gic_ich.specs.Status.{misr_of}
-use Rattle.gic_lr.specs.declared.entry.LrState.TheVariants.{Pending, Active}
-use Rattle.gic_prio.specs.Signal.{intid_written}
-use Rattle.gic_word.specs.declared.record.Irq.{Irq}
-use Rattle.gic_word.specs.Record.{is_number}
-use Rattle.gic_word.specs.Word.{irq_of}
-use Rattle.scn_base.specs.declared.guest.GuestSpec.{GuestSpec}
-use Rattle.vcpu_refill.specs.declared.offer.Offer.{Offer}
-use Rattle.vcpu_refill.specs.Order.{first_among}
-use Rattle.vcpu_refill.specs.Plan.{plan, regs_of, chosen_as}
+use Rattle.floor_histories.specs.Words.{IccReg, Eoir0, Eoir1, Dir, Key, Icc, Mem, GuestShape, is_same_key, key_of, Irq, is_number, irq_of}
+use Rattle.floor_histories.specs.Calls.{Operation, Access, GuestSpec}
+use Rattle.floor_lists.specs.Lists.{IchRegs, misr_of, Pending, Active, Offer, first_among, plan, regs_of, chosen_as}
+use Rattle.floor_histories.specs.Registers.{intid_written}
 use Rattle.port_core.specs.declared.local.Local.{Local}
 use Rattle.port_core.specs.declared.run.Made.{Made}
 use Rattle.port_core.specs.declared.step.CoreStep.{CoreStep}

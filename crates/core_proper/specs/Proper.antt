@@ -1,12 +1,8 @@
 -- Proper runs (own choice): what the protocol asks of each step and of each end of a part, so that changes reach the CPU interfaces in time.
 use Rattle.std.specs.Prelude.{ℕ, ◌<◌, ◌==◌, ◌&&◌, ◌||◌, not, Bool, true, false, IsTrue, List, [], ◌∷◌, Option, Some, None, unwrap_or, is_some}
 use Rattle.std.specs.Option.{option_map_or}
-use Rattle.gic_base.specs.declared.icc.IccReg.{IccReg}
-use Rattle.gic_base.specs.declared.icc.IccReg.TheVariants.{Iar0, Iar1, Hppir0, Hppir1}
-use Rattle.gic_base.specs.declared.interrupt.Key.{Key}
-use Rattle.gic_base.specs.declared.shape.GuestShape.{GuestShape}
-use Rattle.gic_word.specs.Record.{is_number}
-use Rattle.scn_base.specs.declared.guest.GuestSpec.{GuestSpec}
+use Rattle.floor_histories.specs.Words.{IccReg, Iar0, Iar1, Hppir0, Hppir1, Key, GuestShape, is_number}
+use Rattle.floor_histories.specs.Calls.{GuestSpec}
 use Rattle.port_core.specs.declared.at_list.AtIrq.{AtIrq}
 use Rattle.port_core.specs.declared.local.Local.{Local}
 use Rattle.port_core.specs.declared.local.Phase.{Phase}
@@ -17,7 +13,7 @@ use Rattle.port_core.specs.Known.{known, known_view}
 use Rattle.port_core.specs.Local.{is_at, owes_nothing}
 use Rattle.port_core.specs.Actor.{actor_count}
 use Rattle.port_core.specs.Step.{word_of}
-use Rattle.gic_history.specs.Named.{names}
+use Rattle.floor_histories.specs.Histories.{names}
 use Rattle.core_proper.specs.Parts.{Act, begins, makes, ends, CoreMoment, own_acts, IsPartedRun}
 use Rattle.core_proper.specs.Progress.{Progress, opening_progress, Debt, paid, after_end, before_next, ended_by, is_end_of, is_paid, progressed}
 use Rattle.core_proper.specs.Scan.{is_idle, scan_allows}

@@ -1,19 +1,8 @@
 -- The registers of a vCPU in a run: what an entry stored, with what was done to them since.
 use Rattle.std.specs.Prelude.{ℕ, ◌^◌, ◌∷◌, Option, replicate, if◌then◌else◌, Bool}
-use Rattle.gic_base.specs.declared.icc.IccReg.{IccReg}
-use Rattle.gic_base.specs.declared.interrupt.Key.{Key}
-use Rattle.gic_base.specs.Interrupt.{intid_of}
-use Rattle.gic_ich.specs.declared.regs.IchRegs.{IchRegs}
-use Rattle.gic_ich.specs.Hcr.{hcr_en}
-use Rattle.gic_ich.specs.Place.{seen_in}
-use Rattle.gic_ich.specs.Vmcr.{vmcr_of}
-use Rattle.gic_icv.specs.Agree.{is_live, Agrees}
-use Rattle.gic_icv.specs.Registers.{first_changed, registers_after}
-use Rattle.gic_lr.specs.declared.entry.LrState.TheVariants.{Active}
-use Rattle.gic_lr.specs.Entry.{with_state}
-use Rattle.gic_prio.specs.declared.cpu.CpuRec.{CpuRec}
-use Rattle.vcpu_refill.specs.declared.fill.Choice.{Choice}
-use Rattle.vcpu_refill.specs.Plan.{word_of}
+use Rattle.floor_histories.specs.Words.{IccReg, Key, intid_of}
+use Rattle.floor_lists.specs.Lists.{IchRegs, hcr_en, seen_in, vmcr_of, is_live, Agrees, first_changed, registers_after, Active, with_state, Choice, word_of}
+use Rattle.floor_histories.specs.Registers.{CpuRec}
 use Rattle.port_core.specs.declared.local.Local.{Local}
 use Rattle.port_core.specs.After.{interface_of}
 

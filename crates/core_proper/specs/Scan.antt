@@ -3,15 +3,8 @@
 use Rattle.std.specs.Prelude.{ℕ, ◌+◌, ◌-◌, ◌==◌, ◌&&◌, ◌||◌, not, Bool, true, false, List, [], ◌∷◌, ◌++◌, filter, find, is_none, if◌then◌else◌, Option, Some, None}
 use Rattle.std.specs.List.{list_any, range_with_len, filter_map}
 use Rattle.std.specs.Option.{option_map, option_map_or}
-use Rattle.gic_base.specs.declared.interrupt.Key.{Key}
-use Rattle.gic_base.specs.declared.shape.GuestShape.{GuestShape}
-use Rattle.gic_base.specs.Interrupt.{is_same_key}
-use Rattle.gic_lr.specs.declared.entry.LrState.{LrState}
-use Rattle.gic_lr.specs.declared.entry.LrState.TheVariants.{Both}
-use Rattle.gic_word.specs.declared.record.Irq.{Irq}
-use Rattle.vcpu_refill.specs.declared.fill.Choice.{Choice}
-use Rattle.vcpu_refill.specs.declared.fill.Fill.{Fill}
-use Rattle.vcpu_refill.specs.declared.offer.Offer.{Offer}
+use Rattle.floor_histories.specs.Words.{Key, GuestShape, is_same_key, Irq}
+use Rattle.floor_lists.specs.Lists.{LrState, Both, Choice, Fill, Offer}
 use Rattle.port_core.specs.declared.owed.Cands.{Cands}
 use Rattle.port_core.specs.declared.local.Local.{Local}
 use Rattle.port_core.specs.declared.step.CoreStep.{CoreStep}

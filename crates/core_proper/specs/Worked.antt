@@ -1,18 +1,11 @@
 -- A worked run: a message makes an SPI pending at a vCPU on a PE with four list registers, which reads its INTID, ends it, finds no other one and leaves.
 use Rattle.std.specs.Prelude.{ℕ, ◌^◌, true, false, List, [], ◌∷◌, Some, None}
-use Rattle.gic_base.specs.declared.icc.IccReg.TheVariants.{Iar1, Eoir1}
-use Rattle.gic_base.specs.declared.interrupt.Key.{Key}
-use Rattle.gic_base.specs.declared.interrupt.Key.TheVariants.{Spi}
-use Rattle.gic_base.specs.declared.operation.DeviceOp.TheVariants.{Message}
-use Rattle.gic_base.specs.declared.operation.GuestOp.TheVariants.{Icc}
-use Rattle.gic_call.specs.declared.event.Event.TheVariants.{Raise as RaiseEvent, Reach, Leave, Cpu, Read}
-use Rattle.gic_call.specs.declared.event.Found.TheVariants.{Nothing, Answer, Lpis as FoundLpis}
-use Rattle.gic_call.specs.declared.event.Moment.{Moment}
-use Rattle.gic_call.specs.declared.event.Moment.TheVariants.{Begin, Happens, End}
-use Rattle.gic_call.specs.declared.event.Operation.{Operation}
-use Rattle.gic_call.specs.declared.event.Operation.TheVariants.{Access, Device, Residence}
-use Rattle.gic_call.specs.declared.event.Place.TheVariants.{Lpis}
-use Rattle.scn_base.specs.declared.guest.GuestSpec.{GuestSpec}
+use Rattle.floor_histories.specs.Words.{Iar1, Eoir1, Key, Spi, Message, Icc}
+use Rattle.floor_histories.specs.Calls.{Reach, Leave, Cpu, Moment, Begin, Happens, Operation, Access, Device, Residence, GuestSpec}
+use Rattle.floor_histories.specs.GicCall.declared.event.Event.TheVariants.{Raise as RaiseEvent, Read}
+use Rattle.floor_histories.specs.GicCall.declared.event.Found.TheVariants.{Nothing, Answer, Lpis as FoundLpis}
+use Rattle.floor_histories.specs.GicCall.declared.event.Moment.TheVariants.{End}
+use Rattle.floor_histories.specs.GicCall.declared.event.Place.TheVariants.{Lpis}
 use Rattle.port_core.specs.declared.step.CoreStep.{CoreStep}
 use Rattle.port_core.specs.declared.step.CoreStep.TheVariants.{Look, Raise, Claim, GiveBack, Release, Poll, Kick, Mark, TakeIndex}
 use Rattle.port_core.specs.declared.word_id.WordId.TheVariants.{Irq, Vcpu}

@@ -1,13 +1,11 @@
 -- A worked run: an SPI that a vCPU has read is made pending again. On a PE with one list register the vCPU then has it there active and pending, reads
 -- no INTID before it ends the first one, and the same INTID after that.
 use Rattle.std.specs.Prelude.{ℕ, ◌^◌, true, false, List, [], ◌∷◌, ◌++◌, Some, None}
-use Rattle.gic_base.specs.declared.icc.IccReg.TheVariants.{Iar1, Eoir1}
-use Rattle.gic_base.specs.declared.operation.DeviceOp.TheVariants.{Message}
-use Rattle.gic_call.specs.declared.event.Event.TheVariants.{Raise as RaiseEvent, Reach, Take, Leave, Cpu}
-use Rattle.gic_call.specs.declared.event.Found.TheVariants.{Nothing, Answer}
-use Rattle.gic_call.specs.declared.event.Moment.{Moment}
-use Rattle.gic_call.specs.declared.event.Moment.TheVariants.{Begin, Happens, End}
-use Rattle.gic_call.specs.declared.event.Operation.TheVariants.{Device, Residence}
+use Rattle.floor_histories.specs.Words.{Iar1, Eoir1, Message}
+use Rattle.floor_histories.specs.Calls.{Reach, Take, Leave, Cpu, Moment, Begin, Happens, Device, Residence}
+use Rattle.floor_histories.specs.GicCall.declared.event.Event.TheVariants.{Raise as RaiseEvent}
+use Rattle.floor_histories.specs.GicCall.declared.event.Found.TheVariants.{Nothing, Answer}
+use Rattle.floor_histories.specs.GicCall.declared.event.Moment.TheVariants.{End}
 use Rattle.port_core.specs.declared.step.CoreStep.TheVariants.{Look, Raise, Claim, GiveBack, Release, Poll, Kick, Mark, TakeIndex}
 use Rattle.port_core.specs.declared.word_id.WordId.TheVariants.{Irq}
 use Rattle.core_proper.specs.Parts.{begins, ends, CoreMoment}

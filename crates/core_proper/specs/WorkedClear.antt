@@ -1,23 +1,11 @@
 -- A worked run: an SPI is pending at the interface of a vCPU, and another vCPU clears that by ICPENDR. It waits for the SPI and kicks the vCPU, which
 -- gives the SPI back; the first one finds no INTID to read after that.
 use Rattle.std.specs.Prelude.{ℕ, ◌^◌, true, false, List, [], ◌∷◌, Some, None}
-use Rattle.gic_base.specs.declared.icc.IccReg.TheVariants.{Iar1}
-use Rattle.gic_base.specs.declared.operation.DeviceOp.TheVariants.{Message}
-use Rattle.gic_base.specs.declared.operation.Frame.TheVariants.{Dist}
-use Rattle.gic_base.specs.declared.operation.GuestOp.TheVariants.{Mem}
-use Rattle.gic_base.specs.declared.operation.Kind.TheVariants.{ClearPending}
-use Rattle.gic_call.specs.declared.event.Event.TheVariants.{Raise as RaiseEvent, Reach, Leave, Cpu, Touch as TouchEvent}
-use Rattle.gic_call.specs.declared.event.Found.TheVariants.{Nothing, Answer, Record}
-use Rattle.gic_call.specs.declared.event.Moment.{Moment}
-use Rattle.gic_call.specs.declared.event.Moment.TheVariants.{Begin, Happens, End}
-use Rattle.gic_call.specs.declared.event.Operation.{Operation}
-use Rattle.gic_call.specs.declared.event.Operation.TheVariants.{Access, Device, Residence}
-use Rattle.gic_call.specs.declared.touch.Touching.{Touching}
-use Rattle.gic_call.specs.declared.touch.Touching.TheVariants.{Register}
-use Rattle.gic_word.specs.declared.record.Group.TheVariants.{G1}
-use Rattle.gic_word.specs.declared.record.Irq.{Irq as IrqRecord}
-use Rattle.gic_word.specs.declared.record.Route.TheVariants.{Affinity}
-use Rattle.scn_base.specs.declared.guest.GuestSpec.{GuestSpec}
+use Rattle.floor_histories.specs.Words.{Iar1, Message, Dist, Mem, ClearPending, G1, Irq as IrqRecord, Affinity}
+use Rattle.floor_histories.specs.Calls.{Reach, Leave, Cpu, Touch as TouchEvent, Record, Moment, Begin, Happens, Operation, Access, Device, Residence, Touching, Register, GuestSpec}
+use Rattle.floor_histories.specs.GicCall.declared.event.Event.TheVariants.{Raise as RaiseEvent}
+use Rattle.floor_histories.specs.GicCall.declared.event.Found.TheVariants.{Nothing, Answer}
+use Rattle.floor_histories.specs.GicCall.declared.event.Moment.TheVariants.{End}
 use Rattle.port_core.specs.declared.step.CoreStep.TheVariants.{Look, Raise, Claim, GiveBack, Release, Poll, Kick, Touch, Want, Mark, TakeIndex}
 use Rattle.port_core.specs.declared.word_id.WordId.TheVariants.{Irq}
 use Rattle.core_proper.specs.Parts.{Act, begins, ends, CoreMoment}

@@ -1,12 +1,10 @@
 -- A worked run: a vCPU has an SPI pending at its interface on one PE, leaves it unread, enters another PE and reads its INTID there.
 use Rattle.std.specs.Prelude.{ℕ, ◌^◌, true, false, List, [], ◌∷◌, Some, None}
-use Rattle.gic_base.specs.declared.icc.IccReg.TheVariants.{Iar1}
-use Rattle.gic_base.specs.declared.operation.DeviceOp.TheVariants.{Message}
-use Rattle.gic_call.specs.declared.event.Event.TheVariants.{Raise as RaiseEvent, Reach, Leave, Cpu}
-use Rattle.gic_call.specs.declared.event.Found.TheVariants.{Nothing, Answer}
-use Rattle.gic_call.specs.declared.event.Moment.{Moment}
-use Rattle.gic_call.specs.declared.event.Moment.TheVariants.{Begin, Happens, End}
-use Rattle.gic_call.specs.declared.event.Operation.TheVariants.{Device, Residence}
+use Rattle.floor_histories.specs.Words.{Iar1, Message}
+use Rattle.floor_histories.specs.Calls.{Reach, Leave, Cpu, Moment, Begin, Happens, Device, Residence}
+use Rattle.floor_histories.specs.GicCall.declared.event.Event.TheVariants.{Raise as RaiseEvent}
+use Rattle.floor_histories.specs.GicCall.declared.event.Found.TheVariants.{Nothing, Answer}
+use Rattle.floor_histories.specs.GicCall.declared.event.Moment.TheVariants.{End}
 use Rattle.port_core.specs.declared.step.CoreStep.TheVariants.{Look, Raise, Claim, GiveBack, Release, Poll, Kick, Mark, TakeIndex}
 use Rattle.port_core.specs.declared.word_id.WordId.TheVariants.{Irq}
 use Rattle.core_proper.specs.Parts.{begins, ends, CoreMoment}

@@ -2,29 +2,12 @@
 use Rattle.std.proofs.Common.{◌≡◌, ℕ, ◌==◌, ◌&&◌, not, Bool, true, false, cond, if◌then◌else◌, IsTrue, List, [], ◌∷◌, map, All, Option, Some, None, refl, sym, ap, subst, ◌∙◌, arith}
 use Rattle.std.proofs.lemmas.List.Elements.{All-cons, All-nil}
 use Rattle.std.proofs.lemmas.Bool.{and_parts, eqb-true, both_ways}
-use Rattle.gic_aff.specs.declared.sgi.Targets.{Targets}
-use Rattle.gic_base.specs.declared.interrupt.Key.{Key}
-use Rattle.gic_base.specs.declared.interrupt.Key.TheVariants.{Spi}
-use Rattle.gic_base.specs.declared.operation.DeviceOp.{DeviceOp}
-use Rattle.gic_base.specs.declared.operation.DeviceOp.TheVariants.{Message, Wire}
-use Rattle.gic_base.specs.declared.shape.GuestShape.{GuestShape}
-use Rattle.gic_call.specs.declared.event.Event.{Event}
-use Rattle.gic_call.specs.declared.event.Event.TheVariants.{Raise as RaiseEvent, Up, Down}
-use Rattle.gic_call.specs.declared.event.Found.TheVariants.{Nothing}
-use Rattle.gic_call.specs.declared.event.Operation.TheVariants.{Device}
-use Rattle.gic_call.specs.declared.event.Place.{Place}
-use Rattle.gic_call.specs.Call.{device_events}
-use Rattle.gic_call.specs.Trace.{Happened, Beside, Makes, IsCall, IsDeviceCall, HandsOut, is_beside, held_at, named_of, device_places, IsLastRead}
-use Rattle.gic_call.specs.View.{View}
-use Rattle.port_core.specs.declared.local.Local.{Local}
-use Rattle.port_core.specs.declared.run.Made.{Made}
-use Rattle.port_core.specs.declared.step.CoreStep.{CoreStep}
-use Rattle.port_core.specs.declared.step.CoreStep.TheVariants.{Raise}
-use Rattle.port_core.specs.Known.{known_view}
-use Rattle.port_core.specs.Local.{is_vcpu, no_vcpus, owes_no_kick, owes_no_mark, has_no_cand, owes_nothing}
-use Rattle.port_core.specs.Port.{Seen, IsPort, Adds, AddsStep, shape_of, seen_after, part_events}
-use Rattle.core_proper.specs.Called.{MakesCall, vcpu_of_actor, maps_taken}
-use Rattle.core_proper.specs.Proper.{is_settled}
+use Rattle.port_call.specs.Registers.{Targets}
+use Rattle.port_call.specs.Words.{Key, Spi, DeviceOp, Message, Wire, GuestShape}
+use Rattle.port_call.specs.Calls.{Event, Up, Down, Device, Place, device_events, Happened, Beside, Makes, IsCall, IsDeviceCall, HandsOut, is_beside, held_at, named_of, device_places, IsLastRead, View}
+use Rattle.port_call.specs.GicCall.declared.event.Event.TheVariants.{Raise as RaiseEvent}
+use Rattle.port_call.specs.GicCall.declared.event.Found.TheVariants.{Nothing}
+use Rattle.port_call.specs.Core.{Local, Made, CoreStep, Raise, known_view, is_vcpu, no_vcpus, owes_no_kick, owes_no_mark, has_no_cand, owes_nothing, Seen, IsPort, Adds, AddsStep, shape_of, seen_after, part_events, MakesCall, vcpu_of_actor, maps_taken, is_settled}
 use Rattle.port_call.specs.Piece.{IsPiece}
 use Rattle.port_call.specs.Settle.{Settles}
 use Rattle.port_call.proofs.PieceLemmas.{piece_is_part}

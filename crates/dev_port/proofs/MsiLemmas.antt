@@ -5,31 +5,14 @@ use Rattle.std.specs.List.{list_all, filter_map, cons_option}
 use Rattle.std.proofs.lemmas.Bool.{and_parts}
 use Rattle.std.proofs.lemmas.List.{append_assoc}
 use Rattle.std.proofs.lemmas.List.Elements.{All-cons, All-nil, filter-append, filter_map-append}
-use Rattle.gic_base.specs.declared.interrupt.Key.TheVariants.{Lpi}
-use Rattle.gic_base.specs.declared.operation.DeviceOp.TheVariants.{Msi}
-use Rattle.gic_base.specs.declared.shape.GuestShape.{GuestShape}
-use Rattle.gic_imap.specs.Contents.{enabled_in}
-use Rattle.gic_open.specs.declared.plain.PlainWord.TheVariants.{ItsCtlr}
-use Rattle.gic_open.specs.Plain.{place_of_plain}
-use Rattle.gic_call.specs.declared.event.Event.{Event}
-use Rattle.gic_call.specs.declared.event.Event.TheVariants.{Raise as RaiseEvent, Read, ItsBegin, ItsEnd}
-use Rattle.gic_call.specs.declared.event.Found.TheVariants.{Nothing, Word as FoundWord}
-use Rattle.gic_call.specs.declared.event.Operation.TheVariants.{Device}
-use Rattle.gic_call.specs.declared.event.Place.{Place}
-use Rattle.gic_call.specs.declared.event.Place.TheVariants.{Word}
-use Rattle.gic_call.specs.Call.{device_events}
-use Rattle.gic_call.specs.Trace.{Happened, Beside, Makes, HandsOut, is_beside, held_at, named_of, device_places, IsLastRead}
-use Rattle.gic_call.specs.View.{View}
-use Rattle.its_tab.specs.Maps.{Maps}
-use Rattle.its_tab.specs.Message.{translated}
-use Rattle.port_core.specs.declared.local.Local.{Local}
-use Rattle.port_core.specs.declared.run.Made.{Made}
-use Rattle.port_core.specs.declared.step.CoreStep.TheVariants.{Raise, RamLook}
-use Rattle.port_core.specs.Known.{no_maps, known_maps, known_view}
-use Rattle.port_core.specs.Local.{no_vcpus, owes_no_mark}
-use Rattle.port_core.specs.Port.{Seen, IsPort, Adds, shape_of, part_events}
-use Rattle.port_core.proofs.PortLemmas.{adds_join}
-use Rattle.core_proper.specs.Called.{MakesCall, maps_taken}
+use Rattle.port_call.specs.Words.{Lpi, Msi, GuestShape}
+use Rattle.port_call.specs.Registers.{enabled_in, Maps, translated}
+use Rattle.port_call.specs.Calls.{ItsCtlr, place_of_plain, Event, ItsBegin, Device, Place, device_events, Happened, Beside, Makes, HandsOut, is_beside, held_at, named_of, device_places, IsLastRead, View}
+use Rattle.port_call.specs.GicCall.declared.event.Event.TheVariants.{Raise as RaiseEvent, Read, ItsEnd}
+use Rattle.port_call.specs.GicCall.declared.event.Found.TheVariants.{Nothing, Word as FoundWord}
+use Rattle.port_call.specs.GicCall.declared.event.Place.TheVariants.{Word}
+use Rattle.port_call.specs.Core.{Local, Made, Raise, RamLook, no_maps, known_maps, known_view, no_vcpus, owes_no_mark, Seen, IsPort, Adds, shape_of, part_events, MakesCall, maps_taken}
+use Rattle.port_call.proofs.PortCore.PortLemmas.{adds_join}
 use Rattle.port_call.specs.Piece.{IsPiece}
 use Rattle.port_call.specs.Turn.{is_miss, is_turn_step, is_queue_read, TakesTurn, GivesTurn}
 use Rattle.port_call.proofs.PieceLemmas.{seen_nil, piece_nil}

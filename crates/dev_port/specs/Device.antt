@@ -1,26 +1,11 @@
 -- The calls of a device over its port: what each makes.
 use Rattle.std.specs.Prelude.{◌≡◌, ℕ, ◌++◌, not, Bool, false, IsTrue, List, [], ◌∷◌, if◌then◌else◌, Option, Some, None}
 use Rattle.std.specs.List.{list_all}
-use Rattle.gic_base.specs.declared.interrupt.Key.{Key}
-use Rattle.gic_base.specs.declared.interrupt.Key.TheVariants.{Lpi}
-use Rattle.gic_base.specs.declared.operation.DeviceOp.{DeviceOp}
-use Rattle.gic_base.specs.declared.operation.DeviceOp.TheVariants.{Msi}
-use Rattle.gic_base.specs.declared.shape.GuestShape.{GuestShape}
-use Rattle.gic_call.specs.declared.event.Event.TheVariants.{Raise as RaiseEvent}
-use Rattle.gic_call.specs.declared.event.Operation.TheVariants.{Device}
-use Rattle.gic_imap.specs.Contents.{enabled_in}
-use Rattle.gic_open.specs.declared.plain.PlainWord.TheVariants.{ItsCtlr}
-use Rattle.gic_open.specs.Plain.{place_of_plain}
-use Rattle.its_tab.specs.Maps.{Maps}
-use Rattle.its_tab.specs.Message.{translated}
-use Rattle.port_core.specs.declared.run.Made.{Made}
-use Rattle.port_core.specs.declared.step.CoreStep.{CoreStep}
-use Rattle.port_core.specs.declared.step.CoreStep.TheVariants.{Raise, WireUp, WireDown, RamLook, TurnTake, TurnRelease}
-use Rattle.port_core.specs.Known.{known_maps}
-use Rattle.port_core.specs.Local.{is_vcpu, no_vcpus}
-use Rattle.port_core.specs.Port.{Seen, Adds, shape_of}
-use Rattle.core_proper.specs.Called.{MakesCall, IsProperPart}
-use Rattle.core_proper.specs.Proper.{is_settled}
+use Rattle.port_call.specs.Words.{Key, Lpi, DeviceOp, Msi, GuestShape}
+use Rattle.port_call.specs.GicCall.declared.event.Event.TheVariants.{Raise as RaiseEvent}
+use Rattle.port_call.specs.Calls.{Device, ItsCtlr, place_of_plain}
+use Rattle.port_call.specs.Registers.{enabled_in, Maps, translated}
+use Rattle.port_call.specs.Core.{Made, CoreStep, Raise, WireUp, WireDown, RamLook, TurnTake, TurnRelease, known_maps, is_vcpu, no_vcpus, Seen, Adds, shape_of, MakesCall, IsProperPart, is_settled}
 use Rattle.port_call.specs.Plain.{ReadsPlain}
 use Rattle.port_call.specs.Tell.{TellsOf, Tells}
 use Rattle.port_call.specs.Turn.{is_miss}

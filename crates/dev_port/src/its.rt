@@ -1,16 +1,14 @@
 //! A message-signalled interrupt, which the ITS makes an LPI.
 ghost use Rattle.std.specs.Prelude.{◌≡◌, ◌%◌, ◌^◌, IsTrue, IfSome, false};
-ghost use Rattle.gic_base.specs.Interrupt.{has_interrupt};
-ghost use Rattle.gic_base.specs.declared.interrupt.Key.TheVariants.{Lpi};
-ghost use Rattle.port_core.specs.Local.{owes_no_mark};
-ghost use Rattle.port_core.specs.Port.{shape_of};
+ghost use Rattle.port_call.specs.Words.{has_interrupt, Lpi};
+ghost use Rattle.port_call.specs.Core.{owes_no_mark, shape_of};
 ghost use Rattle.dev_port.specs.Device.{CanCall, Translates, TellsLpi, SendsMsi};
 
-use gic_base::Key;
-use gic_imap::enabled_in;
-use gic_open::PlainWord;
+use port_call::gic_base::Key;
+use port_call::gic_imap::enabled_in;
+use port_call::gic_open::PlainWord;
+use port_call::port_core::Port;
 use port_call::{give_turn, raise, read_plain, take_turn};
-use port_core::Port;
 use std::sync::Wait;
 
 /// The low half of a value, which has all of GITS_CTLR.

@@ -1,15 +1,12 @@
 //! A message that makes an SPI pending.
 ghost use Rattle.std.specs.Prelude.{IsTrue};
-ghost use Rattle.gic_base.specs.Interrupt.{has_interrupt};
-ghost use Rattle.port_core.specs.Port.{shape_of};
+ghost use Rattle.port_call.specs.Words.{has_interrupt, Spi, Message};
+ghost use Rattle.port_call.specs.Core.{shape_of, Raise};
 ghost use Rattle.dev_port.specs.Device.{CanCall, Changes};
-ghost use Rattle.gic_base.specs.declared.interrupt.Key.TheVariants.{Spi};
-ghost use Rattle.gic_base.specs.declared.operation.DeviceOp.TheVariants.{Message};
-ghost use Rattle.port_core.specs.declared.step.CoreStep.TheVariants.{Raise};
 
-use gic_base::Key;
+use port_call::gic_base::Key;
+use port_call::port_core::Port;
 use port_call::raise;
-use port_core::Port;
 
 /// Makes the SPI of an INTID pending, as a write of GICD_SETSPI_NSR does, and tells the vCPUs that it concerns before it
 /// returns. The guest has the SPI, and the device owes nothing. It takes no memory.

@@ -1,14 +1,13 @@
 //! The wire of an interrupt.
 ghost use Rattle.std.specs.Prelude.{◌≡◌, ◌&&◌, IsTrue, IfOk, IfErr, if◌then◌else◌};
-ghost use Rattle.gic_base.specs.Interrupt.{has_interrupt};
-ghost use Rattle.scn_base.specs.Good.{has_wire};
-ghost use Rattle.port_core.specs.Port.{shape_of};
+ghost use Rattle.port_call.specs.Words.{has_interrupt, Wire as WireOp};
+ghost use Rattle.port_call.specs.Calls.{has_wire};
+ghost use Rattle.port_call.specs.Core.{shape_of};
 ghost use Rattle.dev_port.specs.Device.{CanCall, Changes, has_level, wire_step};
-ghost use Rattle.gic_base.specs.declared.operation.DeviceOp.TheVariants.{Wire as WireOp};
 
-use gic_base::Key;
+use port_call::gic_base::Key;
+use port_call::port_core::{CoreStep, Port};
 use port_call::settle;
-use port_core::{CoreStep, Port};
 
 /// The wire of an SPI or a PPI, with its level.
 #[derive(Clone, Copy, Debug, PartialEq, Eq, Hash)]

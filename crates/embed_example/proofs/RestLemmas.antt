@@ -1,11 +1,9 @@
 -- An actor that rests.
 use Rattle.std.proofs.Common.{◌≡◌, ◌&&◌, not, Bool, true, false, IsTrue, refl}
-use Rattle.port_core.specs.declared.local.Local.{Local}
-use Rattle.port_core.specs.Port.{Seen, IsSameActor}
-use Rattle.core_proper.specs.Proper.{is_settled}
+use Rattle.dev_port.specs.Core.{Local, Seen, IsSameActor, is_settled}
 use Rattle.dev_port.specs.Device.{CanCall}
-use Rattle.pe_loop.specs.Stay.{IsOff}
-use Rattle.vcpu_state.specs.declared.shelved.Shelved.{Shelved}
+use Rattle.pe_op.specs.PeLoop.Stay.{IsOff}
+use Rattle.pe_op.specs.VcpuState.declared.shelved.Shelved.{Shelved}
 use Rattle.embed_example.specs.Rest.{Rests}
 
 -- one that owes nothing and has neither the ITS nor the mark of GICD_CTLR

@@ -1,7 +1,6 @@
 -- What an actor leaves that took a turn.
 use Rattle.std.specs.Prelude.{◌≡◌, true, false, []}
-use Rattle.port_core.specs.Local.{is_vcpu}
-use Rattle.port_core.specs.Port.{Seen, IsSameActor, shape_of}
+use Rattle.dev_port.specs.Core.{is_vcpu, Seen, IsSameActor, shape_of}
 
 -- the port is the same actor's, the actor has not the ITS, and a vCPU has nothing at its interface: it is on no PE
 pub record Rests (old new : Seen) : Type 0 where

@@ -1,5 +1,5 @@
 //! What stops the VMM.
-use gic_base::NoMemory;
+use dev_port::gic_base::NoMemory;
 use std::alloc::{AllocError, AllocFailed};
 use std::error::Error;
 use std::fmt;

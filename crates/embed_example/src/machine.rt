@@ -1,10 +1,10 @@
 //! The machine: what its guest has, and where the frames of the GIC are among the guest physical addresses.
 ghost use Rattle.std.specs.Prelude.{◌<◌, IsTrue, IfSome};
-ghost use Rattle.scn_base.specs.Good.{is_good_op as is_good_op_of};
+ghost use Rattle.port_table.specs.Calls.{is_good_op as is_good_op_of};
 
 use crate::exit::Exit;
-use gic_base::{Frame, GuestOp, GuestShape};
-use scn_base::is_good_op;
+use dev_port::gic_base::{Frame, GuestOp, GuestShape};
+use dev_port::gic_guest::is_good_op;
 
 /// Two vCPUs, SPIs 32 to 63, LPIs 8192 to 8207 with an ITS, 64 KiB of memory that the GIC reads, and one device.
 pub const SHAPE: GuestShape = GuestShape {

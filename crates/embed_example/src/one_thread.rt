@@ -8,10 +8,10 @@ use crate::machine::{DEVICE, SHAPE};
 use crate::signals::Signals;
 use crate::turns::TakesTurns;
 use crate::vcpu::Vcpu;
-use port_core::Port;
 use port_rest::one_guest;
+use port_seq::port_core::Port;
+use port_seq::scn_base::Mode;
 use port_seq::{GuestPort, SeqPort};
-use scn_base::Mode;
 use std::alloc::Global;
 use std::sync::Wait;
 

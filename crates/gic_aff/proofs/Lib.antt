@@ -1,1 +1,3 @@
+pub use Rattle.floor_words.proofs.GicBits
+pub use Rattle.floor_words.proofs.GicWord
 pub mod WordLemmas

@@ -1,8 +1,6 @@
 -- The affinities of vCPUs (IHI 0069, "Affinity routing").
 use Rattle.std.specs.Prelude.{ℕ, Option}
-use Rattle.gic_base.specs.declared.shape.GuestShape.{GuestShape}
-use Rattle.gic_word.specs.declared.record.Route.TheVariants.{Affinity}
-use Rattle.gic_word.specs.Record.{target_in}
+use Rattle.floor_words.specs.Words.{GuestShape, Affinity, target_in}
 
 -- the affinity of a vCPU: its number in Aff0, with Aff1, Aff2 and Aff3 0 (own choice)
 abbrev pub affinity_of : ℕ → ℕ

@@ -1,8 +1,6 @@
 -- The write of ICC_SGI1R (IHI 0069, ICC_SGI1R_EL1).
 use Rattle.std.specs.Prelude.{ℕ, ◌/◌, ◌%◌, ◌==◌, ◌&&◌, not, Bool, if◌then◌else◌}
-use Rattle.gic_bits.specs.Bits.{has_bit, field_at}
-use Rattle.gic_bits.specs.Sets.{set_of}
-use Rattle.gic_base.specs.declared.shape.GuestShape.{GuestShape}
+use Rattle.floor_words.specs.Words.{has_bit, field_at, set_of, GuestShape}
 use Rattle.gic_aff.specs.declared.sgi.Targets.{Targets}
 
 -- INTID: bits [27:24]

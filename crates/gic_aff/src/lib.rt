@@ -5,4 +5,5 @@ mod affinity;
 mod sgi;
 
 pub use affinity::vcpu_of;
+pub use floor_words::gic_bits;
 pub use sgi::{Targets, sgi_intid, sgi_targets};

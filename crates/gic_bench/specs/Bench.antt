@@ -1,7 +1,7 @@
 -- What the bench does and counts (own choice).
 use Rattle.std.specs.Prelude.{ℕ, ◌+◌, ◌%◌, ◌^◌, ◌≡◌, Bool, true, false, None}
-use Rattle.gic_base.specs.declared.shape.GuestShape.{GuestShape}
-use Rattle.its_cmd.specs.declared.command.Command.{Command}
+use Rattle.its_tab.specs.Words.{GuestShape}
+use Rattle.its_tab.specs.ItsCmd.declared.command.Command.{Command}
 use Rattle.its_tab.specs.Maps.{Maps}
 use Rattle.its_tab.specs.Fault.{fault_of}
 use Rattle.gic_bench.specs.declared.tables.Tally.{Tally}

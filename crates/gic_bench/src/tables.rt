@@ -1,13 +1,13 @@
 //! Commands on the tables of an ITS.
 ghost use Rattle.std.specs.Prelude.{◌≡◌, ◌&&◌, not, is_none, is_some, ◌≢◌, ◌≤◌, ℕ, true, IfOk, OnErr, Some, IfSome, IfNone};
-ghost use Rattle.its_cmd.specs.declared.command.Command.TheVariants.{Mapti, Discard};
+ghost use Rattle.its_tab.specs.ItsCmd.declared.command.Command.TheVariants.{Mapti, Discard};
 ghost use Rattle.its_tab.specs.Maps.{with_event, without_event, owner_of, bits_of};
 ghost use Rattle.its_tab.specs.Fault.{fault_of, is_of_other};
 ghost use Rattle.its_tab.specs.Message.{translated};
 ghost use Rattle.gic_bench.specs.Bench.{tallied, lpi_of, shape, IsDoneWhere};
 
-use gic_base::{FIRST_LPI, GuestShape, MAX_LPIS, NoMemory};
-use its_cmd::Command;
+use its_tab::gic_base::{FIRST_LPI, GuestShape, MAX_LPIS, NoMemory};
+use its_tab::its_cmd::Command;
 use its_tab::{ItsTables, empty};
 use std::alloc::Global;
 use std::fmt;

@@ -2,20 +2,11 @@
 use Rattle.std.proofs.Common.{◌≡◌, ℕ, ◌+◌, List, [], ◌∷◌, ◌++◌, Bool, true, false, ◌&&◌, IsTrue, ◌<◌, ◌^◌, Option, Some, None, All, map, nat_lt, refl, sym, ap, ◌∙◌}
 use Rattle.std.specs.List.{range_with_len, filter_map}
 use Rattle.std.proofs.lemmas.List.Elements.{All-nil, All-push, All-same}
-use Rattle.gic_base.specs.declared.shape.GuestShape.{GuestShape}
-use Rattle.gic_base.specs.declared.interrupt.Key.{Key}
-use Rattle.gic_base.specs.declared.interrupt.Key.TheVariants.{Private, Spi, Lpi}
-use Rattle.gic_base.specs.declared.operation.Kind.TheVariants.{Routing}
-use Rattle.gic_base.specs.Interrupt.{has_interrupt}
-use Rattle.gic_frame.specs.Part.{part_bits}
-use Rattle.gic_frame.proofs.TestLemmas.{both, is_under}
-use Rattle.gic_reg.specs.Condition.{has_part}
+use Rattle.floor_registers.specs.Words.{GuestShape, Key, Private, Spi, Lpi, Routing, has_interrupt, Kind, Frame}
+use Rattle.floor_registers.specs.Registers.{part_bits, has_part, Enables, intid_of, is_target}
+use Rattle.floor_registers.proofs.GicFrame.TestLemmas.{both, is_under}
 use Rattle.gic_call.specs.declared.touch.Touching.{Touching}
 use Rattle.gic_call.specs.Touch.{CanTouch, has_shown_part}
-use Rattle.gic_base.specs.declared.operation.Kind.{Kind}
-use Rattle.gic_base.specs.declared.operation.Frame.{Frame}
-use Rattle.gic_dmap.specs.declared.contents.Enables.{Enables}
-use Rattle.gic_aff.specs.Sgi.{intid_of, is_target}
 use Rattle.gic_call.specs.declared.event.Event.{Event}
 use Rattle.gic_call.specs.declared.event.Event.TheVariants.{Raise, Touch, CtlrBegin}
 use Rattle.gic_call.specs.declared.touch.Touching.TheVariants.{Read, Register}

@@ -5,60 +5,27 @@ use Rattle.std.specs.List.{range_with_len, filter_map}
 use Rattle.std.proofs.Math.Pow.{pow_mono}
 use Rattle.std.proofs.lemmas.Grind.{common_steps}
 use Rattle.std.proofs.lemmas.List.Elements.{All-nil, All-cons, All-push}
-use Rattle.gic_base.specs.declared.shape.GuestShape.{GuestShape}
-use Rattle.gic_base.specs.declared.interrupt.Key.{Key}
-use Rattle.gic_base.specs.declared.interrupt.Key.TheVariants.{Private, Spi, Lpi}
-use Rattle.gic_base.specs.declared.icc.IccReg.{IccReg}
-use Rattle.gic_base.specs.declared.icc.IccReg.TheVariants.{Sgi1r}
-use Rattle.gic_base.specs.declared.operation.Kind.TheVariants.{SetPending, ClearPending, Routing}
-use Rattle.gic_base.specs.declared.operation.Frame.{Frame}
-use Rattle.gic_base.specs.declared.operation.Frame.TheVariants.{Dist, Redist, Its, Ram as Memory}
-use Rattle.gic_base.specs.declared.operation.GuestOp.TheVariants.{Mem}
-use Rattle.gic_base.specs.declared.operation.DeviceOp.{DeviceOp}
-use Rattle.gic_base.specs.declared.operation.DeviceOp.TheVariants.{Message, Wire, Msi}
-use Rattle.gic_base.specs.Shape.{IsShape}
-use Rattle.gic_base.specs.Interrupt.{has_interrupt}
-use Rattle.gic_word.specs.declared.record.Route.{Route}
-use Rattle.gic_word.specs.declared.record.Route.TheVariants.{Affinity, Target}
-use Rattle.gic_word.specs.Record.{is_number}
-use Rattle.gic_word.specs.Word.{IsRoute}
-use Rattle.gic_word.specs.Valid.{IsRecordOf}
-use Rattle.gic_frame.specs.declared.bank.Half.{Half}
-use Rattle.gic_frame.specs.declared.bank.Half.TheVariants.{Low, High, Whole}
-use Rattle.gic_frame.specs.declared.line.Found.{Found}
-use Rattle.gic_frame.specs.declared.line.Found.TheVariants.{InRegister, InParts}
-use Rattle.gic_frame.specs.Half.{half_limit, half_written}
-use Rattle.gic_frame.specs.Line.{found_at}
-use Rattle.gic_frame.specs.Guest.{has_lpis}
-use Rattle.gic_frame.proofs.TestLemmas.{left, right, both, under, is_under, at_most}
-use Rattle.gic_reg.specs.Touch.{part_read, route_read}
-use Rattle.gic_aff.specs.Sgi.{intid_of, is_target}
-use Rattle.gic_ram.specs.declared.access.Part.{Part}
-use Rattle.gic_ram.specs.Access.{is_size, is_within, inserted}
-use Rattle.scn_base.specs.Good.{fits, is_usable, has_frame, is_good_op, is_good_event}
-use Rattle.gic_dmap.specs.declared.map.Reg.{Reg as DistReg}
-use Rattle.gic_dmap.specs.declared.map.Reg.TheVariants.{Ctlr as DistCtlr, Typer as DistTyper, Iidr as DistIidr, SetSpi, ClrSpi, Router, Pidr2 as DistPidr2}
-use Rattle.gic_dmap.specs.declared.map.RegRef.{RegRef as DistRef}
-use Rattle.gic_dmap.specs.declared.map.RegRef.TheVariants.{Bits as DistBits, Plain as DistPlain, Reserved as DistReserved}
-use Rattle.gic_dmap.specs.Contents.{enables_in, message_intid}
-use Rattle.gic_dmap.specs.Map.{lines as dist_lines, decoded as dist_decoded, NamesIntids}
-use Rattle.gic_dmap.proofs.MapLemmas.{intids_named}
-use Rattle.gic_rmap.specs.declared.map.Reg.{Reg as RedistReg}
-use Rattle.gic_rmap.specs.declared.map.Reg.TheVariants.{Ctlr as RedistCtlr, Iidr as RedistIidr, Typer as RedistTyper, Propbaser as PropbaserReg, Pendbaser as PendbaserReg, Pidr2 as RedistPidr2}
-use Rattle.gic_rmap.specs.declared.map.RegRef.{RegRef as RedistRef}
-use Rattle.gic_rmap.specs.declared.map.RegRef.TheVariants.{Bits as RedistBits, Plain as RedistPlain, Reserved as RedistReserved}
-use Rattle.gic_rmap.specs.Contents.{enable_lpis_after, propbaser_bits, pendbaser_bits}
-use Rattle.gic_rmap.specs.Map.{decoded as redist_decoded}
-use Rattle.gic_imap.specs.declared.map.Reg.{Reg as ItsReg}
-use Rattle.gic_imap.specs.declared.map.Reg.TheVariants.{Ctlr as ItsCtlrReg, Iidr as ItsIidr, Typer as ItsTyper, Cbaser as CbaserReg, Cwriter as CwriterReg, Creadr, Baser0 as Baser0Reg, Baser1 as Baser1Reg, Pidr2 as ItsPidr2}
-use Rattle.gic_imap.specs.declared.map.RegRef.{RegRef as ItsRef}
-use Rattle.gic_imap.specs.declared.map.RegRef.TheVariants.{Plain as ItsPlain, Reserved as ItsReserved}
-use Rattle.gic_imap.specs.Contents.{cbaser_bits, baser_bits, queue_offset, retries}
-use Rattle.gic_imap.specs.Map.{decoded as its_decoded}
+use Rattle.floor_registers.specs.Words.{GuestShape, Key, Private, Spi, Lpi, IccReg, Sgi1r, SetPending, ClearPending, Routing, Frame, Dist, Redist, Its, Ram as Memory, Mem, DeviceOp, Message, Wire, Msi, IsShape, has_interrupt, Route, Affinity, Target, is_number, IsRoute, IsRecordOf}
+use Rattle.floor_registers.specs.Registers.{Half, Low, High, Whole, Found, InRegister, InParts, half_limit, half_written, found_at, has_lpis, part_read, route_read, intid_of, is_target, Part, is_size, is_within, inserted, SetSpi, ClrSpi, Router, enables_in, message_intid, Propbaser as PropbaserReg, Pendbaser as PendbaserReg, enable_lpis_after, propbaser_bits, pendbaser_bits, Cbaser as CbaserReg, Cwriter as CwriterReg, Creadr, Baser0 as Baser0Reg, Baser1 as Baser1Reg, cbaser_bits, baser_bits, queue_offset, retries, Maps, pair_of, id_of, passes, IsValid}
+use Rattle.floor_registers.proofs.GicFrame.TestLemmas.{left, right, both, under, is_under, at_most}
+use Rattle.gic_open.specs.GicGuest.Good.{fits, is_usable, has_frame, is_good_op, is_good_event}
+use Rattle.floor_registers.specs.GicDmap.declared.map.Reg.{Reg as DistReg}
+use Rattle.floor_registers.specs.GicDmap.declared.map.Reg.TheVariants.{Ctlr as DistCtlr, Typer as DistTyper, Iidr as DistIidr, Pidr2 as DistPidr2}
+use Rattle.floor_registers.specs.GicDmap.declared.map.RegRef.{RegRef as DistRef}
+use Rattle.floor_registers.specs.GicDmap.declared.map.RegRef.TheVariants.{Bits as DistBits, Plain as DistPlain, Reserved as DistReserved}
+use Rattle.floor_registers.specs.GicDmap.Map.{lines as dist_lines, decoded as dist_decoded, NamesIntids}
+use Rattle.floor_registers.proofs.GicDmap.MapLemmas.{intids_named}
+use Rattle.floor_registers.specs.GicRmap.declared.map.Reg.{Reg as RedistReg}
+use Rattle.floor_registers.specs.GicRmap.declared.map.Reg.TheVariants.{Ctlr as RedistCtlr, Iidr as RedistIidr, Typer as RedistTyper, Pidr2 as RedistPidr2}
+use Rattle.floor_registers.specs.GicRmap.declared.map.RegRef.{RegRef as RedistRef}
+use Rattle.floor_registers.specs.GicRmap.declared.map.RegRef.TheVariants.{Bits as RedistBits, Plain as RedistPlain, Reserved as RedistReserved}
+use Rattle.floor_registers.specs.GicRmap.Map.{decoded as redist_decoded}
+use Rattle.floor_registers.specs.GicImap.declared.map.Reg.{Reg as ItsReg}
+use Rattle.floor_registers.specs.GicImap.declared.map.Reg.TheVariants.{Ctlr as ItsCtlrReg, Iidr as ItsIidr, Typer as ItsTyper, Pidr2 as ItsPidr2}
+use Rattle.floor_registers.specs.GicImap.declared.map.RegRef.{RegRef as ItsRef}
+use Rattle.floor_registers.specs.GicImap.declared.map.RegRef.TheVariants.{Plain as ItsPlain, Reserved as ItsReserved}
+use Rattle.floor_registers.specs.GicImap.Map.{decoded as its_decoded}
 use Rattle.gic_open.specs.declared.plain.PlainWord.TheVariants.{Ram, Propbaser, Pendbaser, Cbaser, Cwriter, Baser0, Baser1}
-use Rattle.its_tab.specs.Maps.{Maps, pair_of, id_of}
-use Rattle.its_tab.specs.Message.{passes}
-use Rattle.its_tab.specs.After.{IsValid}
 use Rattle.gic_call.specs.declared.event.Event.{Event}
 use Rattle.gic_call.specs.declared.event.Event.TheVariants.{Raise, Up, Down, Cpu, Enable, Touch, Put, ItsBegin, ItsEnd, Queue}
 use Rattle.gic_call.specs.declared.event.QueueChange.TheVariants.{Runs}

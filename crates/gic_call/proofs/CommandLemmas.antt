@@ -10,26 +10,12 @@ use Rattle.std.proofs.lemmas.List.FromFn.{length-range_with_len, get_or-range_wi
 use Rattle.std.proofs.lemmas.List.Elements.{All-nil, All-cons, All-head, All-tail, All-map, All-filter, All-append, All-weaker}
 use Rattle.std.proofs.lemmas.Map.Keys.{IsDistinct-from_sorted}
 use Rattle.std.proofs.lemmas.Map.Views.{All-values_from_lookup}
-use Rattle.gic_base.specs.declared.shape.GuestShape.{GuestShape}
-use Rattle.gic_base.specs.declared.interrupt.Key.TheVariants.{Lpi}
-use Rattle.gic_base.specs.Interrupt.{has_interrupt}
-use Rattle.gic_word.specs.Record.{is_number}
-use Rattle.gic_word.specs.Valid.{is_vcpu_or_none}
-use Rattle.gic_frame.proofs.TestLemmas.{both, under, is_under}
-use Rattle.gic_imap.specs.Contents.{queue_bytes}
-use Rattle.gic_lpi.specs.Tables.{priority_of}
-use Rattle.its_cmd.specs.declared.command.Command.{Command}
-use Rattle.its_cmd.specs.declared.command.Command.TheVariants.{Movi, Int, Clear, Sync, Mapd, Mapc, Mapti, Mapi, Inv, Invall, Movall, Discard}
-use Rattle.its_cmd.specs.declared.command.BadCommand.{BadCommand}
-use Rattle.its_cmd.specs.Command.{decoded}
-use Rattle.its_tab.specs.declared.fault.CmdFault.{CmdFault}
-use Rattle.its_tab.specs.declared.fault.CmdFault.TheVariants.{DeviceRange, SizeRange, DeviceUnmapped, EventRange, EventUnmapped, IntIdRange, CollectionUnmapped, TargetRange}
-use Rattle.its_tab.specs.Maps.{Maps, event_cmp, pair_of, id_of, target_of}
-use Rattle.its_tab.specs.Collection.{collection_of}
-use Rattle.its_tab.specs.Fault.{number_of, fault_of, faults, fault_number}
-use Rattle.its_tab.specs.After.{IsValid}
-use Rattle.its_tab.proofs.TableLemmas.{event_order}
-use Rattle.its_tab.proofs.AfterLemmas.{all_clear, below_from_test, right_id, or_clear}
+use Rattle.floor_registers.specs.Words.{GuestShape, Lpi, has_interrupt, is_number, is_vcpu_or_none}
+use Rattle.floor_registers.proofs.GicFrame.TestLemmas.{both, under, is_under}
+use Rattle.floor_registers.specs.Registers.{queue_bytes, priority_of, Command, Movi, Int, Clear, Sync, Mapd, Mapc, Mapti, Mapi, Inv, Invall, Movall, Discard, BadCommand, CmdFault, DeviceRange, SizeRange, DeviceUnmapped, EventRange, EventUnmapped, IntIdRange, CollectionUnmapped, TargetRange, Maps, event_cmp, pair_of, id_of, target_of, collection_of, number_of, fault_of, faults, fault_number, IsValid}
+use Rattle.floor_registers.specs.ItsCmd.Command.{decoded}
+use Rattle.floor_registers.proofs.ItsTab.TableLemmas.{event_order}
+use Rattle.floor_registers.proofs.ItsTab.AfterLemmas.{all_clear, below_from_test, right_id, or_clear}
 use Rattle.gic_open.specs.declared.plain.PlainWord.TheVariants.{Cbaser}
 use Rattle.gic_call.specs.declared.command.Part.{Part}
 use Rattle.gic_call.specs.declared.command.Part.TheVariants.{Forget, Map, Retarget, Raise, Clear as ClearLpi, Configure}

@@ -2,31 +2,21 @@
 use Rattle.std.proofs.Common.{◌≡◌, ℕ, ◌+◌, ◌-◌, ◌*◌, ◌%◌, ◌≤◌, ◌<◌, ◌^◌, ◌==◌, ◌&&◌, Bool, true, false, cond, IsTrue, IfSome, Option, Some, None, List, [], ◌∷◌, refl, sym, subst, inl, inr, arith}
 use Rattle.std.specs.List.{list_all}
 use Rattle.std.proofs.lemmas.Grind.{common_steps}
-use Rattle.gic_base.specs.declared.operation.Kind.{Kind}
-use Rattle.gic_base.specs.declared.operation.Kind.TheVariants.{Group, SetEnable, ClearEnable, SetPending, ClearPending, SetActive, ClearActive, Priority, Config, Routing}
-use Rattle.gic_frame.specs.declared.bank.Half.{Half}
-use Rattle.gic_frame.specs.declared.bank.Half.TheVariants.{Low, High, Whole}
-use Rattle.gic_frame.specs.declared.bank.Access.{Access}
-use Rattle.gic_frame.specs.declared.bank.Access.TheVariants.{Word, WordOrLowHalf, WordOrByte, Doubleword}
-use Rattle.gic_frame.specs.declared.line.Line.{Line}
-use Rattle.gic_frame.specs.declared.line.Line.TheVariants.{Register, Interrupts}
-use Rattle.gic_frame.specs.declared.line.Found.{Found}
-use Rattle.gic_frame.specs.declared.line.Found.TheVariants.{InRegister, InParts}
-use Rattle.gic_frame.specs.Bank.{half_of, byte_of, takes}
-use Rattle.gic_frame.specs.Line.{bank_of, found_in, access_at, found_at}
-use Rattle.gic_frame.specs.Part.{part_bits, parts_in, parts_bank, AreWithin}
-use Rattle.gic_frame.proofs.LineLemmas.{found_passes}
-use Rattle.gic_frame.proofs.TestLemmas.{same, under}
-use Rattle.gic_ram.specs.Access.{is_size}
-use Rattle.scn_base.specs.Good.{fits}
-use Rattle.gic_dmap.specs.declared.map.Reg.{Reg as DistReg}
-use Rattle.gic_dmap.specs.declared.map.RegRef.TheVariants.{Bits as DistBits}
-use Rattle.gic_dmap.specs.Map.{lines as dist_lines, decoded as dist_decoded, NamesIntids}
-use Rattle.gic_rmap.specs.declared.map.Reg.{Reg as RedistReg}
-use Rattle.gic_rmap.specs.declared.map.RegRef.TheVariants.{Bits as RedistBits}
-use Rattle.gic_rmap.specs.Map.{lines as redist_lines, decoded as redist_decoded, NamesIntids as NamesPrivate}
-use Rattle.gic_imap.specs.declared.map.Reg.{Reg as ItsReg}
-use Rattle.gic_imap.specs.Map.{lines as its_lines, decoded as its_decoded}
+use Rattle.floor_registers.specs.Words.{Kind, SetEnable, ClearEnable, SetPending, ClearPending, SetActive, ClearActive, Priority, Config, Routing}
+use Rattle.floor_registers.specs.GicBase.declared.operation.Kind.TheVariants.{Group}
+use Rattle.floor_registers.specs.Registers.{Half, Low, High, Whole, Access, Word, WordOrLowHalf, WordOrByte, Doubleword, Line, Register, Interrupts, Found, InRegister, InParts, half_of, takes, bank_of, found_in, access_at, found_at, part_bits, parts_in, parts_bank, AreWithin, is_size}
+use Rattle.floor_registers.specs.GicFrame.Bank.{byte_of}
+use Rattle.floor_registers.proofs.GicFrame.LineLemmas.{found_passes}
+use Rattle.floor_registers.proofs.GicFrame.TestLemmas.{same, under}
+use Rattle.gic_open.specs.GicGuest.Good.{fits}
+use Rattle.floor_registers.specs.GicDmap.declared.map.Reg.{Reg as DistReg}
+use Rattle.floor_registers.specs.GicDmap.declared.map.RegRef.TheVariants.{Bits as DistBits}
+use Rattle.floor_registers.specs.GicDmap.Map.{lines as dist_lines, decoded as dist_decoded, NamesIntids}
+use Rattle.floor_registers.specs.GicRmap.declared.map.Reg.{Reg as RedistReg}
+use Rattle.floor_registers.specs.GicRmap.declared.map.RegRef.TheVariants.{Bits as RedistBits}
+use Rattle.floor_registers.specs.GicRmap.Map.{lines as redist_lines, decoded as redist_decoded, NamesIntids as NamesPrivate}
+use Rattle.floor_registers.specs.GicImap.declared.map.Reg.{Reg as ItsReg}
+use Rattle.floor_registers.specs.GicImap.Map.{lines as its_lines, decoded as its_decoded}
 use Rattle.gic_call.specs.Fit.{FitsHalf, FitParts, FitsDist, FitsRedist, FitsIts}
 
 -- an access is to a half exactly where it has half the size of a register of 64 bits

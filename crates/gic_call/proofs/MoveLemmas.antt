@@ -1,14 +1,8 @@
 -- What the moves leave of the record of an interrupt, and of what an interface has of it.
 use Rattle.std.proofs.Common.{◌≡◌, ◌<◌, ◌||◌, ℕ, IsTrue, is_none, not, cond, Bool, true, false, Some, None, refl, arith}
 use Rattle.std.proofs.lemmas.Grind.{common_steps}
-use Rattle.gic_base.specs.declared.interrupt.Key.{Key}
-use Rattle.gic_base.specs.declared.interrupt.Key.TheVariants.{Private, Spi, Lpi}
-use Rattle.gic_base.specs.declared.shape.GuestShape.{GuestShape}
-use Rattle.gic_base.specs.Shape.{IsShape}
-use Rattle.gic_word.specs.declared.record.Irq.{Irq}
-use Rattle.gic_word.specs.Causes.{cleared, has_active_state}
-use Rattle.gic_word.specs.Valid.{is_of_kind, IsRecordOf}
-use Rattle.gic_word.proofs.ValidLemmas.{valid_cleared}
+use Rattle.floor_registers.specs.Words.{Key, Private, Spi, Lpi, GuestShape, IsShape, Irq, cleared, has_active_state, is_of_kind, IsRecordOf}
+use Rattle.floor_registers.proofs.GicWord.ValidLemmas.{valid_cleared}
 use Rattle.gic_call.specs.declared.moves.Moved.{Moved}
 use Rattle.gic_call.proofs.RecordLemmas.{kind_kept, valid_as, valid_active}
 use Rattle.gic_call.specs.Move.{reached, taken, left, IsMovedOf}

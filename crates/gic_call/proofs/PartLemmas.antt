@@ -5,18 +5,9 @@ use Rattle.std.proofs.lemmas.Grind.{common_steps}
 use Rattle.std.proofs.lemmas.Nat.{pow_pos}
 use Rattle.std.proofs.lemmas.List.FromFn.{length-range_with_len, get_or-range_with_len, length-map-range_with_len, get_or-map-range_with_len}
 use Rattle.std.proofs.lemmas.List.Elements.{All-nil, All-cons, All-head, All-tail, All-push}
-use Rattle.gic_bits.specs.Bits.{field_at}
-use Rattle.gic_base.specs.declared.shape.GuestShape.{GuestShape}
-use Rattle.gic_base.specs.declared.interrupt.Key.{Key}
-use Rattle.gic_base.specs.declared.interrupt.Key.TheVariants.{Private, Spi}
-use Rattle.gic_base.specs.declared.operation.Kind.{Kind}
-use Rattle.gic_base.specs.declared.operation.Frame.{Frame}
-use Rattle.gic_base.specs.declared.operation.Frame.TheVariants.{Dist, Redist, Its, Ram as Memory}
-use Rattle.gic_base.specs.Interrupt.{has_interrupt, interrupt_count, key_at}
-use Rattle.gic_frame.specs.Part.{part_bits}
-use Rattle.gic_frame.proofs.TestLemmas.{left, right}
-use Rattle.gic_reg.specs.Condition.{has_part}
-use Rattle.gic_dmap.specs.declared.contents.Enables.{Enables}
+use Rattle.floor_registers.specs.Words.{field_at, GuestShape, Key, Private, Spi, Kind, Frame, Dist, Redist, Its, Ram as Memory, has_interrupt, interrupt_count, key_at}
+use Rattle.floor_registers.specs.Registers.{part_bits, has_part, Enables}
+use Rattle.floor_registers.proofs.GicFrame.TestLemmas.{left, right}
 use Rattle.gic_call.specs.declared.event.Event.{Event}
 use Rattle.gic_call.specs.declared.event.Event.TheVariants.{Touch, CtlrBegin, CtlrEnd}
 use Rattle.gic_call.specs.Touch.{CanTouch}

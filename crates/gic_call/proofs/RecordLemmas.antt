@@ -1,15 +1,7 @@
 -- Records that differ in some fields are records of the same interrupt.
 use Rattle.std.proofs.Common.{◌≡◌, ◌<◌, ◌/◌, ◌%◌, ◌^◌, ◌||◌, not, ℕ, false, nat_lt, IsTrue, Option, Some, None, refl, sym, ap, subst, ◌∙◌, arith}
 use Rattle.std.proofs.lemmas.Grind.{common_steps}
-use Rattle.gic_base.specs.declared.interrupt.Key.{Key}
-use Rattle.gic_base.specs.declared.interrupt.Key.TheVariants.{Private, Spi, Lpi}
-use Rattle.gic_base.specs.declared.shape.GuestShape.{GuestShape}
-use Rattle.gic_base.specs.Shape.{IsShape}
-use Rattle.gic_base.specs.Interrupt.{is_sgi}
-use Rattle.gic_word.specs.declared.record.Irq.{Irq}
-use Rattle.gic_word.specs.declared.record.Route.{Route}
-use Rattle.gic_word.specs.Word.{IsSeat, IsRoute}
-use Rattle.gic_word.specs.Valid.{is_vcpu_or_none, is_routed_as, is_of_kind, IsRecordOf}
+use Rattle.floor_registers.specs.Words.{Key, Private, Spi, Lpi, GuestShape, IsShape, is_sgi, Irq, Route, IsSeat, IsRoute, is_vcpu_or_none, is_routed_as, is_of_kind, IsRecordOf}
 use Rattle.gic_call.specs.Touch.{is_lpi}
 
 -- a number of a vCPU of the guest, or none, fits its field

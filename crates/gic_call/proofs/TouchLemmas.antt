@@ -1,27 +1,11 @@
 -- What a touch leaves of the record of an interrupt.
 use Rattle.std.proofs.Common.{◌≡◌, ◌<◌, ◌*◌, ◌/◌, ◌^◌, ℕ, Bool, true, false, cond, if◌then◌else◌, nat_eq, nat_lt, IsTrue, Option, Some, None, refl, arith}
 use Rattle.std.proofs.lemmas.Grind.{common_steps}
-use Rattle.gic_base.specs.declared.operation.Kind.{Kind}
-use Rattle.gic_base.specs.declared.operation.Kind.TheVariants.{Group, SetEnable, ClearEnable, SetPending, ClearPending, SetActive, ClearActive, Priority, Config, Routing}
-use Rattle.gic_base.specs.declared.interrupt.Key.{Key}
-use Rattle.gic_base.specs.declared.interrupt.Key.TheVariants.{Private, Spi, Lpi}
-use Rattle.gic_base.specs.declared.shape.GuestShape.{GuestShape}
-use Rattle.gic_base.specs.Shape.{IsShape}
-use Rattle.gic_base.specs.Interrupt.{has_interrupt, is_sgi}
-use Rattle.gic_word.specs.declared.record.Group.{Group as GroupOf}
-use Rattle.gic_word.specs.declared.record.Group.TheVariants.{G0, G1}
-use Rattle.gic_word.specs.declared.record.Irq.{Irq}
-use Rattle.gic_word.specs.declared.record.Route.{Route}
-use Rattle.gic_word.specs.declared.record.Route.TheVariants.{Affinity, Target}
-use Rattle.gic_word.specs.Record.{target_in}
-use Rattle.gic_word.specs.Valid.{is_vcpu_or_none, is_routed_as, IsRecordOf}
-use Rattle.gic_frame.specs.Part.{part_bits}
-use Rattle.gic_reg.specs.Router.{affinity_in}
-use Rattle.gic_reg.specs.Condition.{has_part, is_routed, shows_route}
-use Rattle.gic_reg.specs.Touch.{activated, part_written}
-use Rattle.gic_bits.specs.Bits.{has_bit}
-use Rattle.gic_word.specs.Causes.{raised, cleared}
-use Rattle.gic_word.proofs.ValidLemmas.{valid_raised, valid_cleared}
+use Rattle.floor_registers.specs.Words.{Kind, SetEnable, ClearEnable, SetPending, ClearPending, SetActive, ClearActive, Priority, Config, Routing, Key, Private, Spi, Lpi, GuestShape, IsShape, has_interrupt, is_sgi, G0, G1, Irq, Route, Affinity, Target, target_in, is_vcpu_or_none, is_routed_as, IsRecordOf, has_bit, raised, cleared}
+use Rattle.floor_registers.specs.GicBase.declared.operation.Kind.TheVariants.{Group}
+use Rattle.floor_registers.specs.GicWord.declared.record.Group.{Group as GroupOf}
+use Rattle.floor_registers.specs.Registers.{part_bits, affinity_in, has_part, is_routed, shows_route, activated, part_written}
+use Rattle.floor_registers.proofs.GicWord.ValidLemmas.{valid_raised, valid_cleared}
 use Rattle.gic_call.specs.declared.touch.Touching.{Touching}
 use Rattle.gic_call.specs.declared.touch.Touching.TheVariants.{Read, Register, Enables, MapLpi, Retarget, Configure, Forget}
 use Rattle.gic_call.specs.Touch.{touched, is_shown, is_lpi, has_shown_part, is_priority, CanTouch}

@@ -3,42 +3,23 @@
 use Rattle.std.specs.Prelude.{ℕ, ◌+◌, ◌&&◌, ◌||◌, List, [], ◌∷◌, ◌++◌, map, Bool, true, false, nat_lt, if◌then◌else◌, Option, Some, None, option_map}
 use Rattle.std.specs.Option.{option_map_or}
 use Rattle.std.specs.List.{range_with_len, filter_map}
-use Rattle.gic_bits.specs.Bits.{has_bit, bit_of}
-use Rattle.gic_base.specs.declared.shape.GuestShape.{GuestShape}
-use Rattle.gic_base.specs.declared.interrupt.Key.{Key}
-use Rattle.gic_base.specs.declared.interrupt.Key.TheVariants.{Private, Spi, Lpi}
-use Rattle.gic_base.specs.declared.operation.Kind.{Kind}
-use Rattle.gic_base.specs.declared.operation.Kind.TheVariants.{SetPending, ClearPending, Routing}
-use Rattle.gic_base.specs.declared.operation.Frame.{Frame}
-use Rattle.gic_base.specs.declared.operation.Frame.TheVariants.{Dist, Redist, Its, Ram as Memory}
-use Rattle.gic_base.specs.Interrupt.{has_interrupt, interrupt_count, key_at}
-use Rattle.gic_word.specs.Record.{is_number}
-use Rattle.gic_reg.specs.Touch.{part_read}
-use Rattle.gic_reg.specs.Condition.{has_part}
-use Rattle.gic_frame.specs.Guest.{has_lpis}
-use Rattle.gic_frame.specs.Half.{half_read, half_written}
-use Rattle.gic_frame.specs.Identity.{iidr, pidr2}
-use Rattle.gic_frame.specs.Parts.{part_in, joined}
-use Rattle.gic_frame.specs.declared.bank.Half.{Half}
-use Rattle.gic_dmap.specs.declared.contents.Enables.{Enables}
-use Rattle.gic_dmap.specs.declared.map.Reg.{Reg as DistReg}
-use Rattle.gic_dmap.specs.declared.map.Reg.TheVariants.{Ctlr as DistCtlr, Typer as DistTyper, Iidr as DistIidr, SetSpi, ClrSpi, Router, Pidr2 as DistPidr2}
-use Rattle.gic_dmap.specs.declared.map.RegRef.{RegRef as DistRef}
-use Rattle.gic_dmap.specs.declared.map.RegRef.TheVariants.{Bits as DistBits, Plain as DistPlain, Reserved as DistReserved}
-use Rattle.gic_dmap.specs.Contents.{enables_in, ctlr_of as dist_ctlr_of, typer_of as dist_typer_of, message_intid}
-use Rattle.gic_rmap.specs.declared.map.Reg.{Reg as RedistReg}
-use Rattle.gic_rmap.specs.declared.map.Reg.TheVariants.{Ctlr as RedistCtlr, Iidr as RedistIidr, Typer as RedistTyper, Propbaser as PropbaserReg, Pendbaser as PendbaserReg, Pidr2 as RedistPidr2}
-use Rattle.gic_rmap.specs.declared.map.RegRef.{RegRef as RedistRef}
-use Rattle.gic_rmap.specs.declared.map.RegRef.TheVariants.{Bits as RedistBits, Plain as RedistPlain, Reserved as RedistReserved}
-use Rattle.gic_rmap.specs.Contents.{enable_lpis_after, ctlr_of as redist_ctlr_of, typer_of as redist_typer_of, propbaser_bits, pendbaser_bits, pendbaser_read}
-use Rattle.gic_imap.specs.declared.map.Reg.{Reg as ItsReg}
-use Rattle.gic_imap.specs.declared.map.Reg.TheVariants.{Ctlr as ItsCtlrReg, Iidr as ItsIidr, Typer as ItsTyper, Cbaser as CbaserReg, Cwriter as CwriterReg, Creadr, Baser0 as Baser0Reg, Baser1 as Baser1Reg, Pidr2 as ItsPidr2}
-use Rattle.gic_imap.specs.declared.map.RegRef.{RegRef as ItsRef}
-use Rattle.gic_imap.specs.declared.map.RegRef.TheVariants.{Plain as ItsPlain, Reserved as ItsReserved}
-use Rattle.gic_imap.specs.declared.contents.Table.TheVariants.{Devices, Collections}
-use Rattle.gic_imap.specs.Contents.{enabled_in, ctlr_of as its_ctlr_of, typer_of as its_typer_of, cbaser_bits, queue_bytes, queue_offset, retries, creadr_of, baser_bits, baser_of}
-use Rattle.gic_lpi.specs.Tables.{pending_address}
-use Rattle.gic_ram.specs.Access.{part_of, inserted}
+use Rattle.floor_registers.specs.Words.{has_bit, bit_of, GuestShape, Key, Private, Spi, Lpi, Kind, SetPending, ClearPending, Routing, Frame, Dist, Redist, Its, Ram as Memory, has_interrupt, interrupt_count, key_at, is_number}
+use Rattle.floor_registers.specs.Registers.{part_read, has_part, has_lpis, half_read, half_written, iidr, pidr2, part_in, joined, Half, Enables, SetSpi, ClrSpi, Router, enables_in, message_intid, Propbaser as PropbaserReg, Pendbaser as PendbaserReg, enable_lpis_after, propbaser_bits, pendbaser_bits, pendbaser_read, Cbaser as CbaserReg, Cwriter as CwriterReg, Creadr, Baser0 as Baser0Reg, Baser1 as Baser1Reg, Devices, Collections, enabled_in, cbaser_bits, queue_bytes, queue_offset, retries, creadr_of, baser_bits, baser_of, pending_address, part_of, inserted}
+use Rattle.floor_registers.specs.GicDmap.declared.map.Reg.{Reg as DistReg}
+use Rattle.floor_registers.specs.GicDmap.declared.map.Reg.TheVariants.{Ctlr as DistCtlr, Typer as DistTyper, Iidr as DistIidr, Pidr2 as DistPidr2}
+use Rattle.floor_registers.specs.GicDmap.declared.map.RegRef.{RegRef as DistRef}
+use Rattle.floor_registers.specs.GicDmap.declared.map.RegRef.TheVariants.{Bits as DistBits, Plain as DistPlain, Reserved as DistReserved}
+use Rattle.floor_registers.specs.GicDmap.Contents.{ctlr_of as dist_ctlr_of, typer_of as dist_typer_of}
+use Rattle.floor_registers.specs.GicRmap.declared.map.Reg.{Reg as RedistReg}
+use Rattle.floor_registers.specs.GicRmap.declared.map.Reg.TheVariants.{Ctlr as RedistCtlr, Iidr as RedistIidr, Typer as RedistTyper, Pidr2 as RedistPidr2}
+use Rattle.floor_registers.specs.GicRmap.declared.map.RegRef.{RegRef as RedistRef}
+use Rattle.floor_registers.specs.GicRmap.declared.map.RegRef.TheVariants.{Bits as RedistBits, Plain as RedistPlain, Reserved as RedistReserved}
+use Rattle.floor_registers.specs.GicRmap.Contents.{ctlr_of as redist_ctlr_of, typer_of as redist_typer_of}
+use Rattle.floor_registers.specs.GicImap.declared.map.Reg.{Reg as ItsReg}
+use Rattle.floor_registers.specs.GicImap.declared.map.Reg.TheVariants.{Ctlr as ItsCtlrReg, Iidr as ItsIidr, Typer as ItsTyper, Pidr2 as ItsPidr2}
+use Rattle.floor_registers.specs.GicImap.declared.map.RegRef.{RegRef as ItsRef}
+use Rattle.floor_registers.specs.GicImap.declared.map.RegRef.TheVariants.{Plain as ItsPlain, Reserved as ItsReserved}
+use Rattle.floor_registers.specs.GicImap.Contents.{ctlr_of as its_ctlr_of, typer_of as its_typer_of}
 use Rattle.gic_open.specs.declared.plain.PlainWord.{PlainWord}
 use Rattle.gic_open.specs.declared.plain.PlainWord.TheVariants.{Ram, Propbaser, Pendbaser, ItsCtlr, Cbaser, Cwriter, Baser0, Baser1}
 use Rattle.gic_call.specs.declared.event.Event.{Event}

@@ -3,22 +3,13 @@
 use Rattle.std.specs.Prelude.{ℕ, List, [], ◌∷◌, ◌++◌, ◌&&◌, Bool, false, if◌then◌else◌, Option, Some, None}
 use Rattle.std.specs.Option.{option_map_or}
 use Rattle.std.specs.List.{range_with_len, filter_map}
-use Rattle.gic_base.specs.declared.shape.GuestShape.{GuestShape}
-use Rattle.gic_base.specs.declared.interrupt.Key.TheVariants.{Private, Spi, Lpi}
-use Rattle.gic_base.specs.declared.icc.IccReg.{IccReg}
-use Rattle.gic_base.specs.declared.icc.IccReg.TheVariants.{Sgi1r}
-use Rattle.gic_base.specs.declared.operation.Frame.{Frame}
-use Rattle.gic_base.specs.declared.operation.Frame.TheVariants.{Dist, Redist, Its, Ram as Memory}
-use Rattle.gic_base.specs.declared.operation.DeviceOp.{DeviceOp}
-use Rattle.gic_base.specs.declared.operation.DeviceOp.TheVariants.{Message, Wire, Msi}
-use Rattle.gic_aff.specs.Sgi.{intid_of, is_target}
-use Rattle.gic_frame.specs.Guest.{has_lpis}
-use Rattle.gic_dmap.specs.Map.{decoded as dist_decoded}
-use Rattle.gic_rmap.specs.Map.{decoded as redist_decoded}
-use Rattle.gic_imap.specs.declared.map.RegRef.{RegRef as ItsRef}
-use Rattle.gic_imap.specs.declared.map.RegRef.TheVariants.{Plain as ItsPlain}
-use Rattle.gic_imap.specs.Map.{decoded as its_decoded}
-use Rattle.its_tab.specs.Message.{translated}
+use Rattle.floor_registers.specs.Words.{GuestShape, Private, Spi, Lpi, IccReg, Sgi1r, Frame, Dist, Redist, Its, Ram as Memory, DeviceOp, Message, Wire, Msi}
+use Rattle.floor_registers.specs.Registers.{intid_of, is_target, has_lpis, translated}
+use Rattle.floor_registers.specs.GicDmap.Map.{decoded as dist_decoded}
+use Rattle.floor_registers.specs.GicRmap.Map.{decoded as redist_decoded}
+use Rattle.floor_registers.specs.GicImap.declared.map.RegRef.{RegRef as ItsRef}
+use Rattle.floor_registers.specs.GicImap.declared.map.RegRef.TheVariants.{Plain as ItsPlain}
+use Rattle.floor_registers.specs.GicImap.Map.{decoded as its_decoded}
 use Rattle.gic_call.specs.declared.event.Event.{Event}
 use Rattle.gic_call.specs.declared.event.Event.TheVariants.{Raise, Up, Down, Cpu, ItsBegin, ItsEnd}
 use Rattle.gic_call.specs.View.{View, memory_at, is_its_enabled}

@@ -2,22 +2,9 @@
 use Rattle.std.specs.Prelude.{ℕ, ◌+◌, ◌*◌, ◌^◌, ◌==◌, ◌&&◌, not, List, [], ◌∷◌, ◌++◌, map, filter, Bool, true, false, is_none, if◌then◌else◌, Option, Some, None, Result, Ok, Err}
 use Rattle.std.specs.Option.{option_map_or}
 use Rattle.std.specs.List.{filter_map}
-use Rattle.gic_bits.specs.Bits.{has_bit, field_at}
-use Rattle.gic_base.specs.declared.shape.GuestShape.{GuestShape}
-use Rattle.gic_base.specs.declared.interrupt.Key.TheVariants.{Lpi}
-use Rattle.gic_base.specs.declared.operation.Kind.TheVariants.{ClearPending}
-use Rattle.gic_word.specs.Record.{is_number}
-use Rattle.gic_imap.specs.Contents.{queue_bytes}
-use Rattle.gic_lpi.specs.Tables.{config_address, is_enabled, priority_of}
-use Rattle.its_queue.specs.Queue.{advanced}
-use Rattle.its_cmd.specs.declared.command.Command.{Command}
-use Rattle.its_cmd.specs.declared.command.Command.TheVariants.{Movi, Int, Clear, Sync, Mapd, Mapc, Mapti, Mapi, Inv, Invall, Movall, Discard}
-use Rattle.its_cmd.specs.declared.command.BadCommand.{BadCommand}
-use Rattle.its_cmd.specs.Command.{decoded}
-use Rattle.its_tab.specs.Maps.{Maps, id_of, target_of}
-use Rattle.its_tab.specs.Collection.{collection_of}
-use Rattle.its_tab.specs.Fault.{fault_number}
-use Rattle.its_tab.specs.After.{maps_after}
+use Rattle.floor_registers.specs.Words.{has_bit, field_at, GuestShape, Lpi, ClearPending, is_number}
+use Rattle.floor_registers.specs.Registers.{queue_bytes, config_address, is_enabled, priority_of, advanced, Command, Movi, Int, Clear, Sync, Mapd, Mapc, Mapti, Mapi, Inv, Invall, Movall, Discard, BadCommand, Maps, id_of, target_of, collection_of, fault_number, maps_after}
+use Rattle.floor_registers.specs.ItsCmd.Command.{decoded}
 use Rattle.gic_open.specs.declared.plain.PlainWord.TheVariants.{Propbaser, Cbaser, Cwriter}
 use Rattle.gic_call.specs.declared.command.Part.{Part}
 use Rattle.gic_call.specs.declared.command.Part.TheVariants.{Forget, Map, Retarget, Raise, Clear as ClearLpi, Configure}

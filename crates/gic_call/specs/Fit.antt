@@ -1,15 +1,13 @@
 -- What an access of a register map fits: its value the half that it is to, and its parts the value.
 use Rattle.std.specs.Prelude.{ℕ, ◌+◌, ◌*◌, ◌≤◌, ◌<◌, ◌^◌, Option, IfSome}
-use Rattle.gic_frame.specs.declared.bank.Half.{Half}
-use Rattle.gic_frame.specs.Half.{half_limit}
-use Rattle.gic_frame.specs.Part.{part_bits}
-use Rattle.gic_base.specs.declared.operation.Kind.{Kind}
-use Rattle.gic_dmap.specs.declared.map.RegRef.{RegRef as DistRef}
-use Rattle.gic_dmap.specs.declared.map.RegRef.TheVariants.{Bits as DistBits, Plain as DistPlain, Reserved as DistReserved}
-use Rattle.gic_rmap.specs.declared.map.RegRef.{RegRef as RedistRef}
-use Rattle.gic_rmap.specs.declared.map.RegRef.TheVariants.{Bits as RedistBits, Plain as RedistPlain, Reserved as RedistReserved}
-use Rattle.gic_imap.specs.declared.map.RegRef.{RegRef as ItsRef}
-use Rattle.gic_imap.specs.declared.map.RegRef.TheVariants.{Plain as ItsPlain, Reserved as ItsReserved}
+use Rattle.floor_registers.specs.Registers.{Half, half_limit, part_bits}
+use Rattle.floor_registers.specs.Words.{Kind}
+use Rattle.floor_registers.specs.GicDmap.declared.map.RegRef.{RegRef as DistRef}
+use Rattle.floor_registers.specs.GicDmap.declared.map.RegRef.TheVariants.{Bits as DistBits, Plain as DistPlain, Reserved as DistReserved}
+use Rattle.floor_registers.specs.GicRmap.declared.map.RegRef.{RegRef as RedistRef}
+use Rattle.floor_registers.specs.GicRmap.declared.map.RegRef.TheVariants.{Bits as RedistBits, Plain as RedistPlain, Reserved as RedistReserved}
+use Rattle.floor_registers.specs.GicImap.declared.map.RegRef.{RegRef as ItsRef}
+use Rattle.floor_registers.specs.GicImap.declared.map.RegRef.TheVariants.{Plain as ItsPlain, Reserved as ItsReserved}
 
 -- a value that is written fits the half
 abbrev pub FitsHalf : Half → Option ℕ → Type 0

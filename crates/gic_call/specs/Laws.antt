@@ -1,13 +1,7 @@
 -- Laws of what happens to one interrupt.
 use Rattle.std.specs.Prelude.{◌≡◌, ℕ, IsTrue, Some}
-use Rattle.gic_base.specs.declared.interrupt.Key.{Key}
-use Rattle.gic_base.specs.declared.shape.GuestShape.{GuestShape}
-use Rattle.gic_base.specs.Interrupt.{intid_of}
-use Rattle.gic_word.specs.declared.record.Irq.{Irq}
-use Rattle.gic_word.specs.Valid.{IsRecordOf}
-use Rattle.gic_prio.specs.declared.cpu.CpuRec.{CpuRec}
-use Rattle.gic_prio.specs.Delivery.{is_deliverable}
-use Rattle.gic_prio.specs.Interface.{AtInterface, acknowledged_entry, deactivated_entry, candidate_of}
+use Rattle.floor_registers.specs.Words.{Key, GuestShape, intid_of, Irq, IsRecordOf}
+use Rattle.floor_registers.specs.Registers.{CpuRec, is_deliverable, AtInterface, acknowledged_entry, deactivated_entry, candidate_of}
 use Rattle.gic_call.specs.declared.touch.Touching.{Touching}
 use Rattle.gic_call.specs.declared.moves.Moved.{Moved}
 use Rattle.gic_call.specs.Touch.{CanTouch, is_shown}

@@ -1,3 +1,13 @@
+pub use Rattle.floor_registers.specs.Registers
+pub use Rattle.floor_registers.specs.Words
+pub use Rattle.floor_registers.specs.GicBase
+pub use Rattle.floor_registers.specs.GicDmap
+pub use Rattle.gic_open.specs.GicGuest
+pub use Rattle.floor_registers.specs.GicImap
+pub use Rattle.gic_open.specs as GicOpen
+pub use Rattle.floor_registers.specs.GicRmap
+pub use Rattle.floor_registers.specs.GicWord
+pub use Rattle.floor_registers.specs.ItsCmd
 pub mod Touch
 pub mod Move
 pub mod Laws

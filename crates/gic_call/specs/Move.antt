@@ -1,15 +1,8 @@
 -- The moves of an interrupt between the distributor and a CPU interface (own choice of the moves, which the architecture leaves to
 -- the implementation; IHI 0069, "Interrupt handling state machine", for the states).
 use Rattle.std.specs.Prelude.{ℕ, ◌&&◌, ◌||◌, not, Bool, true, false, IsTrue, Some, None, is_none, if◌then◌else◌}
-use Rattle.gic_base.specs.declared.interrupt.Key.{Key}
-use Rattle.gic_base.specs.declared.shape.GuestShape.{GuestShape}
-use Rattle.gic_word.specs.declared.record.Irq.{Irq}
-use Rattle.gic_word.specs.Record.{is_number}
-use Rattle.gic_word.specs.Valid.{IsRecordOf}
-use Rattle.gic_word.specs.Causes.{cleared, has_active_state}
-use Rattle.gic_prio.specs.declared.cpu.CpuRec.{CpuRec}
-use Rattle.gic_prio.specs.Delivery.{is_deliverable}
-use Rattle.gic_prio.specs.Interface.{AtInterface}
+use Rattle.floor_registers.specs.Words.{Key, GuestShape, Irq, is_number, IsRecordOf, cleared, has_active_state}
+use Rattle.floor_registers.specs.Registers.{CpuRec, is_deliverable, AtInterface}
 use Rattle.gic_call.specs.declared.moves.Entry.{Entry}
 use Rattle.gic_call.specs.declared.moves.Moved.{Moved}
 

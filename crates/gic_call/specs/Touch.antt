@@ -1,17 +1,7 @@
 -- The touch of an interrupt by an access or an ITS command (IHI 0069, "The Distributor register map" and "ITS commands").
 use Rattle.std.specs.Prelude.{ℕ, ◌%◌, ◌^◌, ◌&&◌, ◌==◌, Bool, true, false, nat_lt, nat_le, IsTrue, Option, Some, None}
-use Rattle.gic_base.specs.declared.operation.Kind.{Kind}
-use Rattle.gic_base.specs.declared.operation.Kind.TheVariants.{Routing}
-use Rattle.gic_base.specs.declared.interrupt.Key.{Key}
-use Rattle.gic_base.specs.declared.interrupt.Key.TheVariants.{Spi, Lpi}
-use Rattle.gic_base.specs.declared.shape.GuestShape.{GuestShape}
-use Rattle.gic_base.specs.Interrupt.{has_interrupt}
-use Rattle.gic_word.specs.declared.record.Irq.{Irq}
-use Rattle.gic_word.specs.declared.record.Route.TheVariants.{Target}
-use Rattle.gic_word.specs.Valid.{is_vcpu_or_none}
-use Rattle.gic_frame.specs.Part.{part_bits}
-use Rattle.gic_reg.specs.Condition.{has_part, shows_route}
-use Rattle.gic_reg.specs.Touch.{part_read, part_written}
+use Rattle.floor_registers.specs.Words.{Kind, Routing, Key, Spi, Lpi, GuestShape, has_interrupt, Irq, Target, is_vcpu_or_none}
+use Rattle.floor_registers.specs.Registers.{part_bits, has_part, shows_route, part_read, part_written}
 use Rattle.gic_call.specs.declared.touch.Touching.{Touching}
 use Rattle.gic_call.specs.declared.touch.Touching.TheVariants.{Read, Register, Enables, MapLpi, Retarget, Configure, Forget}
 

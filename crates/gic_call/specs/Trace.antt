@@ -3,32 +3,21 @@
 use Rattle.std.specs.Prelude.{◌≡◌, ℕ, ◌+◌, ◌==◌, not, fold, List, [], ◌∷◌, ◌++◌, map, filter, All, Contains, Bool, true, false, IsTrue, is_none, if◌then◌else◌, Option, Some, None}
 use Rattle.std.specs.Option.{option_map_or}
 use Rattle.std.specs.List.{flat_map}
-use Rattle.gic_base.specs.declared.shape.GuestShape.{GuestShape}
-use Rattle.gic_base.specs.declared.icc.IccReg.{IccReg}
-use Rattle.gic_base.specs.declared.operation.Frame.{Frame}
-use Rattle.gic_base.specs.declared.operation.Frame.TheVariants.{Dist, Redist, Its, Ram as Memory}
-use Rattle.gic_base.specs.declared.operation.GuestOp.{GuestOp}
-use Rattle.gic_base.specs.declared.operation.GuestOp.TheVariants.{Icc, Mem}
-use Rattle.gic_base.specs.declared.operation.DeviceOp.{DeviceOp}
-use Rattle.gic_base.specs.declared.operation.DeviceOp.TheVariants.{Message, Wire, Msi}
-use Rattle.gic_word.specs.Record.{is_number}
-use Rattle.gic_frame.specs.Guest.{has_lpis}
-use Rattle.gic_dmap.specs.declared.map.RegRef.{RegRef as DistRef}
-use Rattle.gic_dmap.specs.declared.map.RegRef.TheVariants.{Plain as DistPlain}
-use Rattle.gic_dmap.specs.declared.map.Reg.TheVariants.{Ctlr as DistCtlr}
-use Rattle.gic_dmap.specs.Map.{decoded as dist_decoded}
-use Rattle.gic_rmap.specs.declared.map.RegRef.{RegRef as RedistRef}
-use Rattle.gic_rmap.specs.declared.map.RegRef.TheVariants.{Plain as RedistPlain}
-use Rattle.gic_rmap.specs.declared.map.Reg.TheVariants.{Ctlr as RedistCtlr, Propbaser as PropbaserReg, Pendbaser as PendbaserReg}
-use Rattle.gic_rmap.specs.Contents.{enable_lpis_after}
-use Rattle.gic_rmap.specs.Map.{decoded as redist_decoded}
-use Rattle.gic_imap.specs.declared.map.RegRef.{RegRef as ItsRef}
-use Rattle.gic_imap.specs.declared.map.RegRef.TheVariants.{Plain as ItsPlain}
-use Rattle.gic_imap.specs.declared.map.Reg.{Reg as ItsReg}
-use Rattle.gic_imap.specs.declared.map.Reg.TheVariants.{Ctlr as ItsCtlrReg, Cbaser as CbaserReg, Cwriter as CwriterReg, Creadr, Baser0 as Baser0Reg, Baser1 as Baser1Reg}
-use Rattle.gic_imap.specs.Map.{decoded as its_decoded}
-use Rattle.gic_lpi.specs.Tables.{config_address, pending_address}
-use Rattle.gic_ram.specs.Access.{part_of}
+use Rattle.floor_registers.specs.Words.{GuestShape, IccReg, Frame, Dist, Redist, Its, Ram as Memory, GuestOp, Icc, Mem, DeviceOp, Message, Wire, Msi, is_number}
+use Rattle.floor_registers.specs.Registers.{has_lpis, Propbaser as PropbaserReg, Pendbaser as PendbaserReg, enable_lpis_after, Cbaser as CbaserReg, Cwriter as CwriterReg, Creadr, Baser0 as Baser0Reg, Baser1 as Baser1Reg, config_address, pending_address, part_of, Maps}
+use Rattle.floor_registers.specs.GicDmap.declared.map.RegRef.{RegRef as DistRef}
+use Rattle.floor_registers.specs.GicDmap.declared.map.RegRef.TheVariants.{Plain as DistPlain}
+use Rattle.floor_registers.specs.GicDmap.declared.map.Reg.TheVariants.{Ctlr as DistCtlr}
+use Rattle.floor_registers.specs.GicDmap.Map.{decoded as dist_decoded}
+use Rattle.floor_registers.specs.GicRmap.declared.map.RegRef.{RegRef as RedistRef}
+use Rattle.floor_registers.specs.GicRmap.declared.map.RegRef.TheVariants.{Plain as RedistPlain}
+use Rattle.floor_registers.specs.GicRmap.declared.map.Reg.TheVariants.{Ctlr as RedistCtlr}
+use Rattle.floor_registers.specs.GicRmap.Map.{decoded as redist_decoded}
+use Rattle.floor_registers.specs.GicImap.declared.map.RegRef.{RegRef as ItsRef}
+use Rattle.floor_registers.specs.GicImap.declared.map.RegRef.TheVariants.{Plain as ItsPlain}
+use Rattle.floor_registers.specs.GicImap.declared.map.Reg.{Reg as ItsReg}
+use Rattle.floor_registers.specs.GicImap.declared.map.Reg.TheVariants.{Ctlr as ItsCtlrReg}
+use Rattle.floor_registers.specs.GicImap.Map.{decoded as its_decoded}
 use Rattle.gic_open.specs.Plain.{place_of_plain}
 use Rattle.gic_open.specs.declared.plain.PlainWord.TheVariants.{Ram, Propbaser, Pendbaser, ItsCtlr, Cbaser, Cwriter, Baser0, Baser1}
 use Rattle.gic_call.specs.declared.event.Event.{Event}
@@ -42,7 +31,6 @@ use Rattle.gic_call.specs.declared.event.Operation.{Operation}
 use Rattle.gic_call.specs.declared.event.Operation.TheVariants.{Access, Device, Residence}
 use Rattle.gic_call.specs.declared.command.Part.{Part}
 use Rattle.gic_call.specs.declared.command.Part.TheVariants.{Map, Configure}
-use Rattle.its_tab.specs.Maps.{Maps}
 use Rattle.gic_call.specs.View.{View}
 use Rattle.gic_call.specs.Access.{is_table_zero, lpis_of}
 use Rattle.gic_call.specs.Command.{lpi_event, command_parts, queue_event, maps_done, takes_command, word_address}

@@ -1,8 +1,7 @@
 -- Which events a guest can have: what they name is there, and their values are in range.
 use Rattle.std.specs.Prelude.{◌≡◌, ℕ, ◌%◌, ◌<◌, ◌&&◌, Bool, true, false, IsTrue, nat_lt}
-use Rattle.gic_base.specs.declared.shape.GuestShape.{GuestShape}
-use Rattle.gic_base.specs.Interrupt.{has_interrupt}
-use Rattle.scn_base.specs.Good.{has_wire, is_usable}
+use Rattle.floor_registers.specs.Words.{GuestShape, has_interrupt}
+use Rattle.gic_open.specs.GicGuest.Good.{has_wire, is_usable}
 use Rattle.gic_open.specs.declared.plain.PlainWord.{PlainWord}
 use Rattle.gic_open.specs.declared.plain.PlainWord.TheVariants.{Fault}
 use Rattle.gic_open.specs.Plain.{has_plain}

@@ -1,15 +1,10 @@
 -- What a call can find in a guest.
 use Rattle.std.specs.Prelude.{ℕ, Bool, Option}
 use Rattle.std.specs.Option.{option_map_or}
-use Rattle.gic_base.specs.declared.shape.GuestShape.{GuestShape}
-use Rattle.gic_base.specs.declared.interrupt.Key.{Key}
-use Rattle.gic_word.specs.declared.record.Irq.{Irq}
-use Rattle.gic_dmap.specs.declared.contents.Enables.{Enables}
-use Rattle.gic_ram.specs.Access.{part_of, extracted}
+use Rattle.floor_registers.specs.Words.{GuestShape, Key, Irq}
+use Rattle.floor_registers.specs.Registers.{Enables, part_of, extracted, enabled_in, Maps}
 use Rattle.gic_open.specs.declared.plain.PlainWord.{PlainWord}
 use Rattle.gic_open.specs.declared.plain.PlainWord.TheVariants.{Ram, ItsCtlr}
-use Rattle.gic_imap.specs.Contents.{enabled_in}
-use Rattle.its_tab.specs.Maps.{Maps}
 
 -- what a call finds of what a guest shares: the records of interrupts, the vCPUs that LPIs are for, EnableLPIs of each redistributor, the plain
 -- words, the group enables of GICD_CTLR and whether a write is still copying them, and of the ITS the offset of its queue, whether that is

@@ -1,11 +1,7 @@
 //! Accesses that are the same in each guest of a shape: the parts of interrupts in a register, GICD_CTLR and SGIs.
 ghost use Rattle.std.specs.Prelude.{◌≡◌, ◌*◌, ◌≤◌, ◌<◌, ◌+◌, ◌^◌, ◌++◌, IsTrue, filter, map, IfOk, IfSome, All};
-ghost use Rattle.gic_base.specs.Shape.{IsShape};
-ghost use Rattle.gic_base.specs.Interrupt.{has_interrupt};
-ghost use Rattle.gic_frame.specs.Part.{part_bits};
-ghost use Rattle.gic_reg.specs.Condition.{has_part as has_part_in};
-ghost use Rattle.gic_base.specs.declared.shape.GuestShape.{GuestShape};
-ghost use Rattle.gic_base.specs.declared.interrupt.Key.{Key};
+ghost use Rattle.floor_registers.specs.Words.{IsShape, has_interrupt, GuestShape, Key};
+ghost use Rattle.floor_registers.specs.Registers.{part_bits, has_part as has_part_in};
 ghost use Rattle.gic_call.specs.Touch.{CanTouch};
 ghost use Rattle.gic_call.specs.Valid.{HappensFreely};
 ghost use Rattle.gic_call.specs.Access.{part_key as part_key_in, part_touch as part_touch_of, part_events as part_events_in, ctlr_events as ctlr_events_in};
@@ -13,12 +9,14 @@ ghost use Rattle.gic_call.specs.Call.{sgi_events as sgi_events_in};
 
 use crate::event::Event;
 use crate::touch::Touching;
-use gic_aff::{sgi_intid, sgi_targets};
-use gic_base::{Frame, GuestShape, Key, Kind, SGI_COUNT, interrupt_count, key_at, key_of};
-use gic_bits::has_bit;
-use gic_dmap::Enables;
-use gic_frame::part_in;
-use gic_list::ListOf;
+use floor_registers::gic_aff::{sgi_intid, sgi_targets};
+use floor_registers::gic_base::{
+    Frame, GuestShape, Key, Kind, SGI_COUNT, interrupt_count, key_at, key_of,
+};
+use floor_registers::gic_bits::has_bit;
+use floor_registers::gic_dmap::Enables;
+use floor_registers::gic_frame::part_in;
+use floor_registers::gic_list::ListOf;
 use std::alloc::{AllocError, Global};
 
 /// Events, in order.

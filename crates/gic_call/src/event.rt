@@ -1,9 +1,9 @@
 //! The events of an ideal GIC.
 use crate::touch::Touching;
-use gic_base::{DeviceOp, GuestOp, IccReg, Key};
-use gic_dmap::Enables;
+use floor_registers::gic_base::{DeviceOp, GuestOp, IccReg, Key};
+use floor_registers::gic_dmap::Enables;
+use floor_registers::gic_word::Irq;
 use gic_open::PlainWord;
-use gic_word::Irq;
 
 /// What happens in the ideal controller of one guest, at one moment.
 #[derive(Clone, Copy, Debug, PartialEq, Eq, Hash)]

@@ -14,6 +14,12 @@ pub use access::{Events, ctlr_events, part_events, part_key, sgi_events};
 pub use command::Part;
 pub use event::{Event, Found, Moment, Operation, Place, QueueChange};
 pub use find::{dist_access, its_access, redist_access};
+pub use floor_registers::{
+    gic_aff, gic_base, gic_bits, gic_dmap, gic_frame, gic_imap, gic_list, gic_prio, gic_ram,
+    gic_reg, gic_rmap, gic_word, its_cmd, its_tab,
+};
+pub use gic_open;
+pub use gic_open::gic_guest;
 pub use laws::{
     accesses_keep_entries, delivered_is_candidate, leave_undoes_reach, leave_undoes_take,
     reads_are_shown, take_loses_nothing,

@@ -1,15 +1,12 @@
 //! What the moves between the distributor and a CPU interface do to one interrupt. Raise and the wire's moves are
 //! `gic_word`'s, acknowledge and deactivation at the interface are `gic_prio`'s.
 ghost use Rattle.std.specs.Prelude.{◌≡◌, ◌<◌};
-ghost use Rattle.gic_base.specs.declared.shape.GuestShape.{GuestShape};
-ghost use Rattle.gic_base.specs.declared.interrupt.Key.{Key};
-ghost use Rattle.gic_base.specs.Shape.{IsShape};
-ghost use Rattle.gic_word.specs.Valid.{IsRecordOf, IsHome};
+ghost use Rattle.floor_registers.specs.Words.{GuestShape, Key, IsShape, IsRecordOf, IsHome};
 ghost use Rattle.gic_call.specs.Move.{may_reach as can_reach, may_take as can_take, reached as reached_of, taken as taken_of, left as left_of, IsMovedOf};
 
-use gic_base::Key;
-use gic_prio::{CpuRec, deliverable};
-use gic_word::Irq;
+use floor_registers::gic_base::Key;
+use floor_registers::gic_prio::{CpuRec, deliverable};
+use floor_registers::gic_word::Irq;
 
 /// What a CPU interface has of an interrupt that is there, as a list register holds it.
 #[derive(Clone, Copy, Debug, PartialEq, Eq, Hash)]
@@ -122,9 +119,9 @@ impl Moved {
 #[cfg(test)]
 mod tests {
     use super::{Entry, Moved, may_reach, may_take};
-    use gic_base::Key;
-    use gic_prio::CpuRec;
-    use gic_word::{Group, Irq, Route};
+    use floor_registers::gic_base::Key;
+    use floor_registers::gic_prio::CpuRec;
+    use floor_registers::gic_word::{Group, Irq, Route};
 
     const SPI: Key = Key::Spi(40);
 

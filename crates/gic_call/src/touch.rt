@@ -1,13 +1,11 @@
 //! What an access or an ITS command does to one interrupt that is at no CPU interface.
 ghost use Rattle.std.specs.Prelude.{◌≡◌, IsTrue};
-ghost use Rattle.gic_base.specs.Shape.{IsShape};
-ghost use Rattle.gic_word.specs.Word.{IsIrq};
-ghost use Rattle.gic_word.specs.Valid.{IsRecordOf, IsHome};
+ghost use Rattle.floor_registers.specs.Words.{IsShape, IsIrq, IsRecordOf, IsHome};
 ghost use Rattle.gic_call.specs.Touch.{CanTouch, is_shown, touched, touch_answer};
 
-use gic_base::{GuestShape, Key, Kind};
-use gic_reg::{read_part, write_part};
-use gic_word::{Irq, Route};
+use floor_registers::gic_base::{GuestShape, Key, Kind};
+use floor_registers::gic_reg::{read_part, write_part};
+use floor_registers::gic_word::{Irq, Route};
 
 /// What an access or an ITS command does to one interrupt. A priority is a multiple of 8 up to 248, and a
 /// target is one of the guest's vCPUs.
@@ -110,8 +108,8 @@ impl Touching {
 #[cfg(test)]
 mod tests {
     use super::Touching;
-    use gic_base::{GuestShape, Key, Kind};
-    use gic_word::{Group, Irq, Route};
+    use floor_registers::gic_base::{GuestShape, Key, Kind};
+    use floor_registers::gic_word::{Group, Irq, Route};
 
     const SHAPE: GuestShape = GuestShape {
         vcpus: 2,

@@ -1,1 +1,2 @@
+pub use Rattle.gic_frame.proofs as GicFrame
 pub mod MapLemmas

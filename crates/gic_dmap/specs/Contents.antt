@@ -1,7 +1,6 @@
 -- What the distributor's registers hold (IHI 0069, GICD_CTLR, GICD_TYPER, GICD_SETSPI_NSR and GICD_CLRSPI_NSR).
 use Rattle.std.specs.Prelude.{ℕ, ◌+◌, ◌-◌, ◌*◌, ◌/◌, ◌^◌, ◌==◌, not, Bool}
-use Rattle.gic_base.specs.declared.shape.GuestShape.{GuestShape}
-use Rattle.gic_bits.specs.Bits.{bit_of, has_bit, field_at}
+use Rattle.gic_frame.specs.Words.{GuestShape, bit_of, has_bit, field_at}
 use Rattle.gic_frame.specs.Guest.{has_lpis}
 use Rattle.gic_dmap.specs.declared.contents.Enables.{Enables}
 

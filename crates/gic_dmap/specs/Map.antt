@@ -2,7 +2,8 @@
 -- for the INTIDs 0 to 1023, those with an IROUTER are 32 to 1019 (own choice); the registers of extended SPIs have parts for
 -- 4096 to 5119.
 use Rattle.std.specs.Prelude.{ℕ, ◌⊎◌, List, [], ◌∷◌, Option, Some, None}
-use Rattle.gic_base.specs.declared.operation.Kind.TheVariants.{Group, SetEnable, ClearEnable, SetPending, ClearPending, SetActive, ClearActive, Priority, Config, Routing}
+use Rattle.gic_frame.specs.Words.{SetEnable, ClearEnable, SetPending, ClearPending, SetActive, ClearActive, Priority, Config, Routing}
+use Rattle.gic_frame.specs.GicBase.declared.operation.Kind.TheVariants.{Group}
 use Rattle.gic_frame.specs.declared.bank.Access.TheVariants.{Word, WordOrLowHalf}
 use Rattle.gic_frame.specs.declared.bank.Half.TheVariants.{Low, High, Whole}
 use Rattle.gic_frame.specs.declared.line.Line.{Line}

@@ -5,5 +5,6 @@ mod contents;
 mod map;
 
 pub use contents::{Enables, ctlr, enables_in, message_intid, typer};
+pub use gic_frame;
 pub use gic_frame::{Half, IIDR, PIDR2};
 pub use map::{Reg, RegRef, decode, lines_are_in_order, parts_are_in_place};

@@ -3,7 +3,7 @@ use Rattle.std.proofs.Common.{◌≡◌, ◌≤◌, ◌<◌, ◌+◌, ◌-◌, �
 use Rattle.std.proofs.Math.Nat.{suc-mul, zero-mul, mod-one, add-mul-mod_self_right, mul-le-mul_right, mul_assoc, mod-eq_of_lt}
 use Rattle.std.proofs.Math.Pow.{field, pow_mono}
 use Rattle.std.proofs.lemmas.Nat.{mod-pow-add, pow_pos, pow-add, mul-add-lt, div-mul-add}
-use Rattle.gic_base.specs.declared.operation.Kind.{Kind}
+use Rattle.floor_words.specs.Words.{Kind}
 use Rattle.gic_frame.specs.Part.{part_bits}
 use Rattle.gic_frame.specs.Parts.{part_in, part_at, joined, JoiningUndoesCutting}
 

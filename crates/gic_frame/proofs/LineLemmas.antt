@@ -1,8 +1,7 @@
 -- What is found in the lines of a map.
 use Rattle.std.proofs.Common.{◌≡◌, ℕ, List, [], ◌∷◌, ◌+◌, Bool, true, false, IsTrue, IfSome, Option, Some, None, ◌⊎◌, refl, inl, inr}
 use Rattle.std.specs.List.{list_all}
-use Rattle.gic_base.specs.declared.operation.Kind.{Kind}
-use Rattle.gic_base.specs.declared.operation.Kind.TheVariants.{Routing}
+use Rattle.floor_words.specs.Words.{Kind, Routing}
 use Rattle.gic_frame.specs.declared.bank.Half.{Half}
 use Rattle.gic_frame.specs.declared.bank.Half.TheVariants.{Low, High, Whole}
 use Rattle.gic_frame.specs.declared.line.Line.{Line}

@@ -1,7 +1,7 @@
 -- The interrupts whose parts are in the registers of a line.
 use Rattle.std.proofs.Common.{◌≡◌, ◌≤◌, ◌<◌, ◌+◌, ◌-◌, ◌*◌, ◌/◌, ◌%◌, ◌==◌, ◌&&◌, ◌||◌, ◌⊎◌, ℕ, Bool, true, false, nat_le, nat_lt, IsTrue, Some, None, if◌then◌else◌, refl, inl, inr, arith}
-use Rattle.gic_base.specs.declared.operation.Kind.{Kind}
-use Rattle.gic_base.specs.declared.operation.Kind.TheVariants.{Group, SetEnable, ClearEnable, SetPending, ClearPending, SetActive, ClearActive, Priority, Config, Routing}
+use Rattle.floor_words.specs.Words.{Kind, SetEnable, ClearEnable, SetPending, ClearPending, SetActive, ClearActive, Priority, Config, Routing}
+use Rattle.floor_words.specs.GicBase.declared.operation.Kind.TheVariants.{Group}
 use Rattle.gic_frame.specs.declared.bank.Half.{Half}
 use Rattle.gic_frame.specs.declared.bank.Half.TheVariants.{Low, High, Whole}
 use Rattle.gic_frame.specs.Bank.{width_of, contains, half_at}

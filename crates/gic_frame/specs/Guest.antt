@@ -1,6 +1,6 @@
 -- What of a guest decides which registers it has.
 use Rattle.std.specs.Prelude.{◌==◌, not, Bool}
-use Rattle.gic_base.specs.declared.shape.GuestShape.{GuestShape}
+use Rattle.floor_words.specs.Words.{GuestShape}
 
 -- the guest has LPIs, and so an ITS
 abbrev pub has_lpis : GuestShape → Bool

@@ -1,3 +1,5 @@
+pub use Rattle.floor_words.specs.Words
+pub use Rattle.floor_words.specs.GicBase
 pub mod Bank
 pub mod Guest
 pub mod Half

@@ -1,11 +1,11 @@
 -- The registers that have a part for each interrupt (IHI 0069, "The Distributor register map").
 use Rattle.std.specs.Prelude.{◌≡◌, ℕ, ◌+◌, ◌-◌, ◌*◌, ◌/◌, ◌≤◌, ◌<◌}
-use Rattle.gic_base.specs.declared.operation.Kind.{Kind}
+use Rattle.floor_words.specs.Words.{Kind, SetEnable, ClearEnable, SetPending, ClearPending, SetActive, ClearActive, Priority, Config, Routing}
 use Rattle.gic_frame.specs.declared.bank.Access.{Access}
 use Rattle.gic_frame.specs.declared.bank.Access.TheVariants.{Word, WordOrByte, Doubleword}
 use Rattle.gic_frame.specs.declared.bank.Bank.{Bank}
 use Rattle.gic_frame.specs.Bank.{width_of}
-use Rattle.gic_base.specs.declared.operation.Kind.TheVariants.{Group, SetEnable, ClearEnable, SetPending, ClearPending, SetActive, ClearActive, Priority, Config, Routing}
+use Rattle.floor_words.specs.GicBase.declared.operation.Kind.TheVariants.{Group}
 
 -- the bits that each interrupt has: a byte of IPRIORITYR, two bits of ICFGR, an IROUTER, one bit of the others
 abbrev pub part_bits : Kind → ℕ

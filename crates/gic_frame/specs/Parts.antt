@@ -1,8 +1,7 @@
 -- The value of an access to registers that have a part for each interrupt, as the parts of its interrupts: the first one's is in
 -- the lowest bits (IHI 0069, "The Distributor register map").
 use Rattle.std.specs.Prelude.{◌≡◌, ℕ, zero, suc, ◌+◌, ◌*◌, ◌^◌, ◌<◌}
-use Rattle.gic_bits.specs.Bits.{field_at}
-use Rattle.gic_base.specs.declared.operation.Kind.{Kind}
+use Rattle.floor_words.specs.Words.{field_at, Kind}
 use Rattle.gic_frame.specs.Part.{part_bits}
 
 -- the part of an interrupt of the access, by its number from 0

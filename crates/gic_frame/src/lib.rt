@@ -9,6 +9,7 @@ mod part;
 mod parts;
 
 pub use bank::{Access, Bank, Half};
+pub use floor_words::{gic_base, gic_bits, gic_word};
 pub use identity::{IIDR, PIDR2, identity_is_fixed};
 pub use line::{Found, Line, find};
 pub use part::{access_of, part_bits, parts_in};

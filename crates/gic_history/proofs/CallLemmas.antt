@@ -1,12 +1,8 @@
 -- Calls of one event end as their definitions say.
 use Rattle.std.proofs.Common.{ℕ, ◌≤◌, Bool, true, false, IsTrue, List, [], ◌∷◌, ◌++◌, refl, arith, zero, suc, All, Contains, Option, None, length, slice_index_or}
 use Rattle.std.proofs.lemmas.List.Elements.{All-nil, All-cons}
-use Rattle.gic_base.specs.declared.shape.GuestShape.{GuestShape}
-use Rattle.gic_call.specs.declared.event.Event.{Event}
-use Rattle.gic_call.specs.declared.event.Found.{Found}
-use Rattle.gic_call.specs.Trace.{Happened, Beside, HandsOut, IsCall}
-use Rattle.gic_call.specs.View.{View}
-use Rattle.gic_call.specs.declared.event.Moment.{Moment}
+use Rattle.ideal_guest.specs.Words.{GuestShape}
+use Rattle.ideal_guest.specs.Calls.{Event, Found, Happened, Beside, HandsOut, IsCall, View, Moment}
 use Rattle.gic_history.specs.History.{Call, Course, GoesOn, IsEnded, vcpu_of, gone_on, course_of}
 
 abbrev pub is_some_window : List (Option ℕ) → Bool

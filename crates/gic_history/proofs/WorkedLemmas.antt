@@ -1,14 +1,11 @@
 -- The worked histories: each of their conditions computes.
 use Rattle.std.proofs.Common.{◌++◌, refl, arith, Some, None}
 use Rattle.std.proofs.lemmas.List.Elements.{All-nil}
-use Rattle.gic_prio.specs.Levels.{least_in, with_level, without_level}
-use Rattle.gic_base.specs.declared.icc.IccReg.TheVariants.{Iar1, Eoir1, Rpr}
-use Rattle.gic_base.specs.declared.operation.Kind.TheVariants.{ClearPending, Routing}
-use Rattle.gic_base.specs.declared.interrupt.Key.TheVariants.{Spi}
-use Rattle.gic_call.specs.declared.event.Event.TheVariants.{Raise, Up, Touch, Cpu}
-use Rattle.gic_call.specs.declared.event.Found.TheVariants.{Nothing, Record, Answer}
-use Rattle.gic_call.specs.declared.touch.Touching.TheVariants.{Register}
-use Rattle.gic_call.specs.View.{View}
+use Rattle.ideal_guest.specs.Registers.{least_in, with_level, without_level}
+use Rattle.ideal_guest.specs.Words.{Iar1, Eoir1, Rpr, ClearPending, Routing, Spi}
+use Rattle.ideal_guest.specs.Calls.{Up, Touch, Cpu, Record, Register, View}
+use Rattle.ideal_guest.specs.GicCall.declared.event.Event.TheVariants.{Raise}
+use Rattle.ideal_guest.specs.GicCall.declared.event.Found.TheVariants.{Nothing, Answer}
 use Rattle.gic_history.specs.State.{opening, view_at}
 use Rattle.gic_history.specs.History.{Course, GoesOn, IsHistory, opening_course, last_of}
 use Rattle.gic_history.specs.Laws.{IsFreshHistory, WorkedHistoriesAreFresh, EachClauseRefuses, WhatIsNotAllowed, EachLpiHasItsPlace}

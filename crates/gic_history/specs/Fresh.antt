@@ -2,22 +2,11 @@
 use Rattle.std.specs.Prelude.{ℕ, ◌+◌, ◌&&◌, ◌||◌, ◌==◌, not, Bool, true, false, IsTrue, List, [], ◌∷◌, ◌++◌, map, fold, filter, replicate, Option, Some, None, is_some, slice_index_or, slice_set, if◌then◌else◌}
 use Rattle.std.specs.List.{list_all, list_any, range_with_len}
 use Rattle.std.specs.Option.{option_map_or, option_and_then}
-use Rattle.gic_base.specs.declared.icc.IccReg.{IccReg}
-use Rattle.gic_base.specs.declared.icc.IccReg.TheVariants.{Iar0, Iar1, Hppir0, Hppir1, Eoir0, Eoir1, Dir}
-use Rattle.gic_base.specs.declared.interrupt.Key.{Key}
-use Rattle.gic_base.specs.declared.shape.GuestShape.{GuestShape}
-use Rattle.gic_base.specs.Interrupt.{interrupt_count, is_same_key, key_at, key_of, place_of, intid_of}
-use Rattle.gic_word.specs.Record.{is_number, is_pending}
-use Rattle.gic_prio.specs.Access.{deactivated_by}
-use Rattle.gic_prio.specs.Delivery.{is_deliverable, is_before, first_of}
-use Rattle.gic_prio.specs.Interface.{candidates_at}
-use Rattle.gic_prio.specs.Signal.{intid_written}
-use Rattle.gic_call.specs.declared.event.Event.{Event}
-use Rattle.gic_call.specs.declared.event.Event.TheVariants.{Cpu, Reach, Leave, Queue}
-use Rattle.gic_call.specs.declared.event.Moment.{Moment}
-use Rattle.gic_call.specs.declared.event.Moment.TheVariants.{Begin, Happens, End}
-use Rattle.gic_call.specs.declared.event.Operation.{Operation}
-use Rattle.scn_base.specs.declared.guest.GuestSpec.{GuestSpec}
+use Rattle.ideal_guest.specs.Words.{IccReg, Iar0, Iar1, Hppir0, Hppir1, Eoir0, Eoir1, Dir, Key, GuestShape, interrupt_count, is_same_key, key_at, key_of, place_of, intid_of, is_number, is_pending}
+use Rattle.ideal_guest.specs.Registers.{deactivated_by, is_deliverable, is_before, first_of, candidates_at, intid_written}
+use Rattle.ideal_guest.specs.Calls.{Event, Cpu, Reach, Leave, Moment, Begin, Happens, Operation, GuestSpec}
+use Rattle.ideal_guest.specs.GicCall.declared.event.Event.TheVariants.{Queue}
+use Rattle.ideal_guest.specs.GicCall.declared.event.Moment.TheVariants.{End}
 use Rattle.ideal_guest.specs.Ideal.{irq_at, cpu_at}
 use Rattle.gic_history.specs.State.{Ideal, opening, standing_at, moved_at, is_home, interface_at}
 use Rattle.gic_history.specs.Moves.{happened}

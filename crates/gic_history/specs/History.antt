@@ -1,20 +1,11 @@
 -- Histories: what the actors of a guest do from its opening on, one event after the other.
 use Rattle.std.specs.Prelude.{◌≡◌, ℕ, ◌+◌, ◌<◌, ◌≤◌, ◌&&◌, nat_lt, Bool, false, IsTrue, List, [], ◌∷◌, ◌++◌, map, length, replicate, fold, All, Contains, Option, option_map, Some, None, is_none, is_some, unwrap_or, slice_index_or, slice_set, if◌then◌else◌}
 use Rattle.std.specs.Option.{option_map_or}
-use Rattle.gic_base.specs.declared.interrupt.Key.{Key}
-use Rattle.gic_base.specs.declared.interrupt.Key.TheVariants.{Lpi}
-use Rattle.gic_base.specs.declared.shape.GuestShape.{GuestShape}
-use Rattle.gic_call.specs.declared.event.Event.{Event}
-use Rattle.gic_call.specs.declared.event.Event.TheVariants.{Enable, Touch, ItsBegin, Queue}
-use Rattle.gic_call.specs.declared.event.QueueChange.TheVariants.{Runs}
-use Rattle.gic_call.specs.declared.event.Found.{Found}
-use Rattle.gic_call.specs.declared.event.Moment.{Moment}
-use Rattle.gic_call.specs.declared.event.Moment.TheVariants.{Begin, Happens, End}
-use Rattle.gic_call.specs.declared.event.Operation.{Operation}
-use Rattle.gic_call.specs.Trace.{Happened, Beside, IsCall}
-use Rattle.gic_call.specs.Valid.{CanHappen}
-use Rattle.its_tab.specs.Maps.{Maps}
-use Rattle.scn_base.specs.declared.guest.GuestSpec.{GuestSpec}
+use Rattle.ideal_guest.specs.Words.{Key, Lpi, GuestShape}
+use Rattle.ideal_guest.specs.Calls.{Event, Enable, Touch, ItsBegin, Runs, Found, Moment, Begin, Happens, Operation, Happened, Beside, IsCall, CanHappen, GuestSpec}
+use Rattle.ideal_guest.specs.GicCall.declared.event.Event.TheVariants.{Queue}
+use Rattle.ideal_guest.specs.GicCall.declared.event.Moment.TheVariants.{End}
+use Rattle.ideal_guest.specs.Registers.{Maps}
 use Rattle.gic_history.specs.State.{Ideal, opening, view_at}
 use Rattle.gic_history.specs.Moves.{is_allowed, handed_out, happened}
 

@@ -1,12 +1,9 @@
 -- Laws of worked histories: the definitions say of them what a reader expects.
 use Rattle.std.specs.Prelude.{◌≡◌, ◌++◌, Bool, true, false, List, [], ◌∷◌, Some, None, option_map}
-use Rattle.gic_call.specs.declared.event.Moment.{Moment}
+use Rattle.ideal_guest.specs.Calls.{Moment, Touch, Reach, Take, Leave, ItsBegin, CtlrEnd, Runs, Register}
 use Rattle.gic_history.specs.Fresh.{IsFresh, is_acknowledged, is_kept, of_event, of_end, is_fresh_at_interface, is_fresh_at_end}
-use Rattle.gic_base.specs.declared.interrupt.Key.TheVariants.{Spi}
-use Rattle.gic_base.specs.declared.operation.Kind.TheVariants.{ClearPending}
-use Rattle.gic_call.specs.declared.event.Event.TheVariants.{Touch, Reach, Take, Leave, Queue, ItsBegin, ItsEnd, CtlrEnd}
-use Rattle.gic_call.specs.declared.event.QueueChange.TheVariants.{Runs}
-use Rattle.gic_call.specs.declared.touch.Touching.TheVariants.{Register}
+use Rattle.ideal_guest.specs.Words.{Spi, ClearPending}
+use Rattle.ideal_guest.specs.GicCall.declared.event.Event.TheVariants.{Queue, ItsEnd}
 use Rattle.gic_history.specs.History.{IsHistory, last_of, call_of, course_of, opening_course}
 use Rattle.gic_history.specs.Moves.{is_allowed, happened}
 use Rattle.gic_history.specs.State.{opening}

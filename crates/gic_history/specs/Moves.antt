@@ -2,17 +2,11 @@
 use Rattle.std.specs.Prelude.{ℕ, ◌&&◌, not, Bool, true, false, List, [], ◌∷◌, ◌++◌, map, filter, fold, Option, Some, None, is_none, is_some, if◌then◌else◌}
 use Rattle.std.specs.List.{range_with_len}
 use Rattle.std.specs.Option.{option_map_or}
-use Rattle.gic_base.specs.declared.icc.IccReg.{IccReg}
-use Rattle.gic_base.specs.declared.interrupt.Key.{Key}
-use Rattle.gic_word.specs.Record.{is_number}
-use Rattle.gic_prio.specs.Interface.{AtInterface, interface_after, interface_answer}
-use Rattle.gic_call.specs.declared.event.Event.{Event}
-use Rattle.gic_call.specs.declared.event.Event.TheVariants.{Touch, Reach, Take, Leave, Cpu, Put, Read, Enable, CtlrBegin, CtlrEnd, ItsBegin, ItsEnd, Queue}
-use Rattle.gic_call.specs.declared.event.Found.{Found}
-use Rattle.gic_call.specs.declared.event.Found.TheVariants.{Nothing, Record, Answer, Word as FoundWord, Lpis as FoundLpis}
-use Rattle.gic_call.specs.declared.moves.Entry.{Entry}
-use Rattle.gic_call.specs.Move.{may_reach, may_take, reached, taken, left, entry_of}
-use Rattle.gic_call.specs.Trace.{held_at}
+use Rattle.ideal_guest.specs.Words.{IccReg, Key, is_number}
+use Rattle.ideal_guest.specs.Registers.{AtInterface, interface_after, interface_answer}
+use Rattle.ideal_guest.specs.Calls.{Event, Touch, Reach, Take, Leave, Cpu, Put, Enable, CtlrBegin, CtlrEnd, ItsBegin, Found, Record, Entry, may_reach, may_take, reached, taken, left, entry_of, held_at}
+use Rattle.ideal_guest.specs.GicCall.declared.event.Event.TheVariants.{Read, ItsEnd, Queue}
+use Rattle.ideal_guest.specs.GicCall.declared.event.Found.TheVariants.{Nothing, Answer, Word as FoundWord, Lpis as FoundLpis}
 use Rattle.ideal_guest.specs.declared.guest.IdealGuest.{IdealGuest}
 use Rattle.ideal_guest.specs.Ideal.{irq_at, cpu_at, with_cpu, word_at, after_event}
 use Rattle.gic_history.specs.State.{Ideal, Standing, standing_at, is_of, moved_at, is_home, interface_at, view_at, with_irq, with_standing}

@@ -2,19 +2,9 @@
 use Rattle.std.specs.Prelude.{ℕ, Bool, false, List, [], Option, Some, None}
 use Rattle.std.specs.List.{list_any}
 use Rattle.std.specs.Option.{option_map_or}
-use Rattle.gic_base.specs.declared.interrupt.Key.{Key}
-use Rattle.gic_base.specs.declared.operation.Frame.{Frame}
-use Rattle.gic_base.specs.declared.operation.Frame.TheVariants.{Redist, Its}
-use Rattle.gic_base.specs.declared.operation.GuestOp.TheVariants.{Icc, Mem}
-use Rattle.gic_base.specs.declared.shape.GuestShape.{GuestShape}
-use Rattle.gic_base.specs.Interrupt.{is_same_key}
-use Rattle.gic_call.specs.declared.event.Event.{Event}
-use Rattle.gic_call.specs.declared.event.Event.TheVariants.{Raise, Up, Down, Touch}
-use Rattle.gic_call.specs.declared.event.Operation.{Operation}
-use Rattle.gic_call.specs.declared.event.Operation.TheVariants.{Access, Device, Residence}
-use Rattle.gic_call.specs.Call.{access_events, device_events, icc_events}
-use Rattle.gic_call.specs.Command.{command_events}
-use Rattle.gic_call.specs.View.{View}
+use Rattle.ideal_guest.specs.Words.{Key, Frame, Redist, Its, Icc, Mem, GuestShape, is_same_key}
+use Rattle.ideal_guest.specs.Calls.{Event, Up, Down, Touch, Operation, Access, Device, Residence, access_events, device_events, icc_events, command_events, View}
+use Rattle.ideal_guest.specs.GicCall.declared.event.Event.TheVariants.{Raise}
 
 -- the interrupt that an event changes or reads, if it is one of a call
 abbrev pub key_in : Event → Option Key

@@ -1,15 +1,9 @@
 -- The ideal controller of one guest while interrupts stand at its CPU interfaces, which have room for all (own choice, as IHI 0069 leaves it).
 use Rattle.std.specs.Prelude.{ℕ, Bool, not, List, [], map, find, replicate, Option, option_map, None, is_some, slice_index_or, slice_set}
 use Rattle.std.specs.List.{list_any}
-use Rattle.gic_base.specs.declared.interrupt.Key.{Key}
-use Rattle.gic_base.specs.Interrupt.{is_same_key}
-use Rattle.gic_word.specs.declared.record.Irq.{Irq}
-use Rattle.gic_prio.specs.Interface.{AtInterface, InterfaceState}
-use Rattle.gic_call.specs.declared.moves.Entry.{Entry}
-use Rattle.gic_call.specs.declared.moves.Moved.{Moved}
-use Rattle.gic_call.specs.Move.{at_interface}
-use Rattle.gic_call.specs.View.{View}
-use Rattle.scn_base.specs.declared.guest.GuestSpec.{GuestSpec}
+use Rattle.ideal_guest.specs.Words.{Key, is_same_key, Irq}
+use Rattle.ideal_guest.specs.Registers.{AtInterface, InterfaceState}
+use Rattle.ideal_guest.specs.Calls.{Entry, Moved, at_interface, View, GuestSpec}
 use Rattle.ideal_guest.specs.declared.guest.IdealGuest.{IdealGuest}
 use Rattle.ideal_guest.specs.Ideal.{irq_at, changed_irq, cpu_at, view_of}
 use Rattle.ideal_guest.specs.Opening.{opening as opening_guest}

@@ -1,28 +1,11 @@
 -- Worked histories of a guest with two vCPUs and a device: fresh ones, and for each clause of fresh one that this clause alone refuses.
 use Rattle.std.specs.Prelude.{ℕ, Bool, true, false, List, [], ◌∷◌, ◌++◌, Option, Some, None}
-use Rattle.gic_base.specs.declared.icc.IccReg.{IccReg}
-use Rattle.gic_base.specs.declared.icc.IccReg.TheVariants.{Iar1, Eoir1, Rpr}
-use Rattle.gic_base.specs.declared.interrupt.Key.TheVariants.{Spi, Lpi}
-use Rattle.gic_base.specs.declared.operation.DeviceOp.TheVariants.{Message, Wire}
-use Rattle.gic_base.specs.declared.operation.Frame.TheVariants.{Dist, Redist, Its}
-use Rattle.gic_base.specs.declared.operation.GuestOp.TheVariants.{Icc, Mem}
-use Rattle.gic_base.specs.declared.operation.Kind.TheVariants.{SetPending, ClearPending, Routing}
-use Rattle.gic_word.specs.declared.record.Group.TheVariants.{G1}
-use Rattle.gic_word.specs.declared.record.Irq.{Irq}
-use Rattle.gic_word.specs.declared.record.Route.TheVariants.{Affinity, Target}
-use Rattle.gic_call.specs.declared.event.Event.{Event}
-use Rattle.gic_call.specs.declared.event.Event.TheVariants.{Raise, Up, Touch, Reach, Take, Leave, Cpu, Enable}
-use Rattle.gic_call.specs.declared.event.Found.{Found}
-use Rattle.gic_call.specs.declared.event.Found.TheVariants.{Nothing, Record, Answer, Lpis as FoundLpis}
-use Rattle.gic_call.specs.declared.event.Moment.{Moment}
-use Rattle.gic_call.specs.declared.event.Moment.TheVariants.{Begin, Happens, End}
-use Rattle.gic_call.specs.declared.event.Operation.{Operation}
-use Rattle.gic_call.specs.declared.event.Operation.TheVariants.{Access, Device, Residence}
-use Rattle.gic_call.specs.declared.touch.Touching.{Touching}
-use Rattle.gic_call.specs.declared.touch.Touching.TheVariants.{Register, MapLpi, Retarget}
-use Rattle.gic_open.specs.Opening.{opening_irq}
-use Rattle.scn_base.specs.declared.guest.GuestSpec.{GuestSpec}
-use Rattle.scn_base.specs.declared.preset.Preset.{Preset}
+use Rattle.ideal_guest.specs.Words.{IccReg, Iar1, Eoir1, Rpr, Spi, Lpi, Message, Wire, Dist, Redist, Its, Icc, Mem, SetPending, ClearPending, Routing, G1, Irq, Affinity, Target}
+use Rattle.ideal_guest.specs.Calls.{Event, Up, Touch, Reach, Take, Leave, Cpu, Enable, Found, Record, Moment, Begin, Happens, Operation, Access, Device, Residence, Touching, Register, MapLpi, opening_irq, GuestSpec, Preset}
+use Rattle.ideal_guest.specs.GicCall.declared.event.Event.TheVariants.{Raise}
+use Rattle.ideal_guest.specs.GicCall.declared.event.Found.TheVariants.{Nothing, Answer, Lpis as FoundLpis}
+use Rattle.ideal_guest.specs.GicCall.declared.event.Moment.TheVariants.{End}
+use Rattle.ideal_guest.specs.GicCall.declared.touch.Touching.TheVariants.{Retarget}
 
 -- two vCPUs and a device, the actor 2; SPIs 40 and 42 are edge and 41 is level, all for vCPU 0, and 42 comes before the others
 abbrev preset : ℕ → ℕ → Bool → Preset

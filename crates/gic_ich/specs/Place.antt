@@ -2,11 +2,8 @@
 -- (own choice of the places; IHI 0069, "Usage model for the List registers").
 use Rattle.std.specs.Prelude.{ℕ, ◌≡◌, ◌<◌, ◌≤◌, ◌&&◌, Bool, true, Option, Some, None, List, length, Contains}
 use Rattle.std.specs.List.{slice_index_or}
-use Rattle.gic_base.specs.declared.held.HeldIrq.{HeldIrq}
-use Rattle.gic_base.specs.declared.interrupt.Key.{Key}
-use Rattle.gic_base.specs.Interrupt.{intid_of}
-use Rattle.gic_word.specs.declared.record.Group.{Group}
-use Rattle.gic_bits.specs.Bits.{has_bit}
+use Rattle.gic_lr.specs.Words.{HeldIrq, Key, intid_of, has_bit}
+use Rattle.gic_lr.specs.GicWord.declared.record.Group.{Group}
 use Rattle.gic_lr.specs.Entry.{unpacked, state_has_pending, state_has_active}
 use Rattle.gic_prio.specs.declared.cpu.CpuRec.{CpuRec}
 use Rattle.gic_prio.specs.Interface.{AtInterface, InterfaceState}

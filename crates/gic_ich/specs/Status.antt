@@ -1,7 +1,7 @@
 -- Why there is a maintenance interrupt (IHI 0069, ICH_MISR_EL2 and ICH_HCR_EL2).
 use Rattle.std.specs.Prelude.{ℕ, ◌+◌, ◌*◌, ◌^◌, ◌==◌, ◌&&◌, not, nat_le, Bool, true, false, if◌then◌else◌, length, filter}
 use Rattle.std.specs.List.{list_any}
-use Rattle.gic_bits.specs.Bits.{bit_of, has_bit, field_at}
+use Rattle.gic_lr.specs.Words.{bit_of, has_bit, field_at}
 use Rattle.gic_lr.specs.declared.entry.LrState.{LrState}
 use Rattle.gic_lr.specs.declared.entry.LrState.TheVariants.{Pending}
 use Rattle.gic_lr.specs.Entry.{unpacked}

@@ -1,6 +1,6 @@
 -- The record of a CPU interface as registers hold it (IHI 0069, ICH_VMCR_EL2, ICH_AP0R0_EL2 and ICH_AP1R0_EL2).
 use Rattle.std.specs.Prelude.{ℕ, ◌≡◌, ◌+◌, ◌*◌, ◌/◌, ◌^◌, Bool}
-use Rattle.gic_bits.specs.Bits.{bit_of, has_bit, field_at}
+use Rattle.gic_lr.specs.Words.{bit_of, has_bit, field_at}
 use Rattle.gic_prio.specs.declared.cpu.CpuRec.{CpuRec}
 use Rattle.gic_ich.specs.declared.regs.IchRegs.{IchRegs}
 

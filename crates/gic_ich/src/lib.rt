@@ -6,6 +6,9 @@ mod regs;
 mod status;
 mod vmcr;
 
+pub use gic_lr;
+pub use gic_lr::{gic_base, gic_bits, gic_word};
+pub use gic_prio;
 pub use hcr::{
     HCR_EN, HCR_EN_BIT, HCR_EOICOUNT, HCR_GROUP_1_ALONE, HCR_GROUP_1_CUT, HCR_GROUP_1_TRAPPING,
     HCR_LRENPIE, HCR_LRENPIE_BIT, HCR_NPIE, HCR_NPIE_BIT, HCR_TALL0, HCR_TALL0_BIT, HCR_TALL1,

@@ -3,13 +3,11 @@ use Rattle.std.proofs.Common.{◌≡◌, ◌≤◌, ◌<◌, ◌+◌, ◌*◌, �
 use Rattle.std.specs.List.{list_all}
 use Rattle.std.proofs.lemmas.Grind.{common_steps}
 use Rattle.std.proofs.lemmas.Option.{none-some}
-use Rattle.gic_word.specs.declared.record.Group.TheVariants.{G0, G1}
-use Rattle.gic_base.specs.Interrupt.{intid_of}
-use Rattle.gic_lr.specs.declared.entry.LrState.{LrState}
-use Rattle.gic_lr.specs.declared.entry.LrState.TheVariants.{Invalid, Pending, Active, Both}
-use Rattle.gic_lr.specs.Entry.{unpacked, with_state, state_at, state_number, state_has_pending, state_has_active}
-use Rattle.gic_word.specs.Causes.{has_active_state}
-use Rattle.gic_prio.specs.Interface.{AtInterface, changed_at, acknowledged_entry, deactivated_entry, has_its_kind}
+use Rattle.gic_ich.specs.Words.{G0, G1, intid_of, has_active_state}
+use Rattle.gic_ich.specs.GicLr.declared.entry.LrState.{LrState}
+use Rattle.gic_ich.specs.GicLr.declared.entry.LrState.TheVariants.{Invalid, Pending, Active, Both}
+use Rattle.gic_ich.specs.GicLr.Entry.{unpacked, with_state, state_at, state_number, state_has_pending, state_has_active}
+use Rattle.gic_ich.specs.GicPrio.Interface.{AtInterface, changed_at, acknowledged_entry, deactivated_entry, has_its_kind}
 use Rattle.gic_icv.specs.Entries.{acknowledged_word, deactivated_word, inactive_state}
 use Rattle.gic_ich.specs.Place.{Seen, seen_in, seen_of}
 use Rattle.gic_icv.specs.Agree.{is_live, seen_words, seen_entries}

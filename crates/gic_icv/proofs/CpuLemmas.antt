@@ -1,15 +1,14 @@
 -- The CPU record that registers hold, and what does not depend on whether LPIs are enabled.
 use Rattle.std.proofs.Common.{◌≡◌, ◌+◌, ◌/◌, ◌%◌, ◌^◌, ℕ, false, nat_eq, refl, ap, ◌∙◌, arith}
-use Rattle.gic_word.specs.declared.record.Group.{Group}
-use Rattle.gic_word.specs.declared.record.Group.TheVariants.{G0, G1}
-use Rattle.gic_bits.specs.Bits.{bit_of}
-use Rattle.gic_prio.specs.declared.cpu.CpuRec.{CpuRec}
-use Rattle.gic_prio.specs.Priority.{HasBinaryPoints, is_signalled, level_activated}
-use Rattle.gic_prio.specs.Delivery.{is_group_enabled}
+use Rattle.gic_ich.specs.GicWord.declared.record.Group.{Group}
+use Rattle.gic_ich.specs.Words.{G0, G1, bit_of}
+use Rattle.gic_ich.specs.GicPrio.declared.cpu.CpuRec.{CpuRec}
+use Rattle.gic_ich.specs.GicPrio.Priority.{HasBinaryPoints, is_signalled, level_activated}
+use Rattle.gic_ich.specs.GicPrio.Delivery.{is_group_enabled}
 use Rattle.gic_ich.specs.declared.regs.IchRegs.{IchRegs}
 use Rattle.gic_ich.specs.Vmcr.{vmcr_of, vmcr_fields, other_bits, vmcr_with, vfiqen}
 use Rattle.gic_icv.specs.Registers.{cpu_in}
-use Rattle.gic_bits.proofs.BitLemmas.{flag_back, flag_small}
+use Rattle.gic_ich.proofs.GicBits.BitLemmas.{flag_back, flag_small}
 
 -- a record without LPIs
 abbrev pub deaf : CpuRec → CpuRec

@@ -2,16 +2,14 @@
 use Rattle.std.proofs.Common.{◌≡◌, ℕ, Bool, true, false, not, ◌&&◌, cond, if◌then◌else◌, Option, Some, None, is_some, unwrap_or, option_and_then, List, refl, ap, ◌∙◌, arith}
 use Rattle.std.specs.Option.{option_map}
 use Rattle.std.proofs.lemmas.Grind.{common_steps}
-use Rattle.gic_word.specs.declared.record.Group.{Group}
-use Rattle.gic_word.specs.declared.record.Group.TheVariants.{G0, G1}
-use Rattle.gic_base.specs.declared.icc.IccReg.{IccReg}
-use Rattle.gic_base.specs.declared.icc.IccReg.TheVariants.{Iar0, Iar1, Hppir0, Hppir1, Eoir0, Eoir1, Dir, Bpr1}
-use Rattle.gic_prio.specs.declared.cpu.CpuRec.{CpuRec}
-use Rattle.gic_prio.specs.declared.candidate.Candidate.{Candidate}
-use Rattle.gic_prio.specs.Priority.{is_signalled}
-use Rattle.gic_prio.specs.Delivery.{first_of}
-use Rattle.gic_prio.specs.Signal.{is_same_group, acknowledged, highest_pending, intid_read, intid_written, ended, eoir_deactivates}
-use Rattle.gic_prio.specs.Access.{taken_by, deactivated_by, answer_of, activated_by, written_by, cpu_after}
+use Rattle.gic_ich.specs.GicWord.declared.record.Group.{Group}
+use Rattle.gic_ich.specs.Words.{G0, G1, IccReg, Iar0, Iar1, Hppir0, Hppir1, Eoir0, Eoir1, Dir, Bpr1}
+use Rattle.gic_ich.specs.GicPrio.declared.cpu.CpuRec.{CpuRec}
+use Rattle.gic_ich.specs.GicPrio.declared.candidate.Candidate.{Candidate}
+use Rattle.gic_ich.specs.GicPrio.Priority.{is_signalled}
+use Rattle.gic_ich.specs.GicPrio.Delivery.{first_of}
+use Rattle.gic_ich.specs.GicPrio.Signal.{is_same_group, acknowledged, highest_pending, intid_read, intid_written, ended, eoir_deactivates}
+use Rattle.gic_ich.specs.GicPrio.Access.{taken_by, deactivated_by, answer_of, activated_by, written_by, cpu_after}
 use Rattle.gic_icv.proofs.CpuLemmas.{deaf, signalled_deaf, level_deaf}
 
 acknowledged_shown : (group : Group) (cpu : CpuRec) (words at : List Candidate) → first_of words ≡ first_of at → acknowledged group (deaf cpu) words ≡ acknowledged group cpu at

@@ -3,8 +3,8 @@ use Rattle.std.proofs.Common.{◌≡◌, ◌<◌, ◌+◌, ℕ, Some, None, List
 use Rattle.std.specs.List.{cons_option}
 use Rattle.std.proofs.lemmas.List.{take_more}
 use Rattle.std.proofs.lemmas.List.Elements.{filter_map-append}
-use Rattle.gic_prio.specs.declared.cpu.CpuRec.{CpuRec}
-use Rattle.gic_prio.specs.declared.candidate.Candidate.{Candidate}
+use Rattle.gic_ich.specs.GicPrio.declared.cpu.CpuRec.{CpuRec}
+use Rattle.gic_ich.specs.GicPrio.declared.candidate.Candidate.{Candidate}
 use Rattle.gic_icv.specs.Entries.{candidate_in, candidates_in}
 
 one_more : (cpu : CpuRec) (words : List ℕ) (i : ℕ) → i < length words → candidates_in cpu (take (i + 1) words) ≡ candidates_in cpu (take i words) ++ cons_option (candidate_in cpu (get_or words i 0)) []

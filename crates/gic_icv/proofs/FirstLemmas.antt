@@ -4,14 +4,14 @@ use Rattle.std.specs.List.{filter_map, cons_option}
 use Rattle.std.proofs.lemmas.Grind.{common_steps}
 use Rattle.std.proofs.lemmas.Option.{none-some, same_Some}
 use Rattle.std.proofs.lemmas.List.Elements.{All-contains}
-use Rattle.gic_lr.specs.declared.entry.LrState.{LrState}
-use Rattle.gic_lr.specs.declared.entry.LrState.TheVariants.{Invalid, Pending, Active, Both}
-use Rattle.gic_lr.specs.Entry.{unpacked, state_has_pending, state_has_active}
-use Rattle.gic_prio.specs.declared.cpu.CpuRec.{CpuRec}
-use Rattle.gic_prio.specs.declared.candidate.Candidate.{Candidate}
-use Rattle.gic_prio.specs.Delivery.{first_of, is_before, is_group_enabled}
-use Rattle.gic_prio.specs.Interface.{AtInterface, InterfaceState, candidate_of, candidates_at}
-use Rattle.gic_prio.proofs.FirstLemmas.{first_is, empty_or_first, found}
+use Rattle.gic_ich.specs.GicLr.declared.entry.LrState.{LrState}
+use Rattle.gic_ich.specs.GicLr.declared.entry.LrState.TheVariants.{Invalid, Pending, Active, Both}
+use Rattle.gic_ich.specs.GicLr.Entry.{unpacked, state_has_pending, state_has_active}
+use Rattle.gic_ich.specs.GicPrio.declared.cpu.CpuRec.{CpuRec}
+use Rattle.gic_ich.specs.GicPrio.declared.candidate.Candidate.{Candidate}
+use Rattle.gic_ich.specs.GicPrio.Delivery.{first_of, is_before, is_group_enabled}
+use Rattle.gic_ich.specs.GicPrio.Interface.{AtInterface, InterfaceState, candidate_of, candidates_at}
+use Rattle.gic_ich.proofs.GicPrio.FirstLemmas.{first_is, empty_or_first, found}
 use Rattle.gic_ich.specs.Status.{is_pending_state}
 use Rattle.gic_icv.specs.Entries.{candidate_in, candidates_in}
 use Rattle.gic_ich.specs.Place.{Seen, seen_in}

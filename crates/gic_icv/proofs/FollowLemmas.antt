@@ -7,21 +7,18 @@ use Rattle.std.proofs.lemmas.Grind.{common_steps}
 use Rattle.std.proofs.lemmas.Option.{none-some, same_Some}
 use Rattle.std.proofs.lemmas.List.{get_or-take}
 use Rattle.std.proofs.lemmas.List.Quantifiers.{position-Some}
-use Rattle.gic_word.specs.declared.record.Group.{Group}
-use Rattle.gic_word.specs.declared.record.Group.TheVariants.{G0, G1}
-use Rattle.gic_bits.specs.Bits.{has_bit}
-use Rattle.gic_base.specs.declared.icc.IccReg.{IccReg}
-use Rattle.gic_base.specs.Interrupt.{intid_of}
-use Rattle.gic_lr.specs.Entry.{unpacked, state_has_pending, state_has_active}
-use Rattle.gic_prio.specs.declared.cpu.CpuRec.{CpuRec}
-use Rattle.gic_prio.specs.declared.candidate.Candidate.{Candidate}
-use Rattle.gic_prio.specs.Delivery.{first_of, is_group_enabled}
-use Rattle.gic_prio.specs.Signal.{is_same_group, ended}
-use Rattle.gic_prio.specs.Access.{taken_by, deactivated_by, answer_of, cpu_after}
-use Rattle.gic_prio.specs.Interface.{AtInterface, InterfaceState, candidates_at, changed_at, acknowledged_entry, deactivated_entry, acknowledged_at, deactivated_at, IsInterface, interface_after}
-use Rattle.gic_prio.proofs.FirstLemmas.{first_is}
-use Rattle.gic_prio.proofs.AccessLemmas.{taken_first}
-use Rattle.gic_prio.proofs.EntryLemmas.{AreEntries, acknowledged_entries, stays_interface}
+use Rattle.gic_ich.specs.GicWord.declared.record.Group.{Group}
+use Rattle.gic_ich.specs.Words.{G0, G1, has_bit, IccReg, intid_of}
+use Rattle.gic_ich.specs.GicLr.Entry.{unpacked, state_has_pending, state_has_active}
+use Rattle.gic_ich.specs.GicPrio.declared.cpu.CpuRec.{CpuRec}
+use Rattle.gic_ich.specs.GicPrio.declared.candidate.Candidate.{Candidate}
+use Rattle.gic_ich.specs.GicPrio.Delivery.{first_of, is_group_enabled}
+use Rattle.gic_ich.specs.GicPrio.Signal.{is_same_group, ended}
+use Rattle.gic_ich.specs.GicPrio.Access.{taken_by, deactivated_by, answer_of, cpu_after}
+use Rattle.gic_ich.specs.GicPrio.Interface.{AtInterface, InterfaceState, candidates_at, changed_at, acknowledged_entry, deactivated_entry, acknowledged_at, deactivated_at, IsInterface, interface_after}
+use Rattle.gic_ich.proofs.GicPrio.FirstLemmas.{first_is}
+use Rattle.gic_ich.proofs.GicPrio.AccessLemmas.{taken_first}
+use Rattle.gic_ich.proofs.GicPrio.EntryLemmas.{AreEntries, acknowledged_entries, stays_interface}
 use Rattle.gic_ich.specs.declared.regs.IchRegs.{IchRegs}
 use Rattle.gic_ich.specs.Regs.{listed_of}
 use Rattle.gic_ich.specs.Status.{is_pending}

@@ -4,21 +4,19 @@ use Rattle.std.specs.List.{list_all}
 use Rattle.std.specs.Option.{option_map_or}
 use Rattle.std.proofs.lemmas.Option.{none-some, same_Some}
 use Rattle.std.proofs.lemmas.List.{length-set, get_or-set_same, get_or-set_other, get_or_default}
-use Rattle.gic_base.specs.declared.held.HeldIrq.{HeldIrq}
-use Rattle.gic_base.specs.Interrupt.{intid_of}
-use Rattle.gic_lr.specs.Entry.{unpacked, state_has_active}
-use Rattle.gic_prio.specs.Interface.{AtInterface, InterfaceState, IsInterface, candidates_at, changed_at, acknowledged_at, deactivated_at, acknowledged_entry, deactivated_entry, interface_after, has_its_kind}
-use Rattle.gic_prio.specs.Access.{taken_by, deactivated_by}
-use Rattle.gic_base.specs.declared.icc.IccReg.{IccReg}
-use Rattle.gic_prio.proofs.AccessLemmas.{taken_first}
-use Rattle.gic_prio.proofs.EntryLemmas.{AreEntries, acknowledged_entries}
+use Rattle.gic_ich.specs.Words.{HeldIrq, intid_of, IccReg}
+use Rattle.gic_ich.specs.GicLr.Entry.{unpacked, state_has_active}
+use Rattle.gic_ich.specs.GicPrio.Interface.{AtInterface, InterfaceState, IsInterface, candidates_at, changed_at, acknowledged_at, deactivated_at, acknowledged_entry, deactivated_entry, interface_after, has_its_kind}
+use Rattle.gic_ich.specs.GicPrio.Access.{taken_by, deactivated_by}
+use Rattle.gic_ich.proofs.GicPrio.AccessLemmas.{taken_first}
+use Rattle.gic_ich.proofs.GicPrio.EntryLemmas.{AreEntries, acknowledged_entries}
 use Rattle.gic_ich.specs.Place.{seen_in, StandsAs, HasOne, StandByPlace, StandFor}
 use Rattle.gic_ich.specs.declared.regs.IchRegs.{IchRegs}
 use Rattle.gic_ich.specs.Regs.{listed_of}
-use Rattle.gic_prio.specs.declared.cpu.CpuRec.{CpuRec}
-use Rattle.gic_prio.specs.declared.candidate.Candidate.{Candidate}
-use Rattle.gic_prio.specs.Delivery.{first_of}
-use Rattle.gic_prio.proofs.FirstLemmas.{first_is}
+use Rattle.gic_ich.specs.GicPrio.declared.cpu.CpuRec.{CpuRec}
+use Rattle.gic_ich.specs.GicPrio.declared.candidate.Candidate.{Candidate}
+use Rattle.gic_ich.specs.GicPrio.Delivery.{first_of}
+use Rattle.gic_ich.proofs.GicPrio.FirstLemmas.{first_is}
 use Rattle.gic_icv.specs.Agree.{is_live}
 use Rattle.gic_icv.specs.Entries.{candidate_in, candidates_in, has_candidate, has_active, acknowledged_word, deactivated_word}
 use Rattle.gic_icv.specs.Registers.{cpu_in, after_acknowledge, is_counted, counted, after_deactivation_of, after_deactivation, registers_after}

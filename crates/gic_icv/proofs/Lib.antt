@@ -1,3 +1,4 @@
+pub use Rattle.gic_ich.proofs.GicWord
 pub mod EntryLemmas
 pub mod RegisterLemmas
 pub mod CpuLemmas

@@ -3,10 +3,9 @@ use Rattle.std.proofs.Common.{◌≡◌, ◌≤◌, ◌<◌, ℕ, zero, suc, Boo
 use Rattle.std.proofs.lemmas.Grind.{common_steps}
 use Rattle.std.proofs.lemmas.Option.{none-some}
 use Rattle.std.proofs.lemmas.List.{length-map, get_or-map, get_or_default}
-use Rattle.gic_base.specs.declared.held.HeldIrq.{HeldIrq}
-use Rattle.gic_base.specs.Interrupt.{intid_of}
-use Rattle.gic_prio.specs.Interface.{AtInterface}
-use Rattle.gic_prio.proofs.EntryLemmas.{AreEntries}
+use Rattle.gic_ich.specs.Words.{HeldIrq, intid_of}
+use Rattle.gic_ich.specs.GicPrio.Interface.{AtInterface}
+use Rattle.gic_ich.proofs.GicPrio.EntryLemmas.{AreEntries}
 use Rattle.gic_ich.specs.Place.{Seen, seen_in, seen_of, StandsAs, HasOne, StandByPlace}
 use Rattle.gic_ich.specs.Regs.{listed_of}
 use Rattle.gic_icv.specs.Agree.{is_live, seen_words, seen_entries, PlacesAgree}

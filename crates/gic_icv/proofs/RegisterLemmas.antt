@@ -1,17 +1,14 @@
 -- The registers and the record that they hold.
 use Rattle.std.proofs.Common.{◌≡◌, ◌<◌, ◌/◌, ◌%◌, ◌^◌, refl, sym, ap, List, Some, None, unwrap_or, IsTrue, arith}
-use Rattle.gic_bits.specs.Bits.{bit_of, has_bit}
-use Rattle.gic_prio.specs.declared.cpu.CpuRec.{CpuRec}
+use Rattle.gic_ich.specs.Words.{bit_of, has_bit, IccReg, Iar0, Iar1, Hppir0, Hppir1, Eoir0, Eoir1, Dir, Sgi1r, is_readable}
+use Rattle.gic_ich.specs.GicPrio.declared.cpu.CpuRec.{CpuRec}
 use Rattle.gic_ich.specs.declared.regs.IchRegs.{IchRegs}
 use Rattle.gic_ich.specs.Vmcr.{vmcr_with}
-use Rattle.gic_base.specs.declared.icc.IccReg.{IccReg}
-use Rattle.gic_base.specs.declared.icc.IccReg.TheVariants.{Iar0, Iar1, Hppir0, Hppir1, Eoir0, Eoir1, Dir, Sgi1r}
-use Rattle.gic_base.specs.Icc.{is_readable}
-use Rattle.gic_prio.specs.declared.candidate.Candidate.{Candidate}
-use Rattle.gic_prio.specs.Registers.{plain_read}
-use Rattle.gic_prio.specs.Access.{answer_of}
+use Rattle.gic_ich.specs.GicPrio.declared.candidate.Candidate.{Candidate}
+use Rattle.gic_ich.specs.GicPrio.Registers.{plain_read}
+use Rattle.gic_ich.specs.GicPrio.Access.{answer_of}
 use Rattle.gic_icv.specs.Registers.{cpu_in, with_cpu, registers_after}
-use Rattle.gic_bits.proofs.BitLemmas.{bit_back}
+use Rattle.gic_ich.proofs.GicBits.BitLemmas.{bit_back}
 
 -- the record that ICH_VMCR holds, put there again, leaves it as it is
 same_vmcr : (regs : IchRegs) → regs.vmcr < 2 ^ 32 → vmcr_with regs.vmcr (cpu_in regs) ≡ regs.vmcr

@@ -1,8 +1,7 @@
 -- When the registers of a virtual CPU interface stand for a CPU record and the interrupts at its interface.
 use Rattle.std.specs.Prelude.{ℕ, ◌≡◌, ◌≤◌, ◌==◌, ◌&&◌, ◌||◌, Bool, Option, List, length, filter, map, find}
-use Rattle.gic_base.specs.declared.icc.IccReg.{IccReg}
-use Rattle.gic_base.specs.declared.held.HeldIrq.{HeldIrq}
-use Rattle.gic_prio.specs.Interface.{AtInterface, InterfaceState, IsInterface, interface_after, interface_answer}
+use Rattle.gic_ich.specs.Words.{IccReg, HeldIrq}
+use Rattle.gic_ich.specs.GicPrio.Interface.{AtInterface, InterfaceState, IsInterface, interface_after, interface_answer}
 use Rattle.gic_ich.specs.declared.regs.IchRegs.{IchRegs}
 use Rattle.gic_ich.specs.Regs.{listed_of}
 use Rattle.gic_ich.specs.Place.{Seen, seen_in, seen_of, HoldCpu, StandFor}

@@ -1,13 +1,13 @@
 -- What the CPU interface finds in list registers, and what it does to one (IHI 0069, "Virtual interrupt handling and prioritization").
 use Rattle.std.specs.Prelude.{ℕ, ◌&&◌, ◌==◌, Bool, nat_lt, if◌then◌else◌, Option, Some, None, List}
 use Rattle.std.specs.List.{filter_map}
-use Rattle.gic_lr.specs.declared.entry.LrState.{LrState}
-use Rattle.gic_lr.specs.declared.entry.LrState.TheVariants.{Invalid, Pending, Active, Both}
-use Rattle.gic_lr.specs.Entry.{unpacked, with_state, state_has_active}
-use Rattle.gic_prio.specs.declared.cpu.CpuRec.{CpuRec}
-use Rattle.gic_prio.specs.declared.candidate.Candidate.{Candidate}
-use Rattle.gic_prio.specs.Delivery.{is_group_enabled}
-use Rattle.gic_prio.specs.Signal.{is_same_group}
+use Rattle.gic_ich.specs.GicLr.declared.entry.LrState.{LrState}
+use Rattle.gic_ich.specs.GicLr.declared.entry.LrState.TheVariants.{Invalid, Pending, Active, Both}
+use Rattle.gic_ich.specs.GicLr.Entry.{unpacked, with_state, state_has_active}
+use Rattle.gic_ich.specs.GicPrio.declared.cpu.CpuRec.{CpuRec}
+use Rattle.gic_ich.specs.GicPrio.declared.candidate.Candidate.{Candidate}
+use Rattle.gic_ich.specs.GicPrio.Delivery.{is_group_enabled}
+use Rattle.gic_ich.specs.GicPrio.Signal.{is_same_group}
 use Rattle.gic_ich.specs.Status.{is_pending}
 
 -- a list register as a candidate for delivery: State 1, and of a group that the vCPU listens to

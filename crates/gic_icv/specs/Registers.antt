@@ -2,13 +2,12 @@
 -- prioritization"), by the rules that hold of every CPU interface.
 use Rattle.std.specs.Prelude.{ℕ, ◌≡◌, ◌+◌, ◌%◌, ◌^◌, Bool, false, IsTrue, IsSome, ◌&&◌, ◌||◌, nat_lt, nat_le, if◌then◌else◌, Option, Some, None, get_or, set, List, position}
 use Rattle.std.specs.Option.{option_map_or}
-use Rattle.gic_base.specs.declared.icc.IccReg.{IccReg}
-use Rattle.gic_base.specs.Icc.{is_readable, is_writable}
-use Rattle.gic_prio.specs.declared.cpu.CpuRec.{CpuRec}
-use Rattle.gic_prio.specs.declared.candidate.Candidate.{Candidate}
-use Rattle.gic_prio.specs.Access.{taken_by, deactivated_by, answer_of, activated_by, cpu_after}
-use Rattle.gic_prio.specs.Signal.{acknowledged}
-use Rattle.gic_word.specs.declared.record.Group.{Group}
+use Rattle.gic_ich.specs.Words.{IccReg, is_readable, is_writable}
+use Rattle.gic_ich.specs.GicPrio.declared.cpu.CpuRec.{CpuRec}
+use Rattle.gic_ich.specs.GicPrio.declared.candidate.Candidate.{Candidate}
+use Rattle.gic_ich.specs.GicPrio.Access.{taken_by, deactivated_by, answer_of, activated_by, cpu_after}
+use Rattle.gic_ich.specs.GicPrio.Signal.{acknowledged}
+use Rattle.gic_ich.specs.GicWord.declared.record.Group.{Group}
 use Rattle.gic_ich.specs.declared.regs.IchRegs.{IchRegs}
 use Rattle.gic_ich.specs.Hcr.{hcr_eoicount}
 use Rattle.gic_ich.specs.Regs.{listed_of}

@@ -1,8 +1,6 @@
 -- Which accesses of a guest are trapped to the hypervisor (IHI 0069, ICH_HCR_EL2).
 use Rattle.std.specs.Prelude.{ℕ, Option, Some, None, if◌then◌else◌}
-use Rattle.gic_base.specs.declared.icc.IccReg.{IccReg}
-use Rattle.gic_base.specs.declared.icc.IccReg.TheVariants.{Iar0, Iar1, Hppir0, Hppir1, Eoir0, Eoir1, Dir, Rpr, Pmr, Bpr0, Bpr1, Ctlr, Igrpen0, Igrpen1, Ap0r0, Ap1r0, Sgi1r, Sre}
-use Rattle.gic_bits.specs.Bits.{has_bit}
+use Rattle.gic_ich.specs.Words.{IccReg, Iar0, Iar1, Hppir0, Hppir1, Eoir0, Eoir1, Dir, Rpr, Pmr, Bpr0, Bpr1, Ctlr, Igrpen0, Igrpen1, Ap0r0, Ap1r0, Sgi1r, Sre, has_bit}
 use Rattle.gic_ich.specs.Hcr.{hcr_tc, hcr_tall0, hcr_tall1, hcr_tdir}
 use Rattle.gic_icv.specs.declared.trap.TrapCause.{TrapCause}
 use Rattle.gic_icv.specs.declared.trap.TrapCause.TheVariants.{Sgi, Dir as DirAlone, Common, All0, All1}

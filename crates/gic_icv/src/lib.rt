@@ -6,6 +6,7 @@ mod laws;
 mod registers;
 mod trap;
 
+pub use gic_ich::{gic_base, gic_bits, gic_word};
 pub use laws::places_agree;
 pub use registers::{Outcome, access};
 pub use trap::TrapCause;

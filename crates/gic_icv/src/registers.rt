@@ -1,13 +1,11 @@
 //! One access of a CPU interface register by a guest.
 ghost use Rattle.std.specs.Prelude.{◌≡◌, ◌≤◌, true, Option, None, Some, List, IsTrue};
-ghost use Rattle.gic_base.specs.Icc.{is_readable};
-ghost use Rattle.gic_bits.specs.Bits.{has_bit};
-ghost use Rattle.gic_prio.specs.Signal.{acknowledged as acknowledged_of, highest_pending as highest_of_group, intid_read};
-ghost use Rattle.gic_prio.specs.Priority.{HasBinaryPoints};
-ghost use Rattle.gic_base.specs.declared.held.HeldIrq.{HeldIrq};
-ghost use Rattle.gic_prio.specs.Interface.{InterfaceState, IsInterface, interface_after};
-ghost use Rattle.gic_prio.specs.Access.{answer_of};
-ghost use Rattle.gic_prio.specs.Delivery.{first_of};
+ghost use Rattle.gic_ich.specs.Words.{is_readable, has_bit, HeldIrq};
+ghost use Rattle.gic_ich.specs.GicPrio.Signal.{acknowledged as acknowledged_of, highest_pending as highest_of_group, intid_read};
+ghost use Rattle.gic_ich.specs.GicPrio.Priority.{HasBinaryPoints};
+ghost use Rattle.gic_ich.specs.GicPrio.Interface.{InterfaceState, IsInterface, interface_after};
+ghost use Rattle.gic_ich.specs.GicPrio.Access.{answer_of};
+ghost use Rattle.gic_ich.specs.GicPrio.Delivery.{first_of};
 ghost use Rattle.gic_ich.specs.Hcr.{hcr_en};
 ghost use Rattle.gic_ich.specs.Place.{StandFor};
 ghost use Rattle.gic_icv.specs.Trap.{trap_cause as cause_of};
@@ -18,13 +16,13 @@ use crate::entries::{
     acknowledged, deactivated, first_pending, place_of_active, place_of_candidate,
 };
 use crate::trap::{TrapCause, trap_cause};
-use gic_base::{FIRST_ESPI, IccReg, MAX_ESPIS, MAX_LIST_REGISTERS};
-use gic_ich::{HCR_EOICOUNT, IchRegs, cpu_of, vmcr_with};
-use gic_prio::{
+use gic_ich::gic_base::{FIRST_ESPI, IccReg, MAX_ESPIS, MAX_LIST_REGISTERS};
+use gic_ich::gic_prio::{
     Candidate, CpuRec, FIRST_SPECIAL, SPURIOUS, acknowledged as acknowledged_first, cpu_written,
     highest_pending, intid_deactivated, level_activated, read_plain,
 };
-use gic_word::Group;
+use gic_ich::gic_word::Group;
+use gic_ich::{HCR_EOICOUNT, IchRegs, cpu_of, vmcr_with};
 
 /// What an access answers.
 #[derive(Clone, Copy, Debug, PartialEq, Eq, Hash)]
@@ -173,7 +171,7 @@ pub fn access(regs: &mut IchRegs, reg: IccReg, write: Option<u64>) -> Outcome
 mod tests {
     use super::{Outcome, access};
     use crate::trap::TrapCause;
-    use gic_base::{IccReg, MAX_LIST_REGISTERS};
+    use gic_ich::gic_base::{IccReg, MAX_LIST_REGISTERS};
     use gic_ich::{HCR_EN, HCR_GROUP_1_ALONE, HCR_GROUP_1_TRAPPING, IchRegs, misr};
 
     /// A vCPU that listens to group 1 with the mask 0xF0.

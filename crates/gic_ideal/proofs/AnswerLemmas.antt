@@ -5,26 +5,12 @@ use Rattle.std.specs.Option.{option_map_or}
 use Rattle.std.proofs.lemmas.Grind.{common_steps}
 use Rattle.std.proofs.lemmas.List.{get_or-set_same}
 use Rattle.std.proofs.lemmas.Option.{none-some, same_Some}
-use Rattle.gic_word.specs.declared.record.Group.{Group}
-use Rattle.gic_word.specs.declared.record.Group.TheVariants.{G0, G1}
-use Rattle.gic_word.specs.declared.record.Irq.{Irq}
-use Rattle.gic_word.specs.Record.{is_pending}
-use Rattle.gic_base.specs.declared.icc.IccReg.{IccReg}
-use Rattle.gic_base.specs.declared.icc.IccReg.TheVariants.{Iar0, Iar1}
-use Rattle.gic_base.specs.declared.interrupt.Key.{Key}
-use Rattle.gic_base.specs.declared.interrupt.Key.TheVariants.{Private, Spi, Lpi}
-use Rattle.gic_base.specs.declared.shape.GuestShape.{GuestShape}
-use Rattle.gic_base.specs.Interrupt.{has_interrupt, intid_of}
-use Rattle.gic_prio.specs.declared.cpu.CpuRec.{CpuRec}
-use Rattle.gic_prio.specs.declared.candidate.Candidate.{Candidate}
-use Rattle.gic_prio.specs.Priority.{is_signalled, level_activated}
-use Rattle.gic_prio.specs.Signal.{acknowledged, intid_read}
-use Rattle.gic_prio.specs.Laws.{Preempts}
-use Rattle.gic_prio.specs.Access.{taken_by, answer_of, activated_by}
-use Rattle.gic_prio.proofs.AnswerLemmas.{answered_first, spurious, preempts}
-use Rattle.gic_open.specs.Opening.{opening_cpu}
-use Rattle.gic_open.proofs.OpeningLemmas.{opening_valid}
-use Rattle.gic_call.specs.declared.event.Event.{Event}
+use Rattle.scn_base.specs.GicWord.declared.record.Group.{Group}
+use Rattle.ideal_guest.specs.Words.{G0, G1, Irq, is_pending, IccReg, Iar0, Iar1, Key, Private, Spi, Lpi, GuestShape, has_interrupt, intid_of}
+use Rattle.ideal_guest.specs.Registers.{CpuRec, Candidate, is_signalled, level_activated, acknowledged, intid_read, Preempts, taken_by, answer_of, activated_by}
+use Rattle.ideal_guest.proofs.GicPrio.AnswerLemmas.{answered_first, spurious, preempts}
+use Rattle.ideal_guest.specs.Calls.{opening_cpu, Event}
+use Rattle.ideal_guest.proofs.GicOpen.OpeningLemmas.{opening_valid}
 use Rattle.ideal_guest.specs.declared.guest.IdealGuest.{IdealGuest}
 use Rattle.ideal_guest.specs.Opening.{opening}
 use Rattle.ideal_guest.specs.Ideal.{irq_at, cpu_at, candidates, access_answer, after_acknowledge, after_event, after_events, is_named}

@@ -2,30 +2,18 @@
 use Rattle.std.proofs.Common.{◌≡◌, ℕ, Bool, true, false, not, cond, ◌==◌, ◌&&◌, ◌||◌, IsTrue, is_some, Option, Some, None, refl, ap, subst, ◌∙◌, arith}
 use Rattle.std.specs.Option.{option_map_or}
 use Rattle.std.proofs.lemmas.Grind.{common_steps}
-use Rattle.gic_bits.specs.Bits.{has_bit}
-use Rattle.gic_word.specs.declared.record.Irq.{Irq}
-use Rattle.gic_word.specs.Record.{is_pending, is_number, target_in}
-use Rattle.gic_word.specs.Causes.{raised, wire_up, wire_down, cleared, acknowledged, deactivated, has_active_state}
-use Rattle.gic_base.specs.declared.shape.GuestShape.{GuestShape}
-use Rattle.gic_base.specs.declared.icc.IccReg.{IccReg}
-use Rattle.gic_base.specs.declared.interrupt.Key.{Key}
-use Rattle.gic_base.specs.declared.interrupt.Key.TheVariants.{Private, Spi, Lpi}
-use Rattle.gic_base.specs.declared.operation.Kind.{Kind}
-use Rattle.gic_base.specs.declared.operation.Kind.TheVariants.{Group, SetEnable, ClearEnable, SetPending, ClearPending, SetActive, ClearActive, Priority, Config, Routing}
-use Rattle.gic_base.specs.Interrupt.{has_interrupt, is_same_key, is_sgi}
-use Rattle.gic_reg.specs.Touch.{part_written, activated}
-use Rattle.scn_base.specs.Good.{has_wire}
-use Rattle.gic_call.specs.declared.event.Event.{Event}
-use Rattle.gic_call.specs.declared.event.Event.TheVariants.{Raise, Up, Down, Enable, Touch, Reach, Take, Leave, Cpu, Read, Put, CtlrBegin, CtlrEnd, ItsBegin, ItsEnd, Queue}
-use Rattle.gic_call.specs.declared.touch.Touching.{Touching}
-use Rattle.gic_call.specs.declared.touch.Touching.TheVariants.{Read as ReadPart, Register, Enables, MapLpi, Retarget, Configure, Forget}
-use Rattle.gic_call.specs.Touch.{CanTouch, is_lpi, touched}
+use Rattle.ideal_guest.specs.Words.{has_bit, Irq, is_pending, is_number, target_in, raised, wire_up, wire_down, cleared, acknowledged, deactivated, has_active_state, GuestShape, IccReg, Key, Private, Spi, Lpi, Kind, SetEnable, ClearEnable, SetPending, ClearPending, SetActive, ClearActive, Priority, Config, Routing, has_interrupt, is_same_key, is_sgi}
+use Rattle.scn_base.specs.GicBase.declared.operation.Kind.TheVariants.{Group}
+use Rattle.ideal_guest.specs.Registers.{part_written, activated}
+use Rattle.ideal_guest.specs.Calls.{has_wire, Event, Up, Down, Enable, Touch, Reach, Take, Leave, Cpu, Put, CtlrBegin, CtlrEnd, ItsBegin, Touching, Register, Enables, MapLpi, CanTouch, is_lpi, touched}
+use Rattle.ideal_guest.specs.GicCall.declared.event.Event.TheVariants.{Raise, Read, ItsEnd, Queue}
+use Rattle.ideal_guest.specs.GicCall.declared.touch.Touching.TheVariants.{Read as ReadPart, Retarget, Configure, Forget}
 use Rattle.ideal_guest.specs.declared.guest.IdealGuest.{IdealGuest}
 use Rattle.ideal_guest.specs.Ideal.{irq_at, cpu_at, candidates, after_event, is_named}
 use Rattle.ideal_guest.specs.Sound.{IsSound}
 use Rattle.gic_ideal.specs.Laws.{CanFollow, is_level_up}
 use Rattle.gic_ideal.specs.Deeds.{acknowledges, deactivates, causes, consumes, pends, clears, ends_active, is_latched}
-use Rattle.gic_base.proofs.KeyLemmas.{same_key}
+use Rattle.scn_base.proofs.GicBase.KeyLemmas.{same_key}
 use Rattle.ideal_guest.proofs.CandidateLemmas.{deliverable_pending, deliverable_inactive, taken_names_none, taken_named, taken_of}
 use Rattle.gic_ideal.proofs.EffectLemmas.{is_ended, accessed, changed_by, event_effect, shape_event}
 use Rattle.ideal_guest.proofs.SoundLemmas.{whole_of}

@@ -1,17 +1,10 @@
 -- What an event does to the record of one interrupt.
 use Rattle.std.proofs.Common.{◌≡◌, ℕ, Bool, false, cond, IsTrue, Option, Some, None, refl, ap, ◌∙◌}
 use Rattle.std.specs.Option.{option_map_or}
-use Rattle.gic_word.specs.declared.record.Irq.{Irq}
-use Rattle.gic_word.specs.Causes.{raised, wire_up, wire_down, acknowledged, deactivated}
-use Rattle.gic_base.specs.declared.icc.IccReg.{IccReg}
-use Rattle.gic_base.specs.declared.interrupt.Key.{Key}
-use Rattle.gic_base.specs.Interrupt.{has_interrupt, is_same_key}
-use Rattle.gic_prio.specs.declared.candidate.Candidate.{Candidate}
-use Rattle.gic_prio.specs.Access.{taken_by, deactivated_by}
-use Rattle.gic_call.specs.declared.event.Event.{Event}
-use Rattle.gic_call.specs.declared.event.Event.TheVariants.{Raise, Up, Down, Enable, Touch, Reach, Take, Leave, Cpu, Read, Put, CtlrBegin, CtlrEnd, ItsBegin, ItsEnd, Queue}
-use Rattle.gic_call.specs.declared.event.QueueChange.TheVariants.{Runs, Done, Stalls}
-use Rattle.gic_call.specs.Touch.{touched}
+use Rattle.ideal_guest.specs.Words.{Irq, raised, wire_up, wire_down, acknowledged, deactivated, IccReg, Key, has_interrupt, is_same_key}
+use Rattle.ideal_guest.specs.Registers.{Candidate, taken_by, deactivated_by}
+use Rattle.ideal_guest.specs.Calls.{Event, Up, Down, Enable, Touch, Reach, Take, Leave, Cpu, Put, CtlrBegin, CtlrEnd, ItsBegin, Runs, Done, Stalls, touched}
+use Rattle.ideal_guest.specs.GicCall.declared.event.Event.TheVariants.{Raise, Read, ItsEnd, Queue}
 use Rattle.ideal_guest.specs.declared.guest.IdealGuest.{IdealGuest}
 use Rattle.ideal_guest.specs.Ideal.{irq_at, cpu_at, candidates, after_acknowledge, after_deactivation, after_access, after_event, is_named}
 use Rattle.gic_ideal.specs.Deeds.{acknowledges}

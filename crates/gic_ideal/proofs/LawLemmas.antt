@@ -1,10 +1,8 @@
 -- The laws of causes and of the active state, over the events one after the other.
 use Rattle.std.proofs.Common.{◌≡◌, Bool, true, false, not, ◌&&◌, ◌||◌, is_some, List, [], ◌∷◌, ◌++◌, refl, sym, ap, ◌∙◌, arith}
 use Rattle.std.proofs.lemmas.Grind.{common_steps}
-use Rattle.gic_word.specs.declared.record.Irq.{Irq}
-use Rattle.gic_word.specs.Record.{is_pending}
-use Rattle.gic_base.specs.declared.interrupt.Key.{Key}
-use Rattle.gic_call.specs.declared.event.Event.{Event}
+use Rattle.ideal_guest.specs.Words.{Irq, is_pending, Key}
+use Rattle.ideal_guest.specs.Calls.{Event}
 use Rattle.ideal_guest.specs.declared.guest.IdealGuest.{IdealGuest}
 use Rattle.ideal_guest.specs.Ideal.{irq_at, after_event, after_events}
 use Rattle.gic_ideal.specs.Deeds.{deactivates, causes, consumes, one_does, is_latched, is_caused_since}

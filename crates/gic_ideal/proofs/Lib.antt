@@ -1,3 +1,5 @@
+pub use Rattle.ideal_guest.proofs as IdealGuest
+pub use Rattle.vcpu_refill.proofs as VcpuRefill
 pub mod StateLemmas
 pub mod EffectLemmas
 pub mod SoundEvents

@@ -1,26 +1,12 @@
 -- Each event that can follow keeps a guest sound.
 use Rattle.std.proofs.Common.{◌≡◌, ℕ, ◌&&◌, Bool, true, false, cond, IsTrue, List, [], ◌∷◌, Option, Some, None, refl, sym, ap, subst}
-use Rattle.gic_word.specs.Causes.{raised, wire_up, wire_down}
-use Rattle.gic_base.specs.declared.icc.IccReg.{IccReg}
-use Rattle.gic_base.specs.Interrupt.{has_interrupt}
-use Rattle.gic_prio.specs.Access.{taken_by, deactivated_by, cpu_after}
-use Rattle.scn_base.specs.Good.{has_wire}
-use Rattle.its_cmd.specs.declared.command.Command.{Command}
-use Rattle.its_cmd.specs.declared.command.BadCommand.{BadCommand}
+use Rattle.ideal_guest.specs.Words.{raised, wire_up, wire_down, IccReg, has_interrupt}
+use Rattle.ideal_guest.specs.Registers.{taken_by, deactivated_by, cpu_after, Command, BadCommand, fault_number, fault_of, IsValid, CpuRec, CmdFault, number_of}
+use Rattle.ideal_guest.specs.Calls.{has_wire, Event, Up, Down, Enable, Touch, Reach, Take, Leave, Cpu, Put, CtlrBegin, CtlrEnd, ItsBegin, Runs, Done, Stalls, maps_by, maps_done, touched, place_of_plain}
 use Rattle.std.specs.Prelude.{Result, Ok, Err}
-use Rattle.its_cmd.specs.Command.{decoded}
-use Rattle.its_tab.specs.Fault.{fault_number, fault_of}
-use Rattle.its_tab.specs.After.{IsValid}
-use Rattle.gic_call.specs.declared.event.Event.{Event}
-use Rattle.gic_call.specs.declared.event.Event.TheVariants.{Raise, Up, Down, Enable, Touch, Reach, Take, Leave, Cpu, Read, Put, CtlrBegin, CtlrEnd, ItsBegin, ItsEnd, Queue}
-use Rattle.gic_call.specs.declared.event.QueueChange.TheVariants.{Runs, Done, Stalls}
-use Rattle.gic_call.specs.Command.{maps_by, maps_done}
-use Rattle.gic_call.specs.Touch.{touched}
-use Rattle.gic_open.specs.Plain.{place_of_plain}
-use Rattle.gic_prio.specs.declared.cpu.CpuRec.{CpuRec}
-use Rattle.its_tab.specs.declared.fault.CmdFault.{CmdFault}
-use Rattle.its_tab.specs.Fault.{number_of}
-use Rattle.its_tab.proofs.AfterLemmas.{kept_valid}
+use Rattle.ideal_guest.specs.ItsCmd.Command.{decoded}
+use Rattle.ideal_guest.specs.GicCall.declared.event.Event.TheVariants.{Raise, Read, ItsEnd, Queue}
+use Rattle.ideal_guest.proofs.ItsTab.AfterLemmas.{kept_valid}
 use Rattle.std.specs.Option.{option_map}
 use Rattle.std.specs.List.{slice_set}
 use Rattle.ideal_guest.specs.declared.guest.IdealGuest.{IdealGuest}

@@ -4,14 +4,12 @@ use Rattle.std.specs.List.{slice_set, slice_get}
 use Rattle.std.proofs.lemmas.List.{append_assoc, map-append, drop_more, take_more}
 use Rattle.std.proofs.lemmas.List.Elements.{All-get_or}
 use Rattle.std.proofs.lemmas.Option.{slice_get_read, get_or_from_slice_get, slice_get_within}
-use Rattle.gic_base.specs.declared.shape.GuestShape.{GuestShape}
-use Rattle.scn_base.specs.declared.guest.GuestSpec.{GuestSpec}
-use Rattle.scn_base.specs.Good.{passes}
-use Rattle.scn_base.specs.Good.{shapes_of}
+use Rattle.ideal_guest.specs.Words.{GuestShape}
+use Rattle.ideal_guest.specs.Calls.{GuestSpec, passes, shapes_of}
 use Rattle.ideal_guest.specs.declared.guest.IdealGuest.{IdealGuest}
 use Rattle.ideal_guest.specs.Opening.{opening}
 use Rattle.ideal_guest.specs.Sound.{IsSound}
-use Rattle.scn_base.specs.declared.outcome.End.{End}
+use Rattle.ideal_guest.specs.GicGuest.declared.outcome.End.{End}
 use Rattle.gic_ideal.specs.Ends.{end_of, ends_of}
 use Rattle.gic_ideal.specs.Eager.{at_guest, state_shapes}
 

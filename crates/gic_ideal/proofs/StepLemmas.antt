@@ -7,26 +7,18 @@ use Rattle.std.proofs.lemmas.Grind.{common_steps}
 use Rattle.std.proofs.lemmas.List.Elements.{All-head, All-tail, All-set, All-map}
 use Rattle.std.proofs.lemmas.List.Sums.{fold-append}
 use Rattle.std.proofs.lemmas.Option.{same_Some, slice_get-map}
-use Rattle.gic_base.specs.declared.shape.GuestShape.{GuestShape}
-use Rattle.gic_base.specs.declared.operation.GuestOp.{GuestOp}
-use Rattle.gic_base.specs.declared.operation.GuestOp.TheVariants.{Icc, Mem}
-use Rattle.gic_open.specs.declared.plain.PlainWord.TheVariants.{Cbaser}
-use Rattle.its_cmd.specs.Command.{decoded}
-use Rattle.its_tab.specs.Fault.{fault_number}
+use Rattle.ideal_guest.specs.Words.{GuestShape, GuestOp, Icc, Mem}
+use Rattle.ideal_guest.specs.Calls.{Cbaser, passes, is_good_op, is_good_event, Event, Up, Down, Enable, Touch, Reach, Take, Leave, Cpu, Put, CtlrBegin, CtlrEnd, ItsBegin, Runs, Done, Stalls, HappensFreely, View, takes_command, lpi_event, command_parts, command_events, command_words, queue_event, queue_places, icc_events, access_events, device_events}
+use Rattle.ideal_guest.specs.ItsCmd.Command.{decoded}
+use Rattle.ideal_guest.specs.Registers.{fault_number}
 use Rattle.scn_base.specs.declared.step.Step.{Step}
 use Rattle.scn_base.specs.declared.step.Step.TheVariants.{Vcpu, Device, Pe}
 use Rattle.scn_base.specs.declared.step.Mode.{Mode}
-use Rattle.scn_base.specs.Standing.{passes}
-use Rattle.scn_base.specs.Good.{is_good_op, is_good_event, is_formed}
-use Rattle.gic_call.specs.declared.event.Event.{Event}
-use Rattle.gic_call.specs.declared.event.Event.TheVariants.{Raise, Up, Down, Enable, Touch, Reach, Take, Leave, Cpu, Read, Put, CtlrBegin, CtlrEnd, ItsBegin, ItsEnd, Queue}
-use Rattle.gic_call.specs.declared.event.QueueChange.TheVariants.{Runs, Done, Stalls}
-use Rattle.gic_call.specs.Valid.{HappensFreely}
-use Rattle.gic_call.specs.View.{View}
-use Rattle.gic_call.specs.Command.{takes_command, lpi_event, command_parts, command_events, command_words, queue_event, queue_places}
-use Rattle.gic_call.specs.Call.{icc_events, access_events, starts_commands, device_events}
-use Rattle.gic_call.proofs.CallLemmas.{IsFineView, access_valid, icc_valid, device_valid}
-use Rattle.gic_call.proofs.CommandLemmas.{IsDone, command_valid, queue_valid}
+use Rattle.scn_base.specs.Good.{is_formed}
+use Rattle.ideal_guest.specs.GicCall.declared.event.Event.TheVariants.{Raise, Read, ItsEnd, Queue}
+use Rattle.ideal_guest.specs.GicCall.Call.{starts_commands}
+use Rattle.ideal_guest.proofs.GicCall.CallLemmas.{IsFineView, access_valid, icc_valid, device_valid}
+use Rattle.ideal_guest.proofs.GicCall.CommandLemmas.{IsDone, command_valid, queue_valid}
 use Rattle.ideal_guest.specs.declared.guest.IdealGuest.{IdealGuest}
 use Rattle.ideal_guest.specs.Opening.{opening}
 use Rattle.ideal_guest.specs.Ideal.{view_of, word_at, after_event, after_events, after_command, after_commands, after_queued}

@@ -1,23 +1,14 @@
 -- What the events of steps do to one interrupt.
 use Rattle.std.specs.Prelude.{ℕ, ◌==◌, ◌&&◌, ◌||◌, ◌++◌, zero, suc, Bool, true, false, not, List, [], ◌∷◌, is_some, if◌then◌else◌}
 use Rattle.std.specs.Option.{option_map_or}
-use Rattle.gic_base.specs.declared.interrupt.Key.{Key}
-use Rattle.gic_base.specs.declared.operation.Kind.TheVariants.{SetPending, ClearPending, ClearActive}
-use Rattle.gic_base.specs.declared.operation.GuestOp.{GuestOp}
-use Rattle.gic_base.specs.declared.operation.GuestOp.TheVariants.{Icc, Mem}
-use Rattle.gic_base.specs.Interrupt.{is_same_key}
-use Rattle.gic_word.specs.declared.record.Irq.{Irq}
-use Rattle.gic_word.specs.Record.{is_number}
-use Rattle.gic_prio.specs.Access.{taken_by, deactivated_by}
-use Rattle.gic_open.specs.declared.plain.PlainWord.TheVariants.{Cbaser}
+use Rattle.ideal_guest.specs.Words.{Key, SetPending, ClearPending, ClearActive, GuestOp, Icc, Mem, is_same_key, Irq, is_number}
+use Rattle.ideal_guest.specs.Registers.{taken_by, deactivated_by}
+use Rattle.ideal_guest.specs.Calls.{Cbaser, Event, Up, Touch, Cpu, Touching, Register, takes_command, command_events, queue_places, icc_events, access_events, device_events}
 use Rattle.scn_base.specs.declared.step.Step.{Step}
 use Rattle.scn_base.specs.declared.step.Step.TheVariants.{Vcpu, Device, Pe}
-use Rattle.gic_call.specs.declared.event.Event.{Event}
-use Rattle.gic_call.specs.declared.event.Event.TheVariants.{Raise, Up, Touch, Cpu}
-use Rattle.gic_call.specs.declared.touch.Touching.{Touching}
-use Rattle.gic_call.specs.declared.touch.Touching.TheVariants.{Register, Forget}
-use Rattle.gic_call.specs.Command.{takes_command, command_events, queue_places}
-use Rattle.gic_call.specs.Call.{icc_events, access_events, starts_commands, device_events}
+use Rattle.ideal_guest.specs.GicCall.declared.event.Event.TheVariants.{Raise}
+use Rattle.ideal_guest.specs.GicCall.declared.touch.Touching.TheVariants.{Forget}
+use Rattle.ideal_guest.specs.GicCall.Call.{starts_commands}
 use Rattle.ideal_guest.specs.declared.guest.IdealGuest.{IdealGuest}
 use Rattle.ideal_guest.specs.Ideal.{irq_at, is_named, cpu_at, word_at, candidates, view_of, after_event, after_events, after_command}
 

@@ -2,22 +2,19 @@
 use Rattle.std.specs.Prelude.{ℕ, ◌+◌, List, [], ◌∷◌, map, replicate, slice_get, slice_set, Option, Some, None}
 use Rattle.std.specs.List.{slice_index_or}
 use Rattle.std.specs.Option.{option_map_or}
-use Rattle.gic_base.specs.declared.shape.GuestShape.{GuestShape}
+use Rattle.ideal_guest.specs.Words.{GuestShape, PeOp, Enter, Exit, Lrs}
 use Rattle.scn_base.specs.declared.scenario.Scenario.{Scenario}
 use Rattle.scn_base.specs.declared.step.Step.{Step}
 use Rattle.scn_base.specs.declared.step.Step.TheVariants.{Vcpu, Device, Pe}
 use Rattle.ideal_guest.specs.declared.guest.IdealGuest.{IdealGuest}
-use Rattle.scn_base.specs.declared.outcome.RunOut.{RunOut}
-use Rattle.scn_base.specs.declared.outcome.Answer.{Answer}
-use Rattle.scn_base.specs.declared.outcome.Answer.TheVariants.{Nothing, Regs}
-use Rattle.gic_base.specs.declared.operation.PeOp.{PeOp}
-use Rattle.gic_base.specs.declared.operation.PeOp.TheVariants.{Enter, Exit, Lrs}
+use Rattle.ideal_guest.specs.Calls.{RunOut, Regs, shapes_of}
+use Rattle.ideal_guest.specs.GicGuest.declared.outcome.Answer.{Answer}
+use Rattle.ideal_guest.specs.GicGuest.declared.outcome.Answer.TheVariants.{Nothing}
 use Rattle.gic_ideal.specs.Shown.{registers_of}
 use Rattle.ideal_guest.specs.Opening.{opening}
 use Rattle.ideal_guest.specs.Call.{after_op, op_answer, after_device}
 use Rattle.scn_base.specs.declared.pes.VcpuName.{VcpuName}
 use Rattle.scn_base.specs.Standing.{opening_pes, pes_after}
-use Rattle.scn_base.specs.Good.{shapes_of}
 use Rattle.gic_ideal.specs.Ends.{ends_of}
 
 -- what each guest has of each kind

@@ -3,21 +3,15 @@ use Rattle.std.specs.Prelude.{ℕ, ◌==◌, ◌&&◌, not, false, List, [], ◌
 use Rattle.std.specs.Option.{option_eq}
 use Rattle.std.specs.Bool.{beq}
 use Rattle.std.specs.List.{range_with_len, filter_map}
-use Rattle.gic_base.specs.Interrupt.{interrupt_count, key_at}
-use Rattle.gic_word.specs.Record.{group_number, target_in}
-use Rattle.gic_ich.specs.Vmcr.{vmcr_of}
+use Rattle.ideal_guest.specs.Words.{interrupt_count, key_at, group_number, target_in}
+use Rattle.vcpu_refill.specs.GicIch.Vmcr.{vmcr_of}
 use Rattle.ideal_guest.specs.declared.guest.IdealGuest.{IdealGuest}
-use Rattle.scn_base.specs.declared.outcome.CpuEnd.{CpuEnd}
-use Rattle.scn_base.specs.declared.outcome.IrqEnd.{IrqEnd}
-use Rattle.scn_base.specs.declared.outcome.End.{End}
-use Rattle.scn_base.specs.declared.outcome.ItsEnd.{ItsEnd}
-use Rattle.scn_base.specs.declared.outcome.DevEnd.{DevEnd}
-use Rattle.scn_base.specs.declared.outcome.EvtEnd.{EvtEnd}
-use Rattle.scn_base.specs.declared.outcome.ColEnd.{ColEnd}
-use Rattle.gic_frame.specs.Guest.{has_lpis}
-use Rattle.gic_dmap.specs.Contents.{ctlr_of}
-use Rattle.gic_imap.specs.Contents.{enabled_in, ctlr_of as its_ctlr_of, creadr_of}
-use Rattle.gic_open.specs.declared.plain.PlainWord.TheVariants.{ItsCtlr, Cbaser, Cwriter, Fault}
+use Rattle.ideal_guest.specs.Calls.{CpuEnd, IrqEnd, DevEnd, EvtEnd, ColEnd, ItsCtlr, Cbaser, Cwriter, Fault}
+use Rattle.ideal_guest.specs.GicGuest.declared.outcome.End.{End}
+use Rattle.ideal_guest.specs.GicGuest.declared.outcome.ItsEnd.{ItsEnd}
+use Rattle.ideal_guest.specs.Registers.{has_lpis, enabled_in, creadr_of}
+use Rattle.ideal_guest.specs.GicDmap.Contents.{ctlr_of}
+use Rattle.ideal_guest.specs.GicImap.Contents.{ctlr_of as its_ctlr_of}
 use Rattle.ideal_guest.specs.Ideal.{cpu_at, irq_at, word_at}
 
 -- the end of a vCPU's CPU interface

@@ -1,26 +1,14 @@
 -- Laws of the ideal controller, over every list of steps, and so over all their events.
 use Rattle.std.specs.Prelude.{◌≡◌, ◌≢◌, ℕ, ◌&&◌, ◌||◌, ◌++◌, ◌↔◌, Bool, IsTrue, false, not, nat_le, nat_lt, Option, Some, None, List, [], ◌∷◌, slice_get, map, All}
-use Rattle.gic_word.specs.declared.record.Group.{Group}
-use Rattle.gic_word.specs.declared.record.Group.TheVariants.{G0, G1}
-use Rattle.gic_word.specs.declared.record.Irq.{Irq}
-use Rattle.gic_word.specs.Record.{is_pending}
-use Rattle.gic_word.specs.Causes.{has_active_state}
-use Rattle.gic_base.specs.declared.interrupt.Key.{Key}
-use Rattle.gic_base.specs.declared.interrupt.Key.TheVariants.{Spi}
-use Rattle.gic_base.specs.Interrupt.{has_interrupt, intid_of}
-use Rattle.gic_base.specs.declared.icc.IccReg.{IccReg}
-use Rattle.gic_base.specs.declared.icc.IccReg.TheVariants.{Iar0, Iar1}
-use Rattle.gic_prio.specs.Laws.{IsUnanswered, Preempts}
-use Rattle.scn_base.specs.declared.guest.GuestSpec.{GuestSpec}
+use Rattle.scn_base.specs.GicWord.declared.record.Group.{Group}
+use Rattle.ideal_guest.specs.Words.{G0, G1, Irq, is_pending, has_active_state, Key, Spi, has_interrupt, intid_of, IccReg, Iar0, Iar1}
+use Rattle.ideal_guest.specs.Registers.{IsUnanswered, Preempts, fault_number}
+use Rattle.ideal_guest.specs.Calls.{GuestSpec, IsGoodGuest, shapes_of, Event, Cpu, Done, IsOffset, HappensFreely}
 use Rattle.scn_base.specs.declared.step.Step.{Step}
 use Rattle.scn_base.specs.declared.step.Mode.{Mode}
-use Rattle.scn_base.specs.Good.{IsGoodGuest, is_formed, shapes_of}
-use Rattle.gic_call.specs.declared.event.Event.{Event}
-use Rattle.gic_call.specs.declared.event.Event.TheVariants.{Cpu, Queue}
-use Rattle.gic_call.specs.declared.event.QueueChange.TheVariants.{Done}
-use Rattle.gic_call.specs.Valid.{IsOffset, HappensFreely}
-use Rattle.its_cmd.specs.Command.{decoded}
-use Rattle.its_tab.specs.Fault.{fault_number}
+use Rattle.scn_base.specs.Good.{is_formed}
+use Rattle.ideal_guest.specs.GicCall.declared.event.Event.TheVariants.{Queue}
+use Rattle.ideal_guest.specs.ItsCmd.Command.{decoded}
 use Rattle.ideal_guest.specs.declared.guest.IdealGuest.{IdealGuest}
 use Rattle.ideal_guest.specs.Opening.{opening}
 use Rattle.ideal_guest.specs.Ideal.{irq_at, cpu_at, candidates, access_answer, after_event, after_events}

@@ -1,3 +1,5 @@
+pub use Rattle.ideal_guest.specs as IdealGuest
+pub use Rattle.scn_base.specs as ScnBase
 pub mod Ends
 pub mod Shown
 pub mod Eager

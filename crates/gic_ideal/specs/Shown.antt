@@ -2,7 +2,7 @@
 -- records (own choice, over IHI 0069, "Usage model for the List registers").
 use Rattle.std.specs.Prelude.{ℕ, List, ◌∷◌, map}
 use Rattle.std.specs.List.{range_with_len}
-use Rattle.gic_base.specs.Interrupt.{interrupt_count, key_at}
+use Rattle.ideal_guest.specs.Words.{interrupt_count, key_at}
 use Rattle.vcpu_refill.specs.declared.offer.Offer.{Offer}
 use Rattle.vcpu_refill.specs.Plan.{plan, words_of}
 use Rattle.ideal_guest.specs.declared.guest.IdealGuest.{IdealGuest}

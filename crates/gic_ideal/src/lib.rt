@@ -18,3 +18,4 @@ pub use laws::{
     steps_can_follow,
 };
 pub use run::eager;
+pub use scn_base;

@@ -2,7 +2,8 @@
 ghost use Rattle.std.specs.Prelude.{◌≡◌, ◌≤◌, [], IfOk, IfSome, OnOk, IsTrue, All, map, length, None};
 ghost use Rattle.scn_base.specs.declared.step.Mode.{Mode};
 ghost use Rattle.scn_base.specs.Standing.{has_vcpu, ResidentsExist};
-ghost use Rattle.scn_base.specs.Good.{IsGood, IsGoodGuest, is_formed, shapes_of};
+ghost use Rattle.scn_base.specs.Good.{IsGood, is_formed};
+ghost use Rattle.ideal_guest.specs.Calls.{IsGoodGuest, shapes_of};
 ghost use Rattle.ideal_guest.specs.Opening.{opening};
 ghost use Rattle.gic_ideal.specs.Ends.{ends_of};
 ghost use Rattle.gic_ideal.specs.Eager.{shown, step_answer, after_step, answers_of, after_steps, eager as eager_run, state_shapes};
@@ -10,13 +11,11 @@ ghost use Rattle.ideal_guest.specs.Sound.{IsSound};
 
 use crate::ends::end_of;
 use crate::shown::registers;
-use gic_base::{MAX_LIST_REGISTERS, NoMemory, PeOp};
-use gic_list::ListOf;
 use ideal_guest::IdealGuest;
-use scn_base::{
-    Answer, Answers, Ends, Guests, LrList, Pes, RunOut, Scenario, Step, Steps, VcpuName, move_pes,
-    opening_pes,
-};
+use scn_base::gic_base::{MAX_LIST_REGISTERS, NoMemory, PeOp};
+use scn_base::gic_guest::{Answer, Answers, Ends, Guests, LrList, RunOut};
+use scn_base::gic_list::ListOf;
+use scn_base::{Pes, Scenario, Step, Steps, VcpuName, move_pes, opening_pes};
 use std::alloc::{AllocError, Global};
 
 /// The states in which the guests open.

@@ -1,7 +1,6 @@
 -- What an ITS's registers hold (IHI 0069, GITS_CTLR, GITS_TYPER, GITS_CBASER, GITS_CWRITER, GITS_CREADR and GITS_BASER<n>).
 use Rattle.std.specs.Prelude.{ℕ, ◌+◌, ◌*◌, ◌^◌, ◌&&◌, not, nat_lt, Bool, if◌then◌else◌}
-use Rattle.gic_base.specs.declared.shape.GuestShape.{GuestShape}
-use Rattle.gic_bits.specs.Bits.{bit_of, has_bit, field_at}
+use Rattle.gic_frame.specs.Words.{GuestShape, bit_of, has_bit, field_at}
 use Rattle.gic_frame.specs.Guest.{has_lpis}
 use Rattle.gic_imap.specs.declared.contents.Table.{Table}
 use Rattle.gic_imap.specs.declared.contents.Table.TheVariants.{Devices, Collections}

@@ -1,3 +1,4 @@
+pub use Rattle.floor_words.specs.Words
 pub mod Faults
 pub mod MemSink
 pub mod MemSource

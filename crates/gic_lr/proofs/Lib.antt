@@ -1,1 +1,4 @@
+pub use Rattle.floor_words.proofs.GicBase
+pub use Rattle.floor_words.proofs.GicBits
+pub use Rattle.floor_words.proofs.GicWord
 pub mod StatusLemmas

@@ -3,7 +3,7 @@ use Rattle.std.proofs.Common.{◌≡◌, ◌≤◌, ◌<◌, ◌+◌, ◌*◌, �
 use Rattle.std.proofs.Math.Seq.{drop-cons}
 use Rattle.std.proofs.Math.Pow.{pow_mono}
 use Rattle.std.proofs.Math.Nat.{pow-suc}
-use Rattle.gic_bits.specs.Bits.{bit_of}
+use Rattle.floor_words.specs.Words.{bit_of}
 use Rattle.gic_lr.specs.Status.{bits_where}
 
 -- the bits of the registers before a place, with those from it on, give the bits of all

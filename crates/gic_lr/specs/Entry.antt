@@ -1,8 +1,6 @@
 -- A list register, as fields and as a word (IHI 0069, ICH_LR<n>_EL2).
 use Rattle.std.specs.Prelude.{ℕ, ◌≡◌, ◌<◌, ◌+◌, ◌*◌, ◌/◌, ◌%◌, ◌^◌, ◌==◌, ◌&&◌, not, Bool, true, false, if◌then◌else◌, Option, Some, None, IfSome}
-use Rattle.gic_bits.specs.Bits.{bit_of, has_bit, field_at}
-use Rattle.gic_word.specs.declared.record.Group.TheVariants.{G0, G1}
-use Rattle.gic_word.specs.Record.{group_number}
+use Rattle.floor_words.specs.Words.{bit_of, has_bit, field_at, G0, G1, group_number}
 use Rattle.gic_lr.specs.declared.entry.LrState.{LrState}
 use Rattle.gic_lr.specs.declared.entry.LrState.TheVariants.{Invalid, Pending, Active, Both}
 use Rattle.gic_lr.specs.declared.entry.LrEntry.{LrEntry}

@@ -1,6 +1,6 @@
 -- What the list registers tell together (IHI 0069, ICH_ELRSR_EL2 and ICH_EISR_EL2).
 use Rattle.std.specs.Prelude.{ℕ, ◌+◌, ◌*◌, ◌&&◌, ◌||◌, not, is_some, List, [], ◌∷◌, Bool, true, false}
-use Rattle.gic_bits.specs.Bits.{bit_of}
+use Rattle.floor_words.specs.Words.{bit_of}
 use Rattle.gic_lr.specs.declared.entry.LrState.{LrState}
 use Rattle.gic_lr.specs.declared.entry.LrState.TheVariants.{Invalid}
 use Rattle.gic_lr.specs.Entry.{unpacked}

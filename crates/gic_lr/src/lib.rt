@@ -5,4 +5,5 @@ mod entry;
 mod status;
 
 pub use entry::{LrEntry, LrState, pack, unpack, with_state};
+pub use floor_words::{gic_base, gic_bits, gic_word};
 pub use status::{eisr, elrsr};

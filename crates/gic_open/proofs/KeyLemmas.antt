@@ -2,12 +2,7 @@
 use Rattle.std.proofs.Common.{◌≡◌, ◌≢◌, ℕ, ◌<◌, if◌then◌else◌, Bool, true, false, IsTrue, List, length, get_or, set, refl, sym, ap, ◌∙◌, arith}
 use Rattle.std.proofs.lemmas.Grind.{common_steps}
 use Rattle.std.proofs.lemmas.List.{get_or-set_same, get_or-set_other, length-set}
-use Rattle.gic_base.specs.declared.shape.GuestShape.{GuestShape}
-use Rattle.gic_base.specs.declared.interrupt.Key.{Key}
-use Rattle.gic_base.specs.declared.interrupt.Key.TheVariants.{Private, Spi, Lpi}
-use Rattle.gic_base.specs.Shape.{IsShape}
-use Rattle.gic_base.specs.Interrupt.{has_interrupt, interrupt_count, place_of, key_at}
-use Rattle.gic_word.specs.declared.record.Irq.{Irq}
+use Rattle.gic_guest.specs.Words.{GuestShape, Key, Private, Spi, Lpi, IsShape, has_interrupt, interrupt_count, place_of, key_at, Irq}
 use Rattle.gic_open.specs.Opening.{opening_irq, irq_in, with_irq_in}
 
 -- an interrupt that is there has a place

@@ -5,21 +5,11 @@ use Rattle.std.proofs.lemmas.Grind.{common_steps}
 use Rattle.std.proofs.Math.Bool.{not-or_self}
 use Rattle.std.proofs.lemmas.Bool.Decides.{eqb_tells}
 use Rattle.std.proofs.lemmas.List.FromFn.{length-map-range_with_len, get_or-map-range_with_len}
-use Rattle.gic_base.specs.declared.shape.GuestShape.{GuestShape}
-use Rattle.gic_base.specs.declared.interrupt.Key.{Key}
-use Rattle.gic_base.specs.declared.interrupt.Key.TheVariants.{Private, Spi, Lpi}
-use Rattle.gic_base.specs.Shape.{IsShape}
-use Rattle.gic_base.specs.Interrupt.{is_sgi, has_interrupt, interrupt_count, key_at, place_of}
-use Rattle.gic_word.specs.declared.record.Group.{Group}
-use Rattle.gic_word.specs.declared.record.Group.TheVariants.{G0, G1}
-use Rattle.gic_word.specs.declared.record.Route.{Route}
-use Rattle.gic_word.specs.declared.record.Route.TheVariants.{Affinity, Target}
-use Rattle.gic_word.specs.declared.record.Irq.{Irq}
-use Rattle.gic_word.specs.Word.{IsRoute}
-use Rattle.gic_word.specs.Valid.{is_routed_as, is_of_kind, IsRecordOf, IsHome}
-use Rattle.scn_base.specs.declared.guest.GuestSpec.{GuestSpec}
-use Rattle.scn_base.specs.declared.preset.Preset.{Preset}
-use Rattle.scn_base.specs.Good.{passes, preset_key, IsGoodPreset, IsGoodGuest}
+use Rattle.gic_guest.specs.Words.{GuestShape, Key, Private, Spi, Lpi, IsShape, is_sgi, has_interrupt, interrupt_count, key_at, place_of, G0, G1, Route, Affinity, Target, Irq, IsRoute, is_routed_as, is_of_kind, IsRecordOf, IsHome}
+use Rattle.gic_guest.specs.GicWord.declared.record.Group.{Group}
+use Rattle.gic_guest.specs.declared.guest.GuestSpec.{GuestSpec}
+use Rattle.gic_guest.specs.declared.preset.Preset.{Preset}
+use Rattle.gic_guest.specs.Good.{passes, preset_key, IsGoodPreset, IsGoodGuest}
 use Rattle.gic_open.specs.Opening.{idle_irq, opening_irq, with_preset, irq_in, after_preset, opening_irqs, irqs_of}
 use Rattle.gic_open.proofs.KeyLemmas.{place_within, key_at_place, place_same, irq_in_there, length-with_irq_in, irq_same, irq_other}
 

@@ -2,21 +2,12 @@
 use Rattle.std.specs.Prelude.{◌≡◌, ◌≢◌, ℕ, ◌==◌, List, length, map, fold, slice_set, replicate, Bool, true, false, IsTrue, nat_lt, if◌then◌else◌, Some, None}
 use Rattle.std.specs.List.{slice_index_or, range_with_len}
 use Rattle.std.specs.Option.{option_map_or}
-use Rattle.gic_base.specs.declared.shape.GuestShape.{GuestShape}
-use Rattle.gic_base.specs.Shape.{IsShape}
-use Rattle.gic_base.specs.declared.interrupt.Key.{Key}
-use Rattle.gic_base.specs.declared.interrupt.Key.TheVariants.{Private, Spi, Lpi}
-use Rattle.gic_base.specs.Interrupt.{has_interrupt, interrupt_count, key_at, place_of}
-use Rattle.gic_word.specs.declared.record.Group.{Group}
-use Rattle.gic_word.specs.declared.record.Group.TheVariants.{G0, G1}
-use Rattle.gic_word.specs.declared.record.Route.{Route}
-use Rattle.gic_word.specs.declared.record.Route.TheVariants.{Affinity, Target}
-use Rattle.gic_word.specs.declared.record.Irq.{Irq}
-use Rattle.gic_word.specs.Valid.{IsRecordOf, IsHome}
+use Rattle.gic_guest.specs.Words.{GuestShape, IsShape, Key, Private, Spi, Lpi, has_interrupt, interrupt_count, key_at, place_of, G0, G1, Route, Affinity, Target, Irq, IsRecordOf, IsHome}
+use Rattle.gic_guest.specs.GicWord.declared.record.Group.{Group}
 use Rattle.gic_prio.specs.declared.cpu.CpuRec.{CpuRec}
-use Rattle.scn_base.specs.declared.guest.GuestSpec.{GuestSpec}
-use Rattle.scn_base.specs.declared.preset.Preset.{Preset}
-use Rattle.scn_base.specs.Good.{preset_key, IsGoodGuest}
+use Rattle.gic_guest.specs.declared.guest.GuestSpec.{GuestSpec}
+use Rattle.gic_guest.specs.declared.preset.Preset.{Preset}
+use Rattle.gic_guest.specs.Good.{preset_key, IsGoodGuest}
 
 -- a record without a cause, inactive and disabled; on says whether GICD_CTLR opens with both group enables
 abbrev pub idle_irq : Bool → Group → Bool → Route → Irq

@@ -1,6 +1,6 @@
 -- The plain words of a guest: its memory and the registers that are only stored, and their numbering (own choice).
 use Rattle.std.specs.Prelude.{ℕ, ◌+◌, ◌-◌, ◌*◌, ◌/◌, ◌%◌, ◌==◌, Bool, true, nat_lt, if◌then◌else◌}
-use Rattle.gic_base.specs.declared.shape.GuestShape.{GuestShape}
+use Rattle.gic_guest.specs.Words.{GuestShape}
 use Rattle.gic_open.specs.declared.plain.PlainWord.{PlainWord}
 use Rattle.gic_open.specs.declared.plain.PlainWord.TheVariants.{Ram, Propbaser, Pendbaser, ItsCtlr, Cbaser, Cwriter, Baser0, Baser1, Fault}
 

@@ -2,9 +2,9 @@
 ghost use Rattle.std.specs.Prelude.{◌≡◌, IfOk, replicate};
 ghost use Rattle.gic_open.specs.Opening.{opening_cpu as cpu_at_opening, opening_enables as enables_at_opening, cpus_of};
 
-use gic_list::ListOf;
+use gic_guest::GuestSpec;
+use gic_guest::gic_list::ListOf;
 use gic_prio::CpuRec;
-use scn_base::GuestSpec;
 use std::alloc::{AllocError, Global};
 
 /// ICC_PMR of a vCPU of a guest that opens on.

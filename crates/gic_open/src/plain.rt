@@ -1,10 +1,10 @@
 //! The plain words of a guest: its memory and the registers that are only stored.
 ghost use Rattle.std.specs.Prelude.{◌≡◌, ◌<◌, ◌^◌, IsTrue, IfOk, replicate};
-ghost use Rattle.gic_base.specs.Shape.{IsShape};
+ghost use Rattle.gic_guest.specs.Words.{IsShape};
 ghost use Rattle.gic_open.specs.Plain.{has_plain, plain_count as count_of, place_of_plain as place_in, its_word_of, plain_at as plain_in};
 
-use gic_base::GuestShape;
-use gic_list::ListOf;
+use gic_guest::gic_base::GuestShape;
+use gic_guest::gic_list::ListOf;
 use std::alloc::{AllocError, Global};
 
 /// The bytes of a word.

@@ -1,14 +1,13 @@
 //! The interrupts as a guest opens.
 ghost use Rattle.std.specs.Prelude.{◌≡◌, ◌<◌, IsTrue, IfOk, length};
-ghost use Rattle.gic_base.specs.Shape.{IsShape};
-ghost use Rattle.gic_base.specs.Interrupt.{has_interrupt, interrupt_count as count_of};
-ghost use Rattle.scn_base.specs.Good.{IsGoodPreset, IsGoodGuest};
+ghost use Rattle.gic_guest.specs.Words.{IsShape, has_interrupt, interrupt_count as count_of};
+ghost use Rattle.gic_guest.specs.Good.{IsGoodPreset, IsGoodGuest};
 ghost use Rattle.gic_open.specs.Opening.{opening_irq as irq_at_opening, with_preset as preset_made, after_preset, opening_irqs as irqs_at_opening, irqs_of, irq_in, RecordsAreApart, OpeningsAreValid};
 
-use gic_base::{GuestShape, Key, interrupt_count, key_at, place_of};
-use gic_list::ListOf;
-use gic_word::{Group, Irq, Route};
-use scn_base::{GuestSpec, Preset};
+use gic_guest::gic_base::{GuestShape, Key, interrupt_count, key_at, place_of};
+use gic_guest::gic_list::ListOf;
+use gic_guest::gic_word::{Group, Irq, Route};
+use gic_guest::{GuestSpec, Preset};
 use std::alloc::{AllocError, Global};
 
 /// The record that an interrupt opens with where no preset names it, in a guest that opens on or off.

@@ -3,10 +3,10 @@ use crate::{
     PlainWord, cpus, irqs, opening_cpu, opening_enables, place_of_plain, plain_at, plain_count,
     plains,
 };
-use gic_base::{GuestShape, Key, place_of};
-use gic_list::ListOf;
-use gic_word::{Group, Route};
-use scn_base::{GuestSpec, Preset};
+use gic_guest::gic_base::{GuestShape, Key, place_of};
+use gic_guest::gic_list::ListOf;
+use gic_guest::gic_word::{Group, Route};
+use gic_guest::{GuestSpec, Preset};
 use std::test::Fail;
 
 /// Two vCPUs, both kinds of SPIs and two words of memory.

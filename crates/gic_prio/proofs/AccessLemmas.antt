@@ -1,10 +1,8 @@
 -- What an access acknowledges, and the binary points through it.
 use Rattle.std.proofs.Common.{◌≡◌, ℕ, ◌&&◌, Bool, true, false, cond, if◌then◌else◌, Option, Some, None, unwrap_or, List, ◌∙◌, arith}
 use Rattle.std.proofs.lemmas.Option.{none-some, option_and_then_some}
-use Rattle.gic_word.specs.declared.record.Group.{Group}
-use Rattle.gic_word.specs.declared.record.Group.TheVariants.{G0, G1}
-use Rattle.gic_base.specs.declared.icc.IccReg.{IccReg}
-use Rattle.gic_base.specs.declared.icc.IccReg.TheVariants.{Iar0, Iar1, Eoir0, Eoir1, Pmr, Bpr0, Bpr1, Ctlr, Igrpen0, Igrpen1}
+use Rattle.floor_words.specs.GicWord.declared.record.Group.{Group}
+use Rattle.floor_words.specs.Words.{G0, G1, IccReg, Iar0, Iar1, Eoir0, Eoir1, Pmr, Bpr0, Bpr1, Ctlr, Igrpen0, Igrpen1}
 use Rattle.gic_prio.specs.declared.cpu.CpuRec.{CpuRec}
 use Rattle.gic_prio.specs.declared.candidate.Candidate.{Candidate}
 use Rattle.gic_prio.specs.Priority.{HasBinaryPoints, HasLevels, level_of, is_signalled, level_activated, with_levels, level_dropped}

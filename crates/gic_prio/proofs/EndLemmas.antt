@@ -2,8 +2,8 @@
 use Rattle.std.proofs.Common.{◌≡◌, ℕ, ◌<◌, ◌^◌, ◌/◌, false, Some, IsTrue, arith}
 use Rattle.gic_prio.specs.Levels.{least_in, with_level}
 use Rattle.std.proofs.lemmas.Grind.{common_steps}
-use Rattle.gic_word.specs.declared.record.Group.{Group}
-use Rattle.gic_word.specs.declared.record.Group.TheVariants.{G0, G1}
+use Rattle.floor_words.specs.GicWord.declared.record.Group.{Group}
+use Rattle.floor_words.specs.Words.{G0, G1}
 use Rattle.gic_prio.specs.declared.cpu.CpuRec.{CpuRec}
 use Rattle.gic_prio.specs.Priority.{group_priority_of, running_of, is_signalled, level_activated}
 use Rattle.gic_prio.specs.Signal.{is_special, ended}

@@ -1,8 +1,7 @@
 -- What an access leaves of an interface is one.
 use Rattle.std.proofs.Common.{◌≡◌, ◌≤◌, ℕ, Bool, true, false, ◌&&◌, cond, nat_eq, Option, Some, None, List, [], ◌∷◌, suc, length, filter, refl, sym, ap, ◌∙◌, subst}
 use Rattle.std.specs.List.{list_all}
-use Rattle.gic_base.specs.declared.icc.IccReg.{IccReg}
-use Rattle.gic_base.specs.Interrupt.{intid_of}
+use Rattle.floor_words.specs.Words.{IccReg, intid_of}
 use Rattle.gic_prio.specs.declared.candidate.Candidate.{Candidate}
 use Rattle.gic_prio.specs.Access.{taken_by, deactivated_by}
 use Rattle.gic_prio.specs.Interface.{AtInterface, InterfaceState, IsInterface, has_its_kind, candidates_at, changed_at, acknowledged_entry, deactivated_entry, acknowledged_at, deactivated_at, interface_after}

@@ -2,8 +2,7 @@
 use Rattle.std.proofs.Common.{◌≡◌, ℕ, ◌&&◌, Option, Some, None, List, [], ◌∷◌, Bool, true, false, eqb, cond, map, refl, arith}
 use Rattle.std.specs.List.{list_any, filter_map}
 use Rattle.std.proofs.lemmas.Grind.{common_steps}
-use Rattle.gic_base.specs.declared.interrupt.Key.{Key}
-use Rattle.gic_base.specs.Interrupt.{intid_of}
+use Rattle.floor_words.specs.Words.{Key, intid_of}
 use Rattle.gic_prio.specs.declared.cpu.CpuRec.{CpuRec}
 use Rattle.gic_prio.specs.declared.candidate.Candidate.{Candidate}
 use Rattle.gic_prio.specs.Interface.{AtInterface, candidate_of, changed_at, acknowledged_at, deactivated_at, acknowledged_entry, deactivated_entry}

@@ -7,9 +7,8 @@ use Rattle.std.proofs.lemmas.Grind.{common_steps}
 use Rattle.std.proofs.lemmas.Bool.{cases_order}
 use Rattle.std.proofs.lemmas.Nat.{pow_below, or_lt, and_le_l}
 use Rattle.std.proofs.lemmas.Nat.Bits.{bit_at-trailing_zeros, bit_at_and, bit_at_or, bit_at_not, bit_at-pow_same, bit_at-pow_other, bit_at-lt, same_from_bits_below}
-use Rattle.gic_bits.specs.Bits.{has_bit}
-use Rattle.gic_bits.specs.Sets.{set_of}
-use Rattle.gic_bits.proofs.SetLemmas.{set_of-below, has_bit-set_of}
+use Rattle.floor_words.specs.Words.{has_bit, set_of}
+use Rattle.floor_words.proofs.GicBits.SetLemmas.{set_of-below, has_bit-set_of}
 use Rattle.gic_prio.specs.Levels.{least_in, with_level, without_level}
 
 -- a search in a range finds the first number that passes

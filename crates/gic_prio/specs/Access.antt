@@ -2,9 +2,7 @@
 -- write of a value (IHI 0069, "AArch64 System register descriptions"). One that a register does not have does nothing.
 use Rattle.std.specs.Prelude.{ℕ, List, Option, Some, None, unwrap_or, if◌then◌else◌}
 use Rattle.std.specs.Option.{option_map_or}
-use Rattle.gic_word.specs.declared.record.Group.TheVariants.{G0, G1}
-use Rattle.gic_base.specs.declared.icc.IccReg.{IccReg}
-use Rattle.gic_base.specs.declared.icc.IccReg.TheVariants.{Iar0, Iar1, Hppir0, Hppir1, Eoir0, Eoir1, Dir}
+use Rattle.floor_words.specs.Words.{G0, G1, IccReg, Iar0, Iar1, Hppir0, Hppir1, Eoir0, Eoir1, Dir}
 use Rattle.gic_prio.specs.declared.cpu.CpuRec.{CpuRec}
 use Rattle.gic_prio.specs.declared.candidate.Candidate.{Candidate}
 use Rattle.gic_prio.specs.Priority.{level_activated}

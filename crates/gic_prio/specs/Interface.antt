@@ -3,14 +3,11 @@
 use Rattle.std.specs.Prelude.{ℕ, ◌≡◌, ◌≤◌, ◌&&◌, ◌==◌, Bool, true, false, not, nat_lt, Option, Some, None, if◌then◌else◌, List, length, filter, map}
 use Rattle.std.specs.List.{filter_map, list_all}
 use Rattle.std.specs.Option.{option_map_or}
-use Rattle.gic_word.specs.declared.record.Group.{Group}
-use Rattle.gic_base.specs.declared.icc.IccReg.{IccReg}
-use Rattle.gic_base.specs.declared.interrupt.Key.{Key}
-use Rattle.gic_base.specs.Interrupt.{intid_of}
+use Rattle.floor_words.specs.GicWord.declared.record.Group.{Group}
+use Rattle.floor_words.specs.Words.{IccReg, Key, intid_of, has_active_state}
 use Rattle.gic_prio.specs.declared.cpu.CpuRec.{CpuRec}
 use Rattle.gic_prio.specs.declared.candidate.Candidate.{Candidate}
 use Rattle.gic_prio.specs.Delivery.{is_group_enabled}
-use Rattle.gic_word.specs.Causes.{has_active_state}
 use Rattle.gic_prio.specs.Priority.{HasBinaryPoints}
 use Rattle.gic_prio.specs.Access.{taken_by, deactivated_by, answer_of, cpu_after}
 

@@ -1,10 +1,8 @@
 -- Laws of priorities and of the CPU interface, in the standard's words.
 use Rattle.std.specs.Prelude.{◌≡◌, ◌≢◌, ℕ, ◌+◌, ◌%◌, ◌^◌, ◌<◌, ◌≤◌, ◌↔◌, ◌⊎◌, ◌==◌, IsTrue, false, Option, Some, IsSome, List, [], map, All, Contains}
 use Rattle.std.specs.List.{list_any}
-use Rattle.gic_word.specs.declared.record.Group.{Group}
-use Rattle.gic_word.specs.declared.record.Group.TheVariants.{G0, G1}
-use Rattle.gic_base.specs.declared.icc.IccReg.{IccReg}
-use Rattle.gic_base.specs.declared.interrupt.Key.{Key}
+use Rattle.floor_words.specs.GicWord.declared.record.Group.{Group}
+use Rattle.floor_words.specs.Words.{G0, G1, IccReg, Key}
 use Rattle.gic_prio.specs.declared.cpu.CpuRec.{CpuRec}
 use Rattle.gic_prio.specs.declared.candidate.Candidate.{Candidate}
 use Rattle.gic_prio.specs.Priority.{dropped_bits, group_priority_of, running_of, is_signalled, level_activated}

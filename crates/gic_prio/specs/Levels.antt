@@ -2,8 +2,7 @@
 -- (IHI 0069, ICC_AP0R<n>_EL1 and ICC_AP1R<n>_EL1).
 use Rattle.std.specs.Prelude.{ℕ, ◌&&◌, ◌||◌, ◌==◌, not, unwrap_or, find}
 use Rattle.std.specs.List.{range_with_len}
-use Rattle.gic_bits.specs.Bits.{has_bit}
-use Rattle.gic_bits.specs.Sets.{set_of}
+use Rattle.floor_words.specs.Words.{has_bit, set_of}
 
 -- the least level of a set, or 32 where it has none
 unfoldable pub least_in : ℕ → ℕ

@@ -1,7 +1,7 @@
 -- Priorities at a CPU interface (IHI 0069, "Interrupt prioritization").
 use Rattle.std.specs.Prelude.{ℕ, ◌≤◌, ◌<◌, ◌+◌, ◌*◌, ◌/◌, ◌^◌, ◌&&◌, ◌==◌, min, Bool, nat_lt, if◌then◌else◌}
-use Rattle.gic_word.specs.declared.record.Group.{Group}
-use Rattle.gic_word.specs.declared.record.Group.TheVariants.{G0, G1}
+use Rattle.floor_words.specs.GicWord.declared.record.Group.{Group}
+use Rattle.floor_words.specs.Words.{G0, G1}
 use Rattle.gic_prio.specs.declared.cpu.CpuRec.{CpuRec}
 use Rattle.gic_prio.specs.Levels.{least_in, with_level, without_level}
 

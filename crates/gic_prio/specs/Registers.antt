@@ -1,9 +1,7 @@
 -- The registers of a CPU interface, and what those read and write that stand for its record alone
 -- (IHI 0069, "AArch64 System register descriptions").
 use Rattle.std.specs.Prelude.{ℕ, ◌+◌, ◌*◌, ◌/◌, ◌%◌, ◌^◌, min, max, Option, Some, None, if◌then◌else◌}
-use Rattle.gic_bits.specs.Bits.{bit_of, has_bit}
-use Rattle.gic_base.specs.declared.icc.IccReg.{IccReg}
-use Rattle.gic_base.specs.declared.icc.IccReg.TheVariants.{Rpr, Pmr, Bpr0, Bpr1, Ctlr, Igrpen0, Igrpen1, Ap0r0, Ap1r0, Sre}
+use Rattle.floor_words.specs.Words.{bit_of, has_bit, IccReg, Rpr, Pmr, Bpr0, Bpr1, Ctlr, Igrpen0, Igrpen1, Ap0r0, Ap1r0, Sre}
 use Rattle.gic_prio.specs.declared.cpu.CpuRec.{CpuRec}
 use Rattle.gic_prio.specs.Priority.{running_of}
 

@@ -1,8 +1,8 @@
 -- What the registers of a CPU interface do to its record (IHI 0069, "AArch64 System register descriptions").
 use Rattle.std.specs.Prelude.{ℕ, ◌%◌, ◌^◌, ◌&&◌, ◌||◌, ◌==◌, Bool, true, false, not, nat_le, nat_lt, Option, Some, None, is_some, option_and_then, if◌then◌else◌, List}
 use Rattle.std.specs.Option.{option_map_or}
-use Rattle.gic_word.specs.declared.record.Group.{Group}
-use Rattle.gic_word.specs.declared.record.Group.TheVariants.{G0, G1}
+use Rattle.floor_words.specs.GicWord.declared.record.Group.{Group}
+use Rattle.floor_words.specs.Words.{G0, G1}
 use Rattle.gic_prio.specs.declared.cpu.CpuRec.{CpuRec}
 use Rattle.gic_prio.specs.Priority.{is_signalled, least_level, running_level, level_dropped}
 use Rattle.gic_prio.specs.declared.candidate.Candidate.{Candidate}

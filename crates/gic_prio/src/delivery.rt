@@ -1,11 +1,11 @@
 //! Which interrupts can be delivered to a vCPU (IHI 0069, "Interrupt prioritization").
 ghost use Rattle.std.specs.Prelude.{◌≡◌, ◌<◌};
-ghost use Rattle.gic_base.specs.declared.shape.GuestShape.{GuestShape};
+ghost use Rattle.floor_words.specs.Words.{GuestShape};
 ghost use Rattle.gic_prio.specs.Delivery.{is_group_enabled, is_deliverable};
 
 use crate::cpu::CpuRec;
-use gic_base::Key;
-use gic_word::{Group, Irq, ripe};
+use floor_words::gic_base::Key;
+use floor_words::gic_word::{Group, Irq, ripe};
 
 /// Whether the vCPU listens to a group (IHI 0069, ICC_IGRPEN0 and ICC_IGRPEN1).
 pub fn listens(cpu: &CpuRec, group: Group) -> bool

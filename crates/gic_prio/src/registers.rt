@@ -1,13 +1,13 @@
 //! The registers that stand for the record of a CPU interface alone.
 ghost use Rattle.std.specs.Prelude.{◌≡◌, IsTrue, IsSome, IfSome};
 ghost use Rattle.gic_prio.specs.Priority.{HasBinaryPoints};
-ghost use Rattle.gic_base.specs.Icc.{is_readable, is_writable};
+ghost use Rattle.floor_words.specs.Words.{is_readable, is_writable};
 ghost use Rattle.gic_prio.specs.Registers.{bpr1_of, ctlr_of, plain_read, pmr_written, binary_point_written as binary_point_after, plain_write};
 
 use crate::cpu::CpuRec;
 use crate::priority::running;
-use gic_base::{IccReg, PRIORITY_STEP};
-use gic_bits::{Field, has_bit, put_bit};
+use floor_words::gic_base::{IccReg, PRIORITY_STEP};
+use floor_words::gic_bits::{Field, has_bit, put_bit};
 
 /// The priority in PMR: bits [7:0].
 const PRIORITY: Field = Field { place: 0, width: 8 };
@@ -147,7 +147,7 @@ pub fn write_plain(cpu: &CpuRec, reg: IccReg, value: u64) -> Option<CpuRec>
 mod tests {
     use super::{read_plain, write_plain};
     use crate::cpu::CpuRec;
-    use gic_base::{IccReg, PRIORITY_STEP};
+    use floor_words::gic_base::{IccReg, PRIORITY_STEP};
 
     const OPENING: CpuRec = CpuRec {
         pmr: 0,

@@ -1,2 +1,3 @@
+pub use Rattle.floor_words.proofs.GicBase
 mod PartLemmas
 mod ByteLemmas

@@ -1,13 +1,6 @@
 -- Which interrupts have a part in which registers, and how they are routed.
 use Rattle.std.specs.Prelude.{Bool, true, false}
-use Rattle.gic_base.specs.declared.operation.Kind.{Kind}
-use Rattle.gic_base.specs.declared.operation.Kind.TheVariants.{SetPending, ClearPending, Routing}
-use Rattle.gic_base.specs.declared.interrupt.Key.{Key}
-use Rattle.gic_base.specs.declared.interrupt.Key.TheVariants.{Spi, Lpi}
-use Rattle.gic_base.specs.declared.shape.GuestShape.{GuestShape}
-use Rattle.gic_word.specs.declared.record.Route.{Route}
-use Rattle.gic_word.specs.declared.record.Route.TheVariants.{Affinity, Target}
-use Rattle.gic_word.specs.Valid.{is_vcpu_or_none}
+use Rattle.gic_frame.specs.Words.{Kind, SetPending, ClearPending, Routing, Key, Spi, Lpi, GuestShape, Route, Affinity, Target, is_vcpu_or_none}
 
 -- the interrupt has a part that a register of this kind writes: an IROUTER is an SPI's, and an LPI is pended and cleared
 -- alone, as the ITS commands INT and CLEAR do

@@ -1,18 +1,8 @@
 -- The touch of an interrupt by its part of a register: what a read answers, and the record after a write, one row a kind
 -- (IHI 0069, "The Distributor register map" and "The Redistributor register map").
 use Rattle.std.specs.Prelude.{ℕ, ◌*◌, ◌/◌, ◌==◌, true, false, is_some, if◌then◌else◌, Option, Some, None}
-use Rattle.gic_base.specs.declared.operation.Kind.{Kind}
-use Rattle.gic_base.specs.declared.operation.Kind.TheVariants.{Group, SetEnable, ClearEnable, SetPending, ClearPending, SetActive, ClearActive, Priority, Config, Routing}
-use Rattle.gic_base.specs.declared.interrupt.Key.{Key}
-use Rattle.gic_base.specs.declared.shape.GuestShape.{GuestShape}
-use Rattle.gic_base.specs.Interrupt.{is_sgi}
-use Rattle.gic_word.specs.declared.record.Group.TheVariants.{G0, G1}
-use Rattle.gic_word.specs.declared.record.Irq.{Irq}
-use Rattle.gic_word.specs.declared.record.Route.{Route}
-use Rattle.gic_word.specs.declared.record.Route.TheVariants.{Affinity, Target}
-use Rattle.gic_bits.specs.Bits.{bit_of, has_bit}
-use Rattle.gic_word.specs.Record.{group_number, is_pending, target_in}
-use Rattle.gic_word.specs.Causes.{raised, cleared}
+use Rattle.gic_frame.specs.Words.{Kind, SetEnable, ClearEnable, SetPending, ClearPending, SetActive, ClearActive, Priority, Config, Routing, Key, GuestShape, is_sgi, G0, G1, Irq, Route, Affinity, Target, bit_of, has_bit, group_number, is_pending, target_in, raised, cleared}
+use Rattle.gic_frame.specs.GicBase.declared.operation.Kind.TheVariants.{Group}
 use Rattle.gic_reg.specs.Router.{router_of, affinity_in}
 
 -- what an IROUTER reads

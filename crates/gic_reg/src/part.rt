@@ -1,17 +1,13 @@
 //! What the part of one interrupt reads, and what a write of it changes.
 ghost use Rattle.std.specs.Prelude.{◌≡◌, ◌<◌, ◌^◌, IsTrue, true, false};
-ghost use Rattle.gic_base.specs.Shape.{IsShape};
-ghost use Rattle.gic_base.specs.Interrupt.{has_interrupt};
-ghost use Rattle.gic_word.specs.Record.{is_pending};
-ghost use Rattle.gic_word.specs.Word.{IsIrq};
-ghost use Rattle.gic_word.specs.Valid.{IsRecordOf};
+ghost use Rattle.gic_frame.specs.Words.{IsShape, has_interrupt, is_pending, IsIrq, IsRecordOf};
 ghost use Rattle.gic_frame.specs.Part.{part_bits};
 ghost use Rattle.gic_reg.specs.Condition.{has_part, is_routed, shows_route};
 ghost use Rattle.gic_reg.specs.Touch.{part_read, part_written, with_named};
 
 use crate::router::{affinity_in, router_with};
-use gic_base::{GuestShape, Key, Kind, PRIORITY_STEP};
-use gic_word::{Group, Irq, Route, pending, target_in};
+use gic_frame::gic_base::{GuestShape, Key, Kind, PRIORITY_STEP};
+use gic_frame::gic_word::{Group, Irq, Route, pending, target_in};
 
 /// What the part of an ICFGR reads for an edge-triggered interrupt; for a level-sensitive one it reads 0.
 const EDGE: u64 = 0b10;
@@ -78,8 +74,8 @@ pub fn write_part(kind: Kind, key: Key, irq: &Irq, value: u64, shape: &GuestShap
 #[cfg(test)]
 mod tests {
     use super::{read_part, write_part};
-    use gic_base::{GuestShape, Key, Kind, PRIORITY_STEP};
-    use gic_word::{Group, Irq, Route};
+    use gic_frame::gic_base::{GuestShape, Key, Kind, PRIORITY_STEP};
+    use gic_frame::gic_word::{Group, Irq, Route};
 
     const SHAPE: GuestShape = GuestShape {
         vcpus: 2,

@@ -1,7 +1,7 @@
 -- The line of a generated scenario's run (own choice).
 use Rattle.std.specs.Prelude.{ℕ, ◌+◌, ◌*◌, ◌%◌, ◌^◌, ◌==◌, List, [], ◌∷◌, ◌++◌, length, count_by, Bool, true, false, codes, decimal}
-use Rattle.scn_base.specs.declared.outcome.Answer.{Answer}
-use Rattle.scn_base.specs.declared.outcome.Answer.TheVariants.{Nothing, Value, Regs}
+use Rattle.gic_soak.specs.GicGuest.declared.outcome.Answer.{Answer}
+use Rattle.gic_soak.specs.GicGuest.declared.outcome.Answer.TheVariants.{Nothing, Value, Regs}
 use Rattle.gic_report.specs.Text.{hex, newline}
 
 -- the step read a value

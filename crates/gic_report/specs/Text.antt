@@ -2,23 +2,21 @@
 use Rattle.std.specs.Prelude.{ℕ, ◌+◌, ◌-◌, List, [], ◌∷◌, ◌++◌, length, count_by, replicate, Bool, true, false, Option, Some, None, codes, decimal}
 use Rattle.std.specs.List.{flat_map}
 use Rattle.std.specs.Fmt.{digits}
-use Rattle.gic_base.specs.declared.interrupt.Key.{Key}
-use Rattle.gic_base.specs.declared.interrupt.Key.TheVariants.{Private, Spi, Lpi}
-use Rattle.gic_base.specs.declared.operation.GuestOp.TheVariants.{Icc, Mem}
-use Rattle.scn_base.specs.declared.scenario.Scenario.{Scenario}
-use Rattle.scn_base.specs.declared.step.Step.{Step}
-use Rattle.scn_base.specs.declared.step.Step.TheVariants.{Vcpu, Device, Pe}
-use Rattle.scn_base.specs.declared.outcome.RunOut.{RunOut}
-use Rattle.scn_base.specs.declared.outcome.Answer.{Answer}
-use Rattle.scn_base.specs.declared.outcome.Answer.TheVariants.{Nothing, Value, Regs}
+use Rattle.gic_io.specs.Words.{Key, Private, Spi, Lpi, Icc, Mem}
+use Rattle.gic_soak.specs.ScnBase.declared.scenario.Scenario.{Scenario}
+use Rattle.gic_soak.specs.ScnBase.declared.step.Step.{Step}
+use Rattle.gic_soak.specs.ScnBase.declared.step.Step.TheVariants.{Vcpu, Device, Pe}
+use Rattle.gic_soak.specs.GicGuest.declared.outcome.RunOut.{RunOut}
+use Rattle.gic_soak.specs.GicGuest.declared.outcome.Answer.{Answer}
+use Rattle.gic_soak.specs.GicGuest.declared.outcome.Answer.TheVariants.{Nothing, Value, Regs}
 use Rattle.std.specs.Option.{option_map_or}
-use Rattle.scn_base.specs.declared.outcome.CpuEnd.{CpuEnd}
-use Rattle.scn_base.specs.declared.outcome.ItsEnd.{ItsEnd}
-use Rattle.scn_base.specs.declared.outcome.DevEnd.{DevEnd}
-use Rattle.scn_base.specs.declared.outcome.EvtEnd.{EvtEnd}
-use Rattle.scn_base.specs.declared.outcome.ColEnd.{ColEnd}
-use Rattle.scn_base.specs.declared.outcome.IrqEnd.{IrqEnd}
-use Rattle.scn_base.specs.declared.outcome.End.{End}
+use Rattle.gic_soak.specs.GicGuest.declared.outcome.CpuEnd.{CpuEnd}
+use Rattle.gic_soak.specs.GicGuest.declared.outcome.ItsEnd.{ItsEnd}
+use Rattle.gic_soak.specs.GicGuest.declared.outcome.DevEnd.{DevEnd}
+use Rattle.gic_soak.specs.GicGuest.declared.outcome.EvtEnd.{EvtEnd}
+use Rattle.gic_soak.specs.GicGuest.declared.outcome.ColEnd.{ColEnd}
+use Rattle.gic_soak.specs.GicGuest.declared.outcome.IrqEnd.{IrqEnd}
+use Rattle.gic_soak.specs.GicGuest.declared.outcome.End.{End}
 
 -- the lower-case hexadecimal digits of a number, with zeros before them up to a width
 abbrev pub hex : ℕ → ℕ → List ℕ

@@ -8,6 +8,8 @@ mod soak;
 mod tests;
 mod whole;
 
+pub use gic_io;
+pub use gic_soak;
 pub use gic_soak::generate;
 pub use soak::soak_line;
 pub use whole::text;

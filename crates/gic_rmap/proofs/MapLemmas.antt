@@ -1,7 +1,7 @@
 -- What an access to the map names, and where the parts of interrupts are.
 use Rattle.std.proofs.Common.{◌≡◌, ℕ, ◌+◌, ◌<◌, ◌==◌, ◌&&◌, Bool, true, false, IsTrue, IfSome, Option, Some, None, refl, zero-add}
-use Rattle.gic_base.specs.declared.operation.Kind.{Kind}
-use Rattle.gic_base.specs.declared.operation.Kind.TheVariants.{Group, SetEnable, ClearEnable, SetPending, ClearPending, SetActive, ClearActive, Priority, Config, Routing}
+use Rattle.gic_frame.specs.Words.{Kind, SetEnable, ClearEnable, SetPending, ClearPending, SetActive, ClearActive, Priority, Config, Routing}
+use Rattle.gic_frame.specs.GicBase.declared.operation.Kind.TheVariants.{Group}
 use Rattle.gic_frame.specs.declared.bank.Half.{Half}
 use Rattle.gic_frame.specs.declared.bank.Half.TheVariants.{Low, High, Whole}
 use Rattle.gic_frame.specs.declared.line.Line.{Line}

@@ -1,7 +1,6 @@
 -- What a redistributor's registers hold (IHI 0069, GICR_CTLR, GICR_TYPER, GICR_PROPBASER and GICR_PENDBASER).
 use Rattle.std.specs.Prelude.{ℕ, ◌+◌, ◌*◌, ◌^◌, ◌==◌, ◌&&◌, ◌||◌, Bool, if◌then◌else◌}
-use Rattle.gic_base.specs.declared.shape.GuestShape.{GuestShape}
-use Rattle.gic_bits.specs.Bits.{bit_of, has_bit, field_at}
+use Rattle.gic_frame.specs.Words.{GuestShape, bit_of, has_bit, field_at}
 use Rattle.gic_frame.specs.Guest.{has_lpis}
 
 -- EnableLPIs, bit 0 of GICR_CTLR, after a write: it goes from 0 to 1 alone, and stays as it is in a guest without LPIs

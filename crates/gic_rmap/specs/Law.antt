@@ -1,7 +1,7 @@
 -- Where IHI 0069, "The Redistributor register map", has the part of each private interrupt: in the SGI frame, from 0x10000.
 use Rattle.std.specs.Prelude.{ℕ, ◌+◌, ◌*◌, ◌/◌, ◌%◌, ◌<◌, Bool, true, false, IsTrue}
-use Rattle.gic_base.specs.declared.operation.Kind.{Kind}
-use Rattle.gic_base.specs.declared.operation.Kind.TheVariants.{Group, SetEnable, ClearEnable, SetPending, ClearPending, SetActive, ClearActive, Priority, Config, Routing}
+use Rattle.gic_frame.specs.Words.{Kind, SetEnable, ClearEnable, SetPending, ClearPending, SetActive, ClearActive, Priority, Config, Routing}
+use Rattle.gic_frame.specs.GicBase.declared.operation.Kind.TheVariants.{Group}
 use Rattle.gic_frame.specs.Bank.{width_of}
 use Rattle.gic_frame.specs.Part.{part_bits, access_of, HasPart}
 use Rattle.gic_rmap.specs.declared.map.RegRef.{RegRef}

@@ -1,7 +1,8 @@
 -- The register map of a redistributor (IHI 0069, "The Redistributor register map"): the RD frame, and the SGI frame from
 -- 0x10000. WAKER, at 0x0014, is not there (own choice).
 use Rattle.std.specs.Prelude.{ℕ, List, [], ◌∷◌, Option, Some, None}
-use Rattle.gic_base.specs.declared.operation.Kind.TheVariants.{Group, SetEnable, ClearEnable, SetPending, ClearPending, SetActive, ClearActive, Priority, Config}
+use Rattle.gic_frame.specs.Words.{SetEnable, ClearEnable, SetPending, ClearPending, SetActive, ClearActive, Priority, Config}
+use Rattle.gic_frame.specs.GicBase.declared.operation.Kind.TheVariants.{Group}
 use Rattle.gic_frame.specs.declared.bank.Access.TheVariants.{Word, Doubleword}
 use Rattle.gic_frame.specs.declared.line.Line.{Line}
 use Rattle.gic_frame.specs.declared.line.Line.TheVariants.{Register, Interrupts}

@@ -6,12 +6,13 @@ use native.Mathlib.Nat.{mod-lt}
 use Rattle.std.proofs.lemmas.Bool.Decides.{nat_tests}
 use Rattle.std.proofs.lemmas.List.Elements.{All-nil, All-cons, All-map, All-from_get_or}
 use Rattle.std.proofs.lemmas.List.FromFn.{get_or-range_with_len, length-range_with_len}
-use Rattle.scn_base.specs.declared.guest.GuestSpec.{GuestSpec}
+use Rattle.scn_base.specs.GicGuest.declared.guest.GuestSpec.{GuestSpec}
 use Rattle.scn_base.specs.declared.step.Step.{Step}
 use Rattle.scn_base.specs.declared.step.Mode.TheVariants.{Schedule}
 use Rattle.scn_base.specs.declared.standing.Standing.{Standing}
 use Rattle.scn_base.specs.Standing.{is_resident, standing_after, opening_standing}
-use Rattle.scn_base.specs.Good.{is_formed, stands, stand_in_turn, IsGoodPreset, IsGoodGuest, IsGood}
+use Rattle.scn_base.specs.Good.{is_formed, stands, stand_in_turn, IsGood}
+use Rattle.scn_base.specs.GicGuest.Good.{IsGoodPreset, IsGoodGuest}
 use Rattle.gic_soak.specs.Draw.{draw}
 use Rattle.gic_soak.specs.Generated.{shape, preset, guest, message, acknowledge, end_of_interrupt, deactivation, step, steps_from, generated}
 

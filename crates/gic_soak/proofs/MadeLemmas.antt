@@ -2,8 +2,8 @@
 use Rattle.std.proofs.Common.{◌≡◌, ℕ, suc, ◌+◌, ◌-◌, ◌<◌, ◌≤◌, List, [], ◌∷◌, ◌++◌, true, map, append_assoc, sym, ap, ◌∙◌, subst, arith}
 use Rattle.std.specs.List.{range_with_len}
 use Rattle.std.proofs.lemmas.List.FromFn.{map-range_with_len_more}
-use Rattle.scn_base.specs.declared.guest.GuestSpec.{GuestSpec}
-use Rattle.scn_base.specs.declared.preset.Preset.{Preset}
+use Rattle.scn_base.specs.GicGuest.declared.guest.GuestSpec.{GuestSpec}
+use Rattle.scn_base.specs.GicGuest.declared.preset.Preset.{Preset}
 use Rattle.scn_base.specs.declared.step.Step.{Step}
 use Rattle.gic_soak.specs.Generated.{shape, preset, guest, step, steps_from}
 

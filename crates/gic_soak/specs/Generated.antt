@@ -1,14 +1,10 @@
 -- The scenario that a number stands for (own choice).
 use Rattle.std.specs.Prelude.{ℕ, zero, suc, ◌+◌, ◌*◌, ◌%◌, List, [], ◌∷◌, map, true, Some, None, nat_lt, if◌then◌else◌}
 use Rattle.std.specs.List.{range_with_len}
-use Rattle.gic_base.specs.declared.shape.GuestShape.{GuestShape}
-use Rattle.gic_base.specs.declared.icc.IccReg.TheVariants.{Iar1, Eoir1}
-use Rattle.gic_base.specs.declared.operation.Frame.TheVariants.{Dist}
-use Rattle.gic_base.specs.declared.operation.GuestOp.TheVariants.{Icc, Mem}
-use Rattle.gic_base.specs.declared.operation.DeviceOp.TheVariants.{Message}
+use Rattle.scn_base.specs.Words.{GuestShape, Iar1, Eoir1, Dist, Icc, Mem, Message}
 use Rattle.scn_base.specs.declared.scenario.Scenario.{Scenario}
-use Rattle.scn_base.specs.declared.guest.GuestSpec.{GuestSpec}
-use Rattle.scn_base.specs.declared.preset.Preset.{Preset}
+use Rattle.scn_base.specs.GicGuest.declared.guest.GuestSpec.{GuestSpec}
+use Rattle.scn_base.specs.GicGuest.declared.preset.Preset.{Preset}
 use Rattle.scn_base.specs.declared.step.Step.{Step}
 use Rattle.scn_base.specs.declared.step.Step.TheVariants.{Vcpu, Device}
 use Rattle.gic_soak.specs.Draw.{draw}

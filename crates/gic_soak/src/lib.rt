@@ -7,3 +7,5 @@ mod scenario;
 mod tests;
 
 pub use scenario::generate;
+pub use scn_base;
+pub use scn_base::gic_guest;

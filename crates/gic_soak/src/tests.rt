@@ -1,8 +1,9 @@
 //! A scenario, worked out from the generator's rule.
 
 use crate::generate;
-use gic_base::{DeviceOp, Frame, GuestOp, IccReg};
-use scn_base::{Preset, Step};
+use scn_base::Step;
+use scn_base::gic_base::{DeviceOp, Frame, GuestOp, IccReg};
+use scn_base::gic_guest::Preset;
 use std::test::Fail;
 
 /// A step of a vCPU.

@@ -2,14 +2,14 @@
 use Rattle.std.proofs.Common.{◌≡◌, ℕ, ◌+◌, ◌<◌, ◌≤◌, ◌⊎◌, List, [], ◌++◌, length, Contains, codes, lit<, lit≤, Option, Some, None, IfSome, OnSome, IsSome, IsSomeAnd, Result, Ok, Err, IfOk, OnOk, length-append, append-nil, inl, inr, refl, sym, ap, ◌∙◌, subst, arith}
 use Rattle.std.specs.Result.{result_unwrap_or}
 use Rattle.std.proofs.lemmas.Option.{same_Some}
-use Rattle.gic_io.specs.Faults.{HasRisen}
-use Rattle.gic_io.specs.Sink.{Grew, GrewByPrefix}
-use Rattle.gic_io.specs.Source.{HasReadCount, HasReadAtMost}
+use Rattle.gic_report.specs.GicIo.Faults.{HasRisen}
+use Rattle.gic_report.specs.GicIo.Sink.{Grew, GrewByPrefix}
+use Rattle.gic_report.specs.GicIo.Source.{HasReadCount, HasReadAtMost}
 use Rattle.serde_json.specs.Data.{Data}
-use Rattle.scn_base.specs.declared.scenario.Scenario.{Scenario}
-use Rattle.scn_base.specs.declared.fault.Fault.{Fault}
-use Rattle.scn_base.specs.declared.step.Mode.{Mode}
-use Rattle.scn_base.specs.declared.step.Mode.TheVariants.{Schedule, Threads as OnThreads}
+use Rattle.scn_read.specs.ScnBase.declared.scenario.Scenario.{Scenario}
+use Rattle.scn_read.specs.ScnBase.declared.fault.Fault.{Fault}
+use Rattle.scn_read.specs.ScnBase.declared.step.Mode.{Mode}
+use Rattle.scn_read.specs.ScnBase.declared.step.Mode.TheVariants.{Schedule, Threads as OnThreads}
 use Rattle.scn_read.specs.Reading.{reading}
 use Rattle.gic_top.specs.declared.command.Command.{Command}
 use Rattle.gic_top.specs.declared.command.Command.TheVariants.{Run, Threads, Soak}

@@ -1,13 +1,13 @@
 -- What the tool has to write, inside the crate.
 use Rattle.std.specs.Prelude.{◌≡◌, ℕ, ◌+◌, List, Option, Some, None, codes, ⊤}
-use Rattle.gic_io.specs.Faults.{HasRisen}
-use Rattle.gic_io.specs.Source.{HasReadCount, HasReadAtMost}
-use Rattle.gic_soak.specs.Generated.{generated}
-use Rattle.scn_base.specs.declared.scenario.Scenario.{Scenario}
-use Rattle.scn_base.specs.declared.fault.Fault.{Fault}
-use Rattle.scn_base.specs.declared.outcome.RunOut.{RunOut}
-use Rattle.scn_base.specs.declared.step.Mode.{Mode}
-use Rattle.scn_base.specs.declared.step.Mode.TheVariants.{Schedule, Threads as OnThreads}
+use Rattle.gic_report.specs.GicIo.Faults.{HasRisen}
+use Rattle.gic_report.specs.GicIo.Source.{HasReadCount, HasReadAtMost}
+use Rattle.gic_report.specs.GicSoak.Generated.{generated}
+use Rattle.scn_read.specs.ScnBase.declared.scenario.Scenario.{Scenario}
+use Rattle.scn_read.specs.ScnBase.declared.fault.Fault.{Fault}
+use Rattle.run_seq.specs.Calls.{RunOut}
+use Rattle.scn_read.specs.ScnBase.declared.step.Mode.{Mode}
+use Rattle.scn_read.specs.ScnBase.declared.step.Mode.TheVariants.{Schedule, Threads as OnThreads}
 use Rattle.gic_report.specs.Text.{text as text_in}
 use Rattle.gic_top.specs.declared.command.Command.{Command}
 use Rattle.gic_top.specs.declared.command.Command.TheVariants.{Run, Threads, Soak}

@@ -2,19 +2,19 @@
 use Rattle.std.specs.Prelude.{◌≡◌, ℕ, ◌+◌, ◌<◌, ◌≤◌, ◌⊎◌, List, [], ◌∷◌, ◌++◌, length, codes, IsUtf8, Option, Some, None, IfSome, OnSome, IsSome, Ok, Err}
 use Rattle.serde_json.specs.Data.{Data}
 use Rattle.serde_json.specs.Read.{read}
-use Rattle.eager_laws.specs.Possible.{IsPossible}
-use Rattle.gic_io.specs.Faults.{HasRisen}
-use Rattle.gic_io.specs.Sink.{Grew, GrewByPrefix}
-use Rattle.gic_io.specs.Source.{HasReadCount, HasReadAtMost}
-use Rattle.scn_base.specs.declared.scenario.Scenario.{Scenario}
-use Rattle.scn_base.specs.declared.outcome.RunOut.{RunOut}
-use Rattle.scn_base.specs.declared.step.Mode.{Mode}
-use Rattle.scn_base.specs.declared.step.Mode.TheVariants.{Schedule, Threads as OnThreads}
-use Rattle.scn_base.specs.declared.fault.Fault.{Fault}
+use Rattle.run_seq.specs.LawEagerIsHistory.Possible.{IsPossible}
+use Rattle.gic_report.specs.GicIo.Faults.{HasRisen}
+use Rattle.gic_report.specs.GicIo.Sink.{Grew, GrewByPrefix}
+use Rattle.gic_report.specs.GicIo.Source.{HasReadCount, HasReadAtMost}
+use Rattle.scn_read.specs.ScnBase.declared.scenario.Scenario.{Scenario}
+use Rattle.run_seq.specs.Calls.{RunOut}
+use Rattle.scn_read.specs.ScnBase.declared.step.Mode.{Mode}
+use Rattle.scn_read.specs.ScnBase.declared.step.Mode.TheVariants.{Schedule, Threads as OnThreads}
+use Rattle.scn_read.specs.ScnBase.declared.fault.Fault.{Fault}
 use Rattle.scn_read.specs.Reading.{reading}
-use Rattle.scn_base.specs.Shown.{fault_text}
-use Rattle.gic_ideal.specs.Eager.{eager}
-use Rattle.gic_soak.specs.Generated.{generated}
+use Rattle.scn_read.specs.ScnBase.Shown.{fault_text}
+use Rattle.run_seq.specs.GicIdeal.Eager.{eager}
+use Rattle.gic_report.specs.GicSoak.Generated.{generated}
 use Rattle.gic_report.specs.Text.{text, newline}
 use Rattle.gic_report.specs.Soak.{soak_line}
 use Rattle.gic_top.specs.declared.command.Command.{Command}

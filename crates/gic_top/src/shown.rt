@@ -2,11 +2,11 @@
 
 ghost use Rattle.std.specs.Prelude.{None};
 
-use port_seq::SeqPort;
-use port_table::{RootSeat, SharedWords};
+use run_seq::port_seq::SeqPort;
 use run_seq::{Done, SeqWatch};
 use run_thr::ThrWatch;
-use scn_base::Scenario;
+use run_thr::port_table::{RootSeat, SharedWords};
+use scn_read::scn_base::Scenario;
 
 /// How many runs were shown, of each kind. It keeps nothing else of them.
 #[derive(Clone, Copy, Debug, PartialEq, Eq)]

@@ -1,21 +1,22 @@
 //! From words and an input to a status, and the text or message that is written.
 
 ghost use Rattle.std.specs.Prelude.{◌≡◌, ◌≢◌, ◌<◌, ◌≤◌, ◌⊎◌, ℕ, IfOk, IfErr, IfSome, OnOk, Some, None, Contains};
-ghost use Rattle.gic_io.specs.Faults.{HasRisen};
-ghost use Rattle.gic_io.specs.Sink.{Grew};
-ghost use Rattle.scn_base.specs.Good.{IsGood};
-ghost use Rattle.gic_soak.specs.Generated.{generated};
+ghost use Rattle.gic_report.specs.GicIo.Faults.{HasRisen};
+ghost use Rattle.gic_report.specs.GicIo.Sink.{Grew};
+ghost use Rattle.scn_read.specs.ScnBase.Good.{IsGood};
+ghost use Rattle.gic_report.specs.GicSoak.Generated.{generated};
 ghost use Rattle.gic_top.specs.Command.{command_in, IsInBounds};
 ghost use Rattle.gic_top.specs.Tool.{statuses, input_mode, soak_text, fault_line as line_of, MayAnswer, ShownIn, IsOk, IsUsage, IsBadJson, IsBadScenario, IsReadFault, IsWriteFault, IsTooLong, IsNoMemory, IsOutcome, IsWritten, IsRefusal, HasItsAnswer, WasShown};
 ghost use Rattle.gic_top.specs.Reply.{mode_of, status_of, text_of, IsWay, IsRunText, IsReplyTo, IsReplyOf, IsSoakReply, IsReplyFor, IsUnrun};
 
 use crate::command::Command;
-use gic_base::NoMemory;
-use gic_io::{Bytes, Gate, ReadError, Sink, Source, read_all, write_all};
+use gic_report::gic_io::{Bytes, Gate, ReadError, Sink, Source, read_all, write_all};
 use gic_report::{generate, soak_line, text};
 use run_seq::SeqWatch;
 use run_thr::ThrWatch;
-use scn_base::{MAX_STEPS, RunOut};
+use scn_read::gic_base::NoMemory;
+use scn_read::gic_guest::RunOut;
+use scn_read::scn_base::MAX_STEPS;
 use scn_read::{Fault, Mode, ReadRefusal, Scenario, read};
 use serde_json::Value;
 use std::alloc::{AllocError, Global};

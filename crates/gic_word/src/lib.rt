@@ -9,6 +9,8 @@ mod release;
 mod word;
 
 pub use causes::has_active_state;
+pub use gic_base;
+pub use gic_bits;
 pub use laws::{cause_bits, device_bits, release_bits};
 pub use places::{ACTIVE_BY_NONE, HELD_BY_NONE, LINE, RAISE, RISE, SOFT, WIRE_DOWN, WIRE_UP};
 pub use record::{Group, Irq, Route, pending, ripe, target_in};

@@ -2,7 +2,7 @@
 #![tactic(auto)]
 
 ghost use Rattle.std.specs.Prelude.{◌≡◌, ◌≢◌, ◌<◌, ◌⊎◌, ℕ, Some, None, Contains, IfOk, IfErr, IfSome};
-ghost use Rattle.gic_io.specs.Faults.{HasRisen};
+ghost use Rattle.gic_top.specs.GicIo.Faults.{HasRisen};
 ghost use Rattle.gic_top.specs.Command.{command_in};
 ghost use Rattle.gic_top.specs.Tool.{statuses, input_mode, ShownIn, IsOutcome, IsRefusal, HasItsAnswer, WasShown};
 
@@ -11,7 +11,7 @@ mod noted;
 
 use crate::explain::explain;
 use crate::noted::Noted;
-use gic_io::{Gate, OpenGate, Sink, Source, StdSink, StdSource};
+use gic_top::gic_io::{Gate, OpenGate, Sink, Source, StdSink, StdSource};
 use gic_top::{Command, NOTHING_SHOWN, SeqWatch, ThrWatch, refuse_words, run_tool};
 use std::alloc::{AllocError, Global};
 use std::env;

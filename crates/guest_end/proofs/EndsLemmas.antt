@@ -4,13 +4,12 @@ use Rattle.std.specs.Prelude.{slice_get}
 use Rattle.std.specs.List.{flat_map}
 use Rattle.std.proofs.lemmas.List.{append_assoc}
 use Rattle.std.proofs.lemmas.Option.{get_or_from_slice_get}
-use Rattle.gic_prio.specs.declared.cpu.CpuRec.{CpuRec}
-use Rattle.ideal_guest.specs.declared.guest.IdealGuest.{IdealGuest}
-use Rattle.ideal_guest.specs.Opening.{opening}
+use Rattle.port_core.specs.Registers.{CpuRec}
+use Rattle.gic_ideal.specs.IdealGuest.declared.guest.IdealGuest.{IdealGuest}
+use Rattle.gic_ideal.specs.IdealGuest.Opening.{opening}
 use Rattle.gic_ideal.specs.Ends.{end_of, ends_of}
-use Rattle.scn_base.specs.declared.guest.GuestSpec.{GuestSpec}
-use Rattle.scn_base.specs.declared.outcome.End.{End}
-use Rattle.scn_base.specs.Good.{IsGoodGuest}
+use Rattle.port_core.specs.Calls.{GuestSpec, IsGoodGuest}
+use Rattle.port_core.specs.GicGuest.declared.outcome.End.{End}
 use Rattle.port_core.specs.declared.end.GuestWords.{GuestWords}
 use Rattle.guest_end.specs.Ends.{AllEndAt, EndsAt, HaveEnded}
 use Rattle.guest_end.specs.Home.{IsAtEnd, guest_of}

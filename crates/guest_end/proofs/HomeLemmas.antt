@@ -1,10 +1,9 @@
 -- A guest at home is sound whatever its ITS has mapped.
 use Rattle.std.proofs.Common.{◌≡◌, [], sym, subst}
-use Rattle.ideal_guest.specs.declared.guest.IdealGuest.{IdealGuest}
-use Rattle.ideal_guest.specs.Sound.{IsSound}
-use Rattle.ideal_guest.proofs.OpeningLemmas.{empty_valid}
-use Rattle.its_tab.specs.After.{IsValid}
-use Rattle.its_tab.specs.Maps.{Maps}
+use Rattle.gic_ideal.specs.IdealGuest.declared.guest.IdealGuest.{IdealGuest}
+use Rattle.gic_ideal.specs.IdealGuest.Sound.{IsSound}
+use Rattle.gic_ideal.proofs.IdealGuest.OpeningLemmas.{empty_valid}
+use Rattle.port_core.specs.Registers.{IsValid, Maps}
 
 pub sound_unmapped : (guest home : IdealGuest) (tables : Maps) → guest.tables ≡ record { devices = []; events = []; collections = [] } → record guest { tables = tables } ≡ home → IsSound home → IsSound guest
 sound_unmapped guest home tables none is sound =

@@ -2,12 +2,10 @@
 use Rattle.std.proofs.Common.{ℕ, ◌<◌, List, Option, Some, None}
 use Rattle.std.specs.Prelude.{◌^◌, IfSome}
 use Rattle.std.proofs.Props.{props}
-use Rattle.gic_prio.specs.declared.cpu.CpuRec.{CpuRec}
-use Rattle.gic_word.specs.declared.record.Route.{Route}
-use Rattle.gic_word.specs.declared.record.Route.TheVariants.{Affinity, Target}
-use Rattle.gic_word.specs.Word.{IsRoute, IsSeat}
+use Rattle.port_core.specs.Registers.{CpuRec}
+use Rattle.port_core.specs.Words.{Route, Affinity, Target, IsRoute, IsSeat}
 use Rattle.port_core.specs.declared.end.GuestWords.{GuestWords}
-use Rattle.scn_base.specs.declared.guest.GuestSpec.{GuestSpec}
+use Rattle.port_core.specs.Calls.{GuestSpec}
 use Rattle.guest_end.specs.Home.{IsAtEnd}
 
 some_prop : (bits : Option ℕ) (event : ℕ) → IsProp (IfSome bits (λ bits. event < 2 ^ bits))

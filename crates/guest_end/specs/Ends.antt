@@ -1,12 +1,11 @@
 -- How guests ended (own choice).
 use Rattle.std.specs.Prelude.{◌≡◌, List, [], ◌∷◌, length, take, drop}
 use Rattle.gic_ideal.specs.Ends.{end_of}
-use Rattle.gic_prio.specs.declared.cpu.CpuRec.{CpuRec}
-use Rattle.ideal_guest.specs.declared.guest.IdealGuest.{IdealGuest}
-use Rattle.ideal_guest.specs.Opening.{opening as opening_guest}
+use Rattle.port_core.specs.Registers.{CpuRec}
+use Rattle.gic_ideal.specs.IdealGuest.declared.guest.IdealGuest.{IdealGuest}
+use Rattle.gic_ideal.specs.IdealGuest.Opening.{opening as opening_guest}
 use Rattle.port_core.specs.declared.end.GuestWords.{GuestWords}
-use Rattle.scn_base.specs.declared.guest.GuestSpec.{GuestSpec}
-use Rattle.scn_base.specs.Good.{IsGoodGuest}
+use Rattle.port_core.specs.Calls.{GuestSpec, IsGoodGuest}
 use Rattle.guest_end.specs.Home.{IsAtEnd, guest_of}
 
 -- a guest ended with these words and CPU records, and its end lines are those of this guest of the ideal controller

@@ -1,19 +1,13 @@
 -- A guest as its words and CPU records say that it is, while no interrupt is at a CPU interface (own choice).
 use Rattle.std.specs.Prelude.{◌≡◌, ℕ, Bool, false, IsTrue, List, length, map, All, None, slice_index_or, slice_set, if◌then◌else◌}
 use Rattle.std.specs.List.{range_with_len}
-use Rattle.gic_base.specs.declared.shape.GuestShape.{GuestShape}
-use Rattle.gic_open.specs.declared.plain.PlainWord.TheVariants.{Fault}
-use Rattle.gic_open.specs.Opening.{opening_cpu}
-use Rattle.gic_open.specs.Plain.{place_of_plain}
-use Rattle.gic_prio.specs.declared.cpu.CpuRec.{CpuRec}
-use Rattle.gic_word.specs.declared.record.Irq.{Irq}
-use Rattle.gic_word.specs.Word.{IsWord, irq_of}
-use Rattle.ideal_guest.specs.declared.guest.IdealGuest.{IdealGuest}
-use Rattle.ideal_guest.specs.Sound.{IsSound}
-use Rattle.its_queue.specs.Queue.{is_queue_word, queue_of}
+use Rattle.port_core.specs.Words.{GuestShape, Irq, IsWord, irq_of}
+use Rattle.port_core.specs.Calls.{Fault, opening_cpu, place_of_plain, GuestSpec}
+use Rattle.port_core.specs.Registers.{CpuRec, is_queue_word, queue_of}
+use Rattle.gic_ideal.specs.IdealGuest.declared.guest.IdealGuest.{IdealGuest}
+use Rattle.gic_ideal.specs.IdealGuest.Sound.{IsSound}
 use Rattle.port_core.specs.declared.end.GuestWords.{GuestWords}
 use Rattle.port_core.specs.Forms.{ctlr_of, vcpu_of}
-use Rattle.scn_base.specs.declared.guest.GuestSpec.{GuestSpec}
 
 -- the record of an interrupt by its word, but for who holds it and whether it is asked for
 abbrev pub home_irq : ℕ → Irq

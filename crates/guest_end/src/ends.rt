@@ -1,16 +1,16 @@
 //! How the guests of a scenario ended.
 ghost use Rattle.std.specs.Prelude.{◌≡◌, List, IfOk, map};
 ghost use Rattle.gic_ideal.specs.Ends.{ends_of as ends_between};
-ghost use Rattle.ideal_guest.specs.declared.guest.IdealGuest.{IdealGuest};
-ghost use Rattle.ideal_guest.specs.Opening.{opening};
+ghost use Rattle.gic_ideal.specs.IdealGuest.declared.guest.IdealGuest.{IdealGuest};
+ghost use Rattle.gic_ideal.specs.IdealGuest.Opening.{opening};
 ghost use Rattle.guest_end.specs.Ends.{HaveEnded, AllEndAt};
 
 use crate::home::end_of;
-use gic_base::NoMemory;
-use gic_list::ListOf;
-use gic_prio::CpuRec;
 use port_core::EndWords;
-use scn_base::{Ends, Guests};
+use port_core::gic_base::NoMemory;
+use port_core::gic_guest::{Ends, Guests};
+use port_core::gic_list::ListOf;
+use port_core::gic_prio::CpuRec;
 use std::alloc::Global;
 
 /// How each guest ended, by its words and the records of its CPU interfaces, which stand one guest's after the other's. An error

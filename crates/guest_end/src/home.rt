@@ -1,22 +1,20 @@
 //! A guest at home, from its words.
 ghost use Rattle.std.specs.Prelude.{◌≡◌, [], All, IfOk, length, map};
 ghost use Rattle.gic_ideal.specs.Ends.{end_of as end_between};
-ghost use Rattle.gic_base.specs.Shape.{IsShape};
-ghost use Rattle.gic_open.specs.Plain.{plain_count};
-ghost use Rattle.gic_word.specs.Word.{IsWord};
-ghost use Rattle.ideal_guest.specs.Opening.{opening};
-ghost use Rattle.scn_base.specs.Good.{IsGoodGuest};
+ghost use Rattle.port_core.specs.Words.{IsShape, IsWord};
+ghost use Rattle.port_core.specs.Calls.{plain_count, IsGoodGuest};
+ghost use Rattle.gic_ideal.specs.IdealGuest.Opening.{opening};
 ghost use Rattle.guest_end.specs.Home.{home_irq as home_irq_of, cpus_at_home, plain_at_home, IsAtEnd, guest_of};
 
-use gic_base::{GuestShape, NoMemory};
 use gic_ideal::IdealGuest;
-use gic_list::ListOf;
-use gic_open::{PlainWord, place_of_plain};
-use gic_prio::CpuRec;
-use gic_word::{Irq, unpack};
-use its_tab::empty;
+use port_core::gic_base::{GuestShape, NoMemory};
+use port_core::gic_guest::{End, GuestSpec};
+use port_core::gic_list::ListOf;
+use port_core::gic_open::{PlainWord, place_of_plain};
+use port_core::gic_prio::CpuRec;
+use port_core::gic_word::{Irq, unpack};
+use port_core::its_tab::empty;
 use port_core::{CtlrWord, GuestWords, VcpuWord};
-use scn_base::{End, GuestSpec};
 use std::alloc::{AllocError, Global};
 
 /// The record of an interrupt by its word, but for who holds it and whether it is asked for.
@@ -87,7 +85,7 @@ fn without_tables(
     ensures value { IfOk result (λ guest. record guest { tables = words.now.tables } ≡ guest_of spec.now words.now cpus.now) }
     ensures unmapped { IfOk result (λ guest. guest.tables ≡ record { devices = []; events = []; collections = [] }) }
 {
-    let queue = its_queue::unpack(words.queue).unwrap();
+    let queue = port_core::its_cmd::unpack(words.queue).unwrap();
     Ok(IdealGuest {
         shape: spec.shape,
         irqs: home_irqs(alloc, words.irqs.as_slice())?,

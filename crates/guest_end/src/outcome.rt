@@ -2,9 +2,9 @@
 ghost use Rattle.std.specs.Prelude.{◌≡◌};
 ghost use Rattle.guest_end.specs.Outcome.{answer_by};
 
-use gic_list::ListOf;
-use gic_prio::CpuRec;
-use scn_base::{Answer, Answers};
+use port_core::gic_guest::{Answer, Answers};
+use port_core::gic_list::ListOf;
+use port_core::gic_prio::CpuRec;
 
 /// The records of CPU interfaces, in order of guest and vCPU.
 pub type CpuRecs = ListOf<CpuRec>;

@@ -1,7 +1,7 @@
 -- What holds of each number so far, and of one more.
 use Rattle.std.proofs.Common.{◌≡◌, ℕ, zero, suc, ◌+◌, ◌<◌, List, [], ◌∷◌, ◌++◌, map, Bool, true, false, ◌&&◌, ◌||◌, refl, ap, ◌∙◌, add-one, arith}
 use Rattle.std.specs.List.{list_all, list_any, range_with_len}
-use Rattle.gic_call.proofs.RangeLemmas.{range_with_len_more}
+use Rattle.floor_histories.proofs.GicCall.RangeLemmas.{range_with_len_more}
 
 all_and : {X : Type 0} (p : X → Bool) (f : ℕ → X) (xs : List ℕ) (n : ℕ) → list_all p (map f (xs ++ n ∷ [])) ≡ (list_all p (map f xs) && p (f n))
 all_and p f [] n = of (p (f n))

@@ -5,35 +5,16 @@ use Rattle.std.proofs.lemmas.Bool.{and_parts, and_from}
 use Rattle.std.proofs.lemmas.Option.{same_Some}
 use Rattle.std.proofs.lemmas.List.{length-set, length-replicate}
 use Rattle.std.proofs.lemmas.List.Elements.{All-set, All-head, All-tail}
-use Rattle.gic_prio.specs.declared.candidate.Candidate.{Candidate}
-use Rattle.gic_prio.specs.Interface.{AtInterface, candidates_at, acknowledged_at, deactivated_at, acknowledged_entry, deactivated_entry}
-use Rattle.gic_open.specs.Opening.{opening_cpu}
-use Rattle.gic_open.specs.Plain.{has_plain, place_of_plain}
-use Rattle.gic_open.specs.declared.plain.PlainWord.{PlainWord}
-use Rattle.gic_dmap.specs.declared.contents.Enables.{Enables}
-use Rattle.gic_base.specs.declared.icc.IccReg.{IccReg}
-use Rattle.gic_prio.specs.Access.{taken_by, deactivated_by, cpu_after}
+use Rattle.floor_histories.specs.Registers.{Candidate, AtInterface, candidates_at, acknowledged_at, deactivated_at, acknowledged_entry, deactivated_entry, Enables, taken_by, deactivated_by, cpu_after, CpuRec, HasBinaryPoints, Maps}
+use Rattle.floor_histories.specs.Calls.{opening_cpu, has_plain, place_of_plain, PlainWord, Entry, Moved, IsEntryOf, IsMovedOf, GuestSpec}
+use Rattle.floor_histories.specs.Words.{IccReg, Key, GuestShape, has_interrupt, is_same_key, intid_of, Irq, has_active_state, IsRecordOf}
 use Rattle.history_check.specs.Access.{taken_one, ended_one, accessed_one}
-use Rattle.gic_base.specs.declared.interrupt.Key.{Key}
-use Rattle.gic_base.specs.declared.shape.GuestShape.{GuestShape}
-use Rattle.gic_base.specs.Interrupt.{has_interrupt, is_same_key, intid_of}
-use Rattle.gic_base.proofs.KeyLemmas.{same_key, same_itself}
-use Rattle.gic_word.specs.declared.record.Irq.{Irq}
-use Rattle.gic_word.specs.Causes.{has_active_state}
-use Rattle.gic_word.specs.Valid.{IsRecordOf}
-use Rattle.gic_open.proofs.KeyLemmas.{irq_same, irq_other, length-with_irq_in}
-use Rattle.gic_prio.specs.declared.cpu.CpuRec.{CpuRec}
-use Rattle.gic_prio.specs.Priority.{HasBinaryPoints}
-use Rattle.gic_call.specs.declared.moves.Entry.{Entry}
-use Rattle.gic_call.specs.declared.moves.Moved.{Moved}
-use Rattle.gic_call.specs.Move.{IsEntryOf, IsMovedOf}
-use Rattle.its_tab.specs.Maps.{Maps}
-use Rattle.scn_base.specs.declared.guest.GuestSpec.{GuestSpec}
-use Rattle.ideal_guest.specs.Ideal.{irq_at, cpu_at, with_cpu, with_word, with_queue}
-use Rattle.ideal_guest.specs.Opening.{opening as opening_guest}
-use Rattle.ideal_guest.specs.Sound.{IsIdealCpu, IsSound}
-use Rattle.gic_history.specs.State.{Ideal, Standing, shown_at, opening, standing_at, is_of, moved_at, interface_at, with_irq, with_standing}
-use Rattle.gic_history.specs.Moves.{with_entry, without, standing_of, after_access}
+use Rattle.floor_histories.proofs.GicBase.KeyLemmas.{same_key, same_itself}
+use Rattle.floor_histories.proofs.GicOpen.KeyLemmas.{irq_same, irq_other, length-with_irq_in}
+use Rattle.floor_histories.specs.Histories.{irq_at, cpu_at, with_cpu, with_word, with_queue, IsIdealCpu, IsSound, Ideal, Standing, shown_at, standing_at, is_of, moved_at, interface_at, with_irq, with_standing, with_entry, without, standing_of}
+use Rattle.floor_histories.specs.IdealGuest.Opening.{opening as opening_guest}
+use Rattle.floor_histories.specs.GicHistory.State.{opening}
+use Rattle.floor_histories.specs.GicHistory.Moves.{after_access}
 use Rattle.history_check.specs.Ready.{fits, IsReady}
 
 none_fit : (shape : GuestShape) (n : ℕ) → IsTrue (list_all (list_all (fits shape)) (replicate n []))

@@ -1,7 +1,7 @@
 -- An actor that is none is in no call.
 use Rattle.std.proofs.Common.{◌≡◌, ℕ, zero, suc, false, ◌&&◌, ◌==◌, List, [], ◌∷◌, None, is_some, refl, ap, sym, slice_index_or, nat_lt, length, arith}
 use Rattle.std.proofs.lemmas.Grind.{common_steps}
-use Rattle.gic_history.specs.Fresh.{Doing}
+use Rattle.floor_histories.specs.Histories.{Doing}
 use Rattle.history_check.specs.Track.{doing_in}
 
 pub past_end : {X : Type 0} (xs : List X) (i : ℕ) (d : X) → nat_lt i (length xs) ≡ false → slice_index_or xs i d ≡ d

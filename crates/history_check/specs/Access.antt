@@ -1,11 +1,9 @@
 -- What an access of a CPU interface leaves of an interrupt that stands there.
 use Rattle.std.specs.Prelude.{ℕ, ◌==◌, Option, if◌then◌else◌}
 use Rattle.std.specs.Option.{option_map_or}
-use Rattle.gic_base.specs.Interrupt.{intid_of}
-use Rattle.gic_prio.specs.declared.candidate.Candidate.{Candidate}
-use Rattle.gic_prio.specs.Interface.{AtInterface, acknowledged_entry, deactivated_entry}
-use Rattle.gic_history.specs.State.{Standing}
-use Rattle.gic_history.specs.Moves.{standing_of}
+use Rattle.floor_histories.specs.Words.{intid_of}
+use Rattle.floor_histories.specs.Registers.{Candidate, AtInterface, acknowledged_entry, deactivated_entry}
+use Rattle.floor_histories.specs.Histories.{Standing, standing_of}
 
 -- after an acknowledge of a candidate, or of none
 abbrev pub taken_one : Option Candidate → AtInterface → AtInterface

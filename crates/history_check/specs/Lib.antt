@@ -1,3 +1,10 @@
+pub use Rattle.floor_histories.specs.Calls
+pub use Rattle.floor_histories.specs.Histories
+pub use Rattle.floor_histories.specs.Registers
+pub use Rattle.floor_histories.specs.Words
+pub use Rattle.floor_histories.specs.GicCall
+pub use Rattle.floor_histories.specs.GicHistory
+pub use Rattle.floor_histories.specs.ItsCmd
 pub mod Ready
 pub mod Access
 pub mod Track

@@ -2,18 +2,11 @@
 -- for each plain word, and a list of what stands at each vCPU's interface, of interrupts that the guest has, as they can stand there.
 use Rattle.std.specs.Prelude.{◌≡◌, ◌&&◌, ◌||◌, not, Bool, true, false, IsTrue, All, length}
 use Rattle.std.specs.List.{list_all}
-use Rattle.gic_base.specs.declared.interrupt.Key.{Key}
-use Rattle.gic_base.specs.declared.shape.GuestShape.{GuestShape}
-use Rattle.gic_base.specs.Interrupt.{has_interrupt, interrupt_count}
-use Rattle.gic_base.specs.Shape.{IsShape}
-use Rattle.gic_word.specs.Causes.{has_active_state}
-use Rattle.gic_word.specs.Valid.{IsRecordOf}
-use Rattle.gic_prio.specs.Priority.{HasBinaryPoints}
-use Rattle.gic_open.specs.Plain.{plain_count}
-use Rattle.gic_call.specs.declared.event.Event.{Event}
-use Rattle.gic_call.specs.declared.event.Event.TheVariants.{CtlrBegin, CtlrEnd, ItsBegin, ItsEnd}
-use Rattle.ideal_guest.specs.Ideal.{irq_at}
-use Rattle.gic_history.specs.State.{Ideal, Standing}
+use Rattle.floor_histories.specs.Words.{Key, GuestShape, has_interrupt, interrupt_count, IsShape, has_active_state, IsRecordOf}
+use Rattle.floor_histories.specs.Registers.{HasBinaryPoints}
+use Rattle.floor_histories.specs.Calls.{plain_count, Event, CtlrBegin, CtlrEnd, ItsBegin}
+use Rattle.floor_histories.specs.GicCall.declared.event.Event.TheVariants.{ItsEnd}
+use Rattle.floor_histories.specs.Histories.{irq_at, Ideal, Standing}
 
 -- an interrupt as it can stand at an interface: the guest has it, an LPI is never active, and what is not pending there has no causes there
 abbrev pub fits : GuestShape → Standing → Bool

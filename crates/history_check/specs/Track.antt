@@ -1,8 +1,7 @@
 -- What a track of a guest's history has room for: there is a place for each interrupt.
 use Rattle.std.specs.Prelude.{◌≡◌, ℕ, List, [], None, length, slice_index_or}
-use Rattle.gic_base.specs.declared.shape.GuestShape.{GuestShape}
-use Rattle.gic_base.specs.Interrupt.{interrupt_count}
-use Rattle.gic_history.specs.Fresh.{Doing, Track}
+use Rattle.floor_histories.specs.Words.{GuestShape, interrupt_count}
+use Rattle.floor_histories.specs.Histories.{Doing, Track}
 
 pub record HasPlaces (shape : GuestShape) (track : Track) : Type 0 where
   pub changes : length track.changes ≡ interrupt_count shape

@@ -1,25 +1,19 @@
 //! Accesses of CPU interface registers, for which only what stands at the interface counts.
 ghost use Rattle.std.specs.Prelude.{◌≡◌, ◌<◌, List, IfOk, OnOk, OnErr, map};
-ghost use Rattle.gic_prio.specs.declared.candidate.Candidate.{Candidate};
-ghost use Rattle.gic_prio.specs.Access.{taken_by, deactivated_by, answer_of, cpu_after};
-ghost use Rattle.gic_prio.specs.Delivery.{first_of};
-ghost use Rattle.gic_prio.specs.Interface.{interface_answer, candidates_at};
-ghost use Rattle.gic_prio.specs.Priority.{HasBinaryPoints};
-ghost use Rattle.gic_prio.specs.Signal.{intid_read};
-ghost use Rattle.ideal_guest.specs.Ideal.{with_cpu};
-ghost use Rattle.gic_history.specs.State.{interface_at, shown_at, standing_at};
-ghost use Rattle.gic_history.specs.Moves.{after_access};
+ghost use Rattle.floor_histories.specs.Registers.{Candidate, taken_by, deactivated_by, answer_of, cpu_after, first_of, interface_answer, candidates_at, HasBinaryPoints, intid_read};
+ghost use Rattle.floor_histories.specs.Histories.{with_cpu, interface_at, shown_at, standing_at};
+ghost use Rattle.floor_histories.specs.GicHistory.Moves.{after_access};
 ghost use Rattle.history_check.specs.Ready.{IsReady};
 
 use crate::shown::{Shown, accessed, first_candidate};
 use crate::state::State;
-use gic_base::IccReg;
-use gic_list::ListOf;
-use gic_prio::{
+use floor_histories::gic_base::IccReg;
+use floor_histories::gic_list::ListOf;
+use floor_histories::gic_prio::{
     Candidate, CpuRec, acknowledged, cpu_written, highest_pending, intid_deactivated,
     intid_or_spurious, level_activated, read_plain,
 };
-use gic_word::Group;
+use floor_histories::gic_word::Group;
 use std::alloc::{AllocError, Global};
 
 /// The candidate that an access acknowledges, from the first of the candidates.

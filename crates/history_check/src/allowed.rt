@@ -1,18 +1,14 @@
 //! Which events an actor may make.
 ghost use Rattle.std.specs.Prelude.{◌≡◌, ◌<◌, ◌&&◌, IsTrue, false};
 ghost use Rattle.std.specs.Option.{option_map_or};
-ghost use Rattle.gic_base.specs.Interrupt.{has_interrupt};
-ghost use Rattle.gic_word.specs.Record.{is_number};
-ghost use Rattle.ideal_guest.specs.Ideal.{irq_at, cpu_at};
-ghost use Rattle.gic_call.specs.Move.{may_reach as can_reach, may_take as can_take};
-ghost use Rattle.gic_call.specs.Valid.{CanHappen};
-ghost use Rattle.gic_history.specs.State.{is_home, moved_at};
-ghost use Rattle.gic_history.specs.Moves.{is_allowed};
+ghost use Rattle.floor_histories.specs.Words.{has_interrupt, is_number};
+ghost use Rattle.floor_histories.specs.Histories.{irq_at, cpu_at, is_home, moved_at, is_allowed};
+ghost use Rattle.floor_histories.specs.Calls.{may_reach as can_reach, may_take as can_take, CanHappen};
 ghost use Rattle.history_check.specs.Ready.{IsReady};
 
 use crate::state::State;
-use gic_base::Key;
-use gic_call::{Event, may_reach, may_take};
+use floor_histories::gic_base::Key;
+use floor_histories::gic_call::{Event, may_reach, may_take};
 
 /// Whether the actor has a mark.
 fn has_mark(mark: Option<u32>, actor: u32) -> bool

@@ -1,21 +1,19 @@
 //! Fresh at an acknowledge: which interrupts come first, and which of them an open call excuses.
 ghost use Rattle.std.specs.Prelude.{◌≡◌, ◌<◌, ◌||◌, not, true, IfOk, IsTrue};
 ghost use Rattle.std.specs.Option.{option_map_or};
-ghost use Rattle.gic_base.specs.Interrupt.{has_interrupt};
-ghost use Rattle.gic_prio.specs.Delivery.{is_before, first_of};
-ghost use Rattle.gic_prio.specs.Interface.{candidates_at};
-ghost use Rattle.gic_call.specs.declared.event.Event.{Event};
-ghost use Rattle.gic_history.specs.State.{interface_at};
-ghost use Rattle.gic_history.specs.Fresh.{asks_first as asks_first_of, comes_first as comes_first_of, is_excused as is_excused_of, is_fresh_at_acknowledge as is_fresh_of};
+ghost use Rattle.floor_histories.specs.Words.{has_interrupt};
+ghost use Rattle.floor_histories.specs.Registers.{is_before, first_of, candidates_at};
+ghost use Rattle.floor_histories.specs.Calls.{Event};
+ghost use Rattle.floor_histories.specs.Histories.{interface_at, asks_first as asks_first_of, comes_first as comes_first_of, is_excused as is_excused_of, is_fresh_at_acknowledge as is_fresh_of};
 ghost use Rattle.history_check.specs.Ready.{IsReady};
 ghost use Rattle.history_check.specs.Track.{HasPlaces};
 
 use crate::coming::is_awaited;
 use crate::state::State;
 use crate::track::Track;
-use gic_base::{IccReg, Key, interrupt_count, key_at};
-use gic_call::Moment;
-use gic_prio::{Candidate, deliverable};
+use floor_histories::gic_base::{IccReg, Key, interrupt_count, key_at};
+use floor_histories::gic_call::Moment;
+use floor_histories::gic_prio::{Candidate, deliverable};
 use std::alloc::{AllocError, Global};
 
 /// Whether a candidate is before the first of others, or there is none.

@@ -3,18 +3,17 @@
 ghost use Rattle.std.specs.Prelude.{◌≡◌, ◌<◌, ◌==◌, [], ◌∷◌, IsTrue, IfSome, Some, None, false, fold};
 ghost use Rattle.std.specs.List.{list_all, list_any};
 ghost use Rattle.std.specs.Option.{option_map_or};
-ghost use Rattle.gic_base.specs.Interrupt.{has_interrupt};
-ghost use Rattle.gic_base.specs.Shape.{IsShape};
-ghost use Rattle.gic_call.specs.declared.event.Event.{Event};
-ghost use Rattle.gic_history.specs.Fresh.{is_open, changes_of, is_last_open, is_fresh_at_interface, is_fresh_at_end, ended_by, is_far_active, is_late, left_behind, has_left_all};
+ghost use Rattle.floor_histories.specs.Words.{has_interrupt, IsShape};
+ghost use Rattle.floor_histories.specs.Calls.{Event};
+ghost use Rattle.floor_histories.specs.Histories.{is_open, changes_of, is_last_open, is_fresh_at_interface, is_fresh_at_end, ended_by, is_far_active, is_late, left_behind, has_left_all};
 ghost use Rattle.history_check.specs.Ready.{IsReady};
 ghost use Rattle.history_check.specs.Track.{HasPlaces};
 
 use crate::access::ended;
 use crate::state::State;
 use crate::track::{Changes, Leaving, Track, Turn};
-use gic_base::{GuestShape, IccReg, Key, key_of, place_of};
-use gic_word::pending;
+use floor_histories::gic_base::{GuestShape, IccReg, Key, key_of, place_of};
+use floor_histories::gic_word::pending;
 
 /// The bits of a value for EOIR or DIR that are the INTID.
 const INTID_MASK: u64 = 0xFF_FFFF;

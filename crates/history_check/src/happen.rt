@@ -1,20 +1,16 @@
 //! What the other events do, and all of them.
 ghost use Rattle.std.specs.Prelude.{◌≡◌, ◌<◌, IsTrue, if◌then◌else◌};
-ghost use Rattle.gic_base.specs.Interrupt.{has_interrupt};
-ghost use Rattle.gic_open.specs.Plain.{has_plain};
-ghost use Rattle.ideal_guest.specs.Ideal.{changed_irq, with_word, with_queue, after_event};
-ghost use Rattle.gic_word.specs.Causes.{raised, wire_up, wire_down};
-ghost use Rattle.gic_call.specs.declared.event.Event.{Event};
-ghost use Rattle.gic_call.specs.Touch.{CanTouch, touched};
-ghost use Rattle.gic_call.specs.Valid.{HappensFreely};
+ghost use Rattle.floor_histories.specs.Words.{has_interrupt, raised, wire_up, wire_down};
+ghost use Rattle.floor_histories.specs.Calls.{has_plain, Event, CanTouch, touched, HappensFreely};
+ghost use Rattle.floor_histories.specs.Histories.{changed_irq, with_word, with_queue, after_event};
 ghost use Rattle.history_check.specs.Ready.{IsReady};
 
 use crate::state::State;
-use gic_base::Key;
-use gic_call::{QueueChange, Touching};
-use gic_dmap::Enables;
-use gic_open::{PlainWord, place_of_plain};
-use gic_prio::CpuRec;
+use floor_histories::gic_base::Key;
+use floor_histories::gic_call::{QueueChange, Touching};
+use floor_histories::gic_dmap::Enables;
+use floor_histories::gic_open::{PlainWord, place_of_plain};
+use floor_histories::gic_prio::CpuRec;
 
 impl State {
     /// Stores a value in a plain word.

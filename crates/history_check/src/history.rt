@@ -1,22 +1,16 @@
 //! Each event: what it hands out, and the state after it.
 ghost use Rattle.std.specs.Prelude.{◌≡◌, ℕ, IfOk, OnOk, OnErr, IsTrue, None};
-ghost use Rattle.its_cmd.specs.Command.{decoded};
-ghost use Rattle.its_tab.specs.After.{maps_after};
-ghost use Rattle.its_tab.specs.Fault.{fault_of, fault_number};
-ghost use Rattle.gic_open.specs.Plain.{has_plain};
-ghost use Rattle.ideal_guest.specs.Ideal.{word_at};
-ghost use Rattle.gic_call.specs.declared.event.QueueChange.{QueueChange};
-ghost use Rattle.gic_call.specs.Trace.{held_at};
-ghost use Rattle.gic_call.specs.Valid.{CanHappen, HappensFreely, has_place};
-ghost use Rattle.gic_history.specs.State.{view_at};
-ghost use Rattle.gic_history.specs.Moves.{handed_out, happened};
+ghost use Rattle.floor_histories.specs.ItsCmd.Command.{decoded};
+ghost use Rattle.floor_histories.specs.Registers.{maps_after, fault_of, fault_number};
+ghost use Rattle.floor_histories.specs.Calls.{has_plain, QueueChange, held_at, CanHappen, HappensFreely, has_place};
+ghost use Rattle.floor_histories.specs.Histories.{word_at, view_at, handed_out, happened};
 ghost use Rattle.history_check.specs.Ready.{IsReady, is_mark};
 
 use crate::state::State;
-use gic_base::NoMemory;
-use gic_call::{Event, Found, Place};
-use gic_open::{PlainWord, place_of_plain};
-use its_cmd::{Command, decode};
+use floor_histories::gic_base::NoMemory;
+use floor_histories::gic_call::{Event, Found, Place};
+use floor_histories::gic_open::{PlainWord, place_of_plain};
+use floor_histories::its_cmd::{Command, decode};
 use std::alloc::{AllocError, Global};
 
 impl State {

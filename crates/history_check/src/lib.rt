@@ -17,6 +17,9 @@ mod track;
 
 pub use coming::{is_awaited, is_to_come, key_in};
 pub use excuse::{asks_first, comes_first, is_fresh_at_acknowledge};
+pub use floor_histories::{
+    gic_base, gic_call, gic_dmap, gic_frame, gic_guest, gic_list, gic_open, gic_word,
+};
 pub use standing::Standing;
 pub use state::State;
 pub use track::{Changes, Doing, Leaving, Track, Turn};

@@ -1,18 +1,16 @@
 //! The moves of an interrupt to an interface, at it, and from it.
 ghost use Rattle.std.specs.Prelude.{◌≡◌, ◌<◌, ◌++◌, ◌∷◌, [], IfOk, OnOk, OnErr, IsTrue, is_some, List};
-ghost use Rattle.gic_base.specs.Interrupt.{has_interrupt};
-ghost use Rattle.gic_history.specs.State.{moved_at, with_irq, with_standing, Standing as Stands};
-ghost use Rattle.gic_history.specs.Moves.{after_reach, after_take, after_leave, with_entry, without};
+ghost use Rattle.floor_histories.specs.Words.{has_interrupt, IsRecordOf};
+ghost use Rattle.floor_histories.specs.Histories.{moved_at, with_irq, with_standing, Standing as Stands, after_reach, after_take, after_leave, with_entry, without};
 ghost use Rattle.std.specs.List.{list_all};
-ghost use Rattle.gic_word.specs.Valid.{IsRecordOf};
 ghost use Rattle.history_check.specs.Ready.{fits, IsReady};
 
 use crate::standing::Standing;
 use crate::state::State;
-use gic_base::{Key, place_of};
-use gic_call::{Entry, Moved};
-use gic_list::ListOf;
-use gic_word::Irq;
+use floor_histories::gic_base::{Key, place_of};
+use floor_histories::gic_call::{Entry, Moved};
+use floor_histories::gic_list::ListOf;
+use floor_histories::gic_word::Irq;
 use std::alloc::{AllocError, Global};
 
 /// What stands at an interface, but for an interrupt.

@@ -1,17 +1,16 @@
 //! An interrupt at a CPU interface as accesses of its registers see it.
 ghost use Rattle.std.specs.Prelude.{◌≡◌, IfOk, map};
 ghost use Rattle.std.specs.List.{filter_map};
-ghost use Rattle.gic_word.specs.Causes.{has_active_state as keeps_active};
-ghost use Rattle.gic_prio.specs.Delivery.{first_of};
-ghost use Rattle.gic_prio.specs.Interface.{candidate_of};
+ghost use Rattle.floor_histories.specs.Words.{has_active_state as keeps_active};
+ghost use Rattle.floor_histories.specs.Registers.{first_of, candidate_of};
 ghost use Rattle.history_check.specs.Access.{accessed_one};
 
 use crate::standing::Standing;
-use gic_base::Key;
-use gic_call::Entry;
-use gic_list::ListOf;
-use gic_prio::{Candidate, CpuRec, earlier, listens};
-use gic_word::Group;
+use floor_histories::gic_base::Key;
+use floor_histories::gic_call::Entry;
+use floor_histories::gic_list::ListOf;
+use floor_histories::gic_prio::{Candidate, CpuRec, earlier, listens};
+use floor_histories::gic_word::Group;
 use std::alloc::{AllocError, Global};
 use std::marker::Model;
 
@@ -25,7 +24,7 @@ pub(crate) struct Shown {
 }
 
 impl Model for Shown {
-    ghost use Rattle.gic_prio.specs.Interface.{AtInterface};
+    ghost use Rattle.floor_histories.specs.Registers.{AtInterface};
 
     ghost Value = { AtInterface };
 

@@ -1,11 +1,11 @@
 //! What stands at a CPU interface.
 ghost use Rattle.std.specs.Prelude.{◌≡◌, find, option_map, if◌then◌else◌};
 ghost use Rattle.std.specs.List.{list_any};
-ghost use Rattle.gic_history.specs.State.{is_of};
+ghost use Rattle.floor_histories.specs.Histories.{is_of};
 
-use gic_base::Key;
-use gic_call::Entry;
-use gic_list::ListOf;
+use floor_histories::gic_base::Key;
+use floor_histories::gic_call::Entry;
+use floor_histories::gic_list::ListOf;
 use std::marker::Model;
 
 /// An interrupt at a CPU interface, with what the interface has of it.
@@ -16,7 +16,7 @@ pub struct Standing {
 }
 
 impl Model for Standing {
-    ghost use Rattle.gic_history.specs.State.{Standing};
+    ghost use Rattle.floor_histories.specs.Histories.{Standing};
 
     ghost Value = { Standing };
 

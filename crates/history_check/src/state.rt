@@ -1,19 +1,19 @@
 //! The state of the ideal controller of one guest while interrupts stand at CPU interfaces.
 ghost use Rattle.std.specs.Prelude.{◌≡◌, ◌<◌, [], IfOk, IsTrue, replicate};
-ghost use Rattle.gic_base.specs.Interrupt.{has_interrupt};
-ghost use Rattle.scn_base.specs.Good.{IsGoodGuest};
-ghost use Rattle.ideal_guest.specs.Ideal.{irq_at, cpu_at};
-ghost use Rattle.gic_history.specs.State.{opening, is_home, standing_at, moved_at};
+ghost use Rattle.floor_histories.specs.Words.{has_interrupt};
+ghost use Rattle.floor_histories.specs.Calls.{IsGoodGuest};
+ghost use Rattle.floor_histories.specs.Histories.{irq_at, cpu_at, is_home, standing_at, moved_at};
+ghost use Rattle.floor_histories.specs.GicHistory.State.{opening};
 ghost use Rattle.history_check.specs.Ready.{IsReady};
 
 use crate::standing::{Standing, entry_of, is_somewhere};
-use gic_base::{GuestShape, Key, place_of};
-use gic_call::Moved;
-use gic_list::ListOf;
-use gic_prio::CpuRec;
-use gic_word::Irq;
-use ideal_guest::IdealGuest;
-use scn_base::GuestSpec;
+use floor_histories::gic_base::{GuestShape, Key, place_of};
+use floor_histories::gic_call::Moved;
+use floor_histories::gic_guest::GuestSpec;
+use floor_histories::gic_list::ListOf;
+use floor_histories::gic_prio::CpuRec;
+use floor_histories::gic_word::Irq;
+use floor_histories::ideal_guest::IdealGuest;
 use std::alloc::{AllocError, Global};
 use std::marker::Model;
 
@@ -28,7 +28,7 @@ pub struct State {
 }
 
 impl Model for State {
-    ghost use Rattle.gic_history.specs.State.{Ideal};
+    ghost use Rattle.floor_histories.specs.Histories.{Ideal};
 
     ghost Value = { Ideal };
 

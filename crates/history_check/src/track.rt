@@ -1,11 +1,11 @@
 //! What a history says of its actors and its interrupts: which calls are open, and who changed what since when.
 ghost use Rattle.std.specs.Prelude.{◌≡◌, ◌&&◌, ◌==◌, is_some};
-ghost use Rattle.gic_history.specs.Fresh.{is_open};
+ghost use Rattle.floor_histories.specs.Histories.{is_open};
 ghost use Rattle.history_check.specs.Track.{doing_in};
 
-use gic_base::Key;
-use gic_call::Operation;
-use gic_list::ListOf;
+use floor_histories::gic_base::Key;
+use floor_histories::gic_call::Operation;
+use floor_histories::gic_list::ListOf;
 use std::marker::Model;
 
 /// A call of an actor, or one of the commands of a call: the actor's calls and commands are numbered.
@@ -16,7 +16,7 @@ pub struct Turn {
 }
 
 impl Model for Turn {
-    ghost use Rattle.gic_history.specs.Fresh.{Turn};
+    ghost use Rattle.floor_histories.specs.Histories.{Turn, Doing, Changes, Track};
 
     ghost Value = { Turn };
 
@@ -32,8 +32,6 @@ pub struct Doing {
 }
 
 impl Model for Doing {
-    ghost use Rattle.gic_history.specs.Fresh.{Doing};
-
     ghost Value = { Doing };
 
     ghost view = { λ d. record { operation = d.operation; number = d.number; done = d.done } };
@@ -47,8 +45,6 @@ pub struct Changes {
 }
 
 impl Model for Changes {
-    ghost use Rattle.gic_history.specs.Fresh.{Changes};
-
     ghost Value = { Changes };
 
     ghost view = { λ c. record { last = c.last; since = c.since } };
@@ -63,7 +59,7 @@ pub struct Leaving {
 
 impl Model for Leaving {
     ghost use Rattle.std.specs.Prelude.{ℕ};
-    ghost use Rattle.gic_base.specs.declared.interrupt.Key.{Key as KeyOf};
+    ghost use Rattle.floor_histories.specs.Words.{Key as KeyOf};
 
     ghost Value = { ℕ × KeyOf };
 
@@ -80,8 +76,6 @@ pub struct Track {
 }
 
 impl Model for Track {
-    ghost use Rattle.gic_history.specs.Fresh.{Track};
-
     ghost Value = { Track };
 
     ghost view = { λ t. record { doings = t.doings; changes = t.changes; leaving = t.leaving } };

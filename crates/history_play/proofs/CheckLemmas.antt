@@ -3,14 +3,11 @@ use Rattle.std.proofs.Common.{◌≡◌, ℕ, ◌+◌, ◌<◌, ◌≤◌, zero,
 use Rattle.std.specs.List.{list_all}
 use Rattle.std.proofs.lemmas.Bool.{and_from}
 use Rattle.std.proofs.lemmas.List.{length-replicate, take_more, take_all, drop_more}
-use Rattle.gic_base.specs.Interrupt.{interrupt_count}
-use Rattle.gic_base.specs.declared.shape.GuestShape.{GuestShape}
-use Rattle.gic_call.specs.declared.event.Moment.{Moment}
-use Rattle.gic_call.specs.declared.event.Moment.TheVariants.{Begin, Happens, End}
-use Rattle.scn_base.specs.declared.guest.GuestSpec.{GuestSpec}
-use Rattle.gic_history.specs.State.{Ideal, opening}
-use Rattle.gic_history.specs.History.{Call, Course, actor_count, opening_course, gone_on}
-use Rattle.gic_history.specs.Fresh.{Doing, Track, opening_track, tracked, after_moment, IsFresh}
+use Rattle.history_check.specs.Words.{interrupt_count, GuestShape}
+use Rattle.history_check.specs.Calls.{Moment, Begin, Happens, GuestSpec}
+use Rattle.history_check.specs.GicCall.declared.event.Moment.TheVariants.{End}
+use Rattle.history_check.specs.Histories.{Ideal, Call, Course, actor_count, opening_course, gone_on, Doing, Track, opening_track, tracked, after_moment, IsFresh}
+use Rattle.history_check.specs.GicHistory.State.{opening}
 use Rattle.history_check.specs.Ready.{IsReady}
 use Rattle.history_play.specs.Coming.{AreOne, IsFine, IsCause}
 use Rattle.history_play.specs.Kept.{IsKept}

@@ -5,26 +5,16 @@ use Rattle.std.specs.Option.{option_map_or}
 use Rattle.std.proofs.lemmas.Bool.{and_parts, and_from}
 use Rattle.std.proofs.lemmas.Grind.{common_steps}
 use Rattle.std.proofs.lemmas.List.{length-set}
-use Rattle.gic_base.specs.declared.interrupt.Key.{Key}
-use Rattle.gic_base.specs.declared.shape.GuestShape.{GuestShape}
-use Rattle.gic_call.specs.declared.event.Event.{Event}
-use Rattle.gic_call.specs.declared.event.Event.TheVariants.{Raise, Up, Down, Enable, Touch, Reach, Take, Leave, Cpu, Read, Put, CtlrBegin, CtlrEnd, ItsBegin, ItsEnd, Queue}
-use Rattle.gic_call.specs.declared.event.QueueChange.TheVariants.{Runs, Done, Stalls}
-use Rattle.gic_call.specs.declared.event.Moment.{Moment}
-use Rattle.gic_call.specs.declared.event.Moment.TheVariants.{Begin, Happens, End}
-use Rattle.gic_call.specs.declared.moves.Moved.{Moved}
-use Rattle.gic_call.specs.Move.{taken, left}
-use Rattle.gic_history.specs.State.{Ideal, standing_at, moved_at, with_irq, with_standing}
-use Rattle.gic_history.specs.Moves.{happened, with_entry, without}
-use Rattle.gic_history.specs.History.{Call, Course, call_of, seeing, made, gone_on}
-use Rattle.gic_history.specs.Fresh.{Doing, Track, Changes, doing_of, after_changes, after_leaving, after_doing, tracked, after_moment}
+use Rattle.history_check.specs.Words.{Key, GuestShape}
+use Rattle.history_check.specs.Calls.{Event, Up, Down, Enable, Touch, Reach, Take, Leave, Cpu, Put, CtlrBegin, CtlrEnd, ItsBegin, Runs, Done, Stalls, Moment, Begin, Happens, Moved, taken, left, Found, QueueChange}
+use Rattle.history_check.specs.GicCall.declared.event.Event.TheVariants.{Raise, Read, ItsEnd, Queue}
+use Rattle.history_check.specs.GicCall.declared.event.Moment.TheVariants.{End}
+use Rattle.history_check.specs.Histories.{Ideal, standing_at, moved_at, with_irq, with_standing, happened, with_entry, without, Call, Course, call_of, seeing, made, gone_on, Doing, Track, Changes, doing_of, after_changes, after_leaving, after_doing, tracked, after_moment}
 use Rattle.history_check.proofs.ReadyLemmas.{all_set}
 use Rattle.history_check.proofs.TrackLemmas.{past_end}
 use Rattle.history_check.specs.Track.{doing_in}
-use Rattle.its_cmd.specs.Command.{decoded}
-use Rattle.its_tab.specs.Fault.{fault_number}
-use Rattle.gic_call.specs.declared.event.Found.{Found}
-use Rattle.gic_call.specs.declared.event.QueueChange.{QueueChange}
+use Rattle.history_check.specs.ItsCmd.Command.{decoded}
+use Rattle.history_check.specs.Registers.{fault_number}
 use Rattle.history_play.specs.Coming.{is_unknown, AreOne}
 use Rattle.history_play.specs.Kept.{IsKept}
 

@@ -2,12 +2,10 @@
 use Rattle.std.proofs.Common.{◌≡◌, Bool, true, IsTrue, List, [], ◌∷◌, ◌++◌, refl, subst, sym, Option, None, Some, is_some}
 use Rattle.std.proofs.lemmas.Bool.{and_parts, and_from}
 use Rattle.std.proofs.lemmas.List.{append_assoc, append-nil}
-use Rattle.gic_call.specs.declared.event.Moment.{Moment}
-use Rattle.gic_call.specs.declared.event.Moment.TheVariants.{Begin, Happens, End}
-use Rattle.scn_base.specs.declared.guest.GuestSpec.{GuestSpec}
-use Rattle.gic_history.specs.State.{Ideal, opening}
-use Rattle.gic_history.specs.History.{Call, Course, opening_course, call_of, gone_on, course_of, IsCallEnded, IsNext, GoesOn}
-use Rattle.gic_history.specs.Fresh.{Track, opening_track, tracked, after_moment, of_event, of_end, is_fresh_at_acknowledge, is_fresh_at_interface, is_fresh_at_end, is_kept_from, is_acknowledged_from, IsFresh}
+use Rattle.history_check.specs.Calls.{Moment, Begin, Happens, GuestSpec}
+use Rattle.history_check.specs.GicCall.declared.event.Moment.TheVariants.{End}
+use Rattle.history_check.specs.Histories.{Ideal, Call, Course, opening_course, call_of, gone_on, course_of, IsCallEnded, IsNext, GoesOn, Track, opening_track, tracked, after_moment, of_event, of_end, is_fresh_at_acknowledge, is_fresh_at_interface, is_fresh_at_end, is_kept_from, is_acknowledged_from, IsFresh}
+use Rattle.history_check.specs.GicHistory.State.{opening}
 use Rattle.history_play.specs.Coming.{IsComing, IsFine}
 use Rattle.history_play.specs.Played.{GoesOnFreely, IsAllowed, course_at, track_from, track_at, is_acknowledged_before, IsFreshBefore}
 

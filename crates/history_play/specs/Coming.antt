@@ -1,16 +1,11 @@
 -- Which moment may come next in a history, and why one may not.
 use Rattle.std.specs.Prelude.{◌≡◌, ℕ, ◌<◌, Bool, true, false, IsTrue, List, is_some, length}
-use Rattle.its_cmd.specs.Command.{decoded}
-use Rattle.its_tab.specs.Fault.{fault_number}
-use Rattle.gic_call.specs.declared.event.Event.{Event}
-use Rattle.gic_call.specs.declared.event.Event.TheVariants.{Queue}
-use Rattle.gic_call.specs.declared.event.QueueChange.TheVariants.{Done}
-use Rattle.gic_call.specs.declared.event.Moment.{Moment}
-use Rattle.gic_call.specs.declared.event.Moment.TheVariants.{Begin, Happens, End as EndOfCall}
-use Rattle.gic_call.specs.Valid.{CanHappen}
-use Rattle.gic_history.specs.State.{Ideal}
-use Rattle.gic_history.specs.History.{Course, actor_count, call_of, IsNext}
-use Rattle.gic_history.specs.Fresh.{Track, doing_of, is_fresh_at_acknowledge, is_fresh_at_interface, is_fresh_at_end, of_event, of_end}
+use Rattle.history_check.specs.ItsCmd.Command.{decoded}
+use Rattle.history_check.specs.Registers.{fault_number}
+use Rattle.history_check.specs.Calls.{Event, Done, Moment, Begin, Happens, CanHappen}
+use Rattle.history_check.specs.GicCall.declared.event.Event.TheVariants.{Queue}
+use Rattle.history_check.specs.GicCall.declared.event.Moment.TheVariants.{End as EndOfCall}
+use Rattle.history_check.specs.Histories.{Ideal, Course, actor_count, call_of, IsNext, Track, doing_of, is_fresh_at_acknowledge, is_fresh_at_interface, is_fresh_at_end, of_event, of_end}
 use Rattle.history_play.specs.declared.verdict.Cause.{Cause}
 use Rattle.history_play.specs.declared.verdict.Cause.TheVariants.{Unknown, Forbidden, Acknowledge, Interface, End, Deactivation}
 

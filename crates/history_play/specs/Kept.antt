@@ -1,9 +1,8 @@
 -- What holds of each state and track that the program reaches.
 use Rattle.std.specs.Prelude.{◌≡◌, ℕ, IsTrue, nat_le, length}
 use Rattle.std.specs.List.{list_all}
-use Rattle.gic_base.specs.declared.shape.GuestShape.{GuestShape}
-use Rattle.gic_history.specs.History.{actor_count}
-use Rattle.gic_history.specs.Fresh.{Track}
+use Rattle.history_check.specs.Words.{GuestShape}
+use Rattle.history_check.specs.Histories.{actor_count, Track}
 use Rattle.history_check.specs.Track.{HasPlaces}
 
 -- a track of a guest's history has a place for each interrupt and for each actor

@@ -1,8 +1,7 @@
 -- What histories are to the program.
 use Rattle.std.specs.Prelude.{List}
-use Rattle.gic_call.specs.declared.event.Moment.{Moment}
-use Rattle.scn_base.specs.declared.guest.GuestSpec.{GuestSpec}
-use Rattle.gic_history.specs.History.{IsHistory}
+use Rattle.history_check.specs.Calls.{Moment, GuestSpec}
+use Rattle.history_check.specs.Histories.{IsHistory}
 use Rattle.history_play.specs.Played.{IsAllowed}
 
 -- every history of a guest is allowed

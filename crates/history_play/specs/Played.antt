@@ -1,10 +1,8 @@
 -- The histories that the program plays.
 use Rattle.std.specs.Prelude.{◌≡◌, ◌<◌, ◌+◌, ◌&&◌, Bool, true, IsTrue, List, [], ◌∷◌, ◌++◌, length, take, drop, slice_get, Some}
-use Rattle.gic_call.specs.declared.event.Moment.{Moment}
-use Rattle.scn_base.specs.declared.guest.GuestSpec.{GuestSpec}
-use Rattle.gic_history.specs.State.{Ideal, opening}
-use Rattle.gic_history.specs.History.{Course, opening_course, gone_on, course_of}
-use Rattle.gic_history.specs.Fresh.{Track, opening_track, tracked, after_moment, is_fresh_at_acknowledge, is_fresh_at_interface, is_fresh_at_end, of_event, of_end, is_kept}
+use Rattle.history_check.specs.Calls.{Moment, GuestSpec}
+use Rattle.history_check.specs.Histories.{Ideal, Course, opening_course, gone_on, course_of, Track, opening_track, tracked, after_moment, is_fresh_at_acknowledge, is_fresh_at_interface, is_fresh_at_end, of_event, of_end, is_kept}
+use Rattle.history_check.specs.GicHistory.State.{opening}
 use Rattle.history_play.specs.Coming.{IsComing, IsCause}
 use Rattle.history_play.specs.declared.whole.Refusal.{Refusal}
 

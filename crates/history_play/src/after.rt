@@ -1,16 +1,14 @@
 //! The state and the track after a moment.
 ghost use Rattle.std.specs.Prelude.{◌≡◌, false, ◌<◌, ◌+◌, ◌^◌, OnOk};
-ghost use Rattle.gic_call.specs.Valid.{CanHappen};
-ghost use Rattle.gic_call.specs.declared.event.Found.{Found};
-ghost use Rattle.gic_history.specs.Moves.{happened};
-ghost use Rattle.gic_history.specs.Fresh.{after_moment, tracked};
+ghost use Rattle.history_check.specs.Calls.{CanHappen, Found};
+ghost use Rattle.history_check.specs.Histories.{happened, after_moment, tracked};
 ghost use Rattle.history_check.specs.Ready.{IsReady};
 ghost use Rattle.history_play.specs.Coming.{is_unknown, CanFollow};
 ghost use Rattle.history_play.specs.Kept.{IsKept};
 
 use crate::track::{begins, ends, happens};
-use gic_base::NoMemory;
-use gic_call::{Event, Moment, QueueChange};
+use history_check::gic_base::NoMemory;
+use history_check::gic_call::{Event, Moment, QueueChange};
 use history_check::{State, Track};
 use std::alloc::Global;
 

@@ -1,18 +1,13 @@
 //! Which events a guest can have.
 ghost use Rattle.std.specs.Prelude.{◌≡◌, ◌<◌, ◌^◌, ◌↔◌, ◌&&◌, IsTrue, nat_lt};
-ghost use Rattle.gic_frame.specs.Part.{part_bits as part_bits_of};
-ghost use Rattle.gic_base.specs.Shape.{IsShape};
-ghost use Rattle.gic_base.specs.Interrupt.{has_interrupt};
-ghost use Rattle.scn_base.specs.Good.{has_wire, is_usable as is_usable_for};
-ghost use Rattle.gic_open.specs.Plain.{has_plain as has_plain_in};
-ghost use Rattle.gic_reg.specs.Condition.{has_part as has_part_in};
-ghost use Rattle.gic_call.specs.Touch.{has_shown_part as has_shown_part_in, is_touch_of, is_priority as is_priority_of, is_lpi as is_lpi_of, CanTouch};
-ghost use Rattle.gic_call.specs.Valid.{has_place as has_place_in, is_stored as is_stored_in, IsOffset, CanHappen};
+ghost use Rattle.history_check.specs.Registers.{part_bits as part_bits_of, has_part as has_part_in};
+ghost use Rattle.history_check.specs.Words.{IsShape, has_interrupt};
+ghost use Rattle.history_check.specs.Calls.{has_wire, is_usable as is_usable_for, has_plain as has_plain_in, has_shown_part as has_shown_part_in, is_touch_of, is_priority as is_priority_of, is_lpi as is_lpi_of, CanTouch, has_place as has_place_in, is_stored as is_stored_in, IsOffset, CanHappen};
 
-use gic_base::{GuestShape, IccReg, Key, Kind, SGI_COUNT, key_of};
-use gic_call::{Event, Place, QueueChange, Touching};
-use gic_frame::part_bits;
-use gic_open::PlainWord;
+use history_check::gic_base::{GuestShape, IccReg, Key, Kind, SGI_COUNT, key_of};
+use history_check::gic_call::{Event, Place, QueueChange, Touching};
+use history_check::gic_frame::part_bits;
+use history_check::gic_open::PlainWord;
 
 /// The bytes of a command.
 const COMMAND_BYTES: u32 = 32;

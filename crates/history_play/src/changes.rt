@@ -1,14 +1,13 @@
 //! Who changed an interrupt last, and since it got to the interface where it is.
 ghost use Rattle.std.specs.Prelude.{◌≡◌, ◌<◌, ◌++◌, ◌∷◌, [], IfOk, OnOk, IsTrue, Some, length};
-ghost use Rattle.gic_base.specs.Interrupt.{has_interrupt};
-ghost use Rattle.gic_base.specs.Shape.{IsShape};
-ghost use Rattle.gic_call.specs.Valid.{CanHappen};
-ghost use Rattle.gic_history.specs.Fresh.{turn_of as turn_in, changed_by as changed_by_of, with_changes, after_changes};
+ghost use Rattle.history_check.specs.Words.{has_interrupt, IsShape};
+ghost use Rattle.history_check.specs.Calls.{CanHappen};
+ghost use Rattle.history_check.specs.Histories.{turn_of as turn_in, changed_by as changed_by_of, with_changes, after_changes};
 ghost use Rattle.history_check.specs.Track.{HasPlaces};
 
-use gic_base::{GuestShape, Key, place_of};
-use gic_call::Event;
-use gic_list::ListOf;
+use history_check::gic_base::{GuestShape, Key, place_of};
+use history_check::gic_call::Event;
+use history_check::gic_list::ListOf;
 use history_check::{Changes, Track, Turn, key_in};
 use std::alloc::{AllocError, Global};
 

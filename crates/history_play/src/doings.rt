@@ -1,10 +1,10 @@
 //! What an actor does.
 ghost use Rattle.std.specs.Prelude.{◌≡◌, ◌<◌, ◌+◌, ◌^◌, IfOk};
-ghost use Rattle.gic_history.specs.Fresh.{after_doing};
+ghost use Rattle.history_check.specs.Histories.{after_doing};
 
-use gic_base::Key;
-use gic_call::Event;
-use gic_list::ListOf;
+use history_check::gic_base::Key;
+use history_check::gic_call::Event;
+use history_check::gic_list::ListOf;
 use history_check::{Doing, key_in};
 use std::alloc::{AllocError, Global};
 

@@ -1,14 +1,14 @@
 //! Which interrupts are to leave an interface before a call ends.
 ghost use Rattle.std.specs.Prelude.{◌≡◌, ◌==◌, ◌&&◌, not, filter, IfOk, OnOk};
-ghost use Rattle.gic_base.specs.Interrupt.{is_same_key};
-ghost use Rattle.gic_call.specs.Valid.{CanHappen};
-ghost use Rattle.gic_history.specs.Fresh.{after_leaving};
+ghost use Rattle.history_check.specs.Words.{is_same_key};
+ghost use Rattle.history_check.specs.Calls.{CanHappen};
+ghost use Rattle.history_check.specs.Histories.{after_leaving};
 ghost use Rattle.history_check.specs.Ready.{IsReady};
 ghost use Rattle.history_check.specs.Track.{HasPlaces};
 
-use gic_base::Key;
-use gic_call::Event;
-use gic_list::ListOf;
+use history_check::gic_base::Key;
+use history_check::gic_call::Event;
+use history_check::gic_list::ListOf;
 use history_check::{Leaving, State, Track};
 use std::alloc::{AllocError, Global};
 

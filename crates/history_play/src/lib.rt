@@ -15,6 +15,7 @@ mod whole;
 
 pub use after::follow;
 pub use can::can_happen;
+pub use history_check::{gic_base, gic_call, gic_guest, gic_list, gic_open, gic_word};
 pub use laws::histories_are_allowed;
 pub use track::{begins, ends, happens, opening_track};
 pub use verdict::{Cause, judge};

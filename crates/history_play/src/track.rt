@@ -1,20 +1,17 @@
 //! What a history says of its actors and its interrupts, moment by moment.
 ghost use Rattle.std.specs.Prelude.{◌≡◌, ℕ, ◌<◌, ◌+◌, ◌^◌, [], Option, None, IfOk, OnOk, length, replicate};
-ghost use Rattle.gic_base.specs.Shape.{IsShape};
-ghost use Rattle.gic_call.specs.Valid.{CanHappen};
-ghost use Rattle.gic_call.specs.declared.event.Found.{Found};
-ghost use Rattle.gic_call.specs.declared.event.Moment.{Moment};
-ghost use Rattle.gic_history.specs.State.{Ideal};
-ghost use Rattle.gic_history.specs.Fresh.{opening_track as opening_track_of, doing_of, tracked};
+ghost use Rattle.history_check.specs.Words.{IsShape};
+ghost use Rattle.history_check.specs.Calls.{CanHappen, Found, Moment};
+ghost use Rattle.history_check.specs.Histories.{Ideal, opening_track as opening_track_of, doing_of, tracked};
 ghost use Rattle.history_check.specs.Ready.{IsReady};
 ghost use Rattle.history_check.specs.Track.{HasPlaces};
 
 use crate::changes::note_changes;
 use crate::doings::{copied_keys, doing_after};
 use crate::leaving::note_leaving;
-use gic_base::{GuestShape, interrupt_count};
-use gic_call::{Event, Operation};
-use gic_list::ListOf;
+use history_check::gic_base::{GuestShape, interrupt_count};
+use history_check::gic_call::{Event, Operation};
+use history_check::gic_list::ListOf;
 use history_check::{Changes, Doing, State, Track};
 use std::alloc::{AllocError, Global};
 

@@ -1,10 +1,7 @@
 //! Whether a moment may come next in a history, and whether that is fresh then.
 ghost use Rattle.std.specs.Prelude.{◌≡◌, ℕ, ◌<◌, ◌↔◌, List, is_some, IfOk, IfSome, IfNone, IsTrue};
-ghost use Rattle.gic_call.specs.Valid.{CanHappen};
-ghost use Rattle.gic_call.specs.declared.event.Moment.{Moment};
-ghost use Rattle.gic_history.specs.History.{Course, IsHappening};
-ghost use Rattle.gic_history.specs.State.{Ideal};
-ghost use Rattle.gic_history.specs.Fresh.{doing_of};
+ghost use Rattle.history_check.specs.Calls.{CanHappen, Moment};
+ghost use Rattle.history_check.specs.Histories.{Course, IsHappening, Ideal, doing_of};
 ghost use Rattle.history_check.specs.Ready.{IsReady};
 ghost use Rattle.history_check.specs.Track.{doing_in};
 ghost use Rattle.history_play.specs.Coming.{is_unknown, IsCause, IsFine, IsEventFresh, IsStale, AreOne, CanFollow};
@@ -12,8 +9,8 @@ ghost use Rattle.history_play.specs.Kept.{IsFollowed};
 
 use crate::can::can_happen;
 use crate::found::is_same;
-use gic_base::IccReg;
-use gic_call::{Event, Found, Moment, Operation, QueueChange};
+use history_check::gic_base::IccReg;
+use history_check::gic_call::{Event, Found, Moment, Operation, QueueChange};
 use history_check::{Doing, State, Track, is_fresh_at_acknowledge};
 use std::alloc::{AllocError, Global};
 

@@ -1,16 +1,16 @@
 //! Whether a list of moments is a fresh history of a guest.
 ghost use Rattle.std.specs.Prelude.{◌≡◌, ◌<◌, ◌+◌, IfOk, IfSome, IfNone, length, drop};
-ghost use Rattle.gic_history.specs.Fresh.{IsFresh};
-ghost use Rattle.scn_base.specs.Good.{IsGoodGuest};
+ghost use Rattle.history_check.specs.Histories.{IsFresh};
+ghost use Rattle.history_check.specs.Calls.{IsGoodGuest};
 ghost use Rattle.history_play.specs.Played.{IsAllowed, IsRefused};
 
 use crate::after::follow;
 use crate::track::opening_track;
 use crate::verdict::{Cause, judge};
-use gic_base::NoMemory;
-use gic_call::Moment;
 use history_check::State;
-use scn_base::GuestSpec;
+use history_check::gic_base::NoMemory;
+use history_check::gic_call::Moment;
+use history_check::gic_guest::GuestSpec;
 use std::alloc::Global;
 
 /// The first moment that does not go on with a fresh history, by its index from 0, and why it does not.

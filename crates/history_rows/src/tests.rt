@@ -1,11 +1,11 @@
 //! Histories that are fresh, and for each clause of fresh one that this clause alone refuses.
-use gic_base::{DeviceOp, Frame, GuestOp, GuestShape, IccReg, Key, Kind, NoMemory};
-use gic_call::{Event, Found, Moment, Operation, Touching};
-use gic_list::ListOf;
-use gic_open::opening_irq;
-use gic_word::{Group, Irq};
+use history_play::gic_base::{DeviceOp, Frame, GuestOp, GuestShape, IccReg, Key, Kind, NoMemory};
+use history_play::gic_call::{Event, Found, Moment, Operation, Touching};
+use history_play::gic_guest::{GuestSpec, Preset, PresetList};
+use history_play::gic_list::ListOf;
+use history_play::gic_open::opening_irq;
+use history_play::gic_word::{Group, Irq};
 use history_play::{Cause, Refusal, check};
-use scn_base::{GuestSpec, Preset, PresetList};
 use std::alloc::{AllocError, Global};
 use std::test::Fail;
 

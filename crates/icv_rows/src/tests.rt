@@ -1,13 +1,13 @@
 //! Whole states through the plan, the accesses of a guest and the fold, register by register.
 
-use gic_base::{Back, IccReg, Key, MAX_LIST_REGISTERS};
-use gic_ich::{HCR_EN, IchRegs};
-use gic_icv::{Outcome, TrapCause, access};
-use gic_prio::CpuRec;
-use gic_word::{Group, Irq, Route};
+use floor_lists::gic_base::{Back, IccReg, Key, MAX_LIST_REGISTERS};
+use floor_lists::gic_icv::{Outcome, TrapCause, access};
+use floor_lists::gic_word::{Group, Irq, Route};
+use floor_lists::vcpu_refill::fresh;
 use std::process::Abort;
-use vcpu_fold::fold;
-use vcpu_refill::fresh;
+use vcpu_state::fold;
+use vcpu_state::gic_ich::{HCR_EN, IchRegs};
+use vcpu_state::gic_prio::CpuRec;
 
 /// A vCPU with PMR 0xF0 that listens to group 1.
 const CPU: CpuRec = CpuRec {

@@ -5,24 +5,10 @@ use Rattle.std.specs.Option.{option_map_or}
 use Rattle.std.proofs.lemmas.Grind.{common_steps}
 use Rattle.std.proofs.lemmas.Option.{none-some, same_Some, cond_some}
 use Rattle.std.proofs.lemmas.List.Elements.{All-cons}
-use Rattle.gic_word.specs.declared.record.Irq.{Irq}
-use Rattle.gic_word.specs.declared.record.Route.{Route}
-use Rattle.gic_word.specs.declared.record.Route.TheVariants.{Affinity, Target}
-use Rattle.gic_word.specs.Record.{is_pending, is_number, target_in}
-use Rattle.gic_word.specs.Valid.{is_routed_as}
-use Rattle.gic_base.specs.declared.icc.IccReg.{IccReg}
-use Rattle.gic_base.specs.declared.icc.IccReg.TheVariants.{Iar0, Iar1}
-use Rattle.gic_base.specs.declared.interrupt.Key.{Key}
-use Rattle.gic_base.specs.declared.interrupt.Key.TheVariants.{Private, Spi, Lpi}
-use Rattle.gic_base.specs.declared.shape.GuestShape.{GuestShape}
-use Rattle.gic_base.specs.Shape.{IsShape}
-use Rattle.gic_base.specs.Interrupt.{has_interrupt, interrupt_count, intid_of, key_at, key_of}
-use Rattle.gic_prio.specs.declared.cpu.CpuRec.{CpuRec}
-use Rattle.gic_prio.specs.declared.candidate.Candidate.{Candidate}
-use Rattle.gic_prio.specs.Delivery.{is_deliverable, is_before, first_of}
-use Rattle.gic_prio.specs.Access.{taken_by, deactivated_by}
-use Rattle.gic_prio.proofs.AccessLemmas.{taken_first}
-use Rattle.gic_open.proofs.KeyLemmas.{key_at_there}
+use Rattle.floor_calls.specs.Words.{Irq, Route, Affinity, Target, is_pending, is_number, target_in, is_routed_as, IccReg, Iar0, Iar1, Key, Private, Spi, Lpi, GuestShape, IsShape, has_interrupt, interrupt_count, intid_of, key_at, key_of}
+use Rattle.floor_calls.specs.Registers.{CpuRec, Candidate, is_deliverable, is_before, first_of, taken_by, deactivated_by}
+use Rattle.floor_calls.proofs.GicPrio.AccessLemmas.{taken_first}
+use Rattle.floor_calls.proofs.GicOpen.KeyLemmas.{key_at_there}
 use Rattle.ideal_guest.specs.declared.guest.IdealGuest.{IdealGuest}
 use Rattle.ideal_guest.specs.Ideal.{irq_at, cpu_at, candidate_at, candidates, is_named}
 use Rattle.ideal_guest.specs.Sound.{IsSound}

@@ -2,21 +2,12 @@
 use Rattle.std.proofs.Common.{◌≡◌, ◌≢◌, ℕ, Bool, true, false, cond, IsTrue, Option, Some, None, length, refl, sym, ap, ◌∙◌, arith}
 use Rattle.std.specs.Option.{option_map_or}
 use Rattle.std.proofs.lemmas.Grind.{common_steps}
-use Rattle.gic_word.specs.declared.record.Irq.{Irq}
-use Rattle.gic_base.specs.declared.shape.GuestShape.{GuestShape}
-use Rattle.gic_base.specs.declared.interrupt.Key.{Key}
-use Rattle.gic_base.specs.declared.interrupt.Key.TheVariants.{Private, Spi, Lpi}
-use Rattle.gic_base.specs.Shape.{IsShape}
-use Rattle.gic_base.specs.Interrupt.{has_interrupt, interrupt_count, intid_of, is_same_key, key_of}
-use Rattle.gic_base.proofs.KeyLemmas.{same_key, same_itself}
-use Rattle.gic_open.specs.Opening.{irq_in, with_irq_in}
-use Rattle.gic_open.proofs.KeyLemmas.{irq_same, irq_other, length-with_irq_in}
+use Rattle.floor_calls.specs.Words.{Irq, GuestShape, Key, Private, Spi, Lpi, IsShape, has_interrupt, interrupt_count, intid_of, is_same_key, key_of, acknowledged, deactivated, IccReg}
+use Rattle.floor_calls.proofs.GicBase.KeyLemmas.{same_key, same_itself}
+use Rattle.floor_calls.specs.Calls.{irq_in, with_irq_in}
+use Rattle.floor_calls.proofs.GicOpen.KeyLemmas.{irq_same, irq_other, length-with_irq_in}
 use Rattle.ideal_guest.specs.declared.guest.IdealGuest.{IdealGuest}
-use Rattle.gic_word.specs.Causes.{acknowledged, deactivated}
-use Rattle.gic_base.specs.declared.icc.IccReg.{IccReg}
-use Rattle.gic_prio.specs.declared.cpu.CpuRec.{CpuRec}
-use Rattle.gic_prio.specs.declared.candidate.Candidate.{Candidate}
-use Rattle.gic_prio.specs.Access.{taken_by, deactivated_by, cpu_after}
+use Rattle.floor_calls.specs.Registers.{CpuRec, Candidate, taken_by, deactivated_by, cpu_after}
 use Rattle.ideal_guest.specs.Ideal.{is_named, irq_at, cpu_at, with_cpu, candidates, changed_irq, changed_at, after_acknowledge, after_deactivation, after_access}
 
 -- keys whose test is false are two

@@ -1,3 +1,10 @@
+pub use Rattle.floor_calls.proofs.GicBase
+pub use Rattle.floor_calls.proofs.GicCall
+pub use Rattle.floor_calls.proofs.GicFrame
+pub use Rattle.floor_calls.proofs.GicOpen
+pub use Rattle.floor_calls.proofs.GicPrio
+pub use Rattle.floor_calls.proofs.GicWord
+pub use Rattle.floor_calls.proofs.ItsTab
 pub mod KeyLemmas
 pub mod CandidateLemmas
 pub mod OpeningLemmas

@@ -2,17 +2,11 @@
 use Rattle.std.proofs.Common.{◌≡◌, [], ℕ, zero, suc, Bool, true, false, cond, ◌||◌, not, IsTrue, replicate, slice_index, refl, lit<, arith}
 use Rattle.std.proofs.lemmas.List.{length-replicate}
 use Rattle.std.proofs.lemmas.List.Elements.{All-replicate}
-use Rattle.scn_base.specs.declared.guest.GuestSpec.{GuestSpec}
-use Rattle.scn_base.specs.Good.{IsGoodGuest}
-use Rattle.gic_open.specs.Opening.{opening_cpu}
-use Rattle.gic_open.proofs.OpeningLemmas.{openings_valid}
-use Rattle.gic_open.specs.declared.plain.PlainWord.{PlainWord}
-use Rattle.gic_open.specs.declared.plain.PlainWord.TheVariants.{Fault}
-use Rattle.gic_open.specs.Plain.{has_plain, place_of_plain, plain_count}
-use Rattle.scn_base.specs.Good.{has_wire}
-use Rattle.gic_base.specs.declared.shape.GuestShape.{GuestShape}
+use Rattle.floor_calls.specs.Calls.{GuestSpec, IsGoodGuest, opening_cpu, PlainWord, Fault, has_plain, place_of_plain, plain_count, has_wire}
+use Rattle.floor_calls.proofs.GicOpen.OpeningLemmas.{openings_valid}
+use Rattle.floor_calls.specs.Words.{GuestShape}
 use Rattle.std.specs.List.Sorted.{IsStrictlySortedBy}
-use Rattle.its_tab.specs.After.{IsValid}
+use Rattle.floor_calls.specs.Registers.{IsValid}
 use Rattle.ideal_guest.specs.Ideal.{irq_at, word_at}
 use Rattle.ideal_guest.specs.Opening.{opening}
 use Rattle.ideal_guest.specs.Sound.{IsIdealCpu, IsSound}

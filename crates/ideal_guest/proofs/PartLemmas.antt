@@ -4,17 +4,11 @@ use Rattle.std.specs.List.{range_with_len}
 use Rattle.std.specs.Option.{option_eq}
 use Rattle.std.proofs.lemmas.Grind.{common_steps}
 use Rattle.std.proofs.lemmas.List.Elements.{filter-append}
-use Rattle.gic_base.specs.declared.shape.GuestShape.{GuestShape}
-use Rattle.gic_base.specs.declared.interrupt.Key.TheVariants.{Lpi}
-use Rattle.gic_base.specs.Interrupt.{has_interrupt}
-use Rattle.gic_word.specs.declared.record.Route.{Route}
-use Rattle.gic_word.specs.declared.record.Route.TheVariants.{Affinity, Target}
-use Rattle.gic_word.specs.Record.{is_number, target_in}
-use Rattle.gic_word.specs.Valid.{is_routed_as}
+use Rattle.floor_calls.specs.Words.{GuestShape, Lpi, has_interrupt, Route, Affinity, Target, is_number, target_in, is_routed_as}
 use Rattle.ideal_guest.specs.declared.guest.IdealGuest.{IdealGuest}
 use Rattle.ideal_guest.specs.Ideal.{irq_at}
 use Rattle.ideal_guest.specs.Sound.{IsSound}
-use Rattle.gic_call.proofs.RangeLemmas.{range_with_len_more}
+use Rattle.floor_calls.proofs.GicCall.RangeLemmas.{range_with_len_more}
 
 -- one more LPI, which passes or does not
 filter_more : (p : ℕ → Bool) (n : ℕ) → filter p (range_with_len 8192 (n + 1)) ≡ filter p (range_with_len 8192 n) ++ cond (p (8192 + n)) ((8192 + n) ∷ []) []

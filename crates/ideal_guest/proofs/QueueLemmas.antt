@@ -3,22 +3,14 @@ use Rattle.std.proofs.Common.{◌≡◌, ◌≢◌, ℕ, zero, suc, ◌+◌, ◌
 use Rattle.std.specs.Option.{option_map_or}
 use Rattle.std.proofs.lemmas.Grind.{common_steps}
 use Rattle.std.proofs.lemmas.Bool.{eq-eqb, cases_lt}
-use Rattle.gic_frame.proofs.TestLemmas.{under}
+use Rattle.floor_calls.proofs.GicFrame.TestLemmas.{under}
 use Rattle.std.proofs.lemmas.List.Sums.{fold-append}
-use Rattle.gic_word.specs.declared.record.Irq.{Irq}
-use Rattle.gic_base.specs.declared.shape.GuestShape.{GuestShape}
-use Rattle.gic_bits.specs.Bits.{field_at}
-use Rattle.gic_imap.specs.Contents.{queue_bytes}
-use Rattle.its_queue.specs.Queue.{advanced}
-use Rattle.its_cmd.specs.Command.{decoded}
-use Rattle.its_tab.specs.Fault.{fault_number}
-use Rattle.gic_open.specs.declared.plain.PlainWord.TheVariants.{Cbaser, Cwriter, Fault}
-use Rattle.gic_call.specs.declared.event.Event.TheVariants.{Queue}
-use Rattle.gic_call.specs.declared.event.QueueChange.TheVariants.{Done, Stalls}
-use Rattle.gic_call.specs.declared.command.Part.{Part}
-use Rattle.gic_call.specs.declared.command.Part.TheVariants.{Forget, Map, Retarget, Raise, Clear, Configure}
-use Rattle.gic_call.specs.View.{View, is_its_enabled}
-use Rattle.gic_call.specs.Command.{lpi_event, is_queue_valid, queue_places, takes_command, command_words, decoded_parts, command_parts, queue_event, next_offset}
+use Rattle.floor_calls.specs.Words.{Irq, GuestShape, field_at}
+use Rattle.floor_calls.specs.Registers.{queue_bytes, advanced, fault_number}
+use Rattle.floor_calls.specs.ItsCmd.Command.{decoded}
+use Rattle.floor_calls.specs.Calls.{Cbaser, Cwriter, Fault, Done, Stalls, Part, Map, Clear, View, is_its_enabled, lpi_event, is_queue_valid, queue_places, takes_command, command_words, decoded_parts, command_parts, queue_event, next_offset}
+use Rattle.floor_calls.specs.GicCall.declared.event.Event.TheVariants.{Queue}
+use Rattle.floor_calls.specs.GicCall.declared.command.Part.TheVariants.{Forget, Retarget, Raise, Configure}
 use Rattle.ideal_guest.specs.declared.guest.IdealGuest.{IdealGuest}
 use Rattle.ideal_guest.specs.Ideal.{view_of, word_at, with_word, with_queue, after_event, after_events, after_command, after_commands, after_queued}
 use Rattle.ideal_guest.specs.Queue.{QueuesRunDry, BadCommandsStall}

@@ -5,46 +5,18 @@ use Rattle.std.specs.Option.{option_map_or}
 use Rattle.std.proofs.lemmas.Grind.{common_steps}
 use Rattle.std.proofs.lemmas.List.{length-set, get_or-set_same, get_or-set_other}
 use Rattle.std.proofs.lemmas.List.Elements.{All-set}
-use Rattle.gic_word.specs.declared.record.Irq.{Irq}
-use Rattle.gic_word.specs.declared.record.Route.{Route}
-use Rattle.gic_word.specs.declared.record.Route.TheVariants.{Affinity, Target}
-use Rattle.gic_word.specs.Record.{is_number, target_in}
-use Rattle.gic_word.specs.Causes.{raised, wire_up, wire_down, cleared, acknowledged, deactivated}
-use Rattle.gic_word.specs.Valid.{is_routed_as, is_vcpu_or_none, IsRecordOf, IsHome}
-use Rattle.gic_word.proofs.ValidLemmas.{valid_raised, valid_wire_up, valid_wire_down, valid_acknowledged, valid_deactivated}
-use Rattle.gic_base.specs.declared.shape.GuestShape.{GuestShape}
-use Rattle.gic_base.specs.declared.interrupt.Key.{Key}
-use Rattle.gic_base.specs.declared.interrupt.Key.TheVariants.{Private, Spi, Lpi}
-use Rattle.gic_base.specs.declared.icc.IccReg.{IccReg}
-use Rattle.gic_base.specs.Shape.{IsShape}
-use Rattle.gic_base.specs.Interrupt.{has_interrupt, is_same_key, is_sgi, key_of}
-use Rattle.gic_prio.specs.declared.cpu.CpuRec.{CpuRec}
-use Rattle.gic_prio.specs.declared.candidate.Candidate.{Candidate}
-use Rattle.gic_prio.specs.Delivery.{is_deliverable}
-use Rattle.gic_prio.specs.Priority.{HasBinaryPoints}
-use Rattle.gic_prio.specs.Access.{cpu_after}
-use Rattle.gic_prio.proofs.AccessLemmas.{points_after, levels_after}
-use Rattle.gic_open.specs.Opening.{opening_cpu, with_irq_in}
-use Rattle.gic_open.specs.declared.plain.PlainWord.{PlainWord}
-use Rattle.gic_open.specs.declared.plain.PlainWord.TheVariants.{Ram, Propbaser, Pendbaser, ItsCtlr, Cbaser, Cwriter, Baser0, Baser1, Fault}
-use Rattle.gic_open.specs.Plain.{has_plain, place_of_plain}
-use Rattle.gic_dmap.specs.declared.contents.Enables.{Enables as GroupEnables}
-use Rattle.gic_call.specs.declared.touch.Touching.{Touching}
-use Rattle.gic_call.specs.declared.touch.Touching.TheVariants.{Read, Register, Enables, MapLpi, Retarget, Configure, Forget}
-use Rattle.gic_call.specs.Touch.{CanTouch, touched}
-use Rattle.gic_call.proofs.TouchLemmas.{touch_valid}
-use Rattle.gic_base.specs.declared.operation.Kind.{Kind}
-use Rattle.gic_base.specs.declared.operation.Kind.TheVariants.{Group, SetEnable, ClearEnable, SetPending, ClearPending, SetActive, ClearActive, Priority, Config, Routing}
-use Rattle.gic_reg.specs.Touch.{part_written, activated}
-use Rattle.gic_bits.specs.Bits.{has_bit}
-use Rattle.gic_call.specs.Valid.{IsOffset, is_stored}
-use Rattle.scn_base.specs.Good.{has_wire}
-use Rattle.its_tab.specs.Maps.{Maps}
-use Rattle.its_tab.specs.After.{IsValid}
+use Rattle.floor_calls.specs.Words.{Irq, Route, Affinity, Target, is_number, target_in, raised, wire_up, wire_down, cleared, acknowledged, deactivated, is_routed_as, is_vcpu_or_none, IsRecordOf, IsHome, GuestShape, Key, Private, Spi, Lpi, IccReg, IsShape, has_interrupt, is_same_key, is_sgi, key_of, Kind, SetEnable, ClearEnable, SetPending, ClearPending, SetActive, ClearActive, Priority, Config, Routing, has_bit}
+use Rattle.floor_calls.proofs.GicWord.ValidLemmas.{valid_raised, valid_wire_up, valid_wire_down, valid_acknowledged, valid_deactivated}
+use Rattle.floor_calls.specs.Registers.{CpuRec, Candidate, is_deliverable, HasBinaryPoints, cpu_after, Enables as GroupEnables, part_written, activated, Maps, IsValid}
+use Rattle.floor_calls.proofs.GicPrio.AccessLemmas.{points_after, levels_after}
+use Rattle.floor_calls.specs.Calls.{opening_cpu, with_irq_in, PlainWord, Ram, Propbaser, Pendbaser, ItsCtlr, Cbaser, Cwriter, Baser0, Baser1, Fault, has_plain, place_of_plain, Touching, Register, Enables, MapLpi, CanTouch, touched, IsOffset, is_stored, has_wire}
+use Rattle.floor_calls.specs.GicCall.declared.touch.Touching.TheVariants.{Read, Retarget, Configure, Forget}
+use Rattle.floor_calls.proofs.GicCall.TouchLemmas.{touch_valid}
+use Rattle.floor_calls.specs.GicBase.declared.operation.Kind.TheVariants.{Group}
 use Rattle.ideal_guest.specs.declared.guest.IdealGuest.{IdealGuest}
 use Rattle.ideal_guest.specs.Ideal.{irq_at, cpu_at, word_at, with_queue, changed_irq, changed_at, after_acknowledge, after_deactivation}
 use Rattle.ideal_guest.specs.Sound.{IsIdealRecord, IsIdealCpu, IsSound}
-use Rattle.gic_base.proofs.KeyLemmas.{same_key}
+use Rattle.floor_calls.proofs.GicBase.KeyLemmas.{same_key}
 use Rattle.ideal_guest.proofs.KeyLemmas.{IsWhole, irq_changed, whole_changed}
 use Rattle.ideal_guest.proofs.CandidateLemmas.{WasFirst}
 use Rattle.ideal_guest.proofs.OpeningLemmas.{cpu_opening}

@@ -1,12 +1,11 @@
 -- What the calls of vCPUs and devices do to one guest under the ideal controller, and what they answer.
 use Rattle.std.specs.Prelude.{ℕ, if◌then◌else◌, Some, None}
 use Rattle.std.specs.Option.{option_map_or}
-use Rattle.gic_base.specs.declared.operation.GuestOp.{GuestOp}
-use Rattle.gic_base.specs.declared.operation.GuestOp.TheVariants.{Icc, Mem}
-use Rattle.gic_base.specs.declared.operation.DeviceOp.{DeviceOp}
-use Rattle.scn_base.specs.declared.outcome.Answer.{Answer}
-use Rattle.scn_base.specs.declared.outcome.Answer.TheVariants.{Nothing, Value}
-use Rattle.gic_call.specs.Call.{icc_events, access_events, starts_commands, access_value, device_events}
+use Rattle.floor_calls.specs.Words.{GuestOp, Icc, Mem, DeviceOp}
+use Rattle.floor_calls.specs.GicGuest.declared.outcome.Answer.{Answer}
+use Rattle.floor_calls.specs.Calls.{Value, icc_events, access_events, access_value, device_events}
+use Rattle.floor_calls.specs.GicGuest.declared.outcome.Answer.TheVariants.{Nothing}
+use Rattle.floor_calls.specs.GicCall.Call.{starts_commands}
 use Rattle.ideal_guest.specs.declared.guest.IdealGuest.{IdealGuest}
 use Rattle.ideal_guest.specs.Ideal.{access_answer, view_of, after_events, after_queued}
 

@@ -2,29 +2,10 @@
 use Rattle.std.specs.Prelude.{ℕ, zero, suc, Bool, true, false, List, fold, slice_index, slice_set, if◌then◌else◌, Option, Some, None}
 use Rattle.std.specs.List.{slice_index_or, range_with_len, filter_map}
 use Rattle.std.specs.Option.{option_map_or}
-use Rattle.gic_word.specs.declared.record.Irq.{Irq}
-use Rattle.gic_word.specs.Causes.{raised, wire_up, wire_down, acknowledged, deactivated}
-use Rattle.gic_word.specs.Record.{target_in}
-use Rattle.gic_base.specs.declared.interrupt.Key.{Key}
-use Rattle.gic_base.specs.declared.interrupt.Key.TheVariants.{Lpi}
-use Rattle.gic_base.specs.declared.icc.IccReg.{IccReg}
-use Rattle.gic_base.specs.declared.shape.GuestShape.{GuestShape}
-use Rattle.gic_base.specs.Interrupt.{interrupt_count, intid_of, is_same_key, key_at, key_of}
-use Rattle.gic_prio.specs.declared.cpu.CpuRec.{CpuRec}
-use Rattle.gic_prio.specs.declared.candidate.Candidate.{Candidate}
-use Rattle.gic_prio.specs.Delivery.{is_deliverable}
-use Rattle.gic_prio.specs.Access.{taken_by, deactivated_by, answer_of, cpu_after}
-use Rattle.gic_open.specs.Opening.{irq_in, with_irq_in, opening_cpu}
-use Rattle.gic_open.specs.declared.plain.PlainWord.{PlainWord}
-use Rattle.gic_open.specs.declared.plain.PlainWord.TheVariants.{Cbaser, Fault}
-use Rattle.gic_open.specs.Plain.{has_plain, place_of_plain}
-use Rattle.gic_call.specs.declared.event.Event.{Event}
-use Rattle.gic_call.specs.declared.event.Event.TheVariants.{Raise, Up, Down, Enable, Touch, Cpu, Put, CtlrBegin, Queue}
-use Rattle.gic_call.specs.declared.event.QueueChange.{QueueChange}
-use Rattle.gic_call.specs.declared.event.QueueChange.TheVariants.{Runs, Done, Stalls}
-use Rattle.gic_call.specs.Touch.{touched}
-use Rattle.gic_call.specs.View.{View}
-use Rattle.gic_call.specs.Command.{takes_command, command_events, queue_places, maps_done}
+use Rattle.floor_calls.specs.Words.{Irq, raised, wire_up, wire_down, acknowledged, deactivated, target_in, Key, Lpi, IccReg, GuestShape, interrupt_count, intid_of, is_same_key, key_at, key_of}
+use Rattle.floor_calls.specs.Registers.{CpuRec, Candidate, is_deliverable, taken_by, deactivated_by, answer_of, cpu_after}
+use Rattle.floor_calls.specs.Calls.{irq_in, with_irq_in, opening_cpu, PlainWord, Cbaser, Fault, has_plain, place_of_plain, Event, Up, Down, Enable, Touch, Cpu, Put, CtlrBegin, QueueChange, Runs, Done, Stalls, touched, View, takes_command, command_events, queue_places, maps_done}
+use Rattle.floor_calls.specs.GicCall.declared.event.Event.TheVariants.{Raise, Queue}
 use Rattle.ideal_guest.specs.declared.guest.IdealGuest.{IdealGuest}
 
 -- the record of an interrupt that the guest has

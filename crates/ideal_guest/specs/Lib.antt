@@ -1,3 +1,13 @@
+pub use Rattle.floor_calls.specs.Calls
+pub use Rattle.floor_calls.specs.Registers
+pub use Rattle.floor_calls.specs.Words
+pub use Rattle.floor_calls.specs.GicBase
+pub use Rattle.floor_calls.specs.GicCall
+pub use Rattle.floor_calls.specs.GicDmap
+pub use Rattle.floor_calls.specs.GicGuest
+pub use Rattle.floor_calls.specs.GicImap
+pub use Rattle.floor_calls.specs.GicRmap
+pub use Rattle.floor_calls.specs.ItsCmd
 pub mod Opening
 pub mod Ideal
 pub mod Sound

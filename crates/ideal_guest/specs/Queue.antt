@@ -1,12 +1,8 @@
 -- What is true of the command queue of an ITS under the ideal controller (IHI 0069, "The ITS command queue").
 use Rattle.std.specs.Prelude.{ℕ, ◌≡◌, ◌<◌, ◌%◌, not, Bool, true, false, IsTrue, Some}
-use Rattle.its_cmd.specs.declared.command.Command.{Command}
-use Rattle.its_cmd.specs.declared.command.Command.TheVariants.{Movi, Int, Clear, Discard, Inv}
-use Rattle.its_cmd.specs.Command.{decoded}
-use Rattle.its_tab.specs.Fault.{fault_number}
-use Rattle.gic_imap.specs.Contents.{queue_bytes}
-use Rattle.gic_open.specs.declared.plain.PlainWord.TheVariants.{Cbaser, Cwriter, Fault}
-use Rattle.gic_call.specs.Command.{takes_command, command_words}
+use Rattle.floor_calls.specs.Registers.{Command, Movi, Int, Clear, Discard, Inv, fault_number, queue_bytes}
+use Rattle.floor_calls.specs.ItsCmd.Command.{decoded}
+use Rattle.floor_calls.specs.Calls.{Cbaser, Cwriter, Fault, takes_command, command_words}
 use Rattle.ideal_guest.specs.declared.guest.IdealGuest.{IdealGuest}
 use Rattle.ideal_guest.specs.Ideal.{view_of, word_at, with_word, with_queue, after_command, after_queued}
 use Rattle.ideal_guest.specs.Sound.{IsSound}

@@ -1,18 +1,9 @@
 -- What holds of each state that the ideal controller reaches.
 use Rattle.std.specs.Prelude.{◌≡◌, ◌<◌, ◌%◌, ◌||◌, not, IsTrue, length, All}
-use Rattle.gic_base.specs.declared.shape.GuestShape.{GuestShape}
-use Rattle.gic_base.specs.declared.interrupt.Key.{Key}
-use Rattle.gic_base.specs.Shape.{IsShape}
-use Rattle.gic_base.specs.Interrupt.{has_interrupt, interrupt_count}
-use Rattle.gic_word.specs.declared.record.Irq.{Irq}
-use Rattle.gic_word.specs.Valid.{IsRecordOf, IsHome}
-use Rattle.gic_prio.specs.declared.cpu.CpuRec.{CpuRec}
-use Rattle.gic_prio.specs.Priority.{HasBinaryPoints, HasLevels}
+use Rattle.floor_calls.specs.Words.{GuestShape, Key, IsShape, has_interrupt, interrupt_count, Irq, IsRecordOf, IsHome}
+use Rattle.floor_calls.specs.Registers.{CpuRec, HasBinaryPoints, HasLevels, IsValid}
 use Rattle.ideal_guest.specs.declared.guest.IdealGuest.{IdealGuest}
-use Rattle.scn_base.specs.Good.{has_wire}
-use Rattle.gic_open.specs.declared.plain.PlainWord.TheVariants.{Fault}
-use Rattle.gic_open.specs.Plain.{plain_count}
-use Rattle.its_tab.specs.After.{IsValid}
+use Rattle.floor_calls.specs.Calls.{has_wire, Fault, plain_count}
 use Rattle.ideal_guest.specs.Ideal.{irq_at, word_at}
 
 -- the record is one that this interrupt of the guest can have, no interface holds it, and nothing rose that has no wire

@@ -1,23 +1,19 @@
 //! What a vCPU's accesses of memory and of memory-mapped registers do, and what they read.
 ghost use Rattle.std.specs.Prelude.{◌≡◌, ◌≤◌, ◌<◌, ◌+◌, ◌^◌, ◌%◌, ◌∷◌, [], IsTrue, IfOk, All, None};
-ghost use Rattle.gic_base.specs.Interrupt.{has_interrupt};
-ghost use Rattle.gic_frame.specs.Part.{part_bits};
-ghost use Rattle.gic_ram.specs.Access.{is_size};
-ghost use Rattle.gic_call.specs.Fit.{FitsHalf, FitParts, FitsDist};
-ghost use Rattle.gic_call.specs.Valid.{HappensFreely};
-ghost use Rattle.gic_call.specs.View.{memory_at};
-ghost use Rattle.gic_call.specs.Access.{part_at, part_value as part_value_in, dist_events as dist_events_in, dist_plain, dist_written as dist_written_in, dist_held as dist_held_in, dist_value as dist_value_in};
+ghost use Rattle.floor_calls.specs.Words.{has_interrupt};
+ghost use Rattle.floor_calls.specs.Registers.{part_bits, is_size};
+ghost use Rattle.floor_calls.specs.Calls.{FitsHalf, FitParts, FitsDist, HappensFreely, memory_at, part_at, part_value as part_value_in, dist_events as dist_events_in, dist_plain, dist_written as dist_written_in, dist_held as dist_held_in, dist_value as dist_value_in};
 ghost use Rattle.ideal_guest.specs.Ideal.{view_of};
 ghost use Rattle.ideal_guest.specs.Sound.{IsSound};
 
 use crate::guest::IdealGuest;
-use gic_base::{Frame, Key, Kind, key_of};
-use gic_call::{Event, Events, Touching, ctlr_events, part_events, part_key};
-use gic_dmap::{Reg as DistReg, RegRef as DistRef, enables_in, message_intid};
-use gic_frame::{Half, IIDR, PIDR2, with_part};
-use gic_open::PlainWord;
-use gic_ram::{extract, insert, split};
-use gic_reg::read_part;
+use floor_calls::gic_base::{Frame, Key, Kind, key_of};
+use floor_calls::gic_call::{Event, Events, Touching, ctlr_events, part_events, part_key};
+use floor_calls::gic_dmap::{Reg as DistReg, RegRef as DistRef, enables_in, message_intid};
+use floor_calls::gic_frame::{Half, IIDR, PIDR2, with_part};
+use floor_calls::gic_open::PlainWord;
+use floor_calls::gic_ram::{extract, insert, split};
+use floor_calls::gic_reg::read_part;
 use std::alloc::{AllocError, Global};
 
 /// A write of 1 to an interrupt's part of ICPENDR.
@@ -187,8 +183,8 @@ impl IdealGuest {
         ensures { result ≡ dist_held_in self.now.shape (view_of self.now) reg }
     {
         match reg {
-            DistReg::Ctlr => u64::from(gic_dmap::ctlr(self.enables, false)),
-            DistReg::Typer => u64::from(gic_dmap::typer(&self.shape)),
+            DistReg::Ctlr => u64::from(floor_calls::gic_dmap::ctlr(self.enables, false)),
+            DistReg::Typer => u64::from(floor_calls::gic_dmap::typer(&self.shape)),
             DistReg::Iidr => u64::from(IIDR),
             DistReg::Router { id } => self.part(Frame::Dist, Kind::Routing, id, 0),
             DistReg::Pidr2 => u64::from(PIDR2),

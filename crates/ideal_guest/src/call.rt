@@ -1,21 +1,19 @@
 //! What the calls of vCPUs and devices do to one guest.
 ghost use Rattle.std.specs.Prelude.{◌≡◌, ◌<◌, ℕ, IsTrue, IfOk, OnOk, All, Some};
-ghost use Rattle.gic_ram.specs.Access.{is_size};
-ghost use Rattle.scn_base.specs.Good.{fits, has_frame, is_usable, is_good_op, is_good_event};
-ghost use Rattle.gic_call.specs.Valid.{HappensFreely};
-ghost use Rattle.gic_call.specs.Access.{memory_written};
-ghost use Rattle.gic_call.specs.Call.{access_events as access_events_in, starts_commands as starts_commands_in, access_value as access_value_in, device_events as device_events_in};
+ghost use Rattle.floor_calls.specs.Registers.{is_size};
+ghost use Rattle.floor_calls.specs.Calls.{fits, has_frame, is_usable, is_good_op, is_good_event, HappensFreely, memory_written, access_events as access_events_in, access_value as access_value_in, device_events as device_events_in};
+ghost use Rattle.floor_calls.specs.GicCall.Call.{starts_commands as starts_commands_in};
 ghost use Rattle.ideal_guest.specs.Ideal.{view_of};
 ghost use Rattle.ideal_guest.specs.Call.{op_answer, after_op, after_device};
 ghost use Rattle.ideal_guest.specs.Sound.{IsSound};
 
 use crate::access::{one, put};
 use crate::guest::IdealGuest;
-use gic_base::{DeviceOp, Frame, GuestOp, IccReg, Key, NoMemory};
-use gic_call::{Event, Events, dist_access, its_access, redist_access, sgi_events};
-use gic_open::PlainWord;
-use gic_ram::{insert, split};
-use scn_base::Answer;
+use floor_calls::gic_base::{DeviceOp, Frame, GuestOp, IccReg, Key, NoMemory};
+use floor_calls::gic_call::{Event, Events, dist_access, its_access, redist_access, sgi_events};
+use floor_calls::gic_guest::Answer;
+use floor_calls::gic_open::PlainWord;
+use floor_calls::gic_ram::{insert, split};
 use std::alloc::{AllocError, Global};
 
 impl IdealGuest {

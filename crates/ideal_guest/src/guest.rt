@@ -1,10 +1,10 @@
 //! The state of one guest.
-use gic_base::GuestShape;
-use gic_dmap::Enables;
-use gic_list::ListOf;
-use gic_prio::CpuRec;
-use gic_word::Irq;
-use its_tab::ItsTables;
+use floor_calls::gic_base::GuestShape;
+use floor_calls::gic_dmap::Enables;
+use floor_calls::gic_list::ListOf;
+use floor_calls::gic_prio::CpuRec;
+use floor_calls::gic_word::Irq;
+use floor_calls::its_tab::ItsTables;
 
 /// The state of one guest under the ideal controller.
 #[derive(Drop)]

@@ -1,14 +1,14 @@
 //! What an event does to one guest.
 ghost use Rattle.std.specs.Prelude.{◌≡◌, All, if◌then◌else◌};
-ghost use Rattle.gic_call.specs.Valid.{HappensFreely};
+ghost use Rattle.floor_calls.specs.Calls.{HappensFreely};
 ghost use Rattle.ideal_guest.specs.Ideal.{after_event, after_events};
 ghost use Rattle.ideal_guest.specs.Sound.{IsSound};
 
 use crate::guest::IdealGuest;
-use gic_base::Key;
-use gic_call::{Event, QueueChange, Touching};
-use gic_dmap::Enables;
-use gic_prio::CpuRec;
+use floor_calls::gic_base::Key;
+use floor_calls::gic_call::{Event, QueueChange, Touching};
+use floor_calls::gic_dmap::Enables;
+use floor_calls::gic_prio::CpuRec;
 
 impl IdealGuest {
     /// Makes an interrupt pending.

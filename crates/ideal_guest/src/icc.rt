@@ -1,20 +1,17 @@
 //! What a vCPU's accesses of its CPU interface do.
 ghost use Rattle.std.specs.Prelude.{◌≡◌, ◌<◌, Some, None};
-ghost use Rattle.gic_word.specs.Causes.{acknowledged as acknowledged_irq, deactivated as deactivated_irq};
-ghost use Rattle.gic_base.specs.Interrupt.{interrupt_count};
-ghost use Rattle.gic_prio.specs.Delivery.{first_of};
-ghost use Rattle.gic_prio.specs.Signal.{acknowledged as acknowledged_among, intid_read};
-ghost use Rattle.gic_prio.specs.Access.{activated_by};
+ghost use Rattle.floor_calls.specs.Words.{acknowledged as acknowledged_irq, deactivated as deactivated_irq, interrupt_count};
+ghost use Rattle.floor_calls.specs.Registers.{first_of, acknowledged as acknowledged_among, intid_read, activated_by};
 ghost use Rattle.ideal_guest.specs.Ideal.{cpu_at, with_cpu, changed_at, candidate_at, candidates, after_acknowledge, after_access, access_answer};
 ghost use Rattle.ideal_guest.specs.Sound.{IsSound};
 
 use crate::guest::IdealGuest;
-use gic_base::{IccReg, interrupt_count, key_at, key_of};
-use gic_prio::{
+use floor_calls::gic_base::{IccReg, interrupt_count, key_at, key_of};
+use floor_calls::gic_prio::{
     Candidate, SPURIOUS, acknowledged, cpu_written, deliverable, earlier, highest_pending,
     intid_deactivated, level_activated, read_plain,
 };
-use gic_word::Group;
+use floor_calls::gic_word::Group;
 
 impl IdealGuest {
     /// The interrupt at a place in key order, if it is deliverable to the vCPU.

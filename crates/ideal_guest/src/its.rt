@@ -1,22 +1,19 @@
 //! The command queue of a guest's ITS.
 ghost use Rattle.std.specs.Prelude.{◌≡◌, ◌<◌, ◌^◌, None, Ok, OnOk, OnErr};
-ghost use Rattle.its_cmd.specs.Command.{decoded};
-ghost use Rattle.its_tab.specs.Fault.{fault_of};
-ghost use Rattle.its_tab.specs.After.{maps_after};
-ghost use Rattle.gic_call.specs.View.{memory_at};
-ghost use Rattle.gic_call.specs.Command.{takes_command as takes_command_in, queue_address as queue_address_in, word_address, command_words as command_words_in};
+ghost use Rattle.floor_calls.specs.ItsCmd.Command.{decoded};
+ghost use Rattle.floor_calls.specs.Registers.{fault_of, maps_after};
+ghost use Rattle.floor_calls.specs.Calls.{memory_at, takes_command as takes_command_in, queue_address as queue_address_in, word_address, command_words as command_words_in};
 ghost use Rattle.ideal_guest.specs.Ideal.{view_of, after_command, after_queued};
 ghost use Rattle.ideal_guest.specs.Queue.{QueuesRunDry, BadCommandsStall};
 ghost use Rattle.ideal_guest.specs.Sound.{IsSound};
 
 use crate::guest::IdealGuest;
-use gic_base::NoMemory;
-use gic_bits::{Field, has_bit};
-use gic_imap::queue_bytes;
-use gic_open::PlainWord;
-use its_cmd::{Command, decode};
-use its_queue::{COMMAND_BYTES, advance};
-use its_tab::UNKNOWN_NUMBER;
+use floor_calls::gic_base::NoMemory;
+use floor_calls::gic_bits::{Field, has_bit};
+use floor_calls::gic_imap::queue_bytes;
+use floor_calls::gic_open::PlainWord;
+use floor_calls::its_cmd::{COMMAND_BYTES, Command, advance, decode};
+use floor_calls::its_tab::UNKNOWN_NUMBER;
 use std::alloc::Global;
 
 /// GITS_CBASER.Valid.

@@ -1,23 +1,18 @@
 //! What a vCPU's accesses of the ITS do before any command, and what they read.
 ghost use Rattle.std.specs.Prelude.{◌≡◌, IsTrue, IfOk, All, None, Some};
-ghost use Rattle.gic_open.specs.Plain.{has_plain};
-ghost use Rattle.gic_call.specs.Fit.{FitsHalf, FitsIts};
-ghost use Rattle.gic_call.specs.Valid.{HappensFreely, is_stored};
-ghost use Rattle.gic_call.specs.View.{is_its_enabled as is_enabled_in};
-ghost use Rattle.gic_call.specs.Access.{is_in_queue as is_in_queue_of, baser_written, cwriter_events as cwriter_events_in, its_written as its_written_in, its_held as its_held_in, its_value as its_value_in};
-ghost use Rattle.gic_call.specs.Call.{its_events as its_events_in, its_starts as its_starts_in};
+ghost use Rattle.floor_calls.specs.Calls.{has_plain, FitsHalf, FitsIts, HappensFreely, is_stored, is_its_enabled as is_enabled_in, is_in_queue as is_in_queue_of, baser_written, cwriter_events as cwriter_events_in, its_written as its_written_in, its_held as its_held_in, its_value as its_value_in, its_events as its_events_in, its_starts as its_starts_in};
 ghost use Rattle.ideal_guest.specs.Ideal.{view_of};
 ghost use Rattle.ideal_guest.specs.Sound.{IsSound};
 
 use crate::access::{low, one, put};
 use crate::guest::IdealGuest;
-use gic_call::{Event, Events, QueueChange};
-use gic_frame::{Half, IIDR, PIDR2};
-use gic_imap::{
+use floor_calls::gic_call::{Event, Events, QueueChange};
+use floor_calls::gic_frame::{Half, IIDR, PIDR2};
+use floor_calls::gic_imap::{
     Reg, RegRef, Table, baser, baser_after, cbaser_after, creadr, enabled_in, offset_in,
     queue_bytes, retries,
 };
-use gic_open::PlainWord;
+use floor_calls::gic_open::PlainWord;
 use std::alloc::{AllocError, Global};
 
 impl IdealGuest {
@@ -172,9 +167,9 @@ impl IdealGuest {
         ensures { result ≡ its_held_in self.now.shape (view_of self.now) reg }
     {
         match reg {
-            Reg::Ctlr => u64::from(gic_imap::ctlr(self.is_its_enabled())),
+            Reg::Ctlr => u64::from(floor_calls::gic_imap::ctlr(self.is_its_enabled())),
             Reg::Iidr => u64::from(IIDR),
-            Reg::Typer => gic_imap::typer(&self.shape),
+            Reg::Typer => floor_calls::gic_imap::typer(&self.shape),
             Reg::Cbaser => self.word(PlainWord::Cbaser),
             Reg::Cwriter => self.word(PlainWord::Cwriter),
             Reg::Creadr => creadr(self.is_stalled, self.offset),

@@ -13,5 +13,9 @@ mod parts;
 mod redist;
 mod state;
 
+pub use floor_calls::{
+    gic_aff, gic_base, gic_call, gic_dmap, gic_frame, gic_guest, gic_imap, gic_list, gic_open,
+    gic_prio, gic_ram, gic_reg, gic_rmap, gic_word, its_cmd, its_tab,
+};
 pub use guest::IdealGuest;
 pub use its::{bad_commands_stall, queues_run_dry};

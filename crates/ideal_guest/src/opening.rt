@@ -1,14 +1,14 @@
 //! How a guest opens.
 ghost use Rattle.std.specs.Prelude.{◌≡◌, IfOk};
-ghost use Rattle.scn_base.specs.Good.{IsGoodGuest};
+ghost use Rattle.floor_calls.specs.Calls.{IsGoodGuest};
 ghost use Rattle.ideal_guest.specs.Opening.{opening};
 ghost use Rattle.ideal_guest.specs.Sound.{IsSound};
 
 use crate::guest::IdealGuest;
-use gic_dmap::enables_in;
-use gic_open::{cpus, irqs, opening_enables, plains};
-use its_tab::empty;
-use scn_base::GuestSpec;
+use floor_calls::gic_dmap::enables_in;
+use floor_calls::gic_guest::GuestSpec;
+use floor_calls::gic_open::{cpus, irqs, opening_enables, plains};
+use floor_calls::its_tab::empty;
 use std::alloc::{AllocError, Global};
 
 impl IdealGuest {

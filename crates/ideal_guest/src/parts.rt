@@ -1,23 +1,21 @@
 //! What the commands of a guest's ITS do to LPIs.
 ghost use Rattle.std.specs.Prelude.{◌≡◌, ◌≤◌, ◌<◌, IsTrue, IfOk, IfSome, All, None, Some, map, option_to_list};
-ghost use Rattle.gic_base.specs.Interrupt.{has_interrupt};
-ghost use Rattle.its_tab.specs.Maps.{id_of, target_of};
-ghost use Rattle.its_tab.specs.Fault.{fault_of};
-ghost use Rattle.gic_call.specs.Valid.{HappensFreely};
-ghost use Rattle.gic_call.specs.Command.{lpis_of_device as lpis_of_device_in, lpis_of_collection as lpis_of_collection_in, lpis_for as lpis_for_in, each, for_one, mapping_parts as mapping_parts_in, parts as parts_in, config_byte as config_byte_in, lpi_event};
+ghost use Rattle.floor_calls.specs.Words.{has_interrupt};
+ghost use Rattle.floor_calls.specs.Registers.{id_of, target_of, fault_of};
+ghost use Rattle.floor_calls.specs.Calls.{HappensFreely, lpis_of_device as lpis_of_device_in, lpis_of_collection as lpis_of_collection_in, lpis_for as lpis_for_in, each, for_one, mapping_parts as mapping_parts_in, parts as parts_in, config_byte as config_byte_in, lpi_event};
 ghost use Rattle.ideal_guest.specs.Ideal.{view_of};
 ghost use Rattle.ideal_guest.specs.Queue.{is_of_event};
 ghost use Rattle.ideal_guest.specs.Sound.{IsSound};
 
 use crate::access::{CLEAR, touch};
 use crate::guest::IdealGuest;
-use gic_base::{FIRST_LPI, Key};
-use gic_call::{Event, Events, Part, Touching};
-use gic_list::ListOf;
-use gic_lpi::{config_address, config_of};
-use gic_open::PlainWord;
-use gic_word::target_in;
-use its_cmd::Command;
+use floor_calls::gic_base::{FIRST_LPI, Key};
+use floor_calls::gic_call::{Event, Events, Part, Touching};
+use floor_calls::gic_list::ListOf;
+use floor_calls::gic_open::PlainWord;
+use floor_calls::gic_ram::{config_address, config_of};
+use floor_calls::gic_word::target_in;
+use floor_calls::its_cmd::Command;
 use std::alloc::{AllocError, Global};
 
 /// INTIDs of LPIs, in order.

@@ -1,22 +1,22 @@
 //! What a vCPU's accesses of a redistributor do, and what they read.
 ghost use Rattle.std.specs.Prelude.{◌≡◌, ◌≤◌, ◌<◌, IsTrue, IfOk, IfSome, All, Some, None};
-ghost use Rattle.gic_base.specs.Interrupt.{has_interrupt};
-ghost use Rattle.gic_call.specs.Fit.{FitsHalf, FitsRedist};
-ghost use Rattle.gic_call.specs.Valid.{HappensFreely};
-ghost use Rattle.gic_call.specs.Access.{is_in_table as is_in_table_of, pended_at, enable_events as enable_events_in, redist_written as redist_written_in, redist_events as redist_events_in, redist_held as redist_held_in, redist_value as redist_value_in};
+ghost use Rattle.floor_calls.specs.Words.{has_interrupt};
+ghost use Rattle.floor_calls.specs.Calls.{FitsHalf, FitsRedist, HappensFreely, is_in_table as is_in_table_of, pended_at, enable_events as enable_events_in, redist_written as redist_written_in, redist_events as redist_events_in, redist_held as redist_held_in, redist_value as redist_value_in};
 ghost use Rattle.ideal_guest.specs.Ideal.{view_of};
 ghost use Rattle.ideal_guest.specs.Sound.{IsSound};
 
 use crate::access::{low, one, put, touch};
 use crate::guest::IdealGuest;
-use gic_base::{FIRST_LPI, Frame, Key, Kind};
-use gic_bits::has_bit;
-use gic_call::{Event, Events, Touching, part_events};
-use gic_frame::{Half, IIDR, PIDR2};
-use gic_lpi::pending_address;
-use gic_open::PlainWord;
-use gic_rmap::{Reg, RegRef, enable_lpis_after, pendbaser_after, pendbaser_read, propbaser_after};
-use gic_word::target_in;
+use floor_calls::gic_base::{FIRST_LPI, Frame, Key, Kind};
+use floor_calls::gic_bits::has_bit;
+use floor_calls::gic_call::{Event, Events, Touching, part_events};
+use floor_calls::gic_frame::{Half, IIDR, PIDR2};
+use floor_calls::gic_open::PlainWord;
+use floor_calls::gic_ram::pending_address;
+use floor_calls::gic_rmap::{
+    Reg, RegRef, enable_lpis_after, pendbaser_after, pendbaser_read, propbaser_after,
+};
+use floor_calls::gic_word::target_in;
 use std::alloc::{AllocError, Global};
 
 /// PTZ, in what GICR_PENDBASER stores.
@@ -150,9 +150,9 @@ impl IdealGuest {
         ensures { result ≡ redist_held_in self.now.shape (view_of self.now) vcpu reg }
     {
         match reg {
-            Reg::Ctlr => u64::from(gic_rmap::ctlr(&self.shape, self.cpu(vcpu).lpis)),
+            Reg::Ctlr => u64::from(floor_calls::gic_rmap::ctlr(&self.shape, self.cpu(vcpu).lpis)),
             Reg::Iidr => u64::from(IIDR),
-            Reg::Typer => gic_rmap::typer(&self.shape, vcpu),
+            Reg::Typer => floor_calls::gic_rmap::typer(&self.shape, vcpu),
             Reg::Propbaser => self.word(PlainWord::Propbaser { vcpu }),
             Reg::Pendbaser => pendbaser_read(self.word(PlainWord::Pendbaser { vcpu })),
             Reg::Pidr2 => u64::from(PIDR2),

@@ -1,18 +1,16 @@
 //! The records and the words of one guest.
 ghost use Rattle.std.specs.Prelude.{◌≡◌, ◌<◌, IsTrue, true};
-ghost use Rattle.gic_base.specs.Interrupt.{has_interrupt};
-ghost use Rattle.gic_prio.specs.Priority.{HasBinaryPoints};
-ghost use Rattle.gic_open.specs.Opening.{with_irq_in};
-ghost use Rattle.gic_open.specs.Plain.{has_plain};
-ghost use Rattle.gic_call.specs.Valid.{IsOffset, is_stored};
+ghost use Rattle.floor_calls.specs.Words.{has_interrupt};
+ghost use Rattle.floor_calls.specs.Registers.{HasBinaryPoints};
+ghost use Rattle.floor_calls.specs.Calls.{with_irq_in, has_plain, IsOffset, is_stored};
 ghost use Rattle.ideal_guest.specs.Ideal.{irq_at, cpu_at, with_cpu, word_at, with_word, with_queue};
 ghost use Rattle.ideal_guest.specs.Sound.{IsIdealRecord, IsSound};
 
 use crate::guest::IdealGuest;
-use gic_base::{Key, place_of};
-use gic_open::{PlainWord, place_of_plain};
-use gic_prio::CpuRec;
-use gic_word::Irq;
+use floor_calls::gic_base::{Key, place_of};
+use floor_calls::gic_open::{PlainWord, place_of_plain};
+use floor_calls::gic_prio::CpuRec;
+use floor_calls::gic_word::Irq;
 
 impl IdealGuest {
     /// The record of an interrupt that the guest has: its enable, group, priority and causes, which vCPU has it

@@ -1,7 +1,7 @@
 -- The commands of an ITS and their doublewords (IHI 0069, "ITS commands").
 use Rattle.std.specs.Prelude.{ℕ, ◌<◌, ◌+◌, ◌*◌, ◌^◌, ◌==◌, Result, ok_or, List, [], ◌∷◌}
 use Rattle.std.specs.Map.{lookup}
-use Rattle.gic_bits.specs.Bits.{bit_of}
+use Rattle.floor_words.specs.Words.{bit_of}
 use Rattle.its_cmd.specs.declared.command.Command.{Command}
 use Rattle.its_cmd.specs.declared.command.Command.TheVariants.{Movi, Int, Clear, Sync, Mapd, Mapc, Mapti, Mapi, Inv, Invall, Movall, Discard}
 use Rattle.its_cmd.specs.declared.command.BadCommand.{BadCommand}

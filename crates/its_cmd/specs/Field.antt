@@ -1,6 +1,6 @@
 -- Where the fields of an ITS command stand (IHI 0069, "ITS commands"; the upper end of both RDbase fields is an own choice).
 use Rattle.std.specs.Prelude.{ℕ, ◌+◌, ◌-◌, List, slice_index}
-use Rattle.gic_bits.specs.Bits.{field_at}
+use Rattle.floor_words.specs.Words.{field_at}
 
 -- bits [high:low] of a doubleword
 abbrev pub bits_of : ℕ → ℕ → ℕ → List ℕ → ℕ

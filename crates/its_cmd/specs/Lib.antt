@@ -1,4 +1,6 @@
+pub use Rattle.floor_words.specs.Words
 pub mod Number
 pub mod Field
 pub mod Command
 pub mod Laws
+pub mod Queue

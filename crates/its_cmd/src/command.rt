@@ -1,6 +1,6 @@
 //! The commands, and their doublewords both ways.
 ghost use Rattle.std.specs.Prelude.{◌≡◌, ◌==◌, ◌<◌, ◌+◌, ◌*◌, ◌^◌, IfOk, slice_index};
-ghost use Rattle.gic_bits.specs.Bits.{bit_of};
+ghost use Rattle.floor_words.specs.Words.{bit_of};
 ghost use Rattle.its_cmd.specs.declared.command.Command.TheVariants.{Mapd, Mapc, Mapti};
 ghost use Rattle.its_cmd.specs.Field.{device_in, event_in, pintid_in, size_in, itt_addr_in, icid_in, rdbase_in, valid_in};
 ghost use Rattle.its_cmd.specs.Command.{FitsFields, decoded, encoded};

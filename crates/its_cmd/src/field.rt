@@ -1,8 +1,8 @@
 //! Where a command's fields stand (IHI 0069, "ITS commands").
 ghost use Rattle.std.specs.Prelude.{◌≡◌, ◌≤◌, ◌<◌, ◌+◌, ◌*◌, ◌^◌, length, slice_index};
-ghost use Rattle.gic_bits.specs.Bits.{field_at};
+ghost use Rattle.floor_words.specs.Words.{field_at};
 
-use gic_bits::Field;
+use floor_words::gic_bits::Field;
 
 /// A field of a command.
 #[derive(Clone, Copy)]

@@ -4,26 +4,13 @@ use Rattle.std.specs.List.{list_all}
 use Rattle.std.proofs.lemmas.Bool.{and_parts, ltb-true, leb-true, ne_eqb}
 use Rattle.std.proofs.lemmas.List.{map-append}
 use Rattle.std.proofs.lemmas.List.Folds.{list_all-append}
-use Rattle.gic_aff.specs.declared.sgi.Targets.{Targets}
-use Rattle.gic_base.specs.declared.interrupt.Key.{Key}
-use Rattle.gic_base.specs.declared.interrupt.Key.TheVariants.{Lpi}
-use Rattle.gic_base.specs.declared.shape.GuestShape.{GuestShape}
-use Rattle.gic_base.specs.Interrupt.{has_interrupt, interrupt_count, is_same_key}
-use Rattle.gic_base.proofs.KeyLemmas.{same_key, same_itself}
-use Rattle.gic_open.specs.Plain.{place_of_plain, plain_count}
-use Rattle.gic_open.specs.declared.plain.PlainWord.TheVariants.{Ram, Propbaser, Pendbaser, ItsCtlr, Cbaser, Cwriter, Baser0, Baser1, Fault}
-use Rattle.gic_call.specs.declared.event.Place.{Place}
-use Rattle.gic_call.specs.declared.event.Place.TheVariants.{Word, Queue as QueuePlace, Ctlr as CtlrPlace, Lpis}
-use Rattle.port_core.specs.declared.run.Made.{Made}
-use Rattle.port_core.specs.declared.step.CoreStep.{CoreStep}
-use Rattle.port_core.specs.declared.step.CoreStep.TheVariants.{Look, Raise, Touch, Want, Mark, Kick}
-use Rattle.port_core.specs.declared.word_id.WordId.TheVariants.{Irq}
-use Rattle.port_core.specs.Known.{ends_command}
-use Rattle.port_core.specs.Place.{place_of_word, plain_from, blocks_from}
-use Rattle.port_core.specs.Local.{no_vcpus}
-use Rattle.port_core.specs.Step.{word_of}
-use Rattle.port_core.specs.Port.{Seen, Adds, shape_of}
-use Rattle.port_core.proofs.PlaceLemmas.{lines_hold}
+use Rattle.port_call.specs.Registers.{Targets}
+use Rattle.port_call.specs.Words.{Key, Lpi, GuestShape, has_interrupt, interrupt_count, is_same_key}
+use Rattle.port_call.proofs.GicBase.KeyLemmas.{same_key, same_itself}
+use Rattle.port_call.specs.Calls.{place_of_plain, plain_count, Ram, Propbaser, Pendbaser, ItsCtlr, Cbaser, Cwriter, Baser0, Baser1, Fault, Place}
+use Rattle.port_call.specs.GicCall.declared.event.Place.TheVariants.{Word, Queue as QueuePlace, Ctlr as CtlrPlace, Lpis}
+use Rattle.port_call.specs.Core.{Made, CoreStep, Look, Raise, Touch, Want, Mark, Kick, Irq, ends_command, place_of_word, plain_from, blocks_from, no_vcpus, word_of, Seen, Adds, shape_of}
+use Rattle.port_call.proofs.PortCore.PlaceLemmas.{lines_hold}
 use Rattle.port_call.specs.About.{is_about, are_about}
 use Rattle.port_call.specs.Piece.{steps_of, takes_none}
 use Rattle.port_call.specs.Tell.{TellsOf, told}

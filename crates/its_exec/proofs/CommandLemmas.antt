@@ -4,37 +4,16 @@ use Rattle.std.specs.List.{list_any}
 use Rattle.std.specs.Option.{option_map_or, option_map}
 use Rattle.std.proofs.lemmas.Bool.{cases_lt, lt-ltb, le-ltb, le-leb, eq-eqb, eqb-true}
 use Rattle.std.proofs.lemmas.List.{append_assoc}
-use Rattle.gic_base.specs.declared.interrupt.Key.TheVariants.{Lpi}
-use Rattle.gic_base.specs.declared.shape.GuestShape.{GuestShape}
-use Rattle.gic_base.specs.Interrupt.{has_interrupt, is_same_key}
-use Rattle.gic_open.specs.declared.plain.PlainWord.TheVariants.{Ram, Cbaser}
-use Rattle.gic_ram.specs.declared.access.Part.{Part as RamPart}
-use Rattle.gic_ram.specs.Access.{extracted}
-use Rattle.gic_word.specs.Record.{target_in}
-use Rattle.gic_word.specs.Word.{irq_of}
-use Rattle.gic_call.specs.declared.command.Part.{Part}
-use Rattle.gic_call.specs.declared.command.Part.TheVariants.{Forget, Map, Retarget, Raise, Clear, Configure}
-use Rattle.gic_call.specs.declared.event.Event.{Event}
-use Rattle.gic_call.specs.declared.event.Found.TheVariants.{Word as FoundWord, Queue as FoundQueue}
-use Rattle.gic_call.specs.declared.event.Operation.{Operation}
-use Rattle.gic_call.specs.declared.event.Place.{Place}
-use Rattle.gic_call.specs.declared.event.Place.TheVariants.{Word, Queue as QueuePlace}
-use Rattle.gic_call.specs.Command.{parts, decoded_parts, command_parts, command_words, lpi_event, queue_event, queue_address}
-use Rattle.gic_call.specs.Trace.{Happened, ArePartsThen}
-use Rattle.gic_call.specs.View.{View, memory_at}
-use Rattle.gic_history.specs.Named.{key_in, names}
-use Rattle.its_cmd.specs.declared.command.Command.{Command}
-use Rattle.its_cmd.specs.declared.command.BadCommand.{BadCommand}
-use Rattle.its_cmd.specs.Command.{decoded}
-use Rattle.its_tab.specs.Fault.{fault_of, fault_number, number_of}
-use Rattle.its_tab.specs.Maps.{Maps}
-use Rattle.gic_aff.specs.declared.sgi.Targets.{Targets}
-use Rattle.port_core.specs.declared.local.Local.{Local}
-use Rattle.port_core.specs.Local.{owes_no_mark}
-use Rattle.port_core.specs.declared.run.Made.{Made}
-use Rattle.port_core.specs.Port.{Seen, Adds, shape_of, part_events}
-use Rattle.port_core.proofs.PortLemmas.{adds_join}
-use Rattle.core_proper.specs.Progress.{Progress, is_end_of}
+use Rattle.port_call.specs.Words.{Lpi, GuestShape, has_interrupt, is_same_key, target_in, irq_of}
+use Rattle.port_call.specs.Calls.{Ram, Cbaser, Part, Map, Clear, Event, Operation, Place, parts, decoded_parts, command_parts, command_words, lpi_event, queue_event, queue_address, Happened, ArePartsThen, View, memory_at}
+use Rattle.port_call.specs.Registers.{Part as RamPart, extracted, Command, BadCommand, fault_of, fault_number, number_of, Maps, Targets}
+use Rattle.port_call.specs.GicCall.declared.command.Part.TheVariants.{Forget, Retarget, Raise, Configure}
+use Rattle.port_call.specs.GicCall.declared.event.Found.TheVariants.{Word as FoundWord, Queue as FoundQueue}
+use Rattle.port_call.specs.GicCall.declared.event.Place.TheVariants.{Word, Queue as QueuePlace}
+use Rattle.port_call.specs.Histories.{key_in, names}
+use Rattle.port_call.specs.ItsCmd.Command.{decoded}
+use Rattle.port_call.specs.Core.{Local, owes_no_mark, Made, Seen, Adds, shape_of, part_events, Progress, is_end_of}
+use Rattle.port_call.proofs.PortCore.PortLemmas.{adds_join}
 use Rattle.port_call.specs.Memory.{view_by}
 use Rattle.port_call.specs.Piece.{StaysSo}
 use Rattle.port_call.specs.Rest.{StaysAtEase}

@@ -4,23 +4,13 @@ use Rattle.std.specs.Option.{option_map_or}
 use Rattle.std.proofs.lemmas.Bool.{and_parts, ltb-true, lt-ltb, eq-eqb}
 use Rattle.std.proofs.lemmas.List.{append_assoc}
 use Rattle.std.proofs.lemmas.List.Elements.{All-append, All-nil, All-cons}
-use Rattle.gic_base.specs.declared.shape.GuestShape.{GuestShape}
-use Rattle.gic_lpi.specs.Tables.{config_address}
-use Rattle.gic_open.specs.Plain.{place_of_plain}
-use Rattle.gic_open.specs.declared.plain.PlainWord.{PlainWord}
-use Rattle.gic_open.specs.declared.plain.PlainWord.TheVariants.{Ram, Propbaser, Pendbaser, ItsCtlr, Cbaser, Cwriter, Baser0, Baser1, Fault}
-use Rattle.gic_ram.specs.declared.access.Part.{Part}
-use Rattle.gic_ram.specs.Access.{part_of, extracted}
-use Rattle.gic_call.specs.declared.event.Event.TheVariants.{Read}
-use Rattle.gic_call.specs.declared.event.Found.{Found}
-use Rattle.gic_call.specs.declared.event.Found.TheVariants.{Word as FoundWord}
-use Rattle.gic_call.specs.declared.event.Place.{Place}
-use Rattle.gic_call.specs.declared.event.Place.TheVariants.{Word, Queue as QueuePlace, Ctlr as CtlrPlace, Lpis}
-use Rattle.gic_call.specs.Trace.{Happened, IsLastRead, held_at}
-use Rattle.port_core.specs.declared.run.Made.{Made}
-use Rattle.port_core.specs.declared.word_id.WordId.TheVariants.{Plain}
-use Rattle.port_core.specs.Place.{place_of_word}
-use Rattle.port_core.specs.Port.{Seen, Adds, shape_of, part_events}
+use Rattle.port_call.specs.Words.{GuestShape}
+use Rattle.port_call.specs.Registers.{config_address, Part, part_of, extracted}
+use Rattle.port_call.specs.Calls.{place_of_plain, PlainWord, Ram, Propbaser, Pendbaser, ItsCtlr, Cbaser, Cwriter, Baser0, Baser1, Fault, Found, Place, Happened, IsLastRead, held_at}
+use Rattle.port_call.specs.GicCall.declared.event.Event.TheVariants.{Read}
+use Rattle.port_call.specs.GicCall.declared.event.Found.TheVariants.{Word as FoundWord}
+use Rattle.port_call.specs.GicCall.declared.event.Place.TheVariants.{Word, Queue as QueuePlace, Ctlr as CtlrPlace, Lpis}
+use Rattle.port_call.specs.Core.{Made, Plain, place_of_word, Seen, Adds, shape_of, part_events}
 use Rattle.port_call.specs.Memory.{view_by}
 use Rattle.port_call.specs.Plain.{ReadsPlain}
 use Rattle.port_call.proofs.TurnLemmas.{events_then}

@@ -5,30 +5,13 @@ use Rattle.std.specs.Option.{option_map_or}
 use Rattle.std.proofs.lemmas.Bool.{and_parts, eq-eqb, eqb-true, lt-ltb, le-ltb, le-leb, cases_lt, ltb-true, leb-true}
 use Rattle.std.proofs.lemmas.List.{append_assoc}
 use Rattle.std.proofs.lemmas.List.Elements.{All-append, All-nil, All-cons, All-head, All-tail}
-use Rattle.gic_base.specs.declared.shape.GuestShape.{GuestShape}
-use Rattle.gic_base.specs.declared.interrupt.Key.TheVariants.{Lpi}
-use Rattle.gic_open.specs.Plain.{place_of_plain}
-use Rattle.gic_open.specs.declared.plain.PlainWord.{PlainWord}
-use Rattle.gic_open.specs.declared.plain.PlainWord.TheVariants.{Ram, ItsCtlr, Cbaser, Cwriter}
-use Rattle.gic_ram.specs.declared.access.Part.{Part}
-use Rattle.gic_ram.specs.Access.{part_of, is_within, extracted}
-use Rattle.gic_call.specs.declared.event.Event.TheVariants.{Read}
-use Rattle.gic_call.specs.declared.event.Found.{Found}
-use Rattle.gic_call.specs.declared.event.Found.TheVariants.{Word as FoundWord}
-use Rattle.gic_call.specs.declared.event.Place.{Place}
-use Rattle.gic_call.specs.declared.event.Place.TheVariants.{Word, Queue as QueuePlace}
-use Rattle.gic_call.specs.Trace.{Happened, IsLastRead, held_at, memory_places}
-use Rattle.gic_call.specs.View.{View, memory_at}
-use Rattle.gic_call.specs.Command.{queue_address}
-use Rattle.port_core.specs.declared.run.Made.{Made}
-use Rattle.port_core.specs.declared.step.CoreStep.{CoreStep}
-use Rattle.port_core.specs.declared.step.CoreStep.TheVariants.{RamLook}
-use Rattle.port_core.specs.declared.word_id.WordId.{WordId}
-use Rattle.port_core.specs.declared.word_id.WordId.TheVariants.{Irq, Plain}
-use Rattle.port_core.specs.Known.{is_on, ends_command}
-use Rattle.port_core.specs.Place.{place_of_word}
-use Rattle.port_core.specs.Port.{Seen, Adds, shape_of, part_events}
-use Rattle.port_core.specs.Step.{word_of}
+use Rattle.port_call.specs.Words.{GuestShape, Lpi}
+use Rattle.port_call.specs.Calls.{place_of_plain, PlainWord, Ram, ItsCtlr, Cbaser, Cwriter, Found, Place, Happened, IsLastRead, held_at, memory_places, View, memory_at, queue_address}
+use Rattle.port_call.specs.Registers.{Part, part_of, is_within, extracted}
+use Rattle.port_call.specs.GicCall.declared.event.Event.TheVariants.{Read}
+use Rattle.port_call.specs.GicCall.declared.event.Found.TheVariants.{Word as FoundWord}
+use Rattle.port_call.specs.GicCall.declared.event.Place.TheVariants.{Word, Queue as QueuePlace}
+use Rattle.port_call.specs.Core.{Made, CoreStep, RamLook, WordId, Irq, Plain, is_on, ends_command, place_of_word, Seen, Adds, shape_of, part_events, word_of}
 use Rattle.port_call.specs.Memory.{view_by, read_as, memory_looks, ReadsMemory}
 use Rattle.port_call.specs.Piece.{steps_of, takes_none}
 use Rattle.port_call.specs.Plain.{ReadsPlain}

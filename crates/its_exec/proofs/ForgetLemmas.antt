@@ -8,19 +8,13 @@ use Rattle.std.specs.declared.cmp.Ordering.{Ordering}
 use Rattle.std.specs.declared.cmp.Ordering.TheVariants.{Less, Equal, Greater}
 use Rattle.std.proofs.lemmas.Bool.{and_parts, eq-eqb, eqb-true, ltb-true, false_from_ne_true}
 use Rattle.std.proofs.lemmas.List.{append_assoc, map-append}
-use Rattle.gic_base.specs.declared.interrupt.Key.TheVariants.{Lpi}
-use Rattle.gic_base.specs.declared.shape.GuestShape.{GuestShape}
-use Rattle.gic_base.specs.Interrupt.{has_interrupt}
-use Rattle.gic_call.specs.declared.command.Part.{Part}
-use Rattle.gic_call.specs.declared.command.Part.TheVariants.{Forget}
-use Rattle.gic_call.specs.Command.{each, parts, lpis_of_device}
-use Rattle.its_cmd.specs.declared.command.Command.{Command}
-use Rattle.its_tab.specs.After.{without_events}
-use Rattle.its_tab.specs.Maps.{Maps, event_cmp, pair_of, first_event, with_device, without_event, IsSound}
-use Rattle.its_tab.proofs.TableLemmas.{event_order, same_event, pair_of-without_event, sound-without_event, sound-with_device}
-use Rattle.its_tab.proofs.CarryLemmas.{without_events-without_event, without_events-none, fewer_events, first_event-without_events}
-use Rattle.port_core.specs.declared.local.Local.{Local}
-use Rattle.port_core.specs.Port.{Seen, shape_of}
+use Rattle.port_call.specs.Words.{Lpi, GuestShape, has_interrupt}
+use Rattle.port_call.specs.Calls.{Part, each, parts, lpis_of_device}
+use Rattle.port_call.specs.GicCall.declared.command.Part.TheVariants.{Forget}
+use Rattle.port_call.specs.Registers.{Command, without_events, Maps, event_cmp, pair_of, first_event, with_device, without_event, IsSound}
+use Rattle.port_call.proofs.ItsTab.TableLemmas.{event_order, same_event, pair_of-without_event, sound-without_event, sound-with_device}
+use Rattle.port_call.proofs.ItsTab.CarryLemmas.{without_events-without_event, without_events-none, fewer_events, first_event-without_events}
+use Rattle.port_call.specs.Core.{Local, Seen, shape_of}
 use Rattle.port_call.specs.Memory.{view_by}
 use Rattle.port_call.specs.Rest.{IsAtEase, StaysAtEase}
 use Rattle.port_call.proofs.RestLemmas.{ease_owes, owes_none}

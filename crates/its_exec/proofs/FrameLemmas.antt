@@ -6,26 +6,12 @@ use Rattle.std.proofs.lemmas.List.{append_assoc}
 use Rattle.std.proofs.lemmas.List.Folds.{list_all-append, find-append}
 use Rattle.std.specs.Option.{option_or}
 use Rattle.std.proofs.lemmas.List.Sums.{fold-append}
-use Rattle.gic_base.specs.declared.shape.GuestShape.{GuestShape}
-use Rattle.gic_base.specs.declared.interrupt.Key.TheVariants.{Lpi}
-use Rattle.gic_open.specs.Plain.{place_of_plain}
-use Rattle.gic_call.specs.declared.event.Found.{Found}
-use Rattle.gic_call.specs.declared.event.Found.TheVariants.{Word as FoundWord, Queue as FoundQueue, Ctlr as FoundCtlr, Lpis as FoundLpis}
-use Rattle.gic_call.specs.declared.event.Place.{Place}
-use Rattle.gic_call.specs.declared.event.Place.TheVariants.{Word, Queue as QueuePlace, Ctlr as CtlrPlace, Lpis}
-use Rattle.gic_call.specs.Trace.{held_at}
-use Rattle.its_queue.specs.Queue.{queue_of}
-use Rattle.its_tab.specs.Maps.{Maps}
-use Rattle.port_core.specs.declared.run.Made.{Made}
-use Rattle.port_core.specs.declared.step.CoreStep.{CoreStep}
-use Rattle.port_core.specs.declared.step.CoreStep.TheVariants.{CommandDone}
-use Rattle.port_core.specs.declared.word_id.WordId.{WordId}
-use Rattle.port_core.specs.declared.word_id.WordId.TheVariants.{Irq, Queue, Ctlr, Plain, Vcpu}
-use Rattle.port_core.specs.Forms.{vcpu_of, ctlr_of}
-use Rattle.port_core.specs.Known.{is_on, known, is_known, known_maps, since_turn, since_command, ends_command}
-use Rattle.port_core.specs.Place.{place_of_word}
-use Rattle.port_core.specs.Step.{word_of}
-use Rattle.port_core.specs.Port.{Seen, Adds, shape_of}
+use Rattle.port_call.specs.Words.{GuestShape, Lpi}
+use Rattle.port_call.specs.Calls.{place_of_plain, Found, Place, held_at}
+use Rattle.port_call.specs.GicCall.declared.event.Found.TheVariants.{Word as FoundWord, Queue as FoundQueue, Ctlr as FoundCtlr, Lpis as FoundLpis}
+use Rattle.port_call.specs.GicCall.declared.event.Place.TheVariants.{Word, Queue as QueuePlace, Ctlr as CtlrPlace, Lpis}
+use Rattle.port_call.specs.Registers.{queue_of, Maps}
+use Rattle.port_call.specs.Core.{Made, CoreStep, CommandDone, WordId, Irq, Queue, Ctlr, Plain, Vcpu, vcpu_of, ctlr_of, is_on, known, is_known, known_maps, since_turn, since_command, ends_command, place_of_word, word_of, Seen, Adds, shape_of}
 use Rattle.port_call.specs.Memory.{view_by}
 use Rattle.port_call.specs.Piece.{takes_none, steps_of}
 use Rattle.port_call.proofs.KnownLemmas.{are_off, known_kept, since_turn_on, are_endless, ends_none, maps_kept}

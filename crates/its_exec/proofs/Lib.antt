@@ -1,3 +1,9 @@
+pub use Rattle.port_call.proofs.CoreProper
+pub use Rattle.port_call.proofs.GicBase
+pub use Rattle.port_call.proofs.GicCall
+pub use Rattle.port_call.proofs.GicFrame
+pub use Rattle.port_call.proofs as PortCall
+pub use Rattle.port_call.proofs.PortCore
 pub mod FrameLemmas
 pub mod LookLemmas
 pub mod FetchLemmas

@@ -3,32 +3,14 @@ use Rattle.std.proofs.Common.{◌≡◌, ◌≢◌, ℕ, ◌+◌, ◌<◌, ◌==
 use Rattle.std.specs.List.{list_all}
 use Rattle.std.proofs.lemmas.Bool.{and_parts, eq-eqb, ne_eqb, ltb-true, leb-true}
 use Rattle.std.proofs.lemmas.List.Folds.{list_all-append}
-use Rattle.gic_base.specs.declared.shape.GuestShape.{GuestShape}
-use Rattle.gic_base.specs.declared.interrupt.Key.TheVariants.{Lpi}
-use Rattle.gic_base.specs.Interrupt.{interrupt_count, has_interrupt}
-use Rattle.gic_open.specs.Plain.{place_of_plain}
-use Rattle.gic_open.specs.declared.plain.PlainWord.{PlainWord}
-use Rattle.gic_open.specs.declared.plain.PlainWord.TheVariants.{ItsCtlr, Cbaser, Cwriter}
-use Rattle.gic_call.specs.Command.{takes_command}
-use Rattle.gic_call.specs.declared.event.Event.TheVariants.{Read}
-use Rattle.gic_call.specs.Trace.{Happened}
-use Rattle.gic_call.specs.declared.event.Place.{Place}
-use Rattle.gic_call.specs.declared.event.Place.TheVariants.{Word, Queue as QueuePlace}
-use Rattle.gic_call.specs.declared.event.Found.TheVariants.{Word as FoundWord, Queue as FoundQueue}
-use Rattle.gic_imap.specs.Contents.{enabled_in}
-use Rattle.gic_call.specs.Command.{is_queue_valid}
-use Rattle.its_queue.specs.declared.word.QueueWord.{QueueWord}
-use Rattle.its_queue.specs.Queue.{queue_of, is_queue_word, IsQueue}
-use Rattle.port_core.specs.declared.run.Made.{Made}
-use Rattle.port_core.specs.declared.step.CoreStep.{CoreStep}
-use Rattle.port_core.specs.declared.step.CoreStep.TheVariants.{Look, RamLook}
-use Rattle.port_core.specs.declared.word_id.WordId.{WordId}
-use Rattle.port_core.specs.declared.word_id.WordId.TheVariants.{Irq, Queue, Plain}
-use Rattle.port_core.specs.Known.{is_on, ends_command}
-use Rattle.port_core.specs.Place.{place_of_word}
-use Rattle.port_core.specs.Port.{Seen, AddsStep, made_by, shape_of, part_events}
-use Rattle.port_core.specs.Step.{word_of}
-use Rattle.port_core.proofs.PortLemmas.{adds_join}
+use Rattle.port_call.specs.Words.{GuestShape, Lpi, interrupt_count, has_interrupt}
+use Rattle.port_call.specs.Calls.{place_of_plain, PlainWord, ItsCtlr, Cbaser, Cwriter, takes_command, Happened, Place, is_queue_valid}
+use Rattle.port_call.specs.GicCall.declared.event.Event.TheVariants.{Read}
+use Rattle.port_call.specs.GicCall.declared.event.Place.TheVariants.{Word, Queue as QueuePlace}
+use Rattle.port_call.specs.GicCall.declared.event.Found.TheVariants.{Word as FoundWord, Queue as FoundQueue}
+use Rattle.port_call.specs.Registers.{enabled_in, QueueWord, queue_of, is_queue_word, IsQueue}
+use Rattle.port_call.specs.Core.{Made, CoreStep, Look, RamLook, WordId, Irq, Queue, Plain, is_on, ends_command, place_of_word, Seen, AddsStep, made_by, shape_of, part_events, word_of}
+use Rattle.port_call.proofs.PortCore.PortLemmas.{adds_join}
 use Rattle.port_call.specs.Memory.{view_by}
 use Rattle.port_call.specs.Piece.{takes_none}
 use Rattle.port_call.specs.Plain.{ReadsPlain}

@@ -7,53 +7,19 @@ use Rattle.std.proofs.lemmas.Bool.{and_parts, eq-eqb}
 use Rattle.std.proofs.lemmas.List.{append_assoc}
 use Rattle.std.proofs.lemmas.List.Folds.{list_all-append}
 use Rattle.std.proofs.lemmas.List.Elements.{All-nil, All-cons, filter-append, All-weaker}
-use Rattle.gic_base.specs.declared.interrupt.Key.{Key}
-use Rattle.gic_base.specs.declared.interrupt.Key.TheVariants.{Lpi}
-use Rattle.gic_base.specs.declared.operation.Kind.TheVariants.{ClearPending}
-use Rattle.gic_base.specs.declared.shape.GuestShape.{GuestShape}
-use Rattle.gic_base.specs.Interrupt.{has_interrupt}
-use Rattle.gic_base.proofs.KeyLemmas.{same_itself}
-use Rattle.gic_lpi.specs.Tables.{is_enabled, priority_of, config_address}
-use Rattle.gic_word.specs.declared.record.Irq.{Irq as IrqRecord}
-use Rattle.gic_word.specs.declared.record.Route.{Route}
-use Rattle.gic_word.specs.declared.record.Route.TheVariants.{Affinity, Target}
-use Rattle.gic_word.specs.Record.{target_in, is_number}
-use Rattle.gic_word.specs.Valid.{is_routed_as}
-use Rattle.gic_word.specs.Word.{irq_of}
-use Rattle.gic_call.specs.declared.command.Part.{Part}
-use Rattle.gic_call.specs.declared.command.Part.TheVariants.{Forget, Map, Retarget, Raise as RaisePart, Clear, Configure}
-use Rattle.gic_call.specs.declared.event.Event.{Event}
-use Rattle.gic_call.specs.declared.event.Event.TheVariants.{Read, Raise as RaiseEvent, Touch as TouchEvent}
-use Rattle.gic_call.specs.declared.event.Found.{Found}
-use Rattle.gic_call.specs.declared.event.Found.TheVariants.{Nothing}
-use Rattle.gic_call.specs.declared.event.Place.{Place}
-use Rattle.gic_call.specs.declared.event.Place.TheVariants.{Word, Queue as QueuePlace, Ctlr as CtlrPlace, Lpis}
-use Rattle.gic_open.specs.declared.plain.PlainWord.TheVariants.{Propbaser}
-use Rattle.gic_call.specs.declared.touch.Touching.{Touching}
-use Rattle.gic_call.specs.declared.touch.Touching.TheVariants.{Register, MapLpi, Retarget as RetargetLpi, Configure as ConfigureLpi, Forget as ForgetLpi}
-use Rattle.gic_call.specs.declared.event.Operation.{Operation}
-use Rattle.gic_history.specs.Named.{names}
-use Rattle.gic_call.specs.Command.{lpi_event, config_byte}
-use Rattle.gic_call.specs.Trace.{Happened, HandsOut, IsLastRead, is_beside, named_of, held_at, byte_places, memory_places}
-use Rattle.gic_call.specs.View.{View}
-use Rattle.port_core.specs.declared.local.Local.{Local}
-use Rattle.port_core.specs.declared.run.Made.{Made}
-use Rattle.port_core.specs.declared.step.CoreStep.TheVariants.{Look, Raise}
-use Rattle.port_core.specs.declared.word_id.WordId.TheVariants.{Irq}
-use Rattle.port_core.specs.After.{concerned, local_after}
-use Rattle.port_core.specs.Effect.{succeeds}
-use Rattle.port_core.specs.Known.{is_on}
-use Rattle.port_core.specs.Local.{owes_nothing}
-use Rattle.port_core.specs.Place.{place_of_word}
-use Rattle.port_core.specs.Port.{Seen, Adds, AddsStep, made_by, shape_of, seen_after, part_events}
-use Rattle.port_core.specs.Stands.{found_record}
-use Rattle.port_core.specs.Step.{word_of}
-use Rattle.port_core.specs.Valid.{IsIrqWord}
-use Rattle.port_core.proofs.PortLemmas.{adds_join}
-use Rattle.core_proper.specs.Parts.{makes}
-use Rattle.core_proper.specs.Progress.{Progress, is_end_of, progress_of, stepped, changed_by, scan_on}
-use Rattle.core_proper.specs.Proper.{IsProperStep}
-use Rattle.core_proper.specs.Scan.{Scan, idle, is_idle, scan_looked}
+use Rattle.port_call.specs.Words.{Key, Lpi, ClearPending, GuestShape, has_interrupt, Irq as IrqRecord, Route, Affinity, Target, target_in, is_number, is_routed_as, irq_of}
+use Rattle.port_call.proofs.GicBase.KeyLemmas.{same_itself}
+use Rattle.port_call.specs.Registers.{is_enabled, priority_of, config_address}
+use Rattle.port_call.specs.Calls.{Part, Map, Clear, Event, Touch as TouchEvent, Found, Place, Propbaser, Touching, Register, MapLpi, Operation, lpi_event, config_byte, Happened, HandsOut, IsLastRead, is_beside, named_of, held_at, byte_places, memory_places, View}
+use Rattle.port_call.specs.GicCall.declared.command.Part.TheVariants.{Forget, Retarget, Raise as RaisePart, Configure}
+use Rattle.port_call.specs.GicCall.declared.event.Event.TheVariants.{Read, Raise as RaiseEvent}
+use Rattle.port_call.specs.GicCall.declared.event.Found.TheVariants.{Nothing}
+use Rattle.port_call.specs.GicCall.declared.event.Place.TheVariants.{Word, Queue as QueuePlace, Ctlr as CtlrPlace, Lpis}
+use Rattle.port_call.specs.GicCall.declared.touch.Touching.TheVariants.{Retarget as RetargetLpi, Configure as ConfigureLpi, Forget as ForgetLpi}
+use Rattle.port_call.specs.Histories.{names}
+use Rattle.port_call.specs.Core.{Local, Made, Look, Raise, Irq, concerned, local_after, succeeds, is_on, owes_nothing, place_of_word, Seen, Adds, AddsStep, made_by, shape_of, seen_after, part_events, found_record, word_of, IsIrqWord, makes, Progress, is_end_of, progress_of, stepped, scan_on, IsProperStep, Scan, idle, is_idle, scan_looked}
+use Rattle.port_call.proofs.PortCore.PortLemmas.{adds_join}
+use Rattle.port_call.specs.CoreProper.Progress.{changed_by}
 use Rattle.port_call.specs.About.{is_about, are_about, IsNaming}
 use Rattle.port_call.specs.Memory.{view_by}
 use Rattle.port_call.specs.Piece.{IsIdle, StaysSo, IsGoodPiece}

@@ -3,19 +3,12 @@ use Rattle.std.proofs.Common.{◌≡◌, ℕ, ◌%◌, ◌==◌, ◌&&◌, ◌||
 use Rattle.std.specs.Option.{option_to_list}
 use Rattle.std.specs.Result.{OnOk, OnErr}
 use Rattle.std.proofs.lemmas.Bool.{eq-eqb, lt-ltb}
-use Rattle.gic_base.specs.declared.interrupt.Key.TheVariants.{Lpi}
-use Rattle.gic_base.specs.declared.shape.GuestShape.{GuestShape}
-use Rattle.gic_base.specs.Interrupt.{has_interrupt}
-use Rattle.gic_call.specs.declared.command.Part.{Part}
-use Rattle.gic_call.specs.declared.command.Part.TheVariants.{Forget, Map, Retarget, Raise, Clear, Configure}
-use Rattle.gic_call.specs.Command.{parts, each}
-use Rattle.its_cmd.specs.declared.command.Command.{Command}
-use Rattle.its_cmd.specs.declared.command.Command.TheVariants.{Movi, Int, Clear as ClearCommand, Mapti, Mapi, Inv, Movall, Discard}
-use Rattle.its_tab.specs.After.{IsValid, maps_after}
-use Rattle.its_tab.specs.Fault.{fault_of, first_fault, on_mapping}
-use Rattle.its_tab.specs.Maps.{Maps, pair_of, id_of, target_of}
-use Rattle.its_tab.proofs.AfterLemmas.{all_clear, right_id, there}
-use Rattle.port_core.specs.Port.{Seen, shape_of}
+use Rattle.port_call.specs.Words.{Lpi, GuestShape, has_interrupt}
+use Rattle.port_call.specs.Calls.{Part, Map, Clear, parts, each}
+use Rattle.port_call.specs.GicCall.declared.command.Part.TheVariants.{Forget, Retarget, Raise, Configure}
+use Rattle.port_call.specs.Registers.{Command, Movi, Int, Clear as ClearCommand, Mapti, Mapi, Inv, Movall, Discard, IsValid, maps_after, fault_of, first_fault, on_mapping, Maps, pair_of, id_of, target_of}
+use Rattle.port_call.proofs.ItsTab.AfterLemmas.{all_clear, right_id, there}
+use Rattle.port_call.specs.Core.{Seen, shape_of}
 use Rattle.port_call.specs.Memory.{view_by}
 use Rattle.port_call.specs.Rest.{IsAtEase}
 use Rattle.port_call.proofs.RestLemmas.{owes_none}

@@ -2,16 +2,10 @@
 use Rattle.std.proofs.Common.{◌≡◌, ℕ, Bool, true, false, cond, is_some, is_none, if◌then◌else◌, IsTrue, List, [], ◌∷◌, ◌++◌, map, filter, Option, Some, None, option_map, refl, ap, ◌∙◌}
 use Rattle.std.specs.List.{filter_map, cons_option}
 use Rattle.std.specs.Option.{option_map_or, option_to_list}
-use Rattle.gic_base.specs.declared.shape.GuestShape.{GuestShape}
-use Rattle.gic_word.specs.Record.{is_number}
-use Rattle.gic_call.specs.declared.command.Part.TheVariants.{Forget, Map, Retarget, Raise, Clear, Configure}
-use Rattle.gic_call.specs.Access.{lpis_of}
-use Rattle.gic_call.specs.Command.{parts, each, for_one, lpis_of_collection}
-use Rattle.its_cmd.specs.declared.command.Command.{Command}
-use Rattle.its_cmd.specs.declared.command.Command.TheVariants.{Movi, Int, Clear as ClearCommand, Sync, Mapd, Mapc, Mapti, Mapi, Inv, Invall, Movall, Discard}
-use Rattle.its_tab.specs.After.{maps_after}
-use Rattle.its_tab.specs.Collection.{collection_of}
-use Rattle.its_tab.specs.Maps.{Maps, id_of, target_of}
+use Rattle.port_call.specs.Words.{GuestShape, is_number}
+use Rattle.port_call.specs.Calls.{Map, Clear, lpis_of, parts, each, for_one, lpis_of_collection}
+use Rattle.port_call.specs.GicCall.declared.command.Part.TheVariants.{Forget, Retarget, Raise, Configure}
+use Rattle.port_call.specs.Registers.{Command, Movi, Int, Clear as ClearCommand, Sync, Mapd, Mapc, Mapti, Mapi, Inv, Invall, Movall, Discard, maps_after, collection_of, Maps, id_of, target_of}
 use Rattle.its_exec.specs.Plan.{first_of, second_of, is_several, is_mapd}
 use Rattle.its_exec.specs.Sweep.{is_sweep, swept_parts}
 

@@ -7,51 +7,16 @@ use Rattle.std.proofs.lemmas.List.{append_assoc}
 use Rattle.std.proofs.lemmas.List.Sums.{fold-append}
 use Rattle.port_call.proofs.TurnLemmas.{known_by_last}
 use Rattle.std.proofs.lemmas.List.Elements.{All-append, All-nil, All-cons}
-use Rattle.gic_base.specs.declared.shape.GuestShape.{GuestShape}
-use Rattle.gic_bits.specs.Bits.{has_bit, field_at}
-use Rattle.gic_base.specs.declared.interrupt.Key.TheVariants.{Lpi}
-use Rattle.gic_base.specs.Shape.{IsShape}
-use Rattle.gic_base.specs.Interrupt.{interrupt_count, has_interrupt}
-use Rattle.gic_open.specs.Plain.{place_of_plain}
-use Rattle.gic_open.specs.declared.plain.PlainWord.{PlainWord}
-use Rattle.gic_open.specs.declared.plain.PlainWord.TheVariants.{Ram, ItsCtlr, Cbaser, Cwriter, Fault as FaultWord}
-use Rattle.gic_imap.specs.Contents.{queue_bytes, enabled_in}
-use Rattle.gic_call.specs.declared.event.Event.{Event}
-use Rattle.gic_call.specs.declared.event.Event.TheVariants.{Queue as QueueEvent}
-use Rattle.gic_call.specs.declared.event.QueueChange.TheVariants.{Done, Stalls}
-use Rattle.gic_call.specs.declared.event.Place.{Place}
-use Rattle.gic_call.specs.declared.event.Place.TheVariants.{Word, Queue as QueuePlace}
-use Rattle.gic_call.specs.declared.event.Found.{Found}
-use Rattle.gic_call.specs.Command.{queue_event, command_words, queue_address, next_offset, is_queue_valid, maps_by}
-use Rattle.gic_call.specs.Trace.{memory_places, command_places}
-use Rattle.gic_call.specs.Valid.{IsOffset}
-use Rattle.gic_call.specs.View.{memory_at}
-use Rattle.its_cmd.specs.declared.command.Command.{Command}
-use Rattle.its_cmd.specs.declared.command.BadCommand.{BadCommand}
-use Rattle.its_cmd.specs.Command.{decoded}
-use Rattle.gic_call.specs.declared.event.Found.TheVariants.{Queue as FoundQueue}
-use Rattle.its_queue.specs.declared.word.QueueWord.{QueueWord}
-use Rattle.its_queue.specs.Queue.{advanced, queue_of}
-use Rattle.its_tab.specs.Maps.{Maps}
-use Rattle.its_tab.specs.After.{IsValid, maps_after}
-use Rattle.its_tab.specs.Fault.{fault_number, fault_of, number_of}
-use Rattle.its_tab.proofs.CarryLemmas.{kept_now}
-use Rattle.port_core.specs.declared.run.Made.{Made}
-use Rattle.port_core.specs.declared.local.Local.{Local}
-use Rattle.port_core.specs.declared.step.CoreStep.{CoreStep}
-use Rattle.port_core.specs.declared.step.CoreStep.TheVariants.{RamLook, RamPut, CommandDone}
-use Rattle.port_core.specs.declared.word_id.WordId.{WordId}
-use Rattle.port_core.specs.declared.word_id.WordId.TheVariants.{Irq, Plain, Queue}
-use Rattle.port_core.specs.After.{local_after}
-use Rattle.port_core.specs.Effect.{succeeds}
-use Rattle.port_core.specs.Condition.{fault_place, known_fault}
-use Rattle.port_core.specs.Known.{is_known, is_on, known, known_maps, last_made, no_maps, maps_by_step, maps_after as maps_after_made, since_turn, since_command, ends_command}
-use Rattle.port_core.specs.Local.{owes_no_kick}
-use Rattle.port_core.specs.Place.{place_of_word}
-use Rattle.port_core.specs.Run.{is_taking}
-use Rattle.port_core.specs.Step.{word_of}
-use Rattle.port_core.specs.Port.{Seen, IsPort, CanMake, made_by, shape_of}
-use Rattle.port_core.proofs.StepWords.{queue_back}
+use Rattle.port_call.specs.Words.{GuestShape, has_bit, field_at, Lpi, IsShape, interrupt_count, has_interrupt}
+use Rattle.port_call.specs.Calls.{place_of_plain, PlainWord, Ram, ItsCtlr, Cbaser, Cwriter, Fault as FaultWord, Event, Done, Stalls, Place, Found, queue_event, command_words, queue_address, next_offset, is_queue_valid, maps_by, memory_places, command_places, IsOffset, memory_at}
+use Rattle.port_call.specs.Registers.{queue_bytes, enabled_in, Command, BadCommand, QueueWord, advanced, queue_of, Maps, IsValid, maps_after, fault_number, fault_of, number_of}
+use Rattle.port_call.specs.GicCall.declared.event.Event.TheVariants.{Queue as QueueEvent}
+use Rattle.port_call.specs.GicCall.declared.event.Place.TheVariants.{Word, Queue as QueuePlace}
+use Rattle.port_call.specs.ItsCmd.Command.{decoded}
+use Rattle.port_call.specs.GicCall.declared.event.Found.TheVariants.{Queue as FoundQueue}
+use Rattle.port_call.proofs.ItsTab.CarryLemmas.{kept_now}
+use Rattle.port_call.specs.Core.{Made, Local, CoreStep, RamLook, RamPut, CommandDone, WordId, Irq, Plain, Queue, local_after, succeeds, fault_place, known_fault, is_known, is_on, known, known_maps, last_made, no_maps, maps_by_step, maps_after as maps_after_made, since_turn, since_command, ends_command, owes_no_kick, place_of_word, is_taking, word_of, Seen, IsPort, CanMake, made_by, shape_of}
+use Rattle.port_call.proofs.PortCore.StepWords.{queue_back}
 use Rattle.port_call.specs.Piece.{takes_none}
 use Rattle.port_call.specs.Store.{MayStore, Stores, is_store_step, is_store_miss, stores_not}
 use Rattle.port_call.proofs.SettleLemmas.{handed_none}

@@ -6,25 +6,14 @@ use Rattle.std.proofs.lemmas.List.{append_assoc}
 use Rattle.std.proofs.lemmas.Bool.{eq-eqb}
 use Rattle.std.specs.List.{list_all}
 use Rattle.std.specs.Option.{option_to_list}
-use Rattle.gic_base.specs.declared.shape.GuestShape.{GuestShape}
-use Rattle.gic_open.specs.declared.plain.PlainWord.TheVariants.{ItsCtlr, Cbaser, Cwriter}
-use Rattle.gic_open.specs.Plain.{plain_at}
-use Rattle.gic_imap.specs.Contents.{enabled_in}
-use Rattle.gic_call.specs.declared.command.Part.{Part}
-use Rattle.gic_call.specs.declared.event.Event.TheVariants.{Read}
-use Rattle.gic_call.specs.declared.event.Found.{Found}
-use Rattle.gic_call.specs.declared.event.Found.TheVariants.{Word as FoundWord}
-use Rattle.gic_call.specs.declared.event.Place.{Place}
-use Rattle.gic_call.specs.declared.event.Place.TheVariants.{Word}
-use Rattle.gic_call.specs.Command.{takes_command, is_queue_valid, queue_event, command_parts}
-use Rattle.gic_call.specs.Trace.{Happened, Beside, HandsOut, IsLastRead, Makes, IsCommand, ArePartsThen, HaveSameIts, AreCommands, left_by, held_at, is_beside, named_of, byte_places, command_places}
-use Rattle.gic_call.specs.View.{View}
-use Rattle.its_tab.specs.Maps.{Maps}
-use Rattle.port_core.specs.declared.run.Made.{Made}
-use Rattle.port_core.specs.declared.step.CoreStep.TheVariants.{RamLook}
-use Rattle.port_core.specs.Condition.{fault_place}
-use Rattle.port_core.specs.Port.{Seen, Adds, made_by, shape_of, part_events}
-use Rattle.port_core.proofs.PortLemmas.{adds_join}
+use Rattle.port_call.specs.Words.{GuestShape}
+use Rattle.port_call.specs.Calls.{ItsCtlr, Cbaser, Cwriter, plain_at, Part, Found, Place, takes_command, is_queue_valid, queue_event, command_parts, Happened, Beside, HandsOut, IsLastRead, Makes, IsCommand, ArePartsThen, HaveSameIts, AreCommands, left_by, held_at, is_beside, named_of, byte_places, command_places, View}
+use Rattle.port_call.specs.Registers.{enabled_in, Maps}
+use Rattle.port_call.specs.GicCall.declared.event.Event.TheVariants.{Read}
+use Rattle.port_call.specs.GicCall.declared.event.Found.TheVariants.{Word as FoundWord}
+use Rattle.port_call.specs.GicCall.declared.event.Place.TheVariants.{Word}
+use Rattle.port_call.specs.Core.{Made, RamLook, fault_place, Seen, Adds, made_by, shape_of, part_events}
+use Rattle.port_call.proofs.PortCore.PortLemmas.{adds_join}
 use Rattle.port_call.specs.Memory.{view_by}
 use Rattle.port_call.specs.Piece.{IsPiece}
 use Rattle.port_call.proofs.PieceLemmas.{piece_one, piece_nil, seen_nil}

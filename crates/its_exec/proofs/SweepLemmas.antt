@@ -4,32 +4,15 @@ use Rattle.std.specs.List.{filter_map, cons_option, range_with_len}
 use Rattle.std.specs.Option.{option_map_or, option_and_then}
 use Rattle.std.proofs.lemmas.Bool.{and_parts, eq-eqb, eqb-true, both_ways, ltb-true, leb-true, lt-ltb, cases_lt}
 use Rattle.std.proofs.lemmas.List.Elements.{filter_map-append}
-use Rattle.gic_base.specs.declared.interrupt.Key.TheVariants.{Lpi}
-use Rattle.gic_base.specs.declared.shape.GuestShape.{GuestShape}
-use Rattle.gic_base.specs.Interrupt.{has_interrupt}
-use Rattle.gic_word.specs.Record.{is_number, target_in}
-use Rattle.gic_word.specs.Word.{irq_of}
-use Rattle.gic_call.specs.declared.command.Part.{Part}
-use Rattle.gic_call.specs.declared.command.Part.TheVariants.{Retarget, Configure}
-use Rattle.gic_call.proofs.RangeLemmas.{range_with_len_more}
-use Rattle.gic_call.specs.Command.{parts}
-use Rattle.its_cmd.specs.declared.command.Command.{Command}
-use Rattle.its_cmd.specs.declared.command.Command.TheVariants.{Mapc, Invall, Movall}
-use Rattle.its_tab.specs.Collection.{collection_of, has_target}
-use Rattle.its_tab.specs.Maps.{Maps, pair_of, target_of, owner_of, IsSound}
-use Rattle.its_tab.proofs.SearchLemmas.{OwnerFacts, owner_facts, pair_from_id}
-use Rattle.port_core.specs.declared.local.Local.{Local}
-use Rattle.port_core.specs.declared.run.Made.{Made}
-use Rattle.port_core.specs.declared.word_id.WordId.TheVariants.{Irq}
-use Rattle.port_core.specs.Known.{is_on}
-use Rattle.port_core.specs.Place.{place_of_word}
-use Rattle.gic_call.specs.declared.event.Operation.{Operation}
-use Rattle.core_proper.specs.Progress.{is_end_of}
-use Rattle.port_core.specs.Local.{owes_no_mark}
-use Rattle.port_core.specs.Port.{Seen, Adds, shape_of, part_events}
+use Rattle.port_call.specs.Words.{Lpi, GuestShape, has_interrupt, is_number, target_in, irq_of}
+use Rattle.port_call.specs.Calls.{Part, parts, Operation}
+use Rattle.port_call.specs.GicCall.declared.command.Part.TheVariants.{Retarget, Configure}
+use Rattle.port_call.proofs.GicCall.RangeLemmas.{range_with_len_more}
+use Rattle.port_call.specs.Registers.{Command, Mapc, Invall, Movall, collection_of, has_target, Maps, pair_of, target_of, owner_of, IsSound}
+use Rattle.port_call.proofs.ItsTab.SearchLemmas.{OwnerFacts, owner_facts, pair_from_id}
+use Rattle.port_call.specs.Core.{Local, Made, Irq, is_on, place_of_word, is_end_of, owes_no_mark, Seen, Adds, shape_of, part_events, word_of}
 use Rattle.port_call.proofs.PieceLemmas.{seen_nil}
 use Rattle.port_call.proofs.RestLemmas.{owes_none}
-use Rattle.port_core.specs.Step.{word_of}
 use Rattle.port_call.specs.Memory.{view_by}
 use Rattle.port_call.specs.Rest.{IsAtEase, StaysAtEase}
 use Rattle.its_exec.specs.declared.fetch.Fetched.{Fetched}

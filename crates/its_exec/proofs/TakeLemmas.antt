@@ -3,32 +3,14 @@ use Rattle.std.proofs.Common.{◌≡◌, ℕ, Bool, ◌%◌, true, false, if◌t
 use Rattle.std.proofs.lemmas.List.{append_assoc}
 use Rattle.std.proofs.lemmas.List.Elements.{All-nil, All-cons}
 use Rattle.std.proofs.lemmas.List.Sums.{fold-append}
-use Rattle.gic_base.specs.declared.shape.GuestShape.{GuestShape}
-use Rattle.gic_open.specs.declared.plain.PlainWord.TheVariants.{ItsCtlr, Cbaser, Cwriter, Fault as FaultWord}
-use Rattle.gic_imap.specs.Contents.{queue_bytes}
-use Rattle.gic_call.specs.declared.command.Part.{Part}
-use Rattle.gic_call.specs.declared.event.Event.{Event}
-use Rattle.gic_call.specs.declared.event.Event.TheVariants.{Queue as QueueEvent}
-use Rattle.gic_call.specs.declared.event.Found.TheVariants.{Nothing}
-use Rattle.gic_call.specs.declared.event.Place.{Place}
-use Rattle.gic_call.specs.declared.event.QueueChange.{QueueChange}
-use Rattle.gic_call.specs.declared.event.QueueChange.TheVariants.{Done, Stalls}
-use Rattle.gic_call.specs.Command.{parts, decoded_parts, command_parts, command_words, queue_event, maps_by}
-use Rattle.gic_call.specs.Trace.{left_by, Happened, HandsOut, Makes, IsLastRead, IsCommand, HaveSameIts, ArePartsThen, held_at, command_places}
-use Rattle.gic_call.specs.View.{View}
-use Rattle.its_cmd.specs.declared.command.Command.{Command}
-use Rattle.its_cmd.specs.declared.command.BadCommand.{BadCommand}
-use Rattle.its_cmd.specs.Command.{decoded}
-use Rattle.its_queue.specs.Queue.{advanced}
-use Rattle.its_tab.specs.After.{maps_after}
-use Rattle.its_tab.specs.Fault.{fault_of, fault_number, number_of}
-use Rattle.its_tab.specs.Maps.{Maps}
-use Rattle.core_proper.specs.Progress.{Progress}
-use Rattle.port_core.specs.declared.local.Local.{Local}
-use Rattle.port_core.specs.declared.step.CoreStep.TheVariants.{CommandDone}
-use Rattle.port_core.specs.Known.{known_maps}
-use Rattle.port_core.specs.Port.{Seen, made_by, shape_of, part_events}
-use Rattle.port_core.proofs.PortLemmas.{adds_join}
+use Rattle.port_call.specs.Words.{GuestShape}
+use Rattle.port_call.specs.Calls.{ItsCtlr, Cbaser, Cwriter, Fault as FaultWord, Part, Event, Place, QueueChange, Done, Stalls, parts, decoded_parts, command_parts, command_words, queue_event, maps_by, left_by, Happened, HandsOut, Makes, IsLastRead, IsCommand, HaveSameIts, ArePartsThen, held_at, command_places, View}
+use Rattle.port_call.specs.Registers.{queue_bytes, Command, BadCommand, advanced, maps_after, fault_of, fault_number, number_of, Maps}
+use Rattle.port_call.specs.GicCall.declared.event.Event.TheVariants.{Queue as QueueEvent}
+use Rattle.port_call.specs.GicCall.declared.event.Found.TheVariants.{Nothing}
+use Rattle.port_call.specs.ItsCmd.Command.{decoded}
+use Rattle.port_call.specs.Core.{Progress, Local, CommandDone, known_maps, Seen, made_by, shape_of, part_events}
+use Rattle.port_call.proofs.PortCore.PortLemmas.{adds_join}
 use Rattle.port_call.specs.Memory.{view_by}
 use Rattle.port_call.proofs.PieceLemmas.{command_done}
 use Rattle.port_call.proofs.TurnLemmas.{events_then}

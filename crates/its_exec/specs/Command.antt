@@ -1,23 +1,11 @@
 -- What an actor does for a command.
 use Rattle.std.specs.Prelude.{◌≡◌, ℕ, ◌+◌, ◌%◌, ◌≤◌, ◌==◌, Bool, IsTrue, List, [], Option, Some, None, Ok}
 use Rattle.std.specs.List.{list_any}
-use Rattle.gic_base.specs.declared.interrupt.Key.TheVariants.{Lpi}
-use Rattle.gic_base.specs.declared.operation.Frame.TheVariants.{Its}
-use Rattle.gic_base.specs.declared.operation.GuestOp.TheVariants.{Mem}
-use Rattle.gic_base.specs.Interrupt.{has_interrupt}
-use Rattle.gic_open.specs.declared.plain.PlainWord.TheVariants.{Cbaser}
-use Rattle.gic_call.specs.declared.command.Part.{Part}
-use Rattle.gic_call.specs.declared.event.Operation.TheVariants.{Access}
-use Rattle.gic_call.specs.Command.{parts, command_words, queue_address}
-use Rattle.gic_call.specs.Trace.{Happened, ArePartsThen}
-use Rattle.its_cmd.specs.declared.command.Command.{Command}
-use Rattle.its_cmd.specs.Command.{decoded}
-use Rattle.its_tab.specs.Fault.{fault_of}
-use Rattle.its_tab.specs.Maps.{Maps}
-use Rattle.port_core.specs.declared.run.Made.{Made}
-use Rattle.port_core.specs.Known.{known_maps}
-use Rattle.port_core.specs.Port.{Seen, Adds, shape_of, part_events}
-use Rattle.core_proper.specs.Progress.{Progress}
+use Rattle.port_call.specs.Words.{Lpi, Its, Mem, has_interrupt}
+use Rattle.port_call.specs.Calls.{Cbaser, Part, Access, parts, command_words, queue_address, Happened, ArePartsThen}
+use Rattle.port_call.specs.Registers.{Command, fault_of, Maps}
+use Rattle.port_call.specs.ItsCmd.Command.{decoded}
+use Rattle.port_call.specs.Core.{Made, known_maps, Seen, Adds, shape_of, part_events, Progress}
 use Rattle.port_call.specs.Memory.{view_by}
 use Rattle.port_call.specs.Piece.{IsIdle, IsGoodPiece}
 use Rattle.port_call.specs.Rest.{StaysAtEase}

@@ -1,17 +1,13 @@
 -- The configuration byte of an LPI, during a command (IHI 0069, "LPI Configuration tables").
 use Rattle.std.specs.Prelude.{◌≡◌, ℕ, ◌-◌, ◌/◌, ◌<◌, ◌++◌, ◌&&◌, Bool, true, false, IsTrue, nat_lt, List, [], ◌∷◌, All, Option, slice_index}
 use Rattle.std.specs.Option.{option_map_or}
-use Rattle.gic_base.specs.declared.shape.GuestShape.{GuestShape}
-use Rattle.gic_lpi.specs.Tables.{config_address}
-use Rattle.gic_open.specs.declared.plain.PlainWord.TheVariants.{Ram, Propbaser, Pendbaser}
-use Rattle.gic_call.specs.declared.event.Event.TheVariants.{Read}
-use Rattle.gic_call.specs.declared.event.Found.TheVariants.{Word as FoundWord}
-use Rattle.gic_call.specs.declared.event.Place.{Place}
-use Rattle.gic_call.specs.declared.event.Place.TheVariants.{Word, Queue as QueuePlace, Ctlr as CtlrPlace, Lpis}
-use Rattle.gic_call.specs.Command.{config_byte}
-use Rattle.gic_call.specs.Trace.{Happened, memory_places}
-use Rattle.port_core.specs.declared.run.Made.{Made}
-use Rattle.port_core.specs.Port.{Seen, shape_of, part_events}
+use Rattle.port_call.specs.Words.{GuestShape}
+use Rattle.port_call.specs.Registers.{config_address}
+use Rattle.port_call.specs.Calls.{Ram, Propbaser, Pendbaser, Place, config_byte, Happened, memory_places}
+use Rattle.port_call.specs.GicCall.declared.event.Event.TheVariants.{Read}
+use Rattle.port_call.specs.GicCall.declared.event.Found.TheVariants.{Word as FoundWord}
+use Rattle.port_call.specs.GicCall.declared.event.Place.TheVariants.{Word, Queue as QueuePlace, Ctlr as CtlrPlace, Lpis}
+use Rattle.port_call.specs.Core.{Made, Seen, shape_of, part_events}
 use Rattle.port_call.specs.Memory.{view_by}
 use Rattle.its_exec.specs.declared.fetch.Fetched.{Fetched}
 use Rattle.its_exec.specs.Known.{Knows, KnowsSame, HasRead, HasFetched, Reading, is_fetched}

@@ -1,28 +1,13 @@
 -- What the actor that has the ITS knows of its queue and of the command that it does (own choice: nobody else changes the ITS meanwhile).
 use Rattle.std.specs.Prelude.{◌≡◌, ℕ, ◌+◌, ◌*◌, ◌/◌, ◌<◌, ◌&&◌, ◌==◌, not, Bool, true, false, IsTrue, nat_le, nat_lt, List, [], ◌∷◌, map, find, Option, None, is_none, IfSome}
 use Rattle.std.specs.List.{list_all}
-use Rattle.gic_base.specs.declared.interrupt.Key.TheVariants.{Lpi}
-use Rattle.gic_base.specs.Interrupt.{has_interrupt}
-use Rattle.gic_word.specs.Record.{target_in}
-use Rattle.gic_word.specs.Word.{irq_of}
-use Rattle.gic_open.specs.declared.plain.PlainWord.TheVariants.{Ram, ItsCtlr, Cbaser, Cwriter}
-use Rattle.gic_call.specs.declared.event.Event.{Event}
-use Rattle.gic_call.specs.declared.event.Event.TheVariants.{Read}
-use Rattle.gic_call.specs.declared.event.Found.{Found}
-use Rattle.gic_call.specs.declared.event.Found.TheVariants.{Word as FoundWord, Queue as FoundQueue}
-use Rattle.gic_call.specs.declared.event.Place.{Place}
-use Rattle.gic_call.specs.declared.event.Place.TheVariants.{Word, Queue as QueuePlace}
-use Rattle.gic_imap.specs.Contents.{enabled_in}
-use Rattle.gic_call.specs.Command.{is_queue_valid, queue_address}
-use Rattle.gic_call.specs.Trace.{Happened, IsLastRead, held_at}
-use Rattle.gic_call.specs.View.{memory_at}
-use Rattle.gic_call.specs.Valid.{IsOffset}
-use Rattle.its_tab.specs.Maps.{Maps}
-use Rattle.its_tab.specs.Collection.{has_target}
-use Rattle.port_core.specs.declared.run.Made.{Made}
-use Rattle.port_core.specs.declared.word_id.WordId.TheVariants.{Irq}
-use Rattle.port_core.specs.Known.{is_on, is_known, since_command, ends_command}
-use Rattle.port_core.specs.Port.{Seen, Adds, shape_of, part_events}
+use Rattle.port_call.specs.Words.{Lpi, has_interrupt, target_in, irq_of}
+use Rattle.port_call.specs.Calls.{Ram, ItsCtlr, Cbaser, Cwriter, Event, Found, Place, is_queue_valid, queue_address, Happened, IsLastRead, held_at, memory_at, IsOffset}
+use Rattle.port_call.specs.GicCall.declared.event.Event.TheVariants.{Read}
+use Rattle.port_call.specs.GicCall.declared.event.Found.TheVariants.{Word as FoundWord, Queue as FoundQueue}
+use Rattle.port_call.specs.GicCall.declared.event.Place.TheVariants.{Word, Queue as QueuePlace}
+use Rattle.port_call.specs.Registers.{enabled_in, Maps, has_target}
+use Rattle.port_call.specs.Core.{Made, Irq, is_on, is_known, since_command, ends_command, Seen, Adds, shape_of, part_events}
 use Rattle.port_call.specs.Memory.{view_by}
 use Rattle.port_call.specs.Piece.{IsPiece}
 use Rattle.its_exec.specs.declared.fetch.Fetched.{Fetched}

@@ -1,3 +1,15 @@
+pub use Rattle.port_call.specs.Calls
+pub use Rattle.port_call.specs.Core
+pub use Rattle.port_call.specs.Histories
+pub use Rattle.port_call.specs.Lists
+pub use Rattle.port_call.specs.Registers
+pub use Rattle.port_call.specs.Words
+pub use Rattle.port_call.specs.GicBase
+pub use Rattle.port_call.specs.GicCall
+pub use Rattle.port_call.specs.GicDmap
+pub use Rattle.port_call.specs.GicImap
+pub use Rattle.port_call.specs.GicRmap
+pub use Rattle.port_call.specs as PortCall
 pub mod Known
 pub mod Config
 pub mod Parts

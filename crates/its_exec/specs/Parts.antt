@@ -2,24 +2,11 @@
 use Rattle.std.specs.Prelude.{◌≡◌, ◌≢◌, ℕ, ◌<◌, ◌&&◌, Bool, true, false, IsTrue, nat_lt, List, [], ◌∷◌, Option, IfSome}
 use Rattle.std.specs.List.{list_all}
 use Rattle.std.specs.Option.{option_map_or}
-use Rattle.gic_base.specs.declared.interrupt.Key.TheVariants.{Lpi}
-use Rattle.gic_base.specs.declared.shape.GuestShape.{GuestShape}
-use Rattle.gic_base.specs.Interrupt.{has_interrupt}
-use Rattle.gic_word.specs.Record.{target_in}
-use Rattle.gic_word.specs.Valid.{is_vcpu_or_none}
-use Rattle.gic_word.specs.Word.{irq_of}
-use Rattle.gic_call.specs.declared.command.Part.{Part}
-use Rattle.gic_call.specs.declared.command.Part.TheVariants.{Forget, Map, Retarget, Raise, Clear, Configure}
-use Rattle.gic_call.specs.declared.event.Place.{Place}
-use Rattle.gic_call.specs.Command.{lpi_event}
-use Rattle.gic_call.specs.Trace.{Happened, Makes, byte_places}
-use Rattle.gic_call.specs.View.{View}
-use Rattle.gic_history.specs.Named.{names}
-use Rattle.port_core.specs.declared.run.Made.{Made}
-use Rattle.port_core.specs.declared.step.CoreStep.TheVariants.{Look}
-use Rattle.port_core.specs.declared.word_id.WordId.TheVariants.{Irq}
-use Rattle.port_core.specs.Port.{Seen, Adds, shape_of, part_events}
-use Rattle.core_proper.specs.Progress.{Progress, is_end_of}
+use Rattle.port_call.specs.Words.{Lpi, GuestShape, has_interrupt, target_in, is_vcpu_or_none, irq_of}
+use Rattle.port_call.specs.Calls.{Part, Map, Clear, Place, lpi_event, Happened, Makes, byte_places, View}
+use Rattle.port_call.specs.GicCall.declared.command.Part.TheVariants.{Forget, Retarget, Raise, Configure}
+use Rattle.port_call.specs.Histories.{names}
+use Rattle.port_call.specs.Core.{Made, Look, Irq, Seen, Adds, shape_of, part_events, Progress, is_end_of}
 use Rattle.port_call.specs.Memory.{view_by}
 use Rattle.port_call.specs.Piece.{takes_none, IsIdle, IsGoodPiece}
 use Rattle.port_call.specs.Rest.{StaysAtEase}

@@ -1,16 +1,11 @@
 -- The parts of a command in the order in which an actor does them: those of one event, and those of several LPIs.
 use Rattle.std.specs.Prelude.{◌≡◌, ℕ, ◌+◌, Bool, true, false, IsTrue, is_some, List, Option, Some, None, if◌then◌else◌}
 use Rattle.std.specs.Option.{option_map}
-use Rattle.gic_base.specs.declared.interrupt.Key.TheVariants.{Lpi}
-use Rattle.gic_base.specs.declared.shape.GuestShape.{GuestShape}
-use Rattle.gic_base.specs.Interrupt.{has_interrupt}
-use Rattle.gic_call.specs.declared.command.Part.{Part}
-use Rattle.gic_call.specs.declared.command.Part.TheVariants.{Forget, Map, Retarget, Raise, Clear, Configure}
-use Rattle.gic_call.specs.Command.{each, parts}
-use Rattle.its_cmd.specs.declared.command.Command.{Command}
-use Rattle.its_cmd.specs.declared.command.Command.TheVariants.{Movi, Int, Clear as ClearCommand, Mapd, Mapc, Mapti, Mapi, Inv, Invall, Movall, Discard}
-use Rattle.its_tab.specs.Maps.{Maps, pair_of, id_of, target_of}
-use Rattle.port_core.specs.Port.{Seen, shape_of}
+use Rattle.port_call.specs.Words.{Lpi, GuestShape, has_interrupt}
+use Rattle.port_call.specs.Calls.{Part, Map, Clear, each, parts}
+use Rattle.port_call.specs.GicCall.declared.command.Part.TheVariants.{Forget, Retarget, Raise, Configure}
+use Rattle.port_call.specs.Registers.{Command, Movi, Int, Clear as ClearCommand, Mapd, Mapc, Mapti, Mapi, Inv, Invall, Movall, Discard, Maps, pair_of, id_of, target_of}
+use Rattle.port_call.specs.Core.{Seen, shape_of}
 use Rattle.its_exec.specs.Known.{IsUntouched}
 use Rattle.its_exec.specs.Command.{DoesParts}
 use Rattle.its_exec.specs.Parts.{DoesPart}

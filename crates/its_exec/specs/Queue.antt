@@ -1,26 +1,13 @@
 -- The command queue, as an actor that has the ITS goes over it.
 use Rattle.std.specs.Prelude.{◌≡◌, ℕ, ◌+◌, ◌%◌, true, false, IsTrue, List, [], ◌∷◌, ◌++◌, fold, Option, Some, None, Ok}
-use Rattle.gic_base.specs.declared.shape.GuestShape.{GuestShape}
-use Rattle.gic_call.specs.Command.{queue_address, command_words, queue_event}
-use Rattle.gic_call.specs.declared.event.Event.TheVariants.{Queue as QueueEvent}
-use Rattle.gic_call.specs.declared.event.Found.TheVariants.{Nothing}
-use Rattle.gic_call.specs.declared.event.QueueChange.TheVariants.{Runs}
-use Rattle.gic_open.specs.declared.plain.PlainWord.TheVariants.{Fault as FaultWord}
-use Rattle.its_cmd.specs.declared.command.Command.{Command}
-use Rattle.its_cmd.specs.Command.{decoded}
-use Rattle.its_tab.specs.Fault.{fault_number}
-use Rattle.its_tab.specs.After.{IsValid, is_mapping}
-use Rattle.its_tab.specs.Maps.{Maps}
-use Rattle.port_core.specs.declared.step.CoreStep.{CoreStep}
-use Rattle.port_core.specs.declared.step.CoreStep.TheVariants.{RamLook, CommandDone}
-use Rattle.port_core.specs.Condition.{fault_place}
-use Rattle.port_core.specs.Known.{known_maps, ends_command}
-use Rattle.port_core.specs.declared.run.Made.{Made}
-use Rattle.port_core.specs.Port.{Seen, Adds, AddsStep, shape_of, part_events}
-use Rattle.core_proper.specs.Progress.{Progress}
+use Rattle.port_call.specs.Words.{GuestShape}
+use Rattle.port_call.specs.Calls.{queue_address, command_words, queue_event, Runs, Fault as FaultWord, Happened, HaveSameIts, IsCommand, left_by, View}
+use Rattle.port_call.specs.GicCall.declared.event.Event.TheVariants.{Queue as QueueEvent}
+use Rattle.port_call.specs.GicCall.declared.event.Found.TheVariants.{Nothing}
+use Rattle.port_call.specs.Registers.{Command, fault_number, IsValid, is_mapping, Maps}
+use Rattle.port_call.specs.ItsCmd.Command.{decoded}
+use Rattle.port_call.specs.Core.{CoreStep, RamLook, CommandDone, fault_place, known_maps, ends_command, Made, Seen, Adds, AddsStep, shape_of, part_events, Progress}
 use Rattle.port_call.specs.Piece.{IsIdle, IsGoodPiece, IsRestedPiece}
-use Rattle.gic_call.specs.Trace.{Happened, HaveSameIts, IsCommand, left_by}
-use Rattle.gic_call.specs.View.{View}
 use Rattle.its_exec.specs.Command.{IsItsWrite}
 use Rattle.port_call.specs.Memory.{view_by}
 use Rattle.port_call.specs.Rest.{IsAtEase}

@@ -1,14 +1,9 @@
 -- A run of the queue: its commands are those that the law of calls asks for.
 use Rattle.std.specs.Prelude.{◌≡◌, ℕ, ◌+◌, false, List, [], ◌∷◌, Option}
-use Rattle.gic_base.specs.declared.shape.GuestShape.{GuestShape}
-use Rattle.gic_call.specs.Command.{takes_command}
-use Rattle.gic_call.specs.Trace.{Happened, Beside, HaveSameIts, AreCommands}
-use Rattle.gic_call.specs.View.{View}
-use Rattle.its_tab.specs.Maps.{Maps}
-use Rattle.port_core.specs.declared.run.Made.{Made}
-use Rattle.port_core.specs.Known.{known_maps}
-use Rattle.port_core.specs.Port.{Seen, Adds, shape_of, part_events}
-use Rattle.core_proper.specs.Progress.{Progress}
+use Rattle.port_call.specs.Words.{GuestShape}
+use Rattle.port_call.specs.Calls.{takes_command, Happened, Beside, HaveSameIts, AreCommands, View}
+use Rattle.port_call.specs.Registers.{Maps}
+use Rattle.port_call.specs.Core.{Made, known_maps, Seen, Adds, shape_of, part_events, Progress}
 use Rattle.port_call.specs.Memory.{view_by}
 use Rattle.port_call.specs.Piece.{IsIdle, IsGoodPiece}
 use Rattle.its_exec.specs.Command.{IsItsWrite}

@@ -1,23 +1,14 @@
 -- Commands that are about several LPIs: what each does to one of them.
 use Rattle.std.specs.Prelude.{◌≡◌, ℕ, ◌&&◌, not, Bool, true, false, IsTrue, nat_lt, List, [], Option, Some, None, IfSome, if◌then◌else◌}
 use Rattle.std.specs.List.{filter_map}
-use Rattle.gic_base.specs.declared.interrupt.Key.TheVariants.{Lpi}
-use Rattle.gic_base.specs.declared.shape.GuestShape.{GuestShape}
-use Rattle.gic_base.specs.Interrupt.{has_interrupt}
-use Rattle.gic_word.specs.Record.{is_number}
-use Rattle.gic_call.specs.declared.command.Part.{Part}
-use Rattle.gic_call.specs.declared.command.Part.TheVariants.{Retarget, Configure}
-use Rattle.gic_call.specs.Command.{parts}
-use Rattle.its_cmd.specs.declared.command.Command.{Command}
-use Rattle.its_cmd.specs.declared.command.Command.TheVariants.{Mapc, Invall, Movall}
-use Rattle.its_tab.specs.Collection.{collection_of, has_target}
-use Rattle.its_tab.specs.Maps.{Maps}
-use Rattle.port_core.specs.declared.run.Made.{Made}
-use Rattle.port_core.specs.Port.{Seen, Adds, shape_of, part_events}
+use Rattle.port_call.specs.Words.{Lpi, GuestShape, has_interrupt, is_number}
+use Rattle.port_call.specs.Calls.{Part, parts, lpis_of}
+use Rattle.port_call.specs.GicCall.declared.command.Part.TheVariants.{Retarget, Configure}
+use Rattle.port_call.specs.Registers.{Command, Mapc, Invall, Movall, collection_of, has_target, Maps}
+use Rattle.port_call.specs.Core.{Made, Seen, Adds, shape_of, part_events}
 use Rattle.port_call.specs.Memory.{view_by}
 use Rattle.its_exec.specs.Known.{IsUntouched, AgreeFound, are_within}
 use Rattle.its_exec.specs.Parts.{lpi_of, is_part_of, GoesFirst, Prefix}
-use Rattle.gic_call.specs.Access.{lpis_of}
 use Rattle.its_exec.specs.Command.{DoesParts}
 use Rattle.its_exec.specs.Plan.{DoesSome, lpis_end}
 

@@ -1,14 +1,9 @@
 //! A command without a fault.
 ghost use Rattle.std.specs.Prelude.{◌≡◌, ◌<◌, IsTrue, IfSome, IsSome, None, OnOk, OnErr, true, false};
-ghost use Rattle.gic_base.specs.Interrupt.{has_interrupt};
-ghost use Rattle.gic_base.specs.declared.interrupt.Key.TheVariants.{Lpi};
-ghost use Rattle.gic_call.specs.Command.{lpis_of_device};
-ghost use Rattle.its_tab.specs.After.{IsValid, maps_after, is_mapping, without_events};
-ghost use Rattle.its_tab.specs.Fault.{fault_of};
-ghost use Rattle.its_tab.specs.Maps.{pair_of, with_device, without_device, without_event, IsSound};
-ghost use Rattle.its_cmd.specs.Command.{FitsFields};
-ghost use Rattle.port_core.specs.Known.{known_maps};
-ghost use Rattle.port_core.specs.Port.{shape_of};
+ghost use Rattle.port_call.specs.Words.{has_interrupt, Lpi};
+ghost use Rattle.port_call.specs.Calls.{lpis_of_device};
+ghost use Rattle.port_call.specs.Registers.{IsValid, maps_after, is_mapping, without_events, fault_of, pair_of, with_device, without_device, without_event, IsSound, FitsFields};
+ghost use Rattle.port_call.specs.Core.{known_maps, shape_of};
 ghost use Rattle.port_call.specs.Rest.{IsAtEase};
 ghost use Rattle.its_exec.specs.Command.{DoesCommand};
 ghost use Rattle.its_exec.specs.Config.{HoldsCommand};
@@ -18,11 +13,11 @@ ghost use Rattle.its_exec.specs.Plan.{IsFresh, first_of, second_of, is_several, 
 use crate::fetch::Fetched;
 use crate::part::{do_part, do_some};
 use crate::sweep::do_sweep;
-use gic_base::{GuestShape, NoMemory};
-use gic_call::Part;
-use its_cmd::Command;
-use its_tab::ItsTables;
-use port_core::Port;
+use port_call::gic_base::{GuestShape, NoMemory};
+use port_call::gic_call::Part;
+use port_call::its_cmd::Command;
+use port_call::its_tab::ItsTables;
+use port_call::port_core::Port;
 use std::sync::Wait;
 
 /// Forgets the LPI of an event that is mapped, and unmaps the event.

@@ -1,16 +1,14 @@
 //! The configuration byte of an LPI.
 ghost use Rattle.std.specs.Prelude.{◌<◌, ◌/◌, IsTrue, IfSome, Some};
-ghost use Rattle.gic_base.specs.Interrupt.{has_interrupt};
-ghost use Rattle.gic_base.specs.declared.interrupt.Key.TheVariants.{Lpi};
-ghost use Rattle.port_core.specs.Port.{shape_of};
+ghost use Rattle.port_call.specs.Words.{has_interrupt, Lpi};
+ghost use Rattle.port_call.specs.Core.{shape_of};
 ghost use Rattle.its_exec.specs.Config.{HoldsCommand, ReadsWord, ReadsConfig};
 
 use crate::fetch::Fetched;
-use gic_lpi::config_address;
-use gic_open::PlainWord;
-use gic_ram::{extract, split};
+use port_call::gic_open::PlainWord;
+use port_call::gic_ram::{config_address, extract, split};
+use port_call::port_core::Port;
 use port_call::read_plain;
-use port_core::Port;
 
 /// A word of the guest's memory during a command: as it was fetched, where it is one of the command's doublewords, and
 /// else by a look.

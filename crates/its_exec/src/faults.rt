@@ -1,12 +1,12 @@
 //! The fault of a command.
 ghost use Rattle.std.specs.Prelude.{◌≡◌, Err, Ok};
 ghost use Rattle.std.specs.Option.{option_map_or};
-ghost use Rattle.gic_base.specs.Shape.{IsShape};
-ghost use Rattle.its_tab.specs.Fault.{fault_of};
+ghost use Rattle.port_call.specs.Words.{IsShape};
+ghost use Rattle.port_call.specs.Registers.{fault_of};
 
-use gic_base::GuestShape;
-use its_cmd::Command;
-use its_tab::{CmdFault, ItsTables};
+use port_call::gic_base::GuestShape;
+use port_call::its_cmd::Command;
+use port_call::its_tab::{CmdFault, ItsTables};
 
 /// Whether a command can be carried out with these tables, in a guest of this shape. Err exactly where it has a fault:
 /// the first by number.

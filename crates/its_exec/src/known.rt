@@ -1,12 +1,12 @@
 //! What the actor that has the ITS knows of its queue.
 ghost use Rattle.std.specs.Prelude.{◌≡◌, ◌<◌, ◌+◌, ◌^◌, IsTrue};
-ghost use Rattle.gic_call.specs.Command.{queue_address};
+ghost use Rattle.port_call.specs.Calls.{queue_address};
 ghost use Rattle.its_exec.specs.Known.{LooksAtQueue, takes_next};
 
-use gic_bits::{Field, has_bit};
-use gic_open::PlainWord;
+use port_call::gic_bits::{Field, has_bit};
+use port_call::gic_open::PlainWord;
+use port_call::port_core::{CoreStep, Port, WordId};
 use port_call::read_plain;
-use port_core::{CoreStep, Port, WordId};
 
 /// GITS_CTLR.Enabled.
 const ENABLED: u32 = 0;
@@ -40,7 +40,7 @@ pub fn look_at_queue<P: Port>(port: &mut P) -> KnownQueue
     let word = port.step(CoreStep::Look {
         word: WordId::Queue,
     });
-    let queue = its_queue::unpack(word).unwrap();
+    let queue = port_call::its_cmd::unpack(word).unwrap();
     KnownQueue {
         ctlr: read_plain(port, PlainWord::ItsCtlr),
         cbaser: read_plain(port, PlainWord::Cbaser),

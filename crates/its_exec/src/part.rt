@@ -1,9 +1,9 @@
 //! One part of a command.
 ghost use Rattle.std.specs.Prelude.{◌<◌, IsTrue, IfSome};
-ghost use Rattle.gic_base.specs.Interrupt.{has_interrupt};
-ghost use Rattle.gic_base.specs.declared.interrupt.Key.TheVariants.{Lpi};
-ghost use Rattle.gic_call.specs.declared.command.Part.TheVariants.{Map, Configure};
-ghost use Rattle.port_core.specs.Port.{shape_of};
+ghost use Rattle.port_call.specs.Words.{has_interrupt, Lpi};
+ghost use Rattle.port_call.specs.Calls.{Map};
+ghost use Rattle.port_call.specs.GicCall.declared.command.Part.TheVariants.{Configure};
+ghost use Rattle.port_call.specs.Core.{shape_of};
 ghost use Rattle.port_call.specs.Rest.{IsAtEase};
 ghost use Rattle.its_exec.specs.Config.{HoldsCommand};
 ghost use Rattle.its_exec.specs.Parts.{is_part_of, LooksAtTarget, DoesPart};
@@ -11,12 +11,12 @@ ghost use Rattle.its_exec.specs.Plan.{DoesSome};
 
 use crate::config::byte_for;
 use crate::fetch::Fetched;
-use gic_base::{Key, Kind};
-use gic_call::{Part, Touching};
-use gic_lpi::config_of;
-use gic_word::{target_in, unpack};
+use port_call::gic_base::{Key, Kind};
+use port_call::gic_call::{Part, Touching};
+use port_call::gic_ram::config_of;
+use port_call::gic_word::{target_in, unpack};
+use port_call::port_core::{CoreStep, Port, WordId};
 use port_call::{raise, touch};
-use port_core::{CoreStep, Port, WordId};
 use std::sync::Wait;
 
 /// A write of 1 to an interrupt's part of ICPENDR.

@@ -1,33 +1,26 @@
 //! The command queue.
 ghost use Rattle.std.specs.Prelude.{◌≡◌, IsTrue, None, Some, IfOk, OnOk, OnErr, true, false};
-ghost use Rattle.gic_imap.specs.Contents.{queue_bytes as bytes_of};
-ghost use Rattle.gic_call.specs.Valid.{IsOffset};
-ghost use Rattle.its_cmd.specs.Command.{decoded};
-ghost use Rattle.its_queue.specs.Queue.{advanced};
-ghost use Rattle.its_tab.specs.Fault.{fault_number};
-ghost use Rattle.port_core.specs.declared.step.CoreStep.TheVariants.{CommandDone};
-ghost use Rattle.port_core.specs.Known.{known_maps};
-ghost use Rattle.port_core.specs.Port.{shape_of};
+ghost use Rattle.port_call.specs.Registers.{queue_bytes as bytes_of, advanced, fault_number, IsValid, Maps};
+ghost use Rattle.port_call.specs.Calls.{IsOffset};
+ghost use Rattle.port_call.specs.ItsCmd.Command.{decoded};
+ghost use Rattle.port_call.specs.Core.{CommandDone, known_maps, shape_of};
 ghost use Rattle.port_call.specs.Rest.{IsAtEase};
 ghost use Rattle.its_exec.specs.Queue.{HoldsNext, HasBad, MakesStep, StallsAt, IsReady, HasIts, MovesQueue, LooksAtFault, TellsFault, EndsAt, IsOverWith, WantsMemory, TakesCommand, FetchesMapping};
 ghost use Rattle.its_exec.specs.Run.{RunsQueue, StopsQueue};
 ghost use Rattle.its_exec.specs.Plan.{IsFresh};
-ghost use Rattle.its_tab.specs.After.{IsValid};
-ghost use Rattle.its_tab.specs.Maps.{Maps};
-ghost use Rattle.gic_base.specs.declared.shape.GuestShape.{GuestShape};
+ghost use Rattle.port_call.specs.Words.{GuestShape};
 ghost use Rattle.its_exec.specs.Known.{takes_next};
 
 use crate::command::do_command;
 use crate::fetch::{Fetched, fetch};
 use crate::known::{KnownQueue, look_at_queue};
-use gic_base::{GuestShape, NoMemory};
-use gic_imap::queue_bytes;
-use gic_open::{PlainWord, place_of_plain};
-use its_cmd::decode;
-use its_queue::advance;
-use its_tab::{ItsTables, UNKNOWN_NUMBER};
+use port_call::gic_base::{GuestShape, NoMemory};
+use port_call::gic_imap::queue_bytes;
+use port_call::gic_open::{PlainWord, place_of_plain};
+use port_call::its_cmd::{advance, decode};
+use port_call::its_tab::{ItsTables, UNKNOWN_NUMBER};
+use port_call::port_core::{CoreStep, Port};
 use port_call::put_plain;
-use port_core::{CoreStep, Port};
 use std::sync::Wait;
 
 /// How a queue ends.

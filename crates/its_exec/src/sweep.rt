@@ -1,12 +1,8 @@
 //! Commands that are about several LPIs.
 ghost use Rattle.std.specs.Prelude.{◌≡◌, ◌<◌, ◌^◌, IsTrue, None, Some, true, if◌then◌else◌};
-ghost use Rattle.gic_base.specs.Interrupt.{has_interrupt};
-ghost use Rattle.gic_base.specs.declared.interrupt.Key.TheVariants.{Lpi};
-ghost use Rattle.gic_word.specs.Record.{is_number};
-ghost use Rattle.its_cmd.specs.declared.command.Command.TheVariants.{Movall};
-ghost use Rattle.its_tab.specs.Collection.{collection_of as collection_in};
-ghost use Rattle.its_tab.specs.Maps.{IsSound};
-ghost use Rattle.port_core.specs.Port.{shape_of};
+ghost use Rattle.port_call.specs.Words.{has_interrupt, Lpi, is_number};
+ghost use Rattle.port_call.specs.Registers.{Movall, collection_of as collection_in, IsSound};
+ghost use Rattle.port_call.specs.Core.{shape_of};
 ghost use Rattle.port_call.specs.Rest.{IsAtEase};
 ghost use Rattle.its_exec.specs.Config.{HoldsCommand};
 ghost use Rattle.its_exec.specs.Known.{IsUntouched};
@@ -15,11 +11,11 @@ ghost use Rattle.its_exec.specs.Sweep.{names_vcpus, is_sweep, Picks, SweepsLpi, 
 
 use crate::fetch::Fetched;
 use crate::part::{do_some, look_at_target};
-use gic_base::FIRST_LPI;
-use gic_call::Part;
-use its_cmd::Command;
-use its_tab::ItsTables;
-use port_core::Port;
+use port_call::gic_base::FIRST_LPI;
+use port_call::gic_call::Part;
+use port_call::its_cmd::Command;
+use port_call::its_tab::ItsTables;
+use port_call::port_core::Port;
 use std::sync::Wait;
 
 /// A part, if its LPI is of a collection.

@@ -2,17 +2,12 @@
 use Rattle.std.proofs.Common.{◌≡◌, List, [], ◌∷◌, ◌++◌, find, is_some, ◌||◌, Some, if◌then◌else◌, sym, ap, subst, ◌∙◌}
 use Rattle.std.proofs.lemmas.List.{append_assoc}
 use Rattle.std.proofs.lemmas.List.Sums.{fold-append}
-use Rattle.gic_base.specs.declared.interrupt.Key.TheVariants.{Lpi}
-use Rattle.gic_base.specs.declared.shape.GuestShape.{GuestShape}
-use Rattle.its_tab.specs.After.{IsValid}
-use Rattle.its_tab.specs.Maps.{Maps}
-use Rattle.port_core.specs.declared.run.Made.{Made}
-use Rattle.port_core.specs.declared.word_id.WordId.TheVariants.{Irq}
-use Rattle.port_core.specs.Known.{known_maps, is_on, since_command, ends_command}
-use Rattle.port_core.specs.Port.{Seen, shape_of}
-use Rattle.port_call.specs.Turn.{TakesTurn}
-use Rattle.port_call.proofs.KnownLemmas.{maps_handed}
-use Rattle.its_exec.specs.Plan.{IsFresh}
+use Rattle.dev_port.specs.Words.{Lpi, GuestShape}
+use Rattle.port_seq.specs.Registers.{IsValid, Maps}
+use Rattle.dev_port.specs.Core.{Made, Irq, known_maps, is_on, since_command, ends_command, Seen, shape_of}
+use Rattle.dev_port.specs.PortCall.Turn.{TakesTurn}
+use Rattle.dev_port.proofs.PortCall.KnownLemmas.{maps_handed}
+use Rattle.pe_op.specs.ItsExec.Plan.{IsFresh}
 
 pub turn_valid : (old new : Seen) (shape : GuestShape) (tables : Maps) → shape ≡ shape_of old → TakesTurn old new → tables ≡ known_maps new.own → IsValid shape tables
 turn_valid old new shape tables is takes e =

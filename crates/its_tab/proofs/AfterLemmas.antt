@@ -13,9 +13,7 @@ use Rattle.std.proofs.lemmas.Bool.{eqb-true}
 use Rattle.std.proofs.lemmas.Option.{none-some}
 use Rattle.std.proofs.lemmas.Grind.{common_steps}
 use Rattle.std.proofs.lemmas.Map.Lookups.{exact_unsigned}
-use Rattle.gic_base.specs.declared.shape.GuestShape.{GuestShape}
-use Rattle.gic_base.specs.declared.interrupt.Key.TheVariants.{Lpi}
-use Rattle.gic_base.specs.Interrupt.{has_interrupt}
+use Rattle.its_cmd.specs.Words.{GuestShape, Lpi, has_interrupt}
 use Rattle.its_cmd.specs.declared.command.Command.TheVariants.{Movi, Int, Clear, Sync, Mapd, Mapc, Mapti, Mapi, Inv, Invall, Movall, Discard}
 use Rattle.its_tab.specs.declared.fault.CmdFault.{CmdFault}
 use Rattle.its_tab.specs.Maps.{Maps, event_cmp, at_number, bits_of, pair_of, owner_of, first_event, with_device, with_event, with_collection, without_device, without_event, without_collection, IsSound}

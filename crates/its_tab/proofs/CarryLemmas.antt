@@ -2,7 +2,7 @@
 use Rattle.std.proofs.Common.{◌≡◌, ℕ, ◌<◌, ◌==◌, not, Bool, true, false, cond, Some, None, IsSome, IfSome, List, [], ◌∷◌, length, find, Result, Ok, Err, OnOk, refl, sym, ap, subst, arith}
 use Rattle.std.specs.List.{filter}
 use Rattle.std.specs.Option.{option_map}
-use Rattle.gic_base.specs.declared.shape.GuestShape.{GuestShape}
+use Rattle.its_cmd.specs.Words.{GuestShape}
 use Rattle.its_cmd.specs.declared.command.Command.{Command}
 use Rattle.its_tab.specs.Fault.{fault_of}
 use Rattle.std.specs.Map.{lookup, remove_entry}

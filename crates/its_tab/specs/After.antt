@@ -1,8 +1,6 @@
 -- What a good command makes of the maps, and what the maps of a guest always have (IHI 0069, "ITS commands").
 use Rattle.std.specs.Prelude.{ℕ, ◌≡◌, ◌<◌, ◌≤◌, ◌+◌, ◌^◌, ◌==◌, not, Bool, IsTrue, IfSome, Option, Some, None, true, false, filter}
-use Rattle.gic_base.specs.declared.shape.GuestShape.{GuestShape}
-use Rattle.gic_base.specs.declared.interrupt.Key.TheVariants.{Lpi}
-use Rattle.gic_base.specs.Interrupt.{has_interrupt}
+use Rattle.its_cmd.specs.Words.{GuestShape, Lpi, has_interrupt}
 use Rattle.its_cmd.specs.declared.command.Command.{Command}
 use Rattle.its_cmd.specs.declared.command.Command.TheVariants.{Movi, Mapd, Mapc, Mapti, Mapi, Discard}
 use Rattle.its_tab.specs.Maps.{Maps, bits_of, pair_of, target_of, with_device, with_event, with_collection, without_device, without_event, without_collection, IsSound}

@@ -1,9 +1,7 @@
 -- The faults of ITS commands, in the order of their numbers (own choice of the numbers; IHI 0069, "ITS command error encodings", has more).
 use Rattle.std.specs.Prelude.{ℕ, ◌^◌, ◌==◌, ◌&&◌, ◌||◌, not, nat_le, nat_lt, is_none, Bool, false, Option, Some, Result, Ok, Err, List, [], ◌∷◌, find, unwrap_or}
 use Rattle.std.specs.Option.{option_map, option_and_then}
-use Rattle.gic_base.specs.declared.shape.GuestShape.{GuestShape}
-use Rattle.gic_base.specs.declared.interrupt.Key.TheVariants.{Lpi}
-use Rattle.gic_base.specs.Interrupt.{has_interrupt}
+use Rattle.its_cmd.specs.Words.{GuestShape, Lpi, has_interrupt}
 use Rattle.its_cmd.specs.declared.command.Command.{Command}
 use Rattle.its_cmd.specs.declared.command.Command.TheVariants.{Movi, Int, Clear, Sync, Mapd, Mapc, Mapti, Mapi, Inv, Invall, Movall, Discard}
 use Rattle.its_cmd.specs.declared.command.BadCommand.{BadCommand}

@@ -1,3 +1,5 @@
+pub use Rattle.its_cmd.specs.Words
+pub use Rattle.its_cmd.specs as ItsCmd
 pub mod Maps
 pub mod Fault
 pub mod After

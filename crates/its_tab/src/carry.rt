@@ -1,13 +1,13 @@
 //! What a command does to the tables.
 ghost use Rattle.std.specs.Prelude.{◌≡◌, None, OnOk, OnErr, IsTrue};
-ghost use Rattle.gic_base.specs.Shape.{IsShape};
+ghost use Rattle.its_cmd.specs.Words.{IsShape};
 ghost use Rattle.its_tab.specs.Fault.{fault_of};
 ghost use Rattle.its_tab.specs.After.{without_events, maps_after, is_mapping, IsValid};
 ghost use Rattle.its_tab.specs.Maps.{with_device, without_device};
 
 use crate::tables::ItsTables;
-use gic_base::{GuestShape, NoMemory};
 use its_cmd::Command;
+use its_cmd::gic_base::{GuestShape, NoMemory};
 
 impl ItsTables {
     /// Does to the tables what a command without a fault, in a guest of this shape, does (IHI 0069, "ITS
@@ -105,8 +105,8 @@ impl ItsTables {
 #[cfg(test)]
 mod tests {
     use crate::samples::tables;
-    use gic_base::{GuestShape, NoMemory};
     use its_cmd::Command;
+    use its_cmd::gic_base::{GuestShape, NoMemory};
 
     const SHAPE: GuestShape = GuestShape {
         vcpus: 2,

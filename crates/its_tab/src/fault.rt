@@ -1,14 +1,13 @@
 //! The faults of ITS commands.
 ghost use Rattle.std.specs.Prelude.{◌≡◌, ◌^◌, ◌∷◌, [], ◌&&◌, ◌||◌, not, is_none, nat_lt, nat_le};
-ghost use Rattle.gic_base.specs.Shape.{IsShape};
-ghost use Rattle.gic_base.specs.Interrupt.{has_interrupt};
+ghost use Rattle.its_cmd.specs.Words.{IsShape, has_interrupt};
 ghost use Rattle.its_tab.specs.Maps.{target_of};
 ghost use Rattle.its_tab.specs.Fault.{number_of, first_fault, on_device, on_event, on_mapping, is_uncollected, is_no_vcpu, fault_of, fault_number as number_in};
 ghost use Rattle.its_cmd.specs.Command.{decoded};
 ghost use Rattle.its_tab.specs.After.{GoodCommandsKeepMaps};
 
 use crate::tables::ItsTables;
-use gic_base::{FIRST_LPI, GuestShape, Key};
+use its_cmd::gic_base::{FIRST_LPI, GuestShape, Key};
 use its_cmd::{BadCommand, Command, decode};
 
 /// DeviceIDs are below this: 16 bits of DeviceID.
@@ -249,7 +248,7 @@ pub fn good_commands_keep_maps()
 #[cfg(test)]
 mod tests {
     use crate::samples::tables;
-    use gic_base::{GuestShape, NoMemory};
+    use its_cmd::gic_base::{GuestShape, NoMemory};
 
     const SHAPE: GuestShape = GuestShape {
         vcpus: 2,

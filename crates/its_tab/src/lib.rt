@@ -9,4 +9,6 @@ mod samples;
 mod tables;
 
 pub use fault::{CmdFault, DEVICES, MAX_SIZE, UNKNOWN_NUMBER, good_commands_keep_maps};
+pub use its_cmd;
+pub use its_cmd::gic_base;
 pub use tables::{ItsTables, empty};

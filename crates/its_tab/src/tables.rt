@@ -1,10 +1,10 @@
 //! The tables of an ITS.
 ghost use Rattle.std.specs.Prelude.{◌≡◌, ◌≢◌, ◌≤◌, ◌↔◌, ℕ, [], IsTrue, IsSome, IfSome, IfNone, OnSome, IfOk, OnOk, OnErr, Some, None, Contains};
 ghost use Rattle.std.specs.List.Sorted.{IsStrictlyIncreasing};
-ghost use Rattle.gic_base.specs.declared.shape.GuestShape.{GuestShape};
+ghost use Rattle.its_cmd.specs.Words.{GuestShape};
 ghost use Rattle.its_tab.specs.After.{IsValid};
 
-use gic_base::NoMemory;
+use its_cmd::gic_base::NoMemory;
 use std::alloc::{AllocError, Global};
 use std::collections::BTreeMap;
 use std::marker::Model;
@@ -274,7 +274,7 @@ impl ItsTables {
 mod tests {
     use super::empty;
     use crate::samples::tables;
-    use gic_base::NoMemory;
+    use its_cmd::gic_base::NoMemory;
 
     #[test]
     fn mapped_and_unmapped(rt: HostRuntime) -> Result<(), NoMemory> {

@@ -2,20 +2,21 @@
 ghost use Rattle.std.specs.Prelude.{◌≡◌, IsTrue, IfSome, None};
 ghost use Rattle.dev_port.specs.Device.{CanCall};
 ghost use Rattle.port_seq.specs.Ports.{told};
-ghost use Rattle.pe_loop.specs.Stay.{IsUp};
+ghost use Rattle.pe_op.specs.PeLoop.Stay.{IsUp};
 
+use dev_port::gic_base::{Frame, GuestOp, GuestShape, IccReg, Key, key_of};
+use dev_port::gic_guest::{Preset, is_good_op};
 use dev_port::{message, msi};
-use gic_base::{Frame, GuestOp, GuestShape, IccReg, Key, key_of};
-use pe_loop::{enter, leave};
 use pe_op::guest_op;
-use port_core::Port;
+use pe_op::pe_loop::{enter, leave};
+use pe_op::vcpu_state::{Loaded, Shelved};
 use port_rest::{is_off, is_settled, one_guest};
+use port_seq::port_core::Port;
+use port_seq::scn_base::{Mode, Scenario};
 use port_seq::{GuestPort, SeqPort};
-use scn_base::{Mode, Preset, Scenario, is_good_op};
 use std::alloc::{AllocError, Global};
 use std::sync::Wait;
 use std::test::Fail;
-use vcpu_state::{Loaded, Shelved};
 
 /// Two vCPUs, SPIs 32 to 991, LPIs 8192 to 8207, 64 KiB of memory, and a device.
 const SHAPE: GuestShape = GuestShape {

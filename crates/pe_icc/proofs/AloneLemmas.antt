@@ -1,21 +1,13 @@
 -- One interrupt in the list registers, or none.
 use Rattle.std.proofs.Common.{◌≡◌, ℕ, ◌^◌, ◌≤◌, true, [], ◌∷◌, replicate, Some, None, refl, sym, ap, ◌∙◌, arith}
 use Rattle.std.proofs.lemmas.Option.{none-some}
-use Rattle.gic_base.specs.Interrupt.{intid_of}
-use Rattle.gic_ich.specs.declared.regs.IchRegs.{IchRegs}
-use Rattle.gic_ich.specs.Hcr.{hcr_en}
-use Rattle.gic_ich.specs.Place.{HoldCpu, StandFor, seen_in}
-use Rattle.gic_ich.specs.Vmcr.{vmcr_of}
-use Rattle.gic_icv.specs.Agree.{is_live}
-use Rattle.gic_lr.specs.Entry.{packed as packed_entry}
-use Rattle.gic_prio.specs.declared.cpu.CpuRec.{CpuRec}
-use Rattle.vcpu_refill.specs.declared.fill.Choice.{Choice}
-use Rattle.vcpu_refill.specs.Laws.{FitsRegister, offer_of}
-use Rattle.vcpu_refill.specs.Plan.{chosen_as, entry_of, held_as}
-use Rattle.vcpu_refill.proofs.StandLemmas.{stands_chosen}
-use Rattle.vcpu_state.specs.declared.loaded.Loaded.{Loaded}
-use Rattle.vcpu_state.proofs.PlaceLemmas.{put_stands}
-use Rattle.core_proper.specs.Registers.{alone, without_claim}
+use Rattle.pe_loop.specs.Words.{intid_of}
+use Rattle.pe_loop.specs.Lists.{IchRegs, hcr_en, HoldCpu, StandFor, seen_in, vmcr_of, is_live, packed as packed_entry, Choice, FitsRegister, offer_of, chosen_as, entry_of, held_as}
+use Rattle.pe_loop.specs.Registers.{CpuRec}
+use Rattle.pe_loop.proofs.VcpuRefill.StandLemmas.{stands_chosen}
+use Rattle.pe_loop.specs.VcpuState.declared.loaded.Loaded.{Loaded}
+use Rattle.pe_loop.proofs.VcpuState.PlaceLemmas.{put_stands}
+use Rattle.pe_loop.specs.Core.{alone, without_claim}
 use Rattle.pe_loop.specs.Stay.{IsOpen}
 use Rattle.pe_loop.proofs.ClaimingLemmas.{blank_places, none_there}
 use Rattle.pe_loop.proofs.StoreLemmas.{changed_there, is_with}

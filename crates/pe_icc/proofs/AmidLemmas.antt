@@ -1,9 +1,6 @@
 -- Parts, one after the other.
 use Rattle.std.proofs.Common.{List, [], ◌++◌, map, refl, sym, subst, ◌∙◌}
-use Rattle.port_core.specs.declared.run.Made.{Made}
-use Rattle.port_core.specs.Port.{Seen, Adds, shape_of}
-use Rattle.core_proper.specs.Parts.{makes}
-use Rattle.core_proper.specs.Progress.{Progress, progress_of}
+use Rattle.pe_loop.specs.Core.{Made, Seen, Adds, shape_of, makes, Progress, progress_of}
 use Rattle.pe_loop.proofs.JoinLemmas.{two_on, two_proper, same_proper, same_progress}
 use Rattle.pe_icc.specs.Amid.{Leads}
 

@@ -2,35 +2,18 @@
 use Rattle.std.proofs.Common.{◌≡◌, ℕ, ◌≤◌, ◌==◌, ◌&&◌, not, Bool, true, false, if◌then◌else◌, IsTrue, List, [], ◌∷◌, ◌++◌, map, replicate, Option, Some, None, unwrap_or, refl, sym, ap, subst, ◌∙◌}
 use Rattle.std.specs.List.{list_all}
 use Rattle.std.proofs.lemmas.Bool.{and_parts, eq-eqb}
-use Rattle.gic_call.specs.declared.event.Operation.{Operation}
-use Rattle.gic_ich.specs.declared.regs.IchRegs.{IchRegs}
-use Rattle.gic_ich.specs.Place.{StandFor}
-use Rattle.gic_prio.specs.declared.cpu.CpuRec.{CpuRec}
-use Rattle.vcpu_refill.specs.Chooser.{Kept}
-use Rattle.vcpu_state.specs.declared.loaded.Loaded.{Loaded}
-use Rattle.vcpu_state.specs.declared.shelved.Shelved.{Shelved}
-use Rattle.vcpu_state.specs.Moves.{loaded_of, shelved_of}
-use Rattle.port_core.specs.declared.local.Local.{Local}
-use Rattle.port_core.specs.declared.local.Phase.TheVariants.{Scanning, Claiming}
-use Rattle.port_core.specs.declared.run.Made.{Made}
-use Rattle.port_core.specs.declared.step.CoreStep.TheVariants.{Poll}
-use Rattle.port_core.specs.After.{interface_of, local_after, shown}
-use Rattle.port_core.specs.Condition.{is_ready}
-use Rattle.port_core.specs.Forms.{vcpu_of}
-use Rattle.port_core.specs.Local.{has_no_cand, is_vcpu, owes_no_kick, owes_no_mark, owes_nothing}
-use Rattle.port_core.specs.Place.{index_words}
-use Rattle.port_core.specs.Port.{Seen, Adds, AddsStep, made_by, shape_of, part_events}
-use Rattle.port_core.proofs.PortLemmas.{adds_join}
-use Rattle.core_proper.specs.Called.{IsAtRest}
-use Rattle.core_proper.specs.Parts.{makes}
-use Rattle.core_proper.specs.Progress.{Progress, Debt, after_end, begun, scan_on, stepped, progress_of}
-use Rattle.core_proper.specs.Proper.{IsProper, is_settled}
-use Rattle.core_proper.specs.Registers.{alone}
-use Rattle.core_proper.specs.Scan.{bare, taking}
-use Rattle.port_call.proofs.PieceLemmas.{idle_is}
-use Rattle.port_call.proofs.SettleLemmas.{handed_none}
-use Rattle.port_call.proofs.TryLemmas.{none_append}
-use Rattle.port_call.specs.Piece.{IsIdle, IsPiece}
+use Rattle.pe_loop.specs.Calls.{Operation}
+use Rattle.pe_loop.specs.Lists.{IchRegs, StandFor, Kept}
+use Rattle.pe_loop.specs.Registers.{CpuRec}
+use Rattle.pe_loop.specs.VcpuState.declared.loaded.Loaded.{Loaded}
+use Rattle.pe_loop.specs.VcpuState.declared.shelved.Shelved.{Shelved}
+use Rattle.pe_loop.specs.VcpuState.Moves.{loaded_of, shelved_of}
+use Rattle.pe_loop.specs.Core.{Local, Scanning, Claiming, Made, Poll, interface_of, local_after, shown, is_ready, vcpu_of, has_no_cand, is_vcpu, owes_no_kick, owes_no_mark, owes_nothing, index_words, Seen, Adds, AddsStep, made_by, shape_of, part_events, IsAtRest, makes, Progress, Debt, after_end, begun, scan_on, stepped, progress_of, IsProper, is_settled, alone, bare, taking}
+use Rattle.pe_loop.proofs.PortCore.PortLemmas.{adds_join}
+use Rattle.pe_loop.proofs.PortCall.PieceLemmas.{idle_is}
+use Rattle.pe_loop.proofs.PortCall.SettleLemmas.{handed_none}
+use Rattle.pe_loop.proofs.PortCall.TryLemmas.{none_append}
+use Rattle.pe_loop.specs.PortCall.Piece.{IsIdle, IsPiece}
 use Rattle.pe_loop.specs.Claiming.{claims_by}
 use Rattle.pe_loop.specs.Enter.{EndsScan}
 use Rattle.pe_loop.specs.Leave.{Leaves}

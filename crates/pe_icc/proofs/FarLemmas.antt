@@ -3,62 +3,30 @@ use Rattle.std.proofs.Common.{◌≡◌, ℕ, ◌<◌, ◌≤◌, ◌&&◌, ◌|
 use Rattle.std.specs.List.{list_all}
 use Rattle.std.specs.Option.{option_map_or, option_to_list}
 use Rattle.std.proofs.lemmas.Bool.{eq-eqb, ltb-true}
-use Rattle.gic_base.specs.declared.interrupt.Key.{Key}
-use Rattle.gic_base.specs.declared.shape.GuestShape.{GuestShape}
-use Rattle.gic_base.specs.Shape.{IsShape}
-use Rattle.gic_call.specs.declared.event.Operation.{Operation}
-use Rattle.gic_call.specs.Trace.{named_of}
-use Rattle.gic_ich.specs.declared.regs.IchRegs.{IchRegs}
-use Rattle.gic_ich.specs.Place.{StandFor}
-use Rattle.gic_lr.specs.declared.entry.LrState.TheVariants.{Active}
-use Rattle.gic_lr.specs.Entry.{packed as packed_entry}
-use Rattle.gic_prio.specs.Interface.{InterfaceState}
-use Rattle.gic_word.specs.declared.record.Irq.{Irq as IrqRecord}
-use Rattle.gic_word.specs.Record.{is_number}
-use Rattle.gic_word.specs.Word.{irq_of, packed}
-use Rattle.vcpu_refill.specs.declared.fill.Choice.{Choice}
-use Rattle.vcpu_refill.specs.Laws.{FitsRegister, offer_of}
-use Rattle.vcpu_refill.specs.Plan.{chosen_as, entry_of, held_as}
-use Rattle.vcpu_state.specs.declared.loaded.Loaded.{Loaded}
-use Rattle.vcpu_state.specs.declared.shelved.Shelved.{Shelved}
-use Rattle.vcpu_state.specs.Moves.{shelved_of}
-use Rattle.vcpu_state.specs.Places.{with_place}
-use Rattle.port_core.specs.declared.at_list.AtIrq.{AtIrq}
-use Rattle.port_core.specs.declared.local.Local.{Local}
-use Rattle.port_core.specs.declared.owed.Cands.{Cands}
-use Rattle.port_core.specs.declared.run.Made.{Made}
-use Rattle.port_core.specs.declared.step.CoreStep.TheVariants.{Look, Claim, Kick}
-use Rattle.port_core.specs.declared.word_id.WordId.TheVariants.{Irq}
-use Rattle.port_core.specs.After.{claimed_at, interface_of, local_after, shown}
-use Rattle.port_core.specs.Effect.{may_hold, may_move, moved_of, succeeds}
-use Rattle.gic_call.specs.Move.{may_reach, may_take, reached}
-use Rattle.gic_prio.specs.Delivery.{is_deliverable}
-use Rattle.port_core.specs.Known.{known}
-use Rattle.port_core.specs.Local.{arrived, owes_no_mark, entry_for, has_no_cand, is_vcpu, no_vcpus, settled, without_vcpu}
-use Rattle.port_core.specs.Condition.{is_ready}
-use Rattle.port_core.specs.Stands.{claim_event}
-use Rattle.port_core.specs.Port.{Seen, IsPort, Adds, AddsStep, CanMake, made_by, shape_of, part_events}
-use Rattle.port_core.specs.Valid.{CanFind}
-use Rattle.port_core.proofs.PortLemmas.{adds_join}
-use Rattle.core_proper.specs.Called.{IsAtRest}
-use Rattle.core_proper.specs.Progress.{Progress, Debt, after_claim, owing_after, is_end_of, scan_on, stepped}
-use Rattle.core_proper.specs.Proper.{IsProperStep, is_empty, is_settled}
-use Rattle.core_proper.specs.Registers.{alone}
-use Rattle.core_proper.specs.Scan.{Scan, idle, is_idle, scan_looked}
-use Rattle.port_call.proofs.MemoryLemmas.{on_own}
-use Rattle.port_call.proofs.PieceLemmas.{idle_is, idle_on, scan_free}
-use Rattle.port_call.proofs.RestLemmas.{cands_kept, kick_kept, look_kept, owes_none}
-use Rattle.port_call.proofs.SettleLemmas.{handed_none}
-use Rattle.port_call.proofs.TryLemmas.{none_append}
-use Rattle.port_call.proofs.TurnLemmas.{events_then, known_by_last}
+use Rattle.pe_loop.specs.Words.{Key, GuestShape, IsShape, Irq as IrqRecord, is_number, irq_of, packed}
+use Rattle.pe_loop.specs.Calls.{Operation, named_of, may_reach, may_take, reached}
+use Rattle.pe_loop.specs.Lists.{IchRegs, StandFor, Active, packed as packed_entry, Choice, FitsRegister, offer_of, chosen_as, entry_of, held_as}
+use Rattle.pe_loop.specs.Registers.{InterfaceState, is_deliverable}
+use Rattle.pe_loop.specs.VcpuState.declared.loaded.Loaded.{Loaded}
+use Rattle.pe_loop.specs.VcpuState.declared.shelved.Shelved.{Shelved}
+use Rattle.pe_loop.specs.VcpuState.Moves.{shelved_of}
+use Rattle.pe_loop.specs.VcpuState.Places.{with_place}
+use Rattle.pe_loop.specs.Core.{AtIrq, Local, Cands, Made, Look, Claim, Kick, Irq, claimed_at, interface_of, local_after, shown, may_hold, may_move, moved_of, succeeds, known, arrived, owes_no_mark, entry_for, has_no_cand, is_vcpu, no_vcpus, settled, without_vcpu, is_ready, claim_event, Seen, IsPort, Adds, AddsStep, CanMake, made_by, shape_of, part_events, CanFind, IsAtRest, Progress, Debt, after_claim, owing_after, is_end_of, scan_on, stepped, IsProperStep, is_empty, is_settled, alone, Scan, idle, is_idle, scan_looked}
+use Rattle.pe_loop.proofs.PortCore.PortLemmas.{adds_join}
+use Rattle.pe_loop.proofs.PortCall.MemoryLemmas.{on_own}
+use Rattle.pe_loop.proofs.PortCall.PieceLemmas.{idle_is, idle_on, scan_free}
+use Rattle.pe_loop.proofs.PortCall.RestLemmas.{cands_kept, kick_kept, look_kept, owes_none}
+use Rattle.pe_loop.proofs.PortCall.SettleLemmas.{handed_none}
+use Rattle.pe_loop.proofs.PortCall.TryLemmas.{none_append}
+use Rattle.pe_loop.proofs.PortCall.TurnLemmas.{events_then, known_by_last}
 use Rattle.pe_loop.specs.Claiming.{Claims, at_of}
 use Rattle.pe_loop.specs.Stay.{IsActor, IsOpen}
 use Rattle.pe_loop.specs.Moves.{are_moves}
 use Rattle.pe_loop.proofs.ChosenLemmas.{tries}
 use Rattle.pe_loop.proofs.MoveLemmas.{both_moves, claim_moves, moves_unnamed}
 use Rattle.pe_loop.proofs.LeaveLemmas.{settled_owes}
-use Rattle.core_proper.proofs.IntidLemmas.{id_fits, in_range}
-use Rattle.core_proper.proofs.ReachLemmas.{reached_local}
+use Rattle.pe_loop.proofs.CoreProper.IntidLemmas.{id_fits, in_range}
+use Rattle.pe_loop.proofs.CoreProper.ReachLemmas.{reached_local}
 use Rattle.pe_loop.proofs.ReachLemmas.{active_reached}
 use Rattle.pe_icc.specs.Prepare.{emptied, HasLooked, LooksFor, CanClaimFar, ClaimsFar}
 use Rattle.pe_icc.proofs.AmidLemmas.{leads_then}

@@ -4,51 +4,22 @@ use Rattle.std.specs.List.{list_all}
 use Rattle.std.specs.Option.{option_map}
 use Rattle.std.proofs.lemmas.Bool.{and_parts, ltb-true}
 use Rattle.std.proofs.lemmas.List.Elements.{All-nil, All-contains}
-use Rattle.gic_base.specs.declared.interrupt.Key.{Key}
-use Rattle.gic_base.specs.declared.shape.GuestShape.{GuestShape}
-use Rattle.gic_base.specs.Shape.{IsShape}
-use Rattle.gic_call.specs.declared.event.Operation.{Operation}
-use Rattle.gic_call.specs.Trace.{named_of}
-use Rattle.gic_ich.specs.declared.regs.IchRegs.{IchRegs}
-use Rattle.gic_ich.specs.Place.{StandFor}
-use Rattle.gic_lr.specs.declared.entry.LrState.TheVariants.{Pending, Both}
-use Rattle.gic_lr.specs.Entry.{packed as packed_entry}
-use Rattle.gic_prio.specs.declared.cpu.CpuRec.{CpuRec}
-use Rattle.vcpu_refill.specs.Chooser.{Kept, StandsFor}
-use Rattle.vcpu_refill.specs.declared.fill.Choice.{Choice}
-use Rattle.vcpu_refill.specs.declared.offer.Offer.{Offer}
-use Rattle.vcpu_refill.specs.Laws.{FitsRegister}
-use Rattle.vcpu_refill.specs.Order.{deliverable_among, first_among, is_deliverable_to}
-use Rattle.vcpu_refill.specs.Plan.{chosen_as, entry_of, held_as}
-use Rattle.vcpu_refill.proofs.EarnedLemmas.{from_ordered}
-use Rattle.vcpu_refill.proofs.ElementLemmas.{Contains-here}
-use Rattle.vcpu_refill.proofs.StandLemmas.{stands_chosen}
-use Rattle.vcpu_state.specs.declared.loaded.Loaded.{Loaded}
-use Rattle.vcpu_state.specs.declared.shelved.Shelved.{Shelved}
-use Rattle.vcpu_state.specs.Moves.{shelved_of}
-use Rattle.port_core.specs.declared.at_list.AtIrq.{AtIrq}
-use Rattle.port_core.specs.declared.local.Local.{Local}
-use Rattle.port_core.specs.declared.local.Phase.{Phase}
-use Rattle.port_core.specs.declared.local.Phase.TheVariants.{Off, Scanning, Claiming, Loaded as LoadedPhase, Folding}
-use Rattle.port_core.specs.declared.run.Made.{Made}
-use Rattle.port_core.specs.declared.step.CoreStep.{CoreStep}
-use Rattle.port_core.specs.declared.step.CoreStep.TheVariants.{TakeIndex}
-use Rattle.port_core.specs.After.{interface_of, local_after, shown}
-use Rattle.port_core.specs.Condition.{is_ready, may_take_index}
-use Rattle.port_core.specs.Effect.{succeeds}
-use Rattle.port_core.specs.Local.{entry_for, has_no_cand, is_vcpu, owes_no_kick, owes_no_mark, owes_nothing}
-use Rattle.port_core.specs.Place.{index_words}
-use Rattle.port_core.specs.Port.{Seen, Adds, shape_of, part_events}
-use Rattle.port_core.proofs.PortLemmas.{adds_join}
-use Rattle.core_proper.specs.Called.{IsAtRest}
-use Rattle.core_proper.specs.Parts.{makes}
-use Rattle.core_proper.specs.Progress.{Progress, Debt, changed_by, scan_on, stepped, progress_of}
-use Rattle.core_proper.specs.Proper.{IsProper, IsProperStep, is_empty, is_settled}
-use Rattle.core_proper.specs.Registers.{alone}
-use Rattle.core_proper.specs.Scan.{Scan, trapped, idle, is_idle, taking, word_taken}
-use Rattle.port_call.proofs.PieceLemmas.{idle_is, scan_free, seen_nil}
-use Rattle.port_call.proofs.TryLemmas.{none_append}
-use Rattle.port_call.proofs.TurnLemmas.{events_then}
+use Rattle.pe_loop.specs.Words.{Key, GuestShape, IsShape}
+use Rattle.pe_loop.specs.Calls.{Operation, named_of}
+use Rattle.pe_loop.specs.Lists.{IchRegs, StandFor, Pending, Both, packed as packed_entry, Kept, StandsFor, Choice, Offer, FitsRegister, deliverable_among, first_among, is_deliverable_to, chosen_as, entry_of, held_as}
+use Rattle.pe_loop.specs.Registers.{CpuRec}
+use Rattle.pe_loop.proofs.VcpuRefill.EarnedLemmas.{from_ordered}
+use Rattle.pe_loop.proofs.VcpuRefill.ElementLemmas.{Contains-here}
+use Rattle.pe_loop.proofs.VcpuRefill.StandLemmas.{stands_chosen}
+use Rattle.pe_loop.specs.VcpuState.declared.loaded.Loaded.{Loaded}
+use Rattle.pe_loop.specs.VcpuState.declared.shelved.Shelved.{Shelved}
+use Rattle.pe_loop.specs.VcpuState.Moves.{shelved_of}
+use Rattle.pe_loop.specs.Core.{AtIrq, Local, Phase, Off, Scanning, Claiming, Loaded as LoadedPhase, Folding, Made, CoreStep, TakeIndex, interface_of, local_after, shown, is_ready, may_take_index, succeeds, entry_for, has_no_cand, is_vcpu, owes_no_kick, owes_no_mark, owes_nothing, index_words, Seen, Adds, shape_of, part_events, IsAtRest, makes, Progress, Debt, scan_on, stepped, progress_of, IsProper, IsProperStep, is_empty, is_settled, alone, Scan, trapped, idle, is_idle, taking, word_taken}
+use Rattle.pe_loop.proofs.PortCore.PortLemmas.{adds_join}
+use Rattle.pe_loop.specs.CoreProper.Progress.{changed_by}
+use Rattle.pe_loop.proofs.PortCall.PieceLemmas.{idle_is, scan_free, seen_nil}
+use Rattle.pe_loop.proofs.PortCall.TryLemmas.{none_append}
+use Rattle.pe_loop.proofs.PortCall.TurnLemmas.{events_then}
 use Rattle.pe_loop.specs.Claiming.{IsRight, IsClaimable, ClaimsSome, IsNoneOf, at_of, choice_left, claims_by, is_whole, loaded_with, regs_left}
 use Rattle.pe_loop.specs.declared.claims.Claimed.{Claimed}
 use Rattle.pe_loop.specs.declared.claims.Claimed.TheVariants.{Whole, Bare, Missed}

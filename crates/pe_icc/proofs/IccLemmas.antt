@@ -2,57 +2,30 @@
 use Rattle.std.proofs.Common.{◌≡◌, ℕ, ◌≤◌, ◌&&◌, ◌||◌, not, Bool, true, false, cond, if◌then◌else◌, IsTrue, List, [], ◌∷◌, ◌++◌, map, filter, filter_map, All, Contains, Option, Some, None, is_some, is_none, unwrap_or, inl, inr, append-nil, refl, sym, ap, subst, ◌∙◌, ◌==◌}
 use Rattle.std.specs.List.{cons_option, list_all, range_with_len}
 use Rattle.std.proofs.lemmas.List.Elements.{All-nil, All-cons, filter-append}
-use Rattle.gic_base.specs.declared.icc.IccReg.{IccReg}
-use Rattle.gic_base.specs.declared.icc.IccReg.TheVariants.{Eoir0, Eoir1, Dir, Sgi1r}
-use Rattle.gic_base.specs.declared.shape.GuestShape.{GuestShape}
-use Rattle.gic_aff.specs.Sgi.{intid_of, is_target}
-use Rattle.gic_base.specs.declared.interrupt.Key.TheVariants.{Private}
-use Rattle.gic_call.specs.declared.event.Event.{Event}
-use Rattle.gic_call.specs.declared.event.Event.TheVariants.{Cpu, Raise}
-use Rattle.gic_call.specs.declared.event.Found.TheVariants.{Answer}
-use Rattle.gic_call.specs.declared.event.Operation.{Operation}
-use Rattle.gic_call.specs.Call.{icc_raises, sgi_at}
-use Rattle.gic_call.specs.Trace.{Happened, Beside, IsCall, HandsOut, is_beside, named_of, held_at, IsLastRead}
-use Rattle.gic_call.specs.View.{View}
-use Rattle.gic_icv.proofs.FollowLemmas.{no_answer}
-use Rattle.gic_prio.specs.declared.candidate.Candidate.{Candidate}
-use Rattle.gic_prio.specs.declared.cpu.CpuRec.{CpuRec}
-use Rattle.gic_prio.specs.Access.{answer_of}
-use Rattle.gic_prio.specs.Interface.{candidates_at}
-use Rattle.scn_base.specs.Good.{is_usable}
-use Rattle.vcpu_state.specs.declared.loaded.Loaded.{Loaded}
-use Rattle.vcpu_state.specs.declared.shelved.Shelved.{Shelved}
-use Rattle.vcpu_refill.proofs.ElementLemmas.{Contains-here, Contains-there, Contains-cases}
-use Rattle.port_core.specs.declared.local.Local.{Local}
-use Rattle.port_core.specs.declared.local.Phase.{Phase}
-use Rattle.port_core.specs.declared.local.Phase.TheVariants.{Off, Scanning, Claiming, Loaded as LoadedPhase, Folding}
-use Rattle.port_core.specs.declared.run.Made.{Made}
-use Rattle.port_core.specs.declared.step.CoreStep.TheVariants.{Poll}
-use Rattle.port_core.specs.After.{interface_of}
-use Rattle.port_core.specs.Condition.{is_ready}
-use Rattle.port_core.specs.Known.{known_view}
-use Rattle.port_core.specs.Local.{is_vcpu, owes_nothing}
-use Rattle.port_core.specs.Port.{Seen, Adds, shape_of, part_events, made_by}
-use Rattle.port_core.proofs.PortLemmas.{adds_join}
-use Rattle.core_proper.specs.Called.{MakesCall, vcpu_of_actor, maps_taken}
-use Rattle.core_proper.specs.Parts.{makes, begins, ends, part_of}
-use Rattle.core_proper.specs.Progress.{Progress, Debt, paid, is_paid, owed_after_scan, ended_by, owed_after_part, is_to_scan, progressed, progress_of}
-use Rattle.core_proper.specs.Proper.{IsProper, IsProperEnd, is_empty, gives_back, is_settled, wants_nothing}
-use Rattle.core_proper.proofs.PartLemmas.{proper_append}
+use Rattle.pe_loop.specs.Words.{IccReg, Eoir0, Eoir1, Dir, Sgi1r, GuestShape, Private}
+use Rattle.pe_loop.specs.Registers.{intid_of, is_target, Candidate, CpuRec, answer_of, candidates_at}
+use Rattle.pe_loop.specs.Calls.{Event, Cpu, Operation, icc_raises, sgi_at, Happened, Beside, IsCall, HandsOut, is_beside, named_of, held_at, IsLastRead, View, is_usable}
+use Rattle.pe_loop.specs.GicCall.declared.event.Event.TheVariants.{Raise}
+use Rattle.pe_loop.specs.GicCall.declared.event.Found.TheVariants.{Answer}
+use Rattle.pe_loop.proofs.GicIcv.FollowLemmas.{no_answer}
+use Rattle.pe_loop.specs.VcpuState.declared.loaded.Loaded.{Loaded}
+use Rattle.pe_loop.specs.VcpuState.declared.shelved.Shelved.{Shelved}
+use Rattle.pe_loop.proofs.VcpuRefill.ElementLemmas.{Contains-here, Contains-there, Contains-cases}
+use Rattle.pe_loop.specs.Core.{Local, Phase, Off, Scanning, Claiming, Loaded as LoadedPhase, Folding, Made, Poll, interface_of, is_ready, known_view, is_vcpu, owes_nothing, Seen, Adds, shape_of, part_events, made_by, MakesCall, vcpu_of_actor, maps_taken, makes, begins, ends, part_of, Progress, Debt, paid, is_paid, owed_after_scan, ended_by, owed_after_part, is_to_scan, progressed, progress_of, IsProper, IsProperEnd, is_empty, gives_back, is_settled, wants_nothing, after_operation}
+use Rattle.pe_loop.proofs.PortCore.PortLemmas.{adds_join}
+use Rattle.pe_loop.proofs.CoreProper.PartLemmas.{proper_append}
 use Rattle.std.proofs.lemmas.List.Sums.{fold-append}
-use Rattle.port_call.specs.Piece.{IsPiece, IsIdle, steps_of}
-use Rattle.port_call.specs.Rest.{StaysAtEase}
-use Rattle.port_call.proofs.PieceLemmas.{seen_nil}
-use Rattle.port_call.proofs.RestLemmas.{ease_owes}
-use Rattle.port_call.proofs.SettleLemmas.{handed_none}
-use Rattle.port_call.proofs.TryLemmas.{none_append}
-use Rattle.port_call.proofs.TurnLemmas.{events_then}
-use Rattle.gic_ich.specs.Place.{StandFor}
+use Rattle.pe_loop.specs.PortCall.Piece.{IsPiece, IsIdle, steps_of}
+use Rattle.pe_loop.specs.PortCall.Rest.{StaysAtEase}
+use Rattle.pe_loop.proofs.PortCall.PieceLemmas.{seen_nil}
+use Rattle.pe_loop.proofs.PortCall.RestLemmas.{ease_owes}
+use Rattle.pe_loop.proofs.PortCall.SettleLemmas.{handed_none}
+use Rattle.pe_loop.proofs.PortCall.TryLemmas.{none_append}
+use Rattle.pe_loop.proofs.PortCall.TurnLemmas.{events_then}
+use Rattle.pe_loop.specs.Lists.{StandFor, misr_of}
 use Rattle.pe_loop.specs.Stay.{IsOn, IsOpen, IsUp}
 use Rattle.pe_loop.proofs.LeaveLemmas.{settled_owes}
 use Rattle.pe_icc.specs.Amid.{IsRunning, IsAble, IsSame, IsSet, Leads, debt_of}
-use Rattle.core_proper.specs.Registers.{after_operation}
-use Rattle.gic_ich.specs.Status.{misr_of}
 use Rattle.pe_icc.proofs.SgiLemmas.{no_raises}
 use Rattle.pe_icc.specs.Operate.{is_kicked, finds_kick, MayAsk, MayReenter, HasAsked, debt_left, Polls}
 use Rattle.pe_icc.specs.declared.operate.Polled.TheVariants.{Kicked, Done}

@@ -1,22 +1,10 @@
 -- What an access leaves at a vCPU's interface.
 use Rattle.std.proofs.Common.{◌≡◌, ℕ, ◌==◌, ◌&&◌, ◌||◌, not, Bool, true, false, cond, if◌then◌else◌, List, [], ◌∷◌, nat_lt, Option, Some, None, unwrap_or, refl, ap, ◌∙◌}
 use Rattle.std.specs.List.{list_all}
-use Rattle.gic_base.specs.declared.icc.IccReg.{IccReg}
-use Rattle.gic_base.specs.declared.icc.IccReg.TheVariants.{Eoir0, Eoir1, Bpr1}
-use Rattle.gic_base.specs.Interrupt.{intid_of}
-use Rattle.gic_word.specs.declared.record.Group.{Group}
-use Rattle.gic_word.specs.declared.record.Group.TheVariants.{G0, G1}
-use Rattle.gic_word.specs.Record.{is_number}
-use Rattle.gic_prio.specs.declared.candidate.Candidate.{Candidate}
-use Rattle.gic_prio.specs.declared.cpu.CpuRec.{CpuRec}
-use Rattle.gic_prio.specs.Access.{taken_by, deactivated_by, activated_by, cpu_after}
-use Rattle.gic_prio.specs.Interface.{candidates_at}
-use Rattle.gic_prio.specs.Priority.{level_activated, level_dropped, least_level, running_level}
-use Rattle.gic_prio.specs.Registers.{binary_point_written}
-use Rattle.gic_prio.specs.Signal.{intid_written, is_special}
-use Rattle.port_core.specs.declared.at_list.AtIrq.{AtIrq}
-use Rattle.port_core.specs.declared.local.Local.{Local}
-use Rattle.port_core.specs.After.{interface_of, acknowledged_entry, deactivated_entry, changed_id, id_of, accessed}
+use Rattle.pe_loop.specs.Words.{IccReg, Eoir0, Eoir1, Bpr1, intid_of, G0, G1, is_number}
+use Rattle.pe_loop.specs.GicWord.declared.record.Group.{Group}
+use Rattle.pe_loop.specs.Registers.{Candidate, CpuRec, taken_by, deactivated_by, activated_by, cpu_after, candidates_at, level_activated, level_dropped, least_level, running_level, binary_point_written, intid_written, is_special}
+use Rattle.pe_loop.specs.Core.{AtIrq, Local, interface_of, acknowledged_entry, deactivated_entry, changed_id, id_of, accessed}
 
 -- What an access leaves there.
 

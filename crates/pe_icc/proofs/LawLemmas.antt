@@ -1,11 +1,9 @@
 -- An entry and an exit about the accesses.
 use Rattle.std.proofs.Common.{◌≡◌, false, [], ◌∷◌, map, None, refl, sym, ap, subst, ◌∙◌}
 use Rattle.std.proofs.lemmas.List.Sums.{fold-append}
-use Rattle.gic_call.specs.declared.event.Operation.TheVariants.{Residence}
-use Rattle.port_core.specs.Port.{shape_of}
-use Rattle.core_proper.specs.Parts.{makes, begins, ends}
-use Rattle.core_proper.specs.Progress.{Progress, owed_after_part, owed_after_scan, paid, progressed, progress_of}
-use Rattle.core_proper.proofs.RestLemmas.{rests_again}
+use Rattle.pe_loop.specs.Calls.{Residence}
+use Rattle.pe_loop.specs.Core.{shape_of, makes, begins, ends, Progress, owed_after_part, owed_after_scan, paid, progressed, progress_of}
+use Rattle.pe_loop.proofs.CoreProper.RestLemmas.{rests_again}
 use Rattle.pe_loop.specs.Enter.{MayEnter}
 use Rattle.pe_icc.specs.Amid.{IsRunning}
 use Rattle.pe_icc.specs.Laws.{EntryRuns, ExitRests}

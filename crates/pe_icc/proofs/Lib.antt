@@ -1,3 +1,6 @@
+pub use Rattle.pe_loop.proofs as PeLoop
+pub use Rattle.pe_loop.proofs.PortCall
+pub use Rattle.pe_loop.proofs.PortCore
 pub mod InterfaceLemmas
 pub mod OperateLemmas
 pub mod PollLemmas

@@ -1,27 +1,12 @@
 -- An access on the packed registers.
 use Rattle.std.proofs.Common.{◌≡◌, ℕ, ◌+◌, ◌/◌, ◌%◌, ◌^◌, ◌<◌, ◌==◌, Bool, true, false, if◌then◌else◌, IsTrue, List, Option, Some, None, get_or, set, position, refl, sym, ap, subst, ◌∙◌, arith}
 use Rattle.std.specs.Option.{option_map_or}
-use Rattle.gic_base.specs.declared.held.HeldIrq.{HeldIrq}
-use Rattle.gic_base.specs.declared.icc.IccReg.{IccReg}
-use Rattle.gic_base.specs.declared.icc.IccReg.TheVariants.{Iar0, Iar1, Hppir0, Hppir1, Eoir0, Eoir1, Dir, Rpr, Pmr, Bpr0, Bpr1, Ctlr, Igrpen0, Igrpen1, Ap0r0, Ap1r0, Sgi1r, Sre}
-use Rattle.gic_base.specs.Icc.{is_readable}
-use Rattle.gic_bits.specs.Bits.{has_bit}
-use Rattle.gic_ich.specs.declared.regs.IchRegs.{IchRegs}
-use Rattle.gic_ich.specs.Hcr.{hcr_en, hcr_tc}
-use Rattle.gic_ich.specs.Place.{StandFor}
-use Rattle.gic_ich.specs.Regs.{listed_of}
-use Rattle.gic_icv.specs.Agree.{Agrees, Follows}
-use Rattle.gic_icv.specs.declared.registers.Outcome.{Outcome}
-use Rattle.gic_icv.specs.declared.trap.TrapCause.TheVariants.{Dir as DirAlone, Common, All0, All1}
-use Rattle.gic_icv.specs.Entries.{has_active, has_candidate, acknowledged_word, deactivated_word}
-use Rattle.gic_icv.specs.Registers.{HasDirection, is_counted, counted, first_changed, after_acknowledge, after_deactivation, registers_after, answered, outcome_of, after_access, cpu_in, candidates_of}
-use Rattle.gic_icv.specs.Trap.{trap_cause, where_set}
-use Rattle.gic_icv.proofs.PlaceLemmas.{places_agree}
-use Rattle.gic_icv.proofs.RegisterLemmas.{same_registers}
-use Rattle.gic_prio.specs.declared.candidate.Candidate.{Candidate}
-use Rattle.gic_prio.specs.Access.{taken_by, deactivated_by}
-use Rattle.gic_prio.specs.Interface.{InterfaceState, IsInterface, interface_after, interface_answer}
-use Rattle.vcpu_state.specs.declared.loaded.Loaded.{Loaded}
+use Rattle.pe_loop.specs.Words.{HeldIrq, IccReg, Iar0, Iar1, Hppir0, Hppir1, Eoir0, Eoir1, Dir, Rpr, Pmr, Bpr0, Bpr1, Ctlr, Igrpen0, Igrpen1, Ap0r0, Ap1r0, Sgi1r, Sre, is_readable, has_bit}
+use Rattle.pe_loop.specs.Lists.{IchRegs, hcr_en, hcr_tc, StandFor, listed_of, Agrees, Follows, Outcome, Dir as DirAlone, Common, All0, All1, has_active, has_candidate, acknowledged_word, deactivated_word, HasDirection, is_counted, counted, first_changed, after_acknowledge, after_deactivation, registers_after, answered, outcome_of, after_access, cpu_in, candidates_of, trap_cause, where_set}
+use Rattle.pe_loop.proofs.GicIcv.PlaceLemmas.{places_agree}
+use Rattle.pe_loop.proofs.GicIcv.RegisterLemmas.{same_registers}
+use Rattle.pe_loop.specs.Registers.{Candidate, taken_by, deactivated_by, InterfaceState, IsInterface, interface_after, interface_answer}
+use Rattle.pe_loop.specs.VcpuState.declared.loaded.Loaded.{Loaded}
 use Rattle.pe_loop.specs.Stay.{IsOpen}
 use Rattle.pe_icc.specs.Operate.{opened, read_by, Operates}
 

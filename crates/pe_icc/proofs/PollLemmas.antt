@@ -2,36 +2,20 @@
 use Rattle.std.proofs.Common.{◌≡◌, ℕ, not, Bool, true, false, if◌then◌else◌, List, [], ◌∷◌, ◌++◌, Option, Some, None, refl, sym, ap, subst, ◌∙◌, ◌||◌}
 use Rattle.std.specs.List.{list_all}
 use Rattle.std.specs.Option.{option_to_list}
-use Rattle.gic_base.specs.declared.icc.IccReg.{IccReg}
-use Rattle.gic_call.specs.declared.event.Event.TheVariants.{Cpu}
-use Rattle.gic_call.specs.declared.event.Found.TheVariants.{Answer}
-use Rattle.gic_call.specs.declared.event.Operation.{Operation}
-use Rattle.gic_call.specs.Trace.{Happened}
-use Rattle.gic_ich.specs.declared.regs.IchRegs.{IchRegs}
-use Rattle.gic_ich.specs.Place.{StandFor}
-use Rattle.gic_icv.proofs.CpuLemmas.{deaf, holds}
-use Rattle.gic_prio.specs.declared.cpu.CpuRec.{CpuRec}
-use Rattle.gic_prio.specs.Interface.{candidates_at, interface_after, interface_answer}
-use Rattle.vcpu_state.specs.declared.loaded.Loaded.{Loaded}
-use Rattle.port_core.specs.declared.local.Local.{Local}
-use Rattle.port_core.specs.declared.local.Phase.TheVariants.{Folding}
-use Rattle.port_core.specs.declared.run.Made.{Made}
-use Rattle.port_core.specs.declared.step.CoreStep.TheVariants.{Poll}
-use Rattle.port_core.specs.After.{interface_of, accessed, local_after}
-use Rattle.port_core.specs.Forms.{vcpu_of}
-use Rattle.port_core.specs.Local.{is_vcpu}
-use Rattle.port_core.specs.Port.{Seen, IsPort, AddsStep, made_by, shape_of}
-use Rattle.core_proper.specs.Called.{IsAtRest}
-use Rattle.core_proper.specs.Progress.{Progress, Debt, after_poll, ended_by, scan_on, stepped}
-use Rattle.core_proper.specs.Proper.{IsProperStep, is_settled, may_access}
-use Rattle.core_proper.specs.Registers.{after_operation}
-use Rattle.core_proper.specs.Scan.{idle}
-use Rattle.port_call.proofs.PieceLemmas.{idle_is, idle_on, scan_free}
+use Rattle.pe_loop.specs.Words.{IccReg}
+use Rattle.pe_loop.specs.Calls.{Cpu, Operation, Happened}
+use Rattle.pe_loop.specs.GicCall.declared.event.Found.TheVariants.{Answer}
+use Rattle.pe_loop.specs.Lists.{IchRegs, StandFor}
+use Rattle.pe_loop.proofs.GicIcv.CpuLemmas.{deaf, holds}
+use Rattle.pe_loop.specs.Registers.{CpuRec, candidates_at, interface_after, interface_answer}
+use Rattle.pe_loop.specs.VcpuState.declared.loaded.Loaded.{Loaded}
+use Rattle.pe_loop.specs.Core.{Local, Folding, Made, Poll, interface_of, accessed, local_after, vcpu_of, is_vcpu, Seen, IsPort, AddsStep, made_by, shape_of, IsAtRest, Progress, Debt, after_poll, ended_by, scan_on, stepped, IsProperStep, is_settled, may_access, after_operation, idle}
+use Rattle.pe_loop.proofs.PortCall.PieceLemmas.{idle_is, idle_on, scan_free}
 use Rattle.pe_loop.specs.Stay.{IsActor, IsOn}
 use Rattle.pe_icc.specs.Amid.{IsSet}
 use Rattle.pe_icc.specs.Operate.{MayAsk, MayReenter, HasAsked, debt_left, Operates, Polls}
 use Rattle.pe_icc.specs.declared.operate.Polled.TheVariants.{Kicked, Done}
-use Rattle.core_proper.proofs.InterfaceLemmas.{interface_accessed, is_interface}
+use Rattle.pe_loop.proofs.CoreProper.InterfaceLemmas.{interface_accessed, is_interface}
 use Rattle.pe_icc.proofs.InterfaceLemmas.{lpis_kept, whole_accessed}
 
 -- The step.

@@ -4,36 +4,18 @@ use Rattle.std.specs.List.{list_all}
 use Rattle.std.specs.Option.{option_map_or}
 use Rattle.std.proofs.lemmas.Option.{none-some}
 use Rattle.std.proofs.lemmas.Bool.{eq-eqb, eqb-true}
-use Rattle.gic_base.specs.declared.icc.IccReg.{IccReg}
-use Rattle.gic_base.specs.declared.icc.IccReg.TheVariants.{Iar0, Iar1, Hppir0, Hppir1, Eoir0, Eoir1, Dir}
-use Rattle.gic_base.specs.declared.interrupt.Key.{Key}
-use Rattle.gic_base.specs.declared.shape.GuestShape.{GuestShape}
-use Rattle.gic_base.specs.Interrupt.{has_interrupt, is_of_vcpu, is_same_key, is_within, key_of}
-use Rattle.gic_base.specs.declared.interrupt.Key.TheVariants.{Private, Spi, Lpi}
-use Rattle.gic_prio.specs.Signal.{intid_written}
-use Rattle.gic_base.proofs.KeyLemmas.{same_itself}
-use Rattle.gic_call.specs.declared.event.Operation.{Operation}
-use Rattle.gic_call.specs.Trace.{named_of}
-use Rattle.gic_ich.specs.Place.{StandFor}
-use Rattle.gic_word.specs.declared.record.Irq.{Irq as IrqRecord}
-use Rattle.gic_word.specs.Record.{is_number}
-use Rattle.gic_word.specs.Word.{IsIrq, packed}
-use Rattle.gic_word.proofs.WordLemmas.{irq_fits, packed_back}
-use Rattle.vcpu_state.specs.declared.loaded.Loaded.{Loaded}
-use Rattle.port_core.specs.declared.at_list.AtIrq.{AtIrq}
-use Rattle.port_core.specs.declared.local.Local.{Local}
-use Rattle.port_core.specs.declared.run.Made.{Made}
-use Rattle.port_core.specs.After.{interface_of}
-use Rattle.port_core.specs.Condition.{is_ready}
-use Rattle.port_core.specs.Local.{has_no_cand, is_at, is_vcpu}
-use Rattle.port_core.specs.Port.{Seen, Adds, shape_of, part_events}
-use Rattle.port_core.specs.Valid.{IsIrqWord}
-use Rattle.port_core.proofs.PortLemmas.{adds_join}
-use Rattle.core_proper.specs.Progress.{Progress, Debt, after_end, ended_by, is_end_of, owing_after}
-use Rattle.core_proper.specs.Proper.{asks_first, is_settled, may_access}
-use Rattle.port_call.proofs.PieceLemmas.{seen_nil}
-use Rattle.port_call.proofs.TryLemmas.{none_append}
-use Rattle.port_call.proofs.TurnLemmas.{events_then}
+use Rattle.pe_loop.specs.Words.{IccReg, Iar0, Iar1, Hppir0, Hppir1, Eoir0, Eoir1, Dir, Key, GuestShape, has_interrupt, is_of_vcpu, is_same_key, is_within, key_of, Private, Spi, Lpi, Irq as IrqRecord, is_number, IsIrq, packed}
+use Rattle.pe_loop.specs.Registers.{intid_written}
+use Rattle.pe_loop.proofs.GicBase.KeyLemmas.{same_itself}
+use Rattle.pe_loop.specs.Calls.{Operation, named_of}
+use Rattle.pe_loop.specs.Lists.{StandFor}
+use Rattle.pe_loop.proofs.GicWord.WordLemmas.{irq_fits, packed_back}
+use Rattle.pe_loop.specs.VcpuState.declared.loaded.Loaded.{Loaded}
+use Rattle.pe_loop.specs.Core.{AtIrq, Local, Made, interface_of, is_ready, has_no_cand, is_at, is_vcpu, Seen, Adds, shape_of, part_events, IsIrqWord, Progress, Debt, after_end, ended_by, is_end_of, owing_after, asks_first, is_settled, may_access}
+use Rattle.pe_loop.proofs.PortCore.PortLemmas.{adds_join}
+use Rattle.pe_loop.proofs.PortCall.PieceLemmas.{seen_nil}
+use Rattle.pe_loop.proofs.PortCall.TryLemmas.{none_append}
+use Rattle.pe_loop.proofs.PortCall.TurnLemmas.{events_then}
 use Rattle.pe_loop.specs.Stay.{IsOn, IsUp}
 use Rattle.pe_loop.proofs.MoveLemmas.{both_moves}
 use Rattle.pe_icc.specs.declared.stay.Stay.{Stay}

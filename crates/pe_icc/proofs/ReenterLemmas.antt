@@ -1,16 +1,13 @@
 -- A vCPU leaves and enters again.
 use Rattle.std.proofs.Common.{◌≡◌, ℕ, ◌||◌, not, Bool, true, false, if◌then◌else◌, IsTrue, List, [], ◌++◌, map, unwrap_or, refl, sym, ap, subst, ◌∙◌}
-use Rattle.gic_call.specs.declared.event.Operation.{Operation}
-use Rattle.vcpu_state.specs.declared.loaded.Loaded.{Loaded}
-use Rattle.vcpu_state.specs.declared.shelved.Shelved.{Shelved}
-use Rattle.port_core.specs.declared.run.Made.{Made}
-use Rattle.port_core.specs.Port.{Seen, Adds, shape_of, part_events, seen_after}
-use Rattle.port_core.proofs.PortLemmas.{adds_join}
-use Rattle.core_proper.specs.Parts.{makes}
-use Rattle.core_proper.specs.Progress.{Progress, Debt, paid, before_next, is_paid, is_to_scan, owed_after_scan, progress_of}
-use Rattle.port_call.specs.Piece.{IsIdle, IsGoodPiece, IsPiece, StaysSo}
-use Rattle.port_call.proofs.PieceLemmas.{seen_nil}
-use Rattle.port_call.proofs.TryLemmas.{none_append}
+use Rattle.pe_loop.specs.Calls.{Operation}
+use Rattle.pe_loop.specs.VcpuState.declared.loaded.Loaded.{Loaded}
+use Rattle.pe_loop.specs.VcpuState.declared.shelved.Shelved.{Shelved}
+use Rattle.pe_loop.specs.Core.{Made, Seen, Adds, shape_of, part_events, seen_after, makes, Progress, Debt, paid, before_next, is_paid, is_to_scan, owed_after_scan, progress_of}
+use Rattle.pe_loop.proofs.PortCore.PortLemmas.{adds_join}
+use Rattle.pe_loop.specs.PortCall.Piece.{IsIdle, IsGoodPiece, IsPiece, StaysSo}
+use Rattle.pe_loop.proofs.PortCall.PieceLemmas.{seen_nil}
+use Rattle.pe_loop.proofs.PortCall.TryLemmas.{none_append}
 use Rattle.pe_loop.specs.Again.{LeavesThenEnters}
 use Rattle.pe_loop.specs.Enter.{MayEnter, Enters}
 use Rattle.pe_loop.proofs.MoveLemmas.{moves_join, moves_unnamed, only_leave}

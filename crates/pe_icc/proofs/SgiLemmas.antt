@@ -4,31 +4,19 @@ use Rattle.std.specs.List.{range_with_len}
 use Rattle.std.proofs.lemmas.Bool.{eqb-true, lt-ltb}
 use Rattle.std.proofs.lemmas.List.{map-append}
 use Rattle.std.proofs.lemmas.List.Elements.{filter_map-append}
-use Rattle.gic_aff.specs.declared.sgi.Targets.{Targets}
-use Rattle.gic_aff.specs.Sgi.{intid_of, is_target}
-use Rattle.gic_base.specs.declared.icc.IccReg.{IccReg}
-use Rattle.gic_base.specs.declared.icc.IccReg.TheVariants.{Sgi1r}
-use Rattle.gic_base.specs.declared.interrupt.Key.{Key}
-use Rattle.gic_base.specs.declared.interrupt.Key.TheVariants.{Private}
-use Rattle.gic_base.specs.declared.shape.GuestShape.{GuestShape}
-use Rattle.gic_bits.specs.Bits.{has_bit}
-use Rattle.gic_call.specs.declared.event.Event.{Event}
-use Rattle.gic_call.specs.declared.event.Event.TheVariants.{Raise as RaiseEvent}
-use Rattle.gic_call.specs.Call.{icc_raises, sgi_at}
-use Rattle.gic_call.proofs.RangeLemmas.{range_with_len_more}
-use Rattle.gic_word.specs.Word.{irq_of}
-use Rattle.port_core.specs.declared.local.Local.{Local}
-use Rattle.port_core.specs.declared.step.CoreStep.TheVariants.{Raise}
-use Rattle.port_core.specs.After.{concerned}
-use Rattle.port_core.specs.Local.{no_vcpus, owes_no_mark, owes_nothing}
-use Rattle.port_core.specs.Port.{Seen, shape_of, part_events}
-use Rattle.port_core.proofs.PortLemmas.{adds_join}
-use Rattle.port_call.specs.Rest.{StaysAtEase}
-use Rattle.port_call.specs.Tell.{Tells}
-use Rattle.port_call.proofs.PieceLemmas.{piece_nil, seen_nil}
-use Rattle.port_call.proofs.RestLemmas.{ease_owes, owes_none, told_at_ease}
-use Rattle.port_call.proofs.TryLemmas.{none_append}
-use Rattle.port_call.proofs.TurnLemmas.{events_then, piece_then}
+use Rattle.pe_loop.specs.Registers.{Targets, intid_of, is_target}
+use Rattle.pe_loop.specs.Words.{IccReg, Sgi1r, Key, Private, GuestShape, has_bit, irq_of}
+use Rattle.pe_loop.specs.Calls.{Event, icc_raises, sgi_at}
+use Rattle.pe_loop.specs.GicCall.declared.event.Event.TheVariants.{Raise as RaiseEvent}
+use Rattle.pe_loop.proofs.GicCall.RangeLemmas.{range_with_len_more}
+use Rattle.pe_loop.specs.Core.{Local, Raise, concerned, no_vcpus, owes_no_mark, owes_nothing, Seen, shape_of, part_events}
+use Rattle.pe_loop.proofs.PortCore.PortLemmas.{adds_join}
+use Rattle.pe_loop.specs.PortCall.Rest.{StaysAtEase}
+use Rattle.pe_loop.specs.PortCall.Tell.{Tells}
+use Rattle.pe_loop.proofs.PortCall.PieceLemmas.{piece_nil, seen_nil}
+use Rattle.pe_loop.proofs.PortCall.RestLemmas.{ease_owes, owes_none, told_at_ease}
+use Rattle.pe_loop.proofs.PortCall.TryLemmas.{none_append}
+use Rattle.pe_loop.proofs.PortCall.TurnLemmas.{events_then, piece_then}
 use Rattle.pe_icc.specs.Sgi.{silent, sgis_before, sgi_written, Sends}
 
 pub sends_none : (seen : Seen) → IsTrue (owes_nothing seen.local) → Sends seen seen []

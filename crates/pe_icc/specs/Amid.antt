@@ -1,14 +1,8 @@
 -- A vCPU on a PE, while it accesses its CPU interface and between two accesses: how far its protocol is (own choice).
 use Rattle.std.specs.Prelude.{◌≡◌, ℕ, ◌≤◌, Bool, false, IsTrue, List, map, Some, if◌then◌else◌}
-use Rattle.gic_call.specs.declared.event.Operation.{Operation}
-use Rattle.vcpu_state.specs.declared.loaded.Loaded.{Loaded}
-use Rattle.port_core.specs.declared.run.Made.{Made}
-use Rattle.port_core.specs.Condition.{is_ready}
-use Rattle.port_core.specs.Port.{Seen, shape_of}
-use Rattle.core_proper.specs.Called.{IsAtRest}
-use Rattle.core_proper.specs.Parts.{makes}
-use Rattle.core_proper.specs.Progress.{Progress, Debt, paid, after_end, progress_of}
-use Rattle.core_proper.specs.Proper.{IsProper}
+use Rattle.pe_loop.specs.Calls.{Operation}
+use Rattle.pe_loop.specs.VcpuState.declared.loaded.Loaded.{Loaded}
+use Rattle.pe_loop.specs.Core.{Made, is_ready, Seen, shape_of, IsAtRest, makes, Progress, Debt, paid, after_end, progress_of, IsProper}
 use Rattle.pe_loop.specs.Stay.{IsOn, IsOpen}
 
 -- between two accesses: nothing is in progress, the registers are those of the PE, no claim failed, and no scan is owed

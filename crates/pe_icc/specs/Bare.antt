@@ -1,13 +1,10 @@
 -- A scan of a vCPU that takes nothing, before it ends an interrupt that is not at its interface (own choice).
 use Rattle.std.specs.Prelude.{◌≡◌, ℕ, true, IsTrue, List, [], Some}
-use Rattle.gic_call.specs.declared.event.Operation.{Operation}
-use Rattle.gic_call.specs.Trace.{named_of}
-use Rattle.vcpu_state.specs.declared.loaded.Loaded.{Loaded}
-use Rattle.vcpu_state.specs.declared.shelved.Shelved.{Shelved}
-use Rattle.port_core.specs.declared.run.Made.{Made}
-use Rattle.port_core.specs.Port.{Seen, Adds, part_events}
-use Rattle.core_proper.specs.Progress.{Progress, Debt, after_end}
-use Rattle.port_call.specs.Piece.{takes_none}
+use Rattle.pe_loop.specs.Calls.{Operation, named_of}
+use Rattle.pe_loop.specs.VcpuState.declared.loaded.Loaded.{Loaded}
+use Rattle.pe_loop.specs.VcpuState.declared.shelved.Shelved.{Shelved}
+use Rattle.pe_loop.specs.Core.{Made, Seen, Adds, part_events, Progress, Debt, after_end}
+use Rattle.pe_loop.specs.PortCall.Piece.{takes_none}
 use Rattle.pe_icc.specs.Amid.{IsAmid, IsAble, IsSame, IsSet, Leads}
 use Rattle.pe_icc.specs.Prepare.{HasLooked}
 

@@ -2,24 +2,11 @@
 use Rattle.std.specs.Prelude.{◌≡◌, ℕ, ◌≤◌, not, Bool, true, false, IsTrue, List, [], map, replicate, Option, Some, None, option_to_list, IfSome}
 use Rattle.std.specs.List.{list_all}
 use Rattle.std.specs.Option.{option_map}
-use Rattle.gic_call.specs.declared.event.Operation.{Operation}
-use Rattle.gic_call.specs.Trace.{named_of}
-use Rattle.gic_ich.specs.declared.regs.IchRegs.{IchRegs}
-use Rattle.gic_ich.specs.Place.{StandFor}
-use Rattle.gic_lr.specs.declared.entry.LrState.TheVariants.{Pending}
-use Rattle.vcpu_refill.specs.declared.offer.Offer.{Offer}
-use Rattle.vcpu_refill.specs.Order.{is_deliverable_to}
-use Rattle.vcpu_refill.specs.Plan.{chosen_as}
-use Rattle.vcpu_state.specs.declared.loaded.Loaded.{Loaded}
-use Rattle.port_core.specs.declared.run.Made.{Made}
-use Rattle.port_core.specs.After.{interface_of}
-use Rattle.port_core.specs.Local.{is_vcpu}
-use Rattle.port_core.specs.Port.{Seen, Adds, shape_of, part_events}
-use Rattle.core_proper.specs.Parts.{makes}
-use Rattle.core_proper.specs.Progress.{Progress, Debt, progress_of}
-use Rattle.core_proper.specs.Proper.{IsProper}
-use Rattle.core_proper.specs.Registers.{alone}
-use Rattle.port_call.specs.Piece.{takes_none}
+use Rattle.pe_loop.specs.Calls.{Operation, named_of}
+use Rattle.pe_loop.specs.Lists.{IchRegs, StandFor, Pending, Offer, is_deliverable_to, chosen_as}
+use Rattle.pe_loop.specs.VcpuState.declared.loaded.Loaded.{Loaded}
+use Rattle.pe_loop.specs.Core.{Made, interface_of, is_vcpu, Seen, Adds, shape_of, part_events, makes, Progress, Debt, progress_of, IsProper, alone}
+use Rattle.pe_loop.specs.PortCall.Piece.{takes_none}
 use Rattle.pe_loop.specs.Claiming.{claims_by}
 use Rattle.pe_loop.specs.Scanning.{IsFound}
 use Rattle.pe_icc.specs.Amid.{IsAble, IsSame, IsSet, Leads}

@@ -1,24 +1,12 @@
 -- An access of a register of the CPU interface: the whole call (own choice).
 use Rattle.std.specs.Prelude.{◌≡◌, ◌⊎◌, ℕ, Bool, true, IsTrue, List, [], ◌∷◌, map, Option, Some, is_some, is_none, false, None}
-use Rattle.gic_base.specs.declared.icc.IccReg.{IccReg}
-use Rattle.gic_base.specs.declared.operation.GuestOp.TheVariants.{Icc}
-use Rattle.gic_call.specs.declared.event.Event.TheVariants.{Cpu}
-use Rattle.gic_call.specs.declared.event.Found.TheVariants.{Answer}
-use Rattle.gic_call.specs.declared.event.Operation.{Operation}
-use Rattle.gic_call.specs.declared.event.Operation.TheVariants.{Access}
-use Rattle.gic_call.specs.Call.{icc_raises}
-use Rattle.gic_ich.specs.Status.{misr_of}
-use Rattle.gic_call.specs.Trace.{Happened, named_of}
-use Rattle.vcpu_state.specs.declared.loaded.Loaded.{Loaded}
-use Rattle.port_core.specs.declared.run.Made.{Made}
-use Rattle.port_core.specs.declared.step.CoreStep.TheVariants.{Poll}
-use Rattle.port_core.specs.Port.{Seen, Adds, shape_of, part_events}
-use Rattle.core_proper.specs.Called.{MakesCall}
-use Rattle.core_proper.specs.Registers.{after_operation}
-use Rattle.core_proper.specs.Parts.{part_of}
-use Rattle.core_proper.specs.Progress.{Progress, paid, ended_by, progress_of}
-use Rattle.core_proper.specs.Proper.{IsProper}
-use Rattle.port_call.specs.Piece.{steps_of, takes_none}
+use Rattle.pe_loop.specs.Words.{IccReg, Icc}
+use Rattle.pe_loop.specs.Calls.{Cpu, Operation, Access, icc_raises, Happened, named_of}
+use Rattle.pe_loop.specs.GicCall.declared.event.Found.TheVariants.{Answer}
+use Rattle.pe_loop.specs.Lists.{misr_of}
+use Rattle.pe_loop.specs.VcpuState.declared.loaded.Loaded.{Loaded}
+use Rattle.pe_loop.specs.Core.{Made, Poll, Seen, Adds, shape_of, part_events, MakesCall, after_operation, part_of, Progress, paid, ended_by, progress_of, IsProper}
+use Rattle.pe_loop.specs.PortCall.Piece.{steps_of, takes_none}
 use Rattle.pe_loop.specs.Stay.{IsUp}
 use Rattle.pe_icc.specs.declared.stay.Stay.{Stay}
 use Rattle.pe_icc.specs.declared.icc.Tried.{Tried}

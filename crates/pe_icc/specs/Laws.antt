@@ -1,12 +1,9 @@
 -- What an entry and an exit say of a vCPU that accesses its CPU interface between them.
 use Rattle.std.specs.Prelude.{ℕ, None}
-use Rattle.gic_call.specs.declared.event.Operation.TheVariants.{Residence}
-use Rattle.vcpu_state.specs.declared.loaded.Loaded.{Loaded}
-use Rattle.vcpu_state.specs.declared.shelved.Shelved.{Shelved}
-use Rattle.port_core.specs.Port.{Seen, shape_of}
-use Rattle.core_proper.specs.Parts.{part_of}
-use Rattle.core_proper.specs.Progress.{Progress, progress_of}
-use Rattle.core_proper.specs.Proper.{IsProper}
+use Rattle.pe_loop.specs.Calls.{Residence}
+use Rattle.pe_loop.specs.VcpuState.declared.loaded.Loaded.{Loaded}
+use Rattle.pe_loop.specs.VcpuState.declared.shelved.Shelved.{Shelved}
+use Rattle.pe_loop.specs.Core.{Seen, shape_of, part_of, Progress, progress_of, IsProper}
 use Rattle.pe_loop.specs.Enter.{IsBetween, Enters}
 use Rattle.pe_loop.specs.Leave.{Leaves}
 use Rattle.pe_icc.specs.Amid.{IsRunning}

@@ -1,3 +1,12 @@
+pub use Rattle.pe_loop.specs.Calls
+pub use Rattle.pe_loop.specs.Core
+pub use Rattle.pe_loop.specs.Registers
+pub use Rattle.pe_loop.specs.Words
+pub use Rattle.pe_loop.specs.GicCall
+pub use Rattle.pe_loop.specs.GicImap
+pub use Rattle.pe_loop.specs as PeLoop
+pub use Rattle.pe_loop.specs.PortCall
+pub use Rattle.pe_loop.specs.VcpuState
 pub mod Amid
 pub mod Operate
 pub mod Reenter

@@ -1,28 +1,13 @@
 -- One access of a register of the CPU interface on the packed registers, decided by a look for a kick (own choice).
-use Rattle.port_core.specs.Forms.{vcpu_of}
+use Rattle.pe_loop.specs.Core.{vcpu_of, Loaded as LoadedPhase, Made, CoreStep, Poll, interface_of, Seen, AddsStep, shape_of, made_by, part_events, Progress, Debt, paid, before_next, ended_by, is_to_scan, keeps_trap_scan, keeps_far_end, may_access, after_operation}
 use Rattle.std.specs.Prelude.{◌≡◌, ℕ, ◌^◌, Bool, false, IsTrue, List, [], ◌∷◌, Option, Some, None, unwrap_or, if◌then◌else◌, true}
 use Rattle.std.specs.List.{list_any}
-use Rattle.gic_base.specs.declared.icc.IccReg.{IccReg}
-use Rattle.gic_call.specs.declared.event.Event.TheVariants.{Cpu}
-use Rattle.gic_call.specs.declared.event.Found.TheVariants.{Answer}
-use Rattle.gic_call.specs.declared.event.Operation.{Operation}
-use Rattle.gic_ich.specs.declared.regs.IchRegs.{IchRegs}
-use Rattle.gic_ich.specs.Hcr.{hcr_en}
-use Rattle.gic_ich.specs.Place.{StandFor}
-use Rattle.gic_icv.specs.declared.registers.Outcome.{Outcome}
-use Rattle.gic_icv.specs.declared.registers.Outcome.TheVariants.{Value}
-use Rattle.gic_prio.specs.Priority.{HasBinaryPoints}
-use Rattle.gic_prio.specs.Interface.{InterfaceState, IsInterface, interface_after, interface_answer}
-use Rattle.vcpu_state.specs.declared.loaded.Loaded.{Loaded}
-use Rattle.port_core.specs.declared.local.Phase.TheVariants.{Loaded as LoadedPhase}
-use Rattle.port_core.specs.declared.run.Made.{Made}
-use Rattle.port_core.specs.declared.step.CoreStep.{CoreStep}
-use Rattle.port_core.specs.declared.step.CoreStep.TheVariants.{Poll}
-use Rattle.port_core.specs.After.{interface_of}
-use Rattle.port_core.specs.Port.{Seen, AddsStep, shape_of, made_by, part_events}
-use Rattle.core_proper.specs.Progress.{Progress, Debt, paid, before_next, ended_by, is_to_scan}
-use Rattle.core_proper.specs.Proper.{keeps_trap_scan, keeps_far_end, may_access}
-use Rattle.core_proper.specs.Registers.{after_operation}
+use Rattle.pe_loop.specs.Words.{IccReg}
+use Rattle.pe_loop.specs.Calls.{Cpu, Operation}
+use Rattle.pe_loop.specs.GicCall.declared.event.Found.TheVariants.{Answer}
+use Rattle.pe_loop.specs.Lists.{IchRegs, hcr_en, StandFor, Outcome, Value}
+use Rattle.pe_loop.specs.Registers.{HasBinaryPoints, InterfaceState, IsInterface, interface_after, interface_answer}
+use Rattle.pe_loop.specs.VcpuState.declared.loaded.Loaded.{Loaded}
 use Rattle.pe_loop.specs.Stay.{IsOn, IsOpen}
 use Rattle.pe_icc.specs.declared.operate.Polled.{Polled}
 use Rattle.pe_icc.specs.declared.operate.Polled.TheVariants.{Kicked, Done}

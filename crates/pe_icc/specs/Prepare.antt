@@ -1,23 +1,12 @@
 -- What a vCPU does before an access is decided: in trap mode it looks for the first interrupt, and it takes an interrupt to its interface that it is to end
 -- and that is active by it and not there (own choice).
 use Rattle.std.specs.Prelude.{◌≡◌, ℕ, ◌^◌, Bool, true, false, IsTrue, List, [], Some, None, replicate}
-use Rattle.gic_base.specs.declared.interrupt.Key.{Key}
-use Rattle.gic_base.specs.Interrupt.{has_interrupt, is_of_vcpu}
-use Rattle.gic_call.specs.declared.event.Operation.{Operation}
-use Rattle.gic_call.specs.Trace.{named_of}
-use Rattle.gic_ich.specs.Hcr.{hcr_en}
-use Rattle.gic_word.specs.declared.record.Irq.{Irq as IrqRecord}
-use Rattle.gic_word.specs.Record.{is_number}
-use Rattle.gic_word.specs.Word.{IsIrq, irq_of, packed}
-use Rattle.vcpu_state.specs.declared.loaded.Loaded.{Loaded}
-use Rattle.port_core.specs.declared.run.Made.{Made}
-use Rattle.port_core.specs.declared.word_id.WordId.TheVariants.{Irq}
-use Rattle.port_core.specs.Known.{known}
-use Rattle.port_core.specs.Local.{is_at}
-use Rattle.port_core.specs.Port.{Seen, Adds, shape_of, part_events}
-use Rattle.port_core.specs.Valid.{IsIrqWord}
-use Rattle.core_proper.specs.Progress.{Progress, Debt, owing_after, is_end_of}
-use Rattle.port_call.specs.Piece.{takes_none}
+use Rattle.pe_loop.specs.Words.{Key, has_interrupt, is_of_vcpu, Irq as IrqRecord, is_number, IsIrq, irq_of, packed}
+use Rattle.pe_loop.specs.Calls.{Operation, named_of}
+use Rattle.pe_loop.specs.Lists.{hcr_en}
+use Rattle.pe_loop.specs.VcpuState.declared.loaded.Loaded.{Loaded}
+use Rattle.pe_loop.specs.Core.{Made, Irq, known, is_at, Seen, Adds, shape_of, part_events, IsIrqWord, Progress, Debt, owing_after, is_end_of}
+use Rattle.pe_loop.specs.PortCall.Piece.{takes_none}
 use Rattle.pe_icc.specs.Amid.{IsAble, IsSame, IsSet, Leads}
 
 -- the PE with no interrupt in its list registers, and ICH_HCR En alone

@@ -1,12 +1,9 @@
 -- A vCPU leaves its PE and enters it again in a call of it (own choice).
 use Rattle.std.specs.Prelude.{◌≡◌, Bool, false, IsTrue, List, [], Some}
-use Rattle.gic_call.specs.declared.event.Operation.{Operation}
-use Rattle.gic_call.specs.Trace.{named_of}
-use Rattle.vcpu_state.specs.declared.loaded.Loaded.{Loaded}
-use Rattle.port_core.specs.declared.run.Made.{Made}
-use Rattle.port_core.specs.Port.{Seen, Adds, part_events}
-use Rattle.core_proper.specs.Progress.{Debt, paid, is_to_scan, owed_after_scan}
-use Rattle.port_call.specs.Piece.{takes_none}
+use Rattle.pe_loop.specs.Calls.{Operation, named_of}
+use Rattle.pe_loop.specs.VcpuState.declared.loaded.Loaded.{Loaded}
+use Rattle.pe_loop.specs.Core.{Made, Seen, Adds, part_events, Debt, paid, is_to_scan, owed_after_scan}
+use Rattle.pe_loop.specs.PortCall.Piece.{takes_none}
 use Rattle.pe_loop.specs.Stay.{IsUp}
 use Rattle.pe_icc.specs.Amid.{IsAble, IsSame, Leads, debt_of}
 use Rattle.pe_icc.specs.Operate.{MayReenter, HasAsked, debt_left}

@@ -1,16 +1,12 @@
 -- The SGIs that a write of ICC_SGI1R sends (IHI 0069, ICC_SGI1R_EL1).
 use Rattle.std.specs.Prelude.{◌≡◌, ℕ, IsTrue, List, [], map, filter_map, Option, None}
 use Rattle.std.specs.List.{range_with_len}
-use Rattle.gic_base.specs.declared.icc.IccReg.{IccReg}
-use Rattle.gic_base.specs.declared.icc.IccReg.TheVariants.{Sgi1r}
-use Rattle.gic_call.specs.declared.event.Event.{Event}
-use Rattle.gic_call.specs.declared.event.Found.TheVariants.{Nothing}
-use Rattle.gic_call.specs.Call.{icc_raises, sgi_at}
-use Rattle.gic_call.specs.Trace.{Happened}
-use Rattle.port_core.specs.declared.run.Made.{Made}
-use Rattle.port_core.specs.Port.{Seen, Adds, shape_of, part_events}
-use Rattle.port_call.specs.Piece.{takes_none, IsPiece}
-use Rattle.port_call.specs.Rest.{StaysAtEase}
+use Rattle.pe_loop.specs.Words.{IccReg, Sgi1r}
+use Rattle.pe_loop.specs.Calls.{Event, icc_raises, sgi_at, Happened}
+use Rattle.pe_loop.specs.GicCall.declared.event.Found.TheVariants.{Nothing}
+use Rattle.pe_loop.specs.Core.{Made, Seen, Adds, shape_of, part_events}
+use Rattle.pe_loop.specs.PortCall.Piece.{takes_none, IsPiece}
+use Rattle.pe_loop.specs.PortCall.Rest.{StaysAtEase}
 
 -- an event that hands out nothing
 abbrev pub silent : Event → Happened

@@ -1,23 +1,20 @@
 //! The end of an interrupt that is not at the vCPU's interface.
 ghost use Rattle.std.specs.Prelude.{◌≡◌, ◌%◌, ◌^◌, IsTrue};
-ghost use Rattle.core_proper.specs.Progress.{ended_by};
-ghost use Rattle.gic_base.specs.Interrupt.{has_interrupt};
-ghost use Rattle.gic_prio.specs.Signal.{intid_written as intid_in};
-ghost use Rattle.port_core.specs.Local.{has_no_cand};
-ghost use Rattle.port_core.specs.Port.{shape_of};
-ghost use Rattle.gic_lr.specs.Entry.{IsEntry};
-ghost use Rattle.vcpu_refill.specs.Plan.{chosen_as as choice_with};
+ghost use Rattle.pe_loop.specs.Core.{ended_by, has_no_cand, shape_of};
+ghost use Rattle.pe_loop.specs.Words.{has_interrupt};
+ghost use Rattle.pe_loop.specs.Registers.{intid_written as intid_in};
+ghost use Rattle.pe_loop.specs.Lists.{IsEntry, chosen_as as choice_with};
 ghost use Rattle.pe_icc.specs.Prepare.{emptied, LooksFor, CanClaimFar, ClaimsFar};
 
-use gic_base::{IccReg, Key, MAX_LIST_REGISTERS, key_of};
-use gic_bits::Field;
-use gic_ich::{HCR_EN, IchRegs};
-use gic_lr::{LrEntry, LrState};
-use gic_word::{Irq, pending};
 use pe_loop::claim;
-use port_core::{CoreStep, Port, WordId};
-use vcpu_refill::Choice;
-use vcpu_state::Loaded;
+use pe_loop::gic_base::{IccReg, Key, MAX_LIST_REGISTERS, key_of};
+use pe_loop::gic_bits::Field;
+use pe_loop::gic_ich::{HCR_EN, IchRegs};
+use pe_loop::gic_lr::{LrEntry, LrState};
+use pe_loop::gic_word::{Irq, pending};
+use pe_loop::port_core::{CoreStep, Port, WordId};
+use pe_loop::vcpu_refill::Choice;
+use pe_loop::vcpu_state::Loaded;
 
 /// The INTID in a value that is written to EOIR or DIR: bits [23:0].
 const WRITTEN_INTID: Field = Field {
@@ -103,7 +100,7 @@ pub(crate) fn look_for<P: Port>(port: &mut P, key: Key) -> Irq
     let word = port.step(CoreStep::Look {
         word: WordId::Irq(key),
     });
-    match gic_word::unpack(word) {
+    match pe_loop::gic_word::unpack(word) {
         Some(irq) => irq,
         None => unreachable!(),
     }

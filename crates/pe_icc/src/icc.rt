@@ -1,6 +1,6 @@
 //! An access of a register of the CPU interface.
 ghost use Rattle.std.specs.Prelude.{◌≡◌, IsTrue};
-ghost use Rattle.scn_base.specs.Good.{is_usable};
+ghost use Rattle.pe_loop.specs.Calls.{is_usable};
 ghost use Rattle.pe_loop.specs.Stay.{IsUp};
 ghost use Rattle.pe_icc.specs.Icc.{IsEnding, Tries, DoesAccess};
 
@@ -9,11 +9,11 @@ use crate::prepare::prepare;
 use crate::reenter::refill;
 use crate::sgi::send_sgis;
 use crate::stay::{Stay, copy_of};
-use gic_base::IccReg;
+use pe_loop::gic_base::IccReg;
+use pe_loop::port_core::Port;
 use pe_loop::reenter;
-use port_core::Port;
+use pe_loop::vcpu_state::Loaded;
 use std::sync::Wait;
-use vcpu_state::Loaded;
 
 /// What came of one try of an access.
 #[derive(Debug, Drop)]

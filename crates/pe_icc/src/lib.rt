@@ -14,4 +14,6 @@ mod stay;
 
 pub use icc::icc_op;
 pub use laws::{entry_runs, exit_rests};
+pub use pe_loop;
+pub use pe_loop::{gic_base, port_core, vcpu_state};
 pub use stay::copy_of;

@@ -1,19 +1,18 @@
 //! One access of a register of the CPU interface, decided by a look for a kick.
 ghost use Rattle.std.specs.Prelude.{◌≡◌, ◌<◌, ◌≤◌, ◌^◌, true, false, IsTrue};
-ghost use Rattle.gic_bits.specs.Bits.{has_bit};
-ghost use Rattle.gic_ich.specs.Hcr.{hcr_en};
-ghost use Rattle.gic_icv.specs.Registers.{HasDirection};
-ghost use Rattle.port_core.specs.Port.{shape_of};
-ghost use Rattle.scn_base.specs.Good.{is_usable};
+ghost use Rattle.pe_loop.specs.Words.{has_bit};
+ghost use Rattle.pe_loop.specs.Lists.{hcr_en, HasDirection};
+ghost use Rattle.pe_loop.specs.Core.{shape_of};
+ghost use Rattle.pe_loop.specs.Calls.{is_usable};
 ghost use Rattle.pe_loop.specs.Stay.{IsOpen};
 ghost use Rattle.pe_icc.specs.Amid.{IsSet};
 ghost use Rattle.pe_icc.specs.Operate.{opened, read_by as read_of, Operates, Polls};
 
-use gic_base::IccReg;
-use gic_ich::HCR_EN;
-use gic_icv::{Outcome, access};
-use port_core::{CoreStep, Port, VcpuWord};
-use vcpu_state::Loaded;
+use pe_loop::gic_base::IccReg;
+use pe_loop::gic_ich::HCR_EN;
+use pe_loop::gic_icv::{Outcome, access};
+use pe_loop::port_core::{CoreStep, Port, VcpuWord};
+use pe_loop::vcpu_state::Loaded;
 
 /// What came of a try to do an access.
 #[derive(Clone, Copy, Debug, PartialEq, Eq)]

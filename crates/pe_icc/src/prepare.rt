@@ -1,9 +1,7 @@
 //! What a vCPU does before an access is decided.
 ghost use Rattle.std.specs.Prelude.{◌≡◌, ◌&&◌, IsTrue};
-ghost use Rattle.core_proper.specs.Proper.{asks_first as asks_for_first};
-ghost use Rattle.gic_base.specs.Interrupt.{has_interrupt, is_of_vcpu};
-ghost use Rattle.gic_word.specs.Record.{is_number};
-ghost use Rattle.port_core.specs.Port.{shape_of};
+ghost use Rattle.pe_loop.specs.Core.{asks_first as asks_for_first, shape_of};
+ghost use Rattle.pe_loop.specs.Words.{has_interrupt, is_of_vcpu, is_number};
 ghost use Rattle.pe_loop.specs.Stay.{IsUp};
 ghost use Rattle.pe_icc.specs.Ready.{CanTakeFar, TakesFar, ReadiesEnd};
 ghost use Rattle.pe_icc.specs.Icc.{IsEnding, Prepares};
@@ -12,10 +10,10 @@ use crate::bare::gather;
 use crate::end::{claim_far, ended, look_for};
 use crate::first::scan_first;
 use crate::stay::Stay;
-use gic_base::{IccReg, Key};
-use gic_word::Irq;
-use port_core::Port;
-use vcpu_state::Loaded;
+use pe_loop::gic_base::{IccReg, Key};
+use pe_loop::gic_word::Irq;
+use pe_loop::port_core::Port;
+use pe_loop::vcpu_state::Loaded;
 
 /// Whether an access asks for the first interrupt: a read of IAR or HPPIR.
 fn asks_first(reg: IccReg) -> bool

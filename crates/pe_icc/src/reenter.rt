@@ -2,12 +2,12 @@
 ghost use Rattle.std.specs.Prelude.{◌≡◌, ◌≤◌};
 ghost use Rattle.pe_icc.specs.Amid.{IsSet, debt_of};
 ghost use Rattle.pe_icc.specs.Reenter.{Refills};
-ghost use Rattle.core_proper.specs.Progress.{is_to_scan as is_to_scan_by};
+ghost use Rattle.pe_loop.specs.Core.{is_to_scan as is_to_scan_by};
 
-use gic_ich::misr;
+use pe_loop::gic_ich::misr;
+use pe_loop::port_core::Port;
 use pe_loop::reenter;
-use port_core::Port;
-use vcpu_state::Loaded;
+use pe_loop::vcpu_state::Loaded;
 
 /// Whether a vCPU is to scan again after an access: a maintenance interrupt is asserted, it is in trap mode, or it took an
 /// interrupt to its interface to end it.

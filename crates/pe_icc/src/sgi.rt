@@ -1,18 +1,16 @@
 //! The SGIs that a write of ICC_SGI1R sends.
 ghost use Rattle.std.specs.Prelude.{◌≡◌, ◌<◌, ◌++◌, true, IsTrue, [], ◌∷◌, if◌then◌else◌};
-ghost use Rattle.gic_aff.specs.Sgi.{is_target, targets_of};
-ghost use Rattle.gic_base.specs.declared.interrupt.Key.TheVariants.{Private};
-ghost use Rattle.gic_bits.specs.Bits.{has_bit as bit_is_set};
-ghost use Rattle.gic_call.specs.declared.event.Event.TheVariants.{Raise};
-ghost use Rattle.port_core.specs.Local.{is_vcpu, owes_nothing};
-ghost use Rattle.port_core.specs.Port.{shape_of};
+ghost use Rattle.pe_loop.specs.Registers.{is_target, targets_of};
+ghost use Rattle.pe_loop.specs.Words.{Private, has_bit as bit_is_set};
+ghost use Rattle.pe_loop.specs.GicCall.declared.event.Event.TheVariants.{Raise};
+ghost use Rattle.pe_loop.specs.Core.{is_vcpu, owes_nothing, shape_of};
 ghost use Rattle.pe_icc.specs.Sgi.{Sends, SendsSgis, sgis_before, sgi_written};
 
-use gic_aff::{Targets, sgi_intid, sgi_targets};
-use gic_base::{IccReg, Key};
-use gic_bits::has_bit;
-use port_call::raise;
-use port_core::Port;
+use pe_loop::gic_aff::{Targets, sgi_intid, sgi_targets};
+use pe_loop::gic_base::{IccReg, Key};
+use pe_loop::gic_bits::has_bit;
+use pe_loop::port_call::raise;
+use pe_loop::port_core::Port;
 
 /// Raises an SGI (INTID 0 to 15) at a vCPU where that is one of some.
 fn send_at<P: Port>(port: &mut P, targets: Targets, vcpu: u32, id: u32)

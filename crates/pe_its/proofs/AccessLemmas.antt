@@ -1,12 +1,11 @@
 -- Accesses of the ITS as whole calls.
 use Rattle.std.proofs.Common.{◌≡◌, ℕ, false, Option, Some, None, refl, sym, subst}
-use Rattle.gic_base.specs.declared.operation.Frame.TheVariants.{Its}
-use Rattle.gic_base.specs.declared.shape.GuestShape.{GuestShape}
-use Rattle.gic_imap.specs.declared.map.RegRef.{RegRef}
-use Rattle.gic_imap.specs.declared.map.RegRef.TheVariants.{Plain, Reserved}
-use Rattle.gic_imap.specs.Map.{decoded}
-use Rattle.gic_call.specs.Call.{takes_turn}
-use Rattle.port_core.specs.Port.{Seen, IsPort, shape_of}
+use Rattle.pe_mem.specs.Words.{Its, GuestShape}
+use Rattle.pe_mem.specs.GicImap.declared.map.RegRef.{RegRef}
+use Rattle.pe_mem.specs.GicImap.declared.map.RegRef.TheVariants.{Plain, Reserved}
+use Rattle.pe_mem.specs.GicImap.Map.{decoded}
+use Rattle.pe_mem.specs.Calls.{takes_turn}
+use Rattle.pe_mem.specs.Core.{Seen, IsPort, shape_of}
 use Rattle.pe_mem.specs.Call.{CanAccess, MakesAccess, ServesAccess}
 use Rattle.pe_mem.proofs.CallLemmas.{can_ease, makes_access}
 use Rattle.pe_its.proofs.ReadLemmas.{serves_ignored}

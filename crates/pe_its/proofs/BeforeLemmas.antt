@@ -2,20 +2,14 @@
 use Rattle.std.proofs.Common.{◌≡◌, ℕ, not, Bool, true, false, cond, IsTrue, List, [], ◌∷◌, map, Option, refl, sym, ap, ◌∙◌, subst}
 use Rattle.std.specs.List.{list_all}
 use Rattle.std.proofs.lemmas.Bool.{and_from, and_parts}
-use Rattle.gic_frame.specs.declared.bank.Half.{Half}
-use Rattle.gic_imap.specs.declared.map.Reg.{Reg}
-use Rattle.gic_imap.specs.declared.map.Reg.TheVariants.{Ctlr, Cbaser, Cwriter, Baser0, Baser1}
-use Rattle.gic_open.specs.declared.plain.PlainWord.{PlainWord}
-use Rattle.gic_call.specs.declared.event.Event.{Event}
-use Rattle.gic_call.specs.declared.event.Event.TheVariants.{ItsBegin, Put, Queue, Read, Touch}
-use Rattle.gic_call.specs.declared.event.Found.TheVariants.{Nothing}
-use Rattle.gic_call.specs.declared.event.Place.{Place}
-use Rattle.gic_call.specs.declared.event.Place.TheVariants.{Queue as QueuePlace}
-use Rattle.gic_call.specs.declared.event.QueueChange.TheVariants.{Runs, Done, Stalls}
-use Rattle.gic_call.specs.Access.{its_written}
-use Rattle.gic_call.specs.Trace.{Happened, Makes, is_beside, named_of}
-use Rattle.gic_call.specs.View.{View}
-use Rattle.port_call.specs.Turn.{AreReadsThen, is_queue_read, is_queue_read_event}
+use Rattle.pe_mem.specs.Registers.{Half, Cbaser, Cwriter, Baser0, Baser1}
+use Rattle.pe_mem.specs.GicImap.declared.map.Reg.{Reg}
+use Rattle.pe_mem.specs.GicImap.declared.map.Reg.TheVariants.{Ctlr}
+use Rattle.pe_mem.specs.Calls.{PlainWord, Event, ItsBegin, Put, Touch, Place, Runs, Done, Stalls, its_written, Happened, Makes, is_beside, named_of, View}
+use Rattle.pe_mem.specs.GicCall.declared.event.Event.TheVariants.{Queue, Read}
+use Rattle.pe_mem.specs.GicCall.declared.event.Found.TheVariants.{Nothing}
+use Rattle.pe_mem.specs.GicCall.declared.event.Place.TheVariants.{Queue as QueuePlace}
+use Rattle.pe_mem.specs.PortCall.Turn.{AreReadsThen, is_queue_read, is_queue_read_event}
 use Rattle.pe_mem.specs.Found.{are_before, is_before}
 use Rattle.pe_mem.proofs.FoundLemmas.{before_both}
 

@@ -1,13 +1,10 @@
 -- Stores that go by what the word holds.
 use Rattle.std.proofs.Common.{◌≡◌, ℕ, ◌==◌, true, false, IsTrue, Option, Some, None, ap, subst, ◌∙◌}
 use Rattle.std.proofs.lemmas.Bool.{eqb-true}
-use Rattle.gic_open.specs.declared.plain.PlainWord.{PlainWord}
-use Rattle.gic_open.specs.Plain.{has_plain, place_of_plain, plain_at}
-use Rattle.port_core.specs.declared.step.CoreStep.TheVariants.{RamLook, RamPut}
-use Rattle.port_core.specs.Known.{last_made}
-use Rattle.port_core.specs.Port.{Seen, AddsStep, shape_of, made_by}
-use Rattle.port_call.specs.Store.{Stores, MissesStore, TriesStore}
-use Rattle.port_call.proofs.StoreLemmas.{look_misses, misses_join, misses_then_stores, tries}
+use Rattle.pe_mem.specs.Calls.{PlainWord, has_plain, place_of_plain, plain_at}
+use Rattle.pe_mem.specs.Core.{RamLook, RamPut, last_made, Seen, AddsStep, shape_of, made_by}
+use Rattle.pe_mem.specs.PortCall.Store.{Stores, MissesStore, TriesStore}
+use Rattle.pe_mem.proofs.PortCall.StoreLemmas.{look_misses, misses_join, misses_then_stores, tries}
 use Rattle.pe_mem.proofs.UpdateLemmas.{last_of, stores_last, same_last}
 use Rattle.pe_its.specs.Change.{ChangesWord, StoresChanged, KeepsWord}
 

@@ -1,3 +1,5 @@
+pub use Rattle.pe_mem.proofs.ItsExec
+pub use Rattle.pe_mem.proofs as PeMem
 pub mod ChangeLemmas
 pub mod StoredLemmas
 pub mod MakesLemmas

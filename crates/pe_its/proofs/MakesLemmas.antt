@@ -2,25 +2,18 @@
 use Rattle.std.proofs.Common.{◌≡◌, ℕ, not, Bool, true, IsTrue, List, [], ◌∷◌, ◌++◌, map, All, Option, refl, sym, ap, subst, ◌∙◌}
 use Rattle.std.proofs.lemmas.List.{map-append}
 use Rattle.std.proofs.lemmas.List.Elements.{All-cons, All-nil, All-head, All-tail, All-append, filter-append}
-use Rattle.gic_open.specs.declared.plain.PlainWord.{PlainWord}
-use Rattle.gic_open.specs.declared.plain.PlainWord.TheVariants.{ItsCtlr, Cbaser, Cwriter, Ram, Propbaser, Pendbaser, Baser0, Baser1, Fault}
-use Rattle.gic_call.specs.declared.event.Event.{Event}
-use Rattle.gic_call.specs.declared.event.Event.TheVariants.{Read, Put, Queue as QueueEvent}
-use Rattle.gic_call.specs.declared.event.Found.{Found}
-use Rattle.gic_call.specs.declared.event.Found.TheVariants.{Word as FoundWord, Queue as FoundQueue, Nothing}
-use Rattle.gic_call.specs.declared.event.Place.{Place}
-use Rattle.gic_call.specs.declared.event.Place.TheVariants.{Word, Queue as QueuePlace, Ctlr, Lpis}
-use Rattle.gic_call.specs.declared.event.QueueChange.TheVariants.{Runs}
-use Rattle.gic_call.specs.Trace.{Happened, Makes, HandsOut, IsLastRead, is_beside, named_of, held_at}
-use Rattle.gic_call.specs.View.{View}
-use Rattle.port_core.specs.Port.{Seen, part_events}
-use Rattle.port_call.specs.Plain.{is_event_word}
-use Rattle.port_call.specs.Store.{Stores, MissesStore, AreStoreEvents, AreMissEvents}
+use Rattle.pe_mem.specs.Calls.{PlainWord, ItsCtlr, Cbaser, Cwriter, Ram, Propbaser, Pendbaser, Baser0, Baser1, Fault, Event, Put, Found, Place, Runs, Happened, Makes, HandsOut, IsLastRead, is_beside, named_of, held_at, View}
+use Rattle.pe_mem.specs.GicCall.declared.event.Event.TheVariants.{Read, Queue as QueueEvent}
+use Rattle.pe_mem.specs.GicCall.declared.event.Found.TheVariants.{Word as FoundWord, Queue as FoundQueue, Nothing}
+use Rattle.pe_mem.specs.GicCall.declared.event.Place.TheVariants.{Word, Queue as QueuePlace, Ctlr, Lpis}
+use Rattle.pe_mem.specs.Core.{Seen, part_events}
+use Rattle.pe_mem.specs.PortCall.Plain.{is_event_word}
+use Rattle.pe_mem.specs.PortCall.Store.{Stores, MissesStore, AreStoreEvents, AreMissEvents}
 use Rattle.pe_mem.proofs.ServeLemmas.{one_made}
 use Rattle.pe_mem.proofs.UpdateLemmas.{put_made, reads_beside as store_reads_beside}
-use Rattle.its_exec.specs.declared.known.KnownQueue.{KnownQueue}
-use Rattle.its_exec.specs.Known.{queue_reads}
-use Rattle.its_exec.specs.Queue.{MovesQueue}
+use Rattle.pe_mem.specs.ItsExec.declared.known.KnownQueue.{KnownQueue}
+use Rattle.pe_mem.specs.ItsExec.Known.{queue_reads}
+use Rattle.pe_mem.specs.ItsExec.Queue.{MovesQueue}
 use Rattle.pe_its.specs.Register.{IsUnread, IsLooked, is_queue_place, queue_found}
 
 abbrev Hands : View → Happened → Type 0

@@ -1,36 +1,22 @@
 -- Reads of the ITS, and writes that it ignores.
 use Rattle.std.proofs.Common.{◌≡◌, ℕ, ◌&&◌, Bool, true, false, if◌then◌else◌, [], ◌∷◌, Option, Some, None, is_none, refl, sym, ap, subst, ◌∙◌}
-use Rattle.gic_base.specs.declared.operation.Frame.TheVariants.{Its}
-use Rattle.gic_frame.specs.declared.bank.Half.{Half}
-use Rattle.gic_frame.specs.Guest.{has_lpis}
-use Rattle.gic_frame.specs.Half.{half_read}
-use Rattle.gic_frame.specs.Identity.{iidr, pidr2}
-use Rattle.gic_base.specs.declared.shape.GuestShape.{GuestShape}
-use Rattle.gic_imap.specs.declared.contents.Table.TheVariants.{Devices, Collections}
-use Rattle.gic_imap.specs.declared.map.Reg.{Reg}
-use Rattle.gic_imap.specs.declared.map.Reg.TheVariants.{Ctlr, Iidr, Typer, Cbaser, Cwriter, Creadr, Baser0, Baser1, Pidr2}
-use Rattle.gic_imap.specs.declared.map.RegRef.{RegRef}
-use Rattle.gic_imap.specs.declared.map.RegRef.TheVariants.{Plain, Reserved}
-use Rattle.gic_imap.specs.Contents.{enabled_in, ctlr_of, typer_of, creadr_of, baser_of}
-use Rattle.gic_imap.specs.Map.{decoded}
-use Rattle.gic_open.specs.declared.plain.PlainWord.TheVariants.{ItsCtlr, Cbaser as CbaserWord, Cwriter as CwriterWord, Baser0 as Baser0Word, Baser1 as Baser1Word}
-use Rattle.gic_call.specs.declared.event.Place.TheVariants.{Word, Queue as QueuePlace}
-use Rattle.gic_call.specs.Access.{takes_its, its_written, its_held, its_value}
-use Rattle.gic_call.specs.Call.{takes_turn, its_events}
-use Rattle.gic_call.specs.Command.{command_events}
-use Rattle.gic_call.specs.Trace.{its_read_places, its_write_places, its_places}
-use Rattle.gic_call.specs.View.{View}
-use Rattle.its_queue.specs.declared.word.QueueWord.{QueueWord}
-use Rattle.its_queue.specs.Queue.{is_queue_word, queue_of}
-use Rattle.port_core.specs.declared.step.CoreStep.TheVariants.{Look}
-use Rattle.port_core.specs.declared.word_id.WordId.TheVariants.{Queue}
-use Rattle.port_core.specs.Port.{Seen, AddsStep, shape_of, made_by}
-use Rattle.port_call.specs.Plain.{ReadsPlain}
-use Rattle.port_call.specs.Rest.{IsAtEase}
-use Rattle.port_call.proofs.PieceLemmas.{piece_one}
-use Rattle.port_call.proofs.SettleLemmas.{handed_none}
-use Rattle.its_exec.proofs.FrameLemmas.{both}
-use Rattle.its_exec.proofs.LookLemmas.{unpacked}
+use Rattle.pe_mem.specs.Words.{Its, GuestShape}
+use Rattle.pe_mem.specs.Registers.{Half, has_lpis, half_read, iidr, pidr2, Devices, Collections, Cbaser, Cwriter, Creadr, Baser0, Baser1, enabled_in, creadr_of, baser_of, QueueWord, is_queue_word, queue_of}
+use Rattle.pe_mem.specs.GicImap.declared.map.Reg.{Reg}
+use Rattle.pe_mem.specs.GicImap.declared.map.Reg.TheVariants.{Ctlr, Iidr, Typer, Pidr2}
+use Rattle.pe_mem.specs.GicImap.declared.map.RegRef.{RegRef}
+use Rattle.pe_mem.specs.GicImap.declared.map.RegRef.TheVariants.{Plain, Reserved}
+use Rattle.pe_mem.specs.GicImap.Contents.{ctlr_of, typer_of}
+use Rattle.pe_mem.specs.GicImap.Map.{decoded}
+use Rattle.pe_mem.specs.Calls.{ItsCtlr, Cbaser as CbaserWord, Cwriter as CwriterWord, Baser0 as Baser0Word, Baser1 as Baser1Word, takes_its, its_written, its_held, its_value, takes_turn, its_events, command_events, its_read_places, its_write_places, its_places, View}
+use Rattle.pe_mem.specs.GicCall.declared.event.Place.TheVariants.{Word, Queue as QueuePlace}
+use Rattle.pe_mem.specs.Core.{Look, Queue, Seen, AddsStep, shape_of, made_by}
+use Rattle.pe_mem.specs.PortCall.Plain.{ReadsPlain}
+use Rattle.pe_mem.specs.PortCall.Rest.{IsAtEase}
+use Rattle.pe_mem.proofs.PortCall.PieceLemmas.{piece_one}
+use Rattle.pe_mem.proofs.PortCall.SettleLemmas.{handed_none}
+use Rattle.pe_mem.proofs.ItsExec.FrameLemmas.{both}
+use Rattle.pe_mem.proofs.ItsExec.LookLemmas.{unpacked}
 use Rattle.pe_mem.specs.Call.{Serves, ServesAccess}
 use Rattle.pe_mem.proofs.ServeLemmas.{nothing_known, freely_nothing, freely_read, serves_freely, serves_nothing}
 use Rattle.pe_mem.proofs.UpdateLemmas.{stored_view}

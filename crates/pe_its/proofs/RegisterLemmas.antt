@@ -2,42 +2,27 @@
 use Rattle.std.proofs.Common.{◌≡◌, ◌≢◌, ℕ, ◌/◌, ◌%◌, ◌^◌, ◌==◌, ◌&&◌, Bool, true, false, nat_lt, IsTrue, List, [], ◌∷◌, ◌++◌, All, Option, Some, None, if◌then◌else◌, refl, sym, ap, subst, ◌∙◌, arith}
 use Rattle.std.proofs.lemmas.Bool.{eq-eqb, ne_eqb}
 use Rattle.std.proofs.lemmas.List.Elements.{All-cons, All-nil}
-use Rattle.gic_base.specs.declared.shape.GuestShape.{GuestShape}
-use Rattle.gic_bits.specs.Bits.{bit_of}
-use Rattle.gic_frame.specs.declared.bank.Half.{Half}
-use Rattle.gic_frame.specs.Half.{half_written}
-use Rattle.gic_imap.specs.Contents.{enabled_in, cbaser_bits, baser_bits, queue_offset, queue_bytes, retries}
-use Rattle.gic_imap.specs.declared.contents.Table.{Table}
-use Rattle.gic_imap.specs.declared.contents.Table.TheVariants.{Devices, Collections}
-use Rattle.gic_imap.specs.declared.map.Reg.TheVariants.{Ctlr as CtlrReg, Cbaser as CbaserReg, Cwriter as CwriterReg}
-use Rattle.gic_open.specs.declared.plain.PlainWord.{PlainWord}
-use Rattle.gic_open.specs.declared.plain.PlainWord.TheVariants.{ItsCtlr, Cbaser, Cwriter}
-use Rattle.gic_open.specs.Plain.{place_of_plain}
-use Rattle.gic_call.specs.declared.event.Event.{Event}
-use Rattle.gic_call.specs.declared.event.Event.TheVariants.{Read, Put, Queue as QueueEvent}
-use Rattle.gic_call.specs.declared.event.Found.TheVariants.{Word as FoundWord, Queue as FoundQueue}
-use Rattle.gic_call.specs.declared.event.Place.{Place}
-use Rattle.gic_call.specs.declared.event.Place.TheVariants.{Word, Queue as QueuePlace}
-use Rattle.gic_call.specs.declared.event.QueueChange.TheVariants.{Runs}
-use Rattle.gic_call.specs.Access.{its_written, starts_commands}
-use Rattle.gic_call.specs.Trace.{Happened, Makes, HaveSameIts, left_by, its_written_by, its_write_places}
-use Rattle.gic_call.specs.View.{View}
-use Rattle.port_core.specs.declared.run.Made.{Made}
-use Rattle.port_core.specs.Known.{known_maps}
-use Rattle.port_core.specs.Port.{Seen, Adds, shape_of, part_events}
-use Rattle.port_core.proofs.PortLemmas.{adds_join}
-use Rattle.port_call.specs.Memory.{view_by}
-use Rattle.port_call.specs.Piece.{IsRestedPiece}
-use Rattle.port_call.specs.Plain.{is_event_word}
-use Rattle.port_call.specs.Store.{Stores}
-use Rattle.port_call.proofs.PieceLemmas.{seen_nil, piece_nil, rested}
-use Rattle.port_call.proofs.TurnLemmas.{rested_then, events_then}
+use Rattle.pe_mem.specs.Words.{GuestShape, bit_of}
+use Rattle.pe_mem.specs.Registers.{Half, half_written, enabled_in, cbaser_bits, baser_bits, queue_offset, queue_bytes, retries, Table, Devices, Collections, Cbaser as CbaserReg, Cwriter as CwriterReg, Maps}
+use Rattle.pe_mem.specs.GicImap.declared.map.Reg.TheVariants.{Ctlr as CtlrReg}
+use Rattle.pe_mem.specs.Calls.{PlainWord, ItsCtlr, Cbaser, Cwriter, place_of_plain, Event, Put, Place, Runs, its_written, Happened, Makes, HaveSameIts, left_by, its_written_by, its_write_places, View}
+use Rattle.pe_mem.specs.GicCall.declared.event.Event.TheVariants.{Read, Queue as QueueEvent}
+use Rattle.pe_mem.specs.GicCall.declared.event.Found.TheVariants.{Word as FoundWord, Queue as FoundQueue}
+use Rattle.pe_mem.specs.GicCall.declared.event.Place.TheVariants.{Word, Queue as QueuePlace}
+use Rattle.pe_mem.specs.GicCall.Access.{starts_commands}
+use Rattle.pe_mem.specs.Core.{Made, known_maps, Seen, Adds, shape_of, part_events}
+use Rattle.pe_mem.proofs.PortCore.PortLemmas.{adds_join}
+use Rattle.pe_mem.specs.PortCall.Memory.{view_by}
+use Rattle.pe_mem.specs.PortCall.Piece.{IsRestedPiece}
+use Rattle.pe_mem.specs.PortCall.Plain.{is_event_word}
+use Rattle.pe_mem.specs.PortCall.Store.{Stores}
+use Rattle.pe_mem.proofs.PortCall.PieceLemmas.{seen_nil, piece_nil, rested}
+use Rattle.pe_mem.proofs.PortCall.TurnLemmas.{rested_then, events_then}
 use Rattle.pe_mem.proofs.ServeLemmas.{none_made}
-use Rattle.its_exec.specs.declared.known.KnownQueue.{KnownQueue}
-use Rattle.its_exec.specs.Known.{KnowsQueue}
-use Rattle.its_tab.specs.Maps.{Maps}
-use Rattle.its_exec.specs.Queue.{MovesQueue, IsReady, HasIts}
-use Rattle.its_exec.proofs.LookLemmas.{word_held, offset_held, stalled_held}
+use Rattle.pe_mem.specs.ItsExec.declared.known.KnownQueue.{KnownQueue}
+use Rattle.pe_mem.specs.ItsExec.Known.{KnowsQueue}
+use Rattle.pe_mem.specs.ItsExec.Queue.{MovesQueue, IsReady, HasIts}
+use Rattle.pe_mem.proofs.ItsExec.LookLemmas.{word_held, offset_held, stalled_held}
 use Rattle.pe_its.specs.declared.change.Change.TheVariants.{Cbaser as CbaserChange, Baser as BaserChange, Cwriter as CwriterChange}
 use Rattle.pe_its.specs.Change.{changed_by, ChangesWord, StoresChanged, KeepsWord}
 use Rattle.pe_its.specs.Register.{IsReadyNow, IsLooked, IsUnread, WritesRegister, Retries, RetriesBy, retried, baser_reg, baser_word}

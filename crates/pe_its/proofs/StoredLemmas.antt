@@ -3,34 +3,22 @@ use Rattle.std.proofs.Common.{◌≡◌, ℕ, ◌==◌, true, IsTrue, List, [], 
 use Rattle.std.specs.List.{list_all}
 use Rattle.std.proofs.lemmas.Bool.{and_parts, eq-eqb}
 use Rattle.std.proofs.lemmas.List.{append_assoc}
-use Rattle.gic_base.specs.declared.interrupt.Key.TheVariants.{Lpi}
-use Rattle.gic_base.specs.declared.shape.GuestShape.{GuestShape}
-use Rattle.gic_base.specs.Interrupt.{has_interrupt}
-use Rattle.gic_open.specs.declared.plain.PlainWord.{PlainWord}
-use Rattle.gic_open.specs.declared.plain.PlainWord.TheVariants.{ItsCtlr, Cbaser, Cwriter}
-use Rattle.gic_open.specs.Plain.{place_of_plain}
-use Rattle.gic_call.specs.declared.event.Found.TheVariants.{Word as FoundWord}
-use Rattle.gic_call.specs.declared.event.Place.TheVariants.{Word, Queue as QueuePlace}
-use Rattle.its_tab.specs.After.{IsValid}
-use Rattle.its_tab.specs.Maps.{Maps}
-use Rattle.port_core.specs.declared.run.Made.{Made}
-use Rattle.port_core.specs.declared.step.CoreStep.{CoreStep}
-use Rattle.port_core.specs.declared.step.CoreStep.TheVariants.{RamLook, RamPut}
-use Rattle.port_core.specs.declared.word_id.WordId.TheVariants.{Irq, Plain}
-use Rattle.port_core.specs.Known.{is_on, known, known_maps, since_turn}
-use Rattle.port_core.specs.Place.{place_of_word}
-use Rattle.port_core.specs.Port.{Seen, Adds, shape_of}
-use Rattle.port_core.specs.Step.{word_of}
-use Rattle.port_call.specs.Rest.{IsAtEase}
-use Rattle.port_call.specs.Store.{Stores, MissesStore, is_store_step, is_store_miss, stores_not}
-use Rattle.port_call.proofs.KnownLemmas.{since_turn_on, are_endless, ends_none, maps_kept}
-use Rattle.port_call.proofs.TurnLemmas.{known_by_last}
-use Rattle.its_exec.specs.declared.known.KnownQueue.{KnownQueue}
-use Rattle.its_exec.specs.Known.{Knows, KnowsQueue}
-use Rattle.its_exec.specs.Queue.{IsReady, HasIts}
-use Rattle.its_exec.proofs.FrameLemmas.{both, since, knows_by, knows_on, maps_on, untouched_on}
-use Rattle.its_exec.proofs.LookLemmas.{queue_apart, plain_lpi_apart}
-use Rattle.its_exec.proofs.QueueLemmas.{stored_off, stored_leaves, stored_leaves_plain, stored_within}
+use Rattle.pe_mem.specs.Words.{Lpi, GuestShape, has_interrupt}
+use Rattle.pe_mem.specs.Calls.{PlainWord, ItsCtlr, Cbaser, Cwriter, place_of_plain}
+use Rattle.pe_mem.specs.GicCall.declared.event.Found.TheVariants.{Word as FoundWord}
+use Rattle.pe_mem.specs.GicCall.declared.event.Place.TheVariants.{Word, Queue as QueuePlace}
+use Rattle.pe_mem.specs.Registers.{IsValid, Maps}
+use Rattle.pe_mem.specs.Core.{Made, CoreStep, RamLook, RamPut, Irq, Plain, is_on, known, known_maps, since_turn, place_of_word, Seen, Adds, shape_of, word_of}
+use Rattle.pe_mem.specs.PortCall.Rest.{IsAtEase}
+use Rattle.pe_mem.specs.PortCall.Store.{Stores, MissesStore, is_store_step, is_store_miss, stores_not}
+use Rattle.pe_mem.proofs.PortCall.KnownLemmas.{since_turn_on, are_endless, ends_none, maps_kept}
+use Rattle.pe_mem.proofs.PortCall.TurnLemmas.{known_by_last}
+use Rattle.pe_mem.specs.ItsExec.declared.known.KnownQueue.{KnownQueue}
+use Rattle.pe_mem.specs.ItsExec.Known.{Knows, KnowsQueue}
+use Rattle.pe_mem.specs.ItsExec.Queue.{IsReady, HasIts}
+use Rattle.pe_mem.proofs.ItsExec.FrameLemmas.{both, since, knows_by, knows_on, maps_on, untouched_on}
+use Rattle.pe_mem.proofs.ItsExec.LookLemmas.{queue_apart, plain_lpi_apart}
+use Rattle.pe_mem.proofs.ItsExec.QueueLemmas.{stored_off, stored_leaves, stored_leaves_plain, stored_within}
 use Rattle.pe_its.specs.Register.{IsReadyNow}
 
 -- the word is known as it was stored

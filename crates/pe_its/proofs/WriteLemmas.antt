@@ -6,55 +6,36 @@ use Rattle.std.proofs.lemmas.Bool.{and_parts, eqb-true}
 use Rattle.std.proofs.lemmas.List.{append_assoc}
 use Rattle.std.proofs.lemmas.List.Elements.{All-nil, filter_map-append}
 use Rattle.std.proofs.lemmas.List.Sums.{fold-append}
-use Rattle.gic_base.specs.declared.interrupt.Key.TheVariants.{Lpi}
-use Rattle.gic_base.specs.declared.operation.Frame.TheVariants.{Its}
-use Rattle.gic_base.specs.declared.shape.GuestShape.{GuestShape}
-use Rattle.gic_base.specs.Interrupt.{has_interrupt}
-use Rattle.gic_aff.specs.declared.sgi.Targets.{Targets}
-use Rattle.gic_word.specs.Record.{target_in}
-use Rattle.gic_word.specs.Word.{irq_of}
-use Rattle.gic_frame.specs.Guest.{has_lpis}
-use Rattle.gic_frame.specs.declared.bank.Half.{Half}
-use Rattle.gic_imap.specs.declared.map.Reg.{Reg}
-use Rattle.gic_imap.specs.declared.map.RegRef.{RegRef}
-use Rattle.gic_imap.specs.declared.map.RegRef.TheVariants.{Plain}
-use Rattle.gic_imap.specs.Map.{decoded}
-use Rattle.gic_call.specs.declared.event.Event.{Event}
-use Rattle.gic_call.specs.declared.event.Event.TheVariants.{ItsBegin, ItsEnd}
-use Rattle.gic_call.specs.declared.event.Found.TheVariants.{Nothing}
-use Rattle.gic_call.specs.declared.event.Place.{Place}
-use Rattle.gic_call.specs.Access.{its_written, takes_its, starts_commands as register_starts}
-use Rattle.gic_call.specs.Call.{takes_turn, its_events, its_starts}
-use Rattle.gic_call.specs.Trace.{Happened, Beside, Makes, IsLastRead, HaveSameIts, AreStarted, held_at, IsItsCall, IsItsWrite as IsItsWriteCall, IsCall, its_written_by, its_write_places, its_places}
-use Rattle.gic_call.specs.View.{View}
-use Rattle.its_tab.specs.After.{IsValid}
-use Rattle.its_tab.specs.Maps.{Maps}
-use Rattle.port_core.specs.declared.local.Local.{Local}
-use Rattle.port_core.specs.declared.run.Made.{Made}
-use Rattle.port_core.specs.declared.word_id.WordId.TheVariants.{Irq}
-use Rattle.port_core.specs.Known.{is_on, known_maps, no_maps, since_command, ends_command}
-use Rattle.port_core.specs.Port.{Seen, IsPort, Adds, local_by, shape_of, seen_after, part_events}
-use Rattle.port_core.proofs.PortLemmas.{adds_join}
-use Rattle.core_proper.specs.Called.{vcpu_of_actor, maps_taken}
-use Rattle.core_proper.specs.Progress.{Progress}
-use Rattle.port_call.specs.Memory.{view_by}
-use Rattle.port_call.specs.Piece.{IsIdle, IsGoodPiece, IsPiece, IsRestedPiece}
-use Rattle.port_call.specs.Rest.{IsAtEase, StaysAtEase}
-use Rattle.port_call.specs.Turn.{is_miss, is_turn_step, TakesTurn, GivesTurn}
-use Rattle.port_call.proofs.KnownLemmas.{maps_handed}
-use Rattle.port_call.proofs.PieceLemmas.{seen_nil, piece_nil}
-use Rattle.port_call.proofs.RestLemmas.{owes_none}
-use Rattle.port_call.proofs.TurnLemmas.{events_then, reads_beside, not_taken}
-use Rattle.its_exec.specs.Command.{IsItsWrite}
-use Rattle.its_exec.specs.Known.{AgreeWith, first_step, queue_reads}
-use Rattle.its_exec.specs.Plan.{IsFresh}
-use Rattle.its_exec.specs.Queue.{Taken, AreTaken, HasIts, last_fault}
-use Rattle.its_exec.specs.Run.{AgreeAll}
-use Rattle.its_exec.proofs.CommandLemmas.{write_stays}
-use Rattle.its_exec.proofs.FrameLemmas.{maps_on}
-use Rattle.its_exec.proofs.LookLemmas.{takes_by}
-use Rattle.its_exec.proofs.PartLemmas.{good_then}
-use Rattle.its_exec.proofs.RunLemmas.{taken_are_run, all_after, told_end}
+use Rattle.pe_mem.specs.Words.{Lpi, Its, GuestShape, has_interrupt, target_in, irq_of}
+use Rattle.pe_mem.specs.Registers.{Targets, has_lpis, Half, IsValid, Maps}
+use Rattle.pe_mem.specs.GicImap.declared.map.Reg.{Reg}
+use Rattle.pe_mem.specs.GicImap.declared.map.RegRef.{RegRef}
+use Rattle.pe_mem.specs.GicImap.declared.map.RegRef.TheVariants.{Plain}
+use Rattle.pe_mem.specs.GicImap.Map.{decoded}
+use Rattle.pe_mem.specs.Calls.{Event, ItsBegin, Place, its_written, takes_its, takes_turn, its_events, its_starts, Happened, Beside, Makes, IsLastRead, HaveSameIts, AreStarted, held_at, IsItsCall, IsItsWrite as IsItsWriteCall, IsCall, its_written_by, its_write_places, its_places, View}
+use Rattle.pe_mem.specs.GicCall.declared.event.Event.TheVariants.{ItsEnd}
+use Rattle.pe_mem.specs.GicCall.declared.event.Found.TheVariants.{Nothing}
+use Rattle.pe_mem.specs.GicCall.Access.{starts_commands as register_starts}
+use Rattle.pe_mem.specs.Core.{Local, Made, Irq, is_on, known_maps, no_maps, since_command, ends_command, Seen, IsPort, Adds, local_by, shape_of, seen_after, part_events, vcpu_of_actor, maps_taken, Progress}
+use Rattle.pe_mem.proofs.PortCore.PortLemmas.{adds_join}
+use Rattle.pe_mem.specs.PortCall.Memory.{view_by}
+use Rattle.pe_mem.specs.PortCall.Piece.{IsIdle, IsGoodPiece, IsPiece, IsRestedPiece}
+use Rattle.pe_mem.specs.PortCall.Rest.{IsAtEase, StaysAtEase}
+use Rattle.pe_mem.specs.PortCall.Turn.{is_miss, is_turn_step, TakesTurn, GivesTurn}
+use Rattle.pe_mem.proofs.PortCall.KnownLemmas.{maps_handed}
+use Rattle.pe_mem.proofs.PortCall.PieceLemmas.{seen_nil, piece_nil}
+use Rattle.pe_mem.proofs.PortCall.RestLemmas.{owes_none}
+use Rattle.pe_mem.proofs.PortCall.TurnLemmas.{events_then, reads_beside, not_taken}
+use Rattle.pe_mem.specs.ItsExec.Command.{IsItsWrite}
+use Rattle.pe_mem.specs.ItsExec.Known.{AgreeWith, first_step, queue_reads}
+use Rattle.pe_mem.specs.ItsExec.Plan.{IsFresh}
+use Rattle.pe_mem.specs.ItsExec.Queue.{Taken, AreTaken, HasIts, last_fault}
+use Rattle.pe_mem.specs.ItsExec.Run.{AgreeAll}
+use Rattle.pe_mem.proofs.ItsExec.CommandLemmas.{write_stays}
+use Rattle.pe_mem.proofs.ItsExec.FrameLemmas.{maps_on}
+use Rattle.pe_mem.proofs.ItsExec.LookLemmas.{takes_by}
+use Rattle.pe_mem.proofs.ItsExec.PartLemmas.{good_then}
+use Rattle.pe_mem.proofs.ItsExec.RunLemmas.{taken_are_run, all_after, told_end}
 use Rattle.pe_mem.specs.Call.{CanAccess, MakesAccess, StopsAccess, IsPieceOf, access_of}
 use Rattle.pe_mem.proofs.CallLemmas.{can_ease, can_turn, can_after, proper_of}
 use Rattle.pe_mem.proofs.ServeLemmas.{one_made, none_made}

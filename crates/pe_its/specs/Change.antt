@@ -1,10 +1,9 @@
 -- An actor stores the plain word of a register of the ITS, changed from what it found, unless the write is ignored for that.
 use Rattle.std.specs.Prelude.{◌≡◌, ℕ, ◌<◌, nat_lt, Option, Some, None, Result, Ok, Err, if◌then◌else◌}
-use Rattle.gic_frame.specs.Half.{half_limit, half_written}
-use Rattle.gic_imap.specs.Contents.{cbaser_bits, baser_bits, queue_offset, queue_bytes}
-use Rattle.gic_open.specs.declared.plain.PlainWord.{PlainWord}
-use Rattle.port_core.specs.Port.{Seen}
-use Rattle.port_call.specs.Store.{Stores, MissesStore}
+use Rattle.pe_mem.specs.Registers.{half_limit, half_written, cbaser_bits, baser_bits, queue_offset, queue_bytes}
+use Rattle.pe_mem.specs.Calls.{PlainWord}
+use Rattle.pe_mem.specs.Core.{Seen}
+use Rattle.pe_mem.specs.PortCall.Store.{Stores, MissesStore}
 use Rattle.pe_its.specs.declared.change.Change.{Change}
 use Rattle.pe_its.specs.declared.change.Change.TheVariants.{Cbaser, Baser, Cwriter}
 use Rattle.pe_its.specs.declared.change.Late.{Late}

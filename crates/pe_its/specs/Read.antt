@@ -1,9 +1,8 @@
 -- A read of a register of the ITS.
 use Rattle.std.specs.Prelude.{◌≡◌, ℕ, []}
-use Rattle.gic_imap.specs.declared.map.Reg.{Reg}
-use Rattle.gic_call.specs.Access.{its_held}
-use Rattle.gic_call.specs.Trace.{its_read_places}
-use Rattle.port_core.specs.Port.{Seen, shape_of}
+use Rattle.pe_mem.specs.GicImap.declared.map.Reg.{Reg}
+use Rattle.pe_mem.specs.Calls.{its_held, its_read_places}
+use Rattle.pe_mem.specs.Core.{Seen, shape_of}
 use Rattle.pe_mem.specs.Call.{ServesFreely}
 
 -- an actor looked at what a register goes by, if it goes by anything, and reads this

@@ -1,28 +1,17 @@
 -- A write of a register of the ITS, by the actor that has it, before any command.
 use Rattle.std.specs.Prelude.{◌≡◌, ℕ, ◌&&◌, Bool, true, false, IsTrue, List, [], All, Some, if◌then◌else◌}
-use Rattle.gic_frame.specs.declared.bank.Half.{Half}
-use Rattle.gic_imap.specs.declared.map.Reg.{Reg}
-use Rattle.gic_imap.specs.Contents.{retries}
-use Rattle.gic_imap.specs.declared.contents.Table.{Table}
-use Rattle.gic_imap.specs.declared.contents.Table.TheVariants.{Devices, Collections}
-use Rattle.gic_imap.specs.declared.map.Reg.TheVariants.{Baser0 as Baser0Reg, Baser1 as Baser1Reg}
-use Rattle.gic_open.specs.declared.plain.PlainWord.{PlainWord}
-use Rattle.gic_open.specs.declared.plain.PlainWord.TheVariants.{ItsCtlr, Cbaser, Cwriter, Baser0, Baser1}
-use Rattle.gic_call.specs.declared.event.Event.TheVariants.{Read}
-use Rattle.gic_call.specs.declared.event.Found.{Found}
-use Rattle.gic_call.specs.declared.event.Found.TheVariants.{Word as FoundWord, Queue as FoundQueue, Nothing}
-use Rattle.gic_call.specs.declared.event.Place.{Place}
-use Rattle.gic_call.specs.declared.event.Place.TheVariants.{Word, Queue as QueuePlace}
-use Rattle.gic_call.specs.Access.{its_written, starts_commands}
-use Rattle.gic_call.specs.Trace.{Happened, Makes, HaveSameIts, held_at, its_write_places, its_written_by}
-use Rattle.gic_call.specs.View.{View}
-use Rattle.port_core.specs.declared.run.Made.{Made}
-use Rattle.port_core.specs.Known.{known_maps}
-use Rattle.port_core.specs.Port.{Seen, Adds, shape_of, part_events}
-use Rattle.port_call.specs.Memory.{view_by}
-use Rattle.port_call.specs.Piece.{IsRestedPiece}
-use Rattle.its_exec.specs.declared.known.KnownQueue.{KnownQueue}
-use Rattle.its_exec.specs.Queue.{IsReady, MovesQueue}
+use Rattle.pe_mem.specs.Registers.{Half, retries, Table, Devices, Collections, Baser0 as Baser0Reg, Baser1 as Baser1Reg}
+use Rattle.pe_mem.specs.GicImap.declared.map.Reg.{Reg}
+use Rattle.pe_mem.specs.Calls.{PlainWord, ItsCtlr, Cbaser, Cwriter, Baser0, Baser1, Found, Place, its_written, Happened, Makes, HaveSameIts, held_at, its_write_places, its_written_by, View}
+use Rattle.pe_mem.specs.GicCall.declared.event.Event.TheVariants.{Read}
+use Rattle.pe_mem.specs.GicCall.declared.event.Found.TheVariants.{Word as FoundWord, Queue as FoundQueue, Nothing}
+use Rattle.pe_mem.specs.GicCall.declared.event.Place.TheVariants.{Word, Queue as QueuePlace}
+use Rattle.pe_mem.specs.GicCall.Access.{starts_commands}
+use Rattle.pe_mem.specs.Core.{Made, known_maps, Seen, Adds, shape_of, part_events}
+use Rattle.pe_mem.specs.PortCall.Memory.{view_by}
+use Rattle.pe_mem.specs.PortCall.Piece.{IsRestedPiece}
+use Rattle.pe_mem.specs.ItsExec.declared.known.KnownQueue.{KnownQueue}
+use Rattle.pe_mem.specs.ItsExec.Queue.{IsReady, MovesQueue}
 
 -- the actor has the ITS with the tables as it knows them, and its queue so
 abbrev pub IsReadyNow : Seen → KnownQueue → Type 0

@@ -1,17 +1,16 @@
 -- The actor that has the ITS serves a write of a register: the register, and the commands that this starts.
 use Rattle.std.specs.Prelude.{◌≡◌, ℕ, Bool, true, false, Option, Some}
-use Rattle.gic_base.specs.declared.shape.GuestShape.{GuestShape}
-use Rattle.gic_frame.specs.declared.bank.Half.{Half}
-use Rattle.gic_imap.specs.declared.map.Reg.{Reg}
-use Rattle.gic_imap.specs.declared.map.RegRef.TheVariants.{Plain}
-use Rattle.gic_imap.specs.Map.{decoded}
-use Rattle.its_tab.specs.Maps.{Maps}
-use Rattle.port_core.specs.Port.{Seen}
-use Rattle.port_call.specs.Turn.{TakesTurn, GivesTurn}
-use Rattle.its_exec.specs.declared.known.KnownQueue.{KnownQueue}
-use Rattle.its_exec.specs.declared.queue.QueueEnd.{QueueEnd}
-use Rattle.its_exec.specs.Known.{LooksAtQueue}
-use Rattle.its_exec.specs.Queue.{IsOverWith, WantsMemory}
+use Rattle.pe_mem.specs.Words.{GuestShape}
+use Rattle.pe_mem.specs.Registers.{Half, Maps}
+use Rattle.pe_mem.specs.GicImap.declared.map.Reg.{Reg}
+use Rattle.pe_mem.specs.GicImap.declared.map.RegRef.TheVariants.{Plain}
+use Rattle.pe_mem.specs.GicImap.Map.{decoded}
+use Rattle.pe_mem.specs.Core.{Seen}
+use Rattle.pe_mem.specs.PortCall.Turn.{TakesTurn, GivesTurn}
+use Rattle.pe_mem.specs.ItsExec.declared.known.KnownQueue.{KnownQueue}
+use Rattle.pe_mem.specs.ItsExec.declared.queue.QueueEnd.{QueueEnd}
+use Rattle.pe_mem.specs.ItsExec.Known.{LooksAtQueue}
+use Rattle.pe_mem.specs.ItsExec.Queue.{IsOverWith, WantsMemory}
 use Rattle.pe_its.specs.Register.{WritesRegister}
 
 -- it looked at the registers of the queue, and wrote the register

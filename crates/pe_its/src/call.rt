@@ -1,20 +1,18 @@
 //! Accesses of the ITS, each the whole call.
 ghost use Rattle.std.specs.Prelude.{◌≡◌, ℕ, IsTrue, IfOk, OnErr, Some, true};
-ghost use Rattle.gic_base.specs.declared.operation.Frame.TheVariants.{Its};
-ghost use Rattle.gic_imap.specs.Map.{decoded};
-ghost use Rattle.gic_ram.specs.Access.{is_size};
-ghost use Rattle.scn_base.specs.Good.{fits as fits_in};
-ghost use Rattle.gic_call.specs.Access.{takes_its};
-ghost use Rattle.gic_call.specs.Call.{takes_turn};
-ghost use Rattle.port_core.specs.Port.{shape_of};
+ghost use Rattle.pe_mem.specs.Words.{Its};
+ghost use Rattle.pe_mem.specs.GicImap.Map.{decoded};
+ghost use Rattle.pe_mem.specs.Registers.{is_size};
+ghost use Rattle.pe_mem.specs.Calls.{fits as fits_in, takes_its, takes_turn};
+ghost use Rattle.pe_mem.specs.Core.{shape_of};
 ghost use Rattle.pe_mem.specs.Call.{CanAccess, MakesAccess, StopsAccess};
 ghost use Rattle.pe_its.specs.Write.{StopsInTurn};
 
 use crate::read::read_its;
 use crate::write::its_write;
-use gic_base::{GuestShape, NoMemory};
-use gic_imap::{Reg, RegRef, decode};
-use port_core::Port;
+use pe_mem::gic_base::{GuestShape, NoMemory};
+use pe_mem::gic_imap::{Reg, RegRef, decode};
+use pe_mem::port_core::Port;
 use std::sync::Wait;
 
 /// Whether a write of a register takes the ITS.

@@ -1,13 +1,13 @@
 //! Stores of an ITS's register that go by what its plain word holds.
 ghost use Rattle.std.specs.Prelude.{◌≡◌, IsTrue, true};
-ghost use Rattle.gic_open.specs.Plain.{has_plain};
-ghost use Rattle.port_core.specs.Port.{shape_of};
-ghost use Rattle.port_call.specs.Plain.{is_event_word};
+ghost use Rattle.pe_mem.specs.Calls.{has_plain};
+ghost use Rattle.pe_mem.specs.Core.{shape_of};
+ghost use Rattle.pe_mem.specs.PortCall.Plain.{is_event_word};
 ghost use Rattle.pe_its.specs.Change.{changed_by, FitsChange, TriesChange, ChangesWord};
 
-use gic_imap::{Half, baser_after, cbaser_after, offset_in, queue_bytes};
-use gic_open::{PlainWord, place_of_plain};
-use port_core::{CoreStep, Port};
+use pe_mem::gic_imap::{Half, baser_after, cbaser_after, offset_in, queue_bytes};
+use pe_mem::gic_open::{PlainWord, place_of_plain};
+use pe_mem::port_core::{CoreStep, Port};
 use std::sync::Wait;
 
 /// How a write changes the plain word of a register of the ITS. A write of a half leaves the other half as it is stored.

@@ -8,4 +8,6 @@ mod register;
 mod write;
 
 pub use call::its_op;
+pub use pe_mem;
+pub use pe_mem::its_exec;
 pub use write::its_write;

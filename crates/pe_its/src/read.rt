@@ -1,17 +1,18 @@
 //! Reads of the registers of the ITS.
 ghost use Rattle.std.specs.Prelude.{◌≡◌, None};
-ghost use Rattle.gic_base.specs.declared.operation.Frame.TheVariants.{Its};
-ghost use Rattle.gic_imap.specs.declared.map.Reg.TheVariants.{Ctlr, Creadr};
-ghost use Rattle.port_call.specs.Rest.{IsAtEase};
+ghost use Rattle.pe_mem.specs.Words.{Its};
+ghost use Rattle.pe_mem.specs.Registers.{Creadr};
+ghost use Rattle.pe_mem.specs.GicImap.declared.map.Reg.TheVariants.{Ctlr};
+ghost use Rattle.pe_mem.specs.PortCall.Rest.{IsAtEase};
 ghost use Rattle.pe_mem.specs.Call.{ServesAccess};
 ghost use Rattle.pe_its.specs.Read.{ReadsIts};
 
 use crate::register::low;
-use gic_frame::{IIDR, PIDR2};
-use gic_imap::{Reg, RegRef, Table, baser, creadr, ctlr, decode, enabled_in, typer};
-use gic_open::PlainWord;
-use port_call::read_plain;
-use port_core::{CoreStep, Port, WordId};
+use pe_mem::gic_frame::{IIDR, PIDR2};
+use pe_mem::gic_imap::{Reg, RegRef, Table, baser, creadr, ctlr, decode, enabled_in, typer};
+use pe_mem::gic_open::PlainWord;
+use pe_mem::port_call::read_plain;
+use pe_mem::port_core::{CoreStep, Port, WordId};
 
 /// What GITS_CTLR reads: Enabled, and Quiescent.
 fn read_ctlr<P: Port>(port: &mut P) -> u64
@@ -30,7 +31,7 @@ fn read_creadr<P: Port>(port: &mut P) -> u64
     let word = port.step(CoreStep::Look {
         word: WordId::Queue,
     });
-    let queue = its_queue::unpack(word).unwrap();
+    let queue = pe_mem::its_cmd::unpack(word).unwrap();
     creadr(queue.stalled, queue.offset)
 }
 

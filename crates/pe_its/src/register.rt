@@ -1,19 +1,18 @@
 //! The registers, before any command.
 ghost use Rattle.std.specs.Prelude.{◌≡◌, ◌%◌, ◌^◌, ◌<◌, IfSome, is_some, true, false};
-ghost use Rattle.gic_frame.specs.Half.{half_limit};
-ghost use Rattle.gic_frame.specs.declared.bank.Half.{Half};
-ghost use Rattle.gic_imap.specs.declared.map.Reg.TheVariants.{Ctlr, Cbaser, Cwriter};
-ghost use Rattle.gic_call.specs.Access.{takes_its};
-ghost use Rattle.port_core.specs.Known.{known_maps};
-ghost use Rattle.its_exec.specs.Queue.{HasIts};
+ghost use Rattle.pe_mem.specs.Registers.{half_limit, Half, Cbaser, Cwriter};
+ghost use Rattle.pe_mem.specs.GicImap.declared.map.Reg.TheVariants.{Ctlr};
+ghost use Rattle.pe_mem.specs.Calls.{takes_its};
+ghost use Rattle.pe_mem.specs.Core.{known_maps};
+ghost use Rattle.pe_mem.specs.ItsExec.Queue.{HasIts};
 ghost use Rattle.pe_its.specs.Register.{IsReadyNow, WritesRegister, RetriesBy, retried, baser_reg, baser_word};
 
 use crate::change::{Change, change_word};
-use gic_imap::{Half, Reg, Table, enabled_in, offset_in, retries};
-use gic_open::PlainWord;
-use its_exec::{KnownQueue, move_queue};
-use port_call::put_plain;
-use port_core::Port;
+use pe_mem::gic_imap::{Half, Reg, Table, enabled_in, offset_in, retries};
+use pe_mem::gic_open::PlainWord;
+use pe_mem::its_exec::{KnownQueue, move_queue};
+use pe_mem::port_call::put_plain;
+use pe_mem::port_core::Port;
 use std::sync::Wait;
 
 /// The low half of a value, which has all of GITS_CTLR.

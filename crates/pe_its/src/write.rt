@@ -1,26 +1,23 @@
 //! A write of a register that takes the ITS, the whole call.
 ghost use Rattle.std.specs.Prelude.{◌≡◌, ◌<◌, IsTrue, IfOk, OnErr, Some, None, true};
-ghost use Rattle.gic_base.specs.declared.operation.Frame.TheVariants.{Its};
-ghost use Rattle.gic_frame.specs.Half.{half_limit};
-ghost use Rattle.gic_imap.specs.Map.{decoded};
-ghost use Rattle.gic_ram.specs.Access.{is_size};
-ghost use Rattle.scn_base.specs.Good.{fits as fits_in};
-ghost use Rattle.gic_call.specs.Access.{takes_its};
-ghost use Rattle.gic_call.specs.Call.{takes_turn};
-ghost use Rattle.port_core.specs.Port.{shape_of};
-ghost use Rattle.its_exec.specs.Plan.{IsFresh};
-ghost use Rattle.its_exec.specs.Queue.{HasIts};
+ghost use Rattle.pe_mem.specs.Words.{Its};
+ghost use Rattle.pe_mem.specs.Registers.{half_limit, is_size};
+ghost use Rattle.pe_mem.specs.GicImap.Map.{decoded};
+ghost use Rattle.pe_mem.specs.Calls.{fits as fits_in, takes_its, takes_turn};
+ghost use Rattle.pe_mem.specs.Core.{shape_of};
+ghost use Rattle.pe_mem.specs.ItsExec.Plan.{IsFresh};
+ghost use Rattle.pe_mem.specs.ItsExec.Queue.{HasIts};
 ghost use Rattle.pe_mem.specs.Call.{CanAccess, MakesAccess, StopsAccess};
 ghost use Rattle.pe_its.specs.Write.{ServesWrite, StopsWrite, StopsInTurn};
 
 use crate::register::write_register;
-use gic_base::NoMemory;
-use gic_call::its_access;
-use gic_imap::{Half, Reg, RegRef};
-use its_exec::{look_at_queue, run_commands};
-use its_tab::ItsTables;
-use port_call::{give_turn, take_turn};
-use port_core::Port;
+use pe_mem::gic_base::NoMemory;
+use pe_mem::gic_call::its_access;
+use pe_mem::gic_imap::{Half, Reg, RegRef};
+use pe_mem::its_exec::{look_at_queue, run_commands};
+use pe_mem::its_tab::ItsTables;
+use pe_mem::port_call::{give_turn, take_turn};
+use pe_mem::port_core::Port;
 use std::sync::Wait;
 
 /// Writes a register, and takes the commands that this starts, by the actor that has the ITS with these tables.

@@ -1,9 +1,7 @@
 -- The interrupts at an interface while they leave it.
 use Rattle.std.proofs.Common.{◌≡◌, not, Bool, true, false, cond, if◌then◌else◌, List, [], ◌∷◌, Option, Some, None, refl, sym, ap, ◌∙◌}
-use Rattle.gic_base.specs.declared.interrupt.Key.{Key}
-use Rattle.gic_base.specs.Interrupt.{is_same_key}
-use Rattle.port_core.specs.declared.at_list.AtIrq.{AtIrq}
-use Rattle.port_core.specs.Local.{entry_for, changed_at, without_at}
+use Rattle.port_call.specs.Words.{Key, is_same_key}
+use Rattle.port_call.specs.Core.{AtIrq, entry_for, changed_at, without_at}
 
 abbrev pub given : AtIrq → AtIrq
 given entry = record entry { given = true }

@@ -3,43 +3,16 @@ use Rattle.std.proofs.Common.{◌≡◌, ◌≢◌, ℕ, ◌<◌, nat_lt, length
 use Rattle.std.specs.List.{cons_option}
 use Rattle.std.specs.Option.{option_map}
 use Rattle.std.proofs.lemmas.List.Sums.{fold-append}
-use Rattle.gic_base.specs.declared.interrupt.Key.{Key}
-use Rattle.gic_base.specs.declared.shape.GuestShape.{GuestShape}
-use Rattle.gic_base.specs.Interrupt.{has_interrupt, is_of_vcpu}
-use Rattle.gic_base.specs.Shape.{IsShape}
-use Rattle.gic_ich.specs.declared.regs.IchRegs.{IchRegs}
-use Rattle.gic_lr.specs.declared.entry.LrState.{LrState}
-use Rattle.gic_lr.specs.declared.entry.LrState.TheVariants.{Invalid, Pending, Active, Both}
-use Rattle.gic_prio.specs.declared.cpu.CpuRec.{CpuRec}
-use Rattle.gic_word.specs.declared.record.Irq.{Irq as IrqRecord}
-use Rattle.gic_word.specs.Record.{is_number}
-use Rattle.gic_word.specs.Word.{IsIrq, irq_of, packed}
-use Rattle.gic_word.proofs.WordLemmas.{irq_fits}
-use Rattle.port_core.proofs.StepWords.{packed_is}
-use Rattle.port_core.specs.Valid.{IsIrqWord}
+use Rattle.port_call.specs.Words.{Key, GuestShape, has_interrupt, is_of_vcpu, IsShape, Irq as IrqRecord, is_number, IsIrq, irq_of, packed}
+use Rattle.port_call.specs.Lists.{IchRegs, LrState, Invalid, Pending, Active, Both, offer_of, is_deliverable_once_inactive, Choice}
+use Rattle.port_call.specs.Registers.{CpuRec}
+use Rattle.vcpu_state.proofs.GicWord.WordLemmas.{irq_fits}
+use Rattle.port_call.proofs.PortCore.StepWords.{packed_is}
+use Rattle.port_call.specs.Core.{IsIrqWord, AtIrq, Local, Made, Claim, Irq, claimed_at, claimed_irq, may_move, is_on, known, entry_for, is_vcpu, settled, Seen, IsPort, Adds, CanMake, left_by, made_by, shape_of, seen_after, part_events, claim_event, makes, Progress, claim_left, progressed, progress_of, IsProper, without_take, Scan, claiming, ended_scan, has_key, is_both, key_of_both, tried}
 use Rattle.std.specs.Option.{option_map_or}
 use Rattle.std.proofs.lemmas.Bool.{ltb-true}
-use Rattle.vcpu_refill.specs.Laws.{offer_of}
-use Rattle.vcpu_refill.specs.Order.{is_deliverable_once_inactive}
-use Rattle.vcpu_refill.specs.declared.fill.Choice.{Choice}
-use Rattle.port_core.specs.declared.at_list.AtIrq.{AtIrq}
-use Rattle.port_core.specs.declared.local.Local.{Local}
-use Rattle.port_core.specs.declared.run.Made.{Made}
-use Rattle.port_core.specs.declared.step.CoreStep.TheVariants.{Claim}
-use Rattle.port_core.specs.declared.word_id.WordId.TheVariants.{Irq}
-use Rattle.port_core.specs.After.{claimed_at}
-use Rattle.port_core.specs.Effect.{claimed_irq, may_move}
-use Rattle.port_core.specs.Known.{is_on, known}
-use Rattle.port_core.specs.Local.{entry_for, is_vcpu, settled}
-use Rattle.port_core.specs.Port.{Seen, IsPort, Adds, CanMake, left_by, made_by, shape_of, seen_after, part_events}
-use Rattle.port_core.specs.Stands.{claim_event}
-use Rattle.port_core.proofs.PortLemmas.{adds_join}
-use Rattle.core_proper.specs.Parts.{makes}
-use Rattle.core_proper.specs.Progress.{Progress, claim_left, progressed, progress_of}
-use Rattle.core_proper.specs.Proper.{IsProper}
-use Rattle.core_proper.specs.Registers.{without_take}
-use Rattle.core_proper.specs.Scan.{Scan, claiming, ended_scan, has_key, is_both, key_of_both, tried}
-use Rattle.core_proper.proofs.PartLemmas.{proper_append}
+use Rattle.port_call.proofs.PortCore.PortLemmas.{adds_join}
+use Rattle.port_call.proofs.CoreProper.PartLemmas.{proper_append}
 use Rattle.port_call.specs.Piece.{takes_none}
 use Rattle.port_call.proofs.KnownLemmas.{known_kept, places_apart}
 use Rattle.port_call.proofs.MemoryLemmas.{on_own}
@@ -57,7 +30,7 @@ use Rattle.pe_loop.proofs.CountLemmas.{quiet_append}
 use Rattle.pe_loop.proofs.MoveLemmas.{claim_moves, moves_join}
 use Rattle.pe_loop.proofs.StepLemmas.{and_one, are_append, hit_append}
 use Rattle.pe_loop.proofs.ClaimLemmas.{claim_proper, claim_stepped, ended_more, first_left, first_tried, has_first, has_none, take_left, take_tried}
-use Rattle.core_proper.proofs.ReachLemmas.{entry_added, reached_local}
+use Rattle.port_call.proofs.CoreProper.ReachLemmas.{entry_added, reached_local}
 use Rattle.pe_loop.proofs.ReachLemmas.{bare_of, active_reached, may_take_causes, reached_irq, taken_local, whole_reached}
 
 -- A claim.

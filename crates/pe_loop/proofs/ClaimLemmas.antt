@@ -3,27 +3,10 @@ use Rattle.std.proofs.Common.{◌≡◌, ℕ, ◌==◌, ◌&&◌, ◌||◌, not,
 use Rattle.std.specs.List.{cons_option}
 use Rattle.std.proofs.lemmas.Bool.{eqb-true, eq-eqb}
 use Rattle.std.proofs.lemmas.List.Elements.{All-head, All-tail}
-use Rattle.gic_base.specs.declared.interrupt.Key.{Key}
-use Rattle.gic_base.specs.declared.shape.GuestShape.{GuestShape}
-use Rattle.gic_base.specs.Interrupt.{is_same_key}
-use Rattle.gic_base.proofs.KeyLemmas.{same_itself}
-use Rattle.gic_ich.specs.declared.regs.IchRegs.{IchRegs}
-use Rattle.gic_word.specs.declared.record.Irq.{Irq as IrqRecord}
-use Rattle.gic_word.specs.Record.{is_number}
-use Rattle.gic_word.specs.Word.{irq_of, packed}
-use Rattle.port_core.specs.declared.local.Local.{Local}
-use Rattle.port_core.specs.declared.run.Made.{Made}
-use Rattle.port_core.specs.declared.step.CoreStep.TheVariants.{Claim}
-use Rattle.port_core.specs.declared.word_id.WordId.TheVariants.{Irq}
-use Rattle.port_core.specs.After.{local_after}
-use Rattle.port_core.specs.Effect.{succeeds, may_move}
-use Rattle.port_core.specs.Known.{known}
-use Rattle.port_core.specs.Port.{Seen, AddsStep, made_by, left_by, shape_of}
-use Rattle.port_core.specs.Valid.{IsIrqWord}
-use Rattle.core_proper.specs.Progress.{Progress, claim_left, scan_on, stepped}
-use Rattle.core_proper.specs.Proper.{IsProperStep}
-use Rattle.core_proper.specs.Registers.{without_claim, without_take}
-use Rattle.core_proper.specs.Scan.{Scan, claiming, ended_scan, has_key, without_key, tried}
+use Rattle.port_call.specs.Words.{Key, GuestShape, is_same_key, Irq as IrqRecord, is_number, irq_of, packed}
+use Rattle.vcpu_state.proofs.GicBase.KeyLemmas.{same_itself}
+use Rattle.port_call.specs.Lists.{IchRegs}
+use Rattle.port_call.specs.Core.{Local, Made, Claim, Irq, local_after, succeeds, may_move, known, Seen, AddsStep, made_by, left_by, shape_of, IsIrqWord, Progress, claim_left, scan_on, stepped, IsProperStep, without_claim, without_take, Scan, claiming, ended_scan, has_key, without_key, tried}
 use Rattle.pe_loop.specs.Claiming.{Claims, IsNoneOf}
 use Rattle.pe_loop.specs.Scanning.{told_by}
 

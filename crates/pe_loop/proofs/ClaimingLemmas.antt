@@ -8,32 +8,15 @@ use Rattle.std.proofs.lemmas.List.Sums.{fold-append}
 use Rattle.std.proofs.lemmas.Option.{none-some}
 use Rattle.std.proofs.Math.Seq.{drop-cons}
 use Rattle.std.proofs.lemmas.Grind.{same_number_lists}
-use Rattle.vcpu_refill.proofs.ElementLemmas.{Contains-map, Contains-nothing}
-use Rattle.gic_base.specs.declared.held.HeldIrq.{HeldIrq}
-use Rattle.gic_base.specs.declared.interrupt.Key.{Key}
-use Rattle.gic_base.specs.Interrupt.{has_interrupt, is_same_key}
-use Rattle.gic_base.specs.Shape.{IsShape}
-use Rattle.gic_base.proofs.KeyLemmas.{other_key}
-use Rattle.gic_ich.specs.declared.regs.IchRegs.{IchRegs}
-use Rattle.gic_ich.specs.Place.{StandFor, StandByPlace}
-use Rattle.vcpu_refill.specs.declared.fill.Choice.{Choice}
-use Rattle.vcpu_refill.specs.declared.fill.Fill.{Fill}
-use Rattle.vcpu_refill.specs.Plan.{regs_of, word_of}
+use Rattle.port_call.proofs.VcpuRefill.ElementLemmas.{Contains-map, Contains-nothing}
+use Rattle.port_call.specs.Words.{HeldIrq, Key, has_interrupt, is_same_key, IsShape}
+use Rattle.vcpu_state.proofs.GicBase.KeyLemmas.{other_key}
+use Rattle.port_call.specs.Lists.{IchRegs, StandFor, StandByPlace, Choice, Fill, regs_of, word_of}
 use Rattle.vcpu_state.specs.declared.loaded.Loaded.{Loaded}
-use Rattle.port_core.specs.declared.at_list.AtIrq.{AtIrq}
-use Rattle.port_core.specs.declared.local.Local.{Local}
-use Rattle.port_core.specs.declared.word_id.WordId.TheVariants.{Irq}
-use Rattle.port_core.specs.After.{interface_of, shown}
-use Rattle.port_core.specs.Known.{known}
-use Rattle.port_core.specs.Local.{entry_for}
-use Rattle.port_core.specs.Port.{Seen, IsPort, shape_of, seen_after}
-use Rattle.port_core.proofs.AtLemmas.{entry_is}
-use Rattle.port_core.proofs.PortLemmas.{adds_join}
-use Rattle.core_proper.specs.Parts.{makes}
-use Rattle.core_proper.specs.Progress.{Progress, progressed, progress_of}
-use Rattle.core_proper.specs.Proper.{IsProper}
-use Rattle.core_proper.specs.Scan.{is_both, keys_chosen, keys_of_both, key_of_both}
-use Rattle.core_proper.proofs.PartLemmas.{proper_append}
+use Rattle.port_call.specs.Core.{AtIrq, Local, Irq, interface_of, shown, known, entry_for, Seen, IsPort, shape_of, seen_after, makes, Progress, progressed, progress_of, IsProper, is_both, keys_chosen, keys_of_both, key_of_both}
+use Rattle.port_call.proofs.PortCore.AtLemmas.{entry_is}
+use Rattle.port_call.proofs.PortCore.PortLemmas.{adds_join}
+use Rattle.port_call.proofs.CoreProper.PartLemmas.{proper_append}
 use Rattle.port_call.proofs.PieceLemmas.{seen_nil}
 use Rattle.port_call.proofs.TryLemmas.{none_append}
 use Rattle.pe_loop.specs.Claiming.{IsRight, IsClaimable, regs_left, is_whole, IsNoneOf, claims_by, ClaimsSome, ClaimsAt, CanClaimAt, IsPlanOf, IsBlank, IsRegsAt, IsLoadedAt, IsClaiming, ClaimsAll}

@@ -7,13 +7,8 @@ use Rattle.std.proofs.lemmas.List.{get_or-set_same, get_or-set_other}
 use Rattle.std.proofs.lemmas.List.Elements.{filter-append}
 use Rattle.std.proofs.lemmas.List.Folds.{list_all-append}
 use Rattle.std.proofs.lemmas.List.Sums.{sum_by-append}
-use Rattle.gic_bits.specs.Bits.{has_bit}
-use Rattle.port_core.specs.declared.owed.Cands.{Cands}
-use Rattle.port_core.specs.declared.run.Made.{Made}
-use Rattle.port_core.specs.declared.step.CoreStep.{CoreStep}
-use Rattle.port_core.specs.declared.step.CoreStep.TheVariants.{Look, Raise, Claim, GiveBack, Release, Poll, Kick, Touch, Want, WireUp, WireDown, EnableLpis, RamLook, RamPut, CtlrTake, CtlrEnd, TurnTake, CommandDone, TurnRelease, Mark, TakeIndex}
-use Rattle.port_core.specs.declared.word_id.WordId.TheVariants.{Irq, Vcpu, Index, Queue, Ctlr, Plain}
-use Rattle.port_core.specs.Local.{is_cand, with_cand_word}
+use Rattle.port_call.specs.Words.{has_bit}
+use Rattle.port_call.specs.Core.{Cands, Made, CoreStep, Look, Raise, Claim, GiveBack, Release, Poll, Kick, Touch, Want, WireUp, WireDown, EnableLpis, RamLook, RamPut, CtlrTake, CtlrEnd, TurnTake, CommandDone, TurnRelease, Mark, TakeIndex, Irq, Vcpu, Index, Queue, Ctlr, Plain, is_cand, with_cand_word}
 use Rattle.pe_loop.specs.Counting.{count_from, is_irq_look, looks_in, bits_in, bits_found, bits_taken, is_quiet, are_quiet, AreTaken}
 
 -- Steps.

@@ -4,44 +4,18 @@ use Rattle.std.specs.List.{list_all}
 use Rattle.std.proofs.lemmas.List.{append_assoc}
 use Rattle.std.proofs.lemmas.Option.{none-some}
 use Rattle.std.proofs.lemmas.Bool.{and_parts, eq-eqb, eqb-true, ltb-true}
-use Rattle.gic_aff.specs.declared.sgi.Targets.{Targets}
-use Rattle.gic_base.specs.declared.shape.GuestShape.{GuestShape}
-use Rattle.gic_call.specs.declared.event.Operation.TheVariants.{Residence}
-use Rattle.gic_call.specs.Trace.{Beside, IsCall}
-use Rattle.gic_ich.specs.declared.regs.IchRegs.{IchRegs}
-use Rattle.gic_ich.specs.Place.{StandFor}
-use Rattle.gic_prio.specs.declared.cpu.CpuRec.{CpuRec}
-use Rattle.vcpu_refill.specs.Chooser.{Kept, StandsFor}
-use Rattle.vcpu_refill.specs.declared.fill.Fill.{Fill}
-use Rattle.vcpu_refill.specs.declared.offer.Offer.{Offer}
-use Rattle.vcpu_refill.specs.Plan.{HasEntries, choices_of, hcr_of, plan, regs_of}
-use Rattle.vcpu_refill.specs.Order.{active_among, deliverable_among}
-use Rattle.vcpu_refill.specs.Ranking.{in_places}
-use Rattle.vcpu_refill.specs.declared.fill.Choice.{Choice}
-use Rattle.vcpu_refill.proofs.ElementLemmas.{Contains-here, Contains-map}
-use Rattle.vcpu_refill.proofs.PlaceLemmas.{nothing_placed}
-use Rattle.gic_ich.specs.Hcr.{hcr_en, hcr_npie, hcr_vgrp0eie, hcr_vgrp0die, hcr_vgrp1eie, hcr_vgrp1die}
-use Rattle.port_core.specs.declared.at_list.AtIrq.{AtIrq}
-use Rattle.port_core.specs.Condition.{is_ready as may_access}
+use Rattle.port_call.specs.Registers.{Targets, CpuRec}
+use Rattle.port_call.specs.Words.{GuestShape}
+use Rattle.port_call.specs.Calls.{Residence, Beside, IsCall}
+use Rattle.port_call.specs.Lists.{IchRegs, StandFor, Kept, StandsFor, Fill, Offer, HasEntries, choices_of, hcr_of, plan, regs_of, active_among, deliverable_among, in_places, Choice, hcr_en, hcr_npie, hcr_vgrp0eie, hcr_vgrp0die, hcr_vgrp1eie, hcr_vgrp1die}
+use Rattle.port_call.proofs.VcpuRefill.ElementLemmas.{Contains-here, Contains-map}
+use Rattle.port_call.proofs.VcpuRefill.PlaceLemmas.{nothing_placed}
+use Rattle.port_call.specs.Core.{AtIrq, is_ready as may_access, Local, Scanning, Claiming, Made, Kick, Poll, interface_of, local_after, shown, vcpu_of, is_vcpu, has_no_cand, owes_no_kick, owes_no_mark, owes_nothing, without_vcpu, index_words, Seen, Adds, AddsStep, made_by, shape_of, part_events, vcpu_of_actor, maps_taken, makes, ends, Progress, paid, begun, owed_after_scan, is_paid, progress_of, scan_on, stepped, IsProper, IsProperStep, IsProperEnd, is_empty, gives_back, is_settled, wants_nothing, planned, idle, taking, claiming, keys_chosen, keys_of_both}
 use Rattle.vcpu_state.specs.declared.loaded.Loaded.{Loaded}
 use Rattle.vcpu_state.specs.declared.shelved.Shelved.{Shelved}
 use Rattle.vcpu_state.specs.Moves.{shelved_of}
-use Rattle.port_core.specs.declared.local.Local.{Local}
-use Rattle.port_core.specs.declared.local.Phase.TheVariants.{Scanning, Claiming}
-use Rattle.port_core.specs.declared.run.Made.{Made}
-use Rattle.port_core.specs.declared.step.CoreStep.TheVariants.{Kick, Poll}
-use Rattle.port_core.specs.After.{interface_of, local_after, shown}
-use Rattle.port_core.specs.Forms.{vcpu_of}
-use Rattle.port_core.specs.Local.{is_vcpu, has_no_cand, owes_no_kick, owes_no_mark, owes_nothing, without_vcpu}
-use Rattle.port_core.specs.Place.{index_words}
-use Rattle.port_core.specs.Port.{Seen, Adds, AddsStep, made_by, shape_of, part_events}
-use Rattle.port_core.proofs.PortLemmas.{adds_join}
-use Rattle.core_proper.specs.Called.{vcpu_of_actor, maps_taken}
-use Rattle.core_proper.specs.Parts.{makes, ends}
-use Rattle.core_proper.specs.Progress.{Progress, paid, begun, owed_after_scan, is_paid, progress_of, scan_on, stepped}
-use Rattle.core_proper.specs.Proper.{IsProper, IsProperStep, IsProperEnd, is_empty, gives_back, is_settled, wants_nothing}
-use Rattle.core_proper.specs.Scan.{planned, idle, taking, claiming, keys_chosen, keys_of_both}
-use Rattle.core_proper.proofs.PartLemmas.{proper_append}
+use Rattle.port_call.proofs.PortCore.PortLemmas.{adds_join}
+use Rattle.port_call.proofs.CoreProper.PartLemmas.{proper_append}
 use Rattle.port_call.proofs.PieceLemmas.{idle_is, scan_free}
 use Rattle.port_call.proofs.SettleLemmas.{handed_none}
 use Rattle.port_call.proofs.TryLemmas.{none_append}

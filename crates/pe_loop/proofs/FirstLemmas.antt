@@ -5,10 +5,9 @@ use Rattle.std.specs.List.{find, range_with_len}
 use Rattle.std.proofs.lemmas.Bool.{cases_lt}
 use Rattle.std.proofs.Math.Nat.{div-le_self}
 use Rattle.std.proofs.lemmas.Nat.{shr-shr}
-use Rattle.port_core.specs.declared.owed.Cands.{Cands}
-use Rattle.port_core.specs.Local.{is_cand}
+use Rattle.port_call.specs.Core.{Cands, is_cand}
 use Rattle.std.proofs.lemmas.Nat.Bits.{bit_at-zero, bit_at_above, bit_at-trailing_zeros}
-use Rattle.gic_bits.specs.Bits.{has_bit}
+use Rattle.port_call.specs.Words.{has_bit}
 use Rattle.pe_loop.specs.Candidates.{IsFirstFrom, IsFirstBelow, EndsBefore, NoneBefore}
 
 -- Lists.

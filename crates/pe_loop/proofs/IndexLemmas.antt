@@ -4,29 +4,16 @@ use Rattle.std.specs.List.{range_with_len}
 use Rattle.std.proofs.lemmas.Bool.{eqb-true, eq-eqb, false_from_ne_true}
 use Rattle.std.proofs.lemmas.List.{map-append}
 use Rattle.std.proofs.lemmas.List.Sums.{fold-append}
-use Rattle.gic_base.specs.declared.shape.GuestShape.{GuestShape}
-use Rattle.gic_call.proofs.RangeLemmas.{range_with_len_more}
-use Rattle.port_core.specs.declared.local.Local.{Local}
-use Rattle.port_core.specs.declared.local.Phase.{Phase}
-use Rattle.port_core.specs.declared.local.Phase.TheVariants.{Off, Scanning, Claiming, Loaded, Folding}
-use Rattle.port_core.specs.declared.run.Made.{Made}
-use Rattle.port_core.specs.declared.step.CoreStep.TheVariants.{TakeIndex}
-use Rattle.port_core.specs.After.{local_after, phase_after}
-use Rattle.port_core.specs.Condition.{may_take_index}
-use Rattle.port_core.specs.Place.{index_words}
-use Rattle.port_core.specs.Port.{Seen, AddsStep, made_by, shape_of}
-use Rattle.port_core.proofs.PortLemmas.{adds_join}
-use Rattle.core_proper.specs.Parts.{makes}
-use Rattle.core_proper.specs.Progress.{Progress, scan_on, looks_on, stepped, progressed, progress_of}
-use Rattle.core_proper.specs.Proper.{IsProper, IsProperStep}
-use Rattle.core_proper.specs.Scan.{Purpose, Scan, taking, ended_scan, is_idle, word_taken as next_word}
-use Rattle.its_tab.specs.Maps.{Maps}
-use Rattle.core_proper.proofs.PartLemmas.{proper_append}
+use Rattle.port_call.specs.Words.{GuestShape}
+use Rattle.port_call.proofs.GicCall.RangeLemmas.{range_with_len_more}
+use Rattle.port_call.specs.Core.{Local, Phase, Off, Scanning, Claiming, Loaded, Folding, Made, TakeIndex, local_after, phase_after, may_take_index, index_words, Seen, AddsStep, made_by, shape_of, makes, Progress, scan_on, looks_on, stepped, progressed, progress_of, IsProper, IsProperStep, Purpose, Scan, taking, ended_scan, is_idle, word_taken as next_word, with_cand_word}
+use Rattle.port_call.proofs.PortCore.PortLemmas.{adds_join}
+use Rattle.port_call.specs.Registers.{Maps}
+use Rattle.port_call.proofs.CoreProper.PartLemmas.{proper_append}
 use Rattle.port_call.proofs.PieceLemmas.{seen_nil}
 use Rattle.port_call.proofs.SettleLemmas.{handed_none}
 use Rattle.port_call.proofs.TryLemmas.{none_append}
 use Rattle.port_call.proofs.TurnLemmas.{events_then}
-use Rattle.port_core.specs.Local.{with_cand_word}
 use Rattle.pe_loop.specs.Counting.{bits_in, bits_taken, AreTaken}
 use Rattle.pe_loop.proofs.CountLemmas.{none_taken_at, taken_append, taken_more, taken_one}
 use Rattle.pe_loop.specs.Scanning.{IsScanAt, told_by, phase_taken, IsTaking}

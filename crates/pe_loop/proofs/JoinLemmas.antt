@@ -2,13 +2,9 @@
 use Rattle.std.proofs.Common.{◌≡◌, ℕ, List, [], ◌++◌, map, sym, ap, subst, ◌∙◌}
 use Rattle.std.proofs.lemmas.List.{map-append}
 use Rattle.std.proofs.lemmas.List.Sums.{fold-append}
-use Rattle.gic_base.specs.declared.shape.GuestShape.{GuestShape}
-use Rattle.port_core.specs.declared.run.Made.{Made}
-use Rattle.port_core.specs.Port.{Seen, Adds, shape_of, part_events}
-use Rattle.core_proper.specs.Parts.{makes}
-use Rattle.core_proper.specs.Progress.{Progress, progressed, progress_of}
-use Rattle.core_proper.specs.Proper.{IsProper}
-use Rattle.core_proper.proofs.PartLemmas.{proper_append}
+use Rattle.port_call.specs.Words.{GuestShape}
+use Rattle.port_call.specs.Core.{Made, Seen, Adds, shape_of, part_events, makes, Progress, progressed, progress_of, IsProper}
+use Rattle.port_call.proofs.CoreProper.PartLemmas.{proper_append}
 use Rattle.port_call.proofs.TurnLemmas.{events_then}
 
 pub two_on : (shape : GuestShape) (actor : ℕ) (p : Progress) (early late : List Made) → progress_of shape actor p (map makes (early ++ late)) ≡ progress_of shape actor (progress_of shape actor p (map makes early)) (map makes late)

@@ -4,39 +4,25 @@ use Rattle.std.specs.List.{filter_map, list_all}
 use Rattle.std.specs.Option.{option_map}
 use Rattle.std.proofs.lemmas.Bool.{and_parts, eqb-true}
 use Rattle.std.proofs.lemmas.Option.{none-some}
-use Rattle.vcpu_refill.proofs.ElementLemmas.{Contains-map}
-use Rattle.gic_base.proofs.KeyLemmas.{same_itself}
-use Rattle.gic_call.specs.declared.event.Operation.TheVariants.{Residence}
-use Rattle.gic_call.specs.Trace.{Beside, IsCall, named_of}
-use Rattle.core_proper.specs.Called.{vcpu_of_actor, maps_taken}
-use Rattle.core_proper.specs.Proper.{is_settled}
+use Rattle.port_call.proofs.VcpuRefill.ElementLemmas.{Contains-map}
+use Rattle.vcpu_state.proofs.GicBase.KeyLemmas.{same_itself}
+use Rattle.port_call.specs.Calls.{Residence, Beside, IsCall, named_of}
+use Rattle.port_call.specs.Core.{vcpu_of_actor, maps_taken, is_settled, AtIrq, Local, interface_of, shown, CanGiveBack, is_vcpu, back_of, entry_for, without_at, no_vcpus, owes_no_mark, owes_nothing, Seen, IsPort, shape_of, part_events, IsAt, IsLocal}
 use Rattle.std.proofs.lemmas.List.{take_all, map-append}
 use Rattle.std.proofs.lemmas.List.Elements.{All-nil, All-cons, All-head, All-tail, All-map, All-weaker, All-contains, All-contains_itself}
 use Rattle.std.proofs.lemmas.List.FromFn.{get_or-map-range_with_len}
 use Rattle.std.proofs.lemmas.List.Sums.{fold-append}
-use Rattle.gic_base.specs.declared.held.Back.{Back}
-use Rattle.gic_base.specs.declared.held.HeldIrq.{HeldIrq}
-use Rattle.gic_base.specs.declared.interrupt.Key.{Key}
-use Rattle.gic_base.specs.declared.shape.GuestShape.{GuestShape}
-use Rattle.gic_base.specs.Interrupt.{has_interrupt, is_same_key}
-use Rattle.gic_ich.specs.Place.{IsHeld}
-use Rattle.gic_prio.specs.Interface.{AtInterface}
-use Rattle.port_core.specs.declared.at_list.AtIrq.{AtIrq}
-use Rattle.port_core.specs.declared.local.Local.{Local}
-use Rattle.port_core.specs.After.{interface_of, shown}
-use Rattle.port_core.specs.Condition.{CanGiveBack}
-use Rattle.gic_aff.specs.declared.sgi.Targets.{Targets}
-use Rattle.port_core.specs.Local.{is_vcpu, back_of, entry_for, without_at, no_vcpus, owes_no_mark, owes_nothing}
-use Rattle.port_core.specs.Port.{Seen, IsPort, shape_of, part_events}
-use Rattle.port_core.specs.Valid.{IsAt, IsLocal}
-use Rattle.core_proper.proofs.OnceLemmas.{found_itself, entry_without}
+use Rattle.port_call.specs.Words.{Back, HeldIrq, Key, GuestShape, has_interrupt, is_same_key}
+use Rattle.port_call.specs.Lists.{IsHeld}
+use Rattle.port_call.specs.Registers.{AtInterface, Targets}
+use Rattle.port_call.proofs.CoreProper.OnceLemmas.{found_itself, entry_without}
 use Rattle.port_call.proofs.PieceLemmas.{piece_nil, piece_is_part, seen_nil}
 use Rattle.port_call.proofs.RestLemmas.{owes_none, ease_owes}
 use Rattle.port_call.proofs.TryLemmas.{none_append}
 use Rattle.port_call.proofs.TurnLemmas.{piece_then, events_then}
-use Rattle.port_core.proofs.PortLemmas.{adds_join}
-use Rattle.vcpu_fold.specs.Fold.{back_at, back_from, folded}
-use Rattle.vcpu_fold.proofs.BackLemmas.{comes_back}
+use Rattle.port_call.proofs.PortCore.PortLemmas.{adds_join}
+use Rattle.vcpu_state.specs.Fold.{back_at, back_from, folded}
+use Rattle.vcpu_state.proofs.BackLemmas.{comes_back}
 use Rattle.vcpu_state.specs.declared.loaded.Loaded.{Loaded}
 use Rattle.vcpu_state.specs.Holding.{held_keys}
 use Rattle.vcpu_state.specs.declared.shelved.Shelved.{Shelved}

@@ -7,45 +7,23 @@ use Rattle.std.proofs.lemmas.List.{map-append}
 use Rattle.std.proofs.lemmas.List.Sums.{fold-append}
 use Rattle.std.proofs.lemmas.List.Elements.{All-nil, All-weaker, All-push, All-get_or}
 use Rattle.std.proofs.lemmas.List.Quantifiers.{all_pairs_push}
-use Rattle.gic_word.proofs.WordLemmas.{packed_back}
-use Rattle.port_core.specs.declared.owed.Cands.{Cands}
-use Rattle.port_core.proofs.PortLemmas.{adds_join}
-use Rattle.core_proper.proofs.PartLemmas.{proper_append}
+use Rattle.vcpu_state.proofs.GicWord.WordLemmas.{packed_back}
+use Rattle.port_call.specs.Core.{Cands, Seen, AddsStep, made_by, Look, Irq as IrqWord, shape_of, IsIrqWord, Local, Made, is_settled_by_look, local_after, is_on, is_cand, is_vcpu, settled, without_cand, index_bit, index_bits, index_words, key_of_bit, makes, Progress, filled, is_end_of, looks_on, progressed, progress_of, stepped, IsProper, IsProperStep, Purpose, planned, trapped, bare, Scan, taking, looking, ended_scan, next_cand, offered, scan_allows}
+use Rattle.port_call.proofs.PortCore.PortLemmas.{adds_join}
+use Rattle.port_call.proofs.CoreProper.PartLemmas.{proper_append}
 use Rattle.port_call.proofs.MemoryLemmas.{on_own}
 use Rattle.port_call.proofs.SettleLemmas.{handed_none}
 use Rattle.port_call.proofs.TryLemmas.{none_append}
 use Rattle.port_call.proofs.TurnLemmas.{events_then, known_by_last}
-use Rattle.gic_base.specs.declared.interrupt.Key.{Key}
-use Rattle.gic_base.specs.declared.shape.GuestShape.{GuestShape}
-use Rattle.gic_base.specs.Interrupt.{has_interrupt, is_of_vcpu, is_same_key}
-use Rattle.gic_base.proofs.KeyLemmas.{same_itself}
-use Rattle.gic_prio.specs.declared.cpu.CpuRec.{CpuRec}
-use Rattle.gic_word.specs.declared.record.Irq.{Irq}
-use Rattle.gic_word.specs.Word.{irq_of, packed}
-use Rattle.vcpu_refill.specs.declared.offer.Offer.{Offer}
-use Rattle.vcpu_refill.specs.Chooser.{Kept, StandsFor}
-use Rattle.port_core.specs.Port.{Seen, AddsStep, made_by}
-use Rattle.port_core.specs.declared.step.CoreStep.TheVariants.{Look}
-use Rattle.port_core.specs.declared.word_id.WordId.TheVariants.{Irq as IrqWord}
-use Rattle.port_core.specs.Port.{shape_of}
-use Rattle.port_core.specs.Valid.{IsIrqWord}
-use Rattle.gic_base.specs.Shape.{IsShape}
-use Rattle.gic_word.specs.Record.{is_number}
-use Rattle.port_core.specs.declared.local.Local.{Local}
-use Rattle.port_core.specs.declared.run.Made.{Made}
-use Rattle.port_core.specs.After.{is_settled_by_look, local_after}
-use Rattle.port_core.specs.Known.{is_on}
-use Rattle.port_core.specs.Local.{is_cand, is_vcpu, settled, without_cand}
-use Rattle.port_core.specs.Place.{index_bit, index_bits, index_words, key_of_bit}
-use Rattle.core_proper.specs.Parts.{makes}
-use Rattle.core_proper.specs.Progress.{Progress, filled, is_end_of, looks_on, progressed, progress_of, stepped}
-use Rattle.core_proper.specs.Proper.{IsProper, IsProperStep}
-use Rattle.core_proper.specs.Scan.{Purpose, planned, trapped, bare, Scan, taking, looking, ended_scan, next_cand, offered, scan_allows}
+use Rattle.port_call.specs.Words.{Key, GuestShape, has_interrupt, is_of_vcpu, is_same_key, Irq, irq_of, packed, IsShape, is_number}
+use Rattle.vcpu_state.proofs.GicBase.KeyLemmas.{same_itself}
+use Rattle.port_call.specs.Registers.{CpuRec}
+use Rattle.port_call.specs.Lists.{Offer, Kept, StandsFor}
 use Rattle.port_call.proofs.KnownLemmas.{known_kept, places_apart}
 use Rattle.port_call.proofs.PieceLemmas.{seen_nil}
 use Rattle.pe_loop.specs.Counting.{count_from, looks_in, bits_taken}
-use Rattle.core_proper.proofs.CandLemmas.{cand_same}
-use Rattle.core_proper.proofs.SearchLemmas.{found_in}
+use Rattle.port_call.proofs.CoreProper.CandLemmas.{cand_same}
+use Rattle.port_call.proofs.CoreProper.SearchLemmas.{found_in}
 use Rattle.pe_loop.proofs.CountLemmas.{count_first, count_same, looks_append, taken_append, taken_one}
 use Rattle.pe_loop.proofs.StepLemmas.{are_append}
 use Rattle.pe_loop.specs.Steps.{is_search}

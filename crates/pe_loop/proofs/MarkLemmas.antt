@@ -8,26 +8,11 @@ use Rattle.std.proofs.lemmas.List.{map-append, get_or-set_same}
 use Rattle.std.proofs.lemmas.List.Sums.{fold-append}
 use Rattle.std.proofs.lemmas.Nat.{pow_below}
 use Rattle.std.proofs.lemmas.Nat.Bits.{bit_at-zero, bit_at-lt, bit_at_and, bit_at_not, bit_at-pow_same, same_from_bits_below}
-use Rattle.gic_base.specs.declared.interrupt.Key.{Key}
-use Rattle.gic_base.specs.Interrupt.{is_of_vcpu}
-use Rattle.gic_bits.specs.Bits.{has_bit}
-use Rattle.port_core.specs.declared.owed.Cands.{Cands}
-use Rattle.port_core.specs.declared.owed.MarkSet.{MarkSet}
-use Rattle.gic_aff.specs.declared.sgi.Targets.{Targets}
-use Rattle.gic_base.specs.Interrupt.{is_same_key}
-use Rattle.port_core.specs.Local.{is_cand, has_no_cand, owes_no_mark, no_vcpus, without_cand, without_mark, without_vcpu, settled, is_vcpu}
-use Rattle.gic_base.specs.declared.shape.GuestShape.{GuestShape}
-use Rattle.port_core.specs.declared.local.Local.{Local}
-use Rattle.port_core.specs.declared.step.CoreStep.TheVariants.{Mark}
-use Rattle.port_core.specs.Place.{index_bit, index_bits}
-use Rattle.port_core.specs.Port.{Seen, IsPort, AddsStep, made_by, shape_of}
-use Rattle.port_core.specs.Valid.{AreCands}
-use Rattle.port_core.proofs.PortLemmas.{adds_join}
-use Rattle.core_proper.specs.Parts.{makes}
-use Rattle.core_proper.specs.Progress.{Progress, progressed, progress_of, stepped}
-use Rattle.core_proper.specs.Proper.{IsProper, IsProperStep}
-use Rattle.core_proper.specs.Scan.{Scan, idle, claiming, ended_scan, scan_allows}
-use Rattle.core_proper.proofs.PartLemmas.{proper_append}
+use Rattle.port_call.specs.Words.{Key, is_of_vcpu, has_bit, is_same_key, GuestShape}
+use Rattle.port_call.specs.Core.{Cands, MarkSet, is_cand, has_no_cand, owes_no_mark, no_vcpus, without_cand, without_mark, without_vcpu, settled, is_vcpu, Local, Mark, index_bit, index_bits, Seen, IsPort, AddsStep, made_by, shape_of, AreCands, makes, Progress, progressed, progress_of, stepped, IsProper, IsProperStep, Scan, idle, claiming, ended_scan, scan_allows}
+use Rattle.port_call.specs.Registers.{Targets}
+use Rattle.port_call.proofs.PortCore.PortLemmas.{adds_join}
+use Rattle.port_call.proofs.CoreProper.PartLemmas.{proper_append}
 use Rattle.port_call.proofs.PieceLemmas.{seen_nil}
 use Rattle.port_call.proofs.SettleLemmas.{handed_none}
 use Rattle.port_call.proofs.TryLemmas.{none_append}
@@ -38,8 +23,8 @@ use Rattle.pe_loop.specs.Marking.{claimed_by, IsMarking, MarksRest}
 use Rattle.pe_loop.specs.Steps.{is_mark}
 use Rattle.pe_loop.proofs.CountLemmas.{quiet_append}
 use Rattle.pe_loop.proofs.StepLemmas.{are_append}
-use Rattle.core_proper.proofs.CandLemmas.{cand_same}
-use Rattle.core_proper.proofs.SearchLemmas.{found_in, found_nowhere}
+use Rattle.port_call.proofs.CoreProper.CandLemmas.{cand_same}
+use Rattle.port_call.proofs.CoreProper.SearchLemmas.{found_in, found_nowhere}
 
 -- A candidate less.
 

@@ -3,16 +3,11 @@ use Rattle.std.proofs.Common.{◌≡◌, ℕ, ◌&&◌, not, Bool, true, false, 
 use Rattle.std.proofs.lemmas.Bool.{and_parts, eq-eqb}
 use Rattle.std.proofs.lemmas.List.Elements.{filter-append}
 use Rattle.std.proofs.lemmas.List.Folds.{list_all-append}
-use Rattle.gic_base.specs.declared.interrupt.Key.{Key}
-use Rattle.gic_call.specs.declared.event.Event.{Event}
-use Rattle.gic_call.specs.declared.event.Event.TheVariants.{Raise, Up, Down, Enable, Touch, Reach, Take, Leave, Cpu, Read, Put, CtlrBegin, CtlrEnd, ItsBegin, ItsEnd, Queue}
-use Rattle.gic_call.specs.declared.event.Found.TheVariants.{Nothing}
-use Rattle.gic_call.specs.Trace.{Happened, is_beside, named_of}
-use Rattle.port_core.specs.declared.local.Local.{Local}
-use Rattle.port_core.specs.declared.run.Made.{Made}
-use Rattle.port_core.specs.Local.{is_at}
-use Rattle.port_core.specs.Port.{Seen, Adds, part_events}
-use Rattle.port_core.specs.Stands.{claim_event}
+use Rattle.port_call.specs.Words.{Key}
+use Rattle.port_call.specs.Calls.{Event, Up, Down, Enable, Touch, Reach, Take, Leave, Cpu, Put, CtlrBegin, CtlrEnd, ItsBegin, Happened, is_beside, named_of}
+use Rattle.port_call.specs.GicCall.declared.event.Event.TheVariants.{Raise, Read, ItsEnd, Queue}
+use Rattle.port_call.specs.GicCall.declared.event.Found.TheVariants.{Nothing}
+use Rattle.port_call.specs.Core.{Local, Made, is_at, Seen, Adds, part_events, claim_event}
 use Rattle.port_call.proofs.TurnLemmas.{events_then}
 use Rattle.pe_loop.specs.Leave.{left_by}
 use Rattle.pe_loop.specs.Moves.{is_move, are_moves}

@@ -4,26 +4,16 @@ use Rattle.std.specs.Prelude.{slice_get}
 use Rattle.std.specs.Option.{option_map}
 use Rattle.std.proofs.lemmas.List.{length-take}
 use Rattle.std.proofs.lemmas.List.Elements.{All-contains, All-weaker}
-use Rattle.gic_base.specs.Interrupt.{intid_of}
-use Rattle.gic_base.specs.Shape.{IsShape}
-use Rattle.gic_bits.specs.Bits.{has_bit}
-use Rattle.gic_ich.specs.Hcr.{hcr_en}
-use Rattle.gic_ich.specs.Place.{StandsAs}
-use Rattle.gic_lr.specs.Entry.{packed}
-use Rattle.gic_word.specs.Word.{IsIrq, packed as packed_irq}
-use Rattle.gic_word.proofs.WordLemmas.{irq_fits}
-use Rattle.vcpu_refill.specs.declared.fill.Choice.{Choice}
-use Rattle.vcpu_refill.specs.declared.fill.Fill.{Fill}
-use Rattle.vcpu_refill.specs.declared.offer.Offer.{Offer}
-use Rattle.vcpu_refill.specs.Laws.{FitsRegister, offer_of}
-use Rattle.vcpu_refill.specs.Plan.{entry_of, held_as, plan, word_of}
-use Rattle.vcpu_refill.proofs.ApartLemmas.{once}
-use Rattle.vcpu_refill.proofs.EarnedLemmas.{earned, both_deliverable}
-use Rattle.vcpu_refill.proofs.ElementLemmas.{Contains-here, Contains-there}
-use Rattle.vcpu_refill.proofs.PlaceLemmas.{length-in_places}
-use Rattle.vcpu_refill.proofs.StandLemmas.{stands, stands_chosen}
-use Rattle.port_core.specs.Port.{Seen, shape_of}
-use Rattle.core_proper.proofs.IntidLemmas.{in_range, id_fits}
+use Rattle.port_call.specs.Words.{intid_of, IsShape, has_bit, IsIrq, packed as packed_irq}
+use Rattle.port_call.specs.Lists.{hcr_en, StandsAs, packed, Choice, Fill, Offer, FitsRegister, offer_of, entry_of, held_as, plan, word_of}
+use Rattle.vcpu_state.proofs.GicWord.WordLemmas.{irq_fits}
+use Rattle.port_call.proofs.VcpuRefill.ApartLemmas.{once}
+use Rattle.port_call.proofs.VcpuRefill.EarnedLemmas.{earned, both_deliverable}
+use Rattle.port_call.proofs.VcpuRefill.ElementLemmas.{Contains-here, Contains-there}
+use Rattle.port_call.proofs.VcpuRefill.PlaceLemmas.{length-in_places}
+use Rattle.port_call.proofs.VcpuRefill.StandLemmas.{stands, stands_chosen}
+use Rattle.port_call.specs.Core.{Seen, shape_of}
+use Rattle.port_call.proofs.CoreProper.IntidLemmas.{in_range, id_fits}
 use Rattle.pe_loop.specs.Claiming.{IsRight, IsPlanOf}
 use Rattle.pe_loop.specs.Scanning.{IsFound}
 

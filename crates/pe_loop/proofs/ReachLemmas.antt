@@ -2,26 +2,13 @@
 use Rattle.std.proofs.Common.{◌≡◌, ◌≢◌, ℕ, ◌&&◌, ◌⊎◌, inl, inr, Bool, true, false, cond, if◌then◌else◌, IsTrue, List, [], ◌∷◌, ◌++◌, Option, Some, None, is_some, refl, sym, ap, ◌∙◌}
 use Rattle.std.specs.Option.{option_map_or}
 use Rattle.std.proofs.lemmas.Bool.{eq-eqb}
-use Rattle.gic_base.specs.declared.interrupt.Key.{Key}
-use Rattle.gic_base.specs.declared.shape.GuestShape.{GuestShape}
-use Rattle.gic_base.specs.Interrupt.{is_same_key}
-use Rattle.gic_base.proofs.KeyLemmas.{same_itself}
-use Rattle.gic_call.specs.declared.moves.Moved.{Moved}
-use Rattle.gic_call.specs.Move.{reached, may_take, taken}
-use Rattle.gic_lr.specs.declared.entry.LrState.{LrState}
-use Rattle.gic_lr.specs.declared.entry.LrState.TheVariants.{Invalid, Pending, Active, Both}
-use Rattle.gic_lr.specs.Entry.{state_has_active}
-use Rattle.gic_prio.specs.declared.cpu.CpuRec.{CpuRec}
-use Rattle.gic_prio.specs.Delivery.{is_deliverable}
-use Rattle.gic_word.specs.declared.record.Irq.{Irq as IrqRecord}
-use Rattle.gic_word.specs.Record.{is_number}
-use Rattle.vcpu_refill.specs.declared.fill.Choice.{Choice}
-use Rattle.port_core.specs.declared.at_list.AtIrq.{AtIrq}
-use Rattle.port_core.specs.declared.local.Local.{Local}
-use Rattle.port_core.specs.After.{claimed_at}
-use Rattle.port_core.specs.Effect.{may_move, moved_of, claimed_irq}
-use Rattle.port_core.specs.Local.{entry_for, changed_at, with_entry, arrived, settled}
-use Rattle.core_proper.proofs.ReachLemmas.{number_is, none_is, inactive, entry_added}
+use Rattle.port_call.specs.Words.{Key, GuestShape, is_same_key, Irq as IrqRecord, is_number}
+use Rattle.vcpu_state.proofs.GicBase.KeyLemmas.{same_itself}
+use Rattle.port_call.specs.Calls.{Moved, reached, may_take, taken}
+use Rattle.port_call.specs.Lists.{LrState, Invalid, Pending, Active, Both, state_has_active, Choice}
+use Rattle.port_call.specs.Registers.{CpuRec, is_deliverable}
+use Rattle.port_call.specs.Core.{AtIrq, Local, claimed_at, may_move, moved_of, claimed_irq, entry_for, changed_at, with_entry, arrived, settled}
+use Rattle.port_call.proofs.CoreProper.ReachLemmas.{number_is, none_is, inactive, entry_added}
 use Rattle.pe_loop.specs.Claiming.{IsRight, without_causes, at_of}
 
 -- Its causes and its state.

@@ -1,18 +1,8 @@
 -- An interrupt is given back and released.
 use Rattle.std.proofs.Common.{◌≡◌, ℕ, ◌&&◌, Bool, true, false, IsTrue, [], ◌∷◌, ◌++◌, is_none, refl, sym, ap, subst, ◌∙◌}
-use Rattle.gic_base.specs.declared.held.Back.{Back}
-use Rattle.gic_base.specs.declared.interrupt.Key.{Key}
-use Rattle.gic_base.specs.Interrupt.{has_interrupt}
-use Rattle.gic_word.specs.Word.{irq_of}
-use Rattle.port_core.specs.declared.local.Local.{Local}
-use Rattle.port_core.specs.declared.local.Phase.TheVariants.{Folding}
-use Rattle.port_core.specs.declared.step.CoreStep.TheVariants.{GiveBack, Release}
-use Rattle.port_core.specs.After.{told_of_release, marked_of_release}
-use Rattle.port_core.specs.Condition.{CanGiveBack, CanRelease}
-use Rattle.port_core.specs.Effect.{is_active_at}
-use Rattle.port_core.specs.Local.{is_vcpu, owes_nothing, owing, without_at, changed_at}
-use Rattle.port_core.specs.Port.{Seen, Adds, AddsStep, CanMake, made_by, shape_of, seen_after, part_events}
-use Rattle.port_core.proofs.PortLemmas.{adds_join}
+use Rattle.port_call.specs.Words.{Back, Key, has_interrupt, irq_of}
+use Rattle.port_call.specs.Core.{Local, Folding, GiveBack, Release, told_of_release, marked_of_release, CanGiveBack, CanRelease, is_active_at, is_vcpu, owes_nothing, owing, without_at, changed_at, Seen, Adds, AddsStep, CanMake, made_by, shape_of, seen_after, part_events}
+use Rattle.port_call.proofs.PortCore.PortLemmas.{adds_join}
 use Rattle.port_call.specs.Piece.{IsPiece, takes_none}
 use Rattle.port_call.specs.Rest.{StaysAtEase}
 use Rattle.port_call.specs.Settle.{marks_sent, kicks_sent, Settles}

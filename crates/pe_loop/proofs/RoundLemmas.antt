@@ -2,24 +2,11 @@
 use Rattle.std.proofs.Common.{◌≡◌, ℕ, zero, suc, ◌+◌, ◌-◌, ◌*◌, ◌/◌, ◌<◌, ◌≤◌, cond, if◌then◌else◌, List, [], ◌∷◌, ◌++◌, map, filter, length, Option, Some, None, is_none, refl, sym, ap, subst, ◌∙◌, arith}
 use Rattle.std.specs.List.{find, range_with_len}
 use Rattle.std.specs.Option.{option_map}
-use Rattle.gic_base.specs.declared.interrupt.Key.{Key}
-use Rattle.gic_base.specs.declared.shape.GuestShape.{GuestShape}
-use Rattle.gic_base.specs.Shape.{IsShape}
-use Rattle.gic_prio.specs.declared.cpu.CpuRec.{CpuRec}
-use Rattle.vcpu_refill.specs.Chooser.{Kept, StandsFor}
-use Rattle.vcpu_refill.specs.declared.offer.Offer.{Offer}
-use Rattle.port_core.specs.declared.local.Local.{Local}
-use Rattle.port_core.specs.declared.owed.Cands.{Cands}
-use Rattle.port_core.specs.declared.run.Made.{Made}
-use Rattle.port_core.specs.declared.step.CoreStep.TheVariants.{TakeIndex}
-use Rattle.port_core.specs.Local.{is_cand}
-use Rattle.port_core.specs.Place.{index_bits, index_words, key_of_bit}
-use Rattle.port_core.specs.Port.{Seen, IsPort, Adds, shape_of}
-use Rattle.port_core.specs.Valid.{AreCands}
-use Rattle.port_core.proofs.PortLemmas.{adds_join}
-use Rattle.core_proper.specs.Parts.{makes}
-use Rattle.core_proper.specs.Progress.{Progress, filled, progress_of}
-use Rattle.core_proper.specs.Scan.{Purpose, looking, ended_scan, next_cand}
+use Rattle.port_call.specs.Words.{Key, GuestShape, IsShape}
+use Rattle.port_call.specs.Registers.{CpuRec}
+use Rattle.port_call.specs.Lists.{Kept, StandsFor, Offer}
+use Rattle.port_call.specs.Core.{Local, Cands, Made, TakeIndex, is_cand, index_bits, index_words, key_of_bit, Seen, IsPort, Adds, shape_of, AreCands, makes, Progress, filled, progress_of, Purpose, looking, ended_scan, next_cand}
+use Rattle.port_call.proofs.PortCore.PortLemmas.{adds_join}
 use Rattle.port_call.specs.Piece.{steps_of}
 use Rattle.port_call.proofs.TryLemmas.{none_append}
 use Rattle.pe_loop.specs.Counting.{count_from, is_irq_look, looks_in, bits_taken, AreTaken}
@@ -28,7 +15,7 @@ use Rattle.pe_loop.specs.Steps.{is_search}
 use Rattle.pe_loop.proofs.CountLemmas.{count_none, count_split, looks_append, taken_append}
 use Rattle.pe_loop.proofs.JoinLemmas.{two_on, two_proper, same_proper, same_progress, two_silent}
 use Rattle.pe_loop.proofs.LookLemmas.{all_taken}
-use Rattle.core_proper.proofs.SearchLemmas.{found_nowhere}
+use Rattle.port_call.proofs.CoreProper.SearchLemmas.{found_nowhere}
 use Rattle.pe_loop.proofs.MarkLemmas.{ends_before}
 use Rattle.pe_loop.proofs.StepLemmas.{are_append, takes_search}
 

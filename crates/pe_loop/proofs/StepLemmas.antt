@@ -1,9 +1,7 @@
 -- Steps of a kind, some after others.
 use Rattle.std.proofs.Common.{◌≡◌, ℕ, ◌&&◌, ◌||◌, not, Bool, true, false, IsTrue, List, [], ◌∷◌, ◌++◌, map, if◌then◌else◌, refl, ap, ◌∙◌}
 use Rattle.std.proofs.lemmas.List.Folds.{list_all-append}
-use Rattle.port_core.specs.declared.run.Made.{Made}
-use Rattle.port_core.specs.declared.step.CoreStep.{CoreStep}
-use Rattle.port_core.specs.declared.step.CoreStep.TheVariants.{TakeIndex}
+use Rattle.port_call.specs.Core.{Made, CoreStep, TakeIndex}
 use Rattle.port_call.specs.Piece.{steps_of}
 use Rattle.pe_loop.specs.Steps.{all_are, all_hit, is_hit, is_search}
 use Rattle.pe_loop.proofs.CountLemmas.{and_true}

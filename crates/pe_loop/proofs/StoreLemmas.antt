@@ -7,39 +7,21 @@ use Rattle.std.proofs.lemmas.List.{get_or-set_same, get_or-set_other, get_or-tak
 use Rattle.std.proofs.lemmas.List.Elements.{Contains-append_left, Contains-append_right, Contains-append_cases}
 use Rattle.std.proofs.lemmas.List.Folds.{list_all-append}
 use Rattle.std.proofs.lemmas.Option.{none-some, same_Some}
-use Rattle.vcpu_refill.proofs.ElementLemmas.{Contains-here, Contains-cases, Contains-nothing}
-use Rattle.vcpu_refill.proofs.StandLemmas.{bit_small, group_small}
-use Rattle.gic_base.specs.declared.held.HeldIrq.{HeldIrq}
-use Rattle.gic_base.specs.declared.interrupt.Key.{Key}
-use Rattle.gic_base.specs.declared.shape.GuestShape.{GuestShape}
-use Rattle.gic_base.specs.Interrupt.{intid_of}
-use Rattle.gic_base.specs.Shape.{IsShape}
-use Rattle.gic_bits.specs.Bits.{bit_of}
-use Rattle.gic_ich.specs.declared.regs.IchRegs.{IchRegs}
-use Rattle.gic_ich.specs.Place.{Seen as Shows, seen_in, StandsAs, IsHeld, StandFor}
-use Rattle.gic_ich.specs.Regs.{listed_of}
-use Rattle.gic_icv.specs.Agree.{is_live}
-use Rattle.gic_icv.proofs.ChangeLemmas.{seen_with_state}
-use Rattle.gic_icv.proofs.PlaceLemmas.{entry_id, live_held}
-use Rattle.gic_lr.specs.declared.entry.LrEntry.{LrEntry}
-use Rattle.gic_lr.specs.declared.entry.LrState.TheVariants.{Active}
-use Rattle.gic_lr.specs.Entry.{packed, state_number, state_has_pending, state_has_active, with_state}
-use Rattle.gic_prio.specs.Interface.{AtInterface}
-use Rattle.gic_word.specs.Record.{group_number}
-use Rattle.vcpu_refill.specs.declared.fill.Choice.{Choice}
-use Rattle.vcpu_refill.specs.declared.fill.Fill.{Fill}
-use Rattle.vcpu_refill.specs.Plan.{entry_of, held_as, word_of}
+use Rattle.port_call.proofs.VcpuRefill.ElementLemmas.{Contains-here, Contains-cases, Contains-nothing}
+use Rattle.port_call.proofs.VcpuRefill.StandLemmas.{bit_small, group_small}
+use Rattle.port_call.specs.Words.{HeldIrq, Key, GuestShape, intid_of, IsShape, bit_of, group_number}
+use Rattle.port_call.specs.Lists.{IchRegs, Seen as Shows, seen_in, StandsAs, IsHeld, StandFor, listed_of, is_live, LrEntry, Active, packed, state_number, state_has_pending, state_has_active, with_state, Choice, Fill, entry_of, held_as, word_of}
+use Rattle.port_call.proofs.GicIcv.ChangeLemmas.{seen_with_state}
+use Rattle.port_call.proofs.GicIcv.PlaceLemmas.{entry_id, live_held}
+use Rattle.port_call.specs.Registers.{AtInterface}
 use Rattle.vcpu_state.specs.declared.loaded.Loaded.{Loaded}
 use Rattle.vcpu_state.specs.Places.{with_place, IsWith}
 use Rattle.vcpu_state.proofs.PlaceLemmas.{put_stands}
-use Rattle.port_core.specs.declared.at_list.AtIrq.{AtIrq}
-use Rattle.port_core.specs.After.{interface_of, shown}
-use Rattle.port_core.specs.Port.{Seen, shape_of}
-use Rattle.core_proper.specs.Registers.{with_changed}
+use Rattle.port_call.specs.Core.{AtIrq, interface_of, shown, Seen, shape_of, with_changed}
 use Rattle.pe_loop.specs.declared.claims.Claimed.{Claimed}
 use Rattle.pe_loop.specs.declared.claims.Claimed.TheVariants.{Whole, Bare, Missed}
 use Rattle.pe_loop.specs.Claiming.{without_causes, choice_left, at_of, regs_left, loaded_with, IsRight, IsClaimed, IsRegsAt, IsLoadedAt}
-use Rattle.core_proper.proofs.IntidLemmas.{in_range, same_by_id}
+use Rattle.port_call.proofs.CoreProper.IntidLemmas.{in_range, same_by_id}
 use Rattle.pe_loop.proofs.PlanLemmas.{IsPlanned}
 
 -- A list register with State 2 in place of 3.

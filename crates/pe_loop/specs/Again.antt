@@ -3,7 +3,7 @@ use Rattle.std.specs.Prelude.{◌≡◌}
 use Rattle.vcpu_state.specs.declared.shelved.Shelved.{Shelved}
 use Rattle.vcpu_state.specs.declared.loaded.Loaded.{Loaded}
 use Rattle.vcpu_state.specs.Moves.{shelved_of}
-use Rattle.port_core.specs.Port.{Seen}
+use Rattle.port_call.specs.Core.{Seen}
 use Rattle.pe_loop.specs.Enter.{Enters}
 use Rattle.pe_loop.specs.Leave.{Leaves}
 

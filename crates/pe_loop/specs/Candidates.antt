@@ -1,7 +1,6 @@
 -- The first of some bits (own choice of a search).
 use Rattle.std.specs.Prelude.{◌≡◌, ℕ, ◌+◌, ◌*◌, ◌≤◌, ◌<◌, Bool, true, false, Option, Some, None}
-use Rattle.port_core.specs.declared.owed.Cands.{Cands}
-use Rattle.port_core.specs.Local.{is_cand}
+use Rattle.port_call.specs.Core.{Cands, is_cand}
 
 -- a bit is the first from another on that passes a test
 pub record IsFirstFrom (test : ℕ → Bool) (from bit : ℕ) : Type 0 where

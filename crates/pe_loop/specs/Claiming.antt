@@ -2,40 +2,12 @@
 use Rattle.std.specs.Prelude.{◌≡◌, ◌≢◌, ◌⊎◌, ℕ, ◌<◌, ◌==◌, ◌||◌, not, Bool, true, false, IsTrue, List, [], ◌∷◌, ◌++◌, map, length, All, Option, Some, None, option_to_list, if◌then◌else◌, ◌≤◌, drop, replicate}
 use Rattle.std.specs.List.{cons_option, list_all, slice_index_or}
 use Rattle.std.specs.Option.{option_map}
-use Rattle.gic_base.specs.declared.interrupt.Key.{Key}
-use Rattle.gic_base.specs.declared.shape.GuestShape.{GuestShape}
-use Rattle.gic_base.specs.Interrupt.{has_interrupt, is_of_vcpu, is_same_key}
-use Rattle.gic_ich.specs.declared.regs.IchRegs.{IchRegs}
-use Rattle.gic_lr.specs.declared.entry.LrState.TheVariants.{Pending, Active, Both}
-use Rattle.gic_lr.specs.Entry.{packed as packed_entry, state_has_active}
-use Rattle.gic_prio.specs.declared.cpu.CpuRec.{CpuRec}
-use Rattle.gic_word.specs.declared.record.Irq.{Irq as IrqRecord}
-use Rattle.gic_word.specs.Word.{irq_of, packed}
-use Rattle.vcpu_refill.specs.declared.fill.Choice.{Choice}
-use Rattle.vcpu_refill.specs.Laws.{offer_of}
-use Rattle.vcpu_refill.specs.Order.{is_active_by, is_deliverable_to, is_deliverable_once_inactive}
-use Rattle.vcpu_refill.specs.declared.fill.Fill.{Fill}
-use Rattle.vcpu_refill.specs.declared.offer.Offer.{Offer}
-use Rattle.vcpu_refill.specs.Plan.{entry_of, held_as, plan, regs_of, word_of}
+use Rattle.port_call.specs.Words.{Key, GuestShape, has_interrupt, is_of_vcpu, is_same_key, Irq as IrqRecord, irq_of, packed, HeldIrq}
+use Rattle.port_call.specs.Lists.{IchRegs, Pending, Active, Both, packed as packed_entry, state_has_active, Choice, offer_of, is_active_by, is_deliverable_to, is_deliverable_once_inactive, Fill, Offer, entry_of, held_as, plan, regs_of, word_of, StandFor}
+use Rattle.port_call.specs.Registers.{CpuRec}
 use Rattle.vcpu_state.specs.declared.loaded.Loaded.{Loaded}
 use Rattle.vcpu_state.specs.Places.{with_place}
-use Rattle.gic_base.specs.declared.held.HeldIrq.{HeldIrq}
-use Rattle.gic_ich.specs.Place.{StandFor}
-use Rattle.port_core.specs.After.{interface_of}
-use Rattle.port_core.specs.declared.at_list.AtIrq.{AtIrq}
-use Rattle.port_core.specs.declared.run.Made.{Made}
-use Rattle.port_core.specs.declared.step.CoreStep.TheVariants.{Claim}
-use Rattle.port_core.specs.declared.word_id.WordId.TheVariants.{Irq}
-use Rattle.port_core.specs.Effect.{succeeds}
-use Rattle.port_core.specs.Known.{known}
-use Rattle.port_core.specs.Local.{is_vcpu, entry_for}
-use Rattle.port_core.specs.Port.{Seen, Adds, AddsStep, shape_of, left_by, part_events}
-use Rattle.port_core.specs.Valid.{IsIrqWord}
-use Rattle.core_proper.specs.Parts.{makes}
-use Rattle.core_proper.specs.Progress.{Progress, progress_of}
-use Rattle.core_proper.specs.Proper.{IsProper}
-use Rattle.core_proper.specs.Registers.{without_claim, without_take}
-use Rattle.core_proper.specs.Scan.{claiming, ended_scan, key_of_both, keys_chosen, keys_of_both}
+use Rattle.port_call.specs.Core.{interface_of, AtIrq, Made, Claim, Irq, succeeds, known, is_vcpu, entry_for, Seen, Adds, AddsStep, shape_of, left_by, part_events, IsIrqWord, makes, Progress, progress_of, IsProper, without_claim, without_take, claiming, ended_scan, key_of_both, keys_chosen, keys_of_both}
 use Rattle.port_call.specs.Piece.{takes_none}
 use Rattle.pe_loop.specs.declared.claims.Claimed.{Claimed}
 use Rattle.pe_loop.specs.declared.claims.Claimed.TheVariants.{Whole, Bare, Missed}

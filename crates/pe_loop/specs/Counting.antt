@@ -1,13 +1,8 @@
 -- How many interrupts a scan looks at (own choice).
 use Rattle.std.specs.Prelude.{◌≡◌, ℕ, ◌*◌, ◌≤◌, Bool, true, false, List, length, filter, sum_by, slice_index_or}
 use Rattle.std.specs.List.{list_all, range_with_len}
-use Rattle.gic_bits.specs.Bits.{has_bit}
-use Rattle.port_core.specs.declared.owed.Cands.{Cands}
-use Rattle.port_core.specs.declared.run.Made.{Made}
-use Rattle.port_core.specs.declared.step.CoreStep.{CoreStep}
-use Rattle.port_core.specs.declared.step.CoreStep.TheVariants.{Look, TakeIndex}
-use Rattle.port_core.specs.declared.word_id.WordId.TheVariants.{Irq}
-use Rattle.port_core.specs.Local.{is_cand}
+use Rattle.port_call.specs.Words.{has_bit}
+use Rattle.port_call.specs.Core.{Cands, Made, CoreStep, Look, TakeIndex, Irq, is_cand}
 
 -- how many numbers from one on pass a test
 abbrev pub count_from : (ℕ → Bool) → ℕ → ℕ → ℕ

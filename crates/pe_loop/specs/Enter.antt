@@ -1,23 +1,12 @@
 -- A vCPU enters a PE (own choice).
 use Rattle.std.specs.Prelude.{◌≡◌, ℕ, Bool, false, IsTrue, List, [], ◌∷◌, ◌++◌, map, replicate, Option, None, if◌then◌else◌, unwrap_or}
-use Rattle.gic_call.specs.declared.event.Operation.TheVariants.{Residence}
-use Rattle.gic_prio.specs.declared.cpu.CpuRec.{CpuRec}
-use Rattle.vcpu_refill.specs.declared.fill.Fill.{Fill}
-use Rattle.vcpu_refill.specs.Plan.{regs_of, HasEntries}
+use Rattle.port_call.specs.Calls.{Residence}
+use Rattle.port_call.specs.Registers.{CpuRec}
+use Rattle.port_call.specs.Lists.{Fill, regs_of, HasEntries, IchRegs}
 use Rattle.vcpu_state.specs.declared.shelved.Shelved.{Shelved}
 use Rattle.vcpu_state.specs.declared.loaded.Loaded.{Loaded}
 use Rattle.vcpu_state.specs.Moves.{shelved_of}
-use Rattle.port_core.specs.declared.local.Phase.TheVariants.{Claiming}
-use Rattle.port_core.specs.declared.run.Made.{Made}
-use Rattle.port_core.specs.declared.step.CoreStep.TheVariants.{Kick, Poll}
-use Rattle.gic_ich.specs.declared.regs.IchRegs.{IchRegs}
-use Rattle.port_core.specs.Local.{has_no_cand, owes_no_kick}
-use Rattle.port_core.specs.Port.{Seen, Adds, shape_of, part_events}
-use Rattle.core_proper.specs.Called.{IsAtRest, MakesCall}
-use Rattle.core_proper.specs.Parts.{makes, part_of}
-use Rattle.core_proper.specs.Progress.{Progress, paid, begun, owed_after_scan, progress_of}
-use Rattle.core_proper.specs.Proper.{IsProper}
-use Rattle.core_proper.specs.Scan.{idle, keys_chosen, keys_of_both}
+use Rattle.port_call.specs.Core.{Claiming, Made, Kick, Poll, has_no_cand, owes_no_kick, Seen, Adds, shape_of, part_events, IsAtRest, MakesCall, makes, part_of, Progress, paid, begun, owed_after_scan, progress_of, IsProper, idle, keys_chosen, keys_of_both}
 use Rattle.port_call.specs.Piece.{steps_of, takes_none, IsIdle}
 use Rattle.pe_loop.specs.Claiming.{claims_by, IsPlanOf}
 use Rattle.pe_loop.specs.Counting.{are_quiet, bits_taken, looks_in}

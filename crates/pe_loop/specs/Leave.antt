@@ -2,23 +2,10 @@
 use Rattle.std.specs.Prelude.{◌≡◌, ℕ, IsTrue, List, [], ◌∷◌, fold, map, take, Option, Some, None}
 use Rattle.std.specs.List.{filter_map}
 use Rattle.std.specs.Option.{option_map}
-use Rattle.gic_base.specs.declared.held.Back.{Back}
-use Rattle.gic_base.specs.declared.held.HeldIrq.{HeldIrq}
-use Rattle.gic_base.specs.Interrupt.{has_interrupt}
-use Rattle.port_core.specs.Condition.{CanGiveBack}
-use Rattle.gic_base.specs.declared.interrupt.Key.{Key}
-use Rattle.gic_call.specs.declared.event.Event.TheVariants.{Leave as LeaveEvent}
-use Rattle.gic_call.specs.declared.event.Found.TheVariants.{Nothing}
-use Rattle.gic_call.specs.declared.event.Operation.TheVariants.{Residence}
-use Rattle.gic_call.specs.Trace.{Happened}
-use Rattle.port_core.specs.declared.at_list.AtIrq.{AtIrq}
-use Rattle.port_core.specs.declared.local.Local.{Local}
-use Rattle.port_core.specs.declared.local.Phase.TheVariants.{Folding}
-use Rattle.port_core.specs.declared.run.Made.{Made}
-use Rattle.port_core.specs.declared.step.CoreStep.TheVariants.{GiveBack, Release}
-use Rattle.port_core.specs.Local.{no_vcpus, without_at}
-use Rattle.port_core.specs.Port.{Seen, Adds, shape_of, part_events}
-use Rattle.core_proper.specs.Called.{MakesCall, IsProperPart}
+use Rattle.port_call.specs.Words.{Back, HeldIrq, has_interrupt, Key}
+use Rattle.port_call.specs.Core.{CanGiveBack, AtIrq, Local, Folding, Made, GiveBack, Release, no_vcpus, without_at, Seen, Adds, shape_of, part_events, MakesCall, IsProperPart}
+use Rattle.port_call.specs.Calls.{Leave as LeaveEvent, Residence, Happened}
+use Rattle.port_call.specs.GicCall.declared.event.Found.TheVariants.{Nothing}
 use Rattle.port_call.specs.Piece.{takes_none, IsPiece}
 use Rattle.vcpu_state.specs.declared.shelved.Shelved.{Shelved}
 use Rattle.vcpu_state.specs.declared.loaded.Loaded.{Loaded}

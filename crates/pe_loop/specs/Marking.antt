@@ -1,12 +1,6 @@
 -- A vCPU marks the candidates that are left to itself (own choice).
 use Rattle.std.specs.Prelude.{◌≡◌, ℕ, ◌<◌, false, IsTrue, List, [], map}
-use Rattle.port_core.specs.declared.run.Made.{Made}
-use Rattle.port_core.specs.Local.{has_no_cand, is_cand}
-use Rattle.port_core.specs.Port.{Seen, Adds, shape_of, part_events}
-use Rattle.core_proper.specs.Parts.{makes}
-use Rattle.core_proper.specs.Progress.{Progress, progress_of}
-use Rattle.core_proper.specs.Proper.{IsProper}
-use Rattle.core_proper.specs.Scan.{claiming, ended_scan}
+use Rattle.port_call.specs.Core.{Made, has_no_cand, is_cand, Seen, Adds, shape_of, part_events, makes, Progress, progress_of, IsProper, claiming, ended_scan}
 use Rattle.port_call.specs.Piece.{takes_none}
 use Rattle.pe_loop.specs.Counting.{are_quiet}
 use Rattle.pe_loop.specs.Scanning.{told_by}

@@ -1,9 +1,7 @@
 -- Moves of interrupts at a vCPU's own CPU interface.
 use Rattle.std.specs.Prelude.{ℕ, Bool, false, List, Some}
 use Rattle.std.specs.List.{list_all}
-use Rattle.gic_call.specs.declared.event.Event.{Event}
-use Rattle.gic_call.specs.declared.event.Event.TheVariants.{Reach, Take, Leave}
-use Rattle.gic_call.specs.Trace.{Happened, is_actor}
+use Rattle.port_call.specs.Calls.{Event, Reach, Take, Leave, Happened, is_actor}
 
 -- an event is one of them: an interrupt reaches it, brings its causes, or leaves it
 abbrev pub is_move : ℕ → Event → Bool

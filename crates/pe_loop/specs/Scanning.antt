@@ -1,27 +1,10 @@
 -- A vCPU's scan as it goes on (own choice).
 use Rattle.std.specs.Prelude.{◌≡◌, ◌≢◌, ℕ, ◌+◌, ◌-◌, ◌<◌, ◌==◌, Bool, false, IsTrue, List, [], ◌∷◌, ◌++◌, map, All, AllPairs, Option, Some, None, if◌then◌else◌}
 use Rattle.std.specs.List.{range_with_len}
-use Rattle.gic_base.specs.declared.interrupt.Key.{Key}
-use Rattle.gic_base.specs.declared.shape.GuestShape.{GuestShape}
-use Rattle.gic_base.specs.Interrupt.{has_interrupt, is_of_vcpu}
-use Rattle.gic_prio.specs.declared.cpu.CpuRec.{CpuRec}
-use Rattle.gic_word.specs.Word.{irq_of, packed}
-use Rattle.vcpu_refill.specs.Chooser.{Kept, StandsFor}
-use Rattle.vcpu_refill.specs.declared.offer.Offer.{Offer}
-use Rattle.port_core.specs.declared.local.Phase.{Phase}
-use Rattle.port_core.specs.declared.local.Phase.TheVariants.{Scanning, Claiming}
-use Rattle.port_core.specs.declared.run.Made.{Made}
-use Rattle.port_core.specs.declared.step.CoreStep.TheVariants.{Look, TakeIndex}
-use Rattle.port_core.specs.declared.word_id.WordId.TheVariants.{Irq}
-use Rattle.port_core.specs.Known.{known}
-use Rattle.port_core.specs.Local.{has_no_cand, is_cand}
-use Rattle.port_core.specs.Place.{index_bit, index_bits, index_words}
-use Rattle.port_core.specs.Port.{Seen, Adds, AddsStep, shape_of, part_events}
-use Rattle.core_proper.specs.Parts.{makes}
-use Rattle.port_core.specs.Valid.{IsIrqWord}
-use Rattle.core_proper.specs.Progress.{Progress, filled, looks_on, scan_on, progress_of}
-use Rattle.core_proper.specs.Proper.{IsProper}
-use Rattle.core_proper.specs.Scan.{Purpose, Scan, taking, ended_scan, next_cand, offered}
+use Rattle.port_call.specs.Words.{Key, GuestShape, has_interrupt, is_of_vcpu, irq_of, packed}
+use Rattle.port_call.specs.Registers.{CpuRec}
+use Rattle.port_call.specs.Lists.{Kept, StandsFor, Offer}
+use Rattle.port_call.specs.Core.{Phase, Scanning, Claiming, Made, Look, TakeIndex, Irq, known, has_no_cand, is_cand, index_bit, index_bits, index_words, Seen, Adds, AddsStep, shape_of, part_events, makes, IsIrqWord, Progress, filled, looks_on, scan_on, progress_of, IsProper, Purpose, Scan, taking, ended_scan, next_cand, offered}
 use Rattle.port_call.specs.Piece.{steps_of, takes_none}
 use Rattle.pe_loop.specs.Counting.{count_from, looks_in, bits_taken, AreTaken}
 use Rattle.pe_loop.specs.Steps.{all_are, is_search}

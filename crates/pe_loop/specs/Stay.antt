@@ -1,14 +1,9 @@
 -- A vCPU and its port, off a PE and on one.
 use Rattle.std.specs.Prelude.{◌≡◌, ℕ, ◌≤◌, not, true, false, IsTrue, []}
 use Rattle.std.specs.List.{list_all}
-use Rattle.gic_bits.specs.Bits.{has_bit}
-use Rattle.gic_ich.specs.Hcr.{hcr_tc, hcr_tall0, hcr_tall1, hcr_tdir}
-use Rattle.gic_ich.specs.Place.{StandFor}
-use Rattle.port_core.specs.After.{interface_of}
-use Rattle.port_core.specs.Condition.{is_ready}
-use Rattle.port_core.specs.Local.{is_vcpu}
-use Rattle.port_core.specs.Port.{Seen, shape_of}
-use Rattle.core_proper.specs.Proper.{is_settled}
+use Rattle.port_call.specs.Words.{has_bit}
+use Rattle.port_call.specs.Lists.{hcr_tc, hcr_tall0, hcr_tall1, hcr_tdir, StandFor}
+use Rattle.port_call.specs.Core.{interface_of, is_ready, is_vcpu, Seen, shape_of, is_settled}
 use Rattle.vcpu_state.specs.declared.shelved.Shelved.{Shelved}
 use Rattle.vcpu_state.specs.declared.loaded.Loaded.{Loaded}
 use Rattle.vcpu_state.specs.Moves.{shelved_of}

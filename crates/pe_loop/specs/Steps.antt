@@ -1,10 +1,7 @@
 -- The steps of a vCPU that enters (own choice).
 use Rattle.std.specs.Prelude.{◌≡◌, ℕ, ◌==◌, Bool, true, false, IsTrue, List, [], ◌∷◌, ◌++◌, if◌then◌else◌, None}
 use Rattle.std.specs.List.{list_all}
-use Rattle.port_core.specs.declared.run.Made.{Made}
-use Rattle.port_core.specs.declared.step.CoreStep.{CoreStep}
-use Rattle.port_core.specs.declared.step.CoreStep.TheVariants.{Look, Claim, Poll, Kick, Mark, TakeIndex}
-use Rattle.port_core.specs.declared.word_id.WordId.TheVariants.{Irq}
+use Rattle.port_call.specs.Core.{Made, CoreStep, Look, Claim, Poll, Kick, Mark, TakeIndex, Irq}
 use Rattle.port_call.specs.Piece.{steps_of}
 
 -- a step takes a word of the index, or looks at an interrupt

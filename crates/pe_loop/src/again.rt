@@ -1,12 +1,12 @@
 //! A vCPU leaves its PE and enters it again.
 ghost use Rattle.std.specs.Prelude.{◌≤◌};
-ghost use Rattle.gic_base.specs.declared.held.TheConstants.{MAX_LIST_REGISTERS};
+ghost use Rattle.port_call.specs.Words.{MAX_LIST_REGISTERS};
 ghost use Rattle.pe_loop.specs.Again.{LeavesThenEnters};
 ghost use Rattle.pe_loop.specs.Stay.{IsOn};
 
 use crate::entry::enter;
 use crate::exit::leave;
-use port_core::Port;
+use port_call::port_core::Port;
 use vcpu_state::Loaded;
 
 /// Takes a vCPU off its PE, and puts it there again, with as many list registers. The port is the vCPU's, which owes nothing. It

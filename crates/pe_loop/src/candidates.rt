@@ -1,11 +1,11 @@
 //! The candidates of a vCPU, in key order.
 ghost use Rattle.std.specs.Prelude.{◌≡◌, ◌<◌, ◌≤◌, ◌-◌};
 ghost use Rattle.std.specs.List.{find, range_with_len};
-ghost use Rattle.gic_bits.specs.Bits.{has_bit};
-ghost use Rattle.port_core.specs.Local.{is_cand};
+ghost use Rattle.port_call.specs.Words.{has_bit};
+ghost use Rattle.port_call.specs.Core.{is_cand};
 ghost use Rattle.pe_loop.specs.Candidates.{IsFirstBelow, EndsBefore};
 
-use port_core::{CAND_WORDS, Cands};
+use port_call::port_core::{CAND_WORDS, Cands};
 
 /// The bits of a word.
 const WORD_BITS: u32 = 64;

@@ -1,19 +1,16 @@
 //! The claims of a vCPU's plan.
 ghost use Rattle.std.specs.Prelude.{◌≡◌, ◌<◌, true, IsTrue, IfSome};
-ghost use Rattle.gic_lr.specs.Entry.{IsEntry};
-ghost use Rattle.vcpu_refill.specs.Plan.{HasEntries};
-ghost use Rattle.gic_word.specs.Word.{IsIrq, packed};
-ghost use Rattle.port_core.specs.declared.step.CoreStep.TheVariants.{Claim};
-ghost use Rattle.port_core.specs.Effect.{may_move};
-ghost use Rattle.port_core.specs.Port.{CanMake, shape_of};
+ghost use Rattle.port_call.specs.Lists.{IsEntry, HasEntries};
+ghost use Rattle.port_call.specs.Words.{IsIrq, packed};
+ghost use Rattle.port_call.specs.Core.{Claim, may_move, CanMake, shape_of};
 ghost use Rattle.pe_loop.specs.Claiming.{Claims, IsClaimable, IsTakeable, TakesCauses, ClaimsChosen, without_causes as without_causes_of, ClaimsSome, CanClaimAt, ClaimsAt, IsPlanOf, IsBlank, ClaimsAll};
 
-use gic_base::{Key, MAX_LIST_REGISTERS};
-use gic_lr::{LrEntry, LrState};
-use gic_word::{Irq, pack};
-use port_core::{CoreStep, Port};
-use vcpu_refill::{Choice, Fill};
+use port_call::gic_base::{Key, MAX_LIST_REGISTERS};
+use port_call::port_core::{CoreStep, Port};
+use port_call::vcpu_refill::{Choice, Fill};
 use vcpu_state::Loaded;
+use vcpu_state::gic_lr::{LrEntry, LrState};
+use vcpu_state::gic_word::{Irq, pack};
 
 /// What came of the claim of an interrupt that was chosen for a list register.
 #[derive(Clone, Copy, Debug, PartialEq, Eq)]

@@ -1,18 +1,17 @@
 //! A vCPU enters a PE.
 ghost use Rattle.std.specs.Prelude.{◌≡◌, ◌≤◌, true, IsTrue, None};
-ghost use Rattle.gic_base.specs.declared.held.TheConstants.{MAX_LIST_REGISTERS};
-ghost use Rattle.gic_prio.specs.Priority.{HasBinaryPoints};
-ghost use Rattle.port_core.specs.Local.{is_vcpu, owes_no_mark};
-ghost use Rattle.port_core.specs.Port.{shape_of};
+ghost use Rattle.port_call.specs.Words.{MAX_LIST_REGISTERS};
+ghost use Rattle.port_call.specs.Registers.{HasBinaryPoints};
+ghost use Rattle.port_call.specs.Core.{is_vcpu, owes_no_mark, shape_of};
 ghost use Rattle.pe_loop.specs.Stay.{IsOff};
 ghost use Rattle.pe_loop.specs.Enter.{Scans, IsReady, EndsScan, Enters};
 
 use crate::claims::claim_all;
 use crate::scan::{look_round, mark_rest};
-use gic_ich::IchRegs;
-use gic_prio::CpuRec;
-use port_core::{CoreStep, Port};
-use vcpu_refill::Fill;
+use port_call::port_core::{CoreStep, Port};
+use port_call::vcpu_refill::Fill;
+use vcpu_state::gic_ich::IchRegs;
+use vcpu_state::gic_prio::CpuRec;
 use vcpu_state::{Loaded, Shelved};
 
 /// A vCPU's scan: it looks for a kick, takes its index, looks at its candidates, and plans over what it found at no

@@ -1,19 +1,15 @@
 //! A vCPU leaves its PE.
 ghost use Rattle.std.specs.Prelude.{◌≡◌, IsTrue};
-ghost use Rattle.port_core.specs.Condition.{CanGiveBack};
-ghost use Rattle.port_core.specs.Local.{owes_nothing};
-ghost use Rattle.port_core.specs.Port.{shape_of};
+ghost use Rattle.port_call.specs.Core.{CanGiveBack, owes_nothing, shape_of, is_vcpu};
 ghost use Rattle.pe_loop.specs.Stay.{IsOn};
 ghost use Rattle.pe_loop.specs.Leave.{Releases, CanReleaseHeld, ReleasesHeld, Leaves};
-ghost use Rattle.gic_base.specs.Interrupt.{has_interrupt};
-ghost use Rattle.port_core.specs.Local.{is_vcpu};
+ghost use Rattle.port_call.specs.Words.{has_interrupt};
 ghost use Rattle.vcpu_state.specs.Moves.{shelved_of};
 
-use gic_base::{Back, HeldIrq, Key, MAX_LIST_REGISTERS};
+use port_call::gic_base::{Back, HeldIrq, Key, MAX_LIST_REGISTERS};
+use port_call::port_core::{CoreStep, Port};
 use port_call::settle;
-use port_core::{CoreStep, Port};
-use vcpu_fold::fold;
-use vcpu_state::{Loaded, Shelved};
+use vcpu_state::{Loaded, Shelved, fold};
 
 /// Gives back what the vCPU's interface has of an interrupt, releases it, and sends what is owed for it.
 fn release<P: Port>(port: &mut P, key: Key, back: Back)

@@ -12,4 +12,8 @@ pub use again::reenter;
 pub use claims::{Claimed, claim, claim_into};
 pub use entry::{end_scan, enter};
 pub use exit::leave;
+pub use port_call;
+pub use port_call::{gic_aff, gic_base, gic_icv, port_core, vcpu_refill};
 pub use scan::look_round;
+pub use vcpu_state;
+pub use vcpu_state::{gic_bits, gic_ich, gic_lr, gic_word};

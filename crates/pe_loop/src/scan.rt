@@ -1,22 +1,17 @@
 //! A vCPU's scan.
 ghost use Rattle.std.specs.Prelude.{◌≡◌, ◌≤◌, ◌++◌, true, IsTrue, List};
-ghost use Rattle.core_proper.specs.Scan.{offered};
-ghost use Rattle.vcpu_refill.specs.Chooser.{StandsFor};
-ghost use Rattle.vcpu_refill.specs.declared.offer.Offer.{Offer};
-ghost use Rattle.port_core.specs.Condition.{may_take_index};
-ghost use Rattle.port_core.specs.Local.{is_vcpu, owes_no_mark};
-ghost use Rattle.port_core.specs.Port.{shape_of};
+ghost use Rattle.port_call.specs.Core.{offered, may_take_index, is_vcpu, owes_no_mark, shape_of};
+ghost use Rattle.port_call.specs.Lists.{StandsFor, Offer};
 ghost use Rattle.pe_loop.specs.Scanning.{TakesIndex, LooksAt, LooksOver, Rounds};
 ghost use Rattle.pe_loop.specs.Marking.{MarksRest};
-ghost use Rattle.gic_base.specs.Interrupt.{has_interrupt};
-ghost use Rattle.gic_base.specs.declared.held.TheConstants.{MAX_LIST_REGISTERS};
+ghost use Rattle.port_call.specs.Words.{has_interrupt, MAX_LIST_REGISTERS};
 
 use crate::candidates::next_candidate;
-use gic_base::Key;
-use gic_prio::CpuRec;
-use gic_word::Irq;
-use port_core::{CoreStep, Port, WordId, index_bits, index_words, key_of_bit};
-use vcpu_refill::{Chooser, fresh};
+use port_call::gic_base::Key;
+use port_call::port_core::{CoreStep, Port, WordId, index_bits, index_words, key_of_bit};
+use port_call::vcpu_refill::{Chooser, fresh};
+use vcpu_state::gic_prio::CpuRec;
+use vcpu_state::gic_word::Irq;
 
 /// Takes all words of the vCPU's candidate index, in rising order.
 fn take_index<P: Port>(port: &mut P)
@@ -49,7 +44,7 @@ fn look_at<P: Port>(port: &mut P, chooser: &mut Chooser, cpu: &CpuRec, key: Key)
     let word = port.step(CoreStep::Look {
         word: WordId::Irq(key),
     });
-    if let Some(irq) = gic_word::unpack(word) {
+    if let Some(irq) = vcpu_state::gic_word::unpack(word) {
         offer_free(chooser, cpu, key, &irq);
     }
 }

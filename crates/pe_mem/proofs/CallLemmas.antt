@@ -1,37 +1,20 @@
 -- A piece of a memory-mapped access, as the whole call.
 use Rattle.std.proofs.Common.{◌≡◌, ℕ, ◌&&◌, ◌||◌, not, Bool, true, false, cond, IsTrue, List, [], ◌∷◌, map, Option, Some, None, refl, sym, ap, subst, ◌∙◌}
 use Rattle.std.proofs.lemmas.Bool.{and_from, and_parts}
-use Rattle.gic_base.specs.declared.operation.Frame.{Frame}
-use Rattle.gic_base.specs.declared.operation.Frame.TheVariants.{Dist, Redist, Its, Ram as Memory}
-use Rattle.gic_imap.specs.Map.{decoded as its_decoded}
-use Rattle.gic_call.specs.declared.event.Operation.{Operation}
-use Rattle.gic_dmap.specs.Map.{decoded as dist_decoded}
-use Rattle.gic_rmap.specs.Map.{decoded as redist_decoded}
+use Rattle.its_exec.specs.Words.{Frame, Dist, Redist, Its, Ram as Memory, Lpi, has_interrupt}
+use Rattle.its_exec.specs.GicImap.Map.{decoded as its_decoded}
+use Rattle.its_exec.specs.Calls.{Operation, takes_turn, Happened, Beside, IsCall, IsPlainCall, IsItsWrite, read_answer, Event, Place, access_events, Makes, access_places}
+use Rattle.its_exec.specs.GicDmap.Map.{decoded as dist_decoded}
+use Rattle.its_exec.specs.GicRmap.Map.{decoded as redist_decoded}
 use Rattle.pe_mem.specs.Redist.{ServesRedist}
 use Rattle.pe_mem.specs.Dist.{ServesDist}
-use Rattle.gic_call.specs.Call.{takes_turn}
-use Rattle.gic_call.specs.Trace.{Happened, Beside, IsCall, IsPlainCall, IsItsWrite, read_answer}
-use Rattle.port_core.specs.declared.local.Local.{Local}
-use Rattle.port_core.specs.declared.run.Made.{Made}
-use Rattle.port_core.specs.Local.{is_vcpu, owes_nothing}
-use Rattle.port_core.specs.Port.{Seen, IsPort, Adds, shape_of, seen_after, part_events}
-use Rattle.core_proper.specs.Called.{IsProperPart, vcpu_of_actor, maps_taken}
-use Rattle.core_proper.specs.Parts.{begins, makes, ends}
-use Rattle.core_proper.specs.Progress.{Progress, is_paid, progressed, progress_of}
-use Rattle.core_proper.specs.Proper.{IsProperEnd, is_empty, gives_back, wants_nothing, is_settled}
-use Rattle.core_proper.specs.Scan.{is_idle}
-use Rattle.core_proper.proofs.PartLemmas.{proper_append}
-use Rattle.port_call.specs.Rest.{IsAtEase, StaysAtEase}
-use Rattle.port_call.proofs.RestLemmas.{ease_owes}
-use Rattle.port_call.proofs.TurnLemmas.{not_taken}
+use Rattle.its_exec.specs.Core.{Local, Made, is_vcpu, owes_nothing, Seen, IsPort, Adds, shape_of, seen_after, part_events, IsProperPart, vcpu_of_actor, maps_taken, begins, makes, ends, Progress, is_paid, progressed, progress_of, IsProperEnd, is_empty, gives_back, wants_nothing, is_settled, is_idle}
+use Rattle.its_exec.proofs.CoreProper.PartLemmas.{proper_append}
+use Rattle.its_exec.specs.PortCall.Rest.{IsAtEase, StaysAtEase}
+use Rattle.its_exec.proofs.PortCall.RestLemmas.{ease_owes}
+use Rattle.its_exec.proofs.PortCall.TurnLemmas.{not_taken}
 use Rattle.pe_mem.specs.Call.{CanAccess, MakesAccess, ServesAccess, NamesBy, IsPieceOf, access_of}
-use Rattle.gic_history.specs.Named.{named_by_access}
-use Rattle.gic_base.specs.declared.interrupt.Key.TheVariants.{Lpi}
-use Rattle.gic_base.specs.Interrupt.{has_interrupt}
-use Rattle.gic_call.specs.declared.event.Event.{Event}
-use Rattle.gic_call.specs.declared.event.Place.{Place}
-use Rattle.gic_call.specs.Call.{access_events}
-use Rattle.gic_call.specs.Trace.{Makes, access_places}
+use Rattle.its_exec.specs.Histories.{named_by_access}
 use Rattle.pe_mem.specs.Found.{by_looks, goes_by_target, takes_its_by}
 use Rattle.pe_mem.proofs.TargetLemmas.{events_with, makes_targeted, places_with, value_with, with_targets}
 

@@ -1,15 +1,11 @@
 -- The enables of GICD_CTLR, copied to interrupts so far.
 use Rattle.std.proofs.Common.{◌≡◌, ℕ, ◌+◌, Some, sym, ap}
-use Rattle.gic_base.specs.declared.interrupt.Key.{Key}
-use Rattle.gic_base.specs.Interrupt.{key_at}
-use Rattle.gic_dmap.specs.declared.contents.Enables.{Enables}
-use Rattle.gic_word.specs.declared.record.Irq.{Irq}
-use Rattle.gic_call.specs.declared.event.Event.TheVariants.{Touch}
-use Rattle.gic_call.specs.declared.touch.Touching.TheVariants.{Enables as CopyEnables}
-use Rattle.gic_call.specs.Access.{copy_at}
-use Rattle.port_core.specs.Port.{Seen, shape_of}
-use Rattle.port_call.specs.Rest.{IsAtEase}
-use Rattle.port_call.specs.Touch.{Touches}
+use Rattle.its_exec.specs.Words.{Key, key_at, Irq}
+use Rattle.its_exec.specs.Registers.{Enables}
+use Rattle.its_exec.specs.Calls.{Touch, Enables as CopyEnables, copy_at}
+use Rattle.its_exec.specs.Core.{Seen, shape_of}
+use Rattle.its_exec.specs.PortCall.Rest.{IsAtEase}
+use Rattle.its_exec.specs.PortCall.Touch.{Touches}
 use Rattle.pe_mem.specs.Each.{TouchesEach}
 use Rattle.pe_mem.proofs.EachLemmas.{with_irq, found_irq, touches_none, touches_more, ease_on}
 use Rattle.pe_mem.proofs.PartsLemmas.{no_irqs}

@@ -1,40 +1,25 @@
 -- GICD_CTLR: its write and its read.
-use Rattle.gic_bits.specs.Bits.{has_bit}
+use Rattle.its_exec.specs.Words.{has_bit, Key, GuestShape, IsShape, interrupt_count, key_at, place_of, Irq}
 use Rattle.std.proofs.Common.{◌≡◌, ℕ, ◌%◌, ◌^◌, ◌==◌, ◌<◌, ◌&&◌, not, Bool, true, false, cond, IsTrue, IfSome, List, [], ◌∷◌, ◌++◌, map, All, Option, Some, is_none, is_some, refl, sym, ap, subst, ◌∙◌, arith}
 use Rattle.std.specs.List.{range_with_len, filter_map, list_all}
 use Rattle.std.proofs.lemmas.Bool.{and_parts}
 use Rattle.std.proofs.lemmas.Grind.{common_steps}
 use Rattle.std.proofs.lemmas.List.{map-append}
 use Rattle.std.proofs.lemmas.List.Elements.{All-cons, All-nil, All-append, filter-append}
-use Rattle.gic_base.specs.declared.interrupt.Key.{Key}
-use Rattle.gic_base.specs.declared.shape.GuestShape.{GuestShape}
-use Rattle.gic_base.specs.Shape.{IsShape}
-use Rattle.gic_base.specs.Interrupt.{interrupt_count, key_at, place_of}
-use Rattle.gic_dmap.specs.declared.contents.Enables.{Enables}
-use Rattle.gic_dmap.specs.Contents.{enables_in, ctlr_of as dist_ctlr_of}
-use Rattle.gic_dmap.specs.declared.map.Reg.TheVariants.{Ctlr as DistCtlr}
-use Rattle.gic_frame.specs.declared.bank.Half.TheVariants.{Whole}
-use Rattle.gic_word.specs.declared.record.Irq.{Irq}
-use Rattle.gic_call.specs.declared.event.Event.{Event}
-use Rattle.gic_call.specs.declared.event.Event.TheVariants.{Read, CtlrBegin, CtlrEnd as CtlrEndEvent}
-use Rattle.gic_call.specs.declared.event.Found.TheVariants.{Record, Nothing}
-use Rattle.gic_call.specs.declared.event.Place.TheVariants.{Ctlr as CtlrPlace}
-use Rattle.gic_call.specs.Access.{copy_at, ctlr_events}
-use Rattle.gic_call.specs.Trace.{Happened, HandsOut, IsLastRead, is_beside, named_of, held_at}
-use Rattle.gic_call.specs.View.{View}
-use Rattle.port_core.specs.declared.local.Local.{Local}
-use Rattle.port_core.specs.declared.run.Made.{Made}
-use Rattle.port_core.specs.declared.step.CoreStep.TheVariants.{Look, CtlrEnd}
-use Rattle.port_core.specs.declared.word_id.WordId.TheVariants.{Ctlr}
-use Rattle.port_core.specs.Forms.{ctlr_of}
-use Rattle.port_core.specs.Local.{owes_nothing}
-use Rattle.port_core.specs.Port.{Seen, AddsStep, shape_of, made_by, part_events}
-use Rattle.port_core.proofs.PortLemmas.{adds_join}
-use Rattle.port_call.specs.Rest.{IsAtEase}
-use Rattle.port_call.proofs.PieceLemmas.{piece_one}
-use Rattle.port_call.proofs.SettleLemmas.{handed_none}
-use Rattle.port_call.proofs.TryLemmas.{none_append}
-use Rattle.port_call.proofs.TurnLemmas.{events_then}
+use Rattle.its_exec.specs.Registers.{Enables, enables_in, Whole}
+use Rattle.its_exec.specs.GicDmap.Contents.{ctlr_of as dist_ctlr_of}
+use Rattle.its_exec.specs.GicDmap.declared.map.Reg.TheVariants.{Ctlr as DistCtlr}
+use Rattle.its_exec.specs.Calls.{Event, CtlrBegin, CtlrEnd as CtlrEndEvent, Record, copy_at, ctlr_events, Happened, HandsOut, IsLastRead, is_beside, named_of, held_at, View}
+use Rattle.its_exec.specs.GicCall.declared.event.Event.TheVariants.{Read}
+use Rattle.its_exec.specs.GicCall.declared.event.Found.TheVariants.{Nothing}
+use Rattle.its_exec.specs.GicCall.declared.event.Place.TheVariants.{Ctlr as CtlrPlace}
+use Rattle.its_exec.specs.Core.{Local, Made, Look, CtlrEnd, Ctlr, ctlr_of, owes_nothing, Seen, AddsStep, shape_of, made_by, part_events}
+use Rattle.its_exec.proofs.PortCore.PortLemmas.{adds_join}
+use Rattle.its_exec.specs.PortCall.Rest.{IsAtEase}
+use Rattle.its_exec.proofs.PortCall.PieceLemmas.{piece_one}
+use Rattle.its_exec.proofs.PortCall.SettleLemmas.{handed_none}
+use Rattle.its_exec.proofs.PortCall.TryLemmas.{none_append}
+use Rattle.its_exec.proofs.PortCall.TurnLemmas.{events_then}
 use Rattle.pe_mem.specs.Call.{NamesAll, is_key_of}
 use Rattle.pe_mem.specs.Ctlr.{is_ctlr_read, is_ctlr_read_event, TakesMark, CopiesEnables}
 use Rattle.pe_mem.specs.Dist.{ReadsDist, WritesDist}

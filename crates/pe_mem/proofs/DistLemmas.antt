@@ -1,40 +1,20 @@
 -- Accesses of the distributor.
 use Rattle.std.proofs.Common.{◌≡◌, ◌⊎◌, inl, inr, ℕ, ◌+◌, ◌%◌, ◌^◌, ◌<◌, ◌&&◌, Bool, true, false, if◌then◌else◌, IsTrue, List, [], ◌∷◌, Option, Some, None, refl, sym, ap, subst, ◌∙◌, arith}
 use Rattle.std.specs.Option.{option_map_or}
-use Rattle.gic_base.specs.declared.interrupt.Key.{Key}
-use Rattle.gic_base.specs.declared.interrupt.Key.TheVariants.{Spi}
-use Rattle.gic_base.specs.declared.operation.Frame.TheVariants.{Dist}
-use Rattle.gic_base.specs.declared.operation.Kind.{Kind}
-use Rattle.gic_base.specs.declared.operation.Kind.TheVariants.{SetPending, ClearPending, Routing}
-use Rattle.gic_base.specs.declared.shape.GuestShape.{GuestShape}
-use Rattle.gic_base.specs.Interrupt.{has_interrupt}
-use Rattle.gic_dmap.specs.declared.map.Reg.{Reg}
-use Rattle.gic_dmap.specs.declared.map.Reg.TheVariants.{Ctlr, Typer, Iidr, SetSpi, ClrSpi, Router, Pidr2}
-use Rattle.gic_dmap.specs.declared.map.RegRef.{RegRef}
-use Rattle.gic_dmap.specs.declared.map.RegRef.TheVariants.{Bits, Plain, Reserved}
-use Rattle.gic_dmap.specs.Contents.{message_intid}
-use Rattle.gic_frame.specs.declared.bank.Half.{Half}
-use Rattle.gic_frame.specs.declared.bank.Half.TheVariants.{Low, High, Whole}
-use Rattle.gic_frame.specs.Half.{half_limit, half_read, half_written}
-use Rattle.gic_reg.specs.Condition.{has_part}
-use Rattle.gic_reg.specs.Touch.{part_read, route_read}
-use Rattle.gic_word.specs.declared.record.Irq.{Irq}
-use Rattle.gic_word.specs.declared.record.Route.{Route}
-use Rattle.gic_word.specs.declared.record.Route.TheVariants.{Affinity, Target}
-use Rattle.gic_word.specs.Valid.{is_routed_as}
-use Rattle.gic_word.specs.Word.{IsRoute, irq_of}
-use Rattle.gic_call.specs.declared.event.Event.{Event}
-use Rattle.gic_call.specs.declared.event.Event.TheVariants.{Touch, Raise as RaiseEvent}
-use Rattle.gic_call.specs.declared.touch.Touching.TheVariants.{Read, Register}
-use Rattle.gic_call.specs.Access.{part_key, part_at, part_events as parts_events, of_spi, router_touch, dist_plain, dist_held}
-use Rattle.gic_call.specs.Trace.{dist_places}
-use Rattle.gic_call.specs.View.{View}
-use Rattle.gic_frame.proofs.TestLemmas.{is_under}
-use Rattle.port_core.specs.declared.step.CoreStep.TheVariants.{Raise}
-use Rattle.port_core.specs.Port.{Seen, shape_of}
-use Rattle.port_call.specs.Rest.{IsAtEase}
-use Rattle.port_call.specs.Tell.{Tells}
-use Rattle.port_call.specs.Touch.{Touches}
+use Rattle.its_exec.specs.Words.{Key, Spi, Dist, Kind, SetPending, ClearPending, Routing, GuestShape, has_interrupt, Irq, Route, Affinity, Target, is_routed_as, IsRoute, irq_of}
+use Rattle.its_exec.specs.GicDmap.declared.map.Reg.{Reg}
+use Rattle.its_exec.specs.Registers.{SetSpi, ClrSpi, Router, message_intid, Half, Low, High, Whole, half_limit, half_read, half_written, has_part, part_read, route_read}
+use Rattle.its_exec.specs.GicDmap.declared.map.Reg.TheVariants.{Ctlr, Typer, Iidr, Pidr2}
+use Rattle.its_exec.specs.GicDmap.declared.map.RegRef.{RegRef}
+use Rattle.its_exec.specs.GicDmap.declared.map.RegRef.TheVariants.{Bits, Plain, Reserved}
+use Rattle.its_exec.specs.Calls.{Event, Touch, Register, part_key, part_at, part_events as parts_events, of_spi, router_touch, dist_plain, dist_held, dist_places, View}
+use Rattle.its_exec.specs.GicCall.declared.event.Event.TheVariants.{Raise as RaiseEvent}
+use Rattle.its_exec.specs.GicCall.declared.touch.Touching.TheVariants.{Read}
+use Rattle.its_exec.proofs.GicFrame.TestLemmas.{is_under}
+use Rattle.its_exec.specs.Core.{Raise, Seen, shape_of}
+use Rattle.its_exec.specs.PortCall.Rest.{IsAtEase}
+use Rattle.its_exec.specs.PortCall.Tell.{Tells}
+use Rattle.its_exec.specs.PortCall.Touch.{Touches}
 use Rattle.pe_mem.specs.declared.attempt.PartAccess.TheVariants.{WritesHalf}
 use Rattle.pe_mem.specs.Call.{is_key_of}
 use Rattle.pe_mem.specs.Dist.{ServesDist, ReadsDist, WritesDist}

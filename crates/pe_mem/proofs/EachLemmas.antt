@@ -4,40 +4,24 @@ use Rattle.std.specs.List.{range_with_len, filter_map, cons_option, list_any}
 use Rattle.std.specs.Option.{option_map_or, option_to_list}
 use Rattle.std.proofs.lemmas.Bool.{ne_eqb, eq-eqb, eqb-true}
 use Rattle.std.proofs.lemmas.List.Folds.{list_any-append}
-use Rattle.gic_aff.specs.declared.sgi.Targets.{Targets}
+use Rattle.its_exec.specs.Registers.{Targets, joined, part_at}
 use Rattle.std.proofs.lemmas.List.Elements.{All-head, All-tail, All-nil, All-push}
-use Rattle.gic_base.specs.declared.interrupt.Key.{Key}
-use Rattle.gic_base.specs.declared.operation.Kind.{Kind}
-use Rattle.gic_base.specs.Interrupt.{is_same_key}
-use Rattle.gic_base.proofs.KeyLemmas.{same_itself}
-use Rattle.gic_frame.specs.Parts.{joined, part_at}
-use Rattle.gic_word.specs.declared.record.Irq.{Irq}
-use Rattle.gic_word.specs.Word.{irq_of}
-use Rattle.gic_call.specs.declared.event.Event.{Event}
-use Rattle.gic_call.specs.declared.event.Event.TheVariants.{Touch}
-use Rattle.gic_call.specs.declared.event.Found.TheVariants.{Record}
-use Rattle.gic_call.specs.declared.event.Operation.{Operation}
-use Rattle.gic_call.specs.declared.touch.Touching.{Touching}
-use Rattle.gic_call.specs.Trace.{Happened, Makes, HandsOut, IsLastRead, is_beside, named_of, held_at}
-use Rattle.gic_call.specs.View.{View}
-use Rattle.gic_call.proofs.RangeLemmas.{filter_map_more, filter_map_found, filter_map_none}
-use Rattle.gic_history.specs.Named.{key_in, names}
-use Rattle.port_core.specs.declared.local.Local.{Local}
-use Rattle.port_core.specs.declared.run.Made.{Made}
-use Rattle.port_core.specs.Known.{known_view}
-use Rattle.port_core.specs.Port.{Seen, Adds, shape_of, part_events}
-use Rattle.port_core.proofs.PortLemmas.{adds_join}
-use Rattle.core_proper.specs.Parts.{makes}
-use Rattle.core_proper.specs.Progress.{is_end_of, progress_of}
-use Rattle.port_call.specs.About.{IsNamedPiece}
-use Rattle.port_call.specs.Piece.{IsIdle, IsGoodPiece, IsPiece}
-use Rattle.port_call.specs.Rest.{IsAtEase, StaysAtEase}
-use Rattle.port_call.specs.Touch.{Touches}
-use Rattle.port_call.proofs.PieceLemmas.{seen_nil, piece_nil, good_joins}
-use Rattle.port_call.proofs.RestLemmas.{owes_none, ease_owes}
-use Rattle.port_call.proofs.TouchLemmas.{named_good}
-use Rattle.port_call.proofs.TryLemmas.{none_append}
-use Rattle.port_call.proofs.TurnLemmas.{events_then}
+use Rattle.its_exec.specs.Words.{Key, Kind, is_same_key, Irq, irq_of}
+use Rattle.its_exec.proofs.GicBase.KeyLemmas.{same_itself}
+use Rattle.its_exec.specs.Calls.{Event, Touch, Record, Operation, Touching, Happened, Makes, HandsOut, IsLastRead, is_beside, named_of, held_at, View}
+use Rattle.its_exec.proofs.GicCall.RangeLemmas.{filter_map_more, filter_map_found, filter_map_none}
+use Rattle.its_exec.specs.Histories.{key_in, names}
+use Rattle.its_exec.specs.Core.{Local, Made, known_view, Seen, Adds, shape_of, part_events, makes, is_end_of, progress_of}
+use Rattle.its_exec.proofs.PortCore.PortLemmas.{adds_join}
+use Rattle.its_exec.specs.PortCall.About.{IsNamedPiece}
+use Rattle.its_exec.specs.PortCall.Piece.{IsIdle, IsGoodPiece, IsPiece}
+use Rattle.its_exec.specs.PortCall.Rest.{IsAtEase, StaysAtEase}
+use Rattle.its_exec.specs.PortCall.Touch.{Touches}
+use Rattle.its_exec.proofs.PortCall.PieceLemmas.{seen_nil, piece_nil, good_joins}
+use Rattle.its_exec.proofs.PortCall.RestLemmas.{owes_none, ease_owes}
+use Rattle.its_exec.proofs.PortCall.TouchLemmas.{named_good}
+use Rattle.its_exec.proofs.PortCall.TryLemmas.{none_append}
+use Rattle.its_exec.proofs.PortCall.TurnLemmas.{events_then}
 use Rattle.pe_mem.specs.Call.{IsPieceOf, NamesAll, is_key_of}
 use Rattle.pe_mem.specs.Each.{touched_at, TouchesEach}
 

@@ -3,36 +3,22 @@ use Rattle.std.proofs.Common.{zero, suc, ◌≡◌, ℕ, ◌+◌, ◌-◌, ◌<�
 use Rattle.std.specs.List.{range_with_len, filter_map, flat_map}
 use Rattle.std.specs.Option.{option_map_or}
 use Rattle.std.proofs.lemmas.List.Elements.{All-cons, All-nil, All-append}
-use Rattle.gic_base.specs.declared.interrupt.Key.TheVariants.{Lpi}
-use Rattle.gic_base.specs.declared.shape.GuestShape.{GuestShape}
-use Rattle.gic_base.specs.Interrupt.{intid_of}
-use Rattle.gic_lpi.specs.Tables.{pending_address}
-use Rattle.gic_open.specs.declared.plain.PlainWord.{PlainWord}
-use Rattle.gic_open.specs.declared.plain.PlainWord.TheVariants.{Ram, Pendbaser}
-use Rattle.gic_ram.specs.declared.access.Part.{Part}
-use Rattle.gic_word.specs.declared.record.Irq.{Irq}
-use Rattle.gic_word.specs.Record.{is_number}
-use Rattle.gic_call.specs.declared.event.Event.{Event}
-use Rattle.gic_call.specs.declared.event.Event.TheVariants.{Touch, Read, Enable}
-use Rattle.gic_call.specs.declared.event.Found.TheVariants.{Record, Word as FoundWord, Lpis as FoundLpis}
-use Rattle.gic_call.specs.declared.event.Place.{Place}
-use Rattle.gic_call.specs.declared.event.Place.TheVariants.{Word}
-use Rattle.gic_call.specs.Access.{is_table_zero, pended_at, enable_events, lpis_of, is_in_table}
-use Rattle.gic_call.specs.Trace.{Happened, Makes, HandsOut, IsLastRead, named_of, held_at, memory_places, table_places}
-use Rattle.gic_call.specs.View.{View}
-use Rattle.gic_history.specs.Named.{before_enabling}
-use Rattle.port_core.specs.declared.run.Made.{Made}
-use Rattle.port_core.specs.declared.step.CoreStep.TheVariants.{EnableLpis}
-use Rattle.port_core.specs.Forms.{vcpu_of}
-use Rattle.port_core.specs.Port.{Seen, Adds, AddsStep, shape_of, made_by, part_events}
-use Rattle.port_core.proofs.PortLemmas.{adds_join}
-use Rattle.port_call.specs.Piece.{takes_none, IsPiece}
-use Rattle.port_call.specs.Plain.{ReadsPlain}
-use Rattle.port_call.specs.Rest.{IsAtEase, StaysAtEase}
-use Rattle.port_call.proofs.PieceLemmas.{piece_one}
-use Rattle.port_call.proofs.SettleLemmas.{handed_none}
-use Rattle.port_call.proofs.TryLemmas.{none_append}
-use Rattle.port_call.proofs.TurnLemmas.{piece_then, events_then}
+use Rattle.its_exec.specs.Words.{Lpi, GuestShape, intid_of, Irq, is_number, has_interrupt}
+use Rattle.its_exec.specs.Registers.{pending_address, Part}
+use Rattle.its_exec.specs.Calls.{PlainWord, Ram, Pendbaser, Event, Touch, Enable, Record, Place, is_table_zero, pended_at, enable_events, lpis_of, is_in_table, Happened, Makes, HandsOut, IsLastRead, named_of, held_at, memory_places, table_places, View}
+use Rattle.its_exec.specs.GicCall.declared.event.Event.TheVariants.{Read}
+use Rattle.its_exec.specs.GicCall.declared.event.Found.TheVariants.{Word as FoundWord, Lpis as FoundLpis}
+use Rattle.its_exec.specs.GicCall.declared.event.Place.TheVariants.{Word}
+use Rattle.its_exec.specs.Histories.{before_enabling}
+use Rattle.its_exec.specs.Core.{Made, EnableLpis, vcpu_of, Seen, Adds, AddsStep, shape_of, made_by, part_events}
+use Rattle.its_exec.proofs.PortCore.PortLemmas.{adds_join}
+use Rattle.its_exec.specs.PortCall.Piece.{takes_none, IsPiece}
+use Rattle.its_exec.specs.PortCall.Plain.{ReadsPlain}
+use Rattle.its_exec.specs.PortCall.Rest.{IsAtEase, StaysAtEase}
+use Rattle.its_exec.proofs.PortCall.PieceLemmas.{piece_one}
+use Rattle.its_exec.proofs.PortCall.SettleLemmas.{handed_none}
+use Rattle.its_exec.proofs.PortCall.TryLemmas.{none_append}
+use Rattle.its_exec.proofs.PortCall.TurnLemmas.{piece_then, events_then}
 use Rattle.pe_mem.specs.Call.{NamesBy}
 use Rattle.pe_mem.specs.Each.{touched_at}
 use Rattle.pe_mem.specs.Pending.{part_of_number, pend}
@@ -41,7 +27,6 @@ use Rattle.pe_mem.specs.declared.pending.Fetched.{Fetched}
 use Rattle.pe_mem.proofs.EachLemmas.{found_below, all_below, events_of_touched, own_joins, own_of_piece, stays_self}
 use Rattle.pe_mem.proofs.ServeLemmas.{nothing_known, one_made}
 use Rattle.pe_mem.proofs.TableLemmas.{TableBase, TableSoFar, is_pended, pend_at, last_read_before, unread_of}
-use Rattle.gic_base.specs.Interrupt.{has_interrupt}
 use Rattle.std.proofs.lemmas.Bool.{and_parts, leb-true, ltb-true}
 use Rattle.pe_mem.specs.Found.{reads_bit}
 use Rattle.pe_mem.specs.Looked.{IsLookedAt, all_events, comes_before}

@@ -3,13 +3,10 @@ use Rattle.std.proofs.Common.{◌≡◌, ℕ, true, false, IsTrue, List, ◌++�
 use Rattle.std.proofs.lemmas.Bool.{and_from}
 use Rattle.std.proofs.lemmas.List.{append_assoc}
 use Rattle.std.proofs.lemmas.List.Folds.{list_all-append}
-use Rattle.gic_call.specs.declared.event.Operation.{Operation}
-use Rattle.gic_call.specs.Trace.{Beside, Happened, IsCall}
-use Rattle.port_core.specs.declared.run.Made.{Made}
-use Rattle.port_core.specs.Port.{Seen, Adds, local_by, part_events, shape_of}
-use Rattle.port_core.proofs.PortLemmas.{local_joins}
-use Rattle.core_proper.specs.Called.{maps_taken, vcpu_of_actor}
-use Rattle.port_call.proofs.TurnLemmas.{events_then}
+use Rattle.its_exec.specs.Calls.{Operation, Beside, Happened, IsCall}
+use Rattle.its_exec.specs.Core.{Made, Seen, Adds, local_by, part_events, shape_of, maps_taken, vcpu_of_actor}
+use Rattle.its_exec.proofs.PortCore.PortLemmas.{local_joins}
+use Rattle.its_exec.proofs.PortCall.TurnLemmas.{events_then}
 use Rattle.its_exec.specs.Queue.{Taken}
 use Rattle.pe_mem.specs.Found.{IsCallAsFound, TookAmong, are_before, by_looks, is_before, takes_its_by}
 

@@ -1,3 +1,7 @@
+pub use Rattle.its_exec.proofs.CoreProper
+pub use Rattle.its_exec.proofs as ItsExec
+pub use Rattle.its_exec.proofs.PortCall
+pub use Rattle.its_exec.proofs.PortCore
 pub mod LookedLemmas
 pub mod PartLemmas
 pub mod EachLemmas

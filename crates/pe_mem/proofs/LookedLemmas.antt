@@ -3,16 +3,11 @@ use Rattle.std.proofs.Common.{◌≡◌, ℕ, ◌≤◌, Bool, true, IsTrue, Lis
 use Rattle.std.proofs.lemmas.Bool.{and_from, and_parts, lt-ltb, ltb-true}
 use Rattle.std.proofs.lemmas.List.{append_assoc}
 use Rattle.std.proofs.lemmas.List.Folds.{list_all-append}
-use Rattle.gic_base.specs.declared.interrupt.Key.TheVariants.{Lpi}
-use Rattle.gic_word.specs.Record.{target_in}
-use Rattle.gic_word.specs.Word.{irq_of}
-use Rattle.gic_call.specs.declared.event.Event.{Event}
-use Rattle.gic_call.specs.declared.event.Event.TheVariants.{Touch}
-use Rattle.gic_call.specs.Trace.{Happened}
-use Rattle.port_core.specs.declared.run.Made.{Made}
-use Rattle.port_core.specs.Port.{Seen, Adds, part_events, seen_after, shape_of}
-use Rattle.port_core.proofs.PortLemmas.{seen_joins}
-use Rattle.port_call.proofs.TurnLemmas.{events_then}
+use Rattle.its_exec.specs.Words.{Lpi, target_in, irq_of}
+use Rattle.its_exec.specs.Calls.{Event, Touch, Happened}
+use Rattle.its_exec.specs.Core.{Made, Seen, Adds, part_events, seen_after, shape_of}
+use Rattle.its_exec.proofs.PortCore.PortLemmas.{seen_joins}
+use Rattle.its_exec.proofs.PortCall.TurnLemmas.{events_then}
 use Rattle.its_exec.specs.Parts.{LooksAtTarget}
 use Rattle.pe_mem.specs.Looked.{IsLookedAt, all_events, comes_after, comes_before}
 

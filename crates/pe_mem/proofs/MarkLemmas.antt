@@ -5,28 +5,17 @@ use Rattle.std.specs.Option.{option_to_list}
 use Rattle.std.proofs.lemmas.Bool.{eq-eqb, eqb-true}
 use Rattle.std.proofs.lemmas.List.{append_assoc}
 use Rattle.std.proofs.lemmas.List.Folds.{list_all-append}
-use Rattle.gic_dmap.specs.declared.contents.Enables.{Enables}
-use Rattle.gic_dmap.specs.Contents.{enables_in}
-use Rattle.gic_call.specs.declared.event.Event.TheVariants.{CtlrBegin}
-use Rattle.gic_call.specs.declared.event.Found.TheVariants.{Nothing}
-use Rattle.gic_call.specs.Trace.{Happened}
-use Rattle.gic_word.specs.Record.{is_number}
-use Rattle.port_core.specs.declared.local.Local.{Local}
-use Rattle.port_core.specs.declared.step.CoreStep.TheVariants.{Look, CtlrTake}
-use Rattle.port_core.specs.declared.word_id.WordId.TheVariants.{Ctlr}
-use Rattle.port_core.specs.After.{local_done}
-use Rattle.port_core.specs.Effect.{succeeds}
-use Rattle.port_core.specs.Forms.{ctlr_of}
-use Rattle.port_core.specs.Known.{known}
-use Rattle.port_core.specs.Place.{place_of_word}
-use Rattle.port_core.specs.Port.{Seen, AddsStep, shape_of, made_by, part_events}
-use Rattle.port_core.specs.Stands.{event_done}
-use Rattle.port_core.proofs.PortLemmas.{adds_join}
-use Rattle.port_call.specs.Piece.{goes_by_known}
-use Rattle.port_call.proofs.PieceLemmas.{seen_nil, piece_nil, piece_one}
-use Rattle.port_call.proofs.SettleLemmas.{handed_none}
-use Rattle.port_call.proofs.TryLemmas.{none_append}
-use Rattle.port_call.proofs.TurnLemmas.{piece_then, events_then, known_by_last}
+use Rattle.its_exec.specs.Registers.{Enables, enables_in}
+use Rattle.its_exec.specs.Calls.{CtlrBegin, Happened}
+use Rattle.its_exec.specs.GicCall.declared.event.Found.TheVariants.{Nothing}
+use Rattle.its_exec.specs.Words.{is_number}
+use Rattle.its_exec.specs.Core.{Local, Look, CtlrTake, Ctlr, local_done, succeeds, ctlr_of, known, place_of_word, Seen, AddsStep, shape_of, made_by, part_events, event_done}
+use Rattle.its_exec.proofs.PortCore.PortLemmas.{adds_join}
+use Rattle.its_exec.specs.PortCall.Piece.{goes_by_known}
+use Rattle.its_exec.proofs.PortCall.PieceLemmas.{seen_nil, piece_nil, piece_one}
+use Rattle.its_exec.proofs.PortCall.SettleLemmas.{handed_none}
+use Rattle.its_exec.proofs.PortCall.TryLemmas.{none_append}
+use Rattle.its_exec.proofs.PortCall.TurnLemmas.{piece_then, events_then, known_by_last}
 use Rattle.pe_mem.specs.Ctlr.{is_ctlr_read, MissesMark, TakesMark, TriesMark}
 
 both : (a b : Bool) → IsTrue a → IsTrue b → IsTrue (a && b)

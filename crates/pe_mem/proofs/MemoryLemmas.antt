@@ -1,20 +1,13 @@
 -- Accesses of the guest's memory.
 use Rattle.std.proofs.Common.{◌≡◌, ℕ, List, [], ◌∷◌, map, Option, Some, None, refl, sym, ap, subst}
 use Rattle.std.specs.Option.{option_map_or}
-use Rattle.gic_base.specs.declared.operation.Frame.TheVariants.{Ram as Memory}
-use Rattle.gic_open.specs.declared.plain.PlainWord.TheVariants.{Ram}
-use Rattle.gic_ram.specs.declared.access.Part.{Part}
-use Rattle.gic_ram.specs.Access.{part_of, inserted}
-use Rattle.gic_call.specs.declared.event.Event.{Event}
-use Rattle.gic_call.specs.declared.event.Event.TheVariants.{Put}
-use Rattle.gic_call.specs.declared.event.Place.{Place}
-use Rattle.gic_call.specs.declared.event.Place.TheVariants.{Word}
-use Rattle.gic_call.specs.Access.{memory_written}
-use Rattle.gic_call.specs.Trace.{Happened, Makes, memory_places}
-use Rattle.gic_call.specs.View.{View}
-use Rattle.port_core.specs.Port.{Seen, shape_of}
-use Rattle.port_call.specs.Memory.{ReadsMemory, view_by, read_as}
-use Rattle.port_call.specs.Rest.{IsAtEase, StaysAtEase}
+use Rattle.its_exec.specs.Words.{Ram as Memory}
+use Rattle.its_exec.specs.Calls.{Ram, Event, Put, Place, memory_written, Happened, Makes, memory_places, View}
+use Rattle.its_exec.specs.Registers.{Part, part_of, inserted}
+use Rattle.its_exec.specs.GicCall.declared.event.Place.TheVariants.{Word}
+use Rattle.its_exec.specs.Core.{Seen, shape_of}
+use Rattle.its_exec.specs.PortCall.Memory.{ReadsMemory, view_by, read_as}
+use Rattle.its_exec.specs.PortCall.Rest.{IsAtEase, StaysAtEase}
 use Rattle.pe_mem.specs.Call.{ServesAccess}
 use Rattle.pe_mem.specs.Store.{changed_by, Updates}
 use Rattle.pe_mem.specs.declared.store.Change.TheVariants.{Bits}

@@ -1,27 +1,14 @@
 -- Accesses to the part of one interrupt.
 use Rattle.std.proofs.Common.{◌≡◌, ℕ, ◌^◌, nat_lt, IsTrue, Option, Some, None, refl, sym, ap, subst, ◌∙◌}
 use Rattle.std.proofs.lemmas.Bool.{and_parts}
-use Rattle.gic_base.specs.declared.interrupt.Key.{Key}
-use Rattle.gic_base.specs.declared.interrupt.Key.TheVariants.{Private, Spi, Lpi}
-use Rattle.gic_base.specs.declared.operation.Kind.{Kind}
-use Rattle.gic_base.specs.declared.operation.Kind.TheVariants.{Routing}
-use Rattle.gic_base.specs.declared.shape.GuestShape.{GuestShape}
-use Rattle.gic_frame.specs.Part.{part_bits}
-use Rattle.gic_reg.specs.Condition.{has_part, shows_route}
-use Rattle.gic_reg.specs.Touch.{part_read}
-use Rattle.gic_word.specs.declared.record.Irq.{Irq}
-use Rattle.gic_word.specs.declared.record.Route.{Route}
-use Rattle.gic_word.specs.declared.record.Route.TheVariants.{Affinity, Target}
-use Rattle.gic_word.specs.Valid.{is_routed_as, IsRecordOf}
-use Rattle.gic_word.specs.Word.{IsIrq, irq_of}
-use Rattle.gic_call.specs.declared.touch.Touching.{Touching}
-use Rattle.gic_call.specs.Touch.{CanTouch, has_shown_part}
-use Rattle.gic_call.proofs.AccessLemmas.{can_read}
-use Rattle.port_core.specs.Port.{Seen, shape_of}
-use Rattle.port_core.specs.Valid.{IsIrqWord}
-use Rattle.port_call.specs.declared.touching.Missed.{Missed}
-use Rattle.port_call.specs.Touch.{MissesTouch, Touches, Tries}
-use Rattle.port_call.proofs.TouchLemmas.{tries_then_touches}
+use Rattle.its_exec.specs.Words.{Key, Private, Spi, Lpi, Kind, Routing, GuestShape, Irq, Route, Affinity, Target, is_routed_as, IsRecordOf, IsIrq, irq_of}
+use Rattle.its_exec.specs.Registers.{part_bits, has_part, shows_route, part_read}
+use Rattle.its_exec.specs.Calls.{Touching, CanTouch, has_shown_part}
+use Rattle.its_exec.proofs.GicCall.AccessLemmas.{can_read}
+use Rattle.its_exec.specs.Core.{Seen, shape_of, IsIrqWord}
+use Rattle.its_exec.specs.PortCall.declared.touching.Missed.{Missed}
+use Rattle.its_exec.specs.PortCall.Touch.{MissesTouch, Touches, Tries}
+use Rattle.its_exec.proofs.PortCall.TouchLemmas.{tries_then_touches}
 use Rattle.pe_mem.specs.declared.attempt.PartAccess.{PartAccess}
 use Rattle.pe_mem.specs.Part.{touching_of, touching_by, part_answer, FitsPart, CanAttempt, Attempts, Misses, Accesses}
 

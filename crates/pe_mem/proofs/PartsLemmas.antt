@@ -2,27 +2,13 @@
 use Rattle.std.proofs.Common.{◌≡◌, ℕ, ◌+◌, ◌*◌, ◌<◌, ◌^◌, ◌&&◌, Bool, true, false, if◌then◌else◌, IfSome, Option, Some, None, option_map, refl, sym, ap, subst, ◌∙◌, arith}
 use Rattle.std.specs.Option.{option_map_or}
 use Rattle.std.proofs.lemmas.Bool.{ne_eqb, eq-eqb}
-use Rattle.gic_base.specs.declared.interrupt.Key.{Key}
-use Rattle.gic_base.specs.declared.interrupt.Key.TheVariants.{Private, Spi}
-use Rattle.gic_base.specs.declared.operation.Frame.{Frame}
-use Rattle.gic_base.specs.declared.operation.Frame.TheVariants.{Dist, Redist, Its, Ram as Memory}
-use Rattle.gic_base.specs.declared.operation.Kind.{Kind}
-use Rattle.gic_base.specs.declared.operation.Kind.TheVariants.{Group, SetEnable, ClearEnable, SetPending, ClearPending, SetActive, ClearActive, Priority, Config, Routing}
-use Rattle.gic_base.specs.declared.shape.GuestShape.{GuestShape}
-use Rattle.gic_base.specs.Interrupt.{has_interrupt, intid_of}
-use Rattle.gic_frame.specs.Part.{part_bits}
-use Rattle.gic_frame.specs.Parts.{joined, part_at}
-use Rattle.gic_reg.specs.Condition.{has_part}
-use Rattle.gic_reg.specs.Touch.{part_read}
-use Rattle.gic_word.specs.declared.record.Irq.{Irq}
-use Rattle.gic_word.specs.Word.{irq_of}
-use Rattle.gic_call.specs.declared.event.Event.{Event}
-use Rattle.gic_call.specs.declared.event.Event.TheVariants.{Touch}
-use Rattle.gic_call.specs.declared.touch.Touching.{Touching}
-use Rattle.gic_call.specs.Access.{part_key, part_touch, part_event}
-use Rattle.port_core.specs.Port.{Seen, shape_of}
-use Rattle.port_call.specs.Rest.{IsAtEase}
-use Rattle.port_call.specs.Touch.{Touches}
+use Rattle.its_exec.specs.Words.{Key, Private, Spi, Frame, Dist, Redist, Its, Ram as Memory, Kind, SetEnable, ClearEnable, SetPending, ClearPending, SetActive, ClearActive, Priority, Config, Routing, GuestShape, has_interrupt, intid_of, Irq, irq_of}
+use Rattle.its_exec.specs.GicBase.declared.operation.Kind.TheVariants.{Group}
+use Rattle.its_exec.specs.Registers.{part_bits, joined, part_at, has_part, part_read}
+use Rattle.its_exec.specs.Calls.{Event, Touch, Touching, part_key, part_touch, part_event}
+use Rattle.its_exec.specs.Core.{Seen, shape_of}
+use Rattle.its_exec.specs.PortCall.Rest.{IsAtEase}
+use Rattle.its_exec.specs.PortCall.Touch.{Touches}
 use Rattle.pe_mem.specs.Each.{part_written_of, number_answer, AccessesNumber, AccessesParts, TouchesEach}
 use Rattle.pe_mem.specs.Part.{touching_of, part_answer}
 use Rattle.pe_mem.proofs.EachLemmas.{with_irq, found_irq, joined_below, joined_more, touches_none, touches_kept, touches_more, ease_on}

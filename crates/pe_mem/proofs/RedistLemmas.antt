@@ -1,53 +1,35 @@
 -- Accesses of a redistributor.
-use Rattle.gic_frame.specs.declared.bank.Half.{Half}
-use Rattle.gic_call.specs.declared.event.Event.{Event}
+use Rattle.its_exec.specs.Registers.{Half, iidr, pidr2, half_read, has_lpis, Whole, Propbaser, Pendbaser, enable_lpis_after, pendbaser_read}
+use Rattle.its_exec.specs.Calls.{Event, PlainWord, Propbaser as PropbaserWord, Pendbaser as PendbaserWord, Put, Place, part_events as parts_events, enable_events, redist_held, redist_written, Happened, Makes, IsLastRead, held_at, redist_places, table_places, View}
 use Rattle.std.proofs.Common.{◌%◌, ◌^◌, ◌≡◌, ℕ, ◌&&◌, not, Bool, true, false, if◌then◌else◌, IsTrue, List, [], ◌∷◌, ◌++◌, All, Some, None, is_none, refl, sym, ap, subst, ◌∙◌, ◌==◌, Option, inl, inr, ◌⊎◌, arith}
 use Rattle.std.proofs.lemmas.Bool.{eq-eqb, ne_eqb}
-use Rattle.gic_base.specs.declared.shape.GuestShape.{GuestShape}
-use Rattle.gic_frame.specs.Identity.{iidr, pidr2}
+use Rattle.its_exec.specs.Words.{GuestShape, bit_of, has_bit, Redist, Kind, Lpi, has_interrupt}
 use Rattle.std.proofs.lemmas.List.Elements.{All-cons, All-nil, All-append, All-weaker}
-use Rattle.gic_bits.specs.Bits.{bit_of, has_bit}
-use Rattle.gic_base.specs.declared.operation.Frame.TheVariants.{Redist}
-use Rattle.gic_base.specs.declared.operation.Kind.{Kind}
-use Rattle.gic_frame.specs.Half.{half_read}
-use Rattle.gic_rmap.specs.declared.map.RegRef.{RegRef}
-use Rattle.gic_history.specs.Named.{before_enabling}
+use Rattle.its_exec.specs.GicRmap.declared.map.RegRef.{RegRef}
+use Rattle.its_exec.specs.Histories.{before_enabling}
 use Rattle.pe_mem.specs.Each.{AccessesParts}
 use Rattle.pe_mem.specs.declared.store.Change.TheVariants.{Propbaser as PropbaserChange, Pendbaser as PendbaserChange}
-use Rattle.gic_frame.specs.Guest.{has_lpis}
-use Rattle.gic_frame.specs.declared.bank.Half.TheVariants.{Whole}
-use Rattle.gic_open.specs.declared.plain.PlainWord.{PlainWord}
-use Rattle.gic_open.specs.declared.plain.PlainWord.TheVariants.{Propbaser as PropbaserWord, Pendbaser as PendbaserWord}
-use Rattle.gic_rmap.specs.declared.map.Reg.{Reg}
-use Rattle.gic_rmap.specs.declared.map.Reg.TheVariants.{Ctlr, Iidr, Typer, Propbaser, Pendbaser, Pidr2}
-use Rattle.gic_rmap.specs.declared.map.RegRef.TheVariants.{Bits, Plain, Reserved}
-use Rattle.gic_rmap.specs.Contents.{ctlr_of as redist_ctlr_of, enable_lpis_after, typer_of, pendbaser_read}
-use Rattle.gic_call.specs.declared.event.Event.TheVariants.{Read, Put}
-use Rattle.gic_call.specs.declared.event.Found.TheVariants.{Lpis as FoundLpis, Word as FoundWord}
-use Rattle.gic_call.specs.declared.event.Place.{Place}
-use Rattle.gic_call.specs.declared.event.Place.TheVariants.{Lpis, Word}
-use Rattle.gic_call.specs.Access.{part_events as parts_events, enable_events, redist_held, redist_written}
-use Rattle.gic_call.specs.Trace.{Happened, Makes, IsLastRead, held_at, redist_places, table_places}
-use Rattle.gic_call.specs.View.{View}
-use Rattle.port_core.specs.declared.step.CoreStep.TheVariants.{Look}
-use Rattle.port_core.specs.declared.word_id.WordId.TheVariants.{Vcpu}
-use Rattle.port_core.specs.Forms.{vcpu_of}
-use Rattle.port_core.specs.Port.{Seen, AddsStep, shape_of, made_by, part_events}
-use Rattle.port_core.proofs.PortLemmas.{adds_join}
-use Rattle.port_call.specs.Plain.{is_event_word, ReadsPlain}
-use Rattle.port_call.specs.Rest.{IsAtEase, StaysAtEase}
-use Rattle.port_call.proofs.PieceLemmas.{seen_nil, piece_nil, piece_one}
-use Rattle.port_call.proofs.SettleLemmas.{handed_none}
-use Rattle.port_call.proofs.TryLemmas.{none_append}
-use Rattle.port_call.proofs.TurnLemmas.{piece_then, events_then}
+use Rattle.its_exec.specs.GicRmap.declared.map.Reg.{Reg}
+use Rattle.its_exec.specs.GicRmap.declared.map.Reg.TheVariants.{Ctlr, Iidr, Typer, Pidr2}
+use Rattle.its_exec.specs.GicRmap.declared.map.RegRef.TheVariants.{Bits, Plain, Reserved}
+use Rattle.its_exec.specs.GicRmap.Contents.{ctlr_of as redist_ctlr_of, typer_of}
+use Rattle.its_exec.specs.GicCall.declared.event.Event.TheVariants.{Read}
+use Rattle.its_exec.specs.GicCall.declared.event.Found.TheVariants.{Lpis as FoundLpis, Word as FoundWord}
+use Rattle.its_exec.specs.GicCall.declared.event.Place.TheVariants.{Lpis, Word}
+use Rattle.its_exec.specs.Core.{Look, Vcpu, vcpu_of, Seen, AddsStep, shape_of, made_by, part_events}
+use Rattle.its_exec.proofs.PortCore.PortLemmas.{adds_join}
+use Rattle.its_exec.specs.PortCall.Plain.{is_event_word, ReadsPlain}
+use Rattle.its_exec.specs.PortCall.Rest.{IsAtEase, StaysAtEase}
+use Rattle.its_exec.proofs.PortCall.PieceLemmas.{seen_nil, piece_nil, piece_one}
+use Rattle.its_exec.proofs.PortCall.SettleLemmas.{handed_none}
+use Rattle.its_exec.proofs.PortCall.TryLemmas.{none_append}
+use Rattle.its_exec.proofs.PortCall.TurnLemmas.{piece_then, events_then}
 use Rattle.pe_mem.specs.Call.{Serves, ServesFreely}
 use Rattle.pe_mem.specs.Redist.{LooksAtLpis, StoresTable, ReadsRedist, WritesRedist, EnablesLpis, ServesRedist}
 use Rattle.pe_mem.specs.Store.{changed_by, Updates}
 use Rattle.pe_mem.proofs.EachLemmas.{stays_self}
 use Rattle.pe_mem.proofs.ServeLemmas.{nothing_known, none_made, read_made, freely_nothing, freely_read, serves_freely, serves_nothing, serves_each, serves_parts, parts_read}
 use Rattle.pe_mem.proofs.UpdateLemmas.{stored_view, is_put, put_made}
-use Rattle.gic_base.specs.declared.interrupt.Key.TheVariants.{Lpi}
-use Rattle.gic_base.specs.Interrupt.{has_interrupt}
 use Rattle.pe_mem.specs.Found.{reads_bit}
 use Rattle.pe_mem.specs.Looked.{IsLookedAt}
 

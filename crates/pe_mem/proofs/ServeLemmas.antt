@@ -3,34 +3,18 @@ use Rattle.std.proofs.Common.{◌≡◌, ℕ, ◌+◌, ◌-◌, ◌<◌, not, Bo
 use Rattle.std.specs.List.{range_with_len, filter_map}
 use Rattle.std.specs.Option.{option_map_or}
 use Rattle.std.proofs.lemmas.List.Elements.{All-cons, All-nil}
-use Rattle.gic_base.specs.declared.interrupt.Key.{Key}
-use Rattle.gic_base.specs.declared.operation.Frame.{Frame}
-use Rattle.gic_base.specs.declared.operation.Kind.{Kind}
-use Rattle.gic_base.specs.declared.shape.GuestShape.{GuestShape}
-use Rattle.gic_base.specs.Interrupt.{intid_of}
-use Rattle.gic_reg.specs.Touch.{part_read}
-use Rattle.gic_word.specs.declared.record.Irq.{Irq}
-use Rattle.gic_call.specs.declared.event.Event.{Event}
-use Rattle.gic_call.specs.declared.event.Event.TheVariants.{Touch, Read, Raise as RaiseEvent}
-use Rattle.gic_call.specs.declared.event.Found.TheVariants.{Record, Nothing}
-use Rattle.gic_call.specs.declared.event.Operation.{Operation}
-use Rattle.gic_call.specs.declared.event.Place.{Place}
-use Rattle.gic_call.specs.declared.touch.Touching.{Touching}
-use Rattle.gic_call.specs.Access.{part_key, part_touch, part_event, part_events as parts_events, part_at as part_read_at, part_value}
-use Rattle.gic_call.specs.Trace.{Happened, Makes, HandsOut, IsLastRead, is_beside, named_of, held_at, read_answer}
-use Rattle.gic_call.specs.View.{View}
-use Rattle.port_core.specs.declared.run.Made.{Made}
-use Rattle.port_core.specs.declared.step.CoreStep.TheVariants.{Raise}
-use Rattle.port_core.specs.After.{concerned}
-use Rattle.port_core.specs.Known.{known_view}
-use Rattle.port_core.specs.Port.{Seen, Adds, shape_of, part_events}
-use Rattle.gic_word.specs.Word.{irq_of}
-use Rattle.port_call.specs.Piece.{IsPiece, takes_none}
-use Rattle.port_call.specs.Rest.{IsAtEase, StaysAtEase}
-use Rattle.port_call.specs.Tell.{Tells}
-use Rattle.port_call.specs.Touch.{Touches}
-use Rattle.port_call.proofs.PieceLemmas.{seen_nil, piece_nil}
-use Rattle.port_call.proofs.RestLemmas.{told_at_ease}
+use Rattle.its_exec.specs.Words.{Key, Frame, Kind, GuestShape, intid_of, Irq, irq_of}
+use Rattle.its_exec.specs.Registers.{part_read}
+use Rattle.its_exec.specs.Calls.{Event, Touch, Record, Operation, Place, Touching, part_key, part_touch, part_event, part_events as parts_events, part_at as part_read_at, part_value, Happened, Makes, HandsOut, IsLastRead, is_beside, named_of, held_at, read_answer, View}
+use Rattle.its_exec.specs.GicCall.declared.event.Event.TheVariants.{Read, Raise as RaiseEvent}
+use Rattle.its_exec.specs.GicCall.declared.event.Found.TheVariants.{Nothing}
+use Rattle.its_exec.specs.Core.{Made, Raise, concerned, known_view, Seen, Adds, shape_of, part_events}
+use Rattle.its_exec.specs.PortCall.Piece.{IsPiece, takes_none}
+use Rattle.its_exec.specs.PortCall.Rest.{IsAtEase, StaysAtEase}
+use Rattle.its_exec.specs.PortCall.Tell.{Tells}
+use Rattle.its_exec.specs.PortCall.Touch.{Touches}
+use Rattle.its_exec.proofs.PortCall.PieceLemmas.{seen_nil, piece_nil}
+use Rattle.its_exec.proofs.PortCall.RestLemmas.{told_at_ease}
 use Rattle.pe_mem.specs.Call.{NamesAll, NamesBy, Serves, ServesFreely, is_key_of}
 use Rattle.pe_mem.specs.Each.{number_answer, AccessesParts, TouchesEach}
 use Rattle.pe_mem.specs.Part.{part_answer}

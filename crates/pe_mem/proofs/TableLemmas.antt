@@ -6,53 +6,28 @@ use Rattle.std.proofs.lemmas.List.Folds.{list_any-append}
 use Rattle.std.proofs.lemmas.Bool.{eq-eqb, ne_eqb, leb-true, lt-ltb, le-leb, cases_eq}
 use Rattle.std.proofs.lemmas.List.{append_assoc}
 use Rattle.std.proofs.lemmas.List.Elements.{All-cons, All-nil, All-append, filter-append}
-use Rattle.gic_base.specs.declared.interrupt.Key.{Key}
-use Rattle.gic_base.specs.declared.interrupt.Key.TheVariants.{Lpi}
-use Rattle.gic_base.specs.declared.shape.GuestShape.{GuestShape}
-use Rattle.gic_base.specs.Interrupt.{has_interrupt, is_same_key}
-use Rattle.gic_base.proofs.KeyLemmas.{same_key, same_itself}
-use Rattle.gic_bits.specs.Bits.{has_bit}
-use Rattle.gic_lpi.specs.Tables.{pending_address, table_at}
-use Rattle.gic_open.specs.declared.plain.PlainWord.{PlainWord}
-use Rattle.gic_open.specs.declared.plain.PlainWord.TheVariants.{Ram, Pendbaser}
-use Rattle.gic_open.specs.Plain.{place_of_plain, plain_count}
-use Rattle.gic_ram.specs.declared.access.Part.{Part}
-use Rattle.gic_ram.specs.Access.{part_of, extracted}
-use Rattle.gic_word.specs.declared.record.Irq.{Irq}
-use Rattle.gic_word.specs.Record.{is_number}
-use Rattle.gic_call.specs.declared.event.Event.{Event}
-use Rattle.gic_call.specs.declared.event.Event.TheVariants.{Touch, Read, Enable}
-use Rattle.gic_call.specs.declared.event.Found.{Found}
-use Rattle.gic_call.specs.declared.event.Found.TheVariants.{Record, Word as FoundWord}
-use Rattle.gic_call.specs.declared.event.Operation.{Operation}
-use Rattle.gic_call.specs.declared.event.Place.{Place}
-use Rattle.gic_call.specs.declared.event.Place.TheVariants.{Word}
-use Rattle.gic_call.specs.Access.{is_table_zero, is_in_table, pended_at, enable_events}
-use Rattle.gic_call.specs.Trace.{Happened, IsLastRead, is_beside, named_of}
-use Rattle.gic_call.specs.View.{View}
-use Rattle.gic_call.proofs.RangeLemmas.{filter_map_more, filter_map_found, filter_map_none}
-use Rattle.gic_history.specs.Named.{before_enabling, names, key_in}
-use Rattle.port_core.specs.declared.run.Made.{Made}
-use Rattle.port_core.specs.declared.step.CoreStep.{CoreStep}
-use Rattle.port_core.specs.declared.step.CoreStep.TheVariants.{Look, Raise, Touch as TouchStep, Want, Mark, Kick}
-use Rattle.port_core.specs.declared.word_id.WordId.TheVariants.{Irq as IrqWord, Plain}
-use Rattle.port_core.specs.Known.{known_view}
-use Rattle.port_core.specs.Place.{place_of_word, plain_from, blocks_from}
-use Rattle.port_core.specs.Step.{word_of}
-use Rattle.port_core.specs.Port.{Seen, Adds, shape_of, seen_after, part_events}
-use Rattle.port_core.proofs.PlaceLemmas.{lines_hold}
-use Rattle.port_core.proofs.PortLemmas.{adds_join}
-use Rattle.port_core.proofs.StepLocals.{no_bit}
-use Rattle.core_proper.specs.Progress.{is_end_of}
-use Rattle.port_call.specs.About.{is_about, are_about, IsNamedPiece}
-use Rattle.port_call.specs.Memory.{view_by}
-use Rattle.port_call.specs.Piece.{takes_none}
-use Rattle.port_call.specs.Rest.{IsAtEase, StaysAtEase}
-use Rattle.port_call.specs.Touch.{Touches}
-use Rattle.port_call.proofs.PieceLemmas.{seen_nil}
-use Rattle.port_call.proofs.TouchLemmas.{named_good}
-use Rattle.port_call.proofs.TryLemmas.{none_append}
-use Rattle.port_call.proofs.TurnLemmas.{events_then}
+use Rattle.its_exec.specs.Words.{Key, Lpi, GuestShape, has_interrupt, is_same_key, has_bit, Irq, is_number}
+use Rattle.its_exec.proofs.GicBase.KeyLemmas.{same_key, same_itself}
+use Rattle.its_exec.specs.Registers.{pending_address, table_at, Part, part_of, extracted}
+use Rattle.its_exec.specs.Calls.{PlainWord, Ram, Pendbaser, place_of_plain, plain_count, Event, Touch, Enable, Found, Record, Operation, Place, is_table_zero, is_in_table, pended_at, enable_events, Happened, IsLastRead, is_beside, named_of, View}
+use Rattle.its_exec.specs.GicCall.declared.event.Event.TheVariants.{Read}
+use Rattle.its_exec.specs.GicCall.declared.event.Found.TheVariants.{Word as FoundWord}
+use Rattle.its_exec.specs.GicCall.declared.event.Place.TheVariants.{Word}
+use Rattle.its_exec.proofs.GicCall.RangeLemmas.{filter_map_more, filter_map_found, filter_map_none}
+use Rattle.its_exec.specs.Histories.{before_enabling, names, key_in}
+use Rattle.its_exec.specs.Core.{Made, CoreStep, Look, Raise, Touch as TouchStep, Want, Mark, Kick, Irq as IrqWord, Plain, known_view, place_of_word, plain_from, blocks_from, word_of, Seen, Adds, shape_of, seen_after, part_events, is_end_of}
+use Rattle.its_exec.proofs.PortCore.PlaceLemmas.{lines_hold}
+use Rattle.its_exec.proofs.PortCore.PortLemmas.{adds_join}
+use Rattle.its_exec.proofs.PortCore.StepLocals.{no_bit}
+use Rattle.its_exec.specs.PortCall.About.{is_about, are_about, IsNamedPiece}
+use Rattle.its_exec.specs.PortCall.Memory.{view_by}
+use Rattle.its_exec.specs.PortCall.Piece.{takes_none}
+use Rattle.its_exec.specs.PortCall.Rest.{IsAtEase, StaysAtEase}
+use Rattle.its_exec.specs.PortCall.Touch.{Touches}
+use Rattle.its_exec.proofs.PortCall.PieceLemmas.{seen_nil}
+use Rattle.its_exec.proofs.PortCall.TouchLemmas.{named_good}
+use Rattle.its_exec.proofs.PortCall.TryLemmas.{none_append}
+use Rattle.its_exec.proofs.PortCall.TurnLemmas.{events_then}
 use Rattle.its_exec.specs.Known.{Knows}
 use Rattle.its_exec.specs.Parts.{LooksAtTarget}
 use Rattle.its_exec.proofs.FrameLemmas.{Leaves, leaves, knows_on, all_steps, off_each}

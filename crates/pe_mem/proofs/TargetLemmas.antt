@@ -3,40 +3,22 @@ use Rattle.std.proofs.Common.{◌≡◌, ℕ, ◌+◌, ◌&&◌, ◌||◌, not, 
 use Rattle.std.specs.List.{range_with_len, filter_map}
 use Rattle.std.proofs.lemmas.Bool.{and_from}
 use Rattle.std.proofs.lemmas.List.Elements.{All-weaker}
-use Rattle.gic_base.specs.declared.interrupt.Key.TheVariants.{Lpi}
-use Rattle.gic_base.specs.declared.operation.Frame.{Frame}
-use Rattle.gic_base.specs.declared.operation.Frame.TheVariants.{Dist, Redist, Its, Ram as Memory}
-use Rattle.gic_base.specs.declared.shape.GuestShape.{GuestShape}
-use Rattle.gic_base.specs.Interrupt.{has_interrupt}
-use Rattle.gic_dmap.specs.declared.map.Reg.TheVariants.{Router}
-use Rattle.gic_dmap.specs.declared.map.RegRef.{RegRef as DistRef}
-use Rattle.gic_dmap.specs.declared.map.RegRef.TheVariants.{Bits as DistBits, Plain as DistPlain, Reserved as DistReserved}
-use Rattle.gic_dmap.specs.Map.{decoded as dist_decoded}
-use Rattle.gic_rmap.specs.declared.map.Reg.TheVariants.{Ctlr as RedistCtlr, Propbaser as PropbaserReg, Pendbaser as PendbaserReg}
-use Rattle.gic_rmap.specs.declared.map.RegRef.{RegRef as RedistRef}
-use Rattle.gic_rmap.specs.declared.map.RegRef.TheVariants.{Bits as RedistBits, Plain as RedistPlain, Reserved as RedistReserved}
-use Rattle.gic_rmap.specs.Contents.{enable_lpis_after}
-use Rattle.gic_rmap.specs.Map.{decoded as redist_decoded}
-use Rattle.gic_imap.specs.declared.map.RegRef.{RegRef as ItsRef}
-use Rattle.gic_imap.specs.declared.map.RegRef.TheVariants.{Plain as ItsPlain, Reserved as ItsReserved}
-use Rattle.gic_imap.specs.Map.{decoded as its_decoded}
-use Rattle.gic_open.specs.declared.plain.PlainWord.TheVariants.{Pendbaser}
-use Rattle.gic_word.specs.Record.{is_number}
-use Rattle.gic_call.specs.declared.event.Event.{Event}
-use Rattle.gic_call.specs.declared.event.Event.TheVariants.{Touch, Put, Read, Enable, Cpu}
-use Rattle.gic_call.specs.declared.event.Found.{Found}
-use Rattle.gic_call.specs.declared.event.Place.{Place}
-use Rattle.gic_call.specs.declared.event.Place.TheVariants.{Word, Queue as QueuePlace, Ctlr, Lpis}
-use Rattle.gic_call.specs.Access.{dist_events, dist_value, enable_events, is_in_table, is_table_zero, its_value, pended_at, redist_events, redist_value}
-use Rattle.gic_call.specs.Call.{access_events, access_value, its_events}
-use Rattle.gic_call.specs.Trace.{Happened, HandsOut, IsLastRead, Makes, access_places, held_at, named_of, redist_places}
-use Rattle.gic_call.specs.View.{View}
-use Rattle.gic_base.specs.declared.operation.Kind.TheVariants.{SetPending}
-use Rattle.gic_call.specs.declared.touch.Touching.TheVariants.{Register}
-use Rattle.gic_frame.specs.Guest.{has_lpis}
-use Rattle.gic_frame.specs.Half.{half_read}
-use Rattle.gic_imap.specs.declared.map.Reg.{Reg as ItsReg}
-use Rattle.gic_call.specs.Access.{its_held, its_written}
+use Rattle.its_exec.specs.Words.{Lpi, Frame, Dist, Redist, Its, Ram as Memory, GuestShape, has_interrupt, is_number, SetPending}
+use Rattle.its_exec.specs.Registers.{Router, Propbaser as PropbaserReg, Pendbaser as PendbaserReg, enable_lpis_after, has_lpis, half_read}
+use Rattle.its_exec.specs.GicDmap.declared.map.RegRef.{RegRef as DistRef}
+use Rattle.its_exec.specs.GicDmap.declared.map.RegRef.TheVariants.{Bits as DistBits, Plain as DistPlain, Reserved as DistReserved}
+use Rattle.its_exec.specs.GicDmap.Map.{decoded as dist_decoded}
+use Rattle.its_exec.specs.GicRmap.declared.map.Reg.TheVariants.{Ctlr as RedistCtlr}
+use Rattle.its_exec.specs.GicRmap.declared.map.RegRef.{RegRef as RedistRef}
+use Rattle.its_exec.specs.GicRmap.declared.map.RegRef.TheVariants.{Bits as RedistBits, Plain as RedistPlain, Reserved as RedistReserved}
+use Rattle.its_exec.specs.GicRmap.Map.{decoded as redist_decoded}
+use Rattle.its_exec.specs.GicImap.declared.map.RegRef.{RegRef as ItsRef}
+use Rattle.its_exec.specs.GicImap.declared.map.RegRef.TheVariants.{Plain as ItsPlain, Reserved as ItsReserved}
+use Rattle.its_exec.specs.GicImap.Map.{decoded as its_decoded}
+use Rattle.its_exec.specs.Calls.{Pendbaser, Event, Touch, Put, Enable, Cpu, Found, Place, dist_events, dist_value, enable_events, is_in_table, is_table_zero, its_value, pended_at, redist_events, redist_value, access_events, access_value, its_events, Happened, HandsOut, IsLastRead, Makes, access_places, held_at, named_of, redist_places, View, Register, its_held, its_written}
+use Rattle.its_exec.specs.GicCall.declared.event.Event.TheVariants.{Read}
+use Rattle.its_exec.specs.GicCall.declared.event.Place.TheVariants.{Word, Queue as QueuePlace, Ctlr, Lpis}
+use Rattle.its_exec.specs.GicImap.declared.map.Reg.{Reg as ItsReg}
 use Rattle.pe_mem.specs.Found.{goes_by, goes_by_target, reads_bit}
 use Rattle.pe_mem.proofs.EachLemmas.{found_below}
 use Rattle.pe_mem.proofs.TableLemmas.{lpi_there}

@@ -4,23 +4,15 @@ use Rattle.std.proofs.lemmas.Bool.{eqb-true}
 use Rattle.std.proofs.lemmas.List.{append_assoc}
 use Rattle.std.proofs.lemmas.List.Sums.{fold-append}
 use Rattle.std.proofs.lemmas.List.Elements.{All-cons, All-nil, All-head, All-tail, filter-append}
-use Rattle.gic_open.specs.declared.plain.PlainWord.{PlainWord}
-use Rattle.gic_open.specs.Plain.{has_plain, place_of_plain, plain_at}
-use Rattle.gic_call.specs.declared.event.Event.{Event}
-use Rattle.gic_call.specs.declared.event.Event.TheVariants.{Read, Put}
-use Rattle.gic_call.specs.declared.event.Found.TheVariants.{Word as FoundWord}
-use Rattle.gic_call.specs.declared.event.Place.{Place}
-use Rattle.gic_call.specs.declared.event.Place.TheVariants.{Word}
-use Rattle.gic_call.specs.Trace.{Happened, Makes, HandsOut, IsLastRead, is_beside, named_of, held_at}
-use Rattle.gic_call.specs.View.{View}
-use Rattle.port_core.specs.declared.run.Made.{Made}
-use Rattle.port_core.specs.declared.step.CoreStep.TheVariants.{RamLook, RamPut}
-use Rattle.port_core.specs.Known.{last_made}
-use Rattle.port_core.specs.Port.{Seen, AddsStep, shape_of, made_by, part_events}
-use Rattle.port_call.specs.Plain.{is_event_word}
-use Rattle.port_call.specs.Rest.{IsAtEase, StaysAtEase}
-use Rattle.port_call.specs.Store.{Stores, MissesStore, TriesStore, AreStoreEvents}
-use Rattle.port_call.proofs.StoreLemmas.{misses_join, misses_then_stores, tries}
+use Rattle.its_exec.specs.Calls.{PlainWord, has_plain, place_of_plain, plain_at, Event, Put, Place, Happened, Makes, HandsOut, IsLastRead, is_beside, named_of, held_at, View}
+use Rattle.its_exec.specs.GicCall.declared.event.Event.TheVariants.{Read}
+use Rattle.its_exec.specs.GicCall.declared.event.Found.TheVariants.{Word as FoundWord}
+use Rattle.its_exec.specs.GicCall.declared.event.Place.TheVariants.{Word}
+use Rattle.its_exec.specs.Core.{Made, RamLook, RamPut, last_made, Seen, AddsStep, shape_of, made_by, part_events}
+use Rattle.its_exec.specs.PortCall.Plain.{is_event_word}
+use Rattle.its_exec.specs.PortCall.Rest.{IsAtEase, StaysAtEase}
+use Rattle.its_exec.specs.PortCall.Store.{Stores, MissesStore, TriesStore, AreStoreEvents}
+use Rattle.its_exec.proofs.PortCall.StoreLemmas.{misses_join, misses_then_stores, tries}
 use Rattle.pe_mem.specs.Call.{Serves}
 use Rattle.pe_mem.specs.Store.{Updates, TriesUpdate}
 use Rattle.pe_mem.proofs.EachLemmas.{own_of_piece, stays_self}

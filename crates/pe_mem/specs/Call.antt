@@ -2,28 +2,12 @@
 use Rattle.std.specs.Prelude.{◌≡◌, ℕ, false, IsTrue, List, [], Option, Some}
 use Rattle.std.specs.List.{list_any}
 use Rattle.std.specs.Option.{option_map_or}
-use Rattle.gic_base.specs.declared.interrupt.Key.{Key}
-use Rattle.gic_base.specs.declared.operation.Frame.{Frame}
-use Rattle.gic_base.specs.declared.operation.GuestOp.TheVariants.{Mem}
-use Rattle.gic_base.specs.declared.shape.GuestShape.{GuestShape}
-use Rattle.gic_base.specs.declared.interrupt.Key.TheVariants.{Lpi}
-use Rattle.gic_base.specs.Interrupt.{has_interrupt, is_same_key}
-use Rattle.gic_call.specs.declared.event.Event.{Event}
-use Rattle.gic_call.specs.declared.event.Operation.{Operation}
-use Rattle.gic_call.specs.declared.event.Operation.TheVariants.{Access}
-use Rattle.gic_call.specs.declared.event.Place.{Place}
-use Rattle.gic_call.specs.Call.{access_events, access_value}
-use Rattle.gic_call.specs.Trace.{Makes, access_places, read_answer}
-use Rattle.gic_call.specs.View.{View}
-use Rattle.gic_history.specs.Named.{key_in, named_by, named_by_access, names}
-use Rattle.port_core.specs.declared.run.Made.{Made}
-use Rattle.port_core.specs.Local.{is_vcpu}
-use Rattle.port_core.specs.Port.{Seen, Adds, shape_of, part_events}
-use Rattle.core_proper.specs.Called.{MakesCall, IsProperPart}
-use Rattle.core_proper.specs.Progress.{Progress, is_end_of}
-use Rattle.core_proper.specs.Proper.{is_settled}
-use Rattle.port_call.specs.Piece.{IsIdle, IsGoodPiece, IsPiece, takes_none}
-use Rattle.port_call.specs.Rest.{StaysAtEase}
+use Rattle.its_exec.specs.Words.{Key, Frame, Mem, GuestShape, Lpi, has_interrupt, is_same_key}
+use Rattle.its_exec.specs.Calls.{Event, Operation, Access, Place, access_events, access_value, Makes, access_places, read_answer, View}
+use Rattle.its_exec.specs.Histories.{key_in, named_by, named_by_access, names}
+use Rattle.its_exec.specs.Core.{Made, is_vcpu, Seen, Adds, shape_of, part_events, MakesCall, IsProperPart, Progress, is_end_of, is_settled}
+use Rattle.its_exec.specs.PortCall.Piece.{IsIdle, IsGoodPiece, IsPiece, takes_none}
+use Rattle.its_exec.specs.PortCall.Rest.{StaysAtEase}
 use Rattle.pe_mem.specs.Found.{IsCallAsFound, goes_by_target}
 use Rattle.pe_mem.specs.Looked.{IsLookedAt}
 

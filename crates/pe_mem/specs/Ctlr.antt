@@ -1,18 +1,14 @@
 -- A write of GICD_CTLR: its mark, a copy of the enables to each interrupt, and the mark freed.
 use Rattle.std.specs.Prelude.{◌≡◌, ℕ, ◌++◌, Bool, true, false, IsTrue, List, [], ◌∷◌, Some}
 use Rattle.std.specs.List.{list_all}
-use Rattle.gic_base.specs.Interrupt.{interrupt_count}
-use Rattle.gic_word.specs.declared.record.Irq.{Irq}
-use Rattle.gic_dmap.specs.declared.contents.Enables.{Enables}
-use Rattle.gic_call.specs.declared.event.Event.{Event}
-use Rattle.gic_call.specs.declared.event.Event.TheVariants.{Read, CtlrBegin}
-use Rattle.gic_call.specs.declared.event.Found.TheVariants.{Nothing}
-use Rattle.gic_call.specs.declared.event.Place.TheVariants.{Ctlr as CtlrPlace}
-use Rattle.gic_call.specs.Access.{copy_at}
-use Rattle.gic_call.specs.Trace.{Happened}
-use Rattle.port_core.specs.declared.run.Made.{Made}
-use Rattle.port_core.specs.Port.{Seen, Adds, shape_of, part_events}
-use Rattle.port_call.specs.Piece.{takes_none, IsPiece}
+use Rattle.its_exec.specs.Words.{interrupt_count, Irq}
+use Rattle.its_exec.specs.Registers.{Enables}
+use Rattle.its_exec.specs.Calls.{Event, CtlrBegin, copy_at, Happened}
+use Rattle.its_exec.specs.GicCall.declared.event.Event.TheVariants.{Read}
+use Rattle.its_exec.specs.GicCall.declared.event.Found.TheVariants.{Nothing}
+use Rattle.its_exec.specs.GicCall.declared.event.Place.TheVariants.{Ctlr as CtlrPlace}
+use Rattle.its_exec.specs.Core.{Made, Seen, Adds, shape_of, part_events}
+use Rattle.its_exec.specs.PortCall.Piece.{takes_none, IsPiece}
 use Rattle.pe_mem.specs.Each.{TouchesEach}
 
 -- a read of GICD_CTLR

@@ -1,14 +1,11 @@
 -- Accesses of the distributor.
 use Rattle.std.specs.Prelude.{◌≡◌, ℕ, List, [], is_none, if◌then◌else◌, Option, Some, None}
-use Rattle.gic_dmap.specs.declared.map.Reg.{Reg}
-use Rattle.gic_dmap.specs.declared.map.RegRef.{RegRef}
-use Rattle.gic_dmap.specs.declared.map.RegRef.TheVariants.{Plain}
-use Rattle.gic_frame.specs.declared.bank.Half.{Half}
-use Rattle.gic_frame.specs.declared.bank.Half.TheVariants.{Whole}
-use Rattle.gic_call.specs.declared.event.Place.{Place}
-use Rattle.gic_call.specs.Access.{dist_events, dist_plain, dist_held, dist_value}
-use Rattle.gic_call.specs.Trace.{dist_places, read_answer}
-use Rattle.port_core.specs.Port.{Seen, shape_of}
+use Rattle.its_exec.specs.GicDmap.declared.map.Reg.{Reg}
+use Rattle.its_exec.specs.GicDmap.declared.map.RegRef.{RegRef}
+use Rattle.its_exec.specs.GicDmap.declared.map.RegRef.TheVariants.{Plain}
+use Rattle.its_exec.specs.Registers.{Half, Whole}
+use Rattle.its_exec.specs.Calls.{Place, dist_events, dist_plain, dist_held, dist_value, dist_places, read_answer}
+use Rattle.its_exec.specs.Core.{Seen, shape_of}
 use Rattle.pe_mem.specs.Call.{Serves}
 
 -- the places that an access reads

@@ -2,22 +2,12 @@
 use Rattle.std.specs.Prelude.{◌≡◌, ℕ, ◌+◌, IsTrue, List, Option, Some, None, option_map}
 use Rattle.std.specs.List.{range_with_len, filter_map}
 use Rattle.std.specs.Option.{option_map_or}
-use Rattle.gic_base.specs.declared.interrupt.Key.{Key}
-use Rattle.gic_base.specs.declared.operation.Frame.{Frame}
-use Rattle.gic_base.specs.declared.operation.Kind.{Kind}
-use Rattle.gic_base.specs.declared.shape.GuestShape.{GuestShape}
-use Rattle.gic_frame.specs.Parts.{joined, part_in}
-use Rattle.gic_reg.specs.Touch.{part_read}
-use Rattle.gic_word.specs.declared.record.Irq.{Irq}
-use Rattle.gic_call.specs.declared.event.Event.{Event}
-use Rattle.gic_call.specs.declared.event.Found.TheVariants.{Record}
-use Rattle.gic_call.specs.declared.event.Operation.{Operation}
-use Rattle.gic_call.specs.Access.{part_key, part_event}
-use Rattle.gic_call.specs.Trace.{Happened}
-use Rattle.port_core.specs.declared.run.Made.{Made}
-use Rattle.port_core.specs.Port.{Seen, Adds, shape_of, part_events}
-use Rattle.port_call.specs.Piece.{takes_none}
-use Rattle.port_call.specs.Rest.{StaysAtEase}
+use Rattle.its_exec.specs.Words.{Key, Frame, Kind, GuestShape, Irq}
+use Rattle.its_exec.specs.Registers.{joined, part_in, part_read}
+use Rattle.its_exec.specs.Calls.{Event, Record, Operation, part_key, part_event, Happened}
+use Rattle.its_exec.specs.Core.{Made, Seen, Adds, shape_of, part_events}
+use Rattle.its_exec.specs.PortCall.Piece.{takes_none}
+use Rattle.its_exec.specs.PortCall.Rest.{StaysAtEase}
 use Rattle.pe_mem.specs.Call.{NamesAll, IsPieceOf}
 use Rattle.pe_mem.specs.Part.{part_answer, Accesses}
 

@@ -1,30 +1,16 @@
 -- What an access finds of the vCPUs that LPIs are for (own choice): its events are those of its call with whatever vCPUs agree with that.
 use Rattle.std.specs.Prelude.{◌≡◌, ℕ, ◌&&◌, ◌||◌, not, Bool, true, false, IsTrue, List, ◌++◌, Option, Some}
 use Rattle.std.specs.List.{list_all}
-use Rattle.gic_base.specs.declared.operation.Frame.{Frame}
-use Rattle.gic_base.specs.declared.operation.Frame.TheVariants.{Redist, Its}
-use Rattle.gic_base.specs.declared.operation.GuestOp.{GuestOp}
-use Rattle.gic_base.specs.declared.operation.GuestOp.TheVariants.{Mem}
-use Rattle.gic_base.specs.declared.shape.GuestShape.{GuestShape}
-use Rattle.gic_rmap.specs.declared.map.Reg.TheVariants.{Ctlr}
-use Rattle.gic_rmap.specs.declared.map.RegRef.{RegRef}
-use Rattle.gic_rmap.specs.declared.map.RegRef.TheVariants.{Plain}
-use Rattle.gic_rmap.specs.Contents.{enable_lpis_after}
-use Rattle.gic_rmap.specs.Map.{decoded}
-use Rattle.gic_imap.specs.Map.{decoded as its_decoded}
-use Rattle.gic_open.specs.declared.plain.PlainWord.TheVariants.{Pendbaser}
-use Rattle.gic_call.specs.Access.{is_in_table, is_table_zero}
-use Rattle.gic_call.specs.Call.{takes_turn}
-use Rattle.gic_call.specs.declared.event.Event.{Event}
-use Rattle.gic_call.specs.declared.event.Event.TheVariants.{Touch, Queue}
-use Rattle.gic_call.specs.declared.event.Operation.{Operation}
-use Rattle.gic_call.specs.declared.event.Operation.TheVariants.{Access}
-use Rattle.gic_call.specs.declared.event.QueueChange.TheVariants.{Runs}
-use Rattle.gic_call.specs.Trace.{Beside, Happened, IsCall}
-use Rattle.gic_call.specs.View.{View}
-use Rattle.port_core.specs.declared.run.Made.{Made}
-use Rattle.port_core.specs.Port.{Seen, local_by, shape_of, part_events}
-use Rattle.core_proper.specs.Called.{maps_taken, vcpu_of_actor}
+use Rattle.its_exec.specs.Words.{Frame, Redist, Its, GuestOp, Mem, GuestShape}
+use Rattle.its_exec.specs.GicRmap.declared.map.Reg.TheVariants.{Ctlr}
+use Rattle.its_exec.specs.GicRmap.declared.map.RegRef.{RegRef}
+use Rattle.its_exec.specs.GicRmap.declared.map.RegRef.TheVariants.{Plain}
+use Rattle.its_exec.specs.Registers.{enable_lpis_after}
+use Rattle.its_exec.specs.GicRmap.Map.{decoded}
+use Rattle.its_exec.specs.GicImap.Map.{decoded as its_decoded}
+use Rattle.its_exec.specs.Calls.{Pendbaser, is_in_table, is_table_zero, takes_turn, Event, Touch, Operation, Access, Runs, Beside, Happened, IsCall, View}
+use Rattle.its_exec.specs.GicCall.declared.event.Event.TheVariants.{Queue}
+use Rattle.its_exec.specs.Core.{Made, Seen, local_by, shape_of, part_events, maps_taken, vcpu_of_actor}
 use Rattle.its_exec.specs.Queue.{AreTaken, Taken}
 use Rattle.its_exec.specs.Run.{AgreeAll}
 use Rattle.pe_mem.specs.Looked.{IsLookedAt}

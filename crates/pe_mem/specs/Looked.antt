@@ -1,16 +1,9 @@
 -- Where an actor looks at an LPI by whose vCPU it goes: after it was done with those before it, and before it touches it and those after it (own choice).
 use Rattle.std.specs.Prelude.{◌≡◌, ℕ, Bool, true, false, IsTrue, nat_le, nat_lt, List, [], ◌∷◌, ◌++◌, Option}
 use Rattle.std.specs.List.{list_all}
-use Rattle.gic_base.specs.declared.interrupt.Key.TheVariants.{Lpi}
-use Rattle.gic_word.specs.Record.{target_in}
-use Rattle.gic_word.specs.Word.{irq_of}
-use Rattle.gic_call.specs.declared.event.Event.{Event}
-use Rattle.gic_call.specs.declared.event.Event.TheVariants.{Enable, Touch}
-use Rattle.gic_call.specs.Trace.{Happened}
-use Rattle.port_core.specs.declared.run.Made.{Made}
-use Rattle.port_core.specs.declared.step.CoreStep.TheVariants.{Look}
-use Rattle.port_core.specs.declared.word_id.WordId.TheVariants.{Irq}
-use Rattle.port_core.specs.Port.{Seen, part_events, seen_after, shape_of}
+use Rattle.its_exec.specs.Words.{Lpi, target_in, irq_of}
+use Rattle.its_exec.specs.Calls.{Event, Enable, Touch, Happened}
+use Rattle.its_exec.specs.Core.{Made, Look, Irq, Seen, part_events, seen_after, shape_of}
 
 -- an event that may come before the look at an LPI: it touches none from that on
 abbrev pub comes_before : ℕ → Event → Bool

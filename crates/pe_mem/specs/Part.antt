@@ -1,21 +1,12 @@
 -- An access to the part that an interrupt has in the registers of a kind.
 use Rattle.std.specs.Prelude.{◌≡◌, ℕ, ◌<◌, Option, Some, None, IsTrue}
-use Rattle.gic_base.specs.declared.interrupt.Key.{Key}
-use Rattle.gic_base.specs.declared.operation.Kind.{Kind}
-use Rattle.gic_base.specs.declared.shape.GuestShape.{GuestShape}
-use Rattle.gic_base.specs.Interrupt.{has_interrupt}
-use Rattle.gic_frame.specs.Half.{half_limit, half_written}
-use Rattle.gic_call.specs.declared.touch.Touching.{Touching}
-use Rattle.gic_call.specs.declared.touch.Touching.TheVariants.{Read, Register}
-use Rattle.gic_call.specs.Touch.{CanTouch, has_shown_part}
-use Rattle.gic_reg.specs.Condition.{shows_route}
-use Rattle.gic_reg.specs.Touch.{part_read}
-use Rattle.gic_word.specs.declared.record.Irq.{Irq}
-use Rattle.gic_word.specs.Valid.{IsRecordOf}
-use Rattle.gic_word.specs.Word.{IsIrq, irq_of}
-use Rattle.port_core.specs.Port.{Seen}
-use Rattle.port_call.specs.declared.touching.Missed.{Missed}
-use Rattle.port_call.specs.Touch.{MissesTouch, Touches}
+use Rattle.its_exec.specs.Words.{Key, Kind, GuestShape, has_interrupt, Irq, IsRecordOf, IsIrq, irq_of}
+use Rattle.its_exec.specs.Registers.{half_limit, half_written, shows_route, part_read}
+use Rattle.its_exec.specs.Calls.{Touching, Register, CanTouch, has_shown_part}
+use Rattle.its_exec.specs.GicCall.declared.touch.Touching.TheVariants.{Read}
+use Rattle.its_exec.specs.Core.{Seen}
+use Rattle.its_exec.specs.PortCall.declared.touching.Missed.{Missed}
+use Rattle.its_exec.specs.PortCall.Touch.{MissesTouch, Touches}
 use Rattle.pe_mem.specs.declared.attempt.PartAccess.{PartAccess}
 use Rattle.pe_mem.specs.declared.attempt.PartAccess.TheVariants.{Reads, Writes, WritesHalf}
 

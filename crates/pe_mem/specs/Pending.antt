@@ -1,19 +1,11 @@
 -- EnableLPIs rises: those LPIs become pending that are for the vCPU and have their bit in its pending table.
 use Rattle.std.specs.Prelude.{◌≡◌, ◌≢◌, ◌⊎◌, ℕ, ◌+◌, Bool, true, false, IfSome, Option, Some, None}
-use Rattle.gic_base.specs.declared.interrupt.Key.TheVariants.{Lpi}
-use Rattle.gic_base.specs.declared.operation.Kind.TheVariants.{SetPending}
-use Rattle.gic_base.specs.declared.shape.GuestShape.{GuestShape}
-use Rattle.gic_bits.specs.Bits.{has_bit}
-use Rattle.gic_lpi.specs.Tables.{pending_address}
-use Rattle.gic_open.specs.declared.plain.PlainWord.TheVariants.{Ram}
-use Rattle.gic_ram.specs.declared.access.Part.{Part}
-use Rattle.gic_ram.specs.Access.{part_of, extracted}
-use Rattle.gic_word.specs.Record.{is_number}
-use Rattle.gic_call.specs.declared.touch.Touching.{Touching}
-use Rattle.gic_call.specs.declared.touch.Touching.TheVariants.{Register}
-use Rattle.port_core.specs.Port.{Seen}
-use Rattle.port_call.specs.Plain.{ReadsPlain}
-use Rattle.port_call.specs.Touch.{Touches}
+use Rattle.its_exec.specs.Words.{Lpi, SetPending, GuestShape, has_bit, is_number}
+use Rattle.its_exec.specs.Registers.{pending_address, Part, part_of, extracted}
+use Rattle.its_exec.specs.Calls.{Ram, Touching, Register}
+use Rattle.its_exec.specs.Core.{Seen}
+use Rattle.its_exec.specs.PortCall.Plain.{ReadsPlain}
+use Rattle.its_exec.specs.PortCall.Touch.{Touches}
 use Rattle.its_exec.specs.Parts.{LooksAtTarget}
 use Rattle.pe_mem.specs.declared.pending.Fetched.{Fetched}
 

@@ -1,22 +1,17 @@
 -- Accesses of a redistributor.
 use Rattle.std.specs.Prelude.{◌≡◌, ℕ, Bool, IsTrue, [], ◌∷◌, if◌then◌else◌, Option, Some, None}
-use Rattle.gic_base.specs.declared.interrupt.Key.TheVariants.{Lpi}
-use Rattle.gic_base.specs.Interrupt.{has_interrupt}
-use Rattle.gic_frame.specs.declared.bank.Half.{Half}
-use Rattle.gic_frame.specs.declared.bank.Half.TheVariants.{Whole}
-use Rattle.gic_rmap.specs.declared.map.Reg.{Reg}
-use Rattle.gic_rmap.specs.declared.map.RegRef.{RegRef}
-use Rattle.gic_rmap.specs.declared.map.RegRef.TheVariants.{Plain}
-use Rattle.gic_open.specs.declared.plain.PlainWord.{PlainWord}
-use Rattle.gic_call.specs.declared.event.Event.TheVariants.{Put, Read}
-use Rattle.gic_call.specs.declared.event.Found.TheVariants.{Lpis as FoundLpis}
-use Rattle.gic_call.specs.declared.event.Place.TheVariants.{Lpis}
-use Rattle.gic_call.specs.Access.{enable_events, redist_events, redist_written, redist_held, redist_value}
-use Rattle.gic_call.specs.Trace.{table_places, redist_places, read_answer}
-use Rattle.gic_history.specs.Named.{before_enabling}
-use Rattle.port_core.specs.declared.run.Made.{Made}
-use Rattle.port_core.specs.Port.{Seen, Adds, shape_of, part_events}
-use Rattle.port_call.specs.Piece.{takes_none, IsPiece}
+use Rattle.its_exec.specs.Words.{Lpi, has_interrupt}
+use Rattle.its_exec.specs.Registers.{Half, Whole}
+use Rattle.its_exec.specs.GicRmap.declared.map.Reg.{Reg}
+use Rattle.its_exec.specs.GicRmap.declared.map.RegRef.{RegRef}
+use Rattle.its_exec.specs.GicRmap.declared.map.RegRef.TheVariants.{Plain}
+use Rattle.its_exec.specs.Calls.{PlainWord, Put, enable_events, redist_events, redist_written, redist_held, redist_value, table_places, redist_places, read_answer}
+use Rattle.its_exec.specs.GicCall.declared.event.Event.TheVariants.{Read}
+use Rattle.its_exec.specs.GicCall.declared.event.Found.TheVariants.{Lpis as FoundLpis}
+use Rattle.its_exec.specs.GicCall.declared.event.Place.TheVariants.{Lpis}
+use Rattle.its_exec.specs.Histories.{before_enabling}
+use Rattle.its_exec.specs.Core.{Made, Seen, Adds, shape_of, part_events}
+use Rattle.its_exec.specs.PortCall.Piece.{takes_none, IsPiece}
 use Rattle.pe_mem.specs.Call.{Serves, ServesFreely}
 use Rattle.pe_mem.specs.Found.{goes_by, reads_bit}
 use Rattle.pe_mem.specs.Looked.{IsLookedAt}

@@ -1,11 +1,9 @@
 -- An actor stores a plain word that goes by what the word holds.
 use Rattle.std.specs.Prelude.{◌≡◌, ℕ, ◌^◌, ◌<◌, Bool, true, false}
-use Rattle.gic_frame.specs.Half.{half_limit, half_written}
-use Rattle.gic_open.specs.declared.plain.PlainWord.{PlainWord}
-use Rattle.gic_ram.specs.Access.{IsPart, inserted}
-use Rattle.gic_rmap.specs.Contents.{propbaser_bits, pendbaser_bits}
-use Rattle.port_core.specs.Port.{Seen}
-use Rattle.port_call.specs.Store.{Stores, MissesStore}
+use Rattle.its_exec.specs.Registers.{half_limit, half_written, IsPart, inserted, propbaser_bits, pendbaser_bits}
+use Rattle.its_exec.specs.Calls.{PlainWord}
+use Rattle.its_exec.specs.Core.{Seen}
+use Rattle.its_exec.specs.PortCall.Store.{Stores, MissesStore}
 use Rattle.pe_mem.specs.declared.store.Change.{Change}
 use Rattle.pe_mem.specs.declared.store.Change.TheVariants.{Bits, Propbaser, Pendbaser}
 

@@ -1,24 +1,20 @@
 //! One try of an access to the part of one interrupt.
 ghost use Rattle.std.specs.Prelude.{◌≡◌, ◌<◌, ◌^◌, IsTrue, IfOk, IfErr};
-ghost use Rattle.gic_base.specs.declared.operation.Kind.{Kind};
-ghost use Rattle.gic_frame.specs.Part.{part_bits};
-ghost use Rattle.gic_word.specs.declared.record.Irq.{Irq};
-ghost use Rattle.gic_reg.specs.Condition.{shows_route};
-ghost use Rattle.gic_reg.specs.Touch.{part_read};
-ghost use Rattle.gic_call.specs.Touch.{CanTouch};
-ghost use Rattle.gic_word.specs.Word.{IsIrq, IsWord, irq_of};
-ghost use Rattle.port_core.specs.Port.{shape_of};
-ghost use Rattle.port_call.specs.Rest.{IsAtEase};
-ghost use Rattle.port_call.specs.Touch.{MissesTouch};
+ghost use Rattle.its_exec.specs.Words.{Kind, Irq, IsIrq, IsWord, irq_of};
+ghost use Rattle.its_exec.specs.Registers.{part_bits, shows_route, part_read};
+ghost use Rattle.its_exec.specs.Calls.{CanTouch};
+ghost use Rattle.its_exec.specs.Core.{shape_of};
+ghost use Rattle.its_exec.specs.PortCall.Rest.{IsAtEase};
+ghost use Rattle.its_exec.specs.PortCall.Touch.{MissesTouch};
 ghost use Rattle.pe_mem.specs.Part.{touching_by, touching_of, part_answer, FitsPart, CanAttempt, Attempts, Misses, Accesses};
 
-use gic_base::{Key, Kind};
-use gic_call::Touching;
-use gic_frame::Half;
-use gic_reg::read_part;
-use gic_word::Irq;
-use port_call::{Missed, look_home, touch_seen};
-use port_core::Port;
+use its_exec::gic_base::{Key, Kind};
+use its_exec::gic_call::Touching;
+use its_exec::gic_frame::Half;
+use its_exec::gic_reg::read_part;
+use its_exec::gic_word::Irq;
+use its_exec::port_call::{Missed, look_home, touch_seen};
+use its_exec::port_core::Port;
 
 /// An access to the part that an interrupt has in the registers of a kind.
 #[derive(Clone, Copy, Debug, PartialEq, Eq, Hash)]
@@ -56,7 +52,7 @@ fn record_in(word: u64) -> Irq
     ensures value { result ≡ irq_of word }
     ensures packable { IsIrq result }
 {
-    gic_word::unpack(word).unwrap()
+    its_exec::gic_word::unpack(word).unwrap()
 }
 
 /// Tries an access to an interrupt's part, and answers the record that it found: it looks at the interrupt, and touches it

@@ -1,17 +1,16 @@
 //! Memory-mapped accesses, each the whole call.
 ghost use Rattle.std.specs.Prelude.{◌≡◌, ◌<◌, IsTrue};
-ghost use Rattle.gic_base.specs.declared.operation.Frame.TheVariants.{Dist, Redist, Ram};
-ghost use Rattle.gic_ram.specs.Access.{is_size};
-ghost use Rattle.scn_base.specs.Good.{fits as fits_in};
-ghost use Rattle.gic_call.specs.Trace.{read_answer};
-ghost use Rattle.port_core.specs.Port.{shape_of};
+ghost use Rattle.its_exec.specs.Words.{Dist, Redist, Ram};
+ghost use Rattle.its_exec.specs.Registers.{is_size};
+ghost use Rattle.its_exec.specs.Calls.{fits as fits_in, read_answer};
+ghost use Rattle.its_exec.specs.Core.{shape_of};
 ghost use Rattle.pe_mem.specs.Call.{CanAccess, MakesAccess};
 
 use crate::dist::access_dist;
 use crate::memory::access_memory;
 use crate::redist::access_redist;
-use gic_call::{dist_access, redist_access};
-use port_core::Port;
+use its_exec::gic_call::{dist_access, redist_access};
+use its_exec::port_core::Port;
 use std::sync::Wait;
 
 /// What an access answers: a read its value, and a write nothing.

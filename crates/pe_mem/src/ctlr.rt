@@ -1,17 +1,16 @@
 //! GICD_CTLR.
 ghost use Rattle.std.specs.Prelude.{◌≡◌, ◌%◌, ◌^◌, ◌<◌, false};
-ghost use Rattle.gic_dmap.specs.Contents.{enables_in as enables_of};
-ghost use Rattle.gic_dmap.specs.declared.map.Reg.TheVariants.{Ctlr};
-ghost use Rattle.gic_frame.specs.declared.bank.Half.TheVariants.{Whole};
-ghost use Rattle.port_call.specs.Rest.{IsAtEase};
+ghost use Rattle.its_exec.specs.Registers.{enables_in as enables_of, Whole};
+ghost use Rattle.its_exec.specs.GicDmap.declared.map.Reg.TheVariants.{Ctlr};
+ghost use Rattle.its_exec.specs.PortCall.Rest.{IsAtEase};
 ghost use Rattle.pe_mem.specs.Ctlr.{TriesMark, TakesMark, CopiesEnables};
 ghost use Rattle.pe_mem.specs.Dist.{ReadsDist, WritesDist};
 
-use gic_base::{interrupt_count, key_at};
-use gic_call::Touching;
-use gic_dmap::{Enables, enables_in};
-use port_call::touch;
-use port_core::{CoreStep, CtlrWord, Port, WordId};
+use its_exec::gic_base::{interrupt_count, key_at};
+use its_exec::gic_call::Touching;
+use its_exec::gic_dmap::{Enables, enables_in};
+use its_exec::port_call::touch;
+use its_exec::port_core::{CoreStep, CtlrWord, Port, WordId};
 use std::sync::Wait;
 
 /// The low half of a value.
@@ -88,5 +87,5 @@ pub(crate) fn read_ctlr<P: Port>(port: &mut P) -> u64
     ensures { ReadsDist (P.seen port.old) (P.seen port.new) Ctlr result }
 {
     let word = CtlrWord::of(port.step(CoreStep::Look { word: WordId::Ctlr }));
-    u64::from(gic_dmap::ctlr(word.enables, word.mark.is_some()))
+    u64::from(its_exec::gic_dmap::ctlr(word.enables, word.mark.is_some()))
 }

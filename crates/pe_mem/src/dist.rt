@@ -1,19 +1,17 @@
 //! Accesses of the distributor.
 ghost use Rattle.std.specs.Prelude.{◌≡◌, ◌<◌, IsTrue, Some, false};
-ghost use Rattle.gic_dmap.specs.declared.map.Reg.TheVariants.{SetSpi, ClrSpi, Router};
-ghost use Rattle.gic_frame.specs.declared.bank.Half.TheVariants.{Whole};
-ghost use Rattle.gic_frame.specs.Half.{half_limit};
-ghost use Rattle.gic_call.specs.Fit.{FitsDist};
-ghost use Rattle.port_call.specs.Rest.{IsAtEase};
+ghost use Rattle.its_exec.specs.Registers.{SetSpi, ClrSpi, Router, Whole, half_limit};
+ghost use Rattle.its_exec.specs.Calls.{FitsDist};
+ghost use Rattle.its_exec.specs.PortCall.Rest.{IsAtEase};
 ghost use Rattle.pe_mem.specs.Dist.{ServesDist, ReadsDist, WritesDist};
 
 use crate::ctlr::{low, read_ctlr, write_ctlr};
 use crate::parts::{access_number, access_parts, write_half};
-use gic_base::{Frame, Kind};
-use gic_call::{Touching, part_key};
-use gic_dmap::{Half, IIDR, PIDR2, Reg, RegRef, message_intid, typer};
-use port_call::{raise, touch};
-use port_core::Port;
+use its_exec::gic_base::{Frame, Kind};
+use its_exec::gic_call::{Touching, part_key};
+use its_exec::gic_dmap::{Half, IIDR, PIDR2, Reg, RegRef, message_intid, typer};
+use its_exec::port_call::{raise, touch};
+use its_exec::port_core::Port;
 use std::sync::Wait;
 
 /// A write of 1 to an interrupt's part of ICPENDR.

@@ -1,16 +1,16 @@
 //! Accesses of the guest's memory.
 ghost use Rattle.std.specs.Prelude.{IsTrue};
-ghost use Rattle.gic_base.specs.declared.operation.Frame.TheVariants.{Ram};
-ghost use Rattle.gic_ram.specs.Access.{is_size};
-ghost use Rattle.scn_base.specs.Good.{fits as fits_in};
-ghost use Rattle.port_call.specs.Rest.{IsAtEase};
+ghost use Rattle.its_exec.specs.Words.{Ram};
+ghost use Rattle.its_exec.specs.Registers.{is_size};
+ghost use Rattle.its_exec.specs.Calls.{fits as fits_in};
+ghost use Rattle.its_exec.specs.PortCall.Rest.{IsAtEase};
 ghost use Rattle.pe_mem.specs.Call.{ServesAccess};
 
 use crate::store::{Change, update};
-use gic_open::PlainWord;
-use gic_ram::split;
-use port_call::read_memory;
-use port_core::Port;
+use its_exec::gic_open::PlainWord;
+use its_exec::gic_ram::split;
+use its_exec::port_call::read_memory;
+use its_exec::port_core::Port;
 use std::sync::Wait;
 
 /// Makes an access of so many bytes of the guest's memory from an address on: a read, or a write of a value, which leaves the

@@ -1,21 +1,19 @@
 //! Registers that have a part for each interrupt.
 ghost use Rattle.std.specs.Prelude.{◌≡◌, ◌+◌, ◌*◌, ◌≤◌, ◌<◌, ◌^◌, IfSome};
-ghost use Rattle.gic_frame.specs.Part.{part_bits};
-ghost use Rattle.gic_call.specs.Access.{part_key as part_key_in};
-ghost use Rattle.gic_call.specs.Fit.{FitParts};
-ghost use Rattle.gic_call.specs.Touch.{CanTouch};
-ghost use Rattle.port_core.specs.Port.{shape_of};
-ghost use Rattle.port_call.specs.Rest.{IsAtEase};
+ghost use Rattle.its_exec.specs.Registers.{part_bits};
+ghost use Rattle.its_exec.specs.Calls.{part_key as part_key_in, FitParts, CanTouch};
+ghost use Rattle.its_exec.specs.Core.{shape_of};
+ghost use Rattle.its_exec.specs.PortCall.Rest.{IsAtEase};
 ghost use Rattle.pe_mem.specs.declared.attempt.PartAccess.TheVariants.{WritesHalf};
 ghost use Rattle.pe_mem.specs.Part.{touching_of, CanAttempt, Attempts, Accesses};
 ghost use Rattle.pe_mem.specs.Each.{part_written_of, AccessesNumber, AccessesParts};
 
 use crate::attempt::{PartAccess, attempt, try_access};
-use gic_base::{Frame, Key, Kind};
-use gic_call::part_key;
-use gic_frame::{Half, part_in, with_part};
-use gic_word::Irq;
-use port_core::Port;
+use its_exec::gic_base::{Frame, Key, Kind};
+use its_exec::gic_call::part_key;
+use its_exec::gic_frame::{Half, part_in, with_part};
+use its_exec::gic_word::Irq;
+use its_exec::port_core::Port;
 use std::sync::Wait;
 
 /// Makes an access to an interrupt's part: it tries until nobody holds the interrupt, and asks who does for it. A read answers

@@ -1,22 +1,20 @@
 //! EnableLPIs rises.
 ghost use Rattle.std.specs.Prelude.{◌≡◌, ◌+◌, ◌/◌, ◌<◌, false, IsTrue};
-ghost use Rattle.gic_base.specs.Interrupt.{has_interrupt};
-ghost use Rattle.gic_base.specs.declared.interrupt.Key.TheVariants.{Lpi};
-ghost use Rattle.port_core.specs.Port.{shape_of};
-ghost use Rattle.port_call.specs.Rest.{IsAtEase};
+ghost use Rattle.its_exec.specs.Words.{has_interrupt, Lpi};
+ghost use Rattle.its_exec.specs.Core.{shape_of};
+ghost use Rattle.its_exec.specs.PortCall.Rest.{IsAtEase};
 ghost use Rattle.its_exec.specs.Parts.{LooksAtTarget};
 ghost use Rattle.pe_mem.specs.Redist.{EnablesLpis};
 ghost use Rattle.pe_mem.specs.Pending.{part_of_number, GetsWord, PendsLpi, DoesNumber};
 
-use gic_base::{FIRST_LPI, Key, Kind};
-use gic_bits::has_bit;
-use gic_call::Touching;
-use gic_lpi::pending_address;
-use gic_open::PlainWord;
-use gic_ram::{extract, split};
-use gic_word::{target_in, unpack};
-use port_call::{read_plain, touch};
-use port_core::{CoreStep, Port, VcpuWord, WordId};
+use its_exec::gic_base::{FIRST_LPI, Key, Kind};
+use its_exec::gic_bits::has_bit;
+use its_exec::gic_call::Touching;
+use its_exec::gic_open::PlainWord;
+use its_exec::gic_ram::{extract, pending_address, split};
+use its_exec::gic_word::{target_in, unpack};
+use its_exec::port_call::{read_plain, touch};
+use its_exec::port_core::{CoreStep, Port, VcpuWord, WordId};
 use std::sync::Wait;
 
 /// PTZ, in what GICR_PENDBASER stores.

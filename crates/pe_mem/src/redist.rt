@@ -1,12 +1,11 @@
 //! Accesses of a redistributor.
 ghost use Rattle.std.specs.Prelude.{◌≡◌, ◌<◌, IsTrue, true, Some};
-ghost use Rattle.gic_frame.specs.Half.{half_limit};
-ghost use Rattle.gic_rmap.specs.declared.map.Reg.TheVariants.{Ctlr};
-ghost use Rattle.gic_open.specs.Plain.{has_plain};
-ghost use Rattle.gic_call.specs.Fit.{FitsRedist};
-ghost use Rattle.port_core.specs.Port.{shape_of};
-ghost use Rattle.port_call.specs.Plain.{is_event_word};
-ghost use Rattle.port_call.specs.Rest.{IsAtEase};
+ghost use Rattle.its_exec.specs.Registers.{half_limit};
+ghost use Rattle.its_exec.specs.GicRmap.declared.map.Reg.TheVariants.{Ctlr};
+ghost use Rattle.its_exec.specs.Calls.{has_plain, FitsRedist};
+ghost use Rattle.its_exec.specs.Core.{shape_of};
+ghost use Rattle.its_exec.specs.PortCall.Plain.{is_event_word};
+ghost use Rattle.its_exec.specs.PortCall.Rest.{IsAtEase};
 ghost use Rattle.pe_mem.specs.Redist.{LooksAtLpis, StoresTable, ReadsRedist, WritesRedist, ServesRedist};
 ghost use Rattle.pe_mem.specs.Store.{changed_by, FitsChange};
 
@@ -14,12 +13,12 @@ use crate::ctlr::low;
 use crate::parts::access_parts;
 use crate::pending::enable_lpis;
 use crate::store::{Change, update};
-use gic_base::Frame;
-use gic_frame::{Half, IIDR, PIDR2};
-use gic_open::PlainWord;
-use gic_rmap::{Reg, RegRef, enable_lpis_after, pendbaser_read, typer};
-use port_call::read_plain;
-use port_core::{CoreStep, Port, VcpuWord, WordId};
+use its_exec::gic_base::Frame;
+use its_exec::gic_frame::{Half, IIDR, PIDR2};
+use its_exec::gic_open::PlainWord;
+use its_exec::gic_rmap::{Reg, RegRef, enable_lpis_after, pendbaser_read, typer};
+use its_exec::port_call::read_plain;
+use its_exec::port_core::{CoreStep, Port, VcpuWord, WordId};
 use std::sync::Wait;
 
 /// Looks at EnableLPIs of a vCPU's redistributor.
@@ -57,7 +56,7 @@ fn read_ctlr<P: Port>(port: &mut P, vcpu: u32) -> u64
     if shape.lpis == 0 {
         return 0;
     }
-    u64::from(gic_rmap::ctlr(&shape, look_at_lpis(port, vcpu)))
+    u64::from(its_exec::gic_rmap::ctlr(&shape, look_at_lpis(port, vcpu)))
 }
 
 /// A read of a register of a vCPU's redistributor that has no part for each interrupt.

@@ -1,15 +1,15 @@
 //! Stores of plain words that go by what the word holds.
 ghost use Rattle.std.specs.Prelude.{◌≡◌, IsTrue, true};
-ghost use Rattle.gic_open.specs.Plain.{has_plain};
-ghost use Rattle.port_core.specs.Port.{shape_of};
-ghost use Rattle.port_call.specs.Plain.{is_event_word};
+ghost use Rattle.its_exec.specs.Calls.{has_plain};
+ghost use Rattle.its_exec.specs.Core.{shape_of};
+ghost use Rattle.its_exec.specs.PortCall.Plain.{is_event_word};
 ghost use Rattle.pe_mem.specs.Store.{changed_by, FitsChange, TriesUpdate, Updates};
 
-use gic_frame::Half;
-use gic_open::{PlainWord, place_of_plain};
-use gic_ram::{Part, insert};
-use gic_rmap::{pendbaser_after, propbaser_after};
-use port_core::{CoreStep, Port};
+use its_exec::gic_frame::Half;
+use its_exec::gic_open::{PlainWord, place_of_plain};
+use its_exec::gic_ram::{Part, insert};
+use its_exec::gic_rmap::{pendbaser_after, propbaser_after};
+use its_exec::port_core::{CoreStep, Port};
 use std::sync::Wait;
 
 /// How a write changes a plain word.

@@ -4,24 +4,15 @@ use Rattle.std.specs.List.{cons_option, slice_index_or}
 use Rattle.std.proofs.lemmas.Bool.{and_parts}
 use Rattle.std.proofs.lemmas.List.{append_assoc}
 use Rattle.std.proofs.lemmas.List.Elements.{All-nil, All-cons, All-append, All-weaker, filter-append, filter_map-append}
-use Rattle.gic_base.specs.declared.shape.GuestShape.{GuestShape}
-use Rattle.gic_base.specs.declared.operation.Frame.{Frame}
-use Rattle.gic_base.specs.declared.operation.Frame.TheVariants.{Dist, Redist, Its, Ram}
-use Rattle.gic_base.specs.declared.operation.GuestOp.TheVariants.{Mem}
-use Rattle.gic_imap.specs.Map.{decoded}
-use Rattle.gic_call.specs.declared.event.Event.{Event}
-use Rattle.gic_call.specs.declared.event.Event.TheVariants.{Read}
-use Rattle.gic_call.specs.declared.event.Place.{Place}
-use Rattle.gic_call.specs.Call.{takes_turn}
-use Rattle.gic_call.specs.Trace.{Happened, Beside, HandsOut, IsLastRead, IsPlainCall, IsItsCall, IsItsWrite, IsAccessCall, Makes, held_at, is_beside, named_of, read_answer}
-use Rattle.gic_call.specs.View.{View}
-use Rattle.its_tab.specs.Maps.{Maps}
-use Rattle.port_core.specs.declared.run.Made.{Made}
-use Rattle.port_core.specs.Known.{no_maps}
-use Rattle.core_proper.specs.Called.{maps_taken}
-use Rattle.port_call.specs.Piece.{takes_none}
-use Rattle.pe_loop.specs.Moves.{is_move, are_moves}
-use Rattle.pe_loop.proofs.MoveLemmas.{moves_unnamed}
+use Rattle.pe_icc.specs.Words.{GuestShape, Frame, Dist, Redist, Its, Ram, Mem}
+use Rattle.pe_icc.specs.GicImap.Map.{decoded}
+use Rattle.pe_icc.specs.Calls.{Event, Place, takes_turn, Happened, Beside, HandsOut, IsLastRead, IsPlainCall, IsItsCall, IsItsWrite, IsAccessCall, Makes, held_at, is_beside, named_of, read_answer, View}
+use Rattle.pe_icc.specs.GicCall.declared.event.Event.TheVariants.{Read}
+use Rattle.pe_icc.specs.Registers.{Maps}
+use Rattle.pe_icc.specs.Core.{Made, no_maps, maps_taken}
+use Rattle.pe_icc.specs.PortCall.Piece.{takes_none}
+use Rattle.pe_icc.specs.PeLoop.Moves.{is_move, are_moves}
+use Rattle.pe_icc.proofs.PeLoop.MoveLemmas.{moves_unnamed}
 
 -- Reads.
 

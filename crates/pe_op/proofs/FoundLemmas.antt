@@ -1,21 +1,15 @@
 -- A call goes by the vCPUs of LPIs as they were found, between moves too.
 use Rattle.std.proofs.Common.{◌≡◌, ℕ, Bool, true, IsTrue, List, [], ◌∷◌, ◌++◌, Option, Some, None, refl}
 use Rattle.std.proofs.lemmas.Bool.{and_from, and_parts}
-use Rattle.gic_base.specs.declared.icc.IccReg.{IccReg}
-use Rattle.gic_base.specs.declared.operation.GuestOp.TheVariants.{Icc}
-use Rattle.gic_base.specs.declared.shape.GuestShape.{GuestShape}
-use Rattle.gic_call.specs.declared.event.Event.{Event}
-use Rattle.gic_call.specs.declared.event.Event.TheVariants.{Enable, Queue, Touch}
-use Rattle.gic_call.specs.declared.event.Operation.TheVariants.{Access}
-use Rattle.gic_call.specs.Trace.{Beside, Happened, IsCall}
-use Rattle.port_core.specs.declared.run.Made.{Made}
-use Rattle.port_core.specs.Port.{Seen, Adds, part_events, shape_of}
-use Rattle.core_proper.specs.Called.{MakesCall, vcpu_of_actor}
-use Rattle.pe_loop.specs.Moves.{are_moves, is_move}
-use Rattle.pe_mem.specs.Found.{Finding, IsCallAsFound, IsFinding, by_commands, by_looks, is_before}
-use Rattle.pe_mem.specs.Looked.{all_events, comes_after, comes_before}
-use Rattle.pe_mem.proofs.FoundLemmas.{among_after, among_before, found_by_none}
-use Rattle.pe_mem.proofs.LookedLemmas.{looked_after, looked_before}
+use Rattle.pe_icc.specs.Words.{IccReg, Icc, GuestShape}
+use Rattle.pe_icc.specs.Calls.{Event, Enable, Touch, Access, Beside, Happened, IsCall}
+use Rattle.pe_icc.specs.GicCall.declared.event.Event.TheVariants.{Queue}
+use Rattle.pe_icc.specs.Core.{Made, Seen, Adds, part_events, shape_of, MakesCall, vcpu_of_actor}
+use Rattle.pe_icc.specs.PeLoop.Moves.{are_moves, is_move}
+use Rattle.pe_its.specs.PeMem.Found.{Finding, IsCallAsFound, IsFinding, by_commands, by_looks, is_before}
+use Rattle.pe_its.specs.PeMem.Looked.{all_events, comes_after, comes_before}
+use Rattle.pe_its.proofs.PeMem.FoundLemmas.{among_after, among_before, found_by_none}
+use Rattle.pe_its.proofs.PeMem.LookedLemmas.{looked_after, looked_before}
 
 -- a move touches no interrupt, and ends no command
 move_before : (actor : ℕ) (event : Event) → IsTrue (is_move actor event) → is_before event ≡ true

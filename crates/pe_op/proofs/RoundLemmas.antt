@@ -1,35 +1,27 @@
 -- A memory-mapped access between an exit and an entry.
 use Rattle.std.proofs.Common.{◌≡◌, ℕ, true, if◌then◌else◌, IsTrue, List, ◌++◌, Option, Some, None, Result, Ok, Err, IfOk, OnErr, is_some, is_none, refl, sym, ap, subst, ◌∙◌}
-use Rattle.gic_base.specs.declared.operation.Frame.{Frame}
-use Rattle.gic_base.specs.declared.operation.Frame.TheVariants.{Its}
-use Rattle.gic_base.specs.declared.operation.GuestOp.TheVariants.{Mem}
-use Rattle.gic_imap.specs.Map.{decoded}
-use Rattle.gic_call.specs.Call.{takes_turn}
-use Rattle.gic_call.specs.Trace.{Happened, Beside, IsCall}
-use Rattle.vcpu_state.specs.declared.loaded.Loaded.{Loaded}
-use Rattle.vcpu_state.specs.declared.shelved.Shelved.{Shelved}
-use Rattle.vcpu_state.specs.Holding.{held_keys}
-use Rattle.vcpu_state.specs.Moves.{shelved_of}
-use Rattle.port_core.specs.declared.run.Made.{Made}
-use Rattle.port_core.specs.Local.{is_vcpu}
-use Rattle.port_core.specs.Port.{Seen, Adds, shape_of, part_events}
-use Rattle.port_core.proofs.PortLemmas.{adds_join}
-use Rattle.core_proper.specs.Called.{MakesCall, maps_taken, vcpu_of_actor}
-use Rattle.core_proper.specs.Parts.{begins}
-use Rattle.core_proper.specs.Progress.{Progress, paid, before_next, progressed}
-use Rattle.port_call.proofs.TurnLemmas.{events_then}
-use Rattle.pe_loop.specs.Enter.{Enters}
-use Rattle.pe_loop.specs.Leave.{Leaves}
-use Rattle.pe_loop.specs.Moves.{are_moves}
-use Rattle.pe_loop.specs.Stay.{IsUp}
-use Rattle.pe_loop.proofs.MoveLemmas.{only_leave}
+use Rattle.pe_icc.specs.Words.{Frame, Its, Mem}
+use Rattle.pe_icc.specs.GicImap.Map.{decoded}
+use Rattle.pe_icc.specs.Calls.{takes_turn, Happened, Beside, IsCall}
+use Rattle.pe_icc.specs.VcpuState.declared.loaded.Loaded.{Loaded}
+use Rattle.pe_icc.specs.VcpuState.declared.shelved.Shelved.{Shelved}
+use Rattle.pe_icc.specs.VcpuState.Holding.{held_keys}
+use Rattle.pe_icc.specs.VcpuState.Moves.{shelved_of}
+use Rattle.pe_icc.specs.Core.{Made, is_vcpu, Seen, Adds, shape_of, part_events, MakesCall, maps_taken, vcpu_of_actor, begins, Progress, paid, before_next, progressed}
+use Rattle.pe_icc.proofs.PortCore.PortLemmas.{adds_join}
+use Rattle.pe_icc.proofs.PortCall.TurnLemmas.{events_then}
+use Rattle.pe_icc.specs.PeLoop.Enter.{Enters}
+use Rattle.pe_icc.specs.PeLoop.Leave.{Leaves}
+use Rattle.pe_icc.specs.PeLoop.Moves.{are_moves}
+use Rattle.pe_icc.specs.PeLoop.Stay.{IsUp}
+use Rattle.pe_icc.proofs.PeLoop.MoveLemmas.{only_leave}
 use Rattle.pe_icc.specs.Amid.{IsRunning, IsAble, IsSame, Leads}
 use Rattle.pe_icc.specs.Operate.{MayReenter}
 use Rattle.pe_icc.proofs.AmidLemmas.{leads_then}
 use Rattle.pe_icc.proofs.IccLemmas.{part_proper, part_runs}
 use Rattle.pe_icc.proofs.ReenterLemmas.{enter_leads, good_leads, idle_again, piece_leads}
-use Rattle.pe_mem.specs.Call.{IsPieceOf, MakesAccess, StopsAccess, access_of}
-use Rattle.pe_mem.specs.Found.{IsCallAsFound, takes_its_by, takes_turn_by}
+use Rattle.pe_its.specs.PeMem.Call.{IsPieceOf, MakesAccess, StopsAccess, access_of}
+use Rattle.pe_its.specs.PeMem.Found.{IsCallAsFound, takes_its_by, takes_turn_by}
 use Rattle.pe_op.specs.Operation.{DoesOperation, LeavesFirst, StopsOperation}
 use Rattle.pe_op.proofs.AboutLemmas.{access_answers, access_between, maps_between}
 use Rattle.pe_op.proofs.FoundLemmas.{finding_between}

@@ -1,25 +1,18 @@
 -- One operation of a vCPU that is on a PE: an access of a register of its CPU interface; or a memory-mapped access, round which it leaves its PE and enters
 -- it again (own choice).
 use Rattle.std.specs.Prelude.{◌≡◌, ℕ, true, false, List, [], ◌∷◌, ◌++◌, map, Option, Some, is_some, is_none}
-use Rattle.gic_base.specs.declared.operation.GuestOp.{GuestOp}
-use Rattle.gic_base.specs.declared.operation.GuestOp.TheVariants.{Icc, Mem}
-use Rattle.gic_call.specs.declared.event.Operation.TheVariants.{Access}
-use Rattle.vcpu_state.specs.declared.loaded.Loaded.{Loaded}
-use Rattle.vcpu_state.specs.Holding.{held_keys}
-use Rattle.port_core.specs.declared.run.Made.{Made}
-use Rattle.port_core.specs.declared.step.CoreStep.TheVariants.{Poll}
-use Rattle.port_core.specs.Port.{Seen, Adds, shape_of, part_events, seen_after}
-use Rattle.core_proper.specs.Called.{MakesCall}
-use Rattle.core_proper.specs.Parts.{Act, begins, makes, part_of}
-use Rattle.core_proper.specs.Progress.{Progress, paid, progress_of}
-use Rattle.core_proper.specs.Proper.{IsProper}
-use Rattle.port_call.specs.Piece.{steps_of}
-use Rattle.pe_loop.specs.Leave.{left_by}
-use Rattle.pe_loop.specs.Stay.{IsUp}
+use Rattle.pe_icc.specs.Words.{GuestOp, Icc, Mem}
+use Rattle.pe_icc.specs.Calls.{Access}
+use Rattle.pe_icc.specs.VcpuState.declared.loaded.Loaded.{Loaded}
+use Rattle.pe_icc.specs.VcpuState.Holding.{held_keys}
+use Rattle.pe_icc.specs.Core.{Made, Poll, Seen, Adds, shape_of, part_events, seen_after, MakesCall, Act, begins, makes, part_of, Progress, paid, progress_of, IsProper}
+use Rattle.pe_icc.specs.PortCall.Piece.{steps_of}
+use Rattle.pe_icc.specs.PeLoop.Leave.{left_by}
+use Rattle.pe_icc.specs.PeLoop.Stay.{IsUp}
 use Rattle.pe_icc.specs.Amid.{IsRunning, IsAble, IsSame}
 use Rattle.pe_icc.specs.Icc.{IsLight}
 use Rattle.pe_icc.specs.Operate.{finds_kick}
-use Rattle.pe_mem.specs.Found.{IsCallAsFound, takes_turn_by}
+use Rattle.pe_its.specs.PeMem.Found.{IsCallAsFound, takes_turn_by}
 
 -- the value that an operation writes; a read has none
 abbrev pub written_by : GuestOp → Option ℕ

@@ -1,18 +1,17 @@
 //! Accesses of any frame, each the whole call.
 ghost use Rattle.std.specs.Prelude.{◌≡◌, IsTrue, IfOk, OnErr, true};
-ghost use Rattle.gic_base.specs.declared.operation.Frame.TheVariants.{Its};
-ghost use Rattle.gic_imap.specs.Map.{decoded};
-ghost use Rattle.gic_ram.specs.Access.{is_size};
-ghost use Rattle.scn_base.specs.Good.{fits as fits_in, has_frame};
-ghost use Rattle.gic_call.specs.Call.{takes_turn};
-ghost use Rattle.port_core.specs.Port.{shape_of};
-ghost use Rattle.pe_mem.specs.Call.{CanAccess, MakesAccess, StopsAccess};
+ghost use Rattle.pe_icc.specs.Words.{Its};
+ghost use Rattle.pe_icc.specs.GicImap.Map.{decoded};
+ghost use Rattle.pe_icc.specs.Registers.{is_size};
+ghost use Rattle.pe_icc.specs.Calls.{fits as fits_in, has_frame, takes_turn};
+ghost use Rattle.pe_icc.specs.Core.{shape_of};
+ghost use Rattle.pe_its.specs.PeMem.Call.{CanAccess, MakesAccess, StopsAccess};
 ghost use Rattle.pe_its.specs.Write.{StopsInTurn};
 
-use gic_base::{Frame, NoMemory};
+use pe_icc::gic_base::{Frame, NoMemory};
+use pe_icc::port_core::Port;
 use pe_its::its_op;
-use pe_mem::{dist_op, memory_op, redist_op};
-use port_core::Port;
+use pe_its::pe_mem::{dist_op, memory_op, redist_op};
 use std::sync::Wait;
 
 /// Makes an access of 1, 2, 4 or 8 bytes at a byte offset in a frame, or at an address of the guest's memory: a read, which

@@ -7,3 +7,7 @@ mod round;
 
 pub use frame::mem_op;
 pub use operation::guest_op;
+pub use pe_icc;
+pub use pe_icc::{pe_loop, vcpu_state};
+pub use pe_its;
+pub use pe_its::{its_exec, pe_mem};

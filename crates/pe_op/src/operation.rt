@@ -1,16 +1,16 @@
 //! One operation of a vCPU that is on a PE.
 ghost use Rattle.std.specs.Prelude.{◌≡◌, IsTrue, IfOk, OnErr};
-ghost use Rattle.port_core.specs.Port.{shape_of};
-ghost use Rattle.scn_base.specs.Good.{is_good_op};
-ghost use Rattle.pe_loop.specs.Stay.{IsUp};
+ghost use Rattle.pe_icc.specs.Core.{shape_of};
+ghost use Rattle.pe_icc.specs.Calls.{is_good_op};
+ghost use Rattle.pe_icc.specs.PeLoop.Stay.{IsUp};
 ghost use Rattle.pe_op.specs.Operation.{DoesOperation, StopsOperation};
 
 use crate::round::access_frame;
-use gic_base::{GuestOp, NoMemory};
+use pe_icc::gic_base::{GuestOp, NoMemory};
 use pe_icc::icc_op;
-use port_core::Port;
+use pe_icc::port_core::Port;
+use pe_icc::vcpu_state::Loaded;
 use std::sync::Wait;
-use vcpu_state::Loaded;
 
 /// Does one operation of a vCPU that is on a PE: an access of a register of its CPU interface, or one of 1, 2, 4 or 8 bytes at a
 /// byte offset in the distributor, in the redistributor of a vCPU of the guest or in the ITS, or at an address of the guest's

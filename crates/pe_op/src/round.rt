@@ -1,18 +1,18 @@
 //! A memory-mapped access of a vCPU that is on a PE.
 ghost use Rattle.std.specs.Prelude.{◌≡◌, IsTrue, IfOk, OnErr};
-ghost use Rattle.gic_base.specs.declared.operation.GuestOp.TheVariants.{Mem};
-ghost use Rattle.port_core.specs.Port.{shape_of};
-ghost use Rattle.scn_base.specs.Good.{is_good_op};
-ghost use Rattle.pe_loop.specs.Stay.{IsUp};
+ghost use Rattle.pe_icc.specs.Words.{Mem};
+ghost use Rattle.pe_icc.specs.Core.{shape_of};
+ghost use Rattle.pe_icc.specs.Calls.{is_good_op};
+ghost use Rattle.pe_icc.specs.PeLoop.Stay.{IsUp};
 ghost use Rattle.pe_op.specs.Operation.{DoesOperation, StopsOperation};
 
 use crate::frame::mem_op;
-use gic_base::{Frame, NoMemory};
 use pe_icc::copy_of;
-use pe_loop::{enter, leave};
-use port_core::Port;
+use pe_icc::gic_base::{Frame, NoMemory};
+use pe_icc::pe_loop::{enter, leave};
+use pe_icc::port_core::Port;
+use pe_icc::vcpu_state::Loaded;
 use std::sync::Wait;
-use vcpu_state::Loaded;
 
 /// Makes a memory-mapped access: the vCPU leaves its PE before it, and enters it again after it.
 pub(crate) fn access_frame<P: Port, R: Wait>(

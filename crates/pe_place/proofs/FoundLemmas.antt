@@ -1,14 +1,10 @@
 -- A call that is no access goes by no vCPU that an LPI is for.
 use Rattle.std.proofs.Common.{◌≡◌, ℕ, List, Option, Some, None, refl, sym, ◌∙◌}
-use Rattle.gic_base.specs.declared.operation.DeviceOp.{DeviceOp}
-use Rattle.gic_base.specs.declared.shape.GuestShape.{GuestShape}
-use Rattle.gic_call.specs.declared.event.Operation.TheVariants.{Device, Residence}
-use Rattle.gic_call.specs.Trace.{Beside, Happened, IsCall}
-use Rattle.port_core.specs.declared.run.Made.{Made}
-use Rattle.port_core.specs.Port.{Seen, shape_of, part_events}
-use Rattle.core_proper.specs.Called.{MakesCall, vcpu_of_actor}
-use Rattle.pe_mem.specs.Found.{IsCallAsFound}
-use Rattle.pe_mem.proofs.FoundLemmas.{found_by_none}
+use Rattle.dev_port.specs.Words.{DeviceOp, GuestShape}
+use Rattle.dev_port.specs.Calls.{Device, Residence, Beside, Happened, IsCall}
+use Rattle.dev_port.specs.Core.{Made, Seen, shape_of, part_events, MakesCall, vcpu_of_actor}
+use Rattle.pe_op.specs.PeMem.Found.{IsCallAsFound}
+use Rattle.pe_op.proofs.PeMem.FoundLemmas.{found_by_none}
 
 any_residence :
     (shape : GuestShape) (one other : Beside) (actor : Option ℕ) (piece : List Happened) (answer : Option ℕ) → IsCall shape one actor Residence piece answer → IsCall shape other actor Residence piece answer

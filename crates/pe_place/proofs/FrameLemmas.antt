@@ -1,22 +1,14 @@
 -- Where a vCPU is, by another port that tells the same of it.
 use Rattle.std.proofs.Common.{◌≡◌, sym, ap, subst, ◌∙◌}
-use Rattle.scn_base.specs.declared.guest.GuestSpec.{GuestSpec}
-use Rattle.vcpu_state.specs.declared.shelved.Shelved.{Shelved}
-use Rattle.vcpu_state.specs.declared.loaded.Loaded.{Loaded}
-use Rattle.gic_ich.specs.Place.{StandFor}
-use Rattle.port_core.specs.declared.local.Local.{Local}
-use Rattle.port_core.specs.After.{interface_of}
-use Rattle.port_core.specs.Condition.{is_ready}
-use Rattle.port_core.specs.Local.{is_vcpu}
-use Rattle.port_core.specs.Port.{Seen}
-use Rattle.core_proper.specs.Called.{IsAtRest}
-use Rattle.core_proper.specs.Progress.{Progress}
-use Rattle.core_proper.specs.Proper.{is_settled}
+use Rattle.dev_port.specs.Calls.{GuestSpec}
+use Rattle.pe_op.specs.VcpuState.declared.shelved.Shelved.{Shelved}
+use Rattle.pe_op.specs.VcpuState.declared.loaded.Loaded.{Loaded}
+use Rattle.law_serial_is_eager.specs.Lists.{StandFor}
+use Rattle.dev_port.specs.Core.{Local, interface_of, is_ready, is_vcpu, Seen, IsAtRest, Progress, is_settled, AtIrq}
 use Rattle.std.specs.List.{list_all}
 use Rattle.std.specs.Prelude.{not}
-use Rattle.port_core.specs.declared.at_list.AtIrq.{AtIrq}
-use Rattle.pe_loop.specs.Enter.{IsBetween}
-use Rattle.pe_loop.specs.Stay.{IsActor, IsOff, IsOn, IsUp}
+use Rattle.pe_op.specs.PeLoop.Enter.{IsBetween}
+use Rattle.pe_op.specs.PeLoop.Stay.{IsActor, IsOff, IsOn, IsUp}
 use Rattle.pe_place.specs.declared.place.Place.{Place}
 use Rattle.pe_place.specs.declared.place.Place.TheVariants.{Shelf, Aside, Pe}
 use Rattle.pe_place.specs.Place.{IsAt, IsFollowed}

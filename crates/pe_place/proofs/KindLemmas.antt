@@ -2,10 +2,9 @@
 use Rattle.std.proofs.Common.{◌≡◌, ℕ, List, [], ◌∷◌, ◌++◌, Option, refl, ap, ◌∙◌}
 use Rattle.std.proofs.lemmas.List.{append_assoc}
 use Rattle.std.proofs.lemmas.List.Elements.{All-nil, All-cons, All-append}
-use Rattle.gic_call.specs.declared.event.Operation.{Operation}
-use Rattle.gic_call.specs.declared.event.Operation.TheVariants.{Residence}
-use Rattle.port_core.specs.declared.run.Made.{Made}
-use Rattle.serial_laws.specs.Serial.{WholePart}
+use Rattle.dev_port.specs.Calls.{Operation, Residence}
+use Rattle.dev_port.specs.Core.{Made}
+use Rattle.law_serial_is_eager.specs.Serial.{WholePart}
 use Rattle.pe_place.specs.Parts.{Part, by_actor, residence, AreOneCall, AreResidences, HaveCall}
 
 Resides : WholePart → Type 0

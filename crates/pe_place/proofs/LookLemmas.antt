@@ -2,30 +2,16 @@
 use Rattle.std.proofs.Common.{◌≡◌, ℕ, ◌||◌, ◌&&◌, not, Bool, true, false, if◌then◌else◌, IsTrue, List, [], ◌∷◌, ◌++◌, map, Option, Some, None, refl, sym, ap, subst, ◌∙◌}
 use Rattle.std.specs.Option.{option_to_list}
 use Rattle.std.proofs.lemmas.List.Sums.{fold-append}
-use Rattle.vcpu_state.specs.declared.loaded.Loaded.{Loaded}
-use Rattle.gic_call.specs.declared.event.Operation.TheVariants.{Residence}
-use Rattle.gic_call.specs.Trace.{Beside, IsCall, named_of}
-use Rattle.port_core.specs.declared.local.Local.{Local}
-use Rattle.port_core.specs.declared.local.Phase.{Phase}
-use Rattle.port_core.specs.declared.local.Phase.TheVariants.{Off, Scanning, Claiming, Loaded as LoadedPhase, Folding}
-use Rattle.port_core.specs.declared.run.Made.{Made}
-use Rattle.port_core.specs.declared.step.CoreStep.TheVariants.{Look}
-use Rattle.port_core.specs.declared.word_id.WordId.TheVariants.{Vcpu}
-use Rattle.port_core.specs.After.{local_after}
-use Rattle.port_core.specs.Condition.{is_ready}
-use Rattle.port_core.specs.Port.{Seen, Adds, shape_of, part_events}
-use Rattle.port_core.specs.Stands.{stands_for}
-use Rattle.core_proper.specs.Called.{MakesCall, maps_taken, vcpu_of_actor}
-use Rattle.core_proper.specs.Parts.{begins, makes, ends, part_of}
-use Rattle.core_proper.specs.Progress.{Progress, paid, is_paid, owed_after_part, progressed, progress_of}
-use Rattle.core_proper.specs.Proper.{IsProper, IsProperEnd, is_empty, gives_back, is_settled, wants_nothing}
-use Rattle.core_proper.proofs.PartLemmas.{proper_append}
-use Rattle.core_proper.proofs.RestLemmas.{rests_again}
-use Rattle.port_call.specs.Piece.{IsPiece, is_plain, goes_by_known}
-use Rattle.port_call.proofs.PieceLemmas.{piece_one}
-use Rattle.pe_loop.specs.Stay.{IsUp}
-use Rattle.pe_icc.specs.Amid.{IsRunning}
-use Rattle.pe_icc.proofs.ReenterLemmas.{none_still}
+use Rattle.pe_op.specs.VcpuState.declared.loaded.Loaded.{Loaded}
+use Rattle.dev_port.specs.Calls.{Residence, Beside, IsCall, named_of}
+use Rattle.dev_port.specs.Core.{Local, Phase, Off, Scanning, Claiming, Loaded as LoadedPhase, Folding, Made, Look, Vcpu, local_after, is_ready, Seen, Adds, shape_of, part_events, stands_for, MakesCall, maps_taken, vcpu_of_actor, begins, makes, ends, part_of, Progress, paid, is_paid, owed_after_part, progressed, progress_of, IsProper, IsProperEnd, is_empty, gives_back, is_settled, wants_nothing}
+use Rattle.dev_port.proofs.CoreProper.PartLemmas.{proper_append}
+use Rattle.dev_port.proofs.CoreProper.RestLemmas.{rests_again}
+use Rattle.dev_port.specs.PortCall.Piece.{IsPiece, is_plain, goes_by_known}
+use Rattle.dev_port.proofs.PortCall.PieceLemmas.{piece_one}
+use Rattle.pe_op.specs.PeLoop.Stay.{IsUp}
+use Rattle.pe_op.specs.PeIcc.Amid.{IsRunning}
+use Rattle.pe_op.proofs.PeIcc.ReenterLemmas.{none_still}
 use Rattle.pe_place.specs.declared.place.Place.TheVariants.{Pe}
 use Rattle.pe_place.specs.Parts.{residence, AreResidences}
 use Rattle.pe_place.specs.Moves.{LooksForKick, LooksOnce}

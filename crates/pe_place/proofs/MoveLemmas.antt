@@ -4,21 +4,17 @@ use Rattle.std.proofs.lemmas.Grind.{flat_map-append}
 use Rattle.std.proofs.lemmas.List.{map-append}
 use Rattle.std.proofs.lemmas.List.Elements.{All-nil, All-cons, All-append}
 use Rattle.std.proofs.lemmas.List.Sums.{fold-append}
-use Rattle.gic_call.specs.declared.event.Operation.TheVariants.{Residence}
-use Rattle.vcpu_state.specs.declared.shelved.Shelved.{Shelved}
-use Rattle.vcpu_state.specs.declared.loaded.Loaded.{Loaded}
-use Rattle.port_core.specs.declared.run.Made.{Made}
-use Rattle.port_core.specs.Port.{Seen, Adds, shape_of, seen_after}
-use Rattle.port_core.proofs.PortLemmas.{adds_join, seen_joins}
-use Rattle.core_proper.specs.Called.{MakesCall}
-use Rattle.core_proper.specs.Progress.{Progress, progressed, progress_of}
-use Rattle.core_proper.specs.Proper.{IsProper}
-use Rattle.core_proper.proofs.PartLemmas.{proper_append}
-use Rattle.port_call.proofs.PieceLemmas.{seen_nil}
-use Rattle.pe_loop.specs.Enter.{Enters, IsBetween}
-use Rattle.pe_loop.specs.Leave.{Leaves}
-use Rattle.pe_icc.proofs.LawLemmas.{entry_runs, exit_rests}
-use Rattle.serial_laws.specs.Serial.{WholePart}
+use Rattle.dev_port.specs.Calls.{Residence}
+use Rattle.pe_op.specs.VcpuState.declared.shelved.Shelved.{Shelved}
+use Rattle.pe_op.specs.VcpuState.declared.loaded.Loaded.{Loaded}
+use Rattle.dev_port.specs.Core.{Made, Seen, Adds, shape_of, seen_after, MakesCall, Progress, progressed, progress_of, IsProper}
+use Rattle.dev_port.proofs.PortCore.PortLemmas.{adds_join, seen_joins}
+use Rattle.dev_port.proofs.CoreProper.PartLemmas.{proper_append}
+use Rattle.dev_port.proofs.PortCall.PieceLemmas.{seen_nil}
+use Rattle.pe_op.specs.PeLoop.Enter.{Enters, IsBetween}
+use Rattle.pe_op.specs.PeLoop.Leave.{Leaves}
+use Rattle.pe_op.proofs.PeIcc.LawLemmas.{entry_runs, exit_rests}
+use Rattle.law_serial_is_eager.specs.Serial.{WholePart}
 use Rattle.pe_place.specs.declared.place.Place.{Place}
 use Rattle.pe_place.specs.declared.place.Place.TheVariants.{Pe}
 use Rattle.pe_place.specs.Parts.{Part, residence, steps_in, acts_of, acts_in, IsCallFound, AreCalls, by_actor, AreResidences}

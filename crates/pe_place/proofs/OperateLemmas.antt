@@ -1,11 +1,10 @@
 -- An operation of a vCPU, as a part of its own.
 use Rattle.std.proofs.Common.{◌≡◌, ℕ, Option, IfOk, OnErr}
 use Rattle.std.specs.Prelude.{Result, Ok, Err}
-use Rattle.gic_base.specs.declared.memory.NoMemory.{NoMemory}
-use Rattle.gic_base.specs.declared.operation.GuestOp.{GuestOp}
-use Rattle.gic_call.specs.declared.event.Operation.TheVariants.{Access}
-use Rattle.vcpu_state.specs.declared.loaded.Loaded.{Loaded}
-use Rattle.port_core.specs.Port.{Seen}
+use Rattle.dev_port.specs.Words.{NoMemory, GuestOp}
+use Rattle.dev_port.specs.Calls.{Access}
+use Rattle.pe_op.specs.VcpuState.declared.loaded.Loaded.{Loaded}
+use Rattle.dev_port.specs.Core.{Seen}
 use Rattle.pe_op.specs.Operation.{DoesOperation, StopsOperation}
 use Rattle.pe_place.specs.declared.place.Place.TheVariants.{Pe}
 use Rattle.pe_place.specs.Parts.{Part, AreOneCall}

@@ -4,19 +4,12 @@ use Rattle.std.proofs.lemmas.Bool.{eq-eqb, ne_eqb}
 use Rattle.std.proofs.lemmas.Grind.{flat_map-append}
 use Rattle.std.proofs.lemmas.List.{map-append}
 use Rattle.std.proofs.lemmas.List.Elements.{filter-append}
-use Rattle.scn_base.specs.declared.guest.GuestSpec.{GuestSpec}
-use Rattle.gic_word.specs.Record.{target_in}
-use Rattle.gic_word.specs.Word.{irq_of}
-use Rattle.gic_call.specs.declared.event.Event.{Event}
-use Rattle.gic_call.specs.Trace.{Beside, IsCall}
-use Rattle.port_core.specs.declared.local.Local.{Local}
-use Rattle.port_core.specs.declared.run.Made.{Made}
-use Rattle.port_core.specs.Port.{Seen, seen_after, local_by, events_of, part_events}
-use Rattle.core_proper.specs.Called.{MakesCall, vcpu_of_actor}
-use Rattle.core_proper.specs.Parts.{entry_by}
-use Rattle.pe_mem.specs.Found.{are_before, Finding, by_looks, by_commands, IsFinding, takes_its_by, IsCallAsFound}
-use Rattle.pe_mem.specs.Looked.{IsLookedAt, all_events, comes_after, comes_before}
-use Rattle.serial_laws.specs.Serial.{WholePart}
+use Rattle.dev_port.specs.Calls.{GuestSpec, Event, Beside, IsCall}
+use Rattle.dev_port.specs.Words.{target_in, irq_of}
+use Rattle.dev_port.specs.Core.{Local, Made, Seen, seen_after, local_by, events_of, part_events, MakesCall, vcpu_of_actor, entry_by}
+use Rattle.pe_op.specs.PeMem.Found.{are_before, Finding, by_looks, by_commands, IsFinding, takes_its_by, IsCallAsFound}
+use Rattle.pe_op.specs.PeMem.Looked.{IsLookedAt, all_events, comes_after, comes_before}
+use Rattle.law_serial_is_eager.specs.Serial.{WholePart}
 use Rattle.pe_place.specs.Parts.{Part, by_actor, part_in, steps_in, entries_in, parts_by, IsCallFound, AreCalls, IsSeatAfter}
 
 -- Those of one actor.

@@ -1,30 +1,23 @@
 -- A vCPU that leaves its PE and enters it again, in one part.
 use Rattle.std.proofs.Common.{◌≡◌, ℕ, ◌&&◌, not, false, if◌then◌else◌, IsTrue, List, [], ◌∷◌, ◌++◌, map, Option, Some, None, append-nil, refl, sym, ap, subst, ◌∙◌}
 use Rattle.std.proofs.lemmas.List.Sums.{fold-append}
-use Rattle.gic_call.specs.declared.event.Operation.TheVariants.{Residence}
-use Rattle.gic_call.specs.Trace.{Beside, IsCall}
-use Rattle.vcpu_state.specs.declared.loaded.Loaded.{Loaded}
-use Rattle.vcpu_state.specs.declared.shelved.Shelved.{Shelved}
-use Rattle.port_core.specs.declared.local.Local.{Local}
-use Rattle.port_core.specs.declared.run.Made.{Made}
-use Rattle.port_core.specs.Port.{Seen, shape_of, part_events}
-use Rattle.port_core.proofs.PortLemmas.{adds_join}
-use Rattle.core_proper.specs.Called.{MakesCall, maps_taken, vcpu_of_actor}
-use Rattle.core_proper.specs.Parts.{begins, makes, ends, part_of}
-use Rattle.core_proper.specs.Progress.{Progress, paid, is_paid, owed_after_part, progressed, progress_of}
-use Rattle.core_proper.specs.Proper.{IsProper, IsProperEnd, is_empty, gives_back, is_settled, wants_nothing}
-use Rattle.core_proper.proofs.PartLemmas.{proper_append}
-use Rattle.pe_loop.specs.Enter.{Enters, MayEnter}
-use Rattle.pe_loop.specs.Leave.{Leaves}
-use Rattle.pe_loop.specs.Moves.{are_moves}
-use Rattle.pe_loop.specs.Stay.{IsUp}
-use Rattle.pe_loop.specs.Steps.{IsEntryPart}
-use Rattle.pe_loop.proofs.JoinLemmas.{same_progress, two_on}
-use Rattle.pe_loop.proofs.MoveLemmas.{moves_join, moves_unnamed, only_leave}
-use Rattle.pe_icc.specs.Amid.{IsAble, IsRunning, Leads}
-use Rattle.pe_icc.specs.Operate.{MayReenter}
-use Rattle.pe_icc.proofs.AmidLemmas.{leads_then}
-use Rattle.pe_icc.proofs.ReenterLemmas.{enter_leads, piece_leads}
+use Rattle.dev_port.specs.Calls.{Residence, Beside, IsCall}
+use Rattle.pe_op.specs.VcpuState.declared.loaded.Loaded.{Loaded}
+use Rattle.pe_op.specs.VcpuState.declared.shelved.Shelved.{Shelved}
+use Rattle.dev_port.specs.Core.{Local, Made, Seen, shape_of, part_events, MakesCall, maps_taken, vcpu_of_actor, begins, makes, ends, part_of, Progress, paid, is_paid, owed_after_part, progressed, progress_of, IsProper, IsProperEnd, is_empty, gives_back, is_settled, wants_nothing}
+use Rattle.dev_port.proofs.PortCore.PortLemmas.{adds_join}
+use Rattle.dev_port.proofs.CoreProper.PartLemmas.{proper_append}
+use Rattle.pe_op.specs.PeLoop.Enter.{Enters, MayEnter}
+use Rattle.pe_op.specs.PeLoop.Leave.{Leaves}
+use Rattle.pe_op.specs.PeLoop.Moves.{are_moves}
+use Rattle.pe_op.specs.PeLoop.Stay.{IsUp}
+use Rattle.pe_op.specs.PeLoop.Steps.{IsEntryPart}
+use Rattle.pe_op.proofs.PeLoop.JoinLemmas.{same_progress, two_on}
+use Rattle.pe_op.proofs.PeLoop.MoveLemmas.{moves_join, moves_unnamed, only_leave}
+use Rattle.pe_op.specs.PeIcc.Amid.{IsAble, IsRunning, Leads}
+use Rattle.pe_op.specs.PeIcc.Operate.{MayReenter}
+use Rattle.pe_op.proofs.PeIcc.AmidLemmas.{leads_then}
+use Rattle.pe_op.proofs.PeIcc.ReenterLemmas.{enter_leads, piece_leads}
 use Rattle.pe_place.specs.declared.place.Place.TheVariants.{Pe}
 use Rattle.pe_place.specs.Parts.{residence, acts_in, acts_of, AreResidences}
 use Rattle.pe_place.specs.Moves.{Reenters}

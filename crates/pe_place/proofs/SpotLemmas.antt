@@ -1,7 +1,7 @@
 -- Where a vCPU is, where it is not in one of the places.
 use Rattle.std.proofs.Common.{◌≡◌, ℕ, refl}
-use Rattle.vcpu_state.specs.declared.shelved.Shelved.{Shelved}
-use Rattle.vcpu_state.specs.declared.loaded.Loaded.{Loaded}
+use Rattle.pe_op.specs.VcpuState.declared.shelved.Shelved.{Shelved}
+use Rattle.pe_op.specs.VcpuState.declared.loaded.Loaded.{Loaded}
 use Rattle.pe_place.specs.declared.place.Place.{Place}
 use Rattle.pe_place.specs.declared.place.Place.TheVariants.{Shelf, Aside, Pe}
 use Rattle.pe_place.specs.Place.{spot_of, entered, left, gone_aside, returned, HasRegisters}

@@ -1,8 +1,7 @@
 -- What a device did over its port (own choice).
 use Rattle.std.specs.Prelude.{List}
-use Rattle.gic_base.specs.declared.operation.DeviceOp.{DeviceOp}
-use Rattle.port_core.specs.declared.run.Made.{Made}
-use Rattle.port_core.specs.Port.{Seen}
+use Rattle.dev_port.specs.Words.{DeviceOp}
+use Rattle.dev_port.specs.Core.{Made, Seen}
 use Rattle.dev_port.specs.Device.{IsDevicePart}
 
 -- a device made its call, in one part

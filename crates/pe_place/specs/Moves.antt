@@ -1,16 +1,10 @@
 -- What a vCPU did over its port, in whole parts (own choice).
 use Rattle.std.specs.Prelude.{◌≡◌, ℕ, Bool, false, List, [], ◌∷◌, ◌++◌, map, All}
-use Rattle.port_core.specs.declared.run.Made.{Made}
-use Rattle.port_core.specs.declared.step.CoreStep.TheVariants.{Look}
-use Rattle.port_core.specs.declared.word_id.WordId.TheVariants.{Vcpu}
-use Rattle.port_core.specs.Forms.{vcpu_of}
-use Rattle.port_core.specs.Port.{Seen, Adds, shape_of}
-use Rattle.core_proper.specs.Progress.{Progress, progress_of}
-use Rattle.core_proper.specs.Proper.{IsProper}
-use Rattle.pe_loop.specs.Steps.{IsEntryPart}
-use Rattle.pe_icc.specs.Amid.{IsRunning}
-use Rattle.vcpu_state.specs.declared.loaded.Loaded.{Loaded}
-use Rattle.serial_laws.specs.Serial.{WholePart}
+use Rattle.dev_port.specs.Core.{Made, Look, Vcpu, vcpu_of, Seen, Adds, shape_of, Progress, progress_of, IsProper}
+use Rattle.pe_op.specs.PeLoop.Steps.{IsEntryPart}
+use Rattle.pe_op.specs.PeIcc.Amid.{IsRunning}
+use Rattle.pe_op.specs.VcpuState.declared.loaded.Loaded.{Loaded}
+use Rattle.law_serial_is_eager.specs.Serial.{WholePart}
 use Rattle.pe_place.specs.declared.place.Place.{Place}
 use Rattle.pe_place.specs.declared.place.Place.TheVariants.{Shelf, Aside, Pe}
 use Rattle.pe_place.specs.Parts.{Part, residence, steps_in, acts_in, AreCalls, by_actor, AreResidences}

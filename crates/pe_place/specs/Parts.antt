@@ -1,19 +1,11 @@
 -- Parts of an actor, one after the other: each is what the actor did for one call (own choice).
 use Rattle.std.specs.Prelude.{◌≡◌, ℕ, ◌<◌, ◌==◌, if◌then◌else◌, List, [], ◌∷◌, ◌++◌, All, filter, map, Option, None}
 use Rattle.std.specs.List.{flat_map}
-use Rattle.gic_call.specs.declared.event.Operation.{Operation}
-use Rattle.gic_call.specs.declared.event.Operation.TheVariants.{Residence}
-use Rattle.gic_base.specs.declared.shape.GuestShape.{GuestShape}
-use Rattle.port_core.specs.declared.run.Entry.{Entry}
-use Rattle.port_core.specs.declared.run.Made.{Made}
-use Rattle.port_core.specs.Actor.{actor_count}
-use Rattle.port_core.specs.Local.{is_vcpu}
-use Rattle.port_core.specs.Port.{Seen, seen_after}
-use Rattle.core_proper.specs.Called.{MakesCall}
-use Rattle.core_proper.specs.Parts.{Act, part_of, entry_by}
-use Rattle.core_proper.specs.Progress.{Progress, progress_of}
-use Rattle.pe_mem.specs.Found.{IsCallAsFound}
-use Rattle.serial_laws.specs.Serial.{WholePart}
+use Rattle.dev_port.specs.Calls.{Operation, Residence}
+use Rattle.dev_port.specs.Words.{GuestShape}
+use Rattle.dev_port.specs.Core.{Entry, Made, actor_count, is_vcpu, Seen, seen_after, MakesCall, Act, part_of, entry_by, Progress, progress_of}
+use Rattle.pe_op.specs.PeMem.Found.{IsCallAsFound}
+use Rattle.law_serial_is_eager.specs.Serial.{WholePart}
 
 -- what an actor did for one call: the call, the list registers of its PE (0 for a device), the steps, and the answer
 pub record Part : Type 0 where

@@ -1,10 +1,9 @@
 -- Where a vCPU is, with what its port tells of it (own choice).
 use Rattle.std.specs.Prelude.{◌≡◌, ℕ, List, ◌∷◌, take}
-use Rattle.port_core.specs.Port.{Seen}
-use Rattle.core_proper.specs.Progress.{Progress}
-use Rattle.pe_loop.specs.Stay.{IsOff, IsUp}
-use Rattle.pe_loop.specs.Enter.{IsBetween}
-use Rattle.pe_icc.specs.Amid.{IsRunning}
+use Rattle.dev_port.specs.Core.{Seen, Progress}
+use Rattle.pe_op.specs.PeLoop.Stay.{IsOff, IsUp}
+use Rattle.pe_op.specs.PeLoop.Enter.{IsBetween}
+use Rattle.pe_op.specs.PeIcc.Amid.{IsRunning}
 use Rattle.pe_place.specs.declared.place.Place.{Place}
 use Rattle.pe_place.specs.declared.place.Place.TheVariants.{Shelf, Aside, Pe}
 

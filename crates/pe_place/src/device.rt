@@ -1,15 +1,14 @@
 //! An operation of a device.
 ghost use Rattle.std.specs.Prelude.{◌&&◌, IsTrue};
-ghost use Rattle.gic_base.specs.Interrupt.{has_interrupt};
-ghost use Rattle.gic_base.specs.declared.operation.DeviceOp.TheVariants.{Wire as WireOp};
-ghost use Rattle.port_core.specs.Port.{shape_of};
-ghost use Rattle.scn_base.specs.Good.{has_wire, is_good_event};
+ghost use Rattle.dev_port.specs.Words.{has_interrupt, Wire as WireOp};
+ghost use Rattle.dev_port.specs.Core.{shape_of};
+ghost use Rattle.dev_port.specs.Calls.{has_wire, is_good_event};
 ghost use Rattle.dev_port.specs.Device.{CanCall};
 ghost use Rattle.pe_place.specs.Device.{DoesEvent};
 
+use dev_port::gic_base::{DeviceOp, Key};
+use dev_port::port_core::Port;
 use dev_port::{AlreadySo, Wire, message, msi, set_wire};
-use gic_base::{DeviceOp, Key};
-use port_core::Port;
 use std::sync::Wait;
 
 /// The device moves a wire, which has the other level.

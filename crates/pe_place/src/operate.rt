@@ -1,17 +1,16 @@
 //! An operation of a vCPU that is on a PE.
 ghost use Rattle.std.specs.Prelude.{◌≡◌, ℕ, true, IsTrue, IfOk, OnErr};
-ghost use Rattle.gic_call.specs.declared.event.Operation.TheVariants.{Access};
-ghost use Rattle.port_core.specs.Port.{shape_of};
-ghost use Rattle.pe_mem.specs.Found.{takes_turn_by};
-ghost use Rattle.scn_base.specs.Good.{is_good_op};
+ghost use Rattle.dev_port.specs.Calls.{Access, is_good_op};
+ghost use Rattle.dev_port.specs.Core.{shape_of};
+ghost use Rattle.pe_op.specs.PeMem.Found.{takes_turn_by};
 ghost use Rattle.pe_place.specs.Parts.{AreOneCall};
 ghost use Rattle.pe_place.specs.Place.{pe, spot_of, IsAt, HasRegisters};
 ghost use Rattle.pe_place.specs.Moves.{Moves};
 
 use crate::place::Place;
-use gic_base::{GuestOp, NoMemory};
+use dev_port::gic_base::{GuestOp, NoMemory};
+use dev_port::port_core::Port;
 use pe_op::guest_op;
-use port_core::Port;
 use std::sync::Wait;
 
 /// The vCPU, which is on a PE, does an operation: what it reads. `NoMemory` comes only at a write that takes the ITS.

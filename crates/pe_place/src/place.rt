@@ -1,20 +1,19 @@
 //! Where a vCPU is, over a port that is the vCPU's.
 ghost use Rattle.std.specs.Prelude.{◌≡◌, ℕ, ◌≤◌, ◌∷◌, true, false, take, IfOk};
-ghost use Rattle.gic_base.specs.declared.held.TheConstants.{MAX_LIST_REGISTERS};
-ghost use Rattle.port_core.specs.Local.{is_vcpu};
-ghost use Rattle.port_core.specs.Port.{shape_of};
-ghost use Rattle.pe_loop.specs.Stay.{IsUp};
+ghost use Rattle.dev_port.specs.Words.{MAX_LIST_REGISTERS};
+ghost use Rattle.dev_port.specs.Core.{is_vcpu, shape_of};
+ghost use Rattle.pe_op.specs.PeLoop.Stay.{IsUp};
 ghost use Rattle.pe_place.specs.declared.place.Place.TheVariants.{Pe as OnPe};
 ghost use Rattle.pe_place.specs.Parts.{AreResidences};
 ghost use Rattle.pe_place.specs.Place.{pe, spot_of, entered, left, gone_aside, returned, IsAt, HasRegisters, IsShown};
 ghost use Rattle.pe_place.specs.Moves.{Moves, Reenters, ReentersAt, LooksForKick, WasNotKicked};
 
-use pe_icc::copy_of;
-use pe_loop::{enter, leave};
-use port_core::{CoreStep, Port, VcpuWord, WordId};
-use scn_base::LrList;
+use dev_port::gic_guest::LrList;
+use dev_port::port_core::{CoreStep, Port, VcpuWord, WordId};
+use pe_op::pe_icc::copy_of;
+use pe_op::pe_loop::{enter, leave};
+use pe_op::vcpu_state::{Loaded, Shelved};
 use std::alloc::{AllocError, Global};
-use vcpu_state::{Loaded, Shelved};
 
 /// Where a vCPU is between two calls.
 #[derive(Debug, Drop)]

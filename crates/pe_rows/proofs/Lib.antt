@@ -1,1 +1,2 @@
+mod UpLemmas
 mod TouchLemmas

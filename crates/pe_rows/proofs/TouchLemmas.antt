@@ -1,17 +1,10 @@
 -- A vCPU with nothing at its interface touches an interrupt that it looked at.
 use Rattle.std.proofs.Common.{◌≡◌, ℕ, ◌&&◌, not, IsTrue, [], refl, sym, ap, subst, ◌∙◌}
 use Rattle.std.proofs.lemmas.Bool.{and_parts}
-use Rattle.gic_base.specs.declared.interrupt.Key.TheVariants.{Spi}
-use Rattle.gic_base.specs.declared.operation.Kind.TheVariants.{SetActive}
-use Rattle.gic_base.specs.Interrupt.{has_interrupt}
-use Rattle.gic_call.specs.declared.touch.Touching.TheVariants.{Register}
-use Rattle.port_core.specs.declared.step.CoreStep.TheVariants.{Look, Touch}
-use Rattle.port_core.specs.declared.word_id.WordId.TheVariants.{Irq}
-use Rattle.port_core.specs.Local.{has_no_cand, owes_no_kick, owes_no_mark, owes_nothing}
-use Rattle.port_core.specs.Port.{Seen, AddsStep, CanMake, shape_of}
-use Rattle.port_core.specs.Valid.{IsIrqWord}
-use Rattle.core_proper.specs.Proper.{is_settled}
-use Rattle.pe_loop.proofs.LookLemmas.{look_same}
+use Rattle.port_seq.specs.Words.{Spi, SetActive, has_interrupt}
+use Rattle.port_seq.specs.Calls.{Register}
+use Rattle.pe_mem.specs.Core.{Look, Touch, Irq, has_no_cand, owes_no_kick, owes_no_mark, owes_nothing, Seen, AddsStep, CanMake, shape_of, IsIrqWord, is_settled}
+use Rattle.pe_icc.proofs.PeLoop.LookLemmas.{look_same}
 
 pub can_activate : (old mid : Seen) (id found : ℕ) → IsTrue (has_interrupt (shape_of old) (Spi id)) → old.local.at ≡ [] → IsTrue (is_settled old.local) → IsIrqWord (shape_of old) (Spi id) found → AddsStep old mid (Look (Irq (Spi id))) found
     → CanMake mid (Touch (Spi id) found (Register SetActive 1))

@@ -1,5 +1,10 @@
-//! Tests of how a vCPU enters a PE and leaves it, over the port of one thread.
+//! Tests of a vCPU over the port of one thread: how it enters a PE and leaves it, its accesses of its CPU interface, and its
+//! memory-mapped ones.
 #![tactic(auto)]
 
 #[cfg(test)]
-mod tests;
+mod entries;
+#[cfg(test)]
+mod interface;
+#[cfg(test)]
+mod memory;

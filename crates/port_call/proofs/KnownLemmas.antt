@@ -4,16 +4,10 @@ use Rattle.std.specs.List.{list_all}
 use Rattle.std.proofs.lemmas.Bool.{and_parts, eqb-true, false_from_ne_true}
 use Rattle.std.proofs.lemmas.List.{append_assoc}
 use Rattle.std.proofs.lemmas.List.Sums.{fold-append}
-use Rattle.gic_base.specs.declared.shape.GuestShape.{GuestShape}
-use Rattle.gic_base.specs.Shape.{IsShape}
-use Rattle.its_tab.specs.Maps.{Maps}
-use Rattle.port_core.specs.declared.run.Made.{Made}
-use Rattle.port_core.specs.declared.step.CoreStep.{CoreStep}
-use Rattle.port_core.specs.declared.step.CoreStep.TheVariants.{CommandDone}
-use Rattle.port_core.specs.declared.word_id.WordId.{WordId}
-use Rattle.port_core.specs.Known.{is_on, known, no_maps, maps_by_step, maps_after, known_maps, since_turn}
-use Rattle.port_core.specs.Place.{has_word, place_of_word}
-use Rattle.port_core.proofs.PlaceLemmas.{word_same}
+use Rattle.floor_core.specs.Words.{GuestShape, IsShape}
+use Rattle.floor_core.specs.Registers.{Maps}
+use Rattle.floor_core.specs.Core.{Made, CoreStep, CommandDone, WordId, is_on, known, no_maps, maps_by_step, maps_after, known_maps, since_turn, has_word, place_of_word}
+use Rattle.floor_core.proofs.PortCore.PlaceLemmas.{word_same}
 use Rattle.port_call.specs.Piece.{takes_none}
 
 -- Words.

@@ -1,3 +1,11 @@
+pub use Rattle.floor_core.proofs.CoreProper
+pub use Rattle.floor_core.proofs.GicBase
+pub use Rattle.floor_core.proofs.GicCall
+pub use Rattle.floor_core.proofs.GicFrame
+pub use Rattle.floor_core.proofs.GicIcv
+pub use Rattle.floor_core.proofs.ItsTab
+pub use Rattle.floor_core.proofs.PortCore
+pub use Rattle.floor_core.proofs.VcpuRefill
 pub mod KnownLemmas
 pub mod PieceLemmas
 pub mod SetLemmas

@@ -2,21 +2,13 @@
 use Rattle.std.proofs.Common.{◌≡◌, ℕ, true, IsTrue, List, [], ◌∷◌, ◌++◌, map, Option, Some, None, unwrap_or, refl, sym, ap, ◌∙◌}
 use Rattle.std.specs.Option.{option_map_or}
 use Rattle.std.proofs.lemmas.Bool.{eq-eqb}
-use Rattle.gic_open.specs.declared.plain.PlainWord.TheVariants.{Ram}
-use Rattle.gic_ram.specs.declared.access.Part.{Part}
-use Rattle.gic_ram.specs.Access.{part_of, extracted}
-use Rattle.gic_call.specs.declared.event.Place.TheVariants.{Word}
-use Rattle.gic_call.specs.declared.event.Event.TheVariants.{Read}
-use Rattle.gic_call.specs.declared.event.Found.TheVariants.{Word as FoundWord}
-use Rattle.port_core.specs.declared.run.Made.{Made}
-use Rattle.port_core.specs.declared.step.CoreStep.TheVariants.{RamLook}
-use Rattle.port_core.specs.declared.word_id.WordId.{WordId}
-use Rattle.port_core.specs.declared.word_id.WordId.TheVariants.{Plain}
-use Rattle.gic_base.specs.declared.shape.GuestShape.{GuestShape}
-use Rattle.port_core.specs.Known.{is_on, known_word, since_turn}
-use Rattle.port_core.specs.Place.{place_of_word}
-use Rattle.port_core.specs.Step.{word_of}
-use Rattle.port_core.specs.Port.{Seen, shape_of}
+use Rattle.floor_core.specs.Calls.{Ram}
+use Rattle.floor_core.specs.Registers.{Part, part_of, extracted}
+use Rattle.floor_core.specs.GicCall.declared.event.Place.TheVariants.{Word}
+use Rattle.floor_core.specs.GicCall.declared.event.Event.TheVariants.{Read}
+use Rattle.floor_core.specs.GicCall.declared.event.Found.TheVariants.{Word as FoundWord}
+use Rattle.floor_core.specs.Core.{Made, RamLook, WordId, Plain, is_on, known_word, since_turn, place_of_word, word_of, Seen, shape_of}
+use Rattle.floor_core.specs.Words.{GuestShape}
 use Rattle.port_call.specs.Piece.{takes_none}
 use Rattle.port_call.specs.Plain.{ReadsPlain}
 use Rattle.port_call.specs.Memory.{ReadsMemory, view_by, read_as}

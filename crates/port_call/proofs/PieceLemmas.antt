@@ -2,24 +2,12 @@
 use Rattle.std.proofs.Common.{◌≡◌, ℕ, ◌==◌, ◌&&◌, ◌||◌, not, Bool, true, false, IsTrue, List, [], ◌∷◌, ◌++◌, map, Option, Some, None, option_map, append-nil, refl, sym, ap, subst, ◌∙◌}
 use Rattle.std.proofs.lemmas.List.{map-append}
 use Rattle.std.proofs.lemmas.List.Sums.{fold-append}
-use Rattle.gic_base.specs.declared.shape.GuestShape.{GuestShape}
-use Rattle.port_core.specs.declared.local.Local.{Local}
-use Rattle.port_core.specs.declared.run.Entry.{Entry}
-use Rattle.port_core.specs.declared.run.Made.{Made}
-use Rattle.port_core.specs.declared.step.CoreStep.{CoreStep}
-use Rattle.port_core.specs.declared.step.CoreStep.TheVariants.{Look, Raise, Claim, GiveBack, Release, Poll, Kick, Touch, Want, WireUp, WireDown, EnableLpis, RamLook, RamPut, CtlrTake, CtlrEnd, TurnTake, CommandDone, TurnRelease, Mark, TakeIndex}
-use Rattle.port_core.specs.declared.word_id.WordId.TheVariants.{Irq, Vcpu, Index, Queue, Ctlr, Plain}
-use Rattle.port_core.specs.After.{local_after}
-use Rattle.port_core.specs.Effect.{succeeds}
-use Rattle.port_core.specs.Port.{Seen, shape_of, seen_after}
-use Rattle.port_core.proofs.PortLemmas.{seen_joins}
-use Rattle.gic_call.specs.declared.event.Operation.{Operation}
-use Rattle.core_proper.specs.Called.{IsAtRest, IsProperPart}
-use Rattle.core_proper.specs.Parts.{begins, makes, ends}
-use Rattle.core_proper.specs.Progress.{Progress, is_paid, changed_by, scan_on, stepped, progressed, progress_of}
-use Rattle.core_proper.specs.Proper.{is_empty, gives_back, wants_nothing, is_settled, IsProper, IsProperStep, IsProperEnd, keeps_scan, keeps_trap_scan, keeps_failed_claim, keeps_far_end, keeps_refill, keeps_want, keeps_seen}
-use Rattle.core_proper.specs.Scan.{Scan, idle, taking, looking, claiming, is_idle, scan_allows}
-use Rattle.core_proper.proofs.PartLemmas.{proper_append}
+use Rattle.floor_core.specs.Words.{GuestShape}
+use Rattle.floor_core.specs.Core.{Local, Entry, Made, CoreStep, Look, Raise, Claim, GiveBack, Release, Poll, Kick, Touch, Want, WireUp, WireDown, EnableLpis, RamLook, RamPut, CtlrTake, CtlrEnd, TurnTake, CommandDone, TurnRelease, Mark, TakeIndex, Irq, Vcpu, Index, Queue, Ctlr, Plain, local_after, succeeds, Seen, shape_of, seen_after, IsAtRest, IsProperPart, begins, makes, ends, Progress, is_paid, scan_on, stepped, progressed, progress_of, is_empty, gives_back, wants_nothing, is_settled, IsProper, IsProperStep, IsProperEnd, keeps_scan, keeps_trap_scan, keeps_failed_claim, keeps_far_end, keeps_refill, keeps_want, keeps_seen, Scan, idle, taking, looking, claiming, is_idle, scan_allows}
+use Rattle.floor_core.proofs.PortCore.PortLemmas.{seen_joins}
+use Rattle.floor_core.specs.Calls.{Operation}
+use Rattle.floor_core.specs.CoreProper.Progress.{changed_by}
+use Rattle.floor_core.proofs.CoreProper.PartLemmas.{proper_append}
 use Rattle.port_call.specs.Piece.{IsIdle, StaysSo, IsGoodPiece, IsPiece, IsRestedPiece, is_plain, goes_by_known}
 
 -- no scan

@@ -2,17 +2,9 @@
 use Rattle.std.proofs.Common.{◌≡◌, ℕ, zero, suc, ◌==◌, ◌&&◌, ◌/◌, Bool, true, false, if◌then◌else◌, IsTrue, List, [], ◌∷◌, Option, bit_and, slice_index_or, slice_set, refl, sym, ap, ◌∙◌}
 use Rattle.std.specs.List.{list_all}
 use Rattle.std.proofs.lemmas.Bool.{and_parts, eqb-true}
-use Rattle.gic_aff.specs.declared.sgi.Targets.{Targets}
-use Rattle.gic_base.specs.declared.interrupt.Key.{Key}
-use Rattle.gic_base.specs.declared.shape.GuestShape.{GuestShape}
-use Rattle.gic_base.specs.Interrupt.{is_of_vcpu}
-use Rattle.gic_bits.specs.Bits.{has_bit}
-use Rattle.gic_word.specs.declared.record.Irq.{Irq}
-use Rattle.port_core.specs.declared.local.Local.{Local}
-use Rattle.port_core.specs.declared.owed.Cands.{Cands}
-use Rattle.port_core.specs.After.{is_settled_by_look, looked_at}
-use Rattle.port_core.specs.Local.{is_vcpu, no_vcpus, with_all, without_vcpu, owes_no_kick, owes_no_mark, has_no_cand, owes_nothing, owing, owing_both, settled, without_cand}
-use Rattle.port_core.specs.Place.{index_bit}
+use Rattle.floor_core.specs.Registers.{Targets}
+use Rattle.floor_core.specs.Words.{Key, GuestShape, is_of_vcpu, has_bit, Irq}
+use Rattle.floor_core.specs.Core.{Local, Cands, is_settled_by_look, looked_at, is_vcpu, no_vcpus, with_all, without_vcpu, owes_no_kick, owes_no_mark, has_no_cand, owes_nothing, owing, owing_both, settled, without_cand, index_bit}
 use Rattle.port_call.specs.Rest.{StaysAtEase}
 use Rattle.port_call.specs.Settle.{marks_sent, kicks_sent}
 

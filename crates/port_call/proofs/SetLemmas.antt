@@ -5,9 +5,9 @@ use Rattle.std.specs.List.{range_with_len}
 use Rattle.std.proofs.lemmas.Bool.{cases_eq, eq-eqb}
 use Rattle.std.proofs.lemmas.Nat.{pow_below}
 use Rattle.std.proofs.lemmas.Nat.Bits.{bit_at-zero, bit_at_and, bit_at_or, bit_at_not, bit_at-lt, bit_at-pow_same, bit_at-pow_other, bit_at-trailing_zeros}
-use Rattle.gic_bits.specs.Bits.{has_bit}
-use Rattle.gic_aff.specs.declared.sgi.Targets.{Targets}
-use Rattle.port_core.specs.Local.{no_vcpus, with_vcpu, with_some, with_all, without_vcpu}
+use Rattle.floor_core.specs.Words.{has_bit}
+use Rattle.floor_core.specs.Registers.{Targets}
+use Rattle.floor_core.specs.Core.{no_vcpus, with_vcpu, with_some, with_all, without_vcpu}
 use Rattle.port_call.specs.Settle.{vcpus_in, IsFirst}
 
 -- Bits.

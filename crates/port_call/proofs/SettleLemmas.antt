@@ -8,28 +8,12 @@ use Rattle.std.proofs.lemmas.List.Folds.{list_all-append}
 use Rattle.std.proofs.lemmas.Nat.{and_le_l}
 use Rattle.std.proofs.lemmas.Nat.Bits.{bit_at-zero, bit_at_above}
 use Rattle.std.specs.Int.{bit_at, bit_not, w32}
-use Rattle.gic_bits.specs.Bits.{has_bit}
-use Rattle.gic_aff.specs.declared.sgi.Targets.{Targets}
-use Rattle.gic_base.specs.declared.interrupt.Key.{Key}
-use Rattle.gic_base.specs.declared.shape.GuestShape.{GuestShape}
-use Rattle.gic_base.specs.Shape.{IsShape}
+use Rattle.floor_core.specs.Words.{has_bit, Key, GuestShape, IsShape, is_same_key, has_interrupt, is_of_vcpu}
+use Rattle.floor_core.specs.Registers.{Targets, Maps}
 use Rattle.std.proofs.Math.Pow.{pow_mono}
-use Rattle.gic_base.specs.Interrupt.{is_same_key, has_interrupt, is_of_vcpu}
-use Rattle.port_core.specs.declared.local.Local.{Local}
-use Rattle.port_core.specs.declared.owed.Cands.{Cands}
-use Rattle.port_core.specs.declared.run.Made.{Made}
-use Rattle.port_core.specs.declared.step.CoreStep.{CoreStep}
-use Rattle.port_core.specs.declared.step.CoreStep.TheVariants.{Kick, Mark}
-use Rattle.its_tab.specs.Maps.{Maps}
-use Rattle.port_core.specs.After.{marked, local_after}
-use Rattle.port_core.specs.Effect.{succeeds}
-use Rattle.port_core.specs.Stands.{stands_for}
-use Rattle.port_core.specs.Local.{no_vcpus, without_vcpu, settled, owes_no_mark}
-use Rattle.port_core.specs.Port.{Seen, IsPort, Adds, AddsStep, AreHanded, CanMake, made_by, shape_of, seen_after, events_of}
-use Rattle.port_core.specs.Run.{is_taking}
-use Rattle.port_core.specs.Valid.{AreVcpus, AreMarks, AreMarksOf}
-use Rattle.gic_base.proofs.KeyLemmas.{same_itself}
-use Rattle.port_core.proofs.PortLemmas.{adds_join}
+use Rattle.floor_core.specs.Core.{Local, Cands, Made, CoreStep, Kick, Mark, marked, local_after, succeeds, stands_for, no_vcpus, without_vcpu, settled, owes_no_mark, Seen, IsPort, Adds, AddsStep, AreHanded, CanMake, made_by, shape_of, seen_after, events_of, is_taking, AreVcpus, AreMarks, AreMarksOf}
+use Rattle.floor_core.proofs.GicBase.KeyLemmas.{same_itself}
+use Rattle.floor_core.proofs.PortCore.PortLemmas.{adds_join}
 use Rattle.port_call.specs.Piece.{steps_of, takes_none, IsPiece, is_plain, goes_by_known}
 use Rattle.port_call.specs.Settle.{vcpus_in, IsFirst, marks_owed, kicks_owed, marks_sent, kicks_sent, Sends, Settles, IsNextMark}
 use Rattle.port_call.proofs.PieceLemmas.{piece_nil, piece_cons}

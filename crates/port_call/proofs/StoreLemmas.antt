@@ -7,29 +7,13 @@ use Rattle.std.proofs.lemmas.Bool.{eq-eqb, eqb-true, and_parts}
 use Rattle.std.proofs.lemmas.List.{append_assoc}
 use Rattle.std.proofs.lemmas.List.Folds.{list_all-append}
 use Rattle.std.proofs.lemmas.List.Elements.{All-append, All-cons, All-nil}
-use Rattle.gic_base.specs.declared.shape.GuestShape.{GuestShape}
-use Rattle.gic_word.specs.Record.{is_number}
-use Rattle.gic_call.specs.declared.event.Event.TheVariants.{Read, Put}
-use Rattle.gic_call.specs.declared.event.Found.TheVariants.{Word as FoundWord}
-use Rattle.gic_call.specs.declared.event.Place.TheVariants.{Word}
-use Rattle.gic_call.specs.Trace.{Happened}
-use Rattle.gic_open.specs.declared.plain.PlainWord.{PlainWord}
-use Rattle.gic_open.specs.declared.plain.PlainWord.TheVariants.{Ram, Propbaser, Pendbaser, ItsCtlr, Cbaser, Cwriter, Baser0, Baser1, Fault}
-use Rattle.gic_open.specs.Plain.{place_of_plain, has_plain, plain_at}
-use Rattle.port_core.specs.declared.local.Local.{Local}
-use Rattle.port_core.specs.declared.run.Made.{Made}
-use Rattle.port_core.specs.declared.step.CoreStep.{CoreStep}
-use Rattle.port_core.specs.declared.step.CoreStep.TheVariants.{RamLook, RamPut}
-use Rattle.port_core.specs.declared.word_id.WordId.TheVariants.{Plain, Queue}
-use Rattle.port_core.specs.Condition.{CanPut, fault_place}
-use Rattle.gic_base.specs.Interrupt.{interrupt_count}
-use Rattle.port_core.specs.Known.{is_on, known}
-use Rattle.port_core.specs.Place.{place_of_word}
-use Rattle.port_core.specs.Step.{word_of}
-use Rattle.port_core.specs.Port.{Seen, Adds, AddsStep, made_by, shape_of, seen_after, part_events}
-use Rattle.port_core.specs.Stands.{stands_for, event_done}
-use Rattle.port_core.specs.After.{local_after}
-use Rattle.port_core.proofs.PortLemmas.{adds_join}
+use Rattle.floor_core.specs.Words.{GuestShape, is_number, interrupt_count}
+use Rattle.floor_core.specs.Calls.{Put, Happened, PlainWord, Ram, Propbaser, Pendbaser, ItsCtlr, Cbaser, Cwriter, Baser0, Baser1, Fault, place_of_plain, has_plain, plain_at}
+use Rattle.floor_core.specs.GicCall.declared.event.Event.TheVariants.{Read}
+use Rattle.floor_core.specs.GicCall.declared.event.Found.TheVariants.{Word as FoundWord}
+use Rattle.floor_core.specs.GicCall.declared.event.Place.TheVariants.{Word}
+use Rattle.floor_core.specs.Core.{Local, Made, CoreStep, RamLook, RamPut, Plain, Queue, CanPut, fault_place, is_on, known, place_of_word, word_of, Seen, Adds, AddsStep, made_by, shape_of, seen_after, part_events, stands_for, event_done, local_after}
+use Rattle.floor_core.proofs.PortCore.PortLemmas.{adds_join}
 use Rattle.port_call.specs.Piece.{IsPiece, takes_none, goes_by_known}
 use Rattle.port_call.specs.Plain.{is_event_word}
 use Rattle.port_call.specs.Store.{MayStore, Stores, MissesStore, TriesStore, AreStoreEvents, AreMissEvents, is_store_miss, is_store_step, stores_not}

@@ -1,22 +1,12 @@
 -- A step that changes a cause, with the marks and kicks after it.
 use Rattle.std.proofs.Common.{◌≡◌, ℕ, ◌&&◌, Bool, true, false, IsTrue, List, [], ◌∷◌, ◌++◌, is_none, refl, ap, subst, ◌∙◌}
 use Rattle.std.specs.Option.{option_to_list}
-use Rattle.gic_base.specs.declared.interrupt.Key.{Key}
-use Rattle.gic_base.specs.declared.shape.GuestShape.{GuestShape}
-use Rattle.gic_word.specs.Word.{irq_of}
-use Rattle.gic_call.specs.declared.event.Event.{Event}
-use Rattle.gic_call.specs.declared.event.Event.TheVariants.{Raise as RaiseEvent}
-use Rattle.gic_call.specs.declared.event.Found.TheVariants.{Nothing}
-use Rattle.port_core.specs.declared.local.Local.{Local}
-use Rattle.port_core.specs.declared.run.Made.{Made}
-use Rattle.port_core.specs.declared.step.CoreStep.{CoreStep}
-use Rattle.port_core.specs.declared.step.CoreStep.TheVariants.{Raise}
-use Rattle.port_core.specs.After.{target_of, holder_or_active, concerned, local_after}
-use Rattle.port_core.specs.Local.{owing_both}
-use Rattle.port_core.specs.Port.{Seen, AddsStep, shape_of, made_by, seen_after, part_events}
-use Rattle.port_core.specs.Run.{is_taking}
-use Rattle.port_core.specs.Stands.{stands_for, silent}
-use Rattle.port_core.proofs.PortLemmas.{adds_join}
+use Rattle.floor_core.specs.Words.{Key, GuestShape, irq_of}
+use Rattle.floor_core.specs.Calls.{Event}
+use Rattle.floor_core.specs.GicCall.declared.event.Event.TheVariants.{Raise as RaiseEvent}
+use Rattle.floor_core.specs.GicCall.declared.event.Found.TheVariants.{Nothing}
+use Rattle.floor_core.specs.Core.{Local, Made, CoreStep, Raise, target_of, holder_or_active, concerned, local_after, owing_both, Seen, AddsStep, shape_of, made_by, seen_after, part_events, is_taking, stands_for, silent}
+use Rattle.floor_core.proofs.PortCore.PortLemmas.{adds_join}
 use Rattle.port_call.specs.Piece.{takes_none, IsPiece, is_plain, goes_by_known}
 use Rattle.port_call.specs.Settle.{marks_owed, kicks_owed, marks_sent, kicks_sent, Settles}
 use Rattle.port_call.specs.Tell.{Tells}

@@ -5,31 +5,13 @@ use Rattle.std.specs.Option.{option_map_or, option_to_list}
 use Rattle.std.proofs.lemmas.Bool.{and_parts, eq-eqb, eqb-true, false_from_ne_true}
 use Rattle.std.proofs.lemmas.List.{append_assoc, map-append}
 use Rattle.std.proofs.lemmas.List.Sums.{fold-append}
-use Rattle.gic_base.specs.declared.interrupt.Key.{Key}
-use Rattle.gic_base.specs.Interrupt.{has_interrupt, is_same_key}
-use Rattle.gic_base.proofs.KeyLemmas.{same_itself}
-use Rattle.gic_call.specs.declared.touch.Touching.{Touching}
-use Rattle.gic_call.specs.Touch.{CanTouch, touched}
-use Rattle.gic_word.specs.Word.{irq_of}
-use Rattle.gic_word.specs.Record.{is_number}
-use Rattle.its_tab.specs.Maps.{Maps}
-use Rattle.port_core.specs.declared.local.Local.{Local}
-use Rattle.port_core.specs.declared.run.Made.{Made}
-use Rattle.port_core.specs.declared.step.CoreStep.TheVariants.{Look, Touch, Want, Kick, Mark}
-use Rattle.port_core.specs.declared.word_id.WordId.TheVariants.{Irq}
-use Rattle.port_core.specs.After.{concerned_by, local_after, local_done}
-use Rattle.port_core.specs.Effect.{succeeds}
-use Rattle.port_core.specs.Known.{known}
-use Rattle.port_core.specs.Valid.{IsIrqWord}
-use Rattle.port_core.specs.Local.{owes_no_mark, owes_nothing, owing_both, without_vcpu}
-use Rattle.port_core.specs.Port.{Seen, Adds, AddsStep, CanMake, shape_of, seen_after, made_by, part_events}
-use Rattle.port_core.specs.Stands.{event_done}
-use Rattle.port_core.proofs.PortLemmas.{adds_join, seen_joins}
-use Rattle.core_proper.specs.Parts.{makes}
-use Rattle.core_proper.specs.Progress.{Progress, progressed, progress_of, scan_on, stepped}
-use Rattle.core_proper.specs.Scan.{is_idle}
-use Rattle.core_proper.specs.Proper.{IsProper}
-use Rattle.core_proper.proofs.PartLemmas.{proper_append}
+use Rattle.floor_core.specs.Words.{Key, has_interrupt, is_same_key, irq_of, is_number}
+use Rattle.floor_core.proofs.GicBase.KeyLemmas.{same_itself}
+use Rattle.floor_core.specs.Calls.{Touching, CanTouch, touched}
+use Rattle.floor_core.specs.Registers.{Maps}
+use Rattle.floor_core.specs.Core.{Local, Made, Look, Touch, Want, Kick, Mark, Irq, concerned_by, local_after, local_done, succeeds, known, IsIrqWord, owes_no_mark, owes_nothing, owing_both, without_vcpu, Seen, Adds, AddsStep, CanMake, shape_of, seen_after, made_by, part_events, event_done, makes, Progress, progressed, progress_of, scan_on, stepped, is_idle, IsProper}
+use Rattle.floor_core.proofs.PortCore.PortLemmas.{adds_join, seen_joins}
+use Rattle.floor_core.proofs.CoreProper.PartLemmas.{proper_append}
 use Rattle.port_call.specs.declared.touching.Missed.TheVariants.{Held, Changed}
 use Rattle.port_call.specs.About.{is_about, are_about, IsNaming, IsServed, IsTry, IsNamedPiece}
 use Rattle.port_call.specs.Piece.{IsIdle, StaysSo, IsGoodPiece, IsPiece, goes_by_known, takes_none}

@@ -6,28 +6,14 @@ use Rattle.std.proofs.lemmas.Bool.{and_parts}
 use Rattle.std.proofs.lemmas.List.{append_assoc, map-append}
 use Rattle.std.proofs.lemmas.List.Folds.{list_all-append}
 use Rattle.std.proofs.lemmas.List.Sums.{fold-append}
-use Rattle.gic_base.specs.declared.interrupt.Key.{Key}
-use Rattle.gic_base.specs.declared.shape.GuestShape.{GuestShape}
-use Rattle.gic_base.specs.Interrupt.{is_same_key}
-use Rattle.gic_base.proofs.KeyLemmas.{same_key}
-use Rattle.gic_call.specs.declared.event.Operation.{Operation}
-use Rattle.gic_history.specs.Named.{names}
-use Rattle.gic_word.specs.Word.{irq_of}
-use Rattle.gic_word.specs.Record.{is_number}
-use Rattle.port_core.specs.declared.run.Made.{Made}
-use Rattle.port_core.specs.declared.step.CoreStep.{CoreStep}
-use Rattle.port_core.specs.declared.step.CoreStep.TheVariants.{Look, Touch, Want, Kick}
-use Rattle.port_core.specs.declared.word_id.WordId.TheVariants.{Irq}
-use Rattle.port_core.specs.After.{local_after}
-use Rattle.port_core.specs.Effect.{succeeds}
-use Rattle.port_core.specs.Known.{known_view}
-use Rattle.port_core.specs.Port.{Seen, shape_of, seen_after}
-use Rattle.port_core.proofs.PortLemmas.{seen_joins}
-use Rattle.core_proper.specs.Parts.{makes}
-use Rattle.core_proper.specs.Progress.{Progress, changed_by, is_end_of, progressed, progress_of, scan_on, stepped}
-use Rattle.core_proper.specs.Proper.{IsProper, IsProperStep, keeps_seen, keeps_want, keeps_trap_scan, keeps_failed_claim, keeps_far_end, keeps_refill}
-use Rattle.core_proper.specs.Scan.{Scan, idle, is_idle, scan_looked}
-use Rattle.core_proper.proofs.PartLemmas.{proper_append}
+use Rattle.floor_core.specs.Words.{Key, GuestShape, is_same_key, irq_of, is_number}
+use Rattle.floor_core.proofs.GicBase.KeyLemmas.{same_key}
+use Rattle.floor_core.specs.Calls.{Operation}
+use Rattle.floor_core.specs.Histories.{names}
+use Rattle.floor_core.specs.Core.{Made, CoreStep, Look, Touch, Want, Kick, Irq, local_after, succeeds, known_view, Seen, shape_of, seen_after, makes, Progress, is_end_of, progressed, progress_of, scan_on, stepped, IsProper, IsProperStep, keeps_seen, keeps_want, keeps_trap_scan, keeps_failed_claim, keeps_far_end, keeps_refill, Scan, idle, is_idle, scan_looked}
+use Rattle.floor_core.proofs.PortCore.PortLemmas.{seen_joins}
+use Rattle.floor_core.specs.CoreProper.Progress.{changed_by}
+use Rattle.floor_core.proofs.CoreProper.PartLemmas.{proper_append}
 use Rattle.port_call.specs.About.{is_about, are_about, IsNaming, IsTry, StaysAsking}
 use Rattle.port_call.specs.Piece.{IsIdle, goes_by_known, takes_none, steps_of}
 use Rattle.port_call.proofs.PieceLemmas.{idle_is, idle_on, scan_free}

@@ -6,29 +6,14 @@ use Rattle.std.proofs.lemmas.Bool.{and_parts, eq-eqb, eqb-true, both_ways}
 use Rattle.std.proofs.lemmas.List.{append_assoc}
 use Rattle.std.proofs.lemmas.List.Folds.{list_all-append}
 use Rattle.std.proofs.lemmas.List.Sums.{fold-append}
-use Rattle.gic_base.specs.declared.shape.GuestShape.{GuestShape}
-use Rattle.gic_call.specs.declared.event.Event.{Event}
-use Rattle.gic_call.specs.declared.event.Event.TheVariants.{Read, ItsBegin}
-use Rattle.gic_call.specs.declared.event.Found.TheVariants.{Nothing}
-use Rattle.gic_call.specs.declared.event.Place.TheVariants.{Queue as QueuePlace}
-use Rattle.gic_call.specs.Trace.{Happened, is_beside, named_of}
-use Rattle.gic_word.specs.Record.{is_number}
-use Rattle.its_queue.specs.Queue.{is_queue_word, queue_of}
-use Rattle.its_tab.specs.After.{IsValid as IsValidMaps}
-use Rattle.its_tab.specs.Maps.{Maps}
-use Rattle.port_core.specs.declared.local.Local.{Local}
-use Rattle.port_core.specs.declared.run.Made.{Made}
-use Rattle.port_core.specs.declared.step.CoreStep.TheVariants.{Look, TurnTake}
-use Rattle.port_core.specs.declared.word_id.WordId.{WordId}
-use Rattle.port_core.specs.declared.word_id.WordId.TheVariants.{Queue}
-use Rattle.port_core.specs.After.{local_done}
-use Rattle.port_core.specs.Effect.{succeeds}
-use Rattle.port_core.specs.Known.{is_on, known}
-use Rattle.port_core.specs.Place.{place_of_word}
-use Rattle.port_core.specs.Port.{Seen, IsPort, Adds, AddsStep, made_by, shape_of, part_events}
-use Rattle.port_core.specs.Stands.{event_done}
-use Rattle.port_core.specs.Valid.{CanFind}
-use Rattle.port_core.proofs.PortLemmas.{adds_join, events_join}
+use Rattle.floor_core.specs.Words.{GuestShape, is_number}
+use Rattle.floor_core.specs.Calls.{Event, ItsBegin, Happened, is_beside, named_of}
+use Rattle.floor_core.specs.GicCall.declared.event.Event.TheVariants.{Read}
+use Rattle.floor_core.specs.GicCall.declared.event.Found.TheVariants.{Nothing}
+use Rattle.floor_core.specs.GicCall.declared.event.Place.TheVariants.{Queue as QueuePlace}
+use Rattle.floor_core.specs.Registers.{is_queue_word, queue_of, IsValid as IsValidMaps, Maps}
+use Rattle.floor_core.specs.Core.{Local, Made, Look, TurnTake, WordId, Queue, local_done, succeeds, is_on, known, place_of_word, Seen, IsPort, Adds, AddsStep, made_by, shape_of, part_events, event_done, CanFind}
+use Rattle.floor_core.proofs.PortCore.PortLemmas.{adds_join, events_join}
 use Rattle.port_call.specs.Piece.{IsPiece, IsRestedPiece, goes_by_known}
 use Rattle.port_call.specs.Turn.{is_miss, is_queue_read, Misses, TakesTurn, TriesTurn}
 use Rattle.port_call.proofs.PieceLemmas.{piece_one, piece_joins, rested_joins}

@@ -2,18 +2,9 @@
 use Rattle.std.specs.Prelude.{◌≡◌, Bool, true, false, IsTrue, List, [], ◌++◌, map}
 use Rattle.std.specs.List.{list_all}
 use Rattle.std.specs.Option.{option_map_or}
-use Rattle.gic_base.specs.declared.interrupt.Key.{Key}
-use Rattle.gic_base.specs.Interrupt.{is_same_key}
-use Rattle.gic_history.specs.Named.{names}
-use Rattle.port_core.specs.declared.run.Made.{Made}
-use Rattle.port_core.specs.declared.step.CoreStep.{CoreStep}
-use Rattle.port_core.specs.declared.step.CoreStep.TheVariants.{Look, Raise, Touch, Want, Mark, Kick}
-use Rattle.port_core.specs.declared.word_id.WordId.TheVariants.{Irq}
-use Rattle.port_core.specs.Known.{known_view}
-use Rattle.port_core.specs.Port.{Seen, shape_of, seen_after}
-use Rattle.core_proper.specs.Parts.{makes}
-use Rattle.core_proper.specs.Progress.{Progress, is_end_of, progress_of}
-use Rattle.core_proper.specs.Proper.{IsProper}
+use Rattle.floor_core.specs.Words.{Key, is_same_key}
+use Rattle.floor_core.specs.Histories.{names}
+use Rattle.floor_core.specs.Core.{Made, CoreStep, Look, Raise, Touch, Want, Mark, Kick, Irq, known_view, Seen, shape_of, seen_after, makes, Progress, is_end_of, progress_of, IsProper}
 use Rattle.port_call.specs.Piece.{steps_of, takes_none, IsIdle, StaysSo}
 
 -- a look at the interrupt, a change of it, a step that asks for it, a mark of it, or a kick

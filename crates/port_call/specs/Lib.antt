@@ -1,3 +1,16 @@
+pub use Rattle.floor_core.specs.Calls
+pub use Rattle.floor_core.specs.Core
+pub use Rattle.floor_core.specs.Histories
+pub use Rattle.floor_core.specs.Lists
+pub use Rattle.floor_core.specs.Registers
+pub use Rattle.floor_core.specs.Words
+pub use Rattle.floor_core.specs.CoreProper
+pub use Rattle.floor_core.specs.GicBase
+pub use Rattle.floor_core.specs.GicCall
+pub use Rattle.floor_core.specs.GicDmap
+pub use Rattle.floor_core.specs.GicImap
+pub use Rattle.floor_core.specs.GicRmap
+pub use Rattle.floor_core.specs.ItsCmd
 pub mod Piece
 pub mod Rest
 pub mod Settle

@@ -1,17 +1,11 @@
 -- An actor looks at the guest's memory.
 use Rattle.std.specs.Prelude.{◌≡◌, ℕ, IsTrue, List, [], ◌∷◌, map}
 use Rattle.std.specs.Option.{option_map_or}
-use Rattle.gic_base.specs.declared.shape.GuestShape.{GuestShape}
-use Rattle.gic_ram.specs.Access.{part_of}
-use Rattle.gic_call.specs.declared.event.Event.TheVariants.{Read}
-use Rattle.gic_call.specs.declared.event.Place.{Place}
-use Rattle.gic_call.specs.Trace.{Happened, held_at, memory_places}
-use Rattle.gic_call.specs.View.{View, memory_at}
-use Rattle.port_core.specs.declared.run.Made.{Made}
-use Rattle.port_core.specs.declared.step.CoreStep.{CoreStep}
-use Rattle.port_core.specs.declared.step.CoreStep.TheVariants.{RamLook}
-use Rattle.port_core.specs.Known.{known_view}
-use Rattle.port_core.specs.Port.{Seen, Adds, shape_of, part_events}
+use Rattle.floor_core.specs.Words.{GuestShape}
+use Rattle.floor_core.specs.Registers.{part_of}
+use Rattle.floor_core.specs.GicCall.declared.event.Event.TheVariants.{Read}
+use Rattle.floor_core.specs.Calls.{Place, Happened, held_at, memory_places, View, memory_at}
+use Rattle.floor_core.specs.Core.{Made, CoreStep, RamLook, known_view, Seen, Adds, shape_of, part_events}
 use Rattle.port_call.specs.Piece.{steps_of, takes_none, IsPiece}
 
 -- the look at the word of memory that an access is in; none where it is outside

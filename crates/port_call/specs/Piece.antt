@@ -2,17 +2,8 @@
 use Rattle.std.specs.Prelude.{◌≡◌, Bool, true, false, IsTrue, List, [], map, is_none}
 use Rattle.std.specs.List.{list_all}
 use Rattle.std.specs.Option.{option_map_or}
-use Rattle.gic_word.specs.Record.{is_number}
-use Rattle.port_core.specs.declared.run.Made.{Made}
-use Rattle.port_core.specs.declared.step.CoreStep.{CoreStep}
-use Rattle.port_core.specs.declared.step.CoreStep.TheVariants.{Look, Claim, Poll, Touch, Want, TakeIndex, CommandDone}
-use Rattle.port_core.specs.declared.word_id.WordId.TheVariants.{Irq}
-use Rattle.port_core.specs.Known.{known}
-use Rattle.port_core.specs.Port.{Seen, shape_of, seen_after, word_by}
-use Rattle.core_proper.specs.Parts.{makes}
-use Rattle.core_proper.specs.Progress.{Progress, progress_of}
-use Rattle.core_proper.specs.Proper.{IsProper, seen_by}
-use Rattle.core_proper.specs.Scan.{is_idle}
+use Rattle.floor_core.specs.Words.{is_number}
+use Rattle.floor_core.specs.Core.{Made, CoreStep, Look, Claim, Poll, Touch, Want, TakeIndex, CommandDone, Irq, known, Seen, shape_of, seen_after, word_by, makes, Progress, progress_of, IsProper, seen_by, is_idle}
 
 -- the steps of a part
 abbrev pub steps_of : List Made → List CoreStep

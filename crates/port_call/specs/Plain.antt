@@ -1,14 +1,10 @@
 -- An actor looks at a plain word.
 use Rattle.std.specs.Prelude.{◌≡◌, ℕ, Bool, true, false, IsTrue, [], ◌∷◌}
-use Rattle.gic_call.specs.declared.event.Event.TheVariants.{Read}
-use Rattle.gic_call.specs.declared.event.Found.TheVariants.{Word as FoundWord}
-use Rattle.gic_call.specs.declared.event.Place.TheVariants.{Word}
-use Rattle.gic_open.specs.declared.plain.PlainWord.{PlainWord}
-use Rattle.gic_open.specs.declared.plain.PlainWord.TheVariants.{Fault}
-use Rattle.gic_open.specs.Plain.{place_of_plain}
-use Rattle.port_core.specs.declared.run.Made.{Made}
-use Rattle.port_core.specs.declared.step.CoreStep.TheVariants.{RamLook}
-use Rattle.port_core.specs.Port.{Seen, Adds, shape_of, part_events}
+use Rattle.floor_core.specs.GicCall.declared.event.Event.TheVariants.{Read}
+use Rattle.floor_core.specs.GicCall.declared.event.Found.TheVariants.{Word as FoundWord}
+use Rattle.floor_core.specs.GicCall.declared.event.Place.TheVariants.{Word}
+use Rattle.floor_core.specs.Calls.{PlainWord, Fault, place_of_plain}
+use Rattle.floor_core.specs.Core.{Made, RamLook, Seen, Adds, shape_of, part_events}
 use Rattle.port_call.specs.Piece.{takes_none, IsPiece}
 
 -- a look at the word is a read of the guest's memory or of a register: all but the word that keeps a fault

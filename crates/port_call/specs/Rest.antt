@@ -1,7 +1,6 @@
 -- An actor that owes nothing, while it makes a call.
 use Rattle.std.specs.Prelude.{◌≡◌, IsTrue, []}
-use Rattle.port_core.specs.declared.local.Local.{Local}
-use Rattle.port_core.specs.Local.{owes_nothing, no_vcpus}
+use Rattle.floor_core.specs.Core.{Local, owes_nothing, no_vcpus}
 
 -- it owes no kick and no mark, has no candidate, and has nothing at its interface
 pub record IsAtEase (local : Local) : Type 0 where

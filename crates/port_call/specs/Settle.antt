@@ -2,16 +2,9 @@
 use Rattle.std.specs.Prelude.{◌≡◌, ℕ, ◌++◌, ◌<◌, IsTrue, List, [], ◌∷◌, map, filter, if◌then◌else◌, Some}
 use Rattle.std.specs.List.{range_with_len}
 use Rattle.std.specs.Option.{option_map_or}
-use Rattle.gic_aff.specs.declared.sgi.Targets.{Targets}
-use Rattle.gic_base.specs.declared.interrupt.Key.{Key}
-use Rattle.gic_base.specs.declared.shape.GuestShape.{GuestShape}
-use Rattle.gic_bits.specs.Bits.{has_bit}
-use Rattle.port_core.specs.declared.local.Local.{Local}
-use Rattle.port_core.specs.declared.run.Made.{Made}
-use Rattle.port_core.specs.declared.step.CoreStep.{CoreStep}
-use Rattle.port_core.specs.declared.step.CoreStep.TheVariants.{Kick, Mark}
-use Rattle.port_core.specs.Local.{no_vcpus, without_vcpu, settled}
-use Rattle.port_core.specs.Port.{Seen, Adds, shape_of, part_events}
+use Rattle.floor_core.specs.Registers.{Targets}
+use Rattle.floor_core.specs.Words.{Key, GuestShape, has_bit}
+use Rattle.floor_core.specs.Core.{Local, Made, CoreStep, Kick, Mark, no_vcpus, without_vcpu, settled, Seen, Adds, shape_of, part_events}
 use Rattle.port_call.specs.Piece.{steps_of, takes_none, IsPiece}
 
 -- the vCPUs of a set, in rising order

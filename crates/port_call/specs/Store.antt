@@ -1,17 +1,11 @@
 -- An actor stores a plain word, by a look and an exchange against what that found, again and again until nobody else came between.
 use Rattle.std.specs.Prelude.{◌≡◌, ℕ, ◌++◌, ◌==◌, ◌&&◌, not, Bool, true, false, IsTrue, List, [], ◌∷◌, All}
 use Rattle.std.specs.List.{list_all}
-use Rattle.gic_call.specs.declared.event.Event.TheVariants.{Read, Put}
-use Rattle.gic_call.specs.declared.event.Found.TheVariants.{Word as FoundWord}
-use Rattle.gic_call.specs.declared.event.Place.TheVariants.{Word}
-use Rattle.gic_call.specs.Trace.{Happened}
-use Rattle.gic_open.specs.declared.plain.PlainWord.{PlainWord}
-use Rattle.gic_open.specs.Plain.{place_of_plain}
-use Rattle.port_core.specs.declared.run.Made.{Made}
-use Rattle.port_core.specs.declared.step.CoreStep.{CoreStep}
-use Rattle.port_core.specs.declared.step.CoreStep.TheVariants.{RamLook, RamPut}
-use Rattle.port_core.specs.Condition.{CanPut}
-use Rattle.port_core.specs.Port.{Seen, Adds, shape_of, part_events}
+use Rattle.floor_core.specs.Calls.{Put, Happened, PlainWord, place_of_plain}
+use Rattle.floor_core.specs.GicCall.declared.event.Event.TheVariants.{Read}
+use Rattle.floor_core.specs.GicCall.declared.event.Found.TheVariants.{Word as FoundWord}
+use Rattle.floor_core.specs.GicCall.declared.event.Place.TheVariants.{Word}
+use Rattle.floor_core.specs.Core.{Made, CoreStep, RamLook, RamPut, CanPut, Seen, Adds, shape_of, part_events}
 use Rattle.port_call.specs.Piece.{takes_none, IsPiece}
 use Rattle.port_call.specs.Plain.{is_event_word}
 

@@ -1,18 +1,10 @@
 -- A cause of an interrupt comes or goes, and the vCPUs that this concerns are told (own choice).
 use Rattle.std.specs.Prelude.{◌≡◌, ℕ, ◌++◌, ◌≤◌, IsTrue, List, [], ◌∷◌, map, length}
-use Rattle.gic_base.specs.declared.interrupt.Key.{Key}
-use Rattle.gic_base.specs.declared.shape.GuestShape.{GuestShape}
-use Rattle.gic_aff.specs.declared.sgi.Targets.{Targets}
-use Rattle.gic_word.specs.Word.{irq_of}
-use Rattle.gic_call.specs.declared.event.Event.{Event}
-use Rattle.gic_call.specs.declared.event.Found.TheVariants.{Nothing}
-use Rattle.port_core.specs.declared.local.Local.{Local}
-use Rattle.port_core.specs.declared.run.Made.{Made}
-use Rattle.port_core.specs.declared.step.CoreStep.{CoreStep}
-use Rattle.port_core.specs.declared.step.CoreStep.TheVariants.{Kick, Mark}
-use Rattle.port_core.specs.After.{concerned}
-use Rattle.port_core.specs.Local.{no_vcpus, with_all, owing_both}
-use Rattle.port_core.specs.Port.{Seen, Adds, shape_of, part_events}
+use Rattle.floor_core.specs.Words.{Key, GuestShape, irq_of}
+use Rattle.floor_core.specs.Registers.{Targets}
+use Rattle.floor_core.specs.Calls.{Event}
+use Rattle.floor_core.specs.GicCall.declared.event.Found.TheVariants.{Nothing}
+use Rattle.floor_core.specs.Core.{Local, Made, CoreStep, Kick, Mark, concerned, no_vcpus, with_all, owing_both, Seen, Adds, shape_of, part_events}
 use Rattle.port_call.specs.Piece.{steps_of, takes_none, IsPiece}
 use Rattle.port_call.specs.Settle.{vcpus_in, marks_sent, kicks_sent}
 

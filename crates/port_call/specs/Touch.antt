@@ -1,16 +1,8 @@
 -- An actor touches an interrupt, and asks the vCPU that holds it for it (own choice).
 use Rattle.std.specs.Prelude.{◌≡◌, ◌≢◌, ◌⊎◌, ℕ, ◌++◌, IsTrue, List, [], ◌∷◌, Some, None}
-use Rattle.gic_base.specs.declared.interrupt.Key.{Key}
-use Rattle.gic_call.specs.declared.event.Event.TheVariants.{Touch as TouchEvent}
-use Rattle.gic_call.specs.declared.touch.Touching.{Touching}
-use Rattle.gic_word.specs.Word.{irq_of}
-use Rattle.port_core.specs.declared.run.Made.{Made}
-use Rattle.port_core.specs.declared.step.CoreStep.TheVariants.{Look, Touch, Want, Kick}
-use Rattle.port_core.specs.declared.word_id.WordId.TheVariants.{Irq}
-use Rattle.port_core.specs.Local.{without_vcpu}
-use Rattle.port_core.specs.Port.{Seen, Adds, AddsStep, part_events, shape_of}
-use Rattle.port_core.specs.Stands.{found_record}
-use Rattle.port_core.specs.Valid.{IsIrqWord}
+use Rattle.floor_core.specs.Words.{Key, irq_of}
+use Rattle.floor_core.specs.Calls.{Touch as TouchEvent, Touching}
+use Rattle.floor_core.specs.Core.{Made, Look, Touch, Want, Kick, Irq, without_vcpu, Seen, Adds, AddsStep, part_events, shape_of, found_record, IsIrqWord}
 use Rattle.port_call.specs.declared.touching.Missed.{Missed}
 use Rattle.port_call.specs.declared.touching.Missed.TheVariants.{Held, Changed}
 use Rattle.port_call.specs.About.{are_about, IsNamedPiece, IsTry}

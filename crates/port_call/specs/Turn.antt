@@ -1,18 +1,12 @@
 -- An actor takes the ITS, and gives it back.
 use Rattle.std.specs.Prelude.{◌≡◌, ◌&&◌, ◌++◌, Bool, true, false, IsTrue, List, [], ◌∷◌, Some, is_none}
 use Rattle.std.specs.List.{list_all}
-use Rattle.gic_call.specs.declared.event.Event.{Event}
-use Rattle.gic_call.specs.declared.event.Event.TheVariants.{Read, ItsBegin, ItsEnd}
-use Rattle.gic_call.specs.declared.event.Found.TheVariants.{Nothing}
-use Rattle.gic_call.specs.declared.event.Place.TheVariants.{Queue as QueuePlace}
-use Rattle.gic_call.specs.Trace.{Happened}
-use Rattle.its_tab.specs.After.{IsValid as IsValidMaps}
-use Rattle.its_tab.specs.Maps.{Maps}
-use Rattle.port_core.specs.declared.run.Made.{Made}
-use Rattle.port_core.specs.declared.step.CoreStep.{CoreStep}
-use Rattle.port_core.specs.declared.step.CoreStep.TheVariants.{Look, TurnTake, TurnRelease}
-use Rattle.port_core.specs.declared.word_id.WordId.TheVariants.{Queue}
-use Rattle.port_core.specs.Port.{Seen, Adds, shape_of, part_events}
+use Rattle.floor_core.specs.Calls.{Event, ItsBegin, Happened}
+use Rattle.floor_core.specs.GicCall.declared.event.Event.TheVariants.{Read, ItsEnd}
+use Rattle.floor_core.specs.GicCall.declared.event.Found.TheVariants.{Nothing}
+use Rattle.floor_core.specs.GicCall.declared.event.Place.TheVariants.{Queue as QueuePlace}
+use Rattle.floor_core.specs.Registers.{IsValid as IsValidMaps, Maps}
+use Rattle.floor_core.specs.Core.{Made, CoreStep, Look, TurnTake, TurnRelease, Queue, Seen, Adds, shape_of, part_events}
 use Rattle.port_call.specs.Piece.{IsPiece, takes_none}
 
 -- a look at the ITS's word, or a try to take it

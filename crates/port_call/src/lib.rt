@@ -9,6 +9,10 @@ mod tell;
 mod touching;
 mod turn;
 
+pub use floor_core::{
+    gic_aff, gic_base, gic_bits, gic_call, gic_dmap, gic_frame, gic_guest, gic_icv, gic_imap,
+    gic_open, gic_ram, gic_reg, gic_rmap, gic_word, its_cmd, its_tab, port_core, vcpu_refill,
+};
 pub use memory::read_memory;
 pub use plain::read_plain;
 pub use send::settle;

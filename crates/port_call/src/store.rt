@@ -1,11 +1,11 @@
 //! Stores of plain words.
 ghost use Rattle.std.specs.Prelude.{IsTrue};
-ghost use Rattle.gic_open.specs.Plain.{has_plain};
-ghost use Rattle.port_core.specs.Port.{shape_of};
+ghost use Rattle.floor_core.specs.Calls.{has_plain};
+ghost use Rattle.floor_core.specs.Core.{shape_of};
 ghost use Rattle.port_call.specs.Store.{MayStore, Stores, TriesStore};
 
-use gic_open::{PlainWord, place_of_plain};
-use port_core::{CoreStep, Port};
+use floor_core::gic_open::{PlainWord, place_of_plain};
+use floor_core::port_core::{CoreStep, Port};
 use std::sync::Wait;
 
 /// Looks at a plain word, and tries to store another value in its place. Whether it did.

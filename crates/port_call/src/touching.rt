@@ -1,19 +1,16 @@
 //! Touches of an interrupt, at no interface.
 ghost use Rattle.std.specs.Prelude.{◌≡◌, ◌<◌, IsTrue, IfOk, OnOk, IfErr};
-ghost use Rattle.gic_call.specs.declared.touch.Touching.{Touching};
-ghost use Rattle.gic_call.specs.Touch.{CanTouch};
-ghost use Rattle.gic_word.specs.Word.{IsWord, irq_of};
-ghost use Rattle.port_core.specs.Port.{shape_of};
+ghost use Rattle.floor_core.specs.Calls.{Touching, CanTouch};
+ghost use Rattle.floor_core.specs.Words.{IsWord, irq_of, has_interrupt};
+ghost use Rattle.floor_core.specs.Core.{shape_of, owes_no_mark};
 ghost use Rattle.port_call.specs.Rest.{IsAtEase};
 ghost use Rattle.port_call.specs.Touch.{FindsHome, HasFoundHome, MissesHome, MissesTouch, Touches, TouchesHome};
-ghost use Rattle.gic_base.specs.Interrupt.{has_interrupt};
-ghost use Rattle.port_core.specs.Local.{owes_no_mark};
 ghost use Rattle.port_call.specs.Touch.{Asks};
 
 use crate::send::settle;
-use gic_base::Key;
-use gic_call::Touching;
-use port_core::{CoreStep, Port, WordId};
+use floor_core::gic_base::Key;
+use floor_core::gic_call::Touching;
+use floor_core::port_core::{CoreStep, Port, WordId};
 use std::sync::Wait;
 
 /// Why a touch was not made: a vCPU has the interrupt at its interface, which was asked for it; or the interrupt's word
@@ -29,7 +26,7 @@ fn holder_in(word: u64) -> Option<u32>
     requires { IsWord word }
     ensures { result ≡ (irq_of word).holder }
 {
-    gic_word::unpack(word).and_then(|irq| irq.holder)
+    floor_core::gic_word::unpack(word).and_then(|irq| irq.holder)
 }
 
 /// Asks the vCPU that holds an interrupt for it: notes that an access waits for it, and kicks the vCPU.

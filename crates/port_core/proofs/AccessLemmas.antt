@@ -1,12 +1,8 @@
 use Rattle.std.proofs.Common.{◌≡◌, ◌<◌, ◌+◌, ℕ, false, List, [], ◌∷◌, ◌++◌, map, take, length, get_or, Option, filter_map, sym, ap, ◌∙◌}
 use Rattle.std.proofs.lemmas.List.{map-append, take_more}
 use Rattle.std.proofs.lemmas.List.Elements.{filter_map-append}
-use Rattle.gic_base.specs.declared.interrupt.Key.TheVariants.{Private}
-use Rattle.gic_word.specs.declared.record.Group.TheVariants.{G0}
-use Rattle.gic_prio.specs.declared.candidate.Candidate.{Candidate}
-use Rattle.gic_prio.specs.declared.cpu.CpuRec.{CpuRec}
-use Rattle.gic_prio.specs.Delivery.{first_of}
-use Rattle.gic_prio.specs.Interface.{candidate_of}
+use Rattle.floor_calls.specs.Words.{Private, G0}
+use Rattle.floor_calls.specs.Registers.{Candidate, CpuRec, first_of, candidate_of}
 use Rattle.port_core.specs.declared.at_list.AtIrq.{AtIrq}
 use Rattle.port_core.specs.After.{shown}
 

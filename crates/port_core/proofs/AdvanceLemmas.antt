@@ -1,7 +1,5 @@
 use Rattle.std.proofs.Common.{◌≡◌, ℕ, true, ◌==◌, ◌&&◌, if◌then◌else◌, sym, ap, ◌∙◌, rules}
-use Rattle.gic_base.specs.declared.interrupt.Key.{Key}
-use Rattle.gic_base.specs.declared.shape.GuestShape.{GuestShape}
-use Rattle.gic_word.specs.Word.{irq_of}
+use Rattle.floor_calls.specs.Words.{Key, GuestShape, irq_of}
 use Rattle.port_core.specs.declared.local.Local.{Local}
 use Rattle.port_core.specs.declared.step.CoreStep.TheVariants.{Claim}
 use Rattle.port_core.specs.After.{claimed_at, local_after}

@@ -5,22 +5,11 @@ use Rattle.std.specs.Option.{option_map_or}
 use Rattle.std.proofs.lemmas.Nat.{or_block, and_block, and_mask, or_lt}
 use Rattle.std.proofs.lemmas.Bool.{eqb-true}
 use Rattle.std.proofs.lemmas.Option.{none-some}
-use Rattle.gic_base.specs.declared.held.Back.{Back}
-use Rattle.gic_base.specs.declared.interrupt.Key.{Key}
-use Rattle.gic_base.specs.declared.shape.GuestShape.{GuestShape}
-use Rattle.gic_base.specs.Shape.{max_vcpus}
-use Rattle.gic_word.specs.declared.places.TheConstants.{HELD_BY_NONE, ACTIVE_BY_NONE, RAISE, WIRE_UP, WIRE_DOWN}
-use Rattle.gic_word.specs.declared.record.Irq.{Irq}
-use Rattle.gic_word.specs.Causes.{raised, wire_up, wire_down}
-use Rattle.gic_word.specs.CauseBits.{IsChange}
-use Rattle.gic_word.specs.Record.{is_number}
-use Rattle.gic_word.specs.ReleaseBits.{cause_bits_of, active_bits_of}
-use Rattle.gic_word.specs.Word.{IsWord, IsIrq, IsSeat, irq_of, packed, seat_at}
-use Rattle.gic_word.proofs.CauseLemmas.{soft_set, wire_raised, line_cleared}
-use Rattle.gic_word.proofs.ReleaseLemmas.{gives_back, activates, deactivates, releases}
-use Rattle.gic_word.proofs.WordLemmas.{packed_back}
-use Rattle.gic_call.specs.declared.touch.Touching.{Touching}
-use Rattle.gic_call.specs.Move.{reached, taken}
+use Rattle.floor_calls.specs.Words.{Back, Key, GuestShape, max_vcpus, HELD_BY_NONE, ACTIVE_BY_NONE, RAISE, WIRE_UP, WIRE_DOWN, Irq, raised, wire_up, wire_down, IsChange, is_number, cause_bits_of, active_bits_of, IsWord, IsIrq, IsSeat, irq_of, packed, seat_at}
+use Rattle.floor_calls.proofs.GicWord.CauseLemmas.{soft_set, wire_raised, line_cleared}
+use Rattle.floor_calls.proofs.GicWord.ReleaseLemmas.{gives_back, activates, deactivates, releases}
+use Rattle.floor_calls.proofs.GicWord.WordLemmas.{packed_back}
+use Rattle.floor_calls.specs.Calls.{Touching, reached, taken}
 use Rattle.port_core.specs.declared.at_list.AtIrq.{AtIrq}
 use Rattle.port_core.specs.declared.atomic.Atomic.TheVariants.{And, Or}
 use Rattle.port_core.specs.declared.local.Local.{Local}
@@ -30,7 +19,7 @@ use Rattle.port_core.specs.Condition.{CanGiveBack}
 use Rattle.port_core.specs.Effect.{changed, given_back, released, is_active_at, may_move, moved_of, moved_irq, claimed_irq, touched_irq}
 use Rattle.port_core.specs.Local.{entry_for}
 use Rattle.port_core.specs.Valid.{IsIrqWord, is_active_by_holder}
-use Rattle.gic_word.proofs.WantLemmas.{wanted}
+use Rattle.floor_calls.proofs.GicWord.WantLemmas.{wanted}
 use Rattle.port_core.proofs.AdvanceLemmas.{nat_same}
 
 -- a word that a change of its record made is the word of the changed record

@@ -1,3 +1,7 @@
+pub use Rattle.floor_calls.proofs.GicBase
+pub use Rattle.floor_calls.proofs.GicCall
+pub use Rattle.floor_calls.proofs.GicFrame
+pub use Rattle.floor_calls.proofs.GicOpen
 pub mod AccessLemmas
 pub mod SeatLemmas
 pub mod AdvanceLemmas

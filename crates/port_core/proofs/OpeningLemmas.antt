@@ -5,19 +5,10 @@ use Rattle.std.proofs.lemmas.List.{get_or-replicate}
 use Rattle.std.specs.List.Sorted.{IsStrictlySortedBy}
 use Rattle.std.proofs.lemmas.List.FromFn.{length-map-range_with_len, get_or-map-range_with_len}
 use Rattle.std.proofs.lemmas.Nat.{pow_pos}
-use Rattle.gic_base.specs.declared.shape.GuestShape.{GuestShape}
-use Rattle.gic_base.specs.declared.interrupt.Key.{Key}
-use Rattle.gic_base.specs.Interrupt.{has_interrupt}
-use Rattle.gic_word.specs.declared.record.Irq.{Irq as IrqRecord}
-use Rattle.gic_word.specs.Record.{is_number}
-use Rattle.gic_word.specs.Word.{packed, irq_of}
-use Rattle.gic_word.specs.Valid.{IsRecordOf}
-use Rattle.gic_dmap.specs.Contents.{enables_in}
-use Rattle.gic_open.specs.Opening.{irqs_of, irq_in, opening_enables}
-use Rattle.gic_open.proofs.OpeningLemmas.{opening_valid}
-use Rattle.scn_base.specs.declared.guest.GuestSpec.{GuestSpec}
-use Rattle.scn_base.specs.Good.{IsGoodGuest}
-use Rattle.its_tab.specs.After.{IsValid as IsValidMaps}
+use Rattle.floor_calls.specs.Words.{GuestShape, Key, has_interrupt, Irq as IrqRecord, is_number, packed, irq_of, IsRecordOf}
+use Rattle.floor_calls.specs.Registers.{enables_in, IsValid as IsValidMaps}
+use Rattle.floor_calls.specs.Calls.{irqs_of, irq_in, opening_enables, GuestSpec, IsGoodGuest}
+use Rattle.floor_calls.proofs.GicOpen.OpeningLemmas.{opening_valid}
 use Rattle.port_core.specs.declared.words.CtlrWord.{CtlrWord}
 use Rattle.port_core.specs.declared.word_id.WordId.{WordId}
 use Rattle.port_core.specs.declared.word_id.WordId.TheVariants.{Irq, Vcpu, Index, Queue, Ctlr, Plain}

@@ -3,31 +3,14 @@ use Rattle.std.proofs.Common.{◌≡◌, ℕ, ◌<◌, ◌==◌, ◌||◌, not, 
 use Rattle.std.specs.Option.{option_map_or}
 use Rattle.std.proofs.lemmas.Grind.{common_steps}
 use Rattle.std.proofs.lemmas.Bool.{or_right, eqb-true, eq-eqb, lt-ltb}
-use Rattle.gic_bits.specs.Bits.{has_bit}
-use Rattle.gic_base.specs.declared.shape.GuestShape.{GuestShape}
-use Rattle.gic_base.specs.declared.held.Back.{Back}
-use Rattle.gic_base.specs.declared.interrupt.Key.{Key}
-use Rattle.gic_base.specs.declared.interrupt.Key.TheVariants.{Private, Spi, Lpi}
-use Rattle.gic_base.specs.declared.operation.Kind.{Kind}
-use Rattle.gic_base.specs.declared.operation.Kind.TheVariants.{Group, SetEnable, ClearEnable, SetPending, ClearPending, SetActive, ClearActive, Priority, Config, Routing}
-use Rattle.gic_base.specs.Shape.{IsShape}
-use Rattle.gic_base.specs.Interrupt.{has_interrupt, is_of_vcpu, is_sgi}
-use Rattle.gic_word.specs.declared.record.Irq.{Irq}
-use Rattle.gic_word.specs.declared.record.Route.{Route}
-use Rattle.gic_word.specs.declared.record.Route.TheVariants.{Affinity, Target}
-use Rattle.gic_word.specs.Record.{is_number, target_in}
-use Rattle.gic_word.specs.Causes.{raised, cleared, has_active_state}
-use Rattle.gic_word.specs.Valid.{is_vcpu_or_none, is_routed_as, is_of_kind, IsRecordOf}
-use Rattle.gic_reg.specs.Touch.{part_written, activated}
-use Rattle.gic_prio.specs.declared.cpu.CpuRec.{CpuRec}
-use Rattle.gic_call.specs.declared.moves.Moved.{Moved}
-use Rattle.gic_call.specs.declared.touch.Touching.{Touching}
-use Rattle.gic_call.specs.declared.touch.Touching.TheVariants.{Read, Register, Enables, MapLpi, Retarget, Configure, Forget}
-use Rattle.gic_call.specs.Move.{may_reach, reached}
-use Rattle.gic_call.specs.Touch.{CanTouch, touched}
-use Rattle.gic_call.proofs.MoveLemmas.{reached_valid}
-use Rattle.gic_call.proofs.RecordLemmas.{seat, kind_kept, valid_as, valid_active}
-use Rattle.gic_call.proofs.TouchLemmas.{touch_valid}
+use Rattle.floor_calls.specs.Words.{has_bit, GuestShape, Back, Key, Private, Spi, Lpi, Kind, SetEnable, ClearEnable, SetPending, ClearPending, SetActive, ClearActive, Priority, Config, Routing, IsShape, has_interrupt, is_of_vcpu, is_sgi, Irq, Route, Affinity, Target, is_number, target_in, raised, cleared, has_active_state, is_vcpu_or_none, is_routed_as, is_of_kind, IsRecordOf}
+use Rattle.floor_calls.specs.GicBase.declared.operation.Kind.TheVariants.{Group}
+use Rattle.floor_calls.specs.Registers.{part_written, activated, CpuRec}
+use Rattle.floor_calls.specs.Calls.{Moved, Touching, Register, Enables, MapLpi, may_reach, reached, CanTouch, touched}
+use Rattle.floor_calls.specs.GicCall.declared.touch.Touching.TheVariants.{Read, Retarget, Configure, Forget}
+use Rattle.floor_calls.proofs.GicCall.MoveLemmas.{reached_valid}
+use Rattle.floor_calls.proofs.GicCall.RecordLemmas.{seat, kind_kept, valid_as, valid_active}
+use Rattle.floor_calls.proofs.GicCall.TouchLemmas.{touch_valid}
 use Rattle.port_core.specs.Effect.{given_back, released}
 use Rattle.port_core.specs.Valid.{is_own}
 use Rattle.port_core.proofs.StepWords.{IsOwned}

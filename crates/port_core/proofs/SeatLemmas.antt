@@ -1,11 +1,5 @@
 use Rattle.std.proofs.Common.{◌≡◌, ◌<◌, ℕ, Bool, true, false, [], ◌∷◌, All, Option, Some, None, nat_lt, is_none, ◌||◌, if◌then◌else◌, refl, rules}
-use Rattle.gic_base.specs.declared.shape.GuestShape.{GuestShape}
-use Rattle.gic_base.specs.Shape.{IsShape, max_vcpus}
-use Rattle.gic_word.specs.declared.record.Irq.{Irq}
-use Rattle.gic_word.specs.declared.record.Route.{Route}
-use Rattle.gic_word.specs.declared.record.Route.TheVariants.{Affinity, Target}
-use Rattle.gic_word.specs.Record.{target_in, is_number}
-use Rattle.gic_word.specs.Word.{IsIrq, IsSeat, IsRoute}
+use Rattle.floor_calls.specs.Words.{GuestShape, IsShape, max_vcpus, Irq, Route, Affinity, Target, target_in, is_number, IsIrq, IsSeat, IsRoute}
 use Rattle.port_core.specs.After.{target_of, holder_or_active, concerned, concerned_by, told_of_release, marked_of_release}
 
 -- the vCPU that an interrupt is for is none or has a number that a vCPU can have

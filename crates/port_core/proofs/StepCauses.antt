@@ -1,15 +1,8 @@
 -- Steps on an interrupt's word that leave who holds it: looks, causes, touches and what an access waits for.
 use Rattle.std.proofs.Common.{◌≡◌, ℕ, ◌==◌, ◌&&◌, Bool, true, false, cond, IsTrue, is_none, List, Option, None, refl}
 use Rattle.std.proofs.lemmas.Bool.{and_parts}
-use Rattle.gic_base.specs.declared.shape.GuestShape.{GuestShape}
-use Rattle.gic_base.specs.declared.interrupt.Key.{Key}
-use Rattle.gic_base.specs.Interrupt.{has_interrupt}
-use Rattle.gic_word.specs.declared.record.Irq.{Irq as IrqRecord}
-use Rattle.gic_word.specs.Causes.{raised, wire_up, wire_down}
-use Rattle.gic_word.specs.Word.{packed, irq_of}
-use Rattle.gic_call.specs.declared.touch.Touching.{Touching}
-use Rattle.gic_call.specs.Touch.{touched}
-use Rattle.scn_base.specs.Good.{has_wire}
+use Rattle.floor_calls.specs.Words.{GuestShape, Key, has_interrupt, Irq as IrqRecord, raised, wire_up, wire_down, packed, irq_of}
+use Rattle.floor_calls.specs.Calls.{Touching, touched, has_wire}
 use Rattle.port_core.specs.declared.local.Local.{Local}
 use Rattle.port_core.specs.declared.run.Made.{Made}
 use Rattle.port_core.specs.declared.step.CoreStep.TheVariants.{Look, Raise, Touch, Want, WireUp, WireDown}

@@ -3,21 +3,12 @@ use Rattle.std.proofs.Common.{◌≡◌, ◌≢◌, ℕ, ◌<◌, Bool, true, fa
 use Rattle.std.specs.Option.{option_map_or}
 use Rattle.std.proofs.lemmas.Grind.{fold-append}
 use Rattle.std.proofs.lemmas.Option.{same_Some}
-use Rattle.gic_base.specs.declared.shape.GuestShape.{GuestShape}
-use Rattle.gic_word.specs.Word.{irq_of}
-use Rattle.its_cmd.specs.declared.command.Command.{Command}
-use Rattle.its_cmd.specs.declared.command.BadCommand.{BadCommand}
-use Rattle.its_cmd.specs.Command.{decoded}
-use Rattle.its_queue.specs.Queue.{queue_of}
-use Rattle.its_tab.specs.declared.fault.CmdFault.{CmdFault}
-use Rattle.its_tab.specs.After.{IsValid as IsValidMaps}
-use Rattle.its_tab.specs.Fault.{number_of, fault_of, fault_number}
-use Rattle.its_tab.specs.Maps.{Maps}
-use Rattle.its_tab.proofs.AfterLemmas.{kept_valid}
-use Rattle.gic_call.specs.declared.event.Event.TheVariants.{Queue as QueueEvent}
-use Rattle.gic_call.specs.declared.event.QueueChange.TheVariants.{Done, Stalls}
-use Rattle.gic_call.specs.Command.{maps_by, maps_done, command_words, next_offset, queue_event}
-use Rattle.gic_call.specs.View.{View}
+use Rattle.floor_calls.specs.Words.{GuestShape, irq_of}
+use Rattle.floor_calls.specs.Registers.{Command, BadCommand, queue_of, CmdFault, IsValid as IsValidMaps, number_of, fault_of, fault_number, Maps}
+use Rattle.floor_calls.specs.ItsCmd.Command.{decoded}
+use Rattle.floor_calls.proofs.ItsTab.AfterLemmas.{kept_valid}
+use Rattle.floor_calls.specs.GicCall.declared.event.Event.TheVariants.{Queue as QueueEvent}
+use Rattle.floor_calls.specs.Calls.{Done, Stalls, maps_by, maps_done, command_words, next_offset, queue_event, View}
 use Rattle.port_core.specs.declared.local.Local.{Local}
 use Rattle.port_core.specs.declared.local.Phase.TheVariants.{Folding}
 use Rattle.port_core.specs.declared.run.Entry.{Entry}

@@ -3,18 +3,9 @@ use Rattle.std.proofs.Common.{◌≡◌, ℕ, ◌/◌, ◌%◌, ◌^◌, ◌<◌
 use Rattle.std.proofs.Math.Bool.{not-or_self}
 use Rattle.std.proofs.lemmas.Bool.{and_parts}
 use Rattle.std.specs.Int.{bit_not, w32}
-use Rattle.gic_base.specs.declared.shape.GuestShape.{GuestShape}
-use Rattle.gic_base.specs.declared.icc.IccReg.{IccReg}
-use Rattle.gic_base.specs.declared.interrupt.Key.{Key}
-use Rattle.gic_base.specs.Shape.{IsShape}
-use Rattle.gic_base.specs.Interrupt.{has_interrupt, intid_of, is_of_vcpu}
-use Rattle.gic_word.specs.Causes.{has_active_state}
-use Rattle.gic_word.specs.Record.{is_number}
-use Rattle.gic_dmap.specs.Contents.{enables_in}
-use Rattle.gic_prio.specs.Access.{taken_by, deactivated_by}
-use Rattle.gic_prio.specs.Interface.{candidates_at}
-use Rattle.gic_prio.proofs.AccessLemmas.{points_after, levels_after}
-use Rattle.its_queue.specs.Queue.{IsQueue, queue_of}
+use Rattle.floor_calls.specs.Words.{GuestShape, IccReg, Key, IsShape, has_interrupt, intid_of, is_of_vcpu, has_active_state, is_number}
+use Rattle.floor_calls.specs.Registers.{enables_in, taken_by, deactivated_by, candidates_at, IsQueue, queue_of}
+use Rattle.floor_calls.proofs.GicPrio.AccessLemmas.{points_after, levels_after}
 use Rattle.port_core.specs.declared.at_list.AtIrq.{AtIrq}
 use Rattle.port_core.specs.declared.local.Local.{Local}
 use Rattle.port_core.specs.declared.local.Phase.TheVariants.{Folding}

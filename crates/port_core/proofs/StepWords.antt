@@ -2,19 +2,11 @@
 use Rattle.std.proofs.Common.{◌≡◌, ℕ, ◌+◌, ◌*◌, ◌/◌, ◌%◌, ◌<◌, ◌&&◌, Bool, true, false, cond, if◌then◌else◌, nat_lt, nat_eq, IsTrue, Option, Some, None, refl, sym, ap, subst, ◌∙◌, arith}
 use Rattle.std.specs.Option.{ForSome}
 use Rattle.std.proofs.lemmas.Bool.{and_from, eq-eqb, lt-ltb}
-use Rattle.gic_bits.specs.Bits.{bit_of, field_at}
-use Rattle.gic_bits.proofs.BitLemmas.{flag_back, flag_small}
-use Rattle.gic_base.specs.declared.shape.GuestShape.{GuestShape}
-use Rattle.gic_base.specs.declared.interrupt.Key.{Key}
-use Rattle.gic_word.specs.declared.record.Group.{Group}
-use Rattle.gic_word.specs.declared.record.Group.TheVariants.{G0, G1}
-use Rattle.gic_word.specs.declared.record.Irq.{Irq}
-use Rattle.gic_word.specs.Record.{group_number}
-use Rattle.gic_word.specs.Word.{IsIrq, HasFlags, flags_number, packed, irq_of}
-use Rattle.gic_word.specs.Valid.{IsRecordOf}
-use Rattle.gic_word.proofs.WordLemmas.{is_one, word_back, word_fits}
-use Rattle.its_queue.specs.declared.word.QueueWord.{QueueWord}
-use Rattle.its_queue.specs.Queue.{IsQueue, is_queue_word, queue_of, packed as packed_queue}
+use Rattle.floor_calls.specs.Words.{bit_of, field_at, GuestShape, Key, G0, G1, Irq, group_number, IsIrq, HasFlags, flags_number, packed, irq_of, IsRecordOf}
+use Rattle.floor_calls.proofs.GicBits.BitLemmas.{flag_back, flag_small}
+use Rattle.floor_calls.specs.GicWord.declared.record.Group.{Group}
+use Rattle.floor_calls.proofs.GicWord.WordLemmas.{is_one, word_back, word_fits}
+use Rattle.floor_calls.specs.Registers.{QueueWord, IsQueue, is_queue_word, queue_of, packed as packed_queue}
 use Rattle.port_core.specs.declared.words.VcpuWord.{VcpuWord}
 use Rattle.port_core.specs.declared.words.CtlrWord.{CtlrWord}
 use Rattle.port_core.specs.Forms.{packed_vcpu, is_vcpu_word, packed_ctlr, ctlr_of, is_ctlr_word, IsCtlr}

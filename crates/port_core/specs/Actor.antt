@@ -1,8 +1,6 @@
 -- The actors of a guest: the vCPUs come first, and then the devices.
 use Rattle.std.specs.Prelude.{ℕ, ◌+◌, ◌-◌, Bool, nat_lt, if◌then◌else◌}
-use Rattle.gic_base.specs.declared.operation.Actor.{Actor}
-use Rattle.gic_base.specs.declared.operation.Actor.TheVariants.{Vcpu as VcpuActor, Device}
-use Rattle.gic_base.specs.declared.shape.GuestShape.{GuestShape}
+use Rattle.floor_calls.specs.Words.{Actor, Vcpu as VcpuActor, Device, GuestShape}
 
 -- how many actors a guest has
 abbrev pub actor_count : GuestShape → ℕ

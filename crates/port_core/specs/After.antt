@@ -1,18 +1,9 @@
 -- What a step leaves of its actor's own state.
 use Rattle.std.specs.Prelude.{ℕ, ◌+◌, ◌==◌, ◌&&◌, ◌||◌, not, Bool, true, false, List, [], ◌∷◌, ◌++◌, map, if◌then◌else◌, Option, Some, None, is_none}
 use Rattle.std.specs.Option.{option_map_or}
-use Rattle.gic_base.specs.declared.icc.IccReg.{IccReg}
-use Rattle.gic_base.specs.declared.interrupt.Key.{Key}
-use Rattle.gic_base.specs.declared.shape.GuestShape.{GuestShape}
-use Rattle.gic_base.specs.Interrupt.{intid_of}
-use Rattle.gic_word.specs.declared.record.Irq.{Irq}
-use Rattle.gic_word.specs.Causes.{has_active_state}
-use Rattle.gic_word.specs.Record.{is_ripe, is_number, target_in}
-use Rattle.gic_word.specs.Word.{irq_of}
-use Rattle.gic_prio.specs.declared.candidate.Candidate.{Candidate}
-use Rattle.gic_prio.specs.Access.{taken_by, deactivated_by, cpu_after}
-use Rattle.gic_prio.specs.Interface.{AtInterface, InterfaceState, candidates_at}
-use Rattle.gic_call.specs.Touch.{touched}
+use Rattle.floor_calls.specs.Words.{IccReg, Key, GuestShape, intid_of, Irq, has_active_state, is_ripe, is_number, target_in, irq_of}
+use Rattle.floor_calls.specs.Registers.{Candidate, taken_by, deactivated_by, cpu_after, AtInterface, InterfaceState, candidates_at}
+use Rattle.floor_calls.specs.Calls.{touched}
 use Rattle.port_core.specs.declared.at_list.AtIrq.{AtIrq}
 use Rattle.port_core.specs.declared.local.Local.{Local}
 use Rattle.port_core.specs.declared.local.Phase.{Phase}

@@ -1,18 +1,11 @@
 -- What a step asks of its actor: of what the actor has for itself, and of what its steps before handed out.
 use Rattle.std.specs.Prelude.{All, ◌≡◌, ℕ, ◌==◌, ◌&&◌, not, Bool, true, false, IsTrue, List, [], length, nat_lt, Option, Some, None, ◌∷◌}
 use Rattle.std.specs.Option.{option_map_or}
-use Rattle.gic_base.specs.declared.interrupt.Key.{Key}
-use Rattle.gic_base.specs.declared.shape.GuestShape.{GuestShape}
-use Rattle.gic_base.specs.declared.held.Back.{Back}
-use Rattle.gic_open.specs.declared.plain.PlainWord.TheVariants.{Fault, Cbaser}
-use Rattle.gic_open.specs.Plain.{place_of_plain}
-use Rattle.its_queue.specs.Queue.{queue_of}
-use Rattle.gic_call.specs.declared.event.Event.TheVariants.{Queue as QueueEvent}
-use Rattle.gic_call.specs.declared.event.QueueChange.{QueueChange}
-use Rattle.gic_call.specs.declared.event.QueueChange.TheVariants.{Runs, Done, Stalls}
-use Rattle.gic_call.specs.declared.event.Place.TheVariants.{Word, Queue as QueuePlace}
-use Rattle.gic_call.specs.Command.{queue_event}
-use Rattle.gic_call.specs.Trace.{command_places}
+use Rattle.floor_calls.specs.Words.{Key, GuestShape, Back}
+use Rattle.floor_calls.specs.Calls.{Fault, Cbaser, place_of_plain, QueueChange, Runs, Done, Stalls, queue_event, command_places}
+use Rattle.floor_calls.specs.Registers.{queue_of}
+use Rattle.floor_calls.specs.GicCall.declared.event.Event.TheVariants.{Queue as QueueEvent}
+use Rattle.floor_calls.specs.GicCall.declared.event.Place.TheVariants.{Word, Queue as QueuePlace}
 use Rattle.port_core.specs.declared.at_list.AtIrq.{AtIrq}
 use Rattle.port_core.specs.declared.local.Local.{Local}
 use Rattle.port_core.specs.declared.local.Phase.{Phase}

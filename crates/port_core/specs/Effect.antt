@@ -1,19 +1,9 @@
 -- What a step leaves of the word that it found.
 use Rattle.std.specs.Prelude.{ℕ, ◌%◌, ◌^◌, ◌==◌, ◌&&◌, ◌||◌, not, Bool, true, false, if◌then◌else◌, Some, None, is_none, bit_or}
 use Rattle.std.specs.Option.{option_map_or}
-use Rattle.gic_base.specs.declared.interrupt.Key.{Key}
-use Rattle.gic_base.specs.declared.shape.GuestShape.{GuestShape}
-use Rattle.gic_base.specs.declared.held.Back.{Back}
-use Rattle.gic_word.specs.declared.record.Irq.{Irq}
-use Rattle.gic_word.specs.Causes.{raised, wire_up, wire_down}
-use Rattle.gic_word.specs.Record.{is_number}
-use Rattle.gic_word.specs.Word.{irq_of, packed}
-use Rattle.gic_dmap.specs.Contents.{enables_in}
-use Rattle.its_queue.specs.Queue.{queue_of, packed as packed_queue}
-use Rattle.gic_call.specs.declared.moves.Moved.{Moved}
-use Rattle.gic_call.specs.declared.touch.Touching.{Touching}
-use Rattle.gic_call.specs.Move.{may_reach, reached, may_take, taken}
-use Rattle.gic_call.specs.Touch.{touched}
+use Rattle.floor_calls.specs.Words.{Key, GuestShape, Back, Irq, raised, wire_up, wire_down, is_number, irq_of, packed}
+use Rattle.floor_calls.specs.Registers.{enables_in, queue_of, packed as packed_queue}
+use Rattle.floor_calls.specs.Calls.{Moved, Touching, may_reach, reached, may_take, taken, touched}
 use Rattle.port_core.specs.declared.at_list.AtIrq.{AtIrq}
 use Rattle.port_core.specs.declared.local.Local.{Local}
 use Rattle.port_core.specs.declared.step.CoreStep.{CoreStep}

@@ -1,17 +1,10 @@
 -- What an actor knows of the guest's words by its own steps: each word as its last step on it left it.
 use Rattle.std.specs.Prelude.{is_some, ℕ, ◌==◌, ◌||◌, Bool, false, List, [], fold, find, if◌then◌else◌, Option, Some, None, unwrap_or, ◌∷◌, ◌++◌}
 use Rattle.std.specs.Option.{option_map_or}
-use Rattle.gic_base.specs.declared.interrupt.Key.TheVariants.{Lpi}
-use Rattle.gic_base.specs.declared.shape.GuestShape.{GuestShape}
-use Rattle.gic_word.specs.Record.{target_in}
-use Rattle.gic_word.specs.Word.{irq_of}
-use Rattle.gic_open.specs.Plain.{place_of_plain}
-use Rattle.gic_call.specs.Command.{maps_done}
-use Rattle.gic_call.specs.declared.event.Place.{Place}
-use Rattle.gic_call.specs.declared.event.Place.TheVariants.{Word, Queue as QueuePlace, Ctlr as CtlrPlace, Lpis}
-use Rattle.gic_call.specs.View.{View}
-use Rattle.its_queue.specs.Queue.{queue_of}
-use Rattle.its_tab.specs.Maps.{Maps}
+use Rattle.floor_calls.specs.Words.{Lpi, GuestShape, target_in, irq_of}
+use Rattle.floor_calls.specs.Calls.{place_of_plain, maps_done, Place, View}
+use Rattle.floor_calls.specs.GicCall.declared.event.Place.TheVariants.{Word, Queue as QueuePlace, Ctlr as CtlrPlace, Lpis}
+use Rattle.floor_calls.specs.Registers.{queue_of, Maps}
 use Rattle.port_core.specs.declared.run.Made.{Made}
 use Rattle.port_core.specs.declared.step.CoreStep.{CoreStep}
 use Rattle.port_core.specs.declared.step.CoreStep.TheVariants.{CommandDone}

@@ -1,9 +1,7 @@
 -- Laws of every run.
 use Rattle.std.specs.Prelude.{◌≡◌, ℕ, ◌++◌, List}
-use Rattle.gic_base.specs.declared.shape.GuestShape.{GuestShape}
-use Rattle.gic_base.specs.Shape.{IsShape}
-use Rattle.scn_base.specs.declared.guest.GuestSpec.{GuestSpec}
-use Rattle.scn_base.specs.Good.{IsGoodGuest}
+use Rattle.floor_calls.specs.Words.{GuestShape, IsShape}
+use Rattle.floor_calls.specs.Calls.{GuestSpec, IsGoodGuest}
 use Rattle.port_core.specs.declared.run.Entry.{Entry}
 use Rattle.port_core.specs.Run.{CoreState, opening, after, Takes, IsRun, end_of, IsSound}
 

@@ -1,3 +1,12 @@
+pub use Rattle.floor_calls.specs.Calls
+pub use Rattle.floor_calls.specs.Registers
+pub use Rattle.floor_calls.specs.Words
+pub use Rattle.floor_calls.specs.GicBase
+pub use Rattle.floor_calls.specs.GicCall
+pub use Rattle.floor_calls.specs.GicDmap
+pub use Rattle.floor_calls.specs.GicGuest
+pub use Rattle.floor_calls.specs.GicImap
+pub use Rattle.floor_calls.specs.GicRmap
 pub mod Actor
 pub mod Place
 pub mod Forms

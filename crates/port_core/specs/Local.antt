@@ -3,16 +3,9 @@ use Rattle.std.specs.Prelude.{ℕ, ◌/◌, ◌%◌, ◌^◌, ◌&&◌, ◌==◌
 use Rattle.std.specs.Int.{bit_not, w32, w64}
 use Rattle.std.specs.List.{list_all}
 use Rattle.std.specs.Option.{option_map_or}
-use Rattle.gic_bits.specs.Bits.{has_bit}
-use Rattle.gic_aff.specs.declared.sgi.Targets.{Targets}
-use Rattle.gic_base.specs.declared.interrupt.Key.{Key}
-use Rattle.gic_base.specs.declared.shape.GuestShape.{GuestShape}
-use Rattle.gic_base.specs.declared.held.Back.{Back}
-use Rattle.gic_base.specs.declared.operation.Actor.{Actor}
-use Rattle.gic_base.specs.Interrupt.{is_of_vcpu, is_same_key}
-use Rattle.gic_prio.specs.declared.cpu.CpuRec.{CpuRec}
-use Rattle.gic_word.specs.declared.record.Irq.{Irq}
-use Rattle.gic_call.specs.declared.moves.Entry.{Entry}
+use Rattle.floor_calls.specs.Words.{has_bit, Key, GuestShape, Back, Actor, is_of_vcpu, is_same_key, Irq}
+use Rattle.floor_calls.specs.Registers.{Targets, CpuRec}
+use Rattle.floor_calls.specs.Calls.{Entry}
 use Rattle.port_core.specs.declared.local.Phase.TheVariants.{Off}
 use Rattle.port_core.specs.declared.at_list.AtIrq.{AtIrq}
 use Rattle.port_core.specs.declared.owed.MarkSet.{MarkSet}

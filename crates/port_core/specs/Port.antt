@@ -1,12 +1,10 @@
 -- What an actor's port tells of it.
 use Rattle.std.specs.Prelude.{◌≡◌, ℕ, ◌<◌, ◌||◌, not, Bool, true, IsTrue, List, [], ◌∷◌, ◌&&◌, ◌++◌, map, Option, option_map, IfSome, is_some, is_none}
 use Rattle.std.specs.Option.{option_to_list}
-use Rattle.gic_base.specs.declared.shape.GuestShape.{GuestShape}
+use Rattle.floor_calls.specs.Words.{GuestShape}
 use Rattle.atomic_table.specs.Seated.{TableId}
-use Rattle.scn_base.specs.declared.guest.GuestSpec.{GuestSpec}
-use Rattle.its_tab.specs.Maps.{Maps}
-use Rattle.its_tab.specs.After.{IsValid as IsValidMaps}
-use Rattle.gic_call.specs.Trace.{Happened}
+use Rattle.floor_calls.specs.Calls.{GuestSpec, Happened, IsGoodGuest}
+use Rattle.floor_calls.specs.Registers.{Maps, IsValid as IsValidMaps}
 use Rattle.port_core.specs.declared.local.Local.{Local}
 use Rattle.port_core.specs.declared.run.Made.{Made}
 use Rattle.port_core.specs.declared.run.Entry.{Entry}
@@ -15,7 +13,6 @@ use Rattle.port_core.specs.declared.step.CoreStep.TheVariants.{CommandDone, Turn
 use Rattle.port_core.specs.After.{local_after}
 use Rattle.port_core.specs.Atomic.{IsSeen}
 use Rattle.port_core.specs.Condition.{Meets}
-use Rattle.scn_base.specs.Good.{IsGoodGuest}
 use Rattle.port_core.specs.declared.word_id.WordId.{WordId}
 use Rattle.port_core.specs.Effect.{succeeds, word_after}
 use Rattle.port_core.specs.Run.{is_taking, opening_local_of}

@@ -2,14 +2,9 @@
 use Rattle.std.specs.Prelude.{◌≡◌, ℕ, ◌<◌, ◌==◌, Bool, true, false, IsTrue, List, [], ◌∷◌, ◌++◌, map, filter, fold, length, if◌then◌else◌, Option, Some, None, slice_index_or, slice_set}
 use Rattle.std.specs.Option.{option_map_or}
 use Rattle.std.specs.List.{range_with_len}
-use Rattle.gic_base.specs.declared.operation.Actor.TheVariants.{Vcpu as VcpuActor}
-use Rattle.gic_base.specs.declared.shape.GuestShape.{GuestShape}
-use Rattle.gic_word.specs.Word.{packed}
-use Rattle.gic_dmap.specs.Contents.{enables_in}
-use Rattle.gic_open.specs.Opening.{irqs_of, irq_in, opening_cpu, opening_enables}
-use Rattle.scn_base.specs.declared.guest.GuestSpec.{GuestSpec}
-use Rattle.its_tab.specs.After.{IsValid as IsValidMaps}
-use Rattle.its_tab.specs.Maps.{Maps}
+use Rattle.floor_calls.specs.Words.{Vcpu as VcpuActor, GuestShape, packed}
+use Rattle.floor_calls.specs.Registers.{enables_in, IsValid as IsValidMaps, Maps}
+use Rattle.floor_calls.specs.Calls.{irqs_of, irq_in, opening_cpu, opening_enables, GuestSpec}
 use Rattle.port_core.specs.declared.local.Local.{Local}
 use Rattle.port_core.specs.declared.run.Entry.{Entry}
 use Rattle.port_core.specs.declared.run.Made.{Made}

@@ -1,19 +1,11 @@
 -- Which event of the ideal controller a step stands for, with what that hands out.
 use Rattle.std.specs.Prelude.{ℕ, ◌==◌, false, List, if◌then◌else◌, Option, Some, None, is_some}
-use Rattle.gic_base.specs.declared.icc.IccReg.{IccReg}
-use Rattle.gic_base.specs.declared.shape.GuestShape.{GuestShape}
-use Rattle.gic_base.specs.declared.interrupt.Key.{Key}
-use Rattle.gic_word.specs.Word.{irq_of}
-use Rattle.gic_prio.specs.Interface.{interface_answer}
-use Rattle.gic_dmap.specs.Contents.{enables_in}
-use Rattle.gic_open.specs.Plain.{plain_at}
-use Rattle.its_queue.specs.Queue.{queue_of}
-use Rattle.gic_call.specs.declared.event.Event.{Event}
-use Rattle.gic_call.specs.declared.event.Event.TheVariants.{Raise as RaiseEvent, Up, Down, Enable, Touch as TouchEvent, Reach, Take, Leave, Cpu, Read, Put, CtlrBegin, CtlrEnd as CtlrEndEvent, ItsBegin, ItsEnd, Queue as QueueEvent}
-use Rattle.gic_call.specs.declared.event.Place.TheVariants.{Word, Queue as QueuePlace, Ctlr as CtlrPlace, Lpis}
-use Rattle.gic_call.specs.declared.event.Found.{Found}
-use Rattle.gic_call.specs.declared.event.Found.TheVariants.{Nothing, Record, Answer, Word as FoundWord, Queue as FoundQueue, Ctlr as FoundCtlr, Lpis as FoundLpis}
-use Rattle.gic_call.specs.Trace.{Happened}
+use Rattle.floor_calls.specs.Words.{IccReg, GuestShape, Key, irq_of}
+use Rattle.floor_calls.specs.Registers.{interface_answer, enables_in, queue_of}
+use Rattle.floor_calls.specs.Calls.{plain_at, Event, Up, Down, Enable, Touch as TouchEvent, Reach, Take, Leave, Cpu, Put, CtlrBegin, CtlrEnd as CtlrEndEvent, ItsBegin, Found, Record, Happened}
+use Rattle.floor_calls.specs.GicCall.declared.event.Event.TheVariants.{Raise as RaiseEvent, Read, ItsEnd, Queue as QueueEvent}
+use Rattle.floor_calls.specs.GicCall.declared.event.Place.TheVariants.{Word, Queue as QueuePlace, Ctlr as CtlrPlace, Lpis}
+use Rattle.floor_calls.specs.GicCall.declared.event.Found.TheVariants.{Nothing, Answer, Word as FoundWord, Queue as FoundQueue, Ctlr as FoundCtlr, Lpis as FoundLpis}
 use Rattle.port_core.specs.declared.local.Local.{Local}
 use Rattle.port_core.specs.declared.run.Made.{Made}
 use Rattle.port_core.specs.declared.step.CoreStep.{CoreStep}

@@ -1,12 +1,7 @@
 -- What a step names: its word, and what of the guest has to be there.
 use Rattle.std.specs.Prelude.{◌≡◌, ℕ, ◌/◌, ◌^◌, ◌<◌, ◌&&◌, Bool, false, IsTrue, List, nat_lt, Option, Some, None, is_none, length}
-use Rattle.gic_base.specs.declared.shape.GuestShape.{GuestShape}
-use Rattle.gic_base.specs.declared.icc.IccReg.{IccReg}
-use Rattle.gic_base.specs.Interrupt.{has_interrupt, is_of_vcpu}
-use Rattle.gic_open.specs.Plain.{plain_count}
-use Rattle.gic_call.specs.Touch.{CanTouch}
-use Rattle.gic_call.specs.Valid.{IsOffset}
-use Rattle.scn_base.specs.Good.{has_wire, is_usable}
+use Rattle.floor_calls.specs.Words.{GuestShape, IccReg, has_interrupt, is_of_vcpu}
+use Rattle.floor_calls.specs.Calls.{plain_count, CanTouch, IsOffset, has_wire, is_usable}
 use Rattle.port_core.specs.declared.word_id.WordId.{WordId}
 use Rattle.port_core.specs.declared.word_id.WordId.TheVariants.{Irq, Vcpu, Index, Queue, Ctlr, Plain}
 use Rattle.port_core.specs.declared.step.CoreStep.{CoreStep}

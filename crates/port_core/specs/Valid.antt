@@ -1,17 +1,9 @@
 -- What is kept of every word and of every actor's own state, by every step of every run.
 use Rattle.std.specs.Prelude.{◌≡◌, ℕ, ◌+◌, ◌*◌, ◌^◌, ◌<◌, ◌≤◌, ◌||◌, Bool, true, false, IsTrue, List, [], length, filter, All, Option, Some, None, is_none, slice_index_or}
 use Rattle.std.specs.Option.{option_map_or, ForSome}
-use Rattle.gic_base.specs.declared.interrupt.Key.{Key}
-use Rattle.gic_base.specs.declared.shape.GuestShape.{GuestShape}
-use Rattle.gic_base.specs.Interrupt.{has_interrupt, is_of_vcpu, is_same_key}
-use Rattle.gic_bits.specs.Bits.{has_bit}
-use Rattle.gic_word.specs.declared.record.Irq.{Irq as IrqRecord}
-use Rattle.gic_word.specs.Record.{is_number}
-use Rattle.gic_word.specs.Word.{IsWord, irq_of}
-use Rattle.gic_word.specs.Valid.{IsRecordOf}
-use Rattle.gic_prio.specs.Priority.{HasBinaryPoints, HasLevels}
-use Rattle.gic_call.specs.Move.{IsEntryOf}
-use Rattle.its_queue.specs.Queue.{is_queue_word, queue_of}
+use Rattle.floor_calls.specs.Words.{Key, GuestShape, has_interrupt, is_of_vcpu, is_same_key, has_bit, Irq as IrqRecord, is_number, IsWord, irq_of, IsRecordOf}
+use Rattle.floor_calls.specs.Registers.{HasBinaryPoints, HasLevels, is_queue_word, queue_of}
+use Rattle.floor_calls.specs.Calls.{IsEntryOf}
 use Rattle.port_core.specs.declared.at_list.AtIrq.{AtIrq}
 use Rattle.port_core.specs.declared.local.Local.{Local}
 use Rattle.port_core.specs.declared.word_id.WordId.{WordId}

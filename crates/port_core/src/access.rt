@@ -1,20 +1,16 @@
 //! A vCPU's access of its CPU interface, on what the vCPU has for itself.
 ghost use Rattle.std.specs.Prelude.{◌≡◌, ◌<◌, List, [], ◌∷◌, ◌++◌, filter_map, Some, None};
-ghost use Rattle.gic_prio.specs.declared.candidate.Candidate.{Candidate as Seen};
-ghost use Rattle.gic_prio.specs.Priority.{HasBinaryPoints};
-ghost use Rattle.gic_prio.specs.Delivery.{first_of};
-ghost use Rattle.gic_prio.specs.Access.{taken_by, deactivated_by, cpu_after};
-ghost use Rattle.gic_prio.specs.Interface.{candidate_of, candidates_at};
+ghost use Rattle.floor_calls.specs.Registers.{Candidate as Seen, HasBinaryPoints, first_of, taken_by, deactivated_by, cpu_after, candidate_of, candidates_at};
 ghost use Rattle.port_core.specs.After.{shown, interface_of, id_of, accessed};
 
 use crate::at_list::{AtIrq, Change, Which};
 use crate::local::{Local, Phase};
-use gic_base::IccReg;
-use gic_prio::{
+use floor_calls::gic_base::IccReg;
+use floor_calls::gic_prio::{
     Candidate, CpuRec, acknowledged, cpu_written, earlier, intid_deactivated, level_activated,
     listens,
 };
-use gic_word::Group;
+use floor_calls::gic_word::Group;
 
 /// The interrupt as a candidate for delivery: pending there, not active, and of a group that the vCPU listens to.
 fn candidate(entry: &AtIrq, cpu: &CpuRec) -> Option<Candidate>

@@ -1,13 +1,10 @@
 //! What a step leaves of its actor's own state.
 ghost use Rattle.std.specs.Prelude.{ℕ as Number, ◌≡◌, ◌<◌, ◌≤◌, ◌/◌, ◌+◌, ◌==◌, [], ◌∷◌, IsTrue, IfSome, All, Option, Some, None};
-ghost use Rattle.gic_base.specs.Shape.{IsShape, max_vcpus};
-ghost use Rattle.gic_base.specs.Interrupt.{has_interrupt};
-ghost use Rattle.gic_word.specs.Word.{irq_of, IsIrq, IsSeat, IsWord};
-ghost use Rattle.gic_call.specs.Touch.{CanTouch};
-ghost use Rattle.its_queue.specs.Queue.{IsQueue, is_queue_word, queue_of};
+ghost use Rattle.floor_calls.specs.Words.{IsShape, max_vcpus, has_interrupt, irq_of, IsIrq, IsSeat, IsWord};
+ghost use Rattle.floor_calls.specs.Calls.{CanTouch};
+ghost use Rattle.floor_calls.specs.Registers.{IsQueue, is_queue_word, queue_of, HasBinaryPoints};
 ghost use Rattle.port_core.specs.declared.step.CoreStep.TheVariants.{Claim, Touch};
 ghost use Rattle.port_core.specs.After.{concerned as concerned_of, concerned_by as concerned_of_touch, looked_at, claimed_at, given_at, release_at, polled_at, index_taken, marked, local_after};
-ghost use Rattle.gic_prio.specs.Priority.{HasBinaryPoints};
 ghost use Rattle.port_core.specs.Condition.{may_claim as may_claim_at, has_room};
 ghost use Rattle.port_core.specs.Place.{index_words as words_of};
 ghost use Rattle.port_core.specs.Effect.{succeeds, is_active_at};
@@ -21,10 +18,10 @@ use crate::owed::{MarkSet, NO_VCPUS, with_all, without_vcpu};
 use crate::step::CoreStep;
 use crate::word_id::{WordId, index_words};
 use crate::words::{CtlrWord, VcpuWord};
-use gic_base::{GuestShape, IccReg, Key};
-use gic_call::Touching;
-use gic_word::{Irq, ripe, target_in, unpack};
-use its_queue::QueueWord;
+use floor_calls::gic_base::{GuestShape, IccReg, Key};
+use floor_calls::gic_call::Touching;
+use floor_calls::gic_word::{Irq, ripe, target_in, unpack};
+use floor_calls::its_cmd::QueueWord;
 
 /// Whom a cause that comes or goes concerns: the target, and the vCPU that holds the interrupt, or where nobody does
 /// the one by which it is active.
@@ -266,5 +263,5 @@ pub(crate) fn queue_in(word: u64) -> QueueWord
     ensures value { result ≡ queue_of word }
     ensures queue { IsQueue result }
 {
-    its_queue::unpack(word).unwrap()
+    floor_calls::its_cmd::unpack(word).unwrap()
 }

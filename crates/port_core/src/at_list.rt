@@ -1,15 +1,14 @@
 //! The interrupts at a vCPU's interface.
 ghost use Rattle.std.specs.Prelude.{◌≡◌, ◌<◌, ◌≤◌, ◌∷◌, ◌++◌, [], length, Option, is_some};
-ghost use Rattle.gic_base.specs.Interrupt.{is_same_key, intid_of};
-ghost use Rattle.gic_word.specs.Record.{is_number};
+ghost use Rattle.floor_calls.specs.Words.{is_same_key, intid_of, is_number};
 ghost use Rattle.port_core.specs.Local.{entry_for, without_at, arrived as arrived_of, entry_of as entry_in, back_of as back_in};
 ghost use Rattle.port_core.specs.After.{acknowledged_entry, deactivated_entry, changed_id};
 ghost use Rattle.port_core.specs.AtList.{changed_by, changed_if, changed_where, is_which};
 
 use arrayvec::ArrayVec;
-use gic_base::{Back, Key, MAX_LIST_REGISTERS};
-use gic_call::Entry;
-use gic_word::{Group, Irq, has_active_state};
+use floor_calls::gic_base::{Back, Key, MAX_LIST_REGISTERS};
+use floor_calls::gic_call::Entry;
+use floor_calls::gic_word::{Group, Irq, has_active_state};
 use std::marker::Model;
 
 /// An interrupt at a vCPU's interface, as the vCPU has it for itself.

@@ -1,13 +1,9 @@
 //! The one atomic operation on a word that makes a step.
 ghost use Rattle.std.specs.Prelude.{◌≡◌, ℕ, ◌<◌, ◌^◌, ◌/◌, ◌%◌, List, IsTrue, Some, is_none};
-ghost use Rattle.gic_base.specs.Shape.{IsShape, max_vcpus};
-ghost use Rattle.gic_base.specs.Interrupt.{has_interrupt};
-ghost use Rattle.gic_call.specs.Touch.{CanTouch};
-ghost use Rattle.gic_call.specs.Valid.{IsOffset};
-ghost use Rattle.its_queue.specs.Queue.{is_queue_word, queue_of, packed as packed_queue};
+ghost use Rattle.floor_calls.specs.Words.{IsShape, max_vcpus, has_interrupt, irq_of};
+ghost use Rattle.floor_calls.specs.Calls.{CanTouch, IsOffset};
+ghost use Rattle.floor_calls.specs.Registers.{is_queue_word, queue_of, packed as packed_queue, enables_in as enables_of};
 ghost use Rattle.port_core.specs.declared.run.Made.{Made};
-ghost use Rattle.gic_dmap.specs.Contents.{enables_in as enables_of};
-ghost use Rattle.gic_word.specs.Word.{irq_of};
 ghost use Rattle.port_core.specs.Effect.{may_move as can_move, claimed_irq, touched_irq, changed};
 ghost use Rattle.port_core.specs.Forms.{ctlr_of, packed_ctlr};
 ghost use Rattle.port_core.specs.Atomic.{IsSeen, Makes, back_bits, release_bits, exchange_by};
@@ -22,11 +18,13 @@ use crate::local::Local;
 use crate::step::CoreStep;
 use crate::word_id::{WORD_BITS, index_bit};
 use crate::words::{CtlrWord, VcpuWord};
-use gic_base::{Back, GuestShape, Key};
-use gic_call::Touching;
-use gic_dmap::enables_in;
-use gic_word::{HELD_BY_NONE, Irq, RAISE, WIRE_DOWN, WIRE_UP, active_mask, cause_mask, pack};
-use its_queue::QueueWord;
+use floor_calls::gic_base::{Back, GuestShape, Key};
+use floor_calls::gic_call::Touching;
+use floor_calls::gic_dmap::enables_in;
+use floor_calls::gic_word::{
+    HELD_BY_NONE, Irq, RAISE, WIRE_DOWN, WIRE_UP, active_mask, cause_mask, pack,
+};
+use floor_calls::its_cmd::QueueWord;
 
 /// An access waits for the interrupt.
 const WANT: u64 = 1 << 8;
@@ -121,7 +119,11 @@ fn turn_take_by(seen: u64, actor: u32) -> Atomic
         turn: Some(actor),
         ..queue
     };
-    exchange_if(queue.turn.is_none(), seen, its_queue::pack(&taken))
+    exchange_if(
+        queue.turn.is_none(),
+        seen,
+        floor_calls::its_cmd::pack(&taken),
+    )
 }
 
 /// The word of a queue that an actor has.
@@ -130,7 +132,7 @@ fn queue_word(offset: u32, stalled: bool, actor: u32) -> u64
     requires offset { IsOffset offset }
     ensures { result ≡ packed_queue (record { turn = Some actor; offset = offset; stalled = stalled }) }
 {
-    its_queue::pack(&QueueWord {
+    floor_calls::its_cmd::pack(&QueueWord {
         turn: Some(actor),
         offset,
         stalled,

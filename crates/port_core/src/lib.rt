@@ -23,6 +23,10 @@ pub use actor::{actor_at, actor_count, guest_of, number_of};
 pub use at_list::{AtIrq, AtList};
 pub use atomic::Atomic;
 pub use end::{EndWords, GuestWords, WordList};
+pub use floor_calls::{
+    gic_base, gic_call, gic_dmap, gic_guest, gic_imap, gic_list, gic_open, gic_prio, gic_word,
+    its_cmd, its_tab,
+};
 pub use laws::{opening_is_sound, parts_join, runs_are_sound, runs_join, steps_keep_sound};
 pub use local::{Local, Phase};
 pub use owed::{CAND_WORDS, Cands, MarkSet, NO_VCPUS, with_all, with_vcpu, without_vcpu};

@@ -4,9 +4,9 @@ ghost use Rattle.port_core.specs.Local.{opening_local};
 
 use crate::at_list::AtList;
 use crate::owed::{Cands, MarkSet, NO_VCPUS};
-use gic_aff::Targets;
-use gic_base::Actor;
-use gic_prio::CpuRec;
+use floor_calls::gic_aff::Targets;
+use floor_calls::gic_base::Actor;
+use floor_calls::gic_prio::CpuRec;
 
 /// How far a vCPU is with its CPU interface.
 #[derive(Clone, Copy, Debug, PartialEq, Eq, Hash)]

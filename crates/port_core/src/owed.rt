@@ -1,13 +1,11 @@
 //! Sets of vCPUs, and the candidates of a vCPU.
 ghost use Rattle.std.specs.Prelude.{◌≡◌, ◌<◌, ◌≤◌, ◌/◌, ◌^◌, IsTrue, List, length, All, Option};
-ghost use Rattle.gic_word.specs.Word.{IsSeat};
-ghost use Rattle.gic_base.specs.Shape.{IsShape, max_vcpus};
-ghost use Rattle.gic_base.specs.Interrupt.{has_interrupt};
+ghost use Rattle.floor_calls.specs.Words.{IsSeat, IsShape, max_vcpus, has_interrupt};
 ghost use Rattle.port_core.specs.Local.{no_vcpus, with_vcpu as set_with, with_some as set_with_some, with_all as set_with_all, without_vcpu as set_without, no_cands, without_cand, with_cand_word, is_cand, settled};
 
 use crate::word_id::{WORD_BITS, index_bit};
-use gic_aff::Targets;
-use gic_base::{GuestShape, Key};
+use floor_calls::gic_aff::Targets;
+use floor_calls::gic_base::{GuestShape, Key};
 
 /// The words of a vCPU's candidates.
 pub const CAND_WORDS: usize = 96;
@@ -73,7 +71,7 @@ impl Cands {
         requires { bit / 64 < 96 }
         ensures { result ≡ is_cand self.now bit }
     {
-        gic_bits::has_bit(self.words[(bit / WORD_BITS) as usize], bit % WORD_BITS)
+        floor_calls::gic_bits::has_bit(self.words[(bit / WORD_BITS) as usize], bit % WORD_BITS)
     }
 
     /// Without the interrupt of a bit, below 6144.

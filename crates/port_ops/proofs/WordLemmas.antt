@@ -2,15 +2,10 @@
 use Rattle.std.proofs.Common.{◌≡◌, ◌<◌, ℕ, false, IsTrue, List, length, get_or, Some, sym, ap, subst, ◌∙◌}
 use Rattle.std.specs.Option.{option_map_or}
 use Rattle.std.proofs.lemmas.List.{get_or_default}
-use Rattle.gic_base.specs.declared.interrupt.Key.{Key}
-use Rattle.gic_base.specs.Interrupt.{has_interrupt, interrupt_count, place_of}
-use Rattle.gic_open.specs.Opening.{irqs_of, irq_in, opening_irq}
-use Rattle.gic_open.proofs.KeyLemmas.{irq_in_there, place_within}
-use Rattle.gic_open.proofs.OpeningLemmas.{opening_valid}
-use Rattle.gic_word.specs.declared.record.Irq.{Irq}
-use Rattle.gic_word.specs.Word.{IsIrq, packed}
-use Rattle.scn_base.specs.declared.guest.GuestSpec.{GuestSpec}
-use Rattle.scn_base.specs.Good.{IsGoodGuest}
+use Rattle.port_core.specs.Words.{Key, has_interrupt, interrupt_count, place_of, Irq, IsIrq, packed}
+use Rattle.port_core.specs.Calls.{irqs_of, irq_in, opening_irq, GuestSpec, IsGoodGuest}
+use Rattle.port_core.proofs.GicOpen.KeyLemmas.{irq_in_there, place_within}
+use Rattle.port_core.proofs.GicOpen.OpeningLemmas.{opening_valid}
 use Rattle.port_core.specs.declared.word_id.WordId.TheVariants.{Irq as IrqWord}
 use Rattle.port_core.specs.Place.{word_at}
 use Rattle.port_core.specs.Run.{opening_word, opening_word_of}

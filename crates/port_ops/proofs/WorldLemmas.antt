@@ -5,11 +5,9 @@ use Rattle.std.proofs.lemmas.List.{length-set, length-map, get_or-map, get_or-se
 use Rattle.std.proofs.lemmas.List.FromFn.{length-map-range_with_len}
 use mathlib.Core.Option.{some, some-injective, some-ne-none}
 use lib.ListN.{get_elem?}
-use Rattle.gic_base.specs.declared.shape.GuestShape.{GuestShape}
-use Rattle.gic_base.specs.Shape.{IsShape}
-use Rattle.its_tab.specs.Maps.{Maps}
-use Rattle.scn_base.specs.declared.guest.GuestSpec.{GuestSpec}
-use Rattle.scn_base.specs.Good.{IsGoodGuest}
+use Rattle.port_core.specs.Words.{GuestShape, IsShape}
+use Rattle.port_core.specs.Registers.{Maps}
+use Rattle.port_core.specs.Calls.{GuestSpec, IsGoodGuest}
 use Rattle.port_core.specs.declared.atomic.Atomic.{Atomic}
 use Rattle.port_core.specs.declared.local.Local.{Local}
 use Rattle.port_core.specs.declared.run.Entry.{Entry}

@@ -1,6 +1,6 @@
 -- No guest.
 use Rattle.std.specs.Prelude.{false, []}
-use Rattle.scn_base.specs.declared.guest.GuestSpec.{GuestSpec}
+use Rattle.port_core.specs.Calls.{GuestSpec}
 use Rattle.port_ops.specs.declared.opened.Opened.{Opened}
 
 -- no guest

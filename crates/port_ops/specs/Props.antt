@@ -1,8 +1,7 @@
 -- What a port tells is true in one way.
 use Rattle.std.specs.Prelude.{ℕ, Option, Some, None}
 use Rattle.std.proofs.Props.{props}
-use Rattle.gic_base.specs.declared.interrupt.Key.{Key}
-use Rattle.gic_base.specs.declared.shape.GuestShape.{GuestShape}
+use Rattle.port_core.specs.Words.{Key, GuestShape}
 use Rattle.port_core.specs.Port.{Seen, IsPort}
 use Rattle.port_core.specs.Valid.{AreMarks}
 

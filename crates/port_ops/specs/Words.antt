@@ -1,10 +1,9 @@
 -- The words of a guest as they are told of at its end.
 use Rattle.std.specs.Prelude.{ℕ, List, map, slice_index_or}
 use Rattle.std.specs.List.{range_with_len}
-use Rattle.gic_base.specs.declared.shape.GuestShape.{GuestShape}
-use Rattle.gic_base.specs.Interrupt.{interrupt_count, key_at}
-use Rattle.gic_open.specs.Plain.{plain_count}
-use Rattle.its_tab.specs.Maps.{Maps}
+use Rattle.port_core.specs.Words.{GuestShape, interrupt_count, key_at}
+use Rattle.port_core.specs.Calls.{plain_count}
+use Rattle.port_core.specs.Registers.{Maps}
 use Rattle.port_core.specs.declared.end.GuestWords.{GuestWords}
 use Rattle.port_core.specs.declared.word_id.WordId.{WordId}
 use Rattle.port_core.specs.declared.word_id.WordId.TheVariants.{Irq, Vcpu, Queue, Ctlr, Plain}

@@ -1,7 +1,7 @@
 -- The world of a guest: its state after the steps of all its actors so far, and after one more.
 use Rattle.std.specs.Prelude.{ℕ, ◌<◌, IsTrue, List, map}
-use Rattle.gic_base.specs.declared.shape.GuestShape.{GuestShape}
-use Rattle.scn_base.specs.declared.guest.GuestSpec.{GuestSpec}
+use Rattle.port_core.specs.Words.{GuestShape}
+use Rattle.port_core.specs.Calls.{GuestSpec}
 use Rattle.port_core.specs.declared.local.Local.{Local}
 use Rattle.port_core.specs.declared.run.Entry.{Entry}
 use Rattle.port_core.specs.declared.step.CoreStep.{CoreStep}

@@ -11,5 +11,9 @@ mod words;
 pub use doing::Doing;
 pub use drain::closed_words;
 pub use opened::Opened;
+pub use port_core;
+pub use port_core::{
+    gic_base, gic_call, gic_dmap, gic_guest, gic_imap, gic_open, its_cmd, its_tab,
+};
 pub use table::{Telling, Tells, operate};
 pub use words::{guest_words, opening_words};

@@ -1,13 +1,13 @@
 //! How a guest opened.
 ghost use Rattle.std.specs.Prelude.{◌≡◌, IfOk};
-ghost use Rattle.scn_base.specs.Good.{IsGoodGuest};
+ghost use Rattle.port_core.specs.Calls.{IsGoodGuest};
 ghost use Rattle.port_core.specs.Run.{opening};
 ghost use Rattle.port_ops.specs.World.{locals_in};
 
-use gic_list::ListOf;
-use gic_open::opening_cpu;
+use port_core::gic_guest::GuestSpec;
+use port_core::gic_list::ListOf;
+use port_core::gic_open::opening_cpu;
 use port_core::{Local, actor_at, actor_count};
-use scn_base::GuestSpec;
 use std::alloc::{AllocError, Global};
 
 /// A guest as it opened, with its number. The rule of its words speaks of it.

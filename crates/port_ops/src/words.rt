@@ -1,23 +1,20 @@
 //! The words of a guest as it opens, and as they are told of at its end.
 ghost use Rattle.std.specs.Prelude.{◌≡◌, ℕ, ◌<◌, IsTrue, IfOk, length};
-ghost use Rattle.gic_base.specs.Shape.{IsShape};
-ghost use Rattle.gic_base.specs.Interrupt.{interrupt_count as count_of_irqs, key_at as key_in};
-ghost use Rattle.gic_open.specs.Opening.{irqs_of};
-ghost use Rattle.gic_open.specs.Plain.{plain_count as count_of_plain};
-ghost use Rattle.scn_base.specs.Good.{IsGoodGuest};
+ghost use Rattle.port_core.specs.Words.{IsShape, interrupt_count as count_of_irqs, key_at as key_in};
+ghost use Rattle.port_core.specs.Calls.{irqs_of, plain_count as count_of_plain, IsGoodGuest};
 ghost use Rattle.port_core.specs.declared.word_id.WordId.TheVariants.{Irq as IrqWord, Vcpu, Plain};
 ghost use Rattle.port_core.specs.Place.{has_word, word_count as count_of};
 ghost use Rattle.port_core.specs.Run.{opening, opening_word as word_at_opening};
 ghost use Rattle.port_ops.specs.Words.{word_among, words_among, words_at_end};
 
-use gic_base::{GuestShape, interrupt_count, key_at};
-use gic_dmap::enables_in;
-use gic_list::ListOf;
-use gic_open::{irqs, opening_enables, plain_count};
-use gic_word::{Irq, pack};
-use its_tab::ItsTables;
+use port_core::gic_base::{GuestShape, interrupt_count, key_at};
+use port_core::gic_dmap::enables_in;
+use port_core::gic_guest::GuestSpec;
+use port_core::gic_list::ListOf;
+use port_core::gic_open::{irqs, opening_enables, plain_count};
+use port_core::gic_word::{Irq, pack};
+use port_core::its_tab::ItsTables;
 use port_core::{CtlrWord, GuestWords, WordId, WordList, place_of_word, word_at, word_count};
-use scn_base::GuestSpec;
 use std::alloc::{AllocError, Global};
 
 /// The word at a place as a guest opens, whose interrupts open with these records, in key order.

@@ -1,9 +1,10 @@
 //! A scenario of one guest.
 ghost use Rattle.std.specs.Prelude.{◌≡◌, ◌∷◌, [], IfOk};
 
-use gic_base::GuestShape;
-use gic_list::ListOf;
-use scn_base::{GuestSpec, Preset, Scenario};
+use floor_core::gic_base::GuestShape;
+use floor_core::gic_guest::{GuestSpec, Preset};
+use scn_base::Scenario;
+use scn_base::gic_list::ListOf;
 use std::alloc::{AllocError, Global};
 
 /// A scenario without steps, of one guest with these presets, on one PE with four list registers; `on` says how GICD_CTLR and

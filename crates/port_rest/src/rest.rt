@@ -1,9 +1,8 @@
 //! Whether an actor is at rest.
 ghost use Rattle.std.specs.Prelude.{◌≡◌, ◌↔◌, IsTrue, []};
-ghost use Rattle.port_core.specs.Local.{has_no_cand as has_no_cand_in, owes_nothing as owes_nothing_in};
-ghost use Rattle.core_proper.specs.Proper.{is_settled as is_settled_in};
+ghost use Rattle.floor_core.specs.Core.{has_no_cand as has_no_cand_in, owes_nothing as owes_nothing_in, is_settled as is_settled_in};
 
-use port_core::{Local, NO_VCPUS};
+use floor_core::port_core::{Local, NO_VCPUS};
 
 /// The actor has no candidate.
 fn has_no_cand(local: &Local) -> bool

@@ -3,12 +3,13 @@ ghost use Rattle.port_seq.specs.Told.{IsOpening};
 ghost use Rattle.port_seq.specs.Ports.{told_all};
 
 use dev_port::{AlreadySo, Wire, message, msi, set_wire};
-use gic_base::{Actor, GuestShape, Key};
-use gic_list::ListOf;
-use port_core::{CoreStep, Port, WordId};
 use port_rest::is_settled;
 use port_seq::SeqPort;
-use scn_base::{GuestSpec, Mode, Preset, PresetList, Scenario};
+use port_seq::gic_base::{Actor, GuestShape, Key};
+use port_seq::gic_guest::{GuestSpec, Preset, PresetList};
+use port_seq::gic_list::ListOf;
+use port_seq::port_core::{CoreStep, Port, WordId};
+use port_seq::scn_base::{Mode, Scenario};
 use std::alloc::{AllocError, Global};
 use std::sync::Wait;
 use std::test::Fail;

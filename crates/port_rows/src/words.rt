@@ -1,7 +1,7 @@
 //! The numbering of words, and what words say.
-use gic_base::{GuestShape, Key};
-use gic_dmap::Enables;
-use port_core::{
+use port_seq::gic_base::{GuestShape, Key};
+use port_seq::gic_dmap::Enables;
+use port_seq::port_core::{
     CtlrWord, VcpuWord, WordId, index_bit, index_bits, index_words, key_of_bit, place_of_word,
     word_at, word_count,
 };

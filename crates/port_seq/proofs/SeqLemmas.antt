@@ -6,20 +6,20 @@ use Rattle.std.proofs.lemmas.Option.{same_Some}
 use mathlib.Core.Option.{some}
 use lib.ListN.{get_elem?}
 use Rattle.atomic_table.specs.Table.{State, Me, Allows, keeps}
-use Rattle.gic_word.specs.Record.{is_number}
-use Rattle.scn_base.specs.Good.{IsGoodGuest}
-use Rattle.port_core.specs.declared.atomic.Atomic.{Atomic}
-use Rattle.port_core.specs.declared.local.Local.{Local}
-use Rattle.port_core.specs.declared.run.Entry.{Entry}
-use Rattle.port_core.specs.declared.step.CoreStep.{CoreStep}
-use Rattle.port_core.specs.Actor.{actor_count}
-use Rattle.port_core.specs.After.{local_after}
-use Rattle.port_core.specs.Atomic.{applied, Makes}
-use Rattle.port_core.specs.Condition.{Meets}
-use Rattle.port_core.specs.Place.{place_of_word}
-use Rattle.port_core.specs.Port.{keeps_tables}
-use Rattle.port_core.specs.Run.{IsRun, Seat, opening, seat_at}
-use Rattle.port_core.specs.Step.{CanStep, word_of}
+use Rattle.port_ops.specs.Words.{is_number}
+use Rattle.port_ops.specs.Calls.{IsGoodGuest}
+use Rattle.port_ops.specs.PortCore.declared.atomic.Atomic.{Atomic}
+use Rattle.port_ops.specs.PortCore.declared.local.Local.{Local}
+use Rattle.port_ops.specs.PortCore.declared.run.Entry.{Entry}
+use Rattle.port_ops.specs.PortCore.declared.step.CoreStep.{CoreStep}
+use Rattle.port_ops.specs.PortCore.Actor.{actor_count}
+use Rattle.port_ops.specs.PortCore.After.{local_after}
+use Rattle.port_ops.specs.PortCore.Atomic.{applied, Makes}
+use Rattle.port_ops.specs.PortCore.Condition.{Meets}
+use Rattle.port_ops.specs.PortCore.Place.{place_of_word}
+use Rattle.port_ops.specs.PortCore.Port.{keeps_tables}
+use Rattle.port_ops.specs.PortCore.Run.{IsRun, Seat, opening, seat_at}
+use Rattle.port_ops.specs.PortCore.Step.{CanStep, word_of}
 use Rattle.port_ops.specs.declared.opened.Opened.{Opened}
 use Rattle.port_seq.specs.declared.its_home.ItsHome.{ItsHome}
 use Rattle.port_seq.specs.declared.its_home.ItsHome.TheVariants.{Here, TakenBy}

@@ -1,15 +1,15 @@
 -- What a step adds to what is told.
 use Rattle.std.proofs.Common.{◌≡◌, ℕ, ◌<◌, [], ◌∷◌, ◌++◌, Some, sym, ap, subst, ◌∙◌}
 use Rattle.std.proofs.lemmas.List.{get_or-set_same}
-use Rattle.scn_base.specs.Good.{IsGoodGuest}
-use Rattle.port_core.specs.declared.step.CoreStep.{CoreStep}
-use Rattle.port_core.specs.Actor.{actor_count}
-use Rattle.port_core.specs.After.{local_after}
-use Rattle.port_core.specs.Port.{AddsStep, word_by, left_by}
-use Rattle.port_core.specs.Run.{IsRun, Takes, Seat, no_seat, opening, seat_at, handed_maps}
-use Rattle.port_core.specs.Valid.{CanFind}
-use Rattle.port_core.proofs.RunLemmas.{runs_joined}
-use Rattle.port_core.proofs.StepLemmas.{found_valid, entry_keeps, tables_handed, tables_valid}
+use Rattle.port_ops.specs.Calls.{IsGoodGuest}
+use Rattle.port_ops.specs.PortCore.declared.step.CoreStep.{CoreStep}
+use Rattle.port_ops.specs.PortCore.Actor.{actor_count}
+use Rattle.port_ops.specs.PortCore.After.{local_after}
+use Rattle.port_ops.specs.PortCore.Port.{AddsStep, word_by, left_by}
+use Rattle.port_ops.specs.PortCore.Run.{IsRun, Takes, Seat, no_seat, opening, seat_at, handed_maps}
+use Rattle.port_ops.specs.PortCore.Valid.{CanFind}
+use Rattle.port_ops.proofs.PortCore.RunLemmas.{runs_joined}
+use Rattle.port_ops.proofs.PortCore.StepLemmas.{found_valid, entry_keeps, tables_handed, tables_valid}
 use Rattle.port_seq.specs.Kept.{told_sound}
 use Rattle.port_seq.specs.Told.{GuestTold, state_of, seen_of, entry_of, with_step}
 use Rattle.port_ops.proofs.WorldLemmas.{each_seat}

@@ -2,7 +2,7 @@
 use Rattle.std.specs.Prelude.{◌≡◌, ℕ, ◌<◌, List, [], ◌∷◌, length, map, slice_index_or, All, None}
 use Rattle.std.proofs.Common.{zero, suc, subst, arith}
 use Rattle.std.proofs.lemmas.List.{get_or_default, length-map}
-use Rattle.port_core.specs.Port.{IsPort}
+use Rattle.port_ops.specs.PortCore.Port.{IsPort}
 use Rattle.port_seq.specs.declared.guest.GuestPort.{GuestPort}
 use Rattle.port_seq.specs.declared.port.SeqPort.{SeqPort}
 use Rattle.port_seq.specs.Kept.{IsTold, IsFree, told_is_port, untaken}

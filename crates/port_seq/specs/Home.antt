@@ -1,6 +1,6 @@
 -- The tables of an ITS, or who has taken them.
 use Rattle.std.specs.Prelude.{ℕ, Option, Some, None}
-use Rattle.its_tab.specs.Maps.{Maps}
+use Rattle.port_ops.specs.Registers.{Maps}
 use Rattle.port_seq.specs.declared.its_home.ItsHome.{ItsHome}
 use Rattle.port_seq.specs.declared.its_home.ItsHome.TheVariants.{Here, TakenBy}
 

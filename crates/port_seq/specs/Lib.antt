@@ -1,3 +1,8 @@
+pub use Rattle.port_ops.specs.Calls
+pub use Rattle.port_ops.specs.Registers
+pub use Rattle.scn_base.specs.Words
+pub use Rattle.port_ops.specs.GicCall
+pub use Rattle.port_ops.specs.GicImap
 pub mod Home
 pub mod Rule
 pub mod Told

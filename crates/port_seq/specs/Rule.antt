@@ -1,9 +1,9 @@
 -- The rule of the words of a guest that is run in one thread, and what a step tells.
 use Rattle.std.specs.Prelude.{◌≡◌, ℕ, List, [], ◌∷◌, ◌++◌}
 use Rattle.atomic_table.specs.Table.{State, Me}
-use Rattle.port_core.specs.declared.run.Entry.{Entry}
-use Rattle.port_core.specs.declared.step.CoreStep.{CoreStep}
-use Rattle.port_core.specs.Run.{IsRun, Takes, opening}
+use Rattle.port_ops.specs.PortCore.declared.run.Entry.{Entry}
+use Rattle.port_ops.specs.PortCore.declared.step.CoreStep.{CoreStep}
+use Rattle.port_ops.specs.PortCore.Run.{IsRun, Takes, opening}
 use Rattle.port_ops.specs.declared.opened.Opened.{Opened}
 use Rattle.port_ops.specs.World.{state_after, entry_in}
 

@@ -1,17 +1,15 @@
 -- What a port of one thread tells: of each guest all steps so far, and which actor is told.
 use Rattle.std.specs.Prelude.{◌≡◌, ℕ, ◌<◌, IsTrue, List, [], ◌∷◌, ◌++◌, length, slice_index_or, slice_set, Option, Some, None}
-use Rattle.gic_base.specs.declared.operation.Actor.{Actor}
-use Rattle.gic_word.specs.Record.{is_number}
+use Rattle.port_ops.specs.Words.{Actor, is_number, words_at_end}
 use Rattle.atomic_table.specs.Seated.{TableId}
-use Rattle.scn_base.specs.declared.guest.GuestSpec.{GuestSpec}
-use Rattle.port_core.specs.declared.end.GuestWords.{GuestWords}
-use Rattle.port_core.specs.declared.run.Entry.{Entry}
-use Rattle.port_core.specs.declared.step.CoreStep.{CoreStep}
-use Rattle.port_core.specs.Actor.{guest_of, number_of, has_actor}
-use Rattle.port_core.specs.Port.{Seen}
-use Rattle.port_core.specs.Run.{CoreState, seat_at}
+use Rattle.port_ops.specs.Calls.{GuestSpec}
+use Rattle.port_ops.specs.PortCore.declared.end.GuestWords.{GuestWords}
+use Rattle.port_ops.specs.PortCore.declared.run.Entry.{Entry}
+use Rattle.port_ops.specs.PortCore.declared.step.CoreStep.{CoreStep}
+use Rattle.port_ops.specs.PortCore.Actor.{guest_of, number_of, has_actor}
+use Rattle.port_ops.specs.PortCore.Port.{Seen}
+use Rattle.port_ops.specs.PortCore.Run.{CoreState, seat_at}
 use Rattle.port_ops.specs.Opened.{no_guest}
-use Rattle.port_ops.specs.Words.{words_at_end}
 use Rattle.port_ops.specs.World.{state_after, entry_in}
 
 -- a guest: where its words are, how it opened and its number; the steps of all its actors so far; the actor that has taken the tables of the ITS, if

@@ -1,10 +1,10 @@
 //! A guest that is run in one thread: its words, what its actors have for themselves, and the tables of its ITS.
 ghost use Rattle.std.specs.Prelude.{◌≡◌, ℕ, ◌<◌, IfOk};
 ghost use Rattle.std.specs.Option.{ForSome};
-ghost use Rattle.scn_base.specs.Good.{IsGoodGuest};
-ghost use Rattle.port_core.specs.Actor.{actor_count as count_of};
-ghost use Rattle.port_core.specs.Place.{word_count as count_of_words};
-ghost use Rattle.port_core.specs.Run.{IsRun, opening};
+ghost use Rattle.port_ops.specs.Calls.{IsGoodGuest};
+ghost use Rattle.port_ops.specs.PortCore.Actor.{actor_count as count_of};
+ghost use Rattle.port_ops.specs.PortCore.Place.{word_count as count_of_words};
+ghost use Rattle.port_ops.specs.PortCore.Run.{IsRun, opening};
 ghost use Rattle.port_seq.specs.Home.{maps_here, taker_of};
 ghost use Rattle.port_ops.specs.World.{state_after, locals_in, HasTurn};
 
@@ -12,11 +12,11 @@ use crate::drain::drain;
 use crate::its_home::ItsHome;
 use crate::rule::{OneThread, make};
 use atomic_table::{Seat, Table};
-use gic_list::ListOf;
-use its_tab::ItsTables;
-use port_core::{CoreStep, Entry, GuestWords, Local, place_of_word};
+use port_ops::its_tab::ItsTables;
+use port_ops::port_core::{CoreStep, Entry, GuestWords, Local, place_of_word};
 use port_ops::{Opened, guest_words, opening_words};
-use scn_base::GuestSpec;
+use scn_base::gic_guest::GuestSpec;
+use scn_base::gic_list::ListOf;
 use std::alloc::{AllocError, Global};
 use std::mem;
 
@@ -44,9 +44,9 @@ pub struct GuestPort {
 
 impl GuestPort {
     ghost use Rattle.std.specs.Prelude.{false, None, Some, IsTrue};
-    ghost use Rattle.port_core.specs.Known.{known_maps};
-    ghost use Rattle.port_core.specs.Port.{CanMake};
-    ghost use Rattle.port_core.specs.Run.{Takes};
+    ghost use Rattle.port_ops.specs.PortCore.Known.{known_maps};
+    ghost use Rattle.port_ops.specs.PortCore.Port.{CanMake};
+    ghost use Rattle.port_ops.specs.PortCore.Run.{Takes};
     ghost use Rattle.port_seq.specs.Told.{seen_of, state_of, entry_of, with_step, opening_told, words_of_end};
     ghost use Rattle.port_seq.specs.Ports.{told};
 
@@ -68,7 +68,7 @@ impl GuestPort {
             table,
             seat,
             locals,
-            its: ItsHome::Here(its_tab::empty(alloc)),
+            its: ItsHome::Here(port_ops::its_tab::empty(alloc)),
             actor: 0,
         })
     }

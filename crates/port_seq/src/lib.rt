@@ -13,3 +13,6 @@ mod tests;
 
 pub use guest::GuestPort;
 pub use port::SeqPort;
+pub use port_ops::{gic_call, gic_dmap, gic_imap, gic_open, its_tab, port_core};
+pub use scn_base;
+pub use scn_base::{gic_base, gic_guest, gic_list, gic_word};

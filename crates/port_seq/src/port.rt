@@ -1,12 +1,12 @@
 //! The port of all actors of a scenario, in one thread.
 ghost use Rattle.std.specs.Prelude.{◌≡◌, ◌<◌, ◌≤◌, All, IfOk, length};
-ghost use Rattle.scn_base.specs.Good.{IsGoodGuest};
+ghost use Rattle.port_ops.specs.Calls.{IsGoodGuest};
 
 use crate::guest::GuestPort;
-use gic_base::Actor;
-use gic_list::ListOf;
-use port_core::{EndWords, guest_of, number_of};
+use port_ops::port_core::{EndWords, guest_of, number_of};
 use scn_base::Scenario;
+use scn_base::gic_base::Actor;
+use scn_base::gic_list::ListOf;
 use std::alloc::{AllocError, Global};
 
 /// All guests of a scenario, of which the actors make their steps one after the other. One actor is told at a time.

@@ -1,19 +1,19 @@
 //! The rule of the words of a guest that is run in one thread, and one step under it.
 ghost use Rattle.std.specs.Prelude.{◌≡◌, ℕ, ◌<◌, []};
-ghost use Rattle.scn_base.specs.Good.{IsGoodGuest};
-ghost use Rattle.port_core.specs.Actor.{actor_count};
-ghost use Rattle.port_core.specs.Atomic.{Makes};
-ghost use Rattle.port_core.specs.Condition.{Meets};
-ghost use Rattle.port_core.specs.Place.{place_of_word, word_count};
-ghost use Rattle.port_core.specs.Run.{seat_at};
-ghost use Rattle.port_core.specs.Step.{CanStep, word_of};
+ghost use Rattle.port_ops.specs.Calls.{IsGoodGuest};
+ghost use Rattle.port_ops.specs.PortCore.Actor.{actor_count};
+ghost use Rattle.port_ops.specs.PortCore.Atomic.{Makes};
+ghost use Rattle.port_ops.specs.PortCore.Condition.{Meets};
+ghost use Rattle.port_ops.specs.PortCore.Place.{place_of_word, word_count};
+ghost use Rattle.port_ops.specs.PortCore.Run.{seat_at};
+ghost use Rattle.port_ops.specs.PortCore.Step.{CanStep, word_of};
 ghost use Rattle.port_seq.specs.Rule.{IsAfter, IsMade};
 ghost use Rattle.port_ops.specs.World.{state_after};
 
 use atomic_table::{Seat, Shared, TableRule};
-use gic_list::ListOf;
-use port_core::{Atomic, CoreStep, Entry};
+use port_ops::port_core::{Atomic, CoreStep, Entry};
 use port_ops::{Doing, Opened, Tells, operate};
+use scn_base::gic_list::ListOf;
 use std::marker::{Brand, PhantomData};
 
 /// The words are those after the steps that the one seat knows.

@@ -2,7 +2,7 @@
 use Rattle.std.proofs.Common.{◌≡◌, ◌≢◌, ℕ, ◌==◌, ◌||◌, Bool, true, false, cond, List, [], ◌∷◌, ◌++◌, map, refl, ap, ◌∙◌}
 use Rattle.std.proofs.lemmas.Bool.{eq-eqb, ne_eqb}
 use Rattle.std.proofs.lemmas.List.{map-append}
-use Rattle.port_core.specs.declared.run.Made.{Made}
+use Rattle.port_ops.specs.PortCore.declared.run.Made.{Made}
 use Rattle.port_table.specs.declared.view.Account.{Account}
 use Rattle.port_table.specs.View.{is_among, is_back, steps_of, with_account}
 

@@ -1,8 +1,8 @@
 -- What is done in one guest leaves the others.
 use Rattle.std.proofs.Common.{ℕ, zero, suc, ◌<◌, List, [], ◌∷◌, length, get_or, arith}
 use Rattle.std.proofs.lemmas.List.{get_or-set_other}
-use Rattle.port_core.specs.declared.end.GuestWords.{GuestWords}
-use Rattle.port_core.specs.Actor.{guest_of}
+use Rattle.port_ops.specs.PortCore.declared.end.GuestWords.{GuestWords}
+use Rattle.port_ops.specs.PortCore.Actor.{guest_of}
 use Rattle.port_table.specs.Laws.{GuestsApart}
 use Rattle.port_table.specs.Told.{WordsTold, RootTold, EndsRun, EndsRuns, opening_root, no_words, words_at, root_at}
 

@@ -2,8 +2,8 @@
 use Rattle.std.proofs.Common.{subst, ◌≡◌, ℕ, List, Option, Some, None, sym, ap, ◌∙◌, suc, ◌==◌, Bool, true, false, cond, All, [], ◌∷◌, refl, arith}
 use mathlib.Core.Option.{some, some-injective}
 use lib.ListN.{get_elem?}
-use Rattle.its_tab.specs.Maps.{Maps}
-use Rattle.port_core.specs.declared.end.GuestWords.{GuestWords}
+use Rattle.port_ops.specs.Registers.{Maps}
+use Rattle.port_ops.specs.PortCore.declared.end.GuestWords.{GuestWords}
 use Rattle.std.proofs.lemmas.Option.{same_Some}
 use Rattle.port_ops.specs.Words.{words_at_end}
 use Rattle.port_ops.specs.World.{state_after}

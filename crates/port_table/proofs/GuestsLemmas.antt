@@ -2,7 +2,7 @@
 use Rattle.std.proofs.Common.{◌≡◌, ℕ, zero, suc, arith, ◌<◌, inl, inr, List, [], ◌∷◌, ◌++◌, map, length, set, get_or, refl, sym, ap, subst, ◌∙◌}
 use Rattle.std.proofs.lemmas.Bool.{cases_eq}
 use Rattle.std.proofs.lemmas.List.{map-append, map-set, length-set, length-map, get_or-set_same, get_or-set_other}
-use Rattle.port_core.specs.declared.end.GuestWords.{GuestWords}
+use Rattle.port_ops.specs.PortCore.declared.end.GuestWords.{GuestWords}
 use Rattle.port_ops.proofs.MapLemmas.{mapped_at}
 use Rattle.port_table.specs.declared.guest.GuestTable.{GuestTable}
 use Rattle.port_table.specs.declared.guest.GuestRoot.{GuestRoot}

@@ -1,3 +1,4 @@
+pub use Rattle.port_ops.proofs.PortCore
 pub mod AmongLemmas
 pub mod ViewLemmas
 pub mod SlotLemmas

@@ -2,23 +2,22 @@
 use Rattle.std.proofs.Common.{◌≡◌, ℕ, ◌<◌, ◌&&◌, IsTrue, IfSome, [], ◌∷◌, ◌++◌, Option, Some, is_some, refl, sym, ap, subst, ◌∙◌}
 use mathlib.Core.Option.{some}
 use Rattle.atomic_table.specs.Table.{Me}
-use Rattle.its_tab.specs.After.{IsValid as IsValidMaps}
-use Rattle.its_tab.specs.Maps.{Maps}
-use Rattle.scn_base.specs.Good.{IsGoodGuest}
-use Rattle.port_core.specs.declared.local.Local.{Local}
-use Rattle.port_core.specs.declared.run.Entry.{Entry}
-use Rattle.port_core.specs.declared.run.Made.{Made}
-use Rattle.port_core.specs.declared.step.CoreStep.{CoreStep}
-use Rattle.port_core.specs.Actor.{actor_count}
-use Rattle.port_core.specs.After.{local_after}
-use Rattle.port_core.specs.Effect.{succeeds, word_after}
-use Rattle.port_core.specs.Known.{known_maps}
-use Rattle.port_core.specs.Port.{keeps_tables, local_by}
-use Rattle.port_core.specs.Run.{CoreState, Seat, IsSound, opening_local_of, seat_at, is_taking, own_steps}
-use Rattle.port_core.specs.Step.{word_of}
-use Rattle.port_core.specs.Valid.{IsLocal, CanFind}
-use Rattle.port_core.proofs.PortLemmas.{local_joins}
-use Rattle.port_core.proofs.StepLemmas.{found_valid, entry_keeps, local_kept, tables_handed, tables_valid}
+use Rattle.port_ops.specs.Registers.{IsValid as IsValidMaps, Maps}
+use Rattle.port_ops.specs.Calls.{IsGoodGuest}
+use Rattle.port_ops.specs.PortCore.declared.local.Local.{Local}
+use Rattle.port_ops.specs.PortCore.declared.run.Entry.{Entry}
+use Rattle.port_ops.specs.PortCore.declared.run.Made.{Made}
+use Rattle.port_ops.specs.PortCore.declared.step.CoreStep.{CoreStep}
+use Rattle.port_ops.specs.PortCore.Actor.{actor_count}
+use Rattle.port_ops.specs.PortCore.After.{local_after}
+use Rattle.port_ops.specs.PortCore.Effect.{succeeds, word_after}
+use Rattle.port_ops.specs.PortCore.Known.{known_maps}
+use Rattle.port_ops.specs.PortCore.Port.{keeps_tables, local_by}
+use Rattle.port_ops.specs.PortCore.Run.{CoreState, Seat, IsSound, opening_local_of, seat_at, is_taking, own_steps}
+use Rattle.port_ops.specs.PortCore.Step.{word_of}
+use Rattle.port_ops.specs.PortCore.Valid.{IsLocal, CanFind}
+use Rattle.port_ops.proofs.PortCore.PortLemmas.{local_joins}
+use Rattle.port_ops.proofs.PortCore.StepLemmas.{found_valid, entry_keeps, local_kept, tables_handed, tables_valid}
 use Rattle.port_ops.specs.declared.opened.Opened.{Opened}
 use Rattle.port_ops.specs.World.{state_after, entry_in}
 use Rattle.port_ops.proofs.WorldLemmas.{sound_after}

@@ -3,13 +3,13 @@ use Rattle.std.proofs.Common.{◌≡◌, ℕ, ◌<◌, List, [], ◌∷◌, map,
 use mathlib.Core.Option.{some}
 use lib.ListN.{get_elem?}
 use Rattle.atomic_table.specs.Table.{opening as opening_table}
-use Rattle.its_tab.specs.Maps.{Maps}
-use Rattle.scn_base.specs.Good.{IsGoodGuest}
-use Rattle.port_core.specs.Actor.{actor_count}
-use Rattle.port_core.specs.Known.{no_maps}
-use Rattle.port_core.specs.Run.{opening, opening_local_of}
-use Rattle.port_core.specs.Valid.{IsLocal}
-use Rattle.port_core.proofs.OpeningLemmas.{opens_sound, seat_opens}
+use Rattle.port_ops.specs.Registers.{Maps}
+use Rattle.port_ops.specs.Calls.{IsGoodGuest}
+use Rattle.port_ops.specs.PortCore.Actor.{actor_count}
+use Rattle.port_ops.specs.PortCore.Known.{no_maps}
+use Rattle.port_ops.specs.PortCore.Run.{opening, opening_local_of}
+use Rattle.port_ops.specs.PortCore.Valid.{IsLocal}
+use Rattle.port_ops.proofs.PortCore.OpeningLemmas.{opens_sound, seat_opens}
 use Rattle.port_ops.specs.declared.opened.Opened.{Opened}
 use Rattle.port_ops.proofs.WorldLemmas.{only_view}
 use Rattle.port_table.specs.declared.view.View.TheVariants.{Root, Out}

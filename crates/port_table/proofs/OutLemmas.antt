@@ -1,7 +1,7 @@
 -- Which actors are out, as they are split off and joined again.
 use Rattle.std.proofs.Common.{ℕ, zero, suc, ◌==◌, false, All, List, [], ◌∷◌, ◌++◌, inl, inr, sym, ◌∙◌, arith}
 use Rattle.std.proofs.lemmas.Bool.{or_left, or_right, or_cases}
-use Rattle.port_core.specs.declared.run.Made.{Made}
+use Rattle.port_ops.specs.PortCore.declared.run.Made.{Made}
 use Rattle.port_table.specs.declared.view.Account.{Account}
 use Rattle.port_table.specs.Out.{AreOut}
 use Rattle.port_table.specs.Told.{WordsTold, RootTold, HasNoTurn, IsDone, opening_root, with_split, with_joined}

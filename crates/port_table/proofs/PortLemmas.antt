@@ -1,8 +1,8 @@
 -- The tables of the ITS in the slot that an actor's port holds.
 use Rattle.std.proofs.Common.{◌≡◌, ℕ, Bool, true, false, IsTrue, List, [], ◌∷◌, Option, Some, None, sym, ap, ◌∙◌}
 use Rattle.atomic_table.specs.Table.{rest}
-use Rattle.its_tab.specs.Maps.{Maps}
-use Rattle.port_core.specs.Known.{known_maps}
+use Rattle.port_ops.specs.Registers.{Maps}
+use Rattle.port_ops.specs.PortCore.Known.{known_maps}
 use Rattle.port_table.specs.declared.port.TablePort.{TablePort}
 use Rattle.port_table.specs.Ports.{seen_of}
 use Rattle.port_table.specs.Slot.{held, has_taken}

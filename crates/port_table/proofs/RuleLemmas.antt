@@ -4,24 +4,24 @@ use mathlib.Core.Option.{some}
 use lib.ListN.{get_elem?}
 use Rattle.atomic_table.proofs.Lists.{set_again}
 use Rattle.atomic_table.specs.Table.{Me, Allows, Splits, Joins, Final, Seen, gives, homes_after}
-use Rattle.its_tab.specs.Maps.{Maps}
-use Rattle.scn_base.specs.Good.{IsGoodGuest}
-use Rattle.port_core.specs.declared.atomic.Atomic.{Atomic}
-use Rattle.port_core.specs.declared.atomic.Atomic.TheVariants.{Load}
-use Rattle.port_core.specs.declared.local.Local.{Local}
-use Rattle.port_core.specs.declared.run.Made.{Made}
-use Rattle.port_core.specs.declared.run.Entry.{Entry}
-use Rattle.port_core.specs.declared.step.CoreStep.{CoreStep}
-use Rattle.port_core.specs.Actor.{actor_count}
-use Rattle.port_core.specs.Atomic.{applied, Makes}
-use Rattle.port_core.specs.Condition.{Meets}
-use Rattle.port_core.specs.Known.{known_maps}
-use Rattle.port_core.specs.Place.{place_of_word}
-use Rattle.port_core.specs.Port.{keeps_tables, local_by}
-use Rattle.port_core.specs.Run.{IsRun, Seat, opening, seat_at, own_steps}
-use Rattle.port_core.specs.Step.{CanStep, word_of}
-use Rattle.port_core.proofs.OpeningLemmas.{opens_sound, seat_opens}
-use Rattle.port_core.proofs.RunLemmas.{own_of_run, local_of_run}
+use Rattle.port_ops.specs.Registers.{Maps}
+use Rattle.port_ops.specs.Calls.{IsGoodGuest}
+use Rattle.port_ops.specs.PortCore.declared.atomic.Atomic.{Atomic}
+use Rattle.port_ops.specs.PortCore.declared.atomic.Atomic.TheVariants.{Load}
+use Rattle.port_ops.specs.PortCore.declared.local.Local.{Local}
+use Rattle.port_ops.specs.PortCore.declared.run.Made.{Made}
+use Rattle.port_ops.specs.PortCore.declared.run.Entry.{Entry}
+use Rattle.port_ops.specs.PortCore.declared.step.CoreStep.{CoreStep}
+use Rattle.port_ops.specs.PortCore.Actor.{actor_count}
+use Rattle.port_ops.specs.PortCore.Atomic.{applied, Makes}
+use Rattle.port_ops.specs.PortCore.Condition.{Meets}
+use Rattle.port_ops.specs.PortCore.Known.{known_maps}
+use Rattle.port_ops.specs.PortCore.Place.{place_of_word}
+use Rattle.port_ops.specs.PortCore.Port.{keeps_tables, local_by}
+use Rattle.port_ops.specs.PortCore.Run.{IsRun, Seat, opening, seat_at, own_steps}
+use Rattle.port_ops.specs.PortCore.Step.{CanStep, word_of}
+use Rattle.port_ops.proofs.PortCore.OpeningLemmas.{opens_sound, seat_opens}
+use Rattle.port_ops.proofs.PortCore.RunLemmas.{own_of_run, local_of_run}
 use Rattle.port_ops.specs.declared.opened.Opened.{Opened}
 use Rattle.port_ops.specs.World.{state_after, entry_in}
 use Rattle.port_ops.proofs.WorldLemmas.{sound_after, one_more, run_more, takes_it, left_by_operation}

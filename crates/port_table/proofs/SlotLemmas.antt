@@ -8,31 +8,27 @@ use mathlib.Core.Option.{Option as Slot, some}
 use lib.ListN.{get_elem?}
 use Rattle.atomic_table.proofs.Lists.{set_here}
 use Rattle.atomic_table.specs.Table.{Act, rest, put_back, Valid, homes_after, carried_after}
-use Rattle.gic_base.specs.declared.shape.GuestShape.{GuestShape}
-use Rattle.gic_base.specs.Shape.{IsShape}
-use Rattle.gic_word.specs.Record.{is_number}
-use Rattle.gic_word.specs.Word.{irq_of}
-use Rattle.its_queue.specs.Queue.{queue_of}
-use Rattle.its_tab.specs.Maps.{Maps}
-use Rattle.port_core.specs.declared.local.Local.{Local}
-use Rattle.port_core.specs.declared.local.Phase.TheVariants.{Folding}
-use Rattle.port_core.specs.declared.run.Made.{Made}
-use Rattle.port_core.specs.declared.step.CoreStep.{CoreStep}
-use Rattle.port_core.specs.declared.step.CoreStep.TheVariants.{Look, Claim, Poll, Touch, RamPut, CtlrTake, TurnTake, TurnRelease}
-use Rattle.port_core.specs.declared.word_id.WordId.TheVariants.{Irq, Queue}
-use Rattle.port_core.specs.Actor.{actor_count}
-use Rattle.port_core.specs.After.{is_settled_by_look, accessed, local_done, local_after}
-use Rattle.port_core.specs.Condition.{Meets}
-use Rattle.port_core.specs.Effect.{succeeds}
-use Rattle.port_core.specs.Forms.{vcpu_of}
-use Rattle.port_core.specs.Known.{no_maps, maps_by_step, maps_after, known_maps}
-use Rattle.port_core.specs.Local.{settled}
-use Rattle.port_core.specs.Port.{keeps_tables}
-use Rattle.port_core.specs.Run.{CoreState, Seat, Takes, IsSound, after, no_seat, seat_at, word_in, handed_maps}
-use Rattle.port_core.specs.Step.{word_of}
-use Rattle.port_core.proofs.FrameLemmas.{seat_changed}
-use Rattle.port_core.proofs.StepLemmas.{steps_sound}
-use Rattle.port_core.proofs.StepMaps.{turn_stays}
+use Rattle.port_ops.specs.Words.{GuestShape, IsShape, is_number, irq_of}
+use Rattle.port_ops.specs.Registers.{queue_of, Maps}
+use Rattle.port_ops.specs.PortCore.declared.local.Local.{Local}
+use Rattle.port_ops.specs.PortCore.declared.local.Phase.TheVariants.{Folding}
+use Rattle.port_ops.specs.PortCore.declared.run.Made.{Made}
+use Rattle.port_ops.specs.PortCore.declared.step.CoreStep.{CoreStep}
+use Rattle.port_ops.specs.PortCore.declared.step.CoreStep.TheVariants.{Look, Claim, Poll, Touch, RamPut, CtlrTake, TurnTake, TurnRelease}
+use Rattle.port_ops.specs.PortCore.declared.word_id.WordId.TheVariants.{Irq, Queue}
+use Rattle.port_ops.specs.PortCore.Actor.{actor_count}
+use Rattle.port_ops.specs.PortCore.After.{is_settled_by_look, accessed, local_done, local_after}
+use Rattle.port_ops.specs.PortCore.Condition.{Meets}
+use Rattle.port_ops.specs.PortCore.Effect.{succeeds}
+use Rattle.port_ops.specs.PortCore.Forms.{vcpu_of}
+use Rattle.port_ops.specs.PortCore.Known.{no_maps, maps_by_step, maps_after, known_maps}
+use Rattle.port_ops.specs.PortCore.Local.{settled}
+use Rattle.port_ops.specs.PortCore.Port.{keeps_tables}
+use Rattle.port_ops.specs.PortCore.Run.{CoreState, Seat, Takes, IsSound, after, no_seat, seat_at, word_in, handed_maps}
+use Rattle.port_ops.specs.PortCore.Step.{word_of}
+use Rattle.port_ops.proofs.PortCore.FrameLemmas.{seat_changed}
+use Rattle.port_ops.proofs.PortCore.StepLemmas.{steps_sound}
+use Rattle.port_ops.proofs.PortCore.StepMaps.{turn_stays}
 use Rattle.port_ops.specs.World.{entry_in}
 use Rattle.port_ops.proofs.WorldLemmas.{maps_same}
 use Rattle.port_table.specs.Slot.{is_free, held, has_taken, is_release, act_by, slots_by, slots_after}

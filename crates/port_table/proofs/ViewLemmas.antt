@@ -5,10 +5,10 @@ use Rattle.std.proofs.lemmas.List.{append-nil}
 use mathlib.Core.Option.{some, some-injective, some-ne-none}
 use lib.ListN.{get_elem?}
 use Rattle.atomic_table.proofs.Lists.{at_set}
-use Rattle.port_core.specs.declared.run.Entry.{Entry}
-use Rattle.port_core.specs.declared.run.Made.{Made}
-use Rattle.port_core.specs.Run.{own_steps}
-use Rattle.port_core.proofs.RunLemmas.{own_joins}
+use Rattle.port_ops.specs.PortCore.declared.run.Entry.{Entry}
+use Rattle.port_ops.specs.PortCore.declared.run.Made.{Made}
+use Rattle.port_ops.specs.PortCore.Run.{own_steps}
+use Rattle.port_ops.proofs.PortCore.RunLemmas.{own_joins}
 use Rattle.port_table.specs.declared.view.Account.{Account}
 use Rattle.port_table.specs.declared.view.View.{View}
 use Rattle.port_table.specs.declared.view.View.TheVariants.{Root, Out, Spent}

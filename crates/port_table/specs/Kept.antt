@@ -2,9 +2,9 @@
 use Rattle.std.specs.Prelude.{◌≡◌, ℕ, Bool, true, false, IsTrue, List, Option}
 use Rattle.std.proofs.Common.{sym, ap, ◌∙◌, refl}
 use Rattle.std.proofs.Math.Logic.{∥∥₁_elim}
-use Rattle.its_tab.specs.Maps.{Maps}
-use Rattle.port_core.specs.Known.{known_maps}
-use Rattle.port_core.specs.Port.{IsPort}
+use Rattle.port_ops.specs.Registers.{Maps}
+use Rattle.port_ops.specs.PortCore.Known.{known_maps}
+use Rattle.port_ops.specs.PortCore.Port.{IsPort}
 use Rattle.port_ops.specs.Props.{port_prop}
 use Rattle.port_table.specs.declared.port.TablePort.{TablePort}
 use Rattle.port_table.specs.Ports.{seen_of}

@@ -1,9 +1,9 @@
 -- Laws of guests that share nothing.
 use Rattle.std.specs.Prelude.{◌≡◌, ◌≢◌, ℕ, ◌<◌, List, length, slice_index_or}
-use Rattle.gic_base.specs.declared.operation.Actor.{Actor}
-use Rattle.port_core.specs.declared.end.GuestWords.{GuestWords}
-use Rattle.port_core.specs.Actor.{guest_of}
-use Rattle.port_core.specs.Port.{Seen}
+use Rattle.port_ops.specs.Words.{Actor}
+use Rattle.port_ops.specs.PortCore.declared.end.GuestWords.{GuestWords}
+use Rattle.port_ops.specs.PortCore.Actor.{guest_of}
+use Rattle.port_ops.specs.PortCore.Port.{Seen}
 use Rattle.port_table.specs.Told.{WordsTold, RootTold, EndsRun, EndsRuns, words_at, root_at, splitting, joining_in}
 
 -- what is done with an actor's port leaves what the root keeps of other guests; and the words and the lists of each guest are those of one run of its own

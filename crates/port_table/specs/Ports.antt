@@ -1,6 +1,6 @@
 -- What the shared words of a guest, its root and an actor's port tell.
 use Rattle.std.specs.Prelude.{None}
-use Rattle.port_core.specs.Port.{Seen}
+use Rattle.port_ops.specs.PortCore.Port.{Seen}
 use Rattle.port_table.specs.declared.guest.GuestTable.{GuestTable}
 use Rattle.port_table.specs.declared.guest.GuestRoot.{GuestRoot}
 use Rattle.port_table.specs.declared.port.TablePort.{TablePort}

@@ -1,13 +1,12 @@
 -- The slot of a guest's table, in which the tables of the ITS lie, and what a seat holds of it.
 use Rattle.std.specs.Prelude.{ℕ, Bool, true, false, List, [], ◌∷◌, if◌then◌else◌, Option, Some, None, is_none}
 use Rattle.atomic_table.specs.Table.{Act, keeps, takes, gives, rest}
-use Rattle.gic_base.specs.declared.shape.GuestShape.{GuestShape}
-use Rattle.its_queue.specs.Queue.{queue_of}
-use Rattle.its_tab.specs.Maps.{Maps}
-use Rattle.port_core.specs.declared.step.CoreStep.{CoreStep}
-use Rattle.port_core.specs.declared.step.CoreStep.TheVariants.{TurnRelease}
-use Rattle.port_core.specs.declared.word_id.WordId.TheVariants.{Queue}
-use Rattle.port_core.specs.Run.{CoreState, word_in}
+use Rattle.port_ops.specs.Words.{GuestShape}
+use Rattle.port_ops.specs.Registers.{queue_of, Maps}
+use Rattle.port_ops.specs.PortCore.declared.step.CoreStep.{CoreStep}
+use Rattle.port_ops.specs.PortCore.declared.step.CoreStep.TheVariants.{TurnRelease}
+use Rattle.port_ops.specs.PortCore.declared.word_id.WordId.TheVariants.{Queue}
+use Rattle.port_ops.specs.PortCore.Run.{CoreState, word_in}
 
 -- nobody has the ITS, as the queue's word says
 abbrev pub is_free : GuestShape → CoreState → Bool

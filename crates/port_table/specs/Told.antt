@@ -1,16 +1,15 @@
 -- What is told of the shared words of guests, of their roots and of the actors' ports, and what a run leaves of all.
 use Rattle.std.specs.Prelude.{All, ◌≡◌, ℕ, ◌<◌, false, IsTrue, List, [], ◌∷◌, ◌++◌, None, length, map, slice_index_or, slice_set}
 use Rattle.atomic_table.specs.Seated.{TableId}
-use Rattle.scn_base.specs.declared.guest.GuestSpec.{GuestSpec}
-use Rattle.port_core.specs.declared.end.GuestWords.{GuestWords}
-use Rattle.port_core.specs.declared.run.Entry.{Entry}
-use Rattle.port_core.specs.declared.run.Made.{Made}
-use Rattle.gic_base.specs.declared.operation.Actor.{Actor}
-use Rattle.port_core.specs.Actor.{guest_of, number_of, has_actor}
-use Rattle.port_core.specs.Port.{Seen, local_by}
-use Rattle.port_core.specs.Run.{IsRun, opening, opening_local_of, own_steps}
+use Rattle.port_ops.specs.Calls.{GuestSpec}
+use Rattle.port_ops.specs.PortCore.declared.end.GuestWords.{GuestWords}
+use Rattle.port_ops.specs.PortCore.declared.run.Entry.{Entry}
+use Rattle.port_ops.specs.PortCore.declared.run.Made.{Made}
+use Rattle.port_ops.specs.Words.{Actor, words_at_end}
+use Rattle.port_ops.specs.PortCore.Actor.{guest_of, number_of, has_actor}
+use Rattle.port_ops.specs.PortCore.Port.{Seen, local_by}
+use Rattle.port_ops.specs.PortCore.Run.{IsRun, opening, opening_local_of, own_steps}
 use Rattle.port_ops.specs.Opened.{no_guest}
-use Rattle.port_ops.specs.Words.{words_at_end}
 use Rattle.port_ops.specs.World.{state_after}
 use Rattle.port_table.specs.declared.view.Account.{Account}
 use Rattle.port_table.specs.View.{is_among, is_back, steps_of, with_account}

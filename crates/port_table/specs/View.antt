@@ -1,6 +1,6 @@
 -- What the seats of a shared table know: the root, and the actors that were split off from it.
 use Rattle.std.specs.Prelude.{ℕ, ◌==◌, ◌||◌, ◌&&◌, not, Bool, false, List, [], ◌∷◌, ◌++◌, map, if◌then◌else◌}
-use Rattle.port_core.specs.declared.run.Made.{Made}
+use Rattle.port_ops.specs.PortCore.declared.run.Made.{Made}
 use Rattle.port_table.specs.declared.view.Account.{Account}
 use Rattle.port_table.specs.declared.view.View.{View}
 use Rattle.port_table.specs.declared.view.View.TheVariants.{Root, Out}

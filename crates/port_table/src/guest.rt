@@ -1,15 +1,15 @@
 //! The words of one guest, and its root.
 ghost use Rattle.std.specs.Prelude.{◌≡◌};
-ghost use Rattle.scn_base.specs.Good.{IsGoodGuest};
-ghost use Rattle.port_core.specs.Place.{word_count as count_of_words};
+ghost use Rattle.port_ops.specs.Calls.{IsGoodGuest};
+ghost use Rattle.port_ops.specs.PortCore.Place.{word_count as count_of_words};
 ghost use Rattle.port_table.specs.declared.view.View.TheVariants.{Root};
 ghost use Rattle.port_table.specs.View.{split_of, joined_of};
 
 use crate::rule::ManyThreads;
 use crate::view::View;
 use atomic_table::{Seat, Table};
-use its_tab::ItsTables;
 use port_ops::Opened;
+use port_ops::its_tab::ItsTables;
 use std::alloc::Global;
 
 /// The words that the actors of a guest share, with the tables of its ITS in a slot.

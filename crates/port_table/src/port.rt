@@ -1,10 +1,10 @@
 //! The port of one actor over words that all actors of its guest share.
 ghost use Rattle.std.specs.Prelude.{◌≡◌, ◌<◌};
-ghost use Rattle.scn_base.specs.Good.{IsGoodGuest};
-ghost use Rattle.port_core.specs.Actor.{actor_count as count_of};
-ghost use Rattle.port_core.specs.Known.{known_maps};
-ghost use Rattle.port_core.specs.Place.{word_count as count_of_words};
-ghost use Rattle.port_core.specs.Valid.{IsLocal};
+ghost use Rattle.port_ops.specs.Calls.{IsGoodGuest};
+ghost use Rattle.port_ops.specs.PortCore.Actor.{actor_count as count_of};
+ghost use Rattle.port_ops.specs.PortCore.Known.{known_maps};
+ghost use Rattle.port_ops.specs.PortCore.Place.{word_count as count_of_words};
+ghost use Rattle.port_ops.specs.PortCore.Valid.{IsLocal};
 ghost use Rattle.port_table.specs.declared.view.View.TheVariants.{Out};
 ghost use Rattle.port_table.specs.Rule.{local_of};
 ghost use Rattle.port_table.specs.Slot.{held as held_by, has_taken};
@@ -13,10 +13,10 @@ ghost use Rattle.port_table.specs.View.{own_of};
 use crate::rule::ManyThreads;
 use crate::view::View;
 use atomic_table::{Seat, Shared};
-use gic_base::GuestShape;
-use its_tab::ItsTables;
-use port_core::Local;
 use port_ops::Opened;
+use port_ops::its_tab::ItsTables;
+use port_ops::port_core::Local;
+use scn_base::gic_base::GuestShape;
 
 /// An actor's port, which any thread may use: the actor's seat at the shared words, and what the actor has for itself.
 #[derive(Drop)]

@@ -1,13 +1,13 @@
 //! The rule of the words that the actors of a guest share, and what is done under it.
 ghost use Rattle.std.specs.Prelude.{◌≡◌, ℕ, ◌<◌, [], ◌++◌, ◌∷◌, IsTrue, false};
-ghost use Rattle.scn_base.specs.Good.{IsGoodGuest};
-ghost use Rattle.port_core.specs.Actor.{actor_count};
-ghost use Rattle.port_core.specs.Atomic.{Makes};
-ghost use Rattle.port_core.specs.Condition.{Meets};
-ghost use Rattle.port_core.specs.Known.{known_maps};
-ghost use Rattle.port_core.specs.Place.{place_of_word, word_count};
-ghost use Rattle.port_core.specs.Port.{keeps_tables};
-ghost use Rattle.port_core.specs.Step.{CanStep, word_of};
+ghost use Rattle.port_ops.specs.Calls.{IsGoodGuest};
+ghost use Rattle.port_ops.specs.PortCore.Actor.{actor_count};
+ghost use Rattle.port_ops.specs.PortCore.Atomic.{Makes};
+ghost use Rattle.port_ops.specs.PortCore.Condition.{Meets};
+ghost use Rattle.port_ops.specs.PortCore.Known.{known_maps};
+ghost use Rattle.port_ops.specs.PortCore.Place.{place_of_word, word_count};
+ghost use Rattle.port_ops.specs.PortCore.Port.{keeps_tables};
+ghost use Rattle.port_ops.specs.PortCore.Step.{CanStep, word_of};
 ghost use Rattle.port_table.specs.declared.view.View.TheVariants.{Root, Out, Spent};
 ghost use Rattle.port_table.specs.Rule.{IsShared, IsMade, IsReturned, local_of};
 ghost use Rattle.port_table.specs.Slot.{held, has_taken};
@@ -15,8 +15,8 @@ ghost use Rattle.port_table.specs.View.{is_among, own_of, split_of, joined_of, n
 
 use crate::view::View;
 use atomic_table::{Join, Seat, Shared, Split, TableRule};
-use its_tab::ItsTables;
-use port_core::{Atomic, CoreStep};
+use port_ops::its_tab::ItsTables;
+use port_ops::port_core::{Atomic, CoreStep};
 use port_ops::{Doing, Opened, Tells, operate};
 use std::marker::{Brand, PhantomData};
 

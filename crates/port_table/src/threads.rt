@@ -1,7 +1,7 @@
 //! The ports of a scenario's actors: they are split off from the root, used by any threads, and joined again.
 ghost use Rattle.std.specs.Prelude.{◌≡◌, ◌≤◌, false, All, IfOk, length};
-ghost use Rattle.scn_base.specs.Good.{IsGoodGuest};
-ghost use Rattle.port_core.specs.Actor.{guest_of as guest_in};
+ghost use Rattle.port_ops.specs.Calls.{IsGoodGuest};
+ghost use Rattle.port_ops.specs.PortCore.Actor.{guest_of as guest_in};
 ghost use Rattle.port_table.specs.All.{told_words, told_root};
 ghost use Rattle.port_table.specs.Ports.{seen_of};
 ghost use Rattle.port_table.specs.Told.{words_at, number_in, opening_seen, IsOpening, AreRoots, HasActor, HadNone, PortIsOf, splitting, joining_in, AllDone, EndsRuns};
@@ -9,10 +9,10 @@ ghost use Rattle.port_table.specs.Told.{words_at, number_in, opening_seen, IsOpe
 use crate::guest::GuestTable;
 use crate::port::TablePort;
 use crate::shared::{RootSeat, SharedWords};
-use gic_base::Actor;
-use gic_list::ListOf;
-use port_core::{EndWords, guest_of, number_of};
+use port_ops::port_core::{EndWords, guest_of, number_of};
 use scn_base::Scenario;
+use scn_base::gic_base::Actor;
+use scn_base::gic_list::ListOf;
 use std::alloc::{AllocError, Global};
 
 /// The words of a scenario's guests as they open, and the root of all. The guests are good: each, and at most 4 of them. An

@@ -5,11 +5,12 @@
 mod apart;
 mod schedule;
 
-use gic_base::NoMemory;
-use gic_ideal::eager;
-use gic_io::OpenGate;
 use gic_top::NOTHING_SHOWN;
-use scn_base::{Answer, MAX_PES, Mode, RunOut, Scenario};
+use gic_top::gic_base::NoMemory;
+use gic_top::gic_guest::{Answer, RunOut};
+use gic_top::gic_ideal::eager;
+use gic_top::gic_io::OpenGate;
+use gic_top::scn_base::{MAX_PES, Mode, Scenario};
 use std::alloc::{AllocError, Global};
 use std::env;
 use std::process::ExitCode;
@@ -105,7 +106,7 @@ fn run_on_pes<R: Threads + Wait + Sync>(
         return Ok(None);
     }
     let mut shown = NOTHING_SHOWN;
-    Ok(Some(run_thr::run(rt, alloc, scenario, pes, PER_TURN, &OpenGate, &mut shown)?))
+    Ok(Some(gic_top::run_thr::run(rt, alloc, scenario, pes, PER_TURN, &OpenGate, &mut shown)?))
 }
 
 /// The run of a scenario, or none where that has a fault.
@@ -123,7 +124,7 @@ fn run<R: Threads + Wait + Sync>(
     }
     let mut shown = NOTHING_SHOWN;
     Ok(Some(if matches!(runner, Runner::Words) {
-        run_seq::run(rt, alloc, scenario, &mut shown)?
+        gic_top::run_seq::run(rt, alloc, scenario, &mut shown)?
     } else {
         eager(alloc, scenario)?
     }))

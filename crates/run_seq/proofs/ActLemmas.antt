@@ -6,24 +6,18 @@ use Rattle.std.proofs.lemmas.List.{append-nil}
 use Rattle.std.proofs.lemmas.List.Elements.{All-get_or, All-set}
 use Rattle.std.proofs.lemmas.Option.{get_or_from_slice_get, slice_get-map, slice_get_within}
 use Rattle.std.specs.Option.{option_map, option_map_or, option_to_list}
-use Rattle.gic_base.specs.declared.operation.DeviceOp.{DeviceOp}
-use Rattle.gic_base.specs.declared.operation.GuestOp.{GuestOp}
-use Rattle.gic_base.specs.declared.operation.PeOp.TheVariants.{Enter, Exit, Lrs}
-use Rattle.gic_base.specs.declared.shape.GuestShape.{GuestShape}
-use Rattle.gic_call.specs.declared.event.Operation.TheVariants.{Access, Device as DeviceCall}
-use Rattle.ideal_guest.specs.declared.guest.IdealGuest.{IdealGuest}
-use Rattle.gic_ideal.specs.Eager.{after_step, shown, step_answer}
-use Rattle.scn_base.specs.declared.guest.GuestSpec.{GuestSpec}
-use Rattle.scn_base.specs.declared.outcome.Answer.{Answer}
-use Rattle.scn_base.specs.declared.outcome.Answer.TheVariants.{Regs}
-use Rattle.scn_base.specs.declared.pes.VcpuName.{VcpuName}
-use Rattle.scn_base.specs.declared.step.Step.{Step}
-use Rattle.scn_base.specs.declared.step.Step.TheVariants.{Vcpu, Device, Pe}
-use Rattle.scn_base.specs.Good.{is_good_event, is_good_op, shapes_of}
-use Rattle.scn_base.specs.Standing.{has_vcpu, is_resident, passes, pes_after, resident_of, vcpu_name}
-use Rattle.port_seq.specs.Told.{SeqTold, guest_at}
-use Rattle.serial_laws.specs.Serial.{WholePart}
-use Rattle.pe_place.specs.Place.{entered, left}
+use Rattle.law_ends_agree.specs.Words.{DeviceOp, GuestOp, Enter, Exit, Lrs, GuestShape}
+use Rattle.law_ends_agree.specs.Calls.{Access, Device as DeviceCall, GuestSpec, Regs, is_good_event, is_good_op, shapes_of, passes}
+use Rattle.law_ends_agree.specs.Histories.{IdealGuest}
+use Rattle.law_ends_agree.specs.GicIdeal.Eager.{after_step, shown, step_answer}
+use Rattle.law_ends_agree.specs.GicGuest.declared.outcome.Answer.{Answer}
+use Rattle.law_ends_agree.specs.ScnBase.declared.pes.VcpuName.{VcpuName}
+use Rattle.law_ends_agree.specs.ScnBase.declared.step.Step.{Step}
+use Rattle.law_ends_agree.specs.ScnBase.declared.step.Step.TheVariants.{Vcpu, Device, Pe}
+use Rattle.law_ends_agree.specs.ScnBase.Standing.{has_vcpu, is_resident, pes_after, resident_of, vcpu_name}
+use Rattle.law_one_thread_is_eager.specs.PortSeq.Told.{SeqTold, guest_at}
+use Rattle.law_one_thread_is_eager.specs.LawSerialIsEager.Serial.{WholePart}
+use Rattle.law_one_thread_is_eager.specs.PePlace.Place.{entered, left}
 use Rattle.run_seq.specs.declared.machine.Machine.{Machine}
 use Rattle.run_seq.specs.Acts.{ActsAs, Exits, Operates, Places, Receives, ShowsPe, CallsOnce, ShowsVcpu}
 use Rattle.run_seq.specs.Calls.{step_call}

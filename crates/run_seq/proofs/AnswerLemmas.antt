@@ -3,15 +3,13 @@ use Rattle.std.proofs.Common.{◌≡◌, ℕ, ◌==◌, Bool, if◌then◌else�
 use Rattle.std.specs.Prelude.{slice_get, slice_set}
 use Rattle.std.specs.Option.{option_map_or, option_to_list}
 use Rattle.std.proofs.lemmas.Bool.{eq-eqb, ne_eqb}
-use Rattle.gic_base.specs.declared.operation.GuestOp.{GuestOp}
-use Rattle.gic_base.specs.declared.operation.GuestOp.TheVariants.{Icc, Mem}
-use Rattle.scn_base.specs.declared.outcome.Answer.TheVariants.{Nothing, Value}
-use Rattle.ideal_guest.specs.declared.guest.IdealGuest.{IdealGuest}
-use Rattle.ideal_guest.specs.Call.{op_answer}
-use Rattle.ideal_guest.specs.Ideal.{access_answer}
-use Rattle.gic_ideal.specs.Eager.{at_guest}
-use Rattle.eager_laws.specs.Moments.{op_read}
-use Rattle.guest_end.specs.Outcome.{answer_by}
+use Rattle.law_ends_agree.specs.Words.{GuestOp, Icc, Mem}
+use Rattle.law_ends_agree.specs.Calls.{Value}
+use Rattle.law_ends_agree.specs.GicGuest.declared.outcome.Answer.TheVariants.{Nothing}
+use Rattle.law_ends_agree.specs.Histories.{IdealGuest, op_answer, access_answer}
+use Rattle.law_ends_agree.specs.GicIdeal.Eager.{at_guest}
+use Rattle.law_one_thread_is_eager.specs.LawEagerIsHistory.Moments.{op_read}
+use Rattle.law_ends_agree.specs.GuestEnd.Outcome.{answer_by}
 use Rattle.run_seq.specs.Calls.{CallMade, value_of}
 use Rattle.run_seq.proofs.MachineLemmas.{IsButFor, but_for_set}
 

@@ -2,10 +2,9 @@
 use Rattle.std.proofs.Common.{◌≡◌, ℕ, not, Bool, false, if◌then◌else◌, All, List, [], ◌∷◌, ◌++◌, map, filter, Option, refl, ap, ◌∙◌}
 use Rattle.std.proofs.lemmas.List.{map-append}
 use Rattle.std.proofs.lemmas.List.Elements.{All-head, All-tail, filter-append}
-use Rattle.gic_call.specs.declared.event.Operation.{Operation}
-use Rattle.gic_call.specs.declared.event.Operation.TheVariants.{Residence}
-use Rattle.serial_laws.specs.Serial.{WholePart}
-use Rattle.pe_place.specs.Parts.{AreResidences, HaveCall, by_actor}
+use Rattle.law_ends_agree.specs.Calls.{Operation, Residence}
+use Rattle.law_one_thread_is_eager.specs.LawSerialIsEager.Serial.{WholePart}
+use Rattle.law_one_thread_is_eager.specs.PePlace.Parts.{AreResidences, HaveCall, by_actor}
 use Rattle.run_seq.specs.Calls.{CallMade, call_made, calls_among, is_residence}
 
 pub calls_append : (early late : List WholePart) → calls_among (early ++ late) ≡ calls_among early ++ calls_among late

@@ -5,18 +5,17 @@ use Rattle.std.proofs.lemmas.Bool.{and_from, lt-ltb}
 use Rattle.std.proofs.lemmas.List.{append-nil, append_assoc, length-set}
 use Rattle.std.proofs.lemmas.List.Elements.{All-from_get_or}
 use Rattle.std.proofs.lemmas.Option.{slice_get-get_or, slice_get_within}
-use Rattle.gic_base.specs.declared.operation.PeOp.TheVariants.{Exit}
-use Rattle.ideal_guest.specs.declared.guest.IdealGuest.{IdealGuest}
-use Rattle.scn_base.specs.declared.guest.GuestSpec.{GuestSpec}
-use Rattle.scn_base.specs.declared.outcome.Answer.{Answer}
-use Rattle.scn_base.specs.declared.pes.VcpuName.{VcpuName}
-use Rattle.scn_base.specs.declared.step.Step.TheVariants.{Pe}
-use Rattle.scn_base.specs.Good.{shapes_of}
-use Rattle.scn_base.specs.Standing.{resident_of}
-use Rattle.port_seq.specs.declared.port.SeqPort.{SeqPort}
-use Rattle.port_seq.specs.Ports.{told_all}
-use Rattle.port_seq.specs.Told.{SeqTold, guest_at}
-use Rattle.serial_laws.specs.Serial.{WholePart}
+use Rattle.law_ends_agree.specs.Words.{Exit}
+use Rattle.law_ends_agree.specs.Histories.{IdealGuest}
+use Rattle.law_ends_agree.specs.Calls.{GuestSpec, shapes_of}
+use Rattle.law_ends_agree.specs.GicGuest.declared.outcome.Answer.{Answer}
+use Rattle.law_ends_agree.specs.ScnBase.declared.pes.VcpuName.{VcpuName}
+use Rattle.law_ends_agree.specs.ScnBase.declared.step.Step.TheVariants.{Pe}
+use Rattle.law_ends_agree.specs.ScnBase.Standing.{resident_of}
+use Rattle.law_one_thread_is_eager.specs.PortSeq.declared.port.SeqPort.{SeqPort}
+use Rattle.law_one_thread_is_eager.specs.PortSeq.Ports.{told_all}
+use Rattle.law_one_thread_is_eager.specs.PortSeq.Told.{SeqTold, guest_at}
+use Rattle.law_one_thread_is_eager.specs.LawSerialIsEager.Serial.{WholePart}
 use Rattle.run_seq.specs.declared.machine.Machine.{Machine}
 use Rattle.run_seq.specs.Calls.{calls_among}
 use Rattle.run_seq.specs.Machine.{CanDo, Closes, DoesStep, IsGuestAt, IsMachine, IsMachineAt, IsReady}

@@ -9,37 +9,33 @@ use Rattle.std.proofs.Props.{props}
 use Rattle.std.proofs.lemmas.List.{length-map, length-set}
 use Rattle.std.proofs.lemmas.Option.{get_or_from_slice_get, slice_get_within}
 use Rattle.std.proofs.lemmas.List.FromFn.{length-range_with_len}
-use Rattle.gic_prio.specs.declared.cpu.CpuRec.{CpuRec}
-use Rattle.ideal_guest.specs.declared.guest.IdealGuest.{IdealGuest}
-use Rattle.ideal_guest.specs.Opening.{opening}
-use Rattle.gic_ideal.specs.Ends.{end_of, ends_of}
-use Rattle.gic_ideal.specs.Eager.{after_step, after_steps, at_guest, eager}
-use Rattle.ideal_guest.specs.Call.{after_device, after_op}
-use Rattle.guest_end.specs.Home.{IsAtEnd}
-use Rattle.scn_base.specs.declared.guest.GuestSpec.{GuestSpec}
-use Rattle.scn_base.specs.declared.outcome.End.{End}
-use Rattle.port_core.specs.declared.end.GuestWords.{GuestWords}
-use Rattle.port_seq.specs.Told.{GuestTold, SeqTold, guest_at, no_told, state_of, words_of_end}
-use Rattle.seq_guest.specs.Guest.{cpus_of, seen_by}
-use Rattle.scn_base.specs.declared.outcome.Answer.{Answer}
-use Rattle.scn_base.specs.declared.outcome.RunOut.{RunOut}
-use Rattle.scn_base.specs.declared.scenario.Scenario.{Scenario}
-use Rattle.scn_base.specs.declared.step.Step.{Step}
-use Rattle.scn_base.specs.declared.step.Step.TheVariants.{Vcpu as StepVcpu, Device as StepDevice, Pe as StepPe}
-use Rattle.port_seq.specs.Kept.{IsFree}
-use Rattle.scn_base.specs.Good.{IsGoodGuest}
-use Rattle.port_core.specs.Run.{CoreState}
-use Rattle.serial_laws.specs.Serial.{moments_of}
-use Rattle.seq_laws.specs.Done.{home_after}
-use Rattle.seq_laws.proofs.DoneLemmas.{fitted}
-use Rattle.seq_laws.proofs.FollowLemmas.{state_is}
-use Rattle.seq_laws.proofs.MomentLemmas.{entries_parts}
-use Rattle.end_laws.specs.End.{AreEmpty, EndsAtHome, cpus_in, state_after, told_in, words_in}
-use Rattle.end_laws.proofs.EndRuns.{runs_end}
-use Rattle.guest_end.specs.declared.outcome.Done.{Done}
-use Rattle.guest_end.specs.Ends.{AllEndAt, EndsAt, HaveEnded}
-use Rattle.guest_end.proofs.EndsLemmas.{all_end}
-use Rattle.guest_end.proofs.PropLemmas.{end_prop}
+use Rattle.law_ends_agree.specs.Registers.{CpuRec}
+use Rattle.law_ends_agree.specs.Histories.{IdealGuest, after_device, after_op}
+use Rattle.law_ends_agree.specs.IdealGuest.Opening.{opening}
+use Rattle.law_ends_agree.specs.GicIdeal.Ends.{end_of, ends_of}
+use Rattle.law_ends_agree.specs.GicIdeal.Eager.{after_step, after_steps, at_guest, eager}
+use Rattle.law_ends_agree.specs.GuestEnd.Home.{IsAtEnd}
+use Rattle.law_ends_agree.specs.Calls.{GuestSpec, RunOut, IsGoodGuest}
+use Rattle.law_ends_agree.specs.GicGuest.declared.outcome.End.{End}
+use Rattle.law_ends_agree.specs.Core.{GuestWords, CoreState}
+use Rattle.law_one_thread_is_eager.specs.PortSeq.Told.{GuestTold, SeqTold, guest_at, no_told, state_of, words_of_end}
+use Rattle.law_one_thread_is_eager.specs.SeqGuest.Guest.{cpus_of, seen_by}
+use Rattle.law_ends_agree.specs.GicGuest.declared.outcome.Answer.{Answer}
+use Rattle.law_ends_agree.specs.ScnBase.declared.scenario.Scenario.{Scenario}
+use Rattle.law_ends_agree.specs.ScnBase.declared.step.Step.{Step}
+use Rattle.law_ends_agree.specs.ScnBase.declared.step.Step.TheVariants.{Vcpu as StepVcpu, Device as StepDevice, Pe as StepPe}
+use Rattle.law_one_thread_is_eager.specs.PortSeq.Kept.{IsFree}
+use Rattle.law_one_thread_is_eager.specs.LawSerialIsEager.Serial.{moments_of}
+use Rattle.law_one_thread_is_eager.specs.Done.{home_after}
+use Rattle.law_one_thread_is_eager.proofs.DoneLemmas.{fitted}
+use Rattle.law_one_thread_is_eager.proofs.FollowLemmas.{state_is}
+use Rattle.law_one_thread_is_eager.proofs.MomentLemmas.{entries_parts}
+use Rattle.law_ends_agree.specs.End.{AreEmpty, EndsAtHome, cpus_in, state_after, told_in, words_in}
+use Rattle.law_ends_agree.proofs.EndRuns.{runs_end}
+use Rattle.law_ends_agree.specs.GuestEnd.declared.outcome.Done.{Done}
+use Rattle.law_ends_agree.specs.GuestEnd.Ends.{AllEndAt, EndsAt, HaveEnded}
+use Rattle.law_ends_agree.proofs.GuestEnd.EndsLemmas.{all_end}
+use Rattle.law_ends_agree.proofs.GuestEnd.PropLemmas.{end_prop}
 use Rattle.run_seq.specs.Run.{GuestHasRun, HasRun}
 use Rattle.run_seq.proofs.StepLemmas.{there_in}
 

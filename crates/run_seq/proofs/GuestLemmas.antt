@@ -2,24 +2,22 @@
 use Rattle.std.proofs.Common.{◌≡◌, ℕ, ◌<◌, true, List, [], ◌++◌, Option, refl, sym, ap, ◌∙◌, subst}
 use Rattle.std.proofs.Props.{props}
 use Rattle.std.proofs.Math.Logic.{∥∥₁_elim, ∥∥₁_map, ∥∥₁_prop}
-use Rattle.gic_call.specs.declared.event.Operation.{Operation}
-use Rattle.gic_ideal.specs.Shown.{registers_of}
-use Rattle.ideal_guest.specs.Ideal.{after_events}
-use Rattle.ideal_guest.specs.declared.guest.IdealGuest.{IdealGuest}
-use Rattle.scn_base.specs.declared.guest.GuestSpec.{GuestSpec}
-use Rattle.scn_base.specs.declared.pes.VcpuName.{VcpuName}
-use Rattle.scn_base.specs.Standing.{is_resident}
-use Rattle.port_core.specs.Run.{IsRun, opening}
-use Rattle.port_seq.specs.Told.{GuestTold}
-use Rattle.call_laws.specs.Calls.{IsEagerCall, eager_events, eager_read}
-use Rattle.call_laws.specs.Runs.{IsGoodCall}
-use Rattle.serial_laws.specs.Serial.{WholePart, is_icc}
-use Rattle.seq_guest.specs.declared.vcpus.Vcpus.{Vcpus}
-use Rattle.pe_place.specs.Parts.{AreResidences, HaveCall}
-use Rattle.seq_guest.specs.Guest.{GoesOn, NoneKicked, ShowsList, spot_at}
-use Rattle.seq_laws.specs.Done.{home_after}
-use Rattle.seq_laws.specs.Laws.{KeepsHome, PassesHome, ShowsHomeOf}
-use Rattle.seq_laws.proofs.DoneLaws.{calls_pass_home, registers_show_home, residences_keep_home}
+use Rattle.law_ends_agree.specs.Calls.{Operation, GuestSpec}
+use Rattle.law_ends_agree.specs.GicIdeal.Shown.{registers_of}
+use Rattle.law_ends_agree.specs.Histories.{after_events, IdealGuest}
+use Rattle.law_ends_agree.specs.ScnBase.declared.pes.VcpuName.{VcpuName}
+use Rattle.law_ends_agree.specs.ScnBase.Standing.{is_resident}
+use Rattle.law_ends_agree.specs.Core.{IsRun, opening}
+use Rattle.law_one_thread_is_eager.specs.PortSeq.Told.{GuestTold}
+use Rattle.law_one_thread_is_eager.specs.LawLoneCallsAreEager.Calls.{IsEagerCall, eager_events, eager_read}
+use Rattle.law_one_thread_is_eager.specs.LawLoneCallsAreEager.Runs.{IsGoodCall}
+use Rattle.law_one_thread_is_eager.specs.LawSerialIsEager.Serial.{WholePart, is_icc}
+use Rattle.law_one_thread_is_eager.specs.SeqGuest.declared.vcpus.Vcpus.{Vcpus}
+use Rattle.law_one_thread_is_eager.specs.PePlace.Parts.{AreResidences, HaveCall}
+use Rattle.law_one_thread_is_eager.specs.SeqGuest.Guest.{GoesOn, NoneKicked, ShowsList, spot_at}
+use Rattle.law_one_thread_is_eager.specs.Done.{home_after}
+use Rattle.law_one_thread_is_eager.specs.Laws.{KeepsHome, PassesHome, ShowsHomeOf}
+use Rattle.law_one_thread_is_eager.proofs.DoneLaws.{calls_pass_home, registers_show_home, residences_keep_home}
 use Rattle.run_seq.specs.Machine.{IsGuestAt, place_by}
 
 module _ (pes : List (Option VcpuName)) (lrs : ℕ) (guest : GuestSpec) (number : ℕ) (old new : GuestTold) (before after : Vcpus) (early : List WholePart) (ideal : IdealGuest) (at : IsGuestAt pes lrs guest number old before early ideal)

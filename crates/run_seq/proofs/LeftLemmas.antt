@@ -9,24 +9,24 @@ use Rattle.std.proofs.lemmas.Bool.{cases_lt}
 use Rattle.std.proofs.lemmas.List.{append-nil}
 use Rattle.std.proofs.lemmas.List.Elements.{All-head, All-tail}
 use Rattle.std.proofs.lemmas.Option.{slice_get_within}
-use Rattle.gic_prio.specs.declared.cpu.CpuRec.{CpuRec}
-use Rattle.ideal_guest.specs.declared.guest.IdealGuest.{IdealGuest}
-use Rattle.ideal_guest.specs.Opening.{opening as opening_guest}
-use Rattle.gic_ideal.specs.Eager.{after_steps}
-use Rattle.scn_base.specs.declared.guest.GuestSpec.{GuestSpec}
-use Rattle.scn_base.specs.declared.outcome.Answer.{Answer}
-use Rattle.scn_base.specs.declared.pes.VcpuName.{VcpuName}
-use Rattle.scn_base.specs.declared.scenario.Scenario.{Scenario}
-use Rattle.scn_base.specs.Standing.{is_resident, passes}
-use Rattle.core_proper.specs.Proper.{is_settled}
-use Rattle.port_seq.specs.Told.{GuestTold, SeqTold, guest_at, no_told}
-use Rattle.pe_place.specs.declared.place.Place.{Place}
-use Rattle.pe_place.specs.declared.place.Place.TheVariants.{Shelf, Aside, Pe}
-use Rattle.seq_guest.specs.declared.vcpus.Vcpus.{Vcpus}
-use Rattle.pe_place.specs.Place.{IsAt, shelf, spot_of}
-use Rattle.seq_guest.specs.Guest.{AreAt, cpus_of, seen_by, spot_at}
-use Rattle.seq_laws.specs.Done.{AreSerial, HasDone}
-use Rattle.seq_laws.proofs.EaseLemmas.{placed}
+use Rattle.law_ends_agree.specs.Registers.{CpuRec}
+use Rattle.law_ends_agree.specs.Histories.{IdealGuest}
+use Rattle.law_ends_agree.specs.IdealGuest.Opening.{opening as opening_guest}
+use Rattle.law_ends_agree.specs.GicIdeal.Eager.{after_steps}
+use Rattle.law_ends_agree.specs.Calls.{GuestSpec, passes}
+use Rattle.law_ends_agree.specs.GicGuest.declared.outcome.Answer.{Answer}
+use Rattle.law_ends_agree.specs.ScnBase.declared.pes.VcpuName.{VcpuName}
+use Rattle.law_ends_agree.specs.ScnBase.declared.scenario.Scenario.{Scenario}
+use Rattle.law_ends_agree.specs.ScnBase.Standing.{is_resident}
+use Rattle.law_ends_agree.specs.Core.{is_settled}
+use Rattle.law_one_thread_is_eager.specs.PortSeq.Told.{GuestTold, SeqTold, guest_at, no_told}
+use Rattle.law_one_thread_is_eager.specs.PePlace.declared.place.Place.{Place}
+use Rattle.law_one_thread_is_eager.specs.PePlace.declared.place.Place.TheVariants.{Shelf, Aside, Pe}
+use Rattle.law_one_thread_is_eager.specs.SeqGuest.declared.vcpus.Vcpus.{Vcpus}
+use Rattle.law_one_thread_is_eager.specs.PePlace.Place.{IsAt, shelf, spot_of}
+use Rattle.law_one_thread_is_eager.specs.SeqGuest.Guest.{AreAt, cpus_of, seen_by, spot_at}
+use Rattle.law_one_thread_is_eager.specs.Done.{AreSerial, HasDone}
+use Rattle.law_one_thread_is_eager.proofs.EaseLemmas.{placed}
 use Rattle.run_seq.specs.declared.machine.Machine.{Machine}
 use Rattle.run_seq.specs.Calls.{calls_among}
 use Rattle.run_seq.specs.Machine.{HasClosed, place_by}

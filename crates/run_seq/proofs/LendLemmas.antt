@@ -4,23 +4,20 @@ use Rattle.std.specs.Prelude.{slice_get}
 use Rattle.std.proofs.lemmas.Bool.{lt-ltb}
 use Rattle.std.proofs.lemmas.List.{get_or-set_same, set-set}
 use Rattle.std.proofs.lemmas.Option.{get_or_from_slice_get}
-use Rattle.gic_base.specs.declared.operation.Actor.{Actor}
-use Rattle.gic_base.specs.declared.operation.Actor.TheVariants.{Vcpu as VcpuActor}
-use Rattle.gic_base.specs.declared.operation.DeviceOp.{DeviceOp}
-use Rattle.gic_base.specs.declared.operation.GuestOp.{GuestOp}
-use Rattle.gic_call.specs.declared.event.Operation.TheVariants.{Access, Device as DeviceCall}
-use Rattle.port_seq.specs.declared.guest.GuestPort.{GuestPort}
-use Rattle.port_seq.specs.declared.port.SeqPort.{SeqPort}
-use Rattle.port_seq.specs.Every.{each_is_told}
-use Rattle.port_seq.specs.Lending.{with_guest}
-use Rattle.port_seq.specs.Ports.{told, told_all}
-use Rattle.port_seq.specs.Told.{GuestTold, HasActor, SeqTold, current, guest_at, no_told, telling}
-use Rattle.port_seq.proofs.GuestsLemmas.{told_lent}
-use Rattle.serial_laws.specs.Serial.{WholePart}
-use Rattle.seq_guest.specs.declared.vcpus.Vcpus.{Vcpus}
-use Rattle.pe_place.specs.Parts.{AreResidences, HaveCall}
-use Rattle.seq_guest.specs.Guest.{AreAt, ChangesSpots, GoesOn, NoneKicked, Operates, Shows, ShowsList, for_none}
-use Rattle.seq_guest.proofs.OpeningLemmas.{at_told}
+use Rattle.law_ends_agree.specs.Words.{Actor, Vcpu as VcpuActor, DeviceOp, GuestOp}
+use Rattle.law_ends_agree.specs.Calls.{Access, Device as DeviceCall}
+use Rattle.law_one_thread_is_eager.specs.PortSeq.declared.guest.GuestPort.{GuestPort}
+use Rattle.law_one_thread_is_eager.specs.PortSeq.declared.port.SeqPort.{SeqPort}
+use Rattle.law_one_thread_is_eager.specs.PortSeq.Every.{each_is_told}
+use Rattle.law_one_thread_is_eager.specs.PortSeq.Lending.{with_guest}
+use Rattle.law_one_thread_is_eager.specs.PortSeq.Ports.{told, told_all}
+use Rattle.law_one_thread_is_eager.specs.PortSeq.Told.{GuestTold, HasActor, SeqTold, current, guest_at, no_told, telling}
+use Rattle.law_one_thread_is_eager.proofs.PortSeq.GuestsLemmas.{told_lent}
+use Rattle.law_one_thread_is_eager.specs.LawSerialIsEager.Serial.{WholePart}
+use Rattle.law_one_thread_is_eager.specs.SeqGuest.declared.vcpus.Vcpus.{Vcpus}
+use Rattle.law_one_thread_is_eager.specs.PePlace.Parts.{AreResidences, HaveCall}
+use Rattle.law_one_thread_is_eager.specs.SeqGuest.Guest.{AreAt, ChangesSpots, GoesOn, NoneKicked, Operates, Shows, ShowsList, for_none}
+use Rattle.law_one_thread_is_eager.proofs.SeqGuest.OpeningLemmas.{at_told}
 use Rattle.run_seq.specs.declared.machine.Machine.{Machine}
 use Rattle.run_seq.specs.Acts.{CallsOnce}
 use Rattle.run_seq.specs.Machine.{GuestActs, HasGuest}

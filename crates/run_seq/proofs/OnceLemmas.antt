@@ -2,9 +2,9 @@
 use Rattle.std.proofs.Common.{◌≡◌, ◌⊎◌, ℕ, zero, suc, ◌+◌, ◌≤◌, inl, inr, List, [], ◌∷◌, ◌++◌, length, map, Option, Some, sym, ap, ◌∙◌, subst, arith}
 use Rattle.std.specs.Prelude.{slice_get}
 use Rattle.std.specs.List.{range_with_len}
-use Rattle.gic_base.specs.declared.shape.GuestShape.{GuestShape}
-use Rattle.scn_base.specs.declared.pes.VcpuName.{VcpuName}
-use Rattle.scn_base.specs.Standing.{opening_pes, vcpu_name, vcpus_from}
+use Rattle.law_ends_agree.specs.Words.{GuestShape}
+use Rattle.law_ends_agree.specs.ScnBase.declared.pes.VcpuName.{VcpuName}
+use Rattle.law_ends_agree.specs.ScnBase.Standing.{opening_pes, vcpu_name, vcpus_from}
 use Rattle.run_seq.specs.Machine.{StandsOnce}
 
 -- where something stands in a list is a mapped range

@@ -6,25 +6,23 @@ use Rattle.std.proofs.lemmas.Bool.{and_from, lt-ltb}
 use Rattle.std.proofs.lemmas.List.{length-map}
 use Rattle.std.proofs.lemmas.List.Elements.{All-nil, All-cons, All-get_or}
 use Rattle.std.proofs.lemmas.Option.{get_or_from_slice_get, slice_get-get_or, slice_get-map, slice_get_within}
-use Rattle.gic_base.specs.declared.operation.PeOp.TheVariants.{Enter}
-use Rattle.gic_base.specs.declared.shape.GuestShape.{GuestShape}
-use Rattle.ideal_guest.specs.declared.guest.IdealGuest.{IdealGuest}
-use Rattle.ideal_guest.specs.Opening.{opening as opening_guest}
-use Rattle.scn_base.specs.declared.guest.GuestSpec.{GuestSpec}
-use Rattle.scn_base.specs.declared.outcome.Answer.{Answer}
-use Rattle.scn_base.specs.declared.pes.VcpuName.{VcpuName}
-use Rattle.scn_base.specs.declared.scenario.Scenario.{Scenario}
-use Rattle.scn_base.specs.declared.step.Step.TheVariants.{Pe}
-use Rattle.scn_base.specs.Good.{IsGoodGuest, shapes_of}
-use Rattle.scn_base.specs.Standing.{ResidentsExist, has_vcpu, is_resident, opening_pes, resident_of, vcpu_name}
-use Rattle.port_seq.specs.declared.port.SeqPort.{SeqPort}
-use Rattle.port_seq.specs.Ports.{told_all}
-use Rattle.port_seq.specs.Told.{GuestTold, SeqTold, guest_at}
-use Rattle.serial_laws.specs.Serial.{WholePart}
-use Rattle.seq_guest.specs.declared.vcpus.Vcpus.{Vcpus}
-use Rattle.pe_place.specs.Place.{pe, shelf}
-use Rattle.seq_guest.specs.Guest.{spot_at}
-use Rattle.seq_laws.proofs.DoneLaws.{guests_open_at_home}
+use Rattle.law_ends_agree.specs.Words.{Enter, GuestShape}
+use Rattle.law_ends_agree.specs.Histories.{IdealGuest}
+use Rattle.law_ends_agree.specs.IdealGuest.Opening.{opening as opening_guest}
+use Rattle.law_ends_agree.specs.Calls.{GuestSpec, IsGoodGuest, shapes_of}
+use Rattle.law_ends_agree.specs.GicGuest.declared.outcome.Answer.{Answer}
+use Rattle.law_ends_agree.specs.ScnBase.declared.pes.VcpuName.{VcpuName}
+use Rattle.law_ends_agree.specs.ScnBase.declared.scenario.Scenario.{Scenario}
+use Rattle.law_ends_agree.specs.ScnBase.declared.step.Step.TheVariants.{Pe}
+use Rattle.law_ends_agree.specs.ScnBase.Standing.{ResidentsExist, has_vcpu, is_resident, opening_pes, resident_of, vcpu_name}
+use Rattle.law_one_thread_is_eager.specs.PortSeq.declared.port.SeqPort.{SeqPort}
+use Rattle.law_one_thread_is_eager.specs.PortSeq.Ports.{told_all}
+use Rattle.law_one_thread_is_eager.specs.PortSeq.Told.{GuestTold, SeqTold, guest_at}
+use Rattle.law_one_thread_is_eager.specs.LawSerialIsEager.Serial.{WholePart}
+use Rattle.law_one_thread_is_eager.specs.SeqGuest.declared.vcpus.Vcpus.{Vcpus}
+use Rattle.law_one_thread_is_eager.specs.PePlace.Place.{pe, shelf}
+use Rattle.law_one_thread_is_eager.specs.SeqGuest.Guest.{spot_at}
+use Rattle.law_one_thread_is_eager.proofs.DoneLaws.{guests_open_at_home}
 use Rattle.run_seq.specs.declared.machine.Machine.{Machine}
 use Rattle.run_seq.specs.Calls.{calls_among}
 use Rattle.run_seq.specs.Machine.{CanDo, DoesStep, IsGuestAt, IsMachineAt, IsReady, OpensMachine, StandsOnce, place_by}

@@ -1,17 +1,16 @@
 -- A step of a PE, by its operation and by who stands there; and a step once its PEs are noted.
 use Rattle.std.proofs.Common.{◌≡◌, ℕ, List, Option, Some, None, refl, sym, ap, ◌∙◌, subst}
-use Rattle.gic_base.specs.declared.operation.PeOp.{PeOp}
-use Rattle.gic_base.specs.declared.operation.PeOp.TheVariants.{Enter, Exit, Lrs}
-use Rattle.scn_base.specs.declared.outcome.Answer.{Answer}
-use Rattle.scn_base.specs.declared.outcome.Answer.TheVariants.{Nothing}
-use Rattle.scn_base.specs.declared.pes.VcpuName.{VcpuName}
-use Rattle.scn_base.specs.declared.step.Step.{Step}
-use Rattle.scn_base.specs.declared.step.Step.TheVariants.{Vcpu, Device, Pe}
-use Rattle.scn_base.specs.Standing.{pes_after, resident_of, vcpu_name}
-use Rattle.port_seq.specs.declared.port.SeqPort.{SeqPort}
-use Rattle.port_seq.specs.Ports.{told_all}
-use Rattle.port_seq.specs.Told.{SeqTold}
-use Rattle.pe_place.specs.Place.{entered, left}
+use Rattle.law_ends_agree.specs.Words.{PeOp, Enter, Exit, Lrs}
+use Rattle.law_ends_agree.specs.GicGuest.declared.outcome.Answer.{Answer}
+use Rattle.law_ends_agree.specs.GicGuest.declared.outcome.Answer.TheVariants.{Nothing}
+use Rattle.law_ends_agree.specs.ScnBase.declared.pes.VcpuName.{VcpuName}
+use Rattle.law_ends_agree.specs.ScnBase.declared.step.Step.{Step}
+use Rattle.law_ends_agree.specs.ScnBase.declared.step.Step.TheVariants.{Vcpu, Device, Pe}
+use Rattle.law_ends_agree.specs.ScnBase.Standing.{pes_after, resident_of, vcpu_name}
+use Rattle.law_one_thread_is_eager.specs.PortSeq.declared.port.SeqPort.{SeqPort}
+use Rattle.law_one_thread_is_eager.specs.PortSeq.Ports.{told_all}
+use Rattle.law_one_thread_is_eager.specs.PortSeq.Told.{SeqTold}
+use Rattle.law_one_thread_is_eager.specs.PePlace.Place.{entered, left}
 use Rattle.run_seq.specs.declared.machine.Machine.{Machine}
 use Rattle.run_seq.specs.Acts.{ActsAs, Exits, HasLoaded, HasVcpu, MovesVcpu, Places, ShowsPe}
 use Rattle.run_seq.specs.Machine.{DoesStep, GuestActs, HasDoneStep, IsReady}

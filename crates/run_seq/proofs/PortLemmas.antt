@@ -5,18 +5,18 @@ use Rattle.std.specs.List.{flat_map}
 use Rattle.std.proofs.lemmas.Bool.{cases_eq}
 use Rattle.std.proofs.lemmas.List.{append-nil, append_assoc, get_or-set_same, get_or-set_other, length-set, length_push, set-set}
 use Rattle.std.proofs.lemmas.Option.{get_or_from_slice_get, slice_get_within}
-use Rattle.gic_base.specs.declared.operation.Actor.TheVariants.{Vcpu as VcpuActor}
-use Rattle.gic_prio.specs.declared.cpu.CpuRec.{CpuRec}
-use Rattle.scn_base.specs.declared.guest.GuestSpec.{GuestSpec}
-use Rattle.port_seq.specs.declared.guest.GuestPort.{GuestPort}
-use Rattle.port_seq.specs.declared.port.SeqPort.{SeqPort}
-use Rattle.port_seq.specs.Lending.{with_guest}
-use Rattle.port_seq.specs.Ports.{told, told_all}
-use Rattle.port_seq.specs.Told.{GuestTold, IsOpening, SeqTold, current, guest_at, no_told, opening_told, telling}
-use Rattle.port_seq.proofs.GuestsLemmas.{told_lent}
-use Rattle.seq_guest.specs.declared.vcpus.Vcpus.{Vcpus}
-use Rattle.pe_place.specs.Place.{shelf}
-use Rattle.seq_guest.specs.Guest.{AreAt, cpus_of, spot_at}
+use Rattle.law_ends_agree.specs.Words.{Vcpu as VcpuActor}
+use Rattle.law_ends_agree.specs.Registers.{CpuRec}
+use Rattle.law_ends_agree.specs.Calls.{GuestSpec}
+use Rattle.law_one_thread_is_eager.specs.PortSeq.declared.guest.GuestPort.{GuestPort}
+use Rattle.law_one_thread_is_eager.specs.PortSeq.declared.port.SeqPort.{SeqPort}
+use Rattle.law_one_thread_is_eager.specs.PortSeq.Lending.{with_guest}
+use Rattle.law_one_thread_is_eager.specs.PortSeq.Ports.{told, told_all}
+use Rattle.law_one_thread_is_eager.specs.PortSeq.Told.{GuestTold, IsOpening, SeqTold, current, guest_at, no_told, opening_told, telling}
+use Rattle.law_one_thread_is_eager.proofs.PortSeq.GuestsLemmas.{told_lent}
+use Rattle.law_one_thread_is_eager.specs.SeqGuest.declared.vcpus.Vcpus.{Vcpus}
+use Rattle.law_one_thread_is_eager.specs.PePlace.Place.{shelf}
+use Rattle.law_one_thread_is_eager.specs.SeqGuest.Guest.{AreAt, cpus_of, spot_at}
 use Rattle.run_seq.specs.Opened.{AreOpened, IsOpened}
 use Rattle.run_seq.specs.Run.{SamePorts}
 

@@ -5,20 +5,16 @@ use Rattle.std.proofs.lemmas.Bool.{and_parts, ltb-true}
 use Rattle.std.proofs.lemmas.List.{length-map}
 use Rattle.std.proofs.lemmas.List.Elements.{All-get_or}
 use Rattle.std.proofs.lemmas.Option.{get_or_from_slice_get, slice_get_within}
-use Rattle.gic_base.specs.declared.operation.DeviceOp.{DeviceOp}
-use Rattle.gic_base.specs.declared.operation.GuestOp.{GuestOp}
-use Rattle.gic_base.specs.declared.operation.PeOp.TheVariants.{Enter}
-use Rattle.gic_base.specs.declared.shape.GuestShape.{GuestShape}
-use Rattle.ideal_guest.specs.declared.guest.IdealGuest.{IdealGuest}
-use Rattle.scn_base.specs.declared.guest.GuestSpec.{GuestSpec}
-use Rattle.scn_base.specs.declared.pes.VcpuName.{VcpuName}
-use Rattle.scn_base.specs.declared.step.Step.TheVariants.{Vcpu, Device, Pe}
-use Rattle.scn_base.specs.Good.{is_good_event, is_good_op, shapes_of}
-use Rattle.scn_base.specs.Standing.{has_vcpu, is_resident, passes, resident_of, vcpu_name}
-use Rattle.port_seq.specs.Told.{SeqTold, guest_at}
-use Rattle.serial_laws.specs.Serial.{WholePart}
-use Rattle.pe_place.specs.Place.{aside, pe}
-use Rattle.seq_guest.specs.Guest.{spot_at}
+use Rattle.law_ends_agree.specs.Words.{DeviceOp, GuestOp, Enter, GuestShape}
+use Rattle.law_ends_agree.specs.Histories.{IdealGuest}
+use Rattle.law_ends_agree.specs.Calls.{GuestSpec, is_good_event, is_good_op, shapes_of, passes}
+use Rattle.law_ends_agree.specs.ScnBase.declared.pes.VcpuName.{VcpuName}
+use Rattle.law_ends_agree.specs.ScnBase.declared.step.Step.TheVariants.{Vcpu, Device, Pe}
+use Rattle.law_ends_agree.specs.ScnBase.Standing.{has_vcpu, is_resident, resident_of, vcpu_name}
+use Rattle.law_one_thread_is_eager.specs.PortSeq.Told.{SeqTold, guest_at}
+use Rattle.law_one_thread_is_eager.specs.LawSerialIsEager.Serial.{WholePart}
+use Rattle.law_one_thread_is_eager.specs.PePlace.Place.{aside, pe}
+use Rattle.law_one_thread_is_eager.specs.SeqGuest.Guest.{spot_at}
 use Rattle.run_seq.specs.declared.machine.Machine.{Machine}
 use Rattle.run_seq.specs.Acts.{CanOperate, CanReceive, HasLoaded, HasVcpu}
 use Rattle.run_seq.specs.Machine.{HasGuest, IsGuestAt, IsMachineAt, IsReady, place_by}

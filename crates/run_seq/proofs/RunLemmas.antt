@@ -8,28 +8,27 @@ use Rattle.std.proofs.lemmas.List.FromFn.{length-range_with_len}
 use Rattle.std.proofs.lemmas.Option.{slice_get-get_or}
 use Rattle.std.specs.List.{range_with_len}
 use Rattle.std.proofs.lemmas.List.Elements.{All-head, All-tail}
-use Rattle.gic_base.specs.declared.operation.PeOp.TheVariants.{Enter, Exit, Lrs}
-use Rattle.gic_base.specs.declared.shape.GuestShape.{GuestShape}
-use Rattle.ideal_guest.specs.declared.guest.IdealGuest.{IdealGuest}
-use Rattle.ideal_guest.specs.Opening.{opening as opening_guest}
-use Rattle.gic_ideal.specs.Eager.{after_step, after_steps, answers_of, eager, step_answer}
-use Rattle.scn_base.specs.declared.guest.GuestSpec.{GuestSpec}
-use Rattle.scn_base.specs.declared.outcome.Answer.{Answer}
-use Rattle.scn_base.specs.declared.pes.VcpuName.{VcpuName}
-use Rattle.scn_base.specs.declared.scenario.Scenario.{Scenario}
-use Rattle.scn_base.specs.declared.standing.Standing.{Standing}
-use Rattle.scn_base.specs.declared.step.Mode.TheVariants.{Schedule}
-use Rattle.scn_base.specs.declared.step.Step.{Step}
-use Rattle.scn_base.specs.declared.step.Step.TheVariants.{Vcpu, Device, Pe}
-use Rattle.scn_base.specs.Good.{IsGood, is_formed, shapes_of, stand_in_turn, stands}
-use Rattle.scn_base.specs.Standing.{opening_standing, pes_after, standing_after}
-use Rattle.port_seq.specs.Told.{SeqTold}
-use Rattle.serial_laws.specs.Serial.{WholePart}
+use Rattle.law_ends_agree.specs.Words.{Enter, Exit, Lrs, GuestShape}
+use Rattle.law_ends_agree.specs.Histories.{IdealGuest}
+use Rattle.law_ends_agree.specs.IdealGuest.Opening.{opening as opening_guest}
+use Rattle.law_ends_agree.specs.GicIdeal.Eager.{after_step, after_steps, answers_of, eager, step_answer}
+use Rattle.law_ends_agree.specs.Calls.{GuestSpec, shapes_of}
+use Rattle.law_ends_agree.specs.GicGuest.declared.outcome.Answer.{Answer}
+use Rattle.law_ends_agree.specs.ScnBase.declared.pes.VcpuName.{VcpuName}
+use Rattle.law_ends_agree.specs.ScnBase.declared.scenario.Scenario.{Scenario}
+use Rattle.law_ends_agree.specs.ScnBase.declared.standing.Standing.{Standing}
+use Rattle.law_ends_agree.specs.ScnBase.declared.step.Mode.TheVariants.{Schedule}
+use Rattle.law_ends_agree.specs.ScnBase.declared.step.Step.{Step}
+use Rattle.law_ends_agree.specs.ScnBase.declared.step.Step.TheVariants.{Vcpu, Device, Pe}
+use Rattle.law_ends_agree.specs.ScnBase.Good.{IsGood, is_formed, stand_in_turn, stands}
+use Rattle.law_ends_agree.specs.ScnBase.Standing.{opening_standing, pes_after, standing_after}
+use Rattle.law_one_thread_is_eager.specs.PortSeq.Told.{SeqTold}
+use Rattle.law_one_thread_is_eager.specs.LawSerialIsEager.Serial.{WholePart}
 use Rattle.run_seq.specs.declared.machine.Machine.{Machine}
 use Rattle.run_seq.specs.Calls.{calls_among, step_call, steps_calls}
 use Rattle.run_seq.specs.Machine.{CanDo, DoesStep, HasDoneStep, IsMachineAt, IsReady, OpensMachine}
 use Rattle.run_seq.proofs.CallLemmas.{calls_append}
-use Rattle.guest_end.proofs.EndsLemmas.{drop_next}
+use Rattle.law_ends_agree.proofs.GuestEnd.EndsLemmas.{drop_next}
 
 -- a step leaves as many PEs
 pub pes_each : (step : Step) (pes : List (Option VcpuName)) → length (pes_after step pes) ≡ length pes

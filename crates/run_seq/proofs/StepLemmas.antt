@@ -4,32 +4,27 @@ use Rattle.std.specs.Prelude.{slice_get}
 use Rattle.std.specs.Option.{option_map_or, option_to_list}
 use Rattle.std.proofs.lemmas.Bool.{cases_eq, eq-eqb, ne_eqb}
 use Rattle.std.proofs.lemmas.Option.{slice_get_cases, slice_get_within}
-use Rattle.gic_base.specs.declared.operation.DeviceOp.{DeviceOp}
-use Rattle.gic_base.specs.declared.operation.GuestOp.{GuestOp}
-use Rattle.gic_base.specs.declared.operation.PeOp.TheVariants.{Lrs}
-use Rattle.gic_call.specs.declared.event.Operation.TheVariants.{Access, Device as DeviceCall}
-use Rattle.ideal_guest.specs.declared.guest.IdealGuest.{IdealGuest}
-use Rattle.ideal_guest.specs.Call.{after_device, after_op, op_answer}
-use Rattle.gic_ideal.specs.Eager.{after_step, shown, step_answer}
-use Rattle.gic_ideal.specs.Shown.{registers_of}
-use Rattle.gic_ideal.proofs.StepLemmas.{op_is_events}
-use Rattle.scn_base.specs.declared.guest.GuestSpec.{GuestSpec}
-use Rattle.scn_base.specs.declared.outcome.Answer.{Answer}
-use Rattle.scn_base.specs.declared.outcome.Answer.TheVariants.{Nothing, Regs}
-use Rattle.scn_base.specs.declared.pes.VcpuName.{VcpuName}
-use Rattle.scn_base.specs.declared.step.Step.{Step}
-use Rattle.scn_base.specs.declared.step.Step.TheVariants.{Vcpu, Device, Pe}
-use Rattle.scn_base.specs.Good.{shapes_of}
-use Rattle.scn_base.specs.Standing.{ResidentsExist, is_resident, pes_after, resident_of}
-use Rattle.port_seq.specs.Told.{GuestTold, SeqTold, guest_at}
-use Rattle.call_laws.specs.Runs.{IsGoodCall}
-use Rattle.serial_laws.specs.Serial.{WholePart}
-use Rattle.seq_guest.specs.declared.vcpus.Vcpus.{Vcpus}
-use Rattle.pe_place.specs.Place.{Spot, entered, left, pe, shelf}
-use Rattle.seq_guest.specs.Guest.{spot_at}
-use Rattle.seq_laws.specs.Done.{home_after}
+use Rattle.law_ends_agree.specs.Words.{DeviceOp, GuestOp, Lrs}
+use Rattle.law_ends_agree.specs.Calls.{Access, Device as DeviceCall, GuestSpec, Regs, shapes_of}
+use Rattle.law_ends_agree.specs.Histories.{IdealGuest, after_device, after_op, op_answer}
+use Rattle.law_ends_agree.specs.GicIdeal.Eager.{after_step, shown, step_answer}
+use Rattle.law_ends_agree.specs.GicIdeal.Shown.{registers_of}
+use Rattle.law_ends_agree.proofs.GicIdeal.StepLemmas.{op_is_events}
+use Rattle.law_ends_agree.specs.GicGuest.declared.outcome.Answer.{Answer}
+use Rattle.law_ends_agree.specs.GicGuest.declared.outcome.Answer.TheVariants.{Nothing}
+use Rattle.law_ends_agree.specs.ScnBase.declared.pes.VcpuName.{VcpuName}
+use Rattle.law_ends_agree.specs.ScnBase.declared.step.Step.{Step}
+use Rattle.law_ends_agree.specs.ScnBase.declared.step.Step.TheVariants.{Vcpu, Device, Pe}
+use Rattle.law_ends_agree.specs.ScnBase.Standing.{ResidentsExist, is_resident, pes_after, resident_of}
+use Rattle.law_one_thread_is_eager.specs.PortSeq.Told.{GuestTold, SeqTold, guest_at}
+use Rattle.law_one_thread_is_eager.specs.LawLoneCallsAreEager.Runs.{IsGoodCall}
+use Rattle.law_one_thread_is_eager.specs.LawSerialIsEager.Serial.{WholePart}
+use Rattle.law_one_thread_is_eager.specs.SeqGuest.declared.vcpus.Vcpus.{Vcpus}
+use Rattle.law_one_thread_is_eager.specs.PePlace.Place.{Spot, entered, left, pe, shelf}
+use Rattle.law_one_thread_is_eager.specs.SeqGuest.Guest.{spot_at}
+use Rattle.law_one_thread_is_eager.specs.Done.{home_after}
 use Rattle.run_seq.specs.declared.machine.Machine.{Machine}
-use Rattle.guest_end.specs.Outcome.{answer_by}
+use Rattle.law_ends_agree.specs.GuestEnd.Outcome.{answer_by}
 use Rattle.run_seq.specs.Acts.{CallsOnce, MovesVcpu, ShowsVcpu}
 use Rattle.run_seq.specs.Calls.{CallMade, calls_among, step_call}
 use Rattle.run_seq.specs.Machine.{GuestActs, HasDoneStep, IsGuestAt, IsMachineAt, StandsOnce, place_by}

@@ -1,24 +1,20 @@
 -- What the actors of one guest do in a step, and what the step answers (own choice).
 use Rattle.std.specs.Prelude.{◌≡◌, ◌≢◌, ℕ, ◌+◌, ◌<◌, true, IsTrue, List, [], replicate, Option, Some, None}
-use Rattle.gic_base.specs.declared.operation.DeviceOp.{DeviceOp}
-use Rattle.gic_base.specs.declared.operation.GuestOp.{GuestOp}
-use Rattle.gic_base.specs.declared.operation.PeOp.TheVariants.{Enter, Exit, Lrs}
-use Rattle.gic_call.specs.declared.event.Operation.{Operation}
-use Rattle.gic_call.specs.declared.event.Operation.TheVariants.{Access, Device as DeviceCall}
-use Rattle.guest_end.specs.Outcome.{answer_by}
-use Rattle.scn_base.specs.declared.outcome.Answer.{Answer}
-use Rattle.scn_base.specs.declared.outcome.Answer.TheVariants.{Nothing, Regs}
-use Rattle.scn_base.specs.declared.pes.VcpuName.{VcpuName}
-use Rattle.scn_base.specs.declared.step.Step.{Step}
-use Rattle.scn_base.specs.declared.step.Step.TheVariants.{Vcpu, Device, Pe}
-use Rattle.scn_base.specs.Good.{is_good_op, is_good_event}
-use Rattle.scn_base.specs.Standing.{resident_of}
-use Rattle.port_seq.specs.Told.{GuestTold, SeqTold, guest_at}
-use Rattle.serial_laws.specs.Serial.{is_icc}
-use Rattle.seq_guest.specs.declared.vcpus.Vcpus.{Vcpus}
-use Rattle.pe_place.specs.Parts.{AreResidences, HaveCall}
-use Rattle.pe_place.specs.Place.{Spot, aside, pe, entered, left}
-use Rattle.seq_guest.specs.Guest.{ChangesSpots, GoesOn, NoneKicked, ShowsList, for_none, for_one, spot_at}
+use Rattle.law_ends_agree.specs.Words.{DeviceOp, GuestOp, Enter, Exit, Lrs}
+use Rattle.law_ends_agree.specs.Calls.{Operation, Access, Device as DeviceCall, Regs, is_good_op, is_good_event}
+use Rattle.law_ends_agree.specs.GuestEnd.Outcome.{answer_by}
+use Rattle.law_ends_agree.specs.GicGuest.declared.outcome.Answer.{Answer}
+use Rattle.law_ends_agree.specs.GicGuest.declared.outcome.Answer.TheVariants.{Nothing}
+use Rattle.law_ends_agree.specs.ScnBase.declared.pes.VcpuName.{VcpuName}
+use Rattle.law_ends_agree.specs.ScnBase.declared.step.Step.{Step}
+use Rattle.law_ends_agree.specs.ScnBase.declared.step.Step.TheVariants.{Vcpu, Device, Pe}
+use Rattle.law_ends_agree.specs.ScnBase.Standing.{resident_of}
+use Rattle.law_one_thread_is_eager.specs.PortSeq.Told.{GuestTold, SeqTold, guest_at}
+use Rattle.law_one_thread_is_eager.specs.LawSerialIsEager.Serial.{is_icc}
+use Rattle.law_one_thread_is_eager.specs.SeqGuest.declared.vcpus.Vcpus.{Vcpus}
+use Rattle.law_one_thread_is_eager.specs.PePlace.Parts.{AreResidences, HaveCall}
+use Rattle.law_one_thread_is_eager.specs.PePlace.Place.{Spot, aside, pe, entered, left}
+use Rattle.law_one_thread_is_eager.specs.SeqGuest.Guest.{ChangesSpots, GoesOn, NoneKicked, ShowsList, for_none, for_one, spot_at}
 use Rattle.run_seq.specs.declared.machine.Machine.{Machine}
 use Rattle.run_seq.specs.Machine.{GuestActs, HasGuest}
 

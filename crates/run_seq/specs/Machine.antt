@@ -1,24 +1,24 @@
 -- The PEs and the vCPUs of a schedule, over the port of its guests (own choice).
 use Rattle.std.specs.Prelude.{◌≡◌, ℕ, ◌<◌, Bool, true, false, IsTrue, List, [], ◌++◌, length, map, All, Option, Some, None, slice_get, slice_set}
-use Rattle.ideal_guest.specs.declared.guest.IdealGuest.{IdealGuest}
-use Rattle.ideal_guest.specs.Opening.{opening as opening_guest}
-use Rattle.gic_ideal.specs.Eager.{after_step, step_answer}
-use Rattle.scn_base.specs.declared.guest.GuestSpec.{GuestSpec}
-use Rattle.scn_base.specs.declared.outcome.Answer.{Answer}
-use Rattle.scn_base.specs.declared.pes.VcpuName.{VcpuName}
-use Rattle.scn_base.specs.declared.scenario.Scenario.{Scenario}
-use Rattle.scn_base.specs.declared.standing.Standing.{Standing}
-use Rattle.scn_base.specs.declared.step.Mode.TheVariants.{Schedule}
-use Rattle.scn_base.specs.declared.step.Step.{Step}
-use Rattle.scn_base.specs.Good.{is_formed, shapes_of, stands}
-use Rattle.scn_base.specs.Standing.{ResidentsExist, is_resident, opening_pes, pes_after}
-use Rattle.port_core.specs.Run.{IsRun, opening}
-use Rattle.port_seq.specs.Told.{GuestTold, SeqTold, guest_at}
-use Rattle.serial_laws.specs.Serial.{WholePart}
-use Rattle.seq_guest.specs.declared.vcpus.Vcpus.{Vcpus}
-use Rattle.pe_place.specs.Place.{Spot, pe, shelf}
-use Rattle.seq_guest.specs.Guest.{AreAt, NoneKicked, spot_at}
-use Rattle.seq_laws.specs.Done.{HasDone, home_after}
+use Rattle.law_ends_agree.specs.Histories.{IdealGuest}
+use Rattle.law_ends_agree.specs.IdealGuest.Opening.{opening as opening_guest}
+use Rattle.law_ends_agree.specs.GicIdeal.Eager.{after_step, step_answer}
+use Rattle.law_ends_agree.specs.Calls.{GuestSpec, shapes_of}
+use Rattle.law_ends_agree.specs.GicGuest.declared.outcome.Answer.{Answer}
+use Rattle.law_ends_agree.specs.ScnBase.declared.pes.VcpuName.{VcpuName}
+use Rattle.law_ends_agree.specs.ScnBase.declared.scenario.Scenario.{Scenario}
+use Rattle.law_ends_agree.specs.ScnBase.declared.standing.Standing.{Standing}
+use Rattle.law_ends_agree.specs.ScnBase.declared.step.Mode.TheVariants.{Schedule}
+use Rattle.law_ends_agree.specs.ScnBase.declared.step.Step.{Step}
+use Rattle.law_ends_agree.specs.ScnBase.Good.{is_formed, stands}
+use Rattle.law_ends_agree.specs.ScnBase.Standing.{ResidentsExist, is_resident, opening_pes, pes_after}
+use Rattle.law_ends_agree.specs.Core.{IsRun, opening}
+use Rattle.law_one_thread_is_eager.specs.PortSeq.Told.{GuestTold, SeqTold, guest_at}
+use Rattle.law_one_thread_is_eager.specs.LawSerialIsEager.Serial.{WholePart}
+use Rattle.law_one_thread_is_eager.specs.SeqGuest.declared.vcpus.Vcpus.{Vcpus}
+use Rattle.law_one_thread_is_eager.specs.PePlace.Place.{Spot, pe, shelf}
+use Rattle.law_one_thread_is_eager.specs.SeqGuest.Guest.{AreAt, NoneKicked, spot_at}
+use Rattle.law_one_thread_is_eager.specs.Done.{HasDone, home_after}
 use Rattle.run_seq.specs.declared.machine.Machine.{Machine}
 use Rattle.run_seq.specs.Calls.{calls_among, step_call}
 use Rattle.std.specs.Option.{option_to_list}

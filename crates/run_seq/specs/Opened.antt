@@ -1,10 +1,10 @@
 -- The vCPUs of guests that just opened (own choice).
 use Rattle.std.specs.Prelude.{◌≡◌, ℕ, List, length, Some, slice_get}
-use Rattle.scn_base.specs.declared.guest.GuestSpec.{GuestSpec}
-use Rattle.port_seq.specs.Told.{GuestTold, SeqTold, guest_at, opening_told}
-use Rattle.seq_guest.specs.declared.vcpus.Vcpus.{Vcpus}
-use Rattle.pe_place.specs.Place.{shelf}
-use Rattle.seq_guest.specs.Guest.{AreAt, spot_at}
+use Rattle.law_ends_agree.specs.Calls.{GuestSpec}
+use Rattle.law_one_thread_is_eager.specs.PortSeq.Told.{GuestTold, SeqTold, guest_at, opening_told}
+use Rattle.law_one_thread_is_eager.specs.SeqGuest.declared.vcpus.Vcpus.{Vcpus}
+use Rattle.law_one_thread_is_eager.specs.PePlace.Place.{shelf}
+use Rattle.law_one_thread_is_eager.specs.SeqGuest.Guest.{AreAt, spot_at}
 
 -- a guest of a port as it opened, whichever of its actors is told
 pub record JustOpened (guest : GuestSpec) (number : ℕ) (told : GuestTold) : Type 0 where

@@ -1,21 +1,20 @@
 -- The run of a schedule over its port (own choice).
 use Rattle.std.specs.Prelude.{◌≡◌, ℕ, ◌<◌, IsTrue, List, [], length, map, Some, slice_get}
 use Rattle.std.specs.List.{flat_map}
-use Rattle.ideal_guest.specs.declared.guest.IdealGuest.{IdealGuest}
-use Rattle.ideal_guest.specs.Opening.{opening as opening_guest}
-use Rattle.gic_ideal.specs.Eager.{after_steps, eager}
-use Rattle.scn_base.specs.declared.guest.GuestSpec.{GuestSpec}
-use Rattle.scn_base.specs.declared.outcome.Answer.{Answer}
-use Rattle.scn_base.specs.declared.scenario.Scenario.{Scenario}
-use Rattle.scn_base.specs.declared.step.Step.{Step}
-use Rattle.port_core.specs.Actor.{actor_count}
-use Rattle.core_proper.specs.Proper.{is_settled}
-use Rattle.port_seq.specs.Told.{GuestTold, SeqTold, guest_at}
-use Rattle.serial_laws.specs.Serial.{WholePart}
-use Rattle.pe_place.specs.Parts.{entries_in}
-use Rattle.seq_guest.specs.Guest.{cpus_of, seen_by}
-use Rattle.seq_laws.specs.Done.{AreSerial, home_after}
-use Rattle.guest_end.specs.declared.outcome.Done.{Done}
+use Rattle.law_ends_agree.specs.Histories.{IdealGuest}
+use Rattle.law_ends_agree.specs.IdealGuest.Opening.{opening as opening_guest}
+use Rattle.law_ends_agree.specs.GicIdeal.Eager.{after_steps, eager}
+use Rattle.law_ends_agree.specs.Calls.{GuestSpec}
+use Rattle.law_ends_agree.specs.GicGuest.declared.outcome.Answer.{Answer}
+use Rattle.law_ends_agree.specs.ScnBase.declared.scenario.Scenario.{Scenario}
+use Rattle.law_ends_agree.specs.ScnBase.declared.step.Step.{Step}
+use Rattle.law_ends_agree.specs.Core.{actor_count, is_settled}
+use Rattle.law_one_thread_is_eager.specs.PortSeq.Told.{GuestTold, SeqTold, guest_at}
+use Rattle.law_one_thread_is_eager.specs.LawSerialIsEager.Serial.{WholePart}
+use Rattle.law_one_thread_is_eager.specs.PePlace.Parts.{entries_in}
+use Rattle.law_one_thread_is_eager.specs.SeqGuest.Guest.{cpus_of, seen_by}
+use Rattle.law_one_thread_is_eager.specs.Done.{AreSerial, home_after}
+use Rattle.law_ends_agree.specs.GuestEnd.declared.outcome.Done.{Done}
 use Rattle.run_seq.specs.Calls.{calls_among, steps_calls}
 
 -- a guest whose vCPUs all left: nothing is at their interfaces, and no actor owes anything or has the ITS or the mark of GICD_CTLR

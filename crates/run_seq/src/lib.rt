@@ -6,6 +6,8 @@ mod machine;
 mod scheduled;
 mod watch;
 
-pub use guest_end::Done;
+pub use law_ends_agree::guest_end::Done;
+pub use law_ends_agree::{gic_ideal, its_cmd};
+pub use law_one_thread_is_eager::port_seq;
 pub use scheduled::{run, run_on};
 pub use watch::SeqWatch;

@@ -1,17 +1,17 @@
 //! All PEs and vCPUs of a scenario, over its port.
 ghost use Rattle.std.specs.Prelude.{◌≡◌, ◌+◌, ◌≤◌, ◌∷◌, [], All, IfOk, IsTrue, None, length, replicate};
-ghost use Rattle.gic_base.specs.declared.held.TheConstants.{MAX_LIST_REGISTERS};
-ghost use Rattle.gic_base.specs.declared.operation.Actor.TheVariants.{Vcpu as VcpuActor};
-ghost use Rattle.scn_base.specs.Good.{IsGoodGuest};
-ghost use Rattle.port_seq.specs.Ports.{told_all};
-ghost use Rattle.port_seq.specs.Told.{IsOpening};
+ghost use Rattle.law_ends_agree.specs.Words.{MAX_LIST_REGISTERS, Vcpu as VcpuActor};
+ghost use Rattle.law_ends_agree.specs.Calls.{IsGoodGuest};
+ghost use Rattle.law_one_thread_is_eager.specs.PortSeq.Ports.{told_all};
+ghost use Rattle.law_one_thread_is_eager.specs.PortSeq.Told.{IsOpening};
 ghost use Rattle.run_seq.specs.Opened.{AreOpened};
 
-use gic_base::{Actor, DeviceOp, GuestOp, NoMemory, PeOp};
-use guest_end::answer_of;
-use port_seq::SeqPort;
-use scn_base::{Answer, LrList, Pes, Scenario, Step, VcpuName, move_pes, opening_pes};
-use seq_guest::Vcpus;
+use law_ends_agree::gic_base::{Actor, DeviceOp, GuestOp, NoMemory, PeOp};
+use law_ends_agree::gic_guest::{Answer, LrList};
+use law_ends_agree::guest_end::answer_of;
+use law_ends_agree::scn_base::{Pes, Scenario, Step, VcpuName, move_pes, opening_pes};
+use law_one_thread_is_eager::port_seq::SeqPort;
+use law_one_thread_is_eager::seq_guest::Vcpus;
 use std::alloc::{AllocError, Global};
 use std::sync::Wait;
 
@@ -62,13 +62,13 @@ fn zeros(alloc: Global, lrs: u32) -> Result<LrList, AllocError>
 
 impl Machine {
     ghost use Rattle.std.specs.Prelude.{OnOk};
-    ghost use Rattle.gic_call.specs.declared.event.Operation.TheVariants.{Access, Device as DeviceCall};
-    ghost use Rattle.scn_base.specs.declared.step.Step.TheVariants.{Pe as PeStep};
-    ghost use Rattle.port_seq.specs.Told.{guest_at};
-    ghost use Rattle.pe_place.specs.Place.{entered, left};
+    ghost use Rattle.law_ends_agree.specs.Calls.{Access, Device as DeviceCall};
+    ghost use Rattle.law_ends_agree.specs.ScnBase.declared.step.Step.TheVariants.{Pe as PeStep};
+    ghost use Rattle.law_one_thread_is_eager.specs.PortSeq.Told.{guest_at};
+    ghost use Rattle.law_one_thread_is_eager.specs.PePlace.Place.{entered, left};
     ghost use Rattle.run_seq.specs.Machine.{HasGuest, GuestActs, IsMachine, IsReady, DoesStep, OpensMachine, Closes};
-    ghost use Rattle.scn_base.specs.declared.step.Mode.TheVariants.{Schedule};
-    ghost use Rattle.scn_base.specs.Good.{IsGood};
+    ghost use Rattle.law_ends_agree.specs.ScnBase.declared.step.Mode.TheVariants.{Schedule};
+    ghost use Rattle.law_ends_agree.specs.ScnBase.Good.{IsGood};
     ghost use Rattle.run_seq.specs.Acts.{HasVcpu, HasLoaded, CanOperate, CanReceive, MovesVcpu, ShowsVcpu, CallsOnce, ActsAs};
 
     /// The PEs and the vCPUs as a scenario opens: on PE 0, 1, .. the vCPUs in order of guest and number, as far as both last.

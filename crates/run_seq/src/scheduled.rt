@@ -1,21 +1,22 @@
 //! The scheduled run of a scenario.
 ghost use Rattle.std.specs.Prelude.{◌≡◌, ◌+◌, ◌<◌, ◌≤◌, IfOk, IfSome, OnOk, length};
 ghost use Rattle.std.specs.List.{flat_map};
-ghost use Rattle.scn_base.specs.declared.step.Mode.TheVariants.{Schedule};
-ghost use Rattle.scn_base.specs.Good.{IsGood};
-ghost use Rattle.gic_ideal.specs.Eager.{eager};
-ghost use Rattle.port_seq.specs.Ports.{told_all};
-ghost use Rattle.port_seq.specs.Told.{IsOpening, words_of_end};
-ghost use Rattle.seq_guest.specs.Guest.{cpus_of};
+ghost use Rattle.law_ends_agree.specs.ScnBase.declared.step.Mode.TheVariants.{Schedule};
+ghost use Rattle.law_ends_agree.specs.ScnBase.Good.{IsGood};
+ghost use Rattle.law_ends_agree.specs.GicIdeal.Eager.{eager};
+ghost use Rattle.law_one_thread_is_eager.specs.PortSeq.Ports.{told_all};
+ghost use Rattle.law_one_thread_is_eager.specs.PortSeq.Told.{IsOpening, words_of_end};
+ghost use Rattle.law_one_thread_is_eager.specs.SeqGuest.Guest.{cpus_of};
 ghost use Rattle.run_seq.specs.Run.{HasRun, SamePorts};
 
 use crate::machine::{Machine, first_of};
 use crate::watch::SeqWatch;
-use gic_base::NoMemory;
-use guest_end::{CpuRecs, Done, ends_of};
-use port_seq::SeqPort;
-use scn_base::{Answers, Guests, RunOut, Scenario};
-use seq_guest::add_cpus;
+use law_ends_agree::gic_base::NoMemory;
+use law_ends_agree::gic_guest::{Answers, Guests, RunOut};
+use law_ends_agree::guest_end::{CpuRecs, Done, ends_of};
+use law_ends_agree::scn_base::Scenario;
+use law_one_thread_is_eager::port_seq::SeqPort;
+use law_one_thread_is_eager::seq_guest::add_cpus;
 use std::alloc::{AllocError, Global};
 use std::sync::Wait;
 

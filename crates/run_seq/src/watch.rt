@@ -1,12 +1,12 @@
 //! Who watches runs.
 ghost use Rattle.std.specs.Prelude.{◌≡◌, ℕ, ◌+◌, ◌<◌, Option, IfSome};
-ghost use Rattle.scn_base.specs.declared.scenario.Scenario.{Scenario as ScenarioOf};
-ghost use Rattle.port_seq.specs.Ports.{told_all};
+ghost use Rattle.law_ends_agree.specs.ScnBase.declared.scenario.Scenario.{Scenario as ScenarioOf};
+ghost use Rattle.law_one_thread_is_eager.specs.PortSeq.Ports.{told_all};
 ghost use Rattle.run_seq.specs.Run.{HasRun};
 
-use guest_end::Done;
-use port_seq::SeqPort;
-use scn_base::Scenario;
+use law_ends_agree::guest_end::Done;
+use law_ends_agree::scn_base::Scenario;
+use law_one_thread_is_eager::port_seq::SeqPort;
 
 /// Who is shown each scheduled run, before its words are closed.
 pub trait SeqWatch {

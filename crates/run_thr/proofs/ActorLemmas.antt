@@ -2,13 +2,11 @@
 use Rattle.std.proofs.Common.{◌≡◌, ℕ, ◌<◌, ◌==◌, zero, suc, Bool, true, false, if◌then◌else◌, List, refl, sym, ap, subst, ◌∙◌, arith}
 use Rattle.std.proofs.Math.Logic.{∥∥₁_elim, ∥∥₁_map, ∥∥₁_prop}
 use Rattle.std.proofs.lemmas.Bool.{eqb-true, eqb-false}
-use Rattle.eager_laws.specs.Calls.{Made as MadeCall}
-use Rattle.pe_place.specs.Parts.{steps_in}
-use Rattle.port_core.specs.declared.run.Made.{Made}
-use Rattle.port_core.specs.Port.{Seen, local_by}
-use Rattle.port_core.specs.Run.{opening_local_of}
-use Rattle.port_table.specs.Told.{WordsTold, opening_seen}
-use Rattle.thread_laws.specs.Woven.{ActorHasDone}
+use Rattle.law_threads_are_history.specs.LawEagerIsHistory.Calls.{Made as MadeCall}
+use Rattle.law_threads_are_history.specs.PePlace.Parts.{steps_in}
+use Rattle.law_threads_are_history.specs.Core.{Made, Seen, local_by, opening_local_of}
+use Rattle.thr_cast.specs.PortTable.Told.{WordsTold, opening_seen}
+use Rattle.law_threads_are_history.specs.Woven.{ActorHasDone}
 use Rattle.run_thr.specs.Run.{ActorHasRun}
 
 -- One actor.

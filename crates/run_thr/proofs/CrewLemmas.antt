@@ -2,18 +2,18 @@
 use Rattle.std.proofs.Common.{◌≡◌, ◌+◌, ◌<◌, ℕ, zero, suc, true, IsTrue, All, List, [], ◌∷◌, length, map, get_or, Option, Some, None, is_some, refl, sym, ap, subst, ◌∙◌, arith}
 use Rattle.std.specs.Prelude.{slice_get}
 use Rattle.std.proofs.lemmas.List.Elements.{All-nil, All-cons}
-use Rattle.thr_trip.specs.declared.device.DeviceRun.{DeviceRun}
-use Rattle.thr_trip.specs.declared.naming.Naming.{Ghosts}
-use Rattle.thr_trip.specs.declared.trip.Trip.{Trip}
-use Rattle.thr_trip.specs.declared.worker.Worker.{Worker}
-use Rattle.thr_trip.specs.declared.worker.Worker.TheVariants.{Pe, Device}
-use Rattle.thr_trip.specs.Device.{DeviceTold}
-use Rattle.thr_trip.specs.Finish.{HasFinished}
-use Rattle.thr_trip.specs.Told.{device_told, trip_told}
-use Rattle.thr_trip.specs.Trip.{TripTold, is_done}
-use Rattle.thr_trip.specs.Worker.{HasWorked}
-use Rattle.vcpu_shelf.specs.Answer.{AreBack}
-use Rattle.vcpu_shelf.specs.Told.{ShelfTold}
+use Rattle.thr_cast.specs.ThrTrip.declared.device.DeviceRun.{DeviceRun}
+use Rattle.thr_cast.specs.ThrTrip.declared.naming.Naming.{Ghosts}
+use Rattle.thr_cast.specs.ThrTrip.declared.trip.Trip.{Trip}
+use Rattle.thr_cast.specs.ThrTrip.declared.worker.Worker.{Worker}
+use Rattle.thr_cast.specs.ThrTrip.declared.worker.Worker.TheVariants.{Pe, Device}
+use Rattle.thr_cast.specs.ThrTrip.Device.{DeviceTold}
+use Rattle.thr_cast.specs.ThrTrip.Finish.{HasFinished}
+use Rattle.thr_cast.specs.ThrTrip.Told.{device_told, trip_told}
+use Rattle.thr_cast.specs.ThrTrip.Trip.{TripTold, is_done}
+use Rattle.thr_cast.specs.ThrTrip.Worker.{HasWorked}
+use Rattle.thr_cast.specs.VcpuShelf.Answer.{AreBack}
+use Rattle.thr_cast.specs.VcpuShelf.Told.{ShelfTold}
 use Rattle.thr_cast.specs.Back.{trips_in}
 use Rattle.thr_cast.specs.Cast.{name_of}
 use Rattle.thr_cast.specs.Crew.{IsOver, devices_in, has_pe}

@@ -6,28 +6,21 @@ use Rattle.std.proofs.Props.{props}
 use Rattle.std.proofs.lemmas.Bool.{cases_lt, eqb-true, le-ltb}
 use Rattle.std.proofs.lemmas.List.{length-map}
 use Rattle.std.proofs.lemmas.Option.{get_or_from_slice_get, slice_get_within}
-use Rattle.core_proper.specs.Proper.{is_settled}
-use Rattle.eager_laws.specs.Calls.{Made as MadeCall, own_steps}
-use Rattle.gic_prio.specs.declared.cpu.CpuRec.{CpuRec}
-use Rattle.port_core.specs.declared.local.Local.{Local}
-use Rattle.port_core.specs.declared.run.Made.{Made}
-use Rattle.port_core.specs.Actor.{actor_count}
-use Rattle.port_core.specs.Local.{owes_nothing, is_vcpu}
-use Rattle.port_core.specs.Port.{Seen, local_by}
-use Rattle.port_core.specs.Run.{opening_local_of}
-use Rattle.port_ops.specs.Opened.{no_guest}
-use Rattle.port_table.specs.declared.view.Account.{Account}
-use Rattle.port_table.specs.Told.{WordsTold, RootTold, HasNoTurn, IsDone, root_at, words_at}
-use Rattle.port_table.specs.View.{is_among, is_back, steps_of}
-use Rattle.scn_base.specs.declared.guest.GuestSpec.{GuestSpec}
-use Rattle.scn_base.specs.declared.outcome.Answer.{Answer}
-use Rattle.scn_base.specs.declared.pes.VcpuName.{VcpuName}
-use Rattle.scn_base.specs.declared.scenario.Scenario.{Scenario}
-use Rattle.scn_base.specs.declared.step.Mode.TheVariants.{Threads}
-use Rattle.scn_base.specs.Good.{shapes_of}
-use Rattle.thr_trip.specs.Device.{DeviceTold, IsDevice, calls_done}
-use Rattle.thr_trip.specs.Script.{all_vcpus, calls_answered, calls_received, vcpu_ops}
-use Rattle.thr_trip.specs.Trip.{IsTrip, TripTold, is_done}
+use Rattle.law_threads_are_history.specs.Core.{is_settled, Local, Made, actor_count, owes_nothing, is_vcpu, Seen, local_by, opening_local_of}
+use Rattle.law_threads_are_history.specs.LawEagerIsHistory.Calls.{Made as MadeCall, own_steps}
+use Rattle.law_threads_are_history.specs.Registers.{CpuRec}
+use Rattle.law_threads_are_history.specs.PortOps.Opened.{no_guest}
+use Rattle.thr_cast.specs.PortTable.declared.view.Account.{Account}
+use Rattle.thr_cast.specs.PortTable.Told.{WordsTold, RootTold, HasNoTurn, IsDone, root_at, words_at}
+use Rattle.thr_cast.specs.PortTable.View.{is_among, is_back, steps_of}
+use Rattle.law_threads_are_history.specs.Calls.{GuestSpec, shapes_of}
+use Rattle.law_threads_are_history.specs.GicGuest.declared.outcome.Answer.{Answer}
+use Rattle.law_threads_are_history.specs.ScnBase.declared.pes.VcpuName.{VcpuName}
+use Rattle.law_threads_are_history.specs.ScnBase.declared.scenario.Scenario.{Scenario}
+use Rattle.law_threads_are_history.specs.ScnBase.declared.step.Mode.TheVariants.{Threads}
+use Rattle.thr_cast.specs.ThrTrip.Device.{DeviceTold, IsDevice, calls_done}
+use Rattle.thr_cast.specs.ThrTrip.Script.{all_vcpus, calls_answered, calls_received, vcpu_ops}
+use Rattle.thr_cast.specs.ThrTrip.Trip.{IsTrip, TripTold, is_done}
 use Rattle.thr_cast.specs.declared.answers.Heard.{Heard}
 use Rattle.thr_cast.specs.Answers.{AllHeard, AnswersAre}
 use Rattle.thr_cast.specs.Back.{heard_of}

@@ -7,42 +7,32 @@ use Rattle.std.proofs.Props.{props}
 use Rattle.std.proofs.lemmas.Bool.{cases_lt}
 use Rattle.std.proofs.lemmas.List.{length-map}
 use Rattle.std.proofs.lemmas.List.FromFn.{length-range_with_len}
-use Rattle.core_proper.specs.Ideal.{ideal_of}
-use Rattle.eager_laws.specs.Calls.{Made as MadeCall, calls_of, own_steps as steps_for}
-use Rattle.end_laws.specs.End.{AreEmpty, cpus_in, told_in, words_in}
-use Rattle.gic_base.specs.declared.shape.GuestShape.{GuestShape}
-use Rattle.gic_call.specs.declared.event.Moment.{Moment}
-use Rattle.gic_frame.proofs.TestLemmas.{is_under}
-use Rattle.gic_history.specs.Fresh.{IsFresh}
-use Rattle.gic_history.specs.History.{IsHistory, IsWhole, last_of}
-use Rattle.gic_history.specs.Moves.{home}
-use Rattle.gic_ideal.specs.Ends.{end_of as end_between}
-use Rattle.gic_prio.specs.declared.cpu.CpuRec.{CpuRec}
-use Rattle.guest_end.specs.Ends.{EndsAt}
-use Rattle.guest_end.specs.Home.{IsAtEnd, guest_of}
-use Rattle.guest_end.proofs.PropLemmas.{end_prop}
-use Rattle.ideal_guest.specs.declared.guest.IdealGuest.{IdealGuest}
-use Rattle.ideal_guest.specs.Opening.{opening as opening_guest}
-use Rattle.pe_place.specs.Calls.{calls_in}
-use Rattle.pe_place.specs.Parts.{Part}
-use Rattle.port_core.specs.declared.end.GuestWords.{GuestWords}
-use Rattle.port_core.specs.declared.local.Local.{Local}
-use Rattle.port_core.specs.declared.run.Made.{Made}
-use Rattle.port_core.specs.Actor.{actor_count}
-use Rattle.port_core.specs.Port.{local_by}
-use Rattle.port_core.specs.Run.{CoreState, Seat, end_of, opening, opening_local_of, own_steps, seat_at}
-use Rattle.port_core.proofs.OpeningLemmas.{seat_opens}
-use Rattle.port_core.proofs.RunLemmas.{local_of_run}
-use Rattle.port_ops.proofs.WorldLemmas.{each_seat}
-use Rattle.port_table.specs.Told.{EndsRun, RootTold, WordsTold}
-use Rattle.scn_base.specs.declared.guest.GuestSpec.{GuestSpec}
-use Rattle.scn_base.specs.declared.outcome.Answer.{Answer}
-use Rattle.scn_base.specs.declared.step.Mode.TheVariants.{Threads}
-use Rattle.scn_base.specs.declared.step.Step.{Step}
-use Rattle.scn_base.specs.Good.{IsGoodGuest, is_formed}
-use Rattle.thread_laws.specs.History.{HasHistory}
-use Rattle.thread_laws.specs.Woven.{ActorHasDone}
-use Rattle.thread_laws.proofs.HistoryRuns.{threads_are_a_history}
+use Rattle.law_threads_are_history.specs.Core.{ideal_of, GuestWords, Local, Made, actor_count, local_by, CoreState, Seat, end_of, opening, opening_local_of, own_steps, seat_at}
+use Rattle.law_threads_are_history.specs.LawEagerIsHistory.Calls.{Made as MadeCall, calls_of, own_steps as steps_for}
+use Rattle.law_threads_are_history.specs.LawEndsAgree.End.{AreEmpty, cpus_in, told_in, words_in}
+use Rattle.law_threads_are_history.specs.Words.{GuestShape}
+use Rattle.law_threads_are_history.specs.Calls.{Moment, GuestSpec, IsGoodGuest}
+use Rattle.law_threads_are_history.proofs.GicFrame.TestLemmas.{is_under}
+use Rattle.law_threads_are_history.specs.Histories.{IsFresh, IsHistory, IsWhole, last_of, home, IdealGuest}
+use Rattle.law_threads_are_history.specs.GicIdeal.Ends.{end_of as end_between}
+use Rattle.law_threads_are_history.specs.Registers.{CpuRec}
+use Rattle.law_threads_are_history.specs.GuestEnd.Ends.{EndsAt}
+use Rattle.law_threads_are_history.specs.GuestEnd.Home.{IsAtEnd, guest_of}
+use Rattle.law_threads_are_history.proofs.GuestEnd.PropLemmas.{end_prop}
+use Rattle.law_threads_are_history.specs.IdealGuest.Opening.{opening as opening_guest}
+use Rattle.law_threads_are_history.specs.PePlace.Calls.{calls_in}
+use Rattle.law_threads_are_history.specs.PePlace.Parts.{Part}
+use Rattle.law_threads_are_history.proofs.PortCore.OpeningLemmas.{seat_opens}
+use Rattle.law_threads_are_history.proofs.PortCore.RunLemmas.{local_of_run}
+use Rattle.law_threads_are_history.proofs.PortOps.WorldLemmas.{each_seat}
+use Rattle.thr_cast.specs.PortTable.Told.{EndsRun, RootTold, WordsTold}
+use Rattle.law_threads_are_history.specs.GicGuest.declared.outcome.Answer.{Answer}
+use Rattle.law_threads_are_history.specs.ScnBase.declared.step.Mode.TheVariants.{Threads}
+use Rattle.law_threads_are_history.specs.ScnBase.declared.step.Step.{Step}
+use Rattle.law_threads_are_history.specs.ScnBase.Good.{is_formed}
+use Rattle.law_threads_are_history.specs.History.{HasHistory}
+use Rattle.law_threads_are_history.specs.Woven.{ActorHasDone}
+use Rattle.law_threads_are_history.proofs.HistoryRuns.{threads_are_a_history}
 use Rattle.run_thr.specs.Run.{ActorHasRun, GuestHasRun, local_of}
 use Rattle.run_thr.proofs.ActorLemmas.{Chosen, One, actor_done, actor_local, choose}
 use Rattle.run_thr.proofs.StrangerLemmas.{no_steps}

@@ -6,25 +6,25 @@ use Rattle.std.proofs.Math.Logic.{∥∥₁_map}
 use Rattle.std.proofs.lemmas.List.{length-map, map-append}
 use Rattle.std.proofs.lemmas.List.Elements.{All-get_or}
 use Rattle.std.proofs.lemmas.Option.{get_or_from_slice_get, slice_get-get_or, slice_get_cases, slice_get_within}
-use Rattle.eager_laws.specs.Possible.{IsPossible}
-use Rattle.gic_ideal.specs.Ends.{end_of, ends_of}
-use Rattle.gic_prio.specs.declared.cpu.CpuRec.{CpuRec}
-use Rattle.guest_end.specs.declared.outcome.Done.{Done}
-use Rattle.guest_end.specs.Ends.{AllEndAt, EndsAt, HaveEnded}
-use Rattle.guest_end.specs.Home.{guest_of}
-use Rattle.guest_end.proofs.EndsLemmas.{all_end}
-use Rattle.ideal_guest.specs.declared.guest.IdealGuest.{IdealGuest}
-use Rattle.ideal_guest.specs.Opening.{opening}
-use Rattle.port_core.specs.declared.end.GuestWords.{GuestWords}
-use Rattle.port_ops.specs.Opened.{no_guest}
-use Rattle.port_ops.proofs.WorldLemmas.{map_twice}
-use Rattle.port_table.specs.Told.{AllDone, EndsRun, EndsRuns, RootTold, WordsTold, no_words, root_at, words_at}
-use Rattle.scn_base.specs.declared.guest.GuestSpec.{GuestSpec}
-use Rattle.scn_base.specs.declared.outcome.End.{End}
-use Rattle.scn_base.specs.declared.scenario.Scenario.{Scenario}
-use Rattle.scn_base.specs.declared.step.Mode.TheVariants.{Threads}
-use Rattle.scn_base.specs.Good.{IsGood, IsGoodGuest, shapes_of}
-use Rattle.thr_trip.specs.Script.{vcpus_of}
+use Rattle.law_threads_are_history.specs.LawEagerIsHistory.Possible.{IsPossible}
+use Rattle.law_threads_are_history.specs.GicIdeal.Ends.{end_of, ends_of}
+use Rattle.law_threads_are_history.specs.Registers.{CpuRec}
+use Rattle.law_threads_are_history.specs.GuestEnd.declared.outcome.Done.{Done}
+use Rattle.law_threads_are_history.specs.GuestEnd.Ends.{AllEndAt, EndsAt, HaveEnded}
+use Rattle.law_threads_are_history.specs.GuestEnd.Home.{guest_of}
+use Rattle.law_threads_are_history.proofs.GuestEnd.EndsLemmas.{all_end}
+use Rattle.law_threads_are_history.specs.Histories.{IdealGuest}
+use Rattle.law_threads_are_history.specs.IdealGuest.Opening.{opening}
+use Rattle.law_threads_are_history.specs.Core.{GuestWords}
+use Rattle.law_threads_are_history.specs.PortOps.Opened.{no_guest}
+use Rattle.law_threads_are_history.proofs.PortOps.WorldLemmas.{map_twice}
+use Rattle.thr_cast.specs.PortTable.Told.{AllDone, EndsRun, EndsRuns, RootTold, WordsTold, no_words, root_at, words_at}
+use Rattle.law_threads_are_history.specs.Calls.{GuestSpec, IsGoodGuest, shapes_of}
+use Rattle.law_threads_are_history.specs.GicGuest.declared.outcome.End.{End}
+use Rattle.law_threads_are_history.specs.ScnBase.declared.scenario.Scenario.{Scenario}
+use Rattle.law_threads_are_history.specs.ScnBase.declared.step.Mode.TheVariants.{Threads}
+use Rattle.law_threads_are_history.specs.ScnBase.Good.{IsGood}
+use Rattle.thr_cast.specs.ThrTrip.Script.{vcpus_of}
 use Rattle.run_thr.specs.Run.{GuestHasRun, HasRun, cpu_of, local_of}
 use Rattle.run_thr.proofs.GuestLemmas.{HasHistoryOf, TellsHistory, cpus_by, guest_tells}
 

@@ -4,10 +4,10 @@ use Rattle.std.specs.Prelude.{if◌then◌else◌, Some, slice_get}
 use Rattle.std.proofs.lemmas.Bool.{cases_eq, eq-eqb, ne_eqb}
 use Rattle.std.proofs.lemmas.List.{append_assoc, get_or-set_same, get_or-set_other, length-set}
 use Rattle.std.proofs.lemmas.List.Elements.{All-nil, All-cons}
-use Rattle.port_core.specs.Port.{Seen}
-use Rattle.port_table.specs.declared.view.Account.{Account}
-use Rattle.port_table.specs.Told.{RootTold, joining_in, no_words, opening_root, root_at, with_joined}
-use Rattle.port_table.specs.View.{is_back, steps_of}
+use Rattle.law_threads_are_history.specs.Core.{Seen}
+use Rattle.thr_cast.specs.PortTable.declared.view.Account.{Account}
+use Rattle.thr_cast.specs.PortTable.Told.{RootTold, joining_in, no_words, opening_root, root_at, with_joined}
+use Rattle.thr_cast.specs.PortTable.View.{is_back, steps_of}
 use Rattle.thr_cast.specs.Crew.{joined_all}
 
 -- what the root of a guest keeps of a port, and of some ports

@@ -2,13 +2,13 @@
 use Rattle.std.proofs.Common.{◌≡◌, ℕ, ◌+◌, ◌<◌, inl, inr, zero, suc, true, false, IsTrue, All, List, [], ◌∷◌, ◌++◌, length, map, Some, refl, sym, ap, subst, ◌∙◌, arith}
 use Rattle.std.specs.Prelude.{slice_get}
 use Rattle.std.proofs.lemmas.Option.{get_or_from_slice_get, slice_get_within}
-use Rattle.port_core.specs.Port.{Seen}
-use Rattle.port_table.specs.Told.{WordsTold, RootTold, AreRoots, words_at}
-use Rattle.scn_base.specs.declared.pes.VcpuName.{VcpuName}
-use Rattle.scn_base.specs.declared.scenario.Scenario.{Scenario}
-use Rattle.thr_trip.specs.Device.{DeviceTold, IsDevice}
-use Rattle.thr_trip.specs.Script.{all_vcpus}
-use Rattle.thr_trip.specs.Trip.{IsTrip, TripTold, is_done}
+use Rattle.law_threads_are_history.specs.Core.{Seen}
+use Rattle.thr_cast.specs.PortTable.Told.{WordsTold, RootTold, AreRoots, words_at}
+use Rattle.law_threads_are_history.specs.ScnBase.declared.pes.VcpuName.{VcpuName}
+use Rattle.law_threads_are_history.specs.ScnBase.declared.scenario.Scenario.{Scenario}
+use Rattle.thr_cast.specs.ThrTrip.Device.{DeviceTold, IsDevice}
+use Rattle.thr_cast.specs.ThrTrip.Script.{all_vcpus}
+use Rattle.thr_cast.specs.ThrTrip.Trip.{IsTrip, TripTold, is_done}
 use Rattle.thr_cast.specs.Cast.{name_of}
 use Rattle.thr_cast.specs.Names.{DeviceName, all_devices}
 use Rattle.thr_cast.specs.Set.{IsSet}

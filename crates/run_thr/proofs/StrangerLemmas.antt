@@ -3,17 +3,16 @@ use Rattle.std.proofs.Common.{◌≡◌, ℕ, ◌+◌, ◌<◌, ◌≤◌, ◌==
 use Rattle.std.specs.Prelude.{slice_get}
 use Rattle.std.proofs.lemmas.Bool.{eqb-true, ne_eqb}
 use Rattle.std.proofs.lemmas.List.Elements.{All-head, All-tail}
-use Rattle.eager_laws.specs.Calls.{Made, own_steps}
-use Rattle.gic_base.specs.declared.operation.DeviceOp.{DeviceOp}
-use Rattle.gic_base.specs.declared.operation.GuestOp.{GuestOp}
-use Rattle.gic_base.specs.declared.shape.GuestShape.{GuestShape}
-use Rattle.gic_frame.proofs.TestLemmas.{left, under}
-use Rattle.port_core.specs.Actor.{actor_count}
-use Rattle.scn_base.specs.declared.outcome.Answer.{Answer}
-use Rattle.scn_base.specs.declared.step.Mode.{Mode}
-use Rattle.scn_base.specs.declared.step.Step.{Step}
-use Rattle.scn_base.specs.declared.step.Step.TheVariants.{Vcpu, Device, Pe}
-use Rattle.scn_base.specs.Good.{is_formed, is_good_event, is_good_op, passes}
+use Rattle.law_threads_are_history.specs.LawEagerIsHistory.Calls.{Made, own_steps}
+use Rattle.law_threads_are_history.specs.Words.{DeviceOp, GuestOp, GuestShape}
+use Rattle.law_threads_are_history.proofs.GicFrame.TestLemmas.{left, under}
+use Rattle.law_threads_are_history.specs.Core.{actor_count}
+use Rattle.law_threads_are_history.specs.GicGuest.declared.outcome.Answer.{Answer}
+use Rattle.law_threads_are_history.specs.ScnBase.declared.step.Mode.{Mode}
+use Rattle.law_threads_are_history.specs.ScnBase.declared.step.Step.{Step}
+use Rattle.law_threads_are_history.specs.ScnBase.declared.step.Step.TheVariants.{Vcpu, Device, Pe}
+use Rattle.law_threads_are_history.specs.ScnBase.Good.{is_formed}
+use Rattle.law_threads_are_history.specs.Calls.{is_good_event, is_good_op, passes}
 
 module _ (mode : Mode) (pes : ℕ) (shapes : List GuestShape) (number actor : ℕ) (shape : GuestShape) (here : slice_get shapes number ≡ Some shape) (past : actor_count shape ≤ actor) where
   abbrev Formed : Step → Type 0

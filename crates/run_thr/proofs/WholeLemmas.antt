@@ -3,12 +3,11 @@ use Rattle.std.proofs.Common.{◌≡◌, ◌<◌, false, All, List, [], ◌∷�
 use Rattle.std.specs.Prelude.{◌^◌}
 use Rattle.std.proofs.Math.Seq.{take-length}
 use Rattle.std.proofs.lemmas.List.Elements.{All-get_or}
-use Rattle.port_ops.specs.Opened.{no_guest}
-use Rattle.port_table.specs.Told.{RootTold, WordsTold, words_at}
-use Rattle.scn_base.specs.declared.guest.GuestSpec.{GuestSpec}
-use Rattle.scn_base.specs.declared.scenario.Scenario.{Scenario}
-use Rattle.scn_base.specs.declared.step.Step.{Step}
-use Rattle.scn_base.specs.Good.{IsGoodGuest}
+use Rattle.law_threads_are_history.specs.PortOps.Opened.{no_guest}
+use Rattle.thr_cast.specs.PortTable.Told.{RootTold, WordsTold, words_at}
+use Rattle.law_threads_are_history.specs.Calls.{GuestSpec, IsGoodGuest}
+use Rattle.law_threads_are_history.specs.ScnBase.declared.scenario.Scenario.{Scenario}
+use Rattle.law_threads_are_history.specs.ScnBase.declared.step.Step.{Step}
 use Rattle.thr_cast.specs.declared.cast.Cast.{Cast}
 use Rattle.thr_cast.specs.Back.{trips_in}
 use Rattle.thr_cast.specs.Cast.{HasCast, name_of, names_of}
@@ -17,14 +16,14 @@ use Rattle.thr_cast.specs.Names.{DeviceName, all_devices}
 use Rattle.thr_cast.specs.Set.{IsSet}
 use Rattle.thr_cast.proofs.CastLemmas.{few_places}
 use Rattle.thr_cast.proofs.NameLemmas.{length-vcpus_of}
-use Rattle.thr_trip.specs.declared.device.DeviceRun.{DeviceRun}
-use Rattle.thr_trip.specs.declared.naming.Naming.{Ghosts}
-use Rattle.thr_trip.specs.declared.trip.Trip.{Trip}
-use Rattle.thr_trip.specs.Device.{DeviceTold, IsDevice}
-use Rattle.thr_trip.specs.Script.{all_vcpus, vcpus_of}
-use Rattle.thr_trip.specs.Told.{device_told}
-use Rattle.thr_trip.specs.Trip.{IsTrip, TripTold}
-use Rattle.vcpu_shelf.specs.Told.{ShelfTold}
+use Rattle.thr_cast.specs.ThrTrip.declared.device.DeviceRun.{DeviceRun}
+use Rattle.thr_cast.specs.ThrTrip.declared.naming.Naming.{Ghosts}
+use Rattle.thr_cast.specs.ThrTrip.declared.trip.Trip.{Trip}
+use Rattle.thr_cast.specs.ThrTrip.Device.{DeviceTold, IsDevice}
+use Rattle.thr_cast.specs.ThrTrip.Script.{all_vcpus, vcpus_of}
+use Rattle.thr_cast.specs.ThrTrip.Told.{device_told}
+use Rattle.thr_cast.specs.ThrTrip.Trip.{IsTrip, TripTold}
+use Rattle.thr_cast.specs.VcpuShelf.Told.{ShelfTold}
 use Rattle.run_thr.specs.Returned.{HaveReturned}
 use Rattle.run_thr.proofs.CrewLemmas.{AllCame, Hand}
 use Rattle.run_thr.proofs.JoinLemmas.{joined_after}

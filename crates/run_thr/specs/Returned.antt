@@ -2,11 +2,11 @@
 use Rattle.std.specs.Prelude.{◌≡◌, true, List, All, map}
 use Rattle.thr_cast.specs.Cast.{name_of}
 use Rattle.thr_cast.specs.Crew.{IsOver, devices_in, has_pe}
-use Rattle.thr_trip.specs.declared.device.DeviceRun.{DeviceRun}
-use Rattle.thr_trip.specs.declared.naming.Naming.{Ghosts}
-use Rattle.thr_trip.specs.declared.trip.Trip.{Trip}
-use Rattle.thr_trip.specs.declared.worker.Worker.{Worker}
-use Rattle.vcpu_shelf.specs.Told.{ShelfTold}
+use Rattle.thr_cast.specs.ThrTrip.declared.device.DeviceRun.{DeviceRun}
+use Rattle.thr_cast.specs.ThrTrip.declared.naming.Naming.{Ghosts}
+use Rattle.thr_cast.specs.ThrTrip.declared.trip.Trip.{Trip}
+use Rattle.thr_cast.specs.ThrTrip.declared.worker.Worker.{Worker}
+use Rattle.thr_cast.specs.VcpuShelf.Told.{ShelfTold}
 
 -- each PE found all vCPUs done, and each device, which is the one that it was, is done
 pub record HaveReturned {J : Type 0} {run : Ghosts J} (shelf : ShelfTold) (old new : List (Worker (Trip J run) (DeviceRun J run))) : Type 0 where

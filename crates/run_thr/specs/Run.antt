@@ -1,25 +1,18 @@
 -- A run on threads, over the words that its actors share (own choice).
 use Rattle.std.specs.Prelude.{◌≡◌, ℕ, ◌<◌, true, IsTrue, List, [], length, map, Some, slice_get}
-use Rattle.core_proper.specs.Progress.{Progress}
-use Rattle.core_proper.specs.Proper.{is_settled}
-use Rattle.eager_laws.specs.Calls.{Made as MadeCall, own_steps}
-use Rattle.gic_prio.specs.declared.cpu.CpuRec.{CpuRec}
-use Rattle.guest_end.specs.declared.outcome.Done.{Done}
-use Rattle.port_core.specs.declared.local.Local.{Local}
-use Rattle.port_core.specs.declared.run.Made.{Made}
-use Rattle.port_core.specs.Actor.{actor_count}
-use Rattle.port_core.specs.Local.{is_vcpu}
-use Rattle.port_core.specs.Port.{Seen, local_by}
-use Rattle.port_core.specs.Run.{opening_local_of}
-use Rattle.port_table.specs.Told.{WordsTold, RootTold, IsDone, opening_seen, root_at, words_at}
-use Rattle.port_table.specs.View.{steps_of}
-use Rattle.scn_base.specs.declared.guest.GuestSpec.{GuestSpec}
-use Rattle.scn_base.specs.declared.outcome.Answer.{Answer}
-use Rattle.scn_base.specs.declared.pes.VcpuName.{VcpuName}
-use Rattle.scn_base.specs.declared.scenario.Scenario.{Scenario}
-use Rattle.scn_base.specs.declared.step.Step.{Step}
-use Rattle.thr_trip.specs.Gone.{HasGone}
-use Rattle.thr_trip.specs.Script.{all_vcpus}
+use Rattle.law_threads_are_history.specs.Core.{Progress, is_settled, Local, Made, actor_count, is_vcpu, Seen, local_by, opening_local_of}
+use Rattle.law_threads_are_history.specs.LawEagerIsHistory.Calls.{Made as MadeCall, own_steps}
+use Rattle.law_threads_are_history.specs.Registers.{CpuRec}
+use Rattle.law_threads_are_history.specs.GuestEnd.declared.outcome.Done.{Done}
+use Rattle.thr_cast.specs.PortTable.Told.{WordsTold, RootTold, IsDone, opening_seen, root_at, words_at}
+use Rattle.thr_cast.specs.PortTable.View.{steps_of}
+use Rattle.law_threads_are_history.specs.Calls.{GuestSpec}
+use Rattle.law_threads_are_history.specs.GicGuest.declared.outcome.Answer.{Answer}
+use Rattle.law_threads_are_history.specs.ScnBase.declared.pes.VcpuName.{VcpuName}
+use Rattle.law_threads_are_history.specs.ScnBase.declared.scenario.Scenario.{Scenario}
+use Rattle.law_threads_are_history.specs.ScnBase.declared.step.Step.{Step}
+use Rattle.thr_cast.specs.ThrTrip.Gone.{HasGone}
+use Rattle.thr_cast.specs.ThrTrip.Script.{all_vcpus}
 
 -- an actor made these calls since its guest opened, each in one part, and beside them only entered PEs and left them: its steps are these; after them nothing is at a
 -- vCPU's interface, and the actor owes nothing, and has neither the ITS nor the mark of GICD_CTLR

@@ -1,17 +1,17 @@
 //! PEs and devices do what they have to do, each in a thread.
 ghost use Rattle.std.specs.Prelude.{◌≡◌, ◌≤◌, All, false, true};
-ghost use Rattle.gic_base.specs.declared.held.TheConstants.{MAX_LIST_REGISTERS};
+ghost use Rattle.law_threads_are_history.specs.Words.{MAX_LIST_REGISTERS};
 ghost use Rattle.thr_cast.specs.Crew.{has_pe};
-ghost use Rattle.thr_trip.specs.Worker.{CanWork};
-ghost use Rattle.vcpu_shelf.specs.Shelf.{shelf_told};
+ghost use Rattle.thr_cast.specs.ThrTrip.Worker.{CanWork};
+ghost use Rattle.thr_cast.specs.VcpuShelf.Shelf.{shelf_told};
 ghost use Rattle.run_thr.specs.Returned.{HaveReturned};
 
-use gic_io::Gate;
 use std::sync::Wait;
 use std::thread::Threads;
 use thr_cast::Hand;
-use thr_trip::{Naming, Trip, Turns, run_all};
-use vcpu_shelf::Shelf;
+use thr_cast::gic_io::Gate;
+use thr_cast::thr_trip::{Naming, Trip, Turns, run_all};
+use thr_cast::vcpu_shelf::Shelf;
 
 /// All of them do what they have to do, each in a thread of its own where one can be made.
 pub fn run_crew<'a, J: Naming + Send, R: Threads + Wait + Sync, G: Gate + Sync>(

@@ -1,25 +1,25 @@
 //! The steps of a scenario on threads, over the words of its guests.
 ghost use Rattle.std.specs.Prelude.{◌≡◌, ◌≤◌, IfOk, OnOk, map};
-ghost use Rattle.port_table.specs.All.{told_words, told_root};
-ghost use Rattle.port_table.specs.Told.{AreRoots, IsOpening, opening_root};
-ghost use Rattle.scn_base.specs.declared.step.Mode.TheVariants.{Threads as OnThreads};
-ghost use Rattle.scn_base.specs.Good.{IsGood};
+ghost use Rattle.thr_cast.specs.PortTable.All.{told_words, told_root};
+ghost use Rattle.thr_cast.specs.PortTable.Told.{AreRoots, IsOpening, opening_root};
+ghost use Rattle.law_threads_are_history.specs.ScnBase.declared.step.Mode.TheVariants.{Threads as OnThreads};
+ghost use Rattle.law_threads_are_history.specs.ScnBase.Good.{IsGood};
 ghost use Rattle.thr_cast.specs.Set.{IsSet};
 ghost use Rattle.run_thr.specs.Run.{HasRun};
 
 use crate::crew::run_crew;
-use gic_base::NoMemory;
-use gic_io::Gate;
-use guest_end::Done;
-use port_table::{RootSeat, SharedWords};
-use scn_base::Scenario;
+use law_threads_are_history::gic_base::NoMemory;
+use law_threads_are_history::guest_end::Done;
+use law_threads_are_history::scn_base::Scenario;
 use std::alloc::Global;
 use std::marker::Brand;
 use std::sync::Wait;
 use std::thread::Threads;
+use thr_cast::gic_io::Gate;
+use thr_cast::port_table::{RootSeat, SharedWords};
+use thr_cast::thr_trip::{Naming, Turns};
+use thr_cast::vcpu_shelf::{close, of};
 use thr_cast::{Back, Cast, add_devices, add_pes, all_answers, gather, take_apart};
-use thr_trip::{Naming, Turns};
-use vcpu_shelf::{close, of};
 
 /// Does the steps of a scenario, whose run has a name.
 fn run_as<'a, J: Naming + Send, R: Threads + Wait + Sync, G: Gate + Sync>(

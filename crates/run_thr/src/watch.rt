@@ -1,12 +1,12 @@
 //! Who watches runs on threads.
 ghost use Rattle.std.specs.Prelude.{◌≡◌, ℕ, ◌+◌, ◌<◌, Option, IfSome};
-ghost use Rattle.scn_base.specs.declared.scenario.Scenario.{Scenario as ScenarioOf};
-ghost use Rattle.port_table.specs.All.{told_words, told_root};
+ghost use Rattle.law_threads_are_history.specs.ScnBase.declared.scenario.Scenario.{Scenario as ScenarioOf};
+ghost use Rattle.thr_cast.specs.PortTable.All.{told_words, told_root};
 ghost use Rattle.run_thr.specs.Run.{HasRun};
 
-use guest_end::Done;
-use port_table::{RootSeat, SharedWords};
-use scn_base::Scenario;
+use law_threads_are_history::guest_end::Done;
+use law_threads_are_history::scn_base::Scenario;
+use thr_cast::port_table::{RootSeat, SharedWords};
 
 /// Who is shown each run on threads, before its words are closed.
 pub trait ThrWatch {

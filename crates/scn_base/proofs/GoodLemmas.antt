@@ -7,7 +7,8 @@ use Rattle.scn_base.specs.declared.step.Step.{Step}
 use Rattle.scn_base.specs.declared.step.Mode.{Mode}
 use Rattle.scn_base.specs.declared.standing.Standing.{Standing}
 use Rattle.scn_base.specs.Standing.{opening_standing}
-use Rattle.scn_base.specs.Good.{IsGood, IsGoodGuest, shapes_of, is_formed, stand_in_turn}
+use Rattle.scn_base.specs.Good.{IsGood, is_formed, stand_in_turn}
+use Rattle.gic_guest.specs.Good.{IsGoodGuest, shapes_of}
 use Rattle.scn_base.proofs.PesLemmas.{length-opening_pes}
 
 -- all but the steps

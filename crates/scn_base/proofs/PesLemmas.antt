@@ -7,11 +7,11 @@ use Rattle.std.proofs.lemmas.Bool.Decides.{nat_tests}
 use Rattle.std.proofs.lemmas.List.Elements.{All-nil, All-append, All-map, All-get_or, All-from_get_or}
 use Rattle.std.proofs.lemmas.List.FromFn.{map-range_with_len_more, get_or-range_with_len, length-range_with_len, length-map-range_with_len}
 use Rattle.std.proofs.lemmas.Option.{get_or_from_slice_get, slice_get_within}
-use Rattle.gic_base.specs.declared.shape.GuestShape.{GuestShape}
+use Rattle.gic_guest.specs.Words.{GuestShape}
 use Rattle.scn_base.specs.declared.pes.VcpuName.{VcpuName}
-use Rattle.scn_base.specs.declared.guest.GuestSpec.{GuestSpec}
+use Rattle.gic_guest.specs.declared.guest.GuestSpec.{GuestSpec}
 use Rattle.scn_base.specs.Standing.{vcpu_name, vcpus_from, opening_pes, has_vcpu, ResidentsExist}
-use Rattle.scn_base.specs.Good.{shapes_of}
+use Rattle.gic_guest.specs.Good.{shapes_of}
 
 -- one vCPU more of a guest
 pub vcpus_more : (guest n : ℕ) (before names : List VcpuName) → names ≡ before ++ map (vcpu_name guest) (range_with_len 0 n)

@@ -3,9 +3,9 @@ use Rattle.std.proofs.Common.{◌≡◌, List, length}
 use Rattle.std.proofs.lemmas.List.{length-map}
 use Rattle.std.specs.List.{All}
 use Rattle.std.proofs.lemmas.List.Elements.{All-map, All-weaker}
-use Rattle.gic_base.specs.Shape.{IsShape}
-use Rattle.scn_base.specs.declared.guest.GuestSpec.{GuestSpec}
-use Rattle.scn_base.specs.Good.{IsGoodGuest, shapes_of}
+use Rattle.gic_guest.specs.Words.{IsShape}
+use Rattle.gic_guest.specs.declared.guest.GuestSpec.{GuestSpec}
+use Rattle.gic_guest.specs.Good.{IsGoodGuest, shapes_of}
 
 -- the shapes of good guests are in range
 pub good_shapes : (guests : List GuestSpec) → All IsGoodGuest guests → All IsShape (shapes_of guests)

@@ -7,9 +7,7 @@ use Rattle.std.proofs.lemmas.Bool.{and_parts}
 use Rattle.std.proofs.lemmas.List.{drop_all}
 use Rattle.std.proofs.lemmas.Bool.Decides.{nat_tests}
 use Rattle.std.proofs.lemmas.List.Elements.{All-nil, All-cons, All-head, All-tail}
-use Rattle.gic_base.specs.declared.operation.GuestOp.TheVariants.{Icc, Mem}
-use Rattle.gic_base.specs.declared.operation.DeviceOp.TheVariants.{Message, Wire, Msi}
-use Rattle.gic_base.specs.declared.operation.PeOp.TheVariants.{Enter, Exit, Lrs}
+use Rattle.gic_guest.specs.Words.{Icc, Mem, Message, Wire, Msi, Enter, Exit, Lrs}
 use Rattle.scn_base.specs.declared.step.Step.{Step}
 use Rattle.scn_base.specs.declared.step.Step.TheVariants.{Vcpu, Device, Pe}
 use Rattle.scn_base.specs.declared.step.Mode.{Mode}

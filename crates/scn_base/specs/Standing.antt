@@ -2,21 +2,13 @@
 use Rattle.std.specs.Prelude.{◌≡◌, ℕ, ◌+◌, ◌≤◌, ◌&&◌, ◌==◌, nat_lt, Bool, true, false, IsTrue, List, [], ◌∷◌, ◌++◌, length, All, map, replicate, take, sum_by, slice_get, slice_index_or, slice_set, Option, Some, None}
 use Rattle.std.specs.Option.{option_map_or}
 use Rattle.std.specs.List.{list_any, range_with_len}
-use Rattle.gic_base.specs.declared.shape.GuestShape.{GuestShape}
-use Rattle.gic_base.specs.declared.interrupt.Key.{Key}
-use Rattle.gic_base.specs.declared.operation.DeviceOp.TheVariants.{Message, Wire, Msi}
-use Rattle.gic_base.specs.declared.operation.PeOp.TheVariants.{Enter, Exit, Lrs}
-use Rattle.gic_base.specs.Shape.{IsShape}
-use Rattle.gic_base.specs.Interrupt.{interrupt_count, place_of}
+use Rattle.gic_guest.specs.Words.{GuestShape, Key, Message, Wire, Msi, Enter, Exit, Lrs, IsShape, interrupt_count, place_of}
+use Rattle.gic_guest.specs.Good.{passes}
 use Rattle.scn_base.specs.declared.step.Step.{Step}
 use Rattle.scn_base.specs.declared.step.Step.TheVariants.{Vcpu, Device, Pe}
 use Rattle.scn_base.specs.declared.pes.VcpuName.{VcpuName}
 use Rattle.scn_base.specs.declared.standing.MovedWire.{MovedWire}
 use Rattle.scn_base.specs.declared.standing.Standing.{Standing}
-
--- the value is there and passes a test
-abbrev pub passes : {X : Type 0} → (X → Bool) → Option X → Bool
-passes test found = option_map_or test found false
 
 -- ---- PEs
 

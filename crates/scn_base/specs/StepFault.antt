@@ -1,20 +1,15 @@
 -- The code of a step that cannot be done: the least of those that it has (own choice).
 use Rattle.std.specs.Prelude.{ℕ, ◌&&◌, ◌||◌, not, nat_lt, List, [], ◌∷◌, length, Bool, Option, is_some, slice_get}
-use Rattle.gic_base.specs.declared.shape.GuestShape.{GuestShape}
-use Rattle.gic_base.specs.declared.operation.GuestOp.TheVariants.{Icc, Mem}
-use Rattle.gic_base.specs.declared.operation.DeviceOp.TheVariants.{Message, Wire, Msi}
-use Rattle.gic_base.specs.declared.operation.PeOp.TheVariants.{Enter, Exit, Lrs}
-use Rattle.gic_base.specs.Interrupt.{has_interrupt}
-use Rattle.gic_base.specs.declared.interrupt.Key.TheVariants.{Spi}
-use Rattle.gic_base.specs.declared.operation.Frame.{Frame}
-use Rattle.gic_ram.specs.Access.{is_size}
+use Rattle.gic_guest.specs.Words.{GuestShape, Icc, Mem, Message, Wire, Msi, Enter, Exit, Lrs, has_interrupt, Spi, Frame}
+use Rattle.gic_guest.specs.GicRam.Access.{is_size}
 use Rattle.scn_base.specs.declared.step.Step.{Step}
 use Rattle.scn_base.specs.declared.step.Step.TheVariants.{Vcpu, Device, Pe}
 use Rattle.scn_base.specs.declared.step.Mode.{Mode}
 use Rattle.scn_base.specs.declared.standing.Standing.{Standing}
 use Rattle.scn_base.specs.Codes.{limit_code, unknown_register_code, unknown_actor_code, not_loaded_code, pe_busy_code, pe_step_code, wire_level_code, address_code, first_met}
-use Rattle.scn_base.specs.Standing.{passes, has_vcpu, resident_of, wire_of}
-use Rattle.scn_base.specs.Good.{is_usable, fits, has_frame, is_inside, has_wire, is_threads, is_loaded, may_enter, may_move}
+use Rattle.gic_guest.specs.Good.{passes, is_usable, fits, has_frame, is_inside, has_wire}
+use Rattle.scn_base.specs.Standing.{has_vcpu, resident_of, wire_of}
+use Rattle.scn_base.specs.Good.{is_threads, is_loaded, may_enter, may_move}
 
 -- a guest has the vCPU and what the vCPU accesses
 abbrev pub has_access : List GuestShape → ℕ → ℕ → Frame → Bool

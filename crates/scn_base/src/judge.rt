@@ -1,18 +1,18 @@
 //! The faults of steps.
 ghost use Rattle.std.specs.Prelude.{◌≡◌, ◌<◌, ◌&&◌, IsTrue, length};
-ghost use Rattle.gic_base.specs.Shape.{IsShape};
-ghost use Rattle.gic_base.specs.Interrupt.{has_interrupt};
+ghost use Rattle.gic_guest.specs.Words.{IsShape, has_interrupt};
 ghost use Rattle.scn_base.specs.Standing.{IsStanding};
-ghost use Rattle.scn_base.specs.Good.{has_wire as has_wire_of, may_move as may_move_by};
+ghost use Rattle.gic_guest.specs.Good.{has_wire as has_wire_of};
+ghost use Rattle.scn_base.specs.Good.{may_move as may_move_by};
 ghost use Rattle.scn_base.specs.StepFault.{step_fault};
 
 use crate::fault::{
     ADDRESS, LIMIT, NOT_LOADED, PE_BUSY, PE_STEP, UNKNOWN_ACTOR, UNKNOWN_REGISTER, WIRE_LEVEL,
 };
-use crate::good::{fits, has_frame, is_inside, is_size, is_usable};
 use crate::standing::{MovedWire, Standing};
 use crate::step::{Mode, Step};
-use gic_base::{DeviceOp, GuestOp, GuestShape, Key, PeOp, SGI_COUNT, key_of};
+use gic_guest::gic_base::{DeviceOp, GuestOp, GuestShape, Key, PeOp, SGI_COUNT, key_of};
+use gic_guest::{fits, has_frame, is_inside, is_size, is_usable};
 
 /// Whether the wire of a guest's interrupt can be moved: there are wires of PPIs and of SPIs.
 fn is_wired(shape: &GuestShape, key: Key) -> bool

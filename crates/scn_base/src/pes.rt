@@ -2,12 +2,13 @@
 ghost use Rattle.std.specs.Prelude.{◌≡◌, ◌≤◌, ◌++◌, List, IfOk, OnOk, IsTrue, length, map};
 ghost use Rattle.std.specs.List.{range_with_len};
 ghost use Rattle.scn_base.specs.Standing.{vcpu_name, vcpus_from, opening_pes as pes_at_opening, pes_after, ResidentsExist};
-ghost use Rattle.scn_base.specs.Good.{shapes_of, is_formed};
+ghost use Rattle.gic_guest.specs.Good.{shapes_of};
+ghost use Rattle.scn_base.specs.Good.{is_formed};
 
-use crate::guest::GuestSpec;
 use crate::step::{Mode, Step};
-use gic_base::{GuestShape, PeOp};
-use gic_list::ListOf;
+use gic_guest::GuestSpec;
+use gic_guest::gic_base::{GuestShape, PeOp};
+use gic_guest::gic_list::ListOf;
 use std::alloc::{AllocError, Global};
 
 /// A vCPU of the scenario: the number of its guest, and its own in the guest, each from 0.

@@ -1,13 +1,14 @@
 //! Whole scenarios.
 ghost use Rattle.std.specs.Prelude.{◌≡◌, ◌↔◌, IsTrue, IfOk, All, length};
 ghost use Rattle.scn_base.specs.Standing.{IsStanding};
-ghost use Rattle.scn_base.specs.Good.{IsGood, IsGoodGuest, is_formed, stand_in_turn};
+ghost use Rattle.scn_base.specs.Good.{IsGood, is_formed, stand_in_turn};
+ghost use Rattle.gic_guest.specs.Good.{IsGoodGuest};
 
-use crate::guest::{GuestSpec, Guests};
 use crate::standing::Standing;
 use crate::step::{Mode, Step};
-use gic_base::is_list_register_count;
-use gic_list::ListOf;
+use gic_guest::gic_base::is_list_register_count;
+use gic_guest::gic_list::ListOf;
+use gic_guest::{GuestSpec, Guests};
 use std::alloc::{AllocError, Global};
 
 /// The most PEs of a scenario, which has at least one.

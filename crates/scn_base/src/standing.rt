@@ -1,16 +1,16 @@
 //! What the steps of a scenario are judged by: the guests, where their vCPUs stand, and how their wires are.
 ghost use Rattle.std.specs.Prelude.{◌≡◌, ◌*◌, ◌≤◌, ◌<◌, IfOk, IfSome, IsTrue, All, length, map, slice_get, None};
-ghost use Rattle.gic_base.specs.Shape.{IsShape};
-ghost use Rattle.gic_base.specs.Interrupt.{has_interrupt};
-ghost use Rattle.scn_base.specs.Standing.{IsStanding, passes, has_vcpu as has_vcpu_in, is_resident as is_resident_on, wire_place as wire_place_in, wire_count as wire_count_of, wire_of, opening_standing, standing_after};
-ghost use Rattle.scn_base.specs.Good.{shapes_of, IsGoodGuest, is_loaded as is_loaded_in};
+ghost use Rattle.gic_guest.specs.Words.{IsShape, has_interrupt};
+ghost use Rattle.scn_base.specs.Standing.{IsStanding, has_vcpu as has_vcpu_in, is_resident as is_resident_on, wire_place as wire_place_in, wire_count as wire_count_of, wire_of, opening_standing, standing_after};
+ghost use Rattle.gic_guest.specs.Good.{passes, shapes_of, IsGoodGuest};
+ghost use Rattle.scn_base.specs.Good.{is_loaded as is_loaded_in};
 ghost use Rattle.scn_base.specs.StepFault.{step_fault};
 
-use crate::guest::GuestSpec;
 use crate::pes::{Pes, move_pes, opening_pes};
 use crate::step::{Mode, Step};
-use gic_base::{DeviceOp, GuestShape, Key, interrupt_count, place_of};
-use gic_list::ListOf;
+use gic_guest::GuestSpec;
+use gic_guest::gic_base::{DeviceOp, GuestShape, Key, interrupt_count, place_of};
+use gic_guest::gic_list::ListOf;
 use std::alloc::{AllocError, Global};
 
 /// A wire that a device has moved.

@@ -6,10 +6,10 @@ use Rattle.std.specs.List.{list_all, list_any}
 use Rattle.std.specs.Str.{bytes_eq}
 use Rattle.serde_json.specs.Data.{Data, Members, null, boolean, number, string, array, object}
 use Rattle.serde_json.specs.Find.{get, as_bool, as_str, as_object}
-use Rattle.json_field.specs.Field.{has_only, other_field, names, number_of, number_or, number_at, flag_at, pair_at, list_of, pair_in}
-use Rattle.scn_base.specs.Codes.{shape_code, limit_code, unknown_register_code, first_met, ok_unless}
-use Rattle.scn_base.specs.declared.step.Step.{Step}
-use Rattle.scn_base.specs.Good.{passes}
+use Rattle.scn_read.specs.JsonField.Field.{has_only, other_field, names, number_of, number_or, number_at, flag_at, pair_at, list_of, pair_in}
+use Rattle.scn_read.specs.ScnBase.Codes.{shape_code, limit_code, unknown_register_code, first_met, ok_unless}
+use Rattle.scn_read.specs.ScnBase.declared.step.Step.{Step}
+use Rattle.scn_read.specs.GicGuest.Good.{passes}
 use Rattle.scn_read.specs.declared.form.Form.{Form}
 use Rattle.scn_read.specs.declared.form.Form.TheVariants.{AccessRegister, AccessDistributor, AccessRedistributor, AccessIts, AccessMemory, SendMessage, MoveWire, SendMsi, EnterPe, ExitPe, ShowPe}
 use Rattle.scn_read.specs.Form.{row_of, form_of}

@@ -1,7 +1,7 @@
 -- Where something is amiss with a scenario, and with which field (own choice).
 use Rattle.std.specs.Prelude.{◌≡◌, ℕ, ◌-◌, List, All, nat_eq, nat_le, if◌then◌else◌, Option, Some, None, option_and_then, slice_get, codes}
 use Rattle.serde_json.specs.Data.{Data}
-use Rattle.json_field.specs.Field.{elements_at}
+use Rattle.scn_read.specs.JsonField.Field.{elements_at}
 use Rattle.scn_read.specs.declared.form.Form.{Form}
 use Rattle.scn_read.specs.Form.{row_of, form_of}
 use Rattle.scn_read.specs.Guest.{guest_fields}

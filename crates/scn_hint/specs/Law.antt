@@ -1,7 +1,7 @@
 -- Fields are told where the reader finds a fault of shape (own choice).
 use Rattle.std.specs.Prelude.{◌≡◌, ◌↔◌, Some, IsSome, Err}
 use Rattle.serde_json.specs.Data.{Data}
-use Rattle.scn_base.specs.Codes.{shape_code}
+use Rattle.scn_read.specs.ScnBase.Codes.{shape_code}
 use Rattle.scn_read.specs.declared.form.Form.{Form}
 use Rattle.scn_read.specs.Form.{form_of}
 use Rattle.scn_read.specs.Step.{step_said}

@@ -7,9 +7,9 @@ ghost use Rattle.scn_hint.specs.Hint.{AllFit, IsFitGuest, name_of, guest_in, ste
 
 use crate::field::{Amiss, What, first_amiss};
 use crate::table::{GUEST_RULES, PRIVATE_RULES, SCENARIO_RULES, SHARED_RULES, rules_of};
-use gic_base::PRIVATE_COUNT;
-use json_field::{elements_at, number_at};
-use scn_base::{
+use scn_read::gic_base::PRIVATE_COUNT;
+use scn_read::json_field::{elements_at, number_at};
+use scn_read::scn_base::{
     ADDRESS, Fault, LIMIT, NOT_LOADED, PE_BUSY, PE_STEP, SHAPE, UNKNOWN_ACTOR, UNKNOWN_REGISTER,
     WIRE_LEVEL,
 };

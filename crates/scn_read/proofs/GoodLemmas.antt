@@ -5,11 +5,10 @@ use Rattle.std.specs.Result.{MatchResult}
 use Rattle.std.proofs.lemmas.Bool.Decides.{nat_tests}
 use Rattle.std.proofs.lemmas.List.Elements.{All-nil, All-cons}
 use Rattle.serde_json.specs.Data.{Data}
-use Rattle.gic_base.specs.declared.shape.GuestShape.{GuestShape}
-use Rattle.gic_base.specs.Shape.{IsShape}
+use Rattle.scn_base.specs.Words.{GuestShape, IsShape}
 use Rattle.json_field.specs.Field.{elements_at}
 use Rattle.scn_base.specs.Codes.{first_code, first_of, ok_unless, both}
-use Rattle.scn_base.specs.Good.{IsGoodPreset, IsGoodGuest}
+use Rattle.scn_base.specs.GicGuest.Good.{IsGoodPreset, IsGoodGuest}
 use Rattle.scn_read.specs.declared.guest.Numbers.{Numbers}
 use Rattle.scn_read.specs.declared.preset.WrittenPreset.{WrittenPreset}
 use Rattle.scn_read.specs.Preset.{is_preset, written_of, is_in_range, is_there, preset_fault, preset_with, preset_of}

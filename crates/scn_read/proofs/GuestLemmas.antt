@@ -1,9 +1,9 @@
 -- A guest by its own fields and its presets.
 use Rattle.std.proofs.Common.{◌≡◌, ℕ, List, map, Bool, Option, Some, None, Result, Ok, Err, codes, refl, ap}
 use Rattle.serde_json.specs.Data.{Data}
-use Rattle.gic_base.specs.declared.shape.GuestShape.{GuestShape}
-use Rattle.scn_base.specs.declared.preset.Preset.{Preset}
-use Rattle.scn_base.specs.declared.guest.GuestSpec.{GuestSpec}
+use Rattle.scn_base.specs.Words.{GuestShape}
+use Rattle.scn_base.specs.GicGuest.declared.preset.Preset.{Preset}
+use Rattle.scn_base.specs.GicGuest.declared.guest.GuestSpec.{GuestSpec}
 use Rattle.json_field.specs.Field.{elements_at}
 use Rattle.scn_base.specs.Codes.{first_code, first_of, ok_unless, both}
 use Rattle.scn_read.proofs.ListLemmas.{ok_parts}

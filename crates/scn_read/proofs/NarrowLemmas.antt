@@ -5,26 +5,16 @@ use Rattle.std.proofs.lemmas.Bool.{and_parts}
 use Rattle.std.proofs.lemmas.Bool.Decides.{nat_tests}
 use Rattle.std.proofs.lemmas.List.Elements.{All-get_or}
 use Rattle.std.proofs.lemmas.Option.{slice_get_within, get_or_from_slice_get}
-use Rattle.gic_base.specs.declared.shape.GuestShape.{GuestShape}
-use Rattle.gic_base.specs.declared.icc.IccReg.{IccReg}
-use Rattle.gic_base.specs.declared.interrupt.Key.{Key}
-use Rattle.gic_base.specs.declared.operation.PeOp.{PeOp}
-use Rattle.gic_base.specs.declared.interrupt.Key.TheVariants.{Private, Spi, Lpi}
-use Rattle.gic_base.specs.declared.operation.Frame.{Frame}
-use Rattle.gic_base.specs.declared.operation.Frame.TheVariants.{Dist, Redist, Its, Ram}
-use Rattle.gic_base.specs.declared.operation.GuestOp.TheVariants.{Icc, Mem}
-use Rattle.gic_base.specs.declared.operation.DeviceOp.TheVariants.{Message, Wire, Msi}
-use Rattle.gic_base.specs.declared.operation.PeOp.TheVariants.{Enter, Exit, Lrs}
-use Rattle.gic_base.specs.Shape.{IsShape}
-use Rattle.gic_base.specs.Interrupt.{has_interrupt}
-use Rattle.gic_ram.specs.Access.{is_size}
+use Rattle.scn_base.specs.Words.{GuestShape, IccReg, Key, PeOp, Private, Spi, Lpi, Frame, Dist, Redist, Its, Ram, Icc, Mem, Message, Wire, Msi, Enter, Exit, Lrs, IsShape, has_interrupt}
+use Rattle.scn_base.specs.GicRam.Access.{is_size}
 use Rattle.scn_base.specs.declared.step.Step.{Step}
 use Rattle.scn_base.specs.declared.step.Step.TheVariants.{Vcpu, Device, Pe}
 use Rattle.scn_base.specs.declared.step.Mode.{Mode}
 use Rattle.scn_base.specs.declared.step.Mode.TheVariants.{Schedule, Threads}
 use Rattle.scn_base.specs.declared.standing.Standing.{Standing}
-use Rattle.scn_base.specs.Standing.{passes, has_vcpu, IsStanding}
-use Rattle.scn_base.specs.Good.{is_usable, fits, has_frame, is_inside, has_wire, is_loaded}
+use Rattle.scn_base.specs.GicGuest.Good.{passes, is_usable, fits, has_frame, is_inside, has_wire}
+use Rattle.scn_base.specs.Standing.{has_vcpu, IsStanding}
+use Rattle.scn_base.specs.Good.{is_loaded}
 use Rattle.scn_base.specs.StepFault.{has_access, has_device, step_fault}
 use Rattle.scn_read.specs.Narrow.{narrowed, narrowed_frame, narrowed_step, narrowed_said}
 use Rattle.scn_read.specs.Step.{judged}

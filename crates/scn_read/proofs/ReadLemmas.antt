@@ -5,12 +5,13 @@ use Rattle.std.proofs.lemmas.List.{length-map}
 use Rattle.serde_json.specs.Data.{Data}
 use Rattle.json_field.specs.Field.{elements_at}
 use Rattle.scn_base.specs.declared.fault.Fault.{Fault}
-use Rattle.scn_base.specs.declared.guest.GuestSpec.{GuestSpec}
+use Rattle.scn_base.specs.GicGuest.declared.guest.GuestSpec.{GuestSpec}
 use Rattle.scn_base.specs.declared.step.Step.{Step}
 use Rattle.scn_base.specs.declared.step.Mode.{Mode}
 use Rattle.scn_base.specs.declared.standing.Standing.{Standing}
 use Rattle.scn_base.specs.Standing.{opening_standing, standing_after}
-use Rattle.scn_base.specs.Good.{IsGood, IsGoodGuest, shapes_of}
+use Rattle.scn_base.specs.Good.{IsGood}
+use Rattle.scn_base.specs.GicGuest.Good.{IsGoodGuest, shapes_of}
 use Rattle.scn_base.specs.StepFault.{step_fault}
 use Rattle.scn_base.proofs.PesLemmas.{length-opening_pes}
 use Rattle.scn_base.proofs.StepLemmas.{have_no_fault, no_fault_good}

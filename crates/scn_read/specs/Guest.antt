@@ -1,8 +1,8 @@
 -- The guests of a scenario: their faults, and what they say where they have none (own choice).
 use Rattle.std.specs.Prelude.{ℕ, ◌%◌, ◌&&◌, ◌==◌, not, min, List, [], ◌∷◌, map, Bool, false, nat_le, Option, is_some, unwrap_or, codes}
 use Rattle.serde_json.specs.Data.{Data}
-use Rattle.gic_base.specs.declared.shape.GuestShape.{GuestShape}
-use Rattle.scn_base.specs.declared.guest.GuestSpec.{GuestSpec}
+use Rattle.scn_base.specs.Words.{GuestShape}
+use Rattle.scn_base.specs.GicGuest.declared.guest.GuestSpec.{GuestSpec}
 use Rattle.scn_base.specs.Codes.{shape_code, limit_code, first_code, first_of, first_met}
 use Rattle.scn_read.specs.declared.guest.Numbers.{Numbers}
 use Rattle.json_field.specs.Field.{has_only, number_or, flag_or, list_or_empty, elements_at}

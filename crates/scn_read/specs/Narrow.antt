@@ -1,16 +1,7 @@
 -- How the program keeps the numbers of a step in 32 bits (own choice): the greatest one stands for all that are greater, since none of
 -- them names anything that is there.
 use Rattle.std.specs.Prelude.{ℕ, min, Result, Ok, Err}
-use Rattle.gic_base.specs.declared.interrupt.Key.{Key}
-use Rattle.gic_base.specs.declared.interrupt.Key.TheVariants.{Private, Spi, Lpi}
-use Rattle.gic_base.specs.declared.operation.Frame.{Frame}
-use Rattle.gic_base.specs.declared.operation.Frame.TheVariants.{Dist, Redist, Its, Ram}
-use Rattle.gic_base.specs.declared.operation.GuestOp.{GuestOp}
-use Rattle.gic_base.specs.declared.operation.DeviceOp.{DeviceOp}
-use Rattle.gic_base.specs.declared.operation.PeOp.{PeOp}
-use Rattle.gic_base.specs.declared.operation.GuestOp.TheVariants.{Icc, Mem}
-use Rattle.gic_base.specs.declared.operation.DeviceOp.TheVariants.{Message, Wire, Msi}
-use Rattle.gic_base.specs.declared.operation.PeOp.TheVariants.{Enter, Exit, Lrs}
+use Rattle.scn_base.specs.Words.{Key, Private, Spi, Lpi, Frame, Dist, Redist, Its, Ram, GuestOp, DeviceOp, PeOp, Icc, Mem, Message, Wire, Msi, Enter, Exit, Lrs}
 use Rattle.scn_base.specs.declared.step.Step.{Step}
 use Rattle.scn_base.specs.declared.step.Step.TheVariants.{Vcpu, Device, Pe}
 

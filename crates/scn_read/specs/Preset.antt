@@ -1,9 +1,9 @@
 -- The presets of a guest: their faults, and what they say where they have none (own choice).
 use Rattle.std.specs.Prelude.{ℕ, ◌%◌, ◌&&◌, ◌||◌, ◌==◌, not, List, [], ◌∷◌, Bool, true, false, nat_lt, nat_le, if◌then◌else◌, Option, Some, None, is_some, unwrap_or, codes}
 use Rattle.serde_json.specs.Data.{Data}
-use Rattle.gic_base.specs.Interrupt.{is_within}
+use Rattle.scn_base.specs.Words.{is_within}
 use Rattle.json_field.specs.Field.{has_only, number_at, number_or, flag_or}
-use Rattle.scn_base.specs.declared.preset.Preset.{Preset}
+use Rattle.scn_base.specs.GicGuest.declared.preset.Preset.{Preset}
 use Rattle.scn_read.specs.declared.preset.WrittenPreset.{WrittenPreset}
 use Rattle.scn_base.specs.Codes.{shape_code, limit_code, unknown_actor_code, first_met}
 

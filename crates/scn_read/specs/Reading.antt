@@ -1,14 +1,14 @@
 -- The scenario that a JSON value is, or its fault (own choice).
 use Rattle.std.specs.Prelude.{◌≡◌, ℕ, ◌+◌, ◌≤◌, ◌&&◌, not, ⊤, List, [], ◌∷◌, length, map, nat_le, Bool, is_some, unwrap_or, Option, Some, None, Result, Ok, Err, codes}
 use Rattle.serde_json.specs.Data.{Data}
-use Rattle.scn_base.specs.declared.guest.GuestSpec.{GuestSpec}
+use Rattle.scn_base.specs.GicGuest.declared.guest.GuestSpec.{GuestSpec}
 use Rattle.scn_base.specs.declared.scenario.Scenario.{Scenario}
 use Rattle.scn_base.specs.declared.step.Step.{Step}
 use Rattle.scn_base.specs.declared.step.Mode.{Mode}
 use Rattle.scn_base.specs.declared.fault.Fault.{Fault}
 use Rattle.scn_read.specs.declared.refusal.ReadRefusal.{ReadRefusal}
 use Rattle.scn_read.specs.declared.refusal.ReadRefusal.TheVariants.{Bad, NoMemory}
-use Rattle.scn_base.specs.Good.{passes, shapes_of}
+use Rattle.scn_base.specs.GicGuest.Good.{passes, shapes_of}
 use Rattle.json_field.specs.Field.{has_only, number_or, list_at, elements_at}
 use Rattle.scn_read.specs.Guest.{guest_fault, guest_of}
 use Rattle.scn_read.specs.Step.{step_of}

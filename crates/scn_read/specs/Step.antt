@@ -1,24 +1,14 @@
 -- The steps of a scenario: what each form says, and the fault of a step (own choice).
 use Rattle.std.specs.Prelude.{ℕ, ◌^◌, ◌&&◌, not, List, [], ◌∷◌, nat_lt, if◌then◌else◌, Bool, false, Option, Some, None, is_some, unwrap_or, option_and_then, Result, Ok, Err, codes}
 use Rattle.serde_json.specs.Data.{Data}
-use Rattle.gic_base.specs.declared.interrupt.Key.{Key}
-use Rattle.gic_base.specs.declared.interrupt.Key.TheVariants.{Private, Spi}
-use Rattle.gic_base.specs.declared.icc.IccReg.{IccReg}
-use Rattle.gic_base.specs.declared.icc.IccReg.TheVariants.{Iar0}
-use Rattle.gic_base.specs.declared.operation.Frame.{Frame}
-use Rattle.gic_base.specs.declared.operation.Frame.TheVariants.{Dist, Redist, Its, Ram}
-use Rattle.gic_base.specs.declared.operation.GuestOp.TheVariants.{Icc, Mem}
-use Rattle.gic_base.specs.declared.operation.DeviceOp.TheVariants.{Message, Wire, Msi}
-use Rattle.gic_base.specs.declared.operation.PeOp.{PeOp}
-use Rattle.gic_base.specs.declared.operation.PeOp.TheVariants.{Enter, Exit, Lrs}
-use Rattle.gic_base.specs.Icc.{register_named}
+use Rattle.scn_base.specs.Words.{Key, Private, Spi, IccReg, Iar0, Frame, Dist, Redist, Its, Ram, Icc, Mem, Message, Wire, Msi, PeOp, Enter, Exit, Lrs, register_named}
 use Rattle.json_field.specs.Field.{has_only, number_at, number_or, flag_at, text_at, pair_at}
 use Rattle.scn_base.specs.declared.step.Step.{Step}
 use Rattle.scn_base.specs.declared.step.Step.TheVariants.{Vcpu, Device, Pe}
 use Rattle.scn_base.specs.declared.step.Mode.{Mode}
 use Rattle.scn_base.specs.declared.standing.Standing.{Standing}
 use Rattle.scn_base.specs.Codes.{shape_code, limit_code, unknown_register_code, first_met, ok_unless}
-use Rattle.scn_base.specs.Good.{passes}
+use Rattle.scn_base.specs.GicGuest.Good.{passes}
 use Rattle.scn_base.specs.StepFault.{step_fault}
 use Rattle.scn_read.specs.declared.form.Form.{Form}
 use Rattle.scn_read.specs.declared.form.Form.TheVariants.{AccessRegister, AccessDistributor, AccessRedistributor, AccessIts, AccessMemory, SendMessage, MoveWire, SendMsi, EnterPe, ExitPe, ShowPe}

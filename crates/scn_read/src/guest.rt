@@ -8,11 +8,12 @@ use crate::defaults::{
     DEFAULT_DEVICES, DEFAULT_ESPIS, DEFAULT_LPIS, DEFAULT_RAM, DEFAULT_SPIS, DEFAULT_VCPUS,
 };
 use crate::preset::{Counts, presets};
-use gic_base::{
+use json_field::{elements_at, flag_or, has_only, list_or_empty, number_or};
+use scn_base::gic_base::{
     GuestShape, MAX_DEVICES, MAX_ESPIS, MAX_LPIS, MAX_RAM, MAX_SPIS, MAX_VCPUS, RAM_STEP, SPI_STEP,
 };
-use json_field::{elements_at, flag_or, has_only, list_or_empty, number_or};
-use scn_base::{GuestSpec, Guests, LIMIT, SHAPE, both, first_code};
+use scn_base::gic_guest::{GuestSpec, Guests};
+use scn_base::{LIMIT, SHAPE, both, first_code};
 use serde_json::Value;
 use std::alloc::{AllocError, Global};
 

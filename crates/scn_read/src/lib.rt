@@ -12,12 +12,16 @@ mod step;
 
 pub use form::{Form, Row};
 pub use guest::GUEST_FIELDS;
+pub use json_field;
 pub use preset::{PRIVATE_FIELDS, SHARED_FIELDS};
 pub use reading::{SCENARIO_FIELDS, read};
 pub use refusal::ReadRefusal;
+pub use scn_base;
+pub use scn_base::gic_guest::{
+    Answer, Answers, ColEnd, ColEnds, CpuEnd, CpuEnds, DevEnd, DevEnds, End, Ends, EvtEnd, EvtEnds,
+    GuestSpec, Guests, IrqEnd, IrqEnds, ItsEnd, LrList, Preset, PresetList, RunOut,
+};
 pub use scn_base::{
-    ADDRESS, Answer, Answers, ColEnd, ColEnds, CpuEnd, CpuEnds, DevEnd, DevEnds, End, Ends, EvtEnd,
-    EvtEnds, Fault, GuestSpec, Guests, IrqEnd, IrqEnds, ItsEnd, LIMIT, LrList, Mode, NOT_LOADED,
-    PE_BUSY, PE_STEP, Preset, PresetList, RunOut, SHAPE, Scenario, Step, Steps, UNKNOWN_ACTOR,
-    UNKNOWN_REGISTER, WIRE_LEVEL,
+    ADDRESS, Fault, LIMIT, Mode, NOT_LOADED, PE_BUSY, PE_STEP, SHAPE, Scenario, Step, Steps,
+    UNKNOWN_ACTOR, UNKNOWN_REGISTER, WIRE_LEVEL, gic_base, gic_guest, gic_list,
 };

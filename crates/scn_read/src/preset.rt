@@ -5,9 +5,12 @@ ghost use Rattle.scn_base.specs.Codes.{first_of, ok_unless};
 ghost use Rattle.scn_read.specs.Preset.{is_preset, written_of, is_in_range as is_in_range_of, is_spi as is_spi_of, is_there as is_there_of, preset_fault, preset_of};
 
 use crate::defaults::{DEFAULT_GROUP, DEFAULT_PRIORITY, DEFAULT_TARGET};
-use gic_base::{FIRST_ESPI, FIRST_SPI, MAX_PRIORITY, PRIORITY_STEP, PRIVATE_COUNT, SGI_COUNT};
 use json_field::{flag_or, has_only, number_at, number_or};
-use scn_base::{LIMIT, MAX_GROUP, Preset, PresetList, SHAPE, UNKNOWN_ACTOR, first_code};
+use scn_base::gic_base::{
+    FIRST_ESPI, FIRST_SPI, MAX_PRIORITY, PRIORITY_STEP, PRIVATE_COUNT, SGI_COUNT,
+};
+use scn_base::gic_guest::{MAX_GROUP, Preset, PresetList};
+use scn_base::{LIMIT, SHAPE, UNKNOWN_ACTOR, first_code};
 use serde_json::Value;
 use std::alloc::{AllocError, Global};
 

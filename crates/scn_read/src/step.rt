@@ -1,8 +1,7 @@
 //! The steps of a scenario.
 ghost use Rattle.std.specs.Prelude.{◌≡◌};
 ghost use Rattle.serde_json.specs.View.{view};
-ghost use Rattle.gic_base.specs.declared.operation.Frame.{Frame};
-ghost use Rattle.gic_base.specs.declared.operation.PeOp.{PeOp};
+ghost use Rattle.scn_base.specs.Words.{Frame, PeOp};
 ghost use Rattle.scn_base.specs.Standing.{IsStanding};
 ghost use Rattle.scn_read.specs.Narrow.{narrowed_said, narrowed_key, narrowed_frame, narrowed_pe_op};
 ghost use Rattle.scn_read.specs.Step.{register_said, access_said, redistributor_said, message_said, wired_key as wired_key_of, wire_said, msi_said, enter_said, pe_said, form_said, step_said, step_of};
@@ -12,8 +11,8 @@ use crate::form::{
     WIRE, WRITE,
 };
 use crate::narrow::narrowed;
-use gic_base::{DeviceOp, Frame, GuestOp, IccReg, Key, PeOp};
 use json_field::{flag_at, has_only, number_at, number_or, pair_at, text_at};
+use scn_base::gic_base::{DeviceOp, Frame, GuestOp, IccReg, Key, PeOp};
 use scn_base::{LIMIT, Mode, SHAPE, Standing, Step, UNKNOWN_REGISTER};
 use serde_json::Value;
 

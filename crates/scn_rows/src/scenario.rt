@@ -1,5 +1,5 @@
 //! What is read of a scenario, and what is shown of a refusal.
-use gic_base::{DeviceOp, Frame, GuestOp, GuestShape, IccReg, Key, PeOp};
+use scn_read::gic_base::{DeviceOp, Frame, GuestOp, GuestShape, IccReg, Key, PeOp};
 use scn_read::{Fault, Mode, Preset, ReadRefusal, Scenario, Step, read};
 use serde_json::Value;
 use std::test::Fail;

@@ -1,7 +1,7 @@
 -- A device of a guest does an operation.
 use Rattle.std.proofs.Common.{◌≡◌, ℕ, ◌+◌, ◌<◌, None, ap, subst, arith}
-use Rattle.gic_base.specs.declared.operation.DeviceOp.{DeviceOp}
-use Rattle.gic_call.specs.declared.event.Operation.TheVariants.{Device}
+use Rattle.guest_end.specs.Words.{DeviceOp}
+use Rattle.guest_end.specs.Calls.{Device}
 use Rattle.port_seq.specs.Told.{GuestTold, seen_of}
 use Rattle.seq_guest.specs.declared.vcpus.Vcpus.{Vcpus}
 use Rattle.pe_place.specs.Device.{DoesEvent}

@@ -7,25 +7,15 @@ use Rattle.std.proofs.lemmas.List.Elements.{All-nil, All-cons, All-head, All-tai
 use Rattle.std.proofs.lemmas.List.Sums.{fold-append}
 use Rattle.std.proofs.lemmas.Grind.{flat_map-append}
 use Rattle.std.proofs.lemmas.Option.{slice_get_within, slice_get_read}
-use Rattle.gic_base.specs.declared.operation.DeviceOp.{DeviceOp}
-use Rattle.gic_base.specs.declared.shape.GuestShape.{GuestShape}
-use Rattle.gic_call.specs.declared.event.Operation.{Operation}
-use Rattle.gic_call.specs.declared.event.Operation.TheVariants.{Device}
-use Rattle.scn_base.specs.declared.guest.GuestSpec.{GuestSpec}
-use Rattle.port_core.specs.declared.run.Made.{Made}
-use Rattle.port_core.specs.Actor.{actor_count}
-use Rattle.port_core.specs.Port.{Seen, Adds, seen_after, local_by}
-use Rattle.port_core.specs.Run.{Seat}
-use Rattle.port_core.proofs.PortLemmas.{local_joins}
-use Rattle.core_proper.specs.Called.{IsAtRest, MakesCall}
-use Rattle.core_proper.specs.Parts.{entry_by}
-use Rattle.core_proper.specs.Progress.{Progress, progressed, progress_of}
-use Rattle.core_proper.specs.Proper.{IsProper, is_settled}
-use Rattle.core_proper.proofs.PartLemmas.{proper_append}
-use Rattle.core_proper.proofs.RestLemmas.{rests_again}
+use Rattle.guest_end.specs.Words.{DeviceOp, GuestShape}
+use Rattle.guest_end.specs.Calls.{Operation, Device, GuestSpec}
+use Rattle.pe_place.specs.Core.{Made, actor_count, Seen, Adds, seen_after, local_by, Seat, IsAtRest, MakesCall, entry_by, Progress, progressed, progress_of, IsProper, is_settled}
+use Rattle.port_seq.proofs.PortCore.PortLemmas.{local_joins}
+use Rattle.pe_place.proofs.CoreProper.PartLemmas.{proper_append}
+use Rattle.pe_place.proofs.CoreProper.RestLemmas.{rests_again}
 use Rattle.port_seq.specs.Told.{GuestTold, seen_of}
-use Rattle.dev_port.specs.Device.{CanCall, IsDevicePart}
-use Rattle.serial_laws.specs.Serial.{WholePart}
+use Rattle.pe_place.specs.DevPort.Device.{CanCall, IsDevicePart}
+use Rattle.law_entries_are_plans.specs.LawSerialIsEager.Serial.{WholePart}
 use Rattle.pe_place.specs.declared.place.Place.{Place}
 use Rattle.seq_guest.specs.declared.vcpus.Vcpus.{Vcpus}
 use Rattle.pe_place.specs.Parts.{Part, by_actor, steps_in, acts_of, acts_in, entries_in, parts_by, progress_after, IsCallFound, AreCalls, IsSeatAfter, IsOfGuest, AreOneCall, AreResidences, HaveCall}

@@ -4,19 +4,10 @@ use Rattle.std.proofs.Math.Logic.{∥∥₁_elim}
 use Rattle.std.proofs.Props.{props}
 use Rattle.std.proofs.lemmas.Bool.{cases_eq, cases_lt}
 use Rattle.std.proofs.lemmas.List.{set-get_or}
-use Rattle.scn_base.specs.declared.guest.GuestSpec.{GuestSpec}
-use Rattle.port_core.specs.declared.run.Made.{Made}
-use Rattle.port_core.specs.declared.step.CoreStep.TheVariants.{Look}
-use Rattle.port_core.specs.declared.word_id.WordId.TheVariants.{Vcpu}
-use Rattle.port_core.specs.Effect.{word_after}
-use Rattle.port_core.specs.Forms.{vcpu_of}
-use Rattle.port_core.specs.Place.{place_of_word}
-use Rattle.port_core.specs.Port.{Seen, Adds}
-use Rattle.port_core.specs.Run.{CoreState, IsRun, Takes, after, opening, seat_at, word_in}
-use Rattle.port_core.specs.Step.{word_of}
-use Rattle.port_core.proofs.RunLemmas.{run_splits}
-use Rattle.core_proper.specs.Parts.{entry_by}
-use Rattle.core_regs.specs.Asks.{IsUnkicked}
+use Rattle.guest_end.specs.Calls.{GuestSpec}
+use Rattle.pe_place.specs.Core.{Made, Look, Vcpu, word_after, vcpu_of, place_of_word, Seen, Adds, CoreState, IsRun, Takes, after, opening, seat_at, word_in, word_of, entry_by}
+use Rattle.port_seq.proofs.PortCore.RunLemmas.{run_splits}
+use Rattle.law_entries_are_plans.specs.LawRegistersStand.Asks.{IsUnkicked}
 use Rattle.port_seq.specs.Told.{GuestTold, seen_of, state_of}
 use Rattle.pe_place.specs.declared.place.Place.{Place}
 use Rattle.pe_place.specs.declared.place.Place.TheVariants.{Shelf, Aside, Pe}

@@ -1,3 +1,6 @@
+pub use Rattle.law_entries_are_plans.proofs as LawEntriesArePlans
+pub use Rattle.pe_place.proofs as PePlace
+pub use Rattle.port_seq.proofs as PortSeq
 pub mod SearchLemmas
 pub mod LoneLemmas
 pub mod SeatLemmas

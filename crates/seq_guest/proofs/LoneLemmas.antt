@@ -4,36 +4,22 @@ use Rattle.std.proofs.lemmas.Bool.{and_parts, eq-eqb, eqb-true, lt-ltb}
 use Rattle.std.proofs.lemmas.List.{append_assoc, map-append}
 use Rattle.std.proofs.lemmas.List.Folds.{list_all-append}
 use Rattle.std.proofs.lemmas.Option.{none-some, same_Some}
-use Rattle.gic_base.specs.declared.interrupt.Key.{Key}
-use Rattle.gic_base.specs.declared.shape.GuestShape.{GuestShape}
-use Rattle.gic_base.specs.Shape.{IsShape}
-use Rattle.gic_call.specs.declared.event.Operation.TheVariants.{Residence}
-use Rattle.port_core.specs.declared.run.Made.{Made}
-use Rattle.port_core.specs.declared.step.CoreStep.{CoreStep}
-use Rattle.port_core.specs.declared.step.CoreStep.TheVariants.{Look, Claim, Kick, Mark, Poll, TakeIndex}
-use Rattle.port_core.specs.declared.word_id.WordId.TheVariants.{Irq, Vcpu}
-use Rattle.port_core.specs.Effect.{succeeds, word_after}
-use Rattle.port_core.specs.Forms.{packed_vcpu, vcpu_of}
-use Rattle.port_core.specs.Known.{is_on, known}
-use Rattle.port_core.specs.Place.{place_of_word}
-use Rattle.port_core.specs.Run.{CoreState, IsRun, IsSound, Takes, after, end_of, seat_at, word_in}
-use Rattle.port_core.specs.Step.{word_of}
-use Rattle.port_core.proofs.PlaceLemmas.{word_same}
-use Rattle.port_core.proofs.RunLemmas.{run_splits, runs_joined}
-use Rattle.port_core.proofs.StepLemmas.{run_sound, word_there}
-use Rattle.port_call.specs.Piece.{steps_of}
-use Rattle.core_proper.specs.Parts.{begins, ends, entry_by, makes, part_of}
-use Rattle.core_proper.specs.Progress.{Progress, begun, changed_by, is_end_of, progressed, progress_of, stepped}
-use Rattle.core_proper.specs.Proper.{IsProper, IsProperStep, is_empty}
-use Rattle.core_proper.specs.Scan.{Scan, idle, taking, looking, claiming, is_idle, scan_allows}
-use Rattle.core_proper.proofs.PartLemmas.{proper_append}
-use Rattle.core_proper.proofs.ReachLemmas.{number_is}
-use Rattle.core_proper.proofs.ScanLemmas.{kept_on}
-use Rattle.core_laws.proofs.KnownSteps.{known_more, left_in, other_in}
-use Rattle.core_regs.specs.Asks.{IsUnkicked}
-use Rattle.core_fresh.proofs.ProgressLemmas.{operation_on}
-use Rattle.core_fresh.proofs.ScanSteps.{with_made}
-use Rattle.pe_loop.specs.Steps.{all_are, all_hit, is_claim, is_hit, is_mark, is_search, IsEntryPart}
+use Rattle.guest_end.specs.Words.{Key, GuestShape, IsShape}
+use Rattle.guest_end.specs.Calls.{Residence}
+use Rattle.pe_place.specs.Core.{Made, CoreStep, Look, Claim, Kick, Mark, Poll, TakeIndex, Irq, Vcpu, succeeds, word_after, packed_vcpu, vcpu_of, is_on, known, place_of_word, CoreState, IsRun, IsSound, Takes, after, end_of, seat_at, word_in, word_of, begins, ends, entry_by, makes, part_of, Progress, begun, is_end_of, progressed, progress_of, stepped, IsProper, IsProperStep, is_empty, Scan, idle, taking, looking, claiming, is_idle, scan_allows}
+use Rattle.port_seq.proofs.PortCore.PlaceLemmas.{word_same}
+use Rattle.port_seq.proofs.PortCore.RunLemmas.{run_splits, runs_joined}
+use Rattle.port_seq.proofs.PortCore.StepLemmas.{run_sound, word_there}
+use Rattle.pe_place.specs.PortCall.Piece.{steps_of}
+use Rattle.law_entries_are_plans.specs.CoreProper.Progress.{changed_by}
+use Rattle.pe_place.proofs.CoreProper.PartLemmas.{proper_append}
+use Rattle.pe_place.proofs.CoreProper.ReachLemmas.{number_is}
+use Rattle.pe_place.proofs.CoreProper.ScanLemmas.{kept_on}
+use Rattle.law_entries_are_plans.proofs.LawCoreIsHistory.KnownSteps.{known_more, left_in, other_in}
+use Rattle.law_entries_are_plans.specs.LawRegistersStand.Asks.{IsUnkicked}
+use Rattle.law_entries_are_plans.proofs.LawScansMissNone.ProgressLemmas.{operation_on}
+use Rattle.law_entries_are_plans.proofs.LawScansMissNone.ScanSteps.{with_made}
+use Rattle.pe_place.specs.PeLoop.Steps.{all_are, all_hit, is_claim, is_hit, is_mark, is_search, IsEntryPart}
 use Rattle.seq_guest.proofs.SearchLemmas.{AreLooked, IsLooked, changed_looked, is_of_entry, known_from, scan_looked_on}
 
 -- Step by step.

@@ -4,12 +4,10 @@ use Rattle.std.specs.Prelude.{slice_get}
 use Rattle.std.proofs.lemmas.Bool.{lt-ltb}
 use Rattle.std.proofs.lemmas.Option.{slice_get_within}
 use Rattle.atomic_table.specs.Seated.{TableId}
-use Rattle.scn_base.specs.declared.guest.GuestSpec.{GuestSpec}
-use Rattle.port_core.specs.Actor.{actor_count}
-use Rattle.port_core.specs.Run.{Seat, seat_at, opening_seat}
-use Rattle.port_core.proofs.OpeningLemmas.{seat_opens}
-use Rattle.core_proper.specs.Proper.{is_settled}
-use Rattle.pe_loop.specs.Stay.{IsOff}
+use Rattle.guest_end.specs.Calls.{GuestSpec}
+use Rattle.pe_place.specs.Core.{actor_count, Seat, seat_at, opening_seat, is_settled}
+use Rattle.port_seq.proofs.PortCore.OpeningLemmas.{seat_opens}
+use Rattle.pe_place.specs.PeLoop.Stay.{IsOff}
 use Rattle.port_seq.specs.Told.{GuestTold, opening_told, state_of}
 use Rattle.pe_place.specs.declared.place.Place.{Place}
 use Rattle.pe_place.specs.declared.place.Place.TheVariants.{Shelf}

@@ -1,11 +1,10 @@
 -- An operation of a vCPU, as a part of its own.
 use Rattle.std.proofs.Common.{◌≡◌, ◌≢◌, ℕ, true≢false, Bool, true, false, if◌then◌else◌, Option, refl, sym, ap, ◌∙◌}
 use Rattle.std.proofs.lemmas.Bool.{ne_eqb}
-use Rattle.gic_base.specs.declared.operation.GuestOp.{GuestOp}
-use Rattle.gic_base.specs.declared.operation.GuestOp.TheVariants.{Icc, Mem}
-use Rattle.gic_call.specs.declared.event.Operation.TheVariants.{Access}
+use Rattle.guest_end.specs.Words.{GuestOp, Icc, Mem}
+use Rattle.guest_end.specs.Calls.{Access}
 use Rattle.port_seq.specs.Told.{GuestTold}
-use Rattle.serial_laws.specs.Serial.{is_icc}
+use Rattle.law_entries_are_plans.specs.LawSerialIsEager.Serial.{is_icc}
 use Rattle.seq_guest.specs.declared.vcpus.Vcpus.{Vcpus}
 use Rattle.pe_place.specs.Place.{Spot, shelf, aside, pe, gone_aside, returned}
 use Rattle.seq_guest.specs.Operation.{is_of_registers}

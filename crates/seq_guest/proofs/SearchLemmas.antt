@@ -5,36 +5,19 @@ use Rattle.std.specs.Option.{option_map, option_map_or}
 use Rattle.std.proofs.lemmas.Grind.{fold-append}
 use Rattle.std.proofs.lemmas.List.Elements.{Contains-append_cases}
 use Rattle.std.proofs.lemmas.Option.{none-some, same_Some}
-use Rattle.gic_base.specs.declared.interrupt.Key.{Key}
-use Rattle.gic_base.specs.declared.shape.GuestShape.{GuestShape}
-use Rattle.gic_base.specs.Interrupt.{is_same_key}
-use Rattle.gic_base.proofs.KeyLemmas.{same_key}
-use Rattle.gic_prio.specs.declared.cpu.CpuRec.{CpuRec}
-use Rattle.gic_word.specs.declared.record.Irq.{Irq as IrqRecord}
-use Rattle.gic_word.specs.Word.{irq_of}
-use Rattle.vcpu_refill.specs.declared.fill.Choice.{Choice}
-use Rattle.vcpu_refill.specs.declared.offer.Offer.{Offer}
-use Rattle.vcpu_refill.specs.Order.{deliverable_among, first_among, is_deliverable_to}
-use Rattle.vcpu_refill.specs.Plan.{plan}
-use Rattle.vcpu_refill.proofs.EarnedLemmas.{earned, from_filter, from_ordered}
-use Rattle.vcpu_refill.proofs.ElementLemmas.{Contains-here, Contains-cases, Contains-nothing}
-use Rattle.vcpu_refill.proofs.StandLemmas.{from_filter_map}
-use Rattle.port_core.specs.declared.local.Local.{Local}
-use Rattle.port_core.specs.declared.run.Made.{Made}
-use Rattle.port_core.specs.declared.step.CoreStep.{CoreStep}
-use Rattle.port_core.specs.declared.step.CoreStep.TheVariants.{Look, Claim, Mark, TakeIndex}
-use Rattle.port_core.specs.declared.word_id.WordId.{WordId}
-use Rattle.port_core.specs.declared.word_id.WordId.TheVariants.{Irq}
-use Rattle.port_core.specs.Known.{is_on, known}
-use Rattle.port_core.specs.Local.{has_no_cand}
-use Rattle.port_core.specs.Place.{index_words}
-use Rattle.port_core.specs.Step.{word_of}
-use Rattle.port_call.proofs.MemoryLemmas.{on_own}
-use Rattle.core_proper.specs.Progress.{Progress, after_claim, changed_by, filled, goes_on, looks_on, scan_on}
-use Rattle.core_proper.specs.Scan.{Purpose, planned, trapped, bare, Scan, idle, taking, looking, claiming, ended_scan, has_key, is_both, key_of_both, keys_chosen, keys_of_both, next_cand, offered, scan_looked, tried, without_key, word_taken}
-use Rattle.core_laws.proofs.KnownSteps.{known_more}
-use Rattle.core_regs.proofs.FillLemmas.{among_has_key, key_among}
-use Rattle.pe_loop.specs.Steps.{is_claim, is_mark, is_search}
+use Rattle.guest_end.specs.Words.{Key, GuestShape, is_same_key, Irq as IrqRecord, irq_of}
+use Rattle.port_seq.proofs.GicBase.KeyLemmas.{same_key}
+use Rattle.guest_end.specs.Registers.{CpuRec}
+use Rattle.law_entries_are_plans.specs.Lists.{Choice, Offer, deliverable_among, first_among, is_deliverable_to, plan}
+use Rattle.guest_end.proofs.VcpuRefill.EarnedLemmas.{earned, from_filter, from_ordered}
+use Rattle.guest_end.proofs.VcpuRefill.ElementLemmas.{Contains-here, Contains-cases, Contains-nothing}
+use Rattle.guest_end.proofs.VcpuRefill.StandLemmas.{from_filter_map}
+use Rattle.pe_place.specs.Core.{Local, Made, CoreStep, Look, Claim, Mark, TakeIndex, WordId, Irq, is_on, known, has_no_cand, index_words, word_of, Progress, after_claim, filled, goes_on, looks_on, scan_on, Purpose, planned, trapped, bare, Scan, idle, taking, looking, claiming, ended_scan, has_key, is_both, key_of_both, keys_chosen, keys_of_both, next_cand, offered, scan_looked, tried, without_key, word_taken}
+use Rattle.pe_place.proofs.PortCall.MemoryLemmas.{on_own}
+use Rattle.law_entries_are_plans.specs.CoreProper.Progress.{changed_by}
+use Rattle.law_entries_are_plans.proofs.LawCoreIsHistory.KnownSteps.{known_more}
+use Rattle.law_entries_are_plans.proofs.LawRegistersStand.FillLemmas.{among_has_key, key_among}
+use Rattle.pe_place.specs.PeLoop.Steps.{is_claim, is_mark, is_search}
 
 -- What an actor knows.
 

@@ -4,13 +4,10 @@ use Rattle.std.specs.Prelude.{slice_get}
 use Rattle.std.proofs.lemmas.Bool.{cases_eq}
 use Rattle.std.proofs.lemmas.List.{get_or-set_same, get_or-set_other, length-set}
 use Rattle.std.proofs.lemmas.Option.{slice_get_within, slice_get-get_or, get_or_from_slice_get}
-use Rattle.gic_base.specs.declared.shape.GuestShape.{GuestShape}
-use Rattle.scn_base.specs.declared.guest.GuestSpec.{GuestSpec}
-use Rattle.port_core.specs.declared.run.Made.{Made}
-use Rattle.port_core.specs.Port.{Seen, Adds}
-use Rattle.port_core.specs.Run.{CoreState, Seat, no_seat, seat_at, after, end_of, opening}
-use Rattle.port_core.proofs.RunLemmas.{runs_joined}
-use Rattle.core_proper.specs.Parts.{entry_by}
+use Rattle.guest_end.specs.Words.{GuestShape}
+use Rattle.guest_end.specs.Calls.{GuestSpec}
+use Rattle.pe_place.specs.Core.{Made, Seen, Adds, CoreState, Seat, no_seat, seat_at, after, end_of, opening, entry_by}
+use Rattle.port_seq.proofs.PortCore.RunLemmas.{runs_joined}
 use Rattle.port_seq.specs.Told.{GuestTold, seen_of, state_of}
 use Rattle.seq_guest.specs.Guest.{seen_by, IsSameGuest}
 use Rattle.pe_place.proofs.FrameLemmas.{IsSame}

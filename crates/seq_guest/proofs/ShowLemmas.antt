@@ -7,26 +7,17 @@ use Rattle.std.proofs.Props.{props}
 use Rattle.std.proofs.lemmas.Bool.{and_parts}
 use Rattle.std.proofs.lemmas.List.Folds.{list_all-append}
 use Rattle.std.proofs.lemmas.Option.{slice_get_within}
-use Rattle.gic_call.specs.declared.event.Operation.TheVariants.{Residence}
-use Rattle.scn_base.specs.declared.guest.GuestSpec.{GuestSpec}
-use Rattle.scn_base.specs.Good.{IsGoodGuest}
-use Rattle.vcpu_state.specs.declared.loaded.Loaded.{Loaded}
-use Rattle.port_core.specs.declared.run.Made.{Made}
-use Rattle.port_core.specs.declared.step.CoreStep.{CoreStep}
-use Rattle.port_core.specs.declared.step.CoreStep.TheVariants.{Kick, Poll}
-use Rattle.port_core.specs.Port.{Adds}
-use Rattle.port_core.specs.Run.{IsRun, IsSound, opening}
-use Rattle.port_core.proofs.RunLemmas.{run_splits}
-use Rattle.port_call.specs.Piece.{steps_of}
-use Rattle.core_proper.specs.Parts.{entry_by, part_of}
-use Rattle.core_proper.specs.Progress.{Progress}
-use Rattle.core_proper.specs.Proper.{IsProper}
-use Rattle.core_regs.specs.Asks.{IsUnkicked}
+use Rattle.guest_end.specs.Calls.{Residence, GuestSpec, IsGoodGuest}
+use Rattle.pe_place.specs.VcpuState.declared.loaded.Loaded.{Loaded}
+use Rattle.pe_place.specs.Core.{Made, CoreStep, Kick, Poll, Adds, IsRun, IsSound, opening, entry_by, part_of, Progress, IsProper}
+use Rattle.port_seq.proofs.PortCore.RunLemmas.{run_splits}
+use Rattle.pe_place.specs.PortCall.Piece.{steps_of}
+use Rattle.law_entries_are_plans.specs.LawRegistersStand.Asks.{IsUnkicked}
 use Rattle.port_seq.specs.Kept.{told_sound}
 use Rattle.port_seq.specs.Told.{GuestTold, seen_of, state_of}
-use Rattle.pe_loop.specs.Steps.{all_are, all_hit, is_claim, is_mark, is_search, IsEntryPart}
-use Rattle.pe_icc.specs.Amid.{IsRunning}
-use Rattle.entry_laws.specs.Entry.{IsEntry, looks_for_kick}
+use Rattle.pe_place.specs.PeLoop.Steps.{all_are, all_hit, is_claim, is_mark, is_search, IsEntryPart}
+use Rattle.pe_place.specs.PeIcc.Amid.{IsRunning}
+use Rattle.law_entries_are_plans.specs.Entry.{IsEntry, looks_for_kick}
 use Rattle.pe_place.specs.declared.place.Place.{Place}
 use Rattle.pe_place.specs.declared.place.Place.TheVariants.{Shelf, Aside, Pe}
 use Rattle.seq_guest.specs.declared.vcpus.Vcpus.{Vcpus}

@@ -2,19 +2,15 @@
 use Rattle.std.specs.Prelude.{◌≡◌, ◌≢◌, ℕ, ◌<◌, ◌≤◌, ◌==◌, nat_lt, IsTrue, true, List, [], ◌∷◌, ◌++◌, length, map, All, if◌then◌else◌, Option, Some, slice_get}
 use Rattle.std.specs.Option.{option_map_or}
 use Rattle.std.specs.List.{range_with_len}
-use Rattle.gic_base.specs.declared.operation.GuestOp.{GuestOp}
-use Rattle.gic_call.specs.declared.event.Operation.TheVariants.{Access}
-use Rattle.gic_prio.specs.declared.cpu.CpuRec.{CpuRec}
-use Rattle.port_core.specs.Actor.{actor_count}
-use Rattle.port_core.specs.Port.{Seen}
-use Rattle.core_proper.specs.Called.{IsAtRest}
-use Rattle.core_proper.specs.Progress.{Progress}
-use Rattle.core_proper.specs.Proper.{IsProper, is_settled}
-use Rattle.core_regs.specs.Asks.{IsUnkicked}
+use Rattle.guest_end.specs.Words.{GuestOp}
+use Rattle.guest_end.specs.Calls.{Access}
+use Rattle.guest_end.specs.Registers.{CpuRec}
+use Rattle.pe_place.specs.Core.{actor_count, Seen, IsAtRest, Progress, IsProper, is_settled}
+use Rattle.law_entries_are_plans.specs.LawRegistersStand.Asks.{IsUnkicked}
 use Rattle.port_seq.specs.Told.{GuestTold, seen_of, state_of}
-use Rattle.serial_laws.specs.Serial.{WholePart, is_icc}
-use Rattle.entry_laws.specs.Entry.{HasEntered, IsEntry}
-use Rattle.vcpu_state.specs.declared.loaded.Loaded.{Loaded}
+use Rattle.law_entries_are_plans.specs.LawSerialIsEager.Serial.{WholePart, is_icc}
+use Rattle.law_entries_are_plans.specs.Entry.{HasEntered, IsEntry}
+use Rattle.pe_place.specs.VcpuState.declared.loaded.Loaded.{Loaded}
 use Rattle.pe_place.specs.declared.place.Place.{Place}
 use Rattle.pe_place.specs.declared.place.Place.TheVariants.{Pe}
 use Rattle.seq_guest.specs.declared.vcpus.Vcpus.{Vcpus}

@@ -1,8 +1,6 @@
 -- Which operations of a vCPU other vCPUs leave their PEs for (own choice).
 use Rattle.std.specs.Prelude.{Bool, true, false}
-use Rattle.gic_base.specs.declared.operation.GuestOp.{GuestOp}
-use Rattle.gic_base.specs.declared.operation.GuestOp.TheVariants.{Icc, Mem}
-use Rattle.gic_base.specs.declared.operation.Frame.TheVariants.{Dist, Redist, Its, Ram}
+use Rattle.guest_end.specs.Words.{GuestOp, Icc, Mem, Dist, Redist, Its, Ram}
 
 -- an access of a register of the distributor, of a redistributor or of the ITS
 abbrev pub is_of_registers : GuestOp → Bool

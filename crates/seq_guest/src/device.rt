@@ -1,16 +1,15 @@
 //! An operation of a device of a guest.
 ghost use Rattle.std.specs.Prelude.{◌≡◌, ◌+◌, ◌<◌, IsTrue, None};
-ghost use Rattle.gic_call.specs.declared.event.Operation.TheVariants.{Device};
-ghost use Rattle.scn_base.specs.Good.{is_good_event};
+ghost use Rattle.guest_end.specs.Calls.{Device, is_good_event};
 ghost use Rattle.port_seq.specs.Ports.{told};
 ghost use Rattle.pe_place.specs.Parts.{HaveCall};
 ghost use Rattle.seq_guest.specs.Guest.{AreAt, GoesOn, NoneKicked, ChangesSpots, for_none};
 
 use crate::vcpus::Vcpus;
-use gic_base::DeviceOp;
+use guest_end::gic_base::DeviceOp;
 use pe_place::device_op;
-use port_core::Port;
 use port_seq::GuestPort;
+use port_seq::port_core::Port;
 use std::sync::Wait;
 
 impl Vcpus {

@@ -8,4 +8,5 @@ mod operate;
 mod vcpus;
 
 pub use cpus::add_cpus;
+pub use port_seq;
 pub use vcpus::Vcpus;

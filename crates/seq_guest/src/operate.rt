@@ -1,9 +1,8 @@
 //! An operation of a vCPU of a guest.
 ghost use Rattle.std.specs.Prelude.{◌≡◌, ◌≢◌, ℕ, ◌<◌, true, IsTrue, IfOk, OnOk, OnErr};
-ghost use Rattle.gic_call.specs.declared.event.Operation.TheVariants.{Access};
-ghost use Rattle.port_core.specs.Port.{shape_of};
-ghost use Rattle.pe_mem.specs.Found.{takes_turn_by};
-ghost use Rattle.scn_base.specs.Good.{is_good_op};
+ghost use Rattle.guest_end.specs.Calls.{Access, is_good_op};
+ghost use Rattle.pe_place.specs.Core.{shape_of};
+ghost use Rattle.pe_place.specs.PeMem.Found.{takes_turn_by};
 ghost use Rattle.port_seq.specs.Ports.{told};
 ghost use Rattle.seq_guest.specs.Operation.{is_of_registers as is_of_registers_by};
 ghost use Rattle.pe_place.specs.Parts.{AreOneCall};
@@ -12,10 +11,10 @@ ghost use Rattle.pe_place.specs.Moves.{Moves};
 ghost use Rattle.seq_guest.specs.Guest.{AreAt, GoesOn, MakesWay, Operates, NoneKicked, spot_at, ChangesSpots, for_none};
 
 use crate::vcpus::Vcpus;
-use gic_base::{Frame, GuestOp, NoMemory};
+use guest_end::gic_base::{Frame, GuestOp, NoMemory};
 use pe_place::operate_on;
-use port_core::Port;
 use port_seq::GuestPort;
+use port_seq::port_core::Port;
 use std::sync::Wait;
 
 /// Whether an operation accesses a register of the distributor, of a redistributor or of the ITS: one that may be of interrupts

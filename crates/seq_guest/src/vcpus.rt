@@ -1,16 +1,16 @@
 //! The vCPUs of a guest, over its port.
 ghost use Rattle.std.specs.Prelude.{◌≡◌, ℕ, ◌<◌, ◌≤◌, false, Some, IfOk, slice_get};
-ghost use Rattle.gic_base.specs.declared.held.TheConstants.{MAX_LIST_REGISTERS};
+ghost use Rattle.guest_end.specs.Words.{MAX_LIST_REGISTERS};
 ghost use Rattle.port_seq.specs.Ports.{told};
 ghost use Rattle.port_seq.specs.Told.{opening_told};
 
+use guest_end::gic_guest::LrList;
+use pe_place::vcpu_state::Shelved;
 use pe_place::{Place, answer_kick, come_back, enter_pe, leave_pe, show_pe, step_aside};
-use port_core::Port;
 use port_seq::GuestPort;
-use scn_base::LrList;
+use port_seq::port_core::Port;
 use std::alloc::{AllocError, Global};
 use std::sync::Wait;
-use vcpu_state::Shelved;
 
 /// The vCPUs of a guest.
 #[derive(Drop)]
@@ -27,7 +27,7 @@ impl Vcpus {
     ghost use Rattle.pe_place.specs.Parts.{AreResidences};
     ghost use Rattle.pe_place.specs.declared.place.Place.{Place};
     ghost use Rattle.pe_place.specs.Place.{shelf, pe, IsShown, entered, left, gone_aside, returned};
-    ghost use Rattle.core_regs.specs.Asks.{IsUnkicked};
+    ghost use Rattle.law_entries_are_plans.specs.LawRegistersStand.Asks.{IsUnkicked};
     ghost use Rattle.port_seq.specs.Told.{state_of};
     ghost use Rattle.seq_guest.specs.Guest.{AreAt, GoesOn, Shows, ShowsList, NoneKicked, spot_at, ChangesSpots, for_none, for_one, but_one, for_all};
 

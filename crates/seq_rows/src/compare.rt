@@ -1,14 +1,14 @@
 //! The texts of a scenario's two runs.
-ghost use Rattle.scn_base.specs.Good.{IsGood};
-ghost use Rattle.scn_base.specs.declared.step.Mode.TheVariants.{Schedule};
+ghost use Rattle.gic_top.specs.ScnBase.Good.{IsGood};
+ghost use Rattle.gic_top.specs.ScnBase.declared.step.Mode.TheVariants.{Schedule};
 
-use gic_base::NoMemory;
-use gic_ideal::eager;
-use gic_io::Bytes;
-use gic_report::text;
 use gic_top::NOTHING_SHOWN;
-use run_seq::run;
-use scn_base::Scenario;
+use gic_top::gic_base::NoMemory;
+use gic_top::gic_ideal::eager;
+use gic_top::gic_io::Bytes;
+use gic_top::gic_report::text;
+use gic_top::run_seq::run;
+use gic_top::scn_base::Scenario;
 use std::alloc::Global;
 use std::sync::Wait;
 

@@ -3,9 +3,9 @@
 ghost use Rattle.std.specs.Prelude.{◌<◌, ◌≤◌};
 
 use crate::dice::Dice;
-use gic_base::GuestShape;
-use gic_list::ListOf;
-use scn_base::{GuestSpec, Guests, Preset, PresetList};
+use gic_top::gic_base::GuestShape;
+use gic_top::gic_guest::{GuestSpec, Guests, Preset, PresetList};
+use gic_top::gic_list::ListOf;
 use std::alloc::{AllocError, Global};
 
 /// The priorities that are used.

@@ -1,13 +1,13 @@
 //! Which drawn steps a scenario keeps.
 
 ghost use Rattle.std.specs.Prelude.{◌≡◌, IfSome, None};
-ghost use Rattle.scn_base.specs.declared.step.Mode.TheVariants.{Schedule};
-ghost use Rattle.scn_base.specs.Good.{IsGood};
-ghost use Rattle.scn_base.specs.Standing.{IsStanding};
-ghost use Rattle.scn_base.specs.StepFault.{step_fault};
+ghost use Rattle.gic_top.specs.ScnBase.declared.step.Mode.TheVariants.{Schedule};
+ghost use Rattle.gic_top.specs.ScnBase.Good.{IsGood};
+ghost use Rattle.gic_top.specs.ScnBase.Standing.{IsStanding};
+ghost use Rattle.gic_top.specs.ScnBase.StepFault.{step_fault};
 
-use gic_list::ListOf;
-use scn_base::{Mode, Scenario, Standing, Step, Steps};
+use gic_top::gic_list::ListOf;
+use gic_top::scn_base::{Mode, Scenario, Standing, Step, Steps};
 use std::alloc::{AllocError, Global};
 
 /// How many vCPUs are tried.

@@ -2,11 +2,11 @@
 
 ghost use Rattle.std.specs.Prelude.{◌≤◌};
 
-use gic_ideal::eager;
-use gic_io::{MemSource, OpenGate, SureSink};
-use gic_report::generate;
+use gic_top::gic_guest::Answer;
+use gic_top::gic_ideal::eager;
+use gic_top::gic_io::{MemSource, OpenGate, SureSink};
+use gic_top::gic_report::generate;
 use gic_top::{NOTHING_SHOWN, OK, USAGE, run_tool};
-use scn_base::Answer;
 use std::alloc::{AllocError, Global};
 use std::process::Abort;
 use std::sync::Wait;

@@ -1,20 +1,18 @@
 //! Messages of devices over words that threads share.
 ghost use Rattle.std.specs.Prelude.{◌≡◌, ◌≤◌, ◌*◌, IsTrue, IfOk, length, map};
 ghost use Rattle.std.specs.Thread.{IsSync};
-ghost use Rattle.gic_base.specs.declared.operation.Actor.TheVariants.{Device as DeviceActor};
-ghost use Rattle.gic_base.specs.declared.interrupt.Key.TheVariants.{Spi};
-ghost use Rattle.gic_base.specs.Interrupt.{has_interrupt};
-ghost use Rattle.port_core.specs.Port.{shape_of};
+ghost use Rattle.dev_port.specs.Words.{Device as DeviceActor, Spi, has_interrupt};
+ghost use Rattle.dev_port.specs.Core.{shape_of};
 ghost use Rattle.dev_port.specs.Device.{CanCall};
 ghost use Rattle.port_table.specs.All.{told_words, told_root};
 ghost use Rattle.port_table.specs.Told.{AreRoots, opening_root, words_at};
 
+use dev_port::gic_base::{Actor, GuestShape, Key, key_of};
 use dev_port::message;
-use gic_base::{Actor, GuestShape, Key, key_of};
-use port_core::Port;
 use port_rest::{is_settled, one_guest};
+use port_table::port_core::Port;
+use port_table::scn_base::Mode;
 use port_table::{RootSeat, SharedWords, TablePort, split, start};
-use scn_base::Mode;
 use std::alloc::{AllocError, Global};
 use std::thread::{Threads, join_mut};
 

@@ -1,16 +1,10 @@
 -- What a port of an actor keeps, and a guest by itself.
 use Rattle.std.proofs.Common.{◌≡◌, ℕ, zero, suc, ◌+◌, ◌<◌, false, IsTrue, List, [], ◌∷◌, ◌++◌, length, map, set, refl, sym, ap, subst, ◌∙◌, arith}
 use Rattle.std.proofs.lemmas.List.{get_or-map, get_or-set_same}
-use Rattle.gic_base.specs.declared.operation.Actor.{Actor}
-use Rattle.gic_base.specs.declared.operation.Actor.TheVariants.{Device}
-use Rattle.scn_base.specs.declared.guest.GuestSpec.{GuestSpec}
-use Rattle.port_core.specs.declared.local.Local.{Local}
-use Rattle.port_core.specs.declared.run.Made.{Made}
-use Rattle.port_core.specs.declared.step.CoreStep.{CoreStep}
-use Rattle.port_core.specs.Actor.{guest_of, has_actor}
-use Rattle.port_core.specs.Port.{Seen, AddsStep, IsPort, IsSameActor, local_by}
-use Rattle.port_core.proofs.SameLemmas.{same_after}
-use Rattle.port_core.specs.Run.{opening_local_of}
+use Rattle.dev_port.specs.Words.{Actor, Device}
+use Rattle.port_table.specs.Calls.{GuestSpec}
+use Rattle.dev_port.specs.Core.{Local, Made, CoreStep, guest_of, has_actor, Seen, AddsStep, IsPort, IsSameActor, local_by, opening_local_of}
+use Rattle.port_table.proofs.PortCore.SameLemmas.{same_after}
 use Rattle.port_table.specs.Out.{AreOut}
 use Rattle.port_table.specs.Told.{WordsTold, RootTold, AreRoots, HasActor, HadNone, HasNoTurn, PortIsOf, AllDone, no_words, words_at, root_at, number_in, opening_root, opening_seen, with_split, with_joined, splitting, joining_in}
 use Rattle.port_table.specs.View.{is_among}

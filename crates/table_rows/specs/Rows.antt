@@ -1,6 +1,6 @@
 -- A guest by itself, and what calls of an actor leave.
 use Rattle.std.specs.Prelude.{◌≡◌, false, List, length}
-use Rattle.port_core.specs.Port.{Seen, IsSameActor}
+use Rattle.dev_port.specs.Core.{Seen, IsSameActor}
 use Rattle.port_table.specs.Told.{WordsTold, words_at}
 
 -- the words are of one guest, with two vCPUs and four devices

@@ -3,28 +3,28 @@ ghost use Rattle.std.specs.Prelude.{◌≡◌, IfSome, map};
 ghost use Rattle.std.specs.Thread.{IsSync};
 ghost use Rattle.port_table.specs.All.{told_words, told_root};
 ghost use Rattle.port_table.specs.Told.{AreRoots, AllDone, opening_root};
-ghost use Rattle.port_core.specs.Port.{IsSameActor};
+ghost use Rattle.dev_port.specs.Core.{IsSameActor};
 ghost use Rattle.table_rows.specs.Rows.{IsAlone};
 
 use crate::rows::{is_idle, open, scenario, send, send_event};
-use gic_base::{Actor, IccReg};
-use gic_word::unpack;
+use dev_port::gic_base::{Actor, IccReg};
 use pe_icc::icc_op;
-use pe_loop::{enter, leave};
-use port_core::{GuestWords, Port};
+use pe_icc::pe_loop::{enter, leave};
+use pe_icc::vcpu_state::Shelved;
 use port_rest::is_off;
+use port_table::gic_word::unpack;
+use port_table::port_core::{GuestWords, Port};
 use port_table::{RootSeat, SharedWords, finish, join, split};
 use std::alloc::{AllocError, Global};
 use std::sync::Wait;
 use std::test::Fail;
 use std::thread::{Threads, join as join_threads};
-use vcpu_state::Shelved;
 
 /// List registers of the PE.
 const LIST_REGISTERS: u32 = 4;
 
 /// A vCPU enters a PE, acknowledges an interrupt of group 1, and leaves. None where it may not, or reads something else.
-#[tactic(auto, using(port_core::proofs::SameLemmas::same_after, port_core::proofs::SameLemmas::same_twice))]
+#[tactic(auto, using(port_table::port_core::proofs::SameLemmas::same_after, port_table::port_core::proofs::SameLemmas::same_twice))]
 fn visit<P: Port, R: Wait>(rt: &R, port: &mut P, answer: u64) -> Option<()>
     requires { (P.seen port.old).number ≡ 0 }
     ensures { IfSome result (λ done. IsSameActor (P.seen port.old) (P.seen port.new)) }

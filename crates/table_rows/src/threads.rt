@@ -1,16 +1,16 @@
 //! Four devices of one guest, each in a thread of its own.
 ghost use Rattle.std.specs.Prelude.{◌≡◌, ◌<◌, IfSome, map};
 ghost use Rattle.std.specs.Thread.{IsSync};
-ghost use Rattle.gic_base.specs.declared.operation.Actor.TheVariants.{Device as DeviceActor};
+ghost use Rattle.dev_port.specs.Words.{Device as DeviceActor};
 ghost use Rattle.port_table.specs.All.{told_words, told_root};
 ghost use Rattle.port_table.specs.Ports.{seen_of};
 ghost use Rattle.port_table.specs.Told.{AreRoots, AllDone, opening_root};
-ghost use Rattle.port_core.specs.Port.{IsSameActor};
+ghost use Rattle.dev_port.specs.Core.{IsSameActor};
 ghost use Rattle.table_rows.specs.Rows.{IsAlone, Goes};
 
 use crate::rows::{SHAPE, is_idle, open, scenario, send};
-use gic_base::Actor;
-use port_core::{CoreStep, GuestWords, Port, WordId};
+use dev_port::gic_base::Actor;
+use port_table::port_core::{CoreStep, GuestWords, Port, WordId};
 use port_table::{RootSeat, SharedWords, TablePort, finish, join, split};
 use std::alloc::{AllocError, Global};
 use std::test::Fail;
@@ -26,7 +26,7 @@ const MESSAGES: u32 = 1000;
 const OWN: u32 = 4;
 
 /// A device sends its messages, every other one of the shared interrupt. None where it may not.
-#[tactic(auto, using(port_core::proofs::SameLemmas::same_twice))]
+#[tactic(auto, using(port_table::port_core::proofs::SameLemmas::same_twice))]
 fn raise_all<P: Port>(port: &mut P, own: u32) -> Option<()>
     requires { own < 1000 }
     ensures { IfSome result (λ done. Goes (P.seen port.old) (P.seen port.new)) }

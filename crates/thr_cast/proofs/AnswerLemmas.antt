@@ -6,24 +6,20 @@ use Rattle.std.proofs.lemmas.Bool.Decides.{nat_tests}
 use Rattle.std.proofs.lemmas.List.{append-nil, get_or-set_other, get_or-set_same, length-append, length-take-le, take_more}
 use Rattle.std.proofs.lemmas.List.Elements.{All-head, All-tail}
 use Rattle.std.proofs.lemmas.Option.{get_or_from_slice_get, slice_get-get_or}
-use Rattle.eager_laws.specs.Calls.{Made, answer_of, own_steps}
-use Rattle.gic_base.specs.declared.operation.DeviceOp.{DeviceOp}
-use Rattle.gic_base.specs.declared.operation.GuestOp.{GuestOp}
-use Rattle.gic_base.specs.declared.operation.PeOp.{PeOp}
-use Rattle.gic_base.specs.declared.shape.GuestShape.{GuestShape}
-use Rattle.gic_call.specs.declared.event.Operation.TheVariants.{Access, Device}
+use Rattle.thr_trip.specs.LawEagerIsHistory.Calls.{Made, answer_of, own_steps}
+use Rattle.guest_end.specs.Words.{DeviceOp, GuestOp, PeOp, GuestShape}
+use Rattle.guest_end.specs.Calls.{Access, Device, GuestSpec, is_good_op, passes, shapes_of}
 use Rattle.guest_end.specs.Outcome.{answer_by}
-use Rattle.port_ops.specs.Opened.{no_guest}
-use Rattle.port_table.specs.Told.{WordsTold, words_at}
-use Rattle.scn_base.specs.declared.guest.GuestSpec.{GuestSpec}
-use Rattle.scn_base.specs.declared.outcome.Answer.{Answer}
-use Rattle.scn_base.specs.declared.outcome.Answer.TheVariants.{Nothing}
-use Rattle.scn_base.specs.declared.pes.VcpuName.{VcpuName}
-use Rattle.scn_base.specs.declared.step.Mode.{Mode}
-use Rattle.scn_base.specs.declared.step.Step.{Step}
-use Rattle.scn_base.specs.declared.step.Step.TheVariants.{Vcpu as VcpuStep, Device as DeviceStep, Pe as PeStep}
-use Rattle.scn_base.specs.Good.{is_formed, is_good_op, passes, shapes_of}
-use Rattle.scn_base.specs.Standing.{has_vcpu, vcpu_name}
+use Rattle.thr_trip.specs.PortOps.Opened.{no_guest}
+use Rattle.thr_trip.specs.PortTable.Told.{WordsTold, words_at}
+use Rattle.guest_end.specs.GicGuest.declared.outcome.Answer.{Answer}
+use Rattle.guest_end.specs.GicGuest.declared.outcome.Answer.TheVariants.{Nothing}
+use Rattle.guest_end.specs.ScnBase.declared.pes.VcpuName.{VcpuName}
+use Rattle.guest_end.specs.ScnBase.declared.step.Mode.{Mode}
+use Rattle.guest_end.specs.ScnBase.declared.step.Step.{Step}
+use Rattle.guest_end.specs.ScnBase.declared.step.Step.TheVariants.{Vcpu as VcpuStep, Device as DeviceStep, Pe as PeStep}
+use Rattle.guest_end.specs.ScnBase.Good.{is_formed}
+use Rattle.guest_end.specs.ScnBase.Standing.{has_vcpu, vcpu_name}
 use Rattle.thr_trip.specs.Script.{all_vcpus, calls_answered, calls_received, device_ops, vcpu_ops}
 use Rattle.thr_cast.specs.declared.answers.Heard.{Heard}
 use Rattle.thr_cast.specs.Answers.{AllHeard, AnswersAre, heard_by, is_of, next_of, place_by}

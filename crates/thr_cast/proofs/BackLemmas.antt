@@ -1,8 +1,8 @@
 -- One more vCPU came back.
 use Rattle.std.proofs.Common.{◌≡◌, true, List, [], ◌∷◌, ◌++◌, map, Option, Some, None, is_some, refl, sym, ap, ◌∙◌}
 use Rattle.std.proofs.lemmas.List.{map-append}
-use Rattle.port_core.specs.Port.{Seen}
-use Rattle.port_table.specs.Told.{RootTold, joining_in}
+use Rattle.thr_trip.specs.Core.{Seen}
+use Rattle.thr_trip.specs.PortTable.Told.{RootTold, joining_in}
 use Rattle.thr_trip.specs.declared.naming.Naming.{Ghosts}
 use Rattle.thr_trip.specs.declared.trip.Trip.{Trip}
 use Rattle.thr_trip.specs.Told.{trip_told}

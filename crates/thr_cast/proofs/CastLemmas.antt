@@ -3,25 +3,19 @@ use Rattle.std.proofs.Common.{◌≡◌, ℕ, ◌+◌, ◌*◌, ◌<◌, ◌≤�
 use Rattle.std.specs.Prelude.{slice_get}
 use Rattle.std.proofs.lemmas.Bool.{and_parts, eqb-true, le-ltb, lt-ltb}
 use Rattle.std.proofs.lemmas.List.Elements.{All-nil, All-cons, All-get_or}
-use Rattle.gic_base.specs.declared.operation.DeviceOp.{DeviceOp}
-use Rattle.gic_base.specs.declared.operation.GuestOp.{GuestOp}
-use Rattle.gic_base.specs.declared.shape.GuestShape.{GuestShape}
-use Rattle.gic_open.specs.Opening.{opening_cpu}
-use Rattle.gic_prio.specs.declared.cpu.CpuRec.{CpuRec}
-use Rattle.pe_loop.specs.Enter.{IsBetween}
-use Rattle.port_core.specs.Local.{is_vcpu}
-use Rattle.port_core.specs.Port.{Seen, shape_of}
-use Rattle.port_ops.specs.Opened.{no_guest}
-use Rattle.port_table.specs.Told.{WordsTold, PortIsOf, opening_seen, words_at}
-use Rattle.scn_base.specs.declared.guest.GuestSpec.{GuestSpec}
-use Rattle.scn_base.specs.declared.scenario.Scenario.{Scenario}
-use Rattle.scn_base.specs.declared.step.Mode.TheVariants.{Threads}
-use Rattle.scn_base.specs.declared.step.Step.{Step}
-use Rattle.scn_base.specs.declared.step.Step.TheVariants.{Vcpu as VcpuStep, Device as DeviceStep, Pe as PeStep}
-use Rattle.scn_base.specs.Good.{IsGoodGuest, is_formed, is_good_event, is_good_op, passes, shapes_of}
-use Rattle.core_proper.specs.Called.{IsAtRest}
-use Rattle.core_proper.specs.Proper.{is_settled}
-use Rattle.port_call.proofs.PieceLemmas.{seen_nil}
+use Rattle.guest_end.specs.Words.{DeviceOp, GuestOp, GuestShape}
+use Rattle.guest_end.specs.Calls.{opening_cpu, GuestSpec, IsGoodGuest, is_good_event, is_good_op, passes, shapes_of}
+use Rattle.guest_end.specs.Registers.{CpuRec}
+use Rattle.thr_trip.specs.PeLoop.Enter.{IsBetween}
+use Rattle.thr_trip.specs.Core.{is_vcpu, Seen, shape_of, IsAtRest, is_settled}
+use Rattle.thr_trip.specs.PortOps.Opened.{no_guest}
+use Rattle.thr_trip.specs.PortTable.Told.{WordsTold, PortIsOf, opening_seen, words_at}
+use Rattle.guest_end.specs.ScnBase.declared.scenario.Scenario.{Scenario}
+use Rattle.guest_end.specs.ScnBase.declared.step.Mode.TheVariants.{Threads}
+use Rattle.guest_end.specs.ScnBase.declared.step.Step.{Step}
+use Rattle.guest_end.specs.ScnBase.declared.step.Step.TheVariants.{Vcpu as VcpuStep, Device as DeviceStep, Pe as PeStep}
+use Rattle.guest_end.specs.ScnBase.Good.{is_formed}
+use Rattle.thr_trip.proofs.PortCall.PieceLemmas.{seen_nil}
 use Rattle.thr_trip.specs.Device.{IsDevice}
 use Rattle.thr_trip.specs.Gone.{HasGone}
 use Rattle.thr_trip.specs.Script.{all_vcpus, calls_answered, device_ops, vcpu_ops, vcpus_of}

@@ -4,14 +4,14 @@ use Rattle.std.proofs.lemmas.Grind.{take_at_read}
 use Rattle.std.proofs.lemmas.List.{append_assoc, map-append}
 use Rattle.std.proofs.lemmas.List.Elements.{All-nil, All-cons, All-append}
 use Rattle.std.proofs.lemmas.List.FromFn.{map-range_with_len_more}
-use Rattle.port_table.specs.Told.{WordsTold, no_words, words_at}
+use Rattle.thr_trip.specs.PortTable.Told.{WordsTold, no_words, words_at}
 use Rattle.thr_trip.specs.declared.device.DeviceRun.{DeviceRun}
 use Rattle.thr_trip.specs.declared.naming.Naming.{Ghosts}
 use Rattle.thr_trip.specs.declared.trip.Trip.{Trip}
 use Rattle.thr_trip.specs.Script.{all_vcpus, vcpus_of}
 use Rattle.thr_trip.specs.Told.{device_told}
-use Rattle.vcpu_shelf.specs.Answer.{AreInPlace}
-use Rattle.vcpu_shelf.proofs.PlaceLemmas.{in_place_push}
+use Rattle.thr_trip.specs.VcpuShelf.Answer.{AreInPlace}
+use Rattle.thr_trip.proofs.VcpuShelf.PlaceLemmas.{in_place_push}
 use Rattle.thr_cast.specs.declared.cast.Cast.{Cast}
 use Rattle.thr_cast.specs.Cast.{HasCast, first_devices, name_of, names_of}
 use Rattle.thr_cast.specs.Names.{DeviceName, all_devices, devices_of}

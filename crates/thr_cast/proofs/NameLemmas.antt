@@ -6,9 +6,9 @@ use Rattle.std.proofs.lemmas.Grind.{flat_map-append}
 use Rattle.std.proofs.lemmas.List.{append-nil, length-append}
 use Rattle.std.proofs.lemmas.List.FromFn.{get_or-map-range_with_len, length-map-range_with_len}
 use Rattle.std.proofs.lemmas.Option.{get_or_from_slice_get, slice_get-get_or, slice_get_within}
-use Rattle.port_table.specs.Told.{WordsTold, no_words, words_at}
-use Rattle.scn_base.specs.declared.pes.VcpuName.{VcpuName}
-use Rattle.scn_base.specs.Standing.{vcpu_name}
+use Rattle.thr_trip.specs.PortTable.Told.{WordsTold, no_words, words_at}
+use Rattle.guest_end.specs.ScnBase.declared.pes.VcpuName.{VcpuName}
+use Rattle.guest_end.specs.ScnBase.Standing.{vcpu_name}
 use Rattle.thr_trip.specs.Script.{all_vcpus, vcpus_of}
 use Rattle.thr_cast.specs.Names.{DeviceName, all_devices, devices_of}
 

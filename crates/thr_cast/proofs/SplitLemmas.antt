@@ -2,12 +2,12 @@
 use Rattle.std.proofs.Common.{◌≡◌, ℕ, ◌+◌, ◌<◌, ◌==◌, zero, suc, Bool, true, false, IsTrue, inl, inr, List, [], ◌∷◌, ◌++◌, length, map, set, get_or, refl, sym, ap, subst, ◌∙◌, arith}
 use Rattle.std.proofs.lemmas.Bool.{cases_eq, eqb-true, or_cases}
 use Rattle.std.proofs.lemmas.List.{get_or-set_same, get_or-set_other}
-use Rattle.gic_base.specs.declared.operation.Actor.{Actor}
-use Rattle.port_core.specs.Actor.{actor_count, guest_of}
-use Rattle.port_table.specs.Told.{WordsTold, RootTold, AreRoots, no_words, number_in, opening_root, root_at, splitting, with_split, words_at}
-use Rattle.port_table.specs.View.{is_among}
-use Rattle.port_table.proofs.AmongLemmas.{among_push}
-use Rattle.port_table.proofs.GuestsLemmas.{opening_roots}
+use Rattle.guest_end.specs.Words.{Actor}
+use Rattle.thr_trip.specs.Core.{actor_count, guest_of}
+use Rattle.thr_trip.specs.PortTable.Told.{WordsTold, RootTold, AreRoots, no_words, number_in, opening_root, root_at, splitting, with_split, words_at}
+use Rattle.thr_trip.specs.PortTable.View.{is_among}
+use Rattle.thr_trip.proofs.PortTable.AmongLemmas.{among_push}
+use Rattle.thr_trip.proofs.PortTable.GuestsLemmas.{opening_roots}
 use Rattle.thr_cast.specs.Split.{SplitTo}
 
 -- as the guests open

@@ -2,8 +2,8 @@
 use Rattle.std.proofs.Common.{◌≡◌, ◌||◌, suc, Bool, true, false, All, List, [], ◌∷◌, ◌++◌, append-nil, length, refl, sym, ap, subst, ◌∙◌, arith}
 use Rattle.std.proofs.lemmas.List.{append_assoc}
 use Rattle.std.proofs.lemmas.List.Elements.{All-nil, All-cons, All-append}
-use Rattle.port_core.specs.Port.{Seen}
-use Rattle.port_table.specs.Told.{RootTold, joining_in}
+use Rattle.thr_trip.specs.Core.{Seen}
+use Rattle.thr_trip.specs.PortTable.Told.{RootTold, joining_in}
 use Rattle.thr_trip.specs.declared.device.DeviceRun.{DeviceRun}
 use Rattle.thr_trip.specs.declared.naming.Naming.{Ghosts}
 use Rattle.thr_trip.specs.declared.pe.PeRun.{PeRun}
@@ -14,8 +14,8 @@ use Rattle.thr_trip.specs.Device.{DeviceTold}
 use Rattle.thr_trip.specs.Seat.{IsFreeSeat}
 use Rattle.thr_trip.specs.Told.{device_told}
 use Rattle.thr_trip.specs.Worker.{CanWork}
-use Rattle.vcpu_shelf.specs.Shelf.{seat_told}
-use Rattle.vcpu_shelf.specs.Told.{ShelfTold}
+use Rattle.thr_trip.specs.VcpuShelf.Shelf.{seat_told}
+use Rattle.thr_trip.specs.VcpuShelf.Told.{ShelfTold}
 use Rattle.thr_cast.specs.Crew.{HaveWorkers, devices_in, has_pe, joined_all, pe_numbers}
 
 -- all of a list and one more

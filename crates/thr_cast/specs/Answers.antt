@@ -1,12 +1,11 @@
 -- What the steps of a scenario answered, by what each vCPU heard (own choice).
 use Rattle.std.specs.Prelude.{◌≡◌, ℕ, ◌+◌, ◌<◌, ◌==◌, ◌&&◌, Bool, List, [], ◌∷◌, length, slice_get, slice_index_or, Option, Some, if◌then◌else◌}
-use Rattle.eager_laws.specs.Calls.{own_steps}
-use Rattle.gic_base.specs.declared.operation.PeOp.{PeOp}
-use Rattle.gic_base.specs.declared.shape.GuestShape.{GuestShape}
-use Rattle.scn_base.specs.declared.outcome.Answer.{Answer}
-use Rattle.scn_base.specs.declared.outcome.Answer.TheVariants.{Nothing}
-use Rattle.scn_base.specs.declared.step.Step.{Step}
-use Rattle.scn_base.specs.declared.step.Step.TheVariants.{Pe as PeStep}
+use Rattle.thr_trip.specs.LawEagerIsHistory.Calls.{own_steps}
+use Rattle.guest_end.specs.Words.{PeOp, GuestShape}
+use Rattle.guest_end.specs.GicGuest.declared.outcome.Answer.{Answer}
+use Rattle.guest_end.specs.GicGuest.declared.outcome.Answer.TheVariants.{Nothing}
+use Rattle.guest_end.specs.ScnBase.declared.step.Step.{Step}
+use Rattle.guest_end.specs.ScnBase.declared.step.Step.TheVariants.{Pe as PeStep}
 use Rattle.thr_trip.specs.Script.{calls_answered, calls_received, device_ops, vcpu_ops}
 use Rattle.thr_cast.specs.declared.answers.Heard.{Heard}
 

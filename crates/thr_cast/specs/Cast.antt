@@ -1,14 +1,14 @@
 -- The actors of a run, as they come (own choice).
 use Rattle.std.specs.Prelude.{◌≡◌, ℕ, ◌+◌, false, All, List, ◌++◌, length, map, take}
 use Rattle.std.specs.List.{range_with_len}
-use Rattle.port_table.specs.Told.{WordsTold}
+use Rattle.thr_trip.specs.PortTable.Told.{WordsTold}
 use Rattle.thr_trip.specs.declared.device.DeviceRun.{DeviceRun}
 use Rattle.thr_trip.specs.declared.naming.Naming.{Ghosts}
 use Rattle.thr_trip.specs.declared.trip.Trip.{Trip}
 use Rattle.thr_trip.specs.Device.{DeviceTold}
 use Rattle.thr_trip.specs.Script.{all_vcpus}
 use Rattle.thr_trip.specs.Told.{device_told}
-use Rattle.vcpu_shelf.specs.Answer.{AreInPlace}
+use Rattle.thr_trip.specs.VcpuShelf.Answer.{AreInPlace}
 use Rattle.thr_cast.specs.declared.cast.Cast.{Cast}
 use Rattle.thr_cast.specs.Names.{DeviceName, all_devices}
 

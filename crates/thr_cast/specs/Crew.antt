@@ -1,7 +1,7 @@
 -- Ports that were joined again, one after the other (own choice).
 use Rattle.std.specs.Prelude.{◌≡◌, ℕ, true, false, Bool, List, [], ◌∷◌, All}
-use Rattle.port_core.specs.Port.{Seen}
-use Rattle.port_table.specs.Told.{RootTold, joining_in}
+use Rattle.thr_trip.specs.Core.{Seen}
+use Rattle.thr_trip.specs.PortTable.Told.{RootTold, joining_in}
 use Rattle.thr_trip.specs.declared.device.DeviceRun.{DeviceRun}
 use Rattle.thr_trip.specs.declared.naming.Naming.{Ghosts}
 use Rattle.thr_trip.specs.declared.trip.Trip.{Trip}
@@ -11,8 +11,8 @@ use Rattle.thr_trip.specs.Device.{DeviceTold}
 use Rattle.thr_trip.specs.Seat.{IsDoneSeat}
 use Rattle.thr_trip.specs.Told.{device_told}
 use Rattle.thr_trip.specs.Worker.{CanWork}
-use Rattle.vcpu_shelf.specs.Shelf.{seat_told}
-use Rattle.vcpu_shelf.specs.Told.{ShelfTold}
+use Rattle.thr_trip.specs.VcpuShelf.Shelf.{seat_told}
+use Rattle.thr_trip.specs.VcpuShelf.Told.{ShelfTold}
 
 -- the roots after these ports were joined
 abbrev pub joined_all : List Seen → List RootTold → List RootTold

@@ -1,3 +1,6 @@
+pub use Rattle.thr_trip.specs.PortTable
+pub use Rattle.thr_trip.specs as ThrTrip
+pub use Rattle.thr_trip.specs.VcpuShelf
 pub mod Names
 pub mod Set
 pub mod Split

@@ -1,7 +1,7 @@
 -- The devices of all guests (own choice).
 use Rattle.std.specs.Prelude.{ℕ, List, map}
 use Rattle.std.specs.List.{flat_map, range_with_len}
-use Rattle.port_table.specs.Told.{WordsTold}
+use Rattle.thr_trip.specs.PortTable.Told.{WordsTold}
 
 -- a device, by its guest and its number there
 pub record DeviceName : Type 0 where

@@ -1,10 +1,10 @@
 -- A scenario and the words of its guests.
 use Rattle.std.specs.Prelude.{◌≡◌, ℕ, ◌<◌, List, length, slice_index_or}
-use Rattle.port_ops.specs.Opened.{no_guest}
-use Rattle.port_table.specs.Told.{WordsTold, words_at}
-use Rattle.scn_base.specs.declared.scenario.Scenario.{Scenario}
-use Rattle.scn_base.specs.declared.step.Mode.TheVariants.{Threads}
-use Rattle.scn_base.specs.Good.{IsGood}
+use Rattle.thr_trip.specs.PortOps.Opened.{no_guest}
+use Rattle.thr_trip.specs.PortTable.Told.{WordsTold, words_at}
+use Rattle.guest_end.specs.ScnBase.declared.scenario.Scenario.{Scenario}
+use Rattle.guest_end.specs.ScnBase.declared.step.Mode.TheVariants.{Threads}
+use Rattle.guest_end.specs.ScnBase.Good.{IsGood}
 
 -- the scenario is good on threads, and these are the words of its guests, by their numbers
 pub record IsSet (scenario : Scenario) (words : List WordsTold) : Type 0 where

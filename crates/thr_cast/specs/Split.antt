@@ -1,8 +1,8 @@
 -- Which actors of a run were split off (own choice).
 use Rattle.std.specs.Prelude.{◌≡◌, ℕ, ◌<◌, IsTrue, List, []}
-use Rattle.port_core.specs.Actor.{actor_count}
-use Rattle.port_table.specs.Told.{WordsTold, RootTold, AreRoots, root_at, words_at}
-use Rattle.port_table.specs.View.{is_among}
+use Rattle.thr_trip.specs.Core.{actor_count}
+use Rattle.thr_trip.specs.PortTable.Told.{WordsTold, RootTold, AreRoots, root_at, words_at}
+use Rattle.thr_trip.specs.PortTable.View.{is_among}
 
 -- of the guests before this one all actors may have been split off, of this one the first actors, and of those after it none; none was joined again
 pub record SplitTo (words : List WordsTold) (root : List RootTold) (guest count : ℕ) : Type 0 where

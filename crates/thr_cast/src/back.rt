@@ -1,18 +1,18 @@
 //! vCPUs that are done, as they come back from the shelf.
 ghost use Rattle.std.specs.Prelude.{◌≡◌, true, All, IfOk, is_some, map};
-ghost use Rattle.port_table.specs.All.{told_words, told_root};
-ghost use Rattle.port_table.specs.Told.{AreRoots};
+ghost use Rattle.thr_trip.specs.PortTable.All.{told_words, told_root};
+ghost use Rattle.thr_trip.specs.PortTable.Told.{AreRoots};
 ghost use Rattle.thr_trip.specs.Trip.{IsTrip};
 ghost use Rattle.thr_cast.specs.Back.{BroughtBack, trips_in};
 ghost use Rattle.thr_cast.specs.Crew.{joined_all};
 
 use crate::answers::Heard;
-use gic_base::NoMemory;
-use gic_list::ListOf;
 use guest_end::CpuRecs;
-use port_table::{RootSeat, SharedWords, join};
-use scn_base::VcpuName;
+use guest_end::gic_base::NoMemory;
+use guest_end::gic_list::ListOf;
+use guest_end::scn_base::VcpuName;
 use std::alloc::Global;
+use thr_trip::port_table::{RootSeat, SharedWords, join};
 use thr_trip::{Naming, Trip};
 
 /// What the vCPUs of a run brought back.

@@ -1,20 +1,20 @@
 //! The actors of a run: each with its script and its port.
 ghost use Rattle.std.specs.Prelude.{◌≡◌, ◌+◌, ◌<◌, ◌≤◌, false, IfOk, OnOk, length, take};
-ghost use Rattle.port_core.specs.Actor.{actor_count};
-ghost use Rattle.port_table.specs.All.{told_words, told_root};
-ghost use Rattle.port_table.specs.Told.{words_at};
+ghost use Rattle.thr_trip.specs.Core.{actor_count};
+ghost use Rattle.thr_trip.specs.PortTable.All.{told_words, told_root};
+ghost use Rattle.thr_trip.specs.PortTable.Told.{words_at};
 ghost use Rattle.thr_trip.specs.Script.{all_vcpus};
 ghost use Rattle.thr_cast.specs.Set.{IsSet};
 ghost use Rattle.thr_cast.specs.Split.{SplitTo};
 
 use crate::scripts::{device_script, vcpu_script};
-use gic_base::Actor;
-use gic_open::opening_cpu;
-use port_table::{RootSeat, SharedWords, split};
-use scn_base::Scenario;
+use guest_end::gic_base::Actor;
+use guest_end::gic_open::opening_cpu;
+use guest_end::scn_base::Scenario;
 use std::alloc::{AllocError, Global};
+use thr_trip::port_table::{RootSeat, SharedWords, split};
+use thr_trip::vcpu_state::Shelved;
 use thr_trip::{DeviceRun, Naming, Trip};
-use vcpu_state::Shelved;
 
 /// The vCPUs, in the order of guest and number, and the devices, each with its script and its port.
 #[derive(Drop)]

@@ -1,19 +1,19 @@
 //! Who has a thread in a run: PEs, each with a seat at the shelf of vCPUs, and devices.
 ghost use Rattle.std.specs.Prelude.{◌≡◌, ◌<◌, ◌≤◌, [], false, true, All, IfOk, OnOk, length, map, nat_lt};
 ghost use Rattle.std.specs.List.{range_with_len};
-ghost use Rattle.port_table.specs.All.{told_words, told_root};
-ghost use Rattle.port_table.specs.Told.{AreRoots};
+ghost use Rattle.thr_trip.specs.PortTable.All.{told_words, told_root};
+ghost use Rattle.thr_trip.specs.PortTable.Told.{AreRoots};
 ghost use Rattle.thr_trip.specs.Device.{IsDevice};
 ghost use Rattle.thr_trip.specs.Seat.{IsFreeSeat};
 ghost use Rattle.thr_trip.specs.Told.{device_told};
-ghost use Rattle.vcpu_shelf.specs.Shelf.{shelf_told, seat_told};
-ghost use Rattle.vcpu_shelf.specs.Told.{SawAllDone};
+ghost use Rattle.thr_trip.specs.VcpuShelf.Shelf.{shelf_told, seat_told};
+ghost use Rattle.thr_trip.specs.VcpuShelf.Told.{SawAllDone};
 ghost use Rattle.thr_cast.specs.Crew.{HaveWorkers, IsOver, devices_in, has_pe, joined_all, pe_numbers};
 
-use port_table::{RootSeat, SharedWords, join};
 use std::alloc::AllocError;
+use thr_trip::port_table::{RootSeat, SharedWords, join};
+use thr_trip::vcpu_shelf::{Shelf, ShelfSeat};
 use thr_trip::{DeviceRun, Naming, PeRun, Trip, Worker};
-use vcpu_shelf::{Shelf, ShelfSeat};
 
 /// What has a thread in a run: a PE, or a device.
 pub type Hand<'a, J> = Worker<Trip<'a, J>, DeviceRun<'a, J>>;
@@ -32,7 +32,7 @@ pub fn add_pes<'a, J: Naming + Send>(
     ensures numbers { OnOk result (pe_numbers workers.new.items ≡ range_with_len 0 pes) }
 {
     for pe in 0..pes {
-        let own = vcpu_shelf::split(shelf, seat);
+        let own = thr_trip::vcpu_shelf::split(shelf, seat);
         workers.push(Worker::Pe(PeRun::new(pe, own)))?;
     }
     Ok(())
@@ -73,7 +73,7 @@ pub fn gather<'a, J: Naming + Send>(
 {
     for worker in workers {
         match worker {
-            Worker::Pe(pe) => vcpu_shelf::join(shelf, seat, pe.into_seat()),
+            Worker::Pe(pe) => thr_trip::vcpu_shelf::join(shelf, seat, pe.into_seat()),
             Worker::Device(device) => join(words, root, device.into_port()),
         }
     }

@@ -12,3 +12,5 @@ pub use answers::{Heard, all_answers};
 pub use back::{Back, take_apart};
 pub use cast::Cast;
 pub use crew::{Hand, add_devices, add_pes, gather};
+pub use thr_trip;
+pub use thr_trip::{gic_io, port_table, vcpu_shelf};

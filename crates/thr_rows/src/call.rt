@@ -1,6 +1,6 @@
 //! A call of the tool.
 
-use gic_io::{Gate, MemSource, Sink, Source, SureSink, SureSource};
+use gic_top::gic_io::{Gate, MemSource, Sink, Source, SureSink, SureSource};
 use gic_top::{NOTHING_SHOWN, Shown, run_tool};
 use std::alloc::{AllocError, Global};
 use std::sync::Wait;

@@ -1,7 +1,7 @@
 //! The first example, whose device and vCPU run side by side.
 
 use crate::call::call;
-use gic_io::OpenGate;
+use gic_top::gic_io::OpenGate;
 use gic_top::{OK, Shown};
 use std::test::Fail;
 

@@ -1,11 +1,9 @@
 -- The calls of parts, and of the first operations of a script.
 use Rattle.std.proofs.Common.{◌≡◌, ℕ, zero, suc, List, [], ◌∷◌, ◌++◌, length, take, Option, Some, None, refl, ap, ◌∙◌}
 use Rattle.std.specs.Prelude.{slice_get}
-use Rattle.eager_laws.specs.Calls.{Made, answer_of, made_of}
-use Rattle.gic_base.specs.declared.operation.DeviceOp.{DeviceOp}
-use Rattle.gic_base.specs.declared.operation.GuestOp.{GuestOp}
-use Rattle.gic_call.specs.declared.event.Operation.{Operation}
-use Rattle.gic_call.specs.declared.event.Operation.TheVariants.{Access, Device, Residence}
+use Rattle.pe_place.specs.LawEagerIsHistory.Calls.{Made, answer_of, made_of}
+use Rattle.gic_io.specs.Words.{DeviceOp, GuestOp}
+use Rattle.port_table.specs.Calls.{Operation, Access, Device, Residence}
 use Rattle.pe_place.specs.Calls.{calls_in}
 use Rattle.pe_place.specs.Parts.{Part}
 use Rattle.thr_trip.specs.Script.{calls_answered, calls_received}

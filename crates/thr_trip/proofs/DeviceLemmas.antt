@@ -2,28 +2,23 @@
 use Rattle.std.proofs.Common.{◌≡◌, ℕ, ◌<◌, ◌==◌, ◌&&◌, suc, All, Bool, true, false, IsTrue, nat_le, List, length, take, if◌then◌else◌, None, Some, refl, sym, ap, subst, ◌∙◌}
 use Rattle.std.specs.Prelude.{slice_get}
 use Rattle.std.proofs.Math.Logic.{∥∥₁_map}
-use Rattle.core_proper.specs.Called.{IsAtRest}
-use Rattle.core_proper.specs.Parts.{has_registers}
-use Rattle.core_proper.proofs.RestLemmas.{rests_again}
-use Rattle.eager_laws.specs.Calls.{Made}
-use Rattle.gic_base.specs.declared.operation.DeviceOp.{DeviceOp}
-use Rattle.gic_call.specs.declared.event.Operation.TheVariants.{Device}
+use Rattle.pe_place.specs.Core.{IsAtRest, has_registers, is_vcpu, Seen, shape_of}
+use Rattle.pe_place.proofs.CoreProper.RestLemmas.{rests_again}
+use Rattle.pe_place.specs.LawEagerIsHistory.Calls.{Made}
+use Rattle.gic_io.specs.Words.{DeviceOp}
+use Rattle.port_table.specs.Calls.{Device, GuestSpec, is_good_event}
 use Rattle.pe_place.specs.Device.{DoesEvent}
 use Rattle.pe_place.specs.Parts.{Part}
 use Rattle.pe_place.proofs.FoundLemmas.{device_call}
-use Rattle.port_core.specs.Local.{is_vcpu}
-use Rattle.port_core.specs.Port.{Seen, shape_of}
 use Rattle.port_table.specs.Told.{WordsTold, words_at}
-use Rattle.scn_base.specs.declared.guest.GuestSpec.{GuestSpec}
-use Rattle.scn_base.specs.declared.step.Step.{Step}
-use Rattle.scn_base.specs.Good.{is_good_event}
-use Rattle.dev_port.specs.Device.{CanCall}
+use Rattle.port_table.specs.ScnBase.declared.step.Step.{Step}
+use Rattle.pe_place.specs.DevPort.Device.{CanCall}
 use Rattle.thr_trip.specs.Device.{DeviceTold, IsDevice, Receives, calls_done, opened}
 use Rattle.thr_trip.specs.Gone.{HasGone}
 use Rattle.thr_trip.specs.Script.{calls_received}
 use Rattle.thr_trip.proofs.CallLemmas.{received_more}
 use Rattle.thr_trip.proofs.GoneLemmas.{goes_on_by}
-use Rattle.port_core.proofs.SameLemmas.{same_after, same_twice}
+use Rattle.port_table.proofs.PortCore.SameLemmas.{same_after, same_twice}
 
 -- None.
 pub receives_none : (script : List DeviceOp) (seen : Seen) → CanCall seen → Receives (take 0 script) seen seen

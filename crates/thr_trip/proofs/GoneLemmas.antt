@@ -3,16 +3,12 @@ use Rattle.std.proofs.Common.{◌≡◌, IsTrue, List, [], ◌∷◌, ◌++◌, 
 use Rattle.std.proofs.lemmas.Grind.{flat_map-append}
 use Rattle.std.proofs.lemmas.List.Elements.{All-nil, All-cons, All-append}
 use Rattle.std.proofs.lemmas.List.Sums.{fold-append}
-use Rattle.core_proper.specs.Parts.{has_registers}
-use Rattle.core_proper.specs.Progress.{Progress, opening_progress, progressed, progress_of}
-use Rattle.core_proper.specs.Proper.{IsProper}
-use Rattle.core_proper.proofs.PartLemmas.{proper_append}
-use Rattle.eager_laws.specs.Calls.{Made, made_of}
+use Rattle.pe_place.specs.Core.{has_registers, Progress, opening_progress, progressed, progress_of, IsProper, Made as Step, Seen, Adds, shape_of}
+use Rattle.pe_place.proofs.CoreProper.PartLemmas.{proper_append}
+use Rattle.pe_place.specs.LawEagerIsHistory.Calls.{Made, made_of}
 use Rattle.pe_place.specs.Parts.{Part, AreCalls, IsCallFound, acts_in, acts_of, steps_in}
 use Rattle.pe_place.proofs.MoveLemmas.{calls_join}
-use Rattle.port_core.specs.declared.run.Made.{Made as Step}
-use Rattle.port_core.specs.Port.{Seen, Adds, shape_of}
-use Rattle.port_core.proofs.PortLemmas.{adds_join}
+use Rattle.port_table.proofs.PortCore.PortLemmas.{adds_join}
 use Rattle.thr_trip.specs.Gone.{HasGone}
 use Rattle.thr_trip.proofs.CallLemmas.{calls_more}
 

@@ -3,28 +3,23 @@ use Rattle.std.proofs.Common.{◌≡◌, ℕ, ◌<◌, ◌≤◌, ◌&&◌, ◌=
 use Rattle.std.specs.Prelude.{slice_get}
 use Rattle.std.proofs.Math.Logic.{∥∥₁_map}
 use Rattle.std.proofs.lemmas.Option.{slice_get_within}
-use Rattle.gic_base.specs.declared.operation.GuestOp.{GuestOp}
-use Rattle.gic_call.specs.declared.event.Operation.TheVariants.{Access}
-use Rattle.core_proper.specs.Parts.{has_registers}
-use Rattle.core_proper.specs.Progress.{Progress}
-use Rattle.eager_laws.specs.Calls.{Made}
-use Rattle.pe_icc.specs.Amid.{IsRunning, IsSame}
-use Rattle.pe_icc.proofs.LawLemmas.{entry_runs, exit_rests}
-use Rattle.pe_loop.specs.Enter.{Enters, IsBetween}
-use Rattle.pe_loop.specs.Leave.{Leaves}
-use Rattle.pe_loop.specs.Stay.{IsUp}
-use Rattle.pe_op.specs.Operation.{DoesOperation, StopsOperation}
+use Rattle.gic_io.specs.Words.{GuestOp}
+use Rattle.port_table.specs.Calls.{Access, GuestSpec, is_good_op}
+use Rattle.pe_place.specs.Core.{has_registers, Progress, is_vcpu, Seen, shape_of, IsSameActor}
+use Rattle.pe_place.specs.LawEagerIsHistory.Calls.{Made}
+use Rattle.pe_place.specs.PeIcc.Amid.{IsRunning, IsSame}
+use Rattle.pe_place.proofs.PeIcc.LawLemmas.{entry_runs, exit_rests}
+use Rattle.pe_place.specs.PeLoop.Enter.{Enters, IsBetween}
+use Rattle.pe_place.specs.PeLoop.Leave.{Leaves}
+use Rattle.pe_place.specs.PeLoop.Stay.{IsUp}
+use Rattle.pe_place.specs.PeOp.Operation.{DoesOperation, StopsOperation}
 use Rattle.pe_place.specs.Parts.{Part, residence}
 use Rattle.pe_place.proofs.MoveLemmas.{residence_found}
-use Rattle.port_core.specs.Local.{is_vcpu}
-use Rattle.port_core.specs.Port.{Seen, shape_of, IsSameActor}
-use Rattle.vcpu_state.specs.declared.loaded.Loaded.{Loaded}
-use Rattle.vcpu_state.specs.declared.shelved.Shelved.{Shelved}
-use Rattle.vcpu_state.specs.Moves.{shelved_of}
-use Rattle.scn_base.specs.declared.guest.GuestSpec.{GuestSpec}
-use Rattle.scn_base.specs.declared.pes.VcpuName.{VcpuName}
-use Rattle.scn_base.specs.declared.step.Step.{Step}
-use Rattle.scn_base.specs.Good.{is_good_op}
+use Rattle.pe_place.specs.VcpuState.declared.loaded.Loaded.{Loaded}
+use Rattle.pe_place.specs.VcpuState.declared.shelved.Shelved.{Shelved}
+use Rattle.pe_place.specs.VcpuState.Moves.{shelved_of}
+use Rattle.port_table.specs.ScnBase.declared.pes.VcpuName.{VcpuName}
+use Rattle.port_table.specs.ScnBase.declared.step.Step.{Step}
 use Rattle.port_table.specs.Told.{WordsTold, opening_seen, words_at}
 use Rattle.thr_trip.specs.Gone.{HasGone}
 use Rattle.thr_trip.specs.Operate.{Operates}
@@ -32,7 +27,7 @@ use Rattle.thr_trip.specs.Script.{all_vcpus, calls_answered, vcpu_ops}
 use Rattle.thr_trip.specs.Trip.{IsTrip, TripTold, opened}
 use Rattle.thr_trip.proofs.CallLemmas.{answered_more}
 use Rattle.thr_trip.proofs.GoneLemmas.{goes_on_by}
-use Rattle.port_core.proofs.SameLemmas.{same_after, same_twice}
+use Rattle.port_table.proofs.PortCore.SameLemmas.{same_after, same_twice}
 
 -- The list registers of a vCPU's PE are as many as a part asks for.
 

@@ -1,13 +1,12 @@
 -- A device of a run (own choice).
 use Rattle.std.specs.Prelude.{◌≡◌, ℕ, ◌+◌, Bool, true, false, IsTrue, All, List, []}
-use Rattle.core_proper.specs.Called.{IsAtRest}
-use Rattle.dev_port.specs.Device.{CanCall}
-use Rattle.eager_laws.specs.Calls.{Made}
-use Rattle.gic_base.specs.declared.operation.DeviceOp.{DeviceOp}
-use Rattle.port_core.specs.Port.{Seen, shape_of, IsSameActor}
+use Rattle.pe_place.specs.Core.{IsAtRest, Seen, shape_of, IsSameActor}
+use Rattle.pe_place.specs.DevPort.Device.{CanCall}
+use Rattle.pe_place.specs.LawEagerIsHistory.Calls.{Made}
+use Rattle.gic_io.specs.Words.{DeviceOp}
 use Rattle.port_table.specs.Told.{WordsTold, PortIsOf, words_at, opening_seen}
-use Rattle.scn_base.specs.declared.step.Step.{Step}
-use Rattle.scn_base.specs.Good.{is_good_event}
+use Rattle.port_table.specs.ScnBase.declared.step.Step.{Step}
+use Rattle.port_table.specs.Calls.{is_good_event}
 use Rattle.thr_trip.specs.Gone.{HasGone}
 use Rattle.thr_trip.specs.Script.{calls_received, device_ops}
 

@@ -1,12 +1,9 @@
 -- How far an actor has gone since its guest opened (own choice).
 use Rattle.std.specs.Prelude.{◌≡◌, IsTrue, List, All}
-use Rattle.core_proper.specs.Parts.{has_registers}
-use Rattle.core_proper.specs.Progress.{Progress, opening_progress, progress_of}
-use Rattle.core_proper.specs.Proper.{IsProper}
-use Rattle.eager_laws.specs.Calls.{Made}
+use Rattle.pe_place.specs.Core.{has_registers, Progress, opening_progress, progress_of, IsProper, Seen, Adds, shape_of}
+use Rattle.pe_place.specs.LawEagerIsHistory.Calls.{Made}
 use Rattle.pe_place.specs.Calls.{calls_in}
 use Rattle.pe_place.specs.Parts.{Part, AreCalls, acts_in, steps_in}
-use Rattle.port_core.specs.Port.{Seen, Adds, shape_of}
 
 -- since it opened so, an actor did some parts, one after the other, and nothing else: each is its call, they are proper, those of steps are these calls, and its protocol
 -- is so after them

@@ -1,10 +1,10 @@
 -- Operations of a vCPU while it is on a PE (own choice).
 use Rattle.std.specs.Prelude.{◌≡◌, ℕ, ◌≤◌, Bool, false, List, length, Option}
-use Rattle.gic_base.specs.declared.operation.GuestOp.{GuestOp}
-use Rattle.pe_icc.specs.Amid.{IsRunning, IsSame}
-use Rattle.pe_loop.specs.Stay.{IsUp}
-use Rattle.port_core.specs.Port.{Seen, IsSameActor}
-use Rattle.vcpu_state.specs.declared.loaded.Loaded.{Loaded}
+use Rattle.gic_io.specs.Words.{GuestOp}
+use Rattle.pe_place.specs.PeIcc.Amid.{IsRunning, IsSame}
+use Rattle.pe_place.specs.PeLoop.Stay.{IsUp}
+use Rattle.pe_place.specs.Core.{Seen, IsSameActor}
+use Rattle.pe_place.specs.VcpuState.declared.loaded.Loaded.{Loaded}
 use Rattle.thr_trip.specs.Gone.{HasGone}
 use Rattle.thr_trip.specs.Script.{calls_answered}
 

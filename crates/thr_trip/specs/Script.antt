@@ -1,14 +1,13 @@
 -- What the steps of a scenario give each actor to do, and which calls some operations are (own choice).
 use Rattle.std.specs.Prelude.{ℕ, ◌==◌, ◌&&◌, List, [], ◌∷◌, map, Option, None, if◌then◌else◌}
 use Rattle.std.specs.List.{flat_map, range_with_len}
-use Rattle.eager_laws.specs.Calls.{Made, answer_of}
-use Rattle.gic_base.specs.declared.operation.DeviceOp.{DeviceOp}
-use Rattle.gic_base.specs.declared.operation.GuestOp.{GuestOp}
-use Rattle.gic_call.specs.declared.event.Operation.TheVariants.{Access, Device}
+use Rattle.pe_place.specs.LawEagerIsHistory.Calls.{Made, answer_of}
+use Rattle.gic_io.specs.Words.{DeviceOp, GuestOp}
+use Rattle.port_table.specs.Calls.{Access, Device}
 use Rattle.port_table.specs.Told.{WordsTold}
-use Rattle.scn_base.specs.declared.pes.VcpuName.{VcpuName}
-use Rattle.scn_base.specs.declared.step.Step.{Step}
-use Rattle.scn_base.specs.declared.step.Step.TheVariants.{Vcpu as VcpuStep, Device as DeviceStep, Pe as PeStep}
+use Rattle.port_table.specs.ScnBase.declared.pes.VcpuName.{VcpuName}
+use Rattle.port_table.specs.ScnBase.declared.step.Step.{Step}
+use Rattle.port_table.specs.ScnBase.declared.step.Step.TheVariants.{Vcpu as VcpuStep, Device as DeviceStep, Pe as PeStep}
 
 -- the operations of a vCPU among some steps, in order, and those of a device
 abbrev pub vcpu_ops : ℕ → ℕ → List Step → List GuestOp

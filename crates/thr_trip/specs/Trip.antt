@@ -1,13 +1,13 @@
 -- A vCPU on its way from PE to PE (own choice).
 use Rattle.std.specs.Prelude.{◌≡◌, ℕ, ◌≤◌, ◌||◌, ◌==◌, Bool, false, IsTrue, All, List, length, Option, Some, slice_get}
-use Rattle.gic_base.specs.declared.operation.GuestOp.{GuestOp}
-use Rattle.pe_loop.specs.Enter.{IsBetween}
-use Rattle.pe_loop.specs.Stay.{IsOff}
-use Rattle.port_core.specs.Port.{Seen, shape_of, IsSameActor}
+use Rattle.gic_io.specs.Words.{GuestOp}
+use Rattle.pe_place.specs.PeLoop.Enter.{IsBetween}
+use Rattle.pe_place.specs.PeLoop.Stay.{IsOff}
+use Rattle.pe_place.specs.Core.{Seen, shape_of, IsSameActor}
 use Rattle.port_table.specs.Told.{WordsTold, PortIsOf, words_at, opening_seen}
-use Rattle.scn_base.specs.declared.step.Step.{Step}
-use Rattle.scn_base.specs.Good.{is_good_op}
-use Rattle.vcpu_state.specs.declared.shelved.Shelved.{Shelved}
+use Rattle.port_table.specs.ScnBase.declared.step.Step.{Step}
+use Rattle.port_table.specs.Calls.{is_good_op}
+use Rattle.pe_place.specs.VcpuState.declared.shelved.Shelved.{Shelved}
 use Rattle.thr_trip.specs.Gone.{HasGone}
 use Rattle.thr_trip.specs.Script.{all_vcpus, calls_answered, vcpu_ops}
 

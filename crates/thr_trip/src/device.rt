@@ -1,18 +1,18 @@
 //! A device of a run.
 ghost use Rattle.std.specs.Prelude.{◌≡◌, false, IsTrue, All};
-ghost use Rattle.dev_port.specs.Device.{CanCall};
-ghost use Rattle.port_core.specs.Port.{shape_of};
+ghost use Rattle.pe_place.specs.DevPort.Device.{CanCall};
+ghost use Rattle.pe_place.specs.Core.{shape_of};
 ghost use Rattle.port_table.specs.Ports.{seen_of};
-ghost use Rattle.scn_base.specs.Good.{is_good_event};
+ghost use Rattle.port_table.specs.Calls.{is_good_event};
 ghost use Rattle.thr_trip.specs.Device.{IsDevice, Receives};
 
 use crate::naming::Naming;
 use crate::rider::Loner;
-use gic_base::DeviceOp;
-use gic_list::ListOf;
+use gic_io::gic_base::DeviceOp;
+use gic_io::gic_list::ListOf;
 use pe_place::device_op;
-use port_core::Port;
 use port_table::TablePort;
+use port_table::port_core::Port;
 use std::marker::PhantomData;
 use std::sync::Wait;
 

@@ -12,9 +12,13 @@ mod visit;
 mod worker;
 
 pub use device::DeviceRun;
+pub use gic_io;
 pub use naming::Naming;
 pub use pe::PeRun;
+pub use pe_place::vcpu_state;
+pub use port_table;
 pub use rider::{Loner, Rider, Turns};
 pub use trip::Trip;
+pub use vcpu_shelf;
 pub use visit::Passes;
 pub use worker::{Worker, run_all};

@@ -1,6 +1,6 @@
 //! Which run vCPUs and devices are of.
 ghost use Rattle.std.specs.Prelude.{List, []};
-ghost use Rattle.scn_base.specs.declared.step.Step.{Step};
+ghost use Rattle.port_table.specs.ScnBase.declared.step.Step.{Step};
 ghost use Rattle.port_table.specs.Told.{WordsTold};
 
 use std::marker::Brand;

@@ -1,6 +1,6 @@
 //! A PE of a run.
 ghost use Rattle.std.specs.Prelude.{◌≡◌, ◌≤◌};
-ghost use Rattle.gic_base.specs.declared.held.TheConstants.{MAX_LIST_REGISTERS};
+ghost use Rattle.gic_io.specs.Words.{MAX_LIST_REGISTERS};
 ghost use Rattle.vcpu_shelf.specs.Shelf.{shelf_told, seat_told};
 
 use crate::rider::{Rider, Turns};

@@ -1,6 +1,6 @@
 //! What the thread of a PE asks of whom it takes, and what a device's thread does.
 ghost use Rattle.std.specs.Prelude.{◌≡◌, ◌≤◌, false};
-ghost use Rattle.gic_base.specs.declared.held.TheConstants.{MAX_LIST_REGISTERS};
+ghost use Rattle.gic_io.specs.Words.{MAX_LIST_REGISTERS};
 
 use crate::visit::Passes;
 use gic_io::Gate;

@@ -5,15 +5,15 @@ ghost use Rattle.thr_trip.specs.Trip.{IsTrip};
 
 use crate::naming::Naming;
 use crate::visit::{Passes, operate};
-use gic_base::GuestOp;
 use gic_io::Gate;
-use gic_list::ListOf;
-use pe_loop::{enter, leave};
+use gic_io::gic_base::GuestOp;
+use gic_io::gic_list::ListOf;
+use pe_place::pe_loop::{enter, leave};
+use pe_place::vcpu_state::Shelved;
 use port_table::TablePort;
 use std::alloc::{AllocError, Global};
 use std::marker::PhantomData;
 use std::sync::Wait;
-use vcpu_state::Shelved;
 
 /// A vCPU that stands on no PE, with all that is its own: its script, its port, and what the operations of it answered that are
 /// done.
@@ -48,7 +48,7 @@ fn copy_of(vcpu: &Shelved) -> Shelved
 
 impl<'a, J: Naming> Trip<'a, J> {
     ghost use Rattle.std.specs.Prelude.{[], false, IfOk};
-    ghost use Rattle.gic_base.specs.declared.held.TheConstants.{MAX_LIST_REGISTERS};
+    ghost use Rattle.gic_io.specs.Words.{MAX_LIST_REGISTERS};
     ghost use Rattle.thr_trip.specs.Told.{trip_told};
     ghost use Rattle.thr_trip.specs.Trip.{is_done};
 

@@ -1,16 +1,16 @@
 //! Operations of a vCPU on a PE, one after the other.
 ghost use Rattle.std.specs.Prelude.{◌≡◌, ◌≤◌, IsTrue, All, length, vec_len, vec_capacity};
-ghost use Rattle.pe_loop.specs.Stay.{IsUp};
-ghost use Rattle.port_core.specs.Port.{shape_of};
-ghost use Rattle.scn_base.specs.Good.{is_good_op};
+ghost use Rattle.pe_place.specs.PeLoop.Stay.{IsUp};
+ghost use Rattle.pe_place.specs.Core.{shape_of};
+ghost use Rattle.port_table.specs.Calls.{is_good_op};
 ghost use Rattle.thr_trip.specs.Operate.{Operates};
 
-use gic_base::{GuestOp, NoMemory};
 use gic_io::Gate;
-use pe_op::guest_op;
-use port_core::Port;
+use gic_io::gic_base::{GuestOp, NoMemory};
+use pe_place::pe_op::guest_op;
+use pe_place::vcpu_state::Loaded;
+use port_table::port_core::Port;
 use std::sync::Wait;
-use vcpu_state::Loaded;
 
 /// What a PE passes: its gate, before and after each operation.
 #[derive(Drop)]

@@ -1,7 +1,7 @@
 //! PEs and devices side by side, each in a thread of its own.
 ghost use Rattle.std.specs.Prelude.{◌≡◌, ◌<◌, ◌≤◌, ℕ, All, length, slice_index_or};
 ghost use Rattle.std.specs.Thread.{IsSync, IsSend};
-ghost use Rattle.gic_base.specs.declared.held.TheConstants.{MAX_LIST_REGISTERS};
+ghost use Rattle.gic_io.specs.Words.{MAX_LIST_REGISTERS};
 ghost use Rattle.vcpu_shelf.specs.Shelf.{shelf_told};
 ghost use Rattle.thr_trip.specs.Worker.{CanWork, HasWorked};
 

@@ -3,9 +3,9 @@ use Rattle.std.proofs.Common.{◌≡◌, Bool, true, false, cond, Option, Some, 
 use Rattle.std.specs.Prelude.{fold, map, filter, slice_get}
 use Rattle.std.specs.Option.{option_map}
 use Rattle.std.proofs.lemmas.List.{append_assoc, append-nil}
-use Rattle.gic_prio.specs.declared.candidate.Candidate.{Candidate}
-use Rattle.gic_prio.specs.Delivery.{first_of}
-use Rattle.gic_prio.proofs.FirstLemmas.{first_alone, first_next}
+use Rattle.gic_ich.specs.GicPrio.declared.candidate.Candidate.{Candidate}
+use Rattle.gic_ich.specs.GicPrio.Delivery.{first_of}
+use Rattle.gic_ich.proofs.GicPrio.FirstLemmas.{first_alone, first_next}
 use Rattle.vcpu_refill.specs.declared.offer.Offer.{Offer}
 use Rattle.vcpu_refill.specs.Order.{candidate_of, goes_before, inserted, is_deliverable_to}
 use Rattle.vcpu_refill.specs.Laws.{FirstIsFirst}

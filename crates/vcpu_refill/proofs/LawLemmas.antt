@@ -5,9 +5,9 @@ use Rattle.std.proofs.lemmas.Bool.{and_parts, ltb-true}
 use Rattle.std.proofs.lemmas.Grind.{common_steps}
 use Rattle.std.proofs.lemmas.List.{length-map, length-take, take-append-drop, take_all}
 use Rattle.std.proofs.lemmas.List.Elements.{Contains-append_left, Contains-append_right, Contains-append_cases}
-use Rattle.gic_lr.specs.declared.entry.LrState.TheVariants.{Pending, Active, Both}
-use Rattle.gic_prio.specs.declared.cpu.CpuRec.{CpuRec}
-use Rattle.gic_base.specs.declared.shape.GuestShape.{GuestShape}
+use Rattle.gic_ich.specs.GicLr.declared.entry.LrState.TheVariants.{Pending, Active, Both}
+use Rattle.gic_ich.specs.GicPrio.declared.cpu.CpuRec.{CpuRec}
+use Rattle.gic_ich.specs.Words.{GuestShape}
 use Rattle.vcpu_refill.specs.declared.offer.Offer.{Offer}
 use Rattle.vcpu_refill.specs.declared.fill.Choice.{Choice}
 use Rattle.vcpu_refill.specs.Order.{is_active_by, is_deliverable_to, is_deliverable_once_inactive, active_among, deliverable_among}

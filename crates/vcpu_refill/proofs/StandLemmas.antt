@@ -6,16 +6,13 @@ use Rattle.std.specs.Option.{option_map}
 use Rattle.std.proofs.lemmas.List.{length-map, get_or-map, get_or-take, length-take-le}
 use Rattle.std.proofs.Math.ListN.{get_or-eq_default}
 use Rattle.std.proofs.lemmas.Option.{none-some, same_Some, slice_get_past, slice_get_within, get_or_from_slice_get, slice_get-get_or}
-use Rattle.gic_word.specs.declared.record.Group.{Group}
-use Rattle.gic_word.specs.declared.record.Group.TheVariants.{G0, G1}
-use Rattle.gic_word.specs.Record.{group_number}
-use Rattle.gic_bits.specs.Bits.{has_bit, bit_of}
-use Rattle.gic_base.specs.declared.held.HeldIrq.{HeldIrq}
-use Rattle.gic_lr.specs.declared.entry.LrState.{LrState}
-use Rattle.gic_lr.specs.declared.entry.LrState.TheVariants.{Invalid, Pending, Active, Both}
-use Rattle.gic_lr.specs.Entry.{packed, state_at, state_number, state_has_pending, state_has_active}
-use Rattle.gic_prio.specs.declared.cpu.CpuRec.{CpuRec}
-use Rattle.gic_prio.specs.Interface.{AtInterface}
+use Rattle.gic_ich.specs.GicWord.declared.record.Group.{Group}
+use Rattle.gic_ich.specs.Words.{G0, G1, group_number, has_bit, bit_of, HeldIrq}
+use Rattle.gic_ich.specs.GicLr.declared.entry.LrState.{LrState}
+use Rattle.gic_ich.specs.GicLr.declared.entry.LrState.TheVariants.{Invalid, Pending, Active, Both}
+use Rattle.gic_ich.specs.GicLr.Entry.{packed, state_at, state_number, state_has_pending, state_has_active}
+use Rattle.gic_ich.specs.GicPrio.declared.cpu.CpuRec.{CpuRec}
+use Rattle.gic_ich.specs.GicPrio.Interface.{AtInterface}
 use Rattle.gic_ich.specs.Place.{Seen, seen_in, seen_of, StandsAs, HasOne, IsHeld, StandByPlace}
 use Rattle.vcpu_refill.specs.declared.offer.Offer.{Offer}
 use Rattle.vcpu_refill.specs.declared.fill.Choice.{Choice}

@@ -1,7 +1,7 @@
 -- What a Chooser keeps of the interrupts that it was offered.
 use Rattle.std.specs.Prelude.{ℕ, ◌≡◌, ◌<◌, List}
-use Rattle.gic_base.specs.declared.shape.GuestShape.{GuestShape}
-use Rattle.gic_prio.specs.declared.cpu.CpuRec.{CpuRec}
+use Rattle.gic_ich.specs.Words.{GuestShape}
+use Rattle.gic_ich.specs.GicPrio.declared.cpu.CpuRec.{CpuRec}
 use Rattle.vcpu_refill.specs.declared.offer.Offer.{Offer}
 use Rattle.vcpu_refill.specs.declared.ranking.Ranking.{Ranking}
 use Rattle.vcpu_refill.specs.Order.{active_among, deliverable_among}

@@ -1,12 +1,11 @@
 -- What every plan keeps.
 use Rattle.std.specs.Prelude.{ℕ, ◌≡◌, ◌≢◌, ◌≤◌, ◌⊎◌, IsTrue, false, Some, List, ◌∷◌, ◌++◌, map, filter, slice_get, ◌<◌, ◌^◌, Contains, All, AllPairs, IsPermutation}
 use Rattle.std.specs.Option.{option_map}
-use Rattle.gic_base.specs.declared.shape.GuestShape.{GuestShape}
-use Rattle.gic_base.specs.Interrupt.{intid_of}
-use Rattle.gic_lr.specs.declared.entry.LrState.TheVariants.{Pending, Both}
-use Rattle.gic_lr.specs.Entry.{state_has_active}
-use Rattle.gic_prio.specs.declared.cpu.CpuRec.{CpuRec}
-use Rattle.gic_prio.specs.Delivery.{first_of}
+use Rattle.gic_ich.specs.Words.{GuestShape, intid_of}
+use Rattle.gic_ich.specs.GicLr.declared.entry.LrState.TheVariants.{Pending, Both}
+use Rattle.gic_ich.specs.GicLr.Entry.{state_has_active}
+use Rattle.gic_ich.specs.GicPrio.declared.cpu.CpuRec.{CpuRec}
+use Rattle.gic_ich.specs.GicPrio.Delivery.{first_of}
 use Rattle.gic_ich.specs.Place.{StandFor}
 use Rattle.vcpu_refill.specs.declared.offer.Offer.{Offer}
 use Rattle.vcpu_refill.specs.declared.fill.Choice.{Choice}

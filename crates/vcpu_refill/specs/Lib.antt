@@ -1,3 +1,4 @@
+pub use Rattle.gic_ich.specs as GicIch
 pub mod Order
 pub mod Ranking
 pub mod Chooser

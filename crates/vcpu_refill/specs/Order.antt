@@ -1,11 +1,9 @@
 -- Interrupts in delivery order (IHI 0069, "Interrupt prioritization").
 use Rattle.std.specs.Prelude.{ℕ, List, [], ◌∷◌, fold, filter, slice_get, Bool, if◌then◌else◌, Option, None}
-use Rattle.gic_base.specs.declared.shape.GuestShape.{GuestShape}
-use Rattle.gic_base.specs.Interrupt.{intid_of}
-use Rattle.gic_word.specs.Record.{is_number}
-use Rattle.gic_prio.specs.declared.candidate.Candidate.{Candidate}
-use Rattle.gic_prio.specs.declared.cpu.CpuRec.{CpuRec}
-use Rattle.gic_prio.specs.Delivery.{is_before, is_deliverable}
+use Rattle.gic_ich.specs.Words.{GuestShape, intid_of, is_number}
+use Rattle.gic_ich.specs.GicPrio.declared.candidate.Candidate.{Candidate}
+use Rattle.gic_ich.specs.GicPrio.declared.cpu.CpuRec.{CpuRec}
+use Rattle.gic_ich.specs.GicPrio.Delivery.{is_before, is_deliverable}
 use Rattle.vcpu_refill.specs.declared.offer.Offer.{Offer}
 
 -- an offered interrupt as a candidate, which the delivery order compares

@@ -3,15 +3,12 @@
 use Rattle.std.specs.Prelude.{ℕ, ◌+◌, ◌-◌, ◌^◌, ◌&&◌, ◌||◌, ◌==◌, not, min, nat_lt, Bool, if◌then◌else◌, Option, None, List, [], ◌++◌, length, map, take, All, IfSome}
 use Rattle.std.specs.List.{filter_map}
 use Rattle.std.specs.Option.{option_map, option_map_or}
-use Rattle.gic_word.specs.Record.{is_pending}
-use Rattle.gic_base.specs.declared.shape.GuestShape.{GuestShape}
-use Rattle.gic_base.specs.declared.held.HeldIrq.{HeldIrq}
-use Rattle.gic_base.specs.Interrupt.{intid_of}
-use Rattle.gic_lr.specs.declared.entry.LrState.{LrState}
-use Rattle.gic_lr.specs.declared.entry.LrState.TheVariants.{Pending, Active, Both}
-use Rattle.gic_lr.specs.Entry.{IsEntry, packed, state_number, state_has_pending, state_has_active}
-use Rattle.gic_prio.specs.declared.cpu.CpuRec.{CpuRec}
-use Rattle.gic_prio.specs.Interface.{AtInterface, InterfaceState}
+use Rattle.gic_ich.specs.Words.{is_pending, GuestShape, HeldIrq, intid_of}
+use Rattle.gic_ich.specs.GicLr.declared.entry.LrState.{LrState}
+use Rattle.gic_ich.specs.GicLr.declared.entry.LrState.TheVariants.{Pending, Active, Both}
+use Rattle.gic_ich.specs.GicLr.Entry.{IsEntry, packed, state_number, state_has_pending, state_has_active}
+use Rattle.gic_ich.specs.GicPrio.declared.cpu.CpuRec.{CpuRec}
+use Rattle.gic_ich.specs.GicPrio.Interface.{AtInterface, InterfaceState}
 use Rattle.gic_ich.specs.declared.regs.IchRegs.{IchRegs}
 use Rattle.gic_ich.specs.Vmcr.{vmcr_of}
 use Rattle.gic_ich.specs.Hcr.{hcr_en, hcr_npie, hcr_vgrp0eie, hcr_vgrp0die, hcr_vgrp1eie, hcr_vgrp1die, hcr_tc, hcr_tall0, hcr_tall1, hcr_tdir}

@@ -1,10 +1,10 @@
 //! What is kept of the interrupts that a vCPU is offered.
 ghost use Rattle.std.specs.Prelude.{◌≡◌, ◌<◌, ◌≤◌, [], ◌∷◌, ◌++◌, List, None, length, slice_get, if◌then◌else◌, IfSome};
-ghost use Rattle.gic_lr.specs.Entry.{IsEntry};
+ghost use Rattle.gic_ich.specs.GicLr.Entry.{IsEntry};
 ghost use Rattle.std.specs.List.{slice_index_or};
 ghost use Rattle.std.specs.Option.{option_map};
-ghost use Rattle.gic_base.specs.declared.shape.GuestShape.{GuestShape};
-ghost use Rattle.gic_prio.specs.declared.cpu.CpuRec.{CpuRec};
+ghost use Rattle.gic_ich.specs.Words.{GuestShape};
+ghost use Rattle.gic_ich.specs.GicPrio.declared.cpu.CpuRec.{CpuRec};
 ghost use Rattle.vcpu_refill.specs.declared.offer.Offer.{Offer};
 ghost use Rattle.vcpu_refill.specs.Chooser.{StandsFor, Keeps};
 ghost use Rattle.vcpu_refill.specs.Order.{first_among};
@@ -14,10 +14,10 @@ ghost use Rattle.vcpu_refill.specs.Plan.{plan as plan_of, is_trapping, is_cut, a
 use crate::fill::{Choice, Fill, control};
 use crate::offer::Offer;
 use crate::ranking::Ranking;
-use gic_base::{Key, MAX_LIST_REGISTERS};
-use gic_lr::LrState;
-use gic_prio::CpuRec;
-use gic_word::Irq;
+use gic_ich::gic_base::{Key, MAX_LIST_REGISTERS};
+use gic_ich::gic_lr::LrState;
+use gic_ich::gic_prio::CpuRec;
+use gic_ich::gic_word::Irq;
 use std::marker::Model;
 
 /// What is kept of the interrupts that a vCPU was offered, to choose from them. It stores no list of all.
@@ -32,7 +32,7 @@ pub struct Chooser {
 impl Model for Chooser {
     ghost use Rattle.vcpu_refill.specs.Chooser.{Kept};
     ghost use Rattle.std.specs.Prelude.{◌≤◌};
-    ghost use Rattle.gic_base.specs.declared.held.TheConstants.{MAX_LIST_REGISTERS};
+    ghost use Rattle.gic_ich.specs.Words.{MAX_LIST_REGISTERS};
 
     ghost Value = { Kept };
 

@@ -1,20 +1,20 @@
 //! What is chosen for the list registers.
 ghost use Rattle.std.specs.Prelude.{◌≡◌, ◌<◌, map, IfSome};
-ghost use Rattle.gic_base.specs.declared.shape.GuestShape.{GuestShape};
+ghost use Rattle.gic_ich.specs.Words.{GuestShape};
 ghost use Rattle.std.specs.Option.{option_map};
-ghost use Rattle.gic_lr.specs.Entry.{IsEntry};
-ghost use Rattle.gic_prio.specs.Priority.{HasBinaryPoints};
+ghost use Rattle.gic_ich.specs.GicLr.Entry.{IsEntry};
+ghost use Rattle.gic_ich.specs.GicPrio.Priority.{HasBinaryPoints};
 ghost use Rattle.vcpu_refill.specs.Plan.{hcr_of, chosen_as as choice_with, active_state as state_of_active, word_of, regs_of, held_as, held_of, HasEntries};
 
 use crate::offer::Offer;
-use gic_base::{Held, HeldIrq, Key, MAX_LIST_REGISTERS};
+use gic_ich::gic_base::{Held, HeldIrq, Key, MAX_LIST_REGISTERS};
+use gic_ich::gic_lr::{LrEntry, LrState, pack};
+use gic_ich::gic_prio::CpuRec;
+use gic_ich::gic_word::{Irq, pending};
 use gic_ich::{
     HCR_EN, HCR_NPIE, HCR_TALL0, HCR_TALL1, HCR_TC, HCR_TDIR, HCR_VGRP0DIE, HCR_VGRP0EIE,
     HCR_VGRP1DIE, HCR_VGRP1EIE, IchRegs, vmcr_of,
 };
-use gic_lr::{LrEntry, LrState, pack};
-use gic_prio::CpuRec;
-use gic_word::{Irq, pending};
 
 /// An interrupt that was chosen for a list register.
 #[derive(Clone, Copy, Debug, PartialEq, Eq)]

@@ -1,12 +1,12 @@
 //! An interrupt that may be chosen.
 ghost use Rattle.std.specs.Prelude.{◌≡◌, ◌<◌};
-ghost use Rattle.gic_base.specs.declared.shape.GuestShape.{GuestShape};
-ghost use Rattle.gic_prio.specs.Delivery.{is_before, is_deliverable as can_be_delivered};
+ghost use Rattle.gic_ich.specs.Words.{GuestShape};
+ghost use Rattle.gic_ich.specs.GicPrio.Delivery.{is_before, is_deliverable as can_be_delivered};
 ghost use Rattle.vcpu_refill.specs.Order.{goes_before as is_ahead, is_active_by, is_deliverable_to};
 
-use gic_base::Key;
-use gic_prio::{Candidate, CpuRec, deliverable};
-use gic_word::Irq;
+use gic_ich::gic_base::Key;
+use gic_ich::gic_prio::{Candidate, CpuRec, deliverable};
+use gic_ich::gic_word::Irq;
 
 /// An interrupt of the guest that may be chosen for a list register.
 #[derive(Clone, Copy, Debug, PartialEq, Eq)]

@@ -6,9 +6,7 @@ use Rattle.std.specs.Option.{option_map}
 use Rattle.std.proofs.lemmas.Grind.{common_steps}
 use Rattle.std.proofs.lemmas.List.Elements.{All-nil, All-cons}
 use Rattle.std.proofs.lemmas.Iterator.Adapters.{position_from-zero}
-use Rattle.gic_base.specs.declared.interrupt.Key.{Key}
-use Rattle.gic_base.specs.declared.held.HeldIrq.{HeldIrq}
-use Rattle.gic_base.specs.Interrupt.{intid_of}
+use Rattle.gic_ich.specs.Words.{Key, HeldIrq, intid_of}
 use Rattle.vcpu_state.specs.Holding.{has_intid}
 
 -- the interrupts at some places

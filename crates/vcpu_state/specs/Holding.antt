@@ -2,9 +2,7 @@
 use Rattle.std.specs.Prelude.{ℕ, ◌==◌, Bool, false, Option, List}
 use Rattle.std.specs.List.{filter_map}
 use Rattle.std.specs.Option.{option_map, option_map_or}
-use Rattle.gic_base.specs.declared.interrupt.Key.{Key}
-use Rattle.gic_base.specs.declared.held.HeldIrq.{HeldIrq}
-use Rattle.gic_base.specs.Interrupt.{intid_of}
+use Rattle.gic_ich.specs.Words.{Key, HeldIrq, intid_of}
 use Rattle.vcpu_state.specs.declared.loaded.Loaded.{Loaded}
 
 -- the interrupts that a loaded vCPU holds, by the places of their list registers

@@ -1,8 +1,7 @@
 -- One place of a vCPU on a PE: a list register and what is held there (own choice).
 use Rattle.std.specs.Prelude.{ℕ, ◌≡◌, ◌≢◌, ◌⊎◌, Option, List, Contains, slice_set}
-use Rattle.gic_base.specs.declared.held.HeldIrq.{HeldIrq}
-use Rattle.gic_base.specs.declared.interrupt.Key.{Key}
-use Rattle.gic_prio.specs.Interface.{AtInterface}
+use Rattle.gic_ich.specs.Words.{HeldIrq, Key}
+use Rattle.gic_ich.specs.GicPrio.Interface.{AtInterface}
 use Rattle.vcpu_state.specs.declared.loaded.Loaded.{Loaded}
 
 -- the vCPU with this list register at a place, and this held there

@@ -1,20 +1,19 @@
 //! A vCPU on a PE.
 ghost use Rattle.std.specs.Prelude.{◌≡◌, ◌≢◌, ◌<◌, ◌≤◌, ◌↔◌, [], List, Some, None, IsTrue, IfSome, IfNone, All, is_none, position};
 ghost use Rattle.std.specs.List.{list_all, slice_index_or};
-ghost use Rattle.gic_base.specs.Interrupt.{intid_of};
-ghost use Rattle.gic_prio.specs.Priority.{HasBinaryPoints};
+ghost use Rattle.gic_ich.specs.Words.{intid_of, HeldIrq as Brought};
+ghost use Rattle.gic_ich.specs.GicPrio.Priority.{HasBinaryPoints};
 ghost use Rattle.vcpu_state.specs.Holding.{held_keys, has_intid};
-ghost use Rattle.gic_base.specs.declared.held.HeldIrq.{HeldIrq as Brought};
-ghost use Rattle.gic_lr.specs.Entry.{IsEntry, packed};
-ghost use Rattle.gic_prio.specs.Interface.{AtInterface, InterfaceState};
+ghost use Rattle.gic_ich.specs.GicLr.Entry.{IsEntry, packed};
+ghost use Rattle.gic_ich.specs.GicPrio.Interface.{AtInterface, InterfaceState};
 ghost use Rattle.gic_ich.specs.Place.{StandsAs, IsHeld, StandFor};
 ghost use Rattle.vcpu_state.specs.Moves.{loaded_of, shelved_of};
 ghost use Rattle.vcpu_state.specs.Places.{with_place, IsWith, IsWithout};
 
 use crate::shelved::Shelved;
-use gic_base::{Held, HeldIrq, MAX_LIST_REGISTERS};
+use gic_ich::gic_base::{Held, HeldIrq, MAX_LIST_REGISTERS};
+use gic_ich::gic_lr::{LrEntry, pack};
 use gic_ich::{HCR_EN, IchRegs, cpu_of, vmcr_of};
-use gic_lr::{LrEntry, pack};
 
 /// A vCPU on a PE. The registers are its own; the words of interrupts stay shared, and others may act on
 /// them.
@@ -136,10 +135,10 @@ impl Loaded {
 #[cfg(test)]
 mod tests {
     use crate::shelved::Shelved;
-    use gic_base::{HeldIrq, Key};
-    use gic_lr::{LrEntry, LrState};
-    use gic_prio::CpuRec;
-    use gic_word::Group;
+    use gic_ich::gic_base::{HeldIrq, Key};
+    use gic_ich::gic_lr::{LrEntry, LrState};
+    use gic_ich::gic_prio::CpuRec;
+    use gic_ich::gic_word::Group;
 
     const SHELVED: Shelved = Shelved {
         guest: 0,

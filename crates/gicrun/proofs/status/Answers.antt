@@ -1,5 +1,5 @@
 use Rattle.std.proofs.Common.{◌≡◌, None, IfOk, IfSome, subst, sym}
-use Rattle.gic_io.specs.Faults.{HasRisen}
+use Rattle.gic_top.specs.GicIo.Faults.{HasRisen}
 use Rattle.gic_top.specs.Command.{command_in}
 use Rattle.gic_top.specs.Tool.{input_mode, ShownIn, IsOutcome, HasItsAnswer, WasShown}
 use Rattle.gicrun.proofs.status.Goals as goal

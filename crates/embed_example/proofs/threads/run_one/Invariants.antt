@@ -1,6 +1,6 @@
 -- The port is the same actor's.
 use Rattle.std.proofs.Common.{◌≡◌}
-use Rattle.port_core.specs.Port.{IsSameActor}
+use Rattle.dev_port.specs.Core.{IsSameActor}
 use Rattle.embed_example.proofs.threads.run_one.Given as goal
 
 abbrev pub invariant-loop : goal.invariant-loop

@@ -1,7 +1,7 @@
 use Rattle.std.proofs.Common.{◌≡◌, ◌+◌, ◌*◌, ◌%◌, ◌<◌, ◌^◌, ◌∙◌, ap, arith}
-use Rattle.gic_bits.specs.Sets.{set_of}
+use Rattle.floor_words.specs.Words.{set_of}
 use Rattle.gic_aff.specs.Sgi.{is_target}
-use Rattle.gic_bits.proofs.SetLemmas.{set_of-below, has_bit-set_of}
+use Rattle.floor_words.proofs.GicBits.SetLemmas.{set_of-below, has_bit-set_of}
 use Rattle.gic_aff.proofs.WordLemmas.{sum_fits}
 use Rattle.gic_aff.proofs.sgi.sgi_targets.Goals as goal
 

@@ -1,5 +1,5 @@
 use Rattle.std.proofs.Common.{◌≡◌}
-use Rattle.gic_bits.specs.Sets.{set_of}
+use Rattle.floor_words.specs.Words.{set_of}
 use Rattle.gic_aff.specs.Sgi.{is_target}
 use Rattle.gic_aff.proofs.sgi.sgi_targets.Given as goal
 

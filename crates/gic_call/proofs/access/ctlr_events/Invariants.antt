@@ -1,5 +1,5 @@
 use Rattle.std.proofs.Common.{◌≡◌}
-use Rattle.gic_base.specs.Interrupt.{interrupt_count}
+use Rattle.floor_registers.specs.Words.{interrupt_count}
 use Rattle.gic_call.proofs.AccessLemmas.{AreCopies}
 use Rattle.gic_call.proofs.access.ctlr_events.Given as goal
 

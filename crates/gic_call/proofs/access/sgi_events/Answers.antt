@@ -1,6 +1,6 @@
 use Rattle.std.proofs.Common.{◌≡◌, true, nat_lt, refl, ◌∙◌, arith}
-use Rattle.gic_aff.specs.Sgi.{is_target}
-use Rattle.gic_frame.proofs.TestLemmas.{both, is_under}
+use Rattle.floor_registers.specs.Registers.{is_target}
+use Rattle.floor_registers.proofs.GicFrame.TestLemmas.{both, is_under}
 use Rattle.gic_call.specs.Call.{sgi_at}
 use Rattle.gic_call.proofs.AccessLemmas.{first_pushed, first_kept, sgi_named, sgi_unnamed, target_bit}
 use Rattle.gic_call.proofs.access.sgi_events.Goals.{then-has_bit+in_ok-push, else-has_bit}

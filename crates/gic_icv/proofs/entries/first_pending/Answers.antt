@@ -1,5 +1,5 @@
 use Rattle.std.proofs.Common.{take, sym, ap, ◌∙◌}
-use Rattle.gic_prio.specs.Delivery.{first_of}
+use Rattle.gic_ich.specs.GicPrio.Delivery.{first_of}
 use Rattle.gic_icv.specs.Entries.{candidates_in}
 use Rattle.gic_icv.proofs.EntryLemmas.{with_candidate, without_candidate}
 use Rattle.gic_icv.proofs.entries.first_pending.Goals.{in-Some, in_default}

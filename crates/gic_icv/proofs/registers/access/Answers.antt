@@ -1,5 +1,5 @@
 use Rattle.std.proofs.Common.{sym, ap, ◌∙◌}
-use Rattle.gic_prio.specs.Access.{answer_of}
+use Rattle.gic_ich.specs.GicPrio.Access.{answer_of}
 use Rattle.gic_icv.specs.declared.registers.Outcome.TheVariants.{Value, Done}
 use Rattle.gic_icv.specs.Registers.{cpu_in, candidates_of, registers_after, answered}
 use Rattle.gic_icv.proofs.FollowLemmas.{follows_as, no_answer}

@@ -1,6 +1,6 @@
 use Rattle.std.proofs.Common.{◌∙◌, sym, refl}
 use Rattle.gic_ideal.specs.Ends.{cpu_end, is_same_cpu_end, changed_at}
-use Rattle.gic_call.proofs.RangeLemmas.{filter_map_pushed, filter_map_kept}
+use Rattle.ideal_guest.proofs.GicCall.RangeLemmas.{filter_map_pushed, filter_map_kept}
 use Rattle.gic_ideal.proofs.ends.cpu_ends.Goals as goal
 use Rattle.gic_ideal.proofs.ends.cpu_ends.Goals.{in-Some+in_ok-push, in_default}
 

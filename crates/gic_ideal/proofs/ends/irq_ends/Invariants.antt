@@ -1,5 +1,5 @@
 use Rattle.std.proofs.Common.{◌≡◌}
-use Rattle.gic_base.specs.Interrupt.{interrupt_count}
+use Rattle.ideal_guest.specs.Words.{interrupt_count}
 use Rattle.gic_ideal.specs.Ends.{irq_end, is_same_irq_end, changed}
 use Rattle.gic_ideal.proofs.ends.irq_ends.Given as goal
 

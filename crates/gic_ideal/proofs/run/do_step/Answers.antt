@@ -2,7 +2,7 @@ use Rattle.std.proofs.Common.{◌<◌, ◌&&◌, nat_lt, length, ◌∙◌, sym,
 use Rattle.std.specs.List.{slice_set}
 use Rattle.std.proofs.Math.Seq.{map-set_same}
 use Rattle.std.proofs.lemmas.List.Elements.{All-set}
-use Rattle.scn_base.specs.Good.{is_good_event}
+use Rattle.ideal_guest.specs.Calls.{is_good_event}
 use Rattle.ideal_guest.specs.Call.{after_device}
 use Rattle.gic_ideal.specs.Eager.{after_step}
 use Rattle.ideal_guest.specs.Sound.{IsSound}

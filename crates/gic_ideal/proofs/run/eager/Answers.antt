@@ -1,6 +1,6 @@
 use Rattle.std.proofs.Common.{◌≡◌, ap, subst, ◌∙◌}
 use Rattle.scn_base.specs.Standing.{ResidentsExist}
-use Rattle.scn_base.specs.Good.{shapes_of}
+use Rattle.ideal_guest.specs.Calls.{shapes_of}
 use Rattle.gic_ideal.specs.Eager.{state_shapes}
 use Rattle.gic_ideal.proofs.StateLemmas.{shapes_opening}
 use Rattle.gic_ideal.proofs.run.eager.Goals as goal

@@ -1,5 +1,5 @@
 use Rattle.std.proofs.Common.{◌∙◌, sym, ap, arith}
-use Rattle.scn_base.specs.Good.{shapes_of}
+use Rattle.ideal_guest.specs.Calls.{shapes_of}
 use Rattle.gic_ideal.specs.Ends.{end_of}
 use Rattle.gic_ideal.proofs.StateLemmas.{same_shape, ends_step}
 use Rattle.gic_ideal.proofs.run.end_all.Goals as goal

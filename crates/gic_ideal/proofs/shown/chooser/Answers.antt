@@ -1,12 +1,11 @@
 use Rattle.std.proofs.Common.{◌≡◌, ◌++◌, ◌∷◌, [], List, map, refl, ap, ◌∙◌, subst}
 use Rattle.std.specs.List.{range_with_len}
-use Rattle.gic_base.specs.declared.interrupt.Key.{Key}
-use Rattle.gic_word.specs.declared.record.Irq.{Irq}
+use Rattle.ideal_guest.specs.Words.{Key, Irq}
 use Rattle.vcpu_refill.specs.declared.offer.Offer.{Offer}
 use Rattle.vcpu_refill.specs.Chooser.{StandsFor}
 use Rattle.ideal_guest.specs.Ideal.{irq_at}
 use Rattle.gic_ideal.specs.Shown.{offer_at}
-use Rattle.gic_open.proofs.RangeLemmas.{map_pushed}
+use Rattle.ideal_guest.proofs.GicOpen.RangeLemmas.{map_pushed}
 use Rattle.gic_ideal.proofs.shown.chooser.Goals as goal
 
 pub loop-place-init : goal.loop-place-init

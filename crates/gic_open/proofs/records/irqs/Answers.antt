@@ -1,6 +1,6 @@
 use Rattle.std.proofs.Common.{ap, ◌∙◌, length}
 use Rattle.std.proofs.lemmas.List.FromFn.{length-map-range_with_len}
-use Rattle.gic_base.specs.Interrupt.{key_at, interrupt_count}
+use Rattle.gic_guest.specs.Words.{key_at, interrupt_count}
 use Rattle.gic_open.specs.Opening.{opening_irq}
 use Rattle.gic_open.proofs.records.irqs.Goals as goal
 

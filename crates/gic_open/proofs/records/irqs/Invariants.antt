@@ -1,5 +1,5 @@
 use Rattle.std.proofs.Common.{◌≡◌, fold, take, length}
-use Rattle.gic_base.specs.Interrupt.{interrupt_count}
+use Rattle.gic_guest.specs.Words.{interrupt_count}
 use Rattle.gic_open.specs.Opening.{after_preset, opening_irqs}
 use Rattle.gic_open.proofs.records.irqs.Given as goal
 

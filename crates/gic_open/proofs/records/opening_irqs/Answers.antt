@@ -1,6 +1,5 @@
 use Rattle.std.proofs.Common.{ℕ, ap, ◌∙◌}
-use Rattle.gic_base.specs.Interrupt.{key_at}
-use Rattle.gic_word.specs.declared.record.Irq.{Irq}
+use Rattle.gic_guest.specs.Words.{key_at, Irq}
 use Rattle.gic_open.specs.Opening.{opening_irq}
 use Rattle.gic_open.proofs.RangeLemmas.{map_pushed}
 use Rattle.gic_open.proofs.records.opening_irqs.Goals as goal

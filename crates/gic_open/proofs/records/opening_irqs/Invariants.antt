@@ -1,6 +1,6 @@
 use Rattle.std.proofs.Common.{◌≡◌, map}
 use Rattle.std.specs.List.{range_with_len}
-use Rattle.gic_base.specs.Interrupt.{interrupt_count, key_at}
+use Rattle.gic_guest.specs.Words.{interrupt_count, key_at}
 use Rattle.gic_open.specs.Opening.{opening_irq}
 use Rattle.gic_open.proofs.records.opening_irqs.Given as goal
 

@@ -1,8 +1,8 @@
 use Rattle.std.proofs.Common.{◌≡◌, ◌<◌, Bool, false, length, get_or, ap, arith, ◌∙◌}
 use Rattle.std.proofs.lemmas.List.{get_or_default}
-use Rattle.gic_open.specs.Opening.{opening_cpu}
-use Rattle.gic_open.proofs.RangeLemmas.{map_pushed}
-use Rattle.gic_prio.specs.declared.cpu.CpuRec.{CpuRec}
+use Rattle.port_core.specs.Calls.{opening_cpu}
+use Rattle.port_core.proofs.GicOpen.RangeLemmas.{map_pushed}
+use Rattle.port_core.specs.Registers.{CpuRec}
 use Rattle.guest_end.specs.Home.{cpu_at_home}
 use Rattle.guest_end.proofs.home.home_cpus.Goals as goal
 

@@ -1,6 +1,5 @@
 use Rattle.std.proofs.Common.{ℕ, Bool, ◌==◌, ◌&&◌, not, sym, ◌∙◌, arith}
-use Rattle.gic_history.specs.History.{actor_count}
-use Rattle.gic_history.specs.Fresh.{is_to_come}
+use Rattle.floor_histories.specs.Histories.{actor_count, is_to_come}
 use Rattle.history_check.proofs.ExcuseLemmas.{none_more, any_found}
 use Rattle.history_check.proofs.coming.is_awaited.Goals as goal
 

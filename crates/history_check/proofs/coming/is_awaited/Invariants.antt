@@ -1,6 +1,6 @@
 use Rattle.std.proofs.Common.{◌≡◌, ◌==◌, ◌&&◌, not, false}
 use Rattle.std.specs.List.{list_any, range_with_len}
-use Rattle.gic_history.specs.Fresh.{is_to_come}
+use Rattle.floor_histories.specs.Histories.{is_to_come}
 use Rattle.history_check.proofs.coming.is_awaited.Given as goal
 
 -- no call so far

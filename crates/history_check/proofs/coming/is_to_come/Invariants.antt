@@ -1,5 +1,5 @@
 use Rattle.std.proofs.Common.{◌≡◌, drop}
-use Rattle.gic_history.specs.Fresh.{is_to_come}
+use Rattle.floor_histories.specs.Histories.{is_to_come}
 use Rattle.history_check.proofs.coming.is_to_come.Given as goal
 
 -- the moments so far left it open

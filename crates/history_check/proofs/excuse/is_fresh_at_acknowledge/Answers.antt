@@ -1,9 +1,7 @@
 use Rattle.std.proofs.Common.{◌≡◌, ◌||◌, not, Bool, true, false, sym, ap, ◌∙◌, arith}
 use Rattle.std.specs.List.{list_all}
-use Rattle.gic_base.specs.declared.interrupt.Key.{Key}
-use Rattle.gic_base.specs.declared.shape.GuestShape.{GuestShape}
-use Rattle.gic_base.specs.Interrupt.{interrupt_count, key_at}
-use Rattle.gic_history.specs.Fresh.{asks_first, comes_first, is_excused, keys_in}
+use Rattle.floor_histories.specs.Words.{Key, GuestShape, interrupt_count, key_at}
+use Rattle.floor_histories.specs.Histories.{asks_first, comes_first, is_excused, keys_in}
 use Rattle.history_check.proofs.ExcuseLemmas.{all_more, all_fails}
 use Rattle.history_check.proofs.excuse.is_fresh_at_acknowledge.Goals as goal
 

@@ -1,7 +1,7 @@
 use Rattle.std.proofs.Common.{◌≡◌, ◌||◌, not, true, map}
 use Rattle.std.specs.List.{list_all, range_with_len}
-use Rattle.gic_base.specs.Interrupt.{key_at}
-use Rattle.gic_history.specs.Fresh.{comes_first, is_excused}
+use Rattle.floor_histories.specs.Words.{key_at}
+use Rattle.floor_histories.specs.Histories.{comes_first, is_excused}
 use Rattle.history_check.proofs.excuse.is_fresh_at_acknowledge.Given as goal
 
 -- each interrupt so far that comes first is excused

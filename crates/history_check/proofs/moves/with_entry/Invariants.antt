@@ -1,5 +1,5 @@
 use Rattle.std.proofs.Common.{◌≡◌, take}
-use Rattle.gic_history.specs.Moves.{with_entry}
+use Rattle.floor_histories.specs.Histories.{with_entry}
 use Rattle.history_check.proofs.moves.with_entry.Given as goal
 
 abbrev pub invariant-loop-one : goal.invariant-loop-one

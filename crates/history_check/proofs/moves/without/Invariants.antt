@@ -1,5 +1,5 @@
 use Rattle.std.proofs.Common.{◌≡◌, take}
-use Rattle.gic_history.specs.Moves.{without}
+use Rattle.floor_histories.specs.Histories.{without}
 use Rattle.history_check.proofs.moves.without.Given as goal
 
 abbrev pub invariant-loop-one : goal.invariant-loop-one

@@ -1,7 +1,6 @@
 use Rattle.std.proofs.Common.{◌≡◌, ◌∙◌, sym, ap, take, Some, None}
 use Rattle.std.specs.List.{filter_map}
-use Rattle.gic_prio.specs.Delivery.{first_of}
-use Rattle.gic_prio.specs.Interface.{candidate_of}
+use Rattle.floor_histories.specs.Registers.{first_of, candidate_of}
 use Rattle.history_check.proofs.ShownLemmas.{found_more, none_more}
 use Rattle.history_check.proofs.shown.first_candidate.Goals as goal
 use Rattle.history_check.proofs.shown.first_candidate.Goals.{in-Some, in_default}

@@ -1,7 +1,6 @@
 use Rattle.std.proofs.Common.{◌≡◌, take}
 use Rattle.std.specs.List.{filter_map}
-use Rattle.gic_prio.specs.Delivery.{first_of}
-use Rattle.gic_prio.specs.Interface.{candidate_of}
+use Rattle.floor_histories.specs.Registers.{first_of, candidate_of}
 use Rattle.history_check.proofs.shown.first_candidate.Given as goal
 
 -- the first of those so far

@@ -1,5 +1,5 @@
 use Rattle.std.proofs.Common.{◌≡◌, drop, find}
-use Rattle.gic_history.specs.State.{is_of}
+use Rattle.floor_histories.specs.Histories.{is_of}
 use Rattle.history_check.proofs.standing.entry_of.Given as goal
 
 abbrev pub invariant-loop-one : goal.invariant-loop-one

@@ -1,5 +1,5 @@
 use Rattle.std.proofs.Common.{◌≡◌, List, [], replicate}
-use Rattle.gic_history.specs.State.{Standing}
+use Rattle.floor_histories.specs.Histories.{Standing}
 use Rattle.history_check.proofs.state.none_standing.Given as goal
 
 abbrev pub invariant-loop-vcpu : goal.invariant-loop-vcpu

@@ -1,7 +1,7 @@
 use Rattle.std.proofs.Common.{◌≡◌, OnOk, sym, subst}
-use Rattle.gic_call.specs.declared.event.Event.TheVariants.{Queue}
-use Rattle.gic_call.specs.declared.event.Found.TheVariants.{Nothing}
-use Rattle.gic_history.specs.Moves.{happened}
+use Rattle.history_check.specs.GicCall.declared.event.Event.TheVariants.{Queue}
+use Rattle.history_check.specs.GicCall.declared.event.Found.TheVariants.{Nothing}
+use Rattle.history_check.specs.Histories.{happened}
 use Rattle.history_play.proofs.CourseLemmas.{faultless}
 use Rattle.history_play.proofs.after.change_queue.Goals as goal
 

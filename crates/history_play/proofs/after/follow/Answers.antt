@@ -1,5 +1,5 @@
 use Rattle.std.proofs.Common.{sym, ap, ◌∙◌}
-use Rattle.gic_history.specs.Fresh.{tracked}
+use Rattle.history_check.specs.Histories.{tracked}
 use Rattle.history_play.proofs.after.follow.Goals as goal
 
 pub returns-in-Begin-clause-track : goal.returns-in-Begin-clause-track

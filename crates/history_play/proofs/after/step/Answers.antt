@@ -1,5 +1,5 @@
 use Rattle.std.proofs.Common.{◌≡◌, false, subst}
-use Rattle.gic_call.specs.declared.event.Moment.TheVariants.{Happens}
+use Rattle.history_check.specs.Calls.{Happens}
 use Rattle.history_play.specs.Coming.{is_unknown}
 use Rattle.history_play.proofs.after.step.Goals as goal
 

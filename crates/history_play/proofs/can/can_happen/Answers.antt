@@ -1,5 +1,5 @@
 use Rattle.std.proofs.Common.{◌↔◌, IsTrue, sym, subst}
-use Rattle.gic_call.specs.Valid.{CanHappen}
+use Rattle.history_check.specs.Calls.{CanHappen}
 use Rattle.history_play.proofs.can.can_happen.Goals as goal
 
 pub returns-in-Queue : goal.returns-in-Queue

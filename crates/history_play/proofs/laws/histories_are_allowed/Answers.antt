@@ -1,4 +1,4 @@
-use Rattle.gic_history.specs.History.{opening_course}
+use Rattle.history_check.specs.Histories.{opening_course}
 use Rattle.history_play.proofs.PlayedLemmas.{all_come}
 use Rattle.history_play.proofs.laws.histories_are_allowed.Goals as goal
 

@@ -1,5 +1,5 @@
 use Rattle.std.proofs.Common.{◌≡◌, ◌==◌, ◌&&◌, not, filter, take}
-use Rattle.gic_base.specs.Interrupt.{is_same_key}
+use Rattle.history_check.specs.Words.{is_same_key}
 use Rattle.history_play.proofs.leaving.without.Given as goal
 
 abbrev pub invariant-loop-one : goal.invariant-loop-one

@@ -1,5 +1,5 @@
 use Rattle.std.proofs.Common.{◌≡◌, [], None, replicate}
-use Rattle.gic_history.specs.Fresh.{Doing}
+use Rattle.history_check.specs.Histories.{Doing}
 use Rattle.history_play.proofs.track.idle.Given as goal
 
 abbrev pub invariant-loop-actor : goal.invariant-loop-actor

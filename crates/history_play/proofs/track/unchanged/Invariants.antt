@@ -1,5 +1,5 @@
 use Rattle.std.proofs.Common.{◌≡◌, [], None, replicate}
-use Rattle.gic_history.specs.Fresh.{Changes}
+use Rattle.history_check.specs.Histories.{Changes}
 use Rattle.history_play.proofs.track.unchanged.Given as goal
 
 abbrev pub invariant-loop-place : goal.invariant-loop-place

@@ -1,6 +1,6 @@
 use Rattle.std.proofs.Common.{◌≡◌, ◌++◌, drop}
-use Rattle.gic_call.specs.declared.command.Part.TheVariants.{Retarget}
-use Rattle.gic_call.specs.Command.{each}
+use Rattle.floor_calls.specs.GicCall.declared.command.Part.TheVariants.{Retarget}
+use Rattle.floor_calls.specs.Calls.{each}
 use Rattle.ideal_guest.proofs.parts.retarget_each.Given as goal
 
 -- the parts so far, and those of the LPIs that are left

@@ -1,7 +1,7 @@
 -- A MAPD forgets the LPIs of its device.
 use Rattle.std.proofs.Common.{ap}
-use Rattle.gic_call.specs.Command.{parts, lpis_of_device}
-use Rattle.port_core.specs.Port.{shape_of}
+use Rattle.port_call.specs.Calls.{parts, lpis_of_device}
+use Rattle.port_call.specs.Core.{shape_of}
 use Rattle.its_exec.specs.Command.{DoesCommand}
 use Rattle.its_exec.specs.Plan.{ForgetsAll}
 use Rattle.its_exec.proofs.PlainLemmas.{does_mapd, ok_on}

@@ -1,7 +1,7 @@
 -- The parts of one event, or those of several LPIs.
 use Rattle.std.proofs.Common.{IsTrue, IfSome, Option, sym, subst, ◌∙◌}
-use Rattle.gic_call.specs.declared.command.Part.{Part}
-use Rattle.port_core.specs.Port.{shape_of}
+use Rattle.port_call.specs.Calls.{Part}
+use Rattle.port_call.specs.Core.{shape_of}
 use Rattle.its_exec.specs.Parts.{is_part_of}
 use Rattle.its_exec.proofs.PlainLemmas.{second_after, some_holds, does_single, does_several, as_some}
 use Rattle.its_exec.proofs.command.do_plain.Goals as goal

@@ -1,6 +1,6 @@
 -- The look at the doubleword, or none.
 use Rattle.std.proofs.Common.{sym, ap, ◌∙◌, ◌+◌, ◌*◌, ◌%◌}
-use Rattle.gic_ram.specs.Access.{part_of}
+use Rattle.port_call.specs.Registers.{part_of}
 use Rattle.its_exec.proofs.FetchLemmas.{doubleword_in, doubleword_known, doubleword_out}
 use Rattle.port_call.proofs.MemoryLemmas.{reads_outside}
 use Rattle.its_exec.proofs.fetch.doubleword.Goals as goal

@@ -1,8 +1,8 @@
 -- The look, the configuration, and the touch.
 use Rattle.std.proofs.Common.{refl}
-use Rattle.gic_call.specs.declared.command.Part.TheVariants.{Configure}
-use Rattle.gic_call.specs.declared.touch.Touching.TheVariants.{Configure as ConfigureLpi}
-use Rattle.port_core.specs.Port.{shape_of}
+use Rattle.port_call.specs.GicCall.declared.command.Part.TheVariants.{Configure}
+use Rattle.port_call.specs.GicCall.declared.touch.Touching.TheVariants.{Configure as ConfigureLpi}
+use Rattle.port_call.specs.Core.{shape_of}
 use Rattle.its_exec.proofs.PartLemmas.{configured, configuring_by, look_holds, part_there}
 use Rattle.its_exec.proofs.part.configure.Goals as goal
 

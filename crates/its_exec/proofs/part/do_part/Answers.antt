@@ -1,7 +1,8 @@
 -- Each kind of part.
 use Rattle.std.proofs.Common.{ap}
-use Rattle.gic_call.specs.declared.command.Part.TheVariants.{Forget, Retarget, Raise, Clear}
-use Rattle.port_core.specs.Port.{shape_of}
+use Rattle.port_call.specs.Calls.{Clear}
+use Rattle.port_call.specs.GicCall.declared.command.Part.TheVariants.{Forget, Retarget, Raise}
+use Rattle.port_call.specs.Core.{shape_of}
 use Rattle.its_exec.specs.Parts.{lpi_of}
 use Rattle.its_exec.proofs.PartLemmas.{as_part, part_there, raised_part, forgotten, retargeted, cleared}
 use Rattle.its_exec.proofs.part.do_part.Goals as goal

@@ -1,8 +1,7 @@
 -- The configuration, and the touch.
 use Rattle.std.proofs.Common.{refl}
-use Rattle.gic_call.specs.declared.command.Part.TheVariants.{Map}
-use Rattle.gic_call.specs.declared.touch.Touching.TheVariants.{MapLpi}
-use Rattle.port_core.specs.Port.{shape_of}
+use Rattle.port_call.specs.Calls.{Map, MapLpi}
+use Rattle.port_call.specs.Core.{shape_of}
 use Rattle.its_exec.proofs.PartLemmas.{mapped, mapping_by, part_there}
 use Rattle.its_exec.proofs.part.map.Goals as goal
 

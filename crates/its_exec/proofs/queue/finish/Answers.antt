@@ -1,6 +1,6 @@
 -- The end of a good command.
 use Rattle.std.proofs.Common.{ap, ◌∙◌, arith}
-use Rattle.its_queue.specs.Queue.{advanced}
+use Rattle.port_call.specs.Registers.{advanced}
 use Rattle.its_exec.proofs.QueueLemmas.{can_end}
 use Rattle.its_exec.proofs.queue.finish.Goals as goal
 

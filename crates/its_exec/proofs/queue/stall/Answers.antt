@@ -1,6 +1,6 @@
 -- The end of a bad command.
 use Rattle.std.proofs.Common.{ℕ, subst}
-use Rattle.gic_open.specs.declared.plain.PlainWord.TheVariants.{Fault}
+use Rattle.port_call.specs.Calls.{Fault}
 use Rattle.port_call.specs.Store.{Stores}
 use Rattle.its_exec.proofs.QueueLemmas.{can_store, can_stall}
 use Rattle.its_exec.proofs.queue.stall.Goals as goal

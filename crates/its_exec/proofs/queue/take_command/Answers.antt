@@ -1,9 +1,8 @@
 -- The next command: it is fetched, and done, or the queue stalls at it.
 use Rattle.std.proofs.Common.{ap, sym, subst, ◌∙◌, option_map, Some}
-use Rattle.its_tab.specs.Fault.{fault_number, number_of}
-use Rattle.its_cmd.specs.Command.{decoded}
-use Rattle.its_tab.specs.Maps.{Maps}
-use Rattle.port_core.specs.Port.{Seen}
+use Rattle.port_call.specs.Registers.{fault_number, number_of, Maps}
+use Rattle.port_call.specs.ItsCmd.Command.{decoded}
+use Rattle.port_call.specs.Core.{Seen}
 use Rattle.its_exec.specs.declared.known.KnownQueue.{KnownQueue}
 use Rattle.its_exec.specs.Queue.{IsReady, FetchesMapping}
 use Rattle.its_exec.proofs.QueueLemmas.{ready_shape, takes_runs, holds_next, fetched_ready, fetched_bad, stalled_ready, done_next, done_good, finished_ready}

@@ -1,6 +1,6 @@
 -- The next LPI that an event has, as long as there is one.
 use Rattle.std.proofs.Common.{arith}
-use Rattle.port_core.specs.Port.{shape_of}
+use Rattle.port_call.specs.Core.{shape_of}
 use Rattle.its_exec.proofs.SweepLemmas.{owned_there, sweeping_none, sweeping_more, sweeping_over, sweeping_there, sweeping_fits, sweeping_less}
 use Rattle.its_exec.proofs.sweep.do_sweep.Goals as goal
 

@@ -1,6 +1,6 @@
 -- How far the sweep is; the INTIDs of LPIs end.
 use Rattle.std.proofs.Common.{◌-◌}
-use Rattle.port_core.specs.Port.{shape_of}
+use Rattle.port_call.specs.Core.{shape_of}
 use Rattle.its_exec.specs.Plan.{lpis_end}
 use Rattle.its_exec.proofs.SweepLemmas.{Sweeping}
 use Rattle.its_exec.proofs.sweep.do_sweep.Given as goal

@@ -1,7 +1,7 @@
 -- Each kind of command.
-use Rattle.port_core.specs.Port.{shape_of}
+use Rattle.port_call.specs.Core.{shape_of}
 use Rattle.its_exec.proofs.SweepLemmas.{mapc_picks, mapc_fits, invall_picks, picks_as}
-use Rattle.its_cmd.specs.declared.command.Command.TheVariants.{Movall}
+use Rattle.port_call.specs.Registers.{Movall}
 use Rattle.its_exec.proofs.sweep.part_for.Goals as goal
 
 pub mapc_target-target-requires : goal.mapc_target-target-requires

@@ -1,6 +1,6 @@
 -- The vCPU is on its PE.
 use Rattle.std.proofs.Common.{◌≡◌}
-use Rattle.pe_loop.specs.Stay.{IsUp}
+use Rattle.pe_op.specs.PeLoop.Stay.{IsUp}
 use Rattle.op_rows.proofs.tests.stay.Given as goal
 
 abbrev pub invariant-loop-does : goal.invariant-loop-does

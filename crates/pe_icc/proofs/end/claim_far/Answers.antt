@@ -1,11 +1,10 @@
 -- It came, or not.
 use Rattle.std.proofs.Common.{ap, subst, ◌∙◌}
-use Rattle.gic_lr.specs.Entry.{packed}
-use Rattle.vcpu_state.specs.declared.loaded.Loaded.{Loaded}
+use Rattle.pe_loop.specs.Lists.{packed, held_as}
+use Rattle.pe_loop.specs.VcpuState.declared.loaded.Loaded.{Loaded}
 use Rattle.pe_loop.specs.Claiming.{Claims}
-use Rattle.vcpu_refill.specs.Plan.{held_as}
-use Rattle.vcpu_state.specs.Places.{with_place}
-use Rattle.gic_base.specs.declared.held.HeldIrq.{HeldIrq}
+use Rattle.pe_loop.specs.VcpuState.Places.{with_place}
+use Rattle.pe_loop.specs.Words.{HeldIrq}
 use Rattle.std.proofs.Common.{Some}
 use Rattle.pe_icc.proofs.FarLemmas.{can_kick, far_done, far_missed}
 use Rattle.pe_icc.proofs.end.claim_far.Goals as goal

@@ -1,6 +1,6 @@
 -- Tries, one after the other.
 use Rattle.std.proofs.Common.{false, refl, sym, subst}
-use Rattle.vcpu_state.specs.declared.loaded.Loaded.{Loaded}
+use Rattle.pe_loop.specs.VcpuState.declared.loaded.Loaded.{Loaded}
 use Rattle.pe_icc.specs.declared.stay.Stay.{Stay}
 use Rattle.pe_icc.specs.Icc.{IsAgain, Tries}
 use Rattle.pe_icc.proofs.IccLemmas.{access_done, again_then, not_tried}

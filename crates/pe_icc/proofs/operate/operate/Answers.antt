@@ -1,6 +1,6 @@
 -- The access, as its own contract says.
 use Rattle.std.proofs.Common.{◌<◌, ◌^◌, subst, ap}
-use Rattle.vcpu_state.specs.declared.loaded.Loaded.{Loaded}
+use Rattle.pe_loop.specs.VcpuState.declared.loaded.Loaded.{Loaded}
 use Rattle.pe_icc.proofs.OperateLemmas.{IsAccess, operates}
 use Rattle.pe_icc.proofs.operate.operate.Goals as goal
 

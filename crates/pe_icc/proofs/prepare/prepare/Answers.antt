@@ -1,6 +1,6 @@
 -- An end of interrupt, the first interrupt in trap mode, and another access.
 use Rattle.std.proofs.Common.{sym, ◌∙◌}
-use Rattle.port_core.specs.Port.{shape_of}
+use Rattle.pe_loop.specs.Core.{shape_of}
 use Rattle.pe_icc.proofs.ReadyLemmas.{ended_there, prepared_end, prepared_first, prepared_not}
 use Rattle.pe_icc.proofs.prepare.prepare.Goals as goal
 

@@ -1,7 +1,7 @@
 -- At the interface, inactive, or active and not there.
 use Rattle.std.proofs.Common.{is_some, ap, sym, ◌∙◌}
-use Rattle.gic_word.specs.Record.{is_number}
-use Rattle.port_core.specs.Local.{entry_for}
+use Rattle.pe_loop.specs.Words.{is_number}
+use Rattle.pe_loop.specs.Core.{entry_for}
 use Rattle.pe_icc.proofs.ReadyLemmas.{can_take, none_cands, ready_far, ready_inactive, ready_near, up_set}
 use Rattle.pe_icc.proofs.prepare.ready_end.Goals as goal
 

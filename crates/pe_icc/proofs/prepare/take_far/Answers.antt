@@ -1,6 +1,6 @@
 -- At once, or after it gave all back.
 use Rattle.std.proofs.Common.{ap, sym, ◌∙◌}
-use Rattle.gic_word.specs.Record.{is_number}
+use Rattle.pe_loop.specs.Words.{is_number}
 use Rattle.pe_icc.proofs.ReadyLemmas.{at_empty, can_claim, can_take_after, gathered_claimed, gathered_inactive, none_cands, takes_here}
 use Rattle.pe_icc.proofs.prepare.take_far.Goals as goal
 

@@ -1,6 +1,6 @@
 -- vCPU by vCPU.
 use Rattle.std.proofs.Common.{◌&&◌, nat_lt, ap, ◌∙◌, arith}
-use Rattle.gic_aff.specs.Sgi.{is_target}
+use Rattle.pe_loop.specs.Registers.{is_target}
 use Rattle.pe_icc.proofs.SgiLemmas.{sends_none, sent_more, still_owing}
 use Rattle.pe_icc.proofs.sgi.send_all.Goals as goal
 

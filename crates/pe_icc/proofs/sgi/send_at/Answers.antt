@@ -1,8 +1,7 @@
 -- Where the vCPU is one of them, and where not.
 use Rattle.std.proofs.Common.{[], ◌∷◌, if◌then◌else◌, sym, ap, subst, ◌∙◌}
-use Rattle.gic_base.specs.declared.interrupt.Key.TheVariants.{Private}
-use Rattle.gic_bits.specs.Bits.{has_bit}
-use Rattle.gic_call.specs.declared.event.Event.TheVariants.{Raise}
+use Rattle.pe_loop.specs.Words.{Private, has_bit}
+use Rattle.pe_loop.specs.GicCall.declared.event.Event.TheVariants.{Raise}
 use Rattle.pe_icc.specs.Sgi.{Sends}
 use Rattle.pe_icc.proofs.SgiLemmas.{sends_none, sends_one}
 use Rattle.pe_icc.proofs.sgi.send_at.Goals as goal

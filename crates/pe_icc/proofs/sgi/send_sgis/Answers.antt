@@ -1,6 +1,6 @@
 -- A write of ICC_SGI1R, and another access.
 use Rattle.std.proofs.Common.{sym, subst, ◌∙◌}
-use Rattle.port_core.specs.Port.{shape_of}
+use Rattle.pe_loop.specs.Core.{shape_of}
 use Rattle.pe_icc.specs.Sgi.{Sends}
 use Rattle.pe_icc.proofs.SgiLemmas.{all_raises, no_raises, sends_none}
 use Rattle.pe_icc.proofs.sgi.send_sgis.Goals as goal

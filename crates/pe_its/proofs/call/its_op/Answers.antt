@@ -1,7 +1,7 @@
 -- A read, and a write that is ignored.
 use Rattle.std.proofs.Common.{Some, sym, ap, ◌∙◌}
-use Rattle.gic_imap.specs.Map.{decoded}
-use Rattle.gic_call.specs.Call.{takes_turn}
+use Rattle.pe_mem.specs.GicImap.Map.{decoded}
+use Rattle.pe_mem.specs.Calls.{takes_turn}
 use Rattle.pe_its.proofs.AccessLemmas.{reads_its, ignores_write}
 use Rattle.pe_its.proofs.call.its_op.Goals as goal
 

@@ -1,5 +1,5 @@
 -- Tries, one after the other.
-use Rattle.port_call.proofs.StoreLemmas.{no_miss, misses_join}
+use Rattle.pe_mem.proofs.PortCall.StoreLemmas.{no_miss, misses_join}
 use Rattle.pe_its.specs.Change.{changed_by}
 use Rattle.pe_its.proofs.ChangeLemmas.{misses_then_changes}
 use Rattle.pe_its.proofs.change.change_word.Goals as goal

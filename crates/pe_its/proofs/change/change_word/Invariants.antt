@@ -1,5 +1,5 @@
 -- So far each try missed.
-use Rattle.port_call.specs.Store.{MissesStore}
+use Rattle.pe_mem.specs.PortCall.Store.{MissesStore}
 use Rattle.pe_its.proofs.change.change_word.Given as goal
 
 abbrev pub invariant-loop : goal.invariant-loop

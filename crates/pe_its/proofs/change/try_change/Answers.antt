@@ -1,7 +1,7 @@
 -- The try is of the word that was looked at.
 use Rattle.std.proofs.Common.{◌∙◌, sym, ap}
 use Rattle.std.proofs.lemmas.Bool.{eq-eqb, ne_eqb}
-use Rattle.gic_open.specs.Plain.{place_of_plain, plain_at}
+use Rattle.pe_mem.specs.Calls.{place_of_plain, plain_at}
 use Rattle.pe_its.specs.Change.{changed_by}
 use Rattle.pe_its.proofs.ChangeLemmas.{keeps_looked, stores_tried, misses_tried}
 use Rattle.pe_its.proofs.change.try_change.Goals as goal

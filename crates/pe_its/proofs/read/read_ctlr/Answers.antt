@@ -1,6 +1,7 @@
 -- The look.
 use Rattle.std.proofs.Common.{ap, ◌∙◌}
-use Rattle.gic_imap.specs.Contents.{enabled_in, ctlr_of}
+use Rattle.pe_mem.specs.Registers.{enabled_in}
+use Rattle.pe_mem.specs.GicImap.Contents.{ctlr_of}
 use Rattle.pe_its.proofs.ReadLemmas.{reads_ctlr}
 use Rattle.pe_its.proofs.RegisterLemmas.{low_enabled}
 use Rattle.pe_its.proofs.read.read_ctlr.Goals as goal

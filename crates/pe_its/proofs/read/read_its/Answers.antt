@@ -1,6 +1,6 @@
 -- By what is at the offset, in a guest with LPIs.
 use Rattle.std.proofs.Common.{sym, ◌∙◌}
-use Rattle.port_core.specs.Port.{shape_of}
+use Rattle.pe_mem.specs.Core.{shape_of}
 use Rattle.pe_mem.proofs.RedistLemmas.{lpis_there, lpis_none}
 use Rattle.pe_its.proofs.ReadLemmas.{serves_register, serves_reserved, serves_none}
 use Rattle.pe_its.proofs.read.read_its.Goals as goal

@@ -1,7 +1,8 @@
 -- One register each.
 use Rattle.std.proofs.Common.{ap, ◌∙◌}
-use Rattle.gic_imap.specs.declared.map.Reg.TheVariants.{Iidr, Typer, Cbaser, Cwriter, Baser0, Baser1, Pidr2}
-use Rattle.gic_imap.specs.Contents.{typer_of}
+use Rattle.pe_mem.specs.Registers.{Cbaser, Cwriter, Baser0, Baser1}
+use Rattle.pe_mem.specs.GicImap.declared.map.Reg.TheVariants.{Iidr, Typer, Pidr2}
+use Rattle.pe_mem.specs.GicImap.Contents.{typer_of}
 use Rattle.pe_its.proofs.ReadLemmas.{read_by, reads_iidr, reads_typer, reads_cbaser, reads_cwriter, reads_baser0, reads_baser1, reads_pidr2}
 use Rattle.pe_its.proofs.read.read_register.Goals as goal
 

@@ -1,7 +1,7 @@
 -- The store, unless the ITS is enabled.
 use Rattle.std.proofs.Common.{sym, ap, subst, ◌∙◌}
-use Rattle.gic_imap.specs.Contents.{enabled_in}
-use Rattle.gic_open.specs.declared.plain.PlainWord.{PlainWord}
+use Rattle.pe_mem.specs.Registers.{enabled_in}
+use Rattle.pe_mem.specs.Calls.{PlainWord}
 use Rattle.pe_its.specs.declared.change.Change.TheVariants.{Baser}
 use Rattle.pe_its.specs.Change.{changed_by, ChangesWord}
 use Rattle.pe_its.proofs.RegisterLemmas.{low_enabled, baser_writes, baser_ignored, changed_has}

@@ -1,6 +1,6 @@
 -- The stores round the move of the queue, unless the ITS is enabled.
 use Rattle.std.proofs.Common.{sym, ap, ◌∙◌}
-use Rattle.gic_imap.specs.Contents.{enabled_in}
+use Rattle.pe_mem.specs.Registers.{enabled_in}
 use Rattle.pe_its.proofs.RegisterLemmas.{low_enabled, cbaser_writes, cbaser_ignored, cbaser_has}
 use Rattle.pe_its.proofs.register.write_cbaser.Goals as goal
 

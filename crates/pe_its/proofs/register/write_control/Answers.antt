@@ -1,8 +1,8 @@
 -- The store.
 use Rattle.std.proofs.Common.{ap, ◌∙◌}
-use Rattle.gic_bits.specs.Bits.{bit_of}
-use Rattle.gic_imap.specs.Contents.{enabled_in}
-use Rattle.gic_open.specs.declared.plain.PlainWord.TheVariants.{ItsCtlr}
+use Rattle.pe_mem.specs.Words.{bit_of}
+use Rattle.pe_mem.specs.Registers.{enabled_in}
+use Rattle.pe_mem.specs.Calls.{ItsCtlr}
 use Rattle.pe_its.proofs.RegisterLemmas.{low_enabled, control_writes}
 use Rattle.pe_its.proofs.StoredLemmas.{control_knows, stored_has, stored_ready, ready_has}
 use Rattle.pe_its.proofs.register.write_control.Goals as goal

@@ -1,6 +1,6 @@
 -- The store, unless the offset is out of the queue, and the end of a stall.
 use Rattle.std.proofs.Common.{sym, ◌∙◌}
-use Rattle.gic_open.specs.declared.plain.PlainWord.TheVariants.{Cwriter}
+use Rattle.pe_mem.specs.Calls.{Cwriter}
 use Rattle.pe_its.proofs.RegisterLemmas.{cwriter_ignored, cwriter_stored, cwriter_done}
 use Rattle.pe_its.proofs.StoredLemmas.{cwriter_knows, stored_maps, stored_has, missed_has, stored_ready, ready_has, has_then}
 use Rattle.pe_its.proofs.register.write_cwriter.Goals as goal

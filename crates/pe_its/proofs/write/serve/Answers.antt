@@ -1,10 +1,10 @@
 -- The looks, the register, and the commands.
 use Rattle.std.proofs.Common.{refl, sym, subst, ◌∙◌}
-use Rattle.gic_base.specs.declared.shape.GuestShape.{GuestShape}
-use Rattle.its_tab.specs.Maps.{Maps}
-use Rattle.port_core.specs.Port.{shape_of}
-use Rattle.its_exec.specs.Queue.{IsReady, HasIts}
-use Rattle.its_exec.proofs.QueueLemmas.{looked_ready}
+use Rattle.pe_mem.specs.Words.{GuestShape}
+use Rattle.pe_mem.specs.Registers.{Maps}
+use Rattle.pe_mem.specs.Core.{shape_of}
+use Rattle.pe_mem.specs.ItsExec.Queue.{IsReady, HasIts}
+use Rattle.pe_mem.proofs.ItsExec.QueueLemmas.{looked_ready}
 use Rattle.pe_its.proofs.StoredLemmas.{ready_now}
 use Rattle.pe_its.proofs.write.serve.Goals as goal
 

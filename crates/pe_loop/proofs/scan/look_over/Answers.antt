@@ -1,10 +1,8 @@
 -- Bit by bit.
 use Rattle.std.proofs.Common.{◌≡◌, ◌-◌, ◌<◌, Some, sym, ap, subst, ◌∙◌, arith}
 use Rattle.std.specs.List.{find, range_with_len}
-use Rattle.gic_base.specs.Interrupt.{has_interrupt, is_of_vcpu}
-use Rattle.port_core.specs.Local.{is_cand}
-use Rattle.port_core.specs.Place.{index_bit, index_bits, key_of_bit}
-use Rattle.port_core.specs.Port.{shape_of}
+use Rattle.port_call.specs.Words.{has_interrupt, is_of_vcpu}
+use Rattle.port_call.specs.Core.{is_cand, index_bit, index_bits, key_of_bit, shape_of}
 use Rattle.pe_loop.proofs.LookLemmas.{no_looks, one_look, search_in, fewer_left}
 use Rattle.pe_loop.proofs.scan.look_over.Goals as goal
 

@@ -1,7 +1,6 @@
 -- So many bits were looked at.
 use Rattle.std.proofs.Common.{◌≡◌, ◌-◌, ◌≤◌}
-use Rattle.port_core.specs.Place.{index_bits}
-use Rattle.port_core.specs.Port.{shape_of}
+use Rattle.port_call.specs.Core.{index_bits, shape_of}
 use Rattle.pe_loop.specs.Scanning.{IsLooking}
 use Rattle.pe_loop.proofs.scan.look_over.Given as goal
 

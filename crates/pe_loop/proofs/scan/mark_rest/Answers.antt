@@ -1,8 +1,7 @@
 -- Mark by mark.
 use Rattle.std.proofs.Common.{◌≡◌, ◌-◌, ◌<◌, Some, sym, ap, subst, ◌∙◌, arith}
 use Rattle.std.specs.List.{find, range_with_len}
-use Rattle.port_core.specs.Local.{is_cand}
-use Rattle.port_core.specs.Place.{index_bit, index_bits}
+use Rattle.port_call.specs.Core.{is_cand, index_bit, index_bits}
 use Rattle.pe_loop.proofs.LookLemmas.{search_in, fewer_left}
 use Rattle.pe_loop.proofs.MarkLemmas.{no_marks, mark_more, marked_all}
 use Rattle.pe_loop.proofs.scan.mark_rest.Goals as goal

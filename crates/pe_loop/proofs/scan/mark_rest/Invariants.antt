@@ -1,7 +1,6 @@
 -- All before a bit were marked.
 use Rattle.std.proofs.Common.{◌≡◌, ◌-◌, ◌≤◌}
-use Rattle.port_core.specs.Place.{index_bits}
-use Rattle.port_core.specs.Port.{shape_of}
+use Rattle.port_call.specs.Core.{index_bits, shape_of}
 use Rattle.pe_loop.specs.Marking.{IsMarking}
 use Rattle.pe_loop.proofs.scan.mark_rest.Given as goal
 

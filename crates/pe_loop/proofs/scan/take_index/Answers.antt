@@ -1,6 +1,6 @@
 -- Word by word.
 use Rattle.std.proofs.Common.{◌<◌, ap, subst, ◌∙◌, arith}
-use Rattle.port_core.specs.Place.{index_words}
+use Rattle.port_call.specs.Core.{index_words}
 use Rattle.pe_loop.proofs.IndexLemmas.{none_taken_yet, word_taken}
 use Rattle.pe_loop.proofs.scan.take_index.Goals as goal
 

@@ -1,6 +1,6 @@
 -- The look, and the touch by the record that it found.
-use Rattle.port_core.specs.Port.{shape_of}
-use Rattle.port_call.proofs.TouchLemmas.{looked_can}
+use Rattle.its_exec.specs.Core.{shape_of}
+use Rattle.its_exec.proofs.PortCall.TouchLemmas.{looked_can}
 use Rattle.pe_mem.proofs.PartLemmas.{can_try, attempted, held_so, missed_so}
 use Rattle.pe_mem.proofs.attempt.attempt.Goals as goal
 

@@ -1,5 +1,5 @@
 -- The try, and what it answers.
-use Rattle.port_core.specs.Port.{shape_of}
+use Rattle.its_exec.specs.Core.{shape_of}
 use Rattle.pe_mem.proofs.PartLemmas.{can_attempt}
 use Rattle.pe_mem.proofs.attempt.try_access.Goals as goal
 

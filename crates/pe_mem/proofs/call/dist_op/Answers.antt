@@ -1,6 +1,6 @@
 -- What is at the offset, and the access.
 use Rattle.std.proofs.Common.{subst}
-use Rattle.gic_base.specs.declared.operation.Frame.TheVariants.{Dist}
+use Rattle.its_exec.specs.Words.{Dist}
 use Rattle.pe_mem.specs.Dist.{ServesDist}
 use Rattle.pe_mem.proofs.CallLemmas.{can_ease, can_free, makes_access, dist_accessed}
 use Rattle.pe_mem.proofs.call.dist_op.Goals as goal

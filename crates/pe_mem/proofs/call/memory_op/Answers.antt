@@ -1,5 +1,5 @@
 -- The access.
-use Rattle.gic_base.specs.declared.operation.Frame.TheVariants.{Ram}
+use Rattle.its_exec.specs.Words.{Ram}
 use Rattle.pe_mem.proofs.CallLemmas.{can_ease, makes_access}
 use Rattle.pe_mem.proofs.call.memory_op.Goals as goal
 

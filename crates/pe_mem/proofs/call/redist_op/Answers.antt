@@ -1,6 +1,6 @@
 -- What is at the offset, and the access.
 use Rattle.std.proofs.Common.{subst}
-use Rattle.gic_base.specs.declared.operation.Frame.TheVariants.{Redist}
+use Rattle.its_exec.specs.Words.{Redist}
 use Rattle.pe_mem.specs.Redist.{ServesRedist}
 use Rattle.pe_mem.proofs.CallLemmas.{can_ease, makes_access, redist_accessed}
 use Rattle.pe_mem.proofs.call.redist_op.Goals as goal

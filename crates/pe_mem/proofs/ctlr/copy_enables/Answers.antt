@@ -1,6 +1,6 @@
 -- One copy more.
 use Rattle.std.proofs.Common.{ap, ◌∙◌}
-use Rattle.gic_base.specs.Interrupt.{interrupt_count, key_at}
+use Rattle.its_exec.specs.Words.{interrupt_count, key_at}
 use Rattle.pe_mem.proofs.CopyLemmas.{copied_none, copied_more}
 use Rattle.pe_mem.proofs.ctlr.copy_enables.Goals as goal
 

@@ -1,7 +1,7 @@
 -- The copies so far.
 use Rattle.std.proofs.Common.{◌≡◌}
-use Rattle.gic_base.specs.Interrupt.{interrupt_count}
-use Rattle.port_core.specs.Port.{shape_of}
+use Rattle.its_exec.specs.Words.{interrupt_count}
+use Rattle.its_exec.specs.Core.{shape_of}
 use Rattle.pe_mem.proofs.CopyLemmas.{CopiedSoFar}
 use Rattle.pe_mem.proofs.ctlr.copy_enables.Given as goal
 

@@ -1,6 +1,6 @@
 -- The look.
 use Rattle.std.proofs.Common.{is_some, ap, ◌∙◌}
-use Rattle.gic_dmap.specs.Contents.{ctlr_of as dist_ctlr_of}
+use Rattle.its_exec.specs.GicDmap.Contents.{ctlr_of as dist_ctlr_of}
 use Rattle.pe_mem.proofs.CtlrLemmas.{reads_ctlr}
 use Rattle.pe_mem.proofs.ctlr.read_ctlr.Goals as goal
 

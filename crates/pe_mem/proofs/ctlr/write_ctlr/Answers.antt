@@ -1,6 +1,6 @@
 -- The mark, the copies, and the mark freed.
 use Rattle.std.proofs.Common.{ap, ◌∙◌}
-use Rattle.gic_dmap.specs.Contents.{enables_in}
+use Rattle.its_exec.specs.Registers.{enables_in}
 use Rattle.pe_mem.proofs.CtlrLemmas.{writes_ctlr, low_enables}
 use Rattle.pe_mem.proofs.ctlr.write_ctlr.Goals as goal
 

@@ -1,6 +1,6 @@
 -- By what is at the offset.
 use Rattle.std.proofs.Common.{Some, None, refl}
-use Rattle.gic_dmap.specs.declared.map.RegRef.TheVariants.{Bits, Plain, Reserved}
+use Rattle.its_exec.specs.GicDmap.declared.map.RegRef.TheVariants.{Bits, Plain, Reserved}
 use Rattle.pe_mem.proofs.DistLemmas.{served_bits, served_read, served_write, served_none, served_by}
 use Rattle.pe_mem.proofs.dist.access_dist.Goals as goal
 

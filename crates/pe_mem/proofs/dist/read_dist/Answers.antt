@@ -1,7 +1,7 @@
 -- One register each.
 use Rattle.std.proofs.Common.{refl, sym, ap, subst, ◌∙◌}
-use Rattle.gic_dmap.specs.Contents.{typer_of}
-use Rattle.gic_dmap.specs.declared.map.Reg.TheVariants.{Typer, Iidr, Pidr2}
+use Rattle.its_exec.specs.GicDmap.Contents.{typer_of}
+use Rattle.its_exec.specs.GicDmap.declared.map.Reg.TheVariants.{Typer, Iidr, Pidr2}
 use Rattle.pe_mem.specs.Dist.{ReadsDist}
 use Rattle.pe_mem.proofs.DistLemmas.{reads_fixed, reads_router, reads_zero}
 use Rattle.pe_mem.proofs.dist.read_dist.Goals as goal

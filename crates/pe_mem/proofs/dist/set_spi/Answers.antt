@@ -1,9 +1,8 @@
 -- The raise, if the SPI is there.
 use Rattle.std.proofs.Common.{sym, ap, ◌∙◌}
-use Rattle.gic_base.specs.declared.operation.Frame.TheVariants.{Dist}
-use Rattle.gic_base.specs.declared.operation.Kind.TheVariants.{SetPending}
-use Rattle.gic_dmap.specs.Contents.{message_intid}
-use Rattle.gic_call.specs.Access.{part_key}
+use Rattle.its_exec.specs.Words.{Dist, SetPending}
+use Rattle.its_exec.specs.Registers.{message_intid}
+use Rattle.its_exec.specs.Calls.{part_key}
 use Rattle.pe_mem.proofs.DistLemmas.{low_intid, sets_spi, sets_none}
 use Rattle.pe_mem.proofs.dist.set_spi.Goals as goal
 

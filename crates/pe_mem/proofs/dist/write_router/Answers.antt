@@ -1,9 +1,8 @@
 -- The write of the half, if the SPI is there.
 use Rattle.std.proofs.Common.{sym, ap, ◌∙◌}
-use Rattle.gic_base.specs.declared.operation.Frame.TheVariants.{Dist}
-use Rattle.gic_base.specs.declared.operation.Kind.TheVariants.{Routing}
-use Rattle.gic_call.specs.Access.{part_key}
-use Rattle.port_core.specs.Port.{shape_of}
+use Rattle.its_exec.specs.Words.{Dist, Routing}
+use Rattle.its_exec.specs.Calls.{part_key}
+use Rattle.its_exec.specs.Core.{shape_of}
 use Rattle.pe_mem.proofs.DistLemmas.{can_write_half, writes_router, writes_no_router}
 use Rattle.pe_mem.proofs.dist.write_router.Goals as goal
 

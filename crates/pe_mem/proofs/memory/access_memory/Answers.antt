@@ -1,7 +1,7 @@
 -- The read, or the write of the bytes.
 use Rattle.std.proofs.Common.{Some, None, sym, ap, subst, ◌∙◌}
-use Rattle.gic_ram.specs.Access.{part_of}
-use Rattle.port_call.specs.Memory.{ReadsMemory}
+use Rattle.its_exec.specs.Registers.{part_of}
+use Rattle.its_exec.specs.PortCall.Memory.{ReadsMemory}
 use Rattle.pe_mem.proofs.MemoryLemmas.{reads_memory, writes_memory, writes_outside, access_by}
 use Rattle.pe_mem.proofs.memory.access_memory.Goals as goal
 

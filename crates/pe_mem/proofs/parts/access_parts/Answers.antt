@@ -1,7 +1,7 @@
 -- One part more.
 use Rattle.std.proofs.Common.{◌+◌, ap, subst}
-use Rattle.gic_call.specs.Access.{part_key}
-use Rattle.port_core.specs.Port.{shape_of}
+use Rattle.its_exec.specs.Calls.{part_key}
+use Rattle.its_exec.specs.Core.{shape_of}
 use Rattle.pe_mem.specs.Each.{AccessesNumber}
 use Rattle.pe_mem.proofs.PartsLemmas.{parts_none, parts_more}
 use Rattle.pe_mem.proofs.parts.access_parts.Goals as goal

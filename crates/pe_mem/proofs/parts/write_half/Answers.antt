@@ -1,5 +1,5 @@
 -- Tries, one after the other.
-use Rattle.port_call.proofs.TouchLemmas.{no_try, tries_join}
+use Rattle.its_exec.proofs.PortCall.TouchLemmas.{no_try, tries_join}
 use Rattle.pe_mem.proofs.PartLemmas.{tries_then_attempts}
 use Rattle.pe_mem.proofs.parts.write_half.Goals as goal
 

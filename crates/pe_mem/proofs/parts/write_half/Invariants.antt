@@ -1,5 +1,5 @@
 -- So far each try missed.
-use Rattle.port_call.specs.Touch.{Tries}
+use Rattle.its_exec.specs.PortCall.Touch.{Tries}
 use Rattle.pe_mem.proofs.parts.write_half.Given as goal
 
 abbrev pub invariant-loop : goal.invariant-loop

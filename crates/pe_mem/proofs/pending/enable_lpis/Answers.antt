@@ -1,7 +1,7 @@
 -- The step, the look at the table's address, and the table.
 use Rattle.std.proofs.Common.{◌≡◌, ◌<◌, sym, ap, subst, ◌∙◌, arith}
-use Rattle.gic_open.specs.declared.plain.PlainWord.TheVariants.{Pendbaser}
-use Rattle.port_core.specs.Port.{shape_of}
+use Rattle.its_exec.specs.Calls.{Pendbaser}
+use Rattle.its_exec.specs.Core.{shape_of}
 use Rattle.its_exec.proofs.LookLemmas.{plain_known}
 use Rattle.pe_mem.proofs.EnableLemmas.{enables_again, enables_none, enables_table, ease_after, shape_after}
 use Rattle.pe_mem.proofs.TableLemmas.{TableSoFar, table_none, table_more}

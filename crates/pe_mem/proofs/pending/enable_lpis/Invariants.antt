@@ -1,6 +1,6 @@
 -- The table so far.
 use Rattle.std.proofs.Common.{◌≡◌}
-use Rattle.port_core.specs.Port.{shape_of}
+use Rattle.its_exec.specs.Core.{shape_of}
 use Rattle.pe_mem.proofs.TableLemmas.{TableSoFar}
 use Rattle.pe_mem.proofs.pending.enable_lpis.Given as goal
 

@@ -1,8 +1,6 @@
 -- The look, and what it found.
-use Rattle.port_core.specs.declared.step.CoreStep.TheVariants.{Look}
-use Rattle.port_core.specs.declared.word_id.WordId.TheVariants.{Irq}
-use Rattle.gic_base.specs.declared.interrupt.Key.TheVariants.{Lpi}
-use Rattle.port_core.specs.Port.{made_by}
+use Rattle.its_exec.specs.Core.{Look, Irq, made_by}
+use Rattle.its_exec.specs.Words.{Lpi}
 use Rattle.its_exec.proofs.PartLemmas.{looked_target, target_found}
 use Rattle.pe_mem.proofs.pending.look_at_target.Goals as goal
 

@@ -1,6 +1,6 @@
 -- By what is at the offset.
 use Rattle.std.proofs.Common.{Some, None, refl}
-use Rattle.gic_rmap.specs.declared.map.RegRef.TheVariants.{Bits, Plain, Reserved}
+use Rattle.its_exec.specs.GicRmap.declared.map.RegRef.TheVariants.{Bits, Plain, Reserved}
 use Rattle.pe_mem.proofs.RedistLemmas.{served_bits, served_read, served_write, served_none, served_by}
 use Rattle.pe_mem.proofs.redist.access_redist.Goals as goal
 

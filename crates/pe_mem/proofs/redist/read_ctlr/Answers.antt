@@ -1,7 +1,7 @@
 -- The look, in a guest with LPIs.
 use Rattle.std.proofs.Common.{ap, ◌∙◌}
-use Rattle.gic_rmap.specs.Contents.{ctlr_of}
-use Rattle.port_core.specs.Port.{shape_of}
+use Rattle.its_exec.specs.GicRmap.Contents.{ctlr_of}
+use Rattle.its_exec.specs.Core.{shape_of}
 use Rattle.pe_mem.proofs.RedistLemmas.{reads_lpis, reads_no_lpis, lpis_there, lpis_none}
 use Rattle.pe_mem.proofs.redist.read_ctlr.Goals as goal
 

@@ -1,7 +1,8 @@
 -- One register each.
 use Rattle.std.proofs.Common.{ap, ◌∙◌}
-use Rattle.gic_rmap.specs.declared.map.Reg.TheVariants.{Iidr, Typer, Propbaser, Pendbaser, Pidr2}
-use Rattle.gic_rmap.specs.Contents.{typer_of}
+use Rattle.its_exec.specs.Registers.{Propbaser, Pendbaser}
+use Rattle.its_exec.specs.GicRmap.declared.map.Reg.TheVariants.{Iidr, Typer, Pidr2}
+use Rattle.its_exec.specs.GicRmap.Contents.{typer_of}
 use Rattle.pe_mem.proofs.RedistLemmas.{read_by, reads_iidr, reads_typer, reads_propbaser, reads_pendbaser, reads_pidr2}
 use Rattle.pe_mem.proofs.redist.read_redist.Goals as goal
 

@@ -1,7 +1,7 @@
 -- One register each.
 use Rattle.std.proofs.Common.{false, sym, ap, ◌∙◌}
-use Rattle.gic_rmap.specs.Contents.{enable_lpis_after}
-use Rattle.port_core.specs.Port.{shape_of}
+use Rattle.its_exec.specs.Registers.{enable_lpis_after}
+use Rattle.its_exec.specs.Core.{shape_of}
 use Rattle.pe_mem.proofs.RedistLemmas.{writes_ctlr, keeps_ctlr, writes_propbaser, writes_pendbaser, writes_fixed, low_enable}
 use Rattle.pe_mem.proofs.redist.write_redist.Goals as goal
 

@@ -1,6 +1,6 @@
 -- The try is of the word that was looked at.
 use Rattle.std.proofs.Common.{◌∙◌, sym, ap}
-use Rattle.gic_open.specs.Plain.{place_of_plain, plain_at}
+use Rattle.its_exec.specs.Calls.{place_of_plain, plain_at}
 use Rattle.pe_mem.specs.Store.{changed_by}
 use Rattle.pe_mem.proofs.UpdateLemmas.{updates_tried}
 use Rattle.pe_mem.proofs.store.try_update.Goals as goal

@@ -1,5 +1,5 @@
 -- Tries, one after the other.
-use Rattle.port_call.proofs.StoreLemmas.{no_miss}
+use Rattle.its_exec.proofs.PortCall.StoreLemmas.{no_miss}
 use Rattle.pe_mem.specs.Store.{changed_by}
 use Rattle.pe_mem.proofs.UpdateLemmas.{tried_updates, tried_misses}
 use Rattle.pe_mem.proofs.store.update.Goals as goal

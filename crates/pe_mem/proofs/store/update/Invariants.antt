@@ -1,5 +1,5 @@
 -- So far each try missed.
-use Rattle.port_call.specs.Store.{MissesStore}
+use Rattle.its_exec.specs.PortCall.Store.{MissesStore}
 use Rattle.pe_mem.proofs.store.update.Given as goal
 
 abbrev pub invariant-loop : goal.invariant-loop

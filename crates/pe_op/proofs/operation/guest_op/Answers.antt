@@ -1,7 +1,6 @@
 -- An access of the CPU interface.
 use Rattle.std.proofs.Common.{sym, subst}
-use Rattle.gic_base.specs.declared.operation.GuestOp.{GuestOp}
-use Rattle.gic_base.specs.declared.operation.GuestOp.TheVariants.{Icc}
+use Rattle.pe_icc.specs.Words.{GuestOp, Icc}
 use Rattle.pe_op.specs.Operation.{DoesOperation}
 use Rattle.pe_op.proofs.FoundLemmas.{icc_found}
 use Rattle.pe_op.proofs.operation.guest_op.Goals as goal

@@ -1,8 +1,8 @@
 -- The exit, the access and the entry.
 use Rattle.std.proofs.Common.{ap, ◌∙◌}
-use Rattle.vcpu_state.specs.Moves.{shelved_of}
+use Rattle.pe_icc.specs.VcpuState.Moves.{shelved_of}
 use Rattle.std.proofs.Common.{subst}
-use Rattle.pe_loop.specs.Leave.{Leaves}
+use Rattle.pe_icc.specs.PeLoop.Leave.{Leaves}
 use Rattle.pe_op.proofs.RoundLemmas.{err_each, ok_each, round_done, round_stopped}
 use Rattle.pe_op.proofs.round.access_frame.Goals as goal
 

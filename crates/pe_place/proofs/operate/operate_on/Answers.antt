@@ -1,7 +1,7 @@
 -- It is on its PE.
 use Rattle.std.proofs.Common.{sym, subst}
 use Rattle.std.specs.Prelude.{IfOk}
-use Rattle.gic_call.specs.declared.event.Operation.TheVariants.{Access}
+use Rattle.dev_port.specs.Calls.{Access}
 use Rattle.pe_place.specs.declared.place.Place.TheVariants.{Pe}
 use Rattle.pe_place.specs.Parts.{AreOneCall}
 use Rattle.pe_place.specs.Moves.{Moves}

@@ -1,8 +1,8 @@
 -- It leaves, and it enters.
 use Rattle.std.proofs.Common.{subst}
-use Rattle.pe_loop.specs.Enter.{Enters}
-use Rattle.pe_loop.specs.Stay.{IsUp}
-use Rattle.vcpu_state.specs.declared.loaded.Loaded.{Loaded}
+use Rattle.pe_op.specs.PeLoop.Enter.{Enters}
+use Rattle.pe_op.specs.PeLoop.Stay.{IsUp}
+use Rattle.pe_op.specs.VcpuState.declared.loaded.Loaded.{Loaded}
 use Rattle.pe_place.specs.Moves.{Reenters}
 use Rattle.pe_place.proofs.ReenterLemmas.{reenters}
 use Rattle.pe_place.proofs.place.reenter.Goals as goal

@@ -1,6 +1,6 @@
 -- The look at the word, or none.
 use Rattle.std.proofs.Common.{sym, ap, ◌∙◌}
-use Rattle.gic_ram.specs.Access.{part_of}
+use Rattle.floor_core.specs.Registers.{part_of}
 use Rattle.port_call.proofs.MemoryLemmas.{reads_in, reads_outside}
 use Rattle.port_call.proofs.memory.read_memory.Goals as goal
 

@@ -1,6 +1,6 @@
 -- The marks so far; as many are left as the set has vCPUs.
 use Rattle.std.proofs.Common.{length}
-use Rattle.port_core.specs.Port.{shape_of}
+use Rattle.floor_core.specs.Core.{shape_of}
 use Rattle.port_call.specs.Settle.{marks_owed, marks_sent}
 use Rattle.port_call.proofs.SettleLemmas.{Sending}
 use Rattle.port_call.proofs.send.send_marks.Given as goal

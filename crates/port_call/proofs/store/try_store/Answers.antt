@@ -1,6 +1,6 @@
 -- The try is of the word that was looked at.
 use Rattle.std.proofs.Common.{◌∙◌, sym, ap}
-use Rattle.gic_open.specs.Plain.{place_of_plain, plain_at}
+use Rattle.floor_core.specs.Calls.{place_of_plain, plain_at}
 use Rattle.port_call.proofs.StoreLemmas.{tries}
 use Rattle.port_call.proofs.store.try_store.Goals as goal
 

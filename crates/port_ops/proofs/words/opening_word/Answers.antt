@@ -1,5 +1,5 @@
 use Rattle.std.proofs.Common.{◌≡◌, ◌<◌, IsTrue, IfSome, Some, length, sym, ap, subst, ◌∙◌}
-use Rattle.gic_open.proofs.KeyLemmas.{place_within}
+use Rattle.port_core.proofs.GicOpen.KeyLemmas.{place_within}
 use Rattle.port_core.specs.declared.word_id.WordId.TheVariants.{Irq}
 use Rattle.port_core.specs.Place.{has_word, place_of_word}
 use Rattle.port_ops.proofs.WordLemmas.{can_pack, packed_opens}

@@ -1,4 +1,4 @@
-use Rattle.gic_open.proofs.RangeLemmas.{map_pushed}
+use Rattle.port_core.proofs.GicOpen.RangeLemmas.{map_pushed}
 use Rattle.port_core.specs.Run.{opening_word}
 use Rattle.port_ops.proofs.words.opening_words.Goals as goal
 

@@ -1,5 +1,5 @@
 use Rattle.std.proofs.Common.{◌≡◌}
-use Rattle.gic_open.specs.Plain.{plain_count}
+use Rattle.port_core.specs.Calls.{plain_count}
 use Rattle.port_core.specs.declared.word_id.WordId.TheVariants.{Plain}
 use Rattle.port_ops.specs.Words.{words_among}
 use Rattle.port_ops.proofs.words.plain_words.Given as goal

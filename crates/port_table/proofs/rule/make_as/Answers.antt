@@ -1,10 +1,10 @@
 use Rattle.std.proofs.Common.{◌<◌, subst, sym}
 use Rattle.atomic_table.specs.Table.{Allows}
-use Rattle.port_core.specs.Atomic.{applied}
-use Rattle.port_core.specs.Place.{place_of_word}
-use Rattle.port_core.specs.Step.{word_of}
-use Rattle.port_core.proofs.PlaceLemmas.{place_of_word_within}
-use Rattle.port_core.proofs.StepLemmas.{word_there}
+use Rattle.port_ops.specs.PortCore.Atomic.{applied}
+use Rattle.port_ops.specs.PortCore.Place.{place_of_word}
+use Rattle.port_ops.specs.PortCore.Step.{word_of}
+use Rattle.port_ops.proofs.PortCore.PlaceLemmas.{place_of_word_within}
+use Rattle.port_ops.proofs.PortCore.StepLemmas.{word_there}
 use Rattle.port_table.specs.Rule.{IsShared, IsMade}
 use Rattle.port_table.proofs.RuleLemmas.{may_make}
 use Rattle.port_table.proofs.rule.make_as.Goals as goal

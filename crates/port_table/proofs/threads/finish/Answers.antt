@@ -1,6 +1,6 @@
 use Rattle.std.proofs.Common.{◌≡◌, ◌+◌, List, [], ◌∷◌, ◌++◌, map, sym, ap, subst, ◌∙◌}
 use Rattle.std.proofs.lemmas.List.{append_assoc, length_push}
-use Rattle.port_core.specs.declared.end.GuestWords.{GuestWords}
+use Rattle.port_ops.specs.PortCore.declared.end.GuestWords.{GuestWords}
 use Rattle.port_table.specs.declared.guest.GuestTable.{GuestTable}
 use Rattle.port_table.specs.declared.guest.GuestRoot.{GuestRoot}
 use Rattle.port_table.specs.Ports.{words_told, root_told}

@@ -1,6 +1,6 @@
 use Rattle.std.proofs.Common.{◌≡◌, ◌<◌, length, get_or, refl, sym, ap, subst, ◌∙◌}
 use Rattle.std.proofs.lemmas.List.{length-map}
-use Rattle.port_core.specs.Actor.{guest_of, number_of}
+use Rattle.port_ops.specs.PortCore.Actor.{guest_of, number_of}
 use Rattle.port_ops.proofs.MapLemmas.{mapped_at}
 use Rattle.port_table.specs.All.{told_words, told_root}
 use Rattle.port_table.specs.Ports.{words_told, root_told}

@@ -1,8 +1,8 @@
 -- One more guest has its vCPUs.
 use Rattle.std.proofs.Common.{ap, ◌∙◌, arith}
-use Rattle.port_seq.specs.Ports.{told, told_all}
-use Rattle.port_seq.specs.Told.{telling}
-use Rattle.port_seq.specs.Lending.{with_guest}
+use Rattle.law_one_thread_is_eager.specs.PortSeq.Ports.{told, told_all}
+use Rattle.law_one_thread_is_eager.specs.PortSeq.Told.{telling}
+use Rattle.law_one_thread_is_eager.specs.PortSeq.Lending.{with_guest}
 use Rattle.run_seq.proofs.PortLemmas.{IsOut, comes_back, goes_back, opened_more}
 use Rattle.run_seq.proofs.machine.open_all.Goals as goal
 

@@ -1,6 +1,6 @@
 -- The first guests have their vCPUs.
 use Rattle.std.proofs.Common.{◌≡◌, length}
-use Rattle.port_seq.specs.Ports.{told_all}
+use Rattle.law_one_thread_is_eager.specs.PortSeq.Ports.{told_all}
 use Rattle.run_seq.specs.Opened.{AreOpened}
 use Rattle.run_seq.specs.Run.{SamePorts}
 use Rattle.run_seq.proofs.machine.open_all.Given as goal

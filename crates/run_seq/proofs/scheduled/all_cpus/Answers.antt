@@ -1,7 +1,7 @@
 -- The records of one more guest.
 use Rattle.std.proofs.Common.{ap, ◌∙◌, arith}
-use Rattle.port_seq.specs.Ports.{told_all}
-use Rattle.port_seq.specs.Told.{telling}
+use Rattle.law_one_thread_is_eager.specs.PortSeq.Ports.{told_all}
+use Rattle.law_one_thread_is_eager.specs.PortSeq.Told.{telling}
 use Rattle.run_seq.proofs.LendLemmas.{first_there}
 use Rattle.run_seq.proofs.PortLemmas.{IsOut, cpus_more, goes_back}
 use Rattle.run_seq.proofs.scheduled.all_cpus.Goals as goal

@@ -1,8 +1,8 @@
 -- The records of the first guests.
 use Rattle.std.proofs.Common.{◌≡◌, length, take}
 use Rattle.std.specs.List.{flat_map}
-use Rattle.port_seq.specs.Ports.{told_all}
-use Rattle.seq_guest.specs.Guest.{cpus_of}
+use Rattle.law_one_thread_is_eager.specs.PortSeq.Ports.{told_all}
+use Rattle.law_one_thread_is_eager.specs.SeqGuest.Guest.{cpus_of}
 use Rattle.run_seq.specs.Run.{SamePorts}
 use Rattle.run_seq.proofs.scheduled.all_cpus.Given as goal
 

@@ -1,6 +1,6 @@
 -- The run, with how its guests ended.
-use Rattle.port_seq.specs.Every.{all_untaken}
-use Rattle.port_seq.specs.Ports.{told_all}
+use Rattle.law_one_thread_is_eager.specs.PortSeq.Every.{all_untaken}
+use Rattle.law_one_thread_is_eager.specs.PortSeq.Ports.{told_all}
 use Rattle.run_seq.proofs.EndLemmas.{all_free, ended_by, have_ended, out_is}
 use Rattle.run_seq.proofs.scheduled.run.Goals as goal
 

@@ -1,6 +1,6 @@
 -- One step after the other.
 use Rattle.std.proofs.Common.{arith}
-use Rattle.port_seq.specs.Ports.{told_all}
+use Rattle.law_one_thread_is_eager.specs.PortSeq.Ports.{told_all}
 use Rattle.run_seq.proofs.RunLemmas.{next_ready, next_runs, runs_last, runs_start}
 use Rattle.run_seq.proofs.LeftLemmas.{has_run}
 use Rattle.run_seq.proofs.scheduled.run_on.Goals as goal

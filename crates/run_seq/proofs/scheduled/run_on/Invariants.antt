@@ -1,6 +1,6 @@
 -- The first steps are done.
 use Rattle.std.proofs.Common.{take, drop}
-use Rattle.port_seq.specs.Ports.{told_all}
+use Rattle.law_one_thread_is_eager.specs.PortSeq.Ports.{told_all}
 use Rattle.run_seq.proofs.RunLemmas.{RunsSoFar}
 use Rattle.run_seq.proofs.scheduled.run_on.Given as goal
 

@@ -1,11 +1,11 @@
 -- All come back, and the vector has what the slice was given.
 use Rattle.std.proofs.Common.{◌≡◌, ◌<◌, ℕ, List, length, get_or, sym, ap, subst, ◌∙◌}
 use Rattle.std.proofs.lemmas.List.{with_items_is}
-use Rattle.thr_trip.specs.declared.device.DeviceRun.{DeviceRun}
-use Rattle.thr_trip.specs.Finish.{HasFinished}
-use Rattle.thr_trip.specs.Told.{device_told}
-use Rattle.thr_trip.specs.Worker.{HasWorked}
-use Rattle.vcpu_shelf.specs.Shelf.{shelf_told}
+use Rattle.thr_cast.specs.ThrTrip.declared.device.DeviceRun.{DeviceRun}
+use Rattle.thr_cast.specs.ThrTrip.Finish.{HasFinished}
+use Rattle.thr_cast.specs.ThrTrip.Told.{device_told}
+use Rattle.thr_cast.specs.ThrTrip.Worker.{HasWorked}
+use Rattle.thr_cast.specs.VcpuShelf.Shelf.{shelf_told}
 use Rattle.run_thr.specs.Returned.{HaveReturned}
 use Rattle.run_thr.proofs.CrewLemmas.{Hand, returned}
 use Rattle.run_thr.proofs.crew.run_crew.Goals as goal

@@ -1,5 +1,5 @@
 -- The run, with how its guests ended.
-use Rattle.port_table.specs.All.{told_root, told_words}
+use Rattle.thr_cast.specs.PortTable.All.{told_root, told_words}
 use Rattle.run_thr.proofs.HistoryLemmas.{all_done, ended_by, have_ended, one_history}
 use Rattle.run_thr.proofs.history.run.Goals as goal
 

@@ -1,14 +1,14 @@
 -- One call after the other: who is there, who has a thread, what comes back, and that this is the run.
 use Rattle.std.proofs.Common.{nat_lt, List, length, map, sym, ap, subst, ◌∙◌, arith}
 use Rattle.std.proofs.lemmas.Bool.{lt-ltb}
-use Rattle.port_table.specs.All.{told_root}
-use Rattle.scn_base.specs.declared.step.Step.{Step}
+use Rattle.thr_cast.specs.PortTable.All.{told_root}
+use Rattle.law_threads_are_history.specs.ScnBase.declared.step.Step.{Step}
 use Rattle.thr_cast.specs.declared.answers.Heard.{Heard}
 use Rattle.thr_cast.specs.Answers.{AllHeard, AnswersAre}
 use Rattle.thr_cast.specs.Back.{heard_of, trips_in}
 use Rattle.thr_cast.specs.Crew.{devices_in}
 use Rattle.thr_cast.proofs.SplitLemmas.{split_none}
-use Rattle.vcpu_shelf.specs.Shelf.{shelf_told}
+use Rattle.thr_cast.specs.VcpuShelf.Shelf.{shelf_told}
 use Rattle.run_thr.proofs.CrewLemmas.{AllCame, all_came}
 use Rattle.run_thr.proofs.EndLemmas.{all_heard, has_run}
 use Rattle.run_thr.proofs.WholeLemmas.{cast_few, cast_some, joined_both, roll_of}

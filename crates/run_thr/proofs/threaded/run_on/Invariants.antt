@@ -1,5 +1,5 @@
 -- The run is of these words and these steps.
-use Rattle.port_table.specs.All.{told_words}
+use Rattle.thr_cast.specs.PortTable.All.{told_words}
 use Rattle.run_thr.proofs.threaded.run_on.Given as goal
 
 abbrev pub ghosts-run_as : goal.ghosts-run_as

@@ -1,6 +1,6 @@
 use Rattle.std.proofs.Common.{◌≡◌, ◌++◌, drop}
 use Rattle.scn_base.specs.Standing.{vcpus_from}
-use Rattle.scn_base.specs.Good.{shapes_of}
+use Rattle.gic_guest.specs.Good.{shapes_of}
 use Rattle.scn_base.proofs.pes.all_vcpus.Given as goal
 
 -- the vCPUs so far and those of the guests that are left are all

@@ -1,6 +1,6 @@
 use Rattle.std.proofs.Common.{◌≡◌, ◌∙◌, ap, sym, length, subst, arith}
 use Rattle.scn_base.specs.Standing.{ResidentsExist}
-use Rattle.scn_base.specs.Good.{shapes_of}
+use Rattle.gic_guest.specs.Good.{shapes_of}
 use Rattle.scn_base.proofs.PesLemmas.{pes_more, length-opening_pes, residents_exist}
 use Rattle.scn_base.proofs.pes.opening_pes.Goals as goal
 

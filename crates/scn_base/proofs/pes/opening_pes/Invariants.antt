@@ -1,6 +1,6 @@
 use Rattle.std.proofs.Common.{◌≡◌}
 use Rattle.scn_base.specs.Standing.{opening_pes}
-use Rattle.scn_base.specs.Good.{shapes_of}
+use Rattle.gic_guest.specs.Good.{shapes_of}
 use Rattle.scn_base.proofs.pes.opening_pes.Given as goal
 
 -- the PEs so far

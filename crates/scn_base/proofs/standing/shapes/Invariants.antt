@@ -1,5 +1,5 @@
 use Rattle.std.proofs.Common.{◌≡◌, ◌++◌, drop}
-use Rattle.scn_base.specs.Good.{shapes_of}
+use Rattle.gic_guest.specs.Good.{shapes_of}
 use Rattle.scn_base.proofs.standing.shapes.Given as goal
 
 -- the shapes so far and those of the guests that are left are all

@@ -3,9 +3,9 @@ use Rattle.std.specs.List.{All}
 use Rattle.std.proofs.lemmas.List.{length-map}
 use Rattle.std.proofs.lemmas.Result.{err_from_is_err_and}
 use Rattle.serde_json.specs.View.{view}
-use Rattle.scn_base.specs.declared.guest.GuestSpec.{GuestSpec}
+use Rattle.scn_base.specs.GicGuest.declared.guest.GuestSpec.{GuestSpec}
 use Rattle.scn_base.specs.Standing.{opening_standing}
-use Rattle.scn_base.specs.Good.{IsGoodGuest, shapes_of}
+use Rattle.scn_base.specs.GicGuest.Good.{IsGoodGuest, shapes_of}
 use Rattle.scn_read.proofs.ReadLemmas.{outside_of, scenario_is, scenario_good, refuses}
 use Rattle.scn_read.proofs.reading.read.Goals as goal
 

@@ -1,6 +1,6 @@
 -- One more record.
 use Rattle.std.proofs.Common.{ap}
-use Rattle.port_core.specs.declared.local.Local.{Local}
+use Rattle.pe_place.specs.Core.{Local}
 use Rattle.port_seq.specs.Ports.{told}
 use Rattle.seq_guest.proofs.CpusLemmas.{told_again, cpus_more}
 use Rattle.seq_guest.proofs.cpus.add_cpus.Goals as goal

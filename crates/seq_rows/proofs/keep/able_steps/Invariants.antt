@@ -1,4 +1,4 @@
-use Rattle.scn_base.specs.Standing.{IsStanding}
+use Rattle.gic_top.specs.ScnBase.Standing.{IsStanding}
 use Rattle.seq_rows.proofs.keep.able_steps.Given as goal
 
 abbrev pub invariant-loop-step : goal.invariant-loop-step

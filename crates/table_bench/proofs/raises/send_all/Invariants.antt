@@ -1,8 +1,7 @@
 use Rattle.std.proofs.Common.{IsTrue}
-use Rattle.gic_base.specs.declared.interrupt.Key.TheVariants.{Spi}
-use Rattle.gic_base.specs.Interrupt.{has_interrupt}
+use Rattle.dev_port.specs.Words.{Spi, has_interrupt}
 use Rattle.dev_port.specs.Device.{CanCall}
-use Rattle.port_core.specs.Port.{shape_of}
+use Rattle.dev_port.specs.Core.{shape_of}
 use Rattle.table_bench.proofs.raises.send_all.Given as goal
 
 -- the device may send the next one

@@ -1,10 +1,10 @@
 use Rattle.std.proofs.Common.{List, [], refl, ap, ◌∙◌}
-use Rattle.gic_base.specs.declared.operation.Actor.TheVariants.{Device}
+use Rattle.dev_port.specs.Words.{Device}
 use Rattle.port_table.specs.All.{told_words, told_root}
 use Rattle.port_table.specs.Ports.{seen_of}
 use Rattle.port_table.specs.Kept.{table_is_port}
 use Rattle.port_table.specs.Told.{RootTold, splitting}
-use Rattle.port_core.proofs.SameLemmas.{same_twice}
+use Rattle.port_table.proofs.PortCore.SameLemmas.{same_twice}
 use Rattle.table_rows.proofs.RowLemmas.{row_opens, row_split, row_join, row_done, row_port, device_number, device_port}
 use Rattle.table_rows.proofs.threads.all_raise.Goals as goal
 

@@ -1,5 +1,5 @@
 -- The port is the same actor's.
-use Rattle.port_core.specs.Port.{IsSameActor}
+use Rattle.dev_port.specs.Core.{IsSameActor}
 use Rattle.table_rows.proofs.threads.raise_all.Given as goal
 
 abbrev pub invariant-loop-message : goal.invariant-loop-message

@@ -2,11 +2,11 @@ use Rattle.std.proofs.Common.{◌≡◌, ◌<◌, ◌+◌, ℕ, List, [], ◌∷
 use Rattle.std.specs.Global.{Vec}
 use Rattle.std.proofs.lemmas.List.{length-append, length-set, with_items_is}
 use Rattle.std.proofs.lemmas.Option.{slice_get-get_or}
-use Rattle.eager_laws.specs.Calls.{answer_of}
+use Rattle.thr_trip.specs.LawEagerIsHistory.Calls.{answer_of}
 use Rattle.guest_end.specs.Outcome.{answer_by}
-use Rattle.scn_base.specs.declared.outcome.Answer.{Answer}
-use Rattle.scn_base.specs.declared.outcome.Answer.TheVariants.{Nothing}
-use Rattle.scn_base.specs.declared.step.Step.TheVariants.{Vcpu as VcpuStep, Device as DeviceStep, Pe as PeStep}
+use Rattle.guest_end.specs.GicGuest.declared.outcome.Answer.{Answer}
+use Rattle.guest_end.specs.GicGuest.declared.outcome.Answer.TheVariants.{Nothing}
+use Rattle.guest_end.specs.ScnBase.declared.step.Step.TheVariants.{Vcpu as VcpuStep, Device as DeviceStep, Pe as PeStep}
 use Rattle.thr_trip.specs.Script.{vcpu_ops}
 use Rattle.thr_cast.specs.Answers.{heard_by, next_of, place_by}
 use Rattle.thr_cast.proofs.AnswerLemmas.{CountsAre, answer_same, are_at, counts_at, counts_device, counts_more, counts_pe, device_answered, each_at, next_there, pe_answered, vcpu_answered}

@@ -1,13 +1,13 @@
 -- One more vCPU came back.
 use Rattle.std.proofs.Common.{◌≡◌, false, All, List, [], ◌∷◌, ◌++◌, length, map, Option, sym, ap, subst, ◌∙◌, arith}
 use Rattle.std.specs.Vec.Iter.{into_iter_items}
-use Rattle.port_core.specs.Port.{Seen}
-use Rattle.port_table.specs.All.{told_root}
-use Rattle.port_table.specs.Told.{AreRoots, WordsTold, joining_in}
+use Rattle.thr_trip.specs.Core.{Seen}
+use Rattle.thr_trip.specs.PortTable.All.{told_root}
+use Rattle.thr_trip.specs.PortTable.Told.{AreRoots, WordsTold, joining_in}
 use Rattle.thr_trip.specs.declared.trip.Trip.{Trip}
 use Rattle.thr_trip.specs.Told.{trip_told}
 use Rattle.thr_trip.specs.Trip.{IsTrip, TripTold}
-use Rattle.vcpu_state.specs.declared.shelved.Shelved.{Shelved}
+use Rattle.thr_trip.specs.VcpuState.declared.shelved.Shelved.{Shelved}
 use Rattle.thr_cast.specs.declared.answers.Heard.{Heard}
 use Rattle.thr_cast.specs.Back.{heard_of, trips_in}
 use Rattle.thr_cast.specs.Crew.{joined_all}

@@ -1,8 +1,8 @@
 -- The first vCPUs came back.
 use Rattle.std.proofs.Common.{◌≡◌, false, All, ◌++◌, length, map}
 use Rattle.std.specs.Vec.Iter.{into_iter_items, into_iter_len}
-use Rattle.port_table.specs.All.{told_root}
-use Rattle.port_table.specs.Told.{AreRoots}
+use Rattle.thr_trip.specs.PortTable.All.{told_root}
+use Rattle.thr_trip.specs.PortTable.Told.{AreRoots}
 use Rattle.thr_trip.specs.Trip.{IsTrip, TripTold}
 use Rattle.thr_cast.specs.Back.{heard_of, trips_in}
 use Rattle.thr_cast.specs.Crew.{joined_all}

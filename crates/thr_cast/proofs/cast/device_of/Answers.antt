@@ -1,10 +1,10 @@
 -- It has its own script and port, and has done nothing.
 use Rattle.std.proofs.Common.{◌≡◌, ◌+◌, false, List, refl, ap, subst, ◌∙◌}
-use Rattle.port_table.specs.All.{told_root}
-use Rattle.port_table.specs.Ports.{seen_of}
-use Rattle.port_table.specs.Told.{AreRoots, PortIsOf, WordsTold, opening_seen, splitting, words_at}
-use Rattle.gic_base.specs.declared.operation.Actor.TheVariants.{Device as DeviceActor}
-use Rattle.scn_base.specs.declared.step.Step.{Step}
+use Rattle.thr_trip.specs.PortTable.All.{told_root}
+use Rattle.thr_trip.specs.PortTable.Ports.{seen_of}
+use Rattle.thr_trip.specs.PortTable.Told.{AreRoots, PortIsOf, WordsTold, opening_seen, splitting, words_at}
+use Rattle.guest_end.specs.Words.{Device as DeviceActor}
+use Rattle.guest_end.specs.ScnBase.declared.step.Step.{Step}
 use Rattle.thr_trip.specs.Device.{DeviceTold, IsDevice}
 use Rattle.thr_trip.specs.Script.{device_ops}
 use Rattle.thr_cast.proofs.CastLemmas.{opens_device}

@@ -1,15 +1,14 @@
 -- It has its own script and port, and has done nothing.
 use Rattle.std.proofs.Common.{◌≡◌, ◌<◌, false, List, [], length, get_or, refl, ap, subst, ◌∙◌, arith}
 use Rattle.std.proofs.lemmas.List.{get_or_default}
-use Rattle.port_ops.specs.Opened.{no_guest}
-use Rattle.port_table.specs.All.{told_root}
-use Rattle.port_table.specs.Ports.{seen_of}
-use Rattle.port_table.specs.Told.{AreRoots, PortIsOf, WordsTold, opening_seen, splitting, words_at}
-use Rattle.gic_base.specs.declared.operation.Actor.TheVariants.{Vcpu as VcpuActor}
-use Rattle.gic_open.specs.Opening.{opening_cpu}
-use Rattle.scn_base.specs.declared.step.Step.{Step}
+use Rattle.thr_trip.specs.PortOps.Opened.{no_guest}
+use Rattle.thr_trip.specs.PortTable.All.{told_root}
+use Rattle.thr_trip.specs.PortTable.Ports.{seen_of}
+use Rattle.thr_trip.specs.PortTable.Told.{AreRoots, PortIsOf, WordsTold, opening_seen, splitting, words_at}
+use Rattle.guest_end.specs.Words.{Vcpu as VcpuActor}
+use Rattle.guest_end.specs.Calls.{opening_cpu, GuestSpec}
+use Rattle.guest_end.specs.ScnBase.declared.step.Step.{Step}
 use Rattle.thr_trip.specs.Script.{vcpu_ops}
-use Rattle.scn_base.specs.declared.guest.GuestSpec.{GuestSpec}
 use Rattle.thr_trip.specs.Trip.{IsTrip, TripTold}
 use Rattle.thr_cast.proofs.CastLemmas.{few_ops, opens_trip}
 use Rattle.thr_cast.proofs.OkLemmas.{on_ok}

@@ -2,7 +2,7 @@
 use Rattle.std.proofs.Common.{◌≡◌, Bool, ◌++◌, [], length, map}
 use Rattle.std.specs.Vec.Iter.{into_iter_items, into_iter_len}
 use Rattle.thr_trip.specs.Told.{device_told}
-use Rattle.vcpu_shelf.specs.Told.{ShelfTold}
+use Rattle.thr_trip.specs.VcpuShelf.Told.{ShelfTold}
 use Rattle.thr_cast.specs.Crew.{HaveWorkers, pe_numbers}
 use Rattle.thr_cast.proofs.crew.add_devices.Given as goal
 

@@ -2,9 +2,9 @@
 use Rattle.std.proofs.Common.{◌≡◌, ◌+◌, [], ◌++◌, ◌∷◌, true, nat_lt, add-one, sym, ap, subst, ◌∙◌, arith}
 use Rattle.std.proofs.lemmas.Bool.{lt-ltb}
 use Rattle.thr_trip.specs.Seat.{IsFreeSeat}
-use Rattle.vcpu_shelf.specs.Shelf.{shelf_told, seat_told}
+use Rattle.thr_trip.specs.VcpuShelf.Shelf.{shelf_told, seat_told}
 use Rattle.std.specs.List.{range_with_len}
-use Rattle.gic_call.proofs.RangeLemmas.{range_with_len_more}
+use Rattle.guest_end.proofs.GicCall.RangeLemmas.{range_with_len_more}
 use Rattle.thr_cast.specs.Crew.{HaveWorkers, pe_numbers}
 use Rattle.thr_cast.proofs.WorkerLemmas.{pe_came, numbers_more}
 use Rattle.thr_cast.proofs.crew.add_pes.Goals as goal

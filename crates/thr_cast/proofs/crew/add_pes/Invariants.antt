@@ -1,6 +1,6 @@
 -- The first PEs are there.
 use Rattle.std.proofs.Common.{◌≡◌, [], nat_lt}
-use Rattle.vcpu_shelf.specs.Shelf.{shelf_told, seat_told}
+use Rattle.thr_trip.specs.VcpuShelf.Shelf.{shelf_told, seat_told}
 use Rattle.std.specs.List.{range_with_len}
 use Rattle.thr_cast.specs.Crew.{HaveWorkers, pe_numbers}
 use Rattle.thr_cast.proofs.crew.add_pes.Given as goal

@@ -1,17 +1,17 @@
 -- One more worker was joined again.
 use Rattle.std.proofs.Common.{◌≡◌, inr, All, List, [], ◌∷◌, ◌++◌, map, sym, ap, subst, ◌∙◌}
 use Rattle.std.proofs.lemmas.List.{map-append}
-use Rattle.port_core.specs.Port.{Seen}
-use Rattle.port_table.specs.All.{told_root}
-use Rattle.port_table.specs.Told.{AreRoots, WordsTold, joining_in}
+use Rattle.thr_trip.specs.Core.{Seen}
+use Rattle.thr_trip.specs.PortTable.All.{told_root}
+use Rattle.thr_trip.specs.PortTable.Told.{AreRoots, WordsTold, joining_in}
 use Rattle.thr_trip.specs.declared.device.DeviceRun.{DeviceRun}
 use Rattle.thr_trip.specs.declared.trip.Trip.{Trip}
 use Rattle.thr_trip.specs.declared.worker.Worker.{Worker}
 use Rattle.thr_trip.specs.declared.worker.Worker.TheVariants.{Pe}
 use Rattle.thr_trip.specs.Device.{DeviceTold, IsDevice}
 use Rattle.thr_trip.specs.Told.{device_told}
-use Rattle.vcpu_shelf.specs.Shelf.{shelf_told}
-use Rattle.vcpu_shelf.specs.Told.{SawAllDone, SeatTold}
+use Rattle.thr_trip.specs.VcpuShelf.Shelf.{shelf_told}
+use Rattle.thr_trip.specs.VcpuShelf.Told.{SawAllDone, SeatTold}
 use Rattle.thr_cast.specs.Crew.{IsOver, devices_in, has_pe, joined_all}
 use Rattle.thr_cast.proofs.WorkerLemmas.{all_more, devices_with, devices_with_pe, joined_more, one_of, pe_with_device, yielded_more}
 use Rattle.thr_cast.proofs.crew.gather.Goals as goal

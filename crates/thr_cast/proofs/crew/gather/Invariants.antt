@@ -1,12 +1,12 @@
 -- The first workers were joined again.
 use Rattle.std.proofs.Common.{◌≡◌, true, All, ◌++◌, map}
 use Rattle.std.specs.Vec.Iter.{into_iter_items}
-use Rattle.port_table.specs.All.{told_root}
-use Rattle.port_table.specs.Told.{AreRoots}
+use Rattle.thr_trip.specs.PortTable.All.{told_root}
+use Rattle.thr_trip.specs.PortTable.Told.{AreRoots}
 use Rattle.thr_trip.specs.Device.{DeviceTold, IsDevice}
 use Rattle.thr_trip.specs.Seat.{IsFreeSeat}
-use Rattle.vcpu_shelf.specs.Shelf.{shelf_told, seat_told}
-use Rattle.vcpu_shelf.specs.Told.{SawAllDone}
+use Rattle.thr_trip.specs.VcpuShelf.Shelf.{shelf_told, seat_told}
+use Rattle.thr_trip.specs.VcpuShelf.Told.{SawAllDone}
 use Rattle.thr_cast.specs.Crew.{devices_in, has_pe, joined_all}
 use Rattle.thr_cast.proofs.crew.gather.Given as goal
 

@@ -1,10 +1,7 @@
 use Rattle.std.proofs.Common.{◌≡◌, IsTrue, map, subst, sym, ap, ◌∙◌}
 use Rattle.std.specs.List.{list_all, filter_map}
-use Rattle.gic_prio.specs.Access.{taken_by, deactivated_by, cpu_after}
-use Rattle.gic_prio.specs.Delivery.{first_of}
-use Rattle.gic_prio.specs.Interface.{candidate_of, candidates_at}
-use Rattle.ideal_guest.specs.Ideal.{cpu_at}
-use Rattle.gic_history.specs.State.{interface_at, shown_at, standing_at}
+use Rattle.floor_histories.specs.Registers.{taken_by, deactivated_by, cpu_after, first_of, candidate_of, candidates_at}
+use Rattle.floor_histories.specs.Histories.{cpu_at, interface_at, shown_at, standing_at}
 use Rattle.history_check.specs.Access.{accessed_one}
 use Rattle.history_check.specs.Ready.{fits}
 use Rattle.history_check.proofs.ReadyLemmas.{here_fit, accessed_fit, after_is}

@@ -1,5 +1,5 @@
 use Rattle.std.proofs.Common.{◌≡◌, map, take}
-use Rattle.gic_history.specs.State.{shown_at, standing_at}
+use Rattle.floor_histories.specs.Histories.{shown_at, standing_at}
 use Rattle.history_check.proofs.state.State.shown.Given as goal
 
 abbrev pub invariant-loop-one : goal.invariant-loop-one

@@ -1,7 +1,6 @@
 use Rattle.std.proofs.Common.{◌≡◌, true, take}
 use Rattle.std.specs.List.{list_all}
-use Rattle.gic_history.specs.State.{Standing, standing_at}
-use Rattle.gic_history.specs.Fresh.{is_open, changes_of}
+use Rattle.floor_histories.specs.Histories.{Standing, standing_at, is_open, changes_of}
 use Rattle.history_check.proofs.track.Track.is_fresh_at_interface.Given as goal
 
 abbrev pub invariant-loop-one : goal.invariant-loop-one

@@ -1,6 +1,6 @@
 use Rattle.std.proofs.Common.{◌≡◌, Option, Some, None, false, fold, take}
 use Rattle.std.specs.Option.{option_map_or}
-use Rattle.gic_history.specs.Fresh.{Turn, is_open}
+use Rattle.floor_histories.specs.Histories.{Turn, is_open}
 use Rattle.history_check.proofs.track.Track.is_last_of_open.Given as goal
 
 abbrev pub invariant-loop-turn : goal.invariant-loop-turn

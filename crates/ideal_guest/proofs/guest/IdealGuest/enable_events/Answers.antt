@@ -1,6 +1,6 @@
 use Rattle.std.proofs.Common.{sym, ◌∙◌}
-use Rattle.gic_call.specs.declared.event.Event.TheVariants.{Enable}
-use Rattle.gic_call.proofs.AccessLemmas.{after_pushed, after_kept}
+use Rattle.floor_calls.specs.Calls.{Enable}
+use Rattle.floor_calls.proofs.GicCall.AccessLemmas.{after_pushed, after_kept}
 use Rattle.ideal_guest.proofs.guest.IdealGuest.enable_events.Goals.{in-Some+in_ok-push, in_default}
 use Rattle.ideal_guest.proofs.guest.IdealGuest.enable_events.Goals as goal
 

@@ -1,7 +1,6 @@
 use Rattle.std.proofs.Common.{◌+◌}
-use Rattle.gic_call.specs.declared.event.Event.TheVariants.{Enable}
-use Rattle.gic_call.specs.Access.{pended_at}
-use Rattle.gic_call.proofs.AccessLemmas.{AreAfter}
+use Rattle.floor_calls.specs.Calls.{Enable, pended_at}
+use Rattle.floor_calls.proofs.GicCall.AccessLemmas.{AreAfter}
 use Rattle.ideal_guest.specs.Ideal.{view_of}
 use Rattle.ideal_guest.proofs.guest.IdealGuest.enable_events.Given as goal
 

@@ -1,10 +1,8 @@
 use Rattle.std.proofs.Common.{map, ◌∙◌}
 use Rattle.std.proofs.lemmas.List.Elements.{All-map, All-same}
-use Rattle.gic_call.specs.Valid.{HappensFreely}
-use Rattle.gic_call.specs.View.{View}
-use Rattle.gic_call.specs.Command.{lpi_event, parts}
+use Rattle.floor_calls.specs.Calls.{HappensFreely, View, lpi_event, parts}
 use Rattle.ideal_guest.specs.Ideal.{view_of}
-use Rattle.gic_call.proofs.CommandLemmas.{parts_happen}
+use Rattle.floor_calls.proofs.GicCall.CommandLemmas.{parts_happen}
 use Rattle.ideal_guest.proofs.guest.IdealGuest.finish.Goals as goal
 
 pub part_events-requires-clause-valid : goal.part_events-requires-clause-valid

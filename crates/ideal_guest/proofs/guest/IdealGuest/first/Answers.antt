@@ -1,8 +1,8 @@
 use Rattle.std.proofs.Common.{◌≡◌, ◌∙◌, sym, ap, Some, None}
 use Rattle.std.specs.List.{range_with_len, filter_map}
-use Rattle.gic_prio.specs.Delivery.{first_of}
+use Rattle.floor_calls.specs.Registers.{first_of}
 use Rattle.ideal_guest.specs.Ideal.{candidate_at}
-use Rattle.gic_call.proofs.RangeLemmas.{filter_map_found, filter_map_none}
+use Rattle.floor_calls.proofs.GicCall.RangeLemmas.{filter_map_found, filter_map_none}
 use Rattle.ideal_guest.proofs.guest.IdealGuest.first.Goals as goal
 use Rattle.ideal_guest.proofs.guest.IdealGuest.first.Goals.{in-Some, in_default}
 

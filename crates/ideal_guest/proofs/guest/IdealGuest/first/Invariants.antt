@@ -1,7 +1,7 @@
 use Rattle.std.proofs.Common.{◌≡◌}
 use Rattle.std.specs.List.{range_with_len, filter_map}
-use Rattle.gic_base.specs.Interrupt.{interrupt_count}
-use Rattle.gic_prio.specs.Delivery.{first_of}
+use Rattle.floor_calls.specs.Words.{interrupt_count}
+use Rattle.floor_calls.specs.Registers.{first_of}
 use Rattle.ideal_guest.specs.Ideal.{candidate_at}
 use Rattle.ideal_guest.proofs.guest.IdealGuest.first.Given as goal
 

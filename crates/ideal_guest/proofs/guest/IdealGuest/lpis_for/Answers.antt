@@ -1,6 +1,6 @@
 use Rattle.std.proofs.Common.{ℕ, ◌+◌, ◌≡◌, Bool, Some, nat_eq, sym, ap, ◌∙◌}
 use Rattle.std.specs.Option.{option_eq}
-use Rattle.gic_word.specs.Record.{is_number}
+use Rattle.floor_calls.specs.Words.{is_number}
 use Rattle.ideal_guest.specs.Ideal.{view_of}
 use Rattle.ideal_guest.proofs.PartLemmas.{filter_pushed, filter_kept, is_number-equal}
 use Rattle.ideal_guest.proofs.guest.IdealGuest.lpis_for.Goals.{then-eq+in_ok-push, else-eq}

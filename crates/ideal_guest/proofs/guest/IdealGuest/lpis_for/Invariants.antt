@@ -1,6 +1,6 @@
 use Rattle.std.proofs.Common.{◌≡◌, filter}
 use Rattle.std.specs.List.{range_with_len}
-use Rattle.gic_word.specs.Record.{is_number}
+use Rattle.floor_calls.specs.Words.{is_number}
 use Rattle.ideal_guest.specs.Ideal.{view_of}
 use Rattle.ideal_guest.proofs.guest.IdealGuest.lpis_for.Given as goal
 

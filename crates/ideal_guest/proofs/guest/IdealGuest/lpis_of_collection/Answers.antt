@@ -1,7 +1,7 @@
 use Rattle.std.proofs.Common.{ℕ, ◌+◌, ◌≡◌, Bool, Some, nat_eq, sym, ap, ◌∙◌}
 use Rattle.std.specs.Option.{option_eq}
-use Rattle.gic_word.specs.Record.{is_number}
-use Rattle.its_tab.specs.Collection.{collection_of}
+use Rattle.floor_calls.specs.Words.{is_number}
+use Rattle.floor_calls.specs.Registers.{collection_of}
 use Rattle.ideal_guest.proofs.PartLemmas.{filter_pushed, filter_kept, is_number-equal}
 use Rattle.ideal_guest.proofs.guest.IdealGuest.lpis_of_collection.Goals.{then-eq+in_ok-push, else-eq}
 use Rattle.ideal_guest.proofs.guest.IdealGuest.lpis_of_collection.Goals as goal

@@ -1,7 +1,7 @@
 use Rattle.std.proofs.Common.{◌≡◌, filter}
 use Rattle.std.specs.List.{range_with_len}
-use Rattle.gic_word.specs.Record.{is_number}
-use Rattle.its_tab.specs.Collection.{collection_of}
+use Rattle.floor_calls.specs.Words.{is_number}
+use Rattle.floor_calls.specs.Registers.{collection_of}
 use Rattle.ideal_guest.proofs.guest.IdealGuest.lpis_of_collection.Given as goal
 
 -- those of the LPIs so far

@@ -1,6 +1,6 @@
 use Rattle.std.proofs.Common.{◌≡◌, ◌==◌, ◌++◌, drop, Some, None, if◌then◌else◌}
 use Rattle.std.specs.List.{filter_map}
-use Rattle.gic_call.specs.Command.{lpis_of_device}
+use Rattle.floor_calls.specs.Calls.{lpis_of_device}
 use Rattle.ideal_guest.proofs.guest.IdealGuest.lpis_of_device.Given as goal
 
 -- the LPIs so far, and those of the events that are left

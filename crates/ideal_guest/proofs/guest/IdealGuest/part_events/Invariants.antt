@@ -1,5 +1,5 @@
 use Rattle.std.proofs.Common.{◌≡◌, ◌++◌, drop, map}
-use Rattle.gic_call.specs.Command.{lpi_event}
+use Rattle.floor_calls.specs.Calls.{lpi_event}
 use Rattle.ideal_guest.specs.Ideal.{view_of}
 use Rattle.ideal_guest.proofs.guest.IdealGuest.part_events.Given as goal
 

@@ -1,6 +1,6 @@
 use Rattle.std.proofs.Common.{◌≡◌, ◌+◌, refl, ap, sym, ◌∙◌, add-one}
-use Rattle.gic_frame.specs.Parts.{part_at as put_at}
-use Rattle.gic_call.specs.Access.{part_at, part_value}
+use Rattle.floor_calls.specs.Registers.{part_at as put_at}
+use Rattle.floor_calls.specs.Calls.{part_at, part_value}
 use Rattle.ideal_guest.specs.Ideal.{view_of}
 use Rattle.ideal_guest.proofs.guest.IdealGuest.part_value.Goals as goal
 

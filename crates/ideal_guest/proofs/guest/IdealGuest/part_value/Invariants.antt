@@ -1,6 +1,6 @@
 use Rattle.std.proofs.Common.{◌≡◌, ◌*◌, ◌<◌, ◌^◌}
-use Rattle.gic_frame.specs.Part.{part_bits}
-use Rattle.gic_call.specs.Access.{part_value}
+use Rattle.floor_calls.specs.Registers.{part_bits}
+use Rattle.floor_calls.specs.Calls.{part_value}
 use Rattle.ideal_guest.specs.Ideal.{view_of}
 use Rattle.ideal_guest.proofs.guest.IdealGuest.part_value.Given as goal
 

@@ -1,6 +1,5 @@
 use Rattle.std.proofs.Common.{◌≡◌, ◌-◌}
-use Rattle.gic_call.specs.Command.{queue_places}
-use Rattle.gic_open.specs.declared.plain.PlainWord.TheVariants.{Cbaser}
+use Rattle.floor_calls.specs.Calls.{queue_places, Cbaser}
 use Rattle.ideal_guest.specs.Ideal.{word_at, after_commands, after_queued}
 use Rattle.ideal_guest.specs.Sound.{IsSound}
 use Rattle.ideal_guest.proofs.guest.IdealGuest.run_queue.Given as goal

@@ -1,5 +1,5 @@
 use Rattle.std.proofs.Common.{◌∙◌, sym, ap, subst, set}
-use Rattle.gic_open.proofs.KeyLemmas.{with_irq_in_there}
+use Rattle.floor_calls.proofs.GicOpen.KeyLemmas.{with_irq_in_there}
 use Rattle.ideal_guest.specs.Sound.{IsSound}
 use Rattle.ideal_guest.proofs.SoundLemmas.{sound_put}
 use Rattle.ideal_guest.proofs.guest.IdealGuest.set_irq.Goals as goal

@@ -1,10 +1,10 @@
 use Rattle.std.proofs.Common.{◌≡◌, arith, map, ap, ◌∙◌}
 use Rattle.std.specs.List.{range_with_len}
-use Rattle.gic_open.proofs.RangeLemmas.{map_pushed}
+use Rattle.port_core.proofs.GicOpen.RangeLemmas.{map_pushed}
 use Rattle.port_core.specs.Actor.{actor_count}
 use Rattle.port_core.specs.Local.{opening_local}
 use Rattle.port_core.specs.Run.{Seat, opening_local_of, opening_seat}
-use Rattle.gic_open.specs.Opening.{opening_cpu}
+use Rattle.port_core.specs.Calls.{opening_cpu}
 use Rattle.port_ops.proofs.WorldLemmas.{map_twice}
 use Rattle.port_ops.proofs.opened.Opened.locals.Goals as goal
 

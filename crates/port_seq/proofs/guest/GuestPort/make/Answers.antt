@@ -1,11 +1,11 @@
 use Rattle.std.proofs.Common.{rules, IsTrue, sym, ap, subst, ◌∙◌}
-use Rattle.port_core.specs.After.{local_after}
-use Rattle.port_core.specs.Atomic.{Makes}
-use Rattle.port_core.specs.Condition.{Meets, has_room}
-use Rattle.port_core.specs.Run.{IsRun, opening, seat_at}
-use Rattle.port_core.specs.Step.{word_of}
-use Rattle.port_core.specs.Valid.{IsLocal, CanFind}
-use Rattle.port_core.proofs.StepLemmas.{found_valid}
+use Rattle.port_ops.specs.PortCore.After.{local_after}
+use Rattle.port_ops.specs.PortCore.Atomic.{Makes}
+use Rattle.port_ops.specs.PortCore.Condition.{Meets, has_room}
+use Rattle.port_ops.specs.PortCore.Run.{IsRun, opening, seat_at}
+use Rattle.port_ops.specs.PortCore.Step.{word_of}
+use Rattle.port_ops.specs.PortCore.Valid.{IsLocal, CanFind}
+use Rattle.port_ops.proofs.PortCore.StepLemmas.{found_valid}
 use Rattle.port_seq.specs.Kept.{told_is_port}
 use Rattle.port_seq.specs.Ports.{told}
 use Rattle.port_seq.specs.Rule.{IsMade}

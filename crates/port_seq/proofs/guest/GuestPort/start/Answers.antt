@@ -1,9 +1,9 @@
 use Rattle.std.proofs.Common.{◌≤◌, [], length, refl, sym, ap, subst, arith, ◌∙◌}
 use Rattle.std.proofs.lemmas.Option.{same_Some}
 use Rattle.std.proofs.lemmas.List.FromFn.{length-map-range_with_len}
-use Rattle.scn_base.specs.Good.{IsGoodGuest}
-use Rattle.port_core.specs.Place.{word_count}
-use Rattle.port_core.specs.Run.{IsRun, opening, opening_word}
+use Rattle.port_ops.specs.Calls.{IsGoodGuest}
+use Rattle.port_ops.specs.PortCore.Place.{word_count}
+use Rattle.port_ops.specs.PortCore.Run.{IsRun, opening, opening_word}
 use Rattle.port_ops.specs.World.{state_after, locals_in}
 use Rattle.port_seq.proofs.guest.GuestPort.start.Goals as goal
 

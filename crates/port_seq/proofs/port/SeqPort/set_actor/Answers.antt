@@ -1,6 +1,6 @@
 use Rattle.std.proofs.Common.{◌≡◌, ℕ, ◌<◌, List, length, map, set, sym, ap, subst, ◌∙◌}
 use Rattle.std.proofs.lemmas.List.{length-map}
-use Rattle.port_core.specs.Actor.{guest_of, number_of}
+use Rattle.port_ops.specs.PortCore.Actor.{guest_of, number_of}
 use Rattle.port_seq.specs.Ports.{told, told_all}
 use Rattle.port_seq.specs.Told.{GuestTold, SeqTold, guest_at}
 use Rattle.port_seq.proofs.GuestsLemmas.{told_at, told_set}

@@ -1,6 +1,6 @@
 use Rattle.std.proofs.Common.{map, set, get_or, sym, subst}
-use Rattle.port_core.specs.Port.{AddsStep, shape_of, word_by, left_by}
-use Rattle.port_core.specs.Valid.{CanFind}
+use Rattle.port_ops.specs.PortCore.Port.{AddsStep, shape_of, word_by, left_by}
+use Rattle.port_ops.specs.PortCore.Valid.{CanFind}
 use Rattle.port_seq.specs.Ports.{told}
 use Rattle.port_seq.specs.Told.{no_told, seen_of}
 use Rattle.port_seq.proofs.GuestsLemmas.{told_at, told_now}

@@ -3,7 +3,7 @@ use mathlib.Core.Option.{some}
 use Rattle.std.specs.Slots.{slots_items}
 use Rattle.std.proofs.lemmas.Result.{IfOk-weaker}
 use Rattle.atomic_table.specs.Table.{Final, Seen}
-use Rattle.its_tab.specs.Maps.{Maps}
+use Rattle.port_ops.specs.Registers.{Maps}
 use Rattle.port_ops.specs.declared.opened.Opened.{Opened}
 use Rattle.port_ops.specs.Words.{words_at_end}
 use Rattle.port_table.specs.Ports.{words_told, root_told}

@@ -1,15 +1,14 @@
 use Rattle.std.proofs.Common.{◌≡◌, ◌<◌, [], sym, ap, subst, ◌∙◌}
-use Rattle.gic_base.specs.declared.operation.Actor.{Actor}
-use Rattle.gic_prio.specs.declared.cpu.CpuRec.{CpuRec}
-use Rattle.port_core.specs.declared.local.Local.{Local}
-use Rattle.port_core.specs.Known.{known_maps}
-use Rattle.port_core.specs.Local.{opening_local}
-use Rattle.port_core.specs.Run.{opening_local_of}
-use Rattle.gic_open.specs.Opening.{opening_cpu}
-use Rattle.scn_base.specs.Good.{IsGoodGuest}
-use Rattle.port_core.specs.Actor.{actor_count}
-use Rattle.port_core.specs.Place.{word_count}
-use Rattle.port_core.specs.Valid.{IsLocal}
+use Rattle.port_ops.specs.Words.{Actor}
+use Rattle.port_ops.specs.Registers.{CpuRec}
+use Rattle.port_ops.specs.PortCore.declared.local.Local.{Local}
+use Rattle.port_ops.specs.PortCore.Known.{known_maps}
+use Rattle.port_ops.specs.PortCore.Local.{opening_local}
+use Rattle.port_ops.specs.PortCore.Run.{opening_local_of}
+use Rattle.port_ops.specs.Calls.{opening_cpu, IsGoodGuest}
+use Rattle.port_ops.specs.PortCore.Actor.{actor_count}
+use Rattle.port_ops.specs.PortCore.Place.{word_count}
+use Rattle.port_ops.specs.PortCore.Valid.{IsLocal}
 use Rattle.port_ops.specs.declared.opened.Opened.{Opened}
 use Rattle.port_table.specs.declared.view.View.TheVariants.{Out}
 use Rattle.port_table.specs.Rule.{local_of}

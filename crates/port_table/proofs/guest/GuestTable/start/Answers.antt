@@ -1,10 +1,10 @@
 use Rattle.std.proofs.Common.{◌≡◌, List, [], ◌∷◌, ◌++◌, length, Option, Some, sym, ap, subst, ◌∙◌}
 use Rattle.std.proofs.lemmas.List.FromFn.{length-map-range_with_len}
-use Rattle.its_tab.specs.Maps.{Maps}
-use Rattle.scn_base.specs.Good.{IsGoodGuest}
-use Rattle.port_core.specs.Known.{no_maps}
-use Rattle.port_core.specs.Place.{word_count}
-use Rattle.port_core.specs.Run.{opening_word}
+use Rattle.port_ops.specs.Registers.{Maps}
+use Rattle.port_ops.specs.Calls.{IsGoodGuest}
+use Rattle.port_ops.specs.PortCore.Known.{no_maps}
+use Rattle.port_ops.specs.PortCore.Place.{word_count}
+use Rattle.port_ops.specs.PortCore.Run.{opening_word}
 use Rattle.port_table.proofs.OpenLemmas.{opens_shared}
 use Rattle.port_table.proofs.guest.GuestTable.start.Goals as goal
 

@@ -1,14 +1,14 @@
 use Rattle.std.proofs.Common.{Bool, List, sym, ap, subst, ◌∙◌}
 use Rattle.atomic_table.specs.Seated.{TableId}
-use Rattle.gic_base.specs.declared.shape.GuestShape.{GuestShape}
-use Rattle.port_core.specs.declared.local.Local.{Local}
-use Rattle.port_core.specs.declared.run.Made.{Made}
-use Rattle.port_core.specs.After.{local_after}
-use Rattle.port_core.specs.Condition.{Meets}
-use Rattle.port_core.specs.Port.{Seen}
-use Rattle.port_core.specs.Step.{word_of}
-use Rattle.port_core.specs.Valid.{IsLocal, CanFind}
-use Rattle.port_core.specs.Effect.{word_after}
+use Rattle.port_ops.specs.Words.{GuestShape}
+use Rattle.port_ops.specs.PortCore.declared.local.Local.{Local}
+use Rattle.port_ops.specs.PortCore.declared.run.Made.{Made}
+use Rattle.port_ops.specs.PortCore.After.{local_after}
+use Rattle.port_ops.specs.PortCore.Condition.{Meets}
+use Rattle.port_ops.specs.PortCore.Port.{Seen}
+use Rattle.port_ops.specs.PortCore.Step.{word_of}
+use Rattle.port_ops.specs.PortCore.Valid.{IsLocal, CanFind}
+use Rattle.port_ops.specs.PortCore.Effect.{word_after}
 use Rattle.port_ops.specs.World.{state_after, entry_in}
 use Rattle.port_table.specs.Kept.{table_is_port}
 use Rattle.port_table.specs.Ports.{seen_of}
@@ -59,7 +59,7 @@ invariant_of-self c =
           ∣ subst (IsLocal key.guest.shape port.actor) (sym left) (made_valid key port.actor c.args.step port.local port.seat.me found later port.good port.there port.made port.held c.requires.tables made) ∣₁;
       held =
           made_held key port.actor c.args.step port.local port.seat.me found later port.good port.there port.made port.held c.requires.tables made
-          ∙ ap (λ (l : Local). held l.turn (has_taken later.1) (Rattle.port_core.specs.Known.known_maps (own_of later.0))) (sym left);
+          ∙ ap (λ (l : Local). held l.turn (has_taken later.1) (Rattle.port_ops.specs.PortCore.Known.known_maps (own_of later.0))) (sym left);
     }
 
 pub returns-clause-found : goal.returns-clause-found

@@ -1,6 +1,6 @@
 -- What is asked of a call.
 use Rattle.std.proofs.Common.{subst}
-use Rattle.port_seq.specs.Ports.{told_all}
+use Rattle.law_one_thread_is_eager.specs.PortSeq.Ports.{told_all}
 use Rattle.run_seq.specs.Machine.{IsReady}
 use Rattle.run_seq.proofs.ReadyLemmas.{can_operate, can_receive}
 use Rattle.run_seq.proofs.machine.Machine.act.Goals as goal

@@ -1,6 +1,6 @@
 -- One PE after the other is left.
 use Rattle.std.proofs.Common.{refl, subst, arith, rules}
-use Rattle.port_seq.specs.Ports.{told_all}
+use Rattle.law_one_thread_is_eager.specs.PortSeq.Ports.{told_all}
 use Rattle.run_seq.proofs.CloseLemmas.{ClosesSoFar, all_closed, closes_none, next_leaves, next_ready, next_still}
 use Rattle.run_seq.proofs.machine.Machine.close.Goals.{then-is_some+in_ok-step+in-Regs-1, then-is_some+in_ok-step+in-Nothing-1, else-is_some}
 use Rattle.run_seq.proofs.machine.Machine.close.Goals as goal

@@ -1,6 +1,6 @@
 -- The first PEs are empty.
 use Rattle.std.proofs.Common.{◌≡◌, length}
-use Rattle.port_seq.specs.Ports.{told_all}
+use Rattle.law_one_thread_is_eager.specs.PortSeq.Ports.{told_all}
 use Rattle.run_seq.proofs.CloseLemmas.{ClosesSoFar}
 use Rattle.run_seq.proofs.machine.Machine.close.Given as goal
 

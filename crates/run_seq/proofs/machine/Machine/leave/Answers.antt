@@ -1,10 +1,10 @@
 -- The vCPU left, over the port of its guest.
 use Rattle.std.proofs.Common.{refl, ap, ◌∙◌, subst}
-use Rattle.port_seq.specs.Ports.{told, told_all}
-use Rattle.port_seq.specs.Told.{telling}
-use Rattle.pe_place.specs.Parts.{AreResidences}
-use Rattle.seq_guest.specs.Guest.{GoesOn}
-use Rattle.pe_place.specs.Place.{left}
+use Rattle.law_one_thread_is_eager.specs.PortSeq.Ports.{told, told_all}
+use Rattle.law_one_thread_is_eager.specs.PortSeq.Told.{telling}
+use Rattle.law_one_thread_is_eager.specs.PePlace.Parts.{AreResidences}
+use Rattle.law_one_thread_is_eager.specs.SeqGuest.Guest.{GoesOn}
+use Rattle.law_one_thread_is_eager.specs.PePlace.Place.{left}
 use Rattle.run_seq.specs.Acts.{MovesVcpu}
 use Rattle.run_seq.proofs.LendLemmas.{IsLent, acts_by, goes_from_any, lent_at, lent_told}
 use Rattle.run_seq.proofs.machine.Machine.leave.Goals as goal

@@ -1,6 +1,6 @@
 -- One vCPU after the other enters its PE.
 use Rattle.std.proofs.Common.{◌≡◌, None, length, replicate, refl, ap, ◌∙◌, arith, rules}
-use Rattle.port_seq.specs.Ports.{told_all}
+use Rattle.law_one_thread_is_eager.specs.PortSeq.Ports.{told_all}
 use Rattle.run_seq.proofs.OpenLemmas.{next_enters, next_free, next_opens, none_yet, opens_last, opens_none, to_open}
 use Rattle.run_seq.proofs.machine.Machine.opening.Goals.{in-Some+in_ok-step+in-Regs-1, in-Some+in_ok-step+in-Nothing-1, in_default}
 use Rattle.run_seq.proofs.machine.Machine.opening.Goals as goal

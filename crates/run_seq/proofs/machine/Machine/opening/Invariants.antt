@@ -1,5 +1,5 @@
 -- The first PEs are as they are to be.
-use Rattle.port_seq.specs.Ports.{told_all}
+use Rattle.law_one_thread_is_eager.specs.PortSeq.Ports.{told_all}
 use Rattle.run_seq.proofs.OpenLemmas.{OpensSoFar}
 use Rattle.run_seq.proofs.machine.Machine.opening.Given as goal
 

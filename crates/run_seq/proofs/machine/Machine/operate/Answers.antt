@@ -1,9 +1,9 @@
 -- The vCPU's operation, over the port of its guest.
 use Rattle.std.proofs.Common.{refl, sym, ap, ◌∙◌, subst}
-use Rattle.port_seq.specs.Ports.{told, told_all}
-use Rattle.port_seq.specs.Told.{telling}
-use Rattle.gic_call.specs.declared.event.Operation.TheVariants.{Access}
-use Rattle.seq_guest.specs.Guest.{Operates, spot_at}
+use Rattle.law_one_thread_is_eager.specs.PortSeq.Ports.{told, told_all}
+use Rattle.law_one_thread_is_eager.specs.PortSeq.Told.{telling}
+use Rattle.law_ends_agree.specs.Calls.{Access}
+use Rattle.law_one_thread_is_eager.specs.SeqGuest.Guest.{Operates, spot_at}
 use Rattle.run_seq.specs.Acts.{CallsOnce}
 use Rattle.run_seq.proofs.LendLemmas.{IsLent, acts_by, lent_at, lent_told, mine, once_from_any}
 use Rattle.run_seq.proofs.machine.Machine.operate.Goals as goal

@@ -1,6 +1,6 @@
 -- The step of a PE, by its operation and by who stands there.
 use Rattle.std.proofs.Common.{get_or, None, sym, ap, ◌∙◌}
-use Rattle.port_seq.specs.Ports.{told_all}
+use Rattle.law_one_thread_is_eager.specs.PortSeq.Ports.{told_all}
 use Rattle.run_seq.proofs.PlaceLemmas.{after_as, has_entered, has_left, none_left, who_enters, who_stands}
 use Rattle.run_seq.proofs.machine.Machine.pe_step.Goals.{in-Enter-default, in-Exit-Some, in-Exit-None}
 use Rattle.run_seq.proofs.machine.Machine.pe_step.Goals as goal

@@ -1,11 +1,11 @@
 -- The device's operation, over the port of its guest.
 use Rattle.std.proofs.Common.{refl, sym, ap, ◌∙◌, subst, ◌+◌, ◌<◌, Option, None, ℕ}
-use Rattle.port_seq.specs.Ports.{told, told_all}
-use Rattle.port_seq.specs.Told.{GuestTold, guest_at, telling}
+use Rattle.law_one_thread_is_eager.specs.PortSeq.Ports.{told, told_all}
+use Rattle.law_one_thread_is_eager.specs.PortSeq.Told.{GuestTold, guest_at, telling}
 use Rattle.std.proofs.lemmas.Option.{slice_get_within}
-use Rattle.gic_call.specs.declared.event.Operation.TheVariants.{Device as DeviceCall}
-use Rattle.pe_place.specs.Parts.{HaveCall}
-use Rattle.seq_guest.specs.Guest.{GoesOn}
+use Rattle.law_ends_agree.specs.Calls.{Device as DeviceCall}
+use Rattle.law_one_thread_is_eager.specs.PePlace.Parts.{HaveCall}
+use Rattle.law_one_thread_is_eager.specs.SeqGuest.Guest.{GoesOn}
 use Rattle.run_seq.specs.Acts.{CallsOnce}
 use Rattle.run_seq.proofs.LendLemmas.{IsLent, acts_by, event_from_any, first_there, lent_at, lent_told}
 use Rattle.run_seq.proofs.machine.Machine.receive.Goals as goal

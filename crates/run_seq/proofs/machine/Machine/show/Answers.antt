@@ -1,8 +1,8 @@
 -- The registers shown, over the port of its guest.
 use Rattle.std.proofs.Common.{refl, ap, ◌∙◌, subst}
-use Rattle.port_seq.specs.Ports.{told, told_all}
-use Rattle.port_seq.specs.Told.{telling}
-use Rattle.seq_guest.specs.Guest.{ShowsList, spot_at}
+use Rattle.law_one_thread_is_eager.specs.PortSeq.Ports.{told, told_all}
+use Rattle.law_one_thread_is_eager.specs.PortSeq.Told.{telling}
+use Rattle.law_one_thread_is_eager.specs.SeqGuest.Guest.{ShowsList, spot_at}
 use Rattle.run_seq.specs.Acts.{ShowsVcpu}
 use Rattle.run_seq.proofs.LendLemmas.{IsLent, acts_by, lent_at, lent_told, list_from_any, mine}
 use Rattle.run_seq.proofs.machine.Machine.show.Goals as goal

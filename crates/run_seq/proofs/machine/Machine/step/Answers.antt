@@ -1,5 +1,5 @@
 -- The step, once its PEs are noted.
-use Rattle.port_seq.specs.Ports.{told_all}
+use Rattle.law_one_thread_is_eager.specs.PortSeq.Ports.{told_all}
 use Rattle.run_seq.proofs.PlaceLemmas.{does_step}
 use Rattle.run_seq.proofs.machine.Machine.step.Goals as goal
 

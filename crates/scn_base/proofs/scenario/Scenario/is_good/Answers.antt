@@ -1,9 +1,9 @@
 use Rattle.std.proofs.Common.{◌≡◌, ◌↔◌, ◌∙◌, List, length, ap, subst, rules}
 use Rattle.std.specs.Bool.{IsTrue}
-use Rattle.scn_base.specs.declared.guest.GuestSpec.{GuestSpec}
+use Rattle.gic_guest.specs.declared.guest.GuestSpec.{GuestSpec}
 use Rattle.scn_base.specs.declared.step.Step.{Step}
 use Rattle.scn_base.specs.Standing.{opening_standing}
-use Rattle.scn_base.specs.Good.{shapes_of}
+use Rattle.gic_guest.specs.Good.{shapes_of}
 use Rattle.scn_base.proofs.GoodLemmas.{good_is, IsGoodHead, AreGoodSteps}
 use Rattle.scn_base.proofs.scenario.Scenario.is_good.Goals as goal
 

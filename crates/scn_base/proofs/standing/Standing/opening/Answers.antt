@@ -1,7 +1,7 @@
 use Rattle.std.proofs.Common.{◌≡◌, ◌∙◌, ap, sym, length, subst, replicate, None, arith, rules}
 use Rattle.std.proofs.lemmas.List.{length-replicate}
 use Rattle.std.specs.List.{All}
-use Rattle.gic_base.specs.Shape.{IsShape}
+use Rattle.gic_guest.specs.Words.{IsShape}
 use Rattle.scn_base.specs.Standing.{wire_count}
 use Rattle.scn_base.proofs.StandingLemmas.{good_shapes, length-shapes_of}
 use Rattle.scn_base.proofs.standing.Standing.opening.Goals as goal

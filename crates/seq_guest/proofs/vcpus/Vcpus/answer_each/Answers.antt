@@ -1,7 +1,7 @@
 -- Each answers its kick.
 use Rattle.std.proofs.Common.{sym, ap, subst, ◌∙◌, rules}
-use Rattle.gic_base.specs.declared.shape.GuestShape.{GuestShape}
-use Rattle.scn_base.specs.declared.guest.GuestSpec.{GuestSpec}
+use Rattle.guest_end.specs.Words.{GuestShape}
+use Rattle.guest_end.specs.Calls.{GuestSpec}
 use Rattle.port_seq.specs.Ports.{told}
 use Rattle.seq_guest.specs.Guest.{for_none}
 use Rattle.seq_guest.proofs.GuestLemmas.{goes_none, goes_then}

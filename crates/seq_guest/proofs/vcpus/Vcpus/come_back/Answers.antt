@@ -1,6 +1,6 @@
 -- Each comes back.
 use Rattle.std.proofs.Common.{refl, subst, ap, rules}
-use Rattle.gic_base.specs.declared.shape.GuestShape.{GuestShape}
+use Rattle.guest_end.specs.Words.{GuestShape}
 use Rattle.port_seq.specs.Ports.{told}
 use Rattle.pe_place.specs.Place.{returned}
 use Rattle.seq_guest.specs.Guest.{ChangesSpots, for_all, for_below}

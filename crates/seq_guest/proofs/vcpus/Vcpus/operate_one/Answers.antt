@@ -1,7 +1,7 @@
 -- It does an operation.
 use Rattle.std.proofs.Common.{◌≡◌, true, OnErr, refl, subst}
-use Rattle.gic_call.specs.declared.event.Operation.TheVariants.{Access}
-use Rattle.pe_mem.specs.Found.{takes_turn_by}
+use Rattle.guest_end.specs.Calls.{Access}
+use Rattle.pe_place.specs.PeMem.Found.{takes_turn_by}
 use Rattle.port_seq.specs.Ports.{told}
 use Rattle.port_seq.specs.Told.{GuestTold, seen_of}
 use Rattle.pe_place.specs.Parts.{AreOneCall}

@@ -1,7 +1,7 @@
 -- A device does an operation, and the kicks are answered.
 use Rattle.std.proofs.Common.{◌+◌, None, ap}
-use Rattle.gic_base.specs.declared.shape.GuestShape.{GuestShape}
-use Rattle.gic_call.specs.declared.event.Operation.TheVariants.{Device}
+use Rattle.guest_end.specs.Words.{GuestShape}
+use Rattle.guest_end.specs.Calls.{Device}
 use Rattle.port_seq.specs.Ports.{told}
 use Rattle.seq_guest.proofs.DeviceLemmas.{received}
 use Rattle.seq_guest.proofs.GuestLemmas.{goes_from}

@@ -1,6 +1,6 @@
 -- Each but one leaves for a while.
 use Rattle.std.proofs.Common.{subst, ap, rules}
-use Rattle.gic_base.specs.declared.shape.GuestShape.{GuestShape}
+use Rattle.guest_end.specs.Words.{GuestShape}
 use Rattle.port_seq.specs.Ports.{told}
 use Rattle.pe_place.specs.Place.{gone_aside}
 use Rattle.seq_guest.specs.Guest.{ChangesSpots, but_one, for_below}

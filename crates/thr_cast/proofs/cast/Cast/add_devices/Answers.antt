@@ -1,7 +1,7 @@
 -- One more device is there.
 use Rattle.std.proofs.Common.{◌≡◌, ◌+◌, refl, subst, arith}
-use Rattle.port_table.specs.All.{told_root}
-use Rattle.port_table.specs.Told.{words_at}
+use Rattle.thr_trip.specs.PortTable.All.{told_root}
+use Rattle.thr_trip.specs.PortTable.Told.{words_at}
 use Rattle.thr_cast.specs.Split.{SplitTo}
 use Rattle.thr_cast.proofs.ComingLemmas.{device_came}
 use Rattle.thr_cast.proofs.cast.Cast.add_devices.Goals as goal

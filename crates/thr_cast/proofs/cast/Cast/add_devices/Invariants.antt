@@ -1,7 +1,7 @@
 -- The first devices of the guest are there.
 use Rattle.std.proofs.Common.{◌≡◌, ◌+◌}
-use Rattle.port_table.specs.All.{told_root}
-use Rattle.port_table.specs.Told.{words_at}
+use Rattle.thr_trip.specs.PortTable.All.{told_root}
+use Rattle.thr_trip.specs.PortTable.Told.{words_at}
 use Rattle.thr_cast.specs.Cast.{HasCast, first_devices}
 use Rattle.thr_cast.specs.Split.{SplitTo}
 use Rattle.thr_cast.proofs.cast.Cast.add_devices.Given as goal

@@ -1,7 +1,7 @@
 -- The first vCPUs of the guest are there.
 use Rattle.std.proofs.Common.{◌≡◌, []}
-use Rattle.port_table.specs.All.{told_root}
-use Rattle.port_table.specs.Told.{words_at}
+use Rattle.thr_trip.specs.PortTable.All.{told_root}
+use Rattle.thr_trip.specs.PortTable.Told.{words_at}
 use Rattle.thr_cast.specs.Cast.{HasCast}
 use Rattle.thr_cast.specs.Split.{SplitTo}
 use Rattle.thr_cast.proofs.cast.Cast.add_vcpus.Given as goal

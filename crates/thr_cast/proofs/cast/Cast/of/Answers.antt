@@ -1,5 +1,5 @@
 -- One more guest has all its actors.
-use Rattle.port_table.specs.All.{told_root}
+use Rattle.thr_trip.specs.PortTable.All.{told_root}
 use Rattle.thr_cast.proofs.ComingLemmas.{guest_came}
 use Rattle.thr_cast.proofs.SplitLemmas.{split_next}
 use Rattle.std.proofs.Common.{◌<◌, subst}

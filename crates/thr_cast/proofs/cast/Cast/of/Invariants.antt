@@ -1,6 +1,6 @@
 -- The first guests have all their actors.
 use Rattle.std.proofs.Common.{◌≡◌, length, []}
-use Rattle.port_table.specs.All.{told_root}
+use Rattle.thr_trip.specs.PortTable.All.{told_root}
 use Rattle.thr_cast.specs.Cast.{HasCast}
 use Rattle.thr_cast.specs.Split.{SplitTo}
 use Rattle.thr_cast.proofs.cast.Cast.of.Given as goal

@@ -1,6 +1,6 @@
 -- Its script is done.
 use Rattle.std.proofs.Common.{List, subst}
-use Rattle.gic_base.specs.declared.operation.DeviceOp.{DeviceOp}
+use Rattle.gic_io.specs.Words.{DeviceOp}
 use Rattle.port_table.specs.Ports.{seen_of}
 use Rattle.thr_trip.specs.Device.{DeviceTold, Receives}
 use Rattle.thr_trip.proofs.DeviceLemmas.{device_done}

@@ -1,9 +1,9 @@
 -- It is the same vCPU, further on.
 use Rattle.std.proofs.Common.{◌≡◌, Bool, false, true, ◌||◌, List, refl, subst, ◌∙◌}
-use Rattle.gic_base.specs.declared.operation.GuestOp.{GuestOp}
+use Rattle.gic_io.specs.Words.{GuestOp}
 use Rattle.port_table.specs.Ports.{seen_of}
-use Rattle.pe_loop.specs.Enter.{Enters}
-use Rattle.vcpu_state.specs.declared.shelved.Shelved.{Shelved}
+use Rattle.pe_place.specs.PeLoop.Enter.{Enters}
+use Rattle.pe_place.specs.VcpuState.declared.shelved.Shelved.{Shelved}
 use Rattle.thr_trip.specs.Operate.{Operates}
 use Rattle.thr_trip.specs.Trip.{TripTold}
 use Rattle.thr_trip.proofs.VisitLemmas.{visited_is}

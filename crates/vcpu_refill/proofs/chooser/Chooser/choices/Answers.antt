@@ -3,7 +3,7 @@ use Rattle.std.specs.Prelude.{slice_get, replicate, IfSome, if◌then◌else◌}
 use Rattle.std.specs.List.{AllWithin}
 use Rattle.std.proofs.lemmas.List.Elements.{AllWithin-none, AllWithin-more_set, All-from_all_within}
 use Rattle.std.proofs.Math.ListN.{length-set}
-use Rattle.gic_lr.specs.Entry.{IsEntry}
+use Rattle.gic_ich.specs.GicLr.Entry.{IsEntry}
 use Rattle.vcpu_refill.specs.declared.fill.Choice.{Choice}
 use Rattle.vcpu_refill.specs.Ranking.{in_places}
 use Rattle.vcpu_refill.specs.Plan.{choices_of}

@@ -1,8 +1,8 @@
 use Rattle.std.proofs.Common.{◌≡◌, ℕ, ◌<◌, ◌≤◌, List, None, length, get_or}
 use Rattle.std.specs.Prelude.{slice_get, IfSome}
 use Rattle.std.specs.List.{AllWithin}
-use Rattle.gic_lr.specs.Entry.{IsEntry}
-use Rattle.gic_base.specs.declared.shape.GuestShape.{GuestShape}
+use Rattle.gic_ich.specs.GicLr.Entry.{IsEntry}
+use Rattle.gic_ich.specs.Words.{GuestShape}
 use Rattle.vcpu_refill.specs.declared.offer.Offer.{Offer}
 use Rattle.vcpu_refill.specs.Chooser.{Keeps}
 use Rattle.vcpu_refill.specs.Plan.{choices_of}

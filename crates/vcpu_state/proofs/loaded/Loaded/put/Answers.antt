@@ -1,5 +1,5 @@
 use Rattle.std.proofs.Common.{◌<◌, Some, length, sym, subst, arith, set}
-use Rattle.gic_lr.specs.Entry.{packed}
+use Rattle.gic_ich.specs.GicLr.Entry.{packed}
 use Rattle.gic_ich.specs.Place.{StandFor}
 use Rattle.vcpu_state.proofs.PlaceLemmas.{put_stands}
 use Rattle.vcpu_state.proofs.loaded.Loaded.put.Goals as goal

@@ -1,4 +1,0 @@
-pub mod Calls
-pub mod Laws
-pub mod Worked
-pub mod Runs

@@ -1,5 +1,0 @@
-use Rattle.core_home.proofs.WorkedLemmas.{finds}
-use Rattle.core_home.proofs.laws.a_vcpu_finds_all.Goals as goal
-
-pub returns : goal.returns
-returns c = finds

@@ -1,5 +1,0 @@
-use Rattle.core_home.proofs.StayRuns.{stands_as_reached}
-use Rattle.core_home.proofs.laws.stands_as_reached.Goals as goal
-
-pub returns : goal.returns
-returns c = stands_as_reached

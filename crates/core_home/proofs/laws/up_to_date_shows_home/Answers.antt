@@ -1,5 +1,0 @@
-use Rattle.core_home.proofs.ShowRuns.{up_to_date_shows_home}
-use Rattle.core_home.proofs.laws.up_to_date_shows_home.Goals as goal
-
-pub returns : goal.returns
-returns c = up_to_date_shows_home

@@ -1,9 +1,0 @@
-pub mod Related
-pub mod Simulates
-pub mod Known
-pub mod Laws
-pub mod Whole
-pub mod Enables
-pub mod Latches
-pub mod Sync
-pub mod Worked

@@ -1,4 +1,0 @@
-pub mod Moments
-pub mod Calls
-pub mod Possible
-pub mod Laws

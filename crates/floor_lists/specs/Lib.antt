@@ -1,0 +1,2 @@
+pub use Rattle.gic_icv.specs.GicWord
+pub mod Lists

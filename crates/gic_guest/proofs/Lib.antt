@@ -1,0 +1,1 @@
+pub use Rattle.gic_ram.proofs.GicBase

@@ -1,0 +1,86 @@
+//! Where the tables of LPIs have an LPI's configuration byte and pending bit, and what the byte says.
+ghost use Rattle.std.specs.Prelude.{◌≡◌, ◌≤◌, ◌<◌, ◌%◌};
+ghost use Rattle.gic_ram.specs.Tables.{first_lpi, last_lpi, is_enabled, priority_of, config_address as config_place, pending_address as pending_place};
+
+use floor_words::gic_base::FIRST_LPI;
+use floor_words::gic_bits::{Field, has_bit};
+
+/// The enable bit of a configuration byte.
+const CONFIG_ENABLE: u32 = 0;
+/// The bits of a configuration byte's priority that count: [7:3] of the field [7:2].
+const CONFIG_PRIORITY: Field = Field { place: 3, width: 5 };
+/// The address in GICR_PROPBASER: bits [51:12].
+const PROPBASER_ADDRESS: Field = Field {
+    place: 12,
+    width: 40,
+};
+/// The address in GICR_PENDBASER: bits [51:16].
+const PENDBASER_ADDRESS: Field = Field {
+    place: 16,
+    width: 36,
+};
+
+/// How many pending bits a byte has.
+const BYTE_BITS: u32 = 8;
+
+/// Whether an LPI with this configuration byte is enabled, and its priority, a multiple of 8 (IHI 0069,
+/// "LPI Configuration tables").
+pub fn config_of(byte: u8) -> (bool, u8)
+    ensures enabled { result.0 ≡ is_enabled byte }
+    ensures priority { result.1 ≡ priority_of byte }
+    ensures multiple { result.1 % 8 ≡ 0 }
+{
+    let byte = u64::from(byte);
+    let priority = CONFIG_PRIORITY.in_place(byte);
+    (has_bit(byte, CONFIG_ENABLE), priority as u8)
+}
+
+/// The byte address of an LPI's configuration byte, from GICR_PROPBASER and the INTID, 8192 to 65535. The
+/// register's other bits do not matter; IDbits has no effect (own choice).
+pub fn config_address(propbaser: u64, id: u32) -> u64
+    requires first { first_lpi ≤ id }
+    requires last { id ≤ last_lpi }
+    ensures { result ≡ config_place propbaser id }
+{
+    PROPBASER_ADDRESS.in_place(propbaser) + u64::from(id - FIRST_LPI)
+}
+
+/// The byte address of an LPI's pending bit and the bit in that byte, from GICR_PENDBASER and the INTID, 8192
+/// to 65535 (IHI 0069, "LPI Pending tables"). The register's other bits do not matter.
+pub fn pending_address(pendbaser: u64, id: u32) -> (u64, u32)
+    requires first { first_lpi ≤ id }
+    requires last { id ≤ last_lpi }
+    ensures value { result ≡ pending_place pendbaser id }
+    ensures bit { result.1 < 8 }
+{
+    let table = PENDBASER_ADDRESS.in_place(pendbaser);
+    (table + u64::from(id / BYTE_BITS), id % BYTE_BITS)
+}
+
+#[cfg(test)]
+mod tests {
+    use super::{config_address, config_of, pending_address};
+
+    /// A configuration byte, whether it enables and the priority.
+    const BYTES: [(u8, bool, u8); 6] = [
+        (0xa1, true, 0xa0),
+        (0xa3, true, 0xa0),
+        (0x41, true, 0x40),
+        (0xa2, false, 0xa0),
+        (0xff, true, 0xf8),
+        (0x04, false, 0x00),
+    ];
+
+    #[test]
+    fn configuration_bytes(rt: HostRuntime) {
+        for (byte, enabled, priority) in BYTES {
+            assert_eq!(rt; config_of(byte), (enabled, priority));
+        }
+    }
+
+    #[test]
+    fn addresses_of_lpi_8195(rt: HostRuntime) {
+        assert_eq!(rt; config_address(0x300d, 8195), 0x3003);
+        assert_eq!(rt; pending_address(0x4000_0000_0001_0000, 8195), (0x10400, 3));
+    }
+}

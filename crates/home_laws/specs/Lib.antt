@@ -1,3 +1,0 @@
-pub mod Home
-pub mod Laws
-pub mod Worked

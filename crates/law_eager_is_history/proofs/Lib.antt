@@ -1,0 +1,22 @@
+pub use Rattle.gic_ideal.proofs as GicIdeal
+pub use Rattle.gic_ideal.proofs.VcpuRefill
+pub mod CourseLemmas
+pub mod FreshLemmas
+pub mod WindowLemmas
+pub mod ReadLemmas
+pub mod EventLemmas
+pub mod PieceLemmas
+pub mod PlaceLemmas
+pub mod AccessLemmas
+pub mod CallLemmas
+pub mod StandLemmas
+pub mod UseLemmas
+pub mod FirstLemmas
+pub mod CpuLemmas
+pub mod IccLemmas
+pub mod QueueLemmas
+pub mod CommandLemmas
+pub mod TurnLemmas
+pub mod OrderLemmas
+pub mod StepLemmas
+pub mod AnswerLemmas

@@ -1,0 +1,14 @@
+pub use Rattle.law_serial_is_eager.proofs.LawCoreIsHistory
+pub use Rattle.law_serial_is_eager.proofs.LawRegistersStand
+pub use Rattle.law_serial_is_eager.proofs.LawScansMissNone
+pub mod RisingLemmas
+pub mod PlaceLemmas
+pub mod PlanLemmas
+pub mod DueLemmas
+pub mod EnterSteps
+pub mod FillSteps
+pub mod HomeRuns
+pub mod StayLemmas
+pub mod InsideRuns
+pub mod EntryRuns
+pub mod WorkedLemmas

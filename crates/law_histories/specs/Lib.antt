@@ -1,0 +1,17 @@
+pub use Rattle.floor_histories.specs.Calls
+pub use Rattle.floor_histories.specs.Histories
+pub use Rattle.floor_histories.specs.Registers
+pub use Rattle.floor_histories.specs.Words
+pub use Rattle.floor_histories.specs.GicBase
+pub use Rattle.floor_histories.specs.GicCall
+pub use Rattle.floor_histories.specs.GicDmap
+pub use Rattle.floor_histories.specs.GicHistory
+pub use Rattle.floor_histories.specs.GicImap
+pub use Rattle.floor_histories.specs.GicRmap
+pub use Rattle.floor_histories.specs.IdealGuest
+pub use Rattle.floor_histories.specs.ItsCmd
+pub mod Enables
+pub mod Latches
+pub mod Sync
+pub mod Worked
+pub mod WorkedQueue

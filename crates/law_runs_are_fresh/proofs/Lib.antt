@@ -1,0 +1,13 @@
+pub use Rattle.law_serial_is_eager.proofs.LawEagerIsHistory
+pub use Rattle.law_serial_is_eager.proofs.LawLoneCallsAreEager
+pub mod OwnLemmas
+pub mod TurnLemmas
+pub mod ComingRuns
+pub mod OpenLemmas
+pub mod AskRuns
+pub mod AccessLemmas
+pub mod FreshRuns
+pub mod BackLemmas
+pub mod FirstLemmas
+pub mod FirstRuns
+pub mod WorkedLemmas

@@ -1,0 +1,19 @@
+pub use Rattle.law_registers_stand.specs.Calls
+pub use Rattle.law_registers_stand.specs.Core
+pub use Rattle.law_registers_stand.specs.Histories
+pub use Rattle.law_registers_stand.specs.Lists
+pub use Rattle.law_registers_stand.specs.Registers
+pub use Rattle.law_registers_stand.specs.Words
+pub use Rattle.law_registers_stand.specs.CoreProper
+pub use Rattle.law_registers_stand.specs.GicCall
+pub use Rattle.law_registers_stand.specs.LawCoreIsHistory
+pub use Rattle.law_registers_stand.specs as LawRegistersStand
+pub mod Index
+pub mod Excuse
+pub mod Waiting
+pub mod Scan
+pub mod Copies
+pub mod Standing
+pub mod Far
+pub mod First
+pub mod Wants

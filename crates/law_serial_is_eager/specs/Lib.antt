@@ -1,0 +1,19 @@
+pub use Rattle.law_lone_calls_are_eager.specs.Calls
+pub use Rattle.law_lone_accesses_find_all.specs.Core
+pub use Rattle.law_lone_calls_are_eager.specs.Histories
+pub use Rattle.law_lone_accesses_find_all.specs.Lists
+pub use Rattle.law_lone_calls_are_eager.specs.Registers
+pub use Rattle.law_lone_calls_are_eager.specs.Words
+pub use Rattle.law_lone_accesses_find_all.specs.CoreProper
+pub use Rattle.law_lone_calls_are_eager.specs.GicCall
+pub use Rattle.law_lone_calls_are_eager.specs.GicHistory
+pub use Rattle.law_lone_calls_are_eager.specs.GicIdeal
+pub use Rattle.law_lone_accesses_find_all.specs.LawAccessesShowHome
+pub use Rattle.law_lone_accesses_find_all.specs.LawCoreIsHistory
+pub use Rattle.law_lone_calls_are_eager.specs.LawEagerIsHistory
+pub use Rattle.law_lone_accesses_find_all.specs.LawLateOnesLeave
+pub use Rattle.law_lone_accesses_find_all.specs as LawLoneAccessesFindAll
+pub use Rattle.law_lone_accesses_find_all.specs.LawRegistersStand
+pub use Rattle.law_lone_accesses_find_all.specs.LawScansMissNone
+pub mod Serial
+pub mod Worked

@@ -1,3 +1,0 @@
-pub mod Mapped
-pub mod Laws
-pub mod Worked

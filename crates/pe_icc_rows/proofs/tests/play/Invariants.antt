@@ -1,6 +1,0 @@
--- The vCPU is on its PE.
-use Rattle.pe_loop.specs.Stay.{IsUp}
-use Rattle.pe_icc_rows.proofs.tests.play.Given as goal
-
-abbrev pub invariant-loop-done : goal.invariant-loop-done
-invariant-loop-done g l = IsUp (g.P.Port.seen l.port) l.vcpu

@@ -1,3 +1,0 @@
-pub mod Woven
-pub mod History
-pub mod Worked

@@ -1,5 +1,0 @@
-use Rattle.vcpu_fold.proofs.BackLemmas.{comes_back}
-use Rattle.vcpu_fold.proofs.laws.each_comes_back.Goals as goal
-
-pub returns : goal.returns
-returns c = comes_back
