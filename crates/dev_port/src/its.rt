@@ -4,11 +4,7 @@ ghost use Rattle.port_call.specs.Words.{has_interrupt, Lpi};
 ghost use Rattle.port_call.specs.Core.{owes_no_mark, shape_of};
 ghost use Rattle.dev_port.specs.Device.{CanCall, Translates, TellsLpi, SendsMsi};
 
-use port_call::gic_base::Key;
-use port_call::gic_imap::enabled_in;
-use port_call::gic_open::PlainWord;
-use port_call::port_core::Port;
-use port_call::{give_turn, raise, read_plain, take_turn};
+use port_call::{Key, PlainWord, Port, enabled_in, give_turn, raise, read_plain, take_turn};
 use std::sync::Wait;
 
 /// The low half of a value, which has all of GITS_CTLR.

@@ -6,7 +6,9 @@ mod send;
 mod wire;
 
 pub use its::msi;
-pub use port_call;
-pub use port_call::{gic_base, gic_guest, port_core};
+pub use port_call::{
+    CoreStep, DeviceOp, GuestOp, Key, LrList, NoMemory, Port, VcpuWord, WordId, give_turn,
+    put_plain, read_plain, take_turn,
+};
 pub use send::message;
 pub use wire::{AlreadySo, Wire, set_wire};

@@ -5,9 +5,7 @@ ghost use Rattle.port_call.specs.Calls.{has_wire};
 ghost use Rattle.port_call.specs.Core.{shape_of};
 ghost use Rattle.dev_port.specs.Device.{CanCall, Changes, has_level, wire_step};
 
-use port_call::gic_base::Key;
-use port_call::port_core::{CoreStep, Port};
-use port_call::settle;
+use port_call::{CoreStep, Key, Port, settle};
 
 /// The wire of an SPI or a PPI, with its level.
 #[derive(Clone, Copy, Debug, PartialEq, Eq, Hash)]

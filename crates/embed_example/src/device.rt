@@ -6,10 +6,9 @@ use crate::fault::Fault;
 use crate::program::{DEVICE_ID, EVENT_ID, SPI};
 use crate::signals::Signals;
 use crate::turns::TakesTurns;
-use dev_port::gic_base::{Key, key_of};
 use dev_port::{message, msi};
 use port_rest::is_settled;
-use port_seq::port_core::Port;
+use port_seq::{CorePort as Port, Key, key_of};
 use std::sync::Wait;
 
 /// A device that, once its doorbell is rung, sends a message to the ITS and raises its SPI.
@@ -33,7 +32,7 @@ impl Device {
 
 impl TakesTurns for Device {
     /// Once its doorbell is rung it sends its message to the ITS, and raises its SPI.
-    #[tactic(auto, using(port_seq::port_core::proofs::SameLemmas::same_after, port_seq::port_core::proofs::SameLemmas::same_twice, port_seq::port_core::proofs::SameLemmas::same_here, crate::proofs::RestLemmas::rests_device))]
+    #[tactic(auto, using(port_seq::proofs::PortCore::SameLemmas::same_after, port_seq::proofs::PortCore::SameLemmas::same_twice, port_seq::proofs::PortCore::SameLemmas::same_here, crate::proofs::RestLemmas::rests_device))]
     fn turn<P: Port, R: Wait>(
         &mut self,
         rt: &R,

@@ -1,5 +1,5 @@
 //! Why a vCPU leaves guest code.
-use dev_port::gic_base::IccReg;
+use port_seq::IccReg;
 use std::fmt;
 
 /// Why a vCPU leaves guest code.

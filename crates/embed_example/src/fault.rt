@@ -1,5 +1,5 @@
 //! What stops the VMM.
-use dev_port::gic_base::NoMemory;
+use port_seq::NoMemory;
 use std::alloc::{AllocError, AllocFailed};
 use std::error::Error;
 use std::fmt;

@@ -3,8 +3,7 @@ ghost use Rattle.std.specs.Prelude.{◌<◌, IsTrue, IfSome};
 ghost use Rattle.port_table.specs.Calls.{is_good_op as is_good_op_of};
 
 use crate::exit::Exit;
-use dev_port::gic_base::{Frame, GuestOp, GuestShape};
-use dev_port::gic_guest::is_good_op;
+use port_seq::{Frame, GuestOp, GuestShape, is_good_op};
 
 /// Two vCPUs, SPIs 32 to 63, LPIs 8192 to 8207 with an ITS, 64 KiB of memory that the GIC reads, and one device.
 pub const SHAPE: GuestShape = GuestShape {

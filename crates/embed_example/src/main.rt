@@ -13,8 +13,8 @@ mod turns;
 mod vcpu;
 mod waking;
 
-use port_seq::gic_word::{pending, unpack};
-use port_seq::port_core::GuestWords;
+use port_seq::{pending, unpack};
+use port_table::GuestWords;
 use std::io;
 use vcpu::Vcpu;
 

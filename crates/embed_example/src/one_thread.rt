@@ -9,9 +9,7 @@ use crate::signals::Signals;
 use crate::turns::TakesTurns;
 use crate::vcpu::Vcpu;
 use port_rest::one_guest;
-use port_seq::port_core::Port;
-use port_seq::scn_base::Mode;
-use port_seq::{GuestPort, SeqPort};
+use port_seq::{CorePort as Port, GuestPort, Mode, SeqPort};
 use std::alloc::Global;
 use std::sync::Wait;
 

@@ -1,7 +1,7 @@
 //! What the guest's code does, as the exits that it makes.
 use crate::exit::Exit;
 use crate::machine::{DOORBELL, GICD, GICR, GITS};
-use dev_port::gic_base::IccReg;
+use port_seq::IccReg;
 
 /// The SPI of the device.
 pub const SPI: u32 = 40;

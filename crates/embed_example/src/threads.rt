@@ -14,17 +14,15 @@ use crate::signals::Signals;
 use crate::turns::TakesTurns;
 use crate::vcpu::Vcpu;
 use crate::waking::Waking;
-use dev_port::gic_base::Actor;
 use port_rest::one_guest;
-use port_seq::port_core::{EndWords, Port};
-use port_seq::scn_base::Mode;
+use port_seq::{Actor, CorePort as Port, EndWords, Mode};
 use port_table::{RootSeat, SharedWords, TablePort, finish, join, split, start};
 use std::alloc::Global;
 use std::sync::Wait;
 use std::thread::{Threads, join_mut};
 
 /// A thread: one turn after the other, until all is done.
-#[tactic(auto, using(port_seq::port_core::proofs::SameLemmas::same_twice, port_seq::port_core::proofs::SameLemmas::same_here))]
+#[tactic(auto, using(port_seq::proofs::PortCore::SameLemmas::same_twice, port_seq::proofs::PortCore::SameLemmas::same_here))]
 fn run_one<P: Port, T: TakesTurns, R: Wait>(
     rt: &R,
     port: &mut P,

@@ -4,7 +4,7 @@ ghost use Rattle.embed_example.specs.Rest.{Rests};
 
 use crate::fault::Fault;
 use crate::signals::Signals;
-use port_seq::port_core::Port;
+use port_seq::CorePort as Port;
 use std::sync::Wait;
 
 /// A vCPU or a device, which does what it can over its port while it has its turn.

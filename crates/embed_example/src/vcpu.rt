@@ -8,13 +8,9 @@ use crate::fault::Fault;
 use crate::machine::{DOORBELL, LIST_REGISTERS, operation_of};
 use crate::signals::Signals;
 use crate::turns::TakesTurns;
-use dev_port::gic_base::IccReg;
-use pe_op::guest_op;
-use pe_op::pe_icc::icc_op;
-use pe_op::pe_loop::{enter, leave};
-use pe_op::vcpu_state::{Loaded, Shelved};
+use pe_op::{Loaded, Shelved, enter, guest_op, icc_op, leave};
 use port_rest::is_off;
-use port_seq::port_core::Port;
+use port_seq::{CorePort as Port, IccReg};
 use std::alloc::{AllocError, Global};
 use std::sync::Wait;
 
@@ -62,7 +58,7 @@ fn shelved<P: Port>(port: &P) -> Option<Shelved>
 }
 
 /// Handles an exit of a vCPU that is on a PE.
-#[tactic(auto, using(port_seq::port_core::proofs::SameLemmas::same_after, port_seq::port_core::proofs::SameLemmas::same_here))]
+#[tactic(auto, using(port_seq::proofs::PortCore::SameLemmas::same_after, port_seq::proofs::PortCore::SameLemmas::same_here))]
 fn handle<P: Port, R: Wait>(
     rt: &R,
     port: &mut P,
@@ -106,7 +102,7 @@ impl Vcpu {
     }
 
     /// Runs guest code on a PE, from exit to exit, until it waits for an interrupt or is through.
-    #[tactic(auto, using(port_seq::port_core::proofs::SameLemmas::same_twice, port_seq::port_core::proofs::SameLemmas::same_here))]
+    #[tactic(auto, using(port_seq::proofs::PortCore::SameLemmas::same_twice, port_seq::proofs::PortCore::SameLemmas::same_here))]
     fn run<P: Port, R: Wait>(
         &mut self,
         rt: &R,
@@ -135,7 +131,7 @@ impl Vcpu {
 
 impl TakesTurns for Vcpu {
     /// The vCPU enters a PE, runs guest code there, and leaves it.
-    #[tactic(auto, using(port_seq::port_core::proofs::SameLemmas::same_after, port_seq::port_core::proofs::SameLemmas::same_twice, port_seq::port_core::proofs::SameLemmas::same_here, crate::proofs::RestLemmas::rests_off))]
+    #[tactic(auto, using(port_seq::proofs::PortCore::SameLemmas::same_after, port_seq::proofs::PortCore::SameLemmas::same_twice, port_seq::proofs::PortCore::SameLemmas::same_here, crate::proofs::RestLemmas::rests_off))]
     fn turn<P: Port, R: Wait>(
         &mut self,
         rt: &R,

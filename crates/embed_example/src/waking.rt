@@ -1,8 +1,6 @@
 //! A port that wakes whom it kicks.
 use crate::signals::Signals;
-use dev_port::gic_base::GuestShape;
-use port_seq::its_tab::ItsTables;
-use port_seq::port_core::{CoreStep, Local, Port};
+use port_seq::{CorePort as Port, CoreStep, GuestShape, ItsTables, Local};
 
 /// A port that wakes the thread of each vCPU that it kicks. A kick is a bit in a word of the guest; that a PE looks at it in time is
 /// the VMM's part.

@@ -3,8 +3,7 @@ ghost use Rattle.std.specs.Prelude.{◌≡◌, ◌≢◌, ◌<◌, ℕ, IfSome, 
 ghost use Rattle.floor_words.specs.Words.{IsShape};
 ghost use Rattle.gic_aff.specs.Affinity.{affinity_of, vcpu_of as vcpu_with};
 
-use floor_words::gic_base::GuestShape;
-use floor_words::gic_word::{Route, target_in};
+use floor_words::{GuestShape, Route, target_in};
 
 /// The vCPU that has an affinity, which is given as Aff3, Aff2, Aff1 and Aff0 from the highest byte. None
 /// exactly where no vCPU of the guest has it.

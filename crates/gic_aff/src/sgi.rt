@@ -3,8 +3,7 @@ ghost use Rattle.std.specs.Prelude.{◌≡◌, ◌&&◌, ◌<◌, ℕ, nat_lt};
 ghost use Rattle.floor_words.specs.Words.{IsShape, has_bit as bit_is_set};
 ghost use Rattle.gic_aff.specs.Sgi.{intid_of, is_to_aff0, is_listed as is_listed_in, is_target as is_target_of, targets_of};
 
-use floor_words::gic_base::GuestShape;
-use floor_words::gic_bits::{Field, has_bit};
+use floor_words::{Field, GuestShape, has_bit};
 
 /// TargetList has this many bits, from bit 0 on: one for each vCPU of a range.
 const TARGETS: u32 = 16;
@@ -92,7 +91,7 @@ pub fn sgi_targets(value: u64, sender: u32, shape: &GuestShape) -> Targets
 mod tests {
     use super::{Targets, sgi_intid, sgi_targets};
     use crate::affinity::vcpu_of;
-    use floor_words::gic_base::GuestShape;
+    use floor_words::GuestShape;
 
     const TWO_VCPUS: GuestShape = GuestShape {
         vcpus: 2,

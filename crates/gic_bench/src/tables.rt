@@ -6,9 +6,7 @@ ghost use Rattle.its_tab.specs.Fault.{fault_of, is_of_other};
 ghost use Rattle.its_tab.specs.Message.{translated};
 ghost use Rattle.gic_bench.specs.Bench.{tallied, lpi_of, shape, IsDoneWhere};
 
-use its_tab::gic_base::{FIRST_LPI, GuestShape, MAX_LPIS, NoMemory};
-use its_tab::its_cmd::Command;
-use its_tab::{ItsTables, empty};
+use its_tab::{Command, FIRST_LPI, GuestShape, ItsTables, MAX_LPIS, NoMemory, empty};
 use std::alloc::Global;
 use std::fmt;
 

@@ -9,14 +9,10 @@ ghost use Rattle.gic_call.specs.Call.{sgi_events as sgi_events_in};
 
 use crate::event::Event;
 use crate::touch::Touching;
-use floor_registers::gic_aff::{sgi_intid, sgi_targets};
-use floor_registers::gic_base::{
-    Frame, GuestShape, Key, Kind, SGI_COUNT, interrupt_count, key_at, key_of,
+use floor_registers::{
+    Enables, Frame, GuestShape, Key, Kind, ListOf, SGI_COUNT, has_bit, interrupt_count, key_at,
+    key_of, part_in, sgi_intid, sgi_targets,
 };
-use floor_registers::gic_bits::has_bit;
-use floor_registers::gic_dmap::Enables;
-use floor_registers::gic_frame::part_in;
-use floor_registers::gic_list::ListOf;
 use std::alloc::{AllocError, Global};
 
 /// Events, in order.

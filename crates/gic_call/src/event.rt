@@ -1,8 +1,6 @@
 //! The events of an ideal GIC.
 use crate::touch::Touching;
-use floor_registers::gic_base::{DeviceOp, GuestOp, IccReg, Key};
-use floor_registers::gic_dmap::Enables;
-use floor_registers::gic_word::Irq;
+use floor_registers::{DeviceOp, Enables, GuestOp, IccReg, Irq, Key};
 use gic_open::PlainWord;
 
 /// What happens in the ideal controller of one guest, at one moment.

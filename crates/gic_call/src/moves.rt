@@ -4,9 +4,7 @@ ghost use Rattle.std.specs.Prelude.{◌≡◌, ◌<◌};
 ghost use Rattle.floor_registers.specs.Words.{GuestShape, Key, IsShape, IsRecordOf, IsHome};
 ghost use Rattle.gic_call.specs.Move.{may_reach as can_reach, may_take as can_take, reached as reached_of, taken as taken_of, left as left_of, IsMovedOf};
 
-use floor_registers::gic_base::Key;
-use floor_registers::gic_prio::{CpuRec, deliverable};
-use floor_registers::gic_word::Irq;
+use floor_registers::{CpuRec, Irq, Key, deliverable};
 
 /// What a CPU interface has of an interrupt that is there, as a list register holds it.
 #[derive(Clone, Copy, Debug, PartialEq, Eq, Hash)]
@@ -119,9 +117,7 @@ impl Moved {
 #[cfg(test)]
 mod tests {
     use super::{Entry, Moved, may_reach, may_take};
-    use floor_registers::gic_base::Key;
-    use floor_registers::gic_prio::CpuRec;
-    use floor_registers::gic_word::{Group, Irq, Route};
+    use floor_registers::{CpuRec, Group, Irq, Key, Route};
 
     const SPI: Key = Key::Spi(40);
 

@@ -3,9 +3,7 @@ ghost use Rattle.std.specs.Prelude.{◌≡◌, IsTrue};
 ghost use Rattle.floor_registers.specs.Words.{IsShape, IsIrq, IsRecordOf, IsHome};
 ghost use Rattle.gic_call.specs.Touch.{CanTouch, is_shown, touched, touch_answer};
 
-use floor_registers::gic_base::{GuestShape, Key, Kind};
-use floor_registers::gic_reg::{read_part, write_part};
-use floor_registers::gic_word::{Irq, Route};
+use floor_registers::{GuestShape, Irq, Key, Kind, Route, read_part, write_part};
 
 /// What an access or an ITS command does to one interrupt. A priority is a multiple of 8 up to 248, and a
 /// target is one of the guest's vCPUs.
@@ -108,8 +106,7 @@ impl Touching {
 #[cfg(test)]
 mod tests {
     use super::Touching;
-    use floor_registers::gic_base::{GuestShape, Key, Kind};
-    use floor_registers::gic_word::{Group, Irq, Route};
+    use floor_registers::{Group, GuestShape, Irq, Key, Kind, Route};
 
     const SHAPE: GuestShape = GuestShape {
         vcpus: 2,

@@ -3,8 +3,7 @@ ghost use Rattle.std.specs.Prelude.{◌≡◌, ◌<◌};
 ghost use Rattle.gic_frame.specs.Words.{IsShape};
 ghost use Rattle.gic_dmap.specs.Contents.{typer_of, enables_in as enables_kept, ctlr_of, message_intid as intid_of};
 
-use gic_frame::gic_base::{GuestShape, SPI_STEP};
-use gic_frame::gic_bits::{Field, has_bit, put_bit};
+use gic_frame::{Field, GuestShape, SPI_STEP, has_bit, put_bit};
 
 /// GICD_TYPER.ITLinesNumber: bits [4:0].
 const IT_LINES_NUMBER: Field = Field { place: 0, width: 5 };
@@ -100,7 +99,7 @@ pub fn message_intid(value: u32) -> u32
 #[cfg(test)]
 mod tests {
     use super::{Enables, ctlr, enables_in, message_intid, typer};
-    use gic_frame::gic_base::GuestShape;
+    use gic_frame::GuestShape;
 
     /// SPIs, extended SPIs, LPIs, and what TYPER reads.
     const TYPERS: [(u32, u32, u32, u32); 5] = [

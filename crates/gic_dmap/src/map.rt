@@ -4,8 +4,7 @@ ghost use Rattle.gic_frame.specs.Line.{is_in_order};
 ghost use Rattle.gic_dmap.specs.Map.{lines, decoded, NamesIntids};
 ghost use Rattle.gic_dmap.specs.Law.{PartsAreInPlace};
 
-use gic_frame::gic_base::Kind;
-use gic_frame::{Access, Found, Half, Line, find};
+use gic_frame::{Access, Found, Half, Kind, Line, find};
 
 /// A register of the distributor that has no part for each interrupt, or a half of one that has.
 #[derive(Clone, Copy, Debug, PartialEq, Eq, Hash)]
@@ -109,8 +108,7 @@ pub fn parts_are_in_place()
 #[cfg(test)]
 mod tests {
     use super::{Reg, RegRef, decode};
-    use gic_frame::Half;
-    use gic_frame::gic_base::Kind;
+    use gic_frame::{Half, Kind};
 
     /// The interrupts with a part in an access.
     const BITS: [(u32, u32, Kind, u32, u32); 17] = [

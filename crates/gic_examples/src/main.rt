@@ -1,8 +1,7 @@
 //! Runs each scenario of a folder, and compares what is written with the text beside it.
 #![tactic(auto)]
 
-use gic_top::gic_io::{OpenGate, SureSink, SureSource};
-use gic_top::{NOTHING_SHOWN, run_tool};
+use gic_top::{NOTHING_SHOWN, OpenGate, SureSink, SureSource, run_tool};
 use std::alloc::{AllocError, Global};
 use std::process::ExitCode;
 use std::sync::Wait;

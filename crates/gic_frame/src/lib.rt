@@ -9,7 +9,10 @@ mod part;
 mod parts;
 
 pub use bank::{Access, Bank, Half};
-pub use floor_words::{gic_base, gic_bits, gic_word};
+pub use floor_words::{
+    Field, Group, GuestShape, Irq, Key, Kind, PRIORITY_STEP, Route, SPI_STEP, has_bit, pending,
+    put_bit, target_in,
+};
 pub use identity::{IIDR, PIDR2, identity_is_fixed};
 pub use line::{Found, Line, find};
 pub use part::{access_of, part_bits, parts_in};

@@ -5,7 +5,7 @@ ghost use Rattle.gic_frame.specs.Line.{bank_of, found_in, line_at, found_at};
 
 use crate::bank::{Access, Bank, Half};
 use crate::part::{BYTE_BITS, access_of, part_bits, parts_in};
-use floor_words::gic_base::Kind;
+use floor_words::Kind;
 
 /// One line of a register map.
 #[derive(Clone, Copy, Debug, PartialEq, Eq, Hash)]

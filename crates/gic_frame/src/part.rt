@@ -3,7 +3,7 @@ ghost use Rattle.std.specs.Prelude.{◌≡◌, ◌≤◌, ◌<◌, ◌*◌, ◌^
 ghost use Rattle.gic_frame.specs.Part.{part_bits as bits_of, parts_in as parts_of, access_of as access_by};
 
 use crate::bank::Access;
-use floor_words::gic_base::Kind;
+use floor_words::Kind;
 
 /// The bits of a byte.
 pub(crate) const BYTE_BITS: u32 = 8;

@@ -4,8 +4,7 @@ ghost use Rattle.gic_frame.specs.Part.{part_bits as bits_of};
 ghost use Rattle.gic_frame.specs.Parts.{part_in as part_within, part_at, JoiningUndoesCutting};
 
 use crate::part::part_bits;
-use floor_words::gic_base::Kind;
-use floor_words::gic_bits::Field;
+use floor_words::{Field, Kind};
 
 /// The field that the part of an interrupt is, by its number among those of the access.
 fn field_of(kind: Kind, number: u32) -> Field
@@ -52,7 +51,7 @@ pub fn joining_undoes_cutting()
 #[cfg(test)]
 mod tests {
     use super::{part_in, with_part};
-    use floor_words::gic_base::Kind;
+    use floor_words::Kind;
 
     #[test]
     fn parts(rt: HostRuntime) {

@@ -4,8 +4,7 @@ ghost use Rattle.gic_ram.specs.Words.{IsShape};
 ghost use Rattle.gic_ram.specs.Access.{is_size as is_size_of};
 ghost use Rattle.gic_guest.specs.Good.{is_usable as is_usable_for, fits as fits_in, has_frame as has_frame_in, is_inside as is_inside_of, is_good_op as is_good_op_of};
 
-use gic_ram::gic_base::{Frame, GuestOp, GuestShape, IccReg};
-use gic_ram::split;
+use gic_ram::{Frame, GuestOp, GuestShape, IccReg, split};
 
 /// The bytes of the distributor's frame.
 const DISTRIBUTOR_BYTES: u32 = 0x1_0000;

@@ -4,8 +4,7 @@ ghost use Rattle.gic_ram.specs.Words.{IsShape};
 ghost use Rattle.gic_guest.specs.Good.{IsGoodPreset, IsGoodGuest};
 
 use crate::preset::Preset;
-use gic_ram::gic_base::GuestShape;
-use gic_ram::gic_list::ListOf;
+use gic_ram::{GuestShape, ListOf};
 
 /// Guests, in order of their numbers from 0.
 pub type Guests = ListOf<GuestSpec>;

@@ -1,6 +1,5 @@
 //! What a run answers, and the state in which it ends.
-use gic_ram::gic_base::Key;
-use gic_ram::gic_list::ListOf;
+use gic_ram::{Key, ListOf};
 
 /// One answer a step.
 pub type Answers = ListOf<Answer>;

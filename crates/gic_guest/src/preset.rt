@@ -3,7 +3,7 @@ ghost use Rattle.std.specs.Prelude.{◌≡◌, ◌↔◌, IsTrue};
 ghost use Rattle.gic_ram.specs.Words.{IsShape};
 ghost use Rattle.gic_guest.specs.Good.{preset_key, is_addressed as is_addressed_in, IsGoodPreset};
 
-use gic_ram::gic_base::{GuestShape, Key, MAX_PRIORITY, PRIORITY_STEP, PRIVATE_COUNT, key_of};
+use gic_ram::{GuestShape, Key, MAX_PRIORITY, PRIORITY_STEP, PRIVATE_COUNT, key_of};
 
 /// The highest number of a group.
 pub const MAX_GROUP: u8 = 1;

@@ -2,7 +2,7 @@
 ghost use Rattle.std.specs.Prelude.{◌≡◌, ◌^◌};
 ghost use Rattle.gic_ich.specs.Hcr.{hcr_en, hcr_uie, hcr_lrenpie, hcr_npie, hcr_vgrp0eie, hcr_vgrp0die, hcr_vgrp1eie, hcr_vgrp1die, hcr_tc, hcr_tall0, hcr_tall1, hcr_tdir, hcr_eoicount};
 
-use gic_lr::gic_bits::Field;
+use gic_lr::Field;
 
 // The number of each bit.
 

@@ -3,8 +3,7 @@ ghost use Rattle.std.specs.Prelude.{◌≡◌, ◌≤◌};
 ghost use Rattle.gic_lr.specs.Status.{max_list_registers};
 ghost use Rattle.gic_ich.specs.Regs.{vtr_of};
 
-use gic_lr::gic_base::MAX_LIST_REGISTERS;
-use gic_lr::gic_bits::{Field, put_bit};
+use gic_lr::{Field, MAX_LIST_REGISTERS, put_bit};
 
 /// ICH_VTR.ListRegs, one less than the number of list registers: bits [4:0].
 const LIST_REGS: Field = Field { place: 0, width: 5 };

@@ -10,8 +10,7 @@ use crate::hcr::{
 };
 use crate::regs::IchRegs;
 use crate::vmcr::{VENG0, VENG1};
-use gic_lr::gic_bits::{has_bit, put_bit};
-use gic_lr::{LrState, eisr, unpack};
+use gic_lr::{LrState, eisr, has_bit, put_bit, unpack};
 
 /// EOI.
 const EOI: u32 = 0;
@@ -109,7 +108,7 @@ pub fn misr(regs: &IchRegs) -> u8
 mod tests {
     use super::misr;
     use crate::regs::IchRegs;
-    use gic_lr::gic_base::MAX_LIST_REGISTERS;
+    use gic_lr::MAX_LIST_REGISTERS;
 
     /// Pending 40, and pending 42 of a higher priority.
     const PENDING_40: u64 = 0x50a0_0000_0000_0028;

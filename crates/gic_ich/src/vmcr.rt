@@ -4,7 +4,7 @@ ghost use Rattle.gic_prio.specs.Priority.{HasBinaryPoints};
 ghost use Rattle.gic_ich.specs.Vmcr.{vmcr_fields, vfiqen, vmcr_of as packed_vmcr, vmcr_with as replaced_vmcr, other_bits, cpu_of as cpu_in, GivesBack};
 
 use crate::regs::IchRegs;
-use gic_lr::gic_bits::{Field, has_bit, put_bit};
+use gic_lr::{Field, has_bit, put_bit};
 use gic_prio::CpuRec;
 
 /// VENG0.

@@ -3,9 +3,9 @@ ghost use Rattle.std.specs.Prelude.{◌≡◌, position};
 ghost use Rattle.gic_ich.specs.GicPrio.Delivery.{first_of};
 ghost use Rattle.gic_icv.specs.Entries.{candidate_in as candidate_of_word, candidates_in, has_candidate as has_found, has_active as has_active_id, acknowledged_word, deactivated_word};
 
-use gic_ich::gic_base::FIRST_LPI;
-use gic_ich::gic_lr::{LrState, unpack, with_state};
-use gic_ich::gic_prio::{Candidate, CpuRec, earlier, listens};
+use gic_ich::{
+    Candidate, CpuRec, FIRST_LPI, LrState, earlier, listens, lr_unpack as unpack, with_state,
+};
 
 /// A list register as a candidate for delivery: State 1, and of a group that the vCPU listens to.
 fn candidate_in(cpu: &CpuRec, word: u64) -> Option<Candidate>

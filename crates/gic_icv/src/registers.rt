@@ -16,13 +16,11 @@ use crate::entries::{
     acknowledged, deactivated, first_pending, place_of_active, place_of_candidate,
 };
 use crate::trap::{TrapCause, trap_cause};
-use gic_ich::gic_base::{FIRST_ESPI, IccReg, MAX_ESPIS, MAX_LIST_REGISTERS};
-use gic_ich::gic_prio::{
-    Candidate, CpuRec, FIRST_SPECIAL, SPURIOUS, acknowledged as acknowledged_first, cpu_written,
-    highest_pending, intid_deactivated, level_activated, read_plain,
+use gic_ich::{
+    Candidate, CpuRec, FIRST_ESPI, FIRST_SPECIAL, Group, HCR_EOICOUNT, IccReg, IchRegs, MAX_ESPIS,
+    MAX_LIST_REGISTERS, SPURIOUS, acknowledged as acknowledged_first, cpu_of, cpu_written,
+    highest_pending, intid_deactivated, level_activated, read_plain, vmcr_with,
 };
-use gic_ich::gic_word::Group;
-use gic_ich::{HCR_EOICOUNT, IchRegs, cpu_of, vmcr_with};
 
 /// What an access answers.
 #[derive(Clone, Copy, Debug, PartialEq, Eq, Hash)]
@@ -171,8 +169,9 @@ pub fn access(regs: &mut IchRegs, reg: IccReg, write: Option<u64>) -> Outcome
 mod tests {
     use super::{Outcome, access};
     use crate::trap::TrapCause;
-    use gic_ich::gic_base::{IccReg, MAX_LIST_REGISTERS};
-    use gic_ich::{HCR_EN, HCR_GROUP_1_ALONE, HCR_GROUP_1_TRAPPING, IchRegs, misr};
+    use gic_ich::{
+        HCR_EN, HCR_GROUP_1_ALONE, HCR_GROUP_1_TRAPPING, IccReg, IchRegs, MAX_LIST_REGISTERS, misr,
+    };
 
     /// A vCPU that listens to group 1 with the mask 0xF0.
     const VMCR: u32 = 0xf04c_000a;

@@ -3,9 +3,7 @@ ghost use Rattle.std.specs.Prelude.{◌≡◌, ◌<◌};
 ghost use Rattle.gic_ich.specs.Words.{has_bit as bit_is_set};
 ghost use Rattle.gic_icv.specs.Trap.{trap_cause as cause_of, where_set as cause_where};
 
-use gic_ich::gic_base::IccReg;
-use gic_ich::gic_bits::has_bit;
-use gic_ich::{HCR_TALL0_BIT, HCR_TALL1_BIT, HCR_TC_BIT, HCR_TDIR_BIT};
+use gic_ich::{HCR_TALL0_BIT, HCR_TALL1_BIT, HCR_TC_BIT, HCR_TDIR_BIT, IccReg, has_bit};
 
 /// Why an access was trapped to the hypervisor (IHI 0069, ICH_HCR_EL2).
 #[derive(Clone, Copy, Debug, PartialEq, Eq, Hash)]

@@ -4,20 +4,15 @@ ghost use Rattle.ideal_guest.specs.Words.{interrupt_count as count_of};
 ghost use Rattle.gic_ideal.specs.Ends.{cpu_end as cpu_end_at, irq_end as irq_end_at, is_same_cpu_end, is_same_irq_end, changed_at, changed, gicd_end as gicd_end_between, its_end as its_end_at, is_same_its_end, its_end_between, dev_end, evt_end, col_end, end_of as end_between};
 ghost use Rattle.ideal_guest.specs.Sound.{IsSound};
 
-use ideal_guest::IdealGuest;
-use ideal_guest::gic_dmap::ctlr;
-use ideal_guest::gic_imap::creadr;
-use ideal_guest::gic_open::PlainWord;
-use ideal_guest::its_tab::ItsTables;
-use scn_base::gic_base::{interrupt_count, key_at};
-use scn_base::gic_guest::{
-    ColEnd, ColEnds, CpuEnd, CpuEnds, DevEnd, DevEnds, End, EvtEnd, EvtEnds, IrqEnd, IrqEnds,
-    ItsEnd,
+use ideal_guest::{
+    Group, IdealGuest, ItsTables, PlainWord, creadr, dist_ctlr as ctlr, interrupt_count, key_at,
 };
-use scn_base::gic_list::ListOf;
-use scn_base::gic_word::{Group, target_in};
+use scn_base::{
+    ColEnd, ColEnds, CpuEnd, CpuEnds, DevEnd, DevEnds, End, EvtEnd, EvtEnds, IrqEnd, IrqEnds,
+    ItsEnd, ListOf, target_in,
+};
 use std::alloc::{AllocError, Global};
-use vcpu_refill::gic_ich::vmcr_of;
+use vcpu_refill::vmcr_of;
 
 fn is_same_cpu(a: &CpuEnd, b: &CpuEnd) -> bool
     ensures { result ≡ is_same_cpu_end a.now b.now }
@@ -158,7 +153,7 @@ fn its_end(guest: &IdealGuest) -> ItsEnd
     ensures { result ≡ its_end_at guest.now }
 {
     ItsEnd {
-        ctlr: ideal_guest::gic_imap::ctlr(guest.is_its_enabled()),
+        ctlr: ideal_guest::its_ctlr(guest.is_its_enabled()),
         cbaser: guest.word(PlainWord::Cbaser),
         cwriter: guest.word(PlainWord::Cwriter),
         creadr: creadr(guest.is_stalled, guest.offset),

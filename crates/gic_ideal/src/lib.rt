@@ -18,4 +18,6 @@ pub use laws::{
     steps_can_follow,
 };
 pub use run::eager;
-pub use scn_base;
+pub use scn_base::{
+    Answers, Ends as ScenarioEnds, Pes, Scenario, Step, VcpuName, move_pes, opening_pes,
+};

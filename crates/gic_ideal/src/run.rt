@@ -12,10 +12,10 @@ ghost use Rattle.ideal_guest.specs.Sound.{IsSound};
 use crate::ends::end_of;
 use crate::shown::registers;
 use ideal_guest::IdealGuest;
-use scn_base::gic_base::{MAX_LIST_REGISTERS, NoMemory, PeOp};
-use scn_base::gic_guest::{Answer, Answers, Ends, Guests, LrList, RunOut};
-use scn_base::gic_list::ListOf;
-use scn_base::{Pes, Scenario, Step, Steps, VcpuName, move_pes, opening_pes};
+use scn_base::{
+    Answer, Answers, Ends, Guests, ListOf, LrList, MAX_LIST_REGISTERS, NoMemory, PeOp, Pes, RunOut,
+    Scenario, Step, Steps, VcpuName, move_pes, opening_pes,
+};
 use std::alloc::{AllocError, Global};
 
 /// The states in which the guests open.

@@ -5,9 +5,8 @@ ghost use Rattle.ideal_guest.specs.Ideal.{cpu_at};
 ghost use Rattle.gic_ideal.specs.Shown.{offers_of, registers_of};
 ghost use Rattle.ideal_guest.specs.Sound.{IsSound};
 
-use ideal_guest::IdealGuest;
-use scn_base::gic_base::{MAX_LIST_REGISTERS, interrupt_count, key_at};
-use scn_base::gic_guest::LrList;
+use ideal_guest::{IdealGuest, interrupt_count, key_at};
+use scn_base::{LrList, MAX_LIST_REGISTERS};
 use std::alloc::{AllocError, Global};
 use vcpu_refill::{Chooser, fresh};
 

@@ -1,10 +1,10 @@
 //! A scenario that a library's user builds.
 
 use crate::eager;
-use scn_base::gic_base::{DeviceOp, GuestOp, GuestShape, IccReg, Key};
-use scn_base::gic_guest::{Answer, GuestSpec, Preset, PresetList};
-use scn_base::gic_list::ListOf;
-use scn_base::{Mode, Scenario, Step, Steps};
+use scn_base::{
+    Answer, DeviceOp, GuestOp, GuestShape, GuestSpec, IccReg, Key, ListOf, Mode, Preset,
+    PresetList, Scenario, Step, Steps,
+};
 use std::alloc::{AllocError, Global};
 use std::test::Fail;
 

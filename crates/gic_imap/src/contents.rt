@@ -2,8 +2,7 @@
 ghost use Rattle.std.specs.Prelude.{◌≡◌, ◌≤◌, ◌<◌};
 ghost use Rattle.gic_imap.specs.Contents.{enabled_in as enabled_kept, ctlr_of, typer_of, queue_bytes as bytes_of, cbaser_after as cbaser_stored, cwriter_after as cwriter_stored, retries as is_retry, creadr_of, baser_bits, baser_after as baser_stored, baser_of, queue_offset as offset_of};
 
-use gic_frame::gic_base::GuestShape;
-use gic_frame::gic_bits::{Field, has_bit, put_bit};
+use gic_frame::{Field, GuestShape, has_bit, put_bit};
 
 /// GITS_CTLR.Enabled.
 const ENABLED: u32 = 0;
@@ -210,7 +209,7 @@ mod tests {
         Table, baser, baser_after, cbaser_after, creadr, ctlr, cwriter_after, enabled_in,
         queue_bytes, retries, typer,
     };
-    use gic_frame::gic_base::GuestShape;
+    use gic_frame::GuestShape;
 
     const SHAPE: GuestShape = GuestShape {
         vcpus: 1,

@@ -17,7 +17,7 @@ mod unread;
 mod writing;
 
 pub use fault::Failed;
-pub use floor_words::{gic_base, gic_list};
+pub use floor_words::{DeviceOp, Frame, GuestOp, IccReg, Key, ListOf, NoMemory, PeOp};
 pub use gate::{Gate, OpenGate};
 pub use memory::{MemSink, MemSource};
 pub use reading::{Bytes, ReadError, read_all};

@@ -6,7 +6,7 @@ ghost use Rattle.gic_io.specs.Source.{HasRead, HasReadCount, HasReadAtMost};
 
 use crate::fault::Failed;
 use crate::sources::Source;
-use floor_words::gic_list::ListOf;
+use floor_words::ListOf;
 use std::alloc::{AllocError, Global};
 use std::error::Error;
 use std::fmt;

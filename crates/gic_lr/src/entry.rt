@@ -2,8 +2,7 @@
 ghost use Rattle.std.specs.Prelude.{◌≡◌, IsTrue};
 ghost use Rattle.gic_lr.specs.Entry.{IsEntry, packed, unpacked, state_number, state_at, has_only_fields, with_state as with_state_of};
 
-use floor_words::gic_bits::{Field, has_bit, put_bit};
-use floor_words::gic_word::Group;
+use floor_words::{Field, Group, has_bit, put_bit};
 
 /// vINTID: bits [31:0].
 const VINTID: Field = Field {
@@ -150,7 +149,7 @@ pub fn with_state(word: u64, state: LrState) -> u64
 #[cfg(test)]
 mod tests {
     use super::{LrEntry, LrState, pack, unpack};
-    use floor_words::gic_word::Group;
+    use floor_words::Group;
 
     /// The state, the INTID, the priority, whether EOI is set, and the list register, all in group 1.
     const ROWS: [(LrState, u32, u8, bool, u64); 5] = [

@@ -3,8 +3,7 @@ ghost use Rattle.std.specs.Prelude.{◌≡◌, IfOk, replicate};
 ghost use Rattle.gic_open.specs.Opening.{opening_cpu as cpu_at_opening, opening_enables as enables_at_opening, cpus_of};
 
 use gic_guest::GuestSpec;
-use gic_guest::gic_list::ListOf;
-use gic_prio::CpuRec;
+use gic_prio::{CpuRec, ListOf};
 use std::alloc::{AllocError, Global};
 
 /// ICC_PMR of a vCPU of a guest that opens on.

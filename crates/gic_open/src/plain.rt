@@ -3,8 +3,8 @@ ghost use Rattle.std.specs.Prelude.{◌≡◌, ◌<◌, ◌^◌, IsTrue, IfOk, r
 ghost use Rattle.gic_guest.specs.Words.{IsShape};
 ghost use Rattle.gic_open.specs.Plain.{has_plain, plain_count as count_of, place_of_plain as place_in, its_word_of, plain_at as plain_in};
 
-use gic_guest::gic_base::GuestShape;
-use gic_guest::gic_list::ListOf;
+use gic_guest::GuestShape;
+use gic_prio::ListOf;
 use std::alloc::{AllocError, Global};
 
 /// The bytes of a word.

@@ -4,10 +4,8 @@ ghost use Rattle.gic_guest.specs.Words.{IsShape, has_interrupt, interrupt_count 
 ghost use Rattle.gic_guest.specs.Good.{IsGoodPreset, IsGoodGuest};
 ghost use Rattle.gic_open.specs.Opening.{opening_irq as irq_at_opening, with_preset as preset_made, after_preset, opening_irqs as irqs_at_opening, irqs_of, irq_in, RecordsAreApart, OpeningsAreValid};
 
-use gic_guest::gic_base::{GuestShape, Key, interrupt_count, key_at, place_of};
-use gic_guest::gic_list::ListOf;
-use gic_guest::gic_word::{Group, Irq, Route};
-use gic_guest::{GuestSpec, Preset};
+use gic_guest::{GuestShape, GuestSpec, Key, Preset};
+use gic_prio::{Group, Irq, ListOf, Route, interrupt_count, key_at, place_of};
 use std::alloc::{AllocError, Global};
 
 /// The record that an interrupt opens with where no preset names it, in a guest that opens on or off.

@@ -3,10 +3,8 @@ use crate::{
     PlainWord, cpus, irqs, opening_cpu, opening_enables, place_of_plain, plain_at, plain_count,
     plains,
 };
-use gic_guest::gic_base::{GuestShape, Key, place_of};
-use gic_guest::gic_list::ListOf;
-use gic_guest::gic_word::{Group, Route};
-use gic_guest::{GuestSpec, Preset};
+use gic_guest::{GuestShape, GuestSpec, Key, Preset};
+use gic_prio::{Group, ListOf, Route, place_of};
 use std::test::Fail;
 
 /// Two vCPUs, both kinds of SPIs and two words of memory.

@@ -7,9 +7,7 @@ ghost use Rattle.gic_prio.specs.Access.{deactivated_by, written_by};
 use crate::cpu::CpuRec;
 use crate::registers::write_plain;
 use crate::signal::{dir_deactivates, priority_dropped};
-use floor_words::gic_base::IccReg;
-use floor_words::gic_bits::Field;
-use floor_words::gic_word::Group;
+use floor_words::{Field, Group, IccReg};
 
 /// The INTID in a value that is written to EOIR or DIR: bits [23:0].
 const WRITTEN_INTID: Field = Field {

@@ -3,7 +3,7 @@ ghost use Rattle.std.specs.Prelude.{◌≡◌, ◌⊎◌, Some, List, [], ◌∷
 ghost use Rattle.gic_prio.specs.declared.candidate.Candidate.{Candidate};
 ghost use Rattle.gic_prio.specs.Delivery.{is_before, first_of};
 
-use floor_words::gic_word::Group;
+use floor_words::Group;
 
 /// An interrupt that a CPU interface may deliver, by the INTID that the vCPU reads. At one vCPU an INTID names
 /// one interrupt.

@@ -4,8 +4,7 @@ ghost use Rattle.floor_words.specs.Words.{GuestShape};
 ghost use Rattle.gic_prio.specs.Delivery.{is_group_enabled, is_deliverable};
 
 use crate::cpu::CpuRec;
-use floor_words::gic_base::Key;
-use floor_words::gic_word::{Group, Irq, ripe};
+use floor_words::{Group, Irq, Key, ripe};
 
 /// Whether the vCPU listens to a group (IHI 0069, ICC_IGRPEN0 and ICC_IGRPEN1).
 pub fn listens(cpu: &CpuRec, group: Group) -> bool

@@ -15,6 +15,7 @@ pub use access::{cpu_written, intid_deactivated};
 pub use candidate::{Candidate, earlier};
 pub use cpu::CpuRec;
 pub use delivery::{deliverable, listens};
+pub use floor_words::{Group, Irq, ListOf, Route, interrupt_count, key_at, place_of};
 pub use laws::{
     acknowledge_preempts, acknowledged_once, end_undoes_acknowledge, first_is_least,
     first_is_there, group_priority_is_prefix, interface_stays, interrupts_stay,

@@ -4,8 +4,7 @@ ghost use Rattle.gic_prio.specs.Priority.{HasBinaryPoints, group_priority_of, ru
 
 use crate::cpu::CpuRec;
 use crate::levels::{LEVELS, least};
-use floor_words::gic_base::PRIORITY_STEP;
-use floor_words::gic_word::Group;
+use floor_words::{Group, PRIORITY_STEP};
 
 /// The running priority where no level is active.
 pub const IDLE_PRIORITY: u8 = 0xFF;

@@ -6,8 +6,7 @@ ghost use Rattle.gic_prio.specs.Registers.{bpr1_of, ctlr_of, plain_read, pmr_wri
 
 use crate::cpu::CpuRec;
 use crate::priority::running;
-use floor_words::gic_base::{IccReg, PRIORITY_STEP};
-use floor_words::gic_bits::{Field, has_bit, put_bit};
+use floor_words::{Field, IccReg, PRIORITY_STEP, has_bit, put_bit};
 
 /// The priority in PMR: bits [7:0].
 const PRIORITY: Field = Field { place: 0, width: 8 };
@@ -147,7 +146,7 @@ pub fn write_plain(cpu: &CpuRec, reg: IccReg, value: u64) -> Option<CpuRec>
 mod tests {
     use super::{read_plain, write_plain};
     use crate::cpu::CpuRec;
-    use floor_words::gic_base::{IccReg, PRIORITY_STEP};
+    use floor_words::{IccReg, PRIORITY_STEP};
 
     const OPENING: CpuRec = CpuRec {
         pmr: 0,

@@ -9,8 +9,7 @@ use crate::candidate::Candidate;
 use crate::cpu::CpuRec;
 use crate::levels::{LEVELS, least, with_level, without_level};
 use crate::priority::{FIRST_SPECIAL, SPURIOUS, group_priority, signalled};
-use floor_words::gic_base::PRIORITY_STEP;
-use floor_words::gic_word::Group;
+use floor_words::{Group, PRIORITY_STEP};
 
 /// The candidate that a read of IAR of a group acknowledges, from the first of the candidates: that one if it
 /// is of the group and signalled, or else none (IHI 0069, ICC_IAR0 and ICC_IAR1).

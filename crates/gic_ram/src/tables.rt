@@ -2,8 +2,7 @@
 ghost use Rattle.std.specs.Prelude.{◌≡◌, ◌≤◌, ◌<◌, ◌%◌};
 ghost use Rattle.gic_ram.specs.Tables.{first_lpi, last_lpi, is_enabled, priority_of, config_address as config_place, pending_address as pending_place};
 
-use floor_words::gic_base::FIRST_LPI;
-use floor_words::gic_bits::{Field, has_bit};
+use floor_words::{FIRST_LPI, Field, has_bit};
 
 /// The enable bit of a configuration byte.
 const CONFIG_ENABLE: u32 = 0;

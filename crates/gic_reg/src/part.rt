@@ -6,8 +6,7 @@ ghost use Rattle.gic_reg.specs.Condition.{has_part, is_routed, shows_route};
 ghost use Rattle.gic_reg.specs.Touch.{part_read, part_written, with_named};
 
 use crate::router::{affinity_in, router_with};
-use gic_frame::gic_base::{GuestShape, Key, Kind, PRIORITY_STEP};
-use gic_frame::gic_word::{Group, Irq, Route, pending, target_in};
+use gic_frame::{Group, GuestShape, Irq, Key, Kind, PRIORITY_STEP, Route, pending, target_in};
 
 /// What the part of an ICFGR reads for an edge-triggered interrupt; for a level-sensitive one it reads 0.
 const EDGE: u64 = 0b10;
@@ -74,8 +73,7 @@ pub fn write_part(kind: Kind, key: Key, irq: &Irq, value: u64, shape: &GuestShap
 #[cfg(test)]
 mod tests {
     use super::{read_part, write_part};
-    use gic_frame::gic_base::{GuestShape, Key, Kind, PRIORITY_STEP};
-    use gic_frame::gic_word::{Group, Irq, Route};
+    use gic_frame::{Group, GuestShape, Irq, Key, Kind, PRIORITY_STEP, Route};
 
     const SHAPE: GuestShape = GuestShape {
         vcpus: 2,

@@ -2,7 +2,7 @@
 ghost use Rattle.std.specs.Prelude.{◌≡◌};
 ghost use Rattle.gic_reg.specs.Router.{router_of, affinity_in as affinity_within};
 
-use gic_frame::gic_bits::Field;
+use gic_frame::Field;
 
 /// Aff2, Aff1 and Aff0 in the register, and in an affinity: bits [23:0].
 const LOWER_AFFINITIES: Field = Field {

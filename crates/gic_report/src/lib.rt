@@ -8,8 +8,10 @@ mod soak;
 mod tests;
 mod whole;
 
-pub use gic_io;
-pub use gic_soak;
+pub use gic_io::{
+    Bytes, Failed, Gate, MemSink, MemSource, OpenGate, ReadError, Sink, Source, StdSink, StdSource,
+    SureSink, SureSource, read_all, write_all,
+};
 pub use gic_soak::generate;
 pub use soak::soak_line;
 pub use whole::text;

@@ -5,7 +5,7 @@ ghost use Rattle.std.specs.List.{flat_map};
 ghost use Rattle.gic_report.specs.Text.{answer_line, register_value, hex, flag, vcpu_text, gicd_line, cpu_line, irq_setting, irq_line, queue_part, its_line, dev_line, evt_line, col_line};
 
 use crate::show::{Flag, Hex, Name, Trigger, Vcpu};
-use gic_soak::gic_guest::{Answer, ColEnd, CpuEnd, DevEnd, EvtEnd, IrqEnd, ItsEnd, LrList};
+use gic_soak::{Answer, ColEnd, CpuEnd, DevEnd, EvtEnd, IrqEnd, ItsEnd, LrList};
 use std::alloc::AllocError;
 use std::fmt::Write;
 

@@ -1,6 +1,6 @@
 //! How the parts of a line are written.
 
-use gic_io::gic_base::Key;
+use gic_io::Key;
 use std::fmt;
 
 /// A number in lower-case hexadecimal digits, with zeros before them up to a number of digits.

@@ -4,9 +4,8 @@ ghost use Rattle.std.specs.Prelude.{◌≡◌, ◌%◌, ◌^◌, ◌++◌, OnOk,
 ghost use Rattle.gic_report.specs.Soak.{is_value, is_spurious, weight_from, soak_line as line_of};
 
 use crate::lines::{put_hex, put_number};
-use gic_io::Bytes;
-use gic_io::gic_base::NoMemory;
-use gic_soak::gic_guest::{Answer, RunOut};
+use gic_io::{Bytes, NoMemory};
+use gic_soak::{Answer, RunOut};
 use std::alloc::{AllocError, Global};
 use std::fmt::Write;
 

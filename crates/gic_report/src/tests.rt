@@ -1,11 +1,11 @@
 //! One text that has each kind of line, and the line of a generated scenario's run.
 
 use crate::{soak_line, text};
-use gic_io::gic_base::{DeviceOp, Frame, GuestOp, IccReg, Key, PeOp};
-use gic_soak::gic_guest::{
+use gic_io::{DeviceOp, Frame, GuestOp, IccReg, Key, PeOp};
+use gic_soak::{
     Answer, ColEnd, CpuEnd, DevEnd, End, Ends, EvtEnd, Guests, IrqEnd, ItsEnd, RunOut,
+    ScenarioScenario as Scenario, Step,
 };
-use gic_soak::scn_base::{Scenario, Step};
 use std::alloc::{AllocError, Global};
 use std::test::Fail;
 

@@ -8,12 +8,11 @@ ghost use Rattle.gic_report.specs.Text.{answer_lines, gicd_line, its_line, cpu_l
 use crate::lines::{
     write_answer, write_col, write_cpu, write_dev, write_evt, write_gicd, write_irq, write_its,
 };
-use gic_io::Bytes;
-use gic_io::gic_base::{GuestOp, NoMemory};
-use gic_soak::gic_guest::{
+use gic_io::{Bytes, GuestOp, NoMemory};
+use gic_soak::{
     Answers, ColEnds, CpuEnds, DevEnds, End, Ends, EvtEnds, IrqEnds, ItsEnd, RunOut,
+    ScenarioScenario as Scenario, Step, Steps,
 };
-use gic_soak::scn_base::{Scenario, Step, Steps};
 use std::alloc::{AllocError, Global};
 use std::fmt::Write;
 

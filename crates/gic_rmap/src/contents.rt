@@ -3,8 +3,7 @@ ghost use Rattle.std.specs.Prelude.{◌≡◌, ◌<◌};
 ghost use Rattle.gic_frame.specs.Words.{IsShape};
 ghost use Rattle.gic_rmap.specs.Contents.{enable_lpis_after as lpis_enabled_after, ctlr_of, typer_of, propbaser_after as propbaser_stored, pendbaser_after as pendbaser_stored, pendbaser_read as pendbaser_shown};
 
-use gic_frame::gic_base::GuestShape;
-use gic_frame::gic_bits::{Field, has_bit, put_bit};
+use gic_frame::{Field, GuestShape, has_bit, put_bit};
 
 /// GICR_CTLR.EnableLPIs.
 const ENABLE_LPIS: u32 = 0;
@@ -101,7 +100,7 @@ pub fn pendbaser_read(stored: u64) -> u64
 #[cfg(test)]
 mod tests {
     use super::{ctlr, enable_lpis_after, pendbaser_after, pendbaser_read, propbaser_after, typer};
-    use gic_frame::gic_base::GuestShape;
+    use gic_frame::GuestShape;
 
     const SHAPE: GuestShape = GuestShape {
         vcpus: 20,

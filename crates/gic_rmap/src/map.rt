@@ -4,8 +4,7 @@ ghost use Rattle.gic_frame.specs.Line.{is_in_order};
 ghost use Rattle.gic_rmap.specs.Map.{lines, decoded, NamesIntids};
 ghost use Rattle.gic_rmap.specs.Law.{PartsAreInPlace};
 
-use gic_frame::gic_base::Kind;
-use gic_frame::{Access, Found, Half, Line, find};
+use gic_frame::{Access, Found, Half, Kind, Line, find};
 
 /// A register of a redistributor that has no part for each interrupt.
 #[derive(Clone, Copy, Debug, PartialEq, Eq, Hash)]
@@ -89,8 +88,7 @@ pub fn parts_are_in_place()
 #[cfg(test)]
 mod tests {
     use super::{Reg, RegRef, decode};
-    use gic_frame::Half;
-    use gic_frame::gic_base::Kind;
+    use gic_frame::{Half, Kind};
 
     /// The interrupts with a part in an access.
     const BITS: [(u32, u32, Kind, u32, u32); 5] = [

@@ -1,11 +1,8 @@
 //! A worked scenario, and its runs: by the tool, and by the ideal controller.
 
-use gic_top::gic_ideal::eager;
-use gic_top::gic_io::{Bytes, OpenGate, SureSink, SureSource};
-use gic_top::gic_report::text;
-use gic_top::scn_base::Mode;
-use gic_top::scn_read::read;
-use gic_top::{NOTHING_SHOWN, OK, run_tool};
+use gic_top::{
+    Bytes, Mode, NOTHING_SHOWN, OK, OpenGate, SureSink, SureSource, eager, read, run_tool, text,
+};
 use serde_json::Value;
 use std::alloc::{AllocError, Global};
 use std::process::Abort;

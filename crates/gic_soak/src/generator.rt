@@ -3,8 +3,7 @@ ghost use Rattle.std.specs.Prelude.{◌≡◌, ◌<◌};
 ghost use Rattle.gic_soak.specs.Draw.{draw as draw_from};
 ghost use Rattle.gic_soak.specs.Generated.{message as message_from, acknowledge as acknowledge_from, end_of_interrupt as end_of_interrupt_from, step as step_from};
 
-use scn_base::Step;
-use scn_base::gic_base::{DeviceOp, FIRST_SPI, Frame, GuestOp, IccReg};
+use scn_base::{DeviceOp, FIRST_SPI, Frame, GuestOp, IccReg, Step};
 
 /// The factor of the generator, which is Knuth's for MMIX.
 const FACTOR: u64 = 6_364_136_223_846_793_005;

@@ -7,5 +7,7 @@ mod scenario;
 mod tests;
 
 pub use scenario::generate;
-pub use scn_base;
-pub use scn_base::gic_guest;
+pub use scn_base::{
+    Answer, Answers, ColEnd, ColEnds, CpuEnd, CpuEnds, DevEnd, DevEnds, End, Ends, EvtEnd, EvtEnds,
+    Guests, IrqEnd, IrqEnds, ItsEnd, LrList, RunOut, Scenario as ScenarioScenario, Step, Steps,
+};

@@ -6,9 +6,10 @@ ghost use Rattle.scn_base.specs.Good.{IsGood};
 ghost use Rattle.gic_soak.specs.Generated.{preset as preset_of, guest as guest_made, steps_from, generated};
 
 use crate::generator::{Generator, SPIS, VCPUS};
-use scn_base::gic_base::{FIRST_SPI, GuestShape, NoMemory, PRIORITY_STEP};
-use scn_base::gic_guest::{GuestSpec, Guests, Preset, PresetList};
-use scn_base::{MAX_STEPS, Scenario, Steps};
+use scn_base::{
+    FIRST_SPI, GuestShape, GuestSpec, Guests, MAX_STEPS, NoMemory, PRIORITY_STEP, Preset,
+    PresetList, Scenario, Steps,
+};
 use std::alloc::{AllocError, Global};
 
 /// How many PEs there are: each vCPU stands on one.

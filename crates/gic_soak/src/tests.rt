@@ -1,9 +1,7 @@
 //! A scenario, worked out from the generator's rule.
 
 use crate::generate;
-use scn_base::Step;
-use scn_base::gic_base::{DeviceOp, Frame, GuestOp, IccReg};
-use scn_base::gic_guest::Preset;
+use scn_base::{DeviceOp, Frame, GuestOp, IccReg, Preset, Step};
 use std::test::Fail;
 
 /// A step of a vCPU.

@@ -3,7 +3,7 @@
 ghost use Rattle.std.specs.Prelude.{◌≡◌, ◌≤◌, ◌↔◌, IsTrue, IfSome, map, string_bytes};
 ghost use Rattle.gic_top.specs.Command.{command_in, number_in, count_in, IsPadded, IsCount, run_with as command_with, threads_with as threads_command_with, soak_with as soak_command_with, IsInBounds};
 
-use scn_read::scn_base::{MAX_PES, MAX_STEPS};
+use scn_read::{MAX_PES, MAX_STEPS};
 
 /// The most operations of a vCPU while it is on a PE that `threads` can ask for.
 const MAX_PER_TURN: u32 = 1000;

@@ -8,14 +8,16 @@ mod tests;
 mod tool;
 
 pub use command::Command;
-pub use gic_report;
-pub use gic_report::{gic_io, gic_soak};
-pub use run_seq;
-pub use run_seq::{SeqWatch, gic_ideal, its_cmd};
-pub use run_thr;
-pub use run_thr::ThrWatch;
-pub use scn_read;
-pub use scn_read::{gic_base, gic_guest, gic_list, scn_base};
+pub use gic_report::{
+    Bytes, Failed, Gate, MemSource, OpenGate, Sink, Source, StdSink, StdSource, SureSink,
+    SureSource, generate, text,
+};
+pub use run_seq::{Command as QueueCommand, SeqWatch, eager, encode, run as run_seq_run};
+pub use run_thr::{ThrWatch, run as run_thr_run};
+pub use scn_read::{
+    Answer, DeviceOp, Frame, GuestOp, GuestShape, GuestSpec, Guests, IccReg, Key, ListOf, MAX_PES,
+    Mode, NoMemory, PeOp, Preset, PresetList, RunOut, Scenario, Standing, Step, Steps, read,
+};
 pub use shown::{NOTHING_SHOWN, Shown};
 pub use tool::{
     BAD_JSON, BAD_SCENARIO, MAX_INPUT, NO_MEMORY, OK, READ_FAULT, TOO_LONG, USAGE, WRITE_FAULT,

@@ -2,11 +2,9 @@
 
 ghost use Rattle.std.specs.Prelude.{None};
 
-use run_seq::port_seq::SeqPort;
-use run_seq::{Done, SeqWatch};
-use run_thr::ThrWatch;
-use run_thr::port_table::{RootSeat, SharedWords};
-use scn_read::scn_base::Scenario;
+use run_seq::{Done, SeqPort, SeqWatch};
+use run_thr::{RootSeat, SharedWords, ThrWatch};
+use scn_read::Scenario;
 
 /// How many runs were shown, of each kind. It keeps nothing else of them.
 #[derive(Clone, Copy, Debug, PartialEq, Eq)]

@@ -4,7 +4,7 @@ use crate::{
     BAD_JSON, BAD_SCENARIO, NO_MEMORY, NOTHING_SHOWN, OK, READ_FAULT, Shown, TOO_LONG, USAGE,
     WRITE_FAULT, refuse_words, run_tool,
 };
-use gic_report::gic_io::{MemSink, MemSource, OpenGate, Sink, Source, SureSink, SureSource};
+use gic_report::{MemSink, MemSource, OpenGate, Sink, Source, SureSink, SureSource};
 use std::alloc::{AllocError, Global};
 use std::sync::Wait;
 use std::test::Fail;

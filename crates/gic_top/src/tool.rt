@@ -10,14 +10,12 @@ ghost use Rattle.gic_top.specs.Tool.{statuses, input_mode, soak_text, fault_line
 ghost use Rattle.gic_top.specs.Reply.{mode_of, status_of, text_of, IsWay, IsRunText, IsReplyTo, IsReplyOf, IsSoakReply, IsReplyFor, IsUnrun};
 
 use crate::command::Command;
-use gic_report::gic_io::{Bytes, Gate, ReadError, Sink, Source, read_all, write_all};
-use gic_report::{generate, soak_line, text};
+use gic_report::{
+    Bytes, Gate, ReadError, Sink, Source, generate, read_all, soak_line, text, write_all,
+};
 use run_seq::SeqWatch;
 use run_thr::ThrWatch;
-use scn_read::gic_base::NoMemory;
-use scn_read::gic_guest::RunOut;
-use scn_read::scn_base::MAX_STEPS;
-use scn_read::{Fault, Mode, ReadRefusal, Scenario, read};
+use scn_read::{Fault, MAX_STEPS, Mode, NoMemory, ReadRefusal, RunOut, Scenario, read};
 use serde_json::Value;
 use std::alloc::{AllocError, Global};
 use std::sync::Wait;

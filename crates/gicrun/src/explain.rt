@@ -1,7 +1,6 @@
 //! What is told to people, on the standard error, beside what the sink takes.
 use gic_top::{BAD_JSON, BAD_SCENARIO, Command, USAGE};
-use scn_hint::hint_of;
-use scn_hint::scn_read::{Mode, ReadRefusal, read};
+use scn_hint::{Mode, ReadRefusal, hint_of, read};
 use serde_json::Value;
 use std::alloc::Global;
 use std::io::{Eprint, Result};

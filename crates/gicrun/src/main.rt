@@ -11,8 +11,10 @@ mod noted;
 
 use crate::explain::explain;
 use crate::noted::Noted;
-use gic_top::gic_io::{Gate, OpenGate, Sink, Source, StdSink, StdSource};
-use gic_top::{Command, NOTHING_SHOWN, SeqWatch, ThrWatch, refuse_words, run_tool};
+use gic_top::{
+    Command, Gate, NOTHING_SHOWN, OpenGate, SeqWatch, Sink, Source, StdSink, StdSource, ThrWatch,
+    refuse_words, run_tool,
+};
 use std::alloc::{AllocError, Global};
 use std::env;
 use std::io::ErrorKind;

@@ -1,7 +1,7 @@
 //! A source that keeps what is read of another.
 ghost use Rattle.std.specs.Prelude.{◌≡◌};
 
-use gic_top::gic_io::{Failed, Source};
+use gic_top::{Failed, Source};
 use std::alloc::Global;
 
 /// A source that gives what another gives, and keeps it, where there is memory for that.

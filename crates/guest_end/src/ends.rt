@@ -6,11 +6,7 @@ ghost use Rattle.gic_ideal.specs.IdealGuest.Opening.{opening};
 ghost use Rattle.guest_end.specs.Ends.{HaveEnded, AllEndAt};
 
 use crate::home::end_of;
-use port_core::EndWords;
-use port_core::gic_base::NoMemory;
-use port_core::gic_guest::{Ends, Guests};
-use port_core::gic_list::ListOf;
-use port_core::gic_prio::CpuRec;
+use port_core::{CpuRec, EndWords, Ends, Guests, ListOf, NoMemory};
 use std::alloc::Global;
 
 /// How each guest ended, by its words and the records of its CPU interfaces, which stand one guest's after the other's. An error

@@ -7,14 +7,10 @@ ghost use Rattle.gic_ideal.specs.IdealGuest.Opening.{opening};
 ghost use Rattle.guest_end.specs.Home.{home_irq as home_irq_of, cpus_at_home, plain_at_home, IsAtEnd, guest_of};
 
 use gic_ideal::IdealGuest;
-use port_core::gic_base::{GuestShape, NoMemory};
-use port_core::gic_guest::{End, GuestSpec};
-use port_core::gic_list::ListOf;
-use port_core::gic_open::{PlainWord, place_of_plain};
-use port_core::gic_prio::CpuRec;
-use port_core::gic_word::{Irq, unpack};
-use port_core::its_tab::empty;
-use port_core::{CtlrWord, GuestWords, VcpuWord};
+use port_core::{
+    CpuRec, CtlrWord, GuestEnd as End, GuestShape, GuestSpec, GuestWords, Irq, ListOf, NoMemory,
+    PlainWord, VcpuWord, empty, irq_unpack as unpack, place_of_plain,
+};
 use std::alloc::{AllocError, Global};
 
 /// The record of an interrupt by its word, but for who holds it and whether it is asked for.
@@ -85,7 +81,7 @@ fn without_tables(
     ensures value { IfOk result (λ guest. record guest { tables = words.now.tables } ≡ guest_of spec.now words.now cpus.now) }
     ensures unmapped { IfOk result (λ guest. guest.tables ≡ record { devices = []; events = []; collections = [] }) }
 {
-    let queue = port_core::its_cmd::unpack(words.queue).unwrap();
+    let queue = port_core::queue_unpack(words.queue).unwrap();
     Ok(IdealGuest {
         shape: spec.shape,
         irqs: home_irqs(alloc, words.irqs.as_slice())?,

@@ -6,8 +6,13 @@ mod home;
 mod outcome;
 
 pub use ends::ends_of;
-pub use gic_ideal;
-pub use gic_ideal::scn_base;
+pub use gic_ideal::{
+    Answers as ScenarioAnswers, Pes, Scenario, ScenarioEnds, Step, VcpuName, eager, move_pes,
+    opening_pes,
+};
 pub use home::end_of;
 pub use outcome::{CpuRecs, Done, answer_of};
-pub use port_core::{gic_base, gic_guest, gic_list, gic_open};
+pub use port_core::{
+    Answer, Answers as GuestAnswers, DeviceOp, GuestActor as Actor, GuestOp, ListOf, NoMemory,
+    RunOut, opening_cpu,
+};

@@ -2,9 +2,7 @@
 ghost use Rattle.std.specs.Prelude.{◌≡◌};
 ghost use Rattle.guest_end.specs.Outcome.{answer_by};
 
-use port_core::gic_guest::{Answer, Answers};
-use port_core::gic_list::ListOf;
-use port_core::gic_prio::CpuRec;
+use port_core::{Answer, Answers, CpuRec, ListOf};
 
 /// The records of CPU interfaces, in order of guest and vCPU.
 pub type CpuRecs = ListOf<CpuRec>;

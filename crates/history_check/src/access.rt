@@ -7,13 +7,10 @@ ghost use Rattle.history_check.specs.Ready.{IsReady};
 
 use crate::shown::{Shown, accessed, first_candidate};
 use crate::state::State;
-use floor_histories::gic_base::IccReg;
-use floor_histories::gic_list::ListOf;
-use floor_histories::gic_prio::{
-    Candidate, CpuRec, acknowledged, cpu_written, highest_pending, intid_deactivated,
-    intid_or_spurious, level_activated, read_plain,
+use floor_histories::{
+    Candidate, CpuRec, Group, IccReg, ListOf, acknowledged, cpu_written, highest_pending,
+    intid_deactivated, intid_or_spurious, level_activated, read_plain,
 };
-use floor_histories::gic_word::Group;
 use std::alloc::{AllocError, Global};
 
 /// The candidate that an access acknowledges, from the first of the candidates.

@@ -7,8 +7,7 @@ ghost use Rattle.floor_histories.specs.Calls.{may_reach as can_reach, may_take a
 ghost use Rattle.history_check.specs.Ready.{IsReady};
 
 use crate::state::State;
-use floor_histories::gic_base::Key;
-use floor_histories::gic_call::{Event, may_reach, may_take};
+use floor_histories::{Event, Key, may_reach, may_take};
 
 /// Whether the actor has a mark.
 fn has_mark(mark: Option<u32>, actor: u32) -> bool

@@ -3,8 +3,7 @@ ghost use Rattle.std.specs.Prelude.{◌≡◌, ◌==◌, ◌&&◌, not};
 ghost use Rattle.floor_histories.specs.Words.{IsShape};
 ghost use Rattle.floor_histories.specs.Histories.{key_in as key_of_event, is_event_of as is_event_of_key, ends_turn as ends_turn_with, is_to_come as is_to_come_in, is_awaited as is_awaited_in};
 
-use floor_histories::gic_base::{GuestShape, Key};
-use floor_histories::gic_call::{Event, Moment};
+use floor_histories::{Event, GuestShape, Key, Moment};
 
 /// The interrupt that an event changes or reads, if it is one of a call.
 pub fn key_in(event: &Event) -> Option<Key>

@@ -11,9 +11,7 @@ ghost use Rattle.history_check.specs.Track.{HasPlaces};
 use crate::coming::is_awaited;
 use crate::state::State;
 use crate::track::Track;
-use floor_histories::gic_base::{IccReg, Key, interrupt_count, key_at};
-use floor_histories::gic_call::Moment;
-use floor_histories::gic_prio::{Candidate, deliverable};
+use floor_histories::{Candidate, IccReg, Key, Moment, deliverable, interrupt_count, key_at};
 use std::alloc::{AllocError, Global};
 
 /// Whether a candidate is before the first of others, or there is none.

@@ -12,8 +12,7 @@ ghost use Rattle.history_check.specs.Track.{HasPlaces};
 use crate::access::ended;
 use crate::state::State;
 use crate::track::{Changes, Leaving, Track, Turn};
-use floor_histories::gic_base::{GuestShape, IccReg, Key, key_of, place_of};
-use floor_histories::gic_word::pending;
+use floor_histories::{GuestShape, IccReg, Key, key_of, pending, place_of};
 
 /// The bits of a value for EOIR or DIR that are the INTID.
 const INTID_MASK: u64 = 0xFF_FFFF;

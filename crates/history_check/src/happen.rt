@@ -6,11 +6,7 @@ ghost use Rattle.floor_histories.specs.Histories.{changed_irq, with_word, with_q
 ghost use Rattle.history_check.specs.Ready.{IsReady};
 
 use crate::state::State;
-use floor_histories::gic_base::Key;
-use floor_histories::gic_call::{QueueChange, Touching};
-use floor_histories::gic_dmap::Enables;
-use floor_histories::gic_open::{PlainWord, place_of_plain};
-use floor_histories::gic_prio::CpuRec;
+use floor_histories::{CpuRec, Enables, Key, PlainWord, QueueChange, Touching, place_of_plain};
 
 impl State {
     /// Stores a value in a plain word.

@@ -7,10 +7,9 @@ ghost use Rattle.floor_histories.specs.Histories.{word_at, view_at, handed_out, 
 ghost use Rattle.history_check.specs.Ready.{IsReady, is_mark};
 
 use crate::state::State;
-use floor_histories::gic_base::NoMemory;
-use floor_histories::gic_call::{Event, Found, Place};
-use floor_histories::gic_open::{PlainWord, place_of_plain};
-use floor_histories::its_cmd::{Command, decode};
+use floor_histories::{
+    Command, Event, Found, NoMemory, Place, PlainWord, place_of_plain, queue_decode as decode,
+};
 use std::alloc::{AllocError, Global};
 
 impl State {

@@ -18,7 +18,9 @@ mod track;
 pub use coming::{is_awaited, is_to_come, key_in};
 pub use excuse::{asks_first, comes_first, is_fresh_at_acknowledge};
 pub use floor_histories::{
-    gic_base, gic_call, gic_dmap, gic_frame, gic_guest, gic_list, gic_open, gic_word,
+    DeviceOp, Enables, Event, Found, Frame, Group, GuestOp, GuestShape, GuestSpec, IccReg, Irq,
+    Key, Kind, ListOf, Moment, NoMemory, Operation, Place, PlainWord, Preset, PresetList,
+    QueueChange, SGI_COUNT, Touching, interrupt_count, key_of, opening_irq, part_bits, place_of,
 };
 pub use standing::Standing;
 pub use state::State;

@@ -7,10 +7,7 @@ ghost use Rattle.history_check.specs.Ready.{fits, IsReady};
 
 use crate::standing::Standing;
 use crate::state::State;
-use floor_histories::gic_base::{Key, place_of};
-use floor_histories::gic_call::{Entry, Moved};
-use floor_histories::gic_list::ListOf;
-use floor_histories::gic_word::Irq;
+use floor_histories::{Entry, Irq, Key, ListOf, Moved, place_of};
 use std::alloc::{AllocError, Global};
 
 /// What stands at an interface, but for an interrupt.

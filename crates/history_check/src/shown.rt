@@ -6,11 +6,7 @@ ghost use Rattle.floor_histories.specs.Registers.{first_of, candidate_of};
 ghost use Rattle.history_check.specs.Access.{accessed_one};
 
 use crate::standing::Standing;
-use floor_histories::gic_base::Key;
-use floor_histories::gic_call::Entry;
-use floor_histories::gic_list::ListOf;
-use floor_histories::gic_prio::{Candidate, CpuRec, earlier, listens};
-use floor_histories::gic_word::Group;
+use floor_histories::{Candidate, CpuRec, Entry, Group, Key, ListOf, earlier, listens};
 use std::alloc::{AllocError, Global};
 use std::marker::Model;
 

@@ -3,9 +3,7 @@ ghost use Rattle.std.specs.Prelude.{◌≡◌, find, option_map, if◌then◌els
 ghost use Rattle.std.specs.List.{list_any};
 ghost use Rattle.floor_histories.specs.Histories.{is_of};
 
-use floor_histories::gic_base::Key;
-use floor_histories::gic_call::Entry;
-use floor_histories::gic_list::ListOf;
+use floor_histories::{Entry, Key, ListOf};
 use std::marker::Model;
 
 /// An interrupt at a CPU interface, with what the interface has of it.

@@ -7,13 +7,9 @@ ghost use Rattle.floor_histories.specs.GicHistory.State.{opening};
 ghost use Rattle.history_check.specs.Ready.{IsReady};
 
 use crate::standing::{Standing, entry_of, is_somewhere};
-use floor_histories::gic_base::{GuestShape, Key, place_of};
-use floor_histories::gic_call::Moved;
-use floor_histories::gic_guest::GuestSpec;
-use floor_histories::gic_list::ListOf;
-use floor_histories::gic_prio::CpuRec;
-use floor_histories::gic_word::Irq;
-use floor_histories::ideal_guest::IdealGuest;
+use floor_histories::{
+    CpuRec, GuestShape, GuestSpec, IdealGuest, Irq, Key, ListOf, Moved, place_of,
+};
 use std::alloc::{AllocError, Global};
 use std::marker::Model;
 

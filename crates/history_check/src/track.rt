@@ -3,9 +3,7 @@ ghost use Rattle.std.specs.Prelude.{◌≡◌, ◌&&◌, ◌==◌, is_some};
 ghost use Rattle.floor_histories.specs.Histories.{is_open};
 ghost use Rattle.history_check.specs.Track.{doing_in};
 
-use floor_histories::gic_base::Key;
-use floor_histories::gic_call::Operation;
-use floor_histories::gic_list::ListOf;
+use floor_histories::{Key, ListOf, Operation};
 use std::marker::Model;
 
 /// A call of an actor, or one of the commands of a call: the actor's calls and commands are numbered.

@@ -7,9 +7,7 @@ ghost use Rattle.history_play.specs.Coming.{is_unknown, CanFollow};
 ghost use Rattle.history_play.specs.Kept.{IsKept};
 
 use crate::track::{begins, ends, happens};
-use history_check::gic_base::NoMemory;
-use history_check::gic_call::{Event, Moment, QueueChange};
-use history_check::{State, Track};
+use history_check::{Event, Moment, NoMemory, QueueChange, State, Track};
 use std::alloc::Global;
 
 /// The state after the queue of the ITS changed: a command that ended has no fault.

@@ -4,10 +4,10 @@ ghost use Rattle.history_check.specs.Registers.{part_bits as part_bits_of, has_p
 ghost use Rattle.history_check.specs.Words.{IsShape, has_interrupt};
 ghost use Rattle.history_check.specs.Calls.{has_wire, is_usable as is_usable_for, has_plain as has_plain_in, has_shown_part as has_shown_part_in, is_touch_of, is_priority as is_priority_of, is_lpi as is_lpi_of, CanTouch, has_place as has_place_in, is_stored as is_stored_in, IsOffset, CanHappen};
 
-use history_check::gic_base::{GuestShape, IccReg, Key, Kind, SGI_COUNT, key_of};
-use history_check::gic_call::{Event, Place, QueueChange, Touching};
-use history_check::gic_frame::part_bits;
-use history_check::gic_open::PlainWord;
+use history_check::{
+    Event, GuestShape, IccReg, Key, Kind, Place, PlainWord, QueueChange, SGI_COUNT, Touching,
+    key_of, part_bits,
+};
 
 /// The bytes of a command.
 const COMMAND_BYTES: u32 = 32;

@@ -5,10 +5,7 @@ ghost use Rattle.history_check.specs.Calls.{CanHappen};
 ghost use Rattle.history_check.specs.Histories.{turn_of as turn_in, changed_by as changed_by_of, with_changes, after_changes};
 ghost use Rattle.history_check.specs.Track.{HasPlaces};
 
-use history_check::gic_base::{GuestShape, Key, place_of};
-use history_check::gic_call::Event;
-use history_check::gic_list::ListOf;
-use history_check::{Changes, Track, Turn, key_in};
+use history_check::{Changes, Event, GuestShape, Key, ListOf, Track, Turn, key_in, place_of};
 use std::alloc::{AllocError, Global};
 
 /// A second value of a call, equal to it.

@@ -2,10 +2,7 @@
 ghost use Rattle.std.specs.Prelude.{◌≡◌, ◌<◌, ◌+◌, ◌^◌, IfOk};
 ghost use Rattle.history_check.specs.Histories.{after_doing};
 
-use history_check::gic_base::Key;
-use history_check::gic_call::Event;
-use history_check::gic_list::ListOf;
-use history_check::{Doing, key_in};
+use history_check::{Doing, Event, Key, ListOf, key_in};
 use std::alloc::{AllocError, Global};
 
 /// A second list of the same interrupts.

@@ -1,9 +1,7 @@
 //! Whether what an event handed out is what is there.
 ghost use Rattle.std.specs.Prelude.{◌≡◌, ◌↔◌, IsTrue};
 
-use history_check::gic_call::Found;
-use history_check::gic_dmap::Enables;
-use history_check::gic_word::Irq;
+use history_check::{Enables, Found, Irq};
 
 /// Whether two records have the same priority, enable and group.
 fn are_set_so(a: &Irq, b: &Irq) -> bool

@@ -6,10 +6,7 @@ ghost use Rattle.history_check.specs.Histories.{after_leaving};
 ghost use Rattle.history_check.specs.Ready.{IsReady};
 ghost use Rattle.history_check.specs.Track.{HasPlaces};
 
-use history_check::gic_base::Key;
-use history_check::gic_call::Event;
-use history_check::gic_list::ListOf;
-use history_check::{Leaving, State, Track};
+use history_check::{Event, Key, Leaving, ListOf, State, Track};
 use std::alloc::{AllocError, Global};
 
 /// Those that are still to leave after an interrupt left a vCPU's interface.

@@ -15,7 +15,10 @@ mod whole;
 
 pub use after::follow;
 pub use can::can_happen;
-pub use history_check::{gic_base, gic_call, gic_guest, gic_list, gic_open, gic_word};
+pub use history_check::{
+    DeviceOp, Event, Found as CallFound, Frame, Group, GuestOp, GuestShape, GuestSpec, IccReg, Irq,
+    Key, Kind, ListOf, Moment, NoMemory, Operation, Preset, PresetList, Touching, opening_irq,
+};
 pub use laws::histories_are_allowed;
 pub use track::{begins, ends, happens, opening_track};
 pub use verdict::{Cause, judge};

@@ -9,10 +9,9 @@ ghost use Rattle.history_check.specs.Track.{HasPlaces};
 use crate::changes::note_changes;
 use crate::doings::{copied_keys, doing_after};
 use crate::leaving::note_leaving;
-use history_check::gic_base::{GuestShape, interrupt_count};
-use history_check::gic_call::{Event, Operation};
-use history_check::gic_list::ListOf;
-use history_check::{Changes, Doing, State, Track};
+use history_check::{
+    Changes, Doing, Event, GuestShape, ListOf, Operation, State, Track, interrupt_count,
+};
 use std::alloc::{AllocError, Global};
 
 /// So many actors, none of which is in a call.

@@ -9,9 +9,10 @@ ghost use Rattle.history_play.specs.Kept.{IsFollowed};
 
 use crate::can::can_happen;
 use crate::found::is_same;
-use history_check::gic_base::IccReg;
-use history_check::gic_call::{Event, Found, Moment, Operation, QueueChange};
-use history_check::{Doing, State, Track, is_fresh_at_acknowledge};
+use history_check::{
+    Doing, Event, Found, IccReg, Moment, Operation, QueueChange, State, Track,
+    is_fresh_at_acknowledge,
+};
 use std::alloc::{AllocError, Global};
 
 /// Why a moment does not come next in a fresh history.

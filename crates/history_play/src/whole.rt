@@ -7,10 +7,7 @@ ghost use Rattle.history_play.specs.Played.{IsAllowed, IsRefused};
 use crate::after::follow;
 use crate::track::opening_track;
 use crate::verdict::{Cause, judge};
-use history_check::State;
-use history_check::gic_base::NoMemory;
-use history_check::gic_call::Moment;
-use history_check::gic_guest::GuestSpec;
+use history_check::{GuestSpec, Moment, NoMemory, State};
 use std::alloc::Global;
 
 /// The first moment that does not go on with a fresh history, by its index from 0, and why it does not.

@@ -1,11 +1,9 @@
 //! Histories that are fresh, and for each clause of fresh one that this clause alone refuses.
-use history_play::gic_base::{DeviceOp, Frame, GuestOp, GuestShape, IccReg, Key, Kind, NoMemory};
-use history_play::gic_call::{Event, Found, Moment, Operation, Touching};
-use history_play::gic_guest::{GuestSpec, Preset, PresetList};
-use history_play::gic_list::ListOf;
-use history_play::gic_open::opening_irq;
-use history_play::gic_word::{Group, Irq};
-use history_play::{Cause, Refusal, check};
+use history_play::{
+    CallFound as Found, Cause, DeviceOp, Event, Frame, Group, GuestOp, GuestShape, GuestSpec,
+    IccReg, Irq, Key, Kind, ListOf, Moment, NoMemory, Operation, Preset, PresetList, Refusal,
+    Touching, check, opening_irq,
+};
 use std::alloc::{AllocError, Global};
 use std::test::Fail;
 

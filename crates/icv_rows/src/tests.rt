@@ -1,13 +1,8 @@
 //! Whole states through the plan, the accesses of a guest and the fold, register by register.
 
-use floor_lists::gic_base::{Back, IccReg, Key, MAX_LIST_REGISTERS};
-use floor_lists::gic_icv::{Outcome, TrapCause, access};
-use floor_lists::gic_word::{Group, Irq, Route};
-use floor_lists::vcpu_refill::fresh;
+use floor_lists::{Group, Irq, Key, Outcome, Route, TrapCause, access, fresh};
 use std::process::Abort;
-use vcpu_state::fold;
-use vcpu_state::gic_ich::{HCR_EN, IchRegs};
-use vcpu_state::gic_prio::CpuRec;
+use vcpu_state::{CpuRec, GuestBack as Back, HCR_EN, IccReg, IchRegs, MAX_LIST_REGISTERS, fold};
 
 /// A vCPU with PMR 0xF0 that listens to group 1.
 const CPU: CpuRec = CpuRec {

@@ -7,13 +7,11 @@ ghost use Rattle.ideal_guest.specs.Ideal.{view_of};
 ghost use Rattle.ideal_guest.specs.Sound.{IsSound};
 
 use crate::guest::IdealGuest;
-use floor_calls::gic_base::{Frame, Key, Kind, key_of};
-use floor_calls::gic_call::{Event, Events, Touching, ctlr_events, part_events, part_key};
-use floor_calls::gic_dmap::{Reg as DistReg, RegRef as DistRef, enables_in, message_intid};
-use floor_calls::gic_frame::{Half, IIDR, PIDR2, with_part};
-use floor_calls::gic_open::PlainWord;
-use floor_calls::gic_ram::{extract, insert, split};
-use floor_calls::gic_reg::read_part;
+use floor_calls::{
+    DistReg, DistRegRef as DistRef, Event, Events, Frame, Half, IIDR, Key, Kind, PIDR2, PlainWord,
+    Touching, ctlr_events, enables_in, extract, insert, key_of, message_intid, part_events,
+    part_key, read_part, split, with_part,
+};
 use std::alloc::{AllocError, Global};
 
 /// A write of 1 to an interrupt's part of ICPENDR.
@@ -183,8 +181,8 @@ impl IdealGuest {
         ensures { result ≡ dist_held_in self.now.shape (view_of self.now) reg }
     {
         match reg {
-            DistReg::Ctlr => u64::from(floor_calls::gic_dmap::ctlr(self.enables, false)),
-            DistReg::Typer => u64::from(floor_calls::gic_dmap::typer(&self.shape)),
+            DistReg::Ctlr => u64::from(floor_calls::dist_ctlr(self.enables, false)),
+            DistReg::Typer => u64::from(floor_calls::dist_typer(&self.shape)),
             DistReg::Iidr => u64::from(IIDR),
             DistReg::Router { id } => self.part(Frame::Dist, Kind::Routing, id, 0),
             DistReg::Pidr2 => u64::from(PIDR2),

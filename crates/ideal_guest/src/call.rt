@@ -9,11 +9,10 @@ ghost use Rattle.ideal_guest.specs.Sound.{IsSound};
 
 use crate::access::{one, put};
 use crate::guest::IdealGuest;
-use floor_calls::gic_base::{DeviceOp, Frame, GuestOp, IccReg, Key, NoMemory};
-use floor_calls::gic_call::{Event, Events, dist_access, its_access, redist_access, sgi_events};
-use floor_calls::gic_guest::Answer;
-use floor_calls::gic_open::PlainWord;
-use floor_calls::gic_ram::{insert, split};
+use floor_calls::{
+    Answer, DeviceOp, Event, Events, Frame, GuestOp, IccReg, Key, NoMemory, PlainWord, dist_access,
+    insert, its_access, redist_access, sgi_events, split,
+};
 use std::alloc::{AllocError, Global};
 
 impl IdealGuest {

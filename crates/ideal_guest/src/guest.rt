@@ -1,10 +1,5 @@
 //! The state of one guest.
-use floor_calls::gic_base::GuestShape;
-use floor_calls::gic_dmap::Enables;
-use floor_calls::gic_list::ListOf;
-use floor_calls::gic_prio::CpuRec;
-use floor_calls::gic_word::Irq;
-use floor_calls::its_tab::ItsTables;
+use floor_calls::{CpuRec, Enables, GuestShape, Irq, ItsTables, ListOf};
 
 /// The state of one guest under the ideal controller.
 #[derive(Drop)]

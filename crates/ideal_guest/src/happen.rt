@@ -5,10 +5,7 @@ ghost use Rattle.ideal_guest.specs.Ideal.{after_event, after_events};
 ghost use Rattle.ideal_guest.specs.Sound.{IsSound};
 
 use crate::guest::IdealGuest;
-use floor_calls::gic_base::Key;
-use floor_calls::gic_call::{Event, QueueChange, Touching};
-use floor_calls::gic_dmap::Enables;
-use floor_calls::gic_prio::CpuRec;
+use floor_calls::{CpuRec, Enables, Event, Key, QueueChange, Touching};
 
 impl IdealGuest {
     /// Makes an interrupt pending.

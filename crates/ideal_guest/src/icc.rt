@@ -6,12 +6,11 @@ ghost use Rattle.ideal_guest.specs.Ideal.{cpu_at, with_cpu, changed_at, candidat
 ghost use Rattle.ideal_guest.specs.Sound.{IsSound};
 
 use crate::guest::IdealGuest;
-use floor_calls::gic_base::{IccReg, interrupt_count, key_at, key_of};
-use floor_calls::gic_prio::{
-    Candidate, SPURIOUS, acknowledged, cpu_written, deliverable, earlier, highest_pending,
-    intid_deactivated, level_activated, read_plain,
+use floor_calls::{
+    Candidate, Group, IccReg, SPURIOUS, acknowledged, cpu_written, deliverable, earlier,
+    highest_pending, interrupt_count, intid_deactivated, key_at, key_of, level_activated,
+    read_plain,
 };
-use floor_calls::gic_word::Group;
 
 impl IdealGuest {
     /// The interrupt at a place in key order, if it is deliverable to the vCPU.

@@ -8,12 +8,10 @@ ghost use Rattle.ideal_guest.specs.Queue.{QueuesRunDry, BadCommandsStall};
 ghost use Rattle.ideal_guest.specs.Sound.{IsSound};
 
 use crate::guest::IdealGuest;
-use floor_calls::gic_base::NoMemory;
-use floor_calls::gic_bits::{Field, has_bit};
-use floor_calls::gic_imap::queue_bytes;
-use floor_calls::gic_open::PlainWord;
-use floor_calls::its_cmd::{COMMAND_BYTES, Command, advance, decode};
-use floor_calls::its_tab::UNKNOWN_NUMBER;
+use floor_calls::{
+    COMMAND_BYTES, Command, Field, NoMemory, PlainWord, UNKNOWN_NUMBER, advance, has_bit,
+    queue_bytes, queue_decode as decode,
+};
 use std::alloc::Global;
 
 /// GITS_CBASER.Valid.

@@ -6,13 +6,10 @@ ghost use Rattle.ideal_guest.specs.Sound.{IsSound};
 
 use crate::access::{low, one, put};
 use crate::guest::IdealGuest;
-use floor_calls::gic_call::{Event, Events, QueueChange};
-use floor_calls::gic_frame::{Half, IIDR, PIDR2};
-use floor_calls::gic_imap::{
-    Reg, RegRef, Table, baser, baser_after, cbaser_after, creadr, enabled_in, offset_in,
-    queue_bytes, retries,
+use floor_calls::{
+    Event, Events, Half, IIDR, ItsReg as Reg, ItsRegRef as RegRef, PIDR2, PlainWord, QueueChange,
+    Table, baser, baser_after, cbaser_after, creadr, enabled_in, offset_in, queue_bytes, retries,
 };
-use floor_calls::gic_open::PlainWord;
 use std::alloc::{AllocError, Global};
 
 impl IdealGuest {
@@ -167,9 +164,9 @@ impl IdealGuest {
         ensures { result ≡ its_held_in self.now.shape (view_of self.now) reg }
     {
         match reg {
-            Reg::Ctlr => u64::from(floor_calls::gic_imap::ctlr(self.is_its_enabled())),
+            Reg::Ctlr => u64::from(floor_calls::its_ctlr(self.is_its_enabled())),
             Reg::Iidr => u64::from(IIDR),
-            Reg::Typer => floor_calls::gic_imap::typer(&self.shape),
+            Reg::Typer => floor_calls::its_typer(&self.shape),
             Reg::Cbaser => self.word(PlainWord::Cbaser),
             Reg::Cwriter => self.word(PlainWord::Cwriter),
             Reg::Creadr => creadr(self.is_stalled, self.offset),

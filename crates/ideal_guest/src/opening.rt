@@ -5,10 +5,7 @@ ghost use Rattle.ideal_guest.specs.Opening.{opening};
 ghost use Rattle.ideal_guest.specs.Sound.{IsSound};
 
 use crate::guest::IdealGuest;
-use floor_calls::gic_dmap::enables_in;
-use floor_calls::gic_guest::GuestSpec;
-use floor_calls::gic_open::{cpus, irqs, opening_enables, plains};
-use floor_calls::its_tab::empty;
+use floor_calls::{GuestSpec, cpus, empty, enables_in, irqs, opening_enables, plains};
 use std::alloc::{AllocError, Global};
 
 impl IdealGuest {

@@ -9,13 +9,10 @@ ghost use Rattle.ideal_guest.specs.Sound.{IsSound};
 
 use crate::access::{CLEAR, touch};
 use crate::guest::IdealGuest;
-use floor_calls::gic_base::{FIRST_LPI, Key};
-use floor_calls::gic_call::{Event, Events, Part, Touching};
-use floor_calls::gic_list::ListOf;
-use floor_calls::gic_open::PlainWord;
-use floor_calls::gic_ram::{config_address, config_of};
-use floor_calls::gic_word::target_in;
-use floor_calls::its_cmd::Command;
+use floor_calls::{
+    CallPart as Part, Command, Event, Events, FIRST_LPI, Key, ListOf, PlainWord, Touching,
+    config_address, config_of, target_in,
+};
 use std::alloc::{AllocError, Global};
 
 /// INTIDs of LPIs, in order.

@@ -7,16 +7,11 @@ ghost use Rattle.ideal_guest.specs.Sound.{IsSound};
 
 use crate::access::{low, one, put, touch};
 use crate::guest::IdealGuest;
-use floor_calls::gic_base::{FIRST_LPI, Frame, Key, Kind};
-use floor_calls::gic_bits::has_bit;
-use floor_calls::gic_call::{Event, Events, Touching, part_events};
-use floor_calls::gic_frame::{Half, IIDR, PIDR2};
-use floor_calls::gic_open::PlainWord;
-use floor_calls::gic_ram::pending_address;
-use floor_calls::gic_rmap::{
-    Reg, RegRef, enable_lpis_after, pendbaser_after, pendbaser_read, propbaser_after,
+use floor_calls::{
+    Event, Events, FIRST_LPI, Frame, Half, IIDR, Key, Kind, PIDR2, PlainWord, RedistReg as Reg,
+    RedistRegRef as RegRef, Touching, enable_lpis_after, has_bit, part_events, pendbaser_after,
+    pendbaser_read, pending_address, propbaser_after, target_in,
 };
-use floor_calls::gic_word::target_in;
 use std::alloc::{AllocError, Global};
 
 /// PTZ, in what GICR_PENDBASER stores.
@@ -150,9 +145,9 @@ impl IdealGuest {
         ensures { result ≡ redist_held_in self.now.shape (view_of self.now) vcpu reg }
     {
         match reg {
-            Reg::Ctlr => u64::from(floor_calls::gic_rmap::ctlr(&self.shape, self.cpu(vcpu).lpis)),
+            Reg::Ctlr => u64::from(floor_calls::redist_ctlr(&self.shape, self.cpu(vcpu).lpis)),
             Reg::Iidr => u64::from(IIDR),
-            Reg::Typer => floor_calls::gic_rmap::typer(&self.shape, vcpu),
+            Reg::Typer => floor_calls::redist_typer(&self.shape, vcpu),
             Reg::Propbaser => self.word(PlainWord::Propbaser { vcpu }),
             Reg::Pendbaser => pendbaser_read(self.word(PlainWord::Pendbaser { vcpu })),
             Reg::Pidr2 => u64::from(PIDR2),

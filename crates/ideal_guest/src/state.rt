@@ -7,10 +7,7 @@ ghost use Rattle.ideal_guest.specs.Ideal.{irq_at, cpu_at, with_cpu, word_at, wit
 ghost use Rattle.ideal_guest.specs.Sound.{IsIdealRecord, IsSound};
 
 use crate::guest::IdealGuest;
-use floor_calls::gic_base::{Key, place_of};
-use floor_calls::gic_open::{PlainWord, place_of_plain};
-use floor_calls::gic_prio::CpuRec;
-use floor_calls::gic_word::Irq;
+use floor_calls::{CpuRec, Irq, Key, PlainWord, place_of, place_of_plain};
 
 impl IdealGuest {
     /// The record of an interrupt that the guest has: its enable, group, priority and causes, which vCPU has it

@@ -2,7 +2,7 @@
 ghost use Rattle.std.specs.Prelude.{◌≡◌, ◌≤◌, ◌<◌, ◌+◌, ◌*◌, ◌^◌, length, slice_index};
 ghost use Rattle.floor_words.specs.Words.{field_at};
 
-use floor_words::gic_bits::Field;
+use floor_words::Field;
 
 /// A field of a command.
 #[derive(Clone, Copy)]

@@ -2,7 +2,7 @@
 ghost use Rattle.std.specs.Prelude.{◌≡◌, ◌≢◌, ◌<◌, ◌≤◌, ◌%◌, IsTrue, IfSome, IfNone, if◌then◌else◌};
 ghost use Rattle.its_cmd.specs.Queue.{actors, command_bytes, page_bytes, max_queue_bytes, IsQueue, packed, queue_of, is_queue_word, advanced};
 
-use floor_words::gic_bits::{Field, has_bit, put_bit};
+use floor_words::{Field, has_bit, put_bit};
 
 /// The bytes of a command: four doublewords.
 pub const COMMAND_BYTES: u32 = 32;

@@ -13,11 +13,7 @@ ghost use Rattle.its_exec.specs.Plan.{IsFresh, first_of, second_of, is_several, 
 use crate::fetch::Fetched;
 use crate::part::{do_part, do_some};
 use crate::sweep::do_sweep;
-use port_call::gic_base::{GuestShape, NoMemory};
-use port_call::gic_call::Part;
-use port_call::its_cmd::Command;
-use port_call::its_tab::ItsTables;
-use port_call::port_core::Port;
+use port_call::{CallPart as Part, Command, GuestShape, ItsTables, NoMemory, Port};
 use std::sync::Wait;
 
 /// Forgets the LPI of an event that is mapped, and unmaps the event.

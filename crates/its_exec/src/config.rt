@@ -5,10 +5,7 @@ ghost use Rattle.port_call.specs.Core.{shape_of};
 ghost use Rattle.its_exec.specs.Config.{HoldsCommand, ReadsWord, ReadsConfig};
 
 use crate::fetch::Fetched;
-use port_call::gic_open::PlainWord;
-use port_call::gic_ram::{config_address, extract, split};
-use port_call::port_core::Port;
-use port_call::read_plain;
+use port_call::{PlainWord, Port, config_address, extract, read_plain, split};
 
 /// A word of the guest's memory during a command: as it was fetched, where it is one of the command's doublewords, and
 /// else by a look.

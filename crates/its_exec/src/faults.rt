@@ -4,9 +4,7 @@ ghost use Rattle.std.specs.Option.{option_map_or};
 ghost use Rattle.port_call.specs.Words.{IsShape};
 ghost use Rattle.port_call.specs.Registers.{fault_of};
 
-use port_call::gic_base::GuestShape;
-use port_call::its_cmd::Command;
-use port_call::its_tab::{CmdFault, ItsTables};
+use port_call::{CmdFault, Command, GuestShape, ItsTables};
 
 /// Whether a command can be carried out with these tables, in a guest of this shape. Err exactly where it has a fault:
 /// the first by number.

@@ -5,10 +5,7 @@ ghost use Rattle.its_exec.specs.Config.{HoldsCommand};
 ghost use Rattle.its_exec.specs.Known.{KnowsQueue, KnowsDoubleword, Fetches, is_fetched};
 
 use crate::known::KnownQueue;
-use port_call::gic_open::PlainWord;
-use port_call::gic_ram::split;
-use port_call::port_core::Port;
-use port_call::read_plain;
+use port_call::{PlainWord, Port, read_plain, split};
 
 /// The bytes of a doubleword.
 const DOUBLEWORD_BYTES: u32 = 8;

@@ -3,10 +3,7 @@ ghost use Rattle.std.specs.Prelude.{◌≡◌, ◌<◌, ◌+◌, ◌^◌, IsTrue
 ghost use Rattle.port_call.specs.Calls.{queue_address};
 ghost use Rattle.its_exec.specs.Known.{LooksAtQueue, takes_next};
 
-use port_call::gic_bits::{Field, has_bit};
-use port_call::gic_open::PlainWord;
-use port_call::port_core::{CoreStep, Port, WordId};
-use port_call::read_plain;
+use port_call::{CoreStep, Field, PlainWord, Port, WordId, has_bit, read_plain};
 
 /// GITS_CTLR.Enabled.
 const ENABLED: u32 = 0;
@@ -40,7 +37,7 @@ pub fn look_at_queue<P: Port>(port: &mut P) -> KnownQueue
     let word = port.step(CoreStep::Look {
         word: WordId::Queue,
     });
-    let queue = port_call::its_cmd::unpack(word).unwrap();
+    let queue = port_call::queue_unpack(word).unwrap();
     KnownQueue {
         ctlr: read_plain(port, PlainWord::ItsCtlr),
         cbaser: read_plain(port, PlainWord::Cbaser),

@@ -11,12 +11,10 @@ ghost use Rattle.its_exec.specs.Plan.{DoesSome};
 
 use crate::config::byte_for;
 use crate::fetch::Fetched;
-use port_call::gic_base::{Key, Kind};
-use port_call::gic_call::{Part, Touching};
-use port_call::gic_ram::config_of;
-use port_call::gic_word::{target_in, unpack};
-use port_call::port_core::{CoreStep, Port, WordId};
-use port_call::{raise, touch};
+use port_call::{
+    CallPart as Part, CallTouching as Touching, CoreStep, Key, Kind, Port, WordId, config_of,
+    irq_unpack as unpack, raise, target_in, touch,
+};
 use std::sync::Wait;
 
 /// A write of 1 to an interrupt's part of ICPENDR.

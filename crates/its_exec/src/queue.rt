@@ -14,13 +14,10 @@ ghost use Rattle.its_exec.specs.Known.{takes_next};
 use crate::command::do_command;
 use crate::fetch::{Fetched, fetch};
 use crate::known::{KnownQueue, look_at_queue};
-use port_call::gic_base::{GuestShape, NoMemory};
-use port_call::gic_imap::queue_bytes;
-use port_call::gic_open::{PlainWord, place_of_plain};
-use port_call::its_cmd::{advance, decode};
-use port_call::its_tab::{ItsTables, UNKNOWN_NUMBER};
-use port_call::port_core::{CoreStep, Port};
-use port_call::put_plain;
+use port_call::{
+    CoreStep, GuestShape, ItsTables, NoMemory, PlainWord, Port, UNKNOWN_NUMBER, advance,
+    place_of_plain, put_plain, queue_bytes, queue_decode as decode,
+};
 use std::sync::Wait;
 
 /// How a queue ends.

@@ -11,11 +11,7 @@ ghost use Rattle.its_exec.specs.Sweep.{names_vcpus, is_sweep, Picks, SweepsLpi, 
 
 use crate::fetch::Fetched;
 use crate::part::{do_some, look_at_target};
-use port_call::gic_base::FIRST_LPI;
-use port_call::gic_call::Part;
-use port_call::its_cmd::Command;
-use port_call::its_tab::ItsTables;
-use port_call::port_core::Port;
+use port_call::{CallPart as Part, Command, FIRST_LPI, ItsTables, Port};
 use std::sync::Wait;
 
 /// A part, if its LPI is of a collection.

@@ -1,14 +1,12 @@
 //! Commands as doublewords in a guest's memory, and what they leave.
 
-use dev_port::gic_base::{GuestShape, Key, NoMemory};
-use dev_port::port_call::{give_turn, put_plain, take_turn};
-use pe_op::its_exec::{QueueEnd, look_at_queue, move_queue, run_commands, run_queue};
+use dev_port::{give_turn, put_plain, take_turn};
+use pe_op::{QueueEnd, look_at_queue, move_queue, run_commands, run_queue};
 use port_rest::{is_at_ease, one_guest};
-use port_seq::SeqPort;
-use port_seq::gic_open::{PlainWord, place_of_plain};
-use port_seq::gic_word::target_in;
-use port_seq::port_core::{CoreStep, Port, WordId};
-use port_seq::scn_base::{Mode, Scenario};
+use port_seq::{
+    CorePort as Port, CoreStep, GuestShape, Key, Mode, NoMemory, PlainWord, Scenario, SeqPort,
+    WordId, place_of_plain, target_in,
+};
 use std::alloc::{AllocError, Global};
 use std::sync::Wait;
 use std::test::Fail;
@@ -172,7 +170,7 @@ fn lpi_state<P: Port>(port: &mut P) -> Option<LpiState> {
     let word = port.step(CoreStep::Look {
         word: WordId::Irq(Key::Lpi(LPI)),
     });
-    let irq = port_seq::gic_word::unpack(word)?;
+    let irq = port_seq::unpack(word)?;
     Some((
         irq.enabled,
         irq.prio,

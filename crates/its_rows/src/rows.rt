@@ -5,14 +5,10 @@ ghost use Rattle.dev_port.specs.Calls.{has_frame};
 use crate::tests::{
     LpiState, MAPPED, MOVED, NOTHING, SHAPE, can_access, is_fit, lpi_state, registers, scenario,
 };
-use dev_port::gic_base::{Frame, GuestShape, NoMemory};
 use dev_port::msi;
-use pe_op::mem_op;
-use pe_op::pe_its::its_op;
+use pe_op::{its_op, mem_op};
 use port_rest::is_settled;
-use port_seq::port_core::Port;
-use port_seq::scn_base::Mode;
-use port_seq::{GuestPort, SeqPort};
+use port_seq::{CorePort as Port, Frame, GuestPort, GuestShape, Mode, NoMemory, SeqPort};
 use std::alloc::{AllocError, Global};
 use std::sync::Wait;
 use std::test::Fail;

@@ -6,17 +6,13 @@ ghost use Rattle.dev_port.specs.Calls.{fits as fits_in, takes_turn};
 ghost use Rattle.dev_port.specs.Core.{shape_of};
 ghost use Rattle.pe_op.specs.PeMem.Call.{CanAccess};
 
-use dev_port::gic_base::{GuestShape, Key, NoMemory};
-use dev_port::port_call::{put_plain, read_plain};
-use pe_op::pe_its::its_write;
-use pe_op::pe_mem::memory_op;
+use dev_port::{put_plain, read_plain};
+use pe_op::{its_write, memory_op};
 use port_rest::{is_off, one_guest};
-use port_seq::SeqPort;
-use port_seq::gic_imap::{Reg, RegRef, decode};
-use port_seq::gic_open::{PlainWord, place_of_plain};
-use port_seq::gic_word::target_in;
-use port_seq::port_core::{CoreStep, Port, WordId};
-use port_seq::scn_base::{Mode, Scenario};
+use port_seq::{
+    CorePort as Port, CoreStep, GuestShape, Key, Mode, NoMemory, PlainWord, Reg, RegRef, Scenario,
+    SeqPort, WordId, decode, place_of_plain, target_in,
+};
 use std::alloc::{AllocError, Global};
 use std::sync::Wait;
 use std::test::Fail;
@@ -164,7 +160,7 @@ pub(crate) fn lpi_state<P: Port>(port: &mut P) -> Option<LpiState> {
     let word = port.step(CoreStep::Look {
         word: WordId::Irq(Key::Lpi(LPI)),
     });
-    let irq = port_seq::gic_word::unpack(word)?;
+    let irq = port_seq::unpack(word)?;
     Some((
         irq.enabled,
         irq.prio,

@@ -6,8 +6,7 @@ ghost use Rattle.its_tab.specs.After.{without_events, maps_after, is_mapping, Is
 ghost use Rattle.its_tab.specs.Maps.{with_device, without_device};
 
 use crate::tables::ItsTables;
-use its_cmd::Command;
-use its_cmd::gic_base::{GuestShape, NoMemory};
+use its_cmd::{Command, GuestShape, NoMemory};
 
 impl ItsTables {
     /// Does to the tables what a command without a fault, in a guest of this shape, does (IHI 0069, "ITS
@@ -105,8 +104,7 @@ impl ItsTables {
 #[cfg(test)]
 mod tests {
     use crate::samples::tables;
-    use its_cmd::Command;
-    use its_cmd::gic_base::{GuestShape, NoMemory};
+    use its_cmd::{Command, GuestShape, NoMemory};
 
     const SHAPE: GuestShape = GuestShape {
         vcpus: 2,

@@ -7,8 +7,7 @@ ghost use Rattle.its_cmd.specs.Command.{decoded};
 ghost use Rattle.its_tab.specs.After.{GoodCommandsKeepMaps};
 
 use crate::tables::ItsTables;
-use its_cmd::gic_base::{FIRST_LPI, GuestShape, Key};
-use its_cmd::{BadCommand, Command, decode};
+use its_cmd::{BadCommand, Command, FIRST_LPI, GuestShape, Key, decode};
 
 /// DeviceIDs are below this: 16 bits of DeviceID.
 pub const DEVICES: u32 = 65536;
@@ -248,7 +247,7 @@ pub fn good_commands_keep_maps()
 #[cfg(test)]
 mod tests {
     use crate::samples::tables;
-    use its_cmd::gic_base::{GuestShape, NoMemory};
+    use its_cmd::{GuestShape, NoMemory};
 
     const SHAPE: GuestShape = GuestShape {
         vcpus: 2,

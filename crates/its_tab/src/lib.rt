@@ -9,6 +9,8 @@ mod samples;
 mod tables;
 
 pub use fault::{CmdFault, DEVICES, MAX_SIZE, UNKNOWN_NUMBER, good_commands_keep_maps};
-pub use its_cmd;
-pub use its_cmd::gic_base;
+pub use its_cmd::{
+    COMMAND_BYTES, Command, FIRST_LPI, GuestShape, MAX_LPIS, NoMemory, QueueWord, advance, decode,
+    encode, pack, unpack,
+};
 pub use tables::{ItsTables, empty};

@@ -25,7 +25,7 @@ impl ItsTables {
 #[cfg(test)]
 mod tests {
     use crate::samples::tables;
-    use its_cmd::gic_base::NoMemory;
+    use its_cmd::NoMemory;
 
     /// A message's DeviceID and EventID, and its LPI.
     const MESSAGES: [((u32, u32), Option<u32>); 6] = [

@@ -1,6 +1,6 @@
 //! Tables for the tests.
 use crate::tables::{ItsTables, empty};
-use its_cmd::gic_base::NoMemory;
+use its_cmd::NoMemory;
 use std::alloc::Global;
 
 /// Device 8 with 5 EventID bits. Its event 3 has INTID 8195 in collection 1, which is at vCPU 1; event 4 has 8196 in

@@ -4,7 +4,7 @@ ghost use Rattle.std.specs.List.Sorted.{IsStrictlyIncreasing};
 ghost use Rattle.its_cmd.specs.Words.{GuestShape};
 ghost use Rattle.its_tab.specs.After.{IsValid};
 
-use its_cmd::gic_base::NoMemory;
+use its_cmd::NoMemory;
 use std::alloc::{AllocError, Global};
 use std::collections::BTreeMap;
 use std::marker::Model;
@@ -274,7 +274,7 @@ impl ItsTables {
 mod tests {
     use super::empty;
     use crate::samples::tables;
-    use its_cmd::gic_base::NoMemory;
+    use its_cmd::NoMemory;
 
     #[test]
     fn mapped_and_unmapped(rt: HostRuntime) -> Result<(), NoMemory> {

@@ -4,7 +4,11 @@
 
 mod laws;
 
-pub use guest_end;
-pub use guest_end::{gic_ideal, scn_base};
+pub use guest_end::{
+    CpuRecs, Done, Pes, Scenario, Step, VcpuName, answer_of, eager, ends_of, move_pes, opening_pes,
+};
 pub use laws::{runs_end_at_home, worked_runs_end};
-pub use port_ops::{gic_base, gic_guest, its_cmd};
+pub use port_ops::{
+    Actor, Answer, Answers, Command, DeviceOp, GuestOp, Guests, LrList, NoMemory, PeOp, RunOut,
+    encode,
+};

@@ -5,5 +5,4 @@
 mod laws;
 
 pub use laws::{calls_pass_home, guests_open_at_home, registers_show_home, residences_keep_home};
-pub use seq_guest;
-pub use seq_guest::port_seq;
+pub use seq_guest::{SeqPort, Vcpus, add_cpus};

@@ -4,16 +4,13 @@ ghost use Rattle.dev_port.specs.Device.{CanCall};
 ghost use Rattle.port_seq.specs.Ports.{told};
 ghost use Rattle.pe_op.specs.PeLoop.Stay.{IsUp};
 
-use dev_port::gic_base::{Frame, GuestOp, GuestShape, IccReg, Key, key_of};
-use dev_port::gic_guest::{Preset, is_good_op};
 use dev_port::{message, msi};
-use pe_op::guest_op;
-use pe_op::pe_loop::{enter, leave};
-use pe_op::vcpu_state::{Loaded, Shelved};
+use pe_op::{Loaded, Shelved, enter, guest_op, leave};
 use port_rest::{is_off, is_settled, one_guest};
-use port_seq::port_core::Port;
-use port_seq::scn_base::{Mode, Scenario};
-use port_seq::{GuestPort, SeqPort};
+use port_seq::{
+    CorePort as Port, Frame, GuestOp, GuestPort, GuestShape, IccReg, Key, Mode, Preset, Scenario,
+    SeqPort, is_good_op, key_of,
+};
 use std::alloc::{AllocError, Global};
 use std::sync::Wait;
 use std::test::Fail;

@@ -4,9 +4,7 @@ ghost use Rattle.pe_icc.specs.Amid.{IsSet};
 ghost use Rattle.pe_icc.specs.Bare.{EntersBare, Gathers};
 ghost use Rattle.pe_loop.specs.Stay.{IsOff};
 
-use pe_loop::port_core::{CoreStep, Port};
-use pe_loop::vcpu_state::{Loaded, Shelved};
-use pe_loop::{end_scan, leave, look_round};
+use pe_loop::{CoreStep, Loaded, Port, Shelved, end_scan, leave, look_round};
 
 /// Puts a vCPU on a PE with this many list registers (1 to 16), by a scan that takes nothing to its interface.
 fn enter_bare<P: Port>(port: &mut P, vcpu: Shelved, lrs: u32) -> Loaded

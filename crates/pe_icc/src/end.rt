@@ -6,15 +6,10 @@ ghost use Rattle.pe_loop.specs.Registers.{intid_written as intid_in};
 ghost use Rattle.pe_loop.specs.Lists.{IsEntry, chosen_as as choice_with};
 ghost use Rattle.pe_icc.specs.Prepare.{emptied, LooksFor, CanClaimFar, ClaimsFar};
 
-use pe_loop::claim;
-use pe_loop::gic_base::{IccReg, Key, MAX_LIST_REGISTERS, key_of};
-use pe_loop::gic_bits::Field;
-use pe_loop::gic_ich::{HCR_EN, IchRegs};
-use pe_loop::gic_lr::{LrEntry, LrState};
-use pe_loop::gic_word::{Irq, pending};
-use pe_loop::port_core::{CoreStep, Port, WordId};
-use pe_loop::vcpu_refill::Choice;
-use pe_loop::vcpu_state::Loaded;
+use pe_loop::{
+    Choice, CoreStep, Field, HCR_EN, IccReg, IchRegs, Irq, Key, Loaded, LrEntry, LrState,
+    MAX_LIST_REGISTERS, Port, WordId, claim, key_of, pending,
+};
 
 /// The INTID in a value that is written to EOIR or DIR: bits [23:0].
 const WRITTEN_INTID: Field = Field {
@@ -100,7 +95,7 @@ pub(crate) fn look_for<P: Port>(port: &mut P, key: Key) -> Irq
     let word = port.step(CoreStep::Look {
         word: WordId::Irq(key),
     });
-    match pe_loop::gic_word::unpack(word) {
+    match pe_loop::unpack(word) {
         Some(irq) => irq,
         None => unreachable!(),
     }

@@ -4,11 +4,7 @@ ghost use Rattle.pe_loop.specs.Stay.{IsUp};
 ghost use Rattle.pe_icc.specs.First.{CanClaimFirst, ClaimsFirst, ScansFirst};
 
 use crate::end::{chosen_as, empty};
-use pe_loop::gic_lr::LrState;
-use pe_loop::port_core::Port;
-use pe_loop::vcpu_refill::Offer;
-use pe_loop::vcpu_state::Loaded;
-use pe_loop::{claim_into, end_scan, look_round};
+use pe_loop::{Loaded, LrState, Offer, Port, claim_into, end_scan, look_round};
 
 /// Claims an interrupt, if there is one, into list register 0 with State 1: whether it did not come.
 fn claim_first<P: Port>(port: &mut P, vcpu: &mut Loaded, first: Option<Offer>) -> bool

@@ -9,10 +9,7 @@ use crate::prepare::prepare;
 use crate::reenter::refill;
 use crate::sgi::send_sgis;
 use crate::stay::{Stay, copy_of};
-use pe_loop::gic_base::IccReg;
-use pe_loop::port_core::Port;
-use pe_loop::reenter;
-use pe_loop::vcpu_state::Loaded;
+use pe_loop::{IccReg, Loaded, Port, reenter};
 use std::sync::Wait;
 
 /// What came of one try of an access.

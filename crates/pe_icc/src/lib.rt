@@ -14,6 +14,5 @@ mod stay;
 
 pub use icc::icc_op;
 pub use laws::{entry_runs, exit_rests};
-pub use pe_loop;
-pub use pe_loop::{gic_base, port_core, vcpu_state};
+pub use pe_loop::{Frame, GuestOp, Loaded, NoMemory, Port, Shelved, enter, leave};
 pub use stay::copy_of;

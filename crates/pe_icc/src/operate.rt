@@ -8,11 +8,7 @@ ghost use Rattle.pe_loop.specs.Stay.{IsOpen};
 ghost use Rattle.pe_icc.specs.Amid.{IsSet};
 ghost use Rattle.pe_icc.specs.Operate.{opened, read_by as read_of, Operates, Polls};
 
-use pe_loop::gic_base::IccReg;
-use pe_loop::gic_ich::HCR_EN;
-use pe_loop::gic_icv::{Outcome, access};
-use pe_loop::port_core::{CoreStep, Port, VcpuWord};
-use pe_loop::vcpu_state::Loaded;
+use pe_loop::{CoreStep, HCR_EN, IccReg, Loaded, Outcome, Port, VcpuWord, access};
 
 /// What came of a try to do an access.
 #[derive(Clone, Copy, Debug, PartialEq, Eq)]

@@ -10,10 +10,7 @@ use crate::bare::gather;
 use crate::end::{claim_far, ended, look_for};
 use crate::first::scan_first;
 use crate::stay::Stay;
-use pe_loop::gic_base::{IccReg, Key};
-use pe_loop::gic_word::Irq;
-use pe_loop::port_core::Port;
-use pe_loop::vcpu_state::Loaded;
+use pe_loop::{IccReg, Irq, Key, Loaded, Port};
 
 /// Whether an access asks for the first interrupt: a read of IAR or HPPIR.
 fn asks_first(reg: IccReg) -> bool

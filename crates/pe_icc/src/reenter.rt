@@ -4,10 +4,7 @@ ghost use Rattle.pe_icc.specs.Amid.{IsSet, debt_of};
 ghost use Rattle.pe_icc.specs.Reenter.{Refills};
 ghost use Rattle.pe_loop.specs.Core.{is_to_scan as is_to_scan_by};
 
-use pe_loop::gic_ich::misr;
-use pe_loop::port_core::Port;
-use pe_loop::reenter;
-use pe_loop::vcpu_state::Loaded;
+use pe_loop::{Loaded, Port, misr, reenter};
 
 /// Whether a vCPU is to scan again after an access: a maintenance interrupt is asserted, it is in trap mode, or it took an
 /// interrupt to its interface to end it.

@@ -6,11 +6,7 @@ ghost use Rattle.pe_loop.specs.GicCall.declared.event.Event.TheVariants.{Raise};
 ghost use Rattle.pe_loop.specs.Core.{is_vcpu, owes_nothing, shape_of};
 ghost use Rattle.pe_icc.specs.Sgi.{Sends, SendsSgis, sgis_before, sgi_written};
 
-use pe_loop::gic_aff::{Targets, sgi_intid, sgi_targets};
-use pe_loop::gic_base::{IccReg, Key};
-use pe_loop::gic_bits::has_bit;
-use pe_loop::port_call::raise;
-use pe_loop::port_core::Port;
+use pe_loop::{IccReg, Key, Port, Targets, has_bit, raise, sgi_intid, sgi_targets};
 
 /// Raises an SGI (INTID 0 to 15) at a vCPU where that is one of some.
 fn send_at<P: Port>(port: &mut P, targets: Targets, vcpu: u32, id: u32)

@@ -1,7 +1,7 @@
 //! A vCPU in the course of an access.
 ghost use Rattle.std.specs.Prelude.{◌≡◌};
 
-use pe_loop::vcpu_state::{Loaded, Shelved};
+use pe_loop::{Loaded, Shelved};
 
 /// A vCPU on its PE in the course of an access of its CPU interface.
 #[derive(Debug, Drop)]

@@ -10,9 +10,7 @@ ghost use Rattle.pe_its.specs.Write.{StopsInTurn};
 
 use crate::read::read_its;
 use crate::write::its_write;
-use pe_mem::gic_base::{GuestShape, NoMemory};
-use pe_mem::gic_imap::{Reg, RegRef, decode};
-use pe_mem::port_core::Port;
+use pe_mem::{GuestShape, NoMemory, Port, Reg, RegRef, decode};
 use std::sync::Wait;
 
 /// Whether a write of a register takes the ITS.

@@ -5,9 +5,10 @@ ghost use Rattle.pe_mem.specs.Core.{shape_of};
 ghost use Rattle.pe_mem.specs.PortCall.Plain.{is_event_word};
 ghost use Rattle.pe_its.specs.Change.{changed_by, FitsChange, TriesChange, ChangesWord};
 
-use pe_mem::gic_imap::{Half, baser_after, cbaser_after, offset_in, queue_bytes};
-use pe_mem::gic_open::{PlainWord, place_of_plain};
-use pe_mem::port_core::{CoreStep, Port};
+use pe_mem::{
+    CoreStep, Half, PlainWord, Port, baser_after, cbaser_after, offset_in, place_of_plain,
+    queue_bytes,
+};
 use std::sync::Wait;
 
 /// How a write changes the plain word of a register of the ITS. A write of a half leaves the other half as it is stored.

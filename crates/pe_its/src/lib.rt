@@ -8,6 +8,7 @@ mod register;
 mod write;
 
 pub use call::its_op;
-pub use pe_mem;
-pub use pe_mem::its_exec;
+pub use pe_mem::{
+    QueueEnd, dist_op, look_at_queue, memory_op, move_queue, redist_op, run_commands, run_queue,
+};
 pub use write::its_write;

@@ -8,11 +8,10 @@ ghost use Rattle.pe_mem.specs.Call.{ServesAccess};
 ghost use Rattle.pe_its.specs.Read.{ReadsIts};
 
 use crate::register::low;
-use pe_mem::gic_frame::{IIDR, PIDR2};
-use pe_mem::gic_imap::{Reg, RegRef, Table, baser, creadr, ctlr, decode, enabled_in, typer};
-use pe_mem::gic_open::PlainWord;
-use pe_mem::port_call::read_plain;
-use pe_mem::port_core::{CoreStep, Port, WordId};
+use pe_mem::{
+    CoreStep, IIDR, PIDR2, PlainWord, Port, Reg, RegRef, Table, WordId, baser, creadr, decode,
+    enabled_in, its_ctlr as ctlr, read_plain, typer,
+};
 
 /// What GITS_CTLR reads: Enabled, and Quiescent.
 fn read_ctlr<P: Port>(port: &mut P) -> u64
@@ -31,7 +30,7 @@ fn read_creadr<P: Port>(port: &mut P) -> u64
     let word = port.step(CoreStep::Look {
         word: WordId::Queue,
     });
-    let queue = pe_mem::its_cmd::unpack(word).unwrap();
+    let queue = pe_mem::unpack(word).unwrap();
     creadr(queue.stalled, queue.offset)
 }
 

@@ -8,11 +8,10 @@ ghost use Rattle.pe_mem.specs.ItsExec.Queue.{HasIts};
 ghost use Rattle.pe_its.specs.Register.{IsReadyNow, WritesRegister, RetriesBy, retried, baser_reg, baser_word};
 
 use crate::change::{Change, change_word};
-use pe_mem::gic_imap::{Half, Reg, Table, enabled_in, offset_in, retries};
-use pe_mem::gic_open::PlainWord;
-use pe_mem::its_exec::{KnownQueue, move_queue};
-use pe_mem::port_call::put_plain;
-use pe_mem::port_core::Port;
+use pe_mem::{
+    Half, KnownQueue, PlainWord, Port, Reg, Table, enabled_in, move_queue, offset_in, put_plain,
+    retries,
+};
 use std::sync::Wait;
 
 /// The low half of a value, which has all of GITS_CTLR.

@@ -11,13 +11,10 @@ ghost use Rattle.pe_mem.specs.Call.{CanAccess, MakesAccess, StopsAccess};
 ghost use Rattle.pe_its.specs.Write.{ServesWrite, StopsWrite, StopsInTurn};
 
 use crate::register::write_register;
-use pe_mem::gic_base::NoMemory;
-use pe_mem::gic_call::its_access;
-use pe_mem::gic_imap::{Half, Reg, RegRef};
-use pe_mem::its_exec::{look_at_queue, run_commands};
-use pe_mem::its_tab::ItsTables;
-use pe_mem::port_call::{give_turn, take_turn};
-use pe_mem::port_core::Port;
+use pe_mem::{
+    Half, ItsTables, NoMemory, Port, Reg, RegRef, give_turn, its_access, look_at_queue,
+    run_commands, take_turn,
+};
 use std::sync::Wait;
 
 /// Writes a register, and takes the commands that this starts, by the actor that has the ITS with these tables.

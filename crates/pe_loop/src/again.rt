@@ -6,7 +6,7 @@ ghost use Rattle.pe_loop.specs.Stay.{IsOn};
 
 use crate::entry::enter;
 use crate::exit::leave;
-use port_call::port_core::Port;
+use port_call::Port;
 use vcpu_state::Loaded;
 
 /// Takes a vCPU off its PE, and puts it there again, with as many list registers. The port is the vCPU's, which owes nothing. It

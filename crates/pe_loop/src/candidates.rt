@@ -5,7 +5,7 @@ ghost use Rattle.port_call.specs.Words.{has_bit};
 ghost use Rattle.port_call.specs.Core.{is_cand};
 ghost use Rattle.pe_loop.specs.Candidates.{IsFirstBelow, EndsBefore};
 
-use port_call::port_core::{CAND_WORDS, Cands};
+use port_call::{CAND_WORDS, Cands};
 
 /// The bits of a word.
 const WORD_BITS: u32 = 64;

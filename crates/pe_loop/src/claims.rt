@@ -5,12 +5,8 @@ ghost use Rattle.port_call.specs.Words.{IsIrq, packed};
 ghost use Rattle.port_call.specs.Core.{Claim, may_move, CanMake, shape_of};
 ghost use Rattle.pe_loop.specs.Claiming.{Claims, IsClaimable, IsTakeable, TakesCauses, ClaimsChosen, without_causes as without_causes_of, ClaimsSome, CanClaimAt, ClaimsAt, IsPlanOf, IsBlank, ClaimsAll};
 
-use port_call::gic_base::{Key, MAX_LIST_REGISTERS};
-use port_call::port_core::{CoreStep, Port};
-use port_call::vcpu_refill::{Choice, Fill};
-use vcpu_state::Loaded;
-use vcpu_state::gic_lr::{LrEntry, LrState};
-use vcpu_state::gic_word::{Irq, pack};
+use port_call::{Choice, CoreStep, Fill, Irq, Key, Port};
+use vcpu_state::{Loaded, LrEntry, LrState, MAX_LIST_REGISTERS, pack};
 
 /// What came of the claim of an interrupt that was chosen for a list register.
 #[derive(Clone, Copy, Debug, PartialEq, Eq)]

@@ -8,11 +8,8 @@ ghost use Rattle.pe_loop.specs.Enter.{Scans, IsReady, EndsScan, Enters};
 
 use crate::claims::claim_all;
 use crate::scan::{look_round, mark_rest};
-use port_call::port_core::{CoreStep, Port};
-use port_call::vcpu_refill::Fill;
-use vcpu_state::gic_ich::IchRegs;
-use vcpu_state::gic_prio::CpuRec;
-use vcpu_state::{Loaded, Shelved};
+use port_call::{CoreStep, Fill, Port};
+use vcpu_state::{CpuRec, IchRegs, Loaded, Shelved};
 
 /// A vCPU's scan: it looks for a kick, takes its index, looks at its candidates, and plans over what it found at no
 /// interface and not wanted.

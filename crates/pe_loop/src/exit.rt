@@ -6,10 +6,8 @@ ghost use Rattle.pe_loop.specs.Leave.{Releases, CanReleaseHeld, ReleasesHeld, Le
 ghost use Rattle.port_call.specs.Words.{has_interrupt};
 ghost use Rattle.vcpu_state.specs.Moves.{shelved_of};
 
-use port_call::gic_base::{Back, HeldIrq, Key, MAX_LIST_REGISTERS};
-use port_call::port_core::{CoreStep, Port};
-use port_call::settle;
-use vcpu_state::{Loaded, Shelved, fold};
+use port_call::{CoreStep, Key, Port, settle};
+use vcpu_state::{GuestBack as Back, HeldIrq, Loaded, MAX_LIST_REGISTERS, Shelved, fold};
 
 /// Gives back what the vCPU's interface has of an interrupt, releases it, and sends what is owed for it.
 fn release<P: Port>(port: &mut P, key: Key, back: Back)

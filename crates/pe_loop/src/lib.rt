@@ -12,8 +12,12 @@ pub use again::reenter;
 pub use claims::{Claimed, claim, claim_into};
 pub use entry::{end_scan, enter};
 pub use exit::leave;
-pub use port_call;
-pub use port_call::{gic_aff, gic_base, gic_icv, port_core, vcpu_refill};
+pub use port_call::{
+    Choice, CoreStep, Frame, Irq, Key, NoMemory, Offer, Outcome, Port, Targets, VcpuWord, WordId,
+    access, has_bit, irq_unpack as unpack, raise, sgi_intid, sgi_targets,
+};
 pub use scan::look_round;
-pub use vcpu_state;
-pub use vcpu_state::{gic_bits, gic_ich, gic_lr, gic_word};
+pub use vcpu_state::{
+    Field, GuestOp, HCR_EN, IccReg, IchRegs, Loaded, LrEntry, LrState, MAX_LIST_REGISTERS, Shelved,
+    key_of, misr, pending,
+};

@@ -7,11 +7,10 @@ ghost use Rattle.pe_loop.specs.Marking.{MarksRest};
 ghost use Rattle.port_call.specs.Words.{has_interrupt, MAX_LIST_REGISTERS};
 
 use crate::candidates::next_candidate;
-use port_call::gic_base::Key;
-use port_call::port_core::{CoreStep, Port, WordId, index_bits, index_words, key_of_bit};
-use port_call::vcpu_refill::{Chooser, fresh};
-use vcpu_state::gic_prio::CpuRec;
-use vcpu_state::gic_word::Irq;
+use port_call::{
+    Chooser, CoreStep, Irq, Key, Port, WordId, fresh, index_bits, index_words, key_of_bit,
+};
+use vcpu_state::CpuRec;
 
 /// Takes all words of the vCPU's candidate index, in rising order.
 fn take_index<P: Port>(port: &mut P)
@@ -44,7 +43,7 @@ fn look_at<P: Port>(port: &mut P, chooser: &mut Chooser, cpu: &CpuRec, key: Key)
     let word = port.step(CoreStep::Look {
         word: WordId::Irq(key),
     });
-    if let Some(irq) = vcpu_state::gic_word::unpack(word) {
+    if let Some(irq) = port_call::irq_unpack(word) {
         offer_free(chooser, cpu, key, &irq);
     }
 }

@@ -8,13 +8,7 @@ ghost use Rattle.its_exec.specs.PortCall.Rest.{IsAtEase};
 ghost use Rattle.its_exec.specs.PortCall.Touch.{MissesTouch};
 ghost use Rattle.pe_mem.specs.Part.{touching_by, touching_of, part_answer, FitsPart, CanAttempt, Attempts, Misses, Accesses};
 
-use its_exec::gic_base::{Key, Kind};
-use its_exec::gic_call::Touching;
-use its_exec::gic_frame::Half;
-use its_exec::gic_reg::read_part;
-use its_exec::gic_word::Irq;
-use its_exec::port_call::{Missed, look_home, touch_seen};
-use its_exec::port_core::Port;
+use its_exec::{Half, Irq, Key, Kind, Missed, Port, Touching, look_home, read_part, touch_seen};
 
 /// An access to the part that an interrupt has in the registers of a kind.
 #[derive(Clone, Copy, Debug, PartialEq, Eq, Hash)]
@@ -52,7 +46,7 @@ fn record_in(word: u64) -> Irq
     ensures value { result ≡ irq_of word }
     ensures packable { IsIrq result }
 {
-    its_exec::gic_word::unpack(word).unwrap()
+    its_exec::irq_unpack(word).unwrap()
 }
 
 /// Tries an access to an interrupt's part, and answers the record that it found: it looks at the interrupt, and touches it

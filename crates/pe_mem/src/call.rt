@@ -9,8 +9,7 @@ ghost use Rattle.pe_mem.specs.Call.{CanAccess, MakesAccess};
 use crate::dist::access_dist;
 use crate::memory::access_memory;
 use crate::redist::access_redist;
-use its_exec::gic_call::{dist_access, redist_access};
-use its_exec::port_core::Port;
+use its_exec::{Port, dist_access, redist_access};
 use std::sync::Wait;
 
 /// What an access answers: a read its value, and a write nothing.

@@ -6,11 +6,9 @@ ghost use Rattle.its_exec.specs.PortCall.Rest.{IsAtEase};
 ghost use Rattle.pe_mem.specs.Ctlr.{TriesMark, TakesMark, CopiesEnables};
 ghost use Rattle.pe_mem.specs.Dist.{ReadsDist, WritesDist};
 
-use its_exec::gic_base::{interrupt_count, key_at};
-use its_exec::gic_call::Touching;
-use its_exec::gic_dmap::{Enables, enables_in};
-use its_exec::port_call::touch;
-use its_exec::port_core::{CoreStep, CtlrWord, Port, WordId};
+use its_exec::{
+    CoreStep, CtlrWord, Enables, Port, Touching, WordId, enables_in, interrupt_count, key_at, touch,
+};
 use std::sync::Wait;
 
 /// The low half of a value.
@@ -87,5 +85,5 @@ pub(crate) fn read_ctlr<P: Port>(port: &mut P) -> u64
     ensures { ReadsDist (P.seen port.old) (P.seen port.new) Ctlr result }
 {
     let word = CtlrWord::of(port.step(CoreStep::Look { word: WordId::Ctlr }));
-    u64::from(its_exec::gic_dmap::ctlr(word.enables, word.mark.is_some()))
+    u64::from(its_exec::dist_ctlr(word.enables, word.mark.is_some()))
 }

@@ -7,11 +7,10 @@ ghost use Rattle.pe_mem.specs.Dist.{ServesDist, ReadsDist, WritesDist};
 
 use crate::ctlr::{low, read_ctlr, write_ctlr};
 use crate::parts::{access_number, access_parts, write_half};
-use its_exec::gic_base::{Frame, Kind};
-use its_exec::gic_call::{Touching, part_key};
-use its_exec::gic_dmap::{Half, IIDR, PIDR2, Reg, RegRef, message_intid, typer};
-use its_exec::port_call::{raise, touch};
-use its_exec::port_core::Port;
+use its_exec::{
+    DistReg as Reg, DistRegRef as RegRef, Frame, Half, IIDR, Kind, PIDR2, Port, Touching,
+    dist_typer as typer, message_intid, part_key, raise, touch,
+};
 use std::sync::Wait;
 
 /// A write of 1 to an interrupt's part of ICPENDR.

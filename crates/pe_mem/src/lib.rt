@@ -13,8 +13,11 @@ mod store;
 
 pub use attempt::try_access;
 pub use call::{dist_op, memory_op, redist_op};
-pub use its_exec;
-pub use its_exec::port_call::Missed;
 pub use its_exec::{
-    gic_base, gic_call, gic_frame, gic_imap, gic_open, its_cmd, its_tab, port_call, port_core,
+    CoreStep, GuestShape, Half, IIDR, ItsReg as Reg, ItsRegRef as RegRef, ItsTables, KnownQueue,
+    Missed, NoMemory, PIDR2, PlainWord, Port, QueueEnd, Table, WordId, baser, baser_after,
+    cbaser_after, creadr, decode, enabled_in, give_turn, its_access, its_ctlr, its_typer as typer,
+    look_at_queue, move_queue, offset_in, place_of_plain, put_plain, queue_bytes,
+    queue_unpack as unpack, raise, read_plain, retries, run_commands, run_queue, settle, take_turn,
+    touch,
 };

@@ -7,10 +7,7 @@ ghost use Rattle.its_exec.specs.PortCall.Rest.{IsAtEase};
 ghost use Rattle.pe_mem.specs.Call.{ServesAccess};
 
 use crate::store::{Change, update};
-use its_exec::gic_open::PlainWord;
-use its_exec::gic_ram::split;
-use its_exec::port_call::read_memory;
-use its_exec::port_core::Port;
+use its_exec::{PlainWord, Port, read_memory, split};
 use std::sync::Wait;
 
 /// Makes an access of so many bytes of the guest's memory from an address on: a read, or a write of a value, which leaves the

@@ -9,11 +9,7 @@ ghost use Rattle.pe_mem.specs.Part.{touching_of, CanAttempt, Attempts, Accesses}
 ghost use Rattle.pe_mem.specs.Each.{part_written_of, AccessesNumber, AccessesParts};
 
 use crate::attempt::{PartAccess, attempt, try_access};
-use its_exec::gic_base::{Frame, Key, Kind};
-use its_exec::gic_call::part_key;
-use its_exec::gic_frame::{Half, part_in, with_part};
-use its_exec::gic_word::Irq;
-use its_exec::port_core::Port;
+use its_exec::{Frame, Half, Irq, Key, Kind, Port, part_in, part_key, with_part};
 use std::sync::Wait;
 
 /// Makes an access to an interrupt's part: it tries until nobody holds the interrupt, and asks who does for it. A read answers

@@ -7,14 +7,10 @@ ghost use Rattle.its_exec.specs.Parts.{LooksAtTarget};
 ghost use Rattle.pe_mem.specs.Redist.{EnablesLpis};
 ghost use Rattle.pe_mem.specs.Pending.{part_of_number, GetsWord, PendsLpi, DoesNumber};
 
-use its_exec::gic_base::{FIRST_LPI, Key, Kind};
-use its_exec::gic_bits::has_bit;
-use its_exec::gic_call::Touching;
-use its_exec::gic_open::PlainWord;
-use its_exec::gic_ram::{extract, pending_address, split};
-use its_exec::gic_word::{target_in, unpack};
-use its_exec::port_call::{read_plain, touch};
-use its_exec::port_core::{CoreStep, Port, VcpuWord, WordId};
+use its_exec::{
+    CoreStep, FIRST_LPI, Key, Kind, PlainWord, Port, Touching, VcpuWord, WordId, extract, has_bit,
+    irq_unpack as unpack, pending_address, read_plain, split, target_in, touch,
+};
 use std::sync::Wait;
 
 /// PTZ, in what GICR_PENDBASER stores.

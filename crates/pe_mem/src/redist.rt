@@ -13,12 +13,10 @@ use crate::ctlr::low;
 use crate::parts::access_parts;
 use crate::pending::enable_lpis;
 use crate::store::{Change, update};
-use its_exec::gic_base::Frame;
-use its_exec::gic_frame::{Half, IIDR, PIDR2};
-use its_exec::gic_open::PlainWord;
-use its_exec::gic_rmap::{Reg, RegRef, enable_lpis_after, pendbaser_read, typer};
-use its_exec::port_call::read_plain;
-use its_exec::port_core::{CoreStep, Port, VcpuWord, WordId};
+use its_exec::{
+    CoreStep, Frame, Half, IIDR, PIDR2, PlainWord, Port, RedistReg as Reg, RedistRegRef as RegRef,
+    VcpuWord, WordId, enable_lpis_after, pendbaser_read, read_plain, redist_typer as typer,
+};
 use std::sync::Wait;
 
 /// Looks at EnableLPIs of a vCPU's redistributor.
@@ -56,7 +54,7 @@ fn read_ctlr<P: Port>(port: &mut P, vcpu: u32) -> u64
     if shape.lpis == 0 {
         return 0;
     }
-    u64::from(its_exec::gic_rmap::ctlr(&shape, look_at_lpis(port, vcpu)))
+    u64::from(its_exec::redist_ctlr(&shape, look_at_lpis(port, vcpu)))
 }
 
 /// A read of a register of a vCPU's redistributor that has no part for each interrupt.

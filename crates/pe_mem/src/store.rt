@@ -5,11 +5,10 @@ ghost use Rattle.its_exec.specs.Core.{shape_of};
 ghost use Rattle.its_exec.specs.PortCall.Plain.{is_event_word};
 ghost use Rattle.pe_mem.specs.Store.{changed_by, FitsChange, TriesUpdate, Updates};
 
-use its_exec::gic_frame::Half;
-use its_exec::gic_open::{PlainWord, place_of_plain};
-use its_exec::gic_ram::{Part, insert};
-use its_exec::gic_rmap::{pendbaser_after, propbaser_after};
-use its_exec::port_core::{CoreStep, Port};
+use its_exec::{
+    CoreStep, Half, MemoryPart as Part, PlainWord, Port, insert, pendbaser_after, place_of_plain,
+    propbaser_after,
+};
 use std::sync::Wait;
 
 /// How a write changes a plain word.

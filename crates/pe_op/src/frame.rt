@@ -8,10 +8,8 @@ ghost use Rattle.pe_icc.specs.Core.{shape_of};
 ghost use Rattle.pe_its.specs.PeMem.Call.{CanAccess, MakesAccess, StopsAccess};
 ghost use Rattle.pe_its.specs.Write.{StopsInTurn};
 
-use pe_icc::gic_base::{Frame, NoMemory};
-use pe_icc::port_core::Port;
-use pe_its::its_op;
-use pe_its::pe_mem::{dist_op, memory_op, redist_op};
+use pe_icc::{Frame, NoMemory, Port};
+use pe_its::{dist_op, its_op, memory_op, redist_op};
 use std::sync::Wait;
 
 /// Makes an access of 1, 2, 4 or 8 bytes at a byte offset in a frame, or at an address of the guest's memory: a read, which

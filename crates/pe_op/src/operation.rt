@@ -6,10 +6,7 @@ ghost use Rattle.pe_icc.specs.PeLoop.Stay.{IsUp};
 ghost use Rattle.pe_op.specs.Operation.{DoesOperation, StopsOperation};
 
 use crate::round::access_frame;
-use pe_icc::gic_base::{GuestOp, NoMemory};
-use pe_icc::icc_op;
-use pe_icc::port_core::Port;
-use pe_icc::vcpu_state::Loaded;
+use pe_icc::{GuestOp, Loaded, NoMemory, Port, icc_op};
 use std::sync::Wait;
 
 /// Does one operation of a vCPU that is on a PE: an access of a register of its CPU interface, or one of 1, 2, 4 or 8 bytes at a

@@ -7,11 +7,7 @@ ghost use Rattle.pe_icc.specs.PeLoop.Stay.{IsUp};
 ghost use Rattle.pe_op.specs.Operation.{DoesOperation, StopsOperation};
 
 use crate::frame::mem_op;
-use pe_icc::copy_of;
-use pe_icc::gic_base::{Frame, NoMemory};
-use pe_icc::pe_loop::{enter, leave};
-use pe_icc::port_core::Port;
-use pe_icc::vcpu_state::Loaded;
+use pe_icc::{Frame, Loaded, NoMemory, Port, copy_of, enter, leave};
 use std::sync::Wait;
 
 /// Makes a memory-mapped access: the vCPU leaves its PE before it, and enters it again after it.

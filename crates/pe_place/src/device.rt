@@ -6,9 +6,7 @@ ghost use Rattle.dev_port.specs.Calls.{has_wire, is_good_event};
 ghost use Rattle.dev_port.specs.Device.{CanCall};
 ghost use Rattle.pe_place.specs.Device.{DoesEvent};
 
-use dev_port::gic_base::{DeviceOp, Key};
-use dev_port::port_core::Port;
-use dev_port::{AlreadySo, Wire, message, msi, set_wire};
+use dev_port::{AlreadySo, DeviceOp, Key, Port, Wire, message, msi, set_wire};
 use std::sync::Wait;
 
 /// The device moves a wire, which has the other level.

@@ -8,6 +8,5 @@ mod place;
 
 pub use device::device_op;
 pub use operate::operate_on;
-pub use pe_op;
-pub use pe_op::{pe_loop, vcpu_state};
+pub use pe_op::{Loaded, Shelved, enter, guest_op, leave};
 pub use place::{Place, answer_kick, come_back, enter_pe, leave_pe, show_pe, step_aside};

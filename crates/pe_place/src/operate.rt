@@ -8,8 +8,7 @@ ghost use Rattle.pe_place.specs.Place.{pe, spot_of, IsAt, HasRegisters};
 ghost use Rattle.pe_place.specs.Moves.{Moves};
 
 use crate::place::Place;
-use dev_port::gic_base::{GuestOp, NoMemory};
-use dev_port::port_core::Port;
+use dev_port::{GuestOp, NoMemory, Port};
 use pe_op::guest_op;
 use std::sync::Wait;
 

@@ -8,11 +8,8 @@ ghost use Rattle.pe_place.specs.Parts.{AreResidences};
 ghost use Rattle.pe_place.specs.Place.{pe, spot_of, entered, left, gone_aside, returned, IsAt, HasRegisters, IsShown};
 ghost use Rattle.pe_place.specs.Moves.{Moves, Reenters, ReentersAt, LooksForKick, WasNotKicked};
 
-use dev_port::gic_guest::LrList;
-use dev_port::port_core::{CoreStep, Port, VcpuWord, WordId};
-use pe_op::pe_icc::copy_of;
-use pe_op::pe_loop::{enter, leave};
-use pe_op::vcpu_state::{Loaded, Shelved};
+use dev_port::{CoreStep, LrList, Port, VcpuWord, WordId};
+use pe_op::{Loaded, Shelved, copy_of, enter, leave};
 use std::alloc::{AllocError, Global};
 
 /// Where a vCPU is between two calls.

@@ -4,16 +4,13 @@ ghost use Rattle.port_seq.specs.Words.{Spi, has_interrupt};
 ghost use Rattle.pe_mem.specs.Core.{shape_of, is_settled};
 ghost use Rattle.pe_icc.specs.PeLoop.Stay.{IsUp};
 
-use pe_icc::pe_loop::{enter, leave};
-use pe_icc::vcpu_state::{Loaded, Shelved};
-use pe_mem::port_call::settle;
+use pe_icc::{Loaded, Shelved, enter, leave};
+use pe_mem::settle;
 use port_rest::{is_off, one_guest};
-use port_seq::SeqPort;
-use port_seq::gic_base::{GuestShape, Key, Kind};
-use port_seq::gic_call::Touching;
-use port_seq::gic_guest::Preset;
-use port_seq::port_core::{CoreStep, Port, WordId};
-use port_seq::scn_base::{Mode, Scenario};
+use port_seq::{
+    CorePort as Port, CoreStep, GuestShape, Key, Kind, Mode, Preset, Scenario, SeqPort, Touching,
+    WordId,
+};
 use std::alloc::{AllocError, Global};
 use std::test::Fail;
 

@@ -4,16 +4,12 @@ ghost use Rattle.port_seq.specs.Words.{Spi, has_interrupt};
 ghost use Rattle.pe_mem.specs.Core.{WireUp, WireDown, shape_of};
 ghost use Rattle.pe_icc.specs.PeLoop.Stay.{IsUp};
 
-use pe_icc::icc_op;
-use pe_icc::pe_loop::{enter, leave};
-use pe_icc::vcpu_state::{Loaded, Shelved};
-use pe_mem::port_call::{raise, settle};
+use pe_icc::{Loaded, Shelved, enter, icc_op, leave};
+use pe_mem::{raise, settle};
 use port_rest::{is_off, one_guest};
-use port_seq::SeqPort;
-use port_seq::gic_base::{GuestShape, IccReg, Key};
-use port_seq::gic_guest::Preset;
-use port_seq::port_core::{CoreStep, Port};
-use port_seq::scn_base::{Mode, Scenario};
+use port_seq::{
+    CorePort as Port, CoreStep, GuestShape, IccReg, Key, Mode, Preset, Scenario, SeqPort,
+};
 use std::alloc::{AllocError, Global};
 use std::sync::Wait;
 use std::test::Fail;

@@ -5,18 +5,13 @@ ghost use Rattle.port_seq.specs.Calls.{fits as fits_in};
 ghost use Rattle.pe_icc.specs.PeLoop.Stay.{IsUp};
 ghost use Rattle.pe_mem.specs.Call.{CanAccess};
 
-use pe_icc::pe_loop::{enter, leave};
-use pe_icc::vcpu_state::{Loaded, Shelved};
-use pe_mem::port_call::{settle, touch};
-use pe_mem::{Missed, dist_op, memory_op, redist_op, try_access};
+use pe_icc::{Loaded, Shelved, enter, leave};
+use pe_mem::{Missed, dist_op, memory_op, redist_op, settle, touch, try_access};
 use port_rest::{is_off, one_guest};
-use port_seq::SeqPort;
-use port_seq::gic_base::{GuestShape, Key, Kind};
-use port_seq::gic_call::Touching;
-use port_seq::gic_guest::Preset;
-use port_seq::gic_word::target_in;
-use port_seq::port_core::{CoreStep, Port, WordId};
-use port_seq::scn_base::{Mode, Scenario};
+use port_seq::{
+    CorePort as Port, CoreStep, GuestShape, Key, Kind, Mode, Preset, Scenario, SeqPort, Touching,
+    WordId, target_in,
+};
 use std::alloc::{AllocError, Global};
 use std::sync::Wait;
 use std::test::Fail;
@@ -136,7 +131,7 @@ fn state<P: Port>(port: &mut P) -> Option<State> {
     let word = port.step(CoreStep::Look {
         word: WordId::Irq(Key::Spi(40)),
     });
-    let irq = port_seq::gic_word::unpack(word)?;
+    let irq = port_seq::unpack(word)?;
     Some((
         irq.enabled,
         irq.prio,
@@ -169,7 +164,7 @@ fn lpi_is_pending<P: Port>(port: &mut P) -> Option<bool> {
     let word = port.step(CoreStep::Look {
         word: WordId::Irq(Key::Lpi(8195)),
     });
-    Some(port_seq::gic_word::unpack(word)?.soft)
+    Some(port_seq::unpack(word)?.soft)
 }
 
 /// Makes accesses with LPI 8195 for vCPU 1: whether it is pending then. None where one goes otherwise.

@@ -4,9 +4,7 @@ ghost use Rattle.floor_core.specs.Registers.{is_size};
 ghost use Rattle.port_call.specs.Memory.{ReadsMemory};
 
 use crate::plain::read_plain;
-use floor_core::gic_open::PlainWord;
-use floor_core::gic_ram::{extract, split};
-use floor_core::port_core::Port;
+use floor_core::{PlainWord, Port, extract, split};
 
 /// What so many bytes of the guest's memory hold from an address on, by one look at the word that they are in; 0 without a
 /// look where they are not aligned or outside of it. There are 1, 2, 4 or 8 bytes.

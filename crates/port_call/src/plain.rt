@@ -4,8 +4,7 @@ ghost use Rattle.floor_core.specs.Calls.{has_plain};
 ghost use Rattle.floor_core.specs.Core.{shape_of};
 ghost use Rattle.port_call.specs.Plain.{is_event_word, ReadsPlain};
 
-use floor_core::gic_open::{PlainWord, place_of_plain};
-use floor_core::port_core::{CoreStep, Port};
+use floor_core::{CoreStep, PlainWord, Port, place_of_plain};
 
 /// What a plain word of the guest holds: one of its memory or of a register, and not the one that keeps a fault.
 pub fn read_plain<P: Port>(port: &mut P, word: PlainWord) -> u64

@@ -4,9 +4,7 @@ ghost use Rattle.floor_core.specs.Words.{has_bit};
 ghost use Rattle.floor_core.specs.Core.{owes_no_mark, without_vcpu, shape_of};
 ghost use Rattle.port_call.specs.Settle.{vcpus_in, marks_owed, kicks_owed, marks_sent, kicks_sent, IsNextMark, IsFirst, Sends, Settles};
 
-use floor_core::gic_aff::Targets;
-use floor_core::gic_base::Key;
-use floor_core::port_core::{CoreStep, Local, Port};
+use floor_core::{CoreStep, Key, Local, Port, Targets};
 
 /// The first vCPU of a set: None exactly where it has none.
 #[tactic(auto, using(crate::proofs::SetLemmas::first_is))]

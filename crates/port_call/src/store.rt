@@ -4,8 +4,7 @@ ghost use Rattle.floor_core.specs.Calls.{has_plain};
 ghost use Rattle.floor_core.specs.Core.{shape_of};
 ghost use Rattle.port_call.specs.Store.{MayStore, Stores, TriesStore};
 
-use floor_core::gic_open::{PlainWord, place_of_plain};
-use floor_core::port_core::{CoreStep, Port};
+use floor_core::{CoreStep, PlainWord, Port, place_of_plain};
 use std::sync::Wait;
 
 /// Looks at a plain word, and tries to store another value in its place. Whether it did.

@@ -6,8 +6,7 @@ ghost use Rattle.floor_core.specs.Core.{Raise, owes_no_mark, shape_of};
 ghost use Rattle.port_call.specs.Tell.{Tells};
 
 use crate::send::settle;
-use floor_core::gic_base::Key;
-use floor_core::port_core::{CoreStep, Port};
+use floor_core::{CoreStep, Key, Port};
 
 /// Makes an interrupt of the guest pending, and marks and kicks the vCPUs that this concerns before it returns: its
 /// target, and the one that holds it, or where nobody does the one by which it is active. The actor owes no mark.

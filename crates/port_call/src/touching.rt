@@ -8,9 +8,7 @@ ghost use Rattle.port_call.specs.Touch.{FindsHome, HasFoundHome, MissesHome, Mis
 ghost use Rattle.port_call.specs.Touch.{Asks};
 
 use crate::send::settle;
-use floor_core::gic_base::Key;
-use floor_core::gic_call::Touching;
-use floor_core::port_core::{CoreStep, Port, WordId};
+use floor_core::{CoreStep, Key, Port, Touching, WordId};
 use std::sync::Wait;
 
 /// Why a touch was not made: a vCPU has the interrupt at its interface, which was asked for it; or the interrupt's word
@@ -26,7 +24,7 @@ fn holder_in(word: u64) -> Option<u32>
     requires { IsWord word }
     ensures { result ≡ (irq_of word).holder }
 {
-    floor_core::gic_word::unpack(word).and_then(|irq| irq.holder)
+    floor_core::irq_unpack(word).and_then(|irq| irq.holder)
 }
 
 /// Asks the vCPU that holds an interrupt for it: notes that an access waits for it, and kicks the vCPU.

@@ -3,14 +3,14 @@ ghost use Rattle.std.specs.Prelude.{◌≡◌, ◌&&◌, IsTrue, is_none, false}
 ghost use Rattle.floor_core.specs.Registers.{is_queue_word, queue_of};
 ghost use Rattle.port_call.specs.Turn.{TakesTurn, TriesTurn, GivesTurn};
 
-use floor_core::port_core::{CoreStep, Port, WordId};
+use floor_core::{CoreStep, Port, WordId};
 use std::sync::Wait;
 
 /// Whether nobody has the ITS, by its word.
 fn is_free(word: u64) -> bool
     ensures { result ≡ (is_queue_word word && is_none (queue_of word).turn) }
 {
-    floor_core::its_cmd::unpack(word).is_some_and(|queue| queue.turn.is_none())
+    floor_core::queue_unpack(word).is_some_and(|queue| queue.turn.is_none())
 }
 
 /// Looks at the ITS's word, and tries to take the ITS where nobody has it. Whether it took it.

@@ -5,12 +5,10 @@ ghost use Rattle.port_core.specs.After.{shown, interface_of, id_of, accessed};
 
 use crate::at_list::{AtIrq, Change, Which};
 use crate::local::{Local, Phase};
-use floor_calls::gic_base::IccReg;
-use floor_calls::gic_prio::{
-    Candidate, CpuRec, acknowledged, cpu_written, earlier, intid_deactivated, level_activated,
-    listens,
+use floor_calls::{
+    Candidate, CpuRec, Group, IccReg, acknowledged, cpu_written, earlier, intid_deactivated,
+    level_activated, listens,
 };
-use floor_calls::gic_word::Group;
 
 /// The interrupt as a candidate for delivery: pending there, not active, and of a group that the vCPU listens to.
 fn candidate(entry: &AtIrq, cpu: &CpuRec) -> Option<Candidate>

@@ -3,7 +3,7 @@ ghost use Rattle.std.specs.Prelude.{◌≡◌, ◌<◌, ◌≤◌, IsTrue};
 ghost use Rattle.floor_calls.specs.Words.{IsShape};
 ghost use Rattle.port_core.specs.Actor.{actor_count as count_of, actor_at as actor_in, guest_of as guest_in, number_of as number_in, has_actor};
 
-use floor_calls::gic_base::{Actor, GuestShape};
+use floor_calls::{Actor, GuestShape};
 
 /// How many actors a guest has, at most 36.
 pub fn actor_count(shape: &GuestShape) -> u32

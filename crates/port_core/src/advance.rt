@@ -18,10 +18,9 @@ use crate::owed::{MarkSet, NO_VCPUS, with_all, without_vcpu};
 use crate::step::CoreStep;
 use crate::word_id::{WordId, index_words};
 use crate::words::{CtlrWord, VcpuWord};
-use floor_calls::gic_base::{GuestShape, IccReg, Key};
-use floor_calls::gic_call::Touching;
-use floor_calls::gic_word::{Irq, ripe, target_in, unpack};
-use floor_calls::its_cmd::QueueWord;
+use floor_calls::{
+    GuestShape, IccReg, Irq, Key, QueueWord, Touching, irq_unpack as unpack, ripe, target_in,
+};
 
 /// Whom a cause that comes or goes concerns: the target, and the vCPU that holds the interrupt, or where nobody does
 /// the one by which it is active.
@@ -263,5 +262,5 @@ pub(crate) fn queue_in(word: u64) -> QueueWord
     ensures value { result ≡ queue_of word }
     ensures queue { IsQueue result }
 {
-    floor_calls::its_cmd::unpack(word).unwrap()
+    floor_calls::queue_unpack(word).unwrap()
 }

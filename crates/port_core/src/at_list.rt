@@ -6,9 +6,7 @@ ghost use Rattle.port_core.specs.After.{acknowledged_entry, deactivated_entry, c
 ghost use Rattle.port_core.specs.AtList.{changed_by, changed_if, changed_where, is_which};
 
 use arrayvec::ArrayVec;
-use floor_calls::gic_base::{Back, Key, MAX_LIST_REGISTERS};
-use floor_calls::gic_call::Entry;
-use floor_calls::gic_word::{Group, Irq, has_active_state};
+use floor_calls::{Back, Entry, Group, Irq, Key, MAX_LIST_REGISTERS, has_active_state};
 use std::marker::Model;
 
 /// An interrupt at a vCPU's interface, as the vCPU has it for itself.

@@ -18,13 +18,10 @@ use crate::local::Local;
 use crate::step::CoreStep;
 use crate::word_id::{WORD_BITS, index_bit};
 use crate::words::{CtlrWord, VcpuWord};
-use floor_calls::gic_base::{Back, GuestShape, Key};
-use floor_calls::gic_call::Touching;
-use floor_calls::gic_dmap::enables_in;
-use floor_calls::gic_word::{
-    HELD_BY_NONE, Irq, RAISE, WIRE_DOWN, WIRE_UP, active_mask, cause_mask, pack,
+use floor_calls::{
+    Back, GuestShape, HELD_BY_NONE, Irq, Key, QueueWord, RAISE, Touching, WIRE_DOWN, WIRE_UP,
+    active_mask, cause_mask, enables_in, irq_pack as pack,
 };
-use floor_calls::its_cmd::QueueWord;
 
 /// An access waits for the interrupt.
 const WANT: u64 = 1 << 8;
@@ -119,11 +116,7 @@ fn turn_take_by(seen: u64, actor: u32) -> Atomic
         turn: Some(actor),
         ..queue
     };
-    exchange_if(
-        queue.turn.is_none(),
-        seen,
-        floor_calls::its_cmd::pack(&taken),
-    )
+    exchange_if(queue.turn.is_none(), seen, floor_calls::queue_pack(&taken))
 }
 
 /// The word of a queue that an actor has.
@@ -132,7 +125,7 @@ fn queue_word(offset: u32, stalled: bool, actor: u32) -> u64
     requires offset { IsOffset offset }
     ensures { result ≡ packed_queue (record { turn = Some actor; offset = offset; stalled = stalled }) }
 {
-    floor_calls::its_cmd::pack(&QueueWord {
+    floor_calls::queue_pack(&QueueWord {
         turn: Some(actor),
         offset,
         stalled,

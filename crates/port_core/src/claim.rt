@@ -4,9 +4,7 @@ ghost use Rattle.floor_calls.specs.Words.{max_vcpus, IsIrq};
 ghost use Rattle.port_core.specs.Effect.{may_hold as can_hold, may_move as can_move, moved_irq};
 
 use crate::local::Local;
-use floor_calls::gic_base::{GuestShape, Key};
-use floor_calls::gic_call::{Moved, may_reach, may_take};
-use floor_calls::gic_word::Irq;
+use floor_calls::{GuestShape, Irq, Key, Moved, may_reach, may_take};
 
 /// Whether nobody waits for an interrupt, or it is active by the vCPU, which alone can end it.
 fn may_hold(irq: &Irq, vcpu: u32) -> bool

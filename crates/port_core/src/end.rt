@@ -1,6 +1,5 @@
 //! The words and tables of guests as a run leaves them.
-use floor_calls::gic_list::ListOf;
-use floor_calls::its_tab::ItsTables;
+use floor_calls::{ItsTables, ListOf};
 
 /// Words, in the order of what they are of.
 pub type WordList = ListOf<u64>;

@@ -24,8 +24,11 @@ pub use at_list::{AtIrq, AtList};
 pub use atomic::Atomic;
 pub use end::{EndWords, GuestWords, WordList};
 pub use floor_calls::{
-    gic_base, gic_call, gic_dmap, gic_guest, gic_imap, gic_list, gic_open, gic_prio, gic_word,
-    its_cmd, its_tab,
+    Actor as GuestActor, Answer, Answers, Command, CpuRec, DeviceOp, Enables, End as GuestEnd,
+    Ends, GuestOp, GuestShape, GuestSpec, Guests, Irq, ItsReg as Reg, ItsRegRef as RegRef,
+    ItsTables, ListOf, LrList, NoMemory, PeOp, PlainWord, RunOut, Touching, empty, enables_in,
+    encode, interrupt_count, irq_pack as pack, irq_unpack, irqs, its_decode as decode, key_at,
+    opening_cpu, opening_enables, place_of_plain, plain_count, queue_unpack,
 };
 pub use laws::{opening_is_sound, parts_join, runs_are_sound, runs_join, steps_keep_sound};
 pub use local::{Local, Phase};

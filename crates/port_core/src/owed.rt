@@ -4,8 +4,7 @@ ghost use Rattle.floor_calls.specs.Words.{IsSeat, IsShape, max_vcpus, has_interr
 ghost use Rattle.port_core.specs.Local.{no_vcpus, with_vcpu as set_with, with_some as set_with_some, with_all as set_with_all, without_vcpu as set_without, no_cands, without_cand, with_cand_word, is_cand, settled};
 
 use crate::word_id::{WORD_BITS, index_bit};
-use floor_calls::gic_aff::Targets;
-use floor_calls::gic_base::{GuestShape, Key};
+use floor_calls::{GuestShape, Key, Targets};
 
 /// The words of a vCPU's candidates.
 pub const CAND_WORDS: usize = 96;
@@ -71,7 +70,7 @@ impl Cands {
         requires { bit / 64 < 96 }
         ensures { result ≡ is_cand self.now bit }
     {
-        floor_calls::gic_bits::has_bit(self.words[(bit / WORD_BITS) as usize], bit % WORD_BITS)
+        floor_calls::has_bit(self.words[(bit / WORD_BITS) as usize], bit % WORD_BITS)
     }
 
     /// Without the interrupt of a bit, below 6144.

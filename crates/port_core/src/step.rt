@@ -4,8 +4,7 @@ ghost use Rattle.floor_calls.specs.Words.{IsShape};
 ghost use Rattle.port_core.specs.Step.{CanStep, word_of};
 
 use crate::word_id::{WORD_BITS, WordId, index_bit};
-use floor_calls::gic_base::{Back, GuestShape, IccReg, Key};
-use floor_calls::gic_call::Touching;
+use floor_calls::{Back, GuestShape, IccReg, Key, Touching};
 
 /// One atomic step of an actor on one word.
 #[derive(Clone, Copy, Debug, PartialEq, Eq, Hash)]

@@ -3,8 +3,7 @@ ghost use Rattle.std.specs.Prelude.{◌≡◌, IfOk};
 ghost use Rattle.std.specs.Slots.{slots_items, slots_len, IsFull};
 
 use atomic_table::Closed;
-use port_core::WordList;
-use port_core::gic_list::ListOf;
+use port_core::{ListOf, WordList};
 use std::alloc::{AllocError, Global};
 
 /// All words of a closed table, of which there are so many. An error where memory for them is refused.

@@ -4,10 +4,7 @@ ghost use Rattle.port_core.specs.Calls.{IsGoodGuest};
 ghost use Rattle.port_core.specs.Run.{opening};
 ghost use Rattle.port_ops.specs.World.{locals_in};
 
-use port_core::gic_guest::GuestSpec;
-use port_core::gic_list::ListOf;
-use port_core::gic_open::opening_cpu;
-use port_core::{Local, actor_at, actor_count};
+use port_core::{GuestSpec, ListOf, Local, actor_at, actor_count, opening_cpu};
 use std::alloc::{AllocError, Global};
 
 /// A guest as it opened, with its number. The rule of its words speaks of it.

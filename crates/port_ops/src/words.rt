@@ -7,14 +7,11 @@ ghost use Rattle.port_core.specs.Place.{has_word, word_count as count_of};
 ghost use Rattle.port_core.specs.Run.{opening, opening_word as word_at_opening};
 ghost use Rattle.port_ops.specs.Words.{word_among, words_among, words_at_end};
 
-use port_core::gic_base::{GuestShape, interrupt_count, key_at};
-use port_core::gic_dmap::enables_in;
-use port_core::gic_guest::GuestSpec;
-use port_core::gic_list::ListOf;
-use port_core::gic_open::{irqs, opening_enables, plain_count};
-use port_core::gic_word::{Irq, pack};
-use port_core::its_tab::ItsTables;
-use port_core::{CtlrWord, GuestWords, WordId, WordList, place_of_word, word_at, word_count};
+use port_core::{
+    CtlrWord, GuestShape, GuestSpec, GuestWords, Irq, ItsTables, ListOf, WordId, WordList,
+    enables_in, interrupt_count, irqs, key_at, opening_enables, pack, place_of_word, plain_count,
+    word_at, word_count,
+};
 use std::alloc::{AllocError, Global};
 
 /// The word at a place as a guest opens, whose interrupts open with these records, in key order.

@@ -1,10 +1,8 @@
 //! A scenario of one guest.
 ghost use Rattle.std.specs.Prelude.{◌≡◌, ◌∷◌, [], IfOk};
 
-use floor_core::gic_base::GuestShape;
-use floor_core::gic_guest::{GuestSpec, Preset};
-use scn_base::Scenario;
-use scn_base::gic_list::ListOf;
+use floor_core::GuestShape;
+use scn_base::{GuestSpec, ListOf, Preset, Scenario};
 use std::alloc::{AllocError, Global};
 
 /// A scenario without steps, of one guest with these presets, on one PE with four list registers; `on` says how GICD_CTLR and

@@ -2,7 +2,7 @@
 ghost use Rattle.std.specs.Prelude.{◌≡◌, ◌↔◌, IsTrue, []};
 ghost use Rattle.floor_core.specs.Core.{has_no_cand as has_no_cand_in, owes_nothing as owes_nothing_in, is_settled as is_settled_in};
 
-use floor_core::port_core::{Local, NO_VCPUS};
+use floor_core::{Local, NO_VCPUS};
 
 /// The actor has no candidate.
 fn has_no_cand(local: &Local) -> bool

@@ -4,12 +4,10 @@ ghost use Rattle.port_seq.specs.Ports.{told_all};
 
 use dev_port::{AlreadySo, Wire, message, msi, set_wire};
 use port_rest::is_settled;
-use port_seq::SeqPort;
-use port_seq::gic_base::{Actor, GuestShape, Key};
-use port_seq::gic_guest::{GuestSpec, Preset, PresetList};
-use port_seq::gic_list::ListOf;
-use port_seq::port_core::{CoreStep, Port, WordId};
-use port_seq::scn_base::{Mode, Scenario};
+use port_seq::{
+    Actor, CorePort as Port, CoreStep, GuestShape, GuestSpec, Key, ListOf, Mode, Preset,
+    PresetList, Scenario, SeqPort, WordId,
+};
 use std::alloc::{AllocError, Global};
 use std::sync::Wait;
 use std::test::Fail;

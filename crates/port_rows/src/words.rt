@@ -1,9 +1,7 @@
 //! The numbering of words, and what words say.
-use port_seq::gic_base::{GuestShape, Key};
-use port_seq::gic_dmap::Enables;
-use port_seq::port_core::{
-    CtlrWord, VcpuWord, WordId, index_bit, index_bits, index_words, key_of_bit, place_of_word,
-    word_at, word_count,
+use port_seq::{
+    CtlrWord, Enables, GuestShape, Key, VcpuWord, WordId, index_bit, index_bits, index_words,
+    key_of_bit, place_of_word, word_at, word_count,
 };
 
 /// 64 private interrupts, 32 SPIs, 32 extended SPIs and 40 LPIs make 168 in all; a vCPU's index has 136 bits in three words, so its

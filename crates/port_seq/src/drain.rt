@@ -3,8 +3,7 @@ ghost use Rattle.std.specs.Prelude.{◌≡◌, IfOk};
 ghost use Rattle.std.specs.Slots.{slots_items, slots_len, IsFull};
 
 use atomic_table::Closed;
-use port_ops::closed_words;
-use port_ops::port_core::WordList;
+use port_ops::{WordList, closed_words};
 use std::alloc::{AllocError, Global};
 
 /// All words, of which there are so many, and the memory of the table is given back.

@@ -12,11 +12,11 @@ use crate::drain::drain;
 use crate::its_home::ItsHome;
 use crate::rule::{OneThread, make};
 use atomic_table::{Seat, Table};
-use port_ops::its_tab::ItsTables;
-use port_ops::port_core::{CoreStep, Entry, GuestWords, Local, place_of_word};
-use port_ops::{Opened, guest_words, opening_words};
-use scn_base::gic_guest::GuestSpec;
-use scn_base::gic_list::ListOf;
+use port_ops::{
+    CoreStep, Entry, GuestWords, ItsTables, Local, Opened, guest_words, opening_words,
+    place_of_word,
+};
+use scn_base::{GuestSpec, ListOf};
 use std::alloc::{AllocError, Global};
 use std::mem;
 
@@ -68,7 +68,7 @@ impl GuestPort {
             table,
             seat,
             locals,
-            its: ItsHome::Here(port_ops::its_tab::empty(alloc)),
+            its: ItsHome::Here(port_ops::empty(alloc)),
             actor: 0,
         })
     }

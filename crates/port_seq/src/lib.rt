@@ -13,6 +13,12 @@ mod tests;
 
 pub use guest::GuestPort;
 pub use port::SeqPort;
-pub use port_ops::{gic_call, gic_dmap, gic_imap, gic_open, its_tab, port_core};
-pub use scn_base;
-pub use scn_base::{gic_base, gic_guest, gic_list, gic_word};
+pub use port_ops::{
+    CoreStep, CtlrWord, Enables, EndWords, ItsTables, Local, PlainWord, Port as CorePort, Reg,
+    RegRef, Touching, VcpuWord, WordId, decode, index_bit, index_bits, index_words, key_of_bit,
+    place_of_plain, place_of_word, word_at, word_count,
+};
+pub use scn_base::{
+    Actor, DeviceOp, Frame, GuestOp, GuestShape, GuestSpec, IccReg, Key, Kind, ListOf, LrList,
+    Mode, NoMemory, Preset, PresetList, Scenario, is_good_op, key_of, pending, target_in, unpack,
+};

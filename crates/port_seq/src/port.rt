@@ -3,10 +3,8 @@ ghost use Rattle.std.specs.Prelude.{◌≡◌, ◌<◌, ◌≤◌, All, IfOk, le
 ghost use Rattle.port_ops.specs.Calls.{IsGoodGuest};
 
 use crate::guest::GuestPort;
-use port_ops::port_core::{EndWords, guest_of, number_of};
-use scn_base::Scenario;
-use scn_base::gic_base::Actor;
-use scn_base::gic_list::ListOf;
+use port_ops::{EndWords, guest_of, number_of};
+use scn_base::{Actor, ListOf, Scenario};
 use std::alloc::{AllocError, Global};
 
 /// All guests of a scenario, of which the actors make their steps one after the other. One actor is told at a time.

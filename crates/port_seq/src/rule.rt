@@ -11,9 +11,8 @@ ghost use Rattle.port_seq.specs.Rule.{IsAfter, IsMade};
 ghost use Rattle.port_ops.specs.World.{state_after};
 
 use atomic_table::{Seat, Shared, TableRule};
-use port_ops::port_core::{Atomic, CoreStep, Entry};
-use port_ops::{Doing, Opened, Tells, operate};
-use scn_base::gic_list::ListOf;
+use port_ops::{Atomic, CoreStep, Doing, Entry, Opened, Tells, operate};
+use scn_base::ListOf;
 use std::marker::{Brand, PhantomData};
 
 /// The words are those after the steps that the one seat knows.

@@ -1,8 +1,7 @@
 //! The port of the actor that is told, of any guest.
 use crate::port::SeqPort;
-use port_ops::its_tab::ItsTables;
-use port_ops::port_core::{CoreStep, Local, Port};
-use scn_base::gic_base::GuestShape;
+use port_ops::{CoreStep, ItsTables, Local, Port};
+use scn_base::GuestShape;
 
 impl Port for SeqPort {
     ghost use Rattle.port_seq.specs.Told.{seen_in};

@@ -3,11 +3,8 @@ ghost use Rattle.port_seq.specs.Told.{IsOpening};
 ghost use Rattle.port_seq.specs.Ports.{told_all};
 
 use crate::SeqPort;
-use port_ops::port_core::{CoreStep, GuestWords, NO_VCPUS, Port, WordId};
-use scn_base::gic_base::{Actor, GuestShape, Key};
-use scn_base::gic_guest::{GuestSpec, Preset, PresetList};
-use scn_base::gic_list::ListOf;
-use scn_base::{Mode, Scenario};
+use port_ops::{CoreStep, GuestWords, NO_VCPUS, Port, WordId};
+use scn_base::{Actor, GuestShape, GuestSpec, Key, ListOf, Mode, Preset, PresetList, Scenario};
 use std::alloc::{AllocError, Global};
 use std::test::Fail;
 

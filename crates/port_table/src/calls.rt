@@ -13,11 +13,11 @@ use crate::guest::{GuestRoot, GuestTable};
 use crate::port::TablePort;
 use crate::rule::{give_back, join_in, split_off};
 use atomic_table::{Closed, Table};
-use port_ops::gic_open::opening_cpu;
-use port_ops::its_tab::ItsTables;
-use port_ops::port_core::{GuestWords, Local, WordList, actor_at};
-use port_ops::{Opened, closed_words, guest_words, opening_words};
-use scn_base::gic_guest::GuestSpec;
+use port_ops::{
+    GuestWords, ItsTables, Local, Opened, WordList, actor_at, closed_words, guest_words,
+    opening_cpu, opening_words,
+};
+use scn_base::GuestSpec;
 use std::alloc::{AllocError, Global};
 
 /// The words of a table, of which there are so many, and what lies in its slot; its memory is given back.
@@ -53,7 +53,7 @@ impl GuestTable {
         let opened = Opened::of(alloc, number, guest)?;
         let words = opening_words(alloc, &opened.guest)?;
         let mut slots = Vec::new(alloc);
-        slots.push(Some(port_ops::its_tab::empty(alloc)))?;
+        slots.push(Some(port_ops::empty(alloc)))?;
         match Table::new(alloc, words.as_slice(), slots, &opened) {
             Ok((table, seat)) => Ok((GuestTable { opened, table }, GuestRoot { seat })),
             Err(_) => Err(AllocError),

@@ -8,8 +8,7 @@ ghost use Rattle.port_table.specs.View.{split_of, joined_of};
 use crate::rule::ManyThreads;
 use crate::view::View;
 use atomic_table::{Seat, Table};
-use port_ops::Opened;
-use port_ops::its_tab::ItsTables;
+use port_ops::{ItsTables, Opened};
 use std::alloc::Global;
 
 /// The words that the actors of a guest share, with the tables of its ITS in a slot.

@@ -13,10 +13,8 @@ ghost use Rattle.port_table.specs.View.{own_of};
 use crate::rule::ManyThreads;
 use crate::view::View;
 use atomic_table::{Seat, Shared};
-use port_ops::Opened;
-use port_ops::its_tab::ItsTables;
-use port_ops::port_core::Local;
-use scn_base::gic_base::GuestShape;
+use port_ops::{ItsTables, Local, Opened};
+use scn_base::GuestShape;
 
 /// An actor's port, which any thread may use: the actor's seat at the shared words, and what the actor has for itself.
 #[derive(Drop)]

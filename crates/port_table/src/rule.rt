@@ -15,9 +15,7 @@ ghost use Rattle.port_table.specs.View.{is_among, own_of, split_of, joined_of, n
 
 use crate::view::View;
 use atomic_table::{Join, Seat, Shared, Split, TableRule};
-use port_ops::its_tab::ItsTables;
-use port_ops::port_core::{Atomic, CoreStep};
-use port_ops::{Doing, Opened, Tells, operate};
+use port_ops::{Atomic, CoreStep, Doing, ItsTables, Opened, Tells, operate};
 use std::marker::{Brand, PhantomData};
 
 /// What the seats know is the parts of one run, which leaves the words and the tables.

@@ -1,9 +1,8 @@
 //! The steps of an actor through its port.
 use crate::port::TablePort;
 use crate::rule::make;
-use port_ops::its_tab::ItsTables;
-use port_ops::port_core::{CoreStep, Local, Port, place_of_word};
-use scn_base::gic_base::GuestShape;
+use port_ops::{CoreStep, ItsTables, Local, Port, place_of_word};
+use scn_base::GuestShape;
 
 impl<'a> Port for TablePort<'a> {
     ghost use Rattle.port_table.specs.Ports.{seen_of};

@@ -9,10 +9,8 @@ ghost use Rattle.port_table.specs.Told.{words_at, number_in, opening_seen, IsOpe
 use crate::guest::GuestTable;
 use crate::port::TablePort;
 use crate::shared::{RootSeat, SharedWords};
-use port_ops::port_core::{EndWords, guest_of, number_of};
-use scn_base::Scenario;
-use scn_base::gic_base::Actor;
-use scn_base::gic_list::ListOf;
+use port_ops::{EndWords, guest_of, number_of};
+use scn_base::{Actor, ListOf, Scenario};
 use std::alloc::{AllocError, Global};
 
 /// The words of a scenario's guests as they open, and the root of all. The guests are good: each, and at most 4 of them. An

@@ -1,6 +1,6 @@
 //! What the seats of a shared table know. Such values exist in proofs alone.
-use port_ops::port_core::Made;
-use scn_base::gic_list::ListOf;
+use port_ops::Made;
+use scn_base::ListOf;
 
 /// An actor, with the steps that it made, oldest first.
 #[derive(Drop)]

@@ -1,9 +1,6 @@
 //! A schedule of vCPUs that have nothing to do with each other.
 
-use gic_top::gic_base::{GuestOp, GuestShape, IccReg};
-use gic_top::gic_guest::{GuestSpec, Preset};
-use gic_top::gic_list::ListOf;
-use gic_top::scn_base::{Scenario, Step, Steps};
+use gic_top::{GuestOp, GuestShape, GuestSpec, IccReg, ListOf, Preset, Scenario, Step, Steps};
 use std::alloc::{AllocError, Global};
 
 /// How many vCPUs there are, each of which has a PE where steps are done in order.

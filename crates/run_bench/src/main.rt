@@ -5,12 +5,7 @@
 mod apart;
 mod schedule;
 
-use gic_top::NOTHING_SHOWN;
-use gic_top::gic_base::NoMemory;
-use gic_top::gic_guest::{Answer, RunOut};
-use gic_top::gic_ideal::eager;
-use gic_top::gic_io::OpenGate;
-use gic_top::scn_base::{MAX_PES, Mode, Scenario};
+use gic_top::{Answer, MAX_PES, Mode, NOTHING_SHOWN, NoMemory, OpenGate, RunOut, Scenario, eager};
 use std::alloc::{AllocError, Global};
 use std::env;
 use std::process::ExitCode;
@@ -106,7 +101,7 @@ fn run_on_pes<R: Threads + Wait + Sync>(
         return Ok(None);
     }
     let mut shown = NOTHING_SHOWN;
-    Ok(Some(gic_top::run_thr::run(rt, alloc, scenario, pes, PER_TURN, &OpenGate, &mut shown)?))
+    Ok(Some(gic_top::run_thr_run(rt, alloc, scenario, pes, PER_TURN, &OpenGate, &mut shown)?))
 }
 
 /// The run of a scenario, or none where that has a fault.
@@ -124,7 +119,7 @@ fn run<R: Threads + Wait + Sync>(
     }
     let mut shown = NOTHING_SHOWN;
     Ok(Some(if matches!(runner, Runner::Words) {
-        gic_top::run_seq::run(rt, alloc, scenario, &mut shown)?
+        gic_top::run_seq_run(rt, alloc, scenario, &mut shown)?
     } else {
         eager(alloc, scenario)?
     }))

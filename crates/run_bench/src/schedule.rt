@@ -1,9 +1,8 @@
 //! The schedule that is timed.
 
-use gic_top::gic_base::{DeviceOp, Frame, GuestOp, GuestShape, IccReg};
-use gic_top::gic_guest::{GuestSpec, Preset};
-use gic_top::gic_list::ListOf;
-use gic_top::scn_base::{Scenario, Step, Steps};
+use gic_top::{
+    DeviceOp, Frame, GuestOp, GuestShape, GuestSpec, IccReg, ListOf, Preset, Scenario, Step, Steps,
+};
 use std::alloc::{AllocError, Global};
 
 /// The SPI that is sent, acknowledged and ended over and over.

@@ -6,8 +6,7 @@ mod machine;
 mod scheduled;
 mod watch;
 
-pub use law_ends_agree::guest_end::Done;
-pub use law_ends_agree::{gic_ideal, its_cmd};
-pub use law_one_thread_is_eager::port_seq;
+pub use law_ends_agree::{Command, Done, eager, encode};
+pub use law_one_thread_is_eager::SeqPort;
 pub use scheduled::{run, run_on};
 pub use watch::SeqWatch;

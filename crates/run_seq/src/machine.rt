@@ -6,12 +6,11 @@ ghost use Rattle.law_one_thread_is_eager.specs.PortSeq.Ports.{told_all};
 ghost use Rattle.law_one_thread_is_eager.specs.PortSeq.Told.{IsOpening};
 ghost use Rattle.run_seq.specs.Opened.{AreOpened};
 
-use law_ends_agree::gic_base::{Actor, DeviceOp, GuestOp, NoMemory, PeOp};
-use law_ends_agree::gic_guest::{Answer, LrList};
-use law_ends_agree::guest_end::answer_of;
-use law_ends_agree::scn_base::{Pes, Scenario, Step, VcpuName, move_pes, opening_pes};
-use law_one_thread_is_eager::port_seq::SeqPort;
-use law_one_thread_is_eager::seq_guest::Vcpus;
+use law_ends_agree::{
+    Actor, Answer, DeviceOp, GuestOp, LrList, NoMemory, PeOp, Pes, Scenario, Step, VcpuName,
+    answer_of, move_pes, opening_pes,
+};
+use law_one_thread_is_eager::{SeqPort, Vcpus};
 use std::alloc::{AllocError, Global};
 use std::sync::Wait;
 

@@ -11,12 +11,8 @@ ghost use Rattle.run_seq.specs.Run.{HasRun, SamePorts};
 
 use crate::machine::{Machine, first_of};
 use crate::watch::SeqWatch;
-use law_ends_agree::gic_base::NoMemory;
-use law_ends_agree::gic_guest::{Answers, Guests, RunOut};
-use law_ends_agree::guest_end::{CpuRecs, Done, ends_of};
-use law_ends_agree::scn_base::Scenario;
-use law_one_thread_is_eager::port_seq::SeqPort;
-use law_one_thread_is_eager::seq_guest::add_cpus;
+use law_ends_agree::{Answers, CpuRecs, Done, Guests, NoMemory, RunOut, Scenario, ends_of};
+use law_one_thread_is_eager::{SeqPort, add_cpus};
 use std::alloc::{AllocError, Global};
 use std::sync::Wait;
 

@@ -4,9 +4,8 @@ ghost use Rattle.law_ends_agree.specs.ScnBase.declared.scenario.Scenario.{Scenar
 ghost use Rattle.law_one_thread_is_eager.specs.PortSeq.Ports.{told_all};
 ghost use Rattle.run_seq.specs.Run.{HasRun};
 
-use law_ends_agree::guest_end::Done;
-use law_ends_agree::scn_base::Scenario;
-use law_one_thread_is_eager::port_seq::SeqPort;
+use law_ends_agree::{Done, Scenario};
+use law_one_thread_is_eager::SeqPort;
 
 /// Who is shown each scheduled run, before its words are closed.
 pub trait SeqWatch {

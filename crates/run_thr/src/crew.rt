@@ -8,10 +8,7 @@ ghost use Rattle.run_thr.specs.Returned.{HaveReturned};
 
 use std::sync::Wait;
 use std::thread::Threads;
-use thr_cast::Hand;
-use thr_cast::gic_io::Gate;
-use thr_cast::thr_trip::{Naming, Trip, Turns, run_all};
-use thr_cast::vcpu_shelf::Shelf;
+use thr_cast::{Gate, Hand, Naming, Shelf, Trip, Turns, run_all};
 
 /// All of them do what they have to do, each in a thread of its own where one can be made.
 pub fn run_crew<'a, J: Naming + Send, R: Threads + Wait + Sync, G: Gate + Sync>(

@@ -6,15 +6,10 @@ ghost use Rattle.law_threads_are_history.specs.ScnBase.Good.{IsGood};
 
 use crate::threaded::run_on;
 use crate::watch::ThrWatch;
-use law_threads_are_history::gic_base::NoMemory;
-use law_threads_are_history::gic_guest::RunOut;
-use law_threads_are_history::guest_end::ends_of;
-use law_threads_are_history::scn_base::Scenario;
 use std::alloc::Global;
 use std::sync::Wait;
 use std::thread::Threads;
-use thr_cast::gic_io::Gate;
-use thr_cast::port_table::{finish, start};
+use thr_cast::{Gate, NoMemory, RunOut, Scenario, ends_of, finish, start};
 
 /// Runs a scenario on so many PEs (1 to 8), each a thread, with up to so many operations (1 to 1000) of a vCPU while it is on one,
 /// and each device a thread, and shows the run to the watch, which was shown less than 2^64 - 1 before. What it answers is what

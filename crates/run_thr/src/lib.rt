@@ -7,6 +7,6 @@ mod threaded;
 mod watch;
 
 pub use history::run;
-pub use thr_cast::port_table;
+pub use thr_cast::{RootSeat, SharedWords};
 pub use threaded::run_on;
 pub use watch::ThrWatch;

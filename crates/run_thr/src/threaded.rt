@@ -8,18 +8,14 @@ ghost use Rattle.thr_cast.specs.Set.{IsSet};
 ghost use Rattle.run_thr.specs.Run.{HasRun};
 
 use crate::crew::run_crew;
-use law_threads_are_history::gic_base::NoMemory;
-use law_threads_are_history::guest_end::Done;
-use law_threads_are_history::scn_base::Scenario;
 use std::alloc::Global;
 use std::marker::Brand;
 use std::sync::Wait;
 use std::thread::Threads;
-use thr_cast::gic_io::Gate;
-use thr_cast::port_table::{RootSeat, SharedWords};
-use thr_cast::thr_trip::{Naming, Turns};
-use thr_cast::vcpu_shelf::{close, of};
-use thr_cast::{Back, Cast, add_devices, add_pes, all_answers, gather, take_apart};
+use thr_cast::{
+    Back, Cast, Done, Gate, Naming, NoMemory, RootSeat, Scenario, SharedWords, Turns, add_devices,
+    add_pes, all_answers, close, gather, of, take_apart,
+};
 
 /// Does the steps of a scenario, whose run has a name.
 fn run_as<'a, J: Naming + Send, R: Threads + Wait + Sync, G: Gate + Sync>(

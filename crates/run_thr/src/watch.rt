@@ -4,9 +4,7 @@ ghost use Rattle.law_threads_are_history.specs.ScnBase.declared.scenario.Scenari
 ghost use Rattle.thr_cast.specs.PortTable.All.{told_words, told_root};
 ghost use Rattle.run_thr.specs.Run.{HasRun};
 
-use law_threads_are_history::guest_end::Done;
-use law_threads_are_history::scn_base::Scenario;
-use thr_cast::port_table::{RootSeat, SharedWords};
+use thr_cast::{Done, RootSeat, Scenario, SharedWords};
 
 /// Who is shown each run on threads, before its words are closed.
 pub trait ThrWatch {

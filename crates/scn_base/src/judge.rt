@@ -11,8 +11,10 @@ use crate::fault::{
 };
 use crate::standing::{MovedWire, Standing};
 use crate::step::{Mode, Step};
-use gic_guest::gic_base::{DeviceOp, GuestOp, GuestShape, Key, PeOp, SGI_COUNT, key_of};
-use gic_guest::{fits, has_frame, is_inside, is_size, is_usable};
+use gic_guest::{
+    DeviceOp, GuestOp, GuestShape, Key, PeOp, SGI_COUNT, fits, has_frame, is_inside, is_size,
+    is_usable, key_of,
+};
 
 /// Whether the wire of a guest's interrupt can be moved: there are wires of PPIs and of SPIs.
 fn is_wired(shape: &GuestShape, key: Key) -> bool

@@ -6,9 +6,7 @@ ghost use Rattle.gic_guest.specs.Good.{shapes_of};
 ghost use Rattle.scn_base.specs.Good.{is_formed};
 
 use crate::step::{Mode, Step};
-use gic_guest::GuestSpec;
-use gic_guest::gic_base::{GuestShape, PeOp};
-use gic_guest::gic_list::ListOf;
+use gic_guest::{GuestShape, GuestSpec, ListOf, PeOp};
 use std::alloc::{AllocError, Global};
 
 /// A vCPU of the scenario: the number of its guest, and its own in the guest, each from 0.

@@ -6,9 +6,7 @@ ghost use Rattle.gic_guest.specs.Good.{IsGoodGuest};
 
 use crate::standing::Standing;
 use crate::step::{Mode, Step};
-use gic_guest::gic_base::is_list_register_count;
-use gic_guest::gic_list::ListOf;
-use gic_guest::{GuestSpec, Guests};
+use gic_guest::{GuestSpec, Guests, ListOf, is_list_register_count};
 use std::alloc::{AllocError, Global};
 
 /// The most PEs of a scenario, which has at least one.

@@ -8,9 +8,7 @@ ghost use Rattle.scn_base.specs.StepFault.{step_fault};
 
 use crate::pes::{Pes, move_pes, opening_pes};
 use crate::step::{Mode, Step};
-use gic_guest::GuestSpec;
-use gic_guest::gic_base::{DeviceOp, GuestShape, Key, interrupt_count, place_of};
-use gic_guest::gic_list::ListOf;
+use gic_guest::{DeviceOp, GuestShape, GuestSpec, Key, ListOf, interrupt_count, place_of};
 use std::alloc::{AllocError, Global};
 
 /// A wire that a device has moved.

@@ -1,5 +1,5 @@
 //! The steps of a scenario.
-use gic_guest::gic_base::{DeviceOp, GuestOp, PeOp};
+use gic_guest::{DeviceOp, GuestOp, PeOp};
 
 /// What one actor or PE does.
 #[derive(Clone, Copy, Debug, PartialEq, Eq, Hash)]

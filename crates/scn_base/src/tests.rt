@@ -1,7 +1,8 @@
 //! The text of a fault, who stands where, and which scenarios are good.
 use crate::{Fault, Mode, Scenario, Step, Steps, VcpuName, move_pes, opening_pes};
-use gic_guest::gic_base::{DeviceOp, Frame, GuestOp, GuestShape, IccReg, Key, PeOp};
-use gic_guest::{GuestSpec, Guests, PresetList};
+use gic_guest::{
+    DeviceOp, Frame, GuestOp, GuestShape, GuestSpec, Guests, IccReg, Key, PeOp, PresetList,
+};
 use std::alloc::{AllocError, Global};
 use std::test::Fail;
 

@@ -3,7 +3,7 @@ ghost use Rattle.std.specs.Prelude.{◌≡◌, map, option_map};
 ghost use Rattle.serde_json.specs.View.{view};
 ghost use Rattle.scn_hint.specs.Field.{holds as holds_of, misfit_of, misfit_in, amiss_in, told};
 
-use scn_read::json_field::{flag_at, list_at, number_at, other_field, pair_at, text_at};
+use scn_read::{flag_at, list_at, number_at, other_field, pair_at, text_at};
 use serde_json::Value;
 
 /// What a field holds.

@@ -7,13 +7,11 @@ ghost use Rattle.scn_hint.specs.Hint.{AllFit, IsFitGuest, name_of, guest_in, ste
 
 use crate::field::{Amiss, What, first_amiss};
 use crate::table::{GUEST_RULES, PRIVATE_RULES, SCENARIO_RULES, SHARED_RULES, rules_of};
-use scn_read::gic_base::PRIVATE_COUNT;
-use scn_read::json_field::{elements_at, number_at};
-use scn_read::scn_base::{
-    ADDRESS, Fault, LIMIT, NOT_LOADED, PE_BUSY, PE_STEP, SHAPE, UNKNOWN_ACTOR, UNKNOWN_REGISTER,
-    WIRE_LEVEL,
+use scn_read::{
+    ADDRESS, Fault, Form, GUEST_FIELDS, LIMIT, NOT_LOADED, PE_BUSY, PE_STEP, PRIVATE_COUNT,
+    PRIVATE_FIELDS, SCENARIO_FIELDS, SHAPE, SHARED_FIELDS, UNKNOWN_ACTOR, UNKNOWN_REGISTER,
+    WIRE_LEVEL, elements_at, number_at,
 };
-use scn_read::{Form, GUEST_FIELDS, PRIVATE_FIELDS, SCENARIO_FIELDS, SHARED_FIELDS};
 use serde_json::Value;
 use std::fmt;
 

@@ -11,4 +11,4 @@ mod tests;
 pub use field::{Amiss, Kind, Rule, What, first_amiss};
 pub use hint::{Hint, Place, code_name, hint_of};
 pub use law::fields_are_told;
-pub use scn_read;
+pub use scn_read::{Mode, ReadRefusal, read};

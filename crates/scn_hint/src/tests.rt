@@ -1,6 +1,6 @@
 //! What is told of some faults.
 use crate::hint_of;
-use scn_read::scn_base::Fault;
+use scn_read::Fault;
 use serde_json::Value;
 use std::test::Fail;
 

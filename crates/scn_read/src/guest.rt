@@ -9,11 +9,10 @@ use crate::defaults::{
 };
 use crate::preset::{Counts, presets};
 use json_field::{elements_at, flag_or, has_only, list_or_empty, number_or};
-use scn_base::gic_base::{
-    GuestShape, MAX_DEVICES, MAX_ESPIS, MAX_LPIS, MAX_RAM, MAX_SPIS, MAX_VCPUS, RAM_STEP, SPI_STEP,
+use scn_base::{
+    GuestShape, GuestSpec, Guests, LIMIT, MAX_DEVICES, MAX_ESPIS, MAX_LPIS, MAX_RAM, MAX_SPIS,
+    MAX_VCPUS, RAM_STEP, SHAPE, SPI_STEP, both, first_code,
 };
-use scn_base::gic_guest::{GuestSpec, Guests};
-use scn_base::{LIMIT, SHAPE, both, first_code};
 use serde_json::Value;
 use std::alloc::{AllocError, Global};
 

@@ -6,11 +6,10 @@ ghost use Rattle.scn_read.specs.Preset.{is_preset, written_of, is_in_range as is
 
 use crate::defaults::{DEFAULT_GROUP, DEFAULT_PRIORITY, DEFAULT_TARGET};
 use json_field::{flag_or, has_only, number_at, number_or};
-use scn_base::gic_base::{
-    FIRST_ESPI, FIRST_SPI, MAX_PRIORITY, PRIORITY_STEP, PRIVATE_COUNT, SGI_COUNT,
+use scn_base::{
+    FIRST_ESPI, FIRST_SPI, LIMIT, MAX_GROUP, MAX_PRIORITY, PRIORITY_STEP, PRIVATE_COUNT, Preset,
+    PresetList, SGI_COUNT, SHAPE, UNKNOWN_ACTOR, first_code,
 };
-use scn_base::gic_guest::{MAX_GROUP, Preset, PresetList};
-use scn_base::{LIMIT, SHAPE, UNKNOWN_ACTOR, first_code};
 use serde_json::Value;
 use std::alloc::{AllocError, Global};
 

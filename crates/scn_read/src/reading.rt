@@ -10,9 +10,9 @@ use crate::guest::guests;
 use crate::refusal::ReadRefusal;
 use crate::step::step;
 use json_field::{elements_at, has_only, list_at, number_or};
-use scn_base::gic_base::is_list_register_count;
 use scn_base::{
     Fault, LIMIT, MAX_GUESTS, MAX_PES, MAX_STEPS, Mode, SHAPE, Scenario, Standing, Steps, both,
+    is_list_register_count,
 };
 use serde_json::Value;
 use std::alloc::Global;

@@ -12,8 +12,10 @@ use crate::form::{
 };
 use crate::narrow::narrowed;
 use json_field::{flag_at, has_only, number_at, number_or, pair_at, text_at};
-use scn_base::gic_base::{DeviceOp, Frame, GuestOp, IccReg, Key, PeOp};
-use scn_base::{LIMIT, Mode, SHAPE, Standing, Step, UNKNOWN_REGISTER};
+use scn_base::{
+    DeviceOp, Frame, GuestOp, IccReg, Key, LIMIT, Mode, PeOp, SHAPE, Standing, Step,
+    UNKNOWN_REGISTER,
+};
 use serde_json::Value;
 
 /// The bytes of an access where the step does not say.

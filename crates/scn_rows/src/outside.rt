@@ -1,7 +1,6 @@
 //! All that stands outside of the steps: a scenario's own fields, guests and presets.
 use crate::table::{Want, expect_faults};
-use scn_read::Mode;
-use scn_read::scn_base::MAX_STEPS;
+use scn_read::{MAX_STEPS, Mode};
 use std::test::Fail;
 
 /// Whole scenarios.

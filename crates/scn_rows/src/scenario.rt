@@ -1,6 +1,8 @@
 //! What is read of a scenario, and what is shown of a refusal.
-use scn_read::gic_base::{DeviceOp, Frame, GuestOp, GuestShape, IccReg, Key, PeOp};
-use scn_read::{Fault, Mode, Preset, ReadRefusal, Scenario, Step, read};
+use scn_read::{
+    DeviceOp, Fault, Frame, GuestOp, GuestShape, IccReg, Key, Mode, PeOp, Preset, ReadRefusal,
+    Scenario, Step, read,
+};
 use serde_json::Value;
 use std::test::Fail;
 

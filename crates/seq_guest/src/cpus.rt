@@ -4,8 +4,7 @@ ghost use Rattle.port_seq.specs.Ports.{told};
 ghost use Rattle.seq_guest.specs.Guest.{cpus_of};
 
 use guest_end::CpuRecs;
-use port_seq::GuestPort;
-use port_seq::port_core::Port;
+use port_seq::{CorePort as Port, GuestPort};
 use std::alloc::AllocError;
 
 /// Adds the records of the CPU interfaces of a guest's vCPUs to a list, by vCPU. An error where memory for them is refused.

@@ -6,10 +6,8 @@ ghost use Rattle.pe_place.specs.Parts.{HaveCall};
 ghost use Rattle.seq_guest.specs.Guest.{AreAt, GoesOn, NoneKicked, ChangesSpots, for_none};
 
 use crate::vcpus::Vcpus;
-use guest_end::gic_base::DeviceOp;
 use pe_place::device_op;
-use port_seq::GuestPort;
-use port_seq::port_core::Port;
+use port_seq::{CorePort as Port, DeviceOp, GuestPort};
 use std::sync::Wait;
 
 impl Vcpus {

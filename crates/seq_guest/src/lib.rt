@@ -8,5 +8,5 @@ mod operate;
 mod vcpus;
 
 pub use cpus::add_cpus;
-pub use port_seq;
+pub use port_seq::SeqPort;
 pub use vcpus::Vcpus;

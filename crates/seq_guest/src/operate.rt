@@ -11,10 +11,8 @@ ghost use Rattle.pe_place.specs.Moves.{Moves};
 ghost use Rattle.seq_guest.specs.Guest.{AreAt, GoesOn, MakesWay, Operates, NoneKicked, spot_at, ChangesSpots, for_none};
 
 use crate::vcpus::Vcpus;
-use guest_end::gic_base::{Frame, GuestOp, NoMemory};
 use pe_place::operate_on;
-use port_seq::GuestPort;
-use port_seq::port_core::Port;
+use port_seq::{CorePort as Port, Frame, GuestOp, GuestPort, NoMemory};
 use std::sync::Wait;
 
 /// Whether an operation accesses a register of the distributor, of a redistributor or of the ITS: one that may be of interrupts

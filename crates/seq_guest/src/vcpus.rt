@@ -4,11 +4,8 @@ ghost use Rattle.guest_end.specs.Words.{MAX_LIST_REGISTERS};
 ghost use Rattle.port_seq.specs.Ports.{told};
 ghost use Rattle.port_seq.specs.Told.{opening_told};
 
-use guest_end::gic_guest::LrList;
-use pe_place::vcpu_state::Shelved;
-use pe_place::{Place, answer_kick, come_back, enter_pe, leave_pe, show_pe, step_aside};
-use port_seq::GuestPort;
-use port_seq::port_core::Port;
+use pe_place::{Place, Shelved, answer_kick, come_back, enter_pe, leave_pe, show_pe, step_aside};
+use port_seq::{CorePort as Port, GuestPort, LrList};
 use std::alloc::{AllocError, Global};
 use std::sync::Wait;
 

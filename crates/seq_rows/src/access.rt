@@ -2,7 +2,7 @@
 
 use crate::dice::Dice;
 use crate::guests::{lpi_id, priority, private_id, shared_id};
-use gic_top::gic_base::{Frame, GuestOp, IccReg};
+use gic_top::{Frame, GuestOp, IccReg};
 
 /// The bits of the used SPIs in a register of INTIDs 32 to 63, and of the used private interrupts in one of INTIDs 0 to 31.
 const SHARED_BITS: [u64; 6] = [0x100, 0x200, 0x400, 0x800, 0x300, 0xF00];

@@ -2,7 +2,7 @@
 
 use crate::dice::Dice;
 use crate::guests::lpi_id;
-use gic_top::its_cmd::{Command, encode};
+use gic_top::{QueueCommand as Command, encode};
 
 /// The device that has events.
 pub(crate) const DEVICE: u32 = 8;

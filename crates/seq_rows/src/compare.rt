@@ -2,13 +2,7 @@
 ghost use Rattle.gic_top.specs.ScnBase.Good.{IsGood};
 ghost use Rattle.gic_top.specs.ScnBase.declared.step.Mode.TheVariants.{Schedule};
 
-use gic_top::NOTHING_SHOWN;
-use gic_top::gic_base::NoMemory;
-use gic_top::gic_ideal::eager;
-use gic_top::gic_io::Bytes;
-use gic_top::gic_report::text;
-use gic_top::run_seq::run;
-use gic_top::scn_base::Scenario;
+use gic_top::{Bytes, NOTHING_SHOWN, NoMemory, Scenario, eager, run_seq_run as run, text};
 use std::alloc::Global;
 use std::sync::Wait;
 

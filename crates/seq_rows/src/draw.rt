@@ -7,9 +7,7 @@ use crate::access::{
 use crate::command::{DEVICE, setup, words};
 use crate::dice::Dice;
 use crate::guests::{guests, shared_id};
-use gic_top::gic_base::{DeviceOp, Frame, GuestOp, GuestShape, Key, PeOp};
-use gic_top::gic_list::ListOf;
-use gic_top::scn_base::{Scenario, Step, Steps};
+use gic_top::{DeviceOp, Frame, GuestOp, GuestShape, Key, ListOf, PeOp, Scenario, Step, Steps};
 use std::alloc::{AllocError, Global};
 
 /// Where a queue of one page begins, and the table of the LPIs' configurations.

@@ -4,7 +4,7 @@ use crate::compare::both_texts;
 use crate::dice::Dice;
 use crate::draw::{opening, steps};
 use crate::keep::keep;
-use gic_top::scn_base::Mode;
+use gic_top::Mode;
 use std::test::Fail;
 
 /// Seeds: the first of a row and how many, with how many tries of a step each has.

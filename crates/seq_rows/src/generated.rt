@@ -3,7 +3,7 @@
 ghost use Rattle.std.specs.Prelude.{◌≤◌};
 
 use crate::compare::both_texts;
-use gic_top::gic_soak::generate;
+use gic_top::generate;
 use std::alloc::Global;
 use std::process::Abort;
 use std::sync::Wait;

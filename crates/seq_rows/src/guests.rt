@@ -3,9 +3,7 @@
 ghost use Rattle.std.specs.Prelude.{◌<◌, ◌≤◌};
 
 use crate::dice::Dice;
-use gic_top::gic_base::GuestShape;
-use gic_top::gic_guest::{GuestSpec, Guests, Preset, PresetList};
-use gic_top::gic_list::ListOf;
+use gic_top::{GuestShape, GuestSpec, Guests, ListOf, Preset, PresetList};
 use std::alloc::{AllocError, Global};
 
 /// The priorities that are used.

@@ -6,8 +6,7 @@ ghost use Rattle.gic_top.specs.ScnBase.Good.{IsGood};
 ghost use Rattle.gic_top.specs.ScnBase.Standing.{IsStanding};
 ghost use Rattle.gic_top.specs.ScnBase.StepFault.{step_fault};
 
-use gic_top::gic_list::ListOf;
-use gic_top::scn_base::{Mode, Scenario, Standing, Step, Steps};
+use gic_top::{ListOf, Mode, Scenario, Standing, Step, Steps};
 use std::alloc::{AllocError, Global};
 
 /// How many vCPUs are tried.

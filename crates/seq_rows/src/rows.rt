@@ -1,7 +1,7 @@
 //! Worked scenarios, by both runs.
 
 use crate::compare::both_texts;
-use gic_top::scn_read::{Mode, read};
+use gic_top::{Mode, read};
 use serde_json::Value;
 use std::test::Fail;
 

@@ -2,11 +2,9 @@
 
 ghost use Rattle.std.specs.Prelude.{◌≤◌};
 
-use gic_top::gic_guest::Answer;
-use gic_top::gic_ideal::eager;
-use gic_top::gic_io::{MemSource, OpenGate, SureSink};
-use gic_top::gic_report::generate;
-use gic_top::{NOTHING_SHOWN, OK, USAGE, run_tool};
+use gic_top::{
+    Answer, MemSource, NOTHING_SHOWN, OK, OpenGate, SureSink, USAGE, eager, generate, run_tool,
+};
 use std::alloc::{AllocError, Global};
 use std::process::Abort;
 use std::sync::Wait;

@@ -7,12 +7,12 @@ ghost use Rattle.dev_port.specs.Device.{CanCall};
 ghost use Rattle.port_table.specs.All.{told_words, told_root};
 ghost use Rattle.port_table.specs.Told.{AreRoots, opening_root, words_at};
 
-use dev_port::gic_base::{Actor, GuestShape, Key, key_of};
 use dev_port::message;
 use port_rest::{is_settled, one_guest};
-use port_table::port_core::Port;
-use port_table::scn_base::Mode;
-use port_table::{RootSeat, SharedWords, TablePort, split, start};
+use port_table::{
+    Actor, CorePort as Port, GuestShape, Key, Mode, RootSeat, SharedWords, TablePort, key_of,
+    split, start,
+};
 use std::alloc::{AllocError, Global};
 use std::thread::{Threads, join_mut};
 

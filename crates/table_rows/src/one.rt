@@ -7,14 +7,11 @@ ghost use Rattle.dev_port.specs.Core.{IsSameActor};
 ghost use Rattle.table_rows.specs.Rows.{IsAlone};
 
 use crate::rows::{is_idle, open, scenario, send, send_event};
-use dev_port::gic_base::{Actor, IccReg};
-use pe_icc::icc_op;
-use pe_icc::pe_loop::{enter, leave};
-use pe_icc::vcpu_state::Shelved;
+use pe_icc::{Shelved, enter, icc_op, leave};
 use port_rest::is_off;
-use port_table::gic_word::unpack;
-use port_table::port_core::{GuestWords, Port};
-use port_table::{RootSeat, SharedWords, finish, join, split};
+use port_table::{
+    Actor, CorePort as Port, GuestWords, IccReg, RootSeat, SharedWords, finish, join, split, unpack,
+};
 use std::alloc::{AllocError, Global};
 use std::sync::Wait;
 use std::test::Fail;
@@ -24,7 +21,7 @@ use std::thread::{Threads, join as join_threads};
 const LIST_REGISTERS: u32 = 4;
 
 /// A vCPU enters a PE, acknowledges an interrupt of group 1, and leaves. None where it may not, or reads something else.
-#[tactic(auto, using(port_table::port_core::proofs::SameLemmas::same_after, port_table::port_core::proofs::SameLemmas::same_twice))]
+#[tactic(auto, using(port_table::proofs::PortCore::SameLemmas::same_after, port_table::proofs::PortCore::SameLemmas::same_twice))]
 fn visit<P: Port, R: Wait>(rt: &R, port: &mut P, answer: u64) -> Option<()>
     requires { (P.seen port.old).number ≡ 0 }
     ensures { IfSome result (λ done. IsSameActor (P.seen port.old) (P.seen port.new)) }

@@ -6,13 +6,11 @@ ghost use Rattle.port_table.specs.Told.{AreRoots, opening_root};
 ghost use Rattle.dev_port.specs.Core.{IsSameActor};
 ghost use Rattle.table_rows.specs.Rows.{IsAlone};
 
-use dev_port::gic_base::{GuestShape, Key, key_of};
-use dev_port::gic_guest::Preset;
 use dev_port::{message, msi};
 use port_rest::{is_settled, one_guest};
-use port_table::port_core::Port;
-use port_table::scn_base::{Mode, Scenario};
-use port_table::{RootSeat, SharedWords, start};
+use port_table::{
+    CorePort as Port, GuestShape, Key, Mode, Preset, RootSeat, Scenario, SharedWords, key_of, start,
+};
 use std::alloc::{AllocError, Global};
 use std::sync::Wait;
 
@@ -67,7 +65,7 @@ fn is_device<P: Port>(port: &P) -> bool
 }
 
 /// A device sends a message of an SPI. None where it may not.
-#[tactic(auto, using(port_table::port_core::proofs::SameLemmas::same_after))]
+#[tactic(auto, using(port_table::proofs::PortCore::SameLemmas::same_after))]
 pub(crate) fn send<P: Port>(port: &mut P, spi: u32) -> Option<()>
     ensures { IfSome result (λ done. IsSameActor (P.seen port.old) (P.seen port.new)) }
 {
@@ -79,7 +77,7 @@ pub(crate) fn send<P: Port>(port: &mut P, spi: u32) -> Option<()>
 }
 
 /// A device sends a message of an event to the ITS. None where it may not.
-#[tactic(auto, using(port_table::port_core::proofs::SameLemmas::same_after))]
+#[tactic(auto, using(port_table::proofs::PortCore::SameLemmas::same_after))]
 pub(crate) fn send_event<P: Port, R: Wait>(rt: &R, port: &mut P) -> Option<()>
     ensures { IfSome result (λ done. IsSameActor (P.seen port.old) (P.seen port.new)) }
 {

@@ -9,9 +9,10 @@ ghost use Rattle.dev_port.specs.Core.{IsSameActor};
 ghost use Rattle.table_rows.specs.Rows.{IsAlone, Goes};
 
 use crate::rows::{SHAPE, is_idle, open, scenario, send};
-use dev_port::gic_base::Actor;
-use port_table::port_core::{CoreStep, GuestWords, Port, WordId};
-use port_table::{RootSeat, SharedWords, TablePort, finish, join, split};
+use port_table::{
+    Actor, CorePort as Port, CoreStep, GuestWords, RootSeat, SharedWords, TablePort, WordId,
+    finish, join, split,
+};
 use std::alloc::{AllocError, Global};
 use std::test::Fail;
 use std::thread::{Threads, join_mut};
@@ -26,7 +27,7 @@ const MESSAGES: u32 = 1000;
 const OWN: u32 = 4;
 
 /// A device sends its messages, every other one of the shared interrupt. None where it may not.
-#[tactic(auto, using(port_table::port_core::proofs::SameLemmas::same_twice))]
+#[tactic(auto, using(port_table::proofs::PortCore::SameLemmas::same_twice))]
 fn raise_all<P: Port>(port: &mut P, own: u32) -> Option<()>
     requires { own < 1000 }
     ensures { IfSome result (λ done. Goes (P.seen port.old) (P.seen port.new)) }

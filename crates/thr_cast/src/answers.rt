@@ -3,10 +3,7 @@ ghost use Rattle.std.specs.Prelude.{◌≡◌, ◌+◌, ◌<◌, IfOk, None, len
 ghost use Rattle.guest_end.specs.Outcome.{answer_by};
 ghost use Rattle.thr_cast.specs.Answers.{AllHeard, AnswersAre, heard_by, next_of, place_by};
 
-use guest_end::answer_of;
-use guest_end::gic_guest::{Answer, Answers};
-use guest_end::gic_list::ListOf;
-use guest_end::scn_base::{Step, VcpuName};
+use guest_end::{Answer, GuestAnswers as Answers, ListOf, Step, VcpuName, answer_of};
 use std::alloc::{AllocError, Global};
 
 /// What the operations of a vCPU answered, oldest first.

@@ -7,13 +7,9 @@ ghost use Rattle.thr_cast.specs.Back.{BroughtBack, trips_in};
 ghost use Rattle.thr_cast.specs.Crew.{joined_all};
 
 use crate::answers::Heard;
-use guest_end::CpuRecs;
-use guest_end::gic_base::NoMemory;
-use guest_end::gic_list::ListOf;
-use guest_end::scn_base::VcpuName;
+use guest_end::{CpuRecs, ListOf, NoMemory, VcpuName};
 use std::alloc::Global;
-use thr_trip::port_table::{RootSeat, SharedWords, join};
-use thr_trip::{Naming, Trip};
+use thr_trip::{Naming, RootSeat, SharedWords, Trip, port_table_join as join};
 
 /// What the vCPUs of a run brought back.
 #[derive(Drop)]

@@ -8,13 +8,11 @@ ghost use Rattle.thr_cast.specs.Set.{IsSet};
 ghost use Rattle.thr_cast.specs.Split.{SplitTo};
 
 use crate::scripts::{device_script, vcpu_script};
-use guest_end::gic_base::Actor;
-use guest_end::gic_open::opening_cpu;
-use guest_end::scn_base::Scenario;
+use guest_end::{Actor, Scenario, opening_cpu};
 use std::alloc::{AllocError, Global};
-use thr_trip::port_table::{RootSeat, SharedWords, split};
-use thr_trip::vcpu_state::Shelved;
-use thr_trip::{DeviceRun, Naming, Trip};
+use thr_trip::{
+    DeviceRun, Naming, RootSeat, SharedWords, Shelved, Trip, port_table_split as split,
+};
 
 /// The vCPUs, in the order of guest and number, and the devices, each with its script and its port.
 #[derive(Drop)]

@@ -11,9 +11,10 @@ ghost use Rattle.thr_trip.specs.VcpuShelf.Told.{SawAllDone};
 ghost use Rattle.thr_cast.specs.Crew.{HaveWorkers, IsOver, devices_in, has_pe, joined_all, pe_numbers};
 
 use std::alloc::AllocError;
-use thr_trip::port_table::{RootSeat, SharedWords, join};
-use thr_trip::vcpu_shelf::{Shelf, ShelfSeat};
-use thr_trip::{DeviceRun, Naming, PeRun, Trip, Worker};
+use thr_trip::{
+    DeviceRun, Naming, PeRun, RootSeat, SharedWords, Shelf, ShelfSeat, Trip, Worker,
+    port_table_join as join,
+};
 
 /// What has a thread in a run: a PE, or a device.
 pub type Hand<'a, J> = Worker<Trip<'a, J>, DeviceRun<'a, J>>;
@@ -32,7 +33,7 @@ pub fn add_pes<'a, J: Naming + Send>(
     ensures numbers { OnOk result (pe_numbers workers.new.items ≡ range_with_len 0 pes) }
 {
     for pe in 0..pes {
-        let own = thr_trip::vcpu_shelf::split(shelf, seat);
+        let own = thr_trip::vcpu_shelf_split(shelf, seat);
         workers.push(Worker::Pe(PeRun::new(pe, own)))?;
     }
     Ok(())
@@ -73,7 +74,7 @@ pub fn gather<'a, J: Naming + Send>(
 {
     for worker in workers {
         match worker {
-            Worker::Pe(pe) => thr_trip::vcpu_shelf::join(shelf, seat, pe.into_seat()),
+            Worker::Pe(pe) => thr_trip::vcpu_shelf_join(shelf, seat, pe.into_seat()),
             Worker::Device(device) => join(words, root, device.into_port()),
         }
     }

@@ -12,5 +12,9 @@ pub use answers::{Heard, all_answers};
 pub use back::{Back, take_apart};
 pub use cast::Cast;
 pub use crew::{Hand, add_devices, add_pes, gather};
-pub use thr_trip;
-pub use thr_trip::{gic_io, port_table, vcpu_shelf};
+pub use guest_end::{
+    Done, NoMemory, RunOut, Scenario, ScenarioAnswers, ScenarioEnds as Ends, ends_of,
+};
+pub use thr_trip::{
+    Gate, Naming, RootSeat, SharedWords, Shelf, Trip, Turns, close, finish, of, run_all, start,
+};

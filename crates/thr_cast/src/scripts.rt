@@ -2,9 +2,7 @@
 ghost use Rattle.std.specs.Prelude.{◌≡◌, IfOk};
 ghost use Rattle.thr_trip.specs.Script.{vcpu_ops, device_ops};
 
-use guest_end::gic_base::{DeviceOp, GuestOp};
-use guest_end::gic_list::ListOf;
-use guest_end::scn_base::Step;
+use guest_end::{DeviceOp, GuestOp, ListOf, Step};
 use std::alloc::{AllocError, Global};
 
 /// The operations of a vCPU, in order. An error where memory for them is refused.

@@ -1,7 +1,8 @@
 //! A call of the tool.
 
-use gic_top::gic_io::{Gate, MemSource, Sink, Source, SureSink, SureSource};
-use gic_top::{NOTHING_SHOWN, Shown, run_tool};
+use gic_top::{
+    Gate, MemSource, NOTHING_SHOWN, Shown, Sink, Source, SureSink, SureSource, run_tool,
+};
 use std::alloc::{AllocError, Global};
 use std::sync::Wait;
 use std::test::Fail;

@@ -1,8 +1,7 @@
 //! The first example, whose device and vCPU run side by side.
 
 use crate::call::call;
-use gic_top::gic_io::OpenGate;
-use gic_top::{OK, Shown};
+use gic_top::{OK, OpenGate, Shown};
 use std::test::Fail;
 
 /// A message of SPI 40, and a vCPU that acknowledges, ends 40, and acknowledges again.

@@ -1,8 +1,7 @@
 //! Two vCPUs that send each other an SGI, on two PEs that a gate holds up.
 
 use crate::call::call;
-use gic_top::OK;
-use gic_top::gic_io::Gate;
+use gic_top::{Gate, OK};
 use std::sync::atomic::Ordering::SeqCst;
 use std::sync::atomic::{AtomicBool, AtomicU64};
 use std::test::Fail;

@@ -2,8 +2,7 @@
 
 use crate::call::call;
 use crate::lines::{ending, has_line, read_count, same_steps};
-use gic_top::OK;
-use gic_top::gic_io::OpenGate;
+use gic_top::{OK, OpenGate};
 use std::alloc::{AllocError, Global};
 use std::process::Abort;
 use std::test::Fail;

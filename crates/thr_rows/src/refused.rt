@@ -1,8 +1,7 @@
 //! Words of `threads` that are none, and scenarios that it takes or refuses otherwise than `run`.
 
 use crate::call::{call, call_unread};
-use gic_top::gic_io::OpenGate;
-use gic_top::{BAD_SCENARIO, NOTHING_SHOWN, OK, USAGE};
+use gic_top::{BAD_SCENARIO, NOTHING_SHOWN, OK, OpenGate, USAGE};
 use std::test::Fail;
 
 /// Words that are refused.

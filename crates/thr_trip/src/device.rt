@@ -8,11 +8,9 @@ ghost use Rattle.thr_trip.specs.Device.{IsDevice, Receives};
 
 use crate::naming::Naming;
 use crate::rider::Loner;
-use gic_io::gic_base::DeviceOp;
-use gic_io::gic_list::ListOf;
+use gic_io::{DeviceOp, ListOf};
 use pe_place::device_op;
-use port_table::TablePort;
-use port_table::port_core::Port;
+use port_table::{CorePort as Port, TablePort};
 use std::marker::PhantomData;
 use std::sync::Wait;
 

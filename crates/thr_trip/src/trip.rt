@@ -5,11 +5,8 @@ ghost use Rattle.thr_trip.specs.Trip.{IsTrip};
 
 use crate::naming::Naming;
 use crate::visit::{Passes, operate};
-use gic_io::Gate;
-use gic_io::gic_base::GuestOp;
-use gic_io::gic_list::ListOf;
-use pe_place::pe_loop::{enter, leave};
-use pe_place::vcpu_state::Shelved;
+use gic_io::{Gate, GuestOp, ListOf};
+use pe_place::{Shelved, enter, leave};
 use port_table::TablePort;
 use std::alloc::{AllocError, Global};
 use std::marker::PhantomData;

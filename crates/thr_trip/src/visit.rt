@@ -5,11 +5,9 @@ ghost use Rattle.pe_place.specs.Core.{shape_of};
 ghost use Rattle.port_table.specs.Calls.{is_good_op};
 ghost use Rattle.thr_trip.specs.Operate.{Operates};
 
-use gic_io::Gate;
-use gic_io::gic_base::{GuestOp, NoMemory};
-use pe_place::pe_op::guest_op;
-use pe_place::vcpu_state::Loaded;
-use port_table::port_core::Port;
+use gic_io::{Gate, GuestOp, NoMemory};
+use pe_place::{Loaded, guest_op};
+use port_table::CorePort as Port;
 use std::sync::Wait;
 
 /// What a PE passes: its gate, before and after each operation.

@@ -14,10 +14,7 @@ ghost use Rattle.vcpu_refill.specs.Plan.{plan as plan_of, is_trapping, is_cut, a
 use crate::fill::{Choice, Fill, control};
 use crate::offer::Offer;
 use crate::ranking::Ranking;
-use gic_ich::gic_base::{Key, MAX_LIST_REGISTERS};
-use gic_ich::gic_lr::LrState;
-use gic_ich::gic_prio::CpuRec;
-use gic_ich::gic_word::Irq;
+use gic_ich::{CpuRec, Irq, Key, LrState, MAX_LIST_REGISTERS};
 use std::marker::Model;
 
 /// What is kept of the interrupts that a vCPU was offered, to choose from them. It stores no list of all.

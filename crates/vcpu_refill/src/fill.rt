@@ -7,13 +7,10 @@ ghost use Rattle.gic_ich.specs.GicPrio.Priority.{HasBinaryPoints};
 ghost use Rattle.vcpu_refill.specs.Plan.{hcr_of, chosen_as as choice_with, active_state as state_of_active, word_of, regs_of, held_as, held_of, HasEntries};
 
 use crate::offer::Offer;
-use gic_ich::gic_base::{Held, HeldIrq, Key, MAX_LIST_REGISTERS};
-use gic_ich::gic_lr::{LrEntry, LrState, pack};
-use gic_ich::gic_prio::CpuRec;
-use gic_ich::gic_word::{Irq, pending};
 use gic_ich::{
-    HCR_EN, HCR_NPIE, HCR_TALL0, HCR_TALL1, HCR_TC, HCR_TDIR, HCR_VGRP0DIE, HCR_VGRP0EIE,
-    HCR_VGRP1DIE, HCR_VGRP1EIE, IchRegs, vmcr_of,
+    CpuRec, HCR_EN, HCR_NPIE, HCR_TALL0, HCR_TALL1, HCR_TC, HCR_TDIR, HCR_VGRP0DIE, HCR_VGRP0EIE,
+    HCR_VGRP1DIE, HCR_VGRP1EIE, Held, HeldIrq, IchRegs, Irq, Key, LrEntry, LrState,
+    MAX_LIST_REGISTERS, lr_pack as pack, pending, vmcr_of,
 };
 
 /// An interrupt that was chosen for a list register.

@@ -11,7 +11,7 @@ mod tests;
 
 pub use chooser::{Chooser, fresh};
 pub use fill::{Choice, Fill};
-pub use gic_ich;
+pub use gic_ich::vmcr_of;
 pub use laws::{
     both_leaves_nothing_out, every_active_is_planned, every_deliverable_is_planned, first_is_first,
     left_out_comes_after, ordered_is_sorting, others_do_not_matter, plan_stands, planned_is_earned,

@@ -4,9 +4,7 @@ ghost use Rattle.gic_ich.specs.Words.{GuestShape};
 ghost use Rattle.gic_ich.specs.GicPrio.Delivery.{is_before, is_deliverable as can_be_delivered};
 ghost use Rattle.vcpu_refill.specs.Order.{goes_before as is_ahead, is_active_by, is_deliverable_to};
 
-use gic_ich::gic_base::Key;
-use gic_ich::gic_prio::{Candidate, CpuRec, deliverable};
-use gic_ich::gic_word::Irq;
+use gic_ich::{Candidate, CpuRec, Irq, Key, deliverable};
 
 /// An interrupt of the guest that may be chosen for a list register.
 #[derive(Clone, Copy, Debug, PartialEq, Eq)]

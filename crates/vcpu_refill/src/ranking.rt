@@ -6,7 +6,7 @@ ghost use Rattle.vcpu_refill.specs.Order.{inserted};
 ghost use Rattle.vcpu_refill.specs.Ranking.{ranking_of, gives_way};
 
 use crate::offer::Offer;
-use gic_ich::gic_base::MAX_LIST_REGISTERS;
+use gic_ich::MAX_LIST_REGISTERS;
 
 /// The first of some interrupts in delivery order, as many as a PE has list registers at most.
 #[derive(Clone, Copy, Debug)]

@@ -1,8 +1,6 @@
 //! Plans of whole states, in the registers that they make.
 use crate::fresh;
-use gic_ich::gic_base::Key;
-use gic_ich::gic_prio::CpuRec;
-use gic_ich::gic_word::{Group, Irq, Route};
+use gic_ich::{CpuRec, Group, Irq, Key, Route};
 
 /// A vCPU with PMR 0xF0 that listens to group 1.
 const CPU: CpuRec = CpuRec {

@@ -10,7 +10,7 @@ use crate::shelf::{Shelf, ShelfSeat};
 use crate::traveller::Traveller;
 use crate::word::stored_word;
 use atomic_table::Table;
-use floor_words::gic_base::NoMemory;
+use floor_words::NoMemory;
 use std::alloc::{AllocError, Global};
 
 /// The owner word of each traveller.

@@ -1,5 +1,5 @@
 //! What a seat of the shelf knows. Such values exist in proofs alone.
-use floor_words::gic_list::ListOf;
+use floor_words::ListOf;
 
 /// One step that a seat made on the owner word of a place.
 #[derive(Clone, Copy)]

@@ -2,9 +2,7 @@
 ghost use Rattle.std.specs.Prelude.{◌≡◌, ◌<◌};
 ghost use Rattle.vcpu_state.specs.Fold.{back_of, back_at, folded};
 
-use gic_ich::IchRegs;
-use gic_ich::gic_base::{Back, Held, HeldIrq, MAX_LIST_REGISTERS};
-use gic_ich::gic_lr::unpack;
+use gic_ich::{Back, Held, HeldIrq, IchRegs, MAX_LIST_REGISTERS, lr_unpack as unpack};
 
 /// What an interrupt brings back from a list register.
 fn brought_back(word: u64, held: &HeldIrq) -> Back
@@ -43,8 +41,7 @@ pub fn fold(regs: &IchRegs, held: &Held) -> [Option<Back>; MAX_LIST_REGISTERS]
 #[cfg(test)]
 mod tests {
     use super::fold;
-    use gic_ich::IchRegs;
-    use gic_ich::gic_base::{Back, HeldIrq, Key, MAX_LIST_REGISTERS};
+    use gic_ich::{Back, HeldIrq, IchRegs, Key, MAX_LIST_REGISTERS};
 
     const PENDING_40: u64 = 0x50a0_0000_0000_0028;
 

@@ -7,8 +7,10 @@ mod loaded;
 mod shelved;
 
 pub use back::fold;
-pub use gic_ich;
-pub use gic_ich::{gic_bits, gic_lr, gic_prio, gic_word};
+pub use gic_ich::{
+    Back as GuestBack, CpuRec, Field, GuestOp, HCR_EN, HeldIrq, IccReg, IchRegs, LrEntry, LrState,
+    MAX_LIST_REGISTERS, irq_pack as pack, key_of, misr, pending,
+};
 pub use laws::each_comes_back;
 pub use loaded::Loaded;
 pub use shelved::Shelved;

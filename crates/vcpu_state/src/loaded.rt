@@ -11,9 +11,9 @@ ghost use Rattle.vcpu_state.specs.Moves.{loaded_of, shelved_of};
 ghost use Rattle.vcpu_state.specs.Places.{with_place, IsWith, IsWithout};
 
 use crate::shelved::Shelved;
-use gic_ich::gic_base::{Held, HeldIrq, MAX_LIST_REGISTERS};
-use gic_ich::gic_lr::{LrEntry, pack};
-use gic_ich::{HCR_EN, IchRegs, cpu_of, vmcr_of};
+use gic_ich::{
+    HCR_EN, Held, HeldIrq, IchRegs, LrEntry, MAX_LIST_REGISTERS, cpu_of, lr_pack as pack, vmcr_of,
+};
 
 /// A vCPU on a PE. The registers are its own; the words of interrupts stay shared, and others may act on
 /// them.
@@ -135,10 +135,7 @@ impl Loaded {
 #[cfg(test)]
 mod tests {
     use crate::shelved::Shelved;
-    use gic_ich::gic_base::{HeldIrq, Key};
-    use gic_ich::gic_lr::{LrEntry, LrState};
-    use gic_ich::gic_prio::CpuRec;
-    use gic_ich::gic_word::Group;
+    use gic_ich::{CpuRec, Group, HeldIrq, Key, LrEntry, LrState};
 
     const SHELVED: Shelved = Shelved {
         guest: 0,

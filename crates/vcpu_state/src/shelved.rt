@@ -1,5 +1,5 @@
 //! A vCPU that stands on no PE.
-use gic_ich::gic_prio::CpuRec;
+use gic_ich::CpuRec;
 
 /// A vCPU that stands on no PE. It holds no interrupt.
 #[derive(Debug, PartialEq, Eq, Drop)]
