@@ -104,6 +104,7 @@ pub use port_core::Port;
 pub use port_core::VcpuWord;
 pub use port_core::WordId;
 pub use port_core::enables_in;
+pub use port_core::encode;
 pub use port_core::index_bits;
 pub use port_core::index_words;
 pub use port_core::key_of_bit;

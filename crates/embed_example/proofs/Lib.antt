@@ -1,1 +1,2 @@
+pub use Rattle.port_seq.proofs.PortCore.SameLemmas
 pub mod RestLemmas

@@ -32,7 +32,7 @@ impl Device {
 
 impl TakesTurns for Device {
     /// Once its doorbell is rung it sends its message to the ITS, and raises its SPI.
-    #[tactic(auto, using(port_seq::proofs::PortCore::SameLemmas::same_after, port_seq::proofs::PortCore::SameLemmas::same_twice, port_seq::proofs::PortCore::SameLemmas::same_here, crate::proofs::RestLemmas::rests_device))]
+    #[tactic(auto, using(crate::proofs::SameLemmas::same_after, crate::proofs::SameLemmas::same_twice, crate::proofs::SameLemmas::same_here, crate::proofs::RestLemmas::rests_device))]
     fn turn<P: Port, R: Wait>(
         &mut self,
         rt: &R,

@@ -22,7 +22,7 @@ use std::sync::Wait;
 use std::thread::{Threads, join_mut};
 
 /// A thread: one turn after the other, until all is done.
-#[tactic(auto, using(port_seq::proofs::PortCore::SameLemmas::same_twice, port_seq::proofs::PortCore::SameLemmas::same_here))]
+#[tactic(auto, using(crate::proofs::SameLemmas::same_twice, crate::proofs::SameLemmas::same_here))]
 fn run_one<P: Port, T: TakesTurns, R: Wait>(
     rt: &R,
     port: &mut P,

@@ -58,7 +58,7 @@ fn shelved<P: Port>(port: &P) -> Option<Shelved>
 }
 
 /// Handles an exit of a vCPU that is on a PE.
-#[tactic(auto, using(port_seq::proofs::PortCore::SameLemmas::same_after, port_seq::proofs::PortCore::SameLemmas::same_here))]
+#[tactic(auto, using(crate::proofs::SameLemmas::same_after, crate::proofs::SameLemmas::same_here))]
 fn handle<P: Port, R: Wait>(
     rt: &R,
     port: &mut P,
@@ -102,7 +102,7 @@ impl Vcpu {
     }
 
     /// Runs guest code on a PE, from exit to exit, until it waits for an interrupt or is through.
-    #[tactic(auto, using(port_seq::proofs::PortCore::SameLemmas::same_twice, port_seq::proofs::PortCore::SameLemmas::same_here))]
+    #[tactic(auto, using(crate::proofs::SameLemmas::same_twice, crate::proofs::SameLemmas::same_here))]
     fn run<P: Port, R: Wait>(
         &mut self,
         rt: &R,
@@ -131,7 +131,7 @@ impl Vcpu {
 
 impl TakesTurns for Vcpu {
     /// The vCPU enters a PE, runs guest code there, and leaves it.
-    #[tactic(auto, using(port_seq::proofs::PortCore::SameLemmas::same_after, port_seq::proofs::PortCore::SameLemmas::same_twice, port_seq::proofs::PortCore::SameLemmas::same_here, crate::proofs::RestLemmas::rests_off))]
+    #[tactic(auto, using(crate::proofs::SameLemmas::same_after, crate::proofs::SameLemmas::same_twice, crate::proofs::SameLemmas::same_here, crate::proofs::RestLemmas::rests_off))]
     fn turn<P: Port, R: Wait>(
         &mut self,
         rt: &R,

@@ -8,7 +8,7 @@ pub use core_proper::{
     Offer, Outcome, PIDR2, PlainWord, Port, RedistReg, RedistRegRef, Table, Targets, Touching,
     UNKNOWN_NUMBER, VcpuWord, WordId, access, advance, baser, baser_after, cbaser_after,
     config_address, config_of, creadr, dist_access, dist_ctlr, dist_typer, enable_lpis_after,
-    enabled_in, enables_in, extract, fresh, has_bit, index_bits, index_words, insert,
+    enabled_in, enables_in, encode, extract, fresh, has_bit, index_bits, index_words, insert,
     interrupt_count, irq_unpack, its_access, its_ctlr, its_decode, its_typer, key_at, key_of_bit,
     message_intid, offset_in, part_in, part_key, pendbaser_after, pendbaser_read, pending_address,
     place_of_plain, propbaser_after, queue_bytes, queue_decode, queue_unpack, read_part,

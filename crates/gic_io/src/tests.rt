@@ -1,110 +1,130 @@
 //! The sources and sinks, with calls that fail, and with inputs at the limit.
 
 use super::*;
-use std::alloc::Allocator;
+use std::alloc::{AllocError, Allocator, Global};
 use std::io::{BufRead, Input, Print, Read};
 use std::test::Fail;
 use std::{fmt, io};
 
 const TEXT: &[u8] = b"0123456789abcdefghij";
 
+/// What reading to the end answers: the bytes, or an error.
+type Reads = Result<&'static [u8], ReadError>;
+
+/// Whether a source is read to its end so, with at most `max` bytes.
+fn reads<S: Source>(alloc: Global, source: &mut S, max: u16, want: Reads) -> bool {
+    match (read_all(alloc, source, usize::from(max)), want) {
+        (Ok(bytes), Ok(all)) => bytes.as_slice() == all,
+        (Err(error), Err(other)) => error == other,
+        _ => false,
+    }
+}
+
+/// A source of the text, of which a call gives at most `cut` bytes, and at least one. The calls with these numbers fail.
+fn text_source(alloc: Global, cut: usize, fails: &[u64]) -> Result<MemSource, AllocError> {
+    let bytes = Vec::from_slice(alloc, TEXT)?;
+    Ok(MemSource::of(bytes, Vec::from_slice(alloc, fails)?, cut.max(1)))
+}
+
+/// Whether the text is read so, in pieces of at most `cut` bytes and with no fault.
+fn text_reads(alloc: Global, cut: usize, max: u16, want: Reads) -> Result<bool, AllocError> {
+    let mut source = text_source(alloc, cut, &[])?;
+    Ok(reads(alloc, &mut source, max, want) && source.faults() == 0)
+}
+
+/// The bytes of a piece, the most that are read, and what is answered.
+const READS: [(usize, u16, Reads); 13] = [
+    (1, 20, Ok(TEXT)),
+    (7, 20, Ok(TEXT)),
+    (20, 20, Ok(TEXT)),
+    (5000, 20, Ok(TEXT)),
+    (1, 21, Ok(TEXT)),
+    (7, 21, Ok(TEXT)),
+    (5000, 21, Ok(TEXT)),
+    (1, 19, Err(ReadError::TooLong)),
+    (7, 19, Err(ReadError::TooLong)),
+    (5000, 19, Err(ReadError::TooLong)),
+    (1, 0, Err(ReadError::TooLong)),
+    (7, 0, Err(ReadError::TooLong)),
+    (5000, 0, Err(ReadError::TooLong)),
+];
+
 #[test]
-fn reads_to_the_end_in_pieces(rt: HostRuntime) -> Result<(), Fail> {
-    for cut in [1usize, 7, 20, 5000] {
-        assert!(rt; cut >= 1);
-        let mut source = MemSource::of(
-            Vec::from_slice(rt.alloc(), TEXT)?,
-            Vec::new(rt.alloc()),
-            cut,
-        );
-        match read_all(rt.alloc(), &mut source, 20) {
-            Ok(bytes) => assert_eq!(rt; bytes.as_slice(), TEXT, "cut at {cut}"),
-            Err(error) => assert!(rt; false, "cut at {cut}: {error}"),
-        }
-        assert_eq!(rt; source.faults(), 0);
+fn reads_in_pieces_up_to_the_limit(rt: HostRuntime) -> Result<(), Fail> {
+    for (cut, max, want) in READS {
+        assert!(rt; text_reads(rt.alloc(), cut, max, want)?);
     }
     Ok(())
+}
+
+/// Whether a source whose second call fails answers that fault, and after it what the failed call left: all behind the first piece.
+fn goes_on_after_a_fault(alloc: Global) -> Result<bool, AllocError> {
+    let mut source = text_source(alloc, 7, &[2])?;
+    if !reads(alloc, &mut source, 20, Err(ReadError::ReadFault)) || source.faults() != 1 {
+        return Ok(false);
+    }
+    Ok(reads(alloc, &mut source, 20, Ok(b"789abcdefghij")))
 }
 
 #[test]
 fn answers_a_fault_of_the_source(rt: HostRuntime) -> Result<(), Fail> {
-    let fails = Vec::from_slice(rt.alloc(), &[2u64])?;
-    let mut source = MemSource::of(Vec::from_slice(rt.alloc(), TEXT)?, fails, 7);
-    let first = read_all(rt.alloc(), &mut source, 20).map(|bytes| bytes.len());
-    assert_eq!(rt; first, Err(ReadError::ReadFault));
-    assert_eq!(rt; source.faults(), 1);
-    // the failed call lost nothing: what was left behind the first piece is still there
-    match read_all(rt.alloc(), &mut source, 20) {
-        Ok(bytes) => assert_eq!(rt; bytes.as_slice(), b"789abcdefghij".as_slice()),
-        Err(error) => assert!(rt; false, "{error}"),
-    }
+    assert!(rt; goes_on_after_a_fault(rt.alloc())?);
     Ok(())
 }
 
-#[test]
-fn refuses_one_byte_past_the_limit(rt: HostRuntime) -> Result<(), Fail> {
-    let rows = [
-        (20usize, Ok(20usize)),
-        (21, Ok(20)),
-        (19, Err(ReadError::TooLong)),
-        (0, Err(ReadError::TooLong)),
-    ];
-    for (max, want) in rows {
-        for cut in [1usize, 7, 5000] {
-            assert!(rt; cut >= 1 && max < 100);
-            let bytes = Vec::from_slice(rt.alloc(), TEXT)?;
-            let mut source = MemSource::of(bytes, Vec::new(rt.alloc()), cut);
-            let got = read_all(rt.alloc(), &mut source, max).map(|bytes| bytes.len());
-            assert_eq!(rt; got, want, "at most {max}, cut at {cut}");
-        }
+/// Whether 10,000 bytes, which are more than one buffer, are all read.
+fn reads_long(alloc: Global) -> Result<bool, AllocError> {
+    let mut source = SureSource::of(vec![in alloc; 5u8; 10000]?);
+    match read_all(alloc, &mut source, 10000) {
+        Ok(bytes) => Ok(bytes.len() == 10000 && bytes.iter().all(|byte| *byte == 5)),
+        Err(_) => Ok(false),
     }
+}
+
+#[test]
+fn reads_nothing_and_more_than_one_buffer(rt: HostRuntime) -> Result<(), Fail> {
     let mut nothing = SureSource::of(Vec::new(rt.alloc()));
-    let got = read_all(rt.alloc(), &mut nothing, 0).map(|bytes| bytes.len());
-    assert_eq!(rt; got, Ok(0));
+    assert!(rt; reads(rt.alloc(), &mut nothing, 0, Ok(&[])));
+    assert!(rt; reads_long(rt.alloc())?);
     Ok(())
 }
 
-#[test]
-fn reads_more_than_one_buffer(rt: HostRuntime) -> Result<(), Fail> {
-    let long = vec![in rt.alloc(); 5u8; 10000]?;
-    let mut source = SureSource::of(long);
-    match read_all(rt.alloc(), &mut source, 10000) {
-        Ok(bytes) => {
-            assert_eq!(rt; bytes.len(), 10000);
-            assert!(rt; bytes.iter().all(|byte| *byte == 5));
+/// Whether the text is written to its end in pieces of at most `cut` bytes, and at least one, with no fault.
+fn text_is_written(alloc: Global, cut: usize) -> bool {
+    let mut sink = MemSink::of(alloc, Vec::new(alloc), cut.max(1));
+    write_all(&mut sink, TEXT) == Ok(()) && sink.taken() == Some(TEXT) && sink.faults() == 0
+}
+
+/// Whether texts are written one behind the other.
+fn texts_are_written(alloc: Global) -> bool {
+    let mut sure = SureSink::new(alloc);
+    for text in [b"ab".as_slice(), b"", b"c"] {
+        if write_all(&mut sure, text) != Ok(()) {
+            return false;
         }
-        Err(error) => assert!(rt; false, "{error}"),
     }
-    Ok(())
+    sure.taken() == Some(b"abc".as_slice())
 }
 
 #[test]
-fn writes_to_the_end_in_pieces(rt: HostRuntime) -> Result<(), Fail> {
-    for cut in [1usize, 7, 5000] {
-        assert!(rt; cut >= 1);
-        let mut sink = MemSink::of(rt.alloc(), Vec::new(rt.alloc()), cut);
-        assert_eq!(rt; write_all(&mut sink, TEXT), Ok(()), "cut at {cut}");
-        assert_eq!(rt; sink.taken(), Some(TEXT), "cut at {cut}");
-        assert_eq!(rt; sink.faults(), 0);
+fn writes_to_the_end_in_pieces(rt: HostRuntime) {
+    for cut in [1, 7, 5000] {
+        assert!(rt; text_is_written(rt.alloc(), cut));
     }
-    let mut sure = SureSink::new(rt.alloc());
-    assert_eq!(rt; write_all(&mut sure, b"ab"), Ok(()));
-    assert_eq!(rt; write_all(&mut sure, b""), Ok(()));
-    assert_eq!(rt; write_all(&mut sure, b"c"), Ok(()));
-    assert_eq!(rt; sure.taken(), Some(b"abc".as_slice()));
-    Ok(())
+    assert!(rt; texts_are_written(rt.alloc()));
+}
+
+/// Whether writing the text fails, and the sink has taken these bytes and counted these faults then.
+fn write_fails(sink: &mut MemSink, taken: &[u8], faults: u64) -> bool {
+    write_all(sink, TEXT) == Err(Failed) && sink.taken() == Some(taken) && sink.faults() == faults
 }
 
 #[test]
 fn stops_at_a_fault_of_the_sink(rt: HostRuntime) -> Result<(), Fail> {
     let mut sink = MemSink::of(rt.alloc(), Vec::from_slice(rt.alloc(), &[2u64, 4])?, 10);
-    assert_eq!(rt; write_all(&mut sink, TEXT), Err(Failed));
-    assert_eq!(rt; sink.taken(), Some(b"0123456789".as_slice()));
-    assert_eq!(rt; sink.faults(), 1);
+    assert!(rt; write_fails(&mut sink, b"0123456789", 1));
     // the third call takes, and the fourth fails
-    assert_eq!(rt; write_all(&mut sink, TEXT), Err(Failed));
-    assert_eq!(rt; sink.taken(), Some(b"01234567890123456789".as_slice()));
-    assert_eq!(rt; sink.faults(), 2);
+    assert!(rt; write_fails(&mut sink, b"01234567890123456789", 2));
     Ok(())
 }
 
@@ -157,25 +177,18 @@ impl Input for Given {
     }
 }
 
+/// Whether an input that gives three letters is read so.
+fn letters_read(alloc: Global, fails: bool, want: Reads) -> bool {
+    let mut source = StdSource::new(&Given(Letters { left: 3, fails }));
+    reads(alloc, &mut source, 3, want)
+}
+
 #[test]
 fn standard_input_is_read(rt: HostRuntime) {
     let mut source = StdSource::new(&rt);
-    let got = read_all(rt.alloc(), &mut source, 1000).map(|bytes| bytes.len());
-    assert!(rt; got != Err(ReadError::NoMemory));
-    let mut letters = StdSource::new(&Given(Letters {
-        left: 3,
-        fails: false,
-    }));
-    match read_all(rt.alloc(), &mut letters, 3) {
-        Ok(bytes) => assert_eq!(rt; bytes.as_slice(), b"xxx".as_slice()),
-        Err(error) => assert!(rt; false, "{error}"),
-    }
-    let mut broken = StdSource::new(&Given(Letters {
-        left: 3,
-        fails: true,
-    }));
-    let got = read_all(rt.alloc(), &mut broken, 3).map(|bytes| bytes.len());
-    assert_eq!(rt; got, Err(ReadError::ReadFault));
+    assert!(rt; !reads(rt.alloc(), &mut source, 1000, Err(ReadError::NoMemory)));
+    assert!(rt; letters_read(rt.alloc(), false, Ok(b"xxx")));
+    assert!(rt; letters_read(rt.alloc(), true, Err(ReadError::ReadFault)));
 }
 
 /// An output that accepts nothing, or answers an error.
@@ -206,13 +219,16 @@ impl Print for Stuck {
     }
 }
 
+/// Whether an output that accepts nothing, or answers an error, fails at the first byte alone.
+fn is_stuck(accepts: bool) -> bool {
+    let mut sink = StdSink::new(Stuck { accepts });
+    write_all(&mut sink, b"") == Ok(()) && write_all(&mut sink, b"x") == Err(Failed)
+}
+
 #[test]
 fn standard_output_takes_a_line(rt: HostRuntime) {
     let mut sink = StdSink::new(&rt);
-    assert_eq!(rt; write_all(&mut sink, b"a line\n"), Ok(()));
-    for accepts in [true, false] {
-        let mut stuck = StdSink::new(Stuck { accepts });
-        assert_eq!(rt; write_all(&mut stuck, b""), Ok(()));
-        assert_eq!(rt; write_all(&mut stuck, b"x"), Err(Failed));
-    }
+    assert!(rt; write_all(&mut sink, b"a line\n") == Ok(()));
+    assert!(rt; is_stuck(true));
+    assert!(rt; is_stuck(false));
 }

@@ -4,6 +4,8 @@
 #[cfg(test)]
 mod commands;
 #[cfg(test)]
+mod guest;
+#[cfg(test)]
 mod rows;
 #[cfg(test)]
 mod writes;

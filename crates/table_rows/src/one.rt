@@ -21,7 +21,7 @@ use std::thread::{Threads, join as join_threads};
 const LIST_REGISTERS: u32 = 4;
 
 /// A vCPU enters a PE, acknowledges an interrupt of group 1, and leaves. None where it may not, or reads something else.
-#[tactic(auto, using(port_table::proofs::PortCore::SameLemmas::same_after, port_table::proofs::PortCore::SameLemmas::same_twice))]
+#[tactic(auto, using(crate::proofs::SameLemmas::same_after, crate::proofs::SameLemmas::same_twice))]
 fn visit<P: Port, R: Wait>(rt: &R, port: &mut P, answer: u64) -> Option<()>
     requires { (P.seen port.old).number ≡ 0 }
     ensures { IfSome result (λ done. IsSameActor (P.seen port.old) (P.seen port.new)) }

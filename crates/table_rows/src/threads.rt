@@ -27,7 +27,7 @@ const MESSAGES: u32 = 1000;
 const OWN: u32 = 4;
 
 /// A device sends its messages, every other one of the shared interrupt. None where it may not.
-#[tactic(auto, using(port_table::proofs::PortCore::SameLemmas::same_twice))]
+#[tactic(auto, using(crate::proofs::SameLemmas::same_twice))]
 fn raise_all<P: Port>(port: &mut P, own: u32) -> Option<()>
     requires { own < 1000 }
     ensures { IfSome result (λ done. Goes (P.seen port.old) (P.seen port.new)) }
