@@ -15,7 +15,7 @@ pub use Rattle.port_core.specs as PortCore
 pub mod Parts
 pub mod Ideal
 pub mod Scan
-pub mod Registers
+pub mod RunRegisters
 pub mod Progress
 pub mod Proper
 pub mod Called

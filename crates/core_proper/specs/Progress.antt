@@ -16,7 +16,7 @@ use Rattle.port_core.specs.Forms.{vcpu_of}
 use Rattle.port_core.specs.Place.{index_words}
 use Rattle.port_core.specs.Run.{opening_seat}
 use Rattle.core_proper.specs.Parts.{Act, begins, makes, ends, CoreMoment, own_acts}
-use Rattle.core_proper.specs.Registers.{alone, without_claim, without_take, after_operation}
+use Rattle.core_proper.specs.RunRegisters.{alone, without_claim, without_take, after_operation}
 use Rattle.core_proper.specs.Scan.{Purpose, planned, trapped, bare, Scan, idle, is_idle, taking, looking, claiming, has_key, next_cand, keys_chosen, keys_of_both, word_taken, scan_looked, tried, ended_scan}
 
 -- the scan that a vCPU owes: none; one after the end of interrupt that it is about to do; or one before its next access

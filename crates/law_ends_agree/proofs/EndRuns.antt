@@ -1,7 +1,8 @@
 -- The ends of runs with nothing at an interface.
 use Rattle.std.proofs.Common.{◌≡◌, refl, sym, ap, subst, ◌∙◌}
 use Rattle.std.proofs.lemmas.List.FromFn.{length-map-range_with_len}
-use Rattle.port_ops.specs.Words.{GuestShape, interrupt_count, key_at, IsWord, word_among}
+use Rattle.port_ops.specs.Words.{GuestShape, interrupt_count, key_at, IsWord}
+use Rattle.port_ops.specs.GuestWords.{word_among}
 use Rattle.port_ops.proofs.GicOpen.KeyLemmas.{key_at_there}
 use Rattle.guest_end.proofs.GicCall.PartLemmas.{each_made}
 use Rattle.law_core_is_history.specs.Histories.{last_of, Ideal, IsSound as IsSoundGuest}

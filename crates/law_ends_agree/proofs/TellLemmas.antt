@@ -3,7 +3,8 @@ use Rattle.std.proofs.Common.{◌≡◌, ◌≢◌, ℕ, ◌<◌, Bool, true, fa
 use Rattle.std.proofs.lemmas.Bool.{cases_eq, eq-eqb, ne_eqb, lt-ltb}
 use Rattle.std.proofs.lemmas.List.{ext_get_or, get_or_default, get_or-map, get_or-set_same, get_or-set_other, length-map}
 use Rattle.std.proofs.lemmas.List.FromFn.{get_or-map-range_with_len, length-map-range_with_len}
-use Rattle.port_ops.specs.Words.{Spi, GuestShape, has_interrupt, interrupt_count, key_at, IsShape, Irq, word_among, words_among}
+use Rattle.port_ops.specs.Words.{Spi, GuestShape, has_interrupt, interrupt_count, key_at, IsShape, Irq}
+use Rattle.port_ops.specs.GuestWords.{word_among, words_among}
 use Rattle.port_ops.specs.Calls.{Fault, irq_in, opening_cpu, opening_irq, has_plain, place_of_plain, plain_at, plain_count, GuestSpec}
 use Rattle.port_ops.proofs.GicOpen.KeyLemmas.{irq_in_there, key_at_there}
 use Rattle.port_ops.specs.Registers.{Enables, CpuRec, Maps}

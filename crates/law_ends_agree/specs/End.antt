@@ -1,7 +1,8 @@
 -- How a guest of the core is told of at the end of a run, with no interrupt at a CPU interface (own choice).
 use Rattle.std.specs.Prelude.{◌≡◌, ℕ, ◌<◌, List, [], map}
 use Rattle.std.specs.List.{range_with_len}
-use Rattle.port_ops.specs.Words.{GuestShape, words_at_end}
+use Rattle.port_ops.specs.Words.{GuestShape}
+use Rattle.port_ops.specs.GuestWords.{words_at_end}
 use Rattle.port_ops.specs.Registers.{CpuRec}
 use Rattle.law_core_is_history.specs.Histories.{IdealGuest, last_of, opening_course, home}
 use Rattle.guest_end.specs.IdealGuest.Opening.{opening as opening_guest}

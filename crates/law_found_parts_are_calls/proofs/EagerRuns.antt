@@ -16,7 +16,7 @@ use Rattle.law_unmapped_lpis.proofs.LawHomeCommutes.HomeLemmas.{home_rest}
 use Rattle.law_unmapped_lpis.proofs.LawHomeCommutes.SpotLemmas.{IsTidy}
 use Rattle.law_serial_is_eager.proofs.LawEagerIsHistory.EventLemmas.{shape_events}
 use Rattle.law_serial_is_eager.proofs.LawEagerIsHistory.WindowLemmas.{Targets, beside_of}
-use Rattle.law_unmapped_lpis.specs.LawLoneCallsAreEager.Calls.{AllMoveOwn, IsAtRest, IsLoneCall, eager_events, lone_call}
+use Rattle.law_unmapped_lpis.specs.LawLoneCallsAreEager.LoneCalls.{AllMoveOwn, IsAtRest, IsLoneCall, eager_events, lone_call}
 use Rattle.law_unmapped_lpis.specs.LawLoneCallsAreEager.Runs.{IsGoodCall, LoneCall, eager_after_all}
 use Rattle.law_serial_is_eager.proofs.LawLoneCallsAreEager.EndLemmas.{calls_end_again}
 use Rattle.law_serial_is_eager.proofs.LawLoneCallsAreEager.RestLaws.{rest_stays}

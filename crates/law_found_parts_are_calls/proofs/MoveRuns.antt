@@ -13,7 +13,7 @@ use Rattle.law_serial_is_eager.proofs.LawEagerIsHistory.CommandLemmas.{command_s
 use Rattle.law_serial_is_eager.proofs.LawEagerIsHistory.CourseLemmas.{call_after, call_append, state_after}
 use Rattle.law_serial_is_eager.proofs.LawEagerIsHistory.EventLemmas.{shape_events}
 use Rattle.law_serial_is_eager.proofs.LawEagerIsHistory.WindowLemmas.{Targets, beside_of, no_target}
-use Rattle.law_unmapped_lpis.specs.LawLoneCallsAreEager.Calls.{AllMoveOwn, IsAtRest}
+use Rattle.law_unmapped_lpis.specs.LawLoneCallsAreEager.LoneCalls.{AllMoveOwn, IsAtRest}
 use Rattle.law_serial_is_eager.proofs.LawLoneCallsAreEager.CommandLemmas.{events_both, marks_after, run_split}
 use Rattle.law_serial_is_eager.proofs.LawLoneCallsAreEager.ItsLemmas.{at1, events_are, follow, guest1_eager, known1, made_is, maps_same, register_all, runs1, sound1, targets1}
 use Rattle.law_serial_is_eager.proofs.LawLoneCallsAreEager.MomentLemmas.{target_at}

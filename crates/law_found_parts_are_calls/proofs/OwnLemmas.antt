@@ -11,7 +11,7 @@ use Rattle.law_unmapped_lpis.specs.GicCall.declared.touch.Touching.TheVariants.{
 use Rattle.law_unmapped_lpis.specs.Histories.{IdealGuest, after_event, after_events, view_of}
 use Rattle.law_unmapped_lpis.proofs.IdealGuest.KeyLemmas.{IsWhole}
 use Rattle.law_unmapped_lpis.proofs.LawHistories.CourseLemmas.{mark_is}
-use Rattle.law_unmapped_lpis.specs.LawLoneCallsAreEager.Calls.{AllMoveOwn, MovesOwn, moves_to_itself}
+use Rattle.law_unmapped_lpis.specs.LawLoneCallsAreEager.LoneCalls.{AllMoveOwn, MovesOwn, moves_to_itself}
 use Rattle.law_serial_is_eager.proofs.LawLoneCallsAreEager.CommandLemmas.{beside_words, events_both, keeps_words, reads_word, run_split, words_same}
 use Rattle.law_serial_is_eager.proofs.LawLoneCallsAreEager.MomentLemmas.{guest_whole, target_at, target_sent}
 use Rattle.law_serial_is_eager.proofs.LawLoneCallsAreEager.NamedLemmas.{beside_still}

@@ -22,7 +22,7 @@ use Rattle.law_eager_is_history.specs.GicIdeal.Deeds.{op_events, queued_events}
 use Rattle.law_eager_is_history.proofs.CourseLemmas.{call_after}
 use Rattle.law_eager_is_history.proofs.EventLemmas.{all_found}
 use Rattle.law_home_commutes.proofs.HomeLemmas.{home_whole}
-use Rattle.law_lone_calls_are_eager.specs.Calls.{lone_call, IsEagerCall, PassesAlone}
+use Rattle.law_lone_calls_are_eager.specs.LoneCalls.{lone_call, IsEagerCall, PassesAlone}
 use Rattle.law_lone_calls_are_eager.proofs.EnableLemmas.{enable_same}
 use Rattle.law_lone_calls_are_eager.proofs.NamedLemmas.{named_run}
 use Rattle.law_lone_calls_are_eager.proofs.PartLemmas.{IsMade}

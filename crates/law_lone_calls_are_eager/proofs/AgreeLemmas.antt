@@ -12,7 +12,7 @@ use Rattle.law_home_commutes.specs.GicCall.declared.touch.Touching.TheVariants.{
 use Rattle.law_home_commutes.specs.Histories.{IdealGuest, view_of}
 use Rattle.law_home_commutes.proofs.IdealGuest.KeyLemmas.{IsWhole}
 use Rattle.law_home_commutes.proofs.LawHistories.CourseLemmas.{mark_is}
-use Rattle.law_lone_calls_are_eager.specs.Calls.{moves_to_itself, AllMoveOwn}
+use Rattle.law_lone_calls_are_eager.specs.LoneCalls.{moves_to_itself, AllMoveOwn}
 use Rattle.law_lone_calls_are_eager.proofs.MomentLemmas.{target_at, keeps_for, sends_to, beside_keeps_for, beside_sends, seen_by, seen_kept, seen_sent, seen_own}
 use Rattle.law_lone_calls_are_eager.proofs.NamedLemmas.{IsIn}
 use Rattle.law_lone_calls_are_eager.proofs.ReadLemmas.{beside_passes}

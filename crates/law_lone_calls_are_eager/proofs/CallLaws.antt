@@ -6,7 +6,7 @@ use Rattle.law_home_commutes.specs.GicImap.declared.map.RegRef.{RegRef as ItsRef
 use Rattle.law_home_commutes.specs.GicImap.declared.map.RegRef.TheVariants.{Plain as ItsPlain, Reserved as ItsReserved}
 use Rattle.law_home_commutes.specs.Calls.{Access, Device, Residence, takes_turn, IsItsWrite, IsCall}
 use Rattle.law_home_commutes.specs.Histories.{vcpu_of, last_of, home}
-use Rattle.law_lone_calls_are_eager.specs.Calls.{lone_call, IsEagerCall, PassesAtRest}
+use Rattle.law_lone_calls_are_eager.specs.LoneCalls.{lone_call, IsEagerCall, PassesAtRest}
 use Rattle.law_lone_calls_are_eager.specs.Laws.{CallsPassHome}
 use Rattle.law_lone_calls_are_eager.proofs.AccessLemmas.{its_so, distributor_calls_pass, redistributor_calls_pass, memory_calls_pass}
 use Rattle.law_lone_calls_are_eager.proofs.DeviceLemmas.{device_calls_pass}

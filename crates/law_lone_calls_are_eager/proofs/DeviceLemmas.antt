@@ -12,7 +12,7 @@ use Rattle.law_home_commutes.specs.GicCall.declared.event.Place.TheVariants.{Wor
 use Rattle.law_home_commutes.specs.Histories.{IdealGuest, word_at, view_of, after_events, begun, vcpu_of, last_of, home, Ideal}
 use Rattle.law_eager_is_history.proofs.WindowLemmas.{is_no_turn}
 use Rattle.law_home_commutes.proofs.HomeLemmas.{home_rest}
-use Rattle.law_lone_calls_are_eager.specs.Calls.{lone_call, IsEagerCall, PassesAlone}
+use Rattle.law_lone_calls_are_eager.specs.LoneCalls.{lone_call, IsEagerCall, PassesAlone}
 use Rattle.law_lone_calls_are_eager.proofs.MapsLemmas.{keeps_maps, beside_maps, maps_taken}
 use Rattle.law_lone_calls_are_eager.proofs.NamedLemmas.{named_run}
 use Rattle.law_lone_calls_are_eager.proofs.ReadLemmas.{keeps, view_holds, beside_passes, some_named}

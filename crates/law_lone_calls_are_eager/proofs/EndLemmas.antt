@@ -8,7 +8,7 @@ use Rattle.law_home_commutes.specs.GicCall.declared.event.Moment.TheVariants.{En
 use Rattle.law_home_commutes.specs.Histories.{Ideal, Call, Course, begun, gone_on, course_of, opening_course, last_of}
 use Rattle.law_eager_is_history.specs.Moments.{moment_of}
 use Rattle.law_eager_is_history.proofs.CourseLemmas.{state_after, call_after, in_call, calls_off, call_course}
-use Rattle.law_lone_calls_are_eager.specs.Calls.{lone_call}
+use Rattle.law_lone_calls_are_eager.specs.LoneCalls.{lone_call}
 use Rattle.law_lone_calls_are_eager.specs.Laws.{CallsEndAgain}
 use Rattle.law_lone_calls_are_eager.proofs.RunLemmas.{events_of, LoneRun, lone_run}
 

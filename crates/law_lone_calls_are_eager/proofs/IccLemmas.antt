@@ -9,7 +9,7 @@ use Rattle.law_home_commutes.specs.GicCall.declared.event.Event.TheVariants.{Rai
 use Rattle.law_home_commutes.specs.GicCall.declared.event.Found.TheVariants.{Answer}
 use Rattle.law_home_commutes.specs.Histories.{IdealGuest, access_answer, after_events, vcpu_of, last_of, home}
 use Rattle.law_eager_is_history.proofs.EventLemmas.{all_found}
-use Rattle.law_lone_calls_are_eager.specs.Calls.{lone_call, IsEagerCall, PassesAlone}
+use Rattle.law_lone_calls_are_eager.specs.LoneCalls.{lone_call, IsEagerCall, PassesAlone}
 use Rattle.law_lone_calls_are_eager.proofs.NamedLemmas.{named_run, IsIn, is_in, in_filter, event_passes, vcpu_is}
 use Rattle.law_lone_calls_are_eager.proofs.RunLemmas.{events_of, IsHomeRun, IsAnswer, LoneRun, lone_run}
 

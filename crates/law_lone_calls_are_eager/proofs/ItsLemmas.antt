@@ -20,7 +20,7 @@ use Rattle.law_eager_is_history.proofs.TurnLemmas.{IsTurnPiece, register_piece}
 use Rattle.law_eager_is_history.proofs.EventLemmas.{is_plain, shape_events}
 use Rattle.law_eager_is_history.proofs.WindowLemmas.{is_no_turn, maps_after}
 use Rattle.law_home_commutes.proofs.HomeLemmas.{home_rest, home_whole}
-use Rattle.law_lone_calls_are_eager.specs.Calls.{AllMoveOwn, IsAtRest, lone_call, IsEagerCall}
+use Rattle.law_lone_calls_are_eager.specs.LoneCalls.{AllMoveOwn, IsAtRest, lone_call, IsEagerCall}
 use Rattle.law_lone_calls_are_eager.proofs.CommandLemmas.{marks_after, run_split, events_both}
 use Rattle.law_lone_calls_are_eager.proofs.MapsLemmas.{keeps_maps, beside_maps, maps_taken}
 use Rattle.law_lone_calls_are_eager.proofs.MomentLemmas.{target_at, keeps_for, beside_keeps_for, seen_by, seen_kept, targets_after, is_between, grown}

@@ -14,7 +14,7 @@ use Rattle.law_home_commutes.specs.IdealGuest.Ideal.{after_access}
 use Rattle.law_home_commutes.proofs.IdealGuest.KeyLemmas.{IsWhole, whole_changed, whole_changed_at, irq_changed}
 use Rattle.law_eager_is_history.proofs.CourseLemmas.{call_after}
 use Rattle.law_eager_is_history.proofs.WindowLemmas.{next_call}
-use Rattle.law_lone_calls_are_eager.specs.Calls.{moves_to_itself, MovesOwn, AllMoveOwn}
+use Rattle.law_lone_calls_are_eager.specs.LoneCalls.{moves_to_itself, MovesOwn, AllMoveOwn}
 use Rattle.law_lone_calls_are_eager.proofs.NamedLemmas.{IsIn}
 use Rattle.law_lone_calls_are_eager.proofs.RunLemmas.{Follows}
 use Rattle.law_lone_calls_are_eager.proofs.TargetLemmas.{by_record}

@@ -16,7 +16,7 @@ use Rattle.law_home_commutes.specs.Histories.{IdealGuest, view_of, after_event, 
 use Rattle.law_home_commutes.proofs.IdealGuest.KeyLemmas.{IsWhole}
 use Rattle.law_eager_is_history.proofs.CourseLemmas.{state_after, call_after, call_append}
 use Rattle.law_eager_is_history.proofs.WindowLemmas.{next_call}
-use Rattle.law_lone_calls_are_eager.specs.Calls.{AllMoveOwn}
+use Rattle.law_lone_calls_are_eager.specs.LoneCalls.{AllMoveOwn}
 use Rattle.law_lone_calls_are_eager.proofs.AgreeLemmas.{parts_by, result_agrees}
 use Rattle.law_lone_calls_are_eager.proofs.CommandLemmas.{run_split, named_both, events_both, keeps_words, beside_words, reads_word, words_same, queue_same, PartsDone, parts_done}
 use Rattle.law_lone_calls_are_eager.proofs.MomentLemmas.{target_at, keeps_for, beside_keeps_for, seen_by, seen_kept, is_between, IsGrown, grown, IsAfter, done_after, guest_whole}

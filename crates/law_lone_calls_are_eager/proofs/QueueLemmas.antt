@@ -11,7 +11,7 @@ use Rattle.law_home_commutes.proofs.IdealGuest.QueueLemmas.{commands_end, all_ru
 use Rattle.law_eager_is_history.proofs.CommandLemmas.{sound_command, command_known, command_shape}
 use Rattle.law_eager_is_history.proofs.CourseLemmas.{state_after, call_after, call_append}
 use Rattle.law_eager_is_history.proofs.QueueLemmas.{takes_known}
-use Rattle.law_lone_calls_are_eager.specs.Calls.{AllMoveOwn}
+use Rattle.law_lone_calls_are_eager.specs.LoneCalls.{AllMoveOwn}
 use Rattle.law_lone_calls_are_eager.proofs.CommandLemmas.{marks_after, run_split, events_both, queue_same}
 use Rattle.law_lone_calls_are_eager.proofs.OneLemmas.{follows_split, own_split, still_beside, queue_is, IsAt, HasTargets, words_are, one_done, none_beside}
 use Rattle.law_lone_calls_are_eager.proofs.RunLemmas.{events_of, IsHomeRun, Follows}

@@ -24,7 +24,7 @@ use Rattle.law_eager_is_history.proofs.GicIdeal.StepLemmas.{free_follow, op_foll
 use Rattle.law_eager_is_history.proofs.QueueLemmas.{order_as}
 use Rattle.law_eager_is_history.proofs.StepLemmas.{op_call, order_opening}
 use Rattle.law_eager_is_history.proofs.TurnLemmas.{register_piece}
-use Rattle.law_lone_calls_are_eager.specs.Calls.{IsAtRest}
+use Rattle.law_lone_calls_are_eager.specs.LoneCalls.{IsAtRest}
 use Rattle.law_lone_calls_are_eager.specs.Laws.{RestStays}
 use Rattle.law_lone_calls_are_eager.proofs.ReadLemmas.{other_word}
 use Rattle.law_lone_calls_are_eager.proofs.RegisterLemmas.{ctlr_cwriter, ctlr_cbaser}

@@ -9,7 +9,7 @@ use Rattle.law_home_commutes.specs.Histories.{IdealGuest, after_events, Ideal, S
 use Rattle.law_home_commutes.specs.IdealGuest.Opening.{opening}
 use Rattle.law_home_commutes.specs.GicHistory.State.{opening as opening_ideal}
 use Rattle.law_home_commutes.proofs.LawHistories.CourseLemmas.{goes_before}
-use Rattle.law_lone_calls_are_eager.specs.Calls.{eager_events, IsLoneCall, IsEagerCall, IsAtRest}
+use Rattle.law_lone_calls_are_eager.specs.LoneCalls.{eager_events, IsLoneCall, IsEagerCall, IsAtRest}
 use Rattle.law_lone_calls_are_eager.specs.Runs.{LoneCall, moments_in, moments_of, IsGoodCall, ArePassing, eager_after_all, AnswerEagerly, RunsPassHome}
 use Rattle.law_lone_calls_are_eager.proofs.CallLaws.{calls_pass_home}
 use Rattle.law_lone_calls_are_eager.proofs.EndLemmas.{calls_end_again}

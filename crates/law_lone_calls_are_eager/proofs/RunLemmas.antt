@@ -20,7 +20,7 @@ use Rattle.law_home_commutes.proofs.EventLemmas.{other_passes}
 use Rattle.law_home_commutes.proofs.HomeLaws.{move_keeps, event_tidy, moments_tidy, opens_tidy}
 use Rattle.law_home_commutes.proofs.SpotLemmas.{IsTidy}
 use Rattle.law_lone_calls_are_eager.proofs.TargetLemmas.{home_targets}
-use Rattle.law_lone_calls_are_eager.specs.Calls.{lone_call, Shows, AllShow, IsLoneCall}
+use Rattle.law_lone_calls_are_eager.specs.LoneCalls.{lone_call, Shows, AllShow, IsLoneCall}
 
 abbrev pub events_of : List Happened → List Event
 events_of piece = map (λ one. one.event) piece

@@ -14,7 +14,7 @@ use Rattle.law_home_commutes.proofs.GicHistory.CallLemmas.{call_ended, goes_on, 
 use Rattle.law_eager_is_history.specs.GicIdeal.Deeds.{op_events}
 use Rattle.law_home_commutes.specs.LawHistories.WorkedQueue.{its_guest, does, before_write}
 use Rattle.law_home_commutes.proofs.LawHistories.WorkedQueueLemmas.{other_ram, its_good, before_goes}
-use Rattle.law_lone_calls_are_eager.specs.Calls.{lone_call, IsEagerCall, IsAtRest}
+use Rattle.law_lone_calls_are_eager.specs.LoneCalls.{lone_call, IsEagerCall, IsAtRest}
 use Rattle.law_lone_calls_are_eager.specs.Worked.{to_itself, before_call, starts, gathers, MovallGathers}
 use Rattle.law_lone_calls_are_eager.proofs.RestLaws.{rest_stays}
 

@@ -5,7 +5,7 @@ use Rattle.law_home_commutes.specs.Calls.{Moment, Operation, Access, Device, Res
 use Rattle.law_home_commutes.specs.Histories.{IsWhole, IdealGuest, view_of, after_events}
 use Rattle.law_home_commutes.specs.IdealGuest.Opening.{opening}
 use Rattle.law_eager_is_history.specs.GicIdeal.Deeds.{op_events}
-use Rattle.law_lone_calls_are_eager.specs.Calls.{lone_call, IsLoneCall, IsAtRest, PassesAlone, PassesAtRest}
+use Rattle.law_lone_calls_are_eager.specs.LoneCalls.{lone_call, IsLoneCall, IsAtRest, PassesAlone, PassesAtRest}
 
 -- an access of a CPU interface register, with the SGIs that a write of SGI1R sends
 abbrev pub InterfaceCallsPass : Type 0

@@ -12,7 +12,7 @@ pub use Rattle.law_home_commutes.specs.IdealGuest
 pub use Rattle.law_home_commutes.specs.ItsCmd
 pub use Rattle.law_eager_is_history.specs as LawEagerIsHistory
 pub use Rattle.law_home_commutes.specs as LawHomeCommutes
-pub mod Calls
+pub mod LoneCalls
 pub mod Laws
 pub mod Worked
 pub mod Runs

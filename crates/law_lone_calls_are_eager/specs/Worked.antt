@@ -11,7 +11,7 @@ use Rattle.law_home_commutes.specs.GicCall.declared.event.Place.TheVariants.{Wor
 use Rattle.law_home_commutes.specs.GicCall.declared.touch.Touching.TheVariants.{Retarget}
 use Rattle.law_home_commutes.specs.Histories.{handed_out, home, last_of}
 use Rattle.law_home_commutes.specs.LawHistories.WorkedQueue.{its_guest, does, before_write}
-use Rattle.law_lone_calls_are_eager.specs.Calls.{lone_call, IsLoneCall, IsEagerCall, IsAtRest}
+use Rattle.law_lone_calls_are_eager.specs.LoneCalls.{lone_call, IsLoneCall, IsEagerCall, IsAtRest}
 
 -- the first command of the queue becomes a MOVALL from vCPU 0 to itself
 abbrev pub to_itself : List ℕ

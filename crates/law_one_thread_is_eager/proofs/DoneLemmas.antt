@@ -14,7 +14,7 @@ use Rattle.law_found_parts_are_calls.proofs.LawCoreIsHistory.HistorySteps.{runs_
 use Rattle.law_found_parts_are_calls.proofs.LawScansMissNone.RunFrame.{proper_before}
 use Rattle.law_found_parts_are_calls.specs.LawLateOnesLeave.Late.{AccessesComeFirst}
 use Rattle.law_found_parts_are_calls.specs.LawLoneAccessesFindAll.Lone.{AreAtEase, IsAtEase}
-use Rattle.law_found_parts_are_calls.specs.LawLoneCallsAreEager.Calls.{IsEagerCall}
+use Rattle.law_found_parts_are_calls.specs.LawLoneCallsAreEager.LoneCalls.{IsEagerCall}
 use Rattle.law_found_parts_are_calls.specs.LawLoneCallsAreEager.Runs.{AnswerEagerly, IsGoodCall, eager_after_all}
 use Rattle.law_found_parts_are_calls.specs.LawSerialIsEager.Serial.{WholePart, calls_of, is_icc, moments_in, moments_of}
 use Rattle.law_found_parts_are_calls.proofs.LawSerialIsEager.AloneRuns.{AllRest, rest_after, rest_opens}

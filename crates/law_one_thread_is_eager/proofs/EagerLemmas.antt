@@ -6,7 +6,7 @@ use Rattle.law_found_parts_are_calls.specs.Words.{GuestShape}
 use Rattle.law_found_parts_are_calls.specs.Calls.{Operation, Residence}
 use Rattle.law_found_parts_are_calls.specs.Histories.{IdealGuest, after_events}
 use Rattle.law_found_parts_are_calls.specs.Core.{CoreState, after_moment, end_of_moments}
-use Rattle.law_found_parts_are_calls.specs.LawLoneCallsAreEager.Calls.{IsEagerCall, eager_events, eager_read}
+use Rattle.law_found_parts_are_calls.specs.LawLoneCallsAreEager.LoneCalls.{IsEagerCall, eager_events, eager_read}
 use Rattle.law_found_parts_are_calls.specs.LawLoneCallsAreEager.Runs.{AnswerEagerly, LoneCall, eager_after, eager_after_all}
 use Rattle.law_found_parts_are_calls.specs.LawSerialIsEager.Serial.{WholePart, call_of, calls_of, moments_in, moments_of}
 use Rattle.seq_guest.specs.PePlace.Parts.{HaveCall, by_actor}

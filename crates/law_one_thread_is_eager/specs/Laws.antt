@@ -5,7 +5,7 @@ use Rattle.law_found_parts_are_calls.specs.GicIdeal.Shown.{registers_of}
 use Rattle.law_found_parts_are_calls.specs.IdealGuest.Opening.{opening as opening_guest}
 use Rattle.law_found_parts_are_calls.specs.Core.{IsRun, opening}
 use Rattle.seq_guest.specs.PortSeq.Told.{GuestTold, opening_told}
-use Rattle.law_found_parts_are_calls.specs.LawLoneCallsAreEager.Calls.{IsEagerCall}
+use Rattle.law_found_parts_are_calls.specs.LawLoneCallsAreEager.LoneCalls.{IsEagerCall}
 use Rattle.law_found_parts_are_calls.specs.LawLoneCallsAreEager.Runs.{IsGoodCall}
 use Rattle.law_found_parts_are_calls.specs.LawSerialIsEager.Serial.{WholePart, is_icc}
 use Rattle.seq_guest.specs.declared.vcpus.Vcpus.{Vcpus}

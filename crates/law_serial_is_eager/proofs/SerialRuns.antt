@@ -5,7 +5,8 @@ use Rattle.std.proofs.lemmas.List.{append-nil, append_assoc}
 use Rattle.std.proofs.lemmas.List.Elements.{All-nil, All-cons, All-head, All-tail}
 use Rattle.std.proofs.lemmas.List.Sums.{fold-append}
 use Rattle.law_lone_calls_are_eager.specs.Words.{IccReg, Icc, GuestShape}
-use Rattle.law_lone_calls_are_eager.specs.Calls.{Cpu, Operation, Access, icc_raises, Beside, Happened, IsCall, named_of, GuestSpec, IsGoodGuest, AllShow}
+use Rattle.law_lone_calls_are_eager.specs.Calls.{Cpu, Operation, Access, icc_raises, Beside, Happened, IsCall, named_of, GuestSpec, IsGoodGuest}
+use Rattle.law_lone_calls_are_eager.specs.LoneCalls.{AllShow}
 use Rattle.law_lone_calls_are_eager.specs.Histories.{IsHistory, last_of, opening_course, vcpu_of, home}
 use Rattle.law_lone_calls_are_eager.proofs.LawHistories.CourseLemmas.{goes_before}
 use Rattle.law_lone_calls_are_eager.proofs.LawEagerIsHistory.FreshLemmas.{is_no_access}

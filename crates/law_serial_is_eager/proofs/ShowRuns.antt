@@ -6,7 +6,8 @@ use Rattle.std.proofs.lemmas.Bool.{and_parts}
 use Rattle.std.proofs.lemmas.List.{append-nil, append_assoc}
 use Rattle.std.proofs.lemmas.List.Sums.{fold-append}
 use Rattle.law_lone_calls_are_eager.specs.Words.{IccReg, Key, Icc, GuestShape}
-use Rattle.law_lone_calls_are_eager.specs.Calls.{Event, Cpu, Begin, Access, Happened, is_beside, named_of, GuestSpec, AllShow, Shows}
+use Rattle.law_lone_calls_are_eager.specs.Calls.{Event, Cpu, Begin, Access, Happened, is_beside, named_of, GuestSpec}
+use Rattle.law_lone_calls_are_eager.specs.LoneCalls.{AllShow, Shows}
 use Rattle.law_lone_calls_are_eager.specs.Histories.{asks_first, ended_by as ended_in, Course, course_of, gone_on, last_of, opening_course, happened, names, Ideal}
 use Rattle.law_lone_calls_are_eager.specs.LawHomeCommutes.Home.{ShowsHome}
 use Rattle.law_lone_calls_are_eager.proofs.LawEagerIsHistory.FreshLemmas.{is_no_access}

@@ -9,7 +9,7 @@ pub use Rattle.port_core.specs.GicImap
 pub use Rattle.port_core.specs.GicRmap
 pub use Rattle.port_core.specs as PortCore
 pub mod Ready
-pub mod Words
+pub mod GuestWords
 pub mod World
 pub mod Opened
 pub mod Props

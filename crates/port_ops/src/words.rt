@@ -5,7 +5,7 @@ ghost use Rattle.port_core.specs.Calls.{irqs_of, plain_count as count_of_plain, 
 ghost use Rattle.port_core.specs.declared.word_id.WordId.TheVariants.{Irq as IrqWord, Vcpu, Plain};
 ghost use Rattle.port_core.specs.Place.{has_word, word_count as count_of};
 ghost use Rattle.port_core.specs.Run.{opening, opening_word as word_at_opening};
-ghost use Rattle.port_ops.specs.Words.{word_among, words_among, words_at_end};
+ghost use Rattle.port_ops.specs.GuestWords.{word_among, words_among, words_at_end};
 
 use port_core::{
     CtlrWord, GuestShape, GuestSpec, GuestWords, Irq, ItsTables, ListOf, WordId, WordList,

@@ -1,6 +1,7 @@
 -- What a port of one thread tells: of each guest all steps so far, and which actor is told.
 use Rattle.std.specs.Prelude.{◌≡◌, ℕ, ◌<◌, IsTrue, List, [], ◌∷◌, ◌++◌, length, slice_index_or, slice_set, Option, Some, None}
-use Rattle.port_ops.specs.Words.{Actor, is_number, words_at_end}
+use Rattle.port_ops.specs.Words.{Actor, is_number}
+use Rattle.port_ops.specs.GuestWords.{words_at_end}
 use Rattle.atomic_table.specs.Seated.{TableId}
 use Rattle.port_ops.specs.Calls.{GuestSpec}
 use Rattle.port_ops.specs.PortCore.declared.end.GuestWords.{GuestWords}

@@ -5,7 +5,7 @@ use lib.ListN.{get_elem?}
 use Rattle.port_ops.specs.Registers.{Maps}
 use Rattle.port_ops.specs.PortCore.declared.end.GuestWords.{GuestWords}
 use Rattle.std.proofs.lemmas.Option.{same_Some}
-use Rattle.port_ops.specs.Words.{words_at_end}
+use Rattle.port_ops.specs.GuestWords.{words_at_end}
 use Rattle.port_ops.specs.World.{state_after}
 use Rattle.port_table.specs.Rule.{local_of}
 use Rattle.port_table.specs.Told.{WordsTold, RootTold, HasNoTurn, EndsRun}

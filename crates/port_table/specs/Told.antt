@@ -5,7 +5,8 @@ use Rattle.port_ops.specs.Calls.{GuestSpec}
 use Rattle.port_ops.specs.PortCore.declared.end.GuestWords.{GuestWords}
 use Rattle.port_ops.specs.PortCore.declared.run.Entry.{Entry}
 use Rattle.port_ops.specs.PortCore.declared.run.Made.{Made}
-use Rattle.port_ops.specs.Words.{Actor, words_at_end}
+use Rattle.port_ops.specs.Words.{Actor}
+use Rattle.port_ops.specs.GuestWords.{words_at_end}
 use Rattle.port_ops.specs.PortCore.Actor.{guest_of, number_of, has_actor}
 use Rattle.port_ops.specs.PortCore.Port.{Seen, local_by}
 use Rattle.port_ops.specs.PortCore.Run.{IsRun, opening, opening_local_of, own_steps}

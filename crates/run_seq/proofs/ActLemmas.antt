@@ -20,7 +20,7 @@ use Rattle.law_one_thread_is_eager.specs.LawSerialIsEager.Serial.{WholePart}
 use Rattle.law_one_thread_is_eager.specs.PePlace.Place.{entered, left}
 use Rattle.run_seq.specs.declared.machine.Machine.{Machine}
 use Rattle.run_seq.specs.Acts.{ActsAs, Exits, Operates, Places, Receives, ShowsPe, CallsOnce, ShowsVcpu}
-use Rattle.run_seq.specs.Calls.{step_call}
+use Rattle.run_seq.specs.StepCalls.{step_call}
 use Rattle.run_seq.specs.Machine.{CanDo, HasDoneStep, IsGuestAt, IsMachineAt}
 use Rattle.run_seq.proofs.ResidentLemmas.{enters_once, enters_resident, leaves_once, leaves_resident}
 use Rattle.run_seq.proofs.StepLemmas.{device_step, moved, one_enters, one_leaves, other_guests, shown_step, spec, vcpu_step}

@@ -10,7 +10,7 @@ use Rattle.law_ends_agree.specs.Histories.{IdealGuest, op_answer, access_answer}
 use Rattle.law_ends_agree.specs.GicIdeal.Eager.{at_guest}
 use Rattle.law_one_thread_is_eager.specs.LawEagerIsHistory.Moments.{op_read}
 use Rattle.law_ends_agree.specs.GuestEnd.Outcome.{answer_by}
-use Rattle.run_seq.specs.Calls.{CallMade, value_of}
+use Rattle.run_seq.specs.StepCalls.{CallMade, value_of}
 use Rattle.run_seq.proofs.MachineLemmas.{IsButFor, but_for_set}
 
 -- a call's answer is the step's

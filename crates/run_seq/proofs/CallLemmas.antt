@@ -5,7 +5,7 @@ use Rattle.std.proofs.lemmas.List.Elements.{All-head, All-tail, filter-append}
 use Rattle.law_ends_agree.specs.Calls.{Operation, Residence}
 use Rattle.law_one_thread_is_eager.specs.LawSerialIsEager.Serial.{WholePart}
 use Rattle.law_one_thread_is_eager.specs.PePlace.Parts.{AreResidences, HaveCall, by_actor}
-use Rattle.run_seq.specs.Calls.{CallMade, call_made, calls_among, is_residence}
+use Rattle.run_seq.specs.StepCalls.{CallMade, call_made, calls_among, is_residence}
 
 pub calls_append : (early late : List WholePart) → calls_among (early ++ late) ≡ calls_among early ++ calls_among late
 calls_append early late =

@@ -17,7 +17,7 @@ use Rattle.law_one_thread_is_eager.specs.PortSeq.Ports.{told_all}
 use Rattle.law_one_thread_is_eager.specs.PortSeq.Told.{SeqTold, guest_at}
 use Rattle.law_one_thread_is_eager.specs.LawSerialIsEager.Serial.{WholePart}
 use Rattle.run_seq.specs.declared.machine.Machine.{Machine}
-use Rattle.run_seq.specs.Calls.{calls_among}
+use Rattle.run_seq.specs.StepCalls.{calls_among}
 use Rattle.run_seq.specs.Machine.{CanDo, Closes, DoesStep, IsGuestAt, IsMachine, IsMachineAt, IsReady}
 use Rattle.run_seq.proofs.CallLemmas.{calls_append}
 

@@ -9,7 +9,7 @@ use Rattle.law_ends_agree.specs.ScnBase.declared.pes.VcpuName.{VcpuName}
 use Rattle.law_ends_agree.specs.ScnBase.Standing.{is_resident}
 use Rattle.law_ends_agree.specs.Core.{IsRun, opening}
 use Rattle.law_one_thread_is_eager.specs.PortSeq.Told.{GuestTold}
-use Rattle.law_one_thread_is_eager.specs.LawLoneCallsAreEager.Calls.{IsEagerCall, eager_events, eager_read}
+use Rattle.law_one_thread_is_eager.specs.LawLoneCallsAreEager.LoneCalls.{IsEagerCall, eager_events, eager_read}
 use Rattle.law_one_thread_is_eager.specs.LawLoneCallsAreEager.Runs.{IsGoodCall}
 use Rattle.law_one_thread_is_eager.specs.LawSerialIsEager.Serial.{WholePart, is_icc}
 use Rattle.law_one_thread_is_eager.specs.SeqGuest.declared.vcpus.Vcpus.{Vcpus}

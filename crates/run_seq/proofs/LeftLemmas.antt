@@ -28,7 +28,7 @@ use Rattle.law_one_thread_is_eager.specs.SeqGuest.Guest.{AreAt, cpus_of, seen_by
 use Rattle.law_one_thread_is_eager.specs.Done.{AreSerial, HasDone}
 use Rattle.law_one_thread_is_eager.proofs.EaseLemmas.{placed}
 use Rattle.run_seq.specs.declared.machine.Machine.{Machine}
-use Rattle.run_seq.specs.Calls.{calls_among}
+use Rattle.run_seq.specs.StepCalls.{calls_among}
 use Rattle.run_seq.specs.Machine.{HasClosed, place_by}
 use Rattle.run_seq.specs.Run.{GuestHasRun, HasRun, IsLeft, SamePorts}
 use Rattle.run_seq.proofs.CallLemmas.{calls_append}

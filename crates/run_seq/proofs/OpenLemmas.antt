@@ -24,7 +24,7 @@ use Rattle.law_one_thread_is_eager.specs.PePlace.Place.{pe, shelf}
 use Rattle.law_one_thread_is_eager.specs.SeqGuest.Guest.{spot_at}
 use Rattle.law_one_thread_is_eager.proofs.DoneLaws.{guests_open_at_home}
 use Rattle.run_seq.specs.declared.machine.Machine.{Machine}
-use Rattle.run_seq.specs.Calls.{calls_among}
+use Rattle.run_seq.specs.StepCalls.{calls_among}
 use Rattle.run_seq.specs.Machine.{CanDo, DoesStep, IsGuestAt, IsMachineAt, IsReady, OpensMachine, StandsOnce, place_by}
 use Rattle.run_seq.specs.Opened.{AreOpened, IsOpened}
 use Rattle.run_seq.proofs.CallLemmas.{calls_append}

@@ -25,7 +25,7 @@ use Rattle.law_ends_agree.specs.ScnBase.Standing.{opening_standing, pes_after, s
 use Rattle.law_one_thread_is_eager.specs.PortSeq.Told.{SeqTold}
 use Rattle.law_one_thread_is_eager.specs.LawSerialIsEager.Serial.{WholePart}
 use Rattle.run_seq.specs.declared.machine.Machine.{Machine}
-use Rattle.run_seq.specs.Calls.{calls_among, step_call, steps_calls}
+use Rattle.run_seq.specs.StepCalls.{calls_among, step_call, steps_calls}
 use Rattle.run_seq.specs.Machine.{CanDo, DoesStep, HasDoneStep, IsMachineAt, IsReady, OpensMachine}
 use Rattle.run_seq.proofs.CallLemmas.{calls_append}
 use Rattle.law_ends_agree.proofs.GuestEnd.EndsLemmas.{drop_next}

@@ -26,7 +26,7 @@ use Rattle.law_one_thread_is_eager.specs.Done.{home_after}
 use Rattle.run_seq.specs.declared.machine.Machine.{Machine}
 use Rattle.law_ends_agree.specs.GuestEnd.Outcome.{answer_by}
 use Rattle.run_seq.specs.Acts.{CallsOnce, MovesVcpu, ShowsVcpu}
-use Rattle.run_seq.specs.Calls.{CallMade, calls_among, step_call}
+use Rattle.run_seq.specs.StepCalls.{CallMade, calls_among, step_call}
 use Rattle.run_seq.specs.Machine.{GuestActs, HasDoneStep, IsGuestAt, IsMachineAt, StandsOnce, place_by}
 use Rattle.run_seq.proofs.AnswerLemmas.{but_for_change, call_elsewhere, call_here, read_is_answer, value_again}
 use Rattle.run_seq.proofs.CallLemmas.{calls_append, one_call, residences_call_none}

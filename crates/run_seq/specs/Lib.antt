@@ -1,7 +1,7 @@
 pub use Rattle.law_ends_agree.specs.Calls
 pub use Rattle.law_ends_agree.specs.GicIdeal
 pub use Rattle.law_one_thread_is_eager.specs.LawEagerIsHistory
-pub mod Calls
+pub mod StepCalls
 pub mod Machine
 pub mod Opened
 pub mod Acts

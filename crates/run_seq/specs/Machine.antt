@@ -20,7 +20,7 @@ use Rattle.law_one_thread_is_eager.specs.PePlace.Place.{Spot, pe, shelf}
 use Rattle.law_one_thread_is_eager.specs.SeqGuest.Guest.{AreAt, NoneKicked, spot_at}
 use Rattle.law_one_thread_is_eager.specs.Done.{HasDone, home_after}
 use Rattle.run_seq.specs.declared.machine.Machine.{Machine}
-use Rattle.run_seq.specs.Calls.{calls_among, step_call}
+use Rattle.run_seq.specs.StepCalls.{calls_among, step_call}
 use Rattle.std.specs.Option.{option_to_list}
 
 -- One guest.

@@ -15,7 +15,7 @@ use Rattle.law_one_thread_is_eager.specs.PePlace.Parts.{entries_in}
 use Rattle.law_one_thread_is_eager.specs.SeqGuest.Guest.{cpus_of, seen_by}
 use Rattle.law_one_thread_is_eager.specs.Done.{AreSerial, home_after}
 use Rattle.law_ends_agree.specs.GuestEnd.declared.outcome.Done.{Done}
-use Rattle.run_seq.specs.Calls.{calls_among, steps_calls}
+use Rattle.run_seq.specs.StepCalls.{calls_among, steps_calls}
 
 -- a guest whose vCPUs all left: nothing is at their interfaces, and no actor owes anything or has the ITS or the mark of GICD_CTLR
 pub record IsLeft (told : GuestTold) : Type 0 where

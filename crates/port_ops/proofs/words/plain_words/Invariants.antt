@@ -1,7 +1,7 @@
 use Rattle.std.proofs.Common.{◌≡◌}
 use Rattle.port_core.specs.Calls.{plain_count}
 use Rattle.port_core.specs.declared.word_id.WordId.TheVariants.{Plain}
-use Rattle.port_ops.specs.Words.{words_among}
+use Rattle.port_ops.specs.GuestWords.{words_among}
 use Rattle.port_ops.proofs.words.plain_words.Given as goal
 
 -- the words at the places so far

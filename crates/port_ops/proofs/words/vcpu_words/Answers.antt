@@ -1,6 +1,6 @@
 use Rattle.port_core.proofs.GicOpen.RangeLemmas.{map_pushed}
 use Rattle.port_core.specs.declared.word_id.WordId.TheVariants.{Vcpu}
-use Rattle.port_ops.specs.Words.{word_among}
+use Rattle.port_ops.specs.GuestWords.{word_among}
 use Rattle.port_ops.proofs.words.vcpu_words.Goals as goal
 
 pub loop-vcpu-preserved : goal.loop-vcpu-preserved

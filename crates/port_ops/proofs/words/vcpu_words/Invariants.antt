@@ -1,6 +1,6 @@
 use Rattle.std.proofs.Common.{◌≡◌}
 use Rattle.port_core.specs.declared.word_id.WordId.TheVariants.{Vcpu}
-use Rattle.port_ops.specs.Words.{words_among}
+use Rattle.port_ops.specs.GuestWords.{words_among}
 use Rattle.port_ops.proofs.words.vcpu_words.Given as goal
 
 -- the words of the vCPUs so far

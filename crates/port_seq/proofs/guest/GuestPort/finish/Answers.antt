@@ -1,5 +1,5 @@
 use Rattle.std.proofs.Common.{◌≡◌, IfOk, ap, subst, ◌∙◌}
-use Rattle.port_ops.specs.Words.{words_at_end}
+use Rattle.port_ops.specs.GuestWords.{words_at_end}
 use Rattle.port_seq.specs.Home.{maps_here}
 use Rattle.port_seq.specs.Ports.{told}
 use Rattle.port_seq.specs.Rule.{IsAfter}

@@ -5,7 +5,7 @@ use Rattle.std.proofs.lemmas.Result.{IfOk-weaker}
 use Rattle.atomic_table.specs.Table.{Final, Seen}
 use Rattle.port_ops.specs.Registers.{Maps}
 use Rattle.port_ops.specs.declared.opened.Opened.{Opened}
-use Rattle.port_ops.specs.Words.{words_at_end}
+use Rattle.port_ops.specs.GuestWords.{words_at_end}
 use Rattle.port_table.specs.Ports.{words_told, root_told}
 use Rattle.port_table.specs.Rule.{IsShared}
 use Rattle.port_table.specs.Told.{EndsRun}
