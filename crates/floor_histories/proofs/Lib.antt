@@ -5,5 +5,5 @@ pub use Rattle.gic_history.proofs as GicHistory
 pub use Rattle.gic_history.proofs.GicOpen
 pub use Rattle.gic_history.proofs.GicPrio
 pub use Rattle.gic_history.proofs.GicWord
-pub use Rattle.gic_history.proofs.IdealGuest
+pub use Rattle.gic_history.proofs.IdealGuests
 pub use Rattle.gic_history.proofs.ItsTab

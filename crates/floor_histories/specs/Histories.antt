@@ -1,9 +1,9 @@
 -- Histories: the ideal controller's guest, and what may happen in it, by one name each.
-pub use Rattle.gic_history.specs.IdealGuest.Call.{after_device, after_op, op_answer}
-pub use Rattle.gic_history.specs.IdealGuest.Ideal.{access_answer, after_acknowledge, after_command, after_commands, after_deactivation, after_event, after_events, after_queue, after_queued, candidate_at, candidates, changed_at, changed_irq, cpu_at, irq_at, is_named, view_of, with_cpu, with_queue, with_word, word_at}
-pub use Rattle.gic_history.specs.IdealGuest.Queue.{BadCommandsStall, IsQueueInOrder, QueuesRunDry, is_of_event}
-pub use Rattle.gic_history.specs.IdealGuest.Sound.{IsIdealCpu, IsIdealRecord, IsSound}
-pub use Rattle.gic_history.specs.IdealGuest.declared.guest.IdealGuest.{IdealGuest}
+pub use Rattle.gic_history.specs.IdealGuests.Call.{after_device, after_op, op_answer}
+pub use Rattle.gic_history.specs.IdealGuests.Ideal.{access_answer, after_acknowledge, after_command, after_commands, after_deactivation, after_event, after_events, after_queue, after_queued, candidate_at, candidates, changed_at, changed_irq, cpu_at, irq_at, is_named, view_of, with_cpu, with_queue, with_word, word_at}
+pub use Rattle.gic_history.specs.IdealGuests.Queue.{BadCommandsStall, IsQueueInOrder, QueuesRunDry, is_of_event}
+pub use Rattle.gic_history.specs.IdealGuests.Sound.{IsIdealCpu, IsIdealRecord, IsSound}
+pub use Rattle.gic_history.specs.IdealGuests.declared.guest.IdealGuest.{IdealGuest}
 pub use Rattle.gic_history.specs.Fresh.{Changes, Doing, IsFresh, Track, Turn, after_changes, after_doing, after_leaving, after_moment, asks_first, changed_by, changes_of, comes_first, doing_of, ended_by, ends_turn, has_left_all, is_acknowledged, is_acknowledged_from, is_awaited, is_event_of, is_excused, is_far_active, is_fresh_at_acknowledge, is_fresh_at_end, is_fresh_at_interface, is_kept, is_kept_from, is_last_open, is_late, is_open, is_to_come, keys_in, last_since, left_behind, of_end, of_event, opening_track, tracked, turn_of, with_changes, with_doing}
 pub use Rattle.gic_history.specs.History.{Call, Course, GoesOn, IsCallEnded, IsEnded, IsHappening, IsHistory, IsNext, IsWhole, actor_count, begun, call_of, come_to, course_of, gone_on, is_ahead, is_passed, last_of, lpi_in, made, noted, opening_course, seeing, targets_in, vcpu_of}
 pub use Rattle.gic_history.specs.Laws.{EachClauseRefuses, EachLpiHasItsPlace, IsFreshHistory, IsHistoryThatKeeps, WhatIsNotAllowed, WorkedHistoriesAreFresh, kept_clauses}

@@ -8,6 +8,6 @@ pub use Rattle.gic_history.specs.GicGuest
 pub use Rattle.gic_history.specs as GicHistory
 pub use Rattle.gic_history.specs.GicImap
 pub use Rattle.gic_history.specs.GicRmap
-pub use Rattle.gic_history.specs.IdealGuest
+pub use Rattle.gic_history.specs.IdealGuests
 pub use Rattle.gic_history.specs.ItsCmd
 pub mod Histories

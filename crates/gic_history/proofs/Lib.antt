@@ -4,7 +4,7 @@ pub use Rattle.ideal_guest.proofs.GicFrame
 pub use Rattle.ideal_guest.proofs.GicOpen
 pub use Rattle.ideal_guest.proofs.GicPrio
 pub use Rattle.ideal_guest.proofs.GicWord
-pub use Rattle.ideal_guest.proofs as IdealGuest
+pub use Rattle.ideal_guest.proofs as IdealGuests
 pub use Rattle.ideal_guest.proofs.ItsTab
 pub mod CallLemmas
 pub mod WorkedLemmas

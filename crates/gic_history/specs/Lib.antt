@@ -7,7 +7,7 @@ pub use Rattle.ideal_guest.specs.GicDmap
 pub use Rattle.ideal_guest.specs.GicGuest
 pub use Rattle.ideal_guest.specs.GicImap
 pub use Rattle.ideal_guest.specs.GicRmap
-pub use Rattle.ideal_guest.specs as IdealGuest
+pub use Rattle.ideal_guest.specs as IdealGuests
 pub use Rattle.ideal_guest.specs.ItsCmd
 pub mod State
 pub mod Moves

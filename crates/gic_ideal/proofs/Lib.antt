@@ -1,4 +1,4 @@
-pub use Rattle.ideal_guest.proofs as IdealGuest
+pub use Rattle.ideal_guest.proofs as IdealGuests
 pub use Rattle.vcpu_refill.proofs as VcpuRefill
 pub mod StateLemmas
 pub mod EffectLemmas

@@ -1,4 +1,4 @@
-pub use Rattle.ideal_guest.specs as IdealGuest
+pub use Rattle.ideal_guest.specs as IdealGuests
 pub use Rattle.scn_base.specs as ScnBase
 pub mod Ends
 pub mod Shown

@@ -5,8 +5,8 @@ use Rattle.std.specs.List.{flat_map}
 use Rattle.std.proofs.lemmas.List.{append_assoc}
 use Rattle.std.proofs.lemmas.Option.{get_or_from_slice_get}
 use Rattle.port_core.specs.Registers.{CpuRec}
-use Rattle.gic_ideal.specs.IdealGuest.declared.guest.IdealGuest.{IdealGuest}
-use Rattle.gic_ideal.specs.IdealGuest.Opening.{opening}
+use Rattle.gic_ideal.specs.IdealGuests.declared.guest.IdealGuest.{IdealGuest}
+use Rattle.gic_ideal.specs.IdealGuests.Opening.{opening}
 use Rattle.gic_ideal.specs.Ends.{end_of, ends_of}
 use Rattle.port_core.specs.Calls.{GuestSpec, IsGoodGuest}
 use Rattle.port_core.specs.GicGuest.declared.outcome.End.{End}

@@ -1,8 +1,8 @@
 -- A guest at home is sound whatever its ITS has mapped.
 use Rattle.std.proofs.Common.{◌≡◌, [], sym, subst}
-use Rattle.gic_ideal.specs.IdealGuest.declared.guest.IdealGuest.{IdealGuest}
-use Rattle.gic_ideal.specs.IdealGuest.Sound.{IsSound}
-use Rattle.gic_ideal.proofs.IdealGuest.OpeningLemmas.{empty_valid}
+use Rattle.gic_ideal.specs.IdealGuests.declared.guest.IdealGuest.{IdealGuest}
+use Rattle.gic_ideal.specs.IdealGuests.Sound.{IsSound}
+use Rattle.gic_ideal.proofs.IdealGuests.OpeningLemmas.{empty_valid}
 use Rattle.port_core.specs.Registers.{IsValid, Maps}
 
 pub sound_unmapped : (guest home : IdealGuest) (tables : Maps) → guest.tables ≡ record { devices = []; events = []; collections = [] } → record guest { tables = tables } ≡ home → IsSound home → IsSound guest

@@ -2,8 +2,8 @@
 use Rattle.std.specs.Prelude.{◌≡◌, List, [], ◌∷◌, length, take, drop}
 use Rattle.gic_ideal.specs.Ends.{end_of}
 use Rattle.port_core.specs.Registers.{CpuRec}
-use Rattle.gic_ideal.specs.IdealGuest.declared.guest.IdealGuest.{IdealGuest}
-use Rattle.gic_ideal.specs.IdealGuest.Opening.{opening as opening_guest}
+use Rattle.gic_ideal.specs.IdealGuests.declared.guest.IdealGuest.{IdealGuest}
+use Rattle.gic_ideal.specs.IdealGuests.Opening.{opening as opening_guest}
 use Rattle.port_core.specs.declared.end.GuestWords.{GuestWords}
 use Rattle.port_core.specs.Calls.{GuestSpec, IsGoodGuest}
 use Rattle.guest_end.specs.Home.{IsAtEnd, guest_of}

@@ -4,8 +4,8 @@ use Rattle.std.specs.List.{range_with_len}
 use Rattle.port_core.specs.Words.{GuestShape, Irq, IsWord, irq_of}
 use Rattle.port_core.specs.Calls.{Fault, opening_cpu, place_of_plain, GuestSpec}
 use Rattle.port_core.specs.Registers.{CpuRec, is_queue_word, queue_of}
-use Rattle.gic_ideal.specs.IdealGuest.declared.guest.IdealGuest.{IdealGuest}
-use Rattle.gic_ideal.specs.IdealGuest.Sound.{IsSound}
+use Rattle.gic_ideal.specs.IdealGuests.declared.guest.IdealGuest.{IdealGuest}
+use Rattle.gic_ideal.specs.IdealGuests.Sound.{IsSound}
 use Rattle.port_core.specs.declared.end.GuestWords.{GuestWords}
 use Rattle.port_core.specs.Forms.{ctlr_of, vcpu_of}
 

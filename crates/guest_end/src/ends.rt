@@ -1,8 +1,8 @@
 //! How the guests of a scenario ended.
 ghost use Rattle.std.specs.Prelude.{◌≡◌, List, IfOk, map};
 ghost use Rattle.gic_ideal.specs.Ends.{ends_of as ends_between};
-ghost use Rattle.gic_ideal.specs.IdealGuest.declared.guest.IdealGuest.{IdealGuest};
-ghost use Rattle.gic_ideal.specs.IdealGuest.Opening.{opening};
+ghost use Rattle.gic_ideal.specs.IdealGuests.declared.guest.IdealGuest.{IdealGuest};
+ghost use Rattle.gic_ideal.specs.IdealGuests.Opening.{opening};
 ghost use Rattle.guest_end.specs.Ends.{HaveEnded, AllEndAt};
 
 use crate::home::end_of;

@@ -3,7 +3,7 @@ ghost use Rattle.std.specs.Prelude.{◌≡◌, [], All, IfOk, length, map};
 ghost use Rattle.gic_ideal.specs.Ends.{end_of as end_between};
 ghost use Rattle.port_core.specs.Words.{IsShape, IsWord};
 ghost use Rattle.port_core.specs.Calls.{plain_count, IsGoodGuest};
-ghost use Rattle.gic_ideal.specs.IdealGuest.Opening.{opening};
+ghost use Rattle.gic_ideal.specs.IdealGuests.Opening.{opening};
 ghost use Rattle.guest_end.specs.Home.{home_irq as home_irq_of, cpus_at_home, plain_at_home, IsAtEnd, guest_of};
 
 use gic_ideal::IdealGuest;

@@ -12,7 +12,7 @@ use Rattle.history_check.specs.Access.{taken_one, ended_one, accessed_one}
 use Rattle.floor_histories.proofs.GicBase.KeyLemmas.{same_key, same_itself}
 use Rattle.floor_histories.proofs.GicOpen.KeyLemmas.{irq_same, irq_other, length-with_irq_in}
 use Rattle.floor_histories.specs.Histories.{irq_at, cpu_at, with_cpu, with_word, with_queue, IsIdealCpu, IsSound, Ideal, Standing, shown_at, standing_at, is_of, moved_at, interface_at, with_irq, with_standing, with_entry, without, standing_of}
-use Rattle.floor_histories.specs.IdealGuest.Opening.{opening as opening_guest}
+use Rattle.floor_histories.specs.IdealGuests.Opening.{opening as opening_guest}
 use Rattle.floor_histories.specs.GicHistory.State.{opening}
 use Rattle.floor_histories.specs.GicHistory.Moves.{after_access}
 use Rattle.history_check.specs.Ready.{fits, IsReady}

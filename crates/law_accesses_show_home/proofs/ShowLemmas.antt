@@ -11,7 +11,7 @@ use Rattle.law_home_commutes.proofs.GicPrio.AccessLemmas.{taken_first}
 use Rattle.law_home_commutes.proofs.GicPrio.FirstLemmas.{first_is}
 use Rattle.law_home_commutes.specs.Calls.{Entry, left}
 use Rattle.law_home_commutes.specs.Histories.{IdealGuest, irq_at, cpu_at, candidate_at, candidates, asks_first, ended_by, home, Ideal, Standing, standing_at, is_of, is_home, shown_at, interface_at}
-use Rattle.law_home_commutes.proofs.IdealGuest.KeyLemmas.{key_intid, key_there}
+use Rattle.law_home_commutes.proofs.IdealGuests.KeyLemmas.{key_intid, key_there}
 use Rattle.law_home_commutes.proofs.LawHistories.StandLemmas.{of_key, standing_of_key, any_nowhere, any_somewhere, none_filtered}
 use Rattle.law_home_commutes.specs.Home.{ShowsHome, has_no_cause, is_active_at, is_active_by}
 use Rattle.law_home_commutes.proofs.CpuLemmas.{named_own}

@@ -9,7 +9,7 @@ use Rattle.law_home_commutes.specs.Registers.{CpuRec, is_deliverable, is_group_e
 use Rattle.law_home_commutes.specs.Calls.{Event, Up, Down, Touch, Reach, Take, Leave, Enable, Cpu, Found, Happens, Runs, Done, Stalls, Entry, Moved, may_reach, may_take, reached, taken, left, touched, CanHappen}
 use Rattle.law_home_commutes.specs.GicCall.declared.event.Event.TheVariants.{Raise, Queue}
 use Rattle.law_home_commutes.specs.Histories.{irq_at, cpu_at, Changes, Track, changes_of, changed_by, after_changes, after_leaving, left_behind, happened, with_entry, without, Ideal, Standing, standing_at, is_of, is_home, moved_at, with_irq, with_standing}
-use Rattle.law_home_commutes.proofs.IdealGuest.KeyLemmas.{irq_changed}
+use Rattle.law_home_commutes.proofs.IdealGuests.KeyLemmas.{irq_changed}
 use Rattle.law_scans_miss_none.proofs.VcpuRefill.ElementLemmas.{Contains-filter}
 use Rattle.law_home_commutes.proofs.LawHistories.StandLemmas.{of_key, standing_of_key, home_nowhere, put_here, put_other, added_key, added_other, entry_key, entry_other, left_other}
 use Rattle.law_home_commutes.proofs.EventLemmas.{is_other, change_by, changed_is, at_after}

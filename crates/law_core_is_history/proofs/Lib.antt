@@ -5,7 +5,7 @@ pub use Rattle.floor_core.proofs.GicIcv
 pub use Rattle.law_histories.proofs.GicOpen
 pub use Rattle.law_histories.proofs.GicPrio
 pub use Rattle.floor_core.proofs.GicWord
-pub use Rattle.law_histories.proofs.IdealGuest
+pub use Rattle.law_histories.proofs.IdealGuests
 pub use Rattle.law_histories.proofs as LawHistories
 pub use Rattle.floor_core.proofs.PortCore
 pub use Rattle.floor_core.proofs.VcpuRefill

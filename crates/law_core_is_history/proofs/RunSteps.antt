@@ -8,8 +8,8 @@ use Rattle.floor_core.specs.Registers.{CpuRec, enables_in, Maps}
 use Rattle.floor_core.specs.Calls.{irqs_of, irq_in, opening_cpu, opening_enables, plain_count, plain_at, Happened, GuestSpec, IsGoodGuest}
 use Rattle.law_histories.proofs.GicOpen.OpeningLemmas.{openings_valid, opening_valid}
 use Rattle.floor_core.specs.Histories.{cpu_at, Ideal}
-use Rattle.law_histories.specs.IdealGuest.Opening.{opening as opening_guest}
-use Rattle.law_histories.proofs.IdealGuest.OpeningLemmas.{word_opening}
+use Rattle.law_histories.specs.IdealGuests.Opening.{opening as opening_guest}
+use Rattle.law_histories.proofs.IdealGuests.OpeningLemmas.{word_opening}
 use Rattle.floor_core.specs.GicHistory.State.{opening as opening_ideal}
 use Rattle.floor_core.specs.Core.{Entry, CoreStep, Look, Raise, Claim, GiveBack, Release, Poll, Kick, Touch, Want, WireUp, WireDown, EnableLpis, RamLook, RamPut, CtlrTake, CtlrEnd, TurnTake, CommandDone, TurnRelease, Mark, TakeIndex, CtlrWord, WordId, Irq as IrqWord, Vcpu, Queue, Ctlr, Plain, Index, has_word, CoreState, Seat, opening, opening_seat, opening_word_of, after, Takes, IsRun, IsSound, end_of}
 use Rattle.floor_core.proofs.PortCore.OpeningLemmas.{opens_sound, seat_opens, word_opens}

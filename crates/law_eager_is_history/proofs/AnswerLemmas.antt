@@ -16,7 +16,7 @@ use Rattle.gic_ideal.specs.ScnBase.Standing.{opening_pes, pes_after}
 use Rattle.floor_histories.specs.GicCall.declared.event.Moment.TheVariants.{End as EndMoment}
 use Rattle.gic_ideal.specs.ScnBase.declared.step.Mode.TheVariants.{Schedule}
 use Rattle.floor_histories.specs.Histories.{IdealGuest, op_answer, after_events, last_of, home}
-use Rattle.floor_histories.specs.IdealGuest.Opening.{opening}
+use Rattle.floor_histories.specs.IdealGuests.Opening.{opening}
 use Rattle.gic_ideal.specs.Deeds.{step_events}
 use Rattle.gic_ideal.specs.Eager.{step_answer, answers_of, after_step, after_steps}
 use Rattle.gic_ideal.specs.Ends.{end_of, ends_of}

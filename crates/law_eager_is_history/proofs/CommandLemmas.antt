@@ -14,7 +14,7 @@ use Rattle.floor_histories.specs.GicCall.declared.command.Part.TheVariants.{Forg
 use Rattle.floor_histories.specs.GicCall.declared.event.Event.TheVariants.{Read, Queue}
 use Rattle.floor_histories.proofs.GicCall.CommandLemmas.{IsDone, command_valid, queue_valid}
 use Rattle.floor_histories.specs.Histories.{IdealGuest, view_of, word_at, after_event, after_events, after_command, after_commands, IsSound, Ideal, handed_out, happened, Call, targets_in}
-use Rattle.floor_histories.proofs.IdealGuest.QueueLemmas.{kept_parts}
+use Rattle.floor_histories.proofs.IdealGuests.QueueLemmas.{kept_parts}
 use Rattle.gic_ideal.proofs.EffectLemmas.{shape_event}
 use Rattle.gic_ideal.proofs.SoundEvents.{sound_events}
 use Rattle.gic_ideal.proofs.StepLemmas.{command_follows}

@@ -11,7 +11,7 @@ use Rattle.floor_histories.proofs.GicOpen.KeyLemmas.{irq_same}
 use Rattle.floor_histories.specs.Registers.{Candidate, CpuRec, taken_by, deactivated_by, answer_of, cpu_after, InterfaceState, interface_after, interface_answer, acknowledged_at, deactivated_at}
 use Rattle.floor_histories.specs.GicCall.declared.event.Found.TheVariants.{Nothing, Answer}
 use Rattle.floor_histories.specs.Histories.{IdealGuest, irq_at, cpu_at, with_cpu, changed_irq, candidates, after_acknowledge, after_deactivation, access_answer, IsSound, Ideal, Standing, is_of, standing_at, moved_at, is_home, interface_at, shown_at, handed_out, after_reach, after_leave, standing_of, Track, Changes, is_open, changes_of, comes_first, is_excused, keys_in, asks_first, ended_by, is_far_active, is_last_open, last_since, is_late, left_behind, tracked}
-use Rattle.floor_histories.specs.IdealGuest.Ideal.{after_access}
+use Rattle.floor_histories.specs.IdealGuests.Ideal.{after_access}
 use Rattle.floor_histories.specs.GicHistory.Moves.{after_access as access_leaves}
 use Rattle.law_eager_is_history.specs.Moments.{settled, happenings, moment_of}
 use Rattle.law_eager_is_history.proofs.CourseLemmas.{state_after, AreFine}

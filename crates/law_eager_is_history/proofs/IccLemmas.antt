@@ -14,9 +14,9 @@ use Rattle.floor_histories.specs.GicCall.declared.event.Event.TheVariants.{Raise
 use Rattle.floor_histories.specs.GicCall.declared.event.Found.TheVariants.{Answer}
 use Rattle.floor_histories.proofs.GicCall.CallLemmas.{icc_valid}
 use Rattle.floor_histories.specs.Histories.{IdealGuest, irq_at, cpu_at, changed_irq, candidates, after_acknowledge, after_deactivation, access_answer, view_of, after_events, IsSound, Ideal, asks_first, ended_by, begun, targets_in, happened}
-use Rattle.floor_histories.specs.IdealGuest.Ideal.{after_access}
-use Rattle.floor_histories.proofs.IdealGuest.CandidateLemmas.{first_was}
-use Rattle.floor_histories.proofs.IdealGuest.KeyLemmas.{key_there, shape_access}
+use Rattle.floor_histories.specs.IdealGuests.Ideal.{after_access}
+use Rattle.floor_histories.proofs.IdealGuests.CandidateLemmas.{first_was}
+use Rattle.floor_histories.proofs.IdealGuests.KeyLemmas.{key_there, shape_access}
 use Rattle.gic_ideal.specs.Deeds.{op_events}
 use Rattle.law_eager_is_history.specs.Moments.{first_key, active_key, used_by, between_moves, op_made, op_read, settled, happenings, moment_of}
 use Rattle.law_eager_is_history.proofs.CourseLemmas.{state_after, state_append, AreFine, fine_append, happenings_append, call_after}

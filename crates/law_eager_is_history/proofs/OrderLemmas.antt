@@ -9,8 +9,8 @@ use Rattle.floor_histories.specs.Calls.{plain_count, Cbaser, Cwriter, Fault, Don
 use Rattle.floor_histories.specs.ItsCmd.Command.{decoded}
 use Rattle.floor_histories.specs.GicCall.declared.event.Event.TheVariants.{Queue}
 use Rattle.floor_histories.specs.Histories.{IdealGuest, view_of, cpu_at, word_at, candidates, changed_irq, after_acknowledge, after_deactivation, after_event, after_events, after_command, after_commands, IsQueueInOrder, IsSound}
-use Rattle.floor_histories.specs.IdealGuest.Ideal.{after_access}
-use Rattle.floor_histories.proofs.IdealGuest.QueueLemmas.{kept_parts}
+use Rattle.floor_histories.specs.IdealGuests.Ideal.{after_access}
+use Rattle.floor_histories.proofs.IdealGuests.QueueLemmas.{kept_parts}
 use Rattle.gic_ideal.proofs.SoundEvents.{sound_events}
 use Rattle.gic_ideal.proofs.StepLemmas.{command_follows}
 use Rattle.law_eager_is_history.proofs.EventLemmas.{shape_events}

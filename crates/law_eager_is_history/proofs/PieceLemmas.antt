@@ -5,8 +5,8 @@ use Rattle.std.proofs.lemmas.Bool.{and_parts, and_from, eq-eqb}
 use Rattle.std.proofs.lemmas.List.Elements.{All-nil, All-cons, All-append}
 use Rattle.floor_histories.specs.Words.{Key, Lpi, SetPending, has_interrupt, is_same_key, place_of, Irq, raised, target_in}
 use Rattle.floor_histories.specs.Calls.{opening_irq, Register, touched, Event, Enable, Touch, CtlrBegin, CtlrEnd, HandsOut, HappensFreely}
-use Rattle.floor_histories.proofs.IdealGuest.KeyLemmas.{IsWhole, whole_changed, irq_changed}
-use Rattle.floor_histories.proofs.IdealGuest.SoundLemmas.{whole_of}
+use Rattle.floor_histories.proofs.IdealGuests.KeyLemmas.{IsWhole, whole_changed, irq_changed}
+use Rattle.floor_histories.proofs.IdealGuests.SoundLemmas.{whole_of}
 use Rattle.floor_histories.specs.Registers.{Enables}
 use Rattle.std.proofs.lemmas.Grind.{fold-append}
 use Rattle.floor_histories.specs.Histories.{IdealGuest, irq_at, changed_irq, view_of, after_event, after_events, IsQueueInOrder, IsSound, Ideal, handed_out, happened, Call, targets_in}

@@ -24,7 +24,7 @@ use Rattle.floor_histories.specs.Calls.{fits, has_frame, is_good_op, Ram, Propba
 use Rattle.floor_histories.specs.GicCall.declared.event.Place.TheVariants.{Word, Queue as QueuePlace, Lpis}
 use Rattle.floor_histories.specs.GicCall.declared.command.Part.TheVariants.{Forget, Retarget, Raise, Configure}
 use Rattle.floor_histories.specs.Histories.{IdealGuest, view_of, IsSound}
-use Rattle.floor_histories.proofs.IdealGuest.PartLemmas.{lpi_target_there}
+use Rattle.floor_histories.proofs.IdealGuests.PartLemmas.{lpi_target_there}
 
 abbrev pub ArePlaces : GuestShape → List Place → Type 0
 ArePlaces shape places = All (λ place. IsTrue (has_place shape place)) places

@@ -19,8 +19,8 @@ use Rattle.gic_ideal.specs.ScnBase.declared.step.Step.TheVariants.{Vcpu, Device,
 use Rattle.gic_ideal.specs.ScnBase.Good.{is_formed}
 use Rattle.floor_histories.proofs.GicCall.CallLemmas.{device_valid}
 use Rattle.floor_histories.specs.Histories.{IdealGuest, view_of, word_at, after_event, after_events, IsQueueInOrder, IsSound, after_leave, emptied, home, Call, begun, Course, IsEnded, actor_count, course_of, gone_on, GoesOn, last_of, Track, opening_track}
-use Rattle.floor_histories.specs.IdealGuest.Opening.{opening}
-use Rattle.floor_histories.proofs.IdealGuest.OpeningLemmas.{word_opening, empty_valid, sound_opening}
+use Rattle.floor_histories.specs.IdealGuests.Opening.{opening}
+use Rattle.floor_histories.proofs.IdealGuests.OpeningLemmas.{word_opening, empty_valid, sound_opening}
 use Rattle.gic_ideal.specs.Deeds.{op_events, step_events, steps_events}
 use Rattle.gic_ideal.proofs.SoundEvents.{sound_events}
 use Rattle.gic_ideal.proofs.StepLemmas.{free_follow, op_follows}

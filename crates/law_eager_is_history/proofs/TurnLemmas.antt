@@ -17,7 +17,7 @@ use Rattle.floor_histories.specs.GicCall.declared.event.Found.TheVariants.{Word 
 use Rattle.floor_histories.specs.GicCall.Call.{starts_commands}
 use Rattle.floor_histories.proofs.GicCall.CallLemmas.{access_valid}
 use Rattle.floor_histories.specs.Histories.{IdealGuest, view_of, word_at, with_word, with_queue, after_events, after_queued, IsQueueInOrder, IsSound, Call, targets_in}
-use Rattle.floor_histories.proofs.IdealGuest.QueueLemmas.{all_run_dry}
+use Rattle.floor_histories.proofs.IdealGuests.QueueLemmas.{all_run_dry}
 use Rattle.gic_ideal.specs.Deeds.{op_events}
 use Rattle.gic_ideal.proofs.SoundEvents.{sound_events}
 use Rattle.gic_ideal.proofs.StepLemmas.{free_follow, op_is_events}

@@ -11,8 +11,8 @@ use Rattle.floor_histories.proofs.GicPrio.AccessLemmas.{taken_first}
 use Rattle.floor_histories.proofs.GicPrio.FirstLemmas.{before_itself}
 use Rattle.floor_histories.specs.Calls.{Entry, Moved, may_reach, reached, left, at_interface}
 use Rattle.floor_histories.specs.Histories.{IdealGuest, irq_at, cpu_at, changed_irq, candidates, after_acknowledge, after_deactivation, access_answer, standing_of, asks_first, ended_by}
-use Rattle.floor_histories.proofs.IdealGuest.CandidateLemmas.{IsCandidateOf, deliverable_inactive}
-use Rattle.floor_histories.proofs.IdealGuest.KeyLemmas.{key_intid}
+use Rattle.floor_histories.proofs.IdealGuests.CandidateLemmas.{IsCandidateOf, deliverable_inactive}
+use Rattle.floor_histories.proofs.IdealGuests.KeyLemmas.{key_intid}
 use Rattle.law_eager_is_history.proofs.StandLemmas.{as_it_is}
 
 -- What an access takes of the candidates is by the first of them alone.

@@ -3,7 +3,7 @@ use Rattle.std.specs.Prelude.{◌≡◌, ℕ, List, map, Some, slice_get}
 use Rattle.floor_histories.specs.Calls.{Moment, GuestSpec}
 use Rattle.floor_histories.specs.Histories.{last_of, home}
 use Rattle.gic_ideal.specs.Eager.{eager, after_steps}
-use Rattle.floor_histories.specs.IdealGuest.Opening.{opening}
+use Rattle.floor_histories.specs.IdealGuests.Opening.{opening}
 use Rattle.gic_ideal.specs.ScnBase.declared.scenario.Scenario.{Scenario}
 use Rattle.gic_ideal.specs.ScnBase.declared.step.Mode.TheVariants.{Schedule}
 use Rattle.gic_ideal.specs.ScnBase.Good.{IsGood}

@@ -3,7 +3,7 @@ use Rattle.std.specs.Prelude.{◌≡◌, ℕ, List, length, Some, slice_get}
 use Rattle.floor_histories.specs.Calls.{Moment, GuestSpec, RunOut}
 use Rattle.floor_histories.specs.Histories.{IsFresh, IsHistory, IsWhole, last_of, home}
 use Rattle.gic_ideal.specs.Ends.{end_of}
-use Rattle.floor_histories.specs.IdealGuest.Opening.{opening}
+use Rattle.floor_histories.specs.IdealGuests.Opening.{opening}
 use Rattle.gic_ideal.specs.ScnBase.declared.scenario.Scenario.{Scenario}
 use Rattle.law_eager_is_history.specs.Calls.{calls_of, own_steps}
 

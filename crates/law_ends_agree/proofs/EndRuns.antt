@@ -7,8 +7,8 @@ use Rattle.port_ops.proofs.GicOpen.KeyLemmas.{key_at_there}
 use Rattle.guest_end.proofs.GicCall.PartLemmas.{each_made}
 use Rattle.law_core_is_history.specs.Histories.{last_of, Ideal, IsSound as IsSoundGuest}
 use Rattle.guest_end.specs.GicIdeal.Ends.{end_of}
-use Rattle.guest_end.specs.IdealGuest.Opening.{opening as opening_guest}
-use Rattle.guest_end.proofs.IdealGuest.SoundLemmas.{sound_with_maps}
+use Rattle.guest_end.specs.IdealGuests.Opening.{opening as opening_guest}
+use Rattle.guest_end.proofs.IdealGuests.SoundLemmas.{sound_with_maps}
 use Rattle.port_ops.specs.Registers.{IsValid as IsValidMaps}
 use Rattle.port_ops.specs.Calls.{GuestSpec, IsGoodGuest}
 use Rattle.law_core_is_history.specs.Core.{Irq, Queue, Vcpu, CoreState, IsSound, opening, seat_at, ideal_of}

@@ -2,7 +2,7 @@ pub use Rattle.port_ops.proofs.GicFrame
 pub use Rattle.law_core_is_history.proofs.GicHistory
 pub use Rattle.guest_end.proofs.GicIdeal
 pub use Rattle.guest_end.proofs as GuestEnd
-pub use Rattle.guest_end.proofs.IdealGuest
+pub use Rattle.guest_end.proofs.IdealGuests
 pub use Rattle.port_ops.proofs.PortCore
 pub use Rattle.port_ops.proofs as PortOps
 pub mod SteadyRuns

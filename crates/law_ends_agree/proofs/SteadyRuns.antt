@@ -13,8 +13,8 @@ use Rattle.port_ops.specs.GicCall.declared.event.Event.TheVariants.{Raise, Read,
 use Rattle.port_ops.specs.GicCall.declared.event.Moment.TheVariants.{End}
 use Rattle.guest_end.proofs.GicCall.MoveLemmas.{reached_valid, taken_valid, left_valid}
 use Rattle.law_core_is_history.specs.Histories.{IdealGuest, irq_at, cpu_at, IsIdealRecord, IsSound, Course, GoesOn, gone_on, course_of, opening_course, IsHistory, last_of, happened, after_take, after_leave, with_entry, without, standing_of, Ideal, Standing, standing_at, is_of, shown_at, interface_at, with_irq, with_standing}
-use Rattle.guest_end.proofs.IdealGuest.OpeningLemmas.{empty_valid, sound_opening}
-use Rattle.guest_end.proofs.IdealGuest.SoundLemmas.{sound_put, sound_with_cpu, cpu_valid, cpu_after_valid}
+use Rattle.guest_end.proofs.IdealGuests.OpeningLemmas.{empty_valid, sound_opening}
+use Rattle.guest_end.proofs.IdealGuests.SoundLemmas.{sound_put, sound_with_cpu, cpu_valid, cpu_after_valid}
 use Rattle.law_core_is_history.specs.GicHistory.Moves.{after_access}
 use Rattle.law_core_is_history.specs.GicHistory.State.{opening}
 use Rattle.guest_end.proofs.GicIdeal.SoundEvents.{sound_event}

@@ -5,7 +5,7 @@ use Rattle.port_ops.specs.Words.{GuestShape}
 use Rattle.port_ops.specs.GuestWords.{words_at_end}
 use Rattle.port_ops.specs.Registers.{CpuRec}
 use Rattle.law_core_is_history.specs.Histories.{IdealGuest, last_of, opening_course, home}
-use Rattle.guest_end.specs.IdealGuest.Opening.{opening as opening_guest}
+use Rattle.guest_end.specs.IdealGuests.Opening.{opening as opening_guest}
 use Rattle.guest_end.specs.GicIdeal.Ends.{end_of}
 use Rattle.port_ops.specs.Calls.{GuestSpec, IsGoodGuest}
 use Rattle.law_core_is_history.specs.Core.{GuestWords, CoreState, opening, seat_at, end_of_moments, ideal_of, CoreMoment, IsPartedRun}

@@ -12,7 +12,7 @@ pub use Rattle.guest_end.specs.GicIdeal
 pub use Rattle.port_ops.specs.GicImap
 pub use Rattle.port_ops.specs.GicRmap
 pub use Rattle.guest_end.specs as GuestEnd
-pub use Rattle.guest_end.specs.IdealGuest
+pub use Rattle.guest_end.specs.IdealGuests
 pub use Rattle.port_ops.specs as PortOps
 pub use Rattle.guest_end.specs.ScnBase
 pub mod End

@@ -2,7 +2,7 @@
 use Rattle.std.specs.Prelude.{◌≡◌, List, [], ◌∷◌, take, true, false, Some, None}
 use Rattle.law_core_is_history.specs.Histories.{opening_course}
 use Rattle.guest_end.specs.GicIdeal.Ends.{end_of}
-use Rattle.guest_end.specs.IdealGuest.Opening.{opening as opening_guest}
+use Rattle.guest_end.specs.IdealGuests.Opening.{opening as opening_guest}
 use Rattle.port_ops.specs.GicGuest.declared.outcome.End.{End}
 use Rattle.port_ops.specs.Calls.{IsGoodGuest}
 use Rattle.law_core_is_history.specs.Core.{opening, CoreMoment, IsPartedRun, worked_guest, worked_run, spi}

@@ -7,7 +7,7 @@ use Rattle.law_unmapped_lpis.specs.Words.{GuestShape}
 use Rattle.law_unmapped_lpis.specs.Calls.{Part, Map, Clear, Event, Runs, Done, Stalls, command_parts, lpi_event, queue_event, ArePartsThen, Happened, IsCommand, Makes, is_beside, named_of, View}
 use Rattle.law_unmapped_lpis.specs.GicCall.declared.command.Part.TheVariants.{Forget, Retarget, Raise, Configure}
 use Rattle.law_unmapped_lpis.specs.GicCall.declared.event.Event.TheVariants.{Queue}
-use Rattle.law_unmapped_lpis.proofs.IdealGuest.KeyLemmas.{IsWhole}
+use Rattle.law_unmapped_lpis.proofs.IdealGuests.KeyLemmas.{IsWhole}
 use Rattle.law_unmapped_lpis.specs.Histories.{Ideal, happened, targets_in}
 use Rattle.law_unmapped_lpis.proofs.LawHistories.StateLemmas.{guest_is}
 use Rattle.law_serial_is_eager.proofs.LawEagerIsHistory.CourseLemmas.{state_after, state_append}

@@ -8,7 +8,7 @@ use Rattle.std.proofs.Math.Seq.{get_or-append_seam}
 use Rattle.law_unmapped_lpis.specs.Words.{GuestShape, interrupt_count, IsShape}
 use Rattle.law_unmapped_lpis.specs.Calls.{Event, Happened}
 use Rattle.law_unmapped_lpis.specs.Registers.{IsValid, Maps}
-use Rattle.law_unmapped_lpis.proofs.IdealGuest.KeyLemmas.{IsWhole}
+use Rattle.law_unmapped_lpis.proofs.IdealGuests.KeyLemmas.{IsWhole}
 use Rattle.law_unmapped_lpis.specs.Histories.{Ideal, happened, targets_in, vcpu_of}
 use Rattle.law_serial_is_eager.proofs.LawEagerIsHistory.CourseLemmas.{state_after}
 use Rattle.law_serial_is_eager.proofs.LawEagerIsHistory.WindowLemmas.{Targets, beside_of, no_target}

@@ -9,7 +9,7 @@ use Rattle.law_unmapped_lpis.specs.GicImap.Map.{decoded as its_decoded}
 use Rattle.law_unmapped_lpis.specs.Calls.{Event, Touch, Moment, Operation, Access, Device, Residence, Happened, IsCall, IsItsWrite, GuestSpec, IsGoodGuest, is_good_event, is_good_op}
 use Rattle.law_unmapped_lpis.specs.GicCall.declared.touch.Touching.TheVariants.{Retarget as RetargetLpi}
 use Rattle.law_unmapped_lpis.specs.Histories.{IdealGuest, after_events, Ideal, home, Call, IsHistory, IsWhole as IsWholeHistory, actor_count, last_of, opening_course, targets_in, vcpu_of}
-use Rattle.law_unmapped_lpis.specs.IdealGuest.Opening.{opening as opening_guest}
+use Rattle.law_unmapped_lpis.specs.IdealGuests.Opening.{opening as opening_guest}
 use Rattle.law_unmapped_lpis.specs.Registers.{has_target, Maps}
 use Rattle.law_unmapped_lpis.proofs.LawHomeCommutes.HomeLaws.{history_tidy}
 use Rattle.law_unmapped_lpis.proofs.LawHomeCommutes.HomeLemmas.{home_rest}

@@ -15,7 +15,7 @@ use Rattle.law_unmapped_lpis.specs.GicImap.declared.map.RegRef.TheVariants.{Plai
 use Rattle.law_unmapped_lpis.specs.Calls.{Event, Touch, Operation, Access, Device, Residence, Begin, Place, Runs, Done, Stalls, icc_events, its_events, Beside, Happened, IsCall, IsItsWrite, Makes, View, GuestSpec, IsGoodGuest}
 use Rattle.law_unmapped_lpis.specs.GicCall.declared.event.Event.TheVariants.{Queue}
 use Rattle.law_unmapped_lpis.specs.Registers.{has_target}
-use Rattle.law_unmapped_lpis.proofs.IdealGuest.KeyLemmas.{IsWhole}
+use Rattle.law_unmapped_lpis.proofs.IdealGuests.KeyLemmas.{IsWhole}
 use Rattle.law_unmapped_lpis.specs.Histories.{Ideal, Call, Course, IsEnded, begun, course_of, gone_on, opening_course, targets_in, vcpu_of}
 use Rattle.law_unmapped_lpis.proofs.LawHistories.CourseLemmas.{begun_here}
 use Rattle.law_serial_is_eager.proofs.LawEagerIsHistory.CourseLemmas.{call_after, call_append, state_after}

@@ -5,7 +5,7 @@ use Rattle.std.proofs.lemmas.Bool.{and_parts, eq-eqb, ltb-true}
 use Rattle.std.proofs.lemmas.List.Folds.{list_all-append}
 use Rattle.law_unmapped_lpis.specs.Words.{Lpi, GuestShape, Key, Irq as IrqRecord, is_vcpu_or_none, is_number, target_in, irq_of}
 use Rattle.law_unmapped_lpis.specs.Histories.{irq_at, Ideal, targets_in}
-use Rattle.law_unmapped_lpis.proofs.IdealGuest.KeyLemmas.{IsWhole}
+use Rattle.law_unmapped_lpis.proofs.IdealGuests.KeyLemmas.{IsWhole}
 use Rattle.law_serial_is_eager.proofs.LawLoneCallsAreEager.CommandLemmas.{events_both}
 use Rattle.law_serial_is_eager.proofs.LawLoneCallsAreEager.RunLemmas.{events_of}
 use Rattle.pe_mem.specs.Core.{AtIrq, Made, Look, Irq as IrqWord, given_back, back_of, entry_for, is_at, has_word, CanStep, word_of, CoreState, IsSound, word_in}

@@ -8,7 +8,7 @@ use Rattle.law_unmapped_lpis.specs.GicImap.Map.{decoded as its_decoded}
 use Rattle.law_unmapped_lpis.specs.Calls.{Event, Moment, Access, its_events, its_starts, takes_turn, queue_event, AreCommands, AreStarted, Happened, HaveSameIts, IsItsCall, its_written_by, left_by, View, GuestSpec}
 use Rattle.law_unmapped_lpis.specs.Registers.{Maps}
 use Rattle.law_unmapped_lpis.specs.Histories.{IdealGuest, after_command, after_events, view_of, IsSound, Ideal, happened, home, Call, begun, last_of, targets_in}
-use Rattle.law_unmapped_lpis.proofs.IdealGuest.KeyLemmas.{IsWhole}
+use Rattle.law_unmapped_lpis.proofs.IdealGuests.KeyLemmas.{IsWhole}
 use Rattle.law_serial_is_eager.proofs.LawEagerIsHistory.CommandLemmas.{command_shape, sound_command}
 use Rattle.law_serial_is_eager.proofs.LawEagerIsHistory.CourseLemmas.{call_after, call_append, state_after}
 use Rattle.law_serial_is_eager.proofs.LawEagerIsHistory.EventLemmas.{shape_events}

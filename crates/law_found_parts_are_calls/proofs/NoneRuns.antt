@@ -12,7 +12,7 @@ use Rattle.law_unmapped_lpis.specs.Calls.{Part, Map, Clear, Event, Done, Stalls,
 use Rattle.law_unmapped_lpis.specs.GicCall.declared.command.Part.TheVariants.{Forget, Retarget, Raise, Configure}
 use Rattle.law_unmapped_lpis.specs.GicCall.declared.event.Event.TheVariants.{Queue}
 use Rattle.law_unmapped_lpis.specs.Histories.{IdealGuest, after_event, Ideal, happened, targets_in}
-use Rattle.law_unmapped_lpis.proofs.IdealGuest.KeyLemmas.{IsWhole}
+use Rattle.law_unmapped_lpis.proofs.IdealGuests.KeyLemmas.{IsWhole}
 use Rattle.law_unmapped_lpis.proofs.LawHistories.StateLemmas.{guest_is}
 use Rattle.law_unmapped_lpis.proofs.LawHistories.TurnSteps.{tables_after, tables_are}
 use Rattle.law_serial_is_eager.proofs.LawEagerIsHistory.CourseLemmas.{state_after, state_append}

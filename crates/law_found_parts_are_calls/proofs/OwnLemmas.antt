@@ -9,7 +9,7 @@ use Rattle.law_unmapped_lpis.specs.Calls.{Part, Map, Clear, Event, Touch, lpis_o
 use Rattle.law_unmapped_lpis.specs.GicCall.declared.command.Part.TheVariants.{Forget, Retarget, Raise, Configure}
 use Rattle.law_unmapped_lpis.specs.GicCall.declared.touch.Touching.TheVariants.{Retarget as RetargetLpi}
 use Rattle.law_unmapped_lpis.specs.Histories.{IdealGuest, after_event, after_events, view_of}
-use Rattle.law_unmapped_lpis.proofs.IdealGuest.KeyLemmas.{IsWhole}
+use Rattle.law_unmapped_lpis.proofs.IdealGuests.KeyLemmas.{IsWhole}
 use Rattle.law_unmapped_lpis.proofs.LawHistories.CourseLemmas.{mark_is}
 use Rattle.law_unmapped_lpis.specs.LawLoneCallsAreEager.LoneCalls.{AllMoveOwn, MovesOwn, moves_to_itself}
 use Rattle.law_serial_is_eager.proofs.LawLoneCallsAreEager.CommandLemmas.{beside_words, events_both, keeps_words, reads_word, run_split, words_same}

@@ -6,7 +6,7 @@ use Rattle.law_unmapped_lpis.specs.Words.{Key, Private, Spi, Lpi, SetPending, ha
 use Rattle.law_unmapped_lpis.specs.Calls.{Event, Up, Down, Touch, Reach, Take, Leave, Enable, Runs, Done, Stalls, Touching, Register, Enables as CopyEnables, touched, is_beside}
 use Rattle.law_unmapped_lpis.specs.GicCall.declared.event.Event.TheVariants.{Raise, Queue}
 use Rattle.law_unmapped_lpis.specs.Histories.{irq_at, Ideal, handed_out, happened, Call, is_passed, made, targets_in}
-use Rattle.law_unmapped_lpis.proofs.IdealGuest.KeyLemmas.{IsWhole, irq_changed}
+use Rattle.law_unmapped_lpis.proofs.IdealGuests.KeyLemmas.{IsWhole, irq_changed}
 use Rattle.law_unmapped_lpis.proofs.LawHistories.StateLemmas.{guest_is}
 use Rattle.law_unmapped_lpis.proofs.LawHistories.TurnSteps.{tables_are}
 use Rattle.law_serial_is_eager.proofs.LawEagerIsHistory.CourseLemmas.{call_after, state_after}

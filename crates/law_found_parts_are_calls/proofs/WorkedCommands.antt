@@ -8,7 +8,7 @@ use Rattle.law_unmapped_lpis.specs.Calls.{Put, Stalls, Place, Beside, HandsOut, 
 use Rattle.law_unmapped_lpis.specs.GicCall.declared.event.Event.TheVariants.{ItsEnd, Queue, Read}
 use Rattle.law_unmapped_lpis.specs.GicCall.declared.event.Found.TheVariants.{Nothing, Word as FoundWord}
 use Rattle.law_unmapped_lpis.specs.GicCall.declared.event.Place.TheVariants.{Queue as QueuePlace, Word}
-use Rattle.law_unmapped_lpis.proofs.IdealGuest.OpeningLemmas.{empty_valid}
+use Rattle.law_unmapped_lpis.proofs.IdealGuests.OpeningLemmas.{empty_valid}
 use Rattle.pe_mem.specs.Core.{CommandDone, RamLook, TurnRelease, known_maps, no_maps, Adds, Seen, part_events, seen_after, Made, vcpu_of_actor}
 use Rattle.pe_mem.specs.Lists.{in_places}
 use Rattle.pe_mem.specs.PortCall.Memory.{view_by}

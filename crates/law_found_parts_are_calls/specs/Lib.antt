@@ -4,7 +4,7 @@ pub use Rattle.law_unmapped_lpis.specs.Histories
 pub use Rattle.pe_mem.specs.Lists
 pub use Rattle.law_unmapped_lpis.specs.Words
 pub use Rattle.law_unmapped_lpis.specs.GicIdeal
-pub use Rattle.law_unmapped_lpis.specs.IdealGuest
+pub use Rattle.law_unmapped_lpis.specs.IdealGuests
 pub use Rattle.pe_mem.specs.ItsExec
 pub use Rattle.law_serial_is_eager.specs.LawCoreIsHistory
 pub use Rattle.law_unmapped_lpis.specs.LawEagerIsHistory

@@ -10,7 +10,7 @@ use Rattle.floor_histories.proofs.GicOpen.OpeningLemmas.{openings_valid}
 use Rattle.floor_histories.specs.Calls.{Event, Up, Down, Touch, Reach, Take, Leave, Enable, Cpu, Put, CtlrBegin, CtlrEnd, ItsBegin, Found, Moment, Begin, Happens, Operation, Runs, Done, Stalls, GuestSpec, IsGoodGuest}
 use Rattle.floor_histories.specs.GicCall.declared.event.Event.TheVariants.{Raise, Read, ItsEnd, Queue}
 use Rattle.floor_histories.specs.GicCall.declared.event.Moment.TheVariants.{End}
-use Rattle.floor_histories.proofs.IdealGuest.KeyLemmas.{IsWhole}
+use Rattle.floor_histories.proofs.IdealGuests.KeyLemmas.{IsWhole}
 use Rattle.floor_histories.specs.Histories.{Ideal, happened, Call, Course, GoesOn, actor_count, opening_course, call_of, begun, noted, made, seeing, gone_on, course_of}
 use Rattle.law_histories.proofs.StateLemmas.{guest_is}
 

@@ -11,7 +11,7 @@ use Rattle.floor_histories.specs.GicCall.declared.event.Event.TheVariants.{Raise
 use Rattle.floor_histories.specs.GicCall.declared.event.Found.TheVariants.{Nothing, Answer, Word as FoundWord, Queue as FoundQueue, Ctlr as FoundCtlr, Lpis as FoundLpis}
 use Rattle.floor_histories.specs.GicCall.declared.event.Moment.TheVariants.{End}
 use Rattle.floor_histories.specs.Histories.{irq_at, after_moment, Course, IsNext, GoesOn, gone_on, course_of, opening_course, happened, Ideal, Standing, standing_at, is_of, moved_at}
-use Rattle.floor_histories.proofs.IdealGuest.KeyLemmas.{IsWhole}
+use Rattle.floor_histories.proofs.IdealGuests.KeyLemmas.{IsWhole}
 use Rattle.floor_histories.specs.GicHistory.State.{opening}
 use Rattle.law_histories.specs.Latches.{Latch, no_latch, latched, latch_from, StaysEdge, is_iar, is_pending_at, acknowledges, has_cause_there, has_cause, has_cause_at, Latches}
 use Rattle.law_histories.proofs.LatchLemmas.{causes_of, entry_causes, IsStanding, IsLatched, away, stands, IsEntryLatched}

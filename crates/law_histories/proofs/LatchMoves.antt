@@ -10,7 +10,7 @@ use Rattle.floor_histories.specs.Calls.{Event, Up, Down, Touch, Reach, Take, Lea
 use Rattle.floor_histories.specs.GicCall.declared.event.Event.TheVariants.{Raise, Read, ItsEnd, Queue}
 use Rattle.floor_histories.specs.GicCall.declared.event.Found.TheVariants.{Answer}
 use Rattle.floor_histories.specs.Histories.{irq_at, cpu_at, Ideal, Standing, standing_at, is_of, moved_at, is_home, shown_at, interface_at, with_irq, with_standing, is_allowed, handed_out, happened, with_entry, without, standing_of, after_take, after_leave}
-use Rattle.floor_histories.proofs.IdealGuest.KeyLemmas.{IsWhole}
+use Rattle.floor_histories.proofs.IdealGuests.KeyLemmas.{IsWhole}
 use Rattle.law_histories.specs.Latches.{Latch, is_iar, is_pending_at, acknowledges, brings_cause, clears_causes, is_offered}
 use Rattle.law_histories.proofs.LatchLemmas.{causes_of, entry_causes, IsStanding, IsAway, IsLatched, away, stands, IsEntryLatched, latch_by, unchanged, offered_now, idle_now, left_now, accessed_now}
 use Rattle.law_histories.proofs.StandLemmas.{of_key, standing_of_key, found_none, found_first, filter_changed, home_nowhere, put_here, put_other, added_other, added_key, entry_other, entry_key, left_other, left_key}

@@ -11,7 +11,7 @@ use Rattle.floor_histories.specs.Calls.{Event, Up, Down, Touch, Touching, Regist
 use Rattle.floor_histories.specs.GicCall.declared.event.Event.TheVariants.{Raise}
 use Rattle.floor_histories.specs.GicCall.declared.touch.Touching.TheVariants.{Read as ReadTouch, Retarget, Configure, Forget}
 use Rattle.floor_histories.specs.Histories.{irq_at, Ideal, Standing, standing_at, is_of, is_home, with_standing, happened}
-use Rattle.floor_histories.proofs.IdealGuest.KeyLemmas.{IsWhole}
+use Rattle.floor_histories.proofs.IdealGuests.KeyLemmas.{IsWhole}
 use Rattle.law_histories.specs.Latches.{Latch, brings_cause, clears_causes}
 use Rattle.law_histories.proofs.LatchLemmas.{causes_of, IsStanding, IsLatched, away, stands, IsTracked, latch_by, unchanged, caused, cleared_now}
 use Rattle.law_histories.proofs.StandLemmas.{of_key, standing_of_key, found_none, found_first, home_nowhere, put_here, put_other}

@@ -5,7 +5,7 @@ pub use Rattle.floor_histories.proofs.GicHistory
 pub use Rattle.floor_histories.proofs.GicOpen
 pub use Rattle.floor_histories.proofs.GicPrio
 pub use Rattle.floor_histories.proofs.GicWord
-pub use Rattle.floor_histories.proofs.IdealGuest
+pub use Rattle.floor_histories.proofs.IdealGuests
 pub use Rattle.floor_histories.proofs.ItsTab
 pub mod QuietLemmas
 pub mod SpreadLemmas

@@ -13,7 +13,7 @@ use Rattle.floor_histories.specs.GicCall.declared.event.Event.TheVariants.{Raise
 use Rattle.floor_histories.specs.GicCall.declared.event.Moment.TheVariants.{End}
 use Rattle.floor_histories.specs.GicCall.declared.touch.Touching.TheVariants.{Read as ReadTouch, Retarget, Configure, Forget}
 use Rattle.floor_histories.specs.Histories.{irq_at, Ideal, happened, Course, IsHappening, IsNext, GoesOn, gone_on, course_of}
-use Rattle.floor_histories.proofs.IdealGuest.KeyLemmas.{IsWhole}
+use Rattle.floor_histories.proofs.IdealGuests.KeyLemmas.{IsWhole}
 use Rattle.law_histories.specs.Enables.{copy_in, replaced, CopiesAgreeIn}
 use Rattle.law_histories.proofs.QuietLemmas.{is_spread}
 use Rattle.law_histories.proofs.StateLemmas.{record_is, guest_is}

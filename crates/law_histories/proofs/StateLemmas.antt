@@ -6,7 +6,7 @@ use Rattle.floor_histories.proofs.GicBase.KeyLemmas.{same_key}
 use Rattle.floor_histories.specs.Calls.{Event, Up, Down, Touch, Reach, Take, Leave, Enable, Cpu, Put, CtlrBegin, CtlrEnd, ItsBegin, Runs, Done, Stalls, Moved, reached, taken, left, touched}
 use Rattle.floor_histories.specs.GicCall.declared.event.Event.TheVariants.{Raise, Read, ItsEnd, Queue}
 use Rattle.floor_histories.specs.Histories.{IdealGuest, irq_at, changed_irq, Ideal, Standing, standing_at, moved_at, with_irq, with_standing, after_take, after_leave, with_entry, without, happened}
-use Rattle.floor_histories.proofs.IdealGuest.KeyLemmas.{IsWhole, whole_changed, irq_changed}
+use Rattle.floor_histories.proofs.IdealGuests.KeyLemmas.{IsWhole, whole_changed, irq_changed}
 
 -- Moves.
 

@@ -8,7 +8,7 @@ pub use Rattle.floor_histories.specs.GicDmap
 pub use Rattle.floor_histories.specs.GicHistory
 pub use Rattle.floor_histories.specs.GicImap
 pub use Rattle.floor_histories.specs.GicRmap
-pub use Rattle.floor_histories.specs.IdealGuest
+pub use Rattle.floor_histories.specs.IdealGuests
 pub use Rattle.floor_histories.specs.ItsCmd
 pub mod Enables
 pub mod Latches

@@ -8,7 +8,7 @@ use Rattle.law_histories.specs.Registers.{Candidate, taken_by, deactivated_by, a
 use Rattle.law_histories.proofs.GicPrio.AccessLemmas.{taken_first}
 use Rattle.law_histories.specs.Calls.{Cpu, Entry, left, IsEntryOf, at_interface, entry_of}
 use Rattle.law_histories.specs.Histories.{IdealGuest, irq_at, cpu_at, with_cpu, candidates, changed_irq, is_named, after_acknowledge, after_deactivation, after_event, Ideal, Standing, standing_at, is_of, shown_at, interface_at, standing_of, happened, home}
-use Rattle.law_histories.proofs.IdealGuest.KeyLemmas.{IsWhole, whole_changed_at, irq_changed_at, named_is}
+use Rattle.law_histories.proofs.IdealGuests.KeyLemmas.{IsWhole, whole_changed_at, irq_changed_at, named_is}
 use Rattle.law_histories.proofs.LatchLaw.{seats_after}
 use Rattle.law_histories.proofs.LatchMoves.{acked, ended, acked_each, ended_each}
 use Rattle.law_histories.proofs.StandLemmas.{of_key, standing_of_key, filter_changed, put_here, put_other}

@@ -10,7 +10,7 @@ use Rattle.law_histories.proofs.GicBase.KeyLemmas.{same_itself}
 use Rattle.law_histories.specs.Registers.{Candidate, CpuRec, taken_by, answer_of, cpu_after, activated_by, first_of, is_group_enabled, is_signalled, is_same_group, intid_read, AtInterface, candidate_of, acknowledged_entry, deactivated_entry}
 use Rattle.law_histories.specs.Calls.{left, IsEntryOf, entry_of}
 use Rattle.law_histories.specs.Histories.{is_named, Ideal, Standing, standing_at, is_of, shown_at, asks_first}
-use Rattle.law_histories.proofs.IdealGuest.KeyLemmas.{named_is, is_named_by, key_intid}
+use Rattle.law_histories.proofs.IdealGuests.KeyLemmas.{named_is, is_named_by, key_intid}
 use Rattle.law_histories.proofs.LatchMoves.{acked, ended}
 use Rattle.law_histories.proofs.StandLemmas.{of_key}
 use Rattle.law_home_commutes.proofs.SpotLemmas.{Spot, IsSpot, IsTidy}

@@ -13,7 +13,7 @@ use Rattle.law_histories.specs.GicCall.declared.event.Place.TheVariants.{Word, Q
 use Rattle.law_histories.specs.GicCall.declared.touch.Touching.TheVariants.{Read as ReadTouch, Retarget, Configure, Forget}
 use Rattle.law_histories.proofs.GicCall.TouchLemmas.{touch_valid}
 use Rattle.law_histories.specs.Histories.{IdealGuest, irq_at, cpu_at, word_at, after_event, Ideal, is_home, view_at, is_allowed, handed_out, happened, home}
-use Rattle.law_histories.proofs.IdealGuest.KeyLemmas.{IsWhole}
+use Rattle.law_histories.proofs.IdealGuests.KeyLemmas.{IsWhole}
 use Rattle.law_histories.proofs.LatchLaw.{seats_after}
 use Rattle.law_histories.proofs.StandLemmas.{of_key, home_nowhere}
 use Rattle.law_histories.proofs.StateLemmas.{record_is, guest_is}

@@ -9,7 +9,7 @@ use Rattle.law_histories.proofs.GicBase.KeyLemmas.{same_key}
 use Rattle.law_histories.specs.Calls.{irq_in, opening_irq, Leave, left}
 use Rattle.law_histories.proofs.GicOpen.KeyLemmas.{irq_in_there, key_at_there}
 use Rattle.law_histories.specs.Histories.{IdealGuest, irq_at, Ideal, Standing, standing_at, is_of, with_irq, with_standing, after_leave, without, emptied, all_left, home}
-use Rattle.law_histories.proofs.IdealGuest.KeyLemmas.{IsWhole, whole_changed}
+use Rattle.law_histories.proofs.IdealGuests.KeyLemmas.{IsWhole, whole_changed}
 use Rattle.law_histories.proofs.SpreadSteps.{place_at}
 use Rattle.law_histories.proofs.StandLemmas.{of_key, none_filtered, put_here, put_other, left_other, left_key}
 use Rattle.law_histories.proofs.StateLemmas.{guest_is}

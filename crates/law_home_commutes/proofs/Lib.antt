@@ -4,7 +4,7 @@ pub use Rattle.law_histories.proofs.GicFrame
 pub use Rattle.law_histories.proofs.GicHistory
 pub use Rattle.law_histories.proofs.GicOpen
 pub use Rattle.law_histories.proofs.GicPrio
-pub use Rattle.law_histories.proofs.IdealGuest
+pub use Rattle.law_histories.proofs.IdealGuests
 pub use Rattle.law_histories.proofs.ItsTab
 pub use Rattle.law_histories.proofs as LawHistories
 pub mod SpotLemmas

@@ -9,7 +9,7 @@ use Rattle.law_histories.specs.Registers.{CpuRec, is_deliverable}
 use Rattle.law_histories.specs.Calls.{Entry, Moved, may_reach, may_take, reached, taken, left, IsEntryOf, IsMovedOf}
 use Rattle.law_histories.proofs.GicCall.MoveLemmas.{reached_valid, taken_valid, left_valid}
 use Rattle.law_histories.specs.Histories.{irq_at, cpu_at, changed_irq, Ideal, Standing, standing_at, is_of, is_home, moved_at, with_irq, with_standing, after_reach, after_take, after_leave, with_entry, without}
-use Rattle.law_histories.proofs.IdealGuest.KeyLemmas.{irq_changed}
+use Rattle.law_histories.proofs.IdealGuests.KeyLemmas.{irq_changed}
 use Rattle.law_histories.proofs.StandLemmas.{of_key, standing_of_key, home_nowhere, put_here, put_other, added_other, added_key, entry_other, entry_key, left_other, left_key}
 use Rattle.law_histories.proofs.StateLemmas.{IsSameGuest}
 use Rattle.law_home_commutes.proofs.SpotLemmas.{Spot, back, IsThere, IsSpot, is_owned, IsOwn, IsTidy, spot_same, apart_same, moved_of, IsFoundAt, not_found, is_found, found_at}

@@ -5,7 +5,7 @@ use Rattle.std.proofs.lemmas.Bool.{cases_eq}
 use Rattle.law_histories.specs.Words.{Key, GuestShape, has_interrupt, is_of_vcpu, Irq, IsRecordOf}
 use Rattle.law_histories.specs.Calls.{Entry, Moved, left, IsEntryOf}
 use Rattle.law_histories.specs.Histories.{irq_at, Ideal, Standing, standing_at, is_of, with_standing}
-use Rattle.law_histories.proofs.IdealGuest.KeyLemmas.{IsWhole}
+use Rattle.law_histories.proofs.IdealGuests.KeyLemmas.{IsWhole}
 use Rattle.law_histories.proofs.StandLemmas.{of_key, standing_of_key, found_none, found_first, put_here, put_other}
 
 -- at a vCPU's interface, with this there

@@ -7,7 +7,7 @@ pub use Rattle.law_histories.specs.GicDmap
 pub use Rattle.law_histories.specs.GicHistory
 pub use Rattle.law_histories.specs.GicImap
 pub use Rattle.law_histories.specs.GicRmap
-pub use Rattle.law_histories.specs.IdealGuest
+pub use Rattle.law_histories.specs.IdealGuests
 pub use Rattle.law_histories.specs.ItsCmd
 pub use Rattle.law_histories.specs as LawHistories
 pub mod Home

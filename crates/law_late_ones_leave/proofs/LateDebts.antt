@@ -9,7 +9,7 @@ use Rattle.law_scans_miss_none.proofs.GicIcv.CpuLemmas.{holds}
 use Rattle.law_scans_miss_none.proofs.GicIcv.DeafLemmas.{deactivated_deaf}
 use Rattle.law_scans_miss_none.proofs.GicIcv.PlaceLemmas.{map_among}
 use Rattle.law_scans_miss_none.specs.Registers.{deactivated_by, IsInterface}
-use Rattle.law_scans_miss_none.proofs.IdealGuest.KeyLemmas.{key_intid, key_there}
+use Rattle.law_scans_miss_none.proofs.IdealGuests.KeyLemmas.{key_intid, key_there}
 use Rattle.law_scans_miss_none.specs.Calls.{GuestSpec, IsGoodGuest}
 use Rattle.law_scans_miss_none.specs.Core.{Local, Made, Poll, Irq, interface_of, local_after, shown, is_ready, succeeds, vcpu_of, is_at, CoreState, opening, seat_at, word_in, IsLocal, end_of_moments, IsSeatOf, CoreMoment, makes, Debt, paid, before_next, Progress, opening_progress, after_poll, is_paid, is_to_scan, progress_in, stepped, RegistersAgree, after_operation}
 use Rattle.law_scans_miss_none.proofs.PortCore.AtLemmas.{entry_is}

@@ -1,5 +1,5 @@
 pub use Rattle.law_scans_miss_none.proofs.CoreProper
-pub use Rattle.law_scans_miss_none.proofs.IdealGuest
+pub use Rattle.law_scans_miss_none.proofs.IdealGuests
 pub use Rattle.law_scans_miss_none.proofs.LawCoreIsHistory
 pub use Rattle.law_scans_miss_none.proofs.LawHistories
 pub use Rattle.law_scans_miss_none.proofs.LawRegistersStand

@@ -2,7 +2,7 @@
 use Rattle.std.proofs.Common.{◌≡◌, ℕ, ◌<◌, Bool, true, false, IsTrue, List, Option, Some, refl}
 use Rattle.law_late_ones_leave.specs.Words.{IccReg, Eoir0, Eoir1, Dir, Key, GuestShape, has_interrupt}
 use Rattle.law_late_ones_leave.specs.Histories.{asks_first, comes_first, ended_by, is_far_active}
-use Rattle.law_late_ones_leave.proofs.IdealGuest.KeyLemmas.{key_there}
+use Rattle.law_late_ones_leave.proofs.IdealGuests.KeyLemmas.{key_there}
 use Rattle.law_late_ones_leave.specs.Registers.{intid_written}
 use Rattle.law_late_ones_leave.specs.Calls.{GuestSpec, IsGoodGuest}
 use Rattle.law_late_ones_leave.specs.Core.{CoreMoment, IsProperRun}

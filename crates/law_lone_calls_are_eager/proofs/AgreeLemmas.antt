@@ -10,7 +10,7 @@ use Rattle.law_home_commutes.specs.Calls.{Part, Map, Clear as ClearLpi, Event, T
 use Rattle.law_home_commutes.specs.GicCall.declared.command.Part.TheVariants.{Forget, Retarget, Raise, Configure}
 use Rattle.law_home_commutes.specs.GicCall.declared.touch.Touching.TheVariants.{Configure as ConfigureLpi}
 use Rattle.law_home_commutes.specs.Histories.{IdealGuest, view_of}
-use Rattle.law_home_commutes.proofs.IdealGuest.KeyLemmas.{IsWhole}
+use Rattle.law_home_commutes.proofs.IdealGuests.KeyLemmas.{IsWhole}
 use Rattle.law_home_commutes.proofs.LawHistories.CourseLemmas.{mark_is}
 use Rattle.law_lone_calls_are_eager.specs.LoneCalls.{moves_to_itself, AllMoveOwn}
 use Rattle.law_lone_calls_are_eager.proofs.MomentLemmas.{target_at, keeps_for, sends_to, beside_keeps_for, beside_sends, seen_by, seen_kept, seen_sent, seen_own}

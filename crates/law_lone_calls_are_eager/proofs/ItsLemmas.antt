@@ -10,8 +10,8 @@ use Rattle.law_home_commutes.specs.Calls.{Cbaser, Event, ItsBegin, Moment, Opera
 use Rattle.law_home_commutes.specs.GicCall.declared.event.Event.TheVariants.{ItsEnd}
 use Rattle.law_home_commutes.proofs.GicCall.CallLemmas.{its_valid}
 use Rattle.law_home_commutes.specs.Histories.{IdealGuest, word_at, view_of, after_event, after_events, after_queued, IsQueueInOrder, IsSound, Call, begun, last_of, home, Ideal}
-use Rattle.law_home_commutes.proofs.IdealGuest.KeyLemmas.{IsWhole}
-use Rattle.law_home_commutes.proofs.IdealGuest.QueueLemmas.{commands_end}
+use Rattle.law_home_commutes.proofs.IdealGuests.KeyLemmas.{IsWhole}
+use Rattle.law_home_commutes.proofs.IdealGuests.QueueLemmas.{commands_end}
 use Rattle.law_eager_is_history.specs.GicIdeal.Deeds.{op_events}
 use Rattle.law_eager_is_history.proofs.GicIdeal.StepLemmas.{op_is_events}
 use Rattle.law_eager_is_history.proofs.CourseLemmas.{state_after, call_after, call_append}

@@ -3,7 +3,7 @@ pub use Rattle.law_home_commutes.proofs.GicCall
 pub use Rattle.law_home_commutes.proofs.GicHistory
 pub use Rattle.law_eager_is_history.proofs.GicIdeal
 pub use Rattle.law_home_commutes.proofs.GicOpen
-pub use Rattle.law_home_commutes.proofs.IdealGuest
+pub use Rattle.law_home_commutes.proofs.IdealGuests
 pub use Rattle.law_home_commutes.proofs.ItsTab
 pub use Rattle.law_eager_is_history.proofs as LawEagerIsHistory
 pub use Rattle.law_home_commutes.proofs.LawHistories

@@ -10,8 +10,8 @@ use Rattle.law_home_commutes.specs.Calls.{Event, Up, Down, Touch, Reach, Take, L
 use Rattle.law_home_commutes.specs.GicCall.declared.event.Event.TheVariants.{Raise, Read, ItsEnd, Queue}
 use Rattle.law_home_commutes.specs.GicCall.declared.touch.Touching.TheVariants.{Retarget as RetargetLpi, Configure as ConfigureLpi}
 use Rattle.law_home_commutes.specs.Histories.{IdealGuest, irq_at, cpu_at, candidates, changed_irq, view_of, after_acknowledge, after_deactivation, after_event, after_events, Ideal, happened, Call, targets_in, noted}
-use Rattle.law_home_commutes.specs.IdealGuest.Ideal.{after_access}
-use Rattle.law_home_commutes.proofs.IdealGuest.KeyLemmas.{IsWhole, whole_changed, whole_changed_at, irq_changed}
+use Rattle.law_home_commutes.specs.IdealGuests.Ideal.{after_access}
+use Rattle.law_home_commutes.proofs.IdealGuests.KeyLemmas.{IsWhole, whole_changed, whole_changed_at, irq_changed}
 use Rattle.law_eager_is_history.proofs.CourseLemmas.{call_after}
 use Rattle.law_eager_is_history.proofs.WindowLemmas.{next_call}
 use Rattle.law_lone_calls_are_eager.specs.LoneCalls.{moves_to_itself, MovesOwn, AllMoveOwn}

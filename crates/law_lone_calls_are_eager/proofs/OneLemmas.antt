@@ -13,7 +13,7 @@ use Rattle.law_home_commutes.specs.Calls.{Part, Map, Clear, Event, Up, Down, Tou
 use Rattle.law_home_commutes.specs.GicCall.declared.command.Part.TheVariants.{Forget, Retarget, Raise as RaisePart, Configure}
 use Rattle.law_home_commutes.specs.GicCall.declared.event.Event.TheVariants.{Raise, Read, ItsEnd, Queue}
 use Rattle.law_home_commutes.specs.Histories.{IdealGuest, view_of, after_event, after_events, after_command, Ideal, happened, Call, targets_in}
-use Rattle.law_home_commutes.proofs.IdealGuest.KeyLemmas.{IsWhole}
+use Rattle.law_home_commutes.proofs.IdealGuests.KeyLemmas.{IsWhole}
 use Rattle.law_eager_is_history.proofs.CourseLemmas.{state_after, call_after, call_append}
 use Rattle.law_eager_is_history.proofs.WindowLemmas.{next_call}
 use Rattle.law_lone_calls_are_eager.specs.LoneCalls.{AllMoveOwn}

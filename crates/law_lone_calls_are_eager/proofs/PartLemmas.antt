@@ -9,7 +9,7 @@ use Rattle.law_home_commutes.specs.Calls.{Event, Touch, Found, Record, Place, To
 use Rattle.law_home_commutes.specs.GicCall.declared.touch.Touching.TheVariants.{Read as ReadTouch}
 use Rattle.law_home_commutes.proofs.GicCall.PartLemmas.{part_key_there}
 use Rattle.law_home_commutes.specs.Histories.{IdealGuest, irq_at, view_of, after_event}
-use Rattle.law_home_commutes.proofs.IdealGuest.KeyLemmas.{IsWhole, whole_changed, irq_changed}
+use Rattle.law_home_commutes.proofs.IdealGuests.KeyLemmas.{IsWhole, whole_changed, irq_changed}
 use Rattle.law_eager_is_history.proofs.EventLemmas.{all_found}
 use Rattle.law_lone_calls_are_eager.proofs.NamedLemmas.{named_run, IsIn}
 use Rattle.law_lone_calls_are_eager.proofs.ReadLemmas.{all_in, shape_kept}

@@ -6,8 +6,8 @@ use Rattle.std.proofs.lemmas.Grind.{fold-append}
 use Rattle.law_home_commutes.specs.Words.{GuestShape}
 use Rattle.law_home_commutes.specs.Calls.{Cbaser, Event, takes_command, command_words, queue_event, queue_places, maps_done, Happened, Beside, AreCommands, HaveSameIts, left_by, View}
 use Rattle.law_home_commutes.specs.Histories.{IdealGuest, view_of, word_at, after_event, after_events, after_command, after_commands, after_queued, IsQueueInOrder, IsSound, Ideal, Call}
-use Rattle.law_home_commutes.proofs.IdealGuest.KeyLemmas.{IsWhole}
-use Rattle.law_home_commutes.proofs.IdealGuest.QueueLemmas.{commands_end, all_run_dry}
+use Rattle.law_home_commutes.proofs.IdealGuests.KeyLemmas.{IsWhole}
+use Rattle.law_home_commutes.proofs.IdealGuests.QueueLemmas.{commands_end, all_run_dry}
 use Rattle.law_eager_is_history.proofs.CommandLemmas.{sound_command, command_known, command_shape}
 use Rattle.law_eager_is_history.proofs.CourseLemmas.{state_after, call_after, call_append}
 use Rattle.law_eager_is_history.proofs.QueueLemmas.{takes_known}

@@ -15,9 +15,9 @@ use Rattle.law_home_commutes.specs.GicCall.declared.event.Event.TheVariants.{Que
 use Rattle.law_home_commutes.specs.GicCall.Access.{starts_commands as register_starts}
 use Rattle.law_home_commutes.proofs.GicCall.CallLemmas.{its_valid, device_valid}
 use Rattle.law_home_commutes.specs.Histories.{IdealGuest, word_at, with_word, with_queue, view_of, after_events, after_queued, IsQueueInOrder, IsSound}
-use Rattle.law_home_commutes.specs.IdealGuest.Opening.{opening}
-use Rattle.law_home_commutes.proofs.IdealGuest.OpeningLemmas.{empty_valid, sound_opening, word_opening}
-use Rattle.law_home_commutes.proofs.IdealGuest.QueueLemmas.{all_run_dry}
+use Rattle.law_home_commutes.specs.IdealGuests.Opening.{opening}
+use Rattle.law_home_commutes.proofs.IdealGuests.OpeningLemmas.{empty_valid, sound_opening, word_opening}
+use Rattle.law_home_commutes.proofs.IdealGuests.QueueLemmas.{all_run_dry}
 use Rattle.law_eager_is_history.specs.GicIdeal.Deeds.{op_events}
 use Rattle.law_eager_is_history.proofs.GicIdeal.SoundEvents.{sound_events}
 use Rattle.law_eager_is_history.proofs.GicIdeal.StepLemmas.{free_follow, op_follows, op_is_events}

@@ -10,7 +10,7 @@ use Rattle.law_home_commutes.specs.Calls.{PlainWord, Ram, Propbaser, Pendbaser, 
 use Rattle.law_home_commutes.specs.Registers.{taken_by, deactivated_by, Candidate}
 use Rattle.law_home_commutes.specs.GicCall.declared.event.Event.TheVariants.{Raise, Queue}
 use Rattle.law_home_commutes.specs.Histories.{IdealGuest, cpu_at, candidates, changed_irq, with_word, view_of, after_acknowledge, after_deactivation, after_event, after_events}
-use Rattle.law_home_commutes.specs.IdealGuest.Ideal.{after_access}
+use Rattle.law_home_commutes.specs.IdealGuests.Ideal.{after_access}
 use Rattle.law_eager_is_history.proofs.QueueLemmas.{takes_known}
 use Rattle.law_lone_calls_are_eager.proofs.PassLemmas.{PassesNamed}
 use Rattle.law_lone_calls_are_eager.proofs.QueueLemmas.{same_after}

@@ -6,7 +6,7 @@ use Rattle.std.proofs.lemmas.List.Elements.{All-replicate}
 use Rattle.law_home_commutes.specs.Words.{GuestShape}
 use Rattle.law_home_commutes.specs.Calls.{Moment, Operation, Access, Device, Residence, GuestSpec, IsGoodGuest, is_good_op, is_good_event}
 use Rattle.law_home_commutes.specs.Histories.{IdealGuest, after_events, Ideal, Standing, after_leave, emptied, home, Call, IsHistory, IsWhole, actor_count, opening_course, last_of}
-use Rattle.law_home_commutes.specs.IdealGuest.Opening.{opening}
+use Rattle.law_home_commutes.specs.IdealGuests.Opening.{opening}
 use Rattle.law_home_commutes.specs.GicHistory.State.{opening as opening_ideal}
 use Rattle.law_home_commutes.proofs.LawHistories.CourseLemmas.{goes_before}
 use Rattle.law_lone_calls_are_eager.specs.LoneCalls.{eager_events, IsLoneCall, IsEagerCall, IsAtRest}

@@ -7,7 +7,7 @@ use Rattle.law_home_commutes.specs.Words.{Key, Lpi, SetPending, GuestShape, has_
 use Rattle.law_home_commutes.specs.Calls.{irq_in, opening_irq, Event, Up, Down, Touch, Reach, Take, Leave, Enable, Cpu, Put, CtlrBegin, CtlrEnd, ItsBegin, Runs, Done, Stalls, Moved, Register, reached, taken, left, is_beside}
 use Rattle.law_home_commutes.specs.GicCall.declared.event.Event.TheVariants.{Raise, Read, ItsEnd, Queue}
 use Rattle.law_home_commutes.specs.Histories.{IdealGuest, irq_at, view_of, Ideal, Standing, is_of, standing_at, happened, home, Call, targets_in, is_ahead, is_passed, noted}
-use Rattle.law_home_commutes.proofs.IdealGuest.KeyLemmas.{IsWhole}
+use Rattle.law_home_commutes.proofs.IdealGuests.KeyLemmas.{IsWhole}
 use Rattle.law_home_commutes.proofs.LawHistories.StateLemmas.{record_is, guest_is}
 use Rattle.law_eager_is_history.proofs.CourseLemmas.{call_after}
 use Rattle.law_eager_is_history.proofs.PieceLemmas.{targets_kept}

@@ -9,7 +9,7 @@ use Rattle.law_home_commutes.specs.GicCall.declared.event.Moment.TheVariants.{En
 use Rattle.law_home_commutes.specs.GicCall.declared.event.Place.TheVariants.{Word, Queue as QueuePlace}
 use Rattle.law_home_commutes.specs.GicCall.declared.touch.Touching.TheVariants.{Retarget}
 use Rattle.law_home_commutes.specs.Histories.{IdealGuest, view_of, after_events, view_at, happened, handed_out, home, Call, GoesOn, IsHistory, opening_course, course_of, last_of}
-use Rattle.law_home_commutes.specs.IdealGuest.Opening.{opening}
+use Rattle.law_home_commutes.specs.IdealGuests.Opening.{opening}
 use Rattle.law_home_commutes.proofs.GicHistory.CallLemmas.{call_ended, goes_on, hands_one}
 use Rattle.law_eager_is_history.specs.GicIdeal.Deeds.{op_events}
 use Rattle.law_home_commutes.specs.LawHistories.WorkedQueue.{its_guest, does, before_write}

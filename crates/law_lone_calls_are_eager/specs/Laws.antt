@@ -3,7 +3,7 @@ use Rattle.std.specs.Prelude.{ℕ, ◌<◌, IsTrue, List, ◌++◌, Option}
 use Rattle.law_home_commutes.specs.Words.{IccReg, DeviceOp, Dist, Redist, Its, Ram, GuestOp, Icc, Mem}
 use Rattle.law_home_commutes.specs.Calls.{Moment, Operation, Access, Device, Residence, device_events, Happened, GuestSpec, IsGoodGuest, is_good_op, is_good_event}
 use Rattle.law_home_commutes.specs.Histories.{IsWhole, IdealGuest, view_of, after_events}
-use Rattle.law_home_commutes.specs.IdealGuest.Opening.{opening}
+use Rattle.law_home_commutes.specs.IdealGuests.Opening.{opening}
 use Rattle.law_eager_is_history.specs.GicIdeal.Deeds.{op_events}
 use Rattle.law_lone_calls_are_eager.specs.LoneCalls.{lone_call, IsLoneCall, IsAtRest, PassesAlone, PassesAtRest}
 

@@ -8,7 +8,7 @@ pub use Rattle.law_home_commutes.specs.GicHistory
 pub use Rattle.law_eager_is_history.specs.GicIdeal
 pub use Rattle.law_home_commutes.specs.GicImap
 pub use Rattle.law_home_commutes.specs.GicRmap
-pub use Rattle.law_home_commutes.specs.IdealGuest
+pub use Rattle.law_home_commutes.specs.IdealGuests
 pub use Rattle.law_home_commutes.specs.ItsCmd
 pub use Rattle.law_eager_is_history.specs as LawEagerIsHistory
 pub use Rattle.law_home_commutes.specs as LawHomeCommutes

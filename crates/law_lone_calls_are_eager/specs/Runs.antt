@@ -3,7 +3,7 @@ use Rattle.std.specs.Prelude.{◌≡◌, ℕ, ◌<◌, IsTrue, List, [], ◌∷�
 use Rattle.law_home_commutes.specs.Words.{GuestShape}
 use Rattle.law_home_commutes.specs.Calls.{Moment, Operation, Access, Device, Residence, Happened, GuestSpec, IsGoodGuest, is_good_op, is_good_event}
 use Rattle.law_home_commutes.specs.Histories.{IdealGuest, after_events, home, IsHistory, last_of}
-use Rattle.law_home_commutes.specs.IdealGuest.Opening.{opening}
+use Rattle.law_home_commutes.specs.IdealGuests.Opening.{opening}
 use Rattle.law_lone_calls_are_eager.specs.LoneCalls.{eager_events, eager_read, lone_call, AllShow, AllMoveOwn}
 
 -- a call, during which nobody else acts

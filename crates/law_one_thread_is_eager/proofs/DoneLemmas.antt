@@ -5,7 +5,7 @@ use Rattle.std.proofs.lemmas.List.Elements.{All-append, All-head, All-tail}
 use Rattle.law_found_parts_are_calls.specs.Calls.{Operation, Residence, GuestSpec, IsGoodGuest}
 use Rattle.law_found_parts_are_calls.specs.Histories.{IsHistory, last_of, opening_course, home}
 use Rattle.law_found_parts_are_calls.proofs.LawHistories.CourseLemmas.{goes_before}
-use Rattle.law_found_parts_are_calls.specs.IdealGuest.Opening.{opening as opening_guest}
+use Rattle.law_found_parts_are_calls.specs.IdealGuests.Opening.{opening as opening_guest}
 use Rattle.law_found_parts_are_calls.specs.Core.{CoreState, IsRun, opening, end_of_moments, ideal_of, CoreMoment, progress_in, IsProperRun}
 use Rattle.seq_guest.specs.PortSeq.Told.{GuestTold}
 use Rattle.law_found_parts_are_calls.proofs.CoreProper.PartLemmas.{ideal_append}

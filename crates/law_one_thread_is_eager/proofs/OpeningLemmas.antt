@@ -3,7 +3,7 @@ use Rattle.std.proofs.Common.{◌≡◌, ℕ, ◌<◌, [], refl, sym, ap, ◌∙
 use Rattle.std.specs.Option.{option_map_or}
 use Rattle.std.proofs.lemmas.Option.{slice_get_within}
 use Rattle.std.proofs.lemmas.List.Elements.{All-nil}
-use Rattle.law_found_parts_are_calls.specs.IdealGuest.Opening.{opening as opening_guest}
+use Rattle.law_found_parts_are_calls.specs.IdealGuests.Opening.{opening as opening_guest}
 use Rattle.law_found_parts_are_calls.specs.Calls.{GuestSpec, IsGoodGuest}
 use Rattle.law_found_parts_are_calls.specs.Core.{actor_count, Seat, opening_seat, seat_at, IsAtRest, opening_progress}
 use Rattle.law_found_parts_are_calls.proofs.PortCore.OpeningLemmas.{seat_opens}

@@ -2,7 +2,7 @@
 use Rattle.std.specs.Prelude.{◌≡◌, ℕ, ◌<◌, true, List, [], ◌++◌, Option}
 use Rattle.law_found_parts_are_calls.specs.Calls.{Operation, GuestSpec, IsGoodGuest}
 use Rattle.law_found_parts_are_calls.specs.GicIdeal.Shown.{registers_of}
-use Rattle.law_found_parts_are_calls.specs.IdealGuest.Opening.{opening as opening_guest}
+use Rattle.law_found_parts_are_calls.specs.IdealGuests.Opening.{opening as opening_guest}
 use Rattle.law_found_parts_are_calls.specs.Core.{IsRun, opening}
 use Rattle.seq_guest.specs.PortSeq.Told.{GuestTold, opening_told}
 use Rattle.law_found_parts_are_calls.specs.LawLoneCallsAreEager.LoneCalls.{IsEagerCall}

@@ -9,7 +9,7 @@ use Rattle.law_core_is_history.specs.Calls.{Reach, Take, Moved, reached, taken, 
 use Rattle.law_core_is_history.specs.GicCall.declared.event.Found.TheVariants.{Nothing}
 use Rattle.law_core_is_history.specs.Histories.{Changes, changes_of, happened, Ideal, moved_at, irq_at}
 use Rattle.law_core_is_history.proofs.LawHistories.StateLemmas.{record_is}
-use Rattle.law_core_is_history.proofs.IdealGuest.KeyLemmas.{IsWhole}
+use Rattle.law_core_is_history.proofs.IdealGuests.KeyLemmas.{IsWhole}
 use Rattle.law_core_is_history.specs.Registers.{Maps}
 use Rattle.law_core_is_history.specs.Core.{AtIrq, Local, Phase, Off, Scanning, Claiming, Loaded, Folding, Made, CoreStep, Look, Claim, Poll, Touch, RamLook, RamPut, CtlrTake, TurnTake, Irq as IrqWord, Vcpu, Queue, Ctlr, Plain, Index, fault_place, is_ready, given_back, succeeds, vcpu_of, back_of, entry_for, is_at, CoreState, seat_at, word_in, IsSound, stands_for, event_moments}
 use Rattle.law_core_is_history.proofs.PortCore.StepLemmas.{steps_sound}

@@ -3,7 +3,7 @@ pub use Rattle.law_core_is_history.proofs.GicBase
 pub use Rattle.law_core_is_history.proofs.GicIcv
 pub use Rattle.law_core_is_history.proofs.GicOpen
 pub use Rattle.law_core_is_history.proofs.GicPrio
-pub use Rattle.law_core_is_history.proofs.IdealGuest
+pub use Rattle.law_core_is_history.proofs.IdealGuests
 pub use Rattle.law_core_is_history.proofs as LawCoreIsHistory
 pub use Rattle.law_core_is_history.proofs.LawHistories
 pub use Rattle.law_core_is_history.proofs.PortCore

@@ -1,7 +1,7 @@
 pub use Rattle.law_registers_stand.proofs.CoreProper
 pub use Rattle.law_registers_stand.proofs.GicBase
 pub use Rattle.law_registers_stand.proofs.GicIcv
-pub use Rattle.law_registers_stand.proofs.IdealGuest
+pub use Rattle.law_registers_stand.proofs.IdealGuests
 pub use Rattle.law_registers_stand.proofs.LawCoreIsHistory
 pub use Rattle.law_registers_stand.proofs.LawHistories
 pub use Rattle.law_registers_stand.proofs as LawRegistersStand

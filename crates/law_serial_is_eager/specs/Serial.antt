@@ -3,7 +3,7 @@ use Rattle.std.specs.Prelude.{◌≡◌, ℕ, ◌<◌, Bool, true, false, List, 
 use Rattle.law_lone_calls_are_eager.specs.Words.{GuestShape, Icc}
 use Rattle.law_lone_calls_are_eager.specs.Calls.{Operation, Access, Happened, GuestSpec, IsGoodGuest}
 use Rattle.law_lone_calls_are_eager.specs.LoneCalls.{AllMoveOwn}
-use Rattle.law_lone_calls_are_eager.specs.IdealGuest.Opening.{opening as opening_guest}
+use Rattle.law_lone_calls_are_eager.specs.IdealGuests.Opening.{opening as opening_guest}
 use Rattle.law_lone_calls_are_eager.specs.Histories.{home, last_of, opening_course}
 use Rattle.law_lone_accesses_find_all.specs.Core.{Made, events_of, CoreState, opening, seat_at, end_of_moments, ideal_of, Act, CoreMoment, part_of, IsProperRun, progress_in}
 use Rattle.law_lone_accesses_find_all.specs.LawCoreIsHistory.Laws.{AreCalls}

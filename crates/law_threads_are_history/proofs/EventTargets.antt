@@ -7,7 +7,7 @@ use Rattle.law_ends_agree.specs.Calls.{Event, Cpu, CtlrBegin, CtlrEnd, Down, Ena
 use Rattle.law_ends_agree.specs.GicCall.declared.event.Event.TheVariants.{ItsEnd, Queue, Raise, Read}
 use Rattle.law_ends_agree.specs.GicCall.declared.touch.Touching.TheVariants.{Configure, Forget, Read as ReadPart, Retarget}
 use Rattle.law_ends_agree.specs.Histories.{irq_at, Ideal, happened, is_allowed, targets_in}
-use Rattle.law_ends_agree.proofs.IdealGuest.KeyLemmas.{IsWhole, irq_changed}
+use Rattle.law_ends_agree.proofs.IdealGuests.KeyLemmas.{IsWhole, irq_changed}
 use Rattle.law_found_parts_are_calls.proofs.LawHistories.CourseLemmas.{mark_is}
 use Rattle.law_found_parts_are_calls.proofs.LawHistories.StateLemmas.{guest_is, leave_cases, take_cases}
 use Rattle.law_runs_are_fresh.proofs.LawLoneCallsAreEager.TargetLemmas.{by_record}

@@ -8,7 +8,7 @@ use Rattle.law_ends_agree.specs.Words.{GuestShape}
 use Rattle.law_ends_agree.specs.Calls.{Event, ItsBegin, Happened, IsCall, is_beside, GuestSpec}
 use Rattle.law_ends_agree.specs.GicCall.declared.event.Event.TheVariants.{ItsEnd}
 use Rattle.law_ends_agree.specs.Registers.{IsValid, has_target}
-use Rattle.law_ends_agree.proofs.IdealGuest.KeyLemmas.{IsWhole}
+use Rattle.law_ends_agree.proofs.IdealGuests.KeyLemmas.{IsWhole}
 use Rattle.law_ends_agree.specs.Histories.{Ideal, happened, Call, IsEnded, noted, targets_in, vcpu_of}
 use Rattle.law_found_parts_are_calls.proofs.LawHistories.CourseLemmas.{noted_piece}
 use Rattle.law_found_parts_are_calls.proofs.LawHistories.TurnSteps.{tables_after, tables_are}

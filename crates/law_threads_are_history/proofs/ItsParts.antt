@@ -9,7 +9,7 @@ use Rattle.law_ends_agree.specs.Calls.{Event, Enable, ItsBegin, Touch, Operation
 use Rattle.law_ends_agree.specs.GicCall.declared.event.Event.TheVariants.{ItsEnd, Queue}
 use Rattle.law_ends_agree.specs.GicCall.declared.event.Found.TheVariants.{Nothing}
 use Rattle.law_ends_agree.specs.Registers.{IsValid}
-use Rattle.law_ends_agree.proofs.IdealGuest.KeyLemmas.{IsWhole}
+use Rattle.law_ends_agree.proofs.IdealGuests.KeyLemmas.{IsWhole}
 use Rattle.law_ends_agree.specs.Histories.{Ideal, happened, Call, begun, is_passed, noted, seeing, targets_in, vcpu_of}
 use Rattle.law_found_parts_are_calls.proofs.LawHistories.CourseLemmas.{noted_piece}
 use Rattle.law_found_parts_are_calls.proofs.LawHistories.TurnSteps.{tables_are}

@@ -9,7 +9,7 @@ use Rattle.law_ends_agree.specs.Words.{Lpi, GuestShape, has_interrupt, target_in
 use Rattle.law_ends_agree.specs.Calls.{Event, Happened, is_beside}
 use Rattle.law_ends_agree.specs.GicCall.declared.event.Event.TheVariants.{ItsEnd}
 use Rattle.law_ends_agree.specs.Registers.{IsValid, has_target, Maps}
-use Rattle.law_ends_agree.proofs.IdealGuest.KeyLemmas.{IsWhole}
+use Rattle.law_ends_agree.proofs.IdealGuests.KeyLemmas.{IsWhole}
 use Rattle.law_ends_agree.specs.Histories.{Ideal, happened, targets_in}
 use Rattle.law_found_parts_are_calls.proofs.LawHistories.TurnSteps.{tables_are}
 use Rattle.law_runs_are_fresh.proofs.LawEagerIsHistory.CourseLemmas.{state_after}

@@ -7,7 +7,7 @@ use Rattle.law_ends_agree.specs.Words.{Lpi, GuestShape, has_interrupt, IsShape, 
 use Rattle.law_ends_agree.specs.Calls.{Event, ItsBegin, Begin, Happens, Operation, Happened, GuestSpec, IsGoodGuest}
 use Rattle.law_ends_agree.specs.GicCall.declared.event.Moment.TheVariants.{End}
 use Rattle.law_ends_agree.specs.Histories.{irq_at, Ideal, happened, is_allowed, Call, Course, IsCallEnded, begun, call_of, course_of, gone_on, made as made_by, opening_course, seeing, targets_in}
-use Rattle.law_ends_agree.proofs.IdealGuest.KeyLemmas.{IsWhole}
+use Rattle.law_ends_agree.proofs.IdealGuests.KeyLemmas.{IsWhole}
 use Rattle.law_found_parts_are_calls.proofs.LawHistories.CourseLemmas.{begun_here, begun_other, ended_other, made_here, made_other, mark_is}
 use Rattle.law_ends_agree.specs.Registers.{IsValid}
 use Rattle.law_found_parts_are_calls.specs.LawUnmappedLpis.Mapped.{AreForNone}

@@ -10,7 +10,7 @@ use Rattle.law_ends_agree.specs.Calls.{Event, ItsBegin, Touch, Operation, Access
 use Rattle.law_ends_agree.specs.GicCall.declared.event.Event.TheVariants.{Queue}
 use Rattle.law_ends_agree.specs.GicCall.declared.event.Found.TheVariants.{Nothing}
 use Rattle.law_ends_agree.specs.Registers.{IsValid, Maps}
-use Rattle.law_ends_agree.proofs.IdealGuest.KeyLemmas.{IsWhole}
+use Rattle.law_ends_agree.proofs.IdealGuests.KeyLemmas.{IsWhole}
 use Rattle.law_ends_agree.specs.Histories.{Ideal, targets_in, vcpu_of}
 use Rattle.law_runs_are_fresh.proofs.LawEagerIsHistory.CourseLemmas.{state_after}
 use Rattle.law_runs_are_fresh.proofs.LawEagerIsHistory.WindowLemmas.{Targets, beside_of}

@@ -10,7 +10,7 @@ use Rattle.law_ends_agree.specs.Calls.{Part, Clear, Map, Event, Enable, ItsBegin
 use Rattle.law_ends_agree.specs.GicCall.declared.command.Part.TheVariants.{Configure, Forget, Raise, Retarget}
 use Rattle.law_ends_agree.specs.GicCall.declared.event.Event.TheVariants.{ItsEnd, Queue}
 use Rattle.law_ends_agree.specs.Registers.{IsValid, has_target, Maps}
-use Rattle.law_ends_agree.proofs.IdealGuest.KeyLemmas.{IsWhole}
+use Rattle.law_ends_agree.proofs.IdealGuests.KeyLemmas.{IsWhole}
 use Rattle.law_ends_agree.specs.Histories.{Ideal, happened, targets_in}
 use Rattle.law_found_parts_are_calls.proofs.LawHistories.TurnSteps.{tables_after, tables_are}
 use Rattle.law_runs_are_fresh.proofs.LawEagerIsHistory.CourseLemmas.{state_after, state_append}

@@ -6,7 +6,7 @@ pub use Rattle.law_ends_agree.specs.Words
 pub use Rattle.law_ends_agree.specs.GicGuest
 pub use Rattle.law_ends_agree.specs.GicIdeal
 pub use Rattle.law_ends_agree.specs.GuestEnd
-pub use Rattle.law_ends_agree.specs.IdealGuest
+pub use Rattle.law_ends_agree.specs.IdealGuests
 pub use Rattle.law_found_parts_are_calls.specs.LawEagerIsHistory
 pub use Rattle.law_ends_agree.specs as LawEndsAgree
 pub use Rattle.pe_place.specs as PePlace

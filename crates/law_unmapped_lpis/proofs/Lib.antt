@@ -1,5 +1,5 @@
 pub use Rattle.law_lone_calls_are_eager.proofs.GicHistory
-pub use Rattle.law_lone_calls_are_eager.proofs.IdealGuest
+pub use Rattle.law_lone_calls_are_eager.proofs.IdealGuests
 pub use Rattle.law_lone_calls_are_eager.proofs.ItsTab
 pub use Rattle.law_lone_calls_are_eager.proofs.LawHistories
 pub use Rattle.law_lone_calls_are_eager.proofs.LawHomeCommutes

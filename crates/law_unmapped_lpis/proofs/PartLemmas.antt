@@ -8,7 +8,7 @@ use Rattle.law_lone_calls_are_eager.specs.Calls.{opening_irq, Part, Map, Clear, 
 use Rattle.law_lone_calls_are_eager.specs.GicCall.declared.command.Part.TheVariants.{Forget, Retarget, Raise, Configure}
 use Rattle.law_lone_calls_are_eager.specs.GicCall.declared.touch.Touching.TheVariants.{Retarget as RetargetLpi, Configure as ConfigureLpi, Forget as ForgetLpi}
 use Rattle.law_lone_calls_are_eager.specs.Histories.{IdealGuest, irq_at, changed_irq, after_event, after_events}
-use Rattle.law_lone_calls_are_eager.proofs.IdealGuest.KeyLemmas.{IsWhole, irq_changed}
+use Rattle.law_lone_calls_are_eager.proofs.IdealGuests.KeyLemmas.{IsWhole, irq_changed}
 use Rattle.law_lone_calls_are_eager.proofs.MomentLemmas.{target_at, guest_whole}
 
 -- a part gives the LPI no vCPU

@@ -3,8 +3,8 @@ use Rattle.std.proofs.Common.{◌<◌, IsTrue, List, [], ◌∷◌, ◌++◌, re
 use Rattle.std.proofs.lemmas.List.Elements.{All-nil}
 use Rattle.law_lone_calls_are_eager.specs.Words.{GuestOp}
 use Rattle.law_lone_calls_are_eager.specs.Histories.{IdealGuest, after_events, IsSound}
-use Rattle.law_lone_calls_are_eager.specs.IdealGuest.Opening.{opening}
-use Rattle.law_lone_calls_are_eager.proofs.IdealGuest.OpeningLemmas.{empty_valid, sound_opening}
+use Rattle.law_lone_calls_are_eager.specs.IdealGuests.Opening.{opening}
+use Rattle.law_lone_calls_are_eager.proofs.IdealGuests.OpeningLemmas.{empty_valid, sound_opening}
 use Rattle.law_lone_calls_are_eager.specs.GicIdeal.Deeds.{op_events}
 use Rattle.law_lone_calls_are_eager.proofs.GicIdeal.SoundEvents.{sound_events}
 use Rattle.law_lone_calls_are_eager.proofs.GicIdeal.StepLemmas.{op_follows}

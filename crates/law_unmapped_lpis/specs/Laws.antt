@@ -3,7 +3,7 @@ use Rattle.std.specs.Prelude.{ℕ}
 use Rattle.law_lone_calls_are_eager.specs.Words.{DeviceOp, GuestOp}
 use Rattle.law_lone_calls_are_eager.specs.Calls.{device_events, command_events, GuestSpec, IsGoodGuest}
 use Rattle.law_lone_calls_are_eager.specs.Histories.{IdealGuest, view_of, after_events, IsSound}
-use Rattle.law_lone_calls_are_eager.specs.IdealGuest.Opening.{opening}
+use Rattle.law_lone_calls_are_eager.specs.IdealGuests.Opening.{opening}
 use Rattle.law_lone_calls_are_eager.specs.GicIdeal.Deeds.{op_events}
 use Rattle.law_unmapped_lpis.specs.Mapped.{AreForNone}
 

@@ -8,7 +8,7 @@ pub use Rattle.law_lone_calls_are_eager.specs.GicHistory
 pub use Rattle.law_lone_calls_are_eager.specs.GicIdeal
 pub use Rattle.law_lone_calls_are_eager.specs.GicImap
 pub use Rattle.law_lone_calls_are_eager.specs.GicRmap
-pub use Rattle.law_lone_calls_are_eager.specs.IdealGuest
+pub use Rattle.law_lone_calls_are_eager.specs.IdealGuests
 pub use Rattle.law_lone_calls_are_eager.specs.ItsCmd
 pub use Rattle.law_lone_calls_are_eager.specs.LawEagerIsHistory
 pub use Rattle.law_lone_calls_are_eager.specs as LawLoneCallsAreEager

@@ -3,7 +3,7 @@ use Rattle.std.specs.Prelude.{◌≡◌, ℕ, ◌+◌, ◌*◌, ◌^◌, true, f
 use Rattle.law_lone_calls_are_eager.specs.Words.{Its, Ram as Memory, GuestOp, Mem}
 use Rattle.law_lone_calls_are_eager.specs.Registers.{Command, Mapd, Mapc, Mapti, encoded, pair_of, has_target}
 use Rattle.law_lone_calls_are_eager.specs.Histories.{IdealGuest, view_of, after_events}
-use Rattle.law_lone_calls_are_eager.specs.IdealGuest.Opening.{opening}
+use Rattle.law_lone_calls_are_eager.specs.IdealGuests.Opening.{opening}
 use Rattle.law_lone_calls_are_eager.specs.GicIdeal.Deeds.{op_events}
 use Rattle.law_lone_calls_are_eager.specs.Calls.{GuestSpec, IsGoodGuest}
 use Rattle.law_unmapped_lpis.specs.Mapped.{AreForNone}

@@ -11,7 +11,7 @@ use Rattle.std.proofs.lemmas.Option.{get_or_from_slice_get, slice_get_within}
 use Rattle.std.proofs.lemmas.List.FromFn.{length-range_with_len}
 use Rattle.law_ends_agree.specs.Registers.{CpuRec}
 use Rattle.law_ends_agree.specs.Histories.{IdealGuest, after_device, after_op}
-use Rattle.law_ends_agree.specs.IdealGuest.Opening.{opening}
+use Rattle.law_ends_agree.specs.IdealGuests.Opening.{opening}
 use Rattle.law_ends_agree.specs.GicIdeal.Ends.{end_of, ends_of}
 use Rattle.law_ends_agree.specs.GicIdeal.Eager.{after_step, after_steps, at_guest, eager}
 use Rattle.law_ends_agree.specs.GuestEnd.Home.{IsAtEnd}

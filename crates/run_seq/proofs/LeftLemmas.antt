@@ -11,7 +11,7 @@ use Rattle.std.proofs.lemmas.List.Elements.{All-head, All-tail}
 use Rattle.std.proofs.lemmas.Option.{slice_get_within}
 use Rattle.law_ends_agree.specs.Registers.{CpuRec}
 use Rattle.law_ends_agree.specs.Histories.{IdealGuest}
-use Rattle.law_ends_agree.specs.IdealGuest.Opening.{opening as opening_guest}
+use Rattle.law_ends_agree.specs.IdealGuests.Opening.{opening as opening_guest}
 use Rattle.law_ends_agree.specs.GicIdeal.Eager.{after_steps}
 use Rattle.law_ends_agree.specs.Calls.{GuestSpec, passes}
 use Rattle.law_ends_agree.specs.GicGuest.declared.outcome.Answer.{Answer}

@@ -8,7 +8,7 @@ use Rattle.std.proofs.lemmas.List.Elements.{All-nil, All-cons, All-get_or}
 use Rattle.std.proofs.lemmas.Option.{get_or_from_slice_get, slice_get-get_or, slice_get-map, slice_get_within}
 use Rattle.law_ends_agree.specs.Words.{Enter, GuestShape}
 use Rattle.law_ends_agree.specs.Histories.{IdealGuest}
-use Rattle.law_ends_agree.specs.IdealGuest.Opening.{opening as opening_guest}
+use Rattle.law_ends_agree.specs.IdealGuests.Opening.{opening as opening_guest}
 use Rattle.law_ends_agree.specs.Calls.{GuestSpec, IsGoodGuest, shapes_of}
 use Rattle.law_ends_agree.specs.GicGuest.declared.outcome.Answer.{Answer}
 use Rattle.law_ends_agree.specs.ScnBase.declared.pes.VcpuName.{VcpuName}

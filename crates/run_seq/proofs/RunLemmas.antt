@@ -10,7 +10,7 @@ use Rattle.std.specs.List.{range_with_len}
 use Rattle.std.proofs.lemmas.List.Elements.{All-head, All-tail}
 use Rattle.law_ends_agree.specs.Words.{Enter, Exit, Lrs, GuestShape}
 use Rattle.law_ends_agree.specs.Histories.{IdealGuest}
-use Rattle.law_ends_agree.specs.IdealGuest.Opening.{opening as opening_guest}
+use Rattle.law_ends_agree.specs.IdealGuests.Opening.{opening as opening_guest}
 use Rattle.law_ends_agree.specs.GicIdeal.Eager.{after_step, after_steps, answers_of, eager, step_answer}
 use Rattle.law_ends_agree.specs.Calls.{GuestSpec, shapes_of}
 use Rattle.law_ends_agree.specs.GicGuest.declared.outcome.Answer.{Answer}

@@ -2,7 +2,7 @@
 use Rattle.std.specs.Prelude.{◌≡◌, ℕ, ◌<◌, IsTrue, List, [], length, map, Some, slice_get}
 use Rattle.std.specs.List.{flat_map}
 use Rattle.law_ends_agree.specs.Histories.{IdealGuest}
-use Rattle.law_ends_agree.specs.IdealGuest.Opening.{opening as opening_guest}
+use Rattle.law_ends_agree.specs.IdealGuests.Opening.{opening as opening_guest}
 use Rattle.law_ends_agree.specs.GicIdeal.Eager.{after_steps, eager}
 use Rattle.law_ends_agree.specs.Calls.{GuestSpec}
 use Rattle.law_ends_agree.specs.GicGuest.declared.outcome.Answer.{Answer}

@@ -19,7 +19,7 @@ use Rattle.law_threads_are_history.specs.Registers.{CpuRec}
 use Rattle.law_threads_are_history.specs.GuestEnd.Ends.{EndsAt}
 use Rattle.law_threads_are_history.specs.GuestEnd.Home.{IsAtEnd, guest_of}
 use Rattle.law_threads_are_history.proofs.GuestEnd.PropLemmas.{end_prop}
-use Rattle.law_threads_are_history.specs.IdealGuest.Opening.{opening as opening_guest}
+use Rattle.law_threads_are_history.specs.IdealGuests.Opening.{opening as opening_guest}
 use Rattle.law_threads_are_history.specs.PePlace.Calls.{calls_in}
 use Rattle.law_threads_are_history.specs.PePlace.Parts.{Part}
 use Rattle.law_threads_are_history.proofs.PortCore.OpeningLemmas.{seat_opens}

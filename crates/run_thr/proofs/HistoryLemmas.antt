@@ -14,7 +14,7 @@ use Rattle.law_threads_are_history.specs.GuestEnd.Ends.{AllEndAt, EndsAt, HaveEn
 use Rattle.law_threads_are_history.specs.GuestEnd.Home.{guest_of}
 use Rattle.law_threads_are_history.proofs.GuestEnd.EndsLemmas.{all_end}
 use Rattle.law_threads_are_history.specs.Histories.{IdealGuest}
-use Rattle.law_threads_are_history.specs.IdealGuest.Opening.{opening}
+use Rattle.law_threads_are_history.specs.IdealGuests.Opening.{opening}
 use Rattle.law_threads_are_history.specs.Core.{GuestWords}
 use Rattle.law_threads_are_history.specs.PortOps.Opened.{no_guest}
 use Rattle.law_threads_are_history.proofs.PortOps.WorldLemmas.{map_twice}

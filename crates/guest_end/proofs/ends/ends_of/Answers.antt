@@ -1,7 +1,7 @@
 -- One more guest ended.
 use Rattle.std.proofs.Common.{Some, suc, get_or, sym, ap, subst, ◌∙◌, arith}
 use Rattle.std.proofs.lemmas.Option.{slice_get-get_or}
-use Rattle.gic_ideal.specs.IdealGuest.Opening.{opening}
+use Rattle.gic_ideal.specs.IdealGuests.Opening.{opening}
 use Rattle.gic_ideal.specs.Ends.{end_of}
 use Rattle.guest_end.specs.Home.{IsAtEnd, guest_of}
 use Rattle.guest_end.specs.Ends.{HaveEnded}
