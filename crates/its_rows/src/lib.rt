@@ -4,8 +4,6 @@
 #[cfg(test)]
 mod commands;
 #[cfg(test)]
-mod guest;
-#[cfg(test)]
 mod rows;
 #[cfg(test)]
 mod writes;

@@ -1,20 +1,14 @@
 //! The ITS as a driver sees it: an LPI from its tables to a message, a queue that stalls, and what each register reads.
 ghost use Rattle.std.specs.Prelude.{◌≡◌};
-ghost use Rattle.dev_port.specs.Calls.{has_frame as has_frame_in};
+ghost use Rattle.dev_port.specs.Calls.{has_frame};
 
-use crate::guest::{
-    CBASER, LATCHED, LpiState, MAPPED, MOVED, NOTHING, PROPBASER, SHAPE, guest, lpi_state, mapti,
-    queue_state,
+use crate::writes::{
+    LpiState, MAPPED, MOVED, NOTHING, SHAPE, can_access, is_fit, lpi_state, registers, scenario,
 };
-use crate::writes::{can_access, store};
-use dev_port::{NoMemory, Port, msi};
-use gic_guest::{fits, has_frame, is_size};
+use dev_port::msi;
 use pe_op::{its_op, mem_op};
-use port_rest::{
-    CLEAR, DEVICE_ID, DISCARD, EVENT_ID, INV, LPI, MAPC, MAPD, MAPTI, MOVI, OTHER_MAPC, SYNC,
-    is_settled,
-};
-use port_seq::{Command, Frame, GuestPort, GuestShape};
+use port_rest::is_settled;
+use port_seq::{CorePort as Port, Frame, GuestPort, GuestShape, Mode, NoMemory, SeqPort};
 use std::alloc::{AllocError, Global};
 use std::sync::Wait;
 use std::test::Fail;
@@ -42,13 +36,11 @@ enum Act {
     Read(Frame, u32, u32, u64),
     /// A write of a value.
     Write(Frame, u32, u32, u64),
-    /// A write of a command at its place in the queue.
-    Queue(u16, Command),
     /// A message of an EventID under a DeviceID.
     Message(u32, u32),
 }
 
-use Act::{Message, Queue, Read, Write};
+use Act::{Message, Read, Write};
 use Frame::{Its, Ram};
 
 /// The redistributors.
@@ -58,33 +50,44 @@ const SECOND: Frame = Frame::Redist { vcpu: 1 };
 
 /// The tables of vCPU 0, and its EnableLPIs.
 const TABLES: [Act; 3] = [
-    Write(FIRST, 0x70, 8, PROPBASER),
+    Write(FIRST, 0x70, 8, 0x300D),
     Write(FIRST, 0x78, 8, 0x4000_0000_0001_0000),
     Write(FIRST, 0x0, 4, 1),
 ];
 
-/// The configuration byte of LPI 8195, the tables of vCPU 1, the queue, and the commands that map the LPI.
-const SET_UP: [Act; 10] = [
+/// The configuration byte of LPI 8195, the tables of vCPU 1, the queue, and its commands: MAPD of device 8 with 5 bits, MAPC of
+/// ICID 1 to vCPU 1, MAPTI of event 3 to the LPI in ICID 1, and SYNC of vCPU 1.
+const SET_UP: [Act; 16] = [
     Write(Ram, 0x3003, 1, 0xA1),
-    Write(SECOND, 0x70, 8, PROPBASER),
+    Write(SECOND, 0x70, 8, 0x300D),
     Write(SECOND, 0x78, 8, 0x4000_0000_0001_0000),
     Write(SECOND, 0x0, 4, 1),
-    Write(Its, 0x80, 8, CBASER),
+    Write(Its, 0x80, 8, 0x8000_0000_0000_1000),
     Write(Its, 0x0, 4, 1),
-    Queue(0, MAPD),
-    Queue(1, MAPC),
-    Queue(2, MAPTI),
-    Queue(3, SYNC),
+    Write(Ram, 0x1000, 8, 0x0000_0008_0000_0008),
+    Write(Ram, 0x1008, 8, 4),
+    Write(Ram, 0x1010, 8, 0x8000_0000_0000_2000),
+    Write(Ram, 0x1020, 8, 9),
+    Write(Ram, 0x1030, 8, 0x8000_0000_0001_0001),
+    Write(Ram, 0x1040, 8, 0x0000_0008_0000_000A),
+    Write(Ram, 0x1048, 8, 0x0000_2003_0000_0003),
+    Write(Ram, 0x1050, 8, 1),
+    Write(Ram, 0x1060, 8, 5),
+    Write(Ram, 0x1070, 8, 0x10000),
 ];
-
-/// The message of the LPI.
-const SENT: Act = Message(DEVICE_ID, EVENT_ID);
-
-/// The number of no command, in place of that of the second.
-const NO_COMMAND: Act = Write(Ram, 0x1020, 8, 0x7F);
 
 /// The commands are taken.
 const TAKEN: [Act; 2] = [Write(Its, 0x88, 8, 0x80), Read(Its, 0x90, 8, 0x80)];
+
+/// The guest has the frame.
+fn is_there(shape: &GuestShape, frame: Frame) -> bool
+    ensures { result ≡ has_frame shape.now frame }
+{
+    match frame {
+        Frame::Redist { vcpu } => vcpu < shape.vcpus,
+        Frame::Dist | Frame::Its | Frame::Ram => true,
+    }
+}
 
 /// Makes an access, and answers what it reads. None where it may not.
 fn make<P: Port, R: Wait>(
@@ -95,10 +98,7 @@ fn make<P: Port, R: Wait>(
     size: u32,
     write: Option<u64>,
 ) -> Option<Result<Option<u64>, NoMemory>> {
-    if !can_access(port) || !has_frame(&port.shape(), frame) {
-        return None;
-    }
-    if !is_size(size) || !fits(size, write) {
+    if !can_access(port) || !is_there(&port.shape(), frame) || !is_fit(size, write) {
         return None;
     }
     Some(match frame {
@@ -130,10 +130,6 @@ fn goes_so<R: Wait>(rt: &R, guest: &mut GuestPort, act: Act) -> bool {
             guest.set_actor(0);
             make(rt, guest, frame, offset, size, Some(value)) == Some(Ok(None))
         }
-        Queue(number, command) => {
-            guest.set_actor(0);
-            store(rt, guest, number, &command)
-        }
         Message(device, event) => {
             guest.set_actor(DEVICE);
             send(rt, guest, device, event)
@@ -153,7 +149,7 @@ fn first_other<R: Wait>(rt: &R, guest: &mut GuestPort, acts: &[Act]) -> Option<u
 
 /// The fault of the command that stalls the queue, and LPI 8195.
 fn end_of<P: Port>(port: &mut P) -> Option<End> {
-    let (_word, fault) = queue_state(port)?;
+    let (_, _, _, _, fault) = registers(port)?;
     Some((fault, lpi_state(port)?))
 }
 
@@ -164,9 +160,11 @@ fn end_after<R: Wait>(
     before: &[Act],
     acts: &[Act],
 ) -> Result<Option<End>, AllocError> {
-    let Some(mut port) = guest(alloc, SHAPE)? else {
+    let scenario = scenario(alloc, SHAPE)?;
+    if !scenario.is_good(alloc, Mode::Threads)? {
         return Ok(None);
-    };
+    }
+    let mut port = SeqPort::start(alloc, &scenario)?;
     let guest = port.current_mut();
     for part in [before, SET_UP.as_slice(), acts] {
         if first_other(rt, guest, part).is_some() {
@@ -183,33 +181,47 @@ fn other<R: Wait>(
     shape: GuestShape,
     acts: &[Act],
 ) -> Result<Option<usize>, AllocError> {
-    match guest(alloc, shape)? {
-        Some(mut port) => Ok(first_other(rt, port.current_mut(), acts)),
-        None => Ok(Some(acts.len())),
+    let scenario = scenario(alloc, shape)?;
+    if !scenario.is_good(alloc, Mode::Threads)? {
+        return Ok(Some(acts.len()));
     }
+    let mut port = SeqPort::start(alloc, &scenario)?;
+    Ok(first_other(rt, port.current_mut(), acts))
 }
 
 #[test]
 fn an_lpi_is_set_up(rt: HostRuntime) -> Result<(), Fail> {
     let alloc = rt.alloc();
-    let pending = Some((0, LATCHED));
-    let acts = [TAKEN[0], TAKEN[1], SENT];
+    let pending = Some((0, (true, 0xA0, true, Some(1))));
+    let acts = [TAKEN[0], TAKEN[1], Message(8, 3)];
     assert_eq!(rt; end_after(&rt, alloc, &[], acts.as_slice())?, pending);
     // Bit 1 of a configuration byte is ignored.
-    let acts = [Write(Ram, 0x3003, 1, 0xA3), TAKEN[0], TAKEN[1], SENT];
+    let acts = [
+        Write(Ram, 0x3003, 1, 0xA3),
+        TAKEN[0],
+        TAKEN[1],
+        Message(8, 3),
+    ];
     assert_eq!(rt; end_after(&rt, alloc, &[], acts.as_slice())?, pending);
     // Its new priority is that of its configuration byte only from INV on.
-    let acts = [TAKEN[0], TAKEN[1], Write(Ram, 0x3003, 1, 0x41), SENT];
+    let acts = [
+        TAKEN[0],
+        TAKEN[1],
+        Write(Ram, 0x3003, 1, 0x41),
+        Message(8, 3),
+    ];
     assert_eq!(rt; end_after(&rt, alloc, &[], acts.as_slice())?, pending);
     let acts = [
         TAKEN[0],
         TAKEN[1],
         Write(Ram, 0x3003, 1, 0x41),
-        Queue(4, INV),
-        Queue(5, SYNC),
+        Write(Ram, 0x1080, 8, 0x0000_0008_0000_000C),
+        Write(Ram, 0x1088, 8, 3),
+        Write(Ram, 0x10A0, 8, 5),
+        Write(Ram, 0x10B0, 8, 0x10000),
         Write(Its, 0x88, 8, 0xC0),
         Read(Its, 0x90, 8, 0xC0),
-        SENT,
+        Message(8, 3),
     ];
     assert_eq!(rt;
         end_after(&rt, alloc, &[], acts.as_slice())?,
@@ -223,7 +235,7 @@ fn a_queue_stalls(rt: HostRuntime) -> Result<(), Fail> {
     let alloc = rt.alloc();
     // An unknown command, and Retry once it is a good one.
     let acts = [
-        NO_COMMAND,
+        Write(Ram, 0x1020, 8, 0x7F),
         Write(Its, 0x88, 8, 0x80),
         Read(Its, 0x90, 8, 0x21),
     ];
@@ -232,10 +244,10 @@ fn a_queue_stalls(rt: HostRuntime) -> Result<(), Fail> {
         Some((10, NOTHING))
     );
     let acts = [
-        NO_COMMAND,
+        Write(Ram, 0x1020, 8, 0x7F),
         Write(Its, 0x88, 8, 0x80),
         Read(Its, 0x90, 4, 0x21),
-        Queue(1, MAPC),
+        Write(Ram, 0x1020, 8, 9),
         Write(Its, 0x88, 8, 0x81),
         Read(Its, 0x90, 8, 0x80),
         Read(Its, 0x88, 8, 0x80),
@@ -246,7 +258,7 @@ fn a_queue_stalls(rt: HostRuntime) -> Result<(), Fail> {
     );
     // Event 32 of a device with 5 bits, and event 31.
     let acts = [
-        Queue(2, mapti(DEVICE_ID, 32, LPI, 1)),
+        Write(Ram, 0x1048, 8, 0x0000_2003_0000_0020),
         Write(Its, 0x88, 8, 0x80),
         Read(Its, 0x90, 8, 0x41),
     ];
@@ -254,7 +266,11 @@ fn a_queue_stalls(rt: HostRuntime) -> Result<(), Fail> {
         end_after(&rt, alloc, &[], acts.as_slice())?,
         Some((4, NOTHING))
     );
-    let acts = [Queue(2, mapti(DEVICE_ID, 31, LPI, 1)), TAKEN[0], TAKEN[1]];
+    let acts = [
+        Write(Ram, 0x1048, 8, 0x0000_2003_0000_001F),
+        TAKEN[0],
+        TAKEN[1],
+    ];
     assert_eq!(rt;
         end_after(&rt, alloc, &[], acts.as_slice())?,
         Some((0, MAPPED))
@@ -270,9 +286,12 @@ fn a_pending_lpi_moves(rt: HostRuntime) -> Result<(), Fail> {
     let acts = [
         TAKEN[0],
         TAKEN[1],
-        SENT,
-        Queue(4, OTHER_MAPC),
-        Queue(5, MOVI),
+        Message(8, 3),
+        Write(Ram, 0x1080, 8, 9),
+        Write(Ram, 0x1090, 8, 0x8000_0000_0000_0002),
+        Write(Ram, 0x10A0, 8, 0x0000_0008_0000_0001),
+        Write(Ram, 0x10A8, 8, 3),
+        Write(Ram, 0x10B0, 8, 2),
         Write(Its, 0x88, 8, 0xC0),
     ];
     assert_eq!(rt;
@@ -283,8 +302,9 @@ fn a_pending_lpi_moves(rt: HostRuntime) -> Result<(), Fail> {
     let acts = [
         TAKEN[0],
         TAKEN[1],
-        SENT,
-        Queue(4, CLEAR),
+        Message(8, 3),
+        Write(Ram, 0x1080, 8, 0x0000_0008_0000_0004),
+        Write(Ram, 0x1088, 8, 3),
         Write(Its, 0x88, 8, 0xA0),
     ];
     assert_eq!(rt;
@@ -295,10 +315,11 @@ fn a_pending_lpi_moves(rt: HostRuntime) -> Result<(), Fail> {
     let acts = [
         TAKEN[0],
         TAKEN[1],
-        SENT,
-        Queue(4, DISCARD),
+        Message(8, 3),
+        Write(Ram, 0x1080, 8, 0x0000_0008_0000_000F),
+        Write(Ram, 0x1088, 8, 3),
         Write(Its, 0x88, 8, 0xA0),
-        SENT,
+        Message(8, 3),
     ];
     assert_eq!(rt;
         end_after(&rt, alloc, before, acts.as_slice())?,

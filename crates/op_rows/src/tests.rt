@@ -4,15 +4,12 @@ ghost use Rattle.dev_port.specs.Device.{CanCall};
 ghost use Rattle.port_seq.specs.Ports.{told};
 ghost use Rattle.pe_op.specs.PeLoop.Stay.{IsUp};
 
-use dev_port::{GuestOp, Key, Port, message, msi};
+use dev_port::{message, msi};
 use pe_op::{Loaded, Shelved, enter, guest_op, leave};
-use port_rest::{
-    CLEAR, DEVICE_ID, DISCARD, EVENT_ID, INV, MAPC, MAPD, MAPTI, MOVI, OTHER_MAPC, SYNC,
-    command_words, is_off, is_settled, one_guest, sgi, spi,
-};
+use port_rest::{is_off, is_settled, one_guest};
 use port_seq::{
-    COMMAND_BYTES, Command, Frame, GuestPort, GuestShape, IccReg, Mode, Scenario, SeqPort,
-    is_good_op, key_of,
+    CorePort as Port, Frame, GuestOp, GuestPort, GuestShape, IccReg, Key, Mode, Preset, Scenario,
+    SeqPort, is_good_op, key_of,
 };
 use std::alloc::{AllocError, Global};
 use std::sync::Wait;
@@ -38,9 +35,6 @@ const SMALL: GuestShape = GuestShape {
     ram: 0,
 };
 
-/// Where the queue of the ITS is.
-const QUEUE: u32 = 0x1000;
-
 /// List registers of a PE.
 const LIST_REGISTERS: u32 = 4;
 
@@ -52,8 +46,6 @@ type Does = (GuestOp, Option<u64>);
 enum Act {
     /// A vCPU enters a PE, does an operation there, and leaves it.
     Vcpu(u32, Does),
-    /// vCPU 0 enters a PE, stores a command at its place in the queue, and leaves it.
-    Queue(u16, Command),
     /// The device sends a message of an SPI.
     Message(u32),
     /// The device sends a message of an event under a number to the ITS.
@@ -98,14 +90,22 @@ fn stores(frame: Frame, offset: u32, size: u32, value: u64) -> Does {
     )
 }
 
+/// Opens an interrupt at priority 0xA0, edge-triggered and in group 1: an SPI for vCPU 0, or an SGI of a vCPU.
+fn preset(id: u32, vcpu: u32) -> Preset {
+    let is_sgi = id < 32;
+    Preset {
+        id,
+        prio: 0xA0,
+        edge: true,
+        group: 1,
+        to: if is_sgi { None } else { Some(vcpu) },
+        vcpu: if is_sgi { Some(vcpu) } else { None },
+    }
+}
+
 /// A guest that opens on, with the interrupts 40 and 991 and SGI 5 of both vCPUs.
 fn ready(alloc: Global) -> Result<Scenario, AllocError> {
-    let presets = [
-        spi(40, 0xA0, true, 0),
-        spi(991, 0xA0, true, 0),
-        sgi(5, 0xA0, 0),
-        sgi(5, 0xA0, 1),
-    ];
+    let presets = [preset(40, 0), preset(991, 0), preset(5, 0), preset(5, 1)];
     one_guest(alloc, SHAPE, true, &presets)
 }
 
@@ -206,30 +206,6 @@ fn tell(guest: &mut GuestPort, actor: u32) -> Option<()>
     Some(())
 }
 
-/// The vCPU that is told enters a PE, stores a command at its place in the queue, and leaves it. None where it may not.
-fn store_command<R: Wait>(
-    rt: &R,
-    guest: &mut GuestPort,
-    number: u16,
-    command: &Command,
-) -> Option<()>
-    requires { (told guest.old).number ≡ 0 }
-    ensures { IfSome result (λ done. (told guest.new).number ≡ 0) }
-{
-    let [first, second, third, fourth] = command_words(command)?;
-    let start = QUEUE + COMMAND_BYTES * u32::from(number);
-    stay(
-        rt,
-        guest,
-        &[
-            stores(Ram, start, 8, first),
-            stores(Ram, start + 8, 8, second),
-            stores(Ram, start + 16, 8, third),
-            stores(Ram, start + 24, 8, fourth),
-        ],
-    )
-}
-
 /// Does one act. None where the actor may not, or reads something else.
 fn perform<R: Wait>(rt: &R, guest: &mut GuestPort, act: &Act) -> Option<()>
     requires { (told guest.old).number ≡ 0 }
@@ -240,10 +216,6 @@ fn perform<R: Wait>(rt: &R, guest: &mut GuestPort, act: &Act) -> Option<()>
         Act::Vcpu(vcpu, does) => {
             tell(guest, *vcpu)?;
             stay(rt, guest, &[*does])
-        }
-        Act::Queue(number, command) => {
-            tell(guest, 0)?;
-            store_command(rt, guest, *number, command)
         }
         Act::Message(spi) => {
             tell(guest, device)?;
@@ -302,7 +274,7 @@ fn play_both<R: Wait>(
     }
 }
 
-use Act::{Message, Msi, Queue, Vcpu};
+use Act::{Message, Msi, Vcpu};
 use Frame::{Dist, Its, Ram, Redist};
 use IccReg::{Bpr1, Ctlr, Eoir1, Hppir1, Iar1, Igrpen1, Pmr, Rpr, Sgi1r, Sre};
 
@@ -381,7 +353,7 @@ fn sgis_of_another(rt: HostRuntime) -> Result<(), Fail> {
 }
 
 /// An LPI's set-up, from its configuration byte to the end of the commands that map it, of which GITS_CREADR tells.
-fn set_up(byte: u64) -> [Act; 12] {
+fn set_up(byte: u64) -> [Act; 18] {
     [
         Vcpu(0, stores(Ram, 0x3003, 1, byte)),
         Vcpu(0, stores(OTHER, 0x70, 8, 0x300D)),
@@ -389,10 +361,17 @@ fn set_up(byte: u64) -> [Act; 12] {
         Vcpu(0, stores(OTHER, 0x0, 4, 1)),
         Vcpu(0, stores(Its, 0x80, 8, 0x8000_0000_0000_1000)),
         Vcpu(0, stores(Its, 0x0, 4, 1)),
-        Queue(0, MAPD),
-        Queue(1, MAPC),
-        Queue(2, MAPTI),
-        Queue(3, SYNC),
+        // MAPD of device 8 with 5 bits, MAPC of collection 1 to vCPU 1, MAPTI of event 3 to LPI 8195, and SYNC.
+        Vcpu(0, stores(Ram, 0x1000, 8, 0x0000_0008_0000_0008)),
+        Vcpu(0, stores(Ram, 0x1008, 8, 4)),
+        Vcpu(0, stores(Ram, 0x1010, 8, 0x8000_0000_0000_2000)),
+        Vcpu(0, stores(Ram, 0x1020, 8, 9)),
+        Vcpu(0, stores(Ram, 0x1030, 8, 0x8000_0000_0001_0001)),
+        Vcpu(0, stores(Ram, 0x1040, 8, 0x0000_0008_0000_000A)),
+        Vcpu(0, stores(Ram, 0x1048, 8, 0x0000_2003_0000_0003)),
+        Vcpu(0, stores(Ram, 0x1050, 8, 1)),
+        Vcpu(0, stores(Ram, 0x1060, 8, 5)),
+        Vcpu(0, stores(Ram, 0x1070, 8, 0x10000)),
         Vcpu(0, stores(Its, 0x88, 8, 0x80)),
         Vcpu(0, loads(Its, 0x90, 8, 0x80)),
     ]
@@ -410,7 +389,7 @@ fn set_up_mine() -> [Act; 3] {
 #[test]
 fn lpi_of_a_device(rt: HostRuntime) -> Result<(), Fail> {
     let taken = [
-        Msi(DEVICE_ID, EVENT_ID),
+        Msi(8, 3),
         Vcpu(1, reads(Iar1, 8195)),
         Vcpu(1, writes(Eoir1, 8195)),
         Vcpu(1, reads(Iar1, NONE)),
@@ -437,9 +416,12 @@ fn lpi_that_moves_or_goes(rt: HostRuntime) -> Result<(), Fail> {
     // MAPC of collection 2 to vCPU 0, and MOVI of the event to it.
     let mine = set_up_mine();
     let moved = [
-        Msi(DEVICE_ID, EVENT_ID),
-        Queue(4, OTHER_MAPC),
-        Queue(5, MOVI),
+        Msi(8, 3),
+        Vcpu(0, stores(Ram, 0x1080, 8, 9)),
+        Vcpu(0, stores(Ram, 0x1090, 8, 0x8000_0000_0000_0002)),
+        Vcpu(0, stores(Ram, 0x10A0, 8, 0x0000_0008_0000_0001)),
+        Vcpu(0, stores(Ram, 0x10A8, 8, 3)),
+        Vcpu(0, stores(Ram, 0x10B0, 8, 2)),
         Vcpu(0, stores(Its, 0x88, 8, 0xC0)),
         Vcpu(1, reads(Iar1, NONE)),
         Vcpu(0, reads(Iar1, 8195)),
@@ -457,8 +439,9 @@ fn lpi_that_moves_or_goes(rt: HostRuntime) -> Result<(), Fail> {
     );
     // CLEAR.
     let cleared = [
-        Msi(DEVICE_ID, EVENT_ID),
-        Queue(4, CLEAR),
+        Msi(8, 3),
+        Vcpu(0, stores(Ram, 0x1080, 8, 0x0000_0008_0000_0004)),
+        Vcpu(0, stores(Ram, 0x1088, 8, 3)),
         Vcpu(0, stores(Its, 0x88, 8, 0xA0)),
         Vcpu(1, reads(Iar1, NONE)),
     ];
@@ -474,10 +457,11 @@ fn lpi_that_moves_or_goes(rt: HostRuntime) -> Result<(), Fail> {
     );
     // DISCARD.
     let discarded = [
-        Msi(DEVICE_ID, EVENT_ID),
-        Queue(4, DISCARD),
+        Msi(8, 3),
+        Vcpu(0, stores(Ram, 0x1080, 8, 0x0000_0008_0000_000F)),
+        Vcpu(0, stores(Ram, 0x1088, 8, 3)),
         Vcpu(0, stores(Its, 0x88, 8, 0xA0)),
-        Msi(DEVICE_ID, EVENT_ID),
+        Msi(8, 3),
         Vcpu(1, reads(Iar1, NONE)),
     ];
     assert_eq!(rt;
@@ -499,14 +483,16 @@ fn lpi_with_another_priority(rt: HostRuntime) -> Result<(), Fail> {
     // The byte counts from INV on, with the SYNC behind it.
     let read_anew = [
         Vcpu(0, stores(Ram, 0x3003, 1, 0x41)),
-        Msi(DEVICE_ID, EVENT_ID),
+        Msi(8, 3),
         Vcpu(1, reads(Iar1, 8195)),
         Vcpu(1, reads(Rpr, 0xA0)),
         Vcpu(1, writes(Eoir1, 8195)),
-        Queue(4, INV),
-        Queue(5, SYNC),
+        Vcpu(0, stores(Ram, 0x1080, 8, 0x0000_0008_0000_000C)),
+        Vcpu(0, stores(Ram, 0x1088, 8, 3)),
+        Vcpu(0, stores(Ram, 0x10A0, 8, 5)),
+        Vcpu(0, stores(Ram, 0x10B0, 8, 0x10000)),
         Vcpu(0, stores(Its, 0x88, 8, 0xC0)),
-        Msi(DEVICE_ID, EVENT_ID),
+        Msi(8, 3),
         Vcpu(1, reads(Iar1, 8195)),
         Vcpu(1, reads(Rpr, 0x40)),
     ];

@@ -5,8 +5,6 @@
 #[cfg(test)]
 mod entries;
 #[cfg(test)]
-mod entry;
-#[cfg(test)]
 mod interface;
 #[cfg(test)]
 mod memory;

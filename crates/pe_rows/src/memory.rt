@@ -5,14 +5,13 @@ ghost use Rattle.port_seq.specs.Calls.{fits as fits_in};
 ghost use Rattle.pe_icc.specs.PeLoop.Stay.{IsUp};
 ghost use Rattle.pe_mem.specs.Call.{CanAccess};
 
-use crate::entry::enter_told;
-use gic_guest::{fits, is_size};
-use pe_icc::{Port, leave};
-use pe_mem::{
-    CoreStep, GuestShape, Missed, WordId, dist_op, memory_op, redist_op, settle, touch, try_access,
+use pe_icc::{Loaded, Shelved, enter, leave};
+use pe_mem::{Missed, dist_op, memory_op, redist_op, settle, touch, try_access};
+use port_rest::{is_off, one_guest};
+use port_seq::{
+    CorePort as Port, CoreStep, GuestShape, Key, Kind, Mode, Preset, Scenario, SeqPort, Touching,
+    WordId, target_in,
 };
-use port_rest::{is_off, one_guest, spi};
-use port_seq::{Key, Kind, Mode, Scenario, SeqPort, Touching, target_in};
 use std::alloc::{AllocError, Global};
 use std::sync::Wait;
 use std::test::Fail;
@@ -26,9 +25,6 @@ const SHAPE: GuestShape = GuestShape {
     lpis: 16,
     ram: 65536,
 };
-
-/// List registers of a PE.
-const LIST_REGISTERS: u32 = 4;
 
 /// Where an access is.
 #[derive(Clone, Copy)]
@@ -63,7 +59,15 @@ const OPENING: State = (true, 0xA0, true, false, None, Some(0));
 
 /// A guest with interrupt 40, of which GICD_CTLR opens so.
 fn scenario(alloc: Global, on: bool) -> Result<Scenario, AllocError> {
-    one_guest(alloc, SHAPE, on, &[spi(40, 0xA0, true, 0)])
+    let presets = [Preset {
+        id: 40,
+        prio: 0xA0,
+        edge: true,
+        group: 1,
+        to: Some(0),
+        vcpu: None,
+    }];
+    one_guest(alloc, SHAPE, on, &presets)
 }
 
 /// The actor is a vCPU that can make an access.
@@ -71,6 +75,21 @@ fn can_access<P: Port>(port: &P) -> bool
     ensures { IsTrue result → CanAccess (P.seen port.now) }
 {
     port.actor() < port.shape().vcpus && is_off(port.local_ref())
+}
+
+/// A size that an access may have, and a value that fits it.
+fn is_fit(size: u32, write: Option<u64>) -> bool
+    ensures size { IsTrue result → IsTrue (is_size_of size) }
+    ensures fits { IsTrue result → IsTrue (fits_in size write) }
+{
+    let limit = match size {
+        1 => 0x100,
+        2 => 0x1_0000,
+        4 => 0x1_0000_0000,
+        8 => return true,
+        _ => return false,
+    };
+    write.is_none_or(|value| value < limit)
 }
 
 /// Makes an access, and answers what it reads. None where it may not.
@@ -82,7 +101,7 @@ fn make<P: Port, R: Wait>(
     size: u32,
     write: Option<u64>,
 ) -> Option<Option<u64>> {
-    if port.shape() != SHAPE || !can_access(port) || !is_size(size) || !fits(size, write) {
+    if port.shape() != SHAPE || !can_access(port) || !is_fit(size, write) {
         return None;
     }
     Some(match place {
@@ -207,6 +226,23 @@ fn send<P: Port>(port: &mut P) -> bool
     true
 }
 
+/// vCPU 0 enters a PE. None where it may not.
+fn enter_first<P: Port>(port: &mut P) -> Option<Loaded>
+    requires { (P.seen port.old).number ≡ 0 }
+    ensures { IfSome result (λ vcpu. IsUp (P.seen port.new) vcpu) }
+{
+    if port.shape() != SHAPE || port.actor() != 0 || !is_off(port.local_ref()) {
+        return None;
+    }
+    let vcpu = Shelved {
+        guest: 0,
+        vcpu: 0,
+        cpu: port.local_ref().cpu,
+        next: 0,
+    };
+    Some(enter(port, vcpu, 4))
+}
+
 /// vCPU 0 gets a message, enters a PE, and leaves it or stays. False where it may not.
 fn visit<P: Port>(port: &mut P, leaves: bool) -> bool
     requires { (P.seen port.old).number ≡ 0 }
@@ -214,7 +250,7 @@ fn visit<P: Port>(port: &mut P, leaves: bool) -> bool
     if !send(port) {
         return false;
     }
-    let Some(vcpu) = enter_told(port, LIST_REGISTERS) else {
+    let Some(vcpu) = enter_first(port) else {
         return false;
     };
     if leaves {

@@ -2,9 +2,12 @@
 ghost use Rattle.port_seq.specs.Told.{IsOpening};
 ghost use Rattle.port_seq.specs.Ports.{told_all};
 
-use dev_port::{AlreadySo, CoreStep, Key, Port, Wire, WordId, message, msi, set_wire};
-use port_rest::{is_settled, spi};
-use port_seq::{Actor, GuestShape, GuestSpec, ListOf, Mode, PresetList, Scenario, SeqPort};
+use dev_port::{AlreadySo, Wire, message, msi, set_wire};
+use port_rest::is_settled;
+use port_seq::{
+    Actor, CorePort as Port, CoreStep, GuestShape, GuestSpec, Key, ListOf, Mode, Preset,
+    PresetList, Scenario, SeqPort, WordId,
+};
 use std::alloc::{AllocError, Global};
 use std::sync::Wait;
 use std::test::Fail;
@@ -40,13 +43,24 @@ const ROSE: u64 = 1 << 2;
 /// A vCPU's word with a kick.
 const KICK: u64 = 2;
 
+fn preset(id: u32, edge: bool, to: u32) -> Preset {
+    Preset {
+        id,
+        prio: 0xA0,
+        edge,
+        group: 1,
+        to: Some(to),
+        vcpu: None,
+    }
+}
+
 /// Two guests, each with both interrupts.
 fn scenario(alloc: Global) -> Result<Scenario, AllocError> {
     let mut guests = ListOf::new(alloc);
     for _ in 0..2 {
         let mut presets: PresetList = ListOf::new(alloc);
-        presets.push(spi(40, 0xA0, true, 1))?;
-        presets.push(spi(41, 0xA0, false, 0))?;
+        presets.push(preset(40, true, 1))?;
+        presets.push(preset(41, false, 0))?;
         guests.push(GuestSpec {
             shape: SHAPE,
             on: true,
