@@ -16,10 +16,6 @@ pub use Rattle.core_proper.specs.PortCore.Stands.{claim_event, event_done, found
 pub use Rattle.core_proper.specs.PortCore.Step.{CanStep, IsEnd, is_poll, word_of}
 pub use Rattle.core_proper.specs.PortCore.Valid.{AreCands, AreMarks, AreMarksOf, AreVcpus, CanFind, HasNone, IsActorOrNone, IsAt, IsIndexWord, IsIrqWord, IsLocal, IsOnce, IsValid, Ties, is_active_by_holder, is_own}
 pub use Rattle.core_proper.specs.PortCore.declared.at_list.AtIrq.{AtIrq}
-pub use Rattle.core_proper.specs.PortCore.declared.at_list.Change.{Change}
-pub use Rattle.core_proper.specs.PortCore.declared.at_list.Change.TheVariants.{Acknowledged, Brings, Deactivated, Given}
-pub use Rattle.core_proper.specs.PortCore.declared.at_list.Which.{Which}
-pub use Rattle.core_proper.specs.PortCore.declared.at_list.Which.TheVariants.{Id, Key}
 pub use Rattle.core_proper.specs.PortCore.declared.atomic.Atomic.{Atomic}
 pub use Rattle.core_proper.specs.PortCore.declared.atomic.Atomic.TheVariants.{And, Exchange, Load, Or, Swap}
 pub use Rattle.core_proper.specs.PortCore.declared.end.GuestWords.{GuestWords}
