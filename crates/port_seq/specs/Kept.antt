@@ -11,10 +11,10 @@ use Rattle.port_ops.specs.PortCore.Actor.{actor_count}
 use Rattle.port_ops.specs.PortCore.Known.{known_maps}
 use Rattle.port_ops.specs.PortCore.Port.{IsPort, local_by}
 use Rattle.port_ops.specs.PortCore.Run.{IsRun, IsSound, opening, own_steps, seat_at, opening_local_of}
-use Rattle.port_ops.proofs.PortCore.OpeningLemmas.{opens_sound, seat_opens}
-use Rattle.port_ops.proofs.PortCore.RunLemmas.{own_of_run, local_of_run}
-use Rattle.port_ops.proofs.PortCore.StepLemmas.{run_sound}
-use Rattle.port_ops.proofs.PortCore.StepMaps.{one_has_turn}
+use Rattle.port_core.proofs.OpeningLemmas.{opens_sound, seat_opens}
+use Rattle.port_core.proofs.RunLemmas.{own_of_run, local_of_run}
+use Rattle.port_core.proofs.StepLemmas.{run_sound}
+use Rattle.port_core.proofs.StepMaps.{one_has_turn}
 use Rattle.port_ops.specs.Props.{port_prop}
 use Rattle.port_seq.specs.Told.{GuestTold, seen_of, state_of}
 use Rattle.port_ops.specs.World.{HasTurn}
