@@ -5,7 +5,7 @@ use Rattle.law_found_parts_are_calls.specs.Words.{GuestShape}
 use Rattle.law_found_parts_are_calls.specs.Calls.{IsGoodGuest}
 use Rattle.law_found_parts_are_calls.specs.Core.{Entry, Made, actor_count, seen_after, CoreState, IsRun, Seat, end_of, opening, own_steps, seat_at, entry_by}
 use Rattle.law_found_parts_are_calls.proofs.PortCore.RunLemmas.{local_of_run, own_of_run, run_splits, runs_joined}
-use Rattle.seq_guest.specs.PortSeq.Kept.{told_sound}
+use Rattle.seq_guest.proofs.PortSeq.KeptLemmas.{told_sound}
 use Rattle.seq_guest.specs.PortSeq.Told.{GuestTold, state_of}
 use Rattle.law_found_parts_are_calls.specs.LawSerialIsEager.Serial.{WholePart}
 use Rattle.seq_guest.specs.Guest.{seen_by}

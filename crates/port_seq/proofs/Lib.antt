@@ -3,3 +3,4 @@ pub use Rattle.port_ops.proofs.PortCore
 pub mod SeqLemmas
 pub mod ToldLemmas
 pub mod GuestsLemmas
+pub mod KeptLemmas

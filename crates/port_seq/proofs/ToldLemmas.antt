@@ -10,7 +10,7 @@ use Rattle.port_ops.specs.PortCore.Run.{IsRun, Takes, Seat, no_seat, opening, se
 use Rattle.port_ops.specs.PortCore.Valid.{CanFind}
 use Rattle.port_ops.proofs.PortCore.RunLemmas.{runs_joined}
 use Rattle.port_ops.proofs.PortCore.StepLemmas.{found_valid, entry_keeps, tables_handed, tables_valid}
-use Rattle.port_seq.specs.Kept.{told_sound}
+use Rattle.port_seq.proofs.KeptLemmas.{told_sound}
 use Rattle.port_seq.specs.Told.{GuestTold, state_of, seen_of, entry_of, with_step}
 use Rattle.port_ops.proofs.WorldLemmas.{each_seat}
 

@@ -16,7 +16,7 @@ told_every P all (port ∷ ports) zero h = all port
 told_every P all (port ∷ ports) (suc number) h = told_every P all ports number (omega arith)
 
 pub each_is_port : (ports : List GuestPort) (number : ℕ) → number < length ports → IsPort (seen_of (slice_index_or (map told ports) number no_told))
-each_is_port = told_every (λ t. IsPort (seen_of t)) (λ port. told_is_port (told port) port.good port.there port.run port.turn)
+each_is_port = told_every (λ t. IsPort (seen_of t)) (λ port. told_is_port (told port) port.good port.there port.sound port.made port.turn)
 
 -- what the port of a guest keeps, and so of each guest of a scenario
 pub is_told : (port : GuestPort) → IsTold (told port)

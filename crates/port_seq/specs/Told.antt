@@ -7,9 +7,9 @@ use Rattle.port_ops.specs.Calls.{GuestSpec}
 use Rattle.port_ops.specs.PortCore.declared.end.GuestWords.{GuestWords}
 use Rattle.port_ops.specs.PortCore.declared.run.Entry.{Entry}
 use Rattle.port_ops.specs.PortCore.declared.step.CoreStep.{CoreStep}
-use Rattle.port_ops.specs.PortCore.Actor.{guest_of, number_of, has_actor}
-use Rattle.port_ops.specs.PortCore.Port.{Seen}
-use Rattle.port_ops.specs.PortCore.Run.{CoreState, seat_at}
+use Rattle.port_ops.specs.PortCore.Actor.{actor_count, guest_of, number_of, has_actor}
+use Rattle.port_ops.specs.PortCore.Port.{Seen, local_by}
+use Rattle.port_ops.specs.PortCore.Run.{CoreState, opening_local_of, seat_at}
 use Rattle.port_ops.specs.Opened.{no_guest}
 use Rattle.port_ops.specs.World.{state_after, entry_in}
 
@@ -26,6 +26,12 @@ pub record GuestTold : Type 0 where
 -- its state after those steps
 abbrev pub state_of : GuestTold → CoreState
 state_of told = state_after told.guest told.number told.world
+
+-- after these steps what each actor of a guest has for itself is what its own steps made of what it opened with
+abbrev pub AreMade : GuestSpec → ℕ → List Entry → Type 0
+AreMade guest number world =
+    (actor : ℕ) → actor < actor_count guest.shape
+    → (seat_at (state_after guest number world) actor).local ≡ local_by guest.shape actor (opening_local_of guest number actor) (seat_at (state_after guest number world) actor).own
 
 -- what is told of its actor
 abbrev pub seen_of : GuestTold → Seen

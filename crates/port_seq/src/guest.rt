@@ -4,8 +4,9 @@ ghost use Rattle.std.specs.Option.{ForSome};
 ghost use Rattle.port_ops.specs.Calls.{IsGoodGuest};
 ghost use Rattle.port_ops.specs.PortCore.Actor.{actor_count as count_of};
 ghost use Rattle.port_ops.specs.PortCore.Place.{word_count as count_of_words};
-ghost use Rattle.port_ops.specs.PortCore.Run.{IsRun, opening};
+ghost use Rattle.port_ops.specs.PortCore.Run.{IsRun, IsSound, opening};
 ghost use Rattle.port_seq.specs.Home.{maps_here, taker_of};
+ghost use Rattle.port_seq.specs.Told.{AreMade};
 ghost use Rattle.port_ops.specs.World.{state_after, locals_in, HasTurn};
 
 use crate::drain::drain;
@@ -37,6 +38,8 @@ pub struct GuestPort {
     ghost words: { table.shared.table_id.words ≡ count_of_words opened.guest.shape },
     ghost slots: { table.shared.table_id.slots ≡ 0 },
     ghost run: { ∥ IsRun opened.guest.shape (opening opened.guest opened.number) seat.me.0 ∥₁ },
+    ghost sound: { ∥ IsSound opened.guest.shape (state_after opened.guest opened.number seat.me.0) ∥₁ },
+    ghost made: { AreMade opened.guest opened.number seat.me.0 },
     ghost own: { locals.items ≡ locals_in (state_after opened.guest opened.number seat.me.0) },
     ghost maps: { ForSome (maps_here its) (λ maps. maps ≡ (state_after opened.guest opened.number seat.me.0).maps) },
     ghost turn: { ForSome (taker_of its) (HasTurn opened.guest.shape (state_after opened.guest opened.number seat.me.0)) },

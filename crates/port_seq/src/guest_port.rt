@@ -10,7 +10,7 @@ impl Port for GuestPort {
 
     ghost seen = { λ port. seen_of (told port) };
 
-    ghost is_port = { λ port. told_is_port (told port) port.good port.there port.run port.turn };
+    ghost is_port = { λ port. told_is_port (told port) port.good port.there port.sound port.made port.turn };
 
     fn actor(&self) -> u32 {
         self.actor

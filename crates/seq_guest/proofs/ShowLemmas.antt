@@ -13,7 +13,7 @@ use Rattle.pe_place.specs.Core.{Made, CoreStep, Kick, Poll, Adds, IsRun, IsSound
 use Rattle.port_seq.proofs.PortCore.RunLemmas.{run_splits}
 use Rattle.pe_place.specs.PortCall.Piece.{steps_of}
 use Rattle.law_entries_are_plans.specs.LawRegistersStand.Asks.{IsUnkicked}
-use Rattle.port_seq.specs.Kept.{told_sound}
+use Rattle.port_seq.proofs.KeptLemmas.{told_sound}
 use Rattle.port_seq.specs.Told.{GuestTold, seen_of, state_of}
 use Rattle.pe_place.specs.PeLoop.Steps.{all_are, all_hit, is_claim, is_mark, is_search, IsEntryPart}
 use Rattle.pe_place.specs.PeIcc.Amid.{IsRunning}

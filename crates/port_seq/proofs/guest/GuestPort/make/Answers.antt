@@ -12,6 +12,7 @@ use Rattle.port_seq.specs.Rule.{IsMade}
 use Rattle.port_seq.specs.Told.{state_of, seen_of, entry_of}
 use Rattle.port_ops.specs.World.{state_after}
 use Rattle.port_ops.proofs.WorldLemmas.{each_local, local_at, sound_after, room_of, run_more}
+use Rattle.port_seq.proofs.KeptLemmas.{each_made, world_sound}
 use Rattle.port_seq.proofs.SeqLemmas.{locals_more, maps_more, turn_more}
 use Rattle.port_seq.proofs.guest.GuestPort.make.Goals as goal
 
@@ -26,7 +27,7 @@ pub operation-atomic-requires-clause-local : goal.operation-atomic-requires-clau
 operation-atomic-requires-clause-local c =
     let port = c.args.self.now in
     subst (IsLocal port.opened.guest.shape port.actor) (sym (c.index.ensures ∙ local_at port.opened.guest port.opened.number port.seat.me.0 port.locals.items port.actor c.index.result.now port.own port.there))
-    (told_is_port (told port) port.good port.there port.run port.turn).local
+    (told_is_port (told port) port.good port.there port.sound port.made port.turn).local
 
 pub operation-atomic-requires-clause-meets : goal.operation-atomic-requires-clause-meets
 operation-atomic-requires-clause-meets c =
@@ -55,7 +56,7 @@ pub advance-requires-clause-local : goal.advance-requires-clause-local
 advance-requires-clause-local c =
     let port = c.args.self.now in
     subst (IsLocal port.opened.guest.shape port.actor) (sym (c.index_mut.ensures.value ∙ local_at port.opened.guest port.opened.number port.seat.me.0 port.locals.items port.actor c.index_mut.result.now port.own port.there))
-    (told_is_port (told port) port.good port.there port.run port.turn).local
+    (told_is_port (told port) port.good port.there port.sound port.made port.turn).local
 
 pub advance-requires-clause-found : goal.advance-requires-clause-found
 advance-requires-clause-found c =
@@ -78,6 +79,8 @@ invariant_of-self-2 c =
     let port = c.args.self.now in
     let found = c.make-found.result in
     let made = subst (λ opened. IsMade opened port.actor c.args.step port.seat.me found c.make-found.new.seat.me) port.key c.make-found.ensures.made in
+    let run : IsRun port.opened.guest.shape (opening port.opened.guest port.opened.number) c.make-found.new.seat.me.0 =
+    subst (IsRun port.opened.guest.shape (opening port.opened.guest port.opened.number)) (sym made.later) (run_more port.opened port.seat.me.0 (entry_of (told port) c.args.step found) made.run made.takes) in
     let at = c.index_mut.ensures.value ∙ local_at port.opened.guest port.opened.number port.seat.me.0 port.locals.items port.actor c.index_mut.result.now port.own port.there in
     record {
       good = port.good;
@@ -86,7 +89,9 @@ invariant_of-self-2 c =
       home = c.make-found.ensures.table ∙ port.home;
       words = port.words;
       slots = port.slots;
-      run = ∣ subst (IsRun port.opened.guest.shape (opening port.opened.guest port.opened.number)) (sym made.later) (run_more port.opened port.seat.me.0 (entry_of (told port) c.args.step found) made.run made.takes) ∣₁;
+      run = ∣ run ∣₁;
+      sound = ∣ world_sound port.opened.guest port.opened.number c.make-found.new.seat.me.0 port.good run ∣₁;
+      made = each_made port.opened.guest port.opened.number c.make-found.new.seat.me.0 port.good run;
       own =
           locals_more port.opened port.seat.me.0 c.make-found.new.seat.me.0 port.locals.items port.actor c.args.step found c.advance.new.self port.own made.later
           (c.advance.ensures ∙ ap (λ local. local_after port.opened.guest.shape port.actor local c.args.step found) at);

@@ -5,6 +5,7 @@ use Rattle.port_ops.specs.Calls.{IsGoodGuest}
 use Rattle.port_ops.specs.PortCore.Place.{word_count}
 use Rattle.port_ops.specs.PortCore.Run.{IsRun, opening, opening_word}
 use Rattle.port_ops.specs.World.{state_after, locals_in}
+use Rattle.port_seq.proofs.KeptLemmas.{opening_made, opening_sound}
 use Rattle.port_seq.proofs.guest.GuestPort.start.Goals as goal
 
 pub of_words-requires : goal.of_words-requires
@@ -26,6 +27,8 @@ invariant_of-result c =
           table.0 ∙ ap length (c.as_slice.ensures ∙ c.in_ok-words.ensures opened.number) ∙ length-map-range_with_len (opening_word opened.guest) 0 (word_count opened.guest.shape);
       slots = table.1;
       run = ∣ subst (IsRun opened.guest.shape (opening opened.guest opened.number)) (sym world) tt ∣₁;
+      sound = ∣ opening_sound opened.guest opened.number _ world good ∣₁;
+      made = opening_made opened.guest opened.number _ world good;
       own = c.in_ok-locals.ensures ∙ sym (ap (λ w. locals_in (state_after opened.guest opened.number w)) world);
       maps = λ maps e. sym (same_Some c.empty.result maps e) ∙ c.empty.ensures.value ∙ sym (ap (λ w. (state_after opened.guest opened.number w).maps) world);
       turn = λ taker e. absurd (cc);

@@ -1,7 +1,7 @@
 use Rattle.std.proofs.Common.{sym, ap, ◌∙◌}
 use Rattle.port_seq.specs.Home.{maps_here, taker_of}
-use Rattle.port_seq.specs.Kept.{known_here, none_took}
 use Rattle.port_seq.specs.Ports.{told}
+use Rattle.port_seq.proofs.KeptLemmas.{known_here, none_took}
 use Rattle.port_seq.proofs.guest.GuestPort.take.Goals as goal
 
 pub unreachable-requires : goal.unreachable-requires
