@@ -3,9 +3,10 @@ use Rattle.port_ops.specs.PortCore.After.{local_after}
 use Rattle.port_ops.specs.PortCore.Atomic.{Makes}
 use Rattle.port_ops.specs.PortCore.Condition.{Meets, has_room}
 use Rattle.port_ops.specs.PortCore.Run.{IsRun, opening, seat_at}
+use Rattle.port_ops.specs.PortCore.Place.{has_word}
 use Rattle.port_ops.specs.PortCore.Step.{word_of}
 use Rattle.port_ops.specs.PortCore.Valid.{IsLocal, CanFind}
-use Rattle.port_ops.proofs.PortCore.StepLemmas.{found_valid}
+use Rattle.port_ops.proofs.PortCore.StepLemmas.{found_valid, word_there}
 use Rattle.port_seq.specs.Kept.{told_is_port}
 use Rattle.port_seq.specs.Ports.{told}
 use Rattle.port_seq.specs.Rule.{IsMade}
@@ -22,6 +23,12 @@ index-requires c =
     let each = each_local port.opened.guest port.opened.number port.seat.me.0 port.locals.items port.own in
     let there = port.there in
     search rules
+
+pub place_of_word-place-requires-clause-there : goal.place_of_word-place-requires-clause-there
+place_of_word-place-requires-clause-there c =
+    let port = c.args.self.now in
+    let shape = port.opened.guest.shape in
+    subst (λ word. IsTrue (has_word shape word)) (sym c.word.ensures) (word_there shape port.actor c.args.step port.good.shape c.requires.can)
 
 pub operation-atomic-requires-clause-local : goal.operation-atomic-requires-clause-local
 operation-atomic-requires-clause-local c =
