@@ -1,2 +1,2 @@
-pub use Rattle.port_seq.proofs.PortCore.SameLemmas
+pub mod SameLemmas
 pub mod RestLemmas

@@ -1,2 +1,2 @@
-pub use Rattle.port_table.proofs.PortCore.SameLemmas
+pub mod SameLemmas
 pub mod RowLemmas
