@@ -1,8 +1,9 @@
 //! The moves of an interrupt to an interface, at it, and from it.
 ghost use Rattle.std.specs.Prelude.{◌≡◌, ◌<◌, ◌++◌, ◌∷◌, [], IfOk, OnOk, OnErr, IsTrue, is_some, List};
-ghost use Rattle.floor_histories.specs.Words.{has_interrupt, IsRecordOf};
+ghost use Rattle.floor_histories.specs.Words.{has_interrupt};
 ghost use Rattle.floor_histories.specs.Histories.{moved_at, with_irq, with_standing, Standing as Stands, after_reach, after_take, after_leave, with_entry, without};
 ghost use Rattle.std.specs.List.{list_all};
+ghost use Rattle.floor_histories.specs.Words.{IsRecordOf};
 ghost use Rattle.history_check.specs.Ready.{fits, IsReady};
 
 use crate::standing::Standing;

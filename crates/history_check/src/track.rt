@@ -14,7 +14,7 @@ pub struct Turn {
 }
 
 impl Model for Turn {
-    ghost use Rattle.floor_histories.specs.Histories.{Turn, Doing, Changes, Track};
+    ghost use Rattle.floor_histories.specs.Histories.{Turn};
 
     ghost Value = { Turn };
 
@@ -30,6 +30,8 @@ pub struct Doing {
 }
 
 impl Model for Doing {
+    ghost use Rattle.floor_histories.specs.Histories.{Doing};
+
     ghost Value = { Doing };
 
     ghost view = { λ d. record { operation = d.operation; number = d.number; done = d.done } };
@@ -43,6 +45,8 @@ pub struct Changes {
 }
 
 impl Model for Changes {
+    ghost use Rattle.floor_histories.specs.Histories.{Changes};
+
     ghost Value = { Changes };
 
     ghost view = { λ c. record { last = c.last; since = c.since } };
@@ -74,6 +78,8 @@ pub struct Track {
 }
 
 impl Model for Track {
+    ghost use Rattle.floor_histories.specs.Histories.{Track};
+
     ghost Value = { Track };
 
     ghost view = { λ t. record { doings = t.doings; changes = t.changes; leaving = t.leaving } };
