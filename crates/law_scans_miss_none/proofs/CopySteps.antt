@@ -3,9 +3,9 @@ use Rattle.std.proofs.Common.{◌≡◌, ◌≢◌, ℕ, ◌<◌, ◌==◌, ◌&
 use Rattle.std.proofs.lemmas.Bool.{lt-ltb}
 use Rattle.law_registers_stand.specs.Words.{IccReg, GuestShape, IsShape}
 use Rattle.law_registers_stand.specs.Histories.{Ideal}
-use Rattle.law_registers_stand.specs.Registers.{Maps}
+use Rattle.law_registers_stand.specs.Registers.{CpuRec, Maps}
 use Rattle.law_registers_stand.specs.Calls.{GuestSpec, IsGoodGuest}
-use Rattle.law_registers_stand.specs.Core.{Local, Folding, CoreStep, Look, Raise, Claim, GiveBack, Release, Poll, Kick, Touch, Want, WireUp, WireDown, EnableLpis, RamLook, RamPut, CtlrTake, CtlrEnd, TurnTake, CommandDone, TurnRelease, Mark, TakeIndex, Vcpu, local_after, accessed, shown, vcpu_of, CoreState, opening, seat_at, word_in, word_of, after_moment, Act, begins, makes, ends, Progress, opening_progress, progressed}
+use Rattle.law_registers_stand.specs.Core.{Local, Folding, CoreStep, Look, Poll, Kick, EnableLpis, Vcpu, local_after, accessed, shown, vcpu_of, CoreState, opening, seat_at, word_in, word_of, after_moment, Act, begins, makes, ends, Progress, opening_progress, progressed}
 use Rattle.law_registers_stand.proofs.PortCore.OpeningLemmas.{word_opens}
 use Rattle.law_registers_stand.specs.LawCoreIsHistory.Related.{is_folding}
 use Rattle.law_registers_stand.proofs.LawCoreIsHistory.CpuLemmas.{same_lpis}
@@ -14,7 +14,7 @@ use Rattle.law_scans_miss_none.specs.Copies.{CopiesAreCurrent}
 use Rattle.law_registers_stand.specs.Followed.{Followed, opening_followed}
 use Rattle.law_registers_stand.specs.Asks.{IsUnkicked}
 use Rattle.law_registers_stand.proofs.LawCoreIsHistory.AfterLemmas.{later, word_cases, left_in}
-use Rattle.law_scans_miss_none.proofs.CalmSteps.{no_poll_by, copy_kept, OwnCalm, scans, accesses, goes_on, own_calm}
+use Rattle.law_scans_miss_none.proofs.CalmSteps.{no_poll_by, cpu_kept, OwnCalm, scans, accesses, goes_on, own_calm}
 use Rattle.law_scans_miss_none.proofs.Frame.{follow, IsAt, IsActing, is_step, IsKeptBy, runs_keep}
 use Rattle.law_scans_miss_none.proofs.ProgressLemmas.{local_on}
 use Rattle.law_registers_stand.proofs.LawCoreIsHistory.KickSteps.{is_poll_by, unkicked_before}
@@ -26,23 +26,7 @@ module _ {shape : GuestShape} {state : CoreState} {ideal : Ideal} {actor found l
   lpis_left (Poll reg write) is vcpu on own free = ap (λ n. (vcpu_of n).lpis) is.takes.left ∙ lpis_back (record (vcpu_of found) { kick = false })
   lpis_left (Kick other) is vcpu on own free = ap (λ n. (vcpu_of n).lpis) is.takes.left ∙ lpis_back (record (vcpu_of found) { kick = true })
   lpis_left (EnableLpis other) is vcpu on own free = absurd (true≢false (sym (ap (λ n. (vcpu_of n).kick) is.takes.left ∙ refl) ∙ free))
-  lpis_left (Raise key) is vcpu on own free = absurd (cc)
-  lpis_left (Claim key seen) is vcpu on own free = absurd (cc)
-  lpis_left (GiveBack key back) is vcpu on own free = absurd (cc)
-  lpis_left (Release key) is vcpu on own free = absurd (cc)
-  lpis_left (Touch key seen kind) is vcpu on own free = absurd (cc)
-  lpis_left (Want key) is vcpu on own free = absurd (cc)
-  lpis_left (WireUp key) is vcpu on own free = absurd (cc)
-  lpis_left (WireDown key) is vcpu on own free = absurd (cc)
-  lpis_left (RamLook index) is vcpu on own free = absurd (cc)
-  lpis_left (RamPut index seen value) is vcpu on own free = absurd (cc)
-  lpis_left (CtlrTake seen value) is vcpu on own free = absurd (cc)
-  lpis_left CtlrEnd is vcpu on own free = absurd (cc)
-  lpis_left (TurnTake seen) is vcpu on own free = absurd (cc)
-  lpis_left (CommandDone offset stalled ending) is vcpu on own free = absurd (cc)
-  lpis_left TurnRelease is vcpu on own free = absurd (cc)
-  lpis_left (Mark key other) is vcpu on own free = absurd (cc)
-  lpis_left (TakeIndex word) is vcpu on own free = absurd (cc)
+  lpis_left step is vcpu on own free = absurd (cc)
 
 module _ {shape : GuestShape} {state : CoreState} {ideal : Ideal} {actor : ℕ} {step : CoreStep} {found left : ℕ} {tables : Option Maps} (is : IsStep shape state ideal actor step found left tables) (vcpu : ℕ) (within : vcpu < shape.vcpus) where
   lpis_word : is_poll_by vcpu actor step ≡ false → IsUnkicked shape (later is) vcpu → (vcpu_of (word_in shape (later is) (Vcpu vcpu))).lpis ≡ (vcpu_of (word_in shape state (Vcpu vcpu))).lpis
@@ -74,7 +58,7 @@ module _ {shape : GuestShape} {state : CoreState} {ideal : Ideal} {vcpu found le
           ∙ copied calm.unkicked calm.stays
           ∙ sym (own_word (Some reg) write e ∙ ap (λ n. (vcpu_of n).lpis) (is.takes.found ∙ ap (word_in shape state) (ap (word_of shape vcpu) e)))
       of (goes_on no_poll calm) =
-          (copy_kept shape vcpu local step found no_poll).lpis ∙ copied calm.unkicked calm.stays ∙ sym (lpis_word is vcpu within (ap (λ b. b && vcpu == vcpu) no_poll) free)
+          ap (λ (c : CpuRec). c.lpis) (cpu_kept shape vcpu local step found no_poll).cpu ∙ copied calm.unkicked calm.stays ∙ sym (lpis_word is vcpu within (ap (λ b. b && vcpu == vcpu) no_poll) free)
 
 abbrev Copied : GuestShape → ℕ → CoreState → Followed → Progress → Type 0
 Copied shape vcpu state at p = IsUnkicked shape state vcpu → is_folding p.local.phase ≡ false → p.local.cpu.lpis ≡ (vcpu_of (word_in shape state (Vcpu vcpu))).lpis

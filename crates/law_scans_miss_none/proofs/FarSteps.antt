@@ -1,15 +1,15 @@
 -- An interrupt that a vCPU ends from afar is as its look found it, but for what the vCPU is still to be told, at every moment of every proper run.
-use Rattle.std.proofs.Common.{◌≡◌, ◌≢◌, ℕ, ◌<◌, ◌==◌, ◌&&◌, ◌||◌, inl, inr, true≢false, not, Bool, true, false, IsTrue, Option, Some, None, is_none, unwrap_or, if◌then◌else◌, refl, sym, ap, ◌∙◌, subst}
+use Rattle.std.proofs.Common.{◌≡◌, ◌≢◌, ℕ, ◌<◌, ◌&&◌, ◌||◌, inl, inr, true≢false, not, Bool, true, false, IsTrue, Option, Some, None, is_none, unwrap_or, if◌then◌else◌, refl, sym, ap, ◌∙◌, subst}
 use Rattle.std.specs.List.{list_all}
 use Rattle.std.specs.Option.{option_map_or}
-use Rattle.std.proofs.lemmas.Bool.{and_parts, eq-eqb}
+use Rattle.std.proofs.lemmas.Bool.{and_parts, eq-eqb, not-false, or_parts, or_right}
 use Rattle.std.proofs.lemmas.Option.{none-some}
-use Rattle.law_registers_stand.specs.Words.{Key, Icc, Mem, GuestShape, has_interrupt, is_same_key, IsShape, Irq as IrqRecord, is_number, is_ripe, irq_of}
+use Rattle.law_registers_stand.specs.Words.{Key, Icc, GuestShape, has_interrupt, is_same_key, IsShape, Irq as IrqRecord, is_number, is_ripe, irq_of}
 use Rattle.law_registers_stand.proofs.GicBase.KeyLemmas.{same_key}
-use Rattle.law_registers_stand.specs.Calls.{Operation, Access, Device, Residence}
+use Rattle.law_registers_stand.specs.Calls.{Operation, Access}
 use Rattle.law_registers_stand.specs.Histories.{Track, Ideal}
 use Rattle.law_registers_stand.specs.Registers.{Maps}
-use Rattle.law_registers_stand.specs.Core.{AtIrq, Local, Made, CoreStep, Look, Raise, Claim, GiveBack, Release, Poll, Kick, Touch, Want, WireUp, WireDown, EnableLpis, RamLook, RamPut, CtlrTake, CtlrEnd, TurnTake, CommandDone, TurnRelease, Mark, TakeIndex, Irq, Vcpu, Queue, Ctlr, Plain, Index, succeeds, vcpu_of, CoreState, seat_at, word_in, word_of, after_moment, Act, begins, makes, ends, Progress, after_claim, after_poll, begun, ended_by, is_end_of, progressed, IsProperStep, is_empty, Scan, idle, taking, looking, claiming, is_idle, scan_allows}
+use Rattle.law_registers_stand.specs.Core.{AtIrq, Local, Made, CoreStep, Look, Claim, Release, Poll, Kick, Irq, succeeds, vcpu_of, CoreState, seat_at, word_in, word_of, after_moment, Act, begins, makes, ends, Progress, after_claim, after_poll, begun, ended_by, is_end_of, progressed, IsProperStep, is_empty, Scan, idle, claiming, is_idle, scan_allows}
 use Rattle.law_registers_stand.specs.CoreProper.Progress.{changed_by}
 use Rattle.law_registers_stand.specs.LawCoreIsHistory.Related.{is_folding}
 use Rattle.law_registers_stand.proofs.LawCoreIsHistory.StandingLemmas.{passes, not_given}
@@ -20,7 +20,7 @@ use Rattle.law_scans_miss_none.specs.Far.{HasLookedFar, FarEndsAreKnown}
 use Rattle.law_scans_miss_none.specs.Index.{concerns, waits_for}
 use Rattle.law_scans_miss_none.specs.Waiting.{record_in}
 use Rattle.law_registers_stand.proofs.LawCoreIsHistory.AfterLemmas.{later, word_cases, left_in}
-use Rattle.law_scans_miss_none.proofs.CalmSteps.{IsCalm, OwnCalm, scans, accesses, goes_on, no_poll_by, own_calm}
+use Rattle.law_scans_miss_none.proofs.CalmSteps.{IsCalm, OwnCalm, scans, accesses, goes_on, kick_failed, no_poll_by, own_calm}
 use Rattle.law_scans_miss_none.proofs.Frame.{follow, IsAt, IsActing, excused_part, is_step, lasts, IsKeptBy, runs_keep}
 use Rattle.law_scans_miss_none.proofs.ProgressLemmas.{operation_on, local_on, far_on, failure_on}
 use Rattle.law_scans_miss_none.proofs.TellSteps.{tells, claim_held}
@@ -30,18 +30,10 @@ use Rattle.law_scans_miss_none.proofs.WaitingSteps.{last_in, excused_on, excused
 
 -- an interrupt that is active by a vCPU concerns it, and waits for it
 active_waits : (shape : GuestShape) (vcpu : ℕ) (irq : IrqRecord) → irq.act_by ≡ Some vcpu → IsTrue (waits_for shape vcpu irq)
-active_waits shape vcpu irq e = ap (λ c. (is_none irq.act_by && is_ripe irq vcpu shape) || c) (ap (is_number vcpu) e ∙ eq-eqb vcpu vcpu refl) ∙ either (is_none irq.act_by && is_ripe irq vcpu shape)
-  where
-    either : (a : Bool) → (a || true) ≡ true
-    either true = refl
-    either false = refl
+active_waits shape vcpu irq e = or_right (is_none irq.act_by && is_ripe irq vcpu shape) (is_number vcpu irq.act_by) (ap (is_number vcpu) e ∙ eq-eqb vcpu vcpu refl)
 
 active_concerns : (shape : GuestShape) (vcpu : ℕ) (irq : IrqRecord) → irq.act_by ≡ Some vcpu → IsTrue (concerns shape vcpu irq)
-active_concerns shape vcpu irq e = ap (λ c. is_ripe irq vcpu shape || c) (ap (is_number vcpu) e ∙ eq-eqb vcpu vcpu refl) ∙ either (is_ripe irq vcpu shape)
-  where
-    either : (a : Bool) → (a || true) ≡ true
-    either true = refl
-    either false = refl
+active_concerns shape vcpu irq e = or_right (is_ripe irq vcpu shape) (is_number vcpu irq.act_by) (ap (is_number vcpu) e ∙ eq-eqb vcpu vcpu refl)
 
 -- a step leaves an interrupt active by a vCPU and at no interface only where it was so before, or the vCPU is still to be told
 module _ {shape : GuestShape} {state : CoreState} {ideal : Ideal} {actor : ℕ} {step : CoreStep} {found left : ℕ} {tables : Option Maps} (is : IsStep shape state ideal actor step found left tables) (vcpu : ℕ) (within : vcpu < shape.vcpus) (track later_track : Track)
@@ -83,38 +75,16 @@ no_release {state = state} {vcpu = vcpu} (Release key) is within stays h =
     let none = subst (λ b. IsTrue (b || list_all (λ (at : AtIrq). not at.given) (seat_at state vcpu).local.at)) stays says.given in
     let can = is.takes.meets in
     true≢false (sym can.given ∙ not_given can.entry.given (passes (λ (at : AtIrq). not at.given) key (seat_at state vcpu).local.at can.entry none can.at))
-no_release (Look word) is within stays h = true≢false (sym h)
-no_release (Raise key) is within stays h = true≢false (sym h)
-no_release (Claim key seen) is within stays h = true≢false (sym h)
-no_release (GiveBack key back) is within stays h = true≢false (sym h)
-no_release (Poll reg write) is within stays h = true≢false (sym h)
-no_release (Kick v) is within stays h = true≢false (sym h)
-no_release (Touch key seen kind) is within stays h = true≢false (sym h)
-no_release (Want key) is within stays h = true≢false (sym h)
-no_release (WireUp key) is within stays h = true≢false (sym h)
-no_release (WireDown key) is within stays h = true≢false (sym h)
-no_release (EnableLpis v) is within stays h = true≢false (sym h)
-no_release (RamLook index) is within stays h = true≢false (sym h)
-no_release (RamPut index seen value) is within stays h = true≢false (sym h)
-no_release (CtlrTake seen value) is within stays h = true≢false (sym h)
-no_release CtlrEnd is within stays h = true≢false (sym h)
-no_release (TurnTake seen) is within stays h = true≢false (sym h)
-no_release (CommandDone offset stalled ending) is within stays h = true≢false (sym h)
-no_release TurnRelease is within stays h = true≢false (sym h)
-no_release (Mark key v) is within stays h = true≢false (sym h)
-no_release (TakeIndex word) is within stays h = true≢false (sym h)
+no_release step is within stays h = true≢false (sym h)
 
 -- a call ends one interrupt at most
 one_end : (shape : GuestShape) (vcpu : ℕ) (operation : Option Operation) (j k : Key) → IsTrue (is_end_of shape vcpu operation j) → IsTrue (is_end_of shape vcpu operation k) → j ≡ k
-one_end shape vcpu None j k h g = absurd (true≢false (sym h))
 one_end shape vcpu (Some (Access (Icc reg write))) j k h g = of (ended_by shape vcpu reg write) h g
   where
     of : (o : Option Key) → IsTrue (option_map_or (is_same_key j) o false) → IsTrue (option_map_or (is_same_key k) o false) → j ≡ k
     of None h g = absurd (true≢false (sym h))
     of (Some key) h g = same_key j key h ∙ sym (same_key k key g)
-one_end shape vcpu (Some (Access (Mem frame offset size write))) j k h g = absurd (true≢false (sym h))
-one_end shape vcpu (Some (Device op)) j k h g = absurd (true≢false (sym h))
-one_end shape vcpu (Some Residence) j k h g = absurd (true≢false (sym h))
+one_end shape vcpu operation j k h g = absurd (true≢false (sym h))
 
 abbrev Known : GuestShape → ℕ → CoreState → Followed → Progress → Type 0
 Known shape vcpu state at p =
@@ -162,58 +132,23 @@ module _ {shape : GuestShape} {state : CoreState} {ideal : Ideal} {vcpu found le
       done : Bool
       done = succeeds shape vcpu p.local (Claim k seen) found
 
-      succeeded : (a b : Bool) → (a || not b) ≡ false → b ≡ true
-      succeeded true b h = absurd (true≢false h)
-      succeeded false true h = refl
-      succeeded false false h = absurd (true≢false h)
-
-      before : (a b : Bool) → (a || b) ≡ false → a ≡ false
-      before true b h = absurd (true≢false h)
-      before false b h = refl
-
       of : (scan : Scan) → p.scan ≡ scan → IsTrue (scan_allows shape vcpu p.local scan (Claim k seen)) → (after_claim k (irq_of found) done scan p).failed ≡ false → (after_claim k (irq_of found) done scan p).far ≡ Some false → LookedBefore p
-      of (taking purpose words) e allowed failed far = absurd (true≢false (sym allowed))
-      of (looking purpose from offers) e allowed failed far = absurd (true≢false (sym allowed))
-      of (claiming claims takes) e allowed failed far = record { failed = before p.failed (not done) failed; far = far }
+      of (claiming claims takes) e allowed failed far = record { failed = (or_parts p.failed (not done) failed).0; far = far }
       of idle e allowed failed far =
           let bare = subst (λ b. IsTrue (not b || (unwrap_or p.far false && is_end_of shape vcpu p.operation k && is_empty p.local.at))) (ap is_idle e) proper.far in
           let named = (and_parts (unwrap_or p.far false) (is_end_of shape vcpu p.operation k) (and_parts (unwrap_or p.far false && is_end_of shape vcpu p.operation k) (is_empty p.local.at) bare).0).1 in
           let same : k ≡ key = one_end shape vcpu p.operation k key named ends_it in
-          let ok : succeeds shape vcpu (seat_at state vcpu).local (Claim k seen) found ≡ true = ap (λ l. succeeds shape vcpu l (Claim k seen) found) (sym mine) ∙ succeeded p.failed done failed in
+          let ok : succeeds shape vcpu (seat_at state vcpu).local (Claim k seen) found ≡ true = ap (λ l. succeeds shape vcpu l (Claim k seen) found) (sym mine) ∙ not-false done (or_parts p.failed (not done) failed).1 in
           absurd (none-some vcpu (sym home ∙ ap (λ j. (irq_of (word_in shape (later is) (Irq j))).holder) (sym same) ∙ ap (λ n. (irq_of n).holder) (left_in is) ∙ claim_held k seen is ok))
+      of scan e allowed failed far = absurd (true≢false (sym allowed))
   looked_before (Poll None write) is proper no_kick failed far home active = absurd (scanned p far)
   looked_before (Poll (Some reg) write) is proper no_kick failed far home active = of (vcpu_of found).kick far
     where
       of : (b : Bool) → (after_poll (Some reg) write b p).far ≡ Some false → LookedBefore p
       of true h = absurd (cc)
       of false h = absurd (cc)
-  looked_before (Kick other) is proper no_kick failed far home active = record { failed = same p.failed failed; far = far }
-    where
-      same : (b : Bool) → (b && not (other == vcpu)) ≡ false → b ≡ false
-      same true h = absurd (true≢false (sym (ap not no_kick) ∙ h))
-      same false h = refl
-  looked_before (Look (Vcpu v)) is proper no_kick failed far home active = record { failed = failed; far = far }
-  looked_before (Look Queue) is proper no_kick failed far home active = record { failed = failed; far = far }
-  looked_before (Look Ctlr) is proper no_kick failed far home active = record { failed = failed; far = far }
-  looked_before (Look (Plain i)) is proper no_kick failed far home active = record { failed = failed; far = far }
-  looked_before (Look (Index v n)) is proper no_kick failed far home active = record { failed = failed; far = far }
-  looked_before (Raise k) is proper no_kick failed far home active = record { failed = failed; far = far }
-  looked_before (GiveBack k back) is proper no_kick failed far home active = record { failed = failed; far = far }
-  looked_before (Release k) is proper no_kick failed far home active = record { failed = failed; far = far }
-  looked_before (Touch k seen kind) is proper no_kick failed far home active = record { failed = failed; far = far }
-  looked_before (Want k) is proper no_kick failed far home active = record { failed = failed; far = far }
-  looked_before (WireUp k) is proper no_kick failed far home active = record { failed = failed; far = far }
-  looked_before (WireDown k) is proper no_kick failed far home active = record { failed = failed; far = far }
-  looked_before (EnableLpis v) is proper no_kick failed far home active = record { failed = failed; far = far }
-  looked_before (RamLook index) is proper no_kick failed far home active = record { failed = failed; far = far }
-  looked_before (RamPut index seen value) is proper no_kick failed far home active = record { failed = failed; far = far }
-  looked_before (CtlrTake seen value) is proper no_kick failed far home active = record { failed = failed; far = far }
-  looked_before CtlrEnd is proper no_kick failed far home active = record { failed = failed; far = far }
-  looked_before (TurnTake seen) is proper no_kick failed far home active = record { failed = failed; far = far }
-  looked_before (CommandDone offset stalled ending) is proper no_kick failed far home active = record { failed = failed; far = far }
-  looked_before TurnRelease is proper no_kick failed far home active = record { failed = failed; far = far }
-  looked_before (Mark k v) is proper no_kick failed far home active = record { failed = failed; far = far }
-  looked_before (TakeIndex word) is proper no_kick failed far home active = record { failed = failed; far = far }
+  looked_before (Kick other) is proper no_kick failed far home active = record { failed = kick_failed p.failed other vcpu no_kick failed; far = far }
+  looked_before step is proper no_kick failed far home active = record { failed = failed; far = far }
 
 module _ (shape : GuestShape) (good : IsShape shape) (vcpu : ℕ) (within : vcpu < shape.vcpus) where
   kept : IsKeptBy shape vcpu (Known shape vcpu)

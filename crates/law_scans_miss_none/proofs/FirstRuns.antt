@@ -5,10 +5,10 @@ use Rattle.std.proofs.lemmas.Bool.{and_parts, lt-ltb, leb-true}
 use Rattle.std.proofs.lemmas.List.Folds.{Any-from_list_any}
 use Rattle.law_registers_stand.specs.Words.{Key, GuestShape, Irq as IrqRecord}
 use Rattle.law_registers_stand.specs.Histories.{Track}
-use Rattle.law_registers_stand.specs.Lists.{listed_of, is_pending, is_pending_state, LrState, Invalid, Pending, Active, Both, state_has_pending, state_has_active, unpacked}
+use Rattle.law_registers_stand.specs.Lists.{listed_of, is_pending, is_pending_state, LrState, Pending, state_has_pending, state_has_active, unpacked}
 use Rattle.law_registers_stand.specs.Registers.{first_of, is_before, is_deliverable, candidates_at}
 use Rattle.law_registers_stand.specs.Calls.{GuestSpec, IsGoodGuest}
-use Rattle.law_registers_stand.specs.Core.{Local, Made, actor_count, local_after, interface_of, is_ready, CoreState, opening, seat_at, after, IsLocal, after_moment, end_of_moments, IsSeatOf, Act, begins, makes, ends, CoreMoment, entry_by, has_registers, Progress, opening_progress, is_paid, progressed, progress_in, stepped, IsProperStep, IsProperRun, RegistersAgree, planned, trapped, bare, Scan, idle, taking, looking, claiming}
+use Rattle.law_registers_stand.specs.Core.{Local, Made, actor_count, local_after, interface_of, is_ready, CoreState, opening, seat_at, after, IsLocal, after_moment, end_of_moments, IsSeatOf, Act, begins, makes, ends, CoreMoment, entry_by, has_registers, Progress, opening_progress, is_paid, progressed, progress_in, stepped, IsProperStep, IsProperRun, RegistersAgree, Scan, idle, taking, looking, claiming}
 use Rattle.law_registers_stand.proofs.PortCore.StepLemmas.{steps_sound}
 use Rattle.law_registers_stand.proofs.CoreProper.ScanLemmas.{failed_on, debt_on}
 use Rattle.law_registers_stand.proofs.LawCoreIsHistory.AfterLemmas.{later, local_mine}
@@ -31,7 +31,7 @@ use Rattle.law_scans_miss_none.proofs.Frame.{runs_keep, follow, IsAt, is_part, e
 use Rattle.law_scans_miss_none.proofs.LeftAccess.{Now, made_leaves, made_began}
 use Rattle.law_scans_miss_none.proofs.LeftLemmas.{as_candidate, IsBounded, HasPending, IsLater}
 use Rattle.law_scans_miss_none.proofs.LeftMade.{LeavesIf}
-use Rattle.law_scans_miss_none.proofs.LeftRuns.{Bounds, Leaves, BeganWith, leaves_on, began_on}
+use Rattle.law_scans_miss_none.proofs.LeftRuns.{Bounds, Leaves, BeganWith, began_like, leaves_on, began_on}
 use Rattle.law_scans_miss_none.proofs.LeftSteps.{DueBefore, bounded_on}
 use Rattle.law_scans_miss_none.proofs.RunFrame.{IsNextOf, IsKeptAlong, runs_along}
 use Rattle.law_scans_miss_none.proofs.ScanRuns.{scans_overlook_none}
@@ -60,16 +60,6 @@ leaves_due shape state later_state track later_track vcpu p q scan local regs tr
     of (taking purpose words) h = tt
     of (looking purpose from offers) h = tt
     of (claiming claims takes) h = bounds h
-
-began_like : (p q : Progress) (scan : Scan) → q.scanned ≡ p.scanned → BeganWith p scan → BeganWith q scan
-began_like p q idle same h = tt
-began_like p q (taking planned words) same h = same ∙ h
-began_like p q (taking trapped words) same h = tt
-began_like p q (taking bare words) same h = tt
-began_like p q (looking planned from offers) same h = same ∙ h
-began_like p q (looking trapped from offers) same h = tt
-began_like p q (looking bare from offers) same h = tt
-began_like p q (claiming claims takes) same h = tt
 
 module _ (guest : GuestSpec) (number vcpu : ℕ) (good : IsGoodGuest guest) (within : vcpu < guest.shape.vcpus) where
   abbrev shape : GuestShape
@@ -224,10 +214,8 @@ module _ (guest : GuestSpec) (number vcpu : ℕ) (good : IsGoodGuest guest) (wit
         record { word = some.1; among = (some.0, some.2, some.3); pending = state.0; inactive = state.1 }
       where
         pending_state : (state : LrState) → is_pending_state state ≡ true → (state_has_pending state ≡ true) × (state_has_active state ≡ false)
-        pending_state Invalid e = absurd (true≢false (sym e))
         pending_state Pending e = (refl, refl)
-        pending_state Active e = absurd (true≢false (sym e))
-        pending_state Both e = absurd (true≢false (sym e))
+        pending_state state e = absurd (true≢false (sym e))
 
     at_end : IsAt shape (StateOf moments) (followed_in guest number moments) (ProgressOf moments)
     at_end = (runs_keep guest number vcpu (λ state at p. Unit {0}) good (record { other = λ state at progress actor act apart here acts h. tt; own = λ state at progress act here acts h. tt }) tt moments proper_run).at

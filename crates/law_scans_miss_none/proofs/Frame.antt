@@ -6,13 +6,13 @@ use Rattle.std.proofs.lemmas.List.{length-set, length-replicate, get_or-replicat
 use Rattle.std.proofs.lemmas.List.Elements.{All-head, All-tail}
 use Rattle.std.proofs.lemmas.List.Sums.{fold-append}
 use Rattle.law_registers_stand.specs.Words.{Key, GuestShape, has_interrupt, interrupt_count, is_same_key, place_of, IsShape, has_bit}
-use Rattle.law_registers_stand.specs.Calls.{Event, Up, Down, Enable, Touch as TouchEvent, Reach, Take, Leave, Cpu, Put, CtlrBegin, CtlrEnd as CtlrEndEvent, ItsBegin, Operation, Happened, GuestSpec, IsGoodGuest, plain_at}
-use Rattle.law_registers_stand.specs.GicCall.declared.event.Event.TheVariants.{Raise as RaiseEvent, Read, ItsEnd, Queue as QueueEvent}
+use Rattle.law_registers_stand.specs.Calls.{Event, Reach, Take, Cpu, Put, Operation, Happened, GuestSpec, IsGoodGuest, plain_at}
+use Rattle.law_registers_stand.specs.GicCall.declared.event.Event.TheVariants.{Read, Queue as QueueEvent}
 use Rattle.law_registers_stand.specs.GicCall.declared.event.Found.TheVariants.{Answer, Word as FoundWord}
 use Rattle.law_registers_stand.specs.GicCall.declared.event.Place.TheVariants.{Word}
 use Rattle.law_registers_stand.specs.Registers.{interface_answer}
 use Rattle.law_registers_stand.specs.Histories.{Turn, Doing, Changes, opening_track, changed_by, doing_of, changes_of, with_doing}
-use Rattle.law_registers_stand.specs.Core.{Local, Made, CoreStep, Look, Raise, Claim, GiveBack, Release, Poll, Kick, Touch, Want, WireUp, WireDown, EnableLpis, RamLook, RamPut, CtlrTake, CtlrEnd, TurnTake, CommandDone, TurnRelease, Mark, TakeIndex, actor_count, Irq, Vcpu, Queue, Ctlr, Plain, Index, Meets, fault_place, succeeds, vcpu_of, interface_of, is_at, owes_no_kick, owes_no_mark, has_no_cand, CoreState, Seat, opening, seat_at, after, IsRun, IsSound, silent, with_found, event_done, after_moment, end_of_moments, event_moments, ideal_moments, ideal_of, IsSeatOf, Act, begins, makes, ends, CoreMoment, own_acts, entries_of, entry_by, are_parts, has_registers, Progress, opening_progress, progressed, progress_of, progress_in, stepped, IsProper, IsProperAct, IsProperRun, is_settled}
+use Rattle.law_registers_stand.specs.Core.{Local, Made, CoreStep, Look, Claim, Poll, RamLook, RamPut, CommandDone, actor_count, Irq, Meets, fault_place, succeeds, vcpu_of, interface_of, is_at, owes_no_kick, owes_no_mark, has_no_cand, CoreState, Seat, opening, seat_at, after, IsRun, IsSound, silent, event_done, after_moment, end_of_moments, event_moments, ideal_moments, ideal_of, IsSeatOf, Act, begins, makes, ends, CoreMoment, own_acts, entries_of, entry_by, are_parts, has_registers, Progress, opening_progress, progressed, progress_of, progress_in, stepped, IsProper, IsProperAct, IsProperRun, is_settled}
 use Rattle.law_registers_stand.proofs.PortCore.OpeningLemmas.{opens_sound, seat_opens}
 use Rattle.law_registers_stand.proofs.PortCore.StepLemmas.{steps_sound}
 use Rattle.law_registers_stand.proofs.PortCore.StepLocals.{no_bit}
@@ -101,22 +101,8 @@ changing_goes_on None key h = refl
 changing_goes_on (Some one) key h = of one.event h
   where
     of : (e : Event) → option_map_or (is_same_key key) (changed_by e) false ≡ true → is_queue e ≡ false
-    of (Leave k vcpu) h = refl
-    of (RaiseEvent k) h = refl
-    of (Up k) h = refl
-    of (Down k) h = refl
-    of (Enable vcpu) h = refl
-    of (TouchEvent k touching) h = refl
-    of (Reach k vcpu) h = refl
-    of (Take k vcpu) h = refl
-    of (Cpu vcpu reg write) h = refl
-    of (Read place) h = refl
-    of (Put word value) h = refl
-    of (CtlrBegin enables) h = refl
-    of CtlrEndEvent h = refl
-    of ItsBegin h = refl
-    of ItsEnd h = refl
     of (QueueEvent offset change) h = absurd (true≢false (sym h))
+    of e h = refl
 
 module _ (shape : GuestShape) (good : IsShape shape) (state : CoreState) (at : Followed) (progress : ℕ → Progress) (actor : ℕ) (made : Made) (here : IsAt shape state at progress) (acts : IsActing shape state progress actor (makes made)) where
   pub is_step : IsStep shape state at.ideal actor made.step made.found made.left made.tables
@@ -151,42 +137,22 @@ module _ (shape : GuestShape) (good : IsShape shape) (state : CoreState) (at : F
       never : {b : Bool} {T : Type 0} → b ≡ false → b ≡ true → T
       never {b} e h = absurd (true≢false (sym h ∙ e))
 
-      either : (b : Bool) (x y : Option Happened) → ends_command x ≡ false → ends_command y ≡ false → ends_command (if b then x else y) ≡ false
-      either true x y e f = e
-      either false x y e f = f
+      unless : (b : Bool) (one : Happened) → is_queue one.event ≡ false → ends_command (if b then None else Some one) ≡ false
+      unless true one e = refl
+      unless false one e = e
+
+      claim_of : (b : Bool) (k : Key) → ends_command (silent (if b then Take k actor else Reach k actor)) ≡ false
+      claim_of true k = refl
+      claim_of false k = refl
 
       done : (s : CoreStep) → Meets shape actor local own s → ends_command (event_done shape actor local own s found) ≡ true → IsTrue (owes_no_kick local)
       done (CommandDone offset stalled ending) meets h = meets.kicks
+      done (Claim k seen) meets h = never (claim_of (is_at k local.at) k) h
+      done (Poll (Some reg) write) meets h = never (unless (vcpu_of found).kick (record { event = Cpu actor reg write; found = Answer (interface_answer reg write (interface_of local)) }) refl) h
+      done (RamLook i) meets h = never (unless (i == fault_place shape) (record { event = Read (Word (plain_at shape i)); found = FoundWord found }) refl) h
+      done (RamPut i seen value) meets h = never (unless (i == fault_place shape) (record { event = Put (plain_at shape i) value; found = FoundWord found }) refl) h
       done (Look (Irq k)) meets h = never refl h
-      done (Look (Vcpu v)) meets h = never refl h
-      done (Look Queue) meets h = never refl h
-      done (Look Ctlr) meets h = never refl h
-      done (Look (Plain i)) meets h = never refl h
-      done (Look (Index v n)) meets h = never refl h
-      done (Raise k) meets h = never refl h
-      done (Claim k seen) meets h = never (either (is_at k local.at) (silent (Take k actor)) (silent (Reach k actor)) refl refl ∙ refl) (claim_same (is_at k local.at) k ∙ h)
-        where
-          claim_same : (b : Bool) (k : Key) → ends_command (if b then silent (Take k actor) else silent (Reach k actor)) ≡ ends_command (silent (if b then Take k actor else Reach k actor))
-          claim_same true k = refl
-          claim_same false k = refl
-      done (GiveBack k back) meets h = never refl h
-      done (Release k) meets h = never refl h
-      done (Poll None write) meets h = never refl h
-      done (Poll (Some reg) write) meets h = never (either (vcpu_of found).kick None (with_found (Cpu actor reg write) (Answer (interface_answer reg write (interface_of local)))) refl refl) h
-      done (Kick v) meets h = never refl h
-      done (Touch k seen kind) meets h = never refl h
-      done (Want k) meets h = never refl h
-      done (WireUp k) meets h = never refl h
-      done (WireDown k) meets h = never refl h
-      done (EnableLpis v) meets h = never refl h
-      done (RamLook i) meets h = never (either (i == fault_place shape) None (with_found (Read (Word (plain_at shape i))) (FoundWord found)) refl refl) h
-      done (RamPut i seen value) meets h = never (either (i == fault_place shape) None (with_found (Put (plain_at shape i) value) (FoundWord found)) refl refl) h
-      done (CtlrTake seen value) meets h = never refl h
-      done CtlrEnd meets h = never refl h
-      done (TurnTake seen) meets h = never refl h
-      done TurnRelease meets h = never refl h
-      done (Mark k v) meets h = never refl h
-      done (TakeIndex w) meets h = never refl h
+      done s meets h = never refl h
 
       of : (b : Bool) → ends_command (if b then event_done shape actor local own made.step found else None) ≡ true → IsTrue (owes_no_kick local)
       of true h = done made.step acts.run.0.meets h

@@ -1,16 +1,12 @@
 -- What a step does to an interrupt that stands at a vCPU's interface after it.
-use Rattle.std.proofs.Common.{◌≡◌, ◌≢◌, ℕ, ◌==◌, inl, inr, Bool, true, false, IsTrue, [], Option, Some, None, is_none, if◌then◌else◌, refl, sym, ap, ◌∙◌, subst}
-use Rattle.std.specs.Option.{option_and_then}
+use Rattle.std.proofs.Common.{◌≡◌, ℕ, ◌==◌, inl, inr, Bool, true, false, IsTrue, [], Option, Some, None, is_none, if◌then◌else◌, refl, sym, ap, ◌∙◌, subst}
 use Rattle.std.proofs.lemmas.Bool.{and_parts}
-use Rattle.law_registers_stand.specs.Words.{IccReg, Key, GuestShape, has_interrupt, is_same_key, has_bit, Irq as IrqRecord, irq_of}
+use Rattle.law_registers_stand.specs.Words.{Key, GuestShape, has_interrupt, is_same_key, has_bit, Irq as IrqRecord, irq_of}
 use Rattle.law_registers_stand.proofs.GicBase.KeyLemmas.{same_itself}
-use Rattle.law_registers_stand.specs.Calls.{Event, Cpu, Reach, Take, Put, Found, Happened, plain_at}
-use Rattle.law_registers_stand.specs.GicCall.declared.event.Event.TheVariants.{Read}
-use Rattle.law_registers_stand.specs.GicCall.declared.event.Found.TheVariants.{Answer, Word as FoundWord}
-use Rattle.law_registers_stand.specs.GicCall.declared.event.Place.TheVariants.{Word}
+use Rattle.law_registers_stand.specs.Calls.{Reach, Take, Happened}
 use Rattle.law_registers_stand.specs.Histories.{Ideal}
-use Rattle.law_registers_stand.specs.Registers.{interface_answer, Maps}
-use Rattle.law_registers_stand.specs.Core.{Local, CoreStep, Look, Raise, Claim, GiveBack, Release, Poll, Kick, Touch, Want, WireUp, WireDown, EnableLpis, RamLook, RamPut, CtlrTake, CtlrEnd, TurnTake, CommandDone, TurnRelease, Mark, TakeIndex, WordId, Irq, Vcpu, Queue, Ctlr, Plain, Index, local_after, concerned, holder_or_active, interface_of, target_of, fault_place, succeeds, vcpu_of, is_at, with_all, with_some, CoreState, seat_at, word_in, silent, with_found, look_event, poll_event, event_done, stands_for, word_of}
+use Rattle.law_registers_stand.specs.Registers.{Maps}
+use Rattle.law_registers_stand.specs.Core.{Local, CoreStep, Look, Raise, Claim, GiveBack, Release, Touch, Want, WireUp, WireDown, Irq, local_after, concerned, holder_or_active, target_of, succeeds, is_at, with_all, with_some, CoreState, seat_at, word_in, silent, event_done, stands_for, word_of}
 use Rattle.law_registers_stand.proofs.PortCore.OwnLemmas.{touched_holder}
 use Rattle.law_registers_stand.proofs.PortCore.StepTies.{number_is, none_is}
 use Rattle.law_registers_stand.proofs.LawCoreIsHistory.StepContext.{IsStep, finds}
@@ -18,12 +14,7 @@ use Rattle.law_scans_miss_none.specs.Index.{owes_kick}
 use Rattle.law_scans_miss_none.specs.Waiting.{record_in}
 use Rattle.law_registers_stand.proofs.LawCoreIsHistory.AfterLemmas.{later, word_cases}
 use Rattle.law_scans_miss_none.proofs.TellSteps.{first_has, raised_word, up_word, down_word, claim_held, claim_missed, give_back_word, release_word, touch_word, touch_missed, want_word}
-use Rattle.law_scans_miss_none.proofs.ToldLemmas.{step_changes}
-use Rattle.law_scans_miss_none.proofs.TrackLemmas.{subject}
-
--- the interrupt that a step's event is of, if what the history says of interrupts changes
-abbrev pub event_subject : Option Happened → Option Key
-event_subject one = option_and_then (λ happened. subject happened.event) one
+use Rattle.law_scans_miss_none.proofs.ToldLemmas.{event_subject, step_changes, apart_subject}
 
 module _ {shape : GuestShape} {state : CoreState} {ideal : Ideal} {actor : ℕ} {step : CoreStep} {found left : ℕ} {tables : Option Maps} (is : IsStep shape state ideal actor step found left tables) where
   abbrev pub event : Option Happened
@@ -35,70 +26,6 @@ module _ {shape : GuestShape} {state : CoreState} {ideal : Ideal} {actor : ℕ} 
     stays : (record_in shape state key).holder ≡ Some vcpu → (event_subject event ≡ Some key → ⊥) → HeldSo key vcpu
     alters : (record_in shape state key).holder ≡ Some vcpu → step_changes shape state actor step found key ≡ true → IsTrue (owes_kick vcpu (local_after shape actor (seat_at state actor).local step found)) → HeldSo key vcpu
     arrives : actor ≡ vcpu → event ≡ silent (Reach key actor) → HeldSo key vcpu
-
-  -- an event is of the interrupt of its step's word
-  pub apart_subject : (key : Key) → word_of shape actor step ≢ Irq key → event_subject event ≡ Some key → ⊥
-  apart_subject key apart h = of (succeeds shape actor (seat_at state actor).local step found) step apart h
-    where
-      none : {T : Type 0} → {k : Key} → None ≡ Some k → T
-      none e = absurd (cc)
-
-      other : (k : Key) → Irq k ≢ Irq key → Some k ≡ Some key → ⊥
-      other k differ e = differ (irq_same k key e)
-        where
-          irq_same : (k key : Key) → Some k ≡ Some key → Irq k ≡ Irq key
-          irq_same k key e = cc
-
-      look_of : (w : WordId) → event_subject (look_event w found) ≡ Some key → ⊥
-      look_of (Irq k) e = none e
-      look_of (Vcpu v) e = none e
-      look_of Queue e = none e
-      look_of Ctlr e = none e
-      look_of (Plain i) e = none e
-      look_of (Index v n) e = none e
-
-      claim_of : (b : Bool) (k : Key) → Irq k ≢ Irq key → event_subject (silent (if b then Take k actor else Reach k actor)) ≡ Some key → ⊥
-      claim_of true k differ e = none e
-      claim_of false k differ e = other k differ e
-
-      poll_of : (reg : Option IccReg) (write : Option ℕ) (local : Local) → event_subject (poll_event actor reg write found local) ≡ Some key → ⊥
-      poll_of None write local e = none e
-      poll_of (Some reg) write local e = kicked (vcpu_of found).kick e
-        where
-          kicked : (b : Bool) → event_subject (if b then None else with_found (Cpu actor reg write) (Answer (interface_answer reg write (interface_of local)))) ≡ Some key → ⊥
-          kicked true e = none e
-          kicked false e = none e
-
-      plain_of : (b : Bool) (one : Event) (what : Found) → subject one ≡ None → event_subject (if b then None else with_found one what) ≡ Some key → ⊥
-      plain_of true one what n e = none e
-      plain_of false one what n e = none (sym n ∙ e)
-
-      done : (s : CoreStep) → word_of shape actor s ≢ Irq key → event_subject (event_done shape actor (seat_at state actor).local (seat_at state actor).own s found) ≡ Some key → ⊥
-      done (Look w) differ e = look_of w e
-      done (Raise k) differ e = other k differ e
-      done (Claim k seen) differ e = claim_of (is_at k (seat_at state actor).local.at) k differ e
-      done (GiveBack k back) differ e = none e
-      done (Release k) differ e = other k differ e
-      done (Poll reg write) differ e = poll_of reg write (seat_at state actor).local e
-      done (Kick v) differ e = none e
-      done (Touch k seen kind) differ e = other k differ e
-      done (Want k) differ e = none e
-      done (WireUp k) differ e = other k differ e
-      done (WireDown k) differ e = other k differ e
-      done (EnableLpis v) differ e = none e
-      done (RamLook index) differ e = plain_of (index == fault_place shape) (Read (Word (plain_at shape index))) (FoundWord found) refl e
-      done (RamPut index seen value) differ e = plain_of (index == fault_place shape) (Put (plain_at shape index) value) (FoundWord found) refl e
-      done (CtlrTake seen value) differ e = none e
-      done CtlrEnd differ e = none e
-      done (TurnTake seen) differ e = none e
-      done (CommandDone offset stalled ending) differ e = none e
-      done TurnRelease differ e = none e
-      done (Mark k v) differ e = none e
-      done (TakeIndex w) differ e = none e
-
-      of : (b : Bool) (s : CoreStep) → word_of shape actor s ≢ Irq key → event_subject (if b then event_done shape actor (seat_at state actor).local (seat_at state actor).own s found else None) ≡ Some key → ⊥
-      of true s differ e = done s differ e
-      of false s differ e = none e
 
 nothing_of : {k : Key} → None ≡ Some k → ⊥
 nothing_of e = absurd (cc)
@@ -161,23 +88,7 @@ module _ {shape : GuestShape} {state : CoreState} {ideal : Ideal} {actor found l
       of false e =
           stays (ap (λ (i : IrqRecord). i.holder) before ∙ ap (λ n. (irq_of n).holder) (sym (claim_missed k seen is e)) ∙ held)
           (λ h. nothing_of (sym (ap (λ b. event_subject (if b then event_done shape actor (seat_at state actor).local (seat_at state actor).own (Claim k seen) found else None)) e) ∙ h))
-  held_on (Look (Vcpu v)) is key vcpu on held before = absurd (cc)
-  held_on (Look Queue) is key vcpu on held before = absurd (cc)
-  held_on (Look Ctlr) is key vcpu on held before = absurd (cc)
-  held_on (Look (Plain i)) is key vcpu on held before = absurd (cc)
-  held_on (Look (Index v n)) is key vcpu on held before = absurd (cc)
-  held_on (Poll reg write) is key vcpu on held before = absurd (cc)
-  held_on (Kick v) is key vcpu on held before = absurd (cc)
-  held_on (EnableLpis v) is key vcpu on held before = absurd (cc)
-  held_on (RamLook index) is key vcpu on held before = absurd (cc)
-  held_on (RamPut index seen value) is key vcpu on held before = absurd (cc)
-  held_on (CtlrTake seen value) is key vcpu on held before = absurd (cc)
-  held_on CtlrEnd is key vcpu on held before = absurd (cc)
-  held_on (TurnTake seen) is key vcpu on held before = absurd (cc)
-  held_on (CommandDone offset stalled ending) is key vcpu on held before = absurd (cc)
-  held_on TurnRelease is key vcpu on held before = absurd (cc)
-  held_on (Mark k v) is key vcpu on held before = absurd (cc)
-  held_on (TakeIndex w) is key vcpu on held before = absurd (cc)
+  held_on step is key vcpu on held before = absurd (cc)
 
 -- every step
 pub held_so : {shape : GuestShape} {state : CoreState} {ideal : Ideal} {actor : ℕ} {step : CoreStep} {found left : ℕ} {tables : Option Maps} (is : IsStep shape state ideal actor step found left tables) (key : Key) (vcpu : ℕ) → IsTrue (has_interrupt shape key)

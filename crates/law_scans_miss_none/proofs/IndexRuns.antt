@@ -1,6 +1,6 @@
 -- The candidate indices are complete at every moment of every run.
 use Rattle.std.proofs.Common.{◌≡◌, ℕ, zero, suc, map, fold, if◌then◌else◌, slice_index_or, slice_set, ◌&&◌, ◌||◌, inl, inr, Bool, true, false, IsTrue, List, [], ◌∷◌, Option, None, refl, ap, ◌∙◌, subst}
-use Rattle.law_registers_stand.specs.Words.{Key, GuestShape, has_interrupt, IsShape, Irq as IrqRecord, irq_of, interrupt_count, key_at, place_of, Private, Spi, Lpi, is_number, is_ripe, is_pending, is_forwarded, target_in}
+use Rattle.law_registers_stand.specs.Words.{Key, GuestShape, has_interrupt, IsShape, Irq as IrqRecord, irq_of, interrupt_count, key_at, place_of, Private, is_number, is_ripe, is_pending, is_forwarded, target_in}
 use Rattle.law_registers_stand.specs.Calls.{irqs_of, irq_in, opening_irq, opening_irqs, with_preset, after_preset, Preset, GuestSpec, preset_key, IsGoodGuest}
 use Rattle.std.specs.List.{range_with_len}
 use Rattle.law_registers_stand.proofs.GicOpen.OpeningLemmas.{opening_valid}
@@ -59,8 +59,7 @@ set_down (first ∷ rest) (suc at) irq down are (suc i) d h = set_down rest at i
 
 opening_down : (on : Bool) (key : Key) → (opening_irq on key).line ≡ false
 opening_down on (Private vcpu id) = refl
-opening_down on (Spi id) = refl
-opening_down on (Lpi id) = refl
+opening_down on key = refl
 
 in_down : (shape : GuestShape) (irqs : List IrqRecord) (key : Key) → AreDown irqs → (irq_in shape irqs key).line ≡ false
 unfolding AreDown

@@ -7,11 +7,11 @@ use Rattle.std.proofs.lemmas.Option.{none-some}
 use Rattle.std.proofs.lemmas.List.{get_or-set_same, get_or-set_other}
 use Rattle.std.proofs.lemmas.Nat.{pow_below}
 use Rattle.std.proofs.lemmas.Nat.Bits.{bit_at_and, bit_at_not, bit_at-pow_other, bit_at_above}
-use Rattle.law_registers_stand.specs.Registers.{Targets, Maps}
+use Rattle.law_registers_stand.specs.Registers.{Targets, Maps, CpuRec}
 use Rattle.law_registers_stand.specs.Words.{Back, Key, IccReg, GuestShape, has_interrupt, is_of_vcpu, is_same_key, IsShape, has_bit, irq_of}
 use Rattle.law_registers_stand.proofs.GicBase.KeyLemmas.{same_key}
 use Rattle.law_registers_stand.specs.Calls.{Touching, touched}
-use Rattle.law_registers_stand.specs.Core.{Local, Cands, CoreStep, Look, Raise, Claim, GiveBack, Release, Poll, Kick, Touch, Want, WireUp, WireDown, EnableLpis, RamLook, RamPut, CtlrTake, CtlrEnd, TurnTake, CommandDone, TurnRelease, Mark, TakeIndex, WordId, Irq, Vcpu, Queue, Ctlr, Plain, Index, Folding, vcpu_of, local_after, concerned, concerned_by, polled, accessed, claimed, looked, is_settled_by_look, succeeds, is_cand, is_vcpu, settled, without_vcpu, without_cand, with_cand_word, owing_both, owes_no_mark, has_word, index_bit, index_words, CoreState, seat_at, word_in, word_of, IsIrqWord}
+use Rattle.law_registers_stand.specs.Core.{Local, Cands, CoreStep, Look, Raise, Claim, GiveBack, Release, Poll, Kick, Touch, Want, WireUp, WireDown, Mark, TakeIndex, WordId, Irq, Index, Folding, vcpu_of, local_after, concerned, concerned_by, polled, accessed, claimed, looked, is_settled_by_look, succeeds, is_cand, is_vcpu, settled, without_vcpu, without_cand, with_cand_word, owing_both, owes_no_mark, has_word, index_bit, index_words, CoreState, seat_at, word_in, word_of, IsIrqWord, AtIrq, Phase, Scanning, Loaded, local_done}
 use Rattle.law_registers_stand.proofs.PortCore.StepLocals.{bit_there}
 use Rattle.law_registers_stand.proofs.PortCore.StepLemmas.{steps_sound}
 use Rattle.law_registers_stand.proofs.PortCore.StepMade.{all_three}
@@ -28,47 +28,33 @@ pub either_way : {T : Type 0} (part : Local → T) (b : Bool) (done local : Loca
 either_way part true done local e = e
 either_way part false done local e = refl
 
--- a look for a kick keeps candidates and marks
-poll_cands : (reg : Option IccReg) (write : Option ℕ) (found : ℕ) (local : Local) → (polled reg write found local).cands ≡ local.cands
-poll_cands None write found local = refl
-poll_cands (Some reg) write found local = either_kick (vcpu_of found).kick
+-- a look for a kick changes an actor's CPU record, its interface and its phase alone
+poll_part : {T : Type 0} (part : Local → T) → ((cpu : CpuRec) (at : List AtIrq) (phase : Phase) (local : Local) → part (record local { cpu = cpu; at = at; phase = phase }) ≡ part local) → (reg : Option IccReg) (write : Option ℕ) (found : ℕ) (local : Local)
+    → part (polled reg write found local) ≡ part local
+poll_part part same None write found local = same (polled None write found local).cpu local.at Scanning local
+poll_part part same (Some reg) write found local = of (vcpu_of found).kick
   where
-    either_kick : (b : Bool) → (if b then record local { phase = Folding } else accessed reg write local).cands ≡ local.cands
-    either_kick true = refl
-    either_kick false = refl
+    of : (b : Bool) → part (if b then record local { phase = Folding } else accessed reg write local) ≡ part local
+    of true = same local.cpu local.at Folding local
+    of false = same (accessed reg write local).cpu (accessed reg write local).at Loaded local
+
+poll_cands : (reg : Option IccReg) (write : Option ℕ) (found : ℕ) (local : Local) → (polled reg write found local).cands ≡ local.cands
+poll_cands reg write found local = poll_part (λ (l : Local). l.cands) (λ cpu at phase other. refl) reg write found local
 
 poll_marks : (reg : Option IccReg) (write : Option ℕ) (found : ℕ) (local : Local) → (polled reg write found local).marks ≡ local.marks
-poll_marks None write found local = refl
-poll_marks (Some reg) write found local = either_kick (vcpu_of found).kick
-  where
-    either_kick : (b : Bool) → (if b then record local { phase = Folding } else accessed reg write local).marks ≡ local.marks
-    either_kick true = refl
-    either_kick false = refl
+poll_marks reg write found local = poll_part (λ (l : Local). l.marks) (λ cpu at phase other. refl) reg write found local
 
 pub poll_owes : (reg : Option IccReg) (write : Option ℕ) (found : ℕ) (local : Local) → (polled reg write found local).owes ≡ local.owes
-poll_owes None write found local = refl
-poll_owes (Some reg) write found local = either_kick (vcpu_of found).kick
-  where
-    either_kick : (b : Bool) → (if b then record local { phase = Folding } else accessed reg write local).owes ≡ local.owes
-    either_kick true = refl
-    either_kick false = refl
+poll_owes reg write found local = poll_part (λ (l : Local). l.owes) (λ cpu at phase other. refl) reg write found local
 
--- and so does a look
+-- and a look its candidates alone
 look_marks : (shape : GuestShape) (actor : ℕ) (word : WordId) (found : ℕ) (local : Local) → (looked shape actor word found local).marks ≡ local.marks
 look_marks shape actor (Irq k) found local = either_way (λ (l : Local). l.marks) (is_settled_by_look shape actor (irq_of found)) (record local { cands = settled shape actor k local.cands }) local refl
-look_marks shape actor (Vcpu v) found local = refl
-look_marks shape actor Queue found local = refl
-look_marks shape actor Ctlr found local = refl
-look_marks shape actor (Plain i) found local = refl
-look_marks shape actor (Index v n) found local = refl
+look_marks shape actor word found local = refl
 
 pub look_owes : (shape : GuestShape) (actor : ℕ) (word : WordId) (found : ℕ) (local : Local) → (looked shape actor word found local).owes ≡ local.owes
 look_owes shape actor (Irq k) found local = either_way (λ (l : Local). l.owes) (is_settled_by_look shape actor (irq_of found)) (record local { cands = settled shape actor k local.cands }) local refl
-look_owes shape actor (Vcpu v) found local = refl
-look_owes shape actor Queue found local = refl
-look_owes shape actor Ctlr found local = refl
-look_owes shape actor (Plain i) found local = refl
-look_owes shape actor (Index v n) found local = refl
+look_owes shape actor word found local = refl
 
 -- candidates without one interrupt have every other one
 pub settled_keeps :
@@ -100,59 +86,21 @@ module _ {shape : GuestShape} {state : CoreState} {ideal : Ideal} {actor found l
       differ : (vcpu number : ℕ) → Irq key ≢ Index vcpu number
       differ vcpu number e = absurd (cc)
 
-  carries_raise : (key : Key) (is : IsStep shape state ideal actor (Raise key) found left tables) {last later_last : ℕ → Key → Type 0} (lasts : Lasts is last later_last) → Carries is lasts
-  carries_raise key is {last} {later_last} lasts = cause_carries key (Raise key) is lasts refl is.takes.meets refl (tells_raise key is)
-
-  carries_wire_up : (key : Key) (is : IsStep shape state ideal actor (WireUp key) found left tables) {last later_last : ℕ → Key → Type 0} (lasts : Lasts is last later_last) → Carries is lasts
-  carries_wire_up key is {last} {later_last} lasts = cause_carries key (WireUp key) is lasts refl is.takes.meets refl (tells_wire_up key is)
-
-  carries_wire_down : (key : Key) (is : IsStep shape state ideal actor (WireDown key) found left tables) {last later_last : ℕ → Key → Type 0} (lasts : Lasts is last later_last) → Carries is lasts
-  carries_wire_down key is {last} {later_last} lasts = cause_carries key (WireDown key) is lasts refl is.takes.meets refl (tells_wire_down key is)
-
   -- Steps on other words, that keep candidates and marks.
 
   carries_kick : (vcpu : ℕ) (is : IsStep shape state ideal actor (Kick vcpu) found left tables) {last later_last : ℕ → Key → Type 0} (lasts : Lasts is last later_last) → Carries is lasts
   carries_kick vcpu is {last} {later_last} lasts = carries is lasts (index_stays is lasts (λ v n e. absurd (cc))) (cands_stay is lasts refl) (λ k v there quiet h kicks. absurd (owes_none k v (seat_at state actor).local is.takes.meets h)) (λ k v e. absurd (cc))
 
-  carries_enable : (vcpu : ℕ) (is : IsStep shape state ideal actor (EnableLpis vcpu) found left tables) {last later_last : ℕ → Key → Type 0} (lasts : Lasts is last later_last) → Carries is lasts
-  carries_enable vcpu is {last} {later_last} lasts = carries_quiet is lasts (λ v n e. absurd (cc)) (λ k e. absurd (cc)) refl refl refl
-
-  carries_ram_look : (index : ℕ) (is : IsStep shape state ideal actor (RamLook index) found left tables) {last later_last : ℕ → Key → Type 0} (lasts : Lasts is last later_last) → Carries is lasts
-  carries_ram_look index is {last} {later_last} lasts = carries_quiet is lasts (λ v n e. absurd (cc)) (λ k e. absurd (cc)) refl refl refl
-
-  carries_ram_put : (index seen value : ℕ) (is : IsStep shape state ideal actor (RamPut index seen value) found left tables) {last later_last : ℕ → Key → Type 0} (lasts : Lasts is last later_last) → Carries is lasts
-  carries_ram_put index seen value is {last} {later_last} lasts =
+  -- one that leaves its actor's candidates, and what that owes
+  carries_other :
+      (step : CoreStep) (is : IsStep shape state ideal actor step found left tables) {last later_last : ℕ → Key → Type 0} (lasts : Lasts is last later_last) → ((v n : ℕ) → word_of shape actor step ≢ Index v n) → ((k : Key) → word_of shape actor step ≢ Irq k)
+      → (local_done shape actor (seat_at state actor).local step found).cands ≡ (seat_at state actor).local.cands → (local_done shape actor (seat_at state actor).local step found).marks ≡ (seat_at state actor).local.marks
+      → (local_done shape actor (seat_at state actor).local step found).owes ≡ (seat_at state actor).local.owes → Carries is lasts
+  carries_other step is {last} {later_last} lasts index irq cands marks owes =
       let local = (seat_at state actor).local in
-      carries_quiet is lasts (λ v n e. absurd (cc)) (λ k e. absurd (cc)) (either_way (λ (l : Local). l.cands) (succeeds shape actor local (RamPut index seen value) found) local local refl)
-      (either_way (λ (l : Local). l.marks) (succeeds shape actor local (RamPut index seen value) found) local local refl)
-      (either_way (λ (l : Local). l.owes) (succeeds shape actor local (RamPut index seen value) found) local local refl)
-
-  carries_ctlr_take : (seen value : ℕ) (is : IsStep shape state ideal actor (CtlrTake seen value) found left tables) {last later_last : ℕ → Key → Type 0} (lasts : Lasts is last later_last) → Carries is lasts
-  carries_ctlr_take seen value is {last} {later_last} lasts =
-      let local = (seat_at state actor).local in
-      let done : Local = record local { ctlr = true } in
-      let b = succeeds shape actor local (CtlrTake seen value) found in
-      carries_quiet is lasts (λ v n e. absurd (cc)) (λ k e. absurd (cc)) (either_way (λ (l : Local). l.cands) b done local refl) (either_way (λ (l : Local). l.marks) b done local refl) (either_way (λ (l : Local). l.owes) b done local refl)
-
-  carries_ctlr_end : (is : IsStep shape state ideal actor CtlrEnd found left tables) {last later_last : ℕ → Key → Type 0} (lasts : Lasts is last later_last) → Carries is lasts
-  carries_ctlr_end is {last} {later_last} lasts = carries_quiet is lasts (λ v n e. absurd (cc)) (λ k e. absurd (cc)) refl refl refl
-
-  carries_turn_take : (seen : ℕ) (is : IsStep shape state ideal actor (TurnTake seen) found left tables) {last later_last : ℕ → Key → Type 0} (lasts : Lasts is last later_last) → Carries is lasts
-  carries_turn_take seen is {last} {later_last} lasts =
-      let local = (seat_at state actor).local in
-      let done : Local = record local { turn = true } in
-      let b = succeeds shape actor local (TurnTake seen) found in
-      carries_quiet is lasts (λ v n e. absurd (cc)) (λ k e. absurd (cc)) (either_way (λ (l : Local). l.cands) b done local refl) (either_way (λ (l : Local). l.marks) b done local refl) (either_way (λ (l : Local). l.owes) b done local refl)
-
-  carries_command_done : (offset : ℕ) (stalled : Bool) (ending : Option (List ℕ)) (is : IsStep shape state ideal actor (CommandDone offset stalled ending) found left tables) {last later_last : ℕ → Key → Type 0} (lasts : Lasts is last later_last) → Carries is lasts
-  carries_command_done offset stalled ending is {last} {later_last} lasts = carries_quiet is lasts (λ v n e. absurd (cc)) (λ k e. absurd (cc)) refl refl refl
-
-  carries_turn_release : (is : IsStep shape state ideal actor TurnRelease found left tables) {last later_last : ℕ → Key → Type 0} (lasts : Lasts is last later_last) → Carries is lasts
-  carries_turn_release is {last} {later_last} lasts = carries_quiet is lasts (λ v n e. absurd (cc)) (λ k e. absurd (cc)) refl refl refl
-
-  -- a look for a kick keeps them too
-  carries_poll : (reg : Option IccReg) (write : Option ℕ) (is : IsStep shape state ideal actor (Poll reg write) found left tables) {last later_last : ℕ → Key → Type 0} (lasts : Lasts is last later_last) → Carries is lasts
-  carries_poll reg write is {last} {later_last} lasts = carries_quiet is lasts (λ v n e. absurd (cc)) (λ k e. absurd (cc)) (poll_cands reg write found (seat_at state actor).local) (poll_marks reg write found (seat_at state actor).local) (poll_owes reg write found (seat_at state actor).local)
+      let done = local_done shape actor local step found in
+      let b = succeeds shape actor local step found in
+      carries_quiet is lasts index irq (either_way (λ (l : Local). l.cands) b done local cands) (either_way (λ (l : Local). l.marks) b done local marks) (either_way (λ (l : Local). l.owes) b done local owes)
 
   -- Looks.
 
@@ -182,11 +130,7 @@ module _ {shape : GuestShape} {state : CoreState} {ideal : Ideal} {actor found l
               settled_keeps shape actor key k local.cands is.good there (subst (λ w. IsTrue (has_word shape w)) on (has is)) (is.sound.locals actor is.takes.actor).cands.each
               (concerns_own shape key actor (word_in shape (later is) (Irq key)) there (subst (IsIrqWord shape key) (sym (stays (Irq key) there)) (is.sound.words (Irq key) there)) asks)
               (λ same. not_both (concerns shape actor (irq_of found)) (told same) (and_parts (is_vcpu shape actor) (not (concerns shape actor (irq_of found))) e).1) h
-      of (Vcpu v) on key there asks h = h
-      of Queue on key there asks h = h
-      of Ctlr on key there asks h = h
-      of (Plain i) on key there asks h = h
-      of (Index v n) on key there asks h = h
+      of w on key there asks h = h
 
   -- Moves.
 
@@ -382,23 +326,18 @@ module _ {shape : GuestShape} {state : CoreState} {ideal : Ideal} {actor found l
 pub keeps_complete :
     (shape : GuestShape) (state : CoreState) (ideal : Ideal) (actor : ℕ) (step : CoreStep) (found left : ℕ) (tables : Option Maps) (is : IsStep shape state ideal actor step found left tables) {last later_last : ℕ → Key → Type 0} (lasts : Lasts is last later_last) → Carries is lasts
 keeps_complete shape state ideal actor (Look word) found left tables is lasts = carries_look word is lasts
-keeps_complete shape state ideal actor (Raise key) found left tables is lasts = carries_raise key is lasts
+keeps_complete shape state ideal actor (Raise key) found left tables is lasts = cause_carries key (Raise key) is lasts refl is.takes.meets refl (tells_raise key is)
 keeps_complete shape state ideal actor (Claim key seen) found left tables is lasts = carries_claim key seen is lasts
 keeps_complete shape state ideal actor (GiveBack key back) found left tables is lasts = carries_give_back key back is lasts
 keeps_complete shape state ideal actor (Release key) found left tables is lasts = carries_release key is lasts
-keeps_complete shape state ideal actor (Poll reg write) found left tables is lasts = carries_poll reg write is lasts
+keeps_complete shape state ideal actor (Poll reg write) found left tables is lasts =
+    let local = (seat_at state actor).local in
+    carries_other (Poll reg write) is lasts (λ v n e. absurd (cc)) (λ k e. absurd (cc)) (poll_cands reg write found local) (poll_marks reg write found local) (poll_owes reg write found local)
 keeps_complete shape state ideal actor (Kick vcpu) found left tables is lasts = carries_kick vcpu is lasts
 keeps_complete shape state ideal actor (Touch key seen kind) found left tables is lasts = carries_touch key seen kind is lasts
 keeps_complete shape state ideal actor (Want key) found left tables is lasts = carries_want key is lasts
-keeps_complete shape state ideal actor (WireUp key) found left tables is lasts = carries_wire_up key is lasts
-keeps_complete shape state ideal actor (WireDown key) found left tables is lasts = carries_wire_down key is lasts
-keeps_complete shape state ideal actor (EnableLpis vcpu) found left tables is lasts = carries_enable vcpu is lasts
-keeps_complete shape state ideal actor (RamLook index) found left tables is lasts = carries_ram_look index is lasts
-keeps_complete shape state ideal actor (RamPut index seen value) found left tables is lasts = carries_ram_put index seen value is lasts
-keeps_complete shape state ideal actor (CtlrTake seen value) found left tables is lasts = carries_ctlr_take seen value is lasts
-keeps_complete shape state ideal actor CtlrEnd found left tables is lasts = carries_ctlr_end is lasts
-keeps_complete shape state ideal actor (TurnTake seen) found left tables is lasts = carries_turn_take seen is lasts
-keeps_complete shape state ideal actor (CommandDone offset stalled ending) found left tables is lasts = carries_command_done offset stalled ending is lasts
-keeps_complete shape state ideal actor TurnRelease found left tables is lasts = carries_turn_release is lasts
+keeps_complete shape state ideal actor (WireUp key) found left tables is lasts = cause_carries key (WireUp key) is lasts refl is.takes.meets refl (tells_wire_up key is)
+keeps_complete shape state ideal actor (WireDown key) found left tables is lasts = cause_carries key (WireDown key) is lasts refl is.takes.meets refl (tells_wire_down key is)
 keeps_complete shape state ideal actor (Mark key vcpu) found left tables is lasts = carries_mark key vcpu is lasts
 keeps_complete shape state ideal actor (TakeIndex word) found left tables is lasts = carries_take_index word is lasts
+keeps_complete shape state ideal actor step found left tables is lasts = carries_other step is lasts (λ v n e. absurd (cc)) (λ k e. absurd (cc)) refl refl refl

@@ -1,10 +1,11 @@
 -- What an access leaves of what a vCPU's registers leave out, and any step of its own, before its scan goes on.
-use Rattle.std.proofs.Common.{◌≡◌, ℕ, ◌<◌, ◌==◌, ◌&&◌, ◌||◌, true≢false, not, Bool, true, false, IsTrue, List, [], ◌∷◌, ◌++◌, map, Option, Some, None, unwrap_or, if◌then◌else◌, refl, sym, ap, ◌∙◌, subst}
+use Rattle.std.proofs.Common.{◌≡◌, ℕ, ◌<◌, ◌==◌, ◌||◌, true≢false, not, Bool, true, false, IsTrue, [], ◌∷◌, ◌++◌, map, Option, Some, None, unwrap_or, if◌then◌else◌, refl, sym, ap, ◌∙◌, subst}
+use Rattle.std.proofs.lemmas.Bool.{not-false, not-true, or_parts}
 use Rattle.law_registers_stand.specs.Words.{IccReg, Key, GuestShape, irq_of}
 use Rattle.law_registers_stand.specs.Histories.{Track, Ideal}
 use Rattle.law_registers_stand.specs.Lists.{IchRegs, misr_of, registers_after}
 use Rattle.law_registers_stand.specs.Registers.{Maps}
-use Rattle.law_registers_stand.specs.Core.{Local, Folding, CoreStep, Look, Raise, Claim, GiveBack, Release, Poll, Kick, Touch, Want, WireUp, WireDown, EnableLpis, RamLook, RamPut, CtlrTake, CtlrEnd, TurnTake, CommandDone, TurnRelease, Mark, TakeIndex, Irq, Vcpu, Queue, Ctlr, Plain, Index, local_after, accessed, claimed, shown, is_ready, succeeds, vcpu_of, CoreState, seat_at, IsLocal, IsSeatOf, Progress, Debt, paid, after_end, before_next, after_claim, after_icc, after_poll, begun, claim_left, is_paid, is_to_scan, owing_after, IsProperStep, RegistersAgree, after_operation, Purpose, planned, trapped, bare, Scan, idle, taking, looking, claiming, is_idle, scan_allows, has_key, without_key, scan_looked, word_taken}
+use Rattle.law_registers_stand.specs.Core.{Local, Folding, CoreStep, Look, Claim, Poll, Kick, Mark, TakeIndex, Irq, local_after, accessed, claimed, shown, is_ready, succeeds, vcpu_of, CoreState, seat_at, IsLocal, IsSeatOf, Progress, Debt, paid, before_next, after_claim, after_icc, after_poll, begun, claim_left, is_paid, is_to_scan, owing_after, IsProperStep, RegistersAgree, after_operation, planned, Scan, idle, taking, looking, claiming, is_idle, scan_allows, scan_looked, word_taken}
 use Rattle.law_registers_stand.specs.CoreProper.Progress.{changed_by}
 use Rattle.law_registers_stand.proofs.LawCoreIsHistory.AfterLemmas.{later}
 use Rattle.law_registers_stand.proofs.LawCoreIsHistory.CpuLemmas.{same_lpis}
@@ -16,13 +17,14 @@ use Rattle.law_registers_stand.proofs.AskSteps.{quiet_after}
 use Rattle.law_registers_stand.proofs.MisrLemmas.{holds_groups, groups_kept}
 use Rattle.law_registers_stand.proofs.StandLemmas.{Standing}
 use Rattle.law_registers_stand.proofs.StandSteps.{paid_before}
+use Rattle.law_scans_miss_none.proofs.CalmSteps.{takes_index, kick_failed}
 use Rattle.law_scans_miss_none.proofs.FirstLemmas.{unlisted}
 use Rattle.law_scans_miss_none.proofs.IndexSteps.{either_way}
 use Rattle.law_scans_miss_none.proofs.LeftLemmas.{IsBounded}
-use Rattle.law_scans_miss_none.proofs.LeftMade.{LeavesIf, keeps_cpu, quiet_leaves, claiming_leaves}
-use Rattle.law_scans_miss_none.proofs.LeftRuns.{Leaves, BeganWith}
+use Rattle.law_scans_miss_none.proofs.LeftMade.{LeavesIf, quiet_leaves, claiming_leaves}
+use Rattle.law_scans_miss_none.proofs.LeftRuns.{Leaves, BeganWith, began_like}
 use Rattle.law_scans_miss_none.proofs.LeftSteps.{DueBefore, bounded_access}
-use Rattle.law_scans_miss_none.proofs.ScanSteps.{with_made, only_idle, is_scan_step}
+use Rattle.law_scans_miss_none.proofs.ScanSteps.{with_made, only_idle, is_scan_step, still_claiming}
 use Rattle.law_scans_miss_none.proofs.ToldLemmas.{Lasts}
 use Rattle.law_scans_miss_none.proofs.WaitingSteps.{last_in, due_so}
 
@@ -34,10 +36,6 @@ untrapped regs trapping debt h = of (not (misr_of regs == 0)) trapping debt h
     of true b debt h = absurd (cc)
     of false true debt h = absurd (cc)
     of false false debt h = refl
-
-not_failed : (b : Bool) → IsTrue (not b) → b ≡ false
-not_failed true h = absurd (true≢false (sym h))
-not_failed false h = refl
 
 -- how far a vCPU is after a step, before its scan goes on
 abbrev pub Now : GuestShape → ℕ → ℕ → ℕ → Option Maps → Progress → CoreStep → Progress
@@ -61,7 +59,7 @@ module _ {shape : GuestShape} {state : CoreState} {ideal : Ideal} {vcpu found le
       let same = groups_kept regs after.holds.enabled (quiet_after regs p.trapping p.debt owed) p.local.cpu (accessed reg write p.local).cpu
       (subst (λ (r : IchRegs). IsMirrored r.hcr p.local.cpu) (sym regs_are) (mirrors_after reg write p.regs p.local.cpu mirrored)) groups.0 groups.1 in
       let unkicked : IsUnkicked shape state vcpu = ap (λ n. (vcpu_of n).kick) (sym is.takes.found) ∙ free in
-      let was = subst (Leaves shape state track vcpu p) e (before unkicked (not_failed p.failed proper.failed) settled (ap (λ b. not b || p.scanned) plain)) ready in
+      let was = subst (Leaves shape state track vcpu p) e (before unkicked (not-true p.failed proper.failed) settled (ap (λ b. not b || p.scanned) plain)) ready in
       let due : DueBefore shape state track (later is) later_track vcpu = λ key d. let so = due_so is vcpu within track later_track lasted (λ own. true≢false (sym own.0)) refl key d in (so.due, so.same) in
       subst (λ t. IsBounded shape (later is) later_track vcpu t regs (accessed reg write p.local).cpu) (sym plain)
       (subst (λ r. IsBounded shape (later is) later_track vcpu false r (accessed reg write p.local).cpu) (sym regs_are)
@@ -77,30 +75,11 @@ module _ {shape : GuestShape} {state : CoreState} {ideal : Ideal} {vcpu found le
         → (Now shape vcpu found left tables p step).scan ≡ p.scan → (Now shape vcpu found left tables p step).regs ≡ p.regs → (Now shape vcpu found left tables p step).trapping ≡ p.trapping → (Now shape vcpu found left tables p step).debt ≡ p.debt
         → (Now shape vcpu found left tables p step).failed ≡ p.failed → (Now shape vcpu found left tables p step).scanned ≡ p.scanned → LeavesIf shape (later is) later_track vcpu (Now shape vcpu found left tables p step)
     by_quiet step is proper lasted quiet no_poll scan regs trapping debt failed scanned =
-        quiet_leaves within track later_track p seat step is (Now shape vcpu found left tables p step) lasted (keeps step quiet no_poll) no_poll (only_idle shape vcpu p.local step quiet p.scan proper.scan) scan regs trapping debt (λ h. sym failed ∙ h) scanned refl before
+        quiet_leaves within track later_track p seat step is (Now shape vcpu found left tables p step) lasted (no_take step quiet) no_poll (only_idle shape vcpu p.local step quiet p.scan proper.scan) scan regs trapping debt (λ h. sym failed ∙ h) scanned refl before
       where
-        keeps : (step : CoreStep) → is_scan_step step ≡ false → is_poll step ≡ false → keeps_cpu step ≡ true
-        keeps (Poll reg write) q e = absurd (true≢false e)
-        keeps (TakeIndex w) q e = absurd (true≢false q)
-        keeps (Look w) q e = refl
-        keeps (Raise key) q e = refl
-        keeps (Claim key seen) q e = refl
-        keeps (GiveBack key back) q e = refl
-        keeps (Release key) q e = refl
-        keeps (Kick v) q e = refl
-        keeps (Touch key seen kind) q e = refl
-        keeps (Want key) q e = refl
-        keeps (WireUp key) q e = refl
-        keeps (WireDown key) q e = refl
-        keeps (EnableLpis v) q e = refl
-        keeps (RamLook index) q e = refl
-        keeps (RamPut index seen value) q e = refl
-        keeps (CtlrTake seen value) q e = refl
-        keeps CtlrEnd q e = refl
-        keeps (TurnTake seen) q e = refl
-        keeps (CommandDone offset stalled ending) q e = refl
-        keeps TurnRelease q e = refl
-        keeps (Mark key v) q e = refl
+        no_take : (step : CoreStep) → is_scan_step step ≡ false → takes_index step ≡ false
+        no_take (TakeIndex w) quiet = absurd (true≢false quiet)
+        no_take step quiet = refl
 
     look_leaves : (k : Key) (is : IsStep shape state ideal vcpu (Look (Irq k)) found left tables) → IsProperStep shape vcpu p (Look (Irq k)) → Lasts is (last_in shape track) (last_in shape later_track) → LeavesIf shape (later is) later_track vcpu (Now shape vcpu found left tables p (Look (Irq k)))
     look_leaves k is proper lasted = of p.scan refl proper.scan
@@ -110,11 +89,8 @@ module _ {shape : GuestShape} {state : CoreState} {ideal : Ideal} {vcpu found le
 
         of : (scan : Scan) → p.scan ≡ scan → IsTrue (scan_allows shape vcpu p.local scan (Look (Irq k))) → LeavesIf shape (later is) later_track vcpu q
         of idle e allowed = quiet_leaves within track later_track p seat (Look (Irq k)) is q lasted refl refl e (ap (scan_looked shape k (irq_of found)) e ∙ sym e) refl refl refl (λ h. h) refl refl before
-        of (taking purpose words) e allowed = absurd (true≢false (sym allowed))
-        of (claiming [] []) e allowed = absurd (true≢false (sym allowed))
-        of (claiming [] (t ∷ takes)) e allowed = absurd (true≢false (sym allowed))
-        of (claiming (c ∷ claims) takes) e allowed = absurd (true≢false (sym allowed))
         of (looking purpose from offers) e allowed = λ free none owed asked. subst (Leaves shape (later is) later_track vcpu q) (sym (ap (scan_looked shape k (irq_of found)) e)) tt
+        of scan e allowed = absurd (true≢false (sym allowed))
 
     take_leaves : (w : ℕ) (is : IsStep shape state ideal vcpu (TakeIndex w) found left tables) → IsProperStep shape vcpu p (TakeIndex w) → LeavesIf shape (later is) later_track vcpu (Now shape vcpu found left tables p (TakeIndex w))
     take_leaves w is proper = of p.scan refl proper.scan
@@ -125,10 +101,7 @@ module _ {shape : GuestShape} {state : CoreState} {ideal : Ideal} {vcpu found le
         of : (scan : Scan) → p.scan ≡ scan → IsTrue (scan_allows shape vcpu p.local scan (TakeIndex w)) → LeavesIf shape (later is) later_track vcpu q
         of idle e allowed = λ free none owed asked. subst (Leaves shape (later is) later_track vcpu q) (sym (ap word_taken e)) tt
         of (taking purpose words) e allowed = λ free none owed asked. subst (Leaves shape (later is) later_track vcpu q) (sym (ap word_taken e)) tt
-        of (looking purpose from offers) e allowed = absurd (true≢false (sym allowed))
-        of (claiming [] []) e allowed = absurd (true≢false (sym allowed))
-        of (claiming [] (t ∷ takes)) e allowed = absurd (true≢false (sym allowed))
-        of (claiming (c ∷ claims) takes) e allowed = absurd (true≢false (sym allowed))
+        of scan e allowed = absurd (true≢false (sym allowed))
 
     kick_leaves : (other : ℕ) (is : IsStep shape state ideal vcpu (Kick other) found left tables) → Lasts is (last_in shape track) (last_in shape later_track) → LeavesIf shape (later is) later_track vcpu (Now shape vcpu found left tables p (Kick other))
     kick_leaves other is lasted = λ free none owed asked. of p.scan refl free none owed asked
@@ -137,18 +110,13 @@ module _ {shape : GuestShape} {state : CoreState} {ideal : Ideal} {vcpu found le
         q = Now shape vcpu found left tables p (Kick other)
 
         failed_before : IsUnkicked shape (later is) vcpu → q.failed ≡ false → p.failed ≡ false
-        failed_before free none = still p.failed (unkicked_before is vcpu within refl free).1 none
-          where
-            still : (b : Bool) → (other == vcpu) ≡ false → (b && not (other == vcpu)) ≡ false → b ≡ false
-            still true e h = absurd (true≢false (sym (ap not e) ∙ h))
-            still false e h = refl
+        failed_before free none = kick_failed p.failed other vcpu ((unkicked_before is vcpu within refl free).1) none
 
         of : (scan : Scan) → p.scan ≡ scan → LeavesIf shape (later is) later_track vcpu q
         of idle e = λ free none. quiet_leaves within track later_track p seat (Kick other) is q lasted refl refl e refl refl refl refl (λ h. failed_before free h) refl refl before free none
-        of (taking purpose words) e = λ free none owed asked. subst (Leaves shape (later is) later_track vcpu q) (sym e) tt
-        of (looking purpose from offers) e = λ free none owed asked. subst (Leaves shape (later is) later_track vcpu q) (sym e) tt
         of (claiming claims takes) e = λ free none.
             claiming_leaves within track later_track p seat (Kick other) is q claims takes claims takes lasted (λ own. true≢false (sym own)) refl e e refl refl refl (λ h. failed_before free h) refl refl before free none
+        of scan e = λ free none owed asked. subst (Leaves shape (later is) later_track vcpu q) (sym e) tt
 
     mark_leaves : (k : Key) (v : ℕ) (is : IsStep shape state ideal vcpu (Mark k v) found left tables) → IsProperStep shape vcpu p (Mark k v) → Lasts is (last_in shape track) (last_in shape later_track) → LeavesIf shape (later is) later_track vcpu (Now shape vcpu found left tables p (Mark k v))
     mark_leaves k v is proper lasted = of p.scan refl proper.scan
@@ -158,11 +126,8 @@ module _ {shape : GuestShape} {state : CoreState} {ideal : Ideal} {vcpu found le
 
         of : (scan : Scan) → p.scan ≡ scan → IsTrue (scan_allows shape vcpu p.local scan (Mark k v)) → LeavesIf shape (later is) later_track vcpu q
         of idle e allowed = quiet_leaves within track later_track p seat (Mark k v) is q lasted refl refl e refl refl refl refl (λ h. h) refl refl before
-        of (taking purpose words) e allowed = absurd (true≢false (sym allowed))
-        of (looking purpose from offers) e allowed = absurd (true≢false (sym allowed))
-        of (claiming [] (t ∷ takes)) e allowed = absurd (true≢false (sym allowed))
-        of (claiming (c ∷ claims) takes) e allowed = absurd (true≢false (sym allowed))
         of (claiming [] []) e allowed = claiming_leaves within track later_track p seat (Mark k v) is q [] [] [] [] lasted (λ own. true≢false (sym own)) refl e e refl refl refl (λ h. h) refl refl before
+        of scan e allowed = absurd (true≢false (sym allowed))
 
     claim_leaves : (k : Key) (seen : ℕ) (is : IsStep shape state ideal vcpu (Claim k seen) found left tables) → IsProperStep shape vcpu p (Claim k seen) → Lasts is (last_in shape track) (last_in shape later_track) → LeavesIf shape (later is) later_track vcpu (Now shape vcpu found left tables p (Claim k seen))
     claim_leaves k seen is proper lasted = of p.scan refl proper.scan
@@ -179,35 +144,20 @@ module _ {shape : GuestShape} {state : CoreState} {ideal : Ideal} {vcpu found le
         cpu : (local_after shape vcpu p.local (Claim k seen) found).cpu ≡ p.local.cpu
         cpu = either_way (λ (l : Local). l.cpu) done (claimed shape vcpu k found p.local) p.local refl
 
-        before_failed : (a b : Bool) → (a || b) ≡ false → a ≡ false
-        before_failed true b h = absurd (true≢false h)
-        before_failed false b h = refl
-
-        done_is : (a b : Bool) → (a || not b) ≡ false → b ≡ true
-        done_is true b h = absurd (true≢false h)
-        done_is false true h = refl
-        done_is false false h = absurd (true≢false h)
-
         unpaid : (debt : Debt) → IsTrue (is_paid (owing_after debt)) → ⊥
-        unpaid paid h = true≢false (sym h)
-        unpaid after_end h = true≢false (sym h)
         unpaid before_next h = true≢false (sym h)
-
-        either : (claims takes : List Key) (b : Bool) → (now : List Key) × (left_takes : List Key) × ((if b then claiming (without_key k claims) (if done then takes else without_key k takes) else claiming claims (without_key k takes)) ≡ claiming now left_takes)
-        either claims takes true = (without_key k claims, (if done then takes else without_key k takes), refl)
-        either claims takes false = (claims, without_key k takes, refl)
+        unpaid debt h = true≢false (sym h)
 
         of : (scan : Scan) → p.scan ≡ scan → IsTrue (scan_allows shape vcpu p.local scan (Claim k seen)) → LeavesIf shape (later is) later_track vcpu q
-        of (taking purpose words) e allowed = absurd (true≢false (sym allowed))
-        of (looking purpose from offers) e allowed = absurd (true≢false (sym allowed))
         of idle e allowed = λ free none owed asked. absurd (unpaid p.debt (subst (λ (r : Progress). IsTrue (is_paid r.debt)) (ap after e) owed))
         of (claiming claims takes) e allowed = λ free none.
             let same : q ≡ after (claiming claims takes) = ap after e in
             let failed : (p.failed || not done) ≡ false = sym (ap (λ (r : Progress). r.failed) same) ∙ none in
-            let tries = either claims takes (has_key k claims) in
-            claiming_leaves within track later_track p seat (Claim k seen) is q claims takes tries.0 tries.1 lasted (λ own. true≢false (sym own)) refl e (ap (λ (r : Progress). r.scan) same ∙ tries.2)
-            (ap (λ (r : Progress). r.regs) same ∙ ap (λ b. claim_left k b claims p.regs) (done_is p.failed done failed)) (ap (λ (r : Progress). r.trapping) same) (ap (λ (r : Progress). r.debt) same)
-            (λ h. before_failed p.failed (not done) failed) (ap (λ (r : Progress). r.scanned) same) cpu before free none
+            let tries = still_claiming k done claims takes in
+            claiming_leaves within track later_track p seat (Claim k seen) is q claims takes tries.claims tries.takes lasted (λ own. true≢false (sym own)) refl e (ap (λ (r : Progress). r.scan) same ∙ tries.is)
+            (ap (λ (r : Progress). r.regs) same ∙ ap (λ b. claim_left k b claims p.regs) (not-false done (or_parts p.failed (not done) failed).1)) (ap (λ (r : Progress). r.trapping) same) (ap (λ (r : Progress). r.debt) same)
+            (λ h. (or_parts p.failed (not done) failed).0) (ap (λ (r : Progress). r.scanned) same) cpu before free none
+        of scan e allowed = absurd (true≢false (sym allowed))
 
     poll_leaves :
         (reg : Option IccReg) (write : Option ℕ) (is : IsStep shape state ideal vcpu (Poll reg write) found left tables) → IsProperStep shape vcpu p (Poll reg write) → Lasts is (last_in shape track) (last_in shape later_track)
@@ -237,31 +187,12 @@ module _ {shape : GuestShape} {state : CoreState} {ideal : Ideal} {vcpu found le
         (step : CoreStep) (is : IsStep shape state ideal vcpu step found left tables) → IsProperStep shape vcpu p step → Lasts is (last_in shape track) (last_in shape later_track) → IsLocal shape vcpu (Now shape vcpu found left tables p step).local
         → Standing false shape vcpu (Now shape vcpu found left tables p step) (Now shape vcpu found left tables p step).scan → LeavesIf shape (later is) later_track vcpu (Now shape vcpu found left tables p step)
     made_leaves (Look (Irq k)) is proper lasted after_local after_stands = look_leaves k is proper lasted
-    made_leaves (Look (Vcpu v)) is proper lasted after_local after_stands = by_quiet (Look (Vcpu v)) is proper lasted refl refl refl refl refl refl refl refl
-    made_leaves (Look Queue) is proper lasted after_local after_stands = by_quiet (Look Queue) is proper lasted refl refl refl refl refl refl refl refl
-    made_leaves (Look Ctlr) is proper lasted after_local after_stands = by_quiet (Look Ctlr) is proper lasted refl refl refl refl refl refl refl refl
-    made_leaves (Look (Plain i)) is proper lasted after_local after_stands = by_quiet (Look (Plain i)) is proper lasted refl refl refl refl refl refl refl refl
-    made_leaves (Look (Index v n)) is proper lasted after_local after_stands = by_quiet (Look (Index v n)) is proper lasted refl refl refl refl refl refl refl refl
     made_leaves (Claim k seen) is proper lasted after_local after_stands = claim_leaves k seen is proper lasted
     made_leaves (Kick other) is proper lasted after_local after_stands = kick_leaves other is lasted
     made_leaves (Mark k v) is proper lasted after_local after_stands = mark_leaves k v is proper lasted
     made_leaves (TakeIndex w) is proper lasted after_local after_stands = take_leaves w is proper
     made_leaves (Poll reg write) is proper lasted after_local after_stands = poll_leaves reg write is proper lasted after_local after_stands
-    made_leaves (Raise key) is proper lasted after_local after_stands = by_quiet (Raise key) is proper lasted refl refl refl refl refl refl refl refl
-    made_leaves (GiveBack key back) is proper lasted after_local after_stands = by_quiet (GiveBack key back) is proper lasted refl refl refl refl refl refl refl refl
-    made_leaves (Release key) is proper lasted after_local after_stands = by_quiet (Release key) is proper lasted refl refl refl refl refl refl refl refl
-    made_leaves (Touch key seen kind) is proper lasted after_local after_stands = by_quiet (Touch key seen kind) is proper lasted refl refl refl refl refl refl refl refl
-    made_leaves (Want key) is proper lasted after_local after_stands = by_quiet (Want key) is proper lasted refl refl refl refl refl refl refl refl
-    made_leaves (WireUp key) is proper lasted after_local after_stands = by_quiet (WireUp key) is proper lasted refl refl refl refl refl refl refl refl
-    made_leaves (WireDown key) is proper lasted after_local after_stands = by_quiet (WireDown key) is proper lasted refl refl refl refl refl refl refl refl
-    made_leaves (EnableLpis v) is proper lasted after_local after_stands = by_quiet (EnableLpis v) is proper lasted refl refl refl refl refl refl refl refl
-    made_leaves (RamLook index) is proper lasted after_local after_stands = by_quiet (RamLook index) is proper lasted refl refl refl refl refl refl refl refl
-    made_leaves (RamPut index seen value) is proper lasted after_local after_stands = by_quiet (RamPut index seen value) is proper lasted refl refl refl refl refl refl refl refl
-    made_leaves (CtlrTake seen value) is proper lasted after_local after_stands = by_quiet (CtlrTake seen value) is proper lasted refl refl refl refl refl refl refl refl
-    made_leaves CtlrEnd is proper lasted after_local after_stands = by_quiet CtlrEnd is proper lasted refl refl refl refl refl refl refl refl
-    made_leaves (TurnTake seen) is proper lasted after_local after_stands = by_quiet (TurnTake seen) is proper lasted refl refl refl refl refl refl refl refl
-    made_leaves (CommandDone offset stalled ending) is proper lasted after_local after_stands = by_quiet (CommandDone offset stalled ending) is proper lasted refl refl refl refl refl refl refl refl
-    made_leaves TurnRelease is proper lasted after_local after_stands = by_quiet TurnRelease is proper lasted refl refl refl refl refl refl refl refl
+    made_leaves step is proper lasted after_local after_stands = by_quiet step is proper lasted refl refl refl refl refl refl refl refl
 
 -- A scan by the plan that is in progress began with the last look for a kick.
 
@@ -270,17 +201,7 @@ module _ (shape : GuestShape) (vcpu found left : ℕ) (tables : Option Maps) (p 
   began_idle q e = subst (BeganWith q) (sym e) tt
 
   began_as : (q : Progress) → q.scan ≡ p.scan → q.scanned ≡ p.scanned → BeganWith q q.scan
-  began_as q scan scanned = subst (BeganWith q) (sym scan) (of p.scan before)
-    where
-      of : (s : Scan) → BeganWith p s → BeganWith q s
-      of idle h = tt
-      of (taking planned words) h = scanned ∙ h
-      of (taking trapped words) h = tt
-      of (taking bare words) h = tt
-      of (looking planned from offers) h = scanned ∙ h
-      of (looking trapped from offers) h = tt
-      of (looking bare from offers) h = tt
-      of (claiming claims takes) h = tt
+  began_as q scan scanned = subst (BeganWith q) (sym scan) (began_like p q p.scan scanned before)
 
   pub made_began : (step : CoreStep) → IsProperStep shape vcpu p step → let q = Now shape vcpu found left tables p step in BeganWith q q.scan
   made_began (Look (Irq k)) proper = of p.scan refl before
@@ -289,31 +210,18 @@ module _ (shape : GuestShape) (vcpu found left : ℕ) (tables : Option Maps) (p 
       q = Now shape vcpu found left tables p (Look (Irq k))
 
       of : (s : Scan) → p.scan ≡ s → BeganWith p s → BeganWith q q.scan
-      of idle e h = subst (BeganWith q) (sym (ap (scan_looked shape k (irq_of found)) e)) tt
-      of (taking purpose words) e h = subst (BeganWith q) (sym (ap (scan_looked shape k (irq_of found)) e)) (same purpose h)
-        where
-          same : (purpose : Purpose) → BeganWith p (taking purpose words) → BeganWith q (taking purpose words)
-          same planned h = h
-          same trapped h = tt
-          same bare h = tt
+      of (taking planned words) e h = subst (BeganWith q) (sym (ap (scan_looked shape k (irq_of found)) e)) h
       of (looking planned from offers) e h = subst (BeganWith q) (sym (ap (scan_looked shape k (irq_of found)) e)) h
-      of (looking trapped from offers) e h = subst (BeganWith q) (sym (ap (scan_looked shape k (irq_of found)) e)) tt
-      of (looking bare from offers) e h = subst (BeganWith q) (sym (ap (scan_looked shape k (irq_of found)) e)) tt
-      of (claiming claims takes) e h = subst (BeganWith q) (sym (ap (scan_looked shape k (irq_of found)) e)) tt
+      of s e h = subst (BeganWith q) (sym (ap (scan_looked shape k (irq_of found)) e)) tt
   made_began (TakeIndex w) proper = of p.scan refl before
     where
       q : Progress
       q = Now shape vcpu found left tables p (TakeIndex w)
 
       of : (s : Scan) → p.scan ≡ s → BeganWith p s → BeganWith q q.scan
-      of idle e h = subst (BeganWith q) (sym (ap word_taken e)) tt
       of (taking planned words) e h = subst (BeganWith q) (sym (ap word_taken e)) (ap (λ s. p.scanned || is_idle s) e ∙ ap (λ b. b || false) h)
-      of (taking trapped words) e h = subst (BeganWith q) (sym (ap word_taken e)) tt
-      of (taking bare words) e h = subst (BeganWith q) (sym (ap word_taken e)) tt
       of (looking planned from offers) e h = subst (BeganWith q) (sym (ap word_taken e)) (ap (λ s. p.scanned || is_idle s) e ∙ ap (λ b. b || false) h)
-      of (looking trapped from offers) e h = subst (BeganWith q) (sym (ap word_taken e)) tt
-      of (looking bare from offers) e h = subst (BeganWith q) (sym (ap word_taken e)) tt
-      of (claiming claims takes) e h = subst (BeganWith q) (sym (ap word_taken e)) tt
+      of s e h = subst (BeganWith q) (sym (ap word_taken e)) tt
   made_began (Claim k seen) proper = of p.scan refl proper.scan
     where
       done : Bool
@@ -322,15 +230,10 @@ module _ (shape : GuestShape) (vcpu found left : ℕ) (tables : Option Maps) (p 
       after : Scan → Progress
       after scan = with_made shape vcpu (one vcpu (Claim k seen) found left tables).made p (after_claim k (irq_of found) done scan p)
 
-      tried_free : (q : Progress) (claims takes : List Key) (b : Bool) → BeganWith q (if b then claiming (without_key k claims) (if done then takes else without_key k takes) else claiming claims (without_key k takes))
-      tried_free q claims takes true = tt
-      tried_free q claims takes false = tt
-
       of : (s : Scan) → p.scan ≡ s → IsTrue (scan_allows shape vcpu p.local s (Claim k seen)) → let q = after p.scan in BeganWith q q.scan
       of idle e allowed = subst (λ s. BeganWith (after s) (after s).scan) (sym e) (began_idle (after idle) e)
-      of (taking purpose words) e allowed = absurd (true≢false (sym allowed))
-      of (looking purpose from offers) e allowed = absurd (true≢false (sym allowed))
-      of (claiming claims takes) e allowed = subst (λ s. BeganWith (after s) (after s).scan) (sym e) (tried_free (after (claiming claims takes)) claims takes (has_key k claims))
+      of (claiming claims takes) e allowed = subst (λ s. BeganWith (after s) (after s).scan) (sym e) (subst (BeganWith (after (claiming claims takes))) (sym (still_claiming k done claims takes).is) tt)
+      of s e allowed = absurd (true≢false (sym allowed))
   made_began (Poll None write) proper = of (unwrap_or p.far false)
     where
       of : (b : Bool) → let q = with_made shape vcpu (one vcpu (Poll None write) found left tables).made p (begun b p) in BeganWith q q.scan
@@ -344,25 +247,4 @@ module _ (shape : GuestShape) (vcpu found left : ℕ) (tables : Option Maps) (p 
       of : (b : Bool) → let q = with_made shape vcpu (one vcpu (Poll (Some reg) write) found left tables).made p (after_poll (Some reg) write b p) in BeganWith q q.scan
       of true = began_idle (with_made shape vcpu (one vcpu (Poll (Some reg) write) found left tables).made p (after_poll (Some reg) write true p)) e
       of false = began_idle (with_made shape vcpu (one vcpu (Poll (Some reg) write) found left tables).made p (after_poll (Some reg) write false p)) e
-  made_began (Look (Vcpu v)) proper = began_as (Now shape vcpu found left tables p (Look (Vcpu v))) refl refl
-  made_began (Look Queue) proper = began_as (Now shape vcpu found left tables p (Look Queue)) refl refl
-  made_began (Look Ctlr) proper = began_as (Now shape vcpu found left tables p (Look Ctlr)) refl refl
-  made_began (Look (Plain i)) proper = began_as (Now shape vcpu found left tables p (Look (Plain i))) refl refl
-  made_began (Look (Index v n)) proper = began_as (Now shape vcpu found left tables p (Look (Index v n))) refl refl
-  made_began (Kick other) proper = began_as (Now shape vcpu found left tables p (Kick other)) refl refl
-  made_began (Mark k v) proper = began_as (Now shape vcpu found left tables p (Mark k v)) refl refl
-  made_began (Raise key) proper = began_as (Now shape vcpu found left tables p (Raise key)) refl refl
-  made_began (GiveBack key back) proper = began_as (Now shape vcpu found left tables p (GiveBack key back)) refl refl
-  made_began (Release key) proper = began_as (Now shape vcpu found left tables p (Release key)) refl refl
-  made_began (Touch key seen kind) proper = began_as (Now shape vcpu found left tables p (Touch key seen kind)) refl refl
-  made_began (Want key) proper = began_as (Now shape vcpu found left tables p (Want key)) refl refl
-  made_began (WireUp key) proper = began_as (Now shape vcpu found left tables p (WireUp key)) refl refl
-  made_began (WireDown key) proper = began_as (Now shape vcpu found left tables p (WireDown key)) refl refl
-  made_began (EnableLpis v) proper = began_as (Now shape vcpu found left tables p (EnableLpis v)) refl refl
-  made_began (RamLook index) proper = began_as (Now shape vcpu found left tables p (RamLook index)) refl refl
-  made_began (RamPut index seen value) proper = began_as (Now shape vcpu found left tables p (RamPut index seen value)) refl refl
-  made_began (CtlrTake seen value) proper = began_as (Now shape vcpu found left tables p (CtlrTake seen value)) refl refl
-  made_began CtlrEnd proper = began_as (Now shape vcpu found left tables p CtlrEnd) refl refl
-  made_began (TurnTake seen) proper = began_as (Now shape vcpu found left tables p (TurnTake seen)) refl refl
-  made_began (CommandDone offset stalled ending) proper = began_as (Now shape vcpu found left tables p (CommandDone offset stalled ending)) refl refl
-  made_began TurnRelease proper = began_as (Now shape vcpu found left tables p TurnRelease) refl refl
+  made_began step proper = began_as (Now shape vcpu found left tables p step) refl refl

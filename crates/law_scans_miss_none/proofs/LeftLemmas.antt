@@ -8,7 +8,7 @@ use Rattle.law_registers_stand.proofs.VcpuRefill.ElementLemmas.{Contains-nothing
 use Rattle.law_registers_stand.proofs.CoreProper.ReachLemmas.{inactive}
 use Rattle.law_registers_stand.specs.Words.{Key, GuestShape, intid_of, IsShape, has_bit, Irq as IrqRecord, is_ripe}
 use Rattle.law_registers_stand.specs.Histories.{Track}
-use Rattle.law_registers_stand.specs.Lists.{IchRegs, Seen, seen_in, listed_of, hcr_npie, is_live, LrState, Invalid, Pending, Active, Both, state_has_pending, state_has_active, packed, Choice, Offer, IsPlanned, candidate_of, deliverable_among, is_deliverable_to, first_among, plan, regs_of, chosen_as, Fill}
+use Rattle.law_registers_stand.specs.Lists.{IchRegs, Seen, seen_in, listed_of, hcr_npie, is_live, LrState, Pending, Both, state_has_pending, state_has_active, packed, Choice, Offer, IsPlanned, candidate_of, deliverable_among, is_deliverable_to, first_among, plan, regs_of, chosen_as, Fill}
 use Rattle.law_registers_stand.specs.Registers.{Candidate, CpuRec, first_of, is_before, is_deliverable, is_group_enabled, takes_kind}
 use Rattle.law_registers_stand.specs.Core.{AtIrq, Local, Made, CoreState, alone, has_key, keys_of_both}
 use Rattle.law_registers_stand.proofs.VcpuRefill.EarnedLemmas.{earned, both_deliverable, both_uncut, from_ordered}
@@ -120,10 +120,8 @@ module _ (shape : GuestShape) (good : IsShape shape) (vcpu n : ℕ) (few : n ≤
       cut_is = (asks shape good vcpu n few local empty own offers each apart plain).npie
 
       both_of : (state : LrState) → state_has_pending state ≡ true → state_has_active state ≡ true → state ≡ Both
-      both_of Invalid p a = absurd (cc)
-      both_of Pending p a = absurd (cc)
-      both_of Active p a = absurd (cc)
       both_of Both p a = refl
+      both_of state p a = absurd (cc)
 
       groups_so : (word : ℕ) → (seen_in word).pending ≡ true → IsAwaited (chosen fill.choice) (seen_in word) → is_group_enabled (seen_in word).group local.cpu ≡ true
       groups_so word pending awaited =
@@ -180,10 +178,8 @@ module _ (shape : GuestShape) (good : IsShape shape) (vcpu n : ℕ) (few : n ≤
           not_false false h = absurd (h refl)
 
           pending_state : (s : LrState) → state_has_pending s ≡ true → state_has_active s ≡ false → s ≡ Pending
-          pending_state Invalid p a = absurd (cc)
           pending_state Pending p a = refl
-          pending_state Active p a = absurd (cc)
-          pending_state Both p a = absurd (cc)
+          pending_state s p a = absurd (cc)
 
           after_so :
               (key : Key) → IsDue shape state track vcpu key → IsTrue (is_deliverable key (record_in shape state key) vcpu local.cpu shape) → (IsPlanned fill (offer_in shape state key) → ⊥) → (word : ℕ) → (seen_in word).active ≡ false

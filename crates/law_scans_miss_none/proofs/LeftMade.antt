@@ -1,68 +1,21 @@
 -- What a vCPU's own step leaves of what its registers leave out, before its scan goes on.
-use Rattle.std.proofs.Common.{◌≡◌, ℕ, ◌<◌, ◌==◌, ◌&&◌, ◌||◌, true≢false, not, Bool, true, false, IsTrue, List, Option, if◌then◌else◌, refl, sym, ap, ◌∙◌, subst}
-use Rattle.law_registers_stand.specs.Words.{Key, GuestShape, irq_of}
-use Rattle.law_registers_stand.specs.Calls.{touched}
+use Rattle.std.proofs.Common.{◌≡◌, ℕ, ◌<◌, ◌==◌, ◌&&◌, ◌||◌, not, false, IsTrue, List, Option, sym, ap, ◌∙◌, subst}
+use Rattle.law_registers_stand.specs.Words.{Key, GuestShape}
 use Rattle.law_registers_stand.specs.Histories.{Track, Ideal}
 use Rattle.law_registers_stand.specs.Registers.{Maps}
-use Rattle.law_registers_stand.specs.Core.{Local, CoreStep, Look, Raise, Claim, GiveBack, Release, Poll, Kick, Touch, Want, WireUp, WireDown, EnableLpis, RamLook, RamPut, CtlrTake, CtlrEnd, TurnTake, CommandDone, TurnRelease, Mark, TakeIndex, Irq, Vcpu, Queue, Ctlr, Plain, Index, local_after, claimed, concerned_by, is_settled_by_look, is_ready, succeeds, settled, owing_both, CoreState, seat_at, IsSeatOf, Progress, is_paid, idle, claiming}
+use Rattle.law_registers_stand.specs.Core.{Local, CoreStep, local_after, is_ready, CoreState, seat_at, IsSeatOf, Progress, is_paid, idle, claiming}
 use Rattle.law_registers_stand.specs.LawCoreIsHistory.Related.{is_folding}
 use Rattle.law_registers_stand.proofs.LawCoreIsHistory.AfterLemmas.{later}
 use Rattle.law_registers_stand.proofs.LawCoreIsHistory.KickSteps.{is_poll, unkicked_before}
 use Rattle.law_registers_stand.proofs.LawCoreIsHistory.StepContext.{IsStep}
 use Rattle.law_registers_stand.specs.Asks.{IsUnkicked}
-use Rattle.law_scans_miss_none.proofs.CalmSteps.{ready_stays}
+use Rattle.law_scans_miss_none.proofs.CalmSteps.{takes_index, cpu_kept, ready_stays}
 use Rattle.law_scans_miss_none.proofs.FarSteps.{no_release}
 use Rattle.law_scans_miss_none.proofs.LeftLemmas.{IsBounded}
 use Rattle.law_scans_miss_none.proofs.LeftRuns.{Bounds, Leaves}
 use Rattle.law_scans_miss_none.proofs.LeftSteps.{DueBefore, bounded_on}
 use Rattle.law_scans_miss_none.proofs.ToldLemmas.{is_release, Lasts}
 use Rattle.law_scans_miss_none.proofs.WaitingSteps.{last_in, due_before}
-
--- what a step keeps of an actor's CPU record, and of whether it may do accesses
-record IsQuiet (before after : Local) : Type 0 where
-  pub cpu : after.cpu ≡ before.cpu
-  pub ready : IsTrue (is_ready after.phase) → IsTrue (is_ready before.phase)
-
-kept_quiet : (local : Local) → IsQuiet local local
-kept_quiet local = record { cpu = refl; ready = λ h. h }
-
-either_quiet : (b : Bool) (local done : Local) → IsQuiet local done → IsQuiet local (if b then done else local)
-either_quiet true local done kept = kept
-either_quiet false local done kept = kept_quiet local
-
-abbrev pub keeps_cpu : CoreStep → Bool
-keeps_cpu (Poll reg write) = false
-keeps_cpu (TakeIndex word) = false
-keeps_cpu step = true
-
-cpu_kept : (shape : GuestShape) (actor : ℕ) (local : Local) (step : CoreStep) (found : ℕ) → keeps_cpu step ≡ true → IsQuiet local (local_after shape actor local step found)
-cpu_kept shape actor local (Look (Irq key)) found e = either_quiet (is_settled_by_look shape actor (irq_of found)) local (record local { cands = settled shape actor key local.cands }) (record { cpu = refl; ready = λ h. h })
-cpu_kept shape actor local (Look (Vcpu v)) found e = kept_quiet local
-cpu_kept shape actor local (Look Queue) found e = kept_quiet local
-cpu_kept shape actor local (Look Ctlr) found e = kept_quiet local
-cpu_kept shape actor local (Look (Plain i)) found e = kept_quiet local
-cpu_kept shape actor local (Look (Index v n)) found e = kept_quiet local
-cpu_kept shape actor local (Raise key) found e = record { cpu = refl; ready = λ h. h }
-cpu_kept shape actor local (Claim key seen) found e = either_quiet (succeeds shape actor local (Claim key seen) found) local (claimed shape actor key found local) (record { cpu = refl; ready = λ h. h })
-cpu_kept shape actor local (GiveBack key back) found e = record { cpu = refl; ready = λ h. absurd (true≢false (sym h)) }
-cpu_kept shape actor local (Release key) found e = record { cpu = refl; ready = λ h. h }
-cpu_kept shape actor local (Poll reg write) found e = absurd (true≢false (sym e))
-cpu_kept shape actor local (Kick v) found e = record { cpu = refl; ready = λ h. h }
-cpu_kept shape actor local (Touch key seen kind) found e =
-    either_quiet (succeeds shape actor local (Touch key seen kind) found) local (owing_both key (concerned_by shape (irq_of found) (touched shape key kind (irq_of found))) local) (record { cpu = refl; ready = λ h. h })
-cpu_kept shape actor local (Want key) found e = kept_quiet local
-cpu_kept shape actor local (WireUp key) found e = record { cpu = refl; ready = λ h. h }
-cpu_kept shape actor local (WireDown key) found e = record { cpu = refl; ready = λ h. h }
-cpu_kept shape actor local (EnableLpis v) found e = kept_quiet local
-cpu_kept shape actor local (RamLook index) found e = kept_quiet local
-cpu_kept shape actor local (RamPut index seen value) found e = either_quiet (succeeds shape actor local (RamPut index seen value) found) local local (kept_quiet local)
-cpu_kept shape actor local (CtlrTake seen value) found e = either_quiet (succeeds shape actor local (CtlrTake seen value) found) local (record local { ctlr = true }) (record { cpu = refl; ready = λ h. h })
-cpu_kept shape actor local CtlrEnd found e = record { cpu = refl; ready = λ h. h }
-cpu_kept shape actor local (TurnTake seen) found e = either_quiet (succeeds shape actor local (TurnTake seen) found) local (record local { turn = true }) (record { cpu = refl; ready = λ h. h })
-cpu_kept shape actor local (CommandDone offset stalled ending) found e = kept_quiet local
-cpu_kept shape actor local TurnRelease found e = record { cpu = refl; ready = λ h. h }
-cpu_kept shape actor local (Mark key v) found e = record { cpu = refl; ready = λ h. h }
-cpu_kept shape actor local (TakeIndex word) found e = absurd (true≢false (sym e))
 
 -- what its registers leave out, where a vCPU is not kicked, no claim failed, it owes no scan, and in trap mode it scanned
 abbrev pub LeavesIf : GuestShape → CoreState → Track → ℕ → Progress → Type 0
@@ -78,13 +31,13 @@ module _ {shape : GuestShape} {state : CoreState} {ideal : Ideal} {vcpu found le
 
   -- a step with no scan in progress that changes nothing of that
   pub quiet_leaves :
-      (step : CoreStep) (is : IsStep shape state ideal vcpu step found left tables) (q : Progress) → Lasts is (last_in shape track) (last_in shape later_track) → keeps_cpu step ≡ true → is_poll step ≡ false → p.scan ≡ idle → q.scan ≡ p.scan → q.regs ≡ p.regs → q.trapping ≡ p.trapping → q.debt ≡ p.debt
+      (step : CoreStep) (is : IsStep shape state ideal vcpu step found left tables) (q : Progress) → Lasts is (last_in shape track) (last_in shape later_track) → takes_index step ≡ false → is_poll step ≡ false → p.scan ≡ idle → q.scan ≡ p.scan → q.regs ≡ p.regs → q.trapping ≡ p.trapping → q.debt ≡ p.debt
       → (q.failed ≡ false → p.failed ≡ false) → q.scanned ≡ p.scanned → q.local ≡ local_after shape vcpu p.local step found → LeavesIf shape state track vcpu p → LeavesIf shape (later is) later_track vcpu q
-  quiet_leaves step is q lasted keeps no_poll e scan regs trapping debt failed scanned local before free none owed asked =
+  quiet_leaves step is q lasted no_take no_poll e scan regs trapping debt failed scanned local before free none owed asked =
       subst (Leaves shape (later is) later_track vcpu q) (sym (scan ∙ e))
       (λ ready.
-      let kept = cpu_kept shape vcpu p.local step found keeps in
-      let was_ready : IsTrue (is_ready p.local.phase) = kept.ready (subst (λ (l : Local). IsTrue (is_ready l.phase)) local ready) in
+      let kept = cpu_kept shape vcpu p.local step found no_poll in
+      let was_ready : IsTrue (is_ready p.local.phase) = kept.ready no_take (subst (λ (l : Local). IsTrue (is_ready l.phase)) local ready) in
       let was = subst (Leaves shape state track vcpu p) e
       (before (unkicked_before is vcpu within (ap (λ b. b && vcpu == vcpu) no_poll) free).0 (failed none) (subst (λ d. IsTrue (is_paid d)) debt owed) (subst (λ b. IsTrue (not p.trapping || b)) scanned (subst (λ b. IsTrue (not b || q.scanned)) trapping asked))) was_ready in
       let due = own_due step is lasted (no_release step is within (ap (λ (l : Local). is_folding l.phase) (sym seat.local) ∙ ready_stays p.local.phase was_ready)) no_poll free in

@@ -1,5 +1,5 @@
 -- What a vCPU's registers leave out comes later, at every moment of every proper run.
-use Rattle.std.proofs.Common.{◌≡◌, ℕ, ◌≤◌, ◌==◌, ◌||◌, ◌⊎◌, true≢false, not, Bool, true, false, IsTrue, List, [], ◌∷◌, Contains, is_none, if◌then◌else◌, refl, sym, ◌∙◌, subst}
+use Rattle.std.proofs.Common.{◌≡◌, ℕ, ◌≤◌, ◌==◌, ◌||◌, ◌⊎◌, true≢false, not, Bool, true, false, IsTrue, List, [], Contains, is_none, if◌then◌else◌, refl, sym, ◌∙◌, subst}
 use Rattle.law_registers_stand.specs.Words.{Key, GuestShape, IsShape}
 use Rattle.law_registers_stand.specs.Histories.{Track}
 use Rattle.law_registers_stand.specs.Lists.{Offer}
@@ -33,6 +33,21 @@ BeganWith p (taking planned words) = p.scanned ≡ false
 BeganWith p (looking planned from offers) = p.scanned ≡ false
 BeganWith p scan = Unit {0}
 
+-- so none of trap mode began since
+began_taking : (q : Progress) (purpose : Purpose) (words : ℕ) → BeganWith q (taking purpose words) → purpose ≡ planned → q.scanned ≡ false
+began_taking q planned words h e = h
+began_taking q purpose words h e = absurd (cc)
+
+began_looking : (q : Progress) (purpose : Purpose) (from : ℕ) (offers : List Offer) → BeganWith q (looking purpose from offers) → purpose ≡ planned → q.scanned ≡ false
+began_looking q planned from offers h e = h
+began_looking q purpose from offers h e = absurd (cc)
+
+-- an actor that differs in other things alone began it so too
+pub began_like : (p q : Progress) (scan : Scan) → q.scanned ≡ p.scanned → BeganWith p scan → BeganWith q scan
+began_like p q (taking planned words) same h = same ∙ h
+began_like p q (looking planned from offers) same h = same ∙ h
+began_like p q scan same h = tt
+
 -- A scan that has come so far goes on.
 
 module _ (shape : GuestShape) (good : IsShape shape) (state : CoreState) (track : Track) (vcpu : ℕ) (q : Progress) (some : 1 ≤ q.lrs) (few : q.lrs ≤ 16) (paid : IsTrue (is_paid q.debt)) where
@@ -60,26 +75,16 @@ module _ (shape : GuestShape) (good : IsShape shape) (state : CoreState) (track 
       of true e scanned = fills purpose from offers is meant fresh (all_found shape state track vcpu good from offers q covers e) scanned
       of false e scanned = tt
 
-  began : (purpose : Purpose) (words : ℕ) → BeganWith q (taking purpose words) → purpose ≡ planned → q.scanned ≡ false
-  began planned words h e = h
-  began trapped words h e = absurd (cc)
-  began bare words h e = absurd (cc)
-
-  began_looking : (purpose : Purpose) (from : ℕ) (offers : List Offer) → BeganWith q (looking purpose from offers) → purpose ≡ planned → q.scanned ≡ false
-  began_looking planned from offers h e = h
-  began_looking trapped from offers h e = absurd (cc)
-  began_looking bare from offers h e = absurd (cc)
-
   goes :
       (scan : Scan) → q.scan ≡ scan → Standing false shape vcpu q scan → Asks shape state vcpu q scan → BeganWith q scan → Covers shape state track vcpu q scan → (IsTrue (not q.trapping || q.scanned) → Leaves shape state track vcpu q scan)
       → let on = goes_on shape vcpu scan q in IsTrue (not on.trapping || on.scanned) → Leaves shape state track vcpu on on.scan
   goes idle e is asks fresh covers before scanned = subst (Leaves shape state track vcpu q) (sym e) (before scanned)
   goes (claiming claims takes) e is asks fresh covers before scanned = subst (Leaves shape state track vcpu q) (sym e) (before scanned)
-  goes (looking purpose from offers) e is asks fresh covers before scanned = looks purpose from offers is asks (began_looking purpose from offers fresh) covers scanned
+  goes (looking purpose from offers) e is asks fresh covers before scanned = looks purpose from offers is asks (began_looking q purpose from offers fresh) covers scanned
   goes (taking purpose words) e is asks fresh covers before scanned = of (words == index_words shape) refl scanned
     where
       of : (b : Bool) → (words == index_words shape) ≡ b → let on = (if b then looks_on shape vcpu purpose 0 [] q else q) in IsTrue (not on.trapping || on.scanned) → Leaves shape state track vcpu on on.scan
-      of true h scanned = looks purpose 0 [] (looks_at_none shape vcpu q.local q.own is) asks (began purpose words fresh) (all_taken shape state track vcpu good words q h covers) scanned
+      of true h scanned = looks purpose 0 [] (looks_at_none shape vcpu q.local q.own is) asks (began_taking q purpose words fresh) (all_taken shape state track vcpu good words q h covers) scanned
       of false h scanned = subst (Leaves shape state track vcpu q) (sym e) tt
 
 -- its end
@@ -91,12 +96,8 @@ ended shape state track vcpu q leaves = of q.scan leaves
     over false bounds = bounds
 
     of : (scan : Scan) → Leaves shape state track vcpu q scan → Leaves shape state track vcpu (record q { scan = ended_scan q.local scan }) (ended_scan q.local scan)
-    of idle leaves = leaves
-    of (taking purpose words) leaves = tt
-    of (looking purpose from offers) leaves = tt
     of (claiming [] []) leaves = over (has_no_cand q.local) leaves
-    of (claiming [] (k ∷ takes)) leaves = leaves
-    of (claiming (k ∷ claims) takes) leaves = leaves
+    of scan leaves = leaves
 
 pub leaves_on :
     (shape : GuestShape) (good : IsShape shape) (state : CoreState) (track : Track) (vcpu : ℕ) (q : Progress) → 1 ≤ q.lrs → q.lrs ≤ 16 → IsTrue (is_paid q.debt) → Standing false shape vcpu q q.scan → Asks shape state vcpu q q.scan → BeganWith q q.scan → Covers shape state track vcpu q q.scan
@@ -110,33 +111,21 @@ began_on shape vcpu q h = ended_began (goes_on shape vcpu q.scan q) (goes_began 
   where
     fills_began : (purpose : Purpose) (offers : List Offer) → let on = filled shape vcpu purpose offers q in BeganWith on on.scan
     fills_began planned offers = tt
-    fills_began trapped offers = tt
-    fills_began bare offers = tt
+    fills_began purpose offers = tt
 
     looks_began : (purpose : Purpose) (from : ℕ) (offers : List Offer) → (purpose ≡ planned → q.scanned ≡ false) → (b : Bool) → let on = (if b then filled shape vcpu purpose offers q else record q { scan = looking purpose from offers }) in BeganWith on on.scan
     looks_began purpose from offers fresh true = fills_began purpose offers
     looks_began planned from offers fresh false = fresh refl
-    looks_began trapped from offers fresh false = tt
-    looks_began bare from offers fresh false = tt
-
-    began_taking : (purpose : Purpose) (words : ℕ) → BeganWith q (taking purpose words) → purpose ≡ planned → q.scanned ≡ false
-    began_taking planned words h e = h
-    began_taking trapped words h e = absurd (cc)
-    began_taking bare words h e = absurd (cc)
-
-    began_looked : (purpose : Purpose) (from : ℕ) (offers : List Offer) → BeganWith q (looking purpose from offers) → purpose ≡ planned → q.scanned ≡ false
-    began_looked planned from offers h e = h
-    began_looked trapped from offers h e = absurd (cc)
-    began_looked bare from offers h e = absurd (cc)
+    looks_began purpose from offers fresh false = tt
 
     goes_began : (scan : Scan) → q.scan ≡ scan → BeganWith q scan → let on = goes_on shape vcpu scan q in BeganWith on on.scan
     goes_began idle e h = subst (BeganWith q) (sym e) h
     goes_began (claiming claims takes) e h = subst (BeganWith q) (sym e) h
-    goes_began (looking purpose from offers) e h = looks_began purpose from offers (began_looked purpose from offers h) (is_none (next_cand shape vcpu q.local.cands from))
+    goes_began (looking purpose from offers) e h = looks_began purpose from offers (began_looking q purpose from offers h) (is_none (next_cand shape vcpu q.local.cands from))
     goes_began (taking purpose words) e h = of (words == index_words shape)
       where
         of : (b : Bool) → let on = (if b then looks_on shape vcpu purpose 0 [] q else q) in BeganWith on on.scan
-        of true = looks_began purpose 0 [] (began_taking purpose words h) (is_none (next_cand shape vcpu q.local.cands 0))
+        of true = looks_began purpose 0 [] (began_taking q purpose words h) (is_none (next_cand shape vcpu q.local.cands 0))
         of false = subst (BeganWith q) (sym e) h
 
     ended_began : (r : Progress) → BeganWith r r.scan → BeganWith (record r { scan = ended_scan r.local r.scan }) (ended_scan r.local r.scan)
@@ -147,13 +136,7 @@ began_on shape vcpu q h = ended_began (goes_on shape vcpu q.scan q) (goes_began 
         over false = tt
 
         of : (scan : Scan) → BeganWith r scan → BeganWith (record r { scan = ended_scan r.local scan }) (ended_scan r.local scan)
-        of idle h = tt
-        of (taking planned words) h = h
-        of (taking trapped words) h = tt
-        of (taking bare words) h = tt
-        of (looking planned from offers) h = h
-        of (looking trapped from offers) h = tt
-        of (looking bare from offers) h = tt
         of (claiming [] []) h = over (has_no_cand r.local)
-        of (claiming [] (k ∷ takes)) h = tt
-        of (claiming (k ∷ claims) takes) h = tt
+        of (taking planned words) h = h
+        of (looking planned from offers) h = h
+        of scan h = tt

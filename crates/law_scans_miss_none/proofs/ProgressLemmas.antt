@@ -1,16 +1,14 @@
 -- What a step leaves of how far an actor is, besides its scan.
 use Rattle.std.proofs.Common.{◌≡◌, ℕ, Bool, true, false, Option, Some, None, unwrap_or, refl, ◌∙◌}
 use Rattle.law_registers_stand.specs.Words.{IccReg, Key, GuestShape, Irq as IrqRecord}
-use Rattle.law_registers_stand.specs.Core.{Made, CoreStep, Look, Raise, Claim, GiveBack, Release, Poll, Kick, Touch, Want, WireUp, WireDown, EnableLpis, RamLook, RamPut, CtlrTake, CtlrEnd, TurnTake, CommandDone, TurnRelease, Mark, TakeIndex, Irq, Vcpu, Queue, Ctlr, Plain, Index, local_after, succeeds, vcpu_of, Progress, after_claim, after_poll, begun, stepped, Scan, idle, taking, looking, claiming}
+use Rattle.law_registers_stand.specs.Core.{Made, CoreStep, Look, Claim, Poll, Irq, local_after, succeeds, vcpu_of, Progress, after_claim, after_poll, begun, stepped, Scan, claiming}
 use Rattle.law_registers_stand.specs.CoreProper.Progress.{changed_by}
 use Rattle.law_registers_stand.proofs.CoreProper.ScanLemmas.{kept_on}
 use Rattle.law_scans_miss_none.proofs.ScanSteps.{with_made}
 
 claim_operation : (key : Key) (irq : IrqRecord) (done : Bool) (scan : Scan) (p : Progress) → (after_claim key irq done scan p).operation ≡ p.operation
-claim_operation key irq done idle p = refl
-claim_operation key irq done (taking purpose words) p = refl
-claim_operation key irq done (looking purpose from offers) p = refl
 claim_operation key irq done (claiming claims takes) p = refl
+claim_operation key irq done scan p = refl
 
 poll_operation : (reg : Option IccReg) (write : Option ℕ) (kicked : Bool) (p : Progress) → (after_poll reg write kicked p).operation ≡ p.operation
 poll_operation None write kicked p = of (unwrap_or p.far false)
@@ -22,32 +20,10 @@ poll_operation (Some reg) write true p = refl
 poll_operation (Some reg) write false p = refl
 
 changed_operation : (shape : GuestShape) (actor : ℕ) (step : CoreStep) (found : ℕ) (done : Bool) (p : Progress) → (changed_by shape actor step found done p).operation ≡ p.operation
-changed_operation shape actor (Look (Irq key)) found done p = refl
-changed_operation shape actor (Look (Vcpu v)) found done p = refl
-changed_operation shape actor (Look Queue) found done p = refl
-changed_operation shape actor (Look Ctlr) found done p = refl
-changed_operation shape actor (Look (Plain i)) found done p = refl
-changed_operation shape actor (Look (Index v n)) found done p = refl
-changed_operation shape actor (Raise key) found done p = refl
 changed_operation shape actor (Claim key seen) found done p = claim_operation key _ done p.scan p
-changed_operation shape actor (GiveBack key back) found done p = refl
-changed_operation shape actor (Release key) found done p = refl
 changed_operation shape actor (Poll reg write) found done p = poll_operation reg write (vcpu_of found).kick p
-changed_operation shape actor (Kick v) found done p = refl
-changed_operation shape actor (Touch key seen kind) found done p = refl
-changed_operation shape actor (Want key) found done p = refl
-changed_operation shape actor (WireUp key) found done p = refl
-changed_operation shape actor (WireDown key) found done p = refl
-changed_operation shape actor (EnableLpis v) found done p = refl
-changed_operation shape actor (RamLook index) found done p = refl
-changed_operation shape actor (RamPut index seen value) found done p = refl
-changed_operation shape actor (CtlrTake seen value) found done p = refl
-changed_operation shape actor CtlrEnd found done p = refl
-changed_operation shape actor (TurnTake seen) found done p = refl
-changed_operation shape actor (CommandDone offset stalled ending) found done p = refl
-changed_operation shape actor TurnRelease found done p = refl
-changed_operation shape actor (Mark key v) found done p = refl
-changed_operation shape actor (TakeIndex word) found done p = refl
+changed_operation shape actor (Look (Irq key)) found done p = refl
+changed_operation shape actor step found done p = refl
 
 -- the call goes on
 pub operation_on : (shape : GuestShape) (actor : ℕ) (made : Made) (p : Progress) → (stepped shape actor made p).operation ≡ p.operation

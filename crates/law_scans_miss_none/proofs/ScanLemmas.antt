@@ -1,5 +1,5 @@
 -- A scan goes on.
-use Rattle.std.proofs.Common.{◌≡◌, ◌≤◌, ◌/◌, ℕ, ◌-◌, ◌==◌, ◌⊎◌, inl, inr, true≢false, Bool, true, false, IsTrue, List, [], ◌∷◌, Contains, Option, Some, None, is_none, if◌then◌else◌, find, refl, sym, ◌∙◌, subst, arith}
+use Rattle.std.proofs.Common.{◌≡◌, ◌≤◌, ◌/◌, ℕ, ◌-◌, ◌==◌, ◌⊎◌, inl, inr, true≢false, Bool, true, false, IsTrue, List, [], Contains, Option, Some, None, is_none, if◌then◌else◌, find, refl, sym, ◌∙◌, subst, arith}
 use Rattle.std.specs.List.{range_with_len}
 use Rattle.std.specs.Option.{option_map}
 use Rattle.std.proofs.lemmas.Bool.{eqb-true}
@@ -23,22 +23,16 @@ module _ (shape : GuestShape) (state : CoreState) (track : Track) (vcpu : ℕ) (
   ended : (q : Progress) → Covers shape state track vcpu q q.scan → Covers shape state track vcpu (record q { scan = ended_scan q.local q.scan }) (ended_scan q.local q.scan)
   ended q covers = of q.scan covers
     where
-      over : (b : Bool) → HasScanned shape state track vcpu q → Covers shape state track vcpu (record q { scan = if b then idle else claiming [] [] }) (if b then idle else claiming [] [])
-      over true scanned = tt
-      over false scanned = record { offers = scanned.offers; lrs = scanned.lrs; purpose = scanned.purpose; filled = kept scanned.purpose scanned.filled; covers = scanned.covers }
-        where
-          kept : (purpose : Purpose) → IsFilled shape vcpu q scanned.offers scanned.lrs purpose → IsFilled shape vcpu (record q { scan = claiming [] [] }) scanned.offers scanned.lrs purpose
-          kept planned f = f
-          kept trapped f = f
-          kept bare f = f
-
       kept_on : (claims takes : List Key) → HasScanned shape state track vcpu q → HasScanned shape state track vcpu (record q { scan = claiming claims takes })
       kept_on claims takes scanned = record { offers = scanned.offers; lrs = scanned.lrs; purpose = scanned.purpose; filled = kept scanned.purpose scanned.filled; covers = scanned.covers }
         where
           kept : (purpose : Purpose) → IsFilled shape vcpu q scanned.offers scanned.lrs purpose → IsFilled shape vcpu (record q { scan = claiming claims takes }) scanned.offers scanned.lrs purpose
           kept planned f = f
-          kept trapped f = f
-          kept bare f = f
+          kept purpose f = f
+
+      over : (b : Bool) → HasScanned shape state track vcpu q → Covers shape state track vcpu (record q { scan = if b then idle else claiming [] [] }) (if b then idle else claiming [] [])
+      over true scanned = tt
+      over false scanned = kept_on [] [] scanned
 
       ahead : (scan : Scan) (from : ℕ) (key : Key) → IsAhead shape q from key → IsAhead shape (record q { scan = scan }) from key
       ahead scan from key is = record { cand = is.cand; ahead = is.ahead }
@@ -48,8 +42,7 @@ module _ (shape : GuestShape) (state : CoreState) (track : Track) (vcpu : ℕ) (
       of (taking purpose words) c = c
       of (looking purpose from offers) c = λ key due. elim (c key due) [ inl is ↦ inl (ahead (looking purpose from offers) from key is) | inr there ↦ inr there ]
       of (claiming [] []) c = over (has_no_cand q.local) c
-      of (claiming [] (k ∷ takes)) c = kept_on [] (k ∷ takes) c
-      of (claiming (k ∷ claims) takes) c = kept_on (k ∷ claims) takes c
+      of (claiming claims takes) c = kept_on claims takes c
 
   -- the registers are filled
   fills : (purpose : Purpose) (offers : List Offer) (q : Progress) → ((key : Key) → IsDue shape state track vcpu key → Contains offers (offer_in shape state key)) → let on = filled shape vcpu purpose offers q in Covers shape state track vcpu on on.scan

@@ -1,9 +1,8 @@
 -- Scans overlook no interrupt that is due, at any moment of any proper run.
-use Rattle.std.proofs.Common.{◌≡◌, ◌≢◌, ℕ, ◌<◌, ◌≤◌, ◌/◌, ◌&&◌, ◌⊎◌, inl, inr, Bool, true, false, IsTrue, Contains, refl, sym, ap, ◌∙◌, subst}
-use Rattle.std.proofs.lemmas.Bool.{ne_eqb}
+use Rattle.std.proofs.Common.{◌≡◌, ◌≢◌, ℕ, ◌<◌, ◌≤◌, ◌/◌, ◌⊎◌, inl, inr, true, false, IsTrue, Contains, refl, sym, ap, ◌∙◌, subst}
 use Rattle.law_registers_stand.specs.Words.{Key, GuestShape, IsShape}
 use Rattle.law_registers_stand.specs.Histories.{Track}
-use Rattle.law_registers_stand.specs.Core.{Local, Made, CoreStep, succeeds, is_cand, index_bit, CoreState, after, after_moment, Act, begins, makes, ends, entry_by, Progress, progressed, Scan, idle, taking, looking, claiming}
+use Rattle.law_registers_stand.specs.Core.{Local, Made, succeeds, is_cand, index_bit, CoreState, after, after_moment, Act, begins, makes, ends, entry_by, Progress, progressed, Scan, idle, taking, looking, claiming}
 use Rattle.law_registers_stand.specs.CoreProper.Progress.{changed_by}
 use Rattle.law_registers_stand.proofs.LawCoreIsHistory.StepContext.{IsStep}
 use Rattle.law_registers_stand.specs.Followed.{Followed}
@@ -11,16 +10,13 @@ use Rattle.law_scans_miss_none.specs.Waiting.{IsDue}
 use Rattle.law_registers_stand.specs.Asks.{IsUnkicked}
 use Rattle.law_scans_miss_none.specs.Scan.{Covers, ScanOverlooksNone}
 use Rattle.law_registers_stand.proofs.LawCoreIsHistory.AfterLemmas.{later}
+use Rattle.law_scans_miss_none.proofs.CalmSteps.{no_poll_by}
 use Rattle.law_scans_miss_none.proofs.Frame.{follow, IsAt, IsActing, is_part, excused_part, is_step, lasts, IsKeptBy, runs_keep}
-use Rattle.law_registers_stand.proofs.LawCoreIsHistory.KickSteps.{is_poll, is_poll_by, unkicked_before}
+use Rattle.law_registers_stand.proofs.LawCoreIsHistory.KickSteps.{unkicked_before}
 use Rattle.law_scans_miss_none.proofs.WaitingSteps.{DueSo, due_before}
 use Rattle.law_registers_stand.proofs.CoreProper.ScanLemmas.{failed_on}
 use Rattle.law_scans_miss_none.proofs.ScanLemmas.{covers_on}
 use Rattle.law_scans_miss_none.proofs.ScanSteps.{with_made, as_filled, leaves}
-
-and_false : (b : Bool) → (b && false) ≡ false
-and_false true = refl
-and_false false = refl
 
 -- what a vCPU has still to find is so while it is not kicked, and no claim failed
 abbrev Going : GuestShape → ℕ → CoreState → Followed → Progress → Type 0
@@ -49,7 +45,7 @@ module _ (shape : GuestShape) (good : IsShape shape) (vcpu : ℕ) (within : vcpu
   others :
       (state : CoreState) (at : Followed) (progress : ℕ → Progress) (actor : ℕ) (made : Made) → actor ≢ vcpu → IsAt shape state at progress → IsActing shape state progress actor (makes made) → Going shape vcpu state at (progress vcpu)
       → Going shape vcpu (after shape state (entry_by actor made)) (follow shape state at (record { actor = actor; act = makes made })) (progress vcpu)
-  others state at progress actor made apart here acts going free failed = of p.scan (going (unkicked_before is vcpu within (no_poll made.step) free).0 failed)
+  others state at progress actor made apart here acts going free failed = of p.scan (going (unkicked_before is vcpu within (no_poll_by vcpu actor made.step apart) free).0 failed)
     where
       p : Progress
       p = progress vcpu
@@ -60,11 +56,8 @@ module _ (shape : GuestShape) (good : IsShape shape) (vcpu : ℕ) (within : vcpu
       next : Followed
       next = follow shape state at (record { actor = actor; act = makes made })
 
-      no_poll : (step : CoreStep) → is_poll_by vcpu actor step ≡ false
-      no_poll step = ap (λ b. is_poll step && b) (ne_eqb actor vcpu apart) ∙ and_false (is_poll step)
-
       was : (key : Key) → IsDue shape (later is) next.track vcpu key → DueSo is vcpu within at.track next.track (lasts shape good state at progress actor made here acts) key
-      was key due = due_before is vcpu within at.track next.track (lasts shape good state at progress actor made here acts) (λ own. apart own.1) (no_poll made.step) free key due
+      was key due = due_before is vcpu within at.track next.track (lasts shape good state at progress actor made here acts) (λ own. apart own.1) (no_poll_by vcpu actor made.step apart) free key due
 
       of : (scan : Scan) → Covers shape state at.track vcpu p scan → Covers shape (later is) next.track vcpu p scan
       of idle c = tt

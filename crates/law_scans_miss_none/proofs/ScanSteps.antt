@@ -2,12 +2,12 @@
 use Rattle.std.proofs.Common.{◌≡◌, ◌≢◌, ℕ, ◌+◌, ◌/◌, ◌%◌, ◌<◌, ◌≤◌, ◌==◌, ◌&&◌, ◌||◌, ◌⊎◌, inl, inr, true≢false, not, Bool, true, false, IsTrue, List, [], ◌∷◌, ◌++◌, Contains, Option, Some, None, is_none, unwrap_or, nat_lt, if◌then◌else◌, length, lit<, refl, sym, ap, ◌∙◌, subst, arith}
 use Rattle.std.specs.Option.{option_map}
 use Rattle.std.proofs.lemmas.List.Elements.{Contains-append_left, Contains-append_right}
-use Rattle.std.proofs.lemmas.Bool.{cases_eq, cases_lt, and_parts, eqb-true, ltb-true}
+use Rattle.std.proofs.lemmas.Bool.{cases_eq, cases_lt, and_parts, eqb-true, ltb-true, not-false, or_parts}
 use Rattle.law_registers_stand.specs.Words.{IccReg, Key, GuestShape, has_interrupt, is_of_vcpu, IsShape, has_bit, Irq as IrqRecord, irq_of}
 use Rattle.law_registers_stand.specs.Histories.{Ideal, Track}
 use Rattle.law_registers_stand.specs.Registers.{Maps}
 use Rattle.law_registers_stand.specs.Lists.{Offer, Pending, first_among, plan, regs_of, chosen_as}
-use Rattle.law_registers_stand.specs.Core.{Local, Made, CoreStep, Look, Raise, Claim, GiveBack, Release, Poll, Kick, Touch, Want, WireUp, WireDown, EnableLpis, RamLook, RamPut, CtlrTake, CtlrEnd, TurnTake, CommandDone, TurnRelease, Mark, TakeIndex, Irq, Vcpu, Queue, Ctlr, Plain, Index, local_after, claimed, looked, is_settled_by_look, may_take_index, succeeds, vcpu_of, is_cand, is_vcpu, settled, with_cand_word, owes_no_mark, index_bit, index_bits, index_words, CoreState, seat_at, word_in, IsSeatOf, Progress, after_claim, after_poll, begun, claim_left, IsProperStep, is_empty, alone, Purpose, planned, trapped, bare, Scan, idle, taking, looking, claiming, is_idle, has_key, without_key, is_next, offered, scan_allows, scan_looked, word_taken}
+use Rattle.law_registers_stand.specs.Core.{Local, Made, CoreStep, Look, Claim, Poll, Kick, Mark, TakeIndex, Irq, Index, local_after, claimed, looked, is_settled_by_look, may_take_index, succeeds, vcpu_of, is_cand, is_vcpu, settled, with_cand_word, owes_no_mark, index_bit, index_bits, index_words, CoreState, seat_at, word_in, IsSeatOf, Progress, after_claim, after_poll, begun, claim_left, IsProperStep, is_empty, alone, Purpose, planned, trapped, bare, Scan, idle, taking, looking, claiming, is_idle, has_key, without_key, is_next, offered, scan_allows, scan_looked, tried, word_taken}
 use Rattle.law_registers_stand.specs.CoreProper.Progress.{changed_by}
 use Rattle.law_registers_stand.proofs.LawCoreIsHistory.StepContext.{one, IsStep, has}
 use Rattle.law_scans_miss_none.specs.Index.{owes_mark}
@@ -15,6 +15,7 @@ use Rattle.law_scans_miss_none.specs.Waiting.{record_in, IsDue}
 use Rattle.law_registers_stand.specs.Asks.{IsUnkicked}
 use Rattle.law_scans_miss_none.specs.Scan.{offer_in, IsAhead, IsFilled, HasScanned, Covers}
 use Rattle.law_registers_stand.proofs.LawCoreIsHistory.AfterLemmas.{later}
+use Rattle.law_scans_miss_none.proofs.CalmSteps.{kick_failed}
 use Rattle.law_scans_miss_none.proofs.ToldLemmas.{waiting_concerns, owes_none, IsOwnRelease, Lasts, Told, AllTold}
 use Rattle.law_scans_miss_none.proofs.TellSteps.{concerns_own, same_bit}
 use Rattle.law_scans_miss_none.proofs.IndexSteps.{settled_keeps, taken_keeps, taken_has, either_way}
@@ -158,132 +159,26 @@ is_scan_step step = false
 
 pub only_idle : (shape : GuestShape) (vcpu : ℕ) (local : Local) (step : CoreStep) → is_scan_step step ≡ false → (scan : Scan) → IsTrue (scan_allows shape vcpu local scan step) → scan ≡ idle
 only_idle shape vcpu local step other idle h = refl
-only_idle shape vcpu local (Raise key) other (taking purpose words) h = absurd (true≢false (sym h))
-only_idle shape vcpu local (Raise key) other (looking purpose from offers) h = absurd (true≢false (sym h))
-only_idle shape vcpu local (Raise key) other (claiming [] []) h = absurd (true≢false (sym h))
-only_idle shape vcpu local (Raise key) other (claiming [] (t ∷ takes)) h = absurd (true≢false (sym h))
-only_idle shape vcpu local (Raise key) other (claiming (c ∷ claims) takes) h = absurd (true≢false (sym h))
-only_idle shape vcpu local (GiveBack key back) other (taking purpose words) h = absurd (true≢false (sym h))
-only_idle shape vcpu local (GiveBack key back) other (looking purpose from offers) h = absurd (true≢false (sym h))
-only_idle shape vcpu local (GiveBack key back) other (claiming [] []) h = absurd (true≢false (sym h))
-only_idle shape vcpu local (GiveBack key back) other (claiming [] (t ∷ takes)) h = absurd (true≢false (sym h))
-only_idle shape vcpu local (GiveBack key back) other (claiming (c ∷ claims) takes) h = absurd (true≢false (sym h))
-only_idle shape vcpu local (Release key) other (taking purpose words) h = absurd (true≢false (sym h))
-only_idle shape vcpu local (Release key) other (looking purpose from offers) h = absurd (true≢false (sym h))
-only_idle shape vcpu local (Release key) other (claiming [] []) h = absurd (true≢false (sym h))
-only_idle shape vcpu local (Release key) other (claiming [] (t ∷ takes)) h = absurd (true≢false (sym h))
-only_idle shape vcpu local (Release key) other (claiming (c ∷ claims) takes) h = absurd (true≢false (sym h))
-only_idle shape vcpu local (Poll reg write) other (taking purpose words) h = absurd (true≢false (sym h))
-only_idle shape vcpu local (Poll reg write) other (looking purpose from offers) h = absurd (true≢false (sym h))
-only_idle shape vcpu local (Poll reg write) other (claiming [] []) h = absurd (true≢false (sym h))
-only_idle shape vcpu local (Poll reg write) other (claiming [] (t ∷ takes)) h = absurd (true≢false (sym h))
-only_idle shape vcpu local (Poll reg write) other (claiming (c ∷ claims) takes) h = absurd (true≢false (sym h))
-only_idle shape vcpu local (Touch key seen kind) other (taking purpose words) h = absurd (true≢false (sym h))
-only_idle shape vcpu local (Touch key seen kind) other (looking purpose from offers) h = absurd (true≢false (sym h))
-only_idle shape vcpu local (Touch key seen kind) other (claiming [] []) h = absurd (true≢false (sym h))
-only_idle shape vcpu local (Touch key seen kind) other (claiming [] (t ∷ takes)) h = absurd (true≢false (sym h))
-only_idle shape vcpu local (Touch key seen kind) other (claiming (c ∷ claims) takes) h = absurd (true≢false (sym h))
-only_idle shape vcpu local (Want key) other (taking purpose words) h = absurd (true≢false (sym h))
-only_idle shape vcpu local (Want key) other (looking purpose from offers) h = absurd (true≢false (sym h))
-only_idle shape vcpu local (Want key) other (claiming [] []) h = absurd (true≢false (sym h))
-only_idle shape vcpu local (Want key) other (claiming [] (t ∷ takes)) h = absurd (true≢false (sym h))
-only_idle shape vcpu local (Want key) other (claiming (c ∷ claims) takes) h = absurd (true≢false (sym h))
-only_idle shape vcpu local (WireUp key) other (taking purpose words) h = absurd (true≢false (sym h))
-only_idle shape vcpu local (WireUp key) other (looking purpose from offers) h = absurd (true≢false (sym h))
-only_idle shape vcpu local (WireUp key) other (claiming [] []) h = absurd (true≢false (sym h))
-only_idle shape vcpu local (WireUp key) other (claiming [] (t ∷ takes)) h = absurd (true≢false (sym h))
-only_idle shape vcpu local (WireUp key) other (claiming (c ∷ claims) takes) h = absurd (true≢false (sym h))
-only_idle shape vcpu local (WireDown key) other (taking purpose words) h = absurd (true≢false (sym h))
-only_idle shape vcpu local (WireDown key) other (looking purpose from offers) h = absurd (true≢false (sym h))
-only_idle shape vcpu local (WireDown key) other (claiming [] []) h = absurd (true≢false (sym h))
-only_idle shape vcpu local (WireDown key) other (claiming [] (t ∷ takes)) h = absurd (true≢false (sym h))
-only_idle shape vcpu local (WireDown key) other (claiming (c ∷ claims) takes) h = absurd (true≢false (sym h))
-only_idle shape vcpu local (EnableLpis target) other (taking purpose words) h = absurd (true≢false (sym h))
-only_idle shape vcpu local (EnableLpis target) other (looking purpose from offers) h = absurd (true≢false (sym h))
-only_idle shape vcpu local (EnableLpis target) other (claiming [] []) h = absurd (true≢false (sym h))
-only_idle shape vcpu local (EnableLpis target) other (claiming [] (t ∷ takes)) h = absurd (true≢false (sym h))
-only_idle shape vcpu local (EnableLpis target) other (claiming (c ∷ claims) takes) h = absurd (true≢false (sym h))
-only_idle shape vcpu local (RamLook index) other (taking purpose words) h = absurd (true≢false (sym h))
-only_idle shape vcpu local (RamLook index) other (looking purpose from offers) h = absurd (true≢false (sym h))
-only_idle shape vcpu local (RamLook index) other (claiming [] []) h = absurd (true≢false (sym h))
-only_idle shape vcpu local (RamLook index) other (claiming [] (t ∷ takes)) h = absurd (true≢false (sym h))
-only_idle shape vcpu local (RamLook index) other (claiming (c ∷ claims) takes) h = absurd (true≢false (sym h))
-only_idle shape vcpu local (RamPut index seen value) other (taking purpose words) h = absurd (true≢false (sym h))
-only_idle shape vcpu local (RamPut index seen value) other (looking purpose from offers) h = absurd (true≢false (sym h))
-only_idle shape vcpu local (RamPut index seen value) other (claiming [] []) h = absurd (true≢false (sym h))
-only_idle shape vcpu local (RamPut index seen value) other (claiming [] (t ∷ takes)) h = absurd (true≢false (sym h))
-only_idle shape vcpu local (RamPut index seen value) other (claiming (c ∷ claims) takes) h = absurd (true≢false (sym h))
-only_idle shape vcpu local (CtlrTake seen value) other (taking purpose words) h = absurd (true≢false (sym h))
-only_idle shape vcpu local (CtlrTake seen value) other (looking purpose from offers) h = absurd (true≢false (sym h))
-only_idle shape vcpu local (CtlrTake seen value) other (claiming [] []) h = absurd (true≢false (sym h))
-only_idle shape vcpu local (CtlrTake seen value) other (claiming [] (t ∷ takes)) h = absurd (true≢false (sym h))
-only_idle shape vcpu local (CtlrTake seen value) other (claiming (c ∷ claims) takes) h = absurd (true≢false (sym h))
-only_idle shape vcpu local CtlrEnd other (taking purpose words) h = absurd (true≢false (sym h))
-only_idle shape vcpu local CtlrEnd other (looking purpose from offers) h = absurd (true≢false (sym h))
-only_idle shape vcpu local CtlrEnd other (claiming [] []) h = absurd (true≢false (sym h))
-only_idle shape vcpu local CtlrEnd other (claiming [] (t ∷ takes)) h = absurd (true≢false (sym h))
-only_idle shape vcpu local CtlrEnd other (claiming (c ∷ claims) takes) h = absurd (true≢false (sym h))
-only_idle shape vcpu local (TurnTake seen) other (taking purpose words) h = absurd (true≢false (sym h))
-only_idle shape vcpu local (TurnTake seen) other (looking purpose from offers) h = absurd (true≢false (sym h))
-only_idle shape vcpu local (TurnTake seen) other (claiming [] []) h = absurd (true≢false (sym h))
-only_idle shape vcpu local (TurnTake seen) other (claiming [] (t ∷ takes)) h = absurd (true≢false (sym h))
-only_idle shape vcpu local (TurnTake seen) other (claiming (c ∷ claims) takes) h = absurd (true≢false (sym h))
-only_idle shape vcpu local (CommandDone offset stalled ending) other (taking purpose words) h = absurd (true≢false (sym h))
-only_idle shape vcpu local (CommandDone offset stalled ending) other (looking purpose from offers) h = absurd (true≢false (sym h))
-only_idle shape vcpu local (CommandDone offset stalled ending) other (claiming [] []) h = absurd (true≢false (sym h))
-only_idle shape vcpu local (CommandDone offset stalled ending) other (claiming [] (t ∷ takes)) h = absurd (true≢false (sym h))
-only_idle shape vcpu local (CommandDone offset stalled ending) other (claiming (c ∷ claims) takes) h = absurd (true≢false (sym h))
-only_idle shape vcpu local TurnRelease other (taking purpose words) h = absurd (true≢false (sym h))
-only_idle shape vcpu local TurnRelease other (looking purpose from offers) h = absurd (true≢false (sym h))
-only_idle shape vcpu local TurnRelease other (claiming [] []) h = absurd (true≢false (sym h))
-only_idle shape vcpu local TurnRelease other (claiming [] (t ∷ takes)) h = absurd (true≢false (sym h))
-only_idle shape vcpu local TurnRelease other (claiming (c ∷ claims) takes) h = absurd (true≢false (sym h))
-only_idle shape vcpu local (Look (Vcpu v)) other (taking purpose words) h = absurd (true≢false (sym h))
-only_idle shape vcpu local (Look (Vcpu v)) other (looking purpose from offers) h = absurd (true≢false (sym h))
-only_idle shape vcpu local (Look (Vcpu v)) other (claiming [] []) h = absurd (true≢false (sym h))
-only_idle shape vcpu local (Look (Vcpu v)) other (claiming [] (t ∷ takes)) h = absurd (true≢false (sym h))
-only_idle shape vcpu local (Look (Vcpu v)) other (claiming (c ∷ claims) takes) h = absurd (true≢false (sym h))
-only_idle shape vcpu local (Look Queue) other (taking purpose words) h = absurd (true≢false (sym h))
-only_idle shape vcpu local (Look Queue) other (looking purpose from offers) h = absurd (true≢false (sym h))
-only_idle shape vcpu local (Look Queue) other (claiming [] []) h = absurd (true≢false (sym h))
-only_idle shape vcpu local (Look Queue) other (claiming [] (t ∷ takes)) h = absurd (true≢false (sym h))
-only_idle shape vcpu local (Look Queue) other (claiming (c ∷ claims) takes) h = absurd (true≢false (sym h))
-only_idle shape vcpu local (Look Ctlr) other (taking purpose words) h = absurd (true≢false (sym h))
-only_idle shape vcpu local (Look Ctlr) other (looking purpose from offers) h = absurd (true≢false (sym h))
-only_idle shape vcpu local (Look Ctlr) other (claiming [] []) h = absurd (true≢false (sym h))
-only_idle shape vcpu local (Look Ctlr) other (claiming [] (t ∷ takes)) h = absurd (true≢false (sym h))
-only_idle shape vcpu local (Look Ctlr) other (claiming (c ∷ claims) takes) h = absurd (true≢false (sym h))
-only_idle shape vcpu local (Look (Plain i)) other (taking purpose words) h = absurd (true≢false (sym h))
-only_idle shape vcpu local (Look (Plain i)) other (looking purpose from offers) h = absurd (true≢false (sym h))
-only_idle shape vcpu local (Look (Plain i)) other (claiming [] []) h = absurd (true≢false (sym h))
-only_idle shape vcpu local (Look (Plain i)) other (claiming [] (t ∷ takes)) h = absurd (true≢false (sym h))
-only_idle shape vcpu local (Look (Plain i)) other (claiming (c ∷ claims) takes) h = absurd (true≢false (sym h))
-only_idle shape vcpu local (Look (Index v n)) other (taking purpose words) h = absurd (true≢false (sym h))
-only_idle shape vcpu local (Look (Index v n)) other (looking purpose from offers) h = absurd (true≢false (sym h))
-only_idle shape vcpu local (Look (Index v n)) other (claiming [] []) h = absurd (true≢false (sym h))
-only_idle shape vcpu local (Look (Index v n)) other (claiming [] (t ∷ takes)) h = absurd (true≢false (sym h))
-only_idle shape vcpu local (Look (Index v n)) other (claiming (c ∷ claims) takes) h = absurd (true≢false (sym h))
-only_idle shape vcpu local (Look (Irq key)) other (taking purpose words) h = absurd (true≢false other)
-only_idle shape vcpu local (Look (Irq key)) other (looking purpose from offers) h = absurd (true≢false other)
-only_idle shape vcpu local (Look (Irq key)) other (claiming claims takes) h = absurd (true≢false other)
-only_idle shape vcpu local (Claim key seen) other (taking purpose words) h = absurd (true≢false other)
-only_idle shape vcpu local (Claim key seen) other (looking purpose from offers) h = absurd (true≢false other)
-only_idle shape vcpu local (Claim key seen) other (claiming claims takes) h = absurd (true≢false other)
-only_idle shape vcpu local (Kick other') other (taking purpose words) h = absurd (true≢false other)
-only_idle shape vcpu local (Kick other') other (looking purpose from offers) h = absurd (true≢false other)
-only_idle shape vcpu local (Kick other') other (claiming claims takes) h = absurd (true≢false other)
-only_idle shape vcpu local (Mark key other') other (taking purpose words) h = absurd (true≢false other)
-only_idle shape vcpu local (Mark key other') other (looking purpose from offers) h = absurd (true≢false other)
-only_idle shape vcpu local (Mark key other') other (claiming claims takes) h = absurd (true≢false other)
-only_idle shape vcpu local (TakeIndex word) other (taking purpose words) h = absurd (true≢false other)
-only_idle shape vcpu local (TakeIndex word) other (looking purpose from offers) h = absurd (true≢false other)
-only_idle shape vcpu local (TakeIndex word) other (claiming claims takes) h = absurd (true≢false other)
+only_idle shape vcpu local (Look (Irq key)) other scan h = absurd (true≢false other)
+only_idle shape vcpu local (Claim key seen) other scan h = absurd (true≢false other)
+only_idle shape vcpu local (Kick target) other scan h = absurd (true≢false other)
+only_idle shape vcpu local (Mark key target) other scan h = absurd (true≢false other)
+only_idle shape vcpu local (TakeIndex word) other scan h = absurd (true≢false other)
+only_idle shape vcpu local step other scan h = absurd (true≢false (sym h))
 
 -- a scan has claims or takes left, or marks
-record IsClaiming (scan : Scan) : Type 0 where
+pub record IsClaiming (scan : Scan) : Type 0 where
   pub claims : List Key
   pub takes : List Key
   pub is : scan ≡ claiming claims takes
+
+-- so it is after a claim or take
+pub still_claiming : (key : Key) (done : Bool) (claims takes : List Key) → IsClaiming (tried key done (claiming claims takes))
+still_claiming key done claims takes = of (has_key key claims)
+  where
+    of : (b : Bool) → IsClaiming (if b then claiming (without_key key claims) (if done then takes else without_key key takes) else claiming claims (without_key key takes))
+    of true = record { claims = without_key key claims; takes = if done then takes else without_key key takes; is = refl }
+    of false = record { claims = claims; takes = without_key key takes; is = refl }
 
 -- a scan without end, with another state: what is filled stays so
 pub as_filled : (shape : GuestShape) (vcpu : ℕ) (p q : Progress) (offers : List Offer) (lrs : ℕ) (purpose : Purpose) → q.regs ≡ p.regs → q.trapping ≡ p.trapping → q.local.cpu ≡ p.local.cpu → IsFilled shape vcpu p offers lrs purpose → IsFilled shape vcpu q offers lrs purpose
@@ -320,10 +215,6 @@ module _ {shape : GuestShape} {state : CoreState} {ideal : Ideal} {vcpu found le
 
       of : (scan : Scan) → p.scan ≡ scan → IsTrue (scan_allows shape vcpu p.local scan (Look (Irq k))) → Covers shape state track vcpu p p.scan → Covers shape (later is) later_track vcpu q q.scan
       of idle e allowed before = subst (Covers shape (later is) later_track vcpu q) (sym (ap (scan_looked shape k (irq_of found)) e)) tt
-      of (taking purpose words) e allowed before = absurd (true≢false (sym allowed))
-      of (claiming [] []) e allowed before = absurd (true≢false (sym allowed))
-      of (claiming [] (t ∷ takes)) e allowed before = absurd (true≢false (sym allowed))
-      of (claiming (c ∷ claims) takes) e allowed before = absurd (true≢false (sym allowed))
       of (looking purpose from offers) e allowed before =
           subst (Covers shape (later is) later_track vcpu q) (sym (ap (scan_looked shape k (irq_of found)) e))
           (λ key due.
@@ -331,6 +222,7 @@ module _ {shape : GuestShape} {state : CoreState} {ideal : Ideal} {vcpu found le
             | inl still ↦ inl (record { cand = still.0; ahead = still.1 })
             | inr there ↦ inr there
           ])
+      of scan e allowed before = absurd (true≢false (sym allowed))
 
   leaves_take_index :
       (w : ℕ) (is : IsStep shape state ideal vcpu (TakeIndex w) found left tables) (lasts : Lasts is (last_in shape track) (last_in shape later_track)) → IsProperStep shape vcpu p (TakeIndex w) → (IsUnkicked shape state vcpu → p.failed ≡ false → Covers shape state track vcpu p p.scan) → Leaves is track later_track p
@@ -347,24 +239,14 @@ module _ {shape : GuestShape} {state : CoreState} {ideal : Ideal} {vcpu found le
       of (taking purpose words) e allowed trap before =
           subst (Covers shape (later is) later_track vcpu q) (sym (ap word_taken e))
           (λ key due. takes_word within track later_track all_told p seat w is lasts words (eqb-true w words allowed) calm (subst (Covers shape state track vcpu p) e before) key due)
-      of (looking purpose from offers) e allowed trap before = absurd (true≢false (sym allowed))
-      of (claiming [] []) e allowed trap before = absurd (true≢false (sym allowed))
-      of (claiming [] (t ∷ takes)) e allowed trap before = absurd (true≢false (sym allowed))
-      of (claiming (c ∷ claims) takes) e allowed trap before = absurd (true≢false (sym allowed))
+      of scan e allowed trap before = absurd (true≢false (sym allowed))
 
   -- a kick, also of the vCPU itself where a claim failed
   leaves_kick : (other : ℕ) (is : IsStep shape state ideal vcpu (Kick other) found left tables) (lasts : Lasts is (last_in shape track) (last_in shape later_track)) → (IsUnkicked shape state vcpu → p.failed ≡ false → Covers shape state track vcpu p p.scan) → Leaves is track later_track p
-  leaves_kick other is lasts covers calm failed = of p.scan refl (covers ((unkicked_before is vcpu within refl calm).0) (still p.failed failed))
+  leaves_kick other is lasts covers calm failed = of p.scan refl (covers ((unkicked_before is vcpu within refl calm).0) (kick_failed p.failed other vcpu ((unkicked_before is vcpu within refl calm).1) failed))
     where
       q : Progress
       q = with_made shape vcpu (one vcpu (Kick other) found left tables).made p (changed_by shape vcpu (Kick other) found true p)
-
-      mine : (other == vcpu) ≡ false
-      mine = (unkicked_before is vcpu within refl calm).1
-
-      still : (b : Bool) → (b && not (other == vcpu)) ≡ false → b ≡ false
-      still true e = absurd (true≢false (sym (ap not mine) ∙ e))
-      still false e = refl
 
       before_is : (key : Key) → IsDue shape (later is) later_track vcpu key → DueSo is vcpu within track later_track lasts key
       before_is key due = due_before is vcpu within track later_track lasts (λ own. absurd (true≢false (sym own.0))) refl calm key due
@@ -393,12 +275,9 @@ module _ {shape : GuestShape} {state : CoreState} {ideal : Ideal} {vcpu found le
 
       of : (scan : Scan) → p.scan ≡ scan → IsTrue (scan_allows shape vcpu p.local scan (Mark k v)) → Covers shape state track vcpu p p.scan → Covers shape (later is) later_track vcpu q q.scan
       of idle e allowed before = subst (Covers shape (later is) later_track vcpu q) (sym e) tt
-      of (taking purpose words) e allowed before = absurd (true≢false (sym allowed))
-      of (looking purpose from offers) e allowed before = absurd (true≢false (sym allowed))
-      of (claiming [] (t ∷ takes)) e allowed before = absurd (true≢false (sym allowed))
-      of (claiming (c ∷ claims) takes) e allowed before = absurd (true≢false (sym allowed))
       of (claiming [] []) e allowed before =
           subst (Covers shape (later is) later_track vcpu q) (sym e) (scanned_on (Mark k v) is lasts q (λ own. absurd (true≢false (sym own.0))) refl refl refl refl calm (subst (Covers shape state track vcpu p) e before))
+      of scan e allowed before = absurd (true≢false (sym allowed))
 
   leaves_claim :
       (k : Key) (seen : ℕ) (is : IsStep shape state ideal vcpu (Claim k seen) found left tables) (lasts : Lasts is (last_in shape track) (last_in shape later_track)) → IsProperStep shape vcpu p (Claim k seen) → (IsUnkicked shape state vcpu → p.failed ≡ false → Covers shape state track vcpu p p.scan) → Leaves is track later_track p
@@ -417,31 +296,17 @@ module _ {shape : GuestShape} {state : CoreState} {ideal : Ideal} {vcpu found le
       cpu : (local_after shape vcpu p.local (Claim k seen) found).cpu ≡ p.local.cpu
       cpu = either_way (λ (l : Local). l.cpu) done (claimed shape vcpu k found p.local) p.local refl
 
-      either : (claims takes : List Key) (b : Bool) → IsClaiming (if b then claiming (without_key k claims) (if done then takes else without_key k takes) else claiming claims (without_key k takes))
-      either claims takes true = record { claims = without_key k claims; takes = if done then takes else without_key k takes; is = refl }
-      either claims takes false = record { claims = claims; takes = without_key k takes; is = refl }
-
       of : (scan : Scan) → p.scan ≡ scan → IsTrue (scan_allows shape vcpu p.local scan (Claim k seen)) → (p.failed ≡ false → Covers shape state track vcpu p p.scan) → Covers shape (later is) later_track vcpu q q.scan
-      of (taking purpose words) e allowed before = absurd (true≢false (sym allowed))
-      of (looking purpose from offers) e allowed before = absurd (true≢false (sym allowed))
       of idle e allowed before = subst (Covers shape (later is) later_track vcpu q) (sym (ap (λ scan. (after_claim k (irq_of found) done scan p).scan) e ∙ e)) tt
       of (claiming claims takes) e allowed before =
           let same : q ≡ after claims takes = ap (λ scan. with_made shape vcpu (one vcpu (Claim k seen) found left tables).made p (after_claim k (irq_of found) done scan p)) e in
           let none : (p.failed || not done) ≡ false = sym (ap (λ (r : Progress). r.failed) same) ∙ failed in
-          let tries = either claims takes (has_key k claims) in
+          let tries = still_claiming k done claims takes in
           subst (λ r. Covers shape (later is) later_track vcpu r r.scan) (sym same)
           (subst (Covers shape (later is) later_track vcpu (after claims takes)) (sym tries.is)
-          (scanned_on (Claim k seen) is lasts (after claims takes) (λ own. absurd (true≢false (sym own.0))) refl (ap (λ b. claim_left k b claims p.regs) (done_is p.failed done none)) refl cpu calm
-          (subst (Covers shape state track vcpu p) e (before (not_failed p.failed (not done) none)))))
-        where
-          not_failed : (a b : Bool) → (a || b) ≡ false → a ≡ false
-          not_failed true b h = absurd (true≢false h)
-          not_failed false b h = refl
-
-          done_is : (a b : Bool) → (a || not b) ≡ false → b ≡ true
-          done_is true b h = absurd (true≢false h)
-          done_is false true h = refl
-          done_is false false h = absurd (true≢false h)
+          (scanned_on (Claim k seen) is lasts (after claims takes) (λ own. absurd (true≢false (sym own.0))) refl (ap (λ b. claim_left k b claims p.regs) (not-false done (or_parts p.failed (not done) none).1)) refl cpu calm
+          (subst (Covers shape state track vcpu p) e (before (or_parts p.failed (not done) none).0))))
+      of scan e allowed before = absurd (true≢false (sym allowed))
 
   leaves_poll :
       (reg : Option IccReg) (write : Option ℕ) (is : IsStep shape state ideal vcpu (Poll reg write) found left tables) (lasts : Lasts is (last_in shape track) (last_in shape later_track)) → IsProperStep shape vcpu p (Poll reg write) → Leaves is track later_track p
@@ -466,28 +331,9 @@ module _ {shape : GuestShape} {state : CoreState} {ideal : Ideal} {vcpu found le
 
   pub leaves : (step : CoreStep) (is : IsStep shape state ideal vcpu step found left tables) (lasts : Lasts is (last_in shape track) (last_in shape later_track)) → IsProperStep shape vcpu p step → (IsUnkicked shape state vcpu → p.failed ≡ false → Covers shape state track vcpu p p.scan) → Leaves is track later_track p
   leaves (Look (Irq k)) is lasts proper covers = leaves_look k is lasts proper covers
-  leaves (Look (Vcpu v)) is lasts proper covers = leaves_same (Look (Vcpu v)) is lasts proper refl refl
-  leaves (Look Queue) is lasts proper covers = leaves_same (Look Queue) is lasts proper refl refl
-  leaves (Look Ctlr) is lasts proper covers = leaves_same (Look Ctlr) is lasts proper refl refl
-  leaves (Look (Plain i)) is lasts proper covers = leaves_same (Look (Plain i)) is lasts proper refl refl
-  leaves (Look (Index v n)) is lasts proper covers = leaves_same (Look (Index v n)) is lasts proper refl refl
   leaves (Claim k seen) is lasts proper covers = leaves_claim k seen is lasts proper covers
   leaves (Kick other) is lasts proper covers = leaves_kick other is lasts covers
   leaves (Mark k v) is lasts proper covers = leaves_mark k v is lasts proper covers
   leaves (TakeIndex w) is lasts proper covers = leaves_take_index w is lasts proper covers
   leaves (Poll reg write) is lasts proper covers = leaves_poll reg write is lasts proper
-  leaves (Raise key) is lasts proper covers = leaves_same (Raise key) is lasts proper refl refl
-  leaves (GiveBack key back) is lasts proper covers = leaves_same (GiveBack key back) is lasts proper refl refl
-  leaves (Release key) is lasts proper covers = leaves_same (Release key) is lasts proper refl refl
-  leaves (Touch key seen kind) is lasts proper covers = leaves_same (Touch key seen kind) is lasts proper refl refl
-  leaves (Want key) is lasts proper covers = leaves_same (Want key) is lasts proper refl refl
-  leaves (WireUp key) is lasts proper covers = leaves_same (WireUp key) is lasts proper refl refl
-  leaves (WireDown key) is lasts proper covers = leaves_same (WireDown key) is lasts proper refl refl
-  leaves (EnableLpis other) is lasts proper covers = leaves_same (EnableLpis other) is lasts proper refl refl
-  leaves (RamLook index) is lasts proper covers = leaves_same (RamLook index) is lasts proper refl refl
-  leaves (RamPut index seen value) is lasts proper covers = leaves_same (RamPut index seen value) is lasts proper refl refl
-  leaves (CtlrTake seen value) is lasts proper covers = leaves_same (CtlrTake seen value) is lasts proper refl refl
-  leaves CtlrEnd is lasts proper covers = leaves_same CtlrEnd is lasts proper refl refl
-  leaves (TurnTake seen) is lasts proper covers = leaves_same (TurnTake seen) is lasts proper refl refl
-  leaves (CommandDone offset stalled ending) is lasts proper covers = leaves_same (CommandDone offset stalled ending) is lasts proper refl refl
-  leaves TurnRelease is lasts proper covers = leaves_same TurnRelease is lasts proper refl refl
+  leaves step is lasts proper covers = leaves_same step is lasts proper refl refl

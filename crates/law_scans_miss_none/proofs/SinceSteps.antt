@@ -22,9 +22,9 @@ use Rattle.law_registers_stand.specs.Asks.{IsUnkicked}
 use Rattle.law_registers_stand.proofs.LawCoreIsHistory.AfterLemmas.{later, local_mine, seat_other, word_stays}
 use Rattle.law_scans_miss_none.proofs.CalmSteps.{IsCalm, OwnCalm, scans, accesses, goes_on, no_poll_by, own_calm}
 use Rattle.law_scans_miss_none.proofs.ProgressLemmas.{local_on}
-use Rattle.law_scans_miss_none.proofs.ToldLemmas.{event_changes, step_changes}
+use Rattle.law_scans_miss_none.proofs.ToldLemmas.{event_changes, event_subject, step_changes}
 use Rattle.law_scans_miss_none.proofs.Frame.{changing_goes_on, follow, IsAt, IsActing, is_part, part_settled, settled_owes, is_step, after_event, event, simulated, operation_after, number_after, owing_goes_on, IsKeptBy, runs_keep}
-use Rattle.law_scans_miss_none.proofs.HeldLemmas.{HeldSo, stays, alters, arrives, held_so, event_subject}
+use Rattle.law_scans_miss_none.proofs.HeldLemmas.{HeldSo, stays, alters, arrives, held_so}
 use Rattle.law_scans_miss_none.proofs.TrackLemmas.{current_on, doing_other, last_made, changes_apart, since_reach, happens_changes}
 use Rattle.law_registers_stand.proofs.LawCoreIsHistory.KickSteps.{is_kick_of, unkicked_before}
 use Rattle.law_scans_miss_none.proofs.WaitingSteps.{owes_on}

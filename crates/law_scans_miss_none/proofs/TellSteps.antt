@@ -2,7 +2,7 @@
 use Rattle.std.proofs.Common.{◌≡◌, ◌≢◌, ℕ, ◌^◌, ◌<◌, ◌==◌, ◌&&◌, ◌||◌, ◌⊎◌, inl, inr, true≢false, not, max, Bool, true, false, IsTrue, List, [], ◌∷◌, Option, Some, None, is_none, is_some, bit_or, if◌then◌else◌, refl, sym, ap, ◌∙◌, subst, arith}
 use Rattle.std.specs.Int.{bit_at}
 use Rattle.std.specs.Option.{option_map_or}
-use Rattle.std.proofs.lemmas.Bool.{and_parts, and_from, ltb-true, eqb-true, eq-eqb}
+use Rattle.std.proofs.lemmas.Bool.{and_parts, and_from, or_cases, ltb-true, eqb-true, eq-eqb}
 use Rattle.std.proofs.lemmas.Grind.{common_steps}
 use Rattle.std.proofs.lemmas.Option.{none-some}
 use Rattle.std.proofs.lemmas.Nat.Bits.{bit_at_or, bit_at-lt, bit_at-pow_same}
@@ -10,7 +10,7 @@ use Rattle.law_registers_stand.specs.Registers.{Targets, Maps}
 use Rattle.law_registers_stand.specs.Words.{Back, Key, Private, Spi, Lpi, GuestShape, has_interrupt, is_of_vcpu, is_same_key, IsShape, has_bit, Irq as IrqRecord, raised, wire_up, wire_down, is_number, is_ripe, is_pending, is_forwarded, target_in, irq_of, packed, IsIrq, IsSeat}
 use Rattle.law_registers_stand.proofs.GicBase.KeyLemmas.{same_itself}
 use Rattle.law_registers_stand.specs.Calls.{Touching, may_reach, may_take, reached, taken, touched}
-use Rattle.law_registers_stand.specs.Core.{AtIrq, Local, CoreStep, Look, Raise, Claim, GiveBack, Release, Poll, Kick, Touch, Want, WireUp, WireDown, EnableLpis, RamLook, RamPut, CtlrTake, CtlrEnd, TurnTake, CommandDone, TurnRelease, Mark, TakeIndex, WordId, Irq, Vcpu, Queue, Ctlr, Plain, Index, local_after, concerned, concerned_by, holder_or_active, target_of, marked_of_release, told_of_release, succeeds, changed, claimed_irq, may_move, may_hold, moved_of, touched_irq, given_back, released, is_active_at, is_vcpu, with_all, with_some, with_vcpu, no_vcpus, owing_both, entry_for, without_at, back_of, index_bit, CoreState, seat_at, word_of, IsIrqWord, look_event, event_done}
+use Rattle.law_registers_stand.specs.Core.{AtIrq, Local, CoreStep, Look, Raise, Claim, GiveBack, Release, Touch, Want, WireUp, WireDown, WordId, Irq, local_after, concerned, concerned_by, holder_or_active, target_of, marked_of_release, told_of_release, succeeds, changed, claimed_irq, may_move, may_hold, moved_of, touched_irq, given_back, released, is_active_at, is_vcpu, with_all, with_some, with_vcpu, no_vcpus, owing_both, entry_for, without_at, back_of, index_bit, CoreState, seat_at, word_of, IsIrqWord, look_event, event_done}
 use Rattle.law_registers_stand.proofs.PortCore.StepTies.{number_is, none_is}
 use Rattle.law_registers_stand.proofs.PortCore.StepWords.{packed_is, owned_of}
 use Rattle.law_registers_stand.proofs.PortCore.StepMade.{all_three}
@@ -61,13 +61,9 @@ first_has set o vcpus v e = subst (λ p. IsTrue (has_bit (with_all set (p ∷ vc
 
 -- Interrupts that concern a vCPU.
 
-pub or_either : (a b : Bool) → (a || b) ≡ true → (a ≡ true) ⊎ (b ≡ true)
-or_either true b h = inl refl
-or_either false b h = inr h
-
 -- it is their target, or they are active by it
 pub concerns_by : (shape : GuestShape) (vcpu : ℕ) (irq : IrqRecord) → IsTrue (concerns shape vcpu irq) → (target_in irq.route shape ≡ Some vcpu) ⊎ (irq.act_by ≡ Some vcpu)
-concerns_by shape vcpu irq h = elim (or_either (is_ripe irq vcpu shape) (is_number vcpu irq.act_by) h) [
+concerns_by shape vcpu irq h = elim (or_cases (is_ripe irq vcpu shape) (is_number vcpu irq.act_by) h) [
   | inl ripe ↦ inl (number_is vcpu (target_in irq.route shape) (and_parts (is_pending irq && irq.enabled && is_forwarded irq) (is_number vcpu (target_in irq.route shape)) ripe).1)
   | inr active ↦ inr (number_is vcpu irq.act_by active)
 ]
@@ -85,14 +81,9 @@ same_bit shape vcpu (Private v i) (Private w j) is here there own too e = privat
   where
     private : (v w i j : ℕ) → v ≡ w → i ≡ j → Private v i ≡ Private w j
     private v w i j e f = cc
-same_bit shape vcpu (Private v i) (Spi j) is here there own too e = absurd (grind (arith, common_steps, here, there, e))
-same_bit shape vcpu (Private v i) (Lpi j) is here there own too e = absurd (grind (arith, common_steps, here, there, e))
-same_bit shape vcpu (Spi i) (Private w j) is here there own too e = absurd (grind (arith, common_steps, here, there, e))
 same_bit shape vcpu (Spi i) (Spi j) is here there own too e = ap Spi (grind (arith, common_steps, here, there, e))
-same_bit shape vcpu (Spi i) (Lpi j) is here there own too e = absurd (grind (arith, common_steps, here, there, e))
-same_bit shape vcpu (Lpi i) (Private w j) is here there own too e = absurd (grind (arith, common_steps, here, there, e))
-same_bit shape vcpu (Lpi i) (Spi j) is here there own too e = absurd (grind (arith, common_steps, here, there, e))
 same_bit shape vcpu (Lpi i) (Lpi j) is here there own too e = ap Lpi (grind (arith, common_steps, here, there, e))
+same_bit shape vcpu one other is here there own too e = absurd (grind (arith, common_steps, here, there, e))
 
 -- Whom a change of an interrupt is owed to.
 
@@ -288,7 +279,7 @@ module _ {shape : GuestShape} {state : CoreState} {ideal : Ideal} {actor found l
           ap (λ (i : IrqRecord). i.act_by) back ∙ ap (λ b. if b then Some actor else (irq_at ideal.guest key).act_by) same
 
       kicks : IsTrue (waits_for shape vcpu (released active irq)) → IsTrue (has_bit (with_all local.owes (told_of_release shape actor active irq)).0 vcpu) ⊎ IsOwnRelease (Release key) actor vcpu
-      kicks waits = elim (or_either (is_none (released active irq).act_by && is_ripe (released active irq) vcpu shape) (is_number vcpu (released active irq).act_by) waits) [
+      kicks waits = elim (or_cases (is_none (released active irq).act_by && is_ripe (released active irq) vcpu shape) (is_number vcpu (released active irq).act_by) waits) [
         | inl ripe ↦ of active refl ripe
         | inr by ↦ inr (refl, same_some actor vcpu (mine_active active (number_is vcpu (released active irq).act_by by)))
       ]
@@ -368,11 +359,7 @@ module _ {shape : GuestShape} {state : CoreState} {ideal : Ideal} {actor found l
 -- a look changes nothing
 look_quiet : (found : ℕ) (word : WordId) (key : Key) → event_changes (look_event word found) key ≡ false
 look_quiet found (Irq k) key = refl
-look_quiet found (Vcpu v) key = refl
-look_quiet found Queue key = refl
-look_quiet found Ctlr key = refl
-look_quiet found (Plain i) key = refl
-look_quiet found (Index v n) key = refl
+look_quiet found word key = refl
 
 pub tells : {shape : GuestShape} {state : CoreState} {ideal : Ideal} {actor found left : ℕ} {tables : Option Maps} (step : CoreStep) (is : IsStep shape state ideal actor step found left tables) → Tells is
 tells {found = found} (Look word) is = as_found is is.takes.left (look_quiet found word)
@@ -380,19 +367,8 @@ tells (Raise key) is = tells_raise key is
 tells (Claim key seen) is = tells_claim key seen is
 tells (GiveBack key back) is = tells_give_back key back is
 tells (Release key) is = tells_release key is
-tells (Poll reg write) is = on_other is (λ key e. absurd (cc))
-tells (Kick vcpu) is = on_other is (λ key e. absurd (cc))
 tells (Touch key seen kind) is = tells_touch key seen kind is
 tells (Want key) is = tells_want key is
 tells (WireUp key) is = tells_wire_up key is
 tells (WireDown key) is = tells_wire_down key is
-tells (EnableLpis vcpu) is = on_other is (λ key e. absurd (cc))
-tells (RamLook index) is = on_other is (λ key e. absurd (cc))
-tells (RamPut index seen value) is = on_other is (λ key e. absurd (cc))
-tells (CtlrTake seen value) is = on_other is (λ key e. absurd (cc))
-tells CtlrEnd is = on_other is (λ key e. absurd (cc))
-tells (TurnTake seen) is = on_other is (λ key e. absurd (cc))
-tells (CommandDone offset stalled ending) is = on_other is (λ key e. absurd (cc))
-tells TurnRelease is = on_other is (λ key e. absurd (cc))
-tells (Mark key vcpu) is = on_other is (λ key e. absurd (cc))
-tells (TakeIndex word) is = on_other is (λ key e. absurd (cc))
+tells step is = on_other is (λ key e. absurd (cc))

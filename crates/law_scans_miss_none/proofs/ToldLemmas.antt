@@ -1,20 +1,21 @@
 -- Whom a step leaves told of an interrupt.
-use Rattle.std.proofs.Common.{◌≡◌, ◌≢◌, ℕ, ◌<◌, ◌/◌, ◌%◌, ◌&&◌, ◌⊎◌, inl, inr, Bool, true, false, IsTrue, Option, Some, None, is_none, if◌then◌else◌, ◌==◌, ◌||◌, refl, sym, ap, ◌∙◌, subst, arith}
+use Rattle.std.proofs.Common.{◌≡◌, ◌≢◌, ℕ, ◌<◌, ◌/◌, ◌%◌, ◌&&◌, ◌⊎◌, inl, inr, true≢false, Bool, true, false, IsTrue, Option, Some, None, is_none, if◌then◌else◌, ◌==◌, ◌||◌, refl, sym, ap, ◌∙◌, subst, arith}
 use Rattle.std.proofs.lemmas.Bool.{cases_eq, and_parts, lt-ltb, eqb-true, false_from_ne_true}
-use Rattle.law_registers_stand.specs.Words.{IccReg, Key, GuestShape, has_interrupt, is_same_key, has_bit, Irq as IrqRecord, irq_of, is_number, is_ripe}
+use Rattle.law_registers_stand.specs.Words.{Key, GuestShape, has_interrupt, is_same_key, has_bit, Irq as IrqRecord, irq_of, is_number, is_ripe}
 use Rattle.law_registers_stand.proofs.GicBase.KeyLemmas.{same_key}
-use Rattle.law_registers_stand.specs.Calls.{Event, Cpu, Reach, Take, Put, plain_at, Found, Happened}
+use Rattle.law_registers_stand.specs.Calls.{Event, Cpu, Reach, Take, Put, plain_at, Happened}
 use Rattle.law_registers_stand.specs.GicCall.declared.event.Event.TheVariants.{Read}
 use Rattle.law_registers_stand.specs.GicCall.declared.event.Place.TheVariants.{Word}
 use Rattle.law_registers_stand.specs.GicCall.declared.event.Found.TheVariants.{Answer, Word as FoundWord}
 use Rattle.law_registers_stand.specs.Registers.{interface_answer, Maps}
-use Rattle.law_registers_stand.specs.Core.{fault_place, succeeds, vcpu_of, Local, CoreStep, Look, Raise, Claim, GiveBack, Release, Poll, Kick, Touch, Want, WireUp, WireDown, EnableLpis, RamLook, RamPut, CtlrTake, CtlrEnd, TurnTake, CommandDone, TurnRelease, Mark, TakeIndex, WordId, Irq, Vcpu, Queue, Ctlr, Plain, Index, local_after, interface_of, is_at, is_cand, owes_no_mark, has_word, index_bit, index_bits, index_words, CoreState, Seat, seat_at, word_in, after, word_of, actor_count, silent, with_found, look_event, poll_event, event_done, stands_for}
-use Rattle.std.specs.Option.{option_map_or}
+use Rattle.law_registers_stand.specs.Core.{fault_place, succeeds, vcpu_of, Local, CoreStep, Look, Raise, Claim, Release, Poll, Touch, WireUp, WireDown, RamLook, RamPut, Irq, Index, local_after, interface_of, is_at, is_cand, owes_no_mark, has_word, index_bit, index_bits, index_words, CoreState, Seat, seat_at, word_in, after, word_of, actor_count, silent, event_done, stands_for}
+use Rattle.std.specs.Option.{option_and_then, option_map_or}
 use Rattle.law_registers_stand.proofs.PortCore.StepLocals.{bit_there, no_bit}
 use Rattle.law_registers_stand.specs.Histories.{Ideal, changed_by}
 use Rattle.law_registers_stand.proofs.LawCoreIsHistory.StepContext.{IsStep}
 use Rattle.law_scans_miss_none.specs.Index.{concerns, waits_for, is_indexed, is_taken, owes_kick, owes_mark}
 use Rattle.law_registers_stand.proofs.LawCoreIsHistory.AfterLemmas.{later, word_cases, word_stays, local_mine, seat_other}
+use Rattle.law_scans_miss_none.proofs.TrackLemmas.{subject}
 
 -- the word of an interrupt's bit
 pub index_there : (shape : GuestShape) (key : Key) (vcpu : ℕ) → index_bit shape key < index_bits shape → vcpu < shape.vcpus → IsTrue (has_word shape (Index vcpu (index_bit shape key / 64)))
@@ -59,7 +60,24 @@ StillWaits shape before after = (vcpu : ℕ) → IsTrue (waits_for shape vcpu af
 abbrev pub event_changes : Option Happened → Key → Bool
 event_changes one key = option_map_or (λ happened. option_map_or (is_same_key key) (changed_by happened.event) false) one false
 
--- so does the event that a step stands for
+-- the interrupt that it is of, if what the history says of interrupts changes
+abbrev pub event_subject : Option Happened → Option Key
+event_subject one = option_and_then (λ happened. subject happened.event) one
+
+-- one that changes an interrupt is of it
+changes_subject : (one : Option Happened) (key : Key) → event_changes one key ≡ true → event_subject one ≡ Some key
+changes_subject None key h = absurd (true≢false (sym h))
+changes_subject (Some one) key h = of one.event h
+  where
+    same : (o : Option Key) → option_map_or (is_same_key key) o false ≡ true → o ≡ Some key
+    same None h = absurd (true≢false (sym h))
+    same (Some k) h = ap Some (sym (same_key key k h))
+
+    of : (e : Event) → option_map_or (is_same_key key) (changed_by e) false ≡ true → subject e ≡ Some key
+    of (Reach k vcpu) h = absurd (true≢false (sym h))
+    of e h = same (changed_by e) h
+
+-- the event that a step stands for changes an interrupt
 abbrev pub step_changes : GuestShape → CoreState → ℕ → CoreStep → ℕ → Key → Bool
 step_changes shape state actor step found key = event_changes (stands_for shape actor (seat_at state actor).local (seat_at state actor).own step found) key
 
@@ -96,63 +114,48 @@ module _ {shape : GuestShape} {state : CoreState} {ideal : Ideal} {actor : ℕ} 
     pub kick : IsTrue (waits_for shape vcpu (irq_of left)) → IsTrue (owes_kick vcpu (local_after shape actor (seat_at state actor).local step found)) ⊎ IsOwnRelease step actor vcpu
     pub changes : step_changes shape state actor step found key ≡ true
 
-  -- a step changes no interrupt but the one of its word
-  pub apart_quiet : (key : Key) → word_of shape actor step ≢ Irq key → step_changes shape state actor step found key ≡ false
-  apart_quiet key apart = of (succeeds shape actor (seat_at state actor).local step found) step apart
+  -- an event is of the interrupt of its step's word
+  pub apart_subject : (key : Key) → word_of shape actor step ≢ Irq key → event_subject (stands_for shape actor (seat_at state actor).local (seat_at state actor).own step found) ≡ Some key → ⊥
+  apart_subject key apart h = of (succeeds shape actor (seat_at state actor).local step found) h
     where
-      other : (k : Key) → Irq k ≢ Irq key → is_same_key key k ≡ false
-      other k differ = false_from_ne_true (is_same_key key k) (λ e. differ (ap Irq (sym (same_key key k e))))
+      none : {T : Type 0} → {k : Key} → None ≡ Some k → T
+      none e = absurd (cc)
 
-      look_quiet : (w : WordId) → event_changes (look_event w found) key ≡ false
-      look_quiet (Irq k) = refl
-      look_quiet (Vcpu v) = refl
-      look_quiet Queue = refl
-      look_quiet Ctlr = refl
-      look_quiet (Plain i) = refl
-      look_quiet (Index v n) = refl
-
-      claim_quiet : (b : Bool) (k : Key) → event_changes (silent (if b then Take k actor else Reach k actor)) key ≡ false
-      claim_quiet true k = refl
-      claim_quiet false k = refl
-
-      poll_quiet : (reg : Option IccReg) (write : Option ℕ) (local : Local) → event_changes (poll_event actor reg write found local) key ≡ false
-      poll_quiet None write local = refl
-      poll_quiet (Some reg) write local = kicked (vcpu_of found).kick
+      other : (k : Key) → Irq k ≢ Irq key → Some k ≡ Some key → ⊥
+      other k differ e = differ (irq_same k key e)
         where
-          kicked : (b : Bool) → event_changes (if b then None else with_found (Cpu actor reg write) (Answer (interface_answer reg write (interface_of local)))) key ≡ false
-          kicked true = refl
-          kicked false = refl
+          irq_same : (k key : Key) → Some k ≡ Some key → Irq k ≡ Irq key
+          irq_same k key e = cc
 
-      plain_quiet : (b : Bool) (event : Event) (what : Found) → option_map_or (is_same_key key) (changed_by event) false ≡ false → event_changes (if b then None else with_found event what) key ≡ false
-      plain_quiet true event what e = refl
-      plain_quiet false event what e = e
+      claim_of : (b : Bool) (k : Key) → Irq k ≢ Irq key → event_subject (silent (if b then Take k actor else Reach k actor)) ≡ Some key → ⊥
+      claim_of true k differ e = none e
+      claim_of false k differ e = other k differ e
 
-      done : (s : CoreStep) → word_of shape actor s ≢ Irq key → event_changes (event_done shape actor (seat_at state actor).local (seat_at state actor).own s found) key ≡ false
-      done (Look w) differ = look_quiet w
-      done (Raise k) differ = other k differ
-      done (Claim k seen) differ = claim_quiet (is_at k (seat_at state actor).local.at) k
-      done (GiveBack k back) differ = refl
-      done (Release k) differ = other k differ
-      done (Poll reg write) differ = poll_quiet reg write (seat_at state actor).local
-      done (Kick v) differ = refl
-      done (Touch k seen kind) differ = other k differ
-      done (Want k) differ = refl
-      done (WireUp k) differ = other k differ
-      done (WireDown k) differ = other k differ
-      done (EnableLpis v) differ = refl
-      done (RamLook index) differ = plain_quiet (index == fault_place shape) (Read (Word (plain_at shape index))) (FoundWord found) refl
-      done (RamPut index seen value) differ = plain_quiet (index == fault_place shape) (Put (plain_at shape index) value) (FoundWord found) refl
-      done (CtlrTake seen value) differ = refl
-      done CtlrEnd differ = refl
-      done (TurnTake seen) differ = refl
-      done (CommandDone offset stalled ending) differ = refl
-      done TurnRelease differ = refl
-      done (Mark k v) differ = refl
-      done (TakeIndex w) differ = refl
+      unless : (b : Bool) (one : Happened) → subject one.event ≡ None → event_subject (if b then None else Some one) ≡ Some key → ⊥
+      unless true one n e = none e
+      unless false one n e = none (sym n ∙ e)
 
-      of : (b : Bool) (s : CoreStep) → word_of shape actor s ≢ Irq key → event_changes (if b then event_done shape actor (seat_at state actor).local (seat_at state actor).own s found else None) key ≡ false
-      of true s differ = done s differ
-      of false s differ = refl
+      done : (s : CoreStep) → word_of shape actor s ≢ Irq key → event_subject (event_done shape actor (seat_at state actor).local (seat_at state actor).own s found) ≡ Some key → ⊥
+      done (Raise k) differ e = other k differ e
+      done (WireUp k) differ e = other k differ e
+      done (WireDown k) differ e = other k differ e
+      done (Release k) differ e = other k differ e
+      done (Touch k seen kind) differ e = other k differ e
+      done (Claim k seen) differ e = claim_of (is_at k (seat_at state actor).local.at) k differ e
+      done (Poll (Some reg) write) differ e = unless (vcpu_of found).kick (record { event = Cpu actor reg write; found = Answer (interface_answer reg write (interface_of (seat_at state actor).local)) }) refl e
+      done (RamLook index) differ e = unless (index == fault_place shape) (record { event = Read (Word (plain_at shape index)); found = FoundWord found }) refl e
+      done (RamPut index seen value) differ e = unless (index == fault_place shape) (record { event = Put (plain_at shape index) value; found = FoundWord found }) refl e
+      done (Look (Irq k)) differ e = none e
+      done s differ e = none e
+
+      of : (b : Bool) → event_subject (if b then event_done shape actor (seat_at state actor).local (seat_at state actor).own step found else None) ≡ Some key → ⊥
+      of true e = done step apart e
+      of false e = none e
+
+  -- so a step changes no other interrupt
+  pub apart_quiet : (key : Key) → word_of shape actor step ≢ Irq key → step_changes shape state actor step found key ≡ false
+  apart_quiet key apart =
+      false_from_ne_true (step_changes shape state actor step found key) (λ h. apart_subject key apart (changes_subject (stands_for shape actor (seat_at state actor).local (seat_at state actor).own step found) key h))
 
 module _ {shape : GuestShape} {state : CoreState} {ideal : Ideal} {actor : ℕ} {step : CoreStep} {found left : ℕ} {tables : Option Maps} (is : IsStep shape state ideal actor step found left tables) {last later_last : ℕ → Key → Type 0} (lasts : Lasts is last later_last) where
   -- its actor owes a vCPU a kick for an interrupt, by what is said of it

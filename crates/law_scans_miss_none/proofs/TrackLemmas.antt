@@ -6,8 +6,8 @@ use Rattle.std.proofs.lemmas.List.{get_or-set_same, get_or-set_other, length-set
 use Rattle.law_registers_stand.specs.Words.{Key, GuestShape, has_interrupt, interrupt_count, is_same_key, place_of, IsShape}
 use Rattle.law_registers_stand.proofs.GicBase.KeyLemmas.{same_key, same_itself}
 use Rattle.law_registers_stand.proofs.GicOpen.KeyLemmas.{place_within, place_same}
-use Rattle.law_registers_stand.specs.Calls.{Event, Up, Down, Enable, Touch, Reach, Take, Leave, Cpu, Put, CtlrBegin, CtlrEnd, ItsBegin, Found, Happens, CanHappen}
-use Rattle.law_registers_stand.specs.GicCall.declared.event.Event.TheVariants.{Raise, Read, ItsEnd, Queue}
+use Rattle.law_registers_stand.specs.Calls.{Event, Up, Down, Touch, Reach, Leave, Found, Happens, CanHappen}
+use Rattle.law_registers_stand.specs.GicCall.declared.event.Event.TheVariants.{Raise, Queue}
 use Rattle.law_registers_stand.specs.Histories.{Turn, Doing, Changes, Track, doing_of, changes_of, turn_of, changed_by, with_changes, after_changes, after_doing, with_doing, after_leaving, tracked, Ideal}
 use Rattle.law_scans_miss_none.specs.Excuse.{is_current, changed_last}
 
@@ -22,39 +22,11 @@ doing_other actor other doing track differ = get_or-set_other track.doings actor
 -- who leaves does not count
 pub leaving_doings : (ideal : Ideal) (event : Event) (track : Track) → (after_leaving ideal event track).doings ≡ track.doings
 leaving_doings ideal (Leave key vcpu) track = refl
-leaving_doings ideal (Raise key) track = refl
-leaving_doings ideal (Up key) track = refl
-leaving_doings ideal (Down key) track = refl
-leaving_doings ideal (Enable vcpu) track = refl
-leaving_doings ideal (Touch key touching) track = refl
-leaving_doings ideal (Reach key vcpu) track = refl
-leaving_doings ideal (Take key vcpu) track = refl
-leaving_doings ideal (Cpu vcpu reg write) track = refl
-leaving_doings ideal (Read place) track = refl
-leaving_doings ideal (Put word value) track = refl
-leaving_doings ideal (CtlrBegin enables) track = refl
-leaving_doings ideal CtlrEnd track = refl
-leaving_doings ideal ItsBegin track = refl
-leaving_doings ideal ItsEnd track = refl
-leaving_doings ideal (Queue offset change) track = refl
+leaving_doings ideal event track = refl
 
 pub leaving_changes : (ideal : Ideal) (event : Event) (track : Track) → (after_leaving ideal event track).changes ≡ track.changes
 leaving_changes ideal (Leave key vcpu) track = refl
-leaving_changes ideal (Raise key) track = refl
-leaving_changes ideal (Up key) track = refl
-leaving_changes ideal (Down key) track = refl
-leaving_changes ideal (Enable vcpu) track = refl
-leaving_changes ideal (Touch key touching) track = refl
-leaving_changes ideal (Reach key vcpu) track = refl
-leaving_changes ideal (Take key vcpu) track = refl
-leaving_changes ideal (Cpu vcpu reg write) track = refl
-leaving_changes ideal (Read place) track = refl
-leaving_changes ideal (Put word value) track = refl
-leaving_changes ideal (CtlrBegin enables) track = refl
-leaving_changes ideal CtlrEnd track = refl
-leaving_changes ideal ItsBegin track = refl
-leaving_changes ideal ItsEnd track = refl
-leaving_changes ideal (Queue offset change) track = refl
+leaving_changes ideal event track = refl
 
 -- an event is the end of a command, or moves the queue
 abbrev pub is_queue : Event → Bool
@@ -63,40 +35,12 @@ is_queue event = false
 
 -- an event keeps what its actor is in, and the number of that, but for the end of a command
 pub doing_kept : (actor : ℕ) (event : Event) (doing : Doing) → (after_doing actor event doing).operation ≡ doing.operation
-doing_kept actor (Leave key vcpu) doing = refl
-doing_kept actor (Raise key) doing = refl
-doing_kept actor (Up key) doing = refl
-doing_kept actor (Down key) doing = refl
-doing_kept actor (Enable vcpu) doing = refl
-doing_kept actor (Touch key touching) doing = refl
-doing_kept actor (Reach key vcpu) doing = refl
-doing_kept actor (Take key vcpu) doing = refl
-doing_kept actor (Cpu vcpu reg write) doing = refl
-doing_kept actor (Read place) doing = refl
-doing_kept actor (Put word value) doing = refl
-doing_kept actor (CtlrBegin enables) doing = refl
-doing_kept actor CtlrEnd doing = refl
-doing_kept actor ItsBegin doing = refl
-doing_kept actor ItsEnd doing = refl
 doing_kept actor (Queue offset change) doing = refl
+doing_kept actor event doing = refl
 
 pub number_kept : (actor : ℕ) (event : Event) (doing : Doing) → is_queue event ≡ false → (after_doing actor event doing).number ≡ doing.number
-number_kept actor (Leave key vcpu) doing e = refl
-number_kept actor (Raise key) doing e = refl
-number_kept actor (Up key) doing e = refl
-number_kept actor (Down key) doing e = refl
-number_kept actor (Enable vcpu) doing e = refl
-number_kept actor (Touch key touching) doing e = refl
-number_kept actor (Reach key vcpu) doing e = refl
-number_kept actor (Take key vcpu) doing e = refl
-number_kept actor (Cpu vcpu reg write) doing e = refl
-number_kept actor (Read place) doing e = refl
-number_kept actor (Put word value) doing e = refl
-number_kept actor (CtlrBegin enables) doing e = refl
-number_kept actor CtlrEnd doing e = refl
-number_kept actor ItsBegin doing e = refl
-number_kept actor ItsEnd doing e = refl
 number_kept actor (Queue offset change) doing e = absurd (true≢false e)
+number_kept actor event doing e = refl
 
 -- Interrupts.
 
@@ -133,16 +77,7 @@ kind_of shape actor (Up key) track can = alters key (and_parts _ (has_interrupt 
 kind_of shape actor (Down key) track can = alters key (and_parts _ (has_interrupt shape key) can).1 refl refl refl
 kind_of shape actor (Touch key touching) track can = alters key can.there refl refl refl
 kind_of shape actor (Leave key vcpu) track can = alters key can.0 refl refl refl
-kind_of shape actor (Enable vcpu) track can = keeps refl refl refl
-kind_of shape actor (Take key vcpu) track can = keeps refl refl refl
-kind_of shape actor (Cpu vcpu reg write) track can = keeps refl refl refl
-kind_of shape actor (Read place) track can = keeps refl refl refl
-kind_of shape actor (Put word value) track can = keeps refl refl refl
-kind_of shape actor (CtlrBegin enables) track can = keeps refl refl refl
-kind_of shape actor CtlrEnd track can = keeps refl refl refl
-kind_of shape actor ItsBegin track can = keeps refl refl refl
-kind_of shape actor ItsEnd track can = keeps refl refl refl
-kind_of shape actor (Queue offset change) track can = keeps refl refl refl
+kind_of shape actor event track can = keeps refl refl refl
 
 -- two interrupts are one, or not
 pub key_cases : (j k : Key) → (j ≡ k) ⊎ (j ≢ k)

@@ -1,11 +1,11 @@
 -- What a step leaves of the interrupts that are due to a vCPU, while that is not kicked.
-use Rattle.std.proofs.Common.{◌≡◌, ℕ, ◌<◌, inl, inr, true≢false, Bool, true, false, IsTrue, List, Option, if◌then◌else◌, refl, sym, ap, ◌∙◌, subst, arith}
+use Rattle.std.proofs.Common.{◌≡◌, ℕ, ◌<◌, inl, inr, true≢false, Bool, true, false, IsTrue, Option, if◌then◌else◌, sym, ap, ◌∙◌, subst, arith}
 use Rattle.std.proofs.lemmas.Bool.{cases_eq, eq-eqb}
 use Rattle.law_registers_stand.specs.Words.{Key, GuestShape, has_bit, Irq as IrqRecord, irq_of, IsShape, has_interrupt}
 use Rattle.law_registers_stand.specs.Calls.{touched}
 use Rattle.law_registers_stand.specs.Histories.{Ideal, Track}
 use Rattle.law_registers_stand.specs.Registers.{Maps}
-use Rattle.law_registers_stand.specs.Core.{Local, CoreStep, Look, Raise, Claim, GiveBack, Release, Poll, Kick, Touch, Want, WireUp, WireDown, EnableLpis, RamLook, RamPut, CtlrTake, CtlrEnd, TurnTake, CommandDone, TurnRelease, Mark, TakeIndex, Irq, local_after, concerned, concerned_by, told_of_release, claimed, succeeds, is_active_at, with_all, owing_both, CoreState, Seat, seat_at, word_in, word_of, CanStep}
+use Rattle.law_registers_stand.specs.Core.{Local, CoreStep, Look, Raise, Release, Poll, Kick, Touch, WireUp, WireDown, Irq, local_after, concerned, concerned_by, told_of_release, succeeds, is_active_at, CoreState, Seat, seat_at, word_in, word_of, CanStep, local_done}
 use Rattle.law_registers_stand.proofs.LawCoreIsHistory.StepContext.{IsStep}
 use Rattle.law_scans_miss_none.specs.Index.{waits_for, owes_kick}
 use Rattle.law_scans_miss_none.specs.Excuse.{changed_last, IsExcused}
@@ -15,46 +15,32 @@ use Rattle.law_registers_stand.proofs.LawCoreIsHistory.KickSteps.{is_poll_by, is
 use Rattle.law_registers_stand.proofs.LawCoreIsHistory.AfterLemmas.{later, word_cases, local_mine, seat_other}
 use Rattle.law_scans_miss_none.proofs.ToldLemmas.{waiting_concerns, IsOwnRelease, step_changes, Lasts, apart_quiet}
 use Rattle.law_scans_miss_none.proofs.TellSteps.{all_keep, tells}
-use Rattle.law_scans_miss_none.proofs.IndexSteps.{either_way, look_owes, poll_owes, still_in}
+use Rattle.law_scans_miss_none.proofs.IndexSteps.{look_owes, poll_owes, still_in}
 
 -- what a history says of who changed an interrupt last
 abbrev pub last_in : GuestShape → Track → ℕ → Key → Type 0
 last_in shape track actor key = IsTrue (changed_last shape track key actor)
 
--- kicks that are owed are owed on, but for one that is sent
-owing_all : (local : Local) (kicks : List (Option ℕ)) (vcpu : ℕ) → IsTrue (has_bit local.owes.0 vcpu) → IsTrue (has_bit (with_all local.owes kicks).0 vcpu)
-owing_all local kicks vcpu h = all_keep local.owes kicks vcpu h
-
-pub owes_on : (shape : GuestShape) (actor vcpu : ℕ) (local : Local) (step : CoreStep) (found : ℕ) → IsShape shape → vcpu < shape.vcpus → CanStep shape actor step → is_kick_of vcpu step ≡ false → IsTrue (owes_kick vcpu local) → IsTrue (owes_kick vcpu (local_after shape actor local step found))
-owes_on shape actor vcpu local (Look word) found good within can e h = (subst (λ o. IsTrue (has_bit o.0 vcpu)) (sym (look_owes shape actor word found local)) h)
-owes_on shape actor vcpu local (Raise key) found good within can e h = (owing_all local (concerned shape (irq_of found)) vcpu h)
-owes_on shape actor vcpu local (Claim key seen) found good within can e h = (subst (λ o. IsTrue (has_bit o.0 vcpu)) (sym (either_way (λ (l : Local). l.owes) (succeeds shape actor local (Claim key seen) found) (claimed shape actor key found local) local refl)) h)
-owes_on shape actor vcpu local (GiveBack key back) found good within can e h = h
-owes_on shape actor vcpu local (Release key) found good within can e h = (owing_all local (told_of_release shape actor (is_active_at key local) (irq_of found)) vcpu h)
-owes_on shape actor vcpu local (Poll reg write) found good within can e h = (subst (λ o. IsTrue (has_bit o.0 vcpu)) (sym (poll_owes reg write found local)) h)
-owes_on shape actor vcpu local (Kick other) found good within can e h =
+-- kicks that are owed are owed on after a step that does what it is for, but for one that is sent
+owes_done : (shape : GuestShape) (actor vcpu : ℕ) (local : Local) (step : CoreStep) (found : ℕ) → IsShape shape → vcpu < shape.vcpus → CanStep shape actor step → is_kick_of vcpu step ≡ false → IsTrue (owes_kick vcpu local) → IsTrue (owes_kick vcpu (local_done shape actor local step found))
+owes_done shape actor vcpu local (Look word) found good within can e h = subst (λ o. IsTrue (has_bit o.0 vcpu)) (sym (look_owes shape actor word found local)) h
+owes_done shape actor vcpu local (Poll reg write) found good within can e h = subst (λ o. IsTrue (has_bit o.0 vcpu)) (sym (poll_owes reg write found local)) h
+owes_done shape actor vcpu local (Raise key) found good within can e h = all_keep local.owes (concerned shape (irq_of found)) vcpu h
+owes_done shape actor vcpu local (WireUp key) found good within can e h = all_keep local.owes (concerned shape (irq_of found)) vcpu h
+owes_done shape actor vcpu local (WireDown key) found good within can e h = all_keep local.owes (concerned shape (irq_of found)) vcpu h
+owes_done shape actor vcpu local (Release key) found good within can e h = all_keep local.owes (told_of_release shape actor (is_active_at key local) (irq_of found)) vcpu h
+owes_done shape actor vcpu local (Touch key seen kind) found good within can e h = all_keep local.owes (concerned_by shape (irq_of found) (touched shape key kind (irq_of found))) vcpu h
+owes_done shape actor vcpu local (Kick other) found good within can e h =
     still_in local.owes other vcpu (omega (arith, can, good.vcpus)) (omega (arith, within, good.vcpus)) (λ same. true≢false (sym (eq-eqb other vcpu (sym same)) ∙ e)) h
-owes_on shape actor vcpu local (Touch key seen kind) found good within can e h = of (succeeds shape actor local (Touch key seen kind) found)
-  where
-    kicks : List (Option ℕ)
-    kicks = concerned_by shape (irq_of found) (touched shape key kind (irq_of found))
+owes_done shape actor vcpu local step found good within can e h = h
 
-    of : (b : Bool) → IsTrue (owes_kick vcpu (if b then owing_both key kicks local else local))
-    of true = owing_all local kicks vcpu h
+-- and after any other
+pub owes_on : (shape : GuestShape) (actor vcpu : ℕ) (local : Local) (step : CoreStep) (found : ℕ) → IsShape shape → vcpu < shape.vcpus → CanStep shape actor step → is_kick_of vcpu step ≡ false → IsTrue (owes_kick vcpu local) → IsTrue (owes_kick vcpu (local_after shape actor local step found))
+owes_on shape actor vcpu local step found good within can e h = of (succeeds shape actor local step found)
+  where
+    of : (b : Bool) → IsTrue (owes_kick vcpu (if b then local_done shape actor local step found else local))
+    of true = owes_done shape actor vcpu local step found good within can e h
     of false = h
-owes_on shape actor vcpu local (Want key) found good within can e h = h
-owes_on shape actor vcpu local (WireUp key) found good within can e h = (owing_all local (concerned shape (irq_of found)) vcpu h)
-owes_on shape actor vcpu local (WireDown key) found good within can e h = (owing_all local (concerned shape (irq_of found)) vcpu h)
-owes_on shape actor vcpu local (EnableLpis other) found good within can e h = h
-owes_on shape actor vcpu local (RamLook index) found good within can e h = h
-owes_on shape actor vcpu local (RamPut index seen value) found good within can e h = (subst (λ o. IsTrue (has_bit o.0 vcpu)) (sym (either_way (λ (l : Local). l.owes) (succeeds shape actor local (RamPut index seen value) found) local local refl)) h)
-owes_on shape actor vcpu local (CtlrTake seen value) found good within can e h = (subst (λ o. IsTrue (has_bit o.0 vcpu)) (sym (either_way (λ (l : Local). l.owes) (succeeds shape actor local (CtlrTake seen value) found) (record local { ctlr = true }) local refl)) h)
-owes_on shape actor vcpu local CtlrEnd found good within can e h = h
-owes_on shape actor vcpu local (TurnTake seen) found good within can e h = (subst (λ o. IsTrue (has_bit o.0 vcpu)) (sym (either_way (λ (l : Local). l.owes) (succeeds shape actor local (TurnTake seen) found) (record local { turn = true }) local refl)) h)
-owes_on shape actor vcpu local (CommandDone offset stalled ending) found good within can e h = h
-owes_on shape actor vcpu local TurnRelease found good within can e h = h
-owes_on shape actor vcpu local (Mark key other) found good within can e h = h
-owes_on shape actor vcpu local (TakeIndex word) found good within can e h = h
 
 module _ {shape : GuestShape} {state : CoreState} {ideal : Ideal} {actor : ℕ} {step : CoreStep} {found left : ℕ} {tables : Option Maps} (is : IsStep shape state ideal actor step found left tables) (vcpu : ℕ) (within : vcpu < shape.vcpus) where
   -- Excuses.

@@ -1,10 +1,11 @@
 -- An interrupt for which an access waits is wanted by an actor, whatever step is made.
 use Rattle.std.proofs.Common.{◌≡◌, ◌≢◌, ℕ, ◌||◌, ◌⊎◌, inl, inr, not, true≢false, Bool, true, false, IsTrue, List, [], ◌∷◌, filter, Option, Some, None, is_none, unwrap_or, if◌then◌else◌, refl, sym, ap, ◌∙◌, subst}
 use Rattle.std.specs.Option.{option_map_or}
+use Rattle.std.proofs.lemmas.Bool.{cases_Bool}
 use Rattle.law_registers_stand.specs.Words.{Key, GuestShape, is_same_key, cleared, Irq as IrqRecord, irq_of}
 use Rattle.law_registers_stand.proofs.GicBase.KeyLemmas.{same_key, same_itself}
 use Rattle.law_registers_stand.specs.Calls.{Touching, Moved, reached, taken}
-use Rattle.law_registers_stand.specs.Core.{vcpu_of, AtIrq, Local, CoreStep, Look, Raise, Claim, GiveBack, Release, Poll, Kick, Touch, Want, WireUp, WireDown, EnableLpis, RamLook, RamPut, CtlrTake, CtlrEnd, TurnTake, CommandDone, TurnRelease, Mark, TakeIndex, WordId, Irq, Vcpu, Queue, Ctlr, Plain, Index, succeeds, moved_of, claimed_irq, entry_for, CoreState, seat_at, word_of, Progress, after_claim, after_poll, begun, Scan, idle, taking, looking, claiming, has_key}
+use Rattle.law_registers_stand.specs.Core.{vcpu_of, AtIrq, Local, CoreStep, Look, Raise, Claim, GiveBack, Release, Poll, Touch, Want, WireUp, WireDown, Irq, succeeds, moved_of, claimed_irq, entry_for, CoreState, seat_at, word_of, Progress, after_claim, after_poll, begun, Scan, claiming, has_key}
 use Rattle.law_registers_stand.specs.Histories.{Ideal}
 use Rattle.law_registers_stand.specs.Registers.{Maps}
 use Rattle.law_registers_stand.specs.CoreProper.Progress.{changed_by}
@@ -59,18 +60,7 @@ module _ {shape : GuestShape} {state : CoreState} {ideal : Ideal} {actor found l
       of true e = absurd (true≢false (sym h ∙ ap (λ (i : IrqRecord). i.want) (touch_word k seen kind is e)))
       of false e = inl (ap (λ n. (irq_of n).want) (sym (touch_missed k seen kind is e)) ∙ h)
   wanted_on (Want k) is key on h = inr (ap Want (irq_key k key on))
-  wanted_on (Poll reg write) is key on h = absurd (cc)
-  wanted_on (Kick vcpu) is key on h = absurd (cc)
-  wanted_on (EnableLpis vcpu) is key on h = absurd (cc)
-  wanted_on (RamLook index) is key on h = absurd (cc)
-  wanted_on (RamPut index seen value) is key on h = absurd (cc)
-  wanted_on (CtlrTake seen value) is key on h = absurd (cc)
-  wanted_on CtlrEnd is key on h = absurd (cc)
-  wanted_on (TurnTake seen) is key on h = absurd (cc)
-  wanted_on (CommandDone offset stalled ending) is key on h = absurd (cc)
-  wanted_on TurnRelease is key on h = absurd (cc)
-  wanted_on (Mark k vcpu) is key on h = absurd (cc)
-  wanted_on (TakeIndex word) is key on h = absurd (cc)
+  wanted_on step is key on h = absurd (cc)
 
   -- a touch that is made leaves no access that waits
   pub touch_ends : (k : Key) (seen : ℕ) (kind : Touching) (is : IsStep shape state ideal actor (Touch k seen kind) found left tables) → (irq_of left).want ≡ true → succeeds shape actor (seat_at state actor).local (Touch k seen kind) found ≡ false
@@ -97,25 +87,11 @@ still_wanted key k (first ∷ rest) differ h = of (is_same_key k first) refl (is
 
 -- a step leaves what its actor wants, but for an interrupt that it touches; and it may want one more
 pub wants_kept : (shape : GuestShape) (actor : ℕ) (step : CoreStep) (found : ℕ) (done : Bool) (p : Progress) (key : Key) → (IsTrue (is_touch_of key step) → done ≡ false) → IsTrue (has_key key p.wants) → IsTrue (has_key key (changed_by shape actor step found done p).wants)
-wants_kept shape actor (Look word) found done p key still h = of word
-  where
-    of : (w : WordId) → IsTrue (has_key key (changed_by shape actor (Look w) found done p).wants)
-    of (Irq k) = h
-    of (Vcpu v) = h
-    of Queue = h
-    of Ctlr = h
-    of (Plain i) = h
-    of (Index v n) = h
-wants_kept shape actor (Raise k) found done p key still h = h
 wants_kept shape actor (Claim k seen) found done p key still h = of p.scan
   where
     of : (scan : Scan) → IsTrue (has_key key (after_claim k (irq_of found) done scan p).wants)
-    of idle = h
-    of (taking purpose words) = h
-    of (looking purpose from offers) = h
     of (claiming claims takes) = h
-wants_kept shape actor (GiveBack k back) found done p key still h = h
-wants_kept shape actor (Release k) found done p key still h = h
+    of scan = h
 wants_kept shape actor (Poll None write) found done p key still h = of (unwrap_or p.far false)
   where
     of : (b : Bool) → IsTrue (has_key key (begun b p).wants)
@@ -126,8 +102,7 @@ wants_kept shape actor (Poll (Some reg) write) found done p key still h = of (vc
     of : (b : Bool) → IsTrue (has_key key (after_poll (Some reg) write b p).wants)
     of true = h
     of false = h
-wants_kept shape actor (Kick vcpu) found done p key still h = h
-wants_kept shape actor (Touch k seen kind) found done p key still h = elim (cases_eq_key k key) [
+wants_kept shape actor (Touch k seen kind) found done p key still h = elim (cases_Bool (is_same_key k key)) [
   | inl same ↦ subst (λ b. IsTrue (has_key key (if b then filter (λ other. not (is_same_key k other)) p.wants else p.wants))) (sym (still same)) h
   | inr differ ↦ of done (λ e. true≢false (sym (subst (λ j. is_same_key k j ≡ true) (sym e) (same_itself k)) ∙ differ))
 ]
@@ -135,30 +110,13 @@ wants_kept shape actor (Touch k seen kind) found done p key still h = elim (case
     of : (b : Bool) → (key ≢ k) → IsTrue (has_key key (if b then filter (λ other. not (is_same_key k other)) p.wants else p.wants))
     of true apart = still_wanted key k p.wants apart h
     of false apart = h
-
-    cases_eq_key : (j i : Key) → (is_same_key j i ≡ true) ⊎ (is_same_key j i ≡ false)
-    cases_eq_key j i = either (is_same_key j i)
-      where
-        either : (b : Bool) → (b ≡ true) ⊎ (b ≡ false)
-        either true = inl refl
-        either false = inr refl
 wants_kept shape actor (Want k) found done p key still h = of (is_same_key key k)
   where
     of : (b : Bool) → IsTrue (b || has_key key p.wants)
     of true = refl
     of false = h
-wants_kept shape actor (WireUp k) found done p key still h = h
-wants_kept shape actor (WireDown k) found done p key still h = h
-wants_kept shape actor (EnableLpis vcpu) found done p key still h = h
-wants_kept shape actor (RamLook index) found done p key still h = h
-wants_kept shape actor (RamPut index seen value) found done p key still h = h
-wants_kept shape actor (CtlrTake seen value) found done p key still h = h
-wants_kept shape actor CtlrEnd found done p key still h = h
-wants_kept shape actor (TurnTake seen) found done p key still h = h
-wants_kept shape actor (CommandDone offset stalled ending) found done p key still h = h
-wants_kept shape actor TurnRelease found done p key still h = h
-wants_kept shape actor (Mark k vcpu) found done p key still h = h
-wants_kept shape actor (TakeIndex word) found done p key still h = h
+wants_kept shape actor (Look (Irq k)) found done p key still h = h
+wants_kept shape actor step found done p key still h = h
 
 -- a step that is a touch of an interrupt
 pub record IsTouch (key : Key) (step : CoreStep) : Type 0 where
@@ -168,23 +126,4 @@ pub record IsTouch (key : Key) (step : CoreStep) : Type 0 where
 
 pub as_touch : (key : Key) (step : CoreStep) → IsTrue (is_touch_of key step) → IsTouch key step
 as_touch key (Touch k seen kind) h = record { seen = seen; kind = kind; is = ap (λ j. Touch j seen kind) (same_key k key h) }
-as_touch key (Look word) h = absurd (true≢false (sym h))
-as_touch key (Raise k) h = absurd (true≢false (sym h))
-as_touch key (Claim k seen) h = absurd (true≢false (sym h))
-as_touch key (GiveBack k back) h = absurd (true≢false (sym h))
-as_touch key (Release k) h = absurd (true≢false (sym h))
-as_touch key (Poll reg write) h = absurd (true≢false (sym h))
-as_touch key (Kick vcpu) h = absurd (true≢false (sym h))
-as_touch key (Want k) h = absurd (true≢false (sym h))
-as_touch key (WireUp k) h = absurd (true≢false (sym h))
-as_touch key (WireDown k) h = absurd (true≢false (sym h))
-as_touch key (EnableLpis vcpu) h = absurd (true≢false (sym h))
-as_touch key (RamLook index) h = absurd (true≢false (sym h))
-as_touch key (RamPut index seen value) h = absurd (true≢false (sym h))
-as_touch key (CtlrTake seen value) h = absurd (true≢false (sym h))
-as_touch key CtlrEnd h = absurd (true≢false (sym h))
-as_touch key (TurnTake seen) h = absurd (true≢false (sym h))
-as_touch key (CommandDone offset stalled ending) h = absurd (true≢false (sym h))
-as_touch key TurnRelease h = absurd (true≢false (sym h))
-as_touch key (Mark k vcpu) h = absurd (true≢false (sym h))
-as_touch key (TakeIndex word) h = absurd (true≢false (sym h))
+as_touch key step h = absurd (true≢false (sym h))
