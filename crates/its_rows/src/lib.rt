@@ -2,7 +2,11 @@
 #![tactic(auto)]
 
 #[cfg(test)]
+mod access;
+#[cfg(test)]
 mod commands;
+#[cfg(test)]
+mod guest;
 #[cfg(test)]
 mod rows;
 #[cfg(test)]

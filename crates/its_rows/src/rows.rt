@@ -1,14 +1,17 @@
 //! The ITS as a driver sees it: an LPI from its tables to a message, a queue that stalls, and what each register reads.
-ghost use Rattle.std.specs.Prelude.{◌≡◌};
-ghost use Rattle.dev_port.specs.Calls.{has_frame};
 
-use crate::writes::{
-    LpiState, MAPPED, MOVED, NOTHING, SHAPE, can_access, is_fit, lpi_state, registers, scenario,
+use crate::access::{can_access, is_good_access, store_command};
+use crate::guest::{
+    CBASER, LATCHED, LpiState, MAPPED, MOVED, NO_COMMAND, NOTHING, PROPBASER, SECOND_PLACE, SHAPE,
+    lpi_state, map_event, open_guest, queue_state,
 };
-use dev_port::msi;
+use dev_port::{NoMemory, Port, msi};
 use pe_op::{its_op, mem_op};
-use port_rest::is_settled;
-use port_seq::{CorePort as Port, Frame, GuestPort, GuestShape, Mode, NoMemory, SeqPort};
+use port_rest::{
+    CLEAR, DEVICE_ID, DISCARD, EVENT_ID, INV, LPI, MAPC, MAPD, MAPTI, MOVI, OTHER_MAPC, SYNC,
+    is_settled,
+};
+use port_seq::{Command, Frame, GuestPort, GuestShape};
 use std::alloc::{AllocError, Global};
 use std::sync::Wait;
 use std::test::Fail;
@@ -36,11 +39,13 @@ enum Act {
     Read(Frame, u32, u32, u64),
     /// A write of a value.
     Write(Frame, u32, u32, u64),
+    /// A write of a command at its place in the queue.
+    Queue(u16, Command),
     /// A message of an EventID under a DeviceID.
     Message(u32, u32),
 }
 
-use Act::{Message, Read, Write};
+use Act::{Message, Queue, Read, Write};
 use Frame::{Its, Ram};
 
 /// The redistributors.
@@ -50,44 +55,35 @@ const SECOND: Frame = Frame::Redist { vcpu: 1 };
 
 /// The tables of vCPU 0, and its EnableLPIs.
 const TABLES: [Act; 3] = [
-    Write(FIRST, 0x70, 8, 0x300D),
+    Write(FIRST, 0x70, 8, PROPBASER),
     Write(FIRST, 0x78, 8, 0x4000_0000_0001_0000),
     Write(FIRST, 0x0, 4, 1),
 ];
 
-/// The configuration byte of LPI 8195, the tables of vCPU 1, the queue, and its commands: MAPD of device 8 with 5 bits, MAPC of
-/// ICID 1 to vCPU 1, MAPTI of event 3 to the LPI in ICID 1, and SYNC of vCPU 1.
-const SET_UP: [Act; 16] = [
+/// The configuration byte of LPI 8195, the tables of vCPU 1, the queue, and the commands that map the LPI.
+const SET_UP: [Act; 10] = [
     Write(Ram, 0x3003, 1, 0xA1),
-    Write(SECOND, 0x70, 8, 0x300D),
+    Write(SECOND, 0x70, 8, PROPBASER),
     Write(SECOND, 0x78, 8, 0x4000_0000_0001_0000),
     Write(SECOND, 0x0, 4, 1),
-    Write(Its, 0x80, 8, 0x8000_0000_0000_1000),
+    Write(Its, 0x80, 8, CBASER),
     Write(Its, 0x0, 4, 1),
-    Write(Ram, 0x1000, 8, 0x0000_0008_0000_0008),
-    Write(Ram, 0x1008, 8, 4),
-    Write(Ram, 0x1010, 8, 0x8000_0000_0000_2000),
-    Write(Ram, 0x1020, 8, 9),
-    Write(Ram, 0x1030, 8, 0x8000_0000_0001_0001),
-    Write(Ram, 0x1040, 8, 0x0000_0008_0000_000A),
-    Write(Ram, 0x1048, 8, 0x0000_2003_0000_0003),
-    Write(Ram, 0x1050, 8, 1),
-    Write(Ram, 0x1060, 8, 5),
-    Write(Ram, 0x1070, 8, 0x10000),
+    Queue(0, MAPD),
+    Queue(1, MAPC),
+    Queue(2, MAPTI),
+    Queue(3, SYNC),
 ];
 
-/// The commands are taken.
-const TAKEN: [Act; 2] = [Write(Its, 0x88, 8, 0x80), Read(Its, 0x90, 8, 0x80)];
+/// The message of the LPI.
+const SENT: Act = Message(DEVICE_ID, EVENT_ID);
 
-/// The guest has the frame.
-fn is_there(shape: &GuestShape, frame: Frame) -> bool
-    ensures { result ≡ has_frame shape.now frame }
-{
-    match frame {
-        Frame::Redist { vcpu } => vcpu < shape.vcpus,
-        Frame::Dist | Frame::Its | Frame::Ram => true,
-    }
-}
+/// The number of no command, in place of that of the second.
+const UNKNOWN: Act = Write(Ram, SECOND_PLACE, 8, NO_COMMAND);
+
+/// GITS_CWRITER behind the commands of the set-up, and GITS_CREADR once they are taken.
+const TAKE_FOUR: Act = Write(Its, 0x88, 8, 0x80);
+
+const FOUR_TAKEN: Act = Read(Its, 0x90, 8, 0x80);
 
 /// Makes an access, and answers what it reads. None where it may not.
 fn make<P: Port, R: Wait>(
@@ -98,7 +94,7 @@ fn make<P: Port, R: Wait>(
     size: u32,
     write: Option<u64>,
 ) -> Option<Result<Option<u64>, NoMemory>> {
-    if !can_access(port) || !is_there(&port.shape(), frame) || !is_fit(size, write) {
+    if !can_access(port) || !is_good_access(&port.shape(), frame, offset, size, write) {
         return None;
     }
     Some(match frame {
@@ -130,6 +126,10 @@ fn goes_so<R: Wait>(rt: &R, guest: &mut GuestPort, act: Act) -> bool {
             guest.set_actor(0);
             make(rt, guest, frame, offset, size, Some(value)) == Some(Ok(None))
         }
+        Queue(place, command) => {
+            guest.set_actor(0);
+            store_command(rt, guest, place, &command)
+        }
         Message(device, event) => {
             guest.set_actor(DEVICE);
             send(rt, guest, device, event)
@@ -149,7 +149,7 @@ fn first_other<R: Wait>(rt: &R, guest: &mut GuestPort, acts: &[Act]) -> Option<u
 
 /// The fault of the command that stalls the queue, and LPI 8195.
 fn end_of<P: Port>(port: &mut P) -> Option<End> {
-    let (_, _, _, _, fault) = registers(port)?;
+    let (_, fault) = queue_state(port)?;
     Some((fault, lpi_state(port)?))
 }
 
@@ -160,11 +160,9 @@ fn end_after<R: Wait>(
     before: &[Act],
     acts: &[Act],
 ) -> Result<Option<End>, AllocError> {
-    let scenario = scenario(alloc, SHAPE)?;
-    if !scenario.is_good(alloc, Mode::Threads)? {
+    let Some(mut port) = open_guest(alloc, SHAPE)? else {
         return Ok(None);
-    }
-    let mut port = SeqPort::start(alloc, &scenario)?;
+    };
     let guest = port.current_mut();
     for part in [before, SET_UP.as_slice(), acts] {
         if first_other(rt, guest, part).is_some() {
@@ -181,215 +179,193 @@ fn other<R: Wait>(
     shape: GuestShape,
     acts: &[Act],
 ) -> Result<Option<usize>, AllocError> {
-    let scenario = scenario(alloc, shape)?;
-    if !scenario.is_good(alloc, Mode::Threads)? {
-        return Ok(Some(acts.len()));
+    match open_guest(alloc, shape)? {
+        Some(mut port) => Ok(first_other(rt, port.current_mut(), acts)),
+        None => Ok(Some(acts.len())),
     }
-    let mut port = SeqPort::start(alloc, &scenario)?;
-    Ok(first_other(rt, port.current_mut(), acts))
 }
 
 #[test]
 fn an_lpi_is_set_up(rt: HostRuntime) -> Result<(), Fail> {
-    let alloc = rt.alloc();
-    let pending = Some((0, (true, 0xA0, true, Some(1))));
-    let acts = [TAKEN[0], TAKEN[1], Message(8, 3)];
-    assert_eq!(rt; end_after(&rt, alloc, &[], acts.as_slice())?, pending);
-    // Bit 1 of a configuration byte is ignored.
-    let acts = [
-        Write(Ram, 0x3003, 1, 0xA3),
-        TAKEN[0],
-        TAKEN[1],
-        Message(8, 3),
+    let rows: [(&[Act], LpiState); 4] = [
+        (&[TAKE_FOUR, FOUR_TAKEN, SENT], LATCHED),
+        // Bit 1 of a configuration byte is ignored.
+        (
+            &[Write(Ram, 0x3003, 1, 0xA3), TAKE_FOUR, FOUR_TAKEN, SENT],
+            LATCHED,
+        ),
+        // Its new priority is that of its configuration byte only from INV on.
+        (
+            &[TAKE_FOUR, FOUR_TAKEN, Write(Ram, 0x3003, 1, 0x41), SENT],
+            LATCHED,
+        ),
+        (
+            &[
+                TAKE_FOUR,
+                FOUR_TAKEN,
+                Write(Ram, 0x3003, 1, 0x41),
+                Queue(4, INV),
+                Queue(5, SYNC),
+                Write(Its, 0x88, 8, 0xC0),
+                Read(Its, 0x90, 8, 0xC0),
+                SENT,
+            ],
+            (true, 0x40, true, Some(1)),
+        ),
     ];
-    assert_eq!(rt; end_after(&rt, alloc, &[], acts.as_slice())?, pending);
-    // Its new priority is that of its configuration byte only from INV on.
-    let acts = [
-        TAKEN[0],
-        TAKEN[1],
-        Write(Ram, 0x3003, 1, 0x41),
-        Message(8, 3),
-    ];
-    assert_eq!(rt; end_after(&rt, alloc, &[], acts.as_slice())?, pending);
-    let acts = [
-        TAKEN[0],
-        TAKEN[1],
-        Write(Ram, 0x3003, 1, 0x41),
-        Write(Ram, 0x1080, 8, 0x0000_0008_0000_000C),
-        Write(Ram, 0x1088, 8, 3),
-        Write(Ram, 0x10A0, 8, 5),
-        Write(Ram, 0x10B0, 8, 0x10000),
-        Write(Its, 0x88, 8, 0xC0),
-        Read(Its, 0x90, 8, 0xC0),
-        Message(8, 3),
-    ];
-    assert_eq!(rt;
-        end_after(&rt, alloc, &[], acts.as_slice())?,
-        Some((0, (true, 0x40, true, Some(1))))
-    );
+    for (acts, lpi) in rows {
+        assert_eq!(rt; end_after(&rt, rt.alloc(), &[], acts)?, Some((0, lpi)));
+    }
     Ok(())
 }
 
 #[test]
 fn a_queue_stalls(rt: HostRuntime) -> Result<(), Fail> {
-    let alloc = rt.alloc();
-    // An unknown command, and Retry once it is a good one.
-    let acts = [
-        Write(Ram, 0x1020, 8, 0x7F),
-        Write(Its, 0x88, 8, 0x80),
-        Read(Its, 0x90, 8, 0x21),
+    let beyond = map_event(DEVICE_ID, 32, LPI, 1);
+    let last = map_event(DEVICE_ID, 31, LPI, 1);
+    let rows: [(&[Act], End); 4] = [
+        // An unknown command, and Retry once it is a good one.
+        (
+            &[UNKNOWN, TAKE_FOUR, Read(Its, 0x90, 8, 0x21)],
+            (10, NOTHING),
+        ),
+        (
+            &[
+                UNKNOWN,
+                TAKE_FOUR,
+                Read(Its, 0x90, 4, 0x21),
+                Queue(1, MAPC),
+                Write(Its, 0x88, 8, 0x81),
+                FOUR_TAKEN,
+                Read(Its, 0x88, 8, 0x80),
+            ],
+            (0, MAPPED),
+        ),
+        // Event 32 of a device with 5 bits, and event 31.
+        (
+            &[Queue(2, beyond), TAKE_FOUR, Read(Its, 0x90, 8, 0x41)],
+            (4, NOTHING),
+        ),
+        (&[Queue(2, last), TAKE_FOUR, FOUR_TAKEN], (0, MAPPED)),
     ];
-    assert_eq!(rt;
-        end_after(&rt, alloc, &[], acts.as_slice())?,
-        Some((10, NOTHING))
-    );
-    let acts = [
-        Write(Ram, 0x1020, 8, 0x7F),
-        Write(Its, 0x88, 8, 0x80),
-        Read(Its, 0x90, 4, 0x21),
-        Write(Ram, 0x1020, 8, 9),
-        Write(Its, 0x88, 8, 0x81),
-        Read(Its, 0x90, 8, 0x80),
-        Read(Its, 0x88, 8, 0x80),
-    ];
-    assert_eq!(rt;
-        end_after(&rt, alloc, &[], acts.as_slice())?,
-        Some((0, MAPPED))
-    );
-    // Event 32 of a device with 5 bits, and event 31.
-    let acts = [
-        Write(Ram, 0x1048, 8, 0x0000_2003_0000_0020),
-        Write(Its, 0x88, 8, 0x80),
-        Read(Its, 0x90, 8, 0x41),
-    ];
-    assert_eq!(rt;
-        end_after(&rt, alloc, &[], acts.as_slice())?,
-        Some((4, NOTHING))
-    );
-    let acts = [
-        Write(Ram, 0x1048, 8, 0x0000_2003_0000_001F),
-        TAKEN[0],
-        TAKEN[1],
-    ];
-    assert_eq!(rt;
-        end_after(&rt, alloc, &[], acts.as_slice())?,
-        Some((0, MAPPED))
-    );
+    for (acts, end) in rows {
+        assert_eq!(rt; end_after(&rt, rt.alloc(), &[], acts)?, Some(end));
+    }
     Ok(())
 }
 
 #[test]
 fn a_pending_lpi_moves(rt: HostRuntime) -> Result<(), Fail> {
-    let alloc = rt.alloc();
-    let before = TABLES.as_slice();
-    // MAPC of ICID 2 to vCPU 0, and MOVI.
-    let acts = [
-        TAKEN[0],
-        TAKEN[1],
-        Message(8, 3),
-        Write(Ram, 0x1080, 8, 9),
-        Write(Ram, 0x1090, 8, 0x8000_0000_0000_0002),
-        Write(Ram, 0x10A0, 8, 0x0000_0008_0000_0001),
-        Write(Ram, 0x10A8, 8, 3),
-        Write(Ram, 0x10B0, 8, 2),
-        Write(Its, 0x88, 8, 0xC0),
+    let rows: [(&[Act], LpiState); 3] = [
+        // MAPC of ICID 2 to vCPU 0, and MOVI.
+        (
+            &[
+                TAKE_FOUR,
+                FOUR_TAKEN,
+                SENT,
+                Queue(4, OTHER_MAPC),
+                Queue(5, MOVI),
+                Write(Its, 0x88, 8, 0xC0),
+            ],
+            MOVED,
+        ),
+        // CLEAR.
+        (
+            &[
+                TAKE_FOUR,
+                FOUR_TAKEN,
+                SENT,
+                Queue(4, CLEAR),
+                Write(Its, 0x88, 8, 0xA0),
+            ],
+            MAPPED,
+        ),
+        // DISCARD, after which a message is none of the LPI.
+        (
+            &[
+                TAKE_FOUR,
+                FOUR_TAKEN,
+                SENT,
+                Queue(4, DISCARD),
+                Write(Its, 0x88, 8, 0xA0),
+                SENT,
+            ],
+            NOTHING,
+        ),
     ];
-    assert_eq!(rt;
-        end_after(&rt, alloc, before, acts.as_slice())?,
-        Some((0, MOVED))
-    );
-    // CLEAR.
-    let acts = [
-        TAKEN[0],
-        TAKEN[1],
-        Message(8, 3),
-        Write(Ram, 0x1080, 8, 0x0000_0008_0000_0004),
-        Write(Ram, 0x1088, 8, 3),
-        Write(Its, 0x88, 8, 0xA0),
-    ];
-    assert_eq!(rt;
-        end_after(&rt, alloc, before, acts.as_slice())?,
-        Some((0, MAPPED))
-    );
-    // DISCARD, after which a message is none of the LPI.
-    let acts = [
-        TAKEN[0],
-        TAKEN[1],
-        Message(8, 3),
-        Write(Ram, 0x1080, 8, 0x0000_0008_0000_000F),
-        Write(Ram, 0x1088, 8, 3),
-        Write(Its, 0x88, 8, 0xA0),
-        Message(8, 3),
-    ];
-    assert_eq!(rt;
-        end_after(&rt, alloc, before, acts.as_slice())?,
-        Some((0, NOTHING))
-    );
+    for (acts, lpi) in rows {
+        let end = end_after(&rt, rt.alloc(), TABLES.as_slice(), acts)?;
+        assert_eq!(rt; end, Some((0, lpi)));
+    }
     Ok(())
 }
+
+/// What the registers of a guest with LPIs read, from its opening on.
+const READS: [Act; 34] = [
+    Read(SECOND, 0x8, 8, 0x0000_0001_0000_0111),
+    // As the guest opens.
+    Read(Its, 0x0, 4, 0x8000_0000),
+    Read(Its, 0x4, 4, 0),
+    Read(Its, 0x8, 8, 0x1_EF71),
+    Read(Its, 0x8, 4, 0x1_EF71),
+    Read(Its, 0xC, 4, 0),
+    Read(Its, 0x80, 8, 0),
+    Read(Its, 0x90, 8, 0),
+    Read(Its, 0x100, 8, 0x0107_0000_0000_0000),
+    Read(Its, 0x108, 8, 0x0407_0000_0000_0000),
+    Read(Its, 0x10C, 4, 0x0407_0000),
+    Read(Its, 0xFFE8, 4, 0x30),
+    // What is stored.
+    Write(Its, 0x80, 8, 0x8000_0000_0000_1000),
+    Read(Its, 0x84, 4, 0x8000_0000),
+    Read(Its, 0x80, 4, 0x1000),
+    Write(Its, 0x88, 8, 0x80),
+    Read(Its, 0x88, 8, 0x80),
+    Write(Its, 0x108, 8, 0x8000_0000_0000_2000),
+    Read(Its, 0x108, 8, 0x8407_0000_0000_2000),
+    // What is not written.
+    Write(Its, 0x90, 8, 0x40),
+    Read(Its, 0x90, 8, 0),
+    Write(Its, 0x8, 8, 0),
+    Read(Its, 0x8, 8, 0x1_EF71),
+    // What is not there: further tables, the register of messages, and sizes that no register takes.
+    Write(Its, 0x110, 8, 0xFFFF_FFFF_FFFF_FFFF),
+    Read(Its, 0x110, 8, 0),
+    Read(Its, 0x10040, 4, 0),
+    Read(Its, 0x0, 8, 0),
+    Read(Its, 0x8, 2, 0),
+    Read(Its, 0x84, 8, 0),
+    // Enabled: no longer quiescent.
+    Write(Its, 0x80, 8, 0),
+    Write(Its, 0x0, 4, 1),
+    Read(Its, 0x0, 4, 1),
+    Write(Its, 0x0, 4, 0),
+    Read(Its, 0x0, 4, 0x8000_0000),
+];
 
 #[test]
 fn registers_read(rt: HostRuntime) -> Result<(), Fail> {
-    let acts = [
-        Read(SECOND, 0x8, 8, 0x0000_0001_0000_0111),
-        // As the guest opens.
-        Read(Its, 0x0, 4, 0x8000_0000),
-        Read(Its, 0x4, 4, 0),
-        Read(Its, 0x8, 8, 0x1_EF71),
-        Read(Its, 0x8, 4, 0x1_EF71),
-        Read(Its, 0xC, 4, 0),
-        Read(Its, 0x80, 8, 0),
-        Read(Its, 0x90, 8, 0),
-        Read(Its, 0x100, 8, 0x0107_0000_0000_0000),
-        Read(Its, 0x108, 8, 0x0407_0000_0000_0000),
-        Read(Its, 0x10C, 4, 0x0407_0000),
-        Read(Its, 0xFFE8, 4, 0x30),
-        // What is stored.
-        Write(Its, 0x80, 8, 0x8000_0000_0000_1000),
-        Read(Its, 0x84, 4, 0x8000_0000),
-        Read(Its, 0x80, 4, 0x1000),
-        Write(Its, 0x88, 8, 0x80),
-        Read(Its, 0x88, 8, 0x80),
-        Write(Its, 0x108, 8, 0x8000_0000_0000_2000),
-        Read(Its, 0x108, 8, 0x8407_0000_0000_2000),
-        // What is not written.
-        Write(Its, 0x90, 8, 0x40),
-        Read(Its, 0x90, 8, 0),
-        Write(Its, 0x8, 8, 0),
-        Read(Its, 0x8, 8, 0x1_EF71),
-        // What is not there: further tables, the register of messages, and sizes that no register takes.
-        Write(Its, 0x110, 8, 0xFFFF_FFFF_FFFF_FFFF),
-        Read(Its, 0x110, 8, 0),
-        Read(Its, 0x10040, 4, 0),
-        Read(Its, 0x0, 8, 0),
-        Read(Its, 0x8, 2, 0),
-        Read(Its, 0x84, 8, 0),
-        // Enabled: no longer quiescent.
-        Write(Its, 0x80, 8, 0),
-        Write(Its, 0x0, 4, 1),
-        Read(Its, 0x0, 4, 1),
-        Write(Its, 0x0, 4, 0),
-        Read(Its, 0x0, 4, 0x8000_0000),
-    ];
-    assert_eq!(rt; other(&rt, rt.alloc(), SHAPE, acts.as_slice())?, None);
+    assert_eq!(rt; other(&rt, rt.alloc(), SHAPE, READS.as_slice())?, None);
     Ok(())
 }
 
+/// What they read in a guest without LPIs, which has no ITS.
+const BARE_READS: [Act; 11] = [
+    Read(Its, 0x0, 4, 0),
+    Read(Its, 0x8, 8, 0),
+    Read(Its, 0x100, 8, 0),
+    Read(Its, 0xFFE8, 4, 0),
+    Write(Its, 0x0, 4, 1),
+    Write(Its, 0x80, 8, 0x8000_0000_0000_1000),
+    Write(Its, 0x88, 8, 0x80),
+    Read(Its, 0x0, 4, 0),
+    Read(Its, 0x80, 8, 0),
+    Read(Its, 0x88, 8, 0),
+    Read(Its, 0x90, 8, 0),
+];
+
 #[test]
 fn no_its_is_there(rt: HostRuntime) -> Result<(), Fail> {
-    let acts = [
-        Read(Its, 0x0, 4, 0),
-        Read(Its, 0x8, 8, 0),
-        Read(Its, 0x100, 8, 0),
-        Read(Its, 0xFFE8, 4, 0),
-        Write(Its, 0x0, 4, 1),
-        Write(Its, 0x80, 8, 0x8000_0000_0000_1000),
-        Write(Its, 0x88, 8, 0x80),
-        Read(Its, 0x0, 4, 0),
-        Read(Its, 0x80, 8, 0),
-        Read(Its, 0x88, 8, 0),
-        Read(Its, 0x90, 8, 0),
-    ];
-    assert_eq!(rt; other(&rt, rt.alloc(), BARE, acts.as_slice())?, None);
+    assert_eq!(rt; other(&rt, rt.alloc(), BARE, BARE_READS.as_slice())?, None);
     Ok(())
 }

@@ -1,16 +1,13 @@
 //! What stands in the list registers after an entry.
-ghost use Rattle.std.specs.Prelude.{◌≡◌, IsTrue, IfSome, []};
+ghost use Rattle.std.specs.Prelude.{◌≡◌, IsTrue, []};
 ghost use Rattle.port_seq.specs.Words.{Spi, has_interrupt};
 ghost use Rattle.pe_mem.specs.Core.{shape_of, is_settled};
-ghost use Rattle.pe_icc.specs.PeLoop.Stay.{IsUp};
 
-use pe_icc::{Loaded, Shelved, enter, leave};
-use pe_mem::settle;
-use port_rest::{is_off, one_guest};
-use port_seq::{
-    CorePort as Port, CoreStep, GuestShape, Key, Kind, Mode, Preset, Scenario, SeqPort, Touching,
-    WordId,
-};
+use crate::entry::enter_told;
+use pe_icc::{Port, leave};
+use pe_mem::{CoreStep, GuestShape, WordId, settle};
+use port_rest::{is_off, one_guest, spi};
+use port_seq::{Key, Kind, Mode, Scenario, SeqPort, Touching};
 use std::alloc::{AllocError, Global};
 use std::test::Fail;
 
@@ -42,17 +39,6 @@ struct Stored {
     lr: [u64; 2],
 }
 
-fn preset(id: u32, prio: u8, edge: bool) -> Preset {
-    Preset {
-        id,
-        prio,
-        edge,
-        group: 1,
-        to: Some(0),
-        vcpu: None,
-    }
-}
-
 /// A guest with the interrupts 40, 41 and 42, of which 42 comes first.
 fn scenario(alloc: Global, edge: bool) -> Result<Scenario, AllocError> {
     one_guest(
@@ -60,9 +46,9 @@ fn scenario(alloc: Global, edge: bool) -> Result<Scenario, AllocError> {
         SHAPE,
         true,
         &[
-            preset(40, 0xA0, edge),
-            preset(41, 0xA0, true),
-            preset(42, 0x20, true),
+            spi(40, 0xA0, edge, 0),
+            spi(41, 0xA0, true, 0),
+            spi(42, 0x20, true, 0),
         ],
     )
 }
@@ -109,32 +95,11 @@ fn make<P: Port>(port: &mut P, cause: Cause) -> bool
     true
 }
 
-/// vCPU 0 enters a PE. None where it may not.
-fn enter_first<P: Port>(port: &mut P, lrs: u32) -> Option<Loaded>
-    requires { (P.seen port.old).number ≡ 0 }
-    ensures { IfSome result (λ vcpu. IsUp (P.seen port.new) vcpu) }
-{
-    if port.shape() != SHAPE
-        || port.actor() != 0
-        || !is_off(port.local_ref())
-        || !(1..=16).contains(&lrs)
-    {
-        return None;
-    }
-    let vcpu = Shelved {
-        guest: 0,
-        vcpu: 0,
-        cpu: port.local_ref().cpu,
-        next: 0,
-    };
-    Some(enter(port, vcpu, lrs))
-}
-
 /// vCPU 0 enters a PE, and leaves it: what stood in the registers between. None where it may not.
 fn visit<P: Port>(port: &mut P, lrs: u32) -> Option<Stored>
     requires { (P.seen port.old).number ≡ 0 }
 {
-    let vcpu = enter_first(port, lrs)?;
+    let vcpu = enter_told(port, lrs)?;
     let registers = Stored {
         hcr: vcpu.regs.hcr,
         lr: [vcpu.regs.lr[0], vcpu.regs.lr[1]],

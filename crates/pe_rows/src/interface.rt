@@ -1,15 +1,14 @@
 //! What a vCPU reads at its CPU interface, and what stands in the registers of its PE meanwhile.
-ghost use Rattle.std.specs.Prelude.{◌≡◌, IsTrue, IfSome, [], if◌then◌else◌};
+ghost use Rattle.std.specs.Prelude.{◌≡◌, IsTrue, IfSome, if◌then◌else◌};
 ghost use Rattle.port_seq.specs.Words.{Spi, has_interrupt};
 ghost use Rattle.pe_mem.specs.Core.{WireUp, WireDown, shape_of};
 ghost use Rattle.pe_icc.specs.PeLoop.Stay.{IsUp};
 
-use pe_icc::{Loaded, Shelved, enter, icc_op, leave};
-use pe_mem::{raise, settle};
-use port_rest::{is_off, one_guest};
-use port_seq::{
-    CorePort as Port, CoreStep, GuestShape, IccReg, Key, Mode, Preset, Scenario, SeqPort,
-};
+use crate::entry::enter_told;
+use pe_icc::{Loaded, Port, enter, icc_op, leave};
+use pe_mem::{CoreStep, GuestShape, raise, settle};
+use port_rest::{one_guest, sgi, spi};
+use port_seq::{IccReg, Key, Mode, Scenario, SeqPort};
 use std::alloc::{AllocError, Global};
 use std::sync::Wait;
 use std::test::Fail;
@@ -46,29 +45,6 @@ enum Act {
     Stored(u32, u64, u64),
 }
 
-fn preset(id: u32, prio: u8, edge: bool) -> Preset {
-    Preset {
-        id,
-        prio,
-        edge,
-        group: 1,
-        to: Some(0),
-        vcpu: None,
-    }
-}
-
-/// An SGI of a vCPU.
-fn sgi(vcpu: u32) -> Preset {
-    Preset {
-        id: SGI,
-        prio: 0xA0,
-        edge: true,
-        group: 1,
-        to: None,
-        vcpu: Some(vcpu),
-    }
-}
-
 /// A guest with the interrupts 40, 41 and 42, of which 42 comes first, and an SGI of each vCPU.
 fn scenario(alloc: Global, edge: bool) -> Result<Scenario, AllocError> {
     one_guest(
@@ -76,34 +52,13 @@ fn scenario(alloc: Global, edge: bool) -> Result<Scenario, AllocError> {
         SHAPE,
         true,
         &[
-            preset(40, 0xA0, edge),
-            preset(41, 0xA0, true),
-            preset(42, 0x20, true),
-            sgi(0),
-            sgi(1),
+            spi(40, 0xA0, edge, 0),
+            spi(41, 0xA0, true, 0),
+            spi(42, 0x20, true, 0),
+            sgi(SGI, 0xA0, 0),
+            sgi(SGI, 0xA0, 1),
         ],
     )
-}
-
-/// vCPU 0 enters a PE with this many list registers. None where it may not.
-fn enter_first<P: Port>(port: &mut P, lrs: u32) -> Option<Loaded>
-    requires { (P.seen port.old).number ≡ 0 }
-    ensures { IfSome result (λ vcpu. IsUp (P.seen port.new) vcpu) }
-{
-    if port.shape() != SHAPE
-        || port.actor() != 0
-        || !is_off(port.local_ref())
-        || !(1..=16).contains(&lrs)
-    {
-        return None;
-    }
-    let vcpu = Shelved {
-        guest: 0,
-        vcpu: 0,
-        cpu: port.local_ref().cpu,
-        next: 0,
-    };
-    Some(enter(port, vcpu, lrs))
 }
 
 /// A message makes an SPI pending.
@@ -211,7 +166,7 @@ fn perform<P: Port, R: Wait>(rt: &R, port: &mut P, vcpu: Loaded, act: Act) -> Op
 fn play<P: Port, R: Wait>(rt: &R, port: &mut P, lrs: u32, acts: &[Act]) -> Option<usize>
     requires { (P.seen port.old).number ≡ 0 }
 {
-    let mut vcpu = enter_first(port, lrs)?;
+    let mut vcpu = enter_told(port, lrs)?;
     for (done, act) in acts.iter().enumerate() {
         match perform(rt, port, vcpu, *act) {
             Some(next) => vcpu = next,

@@ -5,6 +5,8 @@
 #[cfg(test)]
 mod entries;
 #[cfg(test)]
+mod entry;
+#[cfg(test)]
 mod interface;
 #[cfg(test)]
 mod memory;

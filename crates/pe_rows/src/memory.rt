@@ -1,17 +1,16 @@
 //! Accesses of the frames and of the guest's memory, one after the other, and what they leave.
-ghost use Rattle.std.specs.Prelude.{◌≡◌, [], IsTrue, IfSome};
+ghost use Rattle.std.specs.Prelude.{◌≡◌, IsTrue};
 ghost use Rattle.port_seq.specs.Registers.{is_size as is_size_of};
 ghost use Rattle.port_seq.specs.Calls.{fits as fits_in};
-ghost use Rattle.pe_icc.specs.PeLoop.Stay.{IsUp};
 ghost use Rattle.pe_mem.specs.Call.{CanAccess};
 
-use pe_icc::{Loaded, Shelved, enter, leave};
-use pe_mem::{Missed, dist_op, memory_op, redist_op, settle, touch, try_access};
-use port_rest::{is_off, one_guest};
-use port_seq::{
-    CorePort as Port, CoreStep, GuestShape, Key, Kind, Mode, Preset, Scenario, SeqPort, Touching,
-    WordId, target_in,
+use crate::entry::enter_told;
+use pe_icc::{Port, leave};
+use pe_mem::{
+    CoreStep, GuestShape, Missed, WordId, dist_op, memory_op, redist_op, settle, touch, try_access,
 };
+use port_rest::{is_off, one_guest, spi};
+use port_seq::{Key, Kind, Mode, Scenario, SeqPort, Touching, target_in};
 use std::alloc::{AllocError, Global};
 use std::sync::Wait;
 use std::test::Fail;
@@ -25,6 +24,9 @@ const SHAPE: GuestShape = GuestShape {
     lpis: 16,
     ram: 65536,
 };
+
+/// List registers of a PE.
+const LIST_REGISTERS: u32 = 4;
 
 /// Where an access is.
 #[derive(Clone, Copy)]
@@ -59,15 +61,7 @@ const OPENING: State = (true, 0xA0, true, false, None, Some(0));
 
 /// A guest with interrupt 40, of which GICD_CTLR opens so.
 fn scenario(alloc: Global, on: bool) -> Result<Scenario, AllocError> {
-    let presets = [Preset {
-        id: 40,
-        prio: 0xA0,
-        edge: true,
-        group: 1,
-        to: Some(0),
-        vcpu: None,
-    }];
-    one_guest(alloc, SHAPE, on, &presets)
+    one_guest(alloc, SHAPE, on, &[spi(40, 0xA0, true, 0)])
 }
 
 /// The actor is a vCPU that can make an access.
@@ -226,23 +220,6 @@ fn send<P: Port>(port: &mut P) -> bool
     true
 }
 
-/// vCPU 0 enters a PE. None where it may not.
-fn enter_first<P: Port>(port: &mut P) -> Option<Loaded>
-    requires { (P.seen port.old).number ≡ 0 }
-    ensures { IfSome result (λ vcpu. IsUp (P.seen port.new) vcpu) }
-{
-    if port.shape() != SHAPE || port.actor() != 0 || !is_off(port.local_ref()) {
-        return None;
-    }
-    let vcpu = Shelved {
-        guest: 0,
-        vcpu: 0,
-        cpu: port.local_ref().cpu,
-        next: 0,
-    };
-    Some(enter(port, vcpu, 4))
-}
-
 /// vCPU 0 gets a message, enters a PE, and leaves it or stays. False where it may not.
 fn visit<P: Port>(port: &mut P, leaves: bool) -> bool
     requires { (P.seen port.old).number ≡ 0 }
@@ -250,7 +227,7 @@ fn visit<P: Port>(port: &mut P, leaves: bool) -> bool
     if !send(port) {
         return false;
     }
-    let Some(vcpu) = enter_first(port) else {
+    let Some(vcpu) = enter_told(port, LIST_REGISTERS) else {
         return false;
     };
     if leaves {
@@ -369,33 +346,49 @@ fn enable_lpis_rises(rt: HostRuntime) -> Result<(), Fail> {
     use Access::{Read, Write};
     use Place::{Memory, Redist};
 
-    // The pending table at 0 has the bit of LPI 8195 in byte 0x400.
-    let accesses = [
-        Read(Redist, 0x8, 8, 0x0000_0001_0000_0111),
-        Write(Redist, 0x70, 8, 0x300D),
-        Write(Memory, 0x400, 1, 0x08),
-        Read(Redist, 0x0, 4, 0),
-        Write(Redist, 0x0, 4, 1),
-        Read(Redist, 0x0, 4, 1),
-        // From now on the addresses of the tables stay.
-        Write(Redist, 0x70, 4, 0),
-        Read(Redist, 0x70, 8, 0x300D),
-        Write(Redist, 0x78, 8, 0x1_0000),
-        Read(Redist, 0x78, 8, 0),
-        // EnableLPIs stays 1.
-        Write(Redist, 0x0, 4, 0),
-        Read(Redist, 0x0, 4, 1),
+    // Whether LPI 8195 is pending then. The pending table at 0 has its bit in byte 0x400.
+    let rows: [(&[Access], bool); 2] = [
+        (
+            &[
+                Read(Redist, 0x8, 8, 0x0000_0001_0000_0111),
+                Write(Redist, 0x70, 8, 0x300D),
+                Write(Memory, 0x400, 1, 0x08),
+                Read(Redist, 0x0, 4, 0),
+                Write(Redist, 0x0, 4, 1),
+                Read(Redist, 0x0, 4, 1),
+                // From now on the addresses of the tables stay, and EnableLPIs stays 1.
+                Write(Redist, 0x70, 4, 0),
+                Read(Redist, 0x70, 8, 0x300D),
+                Write(Redist, 0x78, 8, 0x1_0000),
+                Read(Redist, 0x78, 8, 0),
+                Write(Redist, 0x0, 4, 0),
+                Read(Redist, 0x0, 4, 1),
+            ],
+            true,
+        ),
+        // A table that is said to have only zeros is not read; PTZ reads 0.
+        (
+            &[
+                Write(Memory, 0x400, 1, 0x08),
+                Write(Redist, 0x78, 8, 0x4000_0000_0000_0000),
+                Read(Redist, 0x78, 8, 0),
+                Write(Redist, 0x0, 4, 1),
+            ],
+            false,
+        ),
     ];
-    assert_eq!(rt; pends(&rt, rt.alloc(), accesses.as_slice())?, Some(true));
-    // A table that is said to have only zeros is not read; PTZ reads 0.
-    let accesses = [
-        Write(Memory, 0x400, 1, 0x08),
-        Write(Redist, 0x78, 8, 0x4000_0000_0000_0000),
-        Read(Redist, 0x78, 8, 0),
-        Write(Redist, 0x0, 4, 1),
-    ];
-    assert_eq!(rt; pends(&rt, rt.alloc(), accesses.as_slice())?, Some(false));
-    // The bits of the SGIs of vCPU 1, one by one.
+    for (accesses, pending) in rows {
+        assert_eq!(rt; pends(&rt, rt.alloc(), accesses)?, Some(pending));
+    }
+    Ok(())
+}
+
+#[test]
+fn bits_of_sgis(rt: HostRuntime) -> Result<(), Fail> {
+    use Access::{Read, Write};
+    use Place::Redist;
+
+    // Those of vCPU 1, one by one.
     let accesses = [
         Write(Redist, 0x1_0200, 4, 0x20),
         Read(Redist, 0x1_0280, 4, 0x20),

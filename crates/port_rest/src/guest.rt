@@ -1,5 +1,5 @@
-//! A scenario of one guest.
-ghost use Rattle.std.specs.Prelude.{◌≡◌, ◌∷◌, [], IfOk};
+//! A scenario of one guest, and the interrupts that it opens.
+ghost use Rattle.std.specs.Prelude.{◌≡◌, ◌∷◌, [], IfOk, Some, None, true};
 
 use floor_core::GuestShape;
 use scn_base::{GuestSpec, ListOf, Preset, Scenario};
@@ -27,4 +27,32 @@ pub fn one_guest(
         guests,
         steps: ListOf::new(alloc),
     })
+}
+
+/// Opens an SPI in group 1 for a vCPU: at this priority, and edge-triggered or level-sensitive.
+pub fn spi(id: u32, prio: u8, edge: bool, to: u32) -> Preset
+    ensures { result ≡ record { id = id; prio = prio; edge = edge; group = 1; to = Some to; vcpu = None } }
+{
+    Preset {
+        id,
+        prio,
+        edge,
+        group: 1,
+        to: Some(to),
+        vcpu: None,
+    }
+}
+
+/// Opens an SGI of a vCPU in group 1, at this priority.
+pub fn sgi(id: u32, prio: u8, vcpu: u32) -> Preset
+    ensures { result ≡ record { id = id; prio = prio; edge = true; group = 1; to = None; vcpu = Some vcpu } }
+{
+    Preset {
+        id,
+        prio,
+        edge: true,
+        group: 1,
+        to: None,
+        vcpu: Some(vcpu),
+    }
 }

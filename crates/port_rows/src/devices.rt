@@ -2,12 +2,9 @@
 ghost use Rattle.port_seq.specs.Told.{IsOpening};
 ghost use Rattle.port_seq.specs.Ports.{told_all};
 
-use dev_port::{AlreadySo, Wire, message, msi, set_wire};
-use port_rest::is_settled;
-use port_seq::{
-    Actor, CorePort as Port, CoreStep, GuestShape, GuestSpec, Key, ListOf, Mode, Preset,
-    PresetList, Scenario, SeqPort, WordId,
-};
+use dev_port::{AlreadySo, CoreStep, Key, Port, Wire, WordId, message, msi, set_wire};
+use port_rest::{is_settled, spi};
+use port_seq::{Actor, GuestShape, GuestSpec, ListOf, Mode, PresetList, Scenario, SeqPort};
 use std::alloc::{AllocError, Global};
 use std::sync::Wait;
 use std::test::Fail;
@@ -43,24 +40,13 @@ const ROSE: u64 = 1 << 2;
 /// A vCPU's word with a kick.
 const KICK: u64 = 2;
 
-fn preset(id: u32, edge: bool, to: u32) -> Preset {
-    Preset {
-        id,
-        prio: 0xA0,
-        edge,
-        group: 1,
-        to: Some(to),
-        vcpu: None,
-    }
-}
-
 /// Two guests, each with both interrupts.
 fn scenario(alloc: Global) -> Result<Scenario, AllocError> {
     let mut guests = ListOf::new(alloc);
     for _ in 0..2 {
         let mut presets: PresetList = ListOf::new(alloc);
-        presets.push(preset(40, true, 1))?;
-        presets.push(preset(41, false, 0))?;
+        presets.push(spi(40, 0xA0, true, 1))?;
+        presets.push(spi(41, 0xA0, false, 0))?;
         guests.push(GuestSpec {
             shape: SHAPE,
             on: true,
@@ -132,17 +118,24 @@ fn tell_device(port: &mut SeqPort, guests: &[GuestSpec]) -> bool
     true
 }
 
+/// The port of two guests that just opened, which is told of the device of the second. None where there is none.
+fn open_device(alloc: Global) -> Result<Option<SeqPort>, AllocError> {
+    let scenario = scenario(alloc)?;
+    if !scenario.is_good(alloc, Mode::Threads)? {
+        return Ok(None);
+    }
+    let mut port = SeqPort::start(alloc, &scenario)?;
+    if !tell_device(&mut port, scenario.guests.as_slice()) {
+        return Ok(None);
+    }
+    Ok(Some(port))
+}
+
 #[test]
-fn device_calls(rt: HostRuntime) -> Result<(), Fail> {
-    let scenario = scenario(rt.alloc())?;
-    assert!(rt; scenario.is_good(rt.alloc(), Mode::Threads)?);
-    let mut port = SeqPort::start(rt.alloc(), &scenario)?;
-    assert!(rt; tell_device(&mut port, scenario.guests.as_slice()));
+fn a_message_kicks_its_target(rt: HostRuntime) -> Result<(), Fail> {
+    let mut port = open_device(rt.alloc())?.ok_or("no device")?;
     assert_eq!(rt; port.actor(), 2);
     assert_eq!(rt; look(&mut port, WordId::Irq(EDGE)), Some(EDGE_OPENED));
-    assert_eq!(rt; look(&mut port, WordId::Irq(LEVEL)), Some(LEVEL_OPENED));
-
-    // The message kicks the interrupt's target alone.
     assert_eq!(rt; send(&mut port), Some(()));
     assert_eq!(rt;
         look(&mut port, WordId::Irq(EDGE)),
@@ -150,12 +143,17 @@ fn device_calls(rt: HostRuntime) -> Result<(), Fail> {
     );
     assert_eq!(rt; look(&mut port, WordId::Vcpu(1)), Some(KICK));
     assert_eq!(rt; look(&mut port, WordId::Vcpu(0)), Some(0));
+    Ok(())
+}
 
-    // The wire goes up once, and down.
+#[test]
+fn a_wire_goes_up_once(rt: HostRuntime) -> Result<(), Fail> {
+    let mut port = open_device(rt.alloc())?.ok_or("no device")?;
     let mut wire = Wire {
         key: LEVEL,
         up: false,
     };
+    assert_eq!(rt; look(&mut port, WordId::Irq(LEVEL)), Some(LEVEL_OPENED));
     assert_eq!(rt; move_wire(&mut port, &mut wire, true), Some(Ok(())));
     assert_eq!(rt;
         look(&mut port, WordId::Irq(LEVEL)),
@@ -169,9 +167,14 @@ fn device_calls(rt: HostRuntime) -> Result<(), Fail> {
         Some(LEVEL_OPENED + ROSE)
     );
     assert!(rt; !wire.up);
+    Ok(())
+}
 
-    // The ITS is disabled, and given back.
+#[test]
+fn an_event_meets_a_disabled_its(rt: HostRuntime) -> Result<(), Fail> {
+    let mut port = open_device(rt.alloc())?.ok_or("no device")?;
     assert_eq!(rt; send_event(&rt, &mut port), Some(()));
+    // The ITS is given back.
     assert_eq!(rt; look(&mut port, WordId::Queue), Some(0));
     assert_eq!(rt; look(&mut port, WordId::Ctlr), Some(3));
     assert!(rt; is_settled(port.local_ref()));

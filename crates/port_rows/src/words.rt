@@ -42,7 +42,7 @@ const BITS: [(Key, u32); 5] = [
 ];
 
 #[test]
-fn numbers_words(rt: HostRuntime) {
+fn places_of_words(rt: HostRuntime) {
     assert!(rt; SHAPE.is_in_range());
     let words = word_count(&SHAPE);
     assert_eq!(rt; words, 200);
@@ -52,10 +52,21 @@ fn numbers_words(rt: HostRuntime) {
     }
     assert_eq!(rt; place_of_word(WordId::Vcpu(1), &SHAPE), 192);
     assert_eq!(rt; place_of_word(WordId::Queue, &SHAPE), 168);
+}
+
+#[test]
+fn places_of_no_word(rt: HostRuntime) {
+    assert!(rt; SHAPE.is_in_range());
+    let words = word_count(&SHAPE);
     for place in [181, 183, 188, 191, 196] {
         assert!(rt; place < words);
         assert_eq!(rt; word_at(place, &SHAPE), None);
     }
+}
+
+#[test]
+fn bits_of_interrupts(rt: HostRuntime) {
+    assert!(rt; SHAPE.is_in_range());
     assert_eq!(rt; (index_bits(&SHAPE), index_words(&SHAPE)), (136, 3));
     for (key, bit) in BITS {
         assert_eq!(rt; key_of_bit(bit, 1, &SHAPE), key);
@@ -64,7 +75,7 @@ fn numbers_words(rt: HostRuntime) {
 }
 
 #[test]
-fn words_say(rt: HostRuntime) {
+fn words_of_a_vcpu(rt: HostRuntime) {
     for (lpis, kick, word) in [
         (false, false, 0),
         (true, false, 1),
@@ -74,6 +85,10 @@ fn words_say(rt: HostRuntime) {
         assert_eq!(rt; VcpuWord { lpis, kick }.pack(), word);
         assert_eq!(rt; VcpuWord::of(word), VcpuWord { lpis, kick });
     }
+}
+
+#[test]
+fn words_of_gicd_ctlr(rt: HostRuntime) {
     for (group0, group1, mark, word) in [
         (false, false, None, 0),
         (true, true, None, 3),

@@ -45,8 +45,7 @@ fn visit<P: Port, R: Wait>(rt: &R, port: &mut P, answer: u64) -> Option<()>
 }
 
 /// The device sends a message of interrupt 40 and one of an event to the ITS, which maps none, and vCPU 0 acknowledges the
-/// interrupt, each through a port of its own. None where one may
-/// not, or something else is read.
+/// interrupt, each through a port of its own. None where one may not, or something else is read.
 fn one_after_the_other<R: Wait>(rt: &R, words: &SharedWords, root: RootSeat) -> Option<RootSeat>
     requires alone { IsAlone (told_words words.now) }
     requires roots { AreRoots (told_words words.now) (told_root root) }

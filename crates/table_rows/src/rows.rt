@@ -6,11 +6,9 @@ ghost use Rattle.port_table.specs.Told.{AreRoots, opening_root};
 ghost use Rattle.dev_port.specs.Core.{IsSameActor};
 ghost use Rattle.table_rows.specs.Rows.{IsAlone};
 
-use dev_port::{message, msi};
-use port_rest::{is_settled, one_guest};
-use port_table::{
-    CorePort as Port, GuestShape, Key, Mode, Preset, RootSeat, Scenario, SharedWords, key_of, start,
-};
+use dev_port::{Key, Port, message, msi};
+use port_rest::{is_settled, one_guest, spi};
+use port_table::{GuestShape, Mode, RootSeat, Scenario, SharedWords, key_of, start};
 use std::alloc::{AllocError, Global};
 use std::sync::Wait;
 
@@ -24,21 +22,14 @@ pub(crate) const SHAPE: GuestShape = GuestShape {
     ram: 0,
 };
 
-/// An edge-triggered SPI of priority 0xA0 and group 1.
-fn preset(id: u32, vcpu: u32) -> Preset {
-    Preset {
-        id,
-        prio: 0xA0,
-        edge: true,
-        group: 1,
-        to: Some(vcpu),
-        vcpu: None,
-    }
-}
-
 /// A guest that opens on: interrupt 40 for vCPU 0, and 60 for vCPU 1.
 pub(crate) fn scenario(alloc: Global) -> Result<Scenario, AllocError> {
-    one_guest(alloc, SHAPE, true, &[preset(40, 0), preset(60, 1)])
+    one_guest(
+        alloc,
+        SHAPE,
+        true,
+        &[spi(40, 0xA0, true, 0), spi(60, 0xA0, true, 1)],
+    )
 }
 
 /// The words of a scenario that is this guest alone, and its root. None of another.

@@ -5,7 +5,6 @@ ghost use Rattle.dev_port.specs.Words.{Device as DeviceActor};
 ghost use Rattle.port_table.specs.All.{told_words, told_root};
 ghost use Rattle.port_table.specs.Ports.{seen_of};
 ghost use Rattle.port_table.specs.Told.{AreRoots, AllDone, opening_root};
-ghost use Rattle.dev_port.specs.Core.{IsSameActor};
 ghost use Rattle.table_rows.specs.Rows.{IsAlone, Goes};
 
 use crate::rows::{SHAPE, is_idle, open, scenario, send};
