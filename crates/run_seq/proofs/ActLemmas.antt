@@ -21,9 +21,11 @@ use Rattle.law_one_thread_is_eager.specs.PePlace.Place.{entered, left}
 use Rattle.run_seq.specs.declared.machine.Machine.{Machine}
 use Rattle.run_seq.specs.Acts.{ActsAs, Exits, Operates, Places, Receives, ShowsPe, CallsOnce, ShowsVcpu}
 use Rattle.run_seq.specs.StepCalls.{step_call}
+use Rattle.run_seq.specs.Steps.{IsOfPe, enters_in}
 use Rattle.run_seq.specs.Machine.{CanDo, HasDoneStep, IsGuestAt, IsMachineAt}
+use Rattle.run_seq.proofs.MachineLemmas.{more_same}
 use Rattle.run_seq.proofs.ResidentLemmas.{enters_once, enters_resident, leaves_once, leaves_resident}
-use Rattle.run_seq.proofs.StepLemmas.{device_step, moved, one_enters, one_leaves, other_guests, shown_step, spec, vcpu_step}
+use Rattle.run_seq.proofs.StepLemmas.{device_step, entered_in, moved, one_enters, one_leaves, other_guests, shown_step, spec, vcpu_step}
 
 -- what is asked of a guest's shape is true of the guest
 pub of_shape : (specs : List GuestSpec) (number : ℕ) (guest : GuestSpec) (test : GuestShape → Bool) → slice_get specs number ≡ Some guest → IsTrue (passes test (slice_get (shapes_of specs) number)) → test guest.shape ≡ true
@@ -76,7 +78,10 @@ module _ (specs : List GuestSpec) (lrs : ℕ) (machine next : Machine) (told lat
       subst (Done (Pe pe (Enter guest vcpu))) (sym does.answer_is)
       (moved specs lrs machine next told later parts ideals at name entered does.acts (Pe pe (Enter guest vcpu)) pes refl (All-set (IsThere (shapes_of specs)) machine.pes pe (Some name) formed.1 at.residents)
       (enters_once machine.pes pe name (not_is (is_resident machine.pes guest vcpu) stands.1) at.once) refl (λ n other. refl) refl
-      (λ n v apart. enters_resident machine.pes pe n v name there free ∙ ap (λ b. b || is_resident machine.pes n v) (other_guests guest n v name refl apart)) (one_enters machine.pes pe name there free))
+      (λ n v apart. enters_resident machine.pes pe n v name there free ∙ ap (λ b. b || is_resident machine.pes n v) (other_guests guest n v name refl apart)) (one_enters machine.pes pe name there free)
+      (λ n other same.
+      ap (enters_in vcpu) (more_same guest n does.acts.does.goes_on.parts (sym same))
+      ∙ entered_in specs lrs machine next told later parts ideals at name does.acts (not_is (is_resident machine.pes guest vcpu) stands.1)))
 
   exits : (pe : ℕ) (answer : Answer) → CanDo specs machine (Pe pe Exit) → Exits machine next told later (resident_of machine.pes pe) answer → Done (Pe pe Exit) answer
   exits pe answer can does = of (resident_of machine.pes pe) refl does
@@ -93,13 +98,15 @@ module _ (specs : List GuestSpec) (lrs : ℕ) (machine next : Machine) (told lat
           subst (Done (Pe pe Exit)) (sym does.answer_is)
           (moved specs lrs machine next told later parts ideals at name left does.acts (Pe pe Exit) pes refl (All-set (IsThere (shapes_of specs)) machine.pes pe None refl at.residents)
           (leaves_once machine.pes pe at.once) refl (λ n other. refl) refl
-          (λ n v apart. leaves_resident machine.pes pe n v name at.once on ∙ ap (λ b. not b && is_resident machine.pes n v) (other_guests name.guest n v name refl apart)) (one_leaves machine.pes pe name at.once on))
+          (λ n v apart. leaves_resident machine.pes pe n v name at.once on ∙ ap (λ b. not b && is_resident machine.pes n v) (other_guests name.guest n v name refl apart)) (one_leaves machine.pes pe name at.once on) (λ n other. tt))
 
   -- nothing was done
-  idle : (step : Step) (answer : Answer) → next ≡ machine → later ≡ told → pes_after step machine.pes ≡ machine.pes → after_step step ideals ≡ ideals → ((n : ℕ) (guest : GuestSpec) → step_call n guest.shape step answer ≡ None) → answer ≡ step_answer lrs machine.pes step ideals → Done step answer
-  idle step answer same told_same pes_same still uncalls answer_is = record {
+  idle : (step : Step) (answer : Answer) → next ≡ machine → later ≡ told → pes_after step machine.pes ≡ machine.pes → after_step step ideals ≡ ideals → ((n : ℕ) (guest : GuestSpec) → step_call n guest.shape step answer ≡ None)
+      → ((n : ℕ) (guest : GuestSpec) → IsOfPe guest n lrs machine.pes step answer (parts n) []) → answer ≡ step_answer lrs machine.pes step ideals → Done step answer
+  idle step answer same told_same pes_same still uncalls of_pe answer_is = record {
     more = λ n. [];
     calls = λ n guest is. ap option_to_list (sym (uncalls n guest));
+    of_pe = λ n guest is. of_pe n guest;
     pes = refl;
     answer_is = answer_is;
     at =
@@ -123,9 +130,12 @@ module _ (specs : List GuestSpec) (lrs : ℕ) (machine next : Machine) (told lat
   shows : (pe : ℕ) (answer : Answer) → CanDo specs machine (Pe pe Lrs) → ShowsPe machine next told later (resident_of machine.pes pe) answer → Done (Pe pe Lrs) answer
   shows pe answer can does = of (resident_of machine.pes pe) refl does
     where
+      nobody : (name : VcpuName) → None ≡ Some name → ⊥
+      nobody name e = cc
+
       of : (o : Option VcpuName) → resident_of machine.pes pe ≡ o → ShowsPe machine next told later o answer → Done (Pe pe Lrs) answer
       of None e does =
-          idle (Pe pe Lrs) answer does.0.machine_is does.0.told_is refl refl (λ n guest. refl) (does.1 ∙ ap (λ n. Regs (replicate (n + 1) 0)) at.lrs_is ∙ ap (λ o. shown lrs o ideals) (sym e))
+          idle (Pe pe Lrs) answer does.0.machine_is does.0.told_is refl refl (λ n guest. refl) (λ n guest vcpu on. absurd (nobody (vcpu_name n vcpu) (sym e ∙ on))) (does.1 ∙ ap (λ n. Regs (replicate (n + 1) 0)) at.lrs_is ∙ ap (λ o. shown lrs o ideals) (sym e))
       of (Some name) e does =
           let mine = spec specs lrs machine next told later parts ideals at name.guest (ShowsVcpu name.vcpu does.list) does.acts in
           let on = found_on machine.pes pe name e in

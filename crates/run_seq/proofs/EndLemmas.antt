@@ -15,15 +15,17 @@ use Rattle.law_ends_agree.specs.IdealGuests.Opening.{opening}
 use Rattle.law_ends_agree.specs.GicIdeal.Ends.{end_of, ends_of}
 use Rattle.law_ends_agree.specs.GicIdeal.Eager.{after_step, after_steps, at_guest, eager}
 use Rattle.law_ends_agree.specs.GuestEnd.Home.{IsAtEnd}
-use Rattle.law_ends_agree.specs.Calls.{GuestSpec, RunOut, IsGoodGuest}
+use Rattle.law_ends_agree.specs.Calls.{GuestSpec, RunOut, IsGoodGuest, shapes_of}
 use Rattle.law_ends_agree.specs.GicGuest.declared.outcome.End.{End}
 use Rattle.law_ends_agree.specs.Core.{GuestWords, CoreState}
 use Rattle.law_one_thread_is_eager.specs.PortSeq.Told.{GuestTold, SeqTold, guest_at, no_told, state_of, words_of_end}
 use Rattle.law_one_thread_is_eager.specs.SeqGuest.Guest.{cpus_of, seen_by}
 use Rattle.law_ends_agree.specs.GicGuest.declared.outcome.Answer.{Answer}
+use Rattle.law_ends_agree.specs.ScnBase.declared.pes.VcpuName.{VcpuName}
 use Rattle.law_ends_agree.specs.ScnBase.declared.scenario.Scenario.{Scenario}
 use Rattle.law_ends_agree.specs.ScnBase.declared.step.Step.{Step}
 use Rattle.law_ends_agree.specs.ScnBase.declared.step.Step.TheVariants.{Vcpu as StepVcpu, Device as StepDevice, Pe as StepPe}
+use Rattle.law_ends_agree.specs.ScnBase.Standing.{opening_pes}
 use Rattle.law_one_thread_is_eager.specs.PortSeq.Kept.{IsFree}
 use Rattle.law_one_thread_is_eager.specs.LawSerialIsEager.Serial.{moments_of}
 use Rattle.law_one_thread_is_eager.specs.Done.{home_after}
@@ -41,9 +43,9 @@ use Rattle.run_seq.proofs.StepLemmas.{there_in}
 
 -- A guest that has run.
 
-module _ (told : GuestTold) (lrs : ℕ) (steps : List Step) (answers : List Answer) (ideal : IdealGuest) where
+module _ (told : GuestTold) (lrs : ℕ) (pes : List (Option VcpuName)) (steps : List Step) (answers : List Answer) (ideal : IdealGuest) where
   abbrev pub Ends : GuestSpec → ℕ → Type 0
-  Ends guest number = IsGoodGuest guest → GuestHasRun guest number lrs steps answers ideal told → EndsAt guest (words_of_end told) (cpus_of told) ideal
+  Ends guest number = IsGoodGuest guest → GuestHasRun guest number lrs pes steps answers ideal told → EndsAt guest (words_of_end told) (cpus_of told) ideal
 
   ends_here : Ends told.guest told.number
   ends_here good run =
@@ -114,7 +116,7 @@ module _ (scenario : Scenario) (done : Done) (told : SeqTold) (run : HasRun scen
       (λ n guest one ideal a t b.
       let has = run.each n guest ideal a b in
       subst (λ (g : GuestTold). EndsAt guest (words_of_end g) (cpus_of g) ideal) (get_or_from_slice_get told.guests n one no_told t)
-      (guest_ends (guest_at told n) scenario.lrs scenario.steps done.answers ideal guest n has.guest_is has.number_is (good_at guest n a) has))))
+      (guest_ends (guest_at told n) scenario.lrs (opening_pes scenario.pes (shapes_of scenario.guests)) scenario.steps done.answers ideal guest n has.guest_is has.number_is (good_at guest n a) has))))
     where
       good_at : (guest : GuestSpec) (number : ℕ) → slice_get scenario.guests number ≡ Some guest → IsGoodGuest guest
       good_at guest number is = subst IsGoodGuest (get_or_from_slice_get scenario.guests number guest guest is) (All-get_or IsGoodGuest scenario.guests number guest (slice_get_within scenario.guests number guest is) good)

@@ -13,11 +13,11 @@ use Rattle.law_ends_agree.specs.Registers.{CpuRec}
 use Rattle.law_ends_agree.specs.Histories.{IdealGuest}
 use Rattle.law_ends_agree.specs.IdealGuests.Opening.{opening as opening_guest}
 use Rattle.law_ends_agree.specs.GicIdeal.Eager.{after_steps}
-use Rattle.law_ends_agree.specs.Calls.{GuestSpec, passes}
+use Rattle.law_ends_agree.specs.Calls.{GuestSpec, passes, shapes_of}
 use Rattle.law_ends_agree.specs.GicGuest.declared.outcome.Answer.{Answer}
 use Rattle.law_ends_agree.specs.ScnBase.declared.pes.VcpuName.{VcpuName}
 use Rattle.law_ends_agree.specs.ScnBase.declared.scenario.Scenario.{Scenario}
-use Rattle.law_ends_agree.specs.ScnBase.Standing.{is_resident}
+use Rattle.law_ends_agree.specs.ScnBase.Standing.{is_resident, opening_pes}
 use Rattle.law_ends_agree.specs.Core.{is_settled}
 use Rattle.law_one_thread_is_eager.specs.PortSeq.Told.{GuestTold, SeqTold, guest_at, no_told}
 use Rattle.law_one_thread_is_eager.specs.PePlace.declared.place.Place.{Place}
@@ -28,10 +28,8 @@ use Rattle.law_one_thread_is_eager.specs.SeqGuest.Guest.{AreAt, cpus_of, seen_by
 use Rattle.law_one_thread_is_eager.specs.Done.{AreSerial, HasDone}
 use Rattle.law_one_thread_is_eager.proofs.EaseLemmas.{placed}
 use Rattle.run_seq.specs.declared.machine.Machine.{Machine}
-use Rattle.run_seq.specs.StepCalls.{calls_among}
 use Rattle.run_seq.specs.Machine.{HasClosed, place_by}
 use Rattle.run_seq.specs.Run.{GuestHasRun, HasRun, IsLeft, SamePorts}
-use Rattle.run_seq.proofs.CallLemmas.{calls_append}
 use Rattle.run_seq.proofs.RunLemmas.{RunsSoFar}
 use Rattle.run_seq.proofs.StepLemmas.{there_in}
 
@@ -72,7 +70,7 @@ left_still one other e left = subst IsLeft (sym e) (record { empty = left.empty;
 
 module _ (scenario : Scenario) (machine next : Machine) (told later last : SeqTold) (answers : List Answer) (so : RunsSoFar scenario machine told answers scenario.steps []) (closed : HasClosed scenario.guests scenario.lrs next later so.parts so.ideals) (same : SamePorts later last) where
   guest_run : (number : ℕ) (guest : GuestSpec) (ideal : IdealGuest) → slice_get scenario.guests number ≡ Some guest → slice_get (after_steps scenario.steps (map opening_guest scenario.guests)) number ≡ Some ideal
-      → GuestHasRun guest number scenario.lrs scenario.steps answers ideal (guest_at last number)
+      → GuestHasRun guest number scenario.lrs (opening_pes scenario.pes (shapes_of scenario.guests)) scenario.steps answers ideal (guest_at last number)
   guest_run number guest ideal spec ideal_is =
       let there : number < length scenario.guests = slice_get_within scenario.guests number guest spec in
       let vcpus = there_in next.guests.items number (subst (λ n. number < n) (sym closed.at.guests) there) in
@@ -85,11 +83,17 @@ module _ (scenario : Scenario) (machine next : Machine) (told later last : SeqTo
         number_is = ap (λ (t : GuestTold). t.number) e ∙ ∥∥₁_elim at.done (Prim.hlevel props) (λ (done : HasDone guest number (guest_at later number) vcpus.one parts). done.number_is);
         world = ap (λ (t : GuestTold). t.world) e ∙ ∥∥₁_elim at.done (Prim.hlevel props) (λ (done : HasDone guest number (guest_at later number) vcpus.one parts). done.world);
         serial = ∥∥₁_map at.done (λ (done : HasDone guest number (guest_at later number) vcpus.one parts). subst (λ n. AreSerial guest number n parts) at.lrs_is done.serial);
-        calls =
-            calls_append (so.parts number) (closed.more number)
-            ∙ ap (λ calls. calls_among (so.parts number) ++ calls) (closed.calls number guest spec)
-            ∙ append-nil (calls_among (so.parts number))
-            ∙ so.calls number guest spec;
+        by_steps =
+            record {
+              first = so.first number;
+              each = so.by_step number;
+              last = closed.more number;
+              split = ap (λ parts. parts ++ closed.more number) (so.split number);
+              enters = (so.opened number guest spec).calls;
+              stand = (so.opened number guest spec).stand;
+              of_steps = so.of_steps number guest spec;
+              leaves = closed.calls number guest spec;
+            };
         left =
             left_still (guest_at later number) (guest_at last number) e
             (all_left (guest_at later number) vcpus.one at.at (λ vcpu. at.spots vcpu ∙ ap place_by (none_resident next.pes number vcpu closed.pes)));

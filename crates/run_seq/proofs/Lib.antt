@@ -3,8 +3,10 @@ pub mod OnceLemmas
 pub mod MachineLemmas
 pub mod CallLemmas
 pub mod GuestLemmas
+pub mod EnterLemmas
 pub mod AnswerLemmas
 pub mod StepLemmas
+pub mod StandLemmas
 pub mod ActLemmas
 pub mod ReadyLemmas
 pub mod LendLemmas

@@ -19,7 +19,7 @@ use Rattle.run_seq.specs.Machine.{GuestActs, IsGuestAt, IsMachineAt, StandsOnce,
 abbrev pub more_of : ℕ → List WholePart → ℕ → List WholePart
 more_of number more n = if n == number then more else []
 
-more_same : (number n : ℕ) (more : List WholePart) → n ≡ number → more_of number more n ≡ more
+pub more_same : (number n : ℕ) (more : List WholePart) → n ≡ number → more_of number more n ≡ more
 more_same number n more same = ap (λ (b : Bool). if b then more else []) (eq-eqb n number same)
 
 more_other : (number n : ℕ) (more : List WholePart) → n ≢ number → more_of number more n ≡ []

@@ -1,11 +1,14 @@
 -- A step of a machine, by what it did.
 use Rattle.std.proofs.Common.{◌≡◌, ◌≢◌, ℕ, ◌+◌, ◌<◌, ◌==◌, ◌&&◌, ◌||◌, not, Bool, true, false, if◌then◌else◌, inl, inr, List, [], ◌∷◌, ◌++◌, length, set, Option, Some, None, refl, sym, ap, ◌∙◌, subst, arith}
+use Rattle.std.proofs.Math.Logic.{∥∥₁_elim}
+use Rattle.std.proofs.Props.{props}
 use Rattle.std.specs.Prelude.{slice_get}
 use Rattle.std.specs.Option.{option_map_or, option_to_list}
 use Rattle.std.proofs.lemmas.Bool.{cases_eq, eq-eqb, ne_eqb}
 use Rattle.std.proofs.lemmas.Option.{slice_get_cases, slice_get_within}
 use Rattle.law_ends_agree.specs.Words.{DeviceOp, GuestOp, Lrs}
 use Rattle.law_ends_agree.specs.Calls.{Access, Device as DeviceCall, GuestSpec, Regs, shapes_of}
+use Rattle.law_ends_agree.specs.Core.{progress_in}
 use Rattle.law_ends_agree.specs.Histories.{IdealGuest, after_device, after_op, op_answer}
 use Rattle.law_ends_agree.specs.GicIdeal.Eager.{after_step, shown, step_answer}
 use Rattle.law_ends_agree.specs.GicIdeal.Shown.{registers_of}
@@ -15,23 +18,25 @@ use Rattle.law_ends_agree.specs.GicGuest.declared.outcome.Answer.TheVariants.{No
 use Rattle.law_ends_agree.specs.ScnBase.declared.pes.VcpuName.{VcpuName}
 use Rattle.law_ends_agree.specs.ScnBase.declared.step.Step.{Step}
 use Rattle.law_ends_agree.specs.ScnBase.declared.step.Step.TheVariants.{Vcpu, Device, Pe}
-use Rattle.law_ends_agree.specs.ScnBase.Standing.{ResidentsExist, is_resident, pes_after, resident_of}
+use Rattle.law_ends_agree.specs.ScnBase.Standing.{ResidentsExist, is_resident, pes_after, resident_of, vcpu_name}
 use Rattle.law_one_thread_is_eager.specs.PortSeq.Told.{GuestTold, SeqTold, guest_at}
 use Rattle.law_one_thread_is_eager.specs.LawLoneCallsAreEager.Runs.{IsGoodCall}
-use Rattle.law_one_thread_is_eager.specs.LawSerialIsEager.Serial.{WholePart}
+use Rattle.law_one_thread_is_eager.specs.LawSerialIsEager.Serial.{WholePart, moments_of}
 use Rattle.law_one_thread_is_eager.specs.SeqGuest.declared.vcpus.Vcpus.{Vcpus}
 use Rattle.law_one_thread_is_eager.specs.PePlace.Place.{Spot, entered, left, pe, shelf}
 use Rattle.law_one_thread_is_eager.specs.SeqGuest.Guest.{spot_at}
-use Rattle.law_one_thread_is_eager.specs.Done.{home_after}
+use Rattle.law_one_thread_is_eager.specs.Done.{HasDone, home_after}
 use Rattle.run_seq.specs.declared.machine.Machine.{Machine}
 use Rattle.law_ends_agree.specs.GuestEnd.Outcome.{answer_by}
 use Rattle.run_seq.specs.Acts.{CallsOnce, MovesVcpu, ShowsVcpu}
 use Rattle.run_seq.specs.StepCalls.{CallMade, calls_among, step_call}
+use Rattle.run_seq.specs.Steps.{IsOfPe, ShowsOwn, enters_in}
 use Rattle.run_seq.specs.Machine.{GuestActs, HasDoneStep, IsGuestAt, IsMachineAt, StandsOnce, place_by}
 use Rattle.run_seq.proofs.AnswerLemmas.{but_for_change, call_elsewhere, call_here, read_is_answer, value_again}
 use Rattle.run_seq.proofs.CallLemmas.{calls_append, one_call, residences_call_none}
-use Rattle.run_seq.proofs.GuestLemmas.{calls_at, eager_call, list_is, resides_at, shows_at}
-use Rattle.run_seq.proofs.MachineLemmas.{IsButFor, but_for_none, machine_acts, more_of}
+use Rattle.run_seq.proofs.EnterLemmas.{enters}
+use Rattle.run_seq.proofs.GuestLemmas.{calls_at, eager_call, list_is, resides_at, shows_at, shows_own}
+use Rattle.run_seq.proofs.MachineLemmas.{IsButFor, but_for_none, machine_acts, more_of, more_same}
 use Rattle.run_seq.proofs.ResidentLemmas.{enters_resident, is_named, leaves_resident}
 
 -- Whoever acts is there.
@@ -70,11 +75,13 @@ module _ (specs : List GuestSpec) (lrs : ℕ) (machine next : Machine) (told lat
     step_by :
         (step : Step) (answer : Answer) (pes : List (Option VcpuName)) (more : List WholePart) (after : IdealGuest) → pes ≡ pes_after step machine.pes → ResidentsExist (shapes_of specs) pes → StandsOnce pes → IsButFor number after ideals (after_step step ideals)
         → ((n vcpu : ℕ) → n ≢ number → is_resident pes n vcpu ≡ is_resident machine.pes n vcpu) → IsGuestAt pes lrs spec.one number acts.guest acts.after (parts number ++ more) after
-        → ((n : ℕ) (guest : GuestSpec) → slice_get specs n ≡ Some guest → calls_among (more_of number more n) ≡ option_to_list (step_call n guest.shape step answer)) → answer ≡ step_answer lrs machine.pes step ideals
+        → ((n : ℕ) (guest : GuestSpec) → slice_get specs n ≡ Some guest → calls_among (more_of number more n) ≡ option_to_list (step_call n guest.shape step answer))
+        → ((n : ℕ) (guest : GuestSpec) → slice_get specs n ≡ Some guest → IsOfPe guest n lrs machine.pes step answer (parts n) (more_of number more n)) → answer ≡ step_answer lrs machine.pes step ideals
         → HasDoneStep specs lrs machine (record next { pes = pes }) later parts ideals step answer
-    step_by step answer pes more after pes_is residents once but alike mine calls answer_is = record {
+    step_by step answer pes more after pes_is residents once but alike mine calls of_pe answer_is = record {
       more = more_of number more;
       calls = calls;
+      of_pe = of_pe;
       pes = pes_is;
       answer_is = answer_is;
       at =
@@ -116,6 +123,7 @@ module _ (specs : List GuestSpec) (lrs : ℕ) (machine next : Machine) (told lat
       (λ n other is.
       called guest Does acts n does.goes_on.parts made (one_call vcpu (Access op) value does.goes_on.parts does.goes_on.are refl)
       ∙ ap (λ value. option_to_list (if guest == n then Some (record made { answer = value }) else None)) (sym (value_again value)))
+      (λ n other is. tt)
       (ap answer_by call.answers ∙ read_is_answer op one.one vcpu ∙ sym (ap (λ o. option_map_or (λ state. op_answer op state vcpu) o Nothing) one.is))
 
   -- A device calls.
@@ -139,6 +147,7 @@ module _ (specs : List GuestSpec) (lrs : ℕ) (machine next : Machine) (told lat
       (subst (IsGuestAt machine.pes lrs mine.one guest acts.guest acts.after (parts guest ++ does.goes_on.parts)) call.goes done)
       (λ n other is.
       called guest Does acts n does.goes_on.parts made (one_call actor (DeviceCall op) none does.goes_on.parts does.goes_on.are refl) ∙ device_call n other is)
+      (λ n other is. tt)
       refl
     where
       -- the device's number is told by the guest's shape
@@ -160,8 +169,9 @@ module _ (specs : List GuestSpec) (lrs : ℕ) (machine next : Machine) (told lat
     pub moved : (pes : List (Option VcpuName)) → pes ≡ pes_after step machine.pes → ResidentsExist (shapes_of specs) pes → StandsOnce pes → after_step step ideals ≡ ideals → ((n : ℕ) (guest : GuestSpec) → step_call n guest.shape step Nothing ≡ None)
         → Nothing ≡ step_answer lrs machine.pes step ideals → ((n vcpu : ℕ) → n ≢ name.guest → is_resident pes n vcpu ≡ is_resident machine.pes n vcpu)
         → ((v : ℕ) → (if v == name.vcpu then change (place_by (is_resident machine.pes name.guest v)) else place_by (is_resident machine.pes name.guest v)) ≡ place_by (is_resident pes name.guest v))
+        → ((n : ℕ) (guest : GuestSpec) → IsOfPe guest n lrs machine.pes step Nothing (parts n) (more_of name.guest acts.does.goes_on.parts n))
         → HasDoneStep specs lrs machine (record next { pes = pes }) later parts ideals step Nothing
-    moved pes pes_is residents once still uncalls answer_is alike spots =
+    moved pes pes_is residents once still uncalls answer_is alike spots of_pe =
         let Does = MovesVcpu name.vcpu change in
         let does = acts.does in
         let mine = spec name.guest Does acts in
@@ -171,28 +181,73 @@ module _ (specs : List GuestSpec) (lrs : ℕ) (machine next : Machine) (told lat
         = λ v. does.spots.spot v ∙ ap (λ spot. if v == name.vcpu then change spot else spot) (before.spots v) ∙ spots v in
         step_by name.guest Does acts step Nothing pes does.goes_on.parts one.one pes_is residents once (subst (IsButFor name.guest one.one ideals) (sym still) (but_for_none name.guest one.one ideals one.is)) alike
         (resides_at machine.pes lrs mine.one name.guest (guest_at told name.guest) acts.guest acts.before acts.after (parts name.guest) one.one before acts.run pes after_spots does.quiet does.goes_on)
-        (λ n guest is. uncalled name.guest Does acts n does.goes_on.parts (residences_call_none does.goes_on.parts does.goes_on.are) ∙ ap option_to_list (sym (uncalls n guest))) answer_is
+        (λ n guest is. uncalled name.guest Does acts n does.goes_on.parts (residences_call_none does.goes_on.parts does.goes_on.are) ∙ ap option_to_list (sym (uncalls n guest))) (λ n guest is. of_pe n guest) answer_is
+
+  -- Whoever is told to enter does.
+  pub entered_in : (name : VcpuName) (acts : GuestActs name.guest (MovesVcpu name.vcpu entered) machine next told later) → is_resident machine.pes name.guest name.vcpu ≡ false → enters_in name.vcpu acts.does.goes_on.parts ≡ true
+  entered_in name acts free =
+      let Does = MovesVcpu name.vcpu entered in
+      let one = spec name.guest Does acts in
+      let at_home = here name.guest Does acts in
+      let off : spot_at acts.before name.vcpu ≡ shelf = at_home.spots name.vcpu ∙ ap place_by free in
+      let on : spot_at acts.after name.vcpu ≡ pe
+      = acts.does.spots.spot name.vcpu
+      ∙ ap (λ (b : Bool). if b then entered (spot_at acts.before name.vcpu) else spot_at acts.before name.vcpu) (eq-eqb name.vcpu name.vcpu refl)
+      ∙ ap entered off in
+      ∥∥₁_elim at_home.done (Prim.hlevel props)
+      (λ (done : HasDone one.one name.guest (guest_at told name.guest) acts.before (parts name.guest)).
+      enters (guest_at told name.guest) acts.guest acts.before acts.after name.vcpu acts.does.goes_on off on (progress_in one.one name.guest (moments_of (parts name.guest))) done.followed)
 
   -- A vCPU shows its registers.
-  pub shown_step : (number : ℕ) (name : VcpuName) (list : List ℕ) (acts : GuestActs name.guest (ShowsVcpu name.vcpu list) machine next told later) → resident_of machine.pes number ≡ Some name → name.vcpu < (spec name.guest (ShowsVcpu name.vcpu list) acts).one.shape.vcpus
-      → HasDoneStep specs lrs machine (record next { pes = machine.pes }) later parts ideals (Pe number Lrs) (Regs list)
-  shown_step number name list acts on few =
-      let Does = ShowsVcpu name.vcpu list in
-      let does = acts.does in
-      let mine = spec name.guest Does acts in
-      let one = ideal name.guest Does acts in
-      let old = guest_at told name.guest in
-      let before = here name.guest Does acts in
-      let spots : (v : ℕ) → spot_at acts.after v ≡ place_by (is_resident machine.pes name.guest v) = λ v. does.spots.spot v ∙ before.spots v in
-      let more = does.shown.shows.goes_on.parts ++ does.shown.later.parts in
-      let none : calls_among more ≡ []
-      = calls_append does.shown.shows.goes_on.parts does.shown.later.parts
-      ∙ ap (λ calls. calls ++ calls_among does.shown.later.parts) (residences_call_none does.shown.shows.goes_on.parts does.shown.shows.goes_on.are)
-      ∙ residences_call_none does.shown.later.parts does.shown.later.are in
-      let registers = list_is machine.pes lrs mine.one name.guest old acts.guest acts.before acts.after (parts name.guest) one.one before acts.run machine.pes spots does.quiet name.vcpu list few does.shown in
-      step_by name.guest Does acts (Pe number Lrs) (Regs list) machine.pes more one.one refl at.residents at.once (but_for_none name.guest one.one ideals one.is) (λ n v apart. refl)
-      (shows_at machine.pes lrs mine.one name.guest old acts.guest acts.before acts.after (parts name.guest) one.one before acts.run machine.pes spots does.quiet name.vcpu list few does.shown) (λ n guest is. uncalled name.guest Does acts n more none)
-      (ap Regs registers ∙ sym (ap (λ o. shown lrs o ideals) on ∙ ap (λ o. option_map_or (λ state. Regs (registers_of lrs state name.vcpu)) o Nothing) one.is))
+  module _ (number : ℕ) (name : VcpuName) (list : List ℕ) (acts : GuestActs name.guest (ShowsVcpu name.vcpu list) machine next told later) (on : resident_of machine.pes number ≡ Some name) (few : name.vcpu < (spec name.guest (ShowsVcpu name.vcpu list) acts).one.shape.vcpus) where
+    abbrev Does : GuestTold → GuestTold → Vcpus → Vcpus → Type 0
+    Does = ShowsVcpu name.vcpu list
+
+    abbrev mine : GuestSpec
+    mine = (spec name.guest Does acts).one
+
+    abbrev more : List WholePart
+    more = acts.does.shown.shows.goes_on.parts ++ acts.does.shown.later.parts
+
+    spots_then : (v : ℕ) → spot_at acts.after v ≡ place_by (is_resident machine.pes name.guest v)
+    spots_then v = acts.does.spots.spot v ∙ (here name.guest Does acts).spots v
+
+    none_called : calls_among more ≡ []
+    none_called =
+        let shown = acts.does.shown in
+        calls_append shown.shows.goes_on.parts shown.later.parts
+        ∙ ap (λ calls. calls ++ calls_among shown.later.parts) (residences_call_none shown.shows.goes_on.parts shown.shows.goes_on.are)
+        ∙ residences_call_none shown.later.parts shown.later.are
+
+    -- and they are its own
+    abbrev Shows : ℕ → ℕ → GuestSpec → Type 0
+    Shows n vcpu guest = ShowsOwn guest n lrs vcpu (Regs list) (parts n) (more_of name.guest more n)
+
+    mine_shows : Shows name.guest name.vcpu mine
+    mine_shows =
+        subst (ShowsOwn mine name.guest lrs name.vcpu (Regs list) (parts name.guest)) (sym (more_same name.guest name.guest more refl))
+        (shows_own machine.pes lrs mine name.guest (guest_at told name.guest) acts.guest acts.before acts.after (parts name.guest) (ideal name.guest Does acts).one (here name.guest Does acts) acts.run machine.pes spots_then acts.does.quiet name.vcpu list few acts.does.shown)
+
+    same_name : (a b : VcpuName) → Some a ≡ Some b → a ≡ b
+    same_name a b e = cc
+
+    shows_there : (n : ℕ) (guest : GuestSpec) → slice_get specs n ≡ Some guest → (vcpu : ℕ) → resident_of machine.pes number ≡ Some (vcpu_name n vcpu) → Shows n vcpu guest
+    shows_there n guest is vcpu stands =
+        let same : name ≡ vcpu_name n vcpu = same_name name (vcpu_name n vcpu) (sym on ∙ stands) in
+        let number_is : name.guest ≡ n = ap (λ (m : VcpuName). m.guest) same in
+        subst (λ m. Shows m vcpu guest) number_is
+        (subst (λ v. Shows name.guest v guest) (ap (λ (m : VcpuName). m.vcpu) same)
+        (subst (Shows name.guest name.vcpu) (only name.guest Does acts guest (subst (λ m. slice_get specs m ≡ Some guest) (sym number_is) is)) mine_shows))
+
+    pub shown_step : HasDoneStep specs lrs machine (record next { pes = machine.pes }) later parts ideals (Pe number Lrs) (Regs list)
+    shown_step =
+        let one = ideal name.guest Does acts in
+        let old = guest_at told name.guest in
+        let before = here name.guest Does acts in
+        let registers = list_is machine.pes lrs mine name.guest old acts.guest acts.before acts.after (parts name.guest) one.one before acts.run machine.pes spots_then acts.does.quiet name.vcpu list few acts.does.shown in
+        step_by name.guest Does acts (Pe number Lrs) (Regs list) machine.pes more one.one refl at.residents at.once (but_for_none name.guest one.one ideals one.is) (λ n v apart. refl)
+        (shows_at machine.pes lrs mine name.guest old acts.guest acts.before acts.after (parts name.guest) one.one before acts.run machine.pes spots_then acts.does.quiet name.vcpu list few acts.does.shown)
+        (λ n guest is. uncalled name.guest Does acts n more none_called) shows_there (ap Regs registers ∙ sym (ap (λ o. shown lrs o ideals) on ∙ ap (λ o. option_map_or (λ state. Regs (registers_of lrs state name.vcpu)) o Nothing) one.is))
 
 -- Which vCPUs stand on the PEs then.
 

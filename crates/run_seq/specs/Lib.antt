@@ -2,6 +2,7 @@ pub use Rattle.law_ends_agree.specs.Calls
 pub use Rattle.law_ends_agree.specs.GicIdeal
 pub use Rattle.law_one_thread_is_eager.specs.LawEagerIsHistory
 pub mod StepCalls
+pub mod Steps
 pub mod Machine
 pub mod Opened
 pub mod Acts

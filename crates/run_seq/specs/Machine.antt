@@ -21,6 +21,7 @@ use Rattle.law_one_thread_is_eager.specs.SeqGuest.Guest.{AreAt, NoneKicked, spot
 use Rattle.law_one_thread_is_eager.specs.Done.{HasDone, home_after}
 use Rattle.run_seq.specs.declared.machine.Machine.{Machine}
 use Rattle.run_seq.specs.StepCalls.{calls_among, step_call}
+use Rattle.run_seq.specs.Steps.{IsOfPe}
 use Rattle.std.specs.Option.{option_to_list}
 
 -- One guest.
@@ -104,11 +105,12 @@ pub record IsReady (machine : Machine) (told : SeqTold) (step : Step) : Type 0 w
   pub of : IsMachine machine told
   pub can : CanDo of.specs machine step
 
--- after a step each guest had the parts of the step's call done to it, if there is one of this guest, with its answer, and entries, exits and looks for kicks; the guests of the ideal
--- controller are those after the step, and the answer is what that answers
+-- after a step each guest had the parts of the step's call done to it, if there is one of this guest, with its answer, and entries, exits and looks for kicks, as a step of a PE asks for
+-- them; the guests of the ideal controller are those after the step, and the answer is what that answers
 pub record HasDoneStep (specs : List GuestSpec) (lrs : ℕ) (machine next : Machine) (later : SeqTold) (parts : ℕ → List WholePart) (ideals : List IdealGuest) (step : Step) (answer : Answer) : Type 0 where
   pub more : ℕ → List WholePart
   pub calls : (number : ℕ) (guest : GuestSpec) → slice_get specs number ≡ Some guest → calls_among (more number) ≡ option_to_list (step_call number guest.shape step answer)
+  pub of_pe : (number : ℕ) (guest : GuestSpec) → slice_get specs number ≡ Some guest → IsOfPe guest number lrs machine.pes step answer (parts number) (more number)
   pub pes : next.pes ≡ pes_after step machine.pes
   pub answer_is : answer ≡ step_answer lrs machine.pes step ideals
   pub at : IsMachineAt specs lrs next later (λ number. parts number ++ more number) (after_step step ideals)

@@ -1,13 +1,15 @@
 -- The run of a schedule over its port (own choice).
-use Rattle.std.specs.Prelude.{◌≡◌, ℕ, ◌<◌, IsTrue, List, [], length, map, Some, slice_get}
+use Rattle.std.specs.Prelude.{◌≡◌, ℕ, ◌<◌, IsTrue, List, [], length, map, Option, Some, slice_get}
 use Rattle.std.specs.List.{flat_map}
 use Rattle.law_ends_agree.specs.Histories.{IdealGuest}
 use Rattle.law_ends_agree.specs.IdealGuests.Opening.{opening as opening_guest}
 use Rattle.law_ends_agree.specs.GicIdeal.Eager.{after_steps, eager}
-use Rattle.law_ends_agree.specs.Calls.{GuestSpec}
+use Rattle.law_ends_agree.specs.Calls.{GuestSpec, shapes_of}
 use Rattle.law_ends_agree.specs.GicGuest.declared.outcome.Answer.{Answer}
+use Rattle.law_ends_agree.specs.ScnBase.declared.pes.VcpuName.{VcpuName}
 use Rattle.law_ends_agree.specs.ScnBase.declared.scenario.Scenario.{Scenario}
 use Rattle.law_ends_agree.specs.ScnBase.declared.step.Step.{Step}
+use Rattle.law_ends_agree.specs.ScnBase.Standing.{opening_pes}
 use Rattle.law_ends_agree.specs.Core.{actor_count, is_settled}
 use Rattle.law_one_thread_is_eager.specs.PortSeq.Told.{GuestTold, SeqTold, guest_at}
 use Rattle.law_one_thread_is_eager.specs.LawSerialIsEager.Serial.{WholePart}
@@ -15,22 +17,22 @@ use Rattle.law_one_thread_is_eager.specs.PePlace.Parts.{entries_in}
 use Rattle.law_one_thread_is_eager.specs.SeqGuest.Guest.{cpus_of, seen_by}
 use Rattle.law_one_thread_is_eager.specs.Done.{AreSerial, home_after}
 use Rattle.law_ends_agree.specs.GuestEnd.declared.outcome.Done.{Done}
-use Rattle.run_seq.specs.StepCalls.{calls_among, steps_calls}
+use Rattle.run_seq.specs.Steps.{GoesBySteps}
 
 -- a guest whose vCPUs all left: nothing is at their interfaces, and no actor owes anything or has the ITS or the mark of GICD_CTLR
 pub record IsLeft (told : GuestTold) : Type 0 where
   pub empty : (vcpu : ℕ) → vcpu < told.guest.shape.vcpus → (seen_by told vcpu).local.at ≡ []
   pub settled : (actor : ℕ) → actor < actor_count told.guest.shape → IsTrue (is_settled (seen_by told actor).local)
 
--- to a guest this was done since it opened: the calls that the steps make of it, in their order, each once and with its answer, each while nobody else acts, and between them entries,
--- exits and looks for kicks, the last of which are exits; so with all that stands at interfaces taken back it is this guest of the ideal controller
-pub record GuestHasRun (guest : GuestSpec) (number lrs : ℕ) (steps : List Step) (answers : List Answer) (ideal : IdealGuest) (told : GuestTold) : Type 0 where
+-- to a guest this was done since it opened, where at first these vCPUs stand on the PEs: parts of its actors, each while nobody else acts, and each of a vCPU on a PE with so many list
+-- registers; they are those of the steps, one after the other; so with all that stands at interfaces taken back it is this guest of the ideal controller
+pub record GuestHasRun (guest : GuestSpec) (number lrs : ℕ) (pes : List (Option VcpuName)) (steps : List Step) (answers : List Answer) (ideal : IdealGuest) (told : GuestTold) : Type 0 where
   pub parts : List WholePart
   pub guest_is : told.guest ≡ guest
   pub number_is : told.number ≡ number
   pub world : told.world ≡ entries_in parts
   pub serial : ∥ AreSerial guest number lrs parts ∥₁
-  pub calls : calls_among parts ≡ steps_calls number guest.shape steps answers
+  pub by_steps : GoesBySteps guest number lrs pes steps answers parts
   pub left : IsLeft told
   pub home_is : ideal ≡ home_after guest number parts
 
@@ -40,7 +42,7 @@ pub record HasRun (scenario : Scenario) (done : Done) (told : SeqTold) : Type 0 
   pub ports : length told.guests ≡ length scenario.guests
   pub each :
       (number : ℕ) (guest : GuestSpec) (ideal : IdealGuest) → slice_get scenario.guests number ≡ Some guest → slice_get (after_steps scenario.steps (map opening_guest scenario.guests)) number ≡ Some ideal
-      → GuestHasRun guest number scenario.lrs scenario.steps done.answers ideal (guest_at told number)
+      → GuestHasRun guest number scenario.lrs (opening_pes scenario.pes (shapes_of scenario.guests)) scenario.steps done.answers ideal (guest_at told number)
   pub answers : done.answers ≡ (eager scenario).answers
   pub cpus : done.cpus ≡ flat_map cpus_of told.guests
 

@@ -1,6 +1,5 @@
 -- The calls of a guest's actors that the steps of a schedule make (own choice).
-use Rattle.std.specs.Prelude.{ℕ, ◌+◌, ◌==◌, not, Bool, true, false, if◌then◌else◌, List, [], ◌∷◌, ◌++◌, map, filter, Option, Some, None}
-use Rattle.std.specs.Option.{option_to_list}
+use Rattle.std.specs.Prelude.{ℕ, ◌+◌, ◌==◌, not, Bool, true, false, if◌then◌else◌, List, map, filter, Option, Some, None}
 use Rattle.law_ends_agree.specs.Words.{GuestShape}
 use Rattle.law_ends_agree.specs.Calls.{Operation, Access, Device as DeviceCall, Residence, Value}
 use Rattle.law_ends_agree.specs.GicGuest.declared.outcome.Answer.{Answer}
@@ -36,8 +35,3 @@ abbrev pub step_call : ℕ → GuestShape → Step → Answer → Option CallMad
 step_call number shape (Vcpu guest vcpu op) answer = if guest == number then Some (record { actor = vcpu; operation = Access op; answer = value_of answer }) else None
 step_call number shape (Device guest device op) answer = if guest == number then Some (record { actor = shape.vcpus + device; operation = DeviceCall op; answer = None }) else None
 step_call number shape (Pe pe op) answer = None
-
--- those of some steps, each with its answer, in their order
-abbrev pub steps_calls : ℕ → GuestShape → List Step → List Answer → List CallMade
-steps_calls number shape (step ∷ steps) (answer ∷ answers) = option_to_list (step_call number shape step answer) ++ steps_calls number shape steps answers
-steps_calls number shape steps answers = []

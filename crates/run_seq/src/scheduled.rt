@@ -53,8 +53,8 @@ pub fn run_on<R: Wait>(
     Ok(Done { answers, cpus })
 }
 
-/// Runs a scenario: its steps one after the other, through the words of its guests and the list registers of its PEs, and shows
-/// the run to the watch, which was shown less than 2^64 - 1 before. An error where memory is refused.
+/// Runs a scenario: its steps one after the other, through the words of its guests and vCPUs that enter and leave PEs with its list
+/// registers, and shows the run to the watch, which was shown less than 2^64 - 1 before. An error where memory is refused.
 pub fn run<R: Wait, W: SeqWatch>(
     rt: &R,
     alloc: Global,

@@ -1,17 +1,21 @@
 -- What an actor of a guest did in a run, and that one choice names the parts of all of them.
-use Rattle.std.proofs.Common.{◌≡◌, ℕ, ◌<◌, ◌==◌, zero, suc, Bool, true, false, if◌then◌else◌, List, refl, sym, ap, subst, ◌∙◌, arith}
+use Rattle.std.proofs.Common.{◌≡◌, ℕ, ◌<◌, ◌==◌, zero, suc, Bool, true, false, if◌then◌else◌, IsTrue, List, refl, sym, ap, subst, ◌∙◌, arith}
 use Rattle.std.proofs.Math.Logic.{∥∥₁_elim, ∥∥₁_map, ∥∥₁_prop}
 use Rattle.std.proofs.lemmas.Bool.{eqb-true, eqb-false}
+use Rattle.std.proofs.lemmas.List.Elements.{All-weaker}
 use Rattle.law_threads_are_history.specs.LawEagerIsHistory.Calls.{Made as MadeCall}
-use Rattle.law_threads_are_history.specs.PePlace.Parts.{steps_in}
-use Rattle.law_threads_are_history.specs.Core.{Made, Seen, local_by, opening_local_of}
+use Rattle.law_threads_are_history.specs.PePlace.Parts.{Part, steps_in}
+use Rattle.law_threads_are_history.specs.Core.{Made, is_vcpu, Seen, has_registers, local_by, opening_local_of}
 use Rattle.thr_cast.specs.PortTable.Told.{WordsTold, opening_seen}
 use Rattle.law_threads_are_history.specs.Woven.{ActorHasDone}
 use Rattle.run_thr.specs.Run.{ActorHasRun}
 
 -- One actor.
 
-module _ (words : WordsTold) (actor : ℕ) (own : List Made) (calls : List MadeCall) (run : ActorHasRun words actor own calls) where
+module _ (words : WordsTold) (lrs actor : ℕ) (own : List Made) (calls : List MadeCall) (run : ActorHasRun words lrs actor own calls) where
+  abbrev own_lrs : ℕ
+  own_lrs = if is_vcpu words.guest.shape actor then lrs else 0
+
   own_are : own ≡ steps_in run.gone.parts
   own_are = sym run.own_is ∙ ap (λ (seen : Seen). seen.own) run.gone.adds.new_is
 
@@ -24,7 +28,7 @@ module _ (words : WordsTold) (actor : ℕ) (own : List Made) (calls : List MadeC
     local_is = refl;
     own_is = refl;
     steps = own_are;
-    registers = run.gone.registers;
+    registers = All-weaker (λ (part : Part). part.lrs ≡ own_lrs) (λ (part : Part). IsTrue (has_registers words.guest.shape actor part.lrs)) (λ part on. subst (λ n. IsTrue (has_registers words.guest.shape actor n)) (sym on) run.gone.registers) run.gone.parts run.gone.on;
     calls = run.gone.are;
     proper = run.gone.proper;
   }

@@ -1,17 +1,17 @@
 -- A run ends: all steps of the scenario were done, by their own actors.
-use Rattle.std.proofs.Common.{◌≡◌, ℕ, ◌+◌, ◌-◌, ◌<◌, ◌==◌, ◌&&◌, ◌||◌, not, inl, inr, suc, Bool, true, false, IsTrue, All, List, [], ◌∷◌, ◌++◌, length, map, Some, refl, sym, ap, subst, ◌∙◌, arith}
+use Rattle.std.proofs.Common.{◌≡◌, ℕ, ◌+◌, ◌-◌, ◌<◌, ◌==◌, ◌&&◌, ◌||◌, not, inl, inr, suc, true≢false, Bool, true, false, if◌then◌else◌, IsTrue, All, List, [], ◌∷◌, ◌++◌, length, map, Some, refl, sym, ap, subst, ◌∙◌, arith}
 use Rattle.std.specs.Prelude.{slice_get}
 use Rattle.std.proofs.Math.Logic.{∥∥₁_elim, ∥∥₁_map}
 use Rattle.std.proofs.Props.{props}
-use Rattle.std.proofs.lemmas.Bool.{cases_lt, eqb-true, le-ltb}
+use Rattle.std.proofs.lemmas.Bool.{cases_lt, eqb-true, le-ltb, lt-ltb}
 use Rattle.std.proofs.lemmas.List.{length-map}
 use Rattle.std.proofs.lemmas.Option.{get_or_from_slice_get, slice_get_within}
-use Rattle.law_threads_are_history.specs.Core.{is_settled, Local, Made, actor_count, owes_nothing, is_vcpu, Seen, local_by, opening_local_of}
+use Rattle.law_threads_are_history.specs.Core.{Progress, is_settled, Local, Made, actor_count, owes_nothing, is_vcpu, Seen, local_by, opening_local_of}
 use Rattle.law_threads_are_history.specs.LawEagerIsHistory.Calls.{Made as MadeCall, own_steps}
 use Rattle.law_threads_are_history.specs.Registers.{CpuRec}
 use Rattle.law_threads_are_history.specs.PortOps.Opened.{no_guest}
 use Rattle.thr_cast.specs.PortTable.declared.view.Account.{Account}
-use Rattle.thr_cast.specs.PortTable.Told.{WordsTold, RootTold, HasNoTurn, IsDone, root_at, words_at}
+use Rattle.thr_cast.specs.PortTable.Told.{WordsTold, RootTold, HasNoTurn, IsDone, opening_seen, root_at, words_at}
 use Rattle.thr_cast.specs.PortTable.View.{is_among, is_back, steps_of}
 use Rattle.law_threads_are_history.specs.Calls.{GuestSpec, shapes_of}
 use Rattle.law_threads_are_history.specs.GicGuest.declared.outcome.Answer.{Answer}
@@ -19,6 +19,7 @@ use Rattle.law_threads_are_history.specs.ScnBase.declared.pes.VcpuName.{VcpuName
 use Rattle.law_threads_are_history.specs.ScnBase.declared.scenario.Scenario.{Scenario}
 use Rattle.law_threads_are_history.specs.ScnBase.declared.step.Mode.TheVariants.{Threads}
 use Rattle.thr_cast.specs.ThrTrip.Device.{DeviceTold, IsDevice, calls_done}
+use Rattle.thr_cast.specs.ThrTrip.Gone.{HasGone}
 use Rattle.thr_cast.specs.ThrTrip.Script.{all_vcpus, calls_answered, calls_received, vcpu_ops}
 use Rattle.thr_cast.specs.ThrTrip.Trip.{IsTrip, TripTold, is_done}
 use Rattle.thr_cast.specs.declared.answers.Heard.{Heard}
@@ -79,7 +80,7 @@ module _ (scenario : Scenario) (words : List WordsTold) (devices : List DeviceTo
       let done = at_all (λ (trip : TripTold). IsTrue (is_done trip)) trips p trip roll.done e in
       let not_spent = at_all (λ (trip : TripTold). trip.spent ≡ false) trips p trip roll.none_spent e in
       let all : (length trip.answers == length trip.script) ≡ true = subst (λ spent. IsTrue (spent || (length trip.answers == length trip.script))) not_spent done in
-      eqb-true (length trip.answers) (length trip.script) all ∙ ap length (at_all (IsTrip words scenario.steps) trips p trip roll.trip e).script
+      eqb-true (length trip.answers) (length trip.script) all ∙ ap length (at_all (IsTrip words scenario.lrs scenario.steps) trips p trip roll.trip e).script
 
   pub all_heard : AllHeard scenario.steps (map heard_of trips)
   all_heard =
@@ -107,26 +108,31 @@ module _ (scenario : Scenario) (words : List WordsTold) (devices : List DeviceTo
 
     trip_steps : (p : ℕ) (trip : TripTold) → slice_get trips p ≡ Some trip → steps_of trip.vcpu.vcpu (root_at root trip.vcpu.guest).joined ≡ trip.seen.own
     trip_steps p trip e =
-        let is_trip = at_all (IsTrip words scenario.steps) trips p trip roll.trip e in
+        let is_trip = at_all (IsTrip words scenario.lrs scenario.steps) trips p trip roll.trip e in
         let at : slice_get (seens_of devices trips) (length (map (λ (device : DeviceTold). device.seen) devices) + p) ≡ Some trip.seen =
         of_second (map (λ (device : DeviceTold). device.seen) devices) (map (λ (trip : TripTold). trip.seen) trips) p trip.seen (mapped (λ (trip : TripTold). trip.seen) trips p trip e) in
         ap (λ n. steps_of n (root_at root trip.vcpu.guest).joined) (sym is_trip.off.actor.number) ∙ ap (λ n. steps_of trip.seen.actor (root_at root n).joined) (sym is_trip.off.actor.guest)
         ∙ steps_are (length (map (λ (device : DeviceTold). device.seen) devices) + p) trip.seen at
 
     trip_ran : (p : ℕ) (trip : TripTold) → slice_get trips p ≡ Some trip → let words = words_at words trip.vcpu.guest in
-        ∥ ActorHasRun words trip.vcpu.vcpu (steps_of trip.vcpu.vcpu (root_at root trip.vcpu.guest).joined) (own_steps words.guest.shape trip.vcpu.guest trip.vcpu.vcpu scenario.steps answers) ∥₁
+        ∥ ActorHasRun words scenario.lrs trip.vcpu.vcpu (steps_of trip.vcpu.vcpu (root_at root trip.vcpu.guest).joined) (own_steps words.guest.shape trip.vcpu.guest trip.vcpu.vcpu scenario.steps answers) ∥₁
     trip_ran p trip e =
         let one = words_at words trip.vcpu.guest in
-        let is_trip = at_all (IsTrip words scenario.steps) trips p trip roll.trip e in
+        let is_trip = at_all (IsTrip words scenario.lrs scenario.steps) trips p trip roll.trip e in
         let not_spent = at_all (λ (trip : TripTold). trip.spent ≡ false) trips p trip roll.none_spent e in
         let calls : own_steps one.guest.shape trip.vcpu.guest trip.vcpu.vcpu scenario.steps answers ≡ calls_answered trip.script trip.answers =
         vcpu_calls scenario.steps (map heard_of trips) answers one.guest.shape p (heard_of trip) are (apart_in_run words (map heard_of trips) roll.set.number names_are) (mapped heard_of trips p trip e) (trip_few scenario words devices trips roll p trip e)
         ∙ ap (λ script. calls_answered script trip.answers) (sym is_trip.script) in
+        let Gone : ℕ → Type 0 = λ n. HasGone n (opening_seen one trip.vcpu.vcpu) trip.seen (λ (p : Progress). Unit {0}) (own_steps one.guest.shape trip.vcpu.guest trip.vcpu.vcpu scenario.steps answers) in
+        let registers : scenario.lrs ≡ (if is_vcpu one.guest.shape trip.vcpu.vcpu then scenario.lrs else 0) =
+        ap (λ (vcpu : Bool). if vcpu then scenario.lrs else 0) (sym (lt-ltb trip.vcpu.vcpu one.guest.shape.vcpus (trip_few scenario words devices trips roll p trip e))) in
         ∥∥₁_map (is_trip.gone not_spent) (λ gone.
         record {
           seen = trip.seen;
           own_is = sym (trip_steps p trip e);
-          gone = record { parts = gone.parts; adds = gone.adds; registers = gone.registers; are = gone.are; proper = gone.proper; calls_are = gone.calls_are ∙ sym calls; followed = tt };
+          gone =
+              subst Gone registers
+              (let so : Gone scenario.lrs = record { parts = gone.parts; adds = gone.adds; registers = gone.registers; on = gone.on; are = gone.are; proper = gone.proper; calls_are = gone.calls_are ∙ sym calls; followed = tt } in so);
           empty = λ vcpu. is_trip.off.empty;
           settled = is_trip.off.settled;
         })
@@ -141,7 +147,7 @@ module _ (scenario : Scenario) (words : List WordsTold) (devices : List DeviceTo
         ap (λ n. steps_of n (root_at root device.guest).joined) (sym (device_actor scenario words devices trips roll p device e)) ∙ ap (λ n. steps_of device.seen.actor (root_at root n).joined) (sym is_device.number) ∙ steps_are p device.seen at
 
     device_ran : (p : ℕ) (device : DeviceTold) → slice_get devices p ≡ Some device → let words = words_at words device.guest in let actor = words.guest.shape.vcpus + device.device in
-        ∥ ActorHasRun words actor (steps_of actor (root_at root device.guest).joined) (own_steps words.guest.shape device.guest actor scenario.steps answers) ∥₁
+        ∥ ActorHasRun words scenario.lrs actor (steps_of actor (root_at root device.guest).joined) (own_steps words.guest.shape device.guest actor scenario.steps answers) ∥₁
     device_ran p device e =
         let one = words_at words device.guest in
         let actor = one.guest.shape.vcpus + device.device in
@@ -151,12 +157,17 @@ module _ (scenario : Scenario) (words : List WordsTold) (devices : List DeviceTo
         let calls : own_steps one.guest.shape device.guest actor scenario.steps answers ≡ calls_done device.done device.script =
         device_calls Threads scenario.pes (shapes_of scenario.guests) scenario.steps (map heard_of trips) answers one.guest.shape device.guest device.device roll.set.good.each_step are (guest_shape scenario words roll.set device.guest few)
         ∙ ap calls_received (sym is_device.script) ∙ ap (λ done. calls_done done device.script) (sym finished) in
+        let none : is_vcpu one.guest.shape actor ≡ false = le-ltb actor one.guest.shape.vcpus (omega arith) in
+        let Gone : ℕ → Type 0 = λ n. HasGone n (opening_seen one actor) device.seen (λ (p : Progress). Unit {0}) (own_steps one.guest.shape device.guest actor scenario.steps answers) in
+        let registers : 0 ≡ (if is_vcpu one.guest.shape actor then scenario.lrs else 0) = ap (λ (vcpu : Bool). if vcpu then scenario.lrs else 0) (sym none) in
         ∥∥₁_map is_device.gone (λ gone.
         record {
           seen = device.seen;
           own_is = sym (device_steps p device e);
-          gone = record { parts = gone.parts; adds = gone.adds; registers = gone.registers; are = gone.are; proper = gone.proper; calls_are = gone.calls_are ∙ sym calls; followed = tt };
-          empty = λ vcpu. (let none : is_vcpu one.guest.shape actor ≡ false = le-ltb actor one.guest.shape.vcpus (omega arith) in absurd (cc));
+          gone =
+              subst Gone registers
+              (let so : Gone 0 = record { parts = gone.parts; adds = gone.adds; registers = gone.registers; on = gone.on; are = gone.are; proper = gone.proper; calls_are = gone.calls_are ∙ sym calls; followed = tt } in so);
+          empty = λ vcpu. absurd (true≢false (sym vcpu ∙ none));
           settled = is_device.ready.settled;
         })
 
@@ -169,15 +180,15 @@ module _ (scenario : Scenario) (words : List WordsTold) (devices : List DeviceTo
       pub there : slice_get (seens_of devices trips) place ≡ Some seen
       pub number_is : seen.number ≡ number
       pub actor_is : seen.actor ≡ actor
-      pub ran : ∥ ActorHasRun (words_at words number) actor (steps_of actor (root_at root number).joined) (own_steps (words_at words number).guest.shape number actor scenario.steps answers) ∥₁
+      pub ran : ∥ ActorHasRun (words_at words number) scenario.lrs actor (steps_of actor (root_at root number).joined) (own_steps (words_at words number).guest.shape number actor scenario.steps answers) ∥₁
 
     found_trip : (number actor : ℕ) → number < length words → actor < (words_at words number).guest.shape.vcpus → Found number actor
     found_trip number actor here few =
         let named = vcpu_there words number actor roll.set.number here few in
         let at = there_is trips named.0 (subst (λ n. named.0 < n) (sym roll.count) named.2) in
         let trip = at.0 in
-        let is_trip = at_all (IsTrip words scenario.steps) trips named.0 trip roll.trip at.1 in
-        let Is : VcpuName → Type 0 = λ name. ∥ ActorHasRun (words_at words name.guest) name.vcpu (steps_of name.vcpu (root_at root name.guest).joined) (own_steps (words_at words name.guest).guest.shape name.guest name.vcpu scenario.steps answers) ∥₁ in
+        let is_trip = at_all (IsTrip words scenario.lrs scenario.steps) trips named.0 trip roll.trip at.1 in
+        let Is : VcpuName → Type 0 = λ name. ∥ ActorHasRun (words_at words name.guest) scenario.lrs name.vcpu (steps_of name.vcpu (root_at root name.guest).joined) (own_steps (words_at words name.guest).guest.shape name.guest name.vcpu scenario.steps answers) ∥₁ in
         let mine : VcpuName = record { guest = trip.vcpu.guest; vcpu = trip.vcpu.vcpu } in
         let name : VcpuName = record { guest = number; vcpu = actor } in
         let both : Some mine ≡ Some name = sym (trip_named scenario words devices trips roll named.0 trip at.1) ∙ named.1 in
@@ -199,7 +210,7 @@ module _ (scenario : Scenario) (words : List WordsTold) (devices : List DeviceTo
         let one = at.0 in
         let is_device = at_all (IsDevice words scenario.steps) devices named.0 one roll.device at.1 in
         let actor_of : DeviceName → ℕ = λ name. (words_at words name.guest).guest.shape.vcpus + name.device in
-        let Is : DeviceName → Type 0 = λ name. ∥ ActorHasRun (words_at words name.guest) (actor_of name) (steps_of (actor_of name) (root_at root name.guest).joined) (own_steps (words_at words name.guest).guest.shape name.guest (actor_of name) scenario.steps answers) ∥₁ in
+        let Is : DeviceName → Type 0 = λ name. ∥ ActorHasRun (words_at words name.guest) scenario.lrs (actor_of name) (steps_of (actor_of name) (root_at root name.guest).joined) (own_steps (words_at words name.guest).guest.shape name.guest (actor_of name) scenario.steps answers) ∥₁ in
         let name : DeviceName = record { guest = number; device = device } in
         let both : Some (name_of one) ≡ Some name = sym (device_at scenario words devices trips roll named.0 one at.1) ∙ named.1 in
         let same : name_of one ≡ name = cc in
@@ -235,10 +246,10 @@ module _ (scenario : Scenario) (words : List WordsTold) (devices : List DeviceTo
     abbrev NoTurn : ℕ → ℕ → List Made → Type 0
     NoTurn number actor own = (local_by (words_at words number).guest.shape actor (opening_local_of (words_at words number).guest (words_at words number).number actor) own).turn ≡ false
 
-    no_turn : (number actor : ℕ) (own : List Made) (calls : List MadeCall) → ∥ ActorHasRun (words_at words number) actor own calls ∥₁ → NoTurn number actor own
+    no_turn : (number actor : ℕ) (own : List Made) (calls : List MadeCall) → ∥ ActorHasRun (words_at words number) scenario.lrs actor own calls ∥₁ → NoTurn number actor own
     no_turn number actor own calls ran =
         ∥∥₁_elim ran (Prim.hlevel props)
-        (λ (one : ActorHasRun (words_at words number) actor own calls). ap (λ (local : Local). local.turn) (sym (actor_local (words_at words number) actor own calls one)) ∙ settled_turn one.seen.local one.settled)
+        (λ (one : ActorHasRun (words_at words number) scenario.lrs actor own calls). ap (λ (local : Local). local.turn) (sym (actor_local (words_at words number) scenario.lrs actor own calls one)) ∙ settled_turn one.seen.local one.settled)
 
     no_turn_of : (p : ℕ) (seen : Seen) → slice_get (seens_of devices trips) p ≡ Some seen → NoTurn seen.number seen.actor seen.own
     no_turn_of p seen e =
@@ -255,7 +266,7 @@ module _ (scenario : Scenario) (words : List WordsTold) (devices : List DeviceTo
           | inr late ↦
               (let from = from_mapped (λ (trip : TripTold). trip.seen) trips late.0 seen late.2 in
               let trip = from.one in
-              let is_trip = at_all (IsTrip words scenario.steps) trips late.0 trip roll.trip from.there in
+              let is_trip = at_all (IsTrip words scenario.lrs scenario.steps) trips late.0 trip roll.trip from.there in
               let guest = trip.vcpu.guest in
               let vcpu = trip.vcpu.vcpu in
               let so = no_turn guest vcpu (steps_of vcpu (root_at root guest).joined) (own_steps (words_at words guest).guest.shape guest vcpu scenario.steps answers) (trip_ran late.0 trip from.there) in
@@ -273,7 +284,7 @@ module _ (scenario : Scenario) (words : List WordsTold) (devices : List DeviceTo
     cpu_is : (p : ℕ) (trip : TripTold) → slice_get trips p ≡ Some trip → (local_of (words_at words trip.vcpu.guest) (root_at root trip.vcpu.guest) trip.vcpu.vcpu).cpu ≡ trip.vcpu.cpu
     cpu_is p trip e =
         let one = words_at words trip.vcpu.guest in
-        let is_trip = at_all (IsTrip words scenario.steps) trips p trip roll.trip e in
+        let is_trip = at_all (IsTrip words scenario.lrs scenario.steps) trips p trip roll.trip e in
         let not_spent = at_all (λ (trip : TripTold). trip.spent ≡ false) trips p trip roll.none_spent e in
         ∥∥₁_elim (is_trip.gone not_spent) (Prim.hlevel props)
         (λ gone.
@@ -289,12 +300,12 @@ module _ (scenario : Scenario) (words : List WordsTold) (devices : List DeviceTo
         mapped (cpu_of words root) (all_vcpus words) p (record { guest = from.one.vcpu.guest; vcpu = from.one.vcpu.vcpu }) (trip_named scenario words devices trips roll p from.one from.there)
         ∙ ap Some (cpu_is p from.one from.there ∙ from.is))
 
-    guest_ran : (number : ℕ) (guest : GuestSpec) → slice_get scenario.guests number ≡ Some guest → GuestHasRun guest number scenario.steps answers (words_at words number) (root_at root number)
+    guest_ran : (number : ℕ) (guest : GuestSpec) → slice_get scenario.guests number ≡ Some guest → GuestHasRun guest number scenario.lrs scenario.steps answers (words_at words number) (root_at root number)
     guest_ran number guest e =
         let here : number < length words = subst (λ n. number < n) (sym roll.set.each) (slice_get_within scenario.guests number guest e) in
         let guest_is : (words_at words number).guest ≡ guest = roll.set.guest number here ∙ get_or_from_slice_get scenario.guests number guest no_guest e in
         let done : IsDone (words_at words number) (root_at root number) = record { back = λ actor among. back number actor here among; idle = idle number } in
-        subst (λ g. GuestHasRun g number scenario.steps answers (words_at words number) (root_at root number)) guest_is
+        subst (λ g. GuestHasRun g number scenario.lrs scenario.steps answers (words_at words number) (root_at root number)) guest_is
         (record { guest_is = refl; number_is = roll.set.number number here; done = done; each = λ actor few. (found number actor here few).ran })
 
     pub has_run : (cpus : List CpuRec) → length answers ≡ length scenario.steps → cpus ≡ map (λ (trip : TripTold). trip.vcpu.cpu) trips → HasRun scenario (record { answers = answers; cpus = cpus }) words root

@@ -62,8 +62,8 @@ pub record TellsHistory (guest : GuestSpec) (number : ℕ) (steps : List Step) (
   pub ends : EndsAt guest left cpus (guest_of guest left cpus)
   pub history : ∥ HasHistoryOf guest number steps answers (guest_of guest left cpus) ∥₁
 
-module _ (words : WordsTold) (root : RootTold) (left : GuestWords) (ended : EndsRun words root left) (pes : ℕ) (shapes : List GuestShape) (steps : List Step) (answers : List Answer) (formed : All (λ step. IsTrue (is_formed Threads pes shapes step)) steps) where
-  module _ (here : slice_get shapes words.number ≡ Some words.guest.shape) (good : IsGoodGuest words.guest) (run : GuestHasRun words.guest words.number steps answers words root) where
+module _ (words : WordsTold) (root : RootTold) (left : GuestWords) (ended : EndsRun words root left) (pes lrs : ℕ) (shapes : List GuestShape) (steps : List Step) (answers : List Answer) (formed : All (λ step. IsTrue (is_formed Threads pes shapes step)) steps) where
+  module _ (here : slice_get shapes words.number ≡ Some words.guest.shape) (good : IsGoodGuest words.guest) (run : GuestHasRun words.guest words.number lrs steps answers words root) where
     abbrev shape : GuestShape
     shape = words.guest.shape
 
@@ -78,16 +78,16 @@ module _ (words : WordsTold) (root : RootTold) (left : GuestWords) (ended : Ends
 
     -- Each actor.
 
-    each : (actor : ℕ) → actor < actor_count shape → ∥ ActorHasRun words actor (own_steps actor ended.world) (calls_for actor) ∥₁
-    each actor there = subst (λ (own : List Made). ∥ ActorHasRun words actor own (calls_for actor) ∥₁) (ended.lists actor) (run.each actor there)
+    each : (actor : ℕ) → actor < actor_count shape → ∥ ActorHasRun words lrs actor (own_steps actor ended.world) (calls_for actor) ∥₁
+    each actor there = subst (λ (own : List Made). ∥ ActorHasRun words lrs actor own (calls_for actor) ∥₁) (ended.lists actor) (run.each actor there)
 
     abbrev Did : ℕ → List Part → Type 0
     Did actor parts = ActorHasDone words.guest words.number actor (own_steps actor ended.world) parts × (calls_in parts ≡ calls_for actor)
 
     parted : ∥ Chosen Did (actor_count shape) ∥₁
-    parted = choose [] Did (actor_count shape) (λ actor there. ∥∥₁_map (each actor there) (λ (one : ActorHasRun words actor (own_steps actor ended.world) (calls_for actor)). record {
+    parted = choose [] Did (actor_count shape) (λ actor there. ∥∥₁_map (each actor there) (λ (one : ActorHasRun words lrs actor (own_steps actor ended.world) (calls_for actor)). record {
       one = one.gone.parts;
-      is = (actor_done words actor (own_steps actor ended.world) (calls_for actor) one, one.gone.calls_are);
+      is = (actor_done words lrs actor (own_steps actor ended.world) (calls_for actor) one, one.gone.calls_are);
     }))
 
     local_at : (actor : ℕ) → actor < actor_count shape → (seat_at state actor).local ≡ local_by shape actor (opening_local_of words.guest words.number actor) (own_steps actor ended.world)
@@ -101,8 +101,8 @@ module _ (words : WordsTold) (root : RootTold) (left : GuestWords) (ended : Ends
     empty vcpu few =
         let there : vcpu < actor_count shape = omega (arith, few) in
         ∥∥₁_elim (each vcpu there) (Prim.hlevel props)
-        (λ (one : ActorHasRun words vcpu (own_steps vcpu ended.world) (calls_for vcpu)).
-        ap (λ (local : Local). local.at) (local_at vcpu there ∙ sym (actor_local words vcpu (own_steps vcpu ended.world) (calls_for vcpu) one)) ∙ one.empty (is_under vcpu shape.vcpus few))
+        (λ (one : ActorHasRun words lrs vcpu (own_steps vcpu ended.world) (calls_for vcpu)).
+        ap (λ (local : Local). local.at) (local_at vcpu there ∙ sym (actor_local words lrs vcpu (own_steps vcpu ended.world) (calls_for vcpu) one)) ∙ one.empty (is_under vcpu shape.vcpus few))
 
     cpus_are : cpus_in shape state ≡ cpus_by shape words root
     cpus_are =
@@ -146,7 +146,7 @@ module _ (words : WordsTold) (root : RootTold) (left : GuestWords) (ended : Ends
         (record { ends = ends; history = ∥∥₁_map history (λ one. history_of one.one one.is.0 one.is.1) }))
 
   abbrev Tells : GuestSpec → ℕ → Type 0
-  Tells guest number = slice_get shapes number ≡ Some guest.shape → IsGoodGuest guest → GuestHasRun guest number steps answers words root → TellsHistory guest number steps answers left (cpus_by guest.shape words root)
+  Tells guest number = slice_get shapes number ≡ Some guest.shape → IsGoodGuest guest → GuestHasRun guest number lrs steps answers words root → TellsHistory guest number steps answers left (cpus_by guest.shape words root)
 
   pub guest_tells : (guest : GuestSpec) (number : ℕ) → Tells guest number
   guest_tells guest number here good run = subst (λ g. Tells g number) run.guest_is (subst (Tells words.guest) run.number_is tells) here good run

@@ -144,7 +144,7 @@ module _ (scenario : Scenario) (done : Done) (words : List WordsTold) (root : Li
     -- One guest.
 
     module _ (n : ℕ) (guest : GuestSpec) (told : Told) (here : slice_get scenario.guests n ≡ Some guest) (there : slice_get tolds n ≡ Some told) where
-      has : GuestHasRun guest n scenario.steps done.answers (words_at words n) (root_at root n)
+      has : GuestHasRun guest n scenario.lrs scenario.steps done.answers (words_at words n) (root_at root n)
       has = run.each n guest here
 
       words_are : words_at words n ≡ told.0
@@ -168,7 +168,7 @@ module _ (scenario : Scenario) (done : Done) (words : List WordsTold) (root : Li
       tells : TellsHistory guest n scenario.steps done.answers told.1 (cpus_told told)
       tells =
           subst (TellsHistory guest n scenario.steps done.answers told.1) (sym told_cpus)
-          (guest_tells (words_at words n) (root_at root n) told.1 (run_at words root left n told.1 runs (pair_at words left n told there).1) scenario.pes (shapes_of scenario.guests) scenario.steps done.answers good.each_step guest n
+          (guest_tells (words_at words n) (root_at root n) told.1 (run_at words root left n told.1 runs (pair_at words left n told there).1) scenario.pes scenario.lrs (shapes_of scenario.guests) scenario.steps done.answers good.each_step guest n
           (get_of_map (λ (g : GuestSpec). g.shape) scenario.guests n guest here) (good_at n guest here) has)
 
       ends_told : EndsAt guest told.1 (cpus_told told) (ideal_told told)

@@ -49,7 +49,7 @@ pub record Roll (scenario : Scenario) (words : List WordsTold) (devices : List D
   pub device : All (IsDevice words scenario.steps) devices
   pub finished : All (λ (device : DeviceTold). device.done ≡ true) devices
   pub count : length trips ≡ length (all_vcpus words)
-  pub trip : All (IsTrip words scenario.steps) trips
+  pub trip : All (IsTrip words scenario.lrs scenario.steps) trips
   pub placed : (p : ℕ) (trip : TripTold) → slice_get trips p ≡ Some trip → trip.place ≡ p
   pub done : All (λ (trip : TripTold). IsTrue (is_done trip)) trips
   pub none_spent : All (λ (trip : TripTold). trip.spent ≡ false) trips
@@ -67,7 +67,7 @@ module _ (scenario : Scenario) (words : List WordsTold) (devices : List DeviceTo
 
   -- the name of a vCPU stands at its place, and that of a device
   pub trip_named : (p : ℕ) (trip : TripTold) → slice_get trips p ≡ Some trip → slice_get (all_vcpus words) p ≡ Some (record { guest = trip.vcpu.guest; vcpu = trip.vcpu.vcpu })
-  trip_named p trip e = ap (slice_get (all_vcpus words)) (sym (roll.placed p trip e)) ∙ (at_all (IsTrip words scenario.steps) trips p trip roll.trip e).place
+  trip_named p trip e = ap (slice_get (all_vcpus words)) (sym (roll.placed p trip e)) ∙ (at_all (IsTrip words scenario.lrs scenario.steps) trips p trip roll.trip e).place
 
   pub device_at : (p : ℕ) (device : DeviceTold) → slice_get devices p ≡ Some device → slice_get (all_devices words) p ≡ Some (name_of device)
   device_at p device e = ap (λ (names : List DeviceName). slice_get names p) (sym roll.names) ∙ mapped name_of devices p device e
@@ -83,7 +83,7 @@ module _ (scenario : Scenario) (words : List WordsTold) (devices : List DeviceTo
   differ : (p q : ℕ) (device : DeviceTold) (trip : TripTold) → slice_get devices p ≡ Some device → slice_get trips q ≡ Some trip → device.seen.number ≡ trip.seen.number → device.seen.actor ≡ trip.seen.actor → ⊥
   differ p q device trip d t number actor =
       let is_device = at_all (IsDevice words scenario.steps) devices p device roll.device d in
-      let is_trip = at_all (IsTrip words scenario.steps) trips q trip roll.trip t in
+      let is_trip = at_all (IsTrip words scenario.lrs scenario.steps) trips q trip roll.trip t in
       let guest : device.guest ≡ trip.vcpu.guest = sym is_device.number ∙ number ∙ is_trip.off.actor.guest in
       let few : trip.vcpu.vcpu < (words_at words device.guest).guest.shape.vcpus = subst (λ g. trip.vcpu.vcpu < (words_at words g).guest.shape.vcpus) (sym guest) (trip_few q trip t) in
       let past = device_actor p device d in
@@ -103,8 +103,8 @@ module _ (scenario : Scenario) (words : List WordsTold) (devices : List DeviceTo
 
   trips_differ : (p q : ℕ) (one other : TripTold) → slice_get trips p ≡ Some one → slice_get trips q ≡ Some other → one.seen.number ≡ other.seen.number → one.seen.actor ≡ other.seen.actor → p ≡ q
   trips_differ p q one other is_one is_other number actor =
-      let a = (at_all (IsTrip words scenario.steps) trips p one roll.trip is_one).off.actor in
-      let b = (at_all (IsTrip words scenario.steps) trips q other roll.trip is_other).off.actor in
+      let a = (at_all (IsTrip words scenario.lrs scenario.steps) trips p one roll.trip is_one).off.actor in
+      let b = (at_all (IsTrip words scenario.lrs scenario.steps) trips q other roll.trip is_other).off.actor in
       let guest : other.vcpu.guest ≡ one.vcpu.guest = sym b.guest ∙ sym number ∙ a.guest in
       let vcpu : other.vcpu.vcpu ≡ one.vcpu.vcpu = sym b.number ∙ sym actor ∙ a.number in
       let name : VcpuName = record { guest = one.vcpu.guest; vcpu = one.vcpu.vcpu } in
@@ -138,5 +138,5 @@ module _ (scenario : Scenario) (words : List WordsTold) (devices : List DeviceTo
         | inl early ↦ (let a = from_mapped (λ (device : DeviceTold). device.seen) devices p seen early in
             subst (λ n. seen.number < n) (sym are.each) (subst (λ (s : Seen). s.number < length words) a.is (at_all (IsDevice words scenario.steps) devices p a.one roll.device a.there).of.guest))
         | inr late ↦ (let a = from_mapped (λ (trip : TripTold). trip.seen) trips late.0 seen late.2 in
-            subst (λ n. seen.number < n) (sym are.each) (subst (λ (s : Seen). s.number < length words) a.is (at_all (IsTrip words scenario.steps) trips late.0 a.one roll.trip a.there).of.guest))
+            subst (λ n. seen.number < n) (sym are.each) (subst (λ (s : Seen). s.number < length words) a.is (at_all (IsTrip words scenario.lrs scenario.steps) trips late.0 a.one roll.trip a.there).of.guest))
       ]

@@ -19,6 +19,7 @@ pub fn run_crew<'a, J: Naming + Send, R: Threads + Wait + Sync, G: Gate + Sync>(
     workers: &mut Vec<Hand<'a, J>>,
 )
     requires lrs { 1 ≤ turns.lrs × turns.lrs ≤ MAX_LIST_REGISTERS }
+    requires same { turns.lrs ≡ J.lrs }
     requires pe { has_pe workers.old.items ≡ true }
     requires can { All (CanWork (λ device. device.done ≡ false) (shelf_told shelf.now)) workers.old.items }
     ensures { HaveReturned (shelf_told shelf.now) workers.old.items workers.new.items }

@@ -30,6 +30,7 @@ fn run_as<'a, J: Naming + Send, R: Threads + Wait + Sync, G: Gate + Sync>(
 ) -> Result<Done, NoMemory>
     requires words { told_words words.now ≡ J.words }
     requires steps { scenario.now.steps ≡ J.steps }
+    requires lrs { scenario.now.lrs ≡ J.lrs }
     requires set { IsSet scenario.now J.words }
     requires opening { told_root root.old ≡ map opening_root J.words }
     requires pes { 1 ≤ pes × pes ≤ 8 }

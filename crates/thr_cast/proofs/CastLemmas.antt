@@ -1,5 +1,5 @@
 -- An actor comes: its script and its port are its own, and it has done nothing yet.
-use Rattle.std.proofs.Common.{◌≡◌, ℕ, ◌+◌, ◌*◌, ◌<◌, ◌≤◌, ◌==◌, ◌&&◌, zero, suc, All, Bool, true, false, IsTrue, nat_lt, List, [], ◌∷◌, length, length-append, take, get_or, if◌then◌else◌, Some, refl, sym, ap, subst, ◌∙◌, arith}
+use Rattle.std.proofs.Common.{◌≡◌, ℕ, ◌+◌, ◌*◌, ◌<◌, ◌≤◌, ◌==◌, ◌&&◌, zero, suc, All, Bool, true, false, IsTrue, nat_le, nat_lt, List, [], ◌∷◌, length, length-append, take, get_or, if◌then◌else◌, Some, refl, sym, ap, subst, ◌∙◌, arith}
 use Rattle.std.specs.Prelude.{slice_get}
 use Rattle.std.proofs.lemmas.Bool.{and_parts, eqb-true, le-ltb, lt-ltb}
 use Rattle.std.proofs.lemmas.List.Elements.{All-nil, All-cons, All-get_or}
@@ -7,7 +7,7 @@ use Rattle.guest_end.specs.Words.{DeviceOp, GuestOp, GuestShape}
 use Rattle.guest_end.specs.Calls.{opening_cpu, GuestSpec, IsGoodGuest, is_good_event, is_good_op, passes, shapes_of}
 use Rattle.guest_end.specs.Registers.{CpuRec}
 use Rattle.thr_trip.specs.PeLoop.Enter.{IsBetween}
-use Rattle.thr_trip.specs.Core.{is_vcpu, Seen, shape_of, IsAtRest, is_settled}
+use Rattle.thr_trip.specs.Core.{has_registers, is_vcpu, Seen, shape_of, IsAtRest, is_settled}
 use Rattle.thr_trip.specs.PortOps.Opened.{no_guest}
 use Rattle.thr_trip.specs.PortTable.Told.{WordsTold, PortIsOf, opening_seen, words_at}
 use Rattle.guest_end.specs.ScnBase.declared.scenario.Scenario.{Scenario}
@@ -83,6 +83,9 @@ few_ops number actor (VcpuStep guest vcpu op ∷ steps) = of (few_ops number act
 few_ops number actor (DeviceStep guest device op ∷ steps) = let fewer = few_ops number actor steps in omega (arith, fewer)
 few_ops number actor (PeStep pe op ∷ steps) = let fewer = few_ops number actor steps in omega (arith, fewer)
 
+within_16 : (n : ℕ) → 1 ≤ n → n ≤ 16 → IsTrue (nat_le 1 n && nat_le n 16)
+within_16 n few most = grind arith
+
 -- The shape of a guest.
 
 shape_there : (guests : List GuestSpec) (number : ℕ) → number < length guests → slice_get (shapes_of guests) number ≡ Some (get_or guests number no_guest).shape
@@ -101,11 +104,13 @@ module _ (scenario : Scenario) (words : List WordsTold) (set : IsSet scenario wo
   pub opens_trip :
       (vcpu place : ℕ) (script : List GuestOp) (seen : Seen) (cpu : CpuRec) → vcpu < (words_at words guest).guest.shape.vcpus → script ≡ vcpu_ops guest vcpu scenario.steps → seen ≡ opening_seen (words_at words guest) vcpu → PortIsOf words seen
       → cpu ≡ opening_cpu (get_or scenario.guests guest no_guest).on → place ≡ length (all_vcpus (take guest words)) + vcpu
-      → IsTrip words scenario.steps (record { vcpu = record { guest = guest; vcpu = vcpu; cpu = cpu; next = 0 }; place = place; script = script; answers = []; spent = false; seen = seen })
+      → IsTrip words scenario.lrs scenario.steps (record { vcpu = record { guest = guest; vcpu = vcpu; cpu = cpu; next = 0 }; place = place; script = script; answers = []; spent = false; seen = seen })
   opens_trip vcpu place script seen cpu few script_is seen_is of cpu_is place_is =
       let told = words_at words guest in
       let from = opening_seen told vcpu in
       let is_one : is_vcpu told.guest.shape vcpu ≡ true = lt-ltb vcpu told.guest.shape.vcpus few in
+      let n = scenario.lrs in
+      let registers : IsTrue (has_registers told.guest.shape vcpu n) = ap (λ (one : Bool). if one then nat_le 1 n && nat_le n 16 else n == 0) is_one ∙ within_16 n set.good.some_list_register set.good.list_registers in
       record {
         of = of;
         actor = record { home = ap (λ (s : Seen). s.home) seen_is; guest = ap (λ (s : Seen). s.guest) seen_is; number = ap (λ (s : Seen). s.number) seen_is; actor = ap (λ (s : Seen). s.actor) seen_is };
@@ -130,8 +135,8 @@ module _ (scenario : Scenario) (words : List WordsTold) (set : IsSet scenario wo
         next = refl;
         most = omega arith;
         gone = λ fresh.
-            ∣ subst (λ (s : Seen). HasGone from s (IsBetween s) (calls_answered script [])) (sym seen_is)
-            (subst (HasGone from from (IsBetween from)) (sym (answered_none script)) (gone_nowhere from (IsBetween from) (record { new_is = sym (seen_nil from) }) (record { rest = record { local = refl; own = refl; scan = refl; wants = refl }; none_failed = refl; debt = refl })))
+            ∣ subst (λ (s : Seen). HasGone scenario.lrs from s (IsBetween s) (calls_answered script [])) (sym seen_is)
+            (subst (HasGone scenario.lrs from from (IsBetween from)) (sym (answered_none script)) (gone_nowhere scenario.lrs from (IsBetween from) registers (record { new_is = sym (seen_nil from) }) (record { rest = record { local = refl; own = refl; scan = refl; wants = refl }; none_failed = refl; debt = refl })))
             ∣₁;
       }
 
@@ -143,13 +148,15 @@ module _ (scenario : Scenario) (words : List WordsTold) (set : IsSet scenario wo
       let told = words_at words guest in
       let actor = told.guest.shape.vcpus + device in
       let from = opening_seen told actor in
+      let is_none : is_vcpu told.guest.shape actor ≡ false = le-ltb actor told.guest.shape.vcpus (omega arith) in
+      let registers : IsTrue (has_registers told.guest.shape actor 0) = ap (λ (one : Bool). if one then nat_le 1 0 && nat_le 0 16 else 0 == 0) is_none in
       record {
         of = of;
         actor = record { home = ap (λ (s : Seen). s.home) seen_is; guest = ap (λ (s : Seen). s.guest) seen_is; number = ap (λ (s : Seen). s.number) seen_is; actor = ap (λ (s : Seen). s.actor) seen_is };
         number = ap (λ (s : Seen). s.number) seen_is ∙ set.number guest there;
         ready =
             record {
-              device = ap (λ (s : Seen). is_vcpu (shape_of s) s.actor) seen_is ∙ le-ltb actor told.guest.shape.vcpus (omega arith);
+              device = ap (λ (s : Seen). is_vcpu (shape_of s) s.actor) seen_is ∙ is_none;
               settled = ap (λ (s : Seen). is_settled s.local) seen_is;
             };
         script = script_is;
@@ -157,8 +164,8 @@ module _ (scenario : Scenario) (words : List WordsTold) (set : IsSet scenario wo
             subst (λ (s : Seen). All (GoodEvent (shape_of s)) script) (sym seen_is)
             (subst (All (GoodEvent told.guest.shape)) (sym script_is) (good_events scenario.pes (shapes_of scenario.guests) guest device told.guest.shape guest_shape scenario.steps set.good.each_step));
         gone =
-            ∣ subst (λ (s : Seen). HasGone from s (IsAtRest s) []) (sym seen_is)
-            (gone_nowhere from (IsAtRest from) (record { new_is = sym (seen_nil from) }) (record { local = refl; own = refl; scan = refl; wants = refl }))
+            ∣ subst (λ (s : Seen). HasGone 0 from s (IsAtRest s) []) (sym seen_is)
+            (gone_nowhere 0 from (IsAtRest from) registers (record { new_is = sym (seen_nil from) }) (record { local = refl; own = refl; scan = refl; wants = refl }))
             ∣₁;
       }
 

@@ -33,7 +33,7 @@ pub fn take_apart<'a, J: Naming>(
     requires there { All (λ slot. is_some slot ≡ true) slots.items }
     ensures root { IfOk result (λ _. told_root root.new ≡ joined_all (map (λ trip. trip.seen) (trips_in slots.entry.items)) (told_root root.old)) }
     ensures roots { IfOk result (λ _. AreRoots J.words (told_root root.new)) }
-    ensures trips { IfOk result (λ _. All (IsTrip J.words J.steps) (trips_in slots.entry.items)) }
+    ensures trips { IfOk result (λ _. All (IsTrip J.words J.lrs J.steps) (trips_in slots.entry.items)) }
     ensures back { IfOk result (BroughtBack (trips_in slots.entry.items)) }
 {
     let mut heard = ListOf::new(alloc);

@@ -33,6 +33,7 @@ fn vcpu_of<'a, J: Naming>(
 ) -> Result<Trip<'a, J>, AllocError>
     requires words { told_words words.now ≡ J.words }
     requires steps { scenario.now.steps ≡ J.steps }
+    requires lrs { scenario.now.lrs ≡ J.lrs }
     requires set { IsSet scenario.now J.words }
     requires root { SplitTo J.words (told_root root.old) guest vcpu }
     requires guest { guest < length J.words }
@@ -91,6 +92,7 @@ impl<'a, J: Naming> Cast<'a, J> {
     ) -> Result<(), AllocError>
         requires words { told_words words.now ≡ J.words }
         requires steps { scenario.now.steps ≡ J.steps }
+        requires lrs { scenario.now.lrs ≡ J.lrs }
         requires set { IsSet scenario.now J.words }
         requires root { SplitTo J.words (told_root root.old) guest 0 }
         requires guest { guest < length J.words }
@@ -142,6 +144,7 @@ impl<'a, J: Naming> Cast<'a, J> {
     ) -> Result<Self, AllocError>
         requires words { told_words words.now ≡ J.words }
         requires steps { scenario.now.steps ≡ J.steps }
+        requires lrs { scenario.now.lrs ≡ J.lrs }
         requires set { IsSet scenario.now J.words }
         requires root { SplitTo J.words (told_root root.old) 0 0 }
         ensures root { OnOk result (SplitTo J.words (told_root root.new) (length J.words) 0) }

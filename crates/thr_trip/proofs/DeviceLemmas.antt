@@ -1,10 +1,9 @@
 -- A device does one more operation.
-use Rattle.std.proofs.Common.{◌≡◌, ℕ, ◌<◌, ◌==◌, ◌&&◌, suc, All, Bool, true, false, IsTrue, nat_le, List, length, take, if◌then◌else◌, None, Some, refl, sym, ap, subst, ◌∙◌}
+use Rattle.std.proofs.Common.{◌≡◌, ℕ, ◌<◌, suc, All, true, false, IsTrue, List, length, take, None, Some, refl, sym, ap, subst, ◌∙◌}
 use Rattle.std.specs.Prelude.{slice_get}
 use Rattle.std.proofs.Math.Logic.{∥∥₁_map}
-use Rattle.pe_place.specs.Core.{IsAtRest, has_registers, is_vcpu, Seen, shape_of}
+use Rattle.pe_place.specs.Core.{IsAtRest, Seen}
 use Rattle.pe_place.proofs.CoreProper.RestLemmas.{rests_again}
-use Rattle.pe_place.specs.LawEagerIsHistory.Calls.{Made}
 use Rattle.gic_io.specs.Words.{DeviceOp}
 use Rattle.port_table.specs.Calls.{Device, GuestSpec, is_good_event}
 use Rattle.pe_place.specs.Device.{DoesEvent}
@@ -24,11 +23,6 @@ use Rattle.port_table.proofs.PortCore.SameLemmas.{same_after, same_twice}
 pub receives_none : (script : List DeviceOp) (seen : Seen) → CanCall seen → Receives (take 0 script) seen seen
 receives_none script seen ready = record { actor = record { home = refl; guest = refl; number = refl; actor = refl }; ready = ready; goes_on = λ from gone. gone }
 
-no_registers : (from old : Seen) (calls : List Made) → is_vcpu (shape_of old) old.actor ≡ false → HasGone from old (IsAtRest old) calls → IsTrue (has_registers (shape_of from) from.actor 0)
-no_registers from old calls is gone =
-    let none : is_vcpu (shape_of from) from.actor ≡ false = subst (λ (seen : Seen). is_vcpu (shape_of seen) seen.actor ≡ false) gone.adds.new_is is in
-    ap (λ (vcpu : Bool). if vcpu then nat_le 1 0 && nat_le 0 16 else 0 == 0) none
-
 -- One more.
 pub receives_more : (script : List DeviceOp) (first old new : Seen) (done : ℕ) (op : DeviceOp) → slice_get script done ≡ Some op → Receives (take done script) first old → DoesEvent old new op → Receives (take (suc done) script) first new
 receives_more script first old new done op there so does =
@@ -39,8 +33,8 @@ receives_more script first old new done op there so does =
       goes_on = λ from gone.
           let here = so.goes_on from gone in
           let calls = calls_received (take done script) in
-          subst (HasGone from new (IsAtRest new)) (sym (received_more script done op there))
-          (goes_on_by from old new (IsAtRest old) (IsAtRest new) calls part (no_registers from old calls so.ready.device here) does.done.adds (record { made = does.done.call; found = device_call old op does.part None does.done.call }) does.done.proper
+          subst (HasGone 0 from new (IsAtRest new)) (sym (received_more script done op there))
+          (goes_on_by 0 from old new (IsAtRest old) (IsAtRest new) calls part refl does.done.adds (record { made = does.done.call; found = device_call old op does.part None does.done.call }) does.done.proper
           (λ p rest. rests_again old new p does.part (Device op) 0 None rest (does.done.proper p rest) does.done.adds) here);
     }
 
@@ -56,5 +50,5 @@ device_done words steps device new is none receives =
       ready = receives.ready;
       script = is.script;
       good = subst (λ (guest : GuestSpec). All (λ op. IsTrue (is_good_event guest.shape op)) device.script) (sym same.guest) is.good;
-      gone = ∥∥₁_map is.gone (λ gone. receives.goes_on from (subst (HasGone from device.seen (IsAtRest device.seen)) (ap (λ done. calls_done done device.script) none) gone));
+      gone = ∥∥₁_map is.gone (λ gone. receives.goes_on from (subst (HasGone 0 from device.seen (IsAtRest device.seen)) (ap (λ done. calls_done done device.script) none) gone));
     }

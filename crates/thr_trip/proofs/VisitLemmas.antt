@@ -1,11 +1,11 @@
 -- A vCPU enters a PE, does operations there, and leaves it.
-use Rattle.std.proofs.Common.{◌≡◌, ℕ, ◌<◌, ◌≤◌, ◌&&◌, ◌==◌, All, Bool, true, false, true≢false, IsTrue, nat_le, List, [], ◌∷◌, ◌++◌, append-nil, length, length-append, if◌then◌else◌, Option, Some, refl, sym, ap, subst, ◌∙◌, arith}
+use Rattle.std.proofs.Common.{◌≡◌, ℕ, ◌<◌, ◌≤◌, All, Bool, true, false, true≢false, IsTrue, List, [], ◌∷◌, ◌++◌, append-nil, length, length-append, Option, Some, refl, sym, ap, subst, ◌∙◌, arith}
 use Rattle.std.specs.Prelude.{slice_get}
 use Rattle.std.proofs.Math.Logic.{∥∥₁_map}
 use Rattle.std.proofs.lemmas.Option.{slice_get_within}
 use Rattle.gic_io.specs.Words.{GuestOp}
 use Rattle.port_table.specs.Calls.{Access, GuestSpec, is_good_op}
-use Rattle.pe_place.specs.Core.{has_registers, Progress, is_vcpu, Seen, shape_of, IsSameActor}
+use Rattle.pe_place.specs.Core.{Seen, IsSameActor}
 use Rattle.pe_place.specs.LawEagerIsHistory.Calls.{Made}
 use Rattle.pe_place.specs.PeIcc.Amid.{IsRunning, IsSame}
 use Rattle.pe_place.proofs.PeIcc.LawLemmas.{entry_runs, exit_rests}
@@ -28,16 +28,6 @@ use Rattle.thr_trip.specs.Trip.{IsTrip, TripTold, opened}
 use Rattle.thr_trip.proofs.CallLemmas.{answered_more}
 use Rattle.thr_trip.proofs.GoneLemmas.{goes_on_by}
 use Rattle.port_table.proofs.PortCore.SameLemmas.{same_after, same_twice}
-
--- The list registers of a vCPU's PE are as many as a part asks for.
-
-within_16 : (n : ℕ) → 1 ≤ n → n ≤ 16 → IsTrue (nat_le 1 n && nat_le n 16)
-within_16 n few most = grind arith
-
-vcpu_registers : (from old : Seen) (Before : Progress → Type 0) (calls : List Made) (n : ℕ) → is_vcpu (shape_of old) old.actor ≡ true → 1 ≤ n → n ≤ 16 → HasGone from old Before calls → IsTrue (has_registers (shape_of from) from.actor n)
-vcpu_registers from old Before calls n is_one few most gone =
-    let is : is_vcpu (shape_of from) from.actor ≡ true = subst (λ (seen : Seen). is_vcpu (shape_of seen) seen.actor ≡ true) gone.adds.new_is is_one in
-    ap (λ (vcpu : Bool). if vcpu then nat_le 1 n && nat_le n 16 else n == 0) is ∙ within_16 n few most
 
 -- Operations on the PE.
 
@@ -69,9 +59,8 @@ operates_more script first old new start before after answered answers op answer
       most = omega (arith, length-append answers (answer ∷ []), within);
       goes_on = λ none from gone.
           let here = so.goes_on none from gone in
-          let registers = vcpu_registers from old (IsRunning old before) (calls_answered script answers) before.regs.n so.up.on.actor.is_one so.up.lrs.0 so.up.lrs.1 here in
-          subst (HasGone from new (IsRunning new after)) (sym (answered_more script answers op answer there))
-          (goes_on_by from old new (IsRunning old before) (IsRunning new after) (calls_answered script answers) part registers does.adds (record { made = does.call; found = does.found }) does.proper does.goes_on here);
+          subst (HasGone start.regs.n from new (IsRunning new after)) (sym (answered_more script answers op answer there))
+          (goes_on_by start.regs.n from old new (IsRunning old before) (IsRunning new after) (calls_answered script answers) part so.same.lrs does.adds (record { made = does.call; found = does.found }) does.proper does.goes_on here);
     }
 
 pub operates_stopped :
@@ -88,25 +77,21 @@ operates_stopped script first old new start before after answered answers op so 
 
 -- The entry before them, and the exit after them.
 
-pub enters_by :
-    (from old new : Seen) (vcpu : Shelved) (lrs : ℕ) (loaded : Loaded) (calls : List Made) → is_vcpu (shape_of old) old.actor ≡ true → 1 ≤ lrs → lrs ≤ 16 → Enters old new vcpu lrs loaded → HasGone from old (IsBetween old) calls
-    → HasGone from new (IsRunning new loaded) calls
-enters_by from old new vcpu lrs loaded calls is_one few most enters gone =
-    subst (HasGone from new (IsRunning new loaded)) (append-nil calls)
-    (goes_on_by from old new (IsBetween old) (IsRunning new loaded) calls (residence lrs enters.part) (vcpu_registers from old (IsBetween old) calls lrs is_one few most gone) enters.adds
-    (residence_found old lrs enters.part enters.call) enters.whole_part (λ p between. entry_runs old new vcpu lrs loaded enters p between) gone)
+pub enters_by : (lrs : ℕ) (from old new : Seen) (vcpu : Shelved) (loaded : Loaded) (calls : List Made) → Enters old new vcpu lrs loaded → HasGone lrs from old (IsBetween old) calls → HasGone lrs from new (IsRunning new loaded) calls
+enters_by lrs from old new vcpu loaded calls enters gone =
+    subst (HasGone lrs from new (IsRunning new loaded)) (append-nil calls)
+    (goes_on_by lrs from old new (IsBetween old) (IsRunning new loaded) calls (residence lrs enters.part) refl enters.adds (residence_found old lrs enters.part enters.call) enters.whole_part (λ p between. entry_runs old new vcpu lrs loaded enters p between) gone)
 
-pub leaves_by :
-    (from old new : Seen) (vcpu : Loaded) (shelved : Shelved) (calls : List Made) → IsUp old vcpu → Leaves old new vcpu shelved → HasGone from old (IsRunning old vcpu) calls → HasGone from new (IsBetween new) calls
-leaves_by from old new vcpu shelved calls up leaves gone =
-    let lrs = vcpu.regs.n in
-    subst (HasGone from new (IsBetween new)) (append-nil calls)
-    (goes_on_by from old new (IsRunning old vcpu) (IsBetween new) calls (residence lrs leaves.part) (vcpu_registers from old (IsRunning old vcpu) calls lrs up.on.actor.is_one up.lrs.0 up.lrs.1 gone) leaves.adds
-    (residence_found old lrs leaves.part leaves.call) (λ p run. (exit_rests old new lrs vcpu shelved leaves p run).proper) (λ p run. (exit_rests old new lrs vcpu shelved leaves p run).between) gone)
+pub leaves_by : (lrs : ℕ) (from old new : Seen) (vcpu : Loaded) (shelved : Shelved) (calls : List Made) → vcpu.regs.n ≡ lrs → Leaves old new vcpu shelved → HasGone lrs from old (IsRunning old vcpu) calls → HasGone lrs from new (IsBetween new) calls
+leaves_by lrs from old new vcpu shelved calls lrs_is leaves gone =
+    let n = vcpu.regs.n in
+    subst (HasGone lrs from new (IsBetween new)) (append-nil calls)
+    (goes_on_by lrs from old new (IsRunning old vcpu) (IsBetween new) calls (residence n leaves.part) lrs_is leaves.adds (residence_found old n leaves.part leaves.call) (λ p run. (exit_rests old new n vcpu shelved leaves p run).proper)
+    (λ p run. (exit_rests old new n vcpu shelved leaves p run).between) gone)
 
 -- A whole visit, of a vCPU that is not spent.
 
-module _ (words : List WordsTold) (steps : List Step) (trip : TripTold) (is : IsTrip words steps trip) (fresh : trip.spent ≡ false) (entered operated left : Seen) (loaded after : Loaded) (back : Shelved) (lrs next : ℕ) (answers : List (Option ℕ)) (refused : Bool) (few : 1 ≤ lrs) (most : lrs ≤ 16) (enters : Enters trip.seen entered trip.vcpu lrs loaded) (operates : Operates trip.script entered operated loaded after trip.answers answers refused) (leaves : Leaves operated left after back) (back_is : back ≡ shelved_of after) (next_is : next ≡ length answers) where
+module _ (words : List WordsTold) (lrs : ℕ) (steps : List Step) (trip : TripTold) (is : IsTrip words lrs steps trip) (fresh : trip.spent ≡ false) (entered operated left : Seen) (loaded after : Loaded) (back : Shelved) (next : ℕ) (answers : List (Option ℕ)) (refused : Bool) (enters : Enters trip.seen entered trip.vcpu lrs loaded) (operates : Operates trip.script entered operated loaded after trip.answers answers refused) (leaves : Leaves operated left after back) (back_is : back ≡ shelved_of after) (next_is : next ≡ length answers) where
   -- how it is after it
   abbrev pub visited : TripTold
   visited = record { vcpu = record back { next = next }; place = trip.place; script = trip.script; answers = answers; spent = refused; seen = left }
@@ -124,13 +109,16 @@ module _ (words : List WordsTold) (steps : List Step) (trip : TripTold) (is : Is
   by_name : (Says : ℕ → ℕ → Type 0) → Says trip.vcpu.guest trip.vcpu.vcpu → Says back.guest back.vcpu
   by_name Says so = subst (λ number. Says back.guest number) same_number (subst (λ guest. Says guest trip.vcpu.vcpu) same_guest so)
 
-  goes_on : HasGone (opened words trip) trip.seen (IsBetween trip.seen) (calls_answered trip.script trip.answers) → refused ≡ false → HasGone (opened words trip) left (IsBetween left) (calls_answered trip.script answers)
+  goes_on : HasGone lrs (opened words trip) trip.seen (IsBetween trip.seen) (calls_answered trip.script trip.answers) → refused ≡ false → HasGone lrs (opened words trip) left (IsBetween left) (calls_answered trip.script answers)
   goes_on gone none =
       let from = opened words trip in
-      leaves_by from operated left after back (calls_answered trip.script answers) operates.up leaves
-      (operates.goes_on none from (enters_by from trip.seen entered trip.vcpu lrs loaded (calls_answered trip.script trip.answers) is.off.actor.is_one few most enters gone))
+      let first = calls_answered trip.script trip.answers in
+      let all = calls_answered trip.script answers in
+      leaves_by lrs from operated left after back all (operates.same.lrs ∙ enters.lrs_is) leaves
+      (subst (λ n. HasGone n from operated (IsRunning operated after) all) enters.lrs_is
+      (operates.goes_on none from (subst (λ n. HasGone n from entered (IsRunning entered loaded) first) (sym enters.lrs_is) (enters_by lrs from trip.seen entered trip.vcpu loaded first enters gone))))
 
-  pub visited_is : IsTrip words steps visited
+  pub visited_is : IsTrip words lrs steps visited
   visited_is =
       let from : ℕ → ℕ → Seen = λ guest vcpu. opening_seen (words_at words guest) vcpu in
       let name : ℕ → ℕ → VcpuName = λ guest vcpu. record { guest = guest; vcpu = vcpu } in
@@ -149,6 +137,6 @@ module _ (words : List WordsTold) (steps : List Step) (trip : TripTold) (is : Is
         next = next_is;
         most = operates.most;
         gone = λ none.
-            by_name (λ guest vcpu. ∥ HasGone (from guest vcpu) left (IsBetween left) (calls_answered trip.script answers) ∥₁)
+            by_name (λ guest vcpu. ∥ HasGone lrs (from guest vcpu) left (IsBetween left) (calls_answered trip.script answers) ∥₁)
             (∥∥₁_map (is.gone fresh) (λ gone. goes_on gone none));
       }

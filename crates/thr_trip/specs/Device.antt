@@ -35,10 +35,10 @@ pub record IsDevice (words : List WordsTold) (steps : List Step) (device : Devic
   pub ready : CanCall device.seen
   pub script : device.script ≡ device_ops device.guest device.device steps
   pub good : All (λ op. IsTrue (is_good_event (shape_of device.seen) op)) device.script
-  pub gone : ∥ HasGone (opened words device) device.seen (IsAtRest device.seen) (calls_done device.done device.script) ∥₁
+  pub gone : ∥ HasGone 0 (opened words device) device.seen (IsAtRest device.seen) (calls_done device.done device.script) ∥₁
 
 -- operations of a device: it went on by their calls, and can do a further one
 pub record Receives (script : List DeviceOp) (old new : Seen) : Type 0 where
   pub actor : IsSameActor old new
   pub ready : CanCall new
-  pub goes_on : (from : Seen) → HasGone from old (IsAtRest old) [] → HasGone from new (IsAtRest new) (calls_received script)
+  pub goes_on : (from : Seen) → HasGone 0 from old (IsAtRest old) [] → HasGone 0 from new (IsAtRest new) (calls_received script)

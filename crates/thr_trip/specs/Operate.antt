@@ -15,4 +15,4 @@ pub record Operates (script : List GuestOp) (old new : Seen) (before after : Loa
   pub same : IsSame before after
   pub most : length answers ≤ length script
   pub goes_on :
-      refused ≡ false → (from : Seen) → HasGone from old (IsRunning old before) (calls_answered script answered) → HasGone from new (IsRunning new after) (calls_answered script answers)
+      refused ≡ false → (from : Seen) → HasGone before.regs.n from old (IsRunning old before) (calls_answered script answered) → HasGone before.regs.n from new (IsRunning new after) (calls_answered script answers)

@@ -25,8 +25,8 @@ abbrev pub opened : List WordsTold → TripTold → Seen
 opened words trip = opening_seen (words_at words trip.vcpu.guest) trip.vcpu.vcpu
 
 -- a vCPU of a run is on no PE, at its own place, with its own script and port; and unless it is spent, it did the first operations of the script, with these answers,
--- and beside them only entered and left
-pub record IsTrip (words : List WordsTold) (steps : List Step) (trip : TripTold) : Type 0 where
+-- and beside them only entered and left, each time a PE with so many list registers
+pub record IsTrip (words : List WordsTold) (lrs : ℕ) (steps : List Step) (trip : TripTold) : Type 0 where
   pub of : PortIsOf words trip.seen
   pub actor : IsSameActor (opened words trip) trip.seen
   pub off : IsOff trip.seen trip.vcpu
@@ -35,7 +35,7 @@ pub record IsTrip (words : List WordsTold) (steps : List Step) (trip : TripTold)
   pub good : All (λ op. IsTrue (is_good_op (shape_of trip.seen) op)) trip.script
   pub next : trip.vcpu.next ≡ length trip.answers
   pub most : length trip.answers ≤ length trip.script
-  pub gone : trip.spent ≡ false → ∥ HasGone (opened words trip) trip.seen (IsBetween trip.seen) (calls_answered trip.script trip.answers) ∥₁
+  pub gone : trip.spent ≡ false → ∥ HasGone lrs (opened words trip) trip.seen (IsBetween trip.seen) (calls_answered trip.script trip.answers) ∥₁
 
 -- it is done: its script is, or memory was refused
 abbrev pub is_done : TripTold → Bool

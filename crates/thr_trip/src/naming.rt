@@ -1,5 +1,5 @@
 //! Which run vCPUs and devices are of.
-ghost use Rattle.std.specs.Prelude.{List, []};
+ghost use Rattle.std.specs.Prelude.{ℕ, List, []};
 ghost use Rattle.port_table.specs.ScnBase.declared.step.Step.{Step};
 ghost use Rattle.port_table.specs.Told.{WordsTold};
 
@@ -12,10 +12,15 @@ pub trait Naming {
 
     /// Its steps.
     ghost steps: { List Step };
+
+    /// The list registers of its PEs.
+    ghost lrs: { ℕ };
 }
 
 impl Naming for Brand {
     ghost words = { [] };
 
     ghost steps = { [] };
+
+    ghost lrs = { 0 };
 }

@@ -39,6 +39,7 @@ impl<T: Rider> PeRun<T> {
     /// it finds none it waits.
     pub(crate) fn run<R: Wait, G: Gate>(&mut self, rt: &R, shelf: &Shelf<T>, turns: Turns, gate: &G)
         requires lrs { 1 ≤ turns.lrs × turns.lrs ≤ MAX_LIST_REGISTERS }
+        requires same { turns.lrs ≡ T.registers }
         requires free { IsFreeSeat (shelf_told shelf.now) (seat_told self.old.seat) }
         ensures { IsDoneSeat (shelf_told shelf.now) (seat_told self.new.seat) }
     {

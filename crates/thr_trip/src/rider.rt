@@ -1,5 +1,5 @@
 //! What the thread of a PE asks of whom it takes, and what a device's thread does.
-ghost use Rattle.std.specs.Prelude.{◌≡◌, ◌≤◌, false};
+ghost use Rattle.std.specs.Prelude.{◌≡◌, ℕ, ◌≤◌, false};
 ghost use Rattle.gic_io.specs.Words.{MAX_LIST_REGISTERS};
 
 use crate::visit::Passes;
@@ -18,9 +18,13 @@ pub struct Turns {
 
 /// Who goes from PE to PE.
 pub trait Rider: Traveller {
+    /// The list registers of the PEs that it goes to.
+    ghost registers: { ℕ };
+
     /// It enters a PE, does some of what it has to do, and leaves the PE.
     fn visit<R: Wait, G: Gate>(&mut self, rt: &R, turns: Turns, passes: &mut Passes<'_, G>)
         requires lrs { 1 ≤ turns.lrs × turns.lrs ≤ MAX_LIST_REGISTERS }
+        requires same { turns.lrs ≡ registers }
         requires more { Self.done self.old ≡ false }
         ensures { Self.place self.new ≡ Self.place self.old };
 }

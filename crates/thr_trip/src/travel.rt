@@ -31,6 +31,8 @@ impl<'a, J: Naming + Send> Traveller for Trip<'a, J> {
 }
 
 impl<'a, J: Naming + Send> Rider for Trip<'a, J> {
+    ghost registers = { J.lrs };
+
     fn visit<R: Wait, G: Gate>(&mut self, rt: &R, turns: Turns, passes: &mut Passes<'_, G>) {
         self.visit_pe(rt, turns.lrs, turns.most, passes);
     }

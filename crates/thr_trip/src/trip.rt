@@ -28,7 +28,7 @@ pub struct Trip<'a, J: Naming> {
     run: PhantomData<J>,
     ghost few: { length script < 4294967296 },
     ghost room: { length script ≤ vec_capacity answers },
-    ghost is: { IsTrip J.words J.steps (record { vcpu = vcpu; place = place; script = script; answers = answers.items; spent = spent; seen = seen_of port }) },
+    ghost is: { IsTrip J.words J.lrs J.steps (record { vcpu = vcpu; place = place; script = script; answers = answers.items; spent = spent; seen = seen_of port }) },
 }
 
 /// The vCPU as it is on no PE.
@@ -58,7 +58,7 @@ impl<'a, J: Naming> Trip<'a, J> {
         port: TablePort<'a>,
     ) -> Result<Self, AllocError>
         requires few { length script < 4294967296 }
-        requires is { IsTrip J.words J.steps (record { vcpu = vcpu; place = place; script = script; answers = []; spent = false; seen = seen_of port }) }
+        requires is { IsTrip J.words J.lrs J.steps (record { vcpu = vcpu; place = place; script = script; answers = []; spent = false; seen = seen_of port }) }
         ensures { IfOk result (λ trip. trip_told trip ≡ record { vcpu = vcpu; place = place; script = script; answers = []; spent = false; seen = seen_of port.entry }) }
     {
         let answers = Vec::with_capacity(alloc, script.len())?;
@@ -83,6 +83,7 @@ impl<'a, J: Naming> Trip<'a, J> {
         passes: &mut Passes<'_, G>,
     )
         requires lrs { 1 ≤ lrs × lrs ≤ MAX_LIST_REGISTERS }
+        requires same { lrs ≡ J.lrs }
         requires more { is_done (trip_told self.old) ≡ false }
         ensures { (trip_told self.new).place ≡ (trip_told self.old).place }
     {
@@ -103,7 +104,7 @@ impl<'a, J: Naming> Trip<'a, J> {
     /// What is left of a vCPU that is done: its record, the answers of its script, its port, and whether it is spent.
     pub fn into_parts(self) -> (Shelved, Vec<Option<u64>>, TablePort<'a>, bool)
         ensures parts { (result.0 ≡ self.entry.vcpu) × (result.1.items ≡ (trip_told self.entry).answers) × (seen_of result.2 ≡ (trip_told self.entry).seen) × (result.3 ≡ (trip_told self.entry).spent) }
-        ensures is { IsTrip J.words J.steps (trip_told self.entry) }
+        ensures is { IsTrip J.words J.lrs J.steps (trip_told self.entry) }
     {
         let Trip {
             vcpu,

@@ -23,6 +23,7 @@ impl<T: Rider, D: Loner> Worker<T, D> {
     /// It does all that it has to do.
     fn run<R: Wait, G: Gate>(&mut self, rt: &R, shelf: &Shelf<T>, turns: Turns, gate: &G)
         requires lrs { 1 ≤ turns.lrs × turns.lrs ≤ MAX_LIST_REGISTERS }
+        requires same { turns.lrs ≡ T.registers }
         requires can { CanWork D.is_new (shelf_told shelf.now) self.old }
         ensures { HasWorked D.has_finished (shelf_told shelf.now) self.old self.new }
     {
@@ -43,6 +44,7 @@ pub fn run_all<R: Threads + Wait + Sync, T: Rider, D: Loner, G: Gate + Sync>(
 )
     requires some { 0 < length workers.old }
     requires lrs { 1 ≤ turns.lrs × turns.lrs ≤ MAX_LIST_REGISTERS }
+    requires same { turns.lrs ≡ T.registers }
     requires can { All (CanWork D.is_new (shelf_told shelf.now)) workers.old }
     ensures each { length workers.new ≡ length workers.old }
     ensures worked { (number : ℕ) (none : Worker T D) → number < length workers.old → HasWorked D.has_finished (shelf_told shelf.now) (slice_index_or workers.old number none) (slice_index_or workers.new number none) }
@@ -53,7 +55,7 @@ pub fn run_all<R: Threads + Wait + Sync, T: Rider, D: Loner, G: Gate + Sync>(
         workers,
         threads,
         &|_number, worker|
-            requires { IsSync R.row × (1 ≤ turns.lrs × turns.lrs ≤ MAX_LIST_REGISTERS) × CanWork D.is_new (shelf_told shelf.now) worker.now }
+            requires { IsSync R.row × (1 ≤ turns.lrs × turns.lrs ≤ MAX_LIST_REGISTERS) × (turns.lrs ≡ T.registers) × CanWork D.is_new (shelf_told shelf.now) worker.now }
             ensures { HasWorked D.has_finished (shelf_told shelf.entry.now) worker.entry.now worker.exit.now }
         { worker.run(rt, shelf, turns, gate) },
     );

@@ -46,7 +46,7 @@ loop-slot-preserved g c =
           root_with trips more told (told_root c.args.root.now) (told_root at.root) (told_root c.join.new.root) longer at.invariant.root
           (c.join.ensures.root ∙ ap (λ (seen : Seen). joining_in seen (told_root at.root)) parts.2);
       roots = subst (λ (ws : List WordsTold). AreRoots ws (told_root c.join.new.root)) c.requires.words c.join.ensures.roots;
-      trips = subst (All (IsTrip g.J.Naming.words g.J.Naming.steps)) (sym longer) (all_more (IsTrip g.J.Naming.words g.J.Naming.steps) trips told at.invariant.trips c.into_parts-answers.ensures.is);
+      trips = subst (All (IsTrip g.J.Naming.words g.J.Naming.lrs g.J.Naming.steps)) (sym longer) (all_more (IsTrip g.J.Naming.words g.J.Naming.lrs g.J.Naming.steps) trips told at.invariant.trips c.into_parts-answers.ensures.is);
       heard = each_with heard_of trips more told at.heard c.push.new.self longer at.invariant.heard (c.in_ok-push.ensures.ok ∙ ap (λ (one : Heard). at.heard ++ one ∷ []) heard_is);
       cpus =
           each_with (λ (trip : TripTold). trip.vcpu.cpu) trips more told at.cpus c.push-in-loop-slot.new.self longer at.invariant.cpus
@@ -64,7 +64,7 @@ returns g c =
     record {
       root = at.invariant.root ∙ ap (λ (trips : List TripTold). joined_all (map (λ (trip : TripTold). trip.seen) trips) (told_root c.args.root.now)) trips;
       roots = at.invariant.roots;
-      trips = subst (All (IsTrip g.J.Naming.words g.J.Naming.steps)) trips at.invariant.trips;
+      trips = subst (All (IsTrip g.J.Naming.words g.J.Naming.lrs g.J.Naming.steps)) trips at.invariant.trips;
       back =
           record {
             heard = at.invariant.heard ∙ ap (map heard_of) trips;

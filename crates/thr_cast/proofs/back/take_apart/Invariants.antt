@@ -17,7 +17,7 @@ invariant-loop-slot g l =
       left : into_iter_len l.slot-iterator ≡ length (into_iter_items l.slot-iterator);
       root : told_root l.root ≡ joined_all (map (λ (trip : TripTold). trip.seen) (trips_in l.yielded)) (told_root l.initial.root);
       roots : AreRoots g.J.Naming.words (told_root l.root);
-      trips : All (IsTrip g.J.Naming.words g.J.Naming.steps) (trips_in l.yielded);
+      trips : All (IsTrip g.J.Naming.words g.J.Naming.lrs g.J.Naming.steps) (trips_in l.yielded);
       heard : l.heard ≡ map heard_of (trips_in l.yielded);
       cpus : l.cpus ≡ map (λ (trip : TripTold). trip.vcpu.cpu) (trips_in l.yielded);
       none_spent : All (λ (trip : TripTold). trip.spent ≡ false) (trips_in l.yielded);

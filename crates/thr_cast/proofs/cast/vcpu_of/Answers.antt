@@ -34,8 +34,9 @@ new-requires-clause-is g c =
     let guests = c.args.scenario.now.guests in
     let there : c.args.guest < length guests = subst (λ n. c.args.guest < n) c.requires.set.each c.requires.guest in
     let cpu = c.opening_cpu.ensures ∙ ap (λ (gs : List GuestSpec). opening_cpu (get_or gs c.args.guest c.index-as_slice-guest.result).on) c.as_slice-2.ensures ∙ ap (λ (guest : GuestSpec). opening_cpu guest.on) (get_or_default guests c.args.guest c.index-as_slice-guest.result no_guest there) in
-    subst (λ (steps : List Step). IsTrip words steps trip) c.requires.steps
-    (opens_trip scenario words c.requires.set c.args.guest c.requires.guest c.args.vcpu c.args.place c.in_ok-script.script seen c.opening_cpu.result c.requires.there (c.in_ok-script.ensures ∙ ap (vcpu_ops c.args.guest c.args.vcpu) c.as_slice.ensures) port of cpu c.requires.place)
+    subst (λ (steps : List Step). IsTrip words g.J.Naming.lrs steps trip) c.requires.steps
+    (subst (λ n. IsTrip words n scenario.steps trip) c.requires.lrs
+    (opens_trip scenario words c.requires.set c.args.guest c.requires.guest c.args.vcpu c.args.place c.in_ok-script.script seen c.opening_cpu.result c.requires.there (c.in_ok-script.ensures ∙ ap (vcpu_ops c.args.guest c.args.vcpu) c.as_slice.ensures) port of cpu c.requires.place))
 
 pub returns-clause-root : goal.returns-clause-root
 returns-clause-root g c =

@@ -23,6 +23,6 @@ invariant_of-self-clause-is g c =
     let loaded = c.enter-loaded.result in
     let after = c.operate-self.new.vcpu in
     let answers = c.operate-self.new.answers.items in
-    visited_is g.J.Naming.words g.J.Naming.steps trip before.is (neither before.spent _ c.requires.more) entered operated left loaded after c.leave-self.result c.args.lrs c.len.result answers c.operate-self.result c.requires.lrs.0 c.requires.lrs.1
-    (subst (λ (vcpu : Shelved). Enters trip.seen entered vcpu c.args.lrs loaded) c.copy_of.ensures c.enter-loaded.ensures)
+    visited_is g.J.Naming.words g.J.Naming.lrs g.J.Naming.steps trip before.is (neither before.spent _ c.requires.more) entered operated left loaded after c.leave-self.result c.len.result answers c.operate-self.result
+    (subst (λ n. Enters trip.seen entered trip.vcpu n loaded) c.requires.same (subst (λ (vcpu : Shelved). Enters trip.seen entered vcpu c.args.lrs loaded) c.copy_of.ensures c.enter-loaded.ensures))
     (subst (λ (script : List GuestOp). Operates script entered operated loaded after trip.answers answers c.operate-self.result) c.as_slice.ensures c.operate-self.ensures.operates) c.leave-self.ensures.leaves c.leave-self.ensures.value (c.len.ensures ∙ c.operate-self.new.answers.ok.0)
