@@ -68,16 +68,16 @@ module _ (guest : GuestSpec) (number : ℕ) (early late : List CoreMoment) (v : 
   history_early = (goes_before (opening_course guest) (ideal_of shape (opening guest number) early) (ideal_of shape state (one ∷ late)) (subst (IsHistory guest) (ideal_append shape (opening guest number) early (one ∷ late)) history)).0
 
   abbrev found : Found
-  found = Answer (interface_answer alone.reg None (interface_of (seat_at state v).local))
+  found = Answer (interface_answer alone.read.reg None (interface_of (seat_at state v).local))
 
-  stands : stands_for shape v (seat_at state v).local (seat_at state v).own made.step made.found ≡ Some (record { event = Cpu v alone.reg None; found = found })
+  stands : stands_for shape v (seat_at state v).local (seat_at state v).own made.step made.found ≡ Some (record { event = Cpu v alone.read.reg None; found = found })
   stands =
-      ap (λ s. stands_for shape v (seat_at state v).local (seat_at state v).own s made.found) alone.step_is
-      ∙ ap (λ b. if b then None else with_found (Cpu v alone.reg None) (Answer (interface_answer alone.reg None (interface_of (seat_at state v).local)))) alone.unkicked
+      ap (λ s. stands_for shape v (seat_at state v).local (seat_at state v).own s made.found) alone.read.step_is
+      ∙ ap (λ b. if b then None else with_found (Cpu v alone.read.reg None) (Answer (interface_answer alone.read.reg None (interface_of (seat_at state v).local)))) alone.read.unkicked
 
-  here : IsAtAccess guest number early v alone.reg None
+  here : IsAtAccess guest number early v alone.read.reg None
   here =
-      at_access guest number good early v made next alone.reg None alone.step_is found (ideal_of shape (after_moment shape state one) late)
+      at_access guest number good early v made next alone.read.reg None alone.read.step_is found (ideal_of shape (after_moment shape state one) late)
       (subst (λ o. AllAccess (opening_followed guest) (ideal_of shape (opening guest number) early ++ (event_moments v o ++ ideal_of shape (after_moment shape state one) late))) stands
       (subst (AllAccess (opening_followed guest)) (ideal_append shape (opening guest number) early (one ∷ late)) (history_access guest (ideal_of shape (opening guest number) (early ++ one ∷ late)) good history (whole_is guest number (early ++ one ∷ late) good proper.parted calls ended))))
 
@@ -85,13 +85,13 @@ module _ (guest : GuestSpec) (number : ℕ) (early late : List CoreMoment) (v : 
   lone = record { nobody = alone.nobody; owes_none = false_from_ne_true (owes_kick v (seat_at state v).local) here.free }
 
   may : MayAsk shape state v (progress_in guest number early v)
-  may = may_ask guest number early v made alone.reg None good next alone.step_is alone.unkicked alone.asks
+  may = may_ask guest number early v made alone.read.reg None good next alone.read.step_is alone.read.unkicked alone.read.asks
 
   unwanted : (actor : ℕ) → actor < actor_count shape → (progress_in guest number early actor).wants ≡ []
   unwanted actor there = elim (cases_eq actor v) [
     | inl same ↦
         subst (λ n. (progress_in guest number early n).wants ≡ []) (sym same)
-        ((own_wants guest number early next.before v next.acts.there).none (Access (Icc alone.reg None)) here.operation (λ view key. names_none shape view v alone.reg None key alone.asks))
+        ((own_wants guest number early next.before v next.acts.there).none (Access (Icc alone.read.reg None)) here.operation (λ view key. names_none shape view v alone.read.reg None key alone.read.asks))
     | inr differ ↦ (own_wants guest number early next.before actor there).out (alone.nobody actor there differ)
   ]
 
@@ -143,5 +143,5 @@ module _ (guest : GuestSpec) (number : ℕ) (early late : List CoreMoment) (v : 
 
 pub acknowledges_find_the_first : AcknowledgesFindTheFirst
 acknowledges_find_the_first guest number early late v made good proper calls ended alone =
-    first_is_own guest.shape good.shape (followed_in guest number early) (tidy guest number early late v made good proper calls ended alone) v alone.few (so guest number early late v made good proper calls ended alone) (gone guest number early late v made good proper calls ended alone)
+    first_is_own guest.shape good.shape (followed_in guest number early) (tidy guest number early late v made good proper calls ended alone) v alone.read.few (so guest number early late v made good proper calls ended alone) (gone guest number early late v made good proper calls ended alone)
     (none_comes guest number early late v made good proper calls ended alone)

@@ -26,12 +26,12 @@ use Rattle.law_runs_are_fresh.proofs.AskRuns.{acknowledge_fresh, end_fresh, inte
 -- One event.
 
 -- an event is fresh, where these moments come after it
-record IsFreshAt (later : List Moment) (at : Followed) (event : Event) : Type 0 where
+pub record IsFreshAt (later : List Moment) (at : Followed) (event : Event) : Type 0 where
   pub acknowledge : IsTrue (is_fresh_at_acknowledge later at.ideal at.track event)
   pub interface : IsTrue (is_fresh_at_interface at.ideal at.track event)
   pub end : IsTrue (is_fresh_at_end at.ideal at.track event)
 
-quiet_fresh : (later : List Moment) (at : Followed) (event : Event) → is_access event ≡ false → IsFreshAt later at event
+pub quiet_fresh : (later : List Moment) (at : Followed) (event : Event) → is_access event ≡ false → IsFreshAt later at event
 quiet_fresh later at (Cpu vcpu reg write) h = absurd (true≢false h)
 quiet_fresh later at event h = record { acknowledge = refl; interface = refl; end = refl }
 

@@ -7,6 +7,7 @@ pub mod OpenLemmas
 pub mod AskRuns
 pub mod AccessLemmas
 pub mod FreshRuns
+pub mod SoFarRuns
 pub mod BackLemmas
 pub mod FirstLemmas
 pub mod FirstRuns

@@ -141,7 +141,7 @@ nobody_acts (suc zero) h differ = refl
 nobody_acts (suc (suc n)) h differ = absurd (omega (arith, h))
 
 asks_alone : AsksAlone worked_guest 0 (take 17 worked_run) 0 read_made
-asks_alone = record { few = omega arith; reg = Iar1; asks = refl; step_is = refl; unkicked = refl; nobody = nobody_acts }
+asks_alone = record { read = record { few = omega arith; reg = Iar1; asks = refl; step_is = refl; unkicked = refl }; nobody = nobody_acts }
 
 pub a_read_is_alone : AReadIsAlone
 a_read_is_alone = record { good = worked_history_is.good; same = refl; proper = worked_is_proper; calls = worked_history_is.calls; ended = worked_history_is.ended; alone = asks_alone }

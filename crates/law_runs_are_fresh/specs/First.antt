@@ -19,13 +19,17 @@ own_candidate back vcpu place =
 abbrev pub own_candidates : Ideal → ℕ → List Candidate
 own_candidates state vcpu = let back = emptied state vcpu in filter_map (own_candidate back vcpu) (range_with_len 0 (interrupt_count back.guest.shape))
 
--- a vCPU reads IAR or HPPIR after some moments of a run and finds no kick, and no other actor is in a part
-pub record AsksAlone (guest : GuestSpec) (number : ℕ) (early : List CoreMoment) (vcpu : ℕ) (made : Made) : Type 0 where
+-- a vCPU reads IAR or HPPIR and finds no kick
+pub record Asks (guest : GuestSpec) (vcpu : ℕ) (made : Made) : Type 0 where
   pub few : vcpu < guest.shape.vcpus
   pub reg : IccReg
   pub asks : asks_first reg None ≡ true
   pub step_is : made.step ≡ Poll (Some reg) None
   pub unkicked : (vcpu_of made.found).kick ≡ false
+
+-- so it does after some moments of a run, and no other actor is in a part
+pub record AsksAlone (guest : GuestSpec) (number : ℕ) (early : List CoreMoment) (vcpu : ℕ) (made : Made) : Type 0 where
+  pub read : Asks guest vcpu made
   pub nobody : (actor : ℕ) → actor < actor_count guest.shape → actor ≢ vcpu → (progress_in guest number early actor).operation ≡ None
 
 abbrev pub AcknowledgesFindTheFirst : Type 0

@@ -1,3 +1,4 @@
 pub mod Fresh
 pub mod First
+pub mod SoFar
 pub mod Worked

@@ -1,6 +1,7 @@
 //! Laws of runs of the core, in whatever order the steps of its actors come.
 ghost use Rattle.law_runs_are_fresh.specs.First.{AcknowledgesFindTheFirst};
 ghost use Rattle.law_runs_are_fresh.specs.Fresh.{RunsAreFresh};
+ghost use Rattle.law_runs_are_fresh.specs.SoFar.{FreshSoFar};
 ghost use Rattle.law_runs_are_fresh.specs.Worked.{AReadIsAlone, ATouchIsAwaited};
 
 /// A law of every proper run of a good guest whose parts have all ended, each of them the call that it was begun for: its history is
@@ -11,7 +12,16 @@ pub fn fresh_runs()
     ensures { RunsAreFresh }
 {}
 
-/// A law of the same runs: where a vCPU reads IAR or HPPIR and finds no kick, and no other actor is in a part, the first at its
+/// A law of every proper run of a good guest in which each access of a CPU interface comes first in its call, whether the calls have
+/// ended or go on: it is fresh so far. An interrupt comes first at an acknowledge, and is not what that finds, only where the call
+/// that changed it last is open and its actor still owes the vCPU a kick, or where an open call waits for it and has not touched it
+/// since; the three other clauses of a fresh history hold as they are. So an interrupt that is kept from a vCPU is kept by a call that
+/// goes on.
+pub fn fresh_so_far()
+    ensures { FreshSoFar }
+{}
+
+/// A law of the runs whose parts have ended: where a vCPU reads IAR or HPPIR and finds no kick, and no other actor is in a part, the first at its
 /// interface is the first of all that would be deliverable to it if nothing stood there, but for those at another's interface.
 pub fn acknowledges_find_the_first()
     ensures { AcknowledgesFindTheFirst }

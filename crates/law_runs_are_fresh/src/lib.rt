@@ -3,4 +3,6 @@
 
 mod laws;
 
-pub use laws::{a_read_is_alone, a_touch_is_awaited, acknowledges_find_the_first, fresh_runs};
+pub use laws::{
+    a_read_is_alone, a_touch_is_awaited, acknowledges_find_the_first, fresh_runs, fresh_so_far,
+};
