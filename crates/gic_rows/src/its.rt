@@ -107,7 +107,7 @@ const TAKEN: &[&str] = &[
 ];
 
 #[rattlefmt::skip]
-const LPIS: [Row; 6] = [
+const LPIS: [Row; 7] = [
     Row {
         shows: "an LPI from its tables to the interrupt", before: GUEST,
         steps: &[
@@ -123,6 +123,20 @@ const LPIS: [Row; 6] = [
             &[MSI, icc!(1, "IAR1"), icc!(1, "EOIR1", 8195), icc!(1, "IAR1")],
         ],
         lines: TAKEN,
+    },
+    Row {
+        shows: "a configuration byte outside of the memory reads 0", before: GUEST,
+        steps: &[
+            CONFIGURED,
+            &[gicr!(1, 0x70, 8, 0xFFFFFFFFFF00D), gicr!(1, 0x78, 8, 0x4000000000010000), gicr!(1, 0x0, 4, 1)],
+            ENABLED, MAPD, MAPC, MAPTI, SYNC, DONE,
+            &[MSI, icc!(1, "IAR1"), icc!(1, "EOIR1", 8195), icc!(1, "IAR1")],
+        ],
+        lines: &[
+            "18 0x0000000000000080", "20 0x00000000000003ff", "22 0x00000000000003ff", CPU_1,
+            "irq 0 8195 en=0 grp=1 prio=0x00 cfg=edge line=0 rise=0 soft=1 act=- to=1",
+            ITS_80, "dev 0 8 bits=5", "evt 0 8 3 8195 1", "col 0 1 1", "end 22 3",
+        ],
     },
     Row {
         shows: "a new configuration counts from INV on", before: GUEST,

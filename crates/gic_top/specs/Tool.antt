@@ -1,5 +1,5 @@
 -- What the top call answers to words and an input (own choice).
-use Rattle.std.specs.Prelude.{◌≡◌, ℕ, ◌+◌, ◌<◌, ◌≤◌, ◌⊎◌, List, [], ◌∷◌, ◌++◌, length, codes, IsUtf8, Option, Some, None, IfSome, OnSome, IsSome, Ok, Err}
+use Rattle.std.specs.Prelude.{◌≡◌, ℕ, ◌+◌, ◌-◌, ◌^◌, ◌<◌, ◌≤◌, ◌⊎◌, List, [], ◌∷◌, ◌++◌, length, codes, IsUtf8, Option, Some, None, IfSome, OnSome, IsSome, Ok, Err}
 use Rattle.serde_json.specs.Data.{Data}
 use Rattle.serde_json.specs.Read.{read}
 use Rattle.run_seq.specs.LawEagerIsHistory.Possible.{IsPossible}
@@ -75,6 +75,15 @@ pub record WasShown (before after : ℕ) (last : Option Scenario) (scenario : Sc
 abbrev pub ShownIn : (Scenario → Type 0) → (Scenario → Type 0) → Mode → Scenario → Type 0
 ShownIn scheduled threaded Schedule = scheduled
 ShownIn scheduled threaded OnThreads = threaded
+
+-- so it is between a watch and what it became, by what it tells of both kinds of runs
+abbrev pub Showed : {Watch : Type 0} → (Watch → ℕ) → (Watch → Option Scenario) → (Watch → ℕ) → (Watch → Option Scenario) → Watch → Watch → Mode → Scenario → Type 0
+Showed scheduled last_schedule threaded last_threads old new =
+    ShownIn (WasShown (scheduled old) (scheduled new) (last_schedule new)) (WasShown (threaded old) (threaded new) (last_threads new))
+
+-- the most runs of a kind that a watch counts
+abbrev pub most_runs : ℕ
+most_runs = 2 ^ 64 - 1
 
 -- the mode of the runs for which a command reads its input; none where it reads none
 abbrev pub input_mode : Option Command → Option Mode

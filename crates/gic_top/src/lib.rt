@@ -3,13 +3,11 @@
 
 mod command;
 mod shown;
-#[cfg(test)]
-mod tests;
 mod tool;
 
 pub use command::Command;
 pub use gic_report::{
-    Bytes, Failed, Gate, MemSource, OpenGate, Sink, Source, StdSink, StdSource, SureSink,
+    Bytes, Failed, Gate, MemSink, MemSource, OpenGate, Sink, Source, StdSink, StdSource, SureSink,
     SureSource, generate, text,
 };
 pub use run_seq::{Command as QueueCommand, SeqWatch, eager, encode, run as run_seq_run};

@@ -6,7 +6,7 @@ ghost use Rattle.gic_report.specs.GicIo.Sink.{Grew};
 ghost use Rattle.scn_read.specs.ScnBase.Good.{IsGood};
 ghost use Rattle.gic_report.specs.GicSoak.Generated.{generated};
 ghost use Rattle.gic_top.specs.Command.{command_in, IsInBounds};
-ghost use Rattle.gic_top.specs.Tool.{statuses, input_mode, soak_text, fault_line as line_of, MayAnswer, ShownIn, IsOk, IsUsage, IsBadJson, IsBadScenario, IsReadFault, IsWriteFault, IsTooLong, IsNoMemory, IsOutcome, IsWritten, IsRefusal, HasItsAnswer, WasShown};
+ghost use Rattle.gic_top.specs.Tool.{statuses, input_mode, soak_text, fault_line as line_of, MayAnswer, Showed, most_runs, IsOk, IsUsage, IsBadJson, IsBadScenario, IsReadFault, IsWriteFault, IsTooLong, IsNoMemory, IsOutcome, IsWritten, IsRefusal, HasItsAnswer, WasShown};
 ghost use Rattle.gic_top.specs.Reply.{mode_of, status_of, text_of, IsWay, IsRunText, IsReplyTo, IsReplyOf, IsSoakReply, IsReplyFor, IsUnrun};
 
 use crate::command::Command;
@@ -129,11 +129,10 @@ fn make_run<R: Threads + Wait + Sync, G: Gate + Sync, W: SeqWatch + ThrWatch>(
 ) -> Result<RunOut, NoMemory>
     requires good { IsGood (mode_of way) scenario.now }
     requires way { IsWay way }
-    requires room { W.scheduled watch.old < 18446744073709551615 }
-    requires threads_room { W.threaded watch.old < 18446744073709551615 }
+    requires room { W.scheduled watch.old < most_runs }
+    requires threads_room { W.threaded watch.old < most_runs }
     ensures answers { IfOk result (MayAnswer (mode_of way) scenario.now) }
-    ensures shown { OnOk result (ShownIn (WasShown (W.scheduled watch.old) (W.scheduled watch.new) (W.last_schedule watch.new))
-        (WasShown (W.threaded watch.old) (W.threaded watch.new) (W.last_threads watch.new)) (mode_of way) scenario.now) }
+    ensures shown { OnOk result (Showed W.scheduled W.last_schedule W.threaded W.last_threads watch.old watch.new (mode_of way) scenario.now) }
 {
     match way {
         Way::InOrder => run_seq::run(rt, alloc, scenario, watch),
@@ -154,10 +153,9 @@ fn run<R: Threads + Wait + Sync, G: Gate + Sync, W: SeqWatch + ThrWatch>(
 ) -> Result<Bytes, NoMemory>
     requires good { IsGood (mode_of way) scenario.now }
     requires way { IsWay way }
-    requires room { W.scheduled watch.old < 18446744073709551615 }
-    requires threads_room { W.threaded watch.old < 18446744073709551615 }
-    ensures { IfOk result (IsRunText (mode_of way) (ShownIn (WasShown (W.scheduled watch.old) (W.scheduled watch.new) (W.last_schedule watch.new))
-        (WasShown (W.threaded watch.old) (W.threaded watch.new) (W.last_threads watch.new))) scenario.now) }
+    requires room { W.scheduled watch.old < most_runs }
+    requires threads_room { W.threaded watch.old < most_runs }
+    ensures { IfOk result (IsRunText (mode_of way) (Showed W.scheduled W.last_schedule W.threaded W.last_threads watch.old watch.new) scenario.now) }
 {
     let out = make_run(rt, alloc, way, scenario, gate, watch)?;
     text(alloc, scenario, &out)
@@ -172,7 +170,7 @@ fn soak<R: Wait, W: SeqWatch>(
     watch: &mut W,
 ) -> Result<Bytes, NoMemory>
     requires few { steps ≤ MAX_STEPS }
-    requires room { W.scheduled watch.old < 18446744073709551615 }
+    requires room { W.scheduled watch.old < most_runs }
     ensures written { IfOk result (λ written. written ≡ soak_text number steps) }
     ensures shown { OnOk result (WasShown (W.scheduled watch.old) (W.scheduled watch.new) (W.last_schedule watch.new) (generated number steps)) }
 {
@@ -190,7 +188,7 @@ fn reply_to_soak<R: Wait, W: SeqWatch>(
     watch: &mut W,
 ) -> Reply
     requires few { steps ≤ MAX_STEPS }
-    requires room { W.scheduled watch.old < 18446744073709551615 }
+    requires room { W.scheduled watch.old < most_runs }
     ensures reply { IsSoakReply (WasShown (W.scheduled watch.old) (W.scheduled watch.new) (W.last_schedule watch.new)) number steps result }
     ensures unwatched { IsUnrun result → watch.new ≡ watch.old }
 {
@@ -210,10 +208,9 @@ fn reply_to<R: Threads + Wait + Sync, G: Gate + Sync, W: SeqWatch + ThrWatch>(
     watch: &mut W,
 ) -> Result<Reply, NoMemory>
     requires way { IsWay way }
-    requires room { W.scheduled watch.old < 18446744073709551615 }
-    requires threads_room { W.threaded watch.old < 18446744073709551615 }
-    ensures reply { IfOk result (IsReplyTo (mode_of way) (ShownIn (WasShown (W.scheduled watch.old) (W.scheduled watch.new) (W.last_schedule watch.new))
-        (WasShown (W.threaded watch.old) (W.threaded watch.new) (W.last_threads watch.new))) bytes.now) }
+    requires room { W.scheduled watch.old < most_runs }
+    requires threads_room { W.threaded watch.old < most_runs }
+    ensures reply { IfOk result (IsReplyTo (mode_of way) (Showed W.scheduled W.last_schedule W.threaded W.last_threads watch.old watch.new) bytes.now) }
     ensures unwatched { IfOk result (λ reply. IsUnrun reply → watch.new ≡ watch.old) }
 {
     let value = match Value::from_slice(alloc, bytes) {
@@ -238,10 +235,9 @@ fn reply_of<R: Threads + Wait + Sync, S: Source, G: Gate + Sync, W: SeqWatch + T
     watch: &mut W,
 ) -> Reply
     requires way { IsWay way }
-    requires room { W.scheduled watch.old < 18446744073709551615 }
-    requires threads_room { W.threaded watch.old < 18446744073709551615 }
-    ensures reply { IsReplyOf (mode_of way) (ShownIn (WasShown (W.scheduled watch.old) (W.scheduled watch.new) (W.last_schedule watch.new))
-        (WasShown (W.threaded watch.old) (W.threaded watch.new) (W.last_threads watch.new)))
+    requires room { W.scheduled watch.old < most_runs }
+    requires threads_room { W.threaded watch.old < most_runs }
+    ensures reply { IsReplyOf (mode_of way) (Showed W.scheduled W.last_schedule W.threaded W.last_threads watch.old watch.new)
         (S.left source.old) (S.left source.new) (S.faults source.old) (S.faults source.new) result }
     ensures unwatched { IsUnrun result → watch.new ≡ watch.old }
 {
@@ -265,10 +261,9 @@ fn reply_for<R: Threads + Wait + Sync, S: Source, G: Gate + Sync, W: SeqWatch + 
     watch: &mut W,
 ) -> Reply
     requires bounded { IfSome command IsInBounds }
-    requires room { W.scheduled watch.old < 18446744073709551615 }
-    requires threads_room { W.threaded watch.old < 18446744073709551615 }
-    ensures reply { IsReplyFor (ShownIn (WasShown (W.scheduled watch.old) (W.scheduled watch.new) (W.last_schedule watch.new))
-        (WasShown (W.threaded watch.old) (W.threaded watch.new) (W.last_threads watch.new)))
+    requires room { W.scheduled watch.old < most_runs }
+    requires threads_room { W.threaded watch.old < most_runs }
+    ensures reply { IsReplyFor (Showed W.scheduled W.last_schedule W.threaded W.last_threads watch.old watch.new)
         command (S.left source.old) (S.left source.new) (S.faults source.old) (S.faults source.new) result }
     ensures unread { input_mode command ≡ None → source.new ≡ source.old }
     ensures unwatched { IsUnrun result → watch.new ≡ watch.old }
@@ -306,8 +301,8 @@ pub fn refuse_words<K: Sink>(sink: &mut K) -> u8
 /// `run` reads a scenario from the source, in JSON, does its steps one after the other, and writes the text of the run to the
 /// sink. `threads P Q` does so on P PEs, each a thread, with up to Q operations of a vCPU while it is on one, and each device in a
 /// thread of its own; the PEs pass the gate. `soak N STEPS` makes the scenario of the number N, of so many steps, and writes one
-/// line of its run. Each run goes through the interrupt words of its guests and the list registers of its PEs, and is shown to the
-/// watch, which was shown less than 2^64 - 1 of either kind before. A text or a message is built whole before its first byte is
+/// line of its run. Each run goes through the interrupt words of its guests and vCPUs that enter and leave PEs with the scenario's
+/// list registers, and is shown to the watch, which was shown less than 2^64 - 1 of either kind before. A text or a message is built whole before its first byte is
 /// written. The words are those after the program's name. The status is [`OK`] or another of this module's.
 pub fn run_tool<
     R: Threads + Wait + Sync,
@@ -324,21 +319,19 @@ pub fn run_tool<
     gate: &G,
     watch: &mut W,
 ) -> u8
-    requires room { W.scheduled watch.old < 18446744073709551615 }
-    requires threads_room { W.threaded watch.old < 18446744073709551615 }
+    requires room { W.scheduled watch.old < most_runs }
+    requires threads_room { W.threaded watch.old < most_runs }
 
     // The status is one of the table's, and says what was read, shown and written.
     ensures closed { Contains statuses result }
     ensures outcome { IsOutcome (command_in words.now) (S.left source.old) (S.left source.new) (S.faults source.old) (S.faults source.new)
         (K.taken sink.old) (K.taken sink.new) (K.faults sink.old) (K.faults sink.new)
-        (ShownIn (WasShown (W.scheduled watch.old) (W.scheduled watch.new) (W.last_schedule watch.new))
-        (WasShown (W.threaded watch.old) (W.threaded watch.new) (W.last_threads watch.new))) result }
+        (Showed W.scheduled W.last_schedule W.threaded W.last_threads watch.old watch.new) result }
 
     // What was read, shown and written, status by status.
     ensures ok { result ≡ 0 →
         IsOk (command_in words.now) (S.left source.old) (S.left source.new) (Grew (K.taken sink.old) (K.taken sink.new))
-        (ShownIn (WasShown (W.scheduled watch.old) (W.scheduled watch.new) (W.last_schedule watch.new))
-        (WasShown (W.threaded watch.old) (W.threaded watch.new) (W.last_threads watch.new))) }
+        (Showed W.scheduled W.last_schedule W.threaded W.last_threads watch.old watch.new) }
     ensures usage { result ≡ 2 → IsUsage (command_in words.now) (Grew (K.taken sink.old) (K.taken sink.new)) }
     ensures bad_json { result ≡ 3 →
         IsBadJson (command_in words.now) (S.left source.old) (S.left source.new) (Grew (K.taken sink.old) (K.taken sink.new)) }
@@ -349,8 +342,7 @@ pub fn run_tool<
     ensures write_fault { result ≡ 6 →
         IsWriteFault (command_in words.now) (S.left source.old) (S.left source.new) (S.faults source.old) (S.faults source.new)
         (K.taken sink.old) (K.taken sink.new) (K.faults sink.old) (K.faults sink.new)
-        (ShownIn (WasShown (W.scheduled watch.old) (W.scheduled watch.new) (W.last_schedule watch.new))
-        (WasShown (W.threaded watch.old) (W.threaded watch.new) (W.last_threads watch.new))) }
+        (Showed W.scheduled W.last_schedule W.threaded W.last_threads watch.old watch.new) }
     ensures too_long { result ≡ 7 →
         IsTooLong (command_in words.now) (S.left source.old) (S.left source.new) (Grew (K.taken sink.old) (K.taken sink.new)) }
     ensures no_memory { result ≡ 9 →

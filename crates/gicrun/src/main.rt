@@ -4,7 +4,7 @@
 ghost use Rattle.std.specs.Prelude.{◌≡◌, ◌≢◌, ◌<◌, ◌⊎◌, ℕ, Some, None, Contains, IfOk, IfErr, IfSome};
 ghost use Rattle.gic_top.specs.GicIo.Faults.{HasRisen};
 ghost use Rattle.gic_top.specs.Command.{command_in};
-ghost use Rattle.gic_top.specs.Tool.{statuses, input_mode, ShownIn, IsOutcome, IsRefusal, HasItsAnswer, WasShown};
+ghost use Rattle.gic_top.specs.Tool.{statuses, input_mode, Showed, most_runs, IsOutcome, IsRefusal, HasItsAnswer};
 
 mod explain;
 mod noted;
@@ -44,13 +44,12 @@ fn status<R: Threads + Wait + Sync, S: Source, K: Sink, G: Gate + Sync, W: SeqWa
     gate: &G,
     watch: &mut W,
 ) -> u8
-    requires room { W.scheduled watch.old < 18446744073709551615 }
-    requires threads_room { W.threaded watch.old < 18446744073709551615 }
+    requires room { W.scheduled watch.old < most_runs }
+    requires threads_room { W.threaded watch.old < most_runs }
     ensures closed { Contains statuses result }
     ensures outcome { IfOk words (λ words. IsOutcome (command_in words.items) (S.left source.old) (S.left source.new) (S.faults source.old) (S.faults source.new)
         (K.taken sink.old) (K.taken sink.new) (K.faults sink.old) (K.faults sink.new)
-        (ShownIn (WasShown (W.scheduled watch.old) (W.scheduled watch.new) (W.last_schedule watch.new))
-        (WasShown (W.threaded watch.old) (W.threaded watch.new) (W.last_threads watch.new))) result) }
+        (Showed W.scheduled W.last_schedule W.threaded W.last_threads watch.old watch.new) result) }
     ensures unread_unless_asked { IfOk words (λ words. input_mode (command_in words.items) ≡ None → source.new ≡ source.old) }
     ensures complete { IfOk words (λ words. IfSome (input_mode (command_in words.items)) (λ mode.
         ¬ HasRisen (S.faults source.old) (S.faults source.new)

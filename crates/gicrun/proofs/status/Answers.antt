@@ -1,15 +1,14 @@
 use Rattle.std.proofs.Common.{◌≡◌, None, IfOk, IfSome, subst, sym}
 use Rattle.gic_top.specs.GicIo.Faults.{HasRisen}
 use Rattle.gic_top.specs.Command.{command_in}
-use Rattle.gic_top.specs.Tool.{input_mode, ShownIn, IsOutcome, HasItsAnswer, WasShown}
+use Rattle.gic_top.specs.Tool.{input_mode, Showed, IsOutcome, HasItsAnswer}
 use Rattle.gicrun.proofs.status.Goals as goal
 
 pub returns-in-Ok-clause-outcome : goal.returns-in-Ok-clause-outcome
 returns-in-Ok-clause-outcome g c =
     let source = g.S.Source in let sink = g.K.Sink in let scheduled = g.W.SeqWatch in let threaded = g.W.ThrWatch in
     let read = c.run_tool.new.source in let wrote = c.run_tool.new.sink in let watch = c.args.watch.now in let seen = c.run_tool.new.watch in
-    let showed = ShownIn (WasShown (scheduled.scheduled watch) (scheduled.scheduled seen) (scheduled.last_schedule seen))
-    (WasShown (threaded.threaded watch) (threaded.threaded seen) (threaded.last_threads seen)) in
+    let showed = Showed scheduled.scheduled scheduled.last_schedule threaded.threaded threaded.last_threads watch seen in
     subst (λ answer. IfOk answer (λ words. IsOutcome (command_in words.items) (source.left c.args.source.now) (source.left read) (source.faults c.args.source.now) (source.faults read)
     (sink.taken c.args.sink.now) (sink.taken wrote) (sink.faults c.args.sink.now) (sink.faults wrote) showed c.run_tool.result)) (sym c.in-Ok.is)
     (subst (λ items. IsOutcome (command_in items) (source.left c.args.source.now) (source.left read) (source.faults c.args.source.now) (source.faults read)

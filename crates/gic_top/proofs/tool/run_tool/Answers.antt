@@ -1,7 +1,7 @@
 use Rattle.std.proofs.Common.{◌≡◌, None, subst}
 use Rattle.gic_top.specs.Command.{command_in}
 use Rattle.gic_top.specs.Reply.{IsReplyFor}
-use Rattle.gic_top.specs.Tool.{input_mode, ShownIn, WasShown}
+use Rattle.gic_top.specs.Tool.{input_mode, Showed}
 use Rattle.gic_top.proofs.ReplyLemmas.{outcome, closed, ok_row, usage_row, bad_json_row, bad_scenario_row, read_fault_row, write_fault_row, too_long_row, no_memory_row, no_command_status, soak_status, its_answer, unrun}
 use Rattle.gic_top.proofs.tool.run_tool.Goals as goal
 
@@ -10,8 +10,7 @@ returns g c =
     let source = g.S.Source in let sink = g.K.Sink in let scheduled = g.W.SeqWatch in let threaded = g.W.ThrWatch in let read = c.reply_for-reply.new.source in let wrote = c.tell.new.sink in
     let command = command_in c.args.words.now in
     let watch = c.args.watch.now in let seen = c.reply_for-reply.new.watch in
-    let showed = ShownIn (WasShown (scheduled.scheduled watch) (scheduled.scheduled seen) (scheduled.last_schedule seen))
-    (WasShown (threaded.threaded watch) (threaded.threaded seen) (threaded.last_threads seen)) in
+    let showed = Showed scheduled.scheduled scheduled.last_schedule threaded.threaded threaded.last_threads watch seen in
     let reply = subst (λ asked. IsReplyFor showed asked (source.left c.args.source.now) (source.left read) (source.faults c.args.source.now) (source.faults read) c.reply_for-reply.result)
     c.of.ensures.value c.reply_for-reply.ensures.reply in
     let o = outcome command (source.left c.args.source.now) (source.left read) (source.faults c.args.source.now) (source.faults read)
