@@ -1,2 +1,6 @@
 mod ShapeLemmas
 mod FitLemmas
+mod FaultLemmas
+mod FitsLemmas
+mod OutsideLemmas
+mod NamedLemmas

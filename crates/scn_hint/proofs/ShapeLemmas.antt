@@ -1,6 +1,6 @@
 -- A step's shape, field by field.
 use Rattle.std.proofs.Common.{◌≡◌, ℕ, ◌&&◌, ◌||◌, not, cond, Bool, true, false, Option, Some, None, List, [], ◌∷◌, Result, Ok, Err, refl, sym, ap, ◌∙◌, arith}
-use Rattle.std.specs.Prelude.{◌↔◌, IsSome, is_some, find, if◌then◌else◌, option_and_then, codes}
+use Rattle.std.specs.Prelude.{◌↔◌, IsSome, is_some, find, if◌then◌else◌, option_and_then, option_map, codes}
 use Rattle.std.specs.Option.{option_map_or}
 use Rattle.std.specs.List.{list_all, list_any}
 use Rattle.std.specs.Str.{bytes_eq}
@@ -21,21 +21,21 @@ use Rattle.scn_hint.specs.declared.field.What.{What}
 use Rattle.scn_hint.specs.declared.field.What.TheVariants.{Missing, WrongKind}
 use Rattle.scn_hint.specs.Field.{holds, misfit_of, misfit_in, found_or, other_or}
 use Rattle.scn_hint.specs.Table.{must, may, rules_of}
-use Rattle.scn_hint.specs.Hint.{step_amiss}
+use Rattle.scn_hint.specs.Step.{shape_amiss, what_of_step}
 use Rattle.scn_hint.specs.Law.{FieldsAreTold}
 
 -- One field.
 
 -- what is told of a field that is there, by whether it holds what it should, and of one that is not, by whether it has to be
-abbrev unless : Bool → Option What
-unless b = if b then None else Some WrongKind
+abbrev pub unless : Kind → Bool → Option What
+unless kind b = if b then None else Some (WrongKind kind)
 
-abbrev missing : Bool → Option What
-missing b = if b then Some Missing else None
+abbrev pub missing : Kind → Bool → Option What
+missing kind b = if b then Some (Missing kind) else None
 
-unless_told : (b : Bool) → is_some (unless b) ≡ not b
-unless_told true = refl
-unless_told false = refl
+unless_told : (kind : Kind) (b : Bool) → is_some (unless kind b) ≡ not b
+unless_told kind true = refl
+unless_told kind false = refl
 
 -- what a field holds
 abbrev found : Kind → Option Data → Bool
@@ -55,26 +55,26 @@ holds_found Pair name d = refl
 holds_found AList name d = refl
 
 -- one that has to be there
-must_found : (kind : Kind) (o : Option Data) → is_some (if is_some o then unless (found kind o) else missing true) ≡ not (found kind o)
+must_found : (kind : Kind) (o : Option Data) → is_some (if is_some o then unless kind (found kind o) else missing kind true) ≡ not (found kind o)
 must_found Number None = refl
 must_found Flag None = refl
 must_found Yes None = refl
 must_found Text None = refl
 must_found Pair None = refl
 must_found AList None = refl
-must_found kind (Some value) = unless_told (found kind (Some value))
+must_found kind (Some value) = unless_told kind (found kind (Some value))
 
-must_holds : (kind : Kind) (name : List ℕ) (d : Data) → is_some (misfit_of name (must kind) d) ≡ not (holds kind name d)
+pub must_holds : (kind : Kind) (name : List ℕ) (d : Data) → is_some (misfit_of name (must kind) d) ≡ not (holds kind name d)
 must_holds kind name d =
     let same = holds_found kind name d in
-    ap (λ b. is_some (if is_some (get name d) then unless b else missing true)) same ∙ must_found kind (get name d) ∙ ap not (sym same)
+    ap (λ b. is_some (if is_some (get name d) then unless kind b else missing kind true)) same ∙ must_found kind (get name d) ∙ ap not (sym same)
 
 -- a number that need not be there
-may_found : (default : ℕ) (o : Option Data) → is_some (if is_some o then unless (is_some (option_and_then number_of o)) else missing false) ≡ not (is_some (option_map_or number_of o (Some default)))
+may_found : (default : ℕ) (o : Option Data) → is_some (if is_some o then unless Number (is_some (option_and_then number_of o)) else missing Number false) ≡ not (is_some (option_map_or number_of o (Some default)))
 may_found default None = refl
-may_found default (Some value) = unless_told (is_some (number_of value))
+may_found default (Some value) = unless_told Number (is_some (number_of value))
 
-may_holds : (name : List ℕ) (default : ℕ) (d : Data) → is_some (misfit_of name (may Number) d) ≡ not (is_some (number_or name default d))
+pub may_holds : (name : List ℕ) (default : ℕ) (d : Data) → is_some (misfit_of name (may Number) d) ≡ not (is_some (number_or name default d))
 may_holds name default d = may_found default (get name d)
 
 -- All fields of a table.
@@ -216,7 +216,7 @@ others_found test (name ∷ fields) = of (test name) (others_found test fields)
     of true rest = rest
     of false rest = refl
 
-other_only : (allowed : List (List ℕ)) (d : Data) → is_some (as_object d) ≡ true → is_some (other_field allowed d) ≡ not (has_only allowed d)
+pub other_only : (allowed : List (List ℕ)) (d : Data) → is_some (as_object d) ≡ true → is_some (other_field allowed d) ≡ not (has_only allowed d)
 other_only allowed d = of (as_object d)
   where
     of : (o : Option Members) → is_some o ≡ true → is_some (option_and_then (λ ms. find (λ name. not (list_any (bytes_eq name) allowed)) (names ms)) o) ≡ not (option_map_or (λ ms. list_all (λ name. list_any (bytes_eq name) allowed) (names ms)) o false)
@@ -231,10 +231,15 @@ other_some None later false shaped e f = absurd (cc)
 other_some (Some name) later true shaped e f = absurd (cc)
 other_some (Some name) later false shaped e f = refl
 
-step_told : (form : Form) (d : Data) → is_some (as_object d) ≡ true → is_some (step_amiss (Some form) d) ≡ not (has_only (row_of form).fields d && is_shaped form d)
+mapped_some : (f : List ℕ × What → List ℕ × What) (o : Option (List ℕ × What)) → is_some (option_map f o) ≡ is_some o
+mapped_some f None = refl
+mapped_some f (Some told) = refl
+
+step_told : (form : Form) (d : Data) → is_some (as_object d) ≡ true → is_some (shape_amiss (Some form) d) ≡ not (has_only (row_of form).fields d && is_shaped form d)
 step_told form d there =
     let fields = (row_of form).fields in
-    other_some (other_field fields d) (misfit_in fields (rules_of form) d) (has_only fields d) (is_shaped form d) (other_only fields d there) (misfit_amiss fields (rules_of form) d ∙ form_amiss form d)
+    mapped_some (λ found. (found.0, what_of_step form found.0 found.1)) (other_or (other_field fields d) (misfit_in fields (rules_of form) d))
+    ∙ other_some (other_field fields d) (misfit_in fields (rules_of form) d) (has_only fields d) (is_shaped form d) (other_only fields d there) (misfit_amiss fields (rules_of form) d ∙ form_amiss form d)
 
 only_wrong : (only shaped : Bool) (made : Result Step ℕ) → (made ≡ Err shape_code) ↔ (shaped ≡ false) → ((if only then made else Err shape_code) ≡ Err shape_code) ↔ ((only && shaped) ≡ false)
 only_wrong true shaped made wrong = wrong
@@ -249,7 +254,7 @@ fields_told = record {
   steps = λ form d is.
       let fields = (row_of form).fields in
       let wrong = only_wrong (has_only fields d) (is_shaped form d) (form_said form d) (form_wrong form d) in
-      let told = false_told (has_only fields d && is_shaped form d) (step_amiss (Some form) d) (step_told form d (is_object form d is)) in
+      let told = false_told (has_only fields d && is_shaped form d) (shape_amiss (Some form) d) (step_told form d (is_object form d is)) in
       let said = ap (λ o. said_by o d) is in
       (λ e. told.0 (wrong.0 (sym said ∙ e)), λ some. said ∙ wrong.1 (told.1 some));
 }

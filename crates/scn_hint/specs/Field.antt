@@ -1,7 +1,7 @@
 -- What is amiss with the fields of an object (own choice).
 use Rattle.std.specs.Prelude.{ℕ, List, [], ◌∷◌, Bool, Option, Some, None, is_some, if◌then◌else◌}
 use Rattle.serde_json.specs.Data.{Data}
-use Rattle.serde_json.specs.Find.{get}
+use Rattle.serde_json.specs.Find.{get, as_object}
 use Rattle.scn_read.specs.JsonField.Field.{number_at, flag_at, text_at, pair_at, list_at, other_field}
 use Rattle.scn_read.specs.GicGuest.Good.{passes}
 use Rattle.scn_hint.specs.declared.field.Rule.{Rule}
@@ -23,7 +23,7 @@ holds AList name d = is_some (list_at name d)
 -- what is amiss with a field: it has to be there and is not, or it holds something of another kind
 abbrev pub misfit_of : List ℕ → Rule → Data → Option What
 misfit_of name rule d =
-    if is_some (get name d) then (if holds rule.kind name d then None else Some WrongKind) else (if rule.needed then Some Missing else None)
+    if is_some (get name d) then (if holds rule.kind name d then None else Some (WrongKind rule.kind)) else (if rule.needed then Some (Missing rule.kind) else None)
 
 -- what is told of a field: its name, and what is amiss
 abbrev pub told : Amiss → List ℕ × What
@@ -47,3 +47,7 @@ other_or None later = later
 
 abbrev pub amiss_in : List (List ℕ) → List Rule → Data → Option (List ℕ × What)
 amiss_in names rules d = other_or (other_field names d) (misfit_in names rules d)
+
+-- a value is an object
+abbrev pub is_object : Data → Bool
+is_object d = is_some (as_object d)

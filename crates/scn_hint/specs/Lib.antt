@@ -1,4 +1,6 @@
 pub mod Field
 pub mod Table
+pub mod Limit
+pub mod Step
 pub mod Hint
 pub mod Law

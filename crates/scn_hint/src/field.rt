@@ -1,9 +1,10 @@
 //! What is amiss with the fields of an object.
 ghost use Rattle.std.specs.Prelude.{◌≡◌, map, option_map};
 ghost use Rattle.serde_json.specs.View.{view};
-ghost use Rattle.scn_hint.specs.Field.{holds as holds_of, misfit_of, misfit_in, amiss_in, told};
+ghost use Rattle.scn_hint.specs.Field.{holds as holds_of, misfit_of, misfit_in, amiss_in, told, is_object as is_object_of};
 
-use scn_read::{flag_at, list_at, number_at, other_field, pair_at, text_at};
+use crate::limit::Limit;
+use scn_read::{Form, flag_at, list_at, number_at, other_field, pair_at, text_at};
 use serde_json::Value;
 
 /// What a field holds.
@@ -36,10 +37,52 @@ pub struct Rule {
 pub enum What {
     /// The object's table has no such field.
     Unknown,
-    /// It has to be there.
-    Missing,
-    /// It holds something of another kind.
-    WrongKind,
+    /// A preset has it only where its interrupt is of the other kind, private or shared.
+    OfOthers,
+    /// It names a form, and the step is of this one.
+    SecondForm(Form),
+    /// It says who acts, and a step of this form is done by somebody else.
+    OtherActor(Form),
+    /// It says who acts, and the step does not say what.
+    NoForm,
+    /// The step does not say who acts.
+    NoActor,
+    /// It has to be there, and to hold this.
+    Missing(Kind),
+    /// It holds something else than this.
+    WrongKind(Kind),
+    /// It holds this number, which is outside of the range.
+    OutOfRange { found: u64, limit: Limit },
+    /// It holds a list of this length, which is outside of the range.
+    WrongLength { found: u64, limit: Limit },
+    /// An SGI is edge-triggered.
+    NotEdge,
+    /// It is a size of this many bytes, and no access has it.
+    BadSize { found: u64 },
+    /// Its value does not fit an access of this many bytes.
+    TooLong { size: u64 },
+    /// One of its numbers is 2^32 or more.
+    TooLarge,
+    /// No register has this name.
+    NoRegister,
+    /// The register cannot be read.
+    NotReadable,
+    /// The register cannot be written.
+    NotWritable,
+    /// What it names is not there.
+    NotThere,
+    /// The vCPU that it names is on no PE.
+    NotLoaded,
+    /// No vCPU is on the PE that it names.
+    NoVcpu,
+    /// The vCPU that it names is on a PE, or the PE has a vCPU.
+    Busy,
+    /// A run on threads places the vCPUs itself.
+    NotOnThreads,
+    /// The wire has that level already, or another device moves it.
+    SameLevel,
+    /// It lies outside of the frame or of the memory, or is not aligned there.
+    Outside,
 }
 
 /// A field, and what is amiss with it.
@@ -65,14 +108,21 @@ impl Kind {
     }
 }
 
+/// Whether a value is an object.
+pub(crate) fn is_object(value: &Value) -> bool
+    ensures { result ≡ is_object_of (view value.now) }
+{
+    value.as_object().is_some()
+}
+
 /// What is amiss with the field of this name, if anything is.
-fn misfit(value: &Value, name: &str, rule: Rule) -> Option<What>
+pub(crate) fn misfit(value: &Value, name: &str, rule: Rule) -> Option<What>
     ensures { result ≡ misfit_of name.now rule (view value.now) }
 {
     if value.get(name).is_none() {
-        return rule.needed.then_some(What::Missing);
+        return rule.needed.then_some(What::Missing(rule.kind));
     }
-    (!rule.kind.is_held(value, name)).then_some(What::WrongKind)
+    (!rule.kind.is_held(value, name)).then_some(What::WrongKind(rule.kind))
 }
 
 /// The first of the fields of a table with which something is amiss.

@@ -1,14 +1,25 @@
-//! What is amiss with a scenario that has a fault, for people: where it is, what its code means, and which field it is about.
+//! What is amiss with a scenario that has a fault, for people: where it is, what its code means, and which field it is about; and why
+//! bytes are no JSON.
 #![tactic(auto)]
 
+mod bytes;
 mod field;
+mod held;
 mod hint;
 mod law;
+mod limit;
+mod nearest;
+mod place;
+mod step;
 mod table;
 #[cfg(test)]
 mod tests;
+mod text;
 
+pub use bytes::Cause;
 pub use field::{Amiss, Kind, Rule, What, first_amiss};
-pub use hint::{Hint, Place, code_name, hint_of};
+pub use hint::{Hint, code_name, hint_of};
 pub use law::fields_are_told;
-pub use scn_read::{Mode, ReadRefusal, read};
+pub use limit::{Limit, Multiple};
+pub use place::Place;
+pub use scn_read::{Form, Mode, ReadRefusal, read};

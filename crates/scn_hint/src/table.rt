@@ -6,7 +6,7 @@ use crate::field::{Kind, Rule};
 use scn_read::Form;
 
 /// A field that has to be there and holds a number.
-const NUMBER: Rule = Rule {
+pub(crate) const NUMBER: Rule = Rule {
     kind: Kind::Number,
     needed: true,
 };

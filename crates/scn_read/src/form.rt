@@ -1,8 +1,10 @@
 //! The forms of steps.
 ghost use Rattle.std.specs.Prelude.{◌≡◌, is_some, find, map};
+ghost use Rattle.std.specs.List.{list_any};
+ghost use Rattle.std.specs.Str.{bytes_eq};
 ghost use Rattle.serde_json.specs.View.{view};
 ghost use Rattle.serde_json.specs.Find.{get};
-ghost use Rattle.scn_read.specs.Form.{row_of, form_of};
+ghost use Rattle.scn_read.specs.Form.{row_of, form_of, forms};
 
 use serde_json::Value;
 
@@ -120,6 +122,20 @@ impl Form {
         ensures { result ≡ is_some (get (row_of self).name (view value.now)) }
     {
         value.get(self.row().name).is_some()
+    }
+
+    /// Whether the field that names the form has this name.
+    fn is_called(self, name: &str) -> bool
+        ensures { result ≡ bytes_eq name.now (row_of self).name }
+    {
+        name == self.row().name
+    }
+
+    /// Whether the field of this name names a form.
+    pub fn is_name(name: &str) -> bool
+        ensures { result ≡ list_any (λ form. bytes_eq name.now (row_of form).name) forms }
+    {
+        FORMS.iter().any(|form| form.is_called(name))
     }
 
     /// The form that a step names: the first, where it has the fields of two; then it has a field that its form has not.

@@ -104,7 +104,7 @@ fn head(value: &Value) -> Result<(GuestShape, bool), u8>
 }
 
 /// What its presets need to know of a guest, also where its numbers are out of range.
-fn counts(value: &Value) -> Counts
+pub fn counts(value: &Value) -> Counts
     ensures vcpus { result.vcpus ≡ vcpus_of (view value.now) }
     ensures spis { result.spis ≡ spis_of (view value.now) }
     ensures espis { result.espis ≡ espis_of (view value.now) }

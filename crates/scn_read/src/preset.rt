@@ -31,12 +31,12 @@ pub const SHARED_FIELDS: [&str; 5] = [ID, PRIO, EDGE, GROUP, TO];
 
 /// How many a guest has of what presets name, as far as there may be.
 #[derive(Clone, Copy)]
-pub(crate) struct Counts {
-    pub(crate) vcpus: u32,
+pub struct Counts {
+    pub vcpus: u32,
     /// SPIs, from INTID 32 on.
-    pub(crate) spis: u32,
+    pub spis: u32,
     /// Extended SPIs, from INTID 4096 on.
-    pub(crate) espis: u32,
+    pub espis: u32,
     ghost few_vcpus: { vcpus ≤ 32 },
     ghost few_spis: { spis ≤ 960 },
     ghost few_espis: { espis ≤ 1024 },
@@ -67,7 +67,7 @@ impl WrittenPreset {
 
 impl Counts {
     /// Whether an INTID is that of an SPI or an extended SPI of such a guest.
-    fn has_spi(self, id: u64) -> bool
+    pub fn has_spi(self, id: u64) -> bool
         ensures { result ≡ is_spi_of self.spis self.espis id }
     {
         let spi = u64::from(FIRST_SPI);

@@ -6,6 +6,7 @@ ghost use Rattle.scn_base.specs.Standing.{IsStanding};
 ghost use Rattle.scn_read.specs.Narrow.{narrowed_said, narrowed_key, narrowed_frame, narrowed_pe_op};
 ghost use Rattle.scn_read.specs.Step.{register_said, access_said, redistributor_said, message_said, wired_key as wired_key_of, wire_said, msi_said, enter_said, pe_said, form_said, step_said, step_of};
 
+use crate::defaults::DEFAULT_SIZE;
 use crate::form::{
     DEV, ENTER, EXIT, Form, GICD, GICR, GITS, ICC, LRS, MESSAGE, MSI, OF, PE, RAM, SIZE, UP, VCPU,
     WIRE, WRITE,
@@ -17,9 +18,6 @@ use scn_base::{
     UNKNOWN_REGISTER,
 };
 use serde_json::Value;
-
-/// The bytes of an access where the step does not say.
-const DEFAULT_SIZE: u64 = 4;
 
 /// What a step says that reads or writes a register of the CPU interface.
 fn register(value: &Value) -> Result<Step, u8>
