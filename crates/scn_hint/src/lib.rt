@@ -12,8 +12,6 @@ mod nearest;
 mod place;
 mod step;
 mod table;
-#[cfg(test)]
-mod tests;
 mod text;
 
 pub use bytes::Cause;

@@ -1,107 +1,8 @@
-//! What is told of typical mistakes.
-use crate::{Cause, Mode, ReadRefusal, hint_of, read};
-use serde_json::Value;
-use std::alloc::Global;
-use std::test::Fail;
+//! Faults of steps.
 
-/// A text, and the line that tells its fault.
-const OUTSIDE: [(&str, &str); 26] = [
-    (
-        r#"{"guests":[{}],"steps":[],"name":1}"#,
-        r#"outside of the steps: Shape: unknown field "name""#,
-    ),
-    (
-        r#"{"guests":[{}]}"#,
-        r#"outside of the steps: Shape: field "steps" is missing: a list"#,
-    ),
-    (
-        r#"{"guests":[{}],"steps":{}}"#,
-        r#"outside of the steps: Shape: field "steps" is not a list"#,
-    ),
-    (
-        r#"{"pes":true,"guests":[{}],"steps":[]}"#,
-        r#"outside of the steps: Shape: field "pes" is not a number from 0 to 2^64 - 1, as 40 or "0x28""#,
-    ),
-    (r#"[]"#, r#"outside of the steps: Shape: no object"#),
-    (r#"7"#, r#"outside of the steps: Shape: no object"#),
-    (r#"null"#, r#"outside of the steps: Shape: no object"#),
-    (
-        r#"{"pes":16,"guests":[{}],"steps":[]}"#,
-        r#"outside of the steps: Limit: field "pes" is 16: 1 to 8"#,
-    ),
-    (
-        r#"{"guests":[],"steps":[]}"#,
-        r#"outside of the steps: Limit: field "guests" has 0 elements: 1 to 4"#,
-    ),
-    (
-        r#"{"guests":[{},{"vcpus":1.0}],"steps":[]}"#,
-        r#"guest 1: Shape: field "vcpus" is not a number from 0 to 2^64 - 1, as 40 or "0x28""#,
-    ),
-    (
-        r#"{"guests":[{},null],"steps":[]}"#,
-        r#"guest 1: Shape: no object"#,
-    ),
-    (
-        r#"{"guests":[{"on":"true"}],"steps":[]}"#,
-        r#"guest 0: Shape: field "on" is "true", not true or false"#,
-    ),
-    (
-        r#"{"guests":[{"spis":33}],"steps":[]}"#,
-        r#"guest 0: Limit: field "spis" is 33: 0 to 960, a multiple of 32"#,
-    ),
-    (
-        r#"{"guests":[{},{"spis":100}],"steps":[]}"#,
-        r#"guest 1: Limit: field "spis" is 100: 0 to 960, a multiple of 32"#,
-    ),
-    (
-        r#"{"guests":[{"vcpus":40}],"steps":[]}"#,
-        r#"guest 0: Limit: field "vcpus" is 40: 1 to 32"#,
-    ),
-    (
-        r#"{"guests":[{"irqs":[40]}],"steps":[]}"#,
-        r#"guest 0, preset 0: Shape: no object"#,
-    ),
-    (
-        r#"{"guests":[{"irqs":[{"id":"40","to":0}]}],"steps":[]}"#,
-        r#"guest 0, preset 0: Shape: field "id" is "40", not a number from 0 to 2^64 - 1, as 40 or "0x28""#,
-    ),
-    (
-        r#"{"guests":[{"irqs":[{"to":0}]}],"steps":[]}"#,
-        r#"guest 0, preset 0: Shape: field "id" is missing: a number from 0 to 2^64 - 1, as 40 or "0x28""#,
-    ),
-    (
-        r#"{"guests":[{"irqs":[{"id":40.0}]}],"steps":[]}"#,
-        r#"guest 0, preset 0: Shape: field "id" is not a number from 0 to 2^64 - 1, as 40 or "0x28""#,
-    ),
-    (
-        r#"{"guests":[{"irqs":[{"id":40},{"id":40,"vcpu":0}]}],"steps":[]}"#,
-        r#"guest 0, preset 1: Shape: field "vcpu" is for ids below 32"#,
-    ),
-    (
-        r#"{"guests":[{"irqs":[{"id":5,"vcpu":0,"to":0}]}],"steps":[]}"#,
-        r#"guest 0, preset 0: Shape: field "to" is for ids from 32 on"#,
-    ),
-    (
-        r#"{"guests":[{"irqs":[{"id":27}]}],"steps":[]}"#,
-        r#"guest 0, preset 0: Shape: field "vcpu" is missing: a number from 0 to 2^64 - 1, as 40 or "0x28""#,
-    ),
-    (
-        r#"{"guests":[{"irqs":[{"id":40,"prio":100}]}],"steps":[]}"#,
-        r#"guest 0, preset 0: Limit: field "prio" is 100: 0 to 248, a multiple of 8"#,
-    ),
-    (
-        r#"{"guests":[{"irqs":[{"id":5,"vcpu":0,"edge":false}]}],"steps":[]}"#,
-        r#"guest 0, preset 0: Limit: field "edge" has to be true of an SGI, ids 0 to 15"#,
-    ),
-    (
-        r#"{"guests":[{"irqs":[{"id":64}]}],"steps":[]}"#,
-        r#"guest 0, preset 0: UnknownActor: field "id" is 64, not there: its guest has 32 SPIs from 32 on and 0 from 4096 on"#,
-    ),
-    (
-        r#"{"guests":[{"irqs":[{"id":40,"to":3}]}],"steps":[]}"#,
-        r#"guest 0, preset 0: UnknownActor: field "to" is 3, not there: vCPUs, from 0: 1"#,
-    ),
-];
+use crate::line::line_of;
+use scn_hint::Mode;
+use std::test::Fail;
 
 /// Steps of a guest with 32 SPIs, and the line that tells the fault of one.
 const STEPS: [(&str, &str); 40] = [
@@ -264,24 +165,6 @@ const STEPS: [(&str, &str); 40] = [
     ),
 ];
 
-/// The line that tells the fault of a text.
-fn line_of(alloc: Global, text: &str, mode: Mode) -> Result<String, Fail> {
-    let value = Value::from_str(alloc, text)?;
-    match read(alloc, &value, mode) {
-        Err(ReadRefusal::Bad(fault)) => Ok(format!(in alloc; "{}", hint_of(&value, fault))?),
-        _ => Err(Fail::from("no fault")),
-    }
-}
-
-#[test]
-fn a_fault_outside_of_the_steps_is_told_in_a_line(rt: HostRuntime) -> Result<(), Fail> {
-    for (text, want) in OUTSIDE {
-        let line = line_of(rt.alloc(), text, Mode::Schedule)?;
-        assert_eq!(&rt; line.as_str(), want, "of {text}");
-    }
-    Ok(())
-}
-
 #[test]
 fn a_fault_of_a_step_is_told_in_a_line(rt: HostRuntime) -> Result<(), Fail> {
     for (steps, want) in STEPS {
@@ -300,47 +183,5 @@ fn threads_have_no_steps_of_pes(rt: HostRuntime) -> Result<(), Fail> {
         line.as_str(),
         r#"step 1: PeStep: field "lrs" is not for threads, which place vCPUs"#
     );
-    Ok(())
-}
-
-/// The characters of a key that is told as far as 80 of them.
-const LONG: usize = 1_000_000;
-
-#[test]
-fn a_long_key_is_cut(rt: HostRuntime) -> Result<(), Fail> {
-    let mut text = String::from_str(rt.alloc(), r#"{"guests":[{}],"steps":[],""#)?;
-    for _ in 0..LONG {
-        text.push('k')?;
-    }
-    text.push_str(r#"":1}"#)?;
-    let line = line_of(rt.alloc(), text.as_str(), Mode::Schedule)?;
-    let key = "kkkkkkkkkkkkkkkkkkkkkkkkkkkkkkkkkkkkkkkkkkkkkkkkkkkkkkkkkkkkkkkkkkkkkkkkkkkkkkkk";
-    let want = format!(in rt.alloc(); "outside of the steps: Shape: unknown field {key:?}..")?;
-    assert_eq!(&rt; line.as_str(), want.as_str());
-    Ok(())
-}
-
-/// Bytes that are no JSON, and why, where they show it.
-const CAUSES: [(&[u8], Option<Cause>); 9] = [
-    (b"\xef\xbb\xbf{}", Some(Cause::Mark)),
-    (b"\xff\xfe{\0}\0", Some(Cause::Utf16)),
-    (b"\xfe\xff\0{\0}", Some(Cause::Utf16)),
-    (b"{\0}\0", Some(Cause::Utf16)),
-    (b"\"\xff\"", Some(Cause::NotUtf8)),
-    (br#"{"\ud83d":1}"#, Some(Cause::HalfPair)),
-    (br#"{"\ude00":1}"#, Some(Cause::HalfPair)),
-    (br#"{"\ud83d\ude00":}"#, None),
-    (br#"{"pes":1"#, None),
-];
-
-#[test]
-fn bytes_show_why_they_are_no_json(rt: HostRuntime) -> Result<(), Fail> {
-    for (bytes, cause) in CAUSES {
-        assert_eq!(&rt; Cause::of(bytes), cause, "of {bytes:?}");
-    }
-    for (depth, cause) in [(127, None), (128, Some(Cause::TooDeep))] {
-        let bytes = vec![in rt.alloc(); b'['; depth]?;
-        assert_eq!(&rt; Cause::of(bytes.as_slice()), cause, "{depth} deep");
-    }
     Ok(())
 }
