@@ -6,18 +6,10 @@ use Rattle.scn_base.specs.declared.step.Mode.{Mode}
 use Rattle.scn_base.specs.declared.fault.Fault.{Fault}
 use Rattle.scn_base.specs.declared.standing.Standing.{Standing}
 use Rattle.scn_base.specs.Standing.{standing_after}
+pub use Rattle.scn_turn.proofs.TurnLemmas.{all_steps, all_steps-step}
 use Rattle.scn_read.specs.Step.{step_of}
 use Rattle.scn_read.specs.Reading.{before_steps, steps_of}
 use Rattle.scn_read.proofs.ListLemmas.{drop_item}
-
--- the steps that were read and those that are left, or the first fault of these
-abbrev pub all_steps : List Step → Result (List Step) Fault → Result (List Step) Fault
-all_steps done (Ok rest) = Ok (done ++ rest)
-all_steps done (Err fault) = Err fault
-
-all_steps-step : (done : List Step) (step : Step) (rest : Result (List Step) Fault) → all_steps done (before_steps step rest) ≡ all_steps (done ++ step ∷ []) rest
-all_steps-step done step (Ok rest) = rw append_assoc
-all_steps-step done step (Err fault) = refl
 
 -- of values vs, from the one at i on, which is v
 module _ {V : Type 0} (data_of : V → Data) (mode : Mode) (standing : Standing) (vs : List V) (done : List Step) (i : ℕ) (v : V) (within : i < length vs) (is : v ≡ get_or vs i v)

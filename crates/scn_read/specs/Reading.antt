@@ -10,6 +10,7 @@ use Rattle.scn_read.specs.declared.refusal.ReadRefusal.{ReadRefusal}
 use Rattle.scn_read.specs.declared.refusal.ReadRefusal.TheVariants.{Bad, NoMemory}
 use Rattle.scn_base.specs.GicGuest.Good.{passes, shapes_of}
 use Rattle.json_field.specs.Field.{has_only, number_or, list_at, elements_at}
+pub use Rattle.scn_turn.specs.Turn.{before_steps, step_and_rest}
 use Rattle.scn_read.specs.Guest.{guest_fault, guest_of}
 use Rattle.scn_read.specs.Step.{step_of}
 use Rattle.scn_base.specs.Codes.{shape_code, limit_code, first_code, first_of, first_met}
@@ -52,16 +53,6 @@ guests_at d = map guest_of (elements_at (codes "guests") d)
 -- the standing at the opening
 abbrev pub opening_at : Data → Standing
 opening_at d = opening_standing (unwrap_or (number_or (codes "pes") 1 d) 0) (shapes_of (guests_at d))
-
--- a step before others, if none of them has a fault
-abbrev pub before_steps : Step → Result (List Step) Fault → Result (List Step) Fault
-before_steps step (Ok steps) = Ok (step ∷ steps)
-before_steps step (Err fault) = Err fault
-
--- a step of this number and those that follow it, or the first fault of them
-abbrev pub step_and_rest : ℕ → Result Step ℕ → (Step → Result (List Step) Fault) → Result (List Step) Fault
-step_and_rest number (Err code) rest = Err (record { code = code; step = number })
-step_and_rest number (Ok step) rest = before_steps step (rest step)
 
 -- the steps, the first of which has this number, or the first fault of them; each is judged by the standing before it, and moves it
 abbrev pub steps_of : Mode → Standing → ℕ → List Data → Result (List Step) Fault
