@@ -1,0 +1,16 @@
+pub mod ListLemmas
+pub mod LinkLemmas
+pub mod GoodLemmas
+pub mod PartLemmas
+pub mod FirstLemmas
+pub mod NeededLemmas
+pub mod AccessLemmas
+pub mod ControlLemmas
+pub mod WholeLemmas
+pub mod HostLemmas
+pub mod RunLemmas
+pub mod StepLemmas
+pub mod ReadLemmas
+pub mod CleanLemmas
+pub mod SettleLemmas
+pub mod OfferLemmas

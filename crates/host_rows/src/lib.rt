@@ -1,0 +1,13 @@
+//! Tests of linked interrupts: rows worked out by hand, registers word by word, and drawn runs.
+#![tactic(auto)]
+
+#[cfg(test)]
+mod drawn;
+#[cfg(test)]
+mod faults;
+#[cfg(test)]
+mod plain;
+#[cfg(test)]
+mod registers;
+#[cfg(test)]
+mod runs;
