@@ -1,19 +1,22 @@
 -- Proper runs (own choice): what the protocol asks of each step and of each end of a part, so that changes reach the CPU interfaces in time.
-use Rattle.std.specs.Prelude.{ℕ, ◌<◌, ◌==◌, ◌&&◌, ◌||◌, not, Bool, true, false, IsTrue, List, [], ◌∷◌, Option, Some, None, unwrap_or, is_some}
+use Rattle.std.specs.Prelude.{ℕ, ◌<◌, ◌==◌, ◌&&◌, ◌||◌, not, Bool, true, false, IsTrue, List, [], ◌∷◌, ◌++◌, fold, if◌then◌else◌, Option, Some, None, unwrap_or, is_some}
+use Rattle.std.specs.List.{list_any}
 use Rattle.std.specs.Option.{option_map_or}
 use Rattle.floor_histories.specs.Words.{IccReg, Iar0, Iar1, Hppir0, Hppir1, Key, GuestShape, is_number}
-use Rattle.floor_histories.specs.Calls.{GuestSpec}
+use Rattle.floor_histories.specs.Calls.{Cbaser, Place, Operation, command_places, GuestSpec}
+use Rattle.floor_histories.specs.GicCall.declared.event.Place.TheVariants.{Word}
 use Rattle.port_core.specs.declared.at_list.AtIrq.{AtIrq}
 use Rattle.port_core.specs.declared.local.Local.{Local}
 use Rattle.port_core.specs.declared.local.Phase.{Phase}
 use Rattle.port_core.specs.declared.local.Phase.TheVariants.{Folding}
+use Rattle.port_core.specs.declared.run.Made.{Made}
 use Rattle.port_core.specs.declared.step.CoreStep.{CoreStep}
-use Rattle.port_core.specs.declared.step.CoreStep.TheVariants.{Claim, CommandDone, Poll, Touch, Want, RamPut, CtlrTake, TurnTake, TakeIndex}
-use Rattle.port_core.specs.Known.{known, known_view}
+use Rattle.port_core.specs.declared.step.CoreStep.TheVariants.{Claim, CommandDone, Poll, Touch, Want, RamLook, RamPut, CtlrTake, TurnTake, TurnRelease, TakeIndex}
+use Rattle.port_core.specs.Known.{known, known_view, is_known}
 use Rattle.port_core.specs.Local.{is_at, owes_nothing}
 use Rattle.port_core.specs.Actor.{actor_count}
 use Rattle.port_core.specs.Step.{word_of}
-use Rattle.floor_histories.specs.Histories.{names}
+use Rattle.floor_histories.specs.Histories.{is_memory_at, names, takes_commands}
 use Rattle.core_proper.specs.Parts.{Act, begins, makes, ends, CoreMoment, own_acts, IsPartedRun}
 use Rattle.core_proper.specs.Progress.{Progress, opening_progress, Debt, paid, after_end, before_next, ended_by, is_end_of, is_paid, progressed}
 use Rattle.core_proper.specs.Scan.{is_idle, scan_allows}
@@ -76,13 +79,42 @@ gives_back phase = false
 abbrev pub ends_refill : Progress → Bool
 ends_refill p = is_empty p.local.at || (is_paid p.debt && not (gives_back p.local.phase))
 
--- The want: an actor asks only for an interrupt that its call names, and touches it before its part ends, and before the command of the ITS that it is in ends
+-- The want: an actor asks only for an interrupt that its call names, by a command of the ITS only once it has the ITS and has begun to read that command; and
+-- touches it before its part ends, and before the command that it is in ends
+
+-- the steps of the actor since it took the ITS, stored a word or moved the queue, where it has the ITS
+abbrev pub read_after : CoreStep → Made → List Made → Option (List Made)
+read_after TurnRelease made read = None
+read_after (RamPut index seen value) made read = Some []
+read_after (CommandDone offset stalled ending) made read = Some []
+read_after step made read = Some (read ++ made ∷ [])
+
+abbrev pub reading_after : Option (List Made) → Made → Option (List Made)
+reading_after None made = if is_some made.tables then Some [] else None
+reading_after (Some read) made = if is_some made.tables then Some [] else read_after made.step made read
+
+abbrev pub reading_of : List Made → Option (List Made)
+reading_of own = fold reading_after None own
+
+-- a look at a word of memory that is among some places
+abbrev pub is_look_at : List Place → CoreStep → Bool
+is_look_at places (RamLook index) = list_any (is_memory_at index) places
+is_look_at places step = false
+
+-- one of these was at a doubleword of the next command of the queue that it knows
+abbrev pub has_begun : GuestShape → ℕ → List Made → Bool
+has_begun shape actor own =
+    is_known shape actor own (Word Cbaser) && option_map_or (λ read. list_any (λ made. is_look_at (command_places shape (known_view shape actor own)) made.step) read) (reading_of own) false
+
+abbrev pub may_name : GuestShape → ℕ → List Made → Operation → Key → Bool
+may_name shape actor own operation key = names shape (known_view shape actor own) actor operation key && (not (takes_commands shape operation) || has_begun shape actor own)
+
 abbrev pub wants_nothing : List Key → Bool
 wants_nothing [] = true
 wants_nothing (key ∷ keys) = false
 
 abbrev pub keeps_want : GuestShape → ℕ → Progress → CoreStep → Bool
-keeps_want shape actor p (Want key) = option_map_or (λ operation. names shape (known_view shape actor p.own) actor operation key) p.operation false
+keeps_want shape actor p (Want key) = option_map_or (λ operation. may_name shape actor p.own operation key) p.operation false
 keeps_want shape actor p (CommandDone offset stalled ending) = wants_nothing p.wants
 keeps_want shape actor p step = true
 

@@ -4,7 +4,7 @@ use Rattle.std.proofs.lemmas.List.Elements.{All-cons, All-nil}
 use Rattle.std.proofs.lemmas.Bool.{and_parts, eqb-true, both_ways}
 use Rattle.port_call.specs.Registers.{Targets}
 use Rattle.port_call.specs.Words.{Key, Spi, DeviceOp, Message, Wire, GuestShape}
-use Rattle.port_call.specs.Calls.{Event, Up, Down, Device, Place, device_events, Happened, Beside, Makes, IsCall, IsDeviceCall, HandsOut, is_beside, held_at, named_of, device_places, IsLastRead, View}
+use Rattle.port_call.specs.Calls.{Event, Up, Down, Device, Happened, Beside, Makes, IsCall, IsDeviceCall, HandsOut, is_beside, held_at, named_of, IsLastRead, View, MakesDevice}
 use Rattle.port_call.specs.GicCall.declared.event.Event.TheVariants.{Raise as RaiseEvent}
 use Rattle.port_call.specs.GicCall.declared.event.Found.TheVariants.{Nothing}
 use Rattle.port_call.specs.Core.{Local, Made, CoreStep, Raise, known_view, is_vcpu, no_vcpus, owes_no_kick, owes_no_mark, has_no_cand, owes_nothing, Seen, IsPort, Adds, AddsStep, shape_of, seen_after, part_events, MakesCall, vcpu_of_actor, maps_taken, is_settled}
@@ -58,8 +58,7 @@ not_taken seen is none = of seen.taken is.turn
 
 -- a device makes one event, which no read tells
 pub record HasOneEvent (op : DeviceOp) (event : Event) : Type 0 where
-  pub events : (view : View) → device_events view op ≡ event ∷ []
-  pub places : device_places op ≡ []
+  pub makes : (view : View) (piece : List Happened) → Makes None view (event ∷ []) [] [] piece → MakesDevice view op piece
   pub named : is_beside None event ≡ false
   pub hands : (view : View) → HandsOut view event Nothing
 
@@ -70,7 +69,7 @@ device_call seen part op answer device beside maps call =
     let P : Option ℕ → Type 0 = λ actor. IsCall (shape_of seen) beside actor (Device op) (part_events seen part) answer in
     record { beside = beside; maps = maps; call = subst P (sym none) call }
 
-one_made : (view : View) (event : Event) → is_beside None event ≡ false → HandsOut view event Nothing → Makes None view (event ∷ []) [] [] (record { event = event; found = Nothing } ∷ [])
+pub one_made : (view : View) (event : Event) → is_beside None event ≡ false → HandsOut view event Nothing → Makes None view (event ∷ []) [] [] (record { event = event; found = Nothing } ∷ [])
 one_made view event named hands =
     let happened : Happened = record { event = event; found = Nothing } in
     let Hands : Happened → Type 0 = λ h. HandsOut view h.event h.found in
@@ -86,14 +85,10 @@ one_made view event named hands =
 one_call : (seen : Seen) (part : List Made) (op : DeviceOp) (event : Event) → is_vcpu (shape_of seen) seen.actor ≡ false → part_events seen part ≡ (record { event = event; found = Nothing }) ∷ [] → HasOneEvent op event → MakesCall seen part (Device op) None
 one_call seen part op event device events one =
     let view : View = record (known_view (shape_of seen) seen.actor []) { maps = maps_taken part } in
-    let beside : Beside = record { maps = maps_taken part; targets = λ number. view.targets } in
+    let beside : Beside = record { maps = maps_taken part; targets = view.targets; commands = [] } in
     let happened : List Happened = record { event = event; found = Nothing } ∷ [] in
-    let ByEvents : List Event → Type 0 = λ events. Makes None view events (device_places op) [] happened in
-    let ByPlaces : List Place → Type 0 = λ places. Makes None view (event ∷ []) places [] happened in
-    let made : Makes None view (device_events view op) (device_places op) [] happened
-    = subst ByEvents (sym (one.events view)) (subst ByPlaces (sym one.places) (one_made view event one.named (one.hands view))) in
-    let Made_by : List Happened → Type 0 = λ piece. Makes None view (device_events view op) (device_places op) [] piece in
-    device_call seen part op None device beside refl (record { view = view; maps = refl; made = subst Made_by (sym events) made; answers = refl })
+    let made : MakesDevice view op happened = one.makes view happened (one_made view event one.named (one.hands view)) in
+    device_call seen part op None device beside refl (record { view = view; maps = refl; made = subst (MakesDevice view op) (sym events) made; answers = refl })
 
 -- a device that owes nothing any more, and has neither the ITS nor the mark of GICD_CTLR
 pub settled_of : (local : Local) → local.owes ≡ no_vcpus → IsTrue (owes_no_mark local) → IsTrue (has_no_cand local) → local.turn ≡ false → local.ctlr ≡ false → IsTrue (is_settled local)
@@ -139,7 +134,7 @@ change_made old new op step key event is_old is_new can one tells =
 
 pub message_made : (old new : Seen) (spi : ℕ) → IsPort old → IsPort new → CanCall old → Tells old new (Raise (Spi spi)) (Spi spi) (RaiseEvent (Spi spi)) → Changes old new (Message spi) (Raise (Spi spi)) (Spi spi)
 message_made old new spi is_old is_new can tells =
-    change_made old new (Message spi) (Raise (Spi spi)) (Spi spi) (RaiseEvent (Spi spi)) is_old is_new can (record { events = λ view. refl; places = refl; named = refl; hands = λ view. refl }) tells
+    change_made old new (Message spi) (Raise (Spi spi)) (Spi spi) (RaiseEvent (Spi spi)) is_old is_new can (record { makes = λ view piece made. made; named = refl; hands = λ view. refl }) tells
 
 -- Wires.
 
@@ -153,8 +148,8 @@ wire_is_cause key false = record { owes = λ shape actor local found. refl; stan
 
 wire_makes : (key : Key) (up : Bool) → HasOneEvent (Wire key up) (wire_event key up)
 unfolding wire_event
-wire_makes key true = record { events = λ view. refl; places = refl; named = refl; hands = λ view. refl }
-wire_makes key false = record { events = λ view. refl; places = refl; named = refl; hands = λ view. refl }
+wire_makes key true = record { makes = λ view piece made. made; named = refl; hands = λ view. refl }
+wire_makes key false = record { makes = λ view piece made. made; named = refl; hands = λ view. refl }
 
 pub wire_made : (old mid new : Seen) (key : Key) (up : Bool) (found : ℕ) → IsPort old → IsPort new → CanCall old → AddsStep old mid (wire_step key up) found → Settles mid new → Changes old new (Wire key up) (wire_step key up) key
 wire_made old mid new key up found is_old is_new can add rest =

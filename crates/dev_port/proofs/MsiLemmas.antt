@@ -1,17 +1,19 @@
 -- A message to the ITS: the turn, a look at GITS_CTLR, an LPI, and the turn given back.
-use Rattle.std.proofs.Common.{◌≡◌, ℕ, ◌&&◌, not, true, false, IsTrue, List, [], ◌∷◌, ◌++◌, map, All, slice_index_or, Option, Some, None, is_none, refl, sym, ap, subst, ◌∙◌}
+use Rattle.std.proofs.Common.{◌≡◌, ℕ, ◌&&◌, true, false, IsTrue, List, [], ◌∷◌, ◌++◌, map, All, slice_index_or, Option, Some, None, is_none, refl, sym, ap, subst, ◌∙◌}
 use Rattle.std.specs.Option.{option_map_or}
 use Rattle.std.specs.List.{list_all, filter_map, cons_option}
 use Rattle.std.proofs.lemmas.Bool.{and_parts}
 use Rattle.std.proofs.lemmas.List.{append_assoc}
-use Rattle.std.proofs.lemmas.List.Elements.{All-cons, All-nil, filter-append, filter_map-append}
+use Rattle.std.proofs.lemmas.List.Elements.{All-cons, All-nil, filter_map-append}
 use Rattle.port_call.specs.Words.{Lpi, Msi, GuestShape}
 use Rattle.port_call.specs.Registers.{enabled_in, Maps, translated}
-use Rattle.port_call.specs.Calls.{ItsCtlr, place_of_plain, Event, ItsBegin, Device, Place, device_events, Happened, Beside, Makes, HandsOut, is_beside, held_at, named_of, device_places, IsLastRead, View}
+use Rattle.port_call.specs.Calls.{ItsCtlr, place_of_plain, ItsBegin, Device, Place, Happened, Beside, Makes, HandsOut, held_at, IsLastRead, View, MakesMsi, Event}
 use Rattle.port_call.specs.GicCall.declared.event.Event.TheVariants.{Raise as RaiseEvent, Read, ItsEnd}
 use Rattle.port_call.specs.GicCall.declared.event.Found.TheVariants.{Nothing, Word as FoundWord}
 use Rattle.port_call.specs.GicCall.declared.event.Place.TheVariants.{Word}
 use Rattle.port_call.specs.Core.{Local, Made, Raise, RamLook, no_maps, known_maps, known_view, no_vcpus, owes_no_mark, Seen, IsPort, Adds, shape_of, part_events, MakesCall, maps_taken}
+use Rattle.port_call.proofs.GicCall.ReadLemmas.{last_read}
+use Rattle.port_call.proofs.GicCall.TraceLemmas.{makes_then}
 use Rattle.port_call.proofs.PortCore.PortLemmas.{adds_join}
 use Rattle.port_call.specs.Piece.{IsPiece}
 use Rattle.port_call.specs.Turn.{is_miss, is_turn_step, is_queue_read, TakesTurn, GivesTurn}
@@ -19,7 +21,7 @@ use Rattle.port_call.proofs.PieceLemmas.{seen_nil, piece_nil}
 use Rattle.port_call.proofs.KnownLemmas.{ends_none, are_endless, maps_kept, maps_handed}
 use Rattle.port_call.proofs.TurnLemmas.{piece_then, events_then, reads_beside}
 use Rattle.dev_port.specs.Device.{CanCall, RaisesLpi, SendsMsi, Translates, TellsLpi}
-use Rattle.dev_port.proofs.CallLemmas.{clear, device_call, settled_of, part_done, form_clear}
+use Rattle.dev_port.proofs.CallLemmas.{clear, one_made, device_call, settled_of, part_done, form_clear}
 
 -- The device while it has the ITS.
 
@@ -106,75 +108,53 @@ lpi_part old new (Some id) busy tells =
 all_events : List Happened → ℕ → Option ℕ → List Happened
 all_events reads ctlr id = reads ++ happened ItsBegin ∷ [] ++ (record { event = Read (Word ItsCtlr); found = FoundWord ctlr }) ∷ [] ++ lpi_events id ++ happened ItsEnd ∷ []
 
-named_events : Option ℕ → List Happened
-named_events id = happened ItsBegin ∷ lpi_events id ++ happened ItsEnd ∷ []
+-- reads, and then the event that takes the ITS
+begun : (view : View) (reads : List Happened) → IsTrue (list_all is_queue_read reads) → Makes None view (ItsBegin ∷ []) [] [] (reads ++ happened ItsBegin ∷ [])
+unfolding happened
+begun view reads are =
+    let none = reads_beside None reads are in
+    let Hands : Happened → Type 0 = λ h. HandsOut view h.event h.found in
+    let only : Makes None view [] [] [] reads
+    = record { events_are = ap (map (λ h. h.event)) none; found = subst (All Hands) (sym none) (All-nil Hands); reads = All-nil (λ place. IsLastRead place (held_at view place) reads) } in
+    makes_then None view [] (ItsBegin ∷ []) [] reads (happened ItsBegin ∷ []) only (one_made view ItsBegin refl refl)
 
-named_are : (reads : List Happened) (ctlr : ℕ) (id : Option ℕ) → IsTrue (list_all is_queue_read reads) → named_of None (all_events reads ctlr id) ≡ named_events id
-unfolding happened lpi_events all_events named_events
-named_are reads ctlr id h = of id
-  where
-    looks : List Happened
-    looks = (record { event = Read (Word ItsCtlr); found = FoundWord ctlr }) ∷ []
-
-    begins : named_of None (reads ++ happened ItsBegin ∷ [] ++ looks) ≡ happened ItsBegin ∷ []
-    begins =
-        filter-append (λ h. not (is_beside None h.event)) (reads ++ happened ItsBegin ∷ []) looks
-        ∙ ap (λ events. events ++ []) (filter-append (λ h. not (is_beside None h.event)) reads (happened ItsBegin ∷ []) ∙ ap (λ events. events ++ happened ItsBegin ∷ []) (reads_beside None reads h))
-
-    of : (id : Option ℕ) → named_of None (reads ++ happened ItsBegin ∷ [] ++ looks ++ lpi_events id ++ happened ItsEnd ∷ []) ≡ named_events id
-    of None =
-        filter-append (λ h. not (is_beside None h.event)) (reads ++ happened ItsBegin ∷ [] ++ looks ++ []) (happened ItsEnd ∷ [])
-        ∙ ap (λ events. events ++ happened ItsEnd ∷ []) (filter-append (λ h. not (is_beside None h.event)) (reads ++ happened ItsBegin ∷ [] ++ looks) [] ∙ ap (λ events. events ++ []) begins)
-    of (Some n) =
-        filter-append (λ h. not (is_beside None h.event)) (reads ++ happened ItsBegin ∷ [] ++ looks ++ happened (RaiseEvent (Lpi n)) ∷ []) (happened ItsEnd ∷ [])
-        ∙ ap (λ events. events ++ happened ItsEnd ∷ [])
-        (filter-append (λ h. not (is_beside None h.event)) (reads ++ happened ItsBegin ∷ [] ++ looks) (happened (RaiseEvent (Lpi n)) ∷ []) ∙ ap (λ events. events ++ happened (RaiseEvent (Lpi n)) ∷ []) begins)
-
-all_two : (P : Happened → Type 0) (x y : Happened) → P x → P y → All P (x ∷ y ∷ [])
-all_two P x y one two = All-cons P x (y ∷ []) one (All-cons P y [] two (All-nil P))
-
-events_of_id : (id : Option ℕ) → map (λ h. h.event) (named_events id) ≡ ItsBegin ∷ option_map_or (λ id. RaiseEvent (Lpi id) ∷ []) id [] ++ ItsEnd ∷ []
-unfolding happened lpi_events named_events
-events_of_id None = refl
-events_of_id (Some n) = refl
-
-hands_of_id : (view : View) (id : Option ℕ) → All (λ h. HandsOut view h.event h.found) (named_events id)
-unfolding happened lpi_events named_events
-hands_of_id view None = all_two (λ h. HandsOut view h.event h.found) (happened ItsBegin) (happened ItsEnd) refl refl
-hands_of_id view (Some n) =
-    All-cons (λ h. HandsOut view h.event h.found) (happened ItsBegin) (happened (RaiseEvent (Lpi n)) ∷ happened ItsEnd ∷ []) refl (all_two (λ h. HandsOut view h.event h.found) (happened (RaiseEvent (Lpi n))) (happened ItsEnd) refl refl)
-
--- GITS_CTLR is read once
-no_more_reads : (id : Option ℕ) → All (λ h. h.event ≡ Read (Word ItsCtlr) → ⊥) (lpi_events id ++ happened ItsEnd ∷ [])
+-- the look, and the LPI that is raised
+raises : (view : View) (id : Option ℕ) → Makes None view (option_map_or (λ id. RaiseEvent (Lpi id) ∷ []) id []) (Word ItsCtlr ∷ []) [] ((record { event = Read (Word ItsCtlr); found = FoundWord (view.words ItsCtlr) }) ∷ [] ++ lpi_events id)
 unfolding happened lpi_events
-no_more_reads None = let P : Happened → Type 0 = λ h. h.event ≡ Read (Word ItsCtlr) → ⊥ in All-cons P (happened ItsEnd) [] (λ e. absurd (cc)) (All-nil P)
-no_more_reads (Some n) = let P : Happened → Type 0 = λ h. h.event ≡ Read (Word ItsCtlr) → ⊥ in all_two P (happened (RaiseEvent (Lpi n))) (happened ItsEnd) (λ e. absurd (cc)) (λ e. absurd (cc))
-
-last_read : (reads : List Happened) (ctlr : ℕ) (id : Option ℕ) → IsLastRead (Word ItsCtlr) (FoundWord ctlr) (all_events reads ctlr id)
-unfolding all_events
-last_read reads ctlr id =
-    let look : Happened = record { event = Read (Word ItsCtlr); found = FoundWord ctlr } in
-    let before = reads ++ happened ItsBegin ∷ [] in
+raises view None =
+    let Hands : Happened → Type 0 = λ h. HandsOut view h.event h.found in
+    let piece : List Happened = (record { event = Read (Word ItsCtlr); found = FoundWord (view.words ItsCtlr) }) ∷ [] in
+    let Last : Place → Type 0 = λ place. IsLastRead place (held_at view place) piece in
     record {
-      before = before;
-      after = lpi_events id ++ happened ItsEnd ∷ [];
-      split = ap (λ events. events ++ happened ItsEnd ∷ []) (append_assoc before (look ∷ []) (lpi_events id)) ∙ append_assoc before (look ∷ lpi_events id) (happened ItsEnd ∷ []);
-      last = no_more_reads id;
+      events_are = refl;
+      found = All-nil Hands;
+      reads = All-cons Last (Word ItsCtlr) [] (last_read [] [] refl) (All-nil Last);
+    }
+raises view (Some n) =
+    let Hands : Happened → Type 0 = λ h. HandsOut view h.event h.found in
+    let raise = happened (RaiseEvent (Lpi n)) in
+    let piece : List Happened = (record { event = Read (Word ItsCtlr); found = FoundWord (view.words ItsCtlr) }) ∷ raise ∷ [] in
+    let Last : Place → Type 0 = λ place. IsLastRead place (held_at view place) piece in
+    record {
+      events_are = refl;
+      found = All-cons Hands raise [] refl (All-nil Hands);
+      reads = All-cons Last (Word ItsCtlr) [] (last_read [] (raise ∷ []) refl) (All-nil Last);
     }
 
 -- the events make the call, where the guest is so
-msi_makes : (reads : List Happened) (ctlr : ℕ) (id : Option ℕ) (view : View) (device event : ℕ) → IsTrue (list_all is_queue_read reads) → view.words ItsCtlr ≡ ctlr → translated view.maps (enabled_in (view.words ItsCtlr)) device event ≡ id
-    → Makes None view (device_events view (Msi device event)) (device_places (Msi device event)) [] (all_events reads ctlr id)
-msi_makes reads ctlr id view device event are word is =
-    let named = named_are reads ctlr id are in
-    let Hands : Happened → Type 0 = λ h. HandsOut view h.event h.found in
-    let Reads : Place → Type 0 = λ place. IsLastRead place (held_at view place) (all_events reads ctlr id) in
-    let ReadBy : ℕ → Type 0 = λ n. IsLastRead (Word ItsCtlr) (FoundWord n) (all_events reads ctlr id) in
-    let raises : Option ℕ → List Event = λ id. ItsBegin ∷ option_map_or (λ id. RaiseEvent (Lpi id) ∷ []) id [] ++ ItsEnd ∷ [] in
+msi_makes : (reads : List Happened) (id : Option ℕ) (view : View) (device event : ℕ) → IsTrue (list_all is_queue_read reads) → translated view.maps (enabled_in (view.words ItsCtlr)) device event ≡ id
+    → MakesMsi view device event (all_events reads (view.words ItsCtlr) id)
+unfolding happened all_events
+msi_makes reads id view device event are is =
+    let look : Happened = record { event = Read (Word ItsCtlr); found = FoundWord (view.words ItsCtlr) } in
+    let begin = reads ++ happened ItsBegin ∷ [] in
+    let Raises : Option ℕ → Type 0 = λ o. Makes None view (option_map_or (λ id. RaiseEvent (Lpi id) ∷ []) o []) (Word ItsCtlr ∷ []) [] (look ∷ [] ++ lpi_events id) in
     record {
-      events_are = ap (map (λ h. h.event)) named ∙ events_of_id id ∙ ap raises (sym is);
-      found = subst (All Hands) (sym named) (hands_of_id view id);
-      reads = All-cons Reads (Word ItsCtlr) [] (subst ReadBy (sym word) (last_read reads ctlr id)) (All-nil Reads);
+      raising = begin ++ look ∷ [] ++ lpi_events id;
+      last = happened ItsEnd ∷ [];
+      split = refl;
+      raised = record { begin = begin; rest = look ∷ [] ++ lpi_events id; split = append_assoc begin (look ∷ []) (lpi_events id); begun = begun view reads are; made = subst Raises (sym is) (raises view id) };
+      ended = one_made view ItsEnd refl refl;
     }
 
 -- The part.
@@ -242,9 +222,8 @@ msi_made old a b c new device event id is_old is_new can takes translates tells 
     = subst RaisedBy (is ∙ ap (λ n. translated takes.maps (enabled_in n) device event) (sym found)) (subst ShapedBy shape raise.form) in
     let looked : reads.look.step ≡ RamLook (place_of_plain (shape_of old) ItsCtlr) = reads.step_is ∙ ap (λ seen. RamLook (place_of_plain (shape_of seen) ItsCtlr)) takes.adds.new_is in
     let view : View = record (known_view (shape_of old) old.actor []) { maps = takes.maps; words = λ word. translates.ctlr } in
-    let beside : Beside = record { maps = takes.maps; targets = λ number. view.targets } in
-    let ByEvents : List Happened → Type 0 = λ events. Makes None view (device_events view (Msi device event)) (device_places (Msi device event)) [] events in
-    let makes = subst ByEvents (sym whole.events_are) (msi_makes takes.events.reads translates.ctlr id view device event takes.events.are_reads refl (sym is)) in
+    let beside : Beside = record { maps = takes.maps; targets = view.targets; commands = [] } in
+    let makes = subst (MakesMsi view device event) (sym whole.events_are) (msi_makes takes.events.reads id view device event takes.events.are_reads (sym is)) in
     let call : MakesCall old part (Device (Msi device event)) None
     = device_call old part (Msi device event) None can.device beside (sym (maps_of_part takes.misses takes.last reads.look raise.part gives.last takes.maps takes.missed takes.handed)) (record { view = view; maps = refl; made = makes; answers = refl }) in
     let home = home_told b c id (home_read a b device event id takes.tables translates) tells in

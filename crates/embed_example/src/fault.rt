@@ -7,7 +7,7 @@ use std::fmt;
 /// What stops the VMM.
 #[derive(Clone, Copy, Debug, PartialEq, Eq)]
 pub enum Fault {
-    /// Memory was refused.
+    /// Memory was refused, as the machine opened or ended.
     NoMemory,
     /// The guest's numbers are out of range.
     BadGuest,

@@ -86,18 +86,18 @@ fn handle<P: Port, R: Wait>(
             let Some(op) = operation_of(&port.shape(), exit) else {
                 return Err(Fault::UnknownAccess);
             };
-            Ok(After::GoesOn(guest_op(rt, port, vcpu, &op)?))
+            Ok(After::GoesOn(guest_op(rt, port, vcpu, &op)))
         }
     }
 }
 
 impl Vcpu {
-    /// A vCPU that is to run this code. An error where memory is refused.
+    /// A vCPU that is to run this code, with room for what it reads: an exit reads once at most. An error where memory is refused.
     pub fn new(alloc: Global, code: &[Exit]) -> Result<Self, AllocError> {
         Ok(Vcpu {
             code: Vec::from_slice(alloc, code)?,
             next: 0,
-            reads: Vec::new(alloc),
+            reads: Vec::with_capacity(alloc, code.len())?,
         })
     }
 

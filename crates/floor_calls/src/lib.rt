@@ -85,7 +85,6 @@ pub use gic_call::dist_access;
 pub use gic_call::dist_ctlr;
 pub use gic_call::dist_typer;
 pub use gic_call::earlier;
-pub use gic_call::empty;
 pub use gic_call::enable_lpis_after;
 pub use gic_call::enabled_in;
 pub use gic_call::enables_in;

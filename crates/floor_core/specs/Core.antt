@@ -37,7 +37,7 @@ pub use Rattle.core_proper.specs.Ideal.{after_moment, end_of_moments, event_mome
 pub use Rattle.core_proper.specs.Laws.{AgainRunIsProper, ClearRunIsProper, ExitRunIsProper, IdealOfAppends, IsSeatOf, PartsKeepEnd, PartsRest, ProgressFollows, ProperExtends, WorkedRunIsProper}
 pub use Rattle.core_proper.specs.Parts.{Act, CoreMoment, IsPartedRun, are_parts, begins, ends, entries_of, entry_by, has_registers, makes, own_acts, part_of, step_of}
 pub use Rattle.core_proper.specs.Progress.{Debt, Progress, after_claim, after_end, after_icc, after_look, after_poll, before_next, begun, claim_left, ended_by, filled, goes_on, is_end_of, is_paid, is_to_scan, looks_on, opening_progress, owed_after_part, owed_after_scan, owed_by_call, owing_after, paid, progress_in, progress_of, progressed, scan_on, stepped}
-pub use Rattle.core_proper.specs.Proper.{IsProper, IsProperAct, IsProperEnd, IsProperRun, IsProperStep, asks_first, ends_refill, gives_back, is_empty, is_settled, keeps_failed_claim, keeps_far_end, keeps_refill, keeps_scan, keeps_seen, keeps_trap_scan, keeps_want, may_access, seen_by, wants_nothing}
+pub use Rattle.core_proper.specs.Proper.{IsProper, IsProperAct, IsProperEnd, IsProperRun, IsProperStep, asks_first, ends_refill, gives_back, has_begun, is_empty, is_look_at, is_settled, keeps_failed_claim, keeps_far_end, keeps_refill, keeps_scan, keeps_seen, keeps_trap_scan, keeps_want, may_access, may_name, read_after, reading_after, reading_of, seen_by, wants_nothing}
 pub use Rattle.core_proper.specs.RunRegisters.{RegistersAgree, after_operation, alone, with_changed, without_claim, without_take}
 pub use Rattle.core_proper.specs.Scan.{Purpose, Scan, bare, claiming, ended_scan, has_key, idle, is_both, is_idle, is_next, key_of_both, keys_chosen, keys_of_both, looking, next_cand, offered, planned, scan_allows, scan_looked, taking, trapped, tried, without_key, word_taken}
 pub use Rattle.core_proper.specs.Worked.{device_does, held_word, made, opened_word, pending_word, reads_iar, spi, vcpu_does, worked_guest, worked_history, worked_run, writes_eoir}

@@ -91,6 +91,7 @@ pub use gic_history::pending_address;
 pub use gic_history::place_of;
 pub use gic_history::place_of_plain;
 pub use gic_history::propbaser_after;
+pub use gic_history::queue_address;
 pub use gic_history::queue_bytes;
 pub use gic_history::queue_decode;
 pub use gic_history::read_part;

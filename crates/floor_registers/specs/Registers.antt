@@ -56,7 +56,7 @@ pub use Rattle.its_tab.specs.ItsCmd.declared.command.BadCommand.TheVariants.{Unk
 pub use Rattle.its_tab.specs.ItsCmd.declared.command.Command.{Command}
 pub use Rattle.its_tab.specs.ItsCmd.declared.command.Command.TheVariants.{Clear, Discard, Int, Inv, Invall, Mapc, Mapd, Mapi, Mapti, Movall, Movi, Sync}
 pub use Rattle.its_tab.specs.ItsCmd.declared.queue.QueueWord.{QueueWord}
-pub use Rattle.its_tab.specs.After.{GoodCommandsKeepMaps, IsValid, is_mapping, maps_after, recollected, without_events}
+pub use Rattle.its_tab.specs.After.{GoodCommandsKeepMaps, IsValid, maps_after, recollected, without_events}
 pub use Rattle.its_tab.specs.Collection.{collection_of, has_target}
 pub use Rattle.its_tab.specs.Fault.{fault_number, fault_of, faults, first_fault, is_no_vcpu, is_of_other, is_past_device, is_uncollected, is_wrong_id, number_of, on_device, on_event, on_mapping}
 pub use Rattle.its_tab.specs.Maps.{IsIndex, IsIndexed, IsSound, Maps, at_number, event_cmp, first_event, id_of, owner_of, pair_of, target_of, with_collection, with_device, with_event, without_collection, without_device, without_event}

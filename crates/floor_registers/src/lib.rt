@@ -108,7 +108,6 @@ pub use its_tab::QueueWord;
 pub use its_tab::UNKNOWN_NUMBER;
 pub use its_tab::advance;
 pub use its_tab::decode as queue_decode;
-pub use its_tab::empty;
 pub use its_tab::encode;
 pub use its_tab::pack as queue_pack;
 pub use its_tab::unpack as queue_unpack;

@@ -19,6 +19,7 @@ tallied a b =
       moved = together a.moved b.moved;
       listed = together a.listed b.listed;
       discarded = together a.discarded b.discarded;
+      dropped = together a.dropped b.dropped;
       sum = together a.sum b.sum;
     }
 

@@ -14,3 +14,6 @@ pub mod FitLemmas
 pub mod PartLemmas
 pub mod CallLemmas
 pub mod CommandLemmas
+pub mod ReadLemmas
+pub mod TraceLemmas
+pub mod LateLemmas

@@ -134,13 +134,21 @@ is_in_table shape view vcpu id = let at = pending_address (view.words (Pendbaser
 abbrev pub pended_at : GuestShape → View → ℕ → ℕ → Option Event
 pended_at shape view vcpu id = if is_number vcpu (view.targets id) && is_in_table shape view vcpu id then Some (Touch (Lpi id) (Register SetPending 1)) else None
 
+-- those that follow as it rises
+abbrev pub pended_events : GuestShape → View → ℕ → List Event
+pended_events shape view vcpu =
+    if view.lpis vcpu || is_table_zero (view.words (Pendbaser vcpu)) then []
+    else filter_map (λ number. pended_at shape view vcpu (8192 + number)) (range_with_len 0 shape.lpis)
+
 -- EnableLPIs becomes 1: as it rises, those of the LPIs that are for the vCPU become pending that have their bit in the pending table
 -- (IHI 0069, "LPI Pending tables"; own choice: the table is read then alone)
 abbrev pub enable_events : GuestShape → View → ℕ → List Event
-enable_events shape view vcpu =
-    Enable vcpu
-    ∷ (if view.lpis vcpu || is_table_zero (view.words (Pendbaser vcpu)) then []
-    else filter_map (λ number. pended_at shape view vcpu (8192 + number)) (range_with_len 0 shape.lpis))
+enable_events shape view vcpu = Enable vcpu ∷ pended_events shape view vcpu
+
+-- a write that stores EnableLPIs
+abbrev pub sets_lpis : GuestShape → RedistRef → Option ℕ → Bool
+sets_lpis shape (RedistPlain RedistCtlr half) (Some value) = enable_lpis_after shape false value
+sets_lpis shape ref write = false
 
 -- the events of a write of a register; those of the tables' addresses are ignored once EnableLPIs is 1
 abbrev pub redist_written : GuestShape → View → ℕ → RedistReg → Half → ℕ → List Event

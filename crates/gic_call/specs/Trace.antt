@@ -1,6 +1,7 @@
 -- What an actor's own events have to be for each call, in order, with what each handed out. Beside those that its definition names, a call may
--- read more, and the interrupts may move to and from the actor's own CPU interface; of the reads of one place the last one counts.
-use Rattle.std.specs.Prelude.{◌≡◌, ℕ, ◌+◌, ◌==◌, not, fold, List, [], ◌∷◌, ◌++◌, map, filter, All, Contains, Bool, true, false, IsTrue, is_none, if◌then◌else◌, Option, Some, None}
+-- read more, and the interrupts may move to and from the actor's own CPU interface; of the reads of one place the last one counts. A call that takes
+-- the ITS goes by what it read while it had it, and one that sets EnableLPIs by what it read after that.
+use Rattle.std.specs.Prelude.{◌≡◌, ℕ, ◌+◌, ◌==◌, not, fold, List, [], ◌∷◌, ◌++◌, map, filter, All, Contains, Bool, true, false, IsTrue, is_none, if◌then◌else◌, Option, Some, None, slice_index_or}
 use Rattle.std.specs.Option.{option_map_or}
 use Rattle.std.specs.List.{flat_map}
 use Rattle.floor_registers.specs.Words.{GuestShape, IccReg, Frame, Dist, Redist, Its, Ram as Memory, GuestOp, Icc, Mem, DeviceOp, Message, Wire, Msi, is_number}
@@ -32,9 +33,9 @@ use Rattle.gic_call.specs.declared.event.Operation.TheVariants.{Access, Device, 
 use Rattle.gic_call.specs.declared.command.Part.{Part}
 use Rattle.gic_call.specs.declared.command.Part.TheVariants.{Map, Configure}
 use Rattle.gic_call.specs.View.{View}
-use Rattle.gic_call.specs.Access.{is_table_zero, lpis_of}
+use Rattle.gic_call.specs.Access.{is_table_zero, lpis_of, sets_lpis, pended_events}
 use Rattle.gic_call.specs.Command.{lpi_event, command_parts, queue_event, maps_done, takes_command, word_address}
-use Rattle.gic_call.specs.Call.{icc_events, takes_turn, access_events, starts_commands, access_value, device_events}
+use Rattle.gic_call.specs.Call.{icc_events, takes_turn, access_events, starts_commands, access_value, msi_raises, device_events}
 
 -- an event with what it handed out
 pub record Happened : Type 0 where
@@ -66,11 +67,16 @@ held_at view QueuePlace = FoundQueue view.offset view.is_stalled
 held_at view Ctlr = FoundCtlr view.enables view.is_spreading
 held_at view (Lpis vcpu) = FoundLpis (view.lpis vcpu)
 
--- what the actor's events do not tell: the maps that the ITS has as the call takes it, and the vCPUs that the LPIs are for, as an access or as the
--- command of a number from 0 begins
+-- what the actor's events do not tell: the maps that the ITS has as the call takes it; the vCPUs that the LPIs are for as an access comes to them;
+-- and those that they are for as each of its commands begins
 pub record Beside : Type 0 where
   pub maps : Maps
-  pub targets : ℕ → ℕ → Option ℕ
+  pub targets : ℕ → Option ℕ
+  pub commands : List (ℕ → Option ℕ)
+
+-- the vCPUs that the LPIs are for as the command of a number from 0 begins
+abbrev pub command_targets : Beside → ℕ → ℕ → Option ℕ
+command_targets beside number = slice_index_or beside.commands number (λ id. None)
 
 -- an event handed out what the view has; an access of a CPU interface register may read anything here
 abbrev pub HandsOut : View → Event → Found → Type 0
@@ -94,6 +100,14 @@ pub record Makes (actor : Option ℕ) (view : View) (events : List Event) (place
   pub events_are : map (λ happened. happened.event) (named_of actor piece) ≡ events
   pub found : All (λ happened. HandsOut view happened.event happened.found) (named_of actor piece)
   pub reads : All (λ place. IsLastRead place (held_at view place) (before ++ piece)) places
+
+-- a piece that has this event first, and after it these, and reads: what it read before that event does not count
+pub record MakesAfter (actor : Option ℕ) (view : View) (first : Event) (events : List Event) (places : List Place) (piece : List Happened) : Type 0 where
+  pub begin : List Happened
+  pub rest : List Happened
+  pub split : piece ≡ begin ++ rest
+  pub begun : Makes actor view (first ∷ []) [] [] begin
+  pub made : Makes actor view events places [] rest
 
 -- The places that a call reads.
 
@@ -138,7 +152,7 @@ its_read_places reg = []
 abbrev pub its_write_places : ItsReg → List Place
 its_write_places ItsCtlrReg = Word Cbaser ∷ Word Cwriter ∷ QueuePlace ∷ []
 its_write_places CbaserReg = Word ItsCtlr ∷ []
-its_write_places CwriterReg = Word ItsCtlr ∷ Word Cbaser ∷ QueuePlace ∷ []
+its_write_places CwriterReg = Word ItsCtlr ∷ Word Cbaser ∷ QueuePlace ∷ Word Cwriter ∷ []
 its_write_places Baser0Reg = Word ItsCtlr ∷ []
 its_write_places Baser1Reg = Word ItsCtlr ∷ []
 its_write_places reg = []
@@ -170,33 +184,53 @@ byte_places shape view targets (Configure id) =
     option_map_or (λ vcpu. Word (Propbaser vcpu) ∷ memory_places shape (config_address (view.words (Propbaser vcpu)) id) 1) (targets id) []
 byte_places shape view targets part = []
 
--- one of the parts of a command, and what follows it
-pub record IsPartThen (actor : Option ℕ) (shape : GuestShape) (targets : ℕ → Option ℕ) (part : Part) (before piece : List Happened) (Rest : List Happened → List Happened → Type 0) : Type 0 where
+-- a piece ends with an event
+pub record EndsWith (event : Event) (piece : List Happened) : Type 0 where
+  pub before : List Happened
+  pub found : Found
+  pub split : piece ≡ before ++ (record { event = event; found = found }) ∷ []
+
+-- one of the parts of a command, which ends with its event, and what follows it; these reads count before its own
+pub record IsPartThen (actor : Option ℕ) (shape : GuestShape) (targets : ℕ → Option ℕ) (part : Part) (before piece : List Happened) (Rest : List Happened → Type 0) : Type 0 where
   pub view : View
   pub own : List Happened
   pub rest : List Happened
   pub split : piece ≡ own ++ rest
   pub made : Makes actor view (lpi_event shape view targets part ∷ []) (byte_places shape view targets part) before own
-  pub later : Rest (before ++ own) rest
+  pub ends : EndsWith (lpi_event shape view targets part) own
+  pub later : Rest rest
 
--- the parts of a command, one after the other, and what follows them
-abbrev pub ArePartsThen : Option ℕ → GuestShape → (ℕ → Option ℕ) → List Part → (List Happened → List Happened → Type 0) → List Happened → List Happened → Type 0
-ArePartsThen actor shape targets [] Rest before piece = Rest before piece
-ArePartsThen actor shape targets (part ∷ parts) Rest before piece =
-    IsPartThen actor shape targets part before piece (ArePartsThen actor shape targets parts Rest)
+-- the parts of a command, one after the other, and what follows them: each reads its configuration byte after the part before it, but for what is
+-- in the command's own doublewords, which these reads found
+abbrev pub ArePartsThen : Option ℕ → GuestShape → (ℕ → Option ℕ) → List Happened → List Part → (List Happened → Type 0) → List Happened → List Happened → Type 0
+ArePartsThen actor shape targets words [] Rest before piece = Rest piece
+ArePartsThen actor shape targets words (part ∷ parts) Rest before piece =
+    IsPartThen actor shape targets part before piece (ArePartsThen actor shape targets words parts Rest words)
 
 -- the words of memory that the doublewords of the next command are in
 abbrev pub command_places : GuestShape → View → List Place
 command_places shape view = flat_map (λ number. memory_places shape (word_address view number) 8) (0 ∷ 1 ∷ 2 ∷ 3 ∷ [])
 
--- a piece is the next command: its doublewords are read, its parts done, and then the queue goes on
+-- the reads of these, as the view has them
+abbrev pub words_read : GuestShape → View → List Happened
+words_read shape view = map (λ place. record { event = Read place; found = held_at view place }) (command_places shape view)
+
+-- a piece begins with an event that the definitions name
+abbrev pub begins_named : Option ℕ → List Happened → Bool
+begins_named actor [] = false
+begins_named actor (happened ∷ piece) = not (is_beside actor happened.event)
+
+-- a piece is the next command: its doublewords are read, in what comes before the first event that is named; its parts are done, and then the queue
+-- goes on
 pub record IsCommand (actor : Option ℕ) (shape : GuestShape) (view : View) (piece : List Happened) : Type 0 where
   pub taken : IsTrue (takes_command view)
   pub fetch : List Happened
   pub rest : List Happened
   pub split : piece ≡ fetch ++ rest
+  pub whole : IsTrue (begins_named actor rest)
   pub fetched : Makes actor view [] (command_places shape view) [] fetch
-  pub done : ArePartsThen actor shape view.targets (command_parts shape view) (λ before after. Makes actor view (queue_event shape view ∷ []) [] before after) fetch rest
+  pub done :
+      ArePartsThen actor shape view.targets (words_read shape view) (command_parts shape view) (λ after. Makes actor view (queue_event shape view ∷ []) [] [] after) fetch rest
 
 -- what the actor that has the ITS knows of it after an event of its own: what it stored, how the queue went on, and what its commands mapped
 abbrev pub left_by : GuestShape → View → Event → View
@@ -230,7 +264,7 @@ pub record IsCommandThen (actor : Option ℕ) (shape : GuestShape) (targets : �
 abbrev pub AreCommands : Option ℕ → GuestShape → Beside → ℕ → View → List View → List Happened → Type 0
 AreCommands actor shape beside number its [] piece = Makes actor its [] [] [] piece × IsTrue (not (takes_command its))
 AreCommands actor shape beside number its (view ∷ views) piece =
-    IsCommandThen actor shape (beside.targets number) its view piece (AreCommands actor shape beside (number + 1) (left_by shape view (queue_event shape view)) views)
+    IsCommandThen actor shape (command_targets beside number) its view piece (AreCommands actor shape beside (number + 1) (left_by shape view (queue_event shape view)) views)
 
 -- The calls.
 
@@ -245,11 +279,23 @@ abbrev pub read_answer : Option ℕ → ℕ → Option ℕ
 read_answer None value = Some value
 read_answer (Some written) value = None
 
+-- the vCPU whose EnableLPIs an access sets, if it does
+abbrev pub enabled_by : GuestShape → Frame → ℕ → ℕ → Option ℕ → Option ℕ
+enabled_by shape (Redist vcpu) offset size write = if sets_lpis shape (redist_decoded offset size) write then Some vcpu else None
+enabled_by shape frame offset size write = None
+
+-- the events of an access that does not take the ITS, with what it reads: one that sets EnableLPIs reads the pending table after that
+abbrev pub MakesPlain : Option ℕ → GuestShape → View → ℕ → Frame → ℕ → ℕ → Option ℕ → List Happened → Type 0
+MakesPlain None shape view actor frame offset size write piece =
+    Makes (Some actor) view (access_events shape view frame offset size write) (access_places shape view frame offset size write) [] piece
+MakesPlain (Some vcpu) shape view actor frame offset size write piece =
+    MakesAfter (Some actor) view (Enable vcpu) (pended_events shape view vcpu) (access_places shape view frame offset size write) piece
+
 -- an access of memory or of a memory-mapped register that does not take the ITS
 pub record IsPlainCall (shape : GuestShape) (beside : Beside) (vcpu : ℕ) (frame : Frame) (offset size : ℕ) (write : Option ℕ) (piece : List Happened) (answer : Option ℕ) : Type 0 where
   pub view : View
-  pub targets : view.targets ≡ beside.targets 0
-  pub made : Makes (Some vcpu) view (access_events shape view frame offset size write) (access_places shape view frame offset size write) [] piece
+  pub targets : view.targets ≡ beside.targets
+  pub made : MakesPlain (enabled_by shape frame offset size write) shape view vcpu frame offset size write piece
   pub answers : answer ≡ read_answer write (access_value shape view frame offset size)
 
 -- the commands that a write starts, if it does
@@ -270,7 +316,7 @@ pub record IsItsCall (shape : GuestShape) (beside : Beside) (vcpu : ℕ) (offset
   pub commands : List Happened
   pub last : List Happened
   pub split : piece ≡ register ++ commands ++ last
-  pub written : Makes (Some vcpu) view (ItsBegin ∷ access_events shape view Its offset size (Some value)) (access_places shape view Its offset size (Some value)) [] register
+  pub written : MakesAfter (Some vcpu) view ItsBegin (access_events shape view Its offset size (Some value)) (access_places shape view Its offset size (Some value)) register
   pub started :
       AreStarted (starts_commands shape view Its offset size (Some value)) (Some vcpu) shape beside
       (its_written_by shape view (access_events shape view Its offset size (Some value))) views commands
@@ -289,11 +335,24 @@ IsAccessCall shape beside vcpu (Mem Its offset size (Some value)) piece answer =
     IsItsWrite (takes_turn shape (its_decoded offset size) (Some value)) shape beside vcpu offset size value piece answer
 IsAccessCall shape beside vcpu (Mem frame offset size write) piece answer = IsPlainCall shape beside vcpu frame offset size write piece answer
 
--- what a device does; for a message-signalled interrupt it reads whether the ITS is enabled
+-- the events of a message-signalled interrupt: it reads whether the ITS is enabled while it has it
+pub record MakesMsi (view : View) (device event : ℕ) (piece : List Happened) : Type 0 where
+  pub raising : List Happened
+  pub last : List Happened
+  pub split : piece ≡ raising ++ last
+  pub raised : MakesAfter None view ItsBegin (msi_raises view device event) (device_places (Msi device event)) raising
+  pub ended : Makes None view (ItsEnd ∷ []) [] [] last
+
+-- the events of what a device does
+abbrev pub MakesDevice : View → DeviceOp → List Happened → Type 0
+MakesDevice view (Msi device event) piece = MakesMsi view device event piece
+MakesDevice view op piece = Makes None view (device_events view op) (device_places op) [] piece
+
+-- what a device does
 pub record IsDeviceCall (beside : Beside) (op : DeviceOp) (piece : List Happened) (answer : Option ℕ) : Type 0 where
   pub view : View
   pub maps : view.maps ≡ beside.maps
-  pub made : Makes None view (device_events view op) (device_places op) [] piece
+  pub made : MakesDevice view op piece
   pub answers : answer ≡ None
 
 -- a piece of an actor's events is a call with this answer; a vCPU that enters or leaves a PE, or looks whether it was kicked, makes no event

@@ -84,7 +84,6 @@ pub use floor_registers::deliverable;
 pub use floor_registers::dist_ctlr;
 pub use floor_registers::dist_typer;
 pub use floor_registers::earlier;
-pub use floor_registers::empty;
 pub use floor_registers::enable_lpis_after;
 pub use floor_registers::enabled_in;
 pub use floor_registers::enables_in;

@@ -1,5 +1,5 @@
 -- Calls of one event end as their definitions say.
-use Rattle.std.proofs.Common.{ℕ, ◌≤◌, Bool, true, false, IsTrue, List, [], ◌∷◌, ◌++◌, refl, arith, zero, suc, All, Contains, Option, None, length, slice_index_or}
+use Rattle.std.proofs.Common.{ℕ, Bool, true, false, IsTrue, List, [], ◌∷◌, ◌++◌, refl, arith, All, Contains, Option, None, slice_index_or}
 use Rattle.std.proofs.lemmas.List.Elements.{All-nil, All-cons}
 use Rattle.ideal_guest.specs.Words.{GuestShape}
 use Rattle.ideal_guest.specs.Calls.{Event, Found, Happened, Beside, HandsOut, IsCall, View, Moment}
@@ -9,7 +9,7 @@ abbrev pub is_some_window : List (Option ℕ) → Bool
 is_some_window [] = false
 is_some_window (x ∷ xs) = true
 
-abbrev is_first : List (ℕ → List (Option ℕ)) → Bool
+abbrev is_first : List (ℕ → Option ℕ) → Bool
 is_first [] = true
 is_first (x ∷ xs) = false
 
@@ -18,25 +18,15 @@ abbrev pub first_targets : Call → ℕ → Option ℕ
 first_targets call id = slice_index_or (call.targets id) 0 None
 
 abbrev pub beside_of : Call → Beside
-beside_of call = record { maps = call.maps; targets = λ number id. first_targets call id }
+beside_of call = record { maps = call.maps; targets = first_targets call; commands = call.commands }
 
 pub head_in : (window : List (Option ℕ)) → IsTrue (is_some_window window) → Contains window (slice_index_or window 0 None)
 head_in [] h = absurd (cc)
 head_in (x ∷ xs) h = (0, omega arith, refl)
 
-in_window : (done : List (ℕ → List (Option ℕ))) (targets : ℕ → List (Option ℕ)) (number id : ℕ) → IsTrue (is_first done) → IsTrue (is_some_window (targets id)) → number ≤ length done → Contains (slice_index_or (done ++ targets ∷ []) number (λ id. []) id) (slice_index_or (targets id) 0 None)
-in_window [] targets zero id h k l = head_in (targets id) k
-in_window [] targets (suc n) id h k l = absurd (omega (arith, l))
-in_window (y ∷ ys) targets number id h k l = absurd (cc)
-
--- a call that does no command
-pub call_ended : (shape : GuestShape) (actor : ℕ) (call : Call) (answer : Option ℕ) → IsTrue (is_first call.done) → ((id : ℕ) → IsTrue (is_some_window (call.targets id))) → IsCall shape (beside_of call) (vcpu_of shape actor) call.operation call.piece answer → IsEnded shape actor call answer
-call_ended shape actor call answer first window is = record {
-  beside = beside_of call;
-  maps = refl;
-  targets = λ number id l. in_window call.done call.targets number id first (window id) l;
-  is_call = is;
-}
+-- a call that does not take the ITS
+pub call_ended : (shape : GuestShape) (actor : ℕ) (call : Call) (answer : Option ℕ) → IsTrue (is_first call.commands) → ((id : ℕ) → IsTrue (is_some_window (call.targets id))) → IsCall shape (beside_of call) (vcpu_of shape actor) call.operation call.piece answer → IsEnded shape actor call answer
+call_ended shape actor call answer free window is = record { beside = beside_of call; maps = refl; commands = refl; targets = λ id. head_in (call.targets id) (window id); is_call = is }
 
 -- moments that go on with a course, and others that go on from there
 pub goes_on : (course : Course) (early late : List Moment) → GoesOn course early → GoesOn (course_of course early) late → GoesOn course (early ++ late)

@@ -3,13 +3,13 @@ use Rattle.std.proofs.Common.{◌++◌, refl, arith, Some, None}
 use Rattle.std.proofs.lemmas.List.Elements.{All-nil}
 use Rattle.ideal_guest.specs.Registers.{least_in, with_level, without_level}
 use Rattle.ideal_guest.specs.Words.{Iar1, Eoir1, Rpr, ClearPending, Routing, Spi}
-use Rattle.ideal_guest.specs.Calls.{Up, Touch, Cpu, Record, Register, View}
+use Rattle.ideal_guest.specs.Calls.{Ram, Up, Touch, Cpu, Put, Record, Register, View, IsOffset}
 use Rattle.ideal_guest.specs.GicCall.declared.event.Event.TheVariants.{Raise}
-use Rattle.ideal_guest.specs.GicCall.declared.event.Found.TheVariants.{Nothing, Answer}
+use Rattle.ideal_guest.specs.GicCall.declared.event.Found.TheVariants.{Nothing, Answer, Word as FoundWord}
 use Rattle.gic_history.specs.State.{opening, view_at}
 use Rattle.gic_history.specs.History.{Course, GoesOn, IsHistory, opening_course, last_of}
-use Rattle.gic_history.specs.Laws.{IsFreshHistory, WorkedHistoriesAreFresh, EachClauseRefuses, WhatIsNotAllowed, EachLpiHasItsPlace}
-use Rattle.gic_history.specs.Worked.{worked_guest, message, wire_up, reach, leave, reads, ends, writes, takes_over, ends_and_leaves, leaves_and_ends, served, preempted, withdrawn, migrated, refilled, take, begins_message, ends_message, repeated, returned, in_flight, begins_clear, clears, awaited, overlooked, outdated, unended, kept, pending_irq}
+use Rattle.gic_history.specs.Laws.{IsFreshHistory, WorkedHistoriesAreFresh, EachClauseRefuses, WhatIsNotAllowed, EachLpiHasItsPlace, CommandsExcuseOnceRead}
+use Rattle.gic_history.specs.Worked.{worked_guest, message, wire_up, reach, leave, reads, ends, writes, takes_over, ends_and_leaves, leaves_and_ends, served, preempted, withdrawn, migrated, refilled, take, begins_message, ends_message, repeated, returned, in_flight, begins_clear, clears, awaited, overlooked, outdated, unended, kept, pending_irq, queue_guest, pends_lpi, begins_write, gets_its, fetches, clears_lpi, stores_clear, unbegun, unread, fetched}
 use Rattle.gic_history.proofs.CallLemmas.{call_ended, hands_one, goes_on}
 
 -- where the worked histories begin
@@ -200,4 +200,64 @@ own_places = record {
   passed = refl;
   reached = refl;
   ahead = refl;
+}
+
+-- Commands.
+
+abbrev queue_from : Course
+queue_from = opening_course queue_guest
+
+abbrev queue_opened : View
+queue_opened = view_at (opening queue_guest)
+
+-- and once the LPI is pending
+abbrev queue_pending : View
+queue_pending = view_at (last_of queue_guest pends_lpi)
+
+first_offset : IsOffset 32
+first_offset = record { place = refl; within = omega arith }
+
+second_offset : IsOffset 64
+second_offset = record { place = refl; within = omega arith }
+
+third_offset : IsOffset 96
+third_offset = record { place = refl; within = omega arith }
+
+pends_is : GoesOn queue_from pends_lpi
+pends_is = ((omega arith, refl), (record { within = refl; can = omega arith; allowed = refl; hands = refl }, ((omega arith, refl), (record { within = refl; can = tt; allowed = refl; hands = refl }, (record { within = refl; can = record { there = refl; fits = refl }; allowed = refl; hands = refl }, (record { within = refl; can = first_offset; allowed = refl; hands = refl }, (record { within = refl; can = refl; allowed = refl; hands = refl }, (record { within = refl; can = second_offset; allowed = refl; hands = refl }, (record { within = refl; can = tt; allowed = refl; hands = refl }, tt)))))))))
+
+unbegun_is : IsHistory queue_guest unbegun
+unfolding least_in with_level without_level
+unbegun_is =
+    let one : GoesOn queue_from (pends_lpi ++ begins_write) = goes_on queue_from pends_lpi begins_write pends_is ((omega arith, refl), tt) in
+    let two : GoesOn queue_from (pends_lpi ++ begins_write ++ reads 0 Iar1 1023) = goes_on queue_from (pends_lpi ++ begins_write) (reads 0 Iar1 1023) one (((omega arith, refl), (record { within = refl; can = (omega arith, refl); allowed = refl; hands = refl }, (call_ended queue_guest.shape 0 _ (Some 1023) refl (λ id. refl) (record { view = queue_opened; made = record { events_are = refl; found = hands_one queue_opened (Cpu 0 Iar1 None) (Answer (Some 1023)) ((Some 1023), refl); reads = All-nil _ }; answers = (0, omega arith, refl) }), tt)))) in
+    let three : GoesOn queue_from (pends_lpi ++ begins_write ++ reads 0 Iar1 1023 ++ stores_clear) = goes_on queue_from (pends_lpi ++ begins_write ++ reads 0 Iar1 1023) stores_clear two (((omega arith, refl), (record { within = refl; can = (refl, refl); allowed = refl; hands = refl }, (call_ended queue_guest.shape 0 _ None refl (λ id. refl) (record { view = queue_pending; targets = refl; made = record { events_are = refl; found = hands_one queue_pending (Put (Ram 8) 4) (FoundWord 0) refl; reads = All-nil _ }; answers = refl }), tt)))) in
+    goes_on queue_from (pends_lpi ++ begins_write ++ reads 0 Iar1 1023 ++ stores_clear) (gets_its ++ fetches ++ clears_lpi) three
+    ((record { within = refl; can = tt; allowed = refl; hands = refl }, (record { within = refl; can = refl; allowed = refl; hands = refl }, (record { within = refl; can = record { there = refl; fits = refl }; allowed = refl; hands = refl }, (record { within = refl; can = third_offset; allowed = refl; hands = refl }, (record { within = refl; can = tt; allowed = refl; hands = refl }, tt))))))
+
+unread_is : IsHistory queue_guest unread
+unfolding least_in with_level without_level
+unread_is =
+    let one : GoesOn queue_from (pends_lpi ++ begins_write ++ gets_its) = goes_on queue_from pends_lpi (begins_write ++ gets_its) pends_is ((omega arith, refl), (record { within = refl; can = tt; allowed = refl; hands = refl }, tt)) in
+    let two : GoesOn queue_from (pends_lpi ++ begins_write ++ gets_its ++ reads 0 Iar1 1023) = goes_on queue_from (pends_lpi ++ begins_write ++ gets_its) (reads 0 Iar1 1023) one (((omega arith, refl), (record { within = refl; can = (omega arith, refl); allowed = refl; hands = refl }, (call_ended queue_guest.shape 0 _ (Some 1023) refl (λ id. refl) (record { view = queue_opened; made = record { events_are = refl; found = hands_one queue_opened (Cpu 0 Iar1 None) (Answer (Some 1023)) ((Some 1023), refl); reads = All-nil _ }; answers = (0, omega arith, refl) }), tt)))) in
+    let three : GoesOn queue_from (pends_lpi ++ begins_write ++ gets_its ++ reads 0 Iar1 1023 ++ stores_clear) = goes_on queue_from (pends_lpi ++ begins_write ++ gets_its ++ reads 0 Iar1 1023) stores_clear two (((omega arith, refl), (record { within = refl; can = (refl, refl); allowed = refl; hands = refl }, (call_ended queue_guest.shape 0 _ None refl (λ id. refl) (record { view = queue_pending; targets = refl; made = record { events_are = refl; found = hands_one queue_pending (Put (Ram 8) 4) (FoundWord 0) refl; reads = All-nil _ }; answers = refl }), tt)))) in
+    goes_on queue_from (pends_lpi ++ begins_write ++ gets_its ++ reads 0 Iar1 1023 ++ stores_clear) (fetches ++ clears_lpi) three
+    ((record { within = refl; can = refl; allowed = refl; hands = refl }, (record { within = refl; can = record { there = refl; fits = refl }; allowed = refl; hands = refl }, (record { within = refl; can = third_offset; allowed = refl; hands = refl }, (record { within = refl; can = tt; allowed = refl; hands = refl }, tt)))))
+
+fetched_is : IsHistory queue_guest fetched
+unfolding least_in with_level without_level
+fetched_is =
+    let one : GoesOn queue_from (pends_lpi ++ begins_write) = goes_on queue_from pends_lpi begins_write pends_is ((omega arith, refl), tt) in
+    let two : GoesOn queue_from (pends_lpi ++ begins_write ++ stores_clear) = goes_on queue_from (pends_lpi ++ begins_write) stores_clear one (((omega arith, refl), (record { within = refl; can = (refl, refl); allowed = refl; hands = refl }, (call_ended queue_guest.shape 0 _ None refl (λ id. refl) (record { view = queue_pending; targets = refl; made = record { events_are = refl; found = hands_one queue_pending (Put (Ram 8) 4) (FoundWord 0) refl; reads = All-nil _ }; answers = refl }), tt)))) in
+    let three : GoesOn queue_from (pends_lpi ++ begins_write ++ stores_clear ++ gets_its ++ fetches) = goes_on queue_from (pends_lpi ++ begins_write ++ stores_clear) (gets_its ++ fetches) two ((record { within = refl; can = tt; allowed = refl; hands = refl }, (record { within = refl; can = refl; allowed = refl; hands = refl }, tt))) in
+    let four : GoesOn queue_from (pends_lpi ++ begins_write ++ stores_clear ++ gets_its ++ fetches ++ reads 0 Iar1 1023) = goes_on queue_from (pends_lpi ++ begins_write ++ stores_clear ++ gets_its ++ fetches) (reads 0 Iar1 1023) three (((omega arith, refl), (record { within = refl; can = (omega arith, refl); allowed = refl; hands = refl }, (call_ended queue_guest.shape 0 _ (Some 1023) refl (λ id. refl) (record { view = queue_opened; made = record { events_are = refl; found = hands_one queue_opened (Cpu 0 Iar1 None) (Answer (Some 1023)) ((Some 1023), refl); reads = All-nil _ }; answers = (0, omega arith, refl) }), tt)))) in
+    goes_on queue_from (pends_lpi ++ begins_write ++ stores_clear ++ gets_its ++ fetches ++ reads 0 Iar1 1023) clears_lpi four
+    ((record { within = refl; can = record { there = refl; fits = refl }; allowed = refl; hands = refl }, (record { within = refl; can = third_offset; allowed = refl; hands = refl }, (record { within = refl; can = tt; allowed = refl; hands = refl }, tt))))
+
+pub once_read : CommandsExcuseOnceRead
+unfolding least_in with_level without_level
+once_read = record {
+  unbegun = record { history = unbegun_is; keeps = refl };
+  unread = record { history = unread_is; keeps = refl };
+  fetched = record { history = fetched_is; keeps = refl };
 }

@@ -2,13 +2,18 @@
 use Rattle.std.specs.Prelude.{ℕ, ◌+◌, ◌&&◌, ◌||◌, ◌==◌, not, Bool, true, false, IsTrue, List, [], ◌∷◌, ◌++◌, map, fold, filter, replicate, Option, Some, None, is_some, slice_index_or, slice_set, if◌then◌else◌}
 use Rattle.std.specs.List.{list_all, list_any, range_with_len}
 use Rattle.std.specs.Option.{option_map_or, option_and_then}
-use Rattle.ideal_guest.specs.Words.{IccReg, Iar0, Iar1, Hppir0, Hppir1, Eoir0, Eoir1, Dir, Key, GuestShape, interrupt_count, is_same_key, key_at, key_of, place_of, intid_of, is_number, is_pending}
-use Rattle.ideal_guest.specs.Registers.{deactivated_by, is_deliverable, is_before, first_of, candidates_at, intid_written}
-use Rattle.ideal_guest.specs.Calls.{Event, Cpu, Reach, Leave, Moment, Begin, Happens, Operation, GuestSpec}
-use Rattle.ideal_guest.specs.GicCall.declared.event.Event.TheVariants.{Queue}
+use Rattle.ideal_guest.specs.Words.{IccReg, Iar0, Iar1, Hppir0, Hppir1, Eoir0, Eoir1, Dir, Key, Its, Mem, GuestShape, interrupt_count, is_same_key, key_at, key_of, place_of, intid_of, is_number, is_pending}
+use Rattle.ideal_guest.specs.Registers.{Cwriter, has_lpis, deactivated_by, is_deliverable, is_before, first_of, candidates_at, intid_written}
+use Rattle.ideal_guest.specs.Calls.{Ram, Event, Cpu, Reach, Leave, Place, Moment, Begin, Happens, Operation, Access, command_places, GuestSpec}
+use Rattle.ideal_guest.specs.GicCall.declared.event.Event.TheVariants.{Read, Queue}
 use Rattle.ideal_guest.specs.GicCall.declared.event.Moment.TheVariants.{End}
+use Rattle.ideal_guest.specs.GicCall.declared.event.Place.TheVariants.{Word}
+use Rattle.ideal_guest.specs.GicImap.declared.map.Reg.TheVariants.{Ctlr as ItsCtlrReg}
+use Rattle.ideal_guest.specs.GicImap.declared.map.RegRef.{RegRef as ItsRef}
+use Rattle.ideal_guest.specs.GicImap.declared.map.RegRef.TheVariants.{Plain as ItsPlain}
+use Rattle.ideal_guest.specs.GicImap.Map.{decoded as its_decoded}
 use Rattle.ideal_guest.specs.Ideal.{irq_at, cpu_at}
-use Rattle.gic_history.specs.State.{Ideal, opening, standing_at, moved_at, is_home, interface_at}
+use Rattle.gic_history.specs.State.{Ideal, opening, standing_at, moved_at, is_home, interface_at, view_at}
 use Rattle.gic_history.specs.Moves.{happened}
 use Rattle.gic_history.specs.History.{actor_count}
 use Rattle.gic_history.specs.Named.{key_in}
@@ -20,11 +25,13 @@ pub record Turn : Type 0 where
   pub actor : ℕ
   pub number : ℕ
 
--- an actor: what its call is for, if it is in one, the number of that, and the interrupts of the events that it made in it
+-- an actor: what its call is for, if it is in one, the number of that, the interrupts of the events that it made in it, and whether it has begun to read the
+-- next command of the ITS
 pub record Doing : Type 0 where
   pub operation : Option Operation
   pub number : ℕ
   pub done : List Key
+  pub fetched : Bool
 
 -- an interrupt: who changed it last, and who did since it got to the interface where it is, oldest first
 pub record Changes : Type 0 where
@@ -40,13 +47,13 @@ pub record Track : Type 0 where
 abbrev pub opening_track : GuestShape → Track
 opening_track shape =
     record {
-      doings = replicate (actor_count shape) (record { operation = None; number = 0; done = [] });
+      doings = replicate (actor_count shape) (record { operation = None; number = 0; done = []; fetched = false });
       changes = replicate (interrupt_count shape) (record { last = None; since = [] });
       leaving = [];
     }
 
 abbrev pub doing_of : Track → ℕ → Doing
-doing_of track actor = slice_index_or track.doings actor (record { operation = None; number = 0; done = [] })
+doing_of track actor = slice_index_or track.doings actor (record { operation = None; number = 0; done = []; fetched = false })
 
 abbrev pub changes_of : GuestShape → Track → Key → Changes
 changes_of shape track key = slice_index_or track.changes (place_of shape key) (record { last = None; since = [] })
@@ -76,9 +83,23 @@ is_to_come actor key (Happens other event found ∷ moments) =
     if other == actor then is_event_of key event || (not (ends_turn event) && is_to_come actor key moments) else is_to_come actor key moments
 is_to_come actor key (End other answer ∷ moments) = not (other == actor) && is_to_come actor key moments
 
+-- a call in which the ITS takes commands: a write of GITS_CTLR or of GITS_CWRITER, in a guest that has an ITS
+abbrev pub starts_queue : ItsRef → Bool
+starts_queue (ItsPlain ItsCtlrReg half) = true
+starts_queue (ItsPlain Cwriter half) = true
+starts_queue ref = false
+
+abbrev pub takes_commands : GuestShape → Operation → Bool
+takes_commands shape (Access (Mem Its offset size (Some value))) = has_lpis shape && starts_queue (its_decoded offset size)
+takes_commands shape operation = false
+
+-- an actor names interrupts by its call as that begins; by a command of the ITS, which nobody knows before, once it has begun to read that
+abbrev pub has_named : GuestShape → Doing → Bool
+has_named shape doing = not (option_map_or (takes_commands shape) doing.operation false) || doing.fetched
+
 -- an open call of another actor names it and has not done all for it: it has an event of it still to make
-abbrev pub is_awaited : GuestShape → List Moment → ℕ → Key → Bool
-is_awaited shape later vcpu key = list_any (λ actor. not (actor == vcpu) && is_to_come actor key later) (range_with_len 0 (actor_count shape))
+abbrev pub is_awaited : GuestShape → List Moment → Track → ℕ → Key → Bool
+is_awaited shape later track vcpu key = list_any (λ actor. not (actor == vcpu) && (has_named shape (doing_of track actor) && is_to_come actor key later)) (range_with_len 0 (actor_count shape))
 
 -- its last change was made in an open call
 abbrev pub is_last_open : GuestShape → Track → ℕ → Key → Bool
@@ -101,7 +122,7 @@ comes_first state vcpu key =
     && option_map_or (is_before (record { id = intid_of key; prio = irq.prio; group = irq.group })) (first_of (candidates_at (interface_at state vcpu))) true
 
 abbrev pub is_excused : List Moment → Ideal → Track → ℕ → Key → Bool
-is_excused later state track vcpu key = is_last_open state.guest.shape track vcpu key || is_awaited state.guest.shape later vcpu key
+is_excused later state track vcpu key = is_last_open state.guest.shape track vcpu key || is_awaited state.guest.shape later track vcpu key
 
 abbrev pub keys_in : GuestShape → List Key
 keys_in shape = map (key_at shape) (range_with_len 0 (interrupt_count shape))
@@ -170,10 +191,20 @@ after_changes shape actor event track =
     (changed_by event)
     track
 
+-- who has the ITS reads a word of memory in which the next command stands
+abbrev pub is_memory_at : ℕ → Place → Bool
+is_memory_at index (Word (Ram other)) = other == index
+is_memory_at index place = false
+
+abbrev pub is_fetch : Ideal → ℕ → Event → Bool
+is_fetch state actor (Read (Word (Ram index))) = is_number actor state.has_its && list_any (is_memory_at index) (command_places state.guest.shape (view_at state))
+is_fetch state actor event = false
+
 -- after what its actor did
-abbrev pub after_doing : ℕ → Event → Doing → Doing
-after_doing actor (Queue offset change) doing = record doing { number = doing.number + 1; done = [] }
-after_doing actor event doing = record doing { done = option_map_or (λ key. doing.done ++ key ∷ []) (key_in event) doing.done }
+abbrev pub after_doing : Ideal → ℕ → Event → Doing → Doing
+after_doing state actor (Queue offset change) doing = record doing { number = doing.number + 1; done = []; fetched = false }
+after_doing state actor event doing =
+    record doing { done = option_map_or (λ key. doing.done ++ key ∷ []) (key_in event) doing.done; fetched = doing.fetched || is_fetch state actor event }
 
 abbrev pub with_doing : ℕ → Doing → Track → Track
 with_doing actor doing track = record track { doings = slice_set track.doings actor doing }
@@ -186,10 +217,10 @@ after_leaving state event track = record track { leaving = track.leaving ++ left
 -- after a moment, where the state before it is this
 abbrev pub tracked : Ideal → Moment → Track → Track
 tracked state (Begin actor operation) track =
-    with_doing actor (record { operation = Some operation; number = (doing_of track actor).number + 1; done = [] }) track
+    with_doing actor (record { operation = Some operation; number = (doing_of track actor).number + 1; done = []; fetched = false }) track
 tracked state (Happens actor event found) track =
     let after = after_leaving state event (after_changes state.guest.shape actor event track) in
-    with_doing actor (after_doing actor event (doing_of track actor)) after
+    with_doing actor (after_doing state actor event (doing_of track actor)) after
 tracked state (End actor answer) track = with_doing actor (record (doing_of track actor) { operation = None }) track
 
 abbrev pub after_moment : Ideal → Moment → Ideal

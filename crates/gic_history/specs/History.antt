@@ -1,5 +1,5 @@
 -- Histories: what the actors of a guest do from its opening on, one event after the other.
-use Rattle.std.specs.Prelude.{◌≡◌, ℕ, ◌+◌, ◌<◌, ◌≤◌, ◌&&◌, nat_lt, Bool, false, IsTrue, List, [], ◌∷◌, ◌++◌, map, length, replicate, fold, All, Contains, Option, option_map, Some, None, is_none, is_some, unwrap_or, slice_index_or, slice_set, if◌then◌else◌}
+use Rattle.std.specs.Prelude.{◌≡◌, ℕ, ◌+◌, ◌<◌, ◌&&◌, nat_lt, Bool, false, IsTrue, List, [], ◌∷◌, ◌++◌, map, replicate, fold, All, Contains, Option, option_map, Some, None, is_none, is_some, unwrap_or, slice_index_or, slice_set, if◌then◌else◌}
 use Rattle.std.specs.Option.{option_map_or}
 use Rattle.ideal_guest.specs.Words.{Key, Lpi, GuestShape}
 use Rattle.ideal_guest.specs.Calls.{Event, Enable, Touch, ItsBegin, Runs, Found, Moment, Begin, Happens, Operation, Happened, Beside, IsCall, CanHappen, GuestSpec}
@@ -9,13 +9,14 @@ use Rattle.ideal_guest.specs.Registers.{Maps}
 use Rattle.gic_history.specs.State.{Ideal, opening, view_at}
 use Rattle.gic_history.specs.Moves.{is_allowed, handed_out, happened}
 
--- a call in progress: what it is for, its events so far, and the maps of the ITS as it took that; for which vCPUs each LPI was at the moments of each of
--- its commands, and at those since; and once it stored EnableLPIs, up to which LPI it has come
+-- a call in progress: what it is for, its events so far, and the maps of the ITS as it took that; for which vCPU each LPI was as each of its commands
+-- began, the first as it took the ITS; for which vCPUs each was at the moments of the call, and once it stored EnableLPIs at those since the LPI before
+-- it, up to which it has come
 pub record Call : Type 0 where
   pub operation : Operation
   pub piece : List Happened
   pub maps : Maps
-  pub done : List (ℕ → List (Option ℕ))
+  pub commands : List (ℕ → Option ℕ)
   pub targets : ℕ → List (Option ℕ)
   pub place : Option ℕ
 
@@ -48,7 +49,7 @@ begun ideal operation =
       operation = operation;
       piece = [];
       maps = record { devices = []; events = []; collections = [] };
-      done = [];
+      commands = [];
       targets = λ id. targets_in ideal id ∷ [];
       place = None;
     }
@@ -65,13 +66,14 @@ is_ahead place key id = is_some place && option_map_or (λ here. nat_lt here id)
 abbrev pub come_to : Option ℕ → Key → Option ℕ
 come_to place key = option_map (λ before. unwrap_or (lpi_in key) before) place
 
--- what a call notes at its own events: the maps as it takes the ITS; each end of a command; from where EnableLPIs is stored, each LPI of the pending table
+-- what a call notes at its own events: the maps as it takes the ITS; where each command begins, as it takes the ITS and as the command before ends; from
+-- where EnableLPIs is stored, each LPI of the pending table
 abbrev pub noted : Ideal → Event → Call → Call
-noted ideal ItsBegin call = record call { maps = ideal.guest.tables }
+noted ideal ItsBegin call = record call { maps = ideal.guest.tables; commands = call.commands ++ targets_in ideal ∷ [] }
 noted ideal (Enable vcpu) call = record call { targets = λ id. []; place = Some 0 }
 noted ideal (Touch key touching) call = record call { targets = λ id. if is_ahead call.place key id then [] else call.targets id; place = come_to call.place key }
 noted ideal (Queue offset Runs) call = call
-noted ideal (Queue offset change) call = record call { done = call.done ++ call.targets ∷ []; targets = λ id. [] }
+noted ideal (Queue offset change) call = record call { commands = call.commands ++ targets_in ideal ∷ [] }
 noted ideal event call = call
 
 abbrev pub made : Ideal → Event → Found → Call → Call
@@ -98,12 +100,13 @@ gone_on course (End actor answer) = record course { calls = slice_set course.cal
 abbrev pub course_of : Course → List Moment → Course
 course_of course moments = fold gone_on course moments
 
--- what an actor's call has made is the call, with this answer: of an ITS with the maps as the call took it, and of LPIs each of which was for this vCPU at
--- some moment of the command, of EnableLPIs at some moment between the events round its own place (own choice: else at some moment of the call)
+-- what an actor's call has made is the call, with this answer: of an ITS with the maps as the call took it; of LPIs each of which was for this vCPU as the
+-- command began, and of an access at some moment of the call, of EnableLPIs at some moment between the events round its own place (own choice)
 pub record IsEnded (shape : GuestShape) (actor : ℕ) (call : Call) (answer : Option ℕ) : Type 0 where
   pub beside : Beside
   pub maps : beside.maps ≡ call.maps
-  pub targets : (number id : ℕ) → number ≤ length call.done → Contains (slice_index_or (call.done ++ call.targets ∷ []) number (λ id. []) id) (beside.targets number id)
+  pub commands : beside.commands ≡ call.commands
+  pub targets : (id : ℕ) → Contains (call.targets id) (beside.targets id)
   pub is_call : IsCall shape beside (vcpu_of shape actor) call.operation call.piece answer
 
 abbrev pub IsCallEnded : GuestShape → ℕ → Option Call → Option ℕ → Type 0

@@ -1,13 +1,13 @@
 -- Laws of worked histories: the definitions say of them what a reader expects.
 use Rattle.std.specs.Prelude.{◌≡◌, ◌++◌, Bool, true, false, List, [], ◌∷◌, Some, None, option_map}
-use Rattle.ideal_guest.specs.Calls.{Moment, Touch, Reach, Take, Leave, ItsBegin, CtlrEnd, Runs, Register}
+use Rattle.ideal_guest.specs.Calls.{GuestSpec, Moment, Touch, Reach, Take, Leave, ItsBegin, CtlrEnd, Runs, Register}
 use Rattle.gic_history.specs.Fresh.{IsFresh, is_acknowledged, is_kept, of_event, of_end, is_fresh_at_interface, is_fresh_at_end}
 use Rattle.ideal_guest.specs.Words.{Spi, ClearPending}
 use Rattle.ideal_guest.specs.GicCall.declared.event.Event.TheVariants.{Queue, ItsEnd}
 use Rattle.gic_history.specs.History.{IsHistory, last_of, call_of, course_of, opening_course}
 use Rattle.gic_history.specs.Moves.{is_allowed, happened}
 use Rattle.gic_history.specs.State.{opening}
-use Rattle.gic_history.specs.Worked.{worked_guest, served, preempted, withdrawn, message, wire_up, reach, migrated, refilled, repeated, returned, in_flight, awaited, overlooked, outdated, unended, kept, lpi_guest, passed_by}
+use Rattle.gic_history.specs.Worked.{worked_guest, served, preempted, withdrawn, message, wire_up, reach, migrated, refilled, repeated, returned, in_flight, awaited, overlooked, outdated, unended, kept, lpi_guest, passed_by, queue_guest, unbegun, unread, fetched}
 
 -- moments are a fresh history of the worked guest
 pub record IsFreshHistory (moments : List Moment) : Type 0 where
@@ -28,26 +28,32 @@ pub record WorkedHistoriesAreFresh : Type 0 where
   pub in_flight : IsFreshHistory in_flight
   pub awaited : IsFreshHistory awaited
 
--- which of the four clauses of fresh moments of the worked guest keep
-abbrev pub kept_clauses : List Moment → List Bool
-kept_clauses moments =
-    is_acknowledged worked_guest moments
-    ∷ is_kept (of_event is_fresh_at_interface) worked_guest moments
-    ∷ is_kept (of_event is_fresh_at_end) worked_guest moments
-    ∷ is_kept of_end worked_guest moments
+-- which of the four clauses of fresh moments of a guest keep
+abbrev pub kept_clauses : GuestSpec → List Moment → List Bool
+kept_clauses guest moments =
+    is_acknowledged guest moments
+    ∷ is_kept (of_event is_fresh_at_interface) guest moments
+    ∷ is_kept (of_event is_fresh_at_end) guest moments
+    ∷ is_kept of_end guest moments
     ∷ []
 
--- moments are a history of the worked guest that keeps just these clauses
-pub record IsHistoryThatKeeps (moments : List Moment) (clauses : List Bool) : Type 0 where
-  pub history : IsHistory worked_guest moments
-  pub keeps : kept_clauses moments ≡ clauses
+-- moments are a history of a guest that keeps just these clauses
+pub record IsHistoryThatKeeps (guest : GuestSpec) (moments : List Moment) (clauses : List Bool) : Type 0 where
+  pub history : IsHistory guest moments
+  pub keeps : kept_clauses guest moments ≡ clauses
 
 -- each clause of fresh refuses a history that the other three let pass
 pub record EachClauseRefuses : Type 0 where
-  pub acknowledge : IsHistoryThatKeeps overlooked (false ∷ true ∷ true ∷ true ∷ [])
-  pub interface : IsHistoryThatKeeps outdated (true ∷ false ∷ true ∷ true ∷ [])
-  pub end : IsHistoryThatKeeps unended (true ∷ true ∷ false ∷ true ∷ [])
-  pub deactivation : IsHistoryThatKeeps kept (true ∷ true ∷ true ∷ false ∷ [])
+  pub acknowledge : IsHistoryThatKeeps worked_guest overlooked (false ∷ true ∷ true ∷ true ∷ [])
+  pub interface : IsHistoryThatKeeps worked_guest outdated (true ∷ false ∷ true ∷ true ∷ [])
+  pub end : IsHistoryThatKeeps worked_guest unended (true ∷ true ∷ false ∷ true ∷ [])
+  pub deactivation : IsHistoryThatKeeps worked_guest kept (true ∷ true ∷ true ∷ false ∷ [])
+
+-- what a command of the ITS is to do excuses nothing before its actor has the ITS and has begun to read it, and from there on it does
+pub record CommandsExcuseOnceRead : Type 0 where
+  pub unbegun : IsHistoryThatKeeps queue_guest unbegun (false ∷ true ∷ true ∷ true ∷ [])
+  pub unread : IsHistoryThatKeeps queue_guest unread (false ∷ true ∷ true ∷ true ∷ [])
+  pub fetched : IsHistoryThatKeeps queue_guest fetched (true ∷ true ∷ true ∷ true ∷ [])
 
 -- what an actor may not make of an interrupt at an interface, and without a mark
 pub record WhatIsNotAllowed : Type 0 where

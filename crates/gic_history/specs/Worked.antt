@@ -1,10 +1,12 @@
 -- Worked histories of a guest with two vCPUs and a device: fresh ones, and for each clause of fresh one that this clause alone refuses.
 use Rattle.std.specs.Prelude.{ℕ, Bool, true, false, List, [], ◌∷◌, ◌++◌, Option, Some, None}
-use Rattle.ideal_guest.specs.Words.{IccReg, Iar1, Eoir1, Rpr, Spi, Lpi, Message, Wire, Dist, Redist, Its, Icc, Mem, SetPending, ClearPending, Routing, G1, Irq, Affinity, Target}
-use Rattle.ideal_guest.specs.Calls.{Event, Up, Touch, Reach, Take, Leave, Cpu, Enable, Found, Record, Moment, Begin, Happens, Operation, Access, Device, Residence, Touching, Register, MapLpi, opening_irq, GuestSpec, Preset}
-use Rattle.ideal_guest.specs.GicCall.declared.event.Event.TheVariants.{Raise}
-use Rattle.ideal_guest.specs.GicCall.declared.event.Found.TheVariants.{Nothing, Answer, Lpis as FoundLpis}
+use Rattle.ideal_guest.specs.Words.{IccReg, Iar1, Eoir1, Rpr, Spi, Lpi, Message, Wire, Dist, Redist, Its, Ram as Memory, Icc, Mem, SetPending, ClearPending, Routing, G1, Irq, Affinity, Target}
+use Rattle.ideal_guest.specs.Registers.{Mapti, Int, Clear, encoded}
+use Rattle.ideal_guest.specs.Calls.{Ram, Event, Up, Touch, Reach, Take, Leave, Cpu, Enable, Put, ItsBegin, Done, Found, Record, Moment, Begin, Happens, Operation, Access, Device, Residence, Touching, Register, MapLpi, opening_irq, GuestSpec, Preset}
+use Rattle.ideal_guest.specs.GicCall.declared.event.Event.TheVariants.{Raise, Read, ItsEnd, Queue}
+use Rattle.ideal_guest.specs.GicCall.declared.event.Found.TheVariants.{Nothing, Answer, Word as FoundWord, Lpis as FoundLpis}
 use Rattle.ideal_guest.specs.GicCall.declared.event.Moment.TheVariants.{End}
+use Rattle.ideal_guest.specs.GicCall.declared.event.Place.TheVariants.{Word}
 use Rattle.ideal_guest.specs.GicCall.declared.touch.Touching.TheVariants.{Retarget}
 
 -- two vCPUs and a device, the actor 2; SPIs 40 and 42 are edge and 41 is level, all for vCPU 0, and 42 comes before the others
@@ -190,3 +192,61 @@ passed_by =
     ∷ Happens 0 (Touch (Lpi 8193) (Register SetPending 1)) (Record mapped_lpi)
     ∷ Happens 1 (Touch (Lpi 8192) (Retarget (Some 1))) (Record mapped_lpi)
     ∷ []
+
+-- From when on a command of the ITS excuses.
+
+-- four vCPUs, an LPI, and memory for three commands
+abbrev pub queue_guest : GuestSpec
+queue_guest = record { shape = record { vcpus = 4; spis = 0; espis = 0; devices = 0; lpis = 1; ram = 96 }; on = true; presets = [] }
+
+-- an LPI that is for vCPU 0, and then pending
+abbrev pub told_lpi : Irq
+told_lpi = record (opening_irq true (Lpi 8192)) { route = Target (Some 0); enabled = true }
+
+abbrev pub waiting_lpi : Irq
+waiting_lpi = record told_lpi { soft = true }
+
+-- vCPU 3 sets EnableLPIs of vCPU 0; vCPU 2 does two commands, of which the second makes 8192 pending, and gives the ITS back
+abbrev pub pends_lpi : List Moment
+pends_lpi =
+    Begin 3 (Access (Mem (Redist 0) 0 4 (Some 1)))
+    ∷ Happens 3 (Enable 0) (FoundLpis false)
+    ∷ Begin 2 (Access (Mem Its 0x88 8 (Some 64)))
+    ∷ Happens 2 ItsBegin Nothing
+    ∷ Happens 2 (Touch (Lpi 8192) (MapLpi 0 true 0)) (Record (opening_irq true (Lpi 8192)))
+    ∷ Happens 2 (Queue 32 (Done (encoded (Mapti 0 0 8192 0)))) Nothing
+    ∷ Happens 2 (Raise (Lpi 8192)) Nothing
+    ∷ Happens 2 (Queue 64 (Done (encoded (Int 0 0)))) Nothing
+    ∷ Happens 2 ItsEnd Nothing
+    ∷ []
+
+-- vCPU 1 begins a write of GITS_CWRITER; it takes the ITS; it reads the next command, the third; it does that, which clears 8192
+abbrev pub begins_write : List Moment
+begins_write = Begin 1 (Access (Mem Its 0x88 8 (Some 96))) ∷ []
+
+abbrev pub gets_its : List Moment
+gets_its = Happens 1 ItsBegin Nothing ∷ []
+
+abbrev pub fetches : List Moment
+fetches = Happens 1 (Read (Word (Ram 8))) (FoundWord 4) ∷ []
+
+abbrev pub clears_lpi : List Moment
+clears_lpi =
+    Happens 1 (Touch (Lpi 8192) (Register ClearPending 1)) (Record waiting_lpi)
+    ∷ Happens 1 (Queue 96 (Done (encoded (Clear 0 0)))) Nothing
+    ∷ Happens 1 ItsEnd Nothing
+    ∷ []
+
+-- vCPU 0 stores that command
+abbrev pub stores_clear : List Moment
+stores_clear = calls 0 (Access (Mem Memory 64 8 (Some 4))) (Put (Ram 8) 4) (FoundWord 0) None
+
+-- vCPU 0 reads no INTID: while vCPU 1 waits for the ITS, and while it has that and has not read the command, which is stored only then; and once it has read it
+abbrev pub unbegun : List Moment
+unbegun = pends_lpi ++ begins_write ++ reads 0 Iar1 1023 ++ stores_clear ++ gets_its ++ fetches ++ clears_lpi
+
+abbrev pub unread : List Moment
+unread = pends_lpi ++ begins_write ++ gets_its ++ reads 0 Iar1 1023 ++ stores_clear ++ fetches ++ clears_lpi
+
+abbrev pub fetched : List Moment
+fetched = pends_lpi ++ begins_write ++ stores_clear ++ gets_its ++ fetches ++ reads 0 Iar1 1023 ++ clears_lpi

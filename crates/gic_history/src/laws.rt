@@ -1,5 +1,5 @@
 //! Laws of worked histories.
-ghost use Rattle.gic_history.specs.Laws.{WorkedHistoriesAreFresh, EachClauseRefuses, WhatIsNotAllowed, EachLpiHasItsPlace};
+ghost use Rattle.gic_history.specs.Laws.{WorkedHistoriesAreFresh, EachClauseRefuses, WhatIsNotAllowed, EachLpiHasItsPlace, CommandsExcuseOnceRead};
 
 /// A law of nine worked histories of a guest with two vCPUs: they are histories, and fresh.
 #[tactic(auto, using(crate::proofs::WorkedLemmas::worked))]
@@ -25,4 +25,11 @@ pub fn what_is_not_allowed()
 #[tactic(auto, using(crate::proofs::WorkedLemmas::own_places))]
 pub fn each_lpi_has_its_place()
     ensures { EachLpiHasItsPlace }
+{}
+
+/// A law of a command of the ITS that is still to clear an LPI while a vCPU reads no INTID: it excuses that only once its
+/// actor has the ITS and has read a doubleword of the command, and not while that waits for the ITS.
+#[tactic(auto, using(crate::proofs::WorkedLemmas::once_read))]
+pub fn commands_excuse_once_read()
+    ensures { CommandsExcuseOnceRead }
 {}

@@ -8,8 +8,8 @@ ghost use Rattle.guest_end.specs.Home.{home_irq as home_irq_of, cpus_at_home, pl
 
 use gic_ideal::IdealGuest;
 use port_core::{
-    CpuRec, CtlrWord, GuestEnd as End, GuestShape, GuestSpec, GuestWords, Irq, ListOf, NoMemory,
-    PlainWord, VcpuWord, empty, irq_unpack as unpack, place_of_plain,
+    CpuRec, CtlrWord, GuestEnd as End, GuestShape, GuestSpec, GuestWords, Irq, ItsTables, ListOf,
+    NoMemory, PlainWord, VcpuWord, irq_unpack as unpack, place_of_plain,
 };
 use std::alloc::{AllocError, Global};
 
@@ -82,6 +82,9 @@ fn without_tables(
     ensures unmapped { IfOk result (λ guest. guest.tables ≡ record { devices = []; events = []; collections = [] }) }
 {
     let queue = port_core::queue_unpack(words.queue).unwrap();
+    let Ok(tables) = ItsTables::of(alloc) else {
+        return Err(AllocError);
+    };
     Ok(IdealGuest {
         shape: spec.shape,
         irqs: home_irqs(alloc, words.irqs.as_slice())?,
@@ -90,7 +93,7 @@ fn without_tables(
         words: home_plain(alloc, &spec.shape, queue.stalled, words.plain.as_slice())?,
         offset: queue.offset,
         is_stalled: queue.stalled,
-        tables: empty(alloc),
+        tables,
     })
 }
 

@@ -10,7 +10,7 @@ use crate::state::State;
 use floor_histories::{Event, Key, may_reach, may_take};
 
 /// Whether the actor has a mark.
-fn has_mark(mark: Option<u32>, actor: u32) -> bool
+pub(crate) fn has_mark(mark: Option<u32>, actor: u32) -> bool
     ensures { result ≡ is_number actor mark }
 {
     mark == Some(actor)

@@ -1,8 +1,10 @@
 //! What open calls have still to do, as the moments that come after say.
 ghost use Rattle.std.specs.Prelude.{◌≡◌, ◌==◌, ◌&&◌, not};
 ghost use Rattle.floor_histories.specs.Words.{IsShape};
-ghost use Rattle.floor_histories.specs.Histories.{key_in as key_of_event, is_event_of as is_event_of_key, ends_turn as ends_turn_with, is_to_come as is_to_come_in, is_awaited as is_awaited_in};
+ghost use Rattle.floor_histories.specs.Histories.{key_in as key_of_event, is_event_of as is_event_of_key, ends_turn as ends_turn_with, has_named, doing_of, is_to_come as is_to_come_in, is_awaited as is_awaited_in};
+ghost use Rattle.history_check.specs.Track.{doing_in};
 
+use crate::track::{Doing, Track};
 use floor_histories::{Event, GuestShape, Key, Moment};
 
 /// The interrupt that an event changes or reads, if it is one of a call.
@@ -59,21 +61,41 @@ pub fn is_to_come(later: &[Moment], actor: u32, key: Key) -> bool
     false
 }
 
-/// Whether an actor is not the vCPU, and makes an event of an interrupt in the call, or the command of one, that it is in.
-fn is_others(later: &[Moment], vcpu: u32, key: Key, actor: u32) -> bool
-    ensures { result ≡ (not (actor == vcpu) && is_to_come_in actor key later.now) }
+/// Whether an actor names what it does further on. One that is none of these is in no call.
+fn has_named_it(shape: &GuestShape, doings: &[Doing], actor: u32) -> bool
+    ensures { result ≡ has_named shape.now (doing_in doings.now actor) }
 {
-    actor != vcpu && is_to_come(later, actor, key)
+    match doings.get(actor as usize) {
+        Some(doing) => doing.has_named(shape),
+        None => true,
+    }
 }
 
-/// Whether an actor other than a vCPU makes an event of an interrupt in the call, or the command of one, that it is in, where
-/// these moments come next.
-pub fn is_awaited(shape: &GuestShape, later: &[Moment], vcpu: u32, key: Key) -> bool
+/// Whether an actor is not the vCPU, and makes an event of an interrupt in the call, or the command of one, that it is in and
+/// that names it by now.
+fn is_others(
+    shape: &GuestShape,
+    track: &Track,
+    later: &[Moment],
+    vcpu: u32,
+    key: Key,
+    actor: u32,
+) -> bool
+    ensures { result ≡ (not (actor == vcpu) && (has_named shape.now (doing_of track.now actor) && is_to_come_in actor key later.now)) }
+{
+    actor != vcpu
+        && has_named_it(shape, track.doings.as_slice(), actor)
+        && is_to_come(later, actor, key)
+}
+
+/// Whether an actor other than a vCPU makes an event of an interrupt in the call, or the command of one, that it is in and
+/// that names it by now, where these moments come next.
+pub fn is_awaited(shape: &GuestShape, later: &[Moment], track: &Track, vcpu: u32, key: Key) -> bool
     requires { IsShape shape.now }
-    ensures { result ≡ is_awaited_in shape.now later.now vcpu key }
+    ensures { result ≡ is_awaited_in shape.now later.now track.now vcpu key }
 {
     for actor in 0..shape.vcpus + shape.devices {
-        if is_others(later, vcpu, key, actor) {
+        if is_others(shape, track, later, vcpu, key, actor) {
             return true;
         }
     }

@@ -48,7 +48,8 @@ fn is_excused(track: &Track, state: &State, vcpu: u32, key: Key, later: &[Moment
     requires key { IsTrue (has_interrupt state.now.guest.shape key) }
     ensures { result ≡ is_excused_of later.now state.now track.now vcpu key }
 {
-    track.is_last_open(state.shape(), vcpu, key) || is_awaited(state.shape(), later, vcpu, key)
+    track.is_last_open(state.shape(), vcpu, key)
+        || is_awaited(state.shape(), later, track, vcpu, key)
 }
 
 /// Whether an interrupt that comes first is excused.

@@ -8,7 +8,7 @@ ghost use Rattle.history_check.specs.Ready.{IsReady, is_mark};
 
 use crate::state::State;
 use floor_histories::{
-    Command, Event, Found, NoMemory, Place, PlainWord, place_of_plain, queue_decode as decode,
+    Command, Event, Found, Place, PlainWord, place_of_plain, queue_decode as decode,
 };
 use std::alloc::{AllocError, Global};
 
@@ -92,33 +92,29 @@ impl State {
         }
     }
 
-    /// What a command without a fault maps is mapped. `NoMemory` leaves the state as it was.
+    /// What a command without a fault maps is mapped.
     #[tactic(auto, using(crate::proofs::ReadyLemmas::ready_tables))]
-    fn carry_out(&mut self, command: &Command) -> Result<(), NoMemory>
+    fn carry_out(&mut self, command: &Command)
         requires ready { IsReady self.old }
         requires good { fault_of self.old.guest.shape self.old.guest.tables command.now ≡ None }
-        ensures ok { OnOk result (self.new ≡ record self.old { guest = record self.old.guest { tables = maps_after self.old.guest.tables command.now } }) }
-        ensures err { OnErr result (self.new ≡ self.old) }
+        ensures value { self.new ≡ record self.old { guest = record self.old.guest { tables = maps_after self.old.guest.tables command.now } } }
         ensures ready { IsReady self.new }
     {
         let shape = self.guest.shape;
-        self.guest.tables.carry_out(command, &shape)
+        self.guest.tables.carry_out(command, &shape);
     }
 
     /// The end of a command of the ITS that has no fault: what it maps is mapped, and the queue is at an offset, in bytes.
-    /// `NoMemory` leaves the state as it was.
-    pub fn finish(&mut self, offset: u32, words: [u64; 4]) -> Result<(), NoMemory>
+    pub fn finish(&mut self, offset: u32, words: [u64; 4])
         requires ready { IsReady self.old }
         requires good { fault_number self.old.guest.shape self.old.guest.tables (decoded words) ≡ None }
-        ensures ok { (actor : ℕ) → OnOk result (self.new ≡ happened actor (Event.Queue offset (QueueChange.Done words)) self.old) }
-        ensures err { OnErr result (self.new ≡ self.old) }
+        ensures value { (actor : ℕ) → self.new ≡ happened actor (Event.Queue offset (QueueChange.Done words)) self.old }
         ensures ready { IsReady self.new }
     {
         if let Ok(command) = decode(words) {
-            self.carry_out(&command)?;
+            self.carry_out(&command);
         }
         self.set_queue(offset, false);
-        Ok(())
     }
 
     /// An event of an actor happens, which is not the end of a command: the state after it. An event that is not allowed

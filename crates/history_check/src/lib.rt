@@ -6,6 +6,7 @@ mod access;
 mod allowed;
 mod coming;
 mod excuse;
+mod fetch;
 mod fresh;
 mod happen;
 mod history;
@@ -17,6 +18,7 @@ mod track;
 
 pub use coming::{is_awaited, is_to_come, key_in};
 pub use excuse::{asks_first, comes_first, is_fresh_at_acknowledge};
+pub use fetch::takes_commands;
 pub use floor_histories::{
     DeviceOp, Enables, Event, Found, Frame, Group, GuestOp, GuestShape, GuestSpec, IccReg, Irq,
     Key, Kind, ListOf, Moment, NoMemory, Operation, Place, PlainWord, Preset, PresetList,

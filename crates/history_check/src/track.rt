@@ -21,12 +21,14 @@ impl Model for Turn {
     ghost view = { λ t. record { actor = t.actor; number = t.number } };
 }
 
-/// An actor: what its call is for, if it is in one, the number of that, and the interrupts of the events that it made in it.
+/// An actor: what its call is for, if it is in one, the number of that, the interrupts of the events that it made in it, and
+/// whether it has begun to read the next command of the ITS.
 #[derive(Debug, Drop)]
 pub struct Doing {
     pub operation: Option<Operation>,
     pub number: u64,
     pub done: ListOf<Key>,
+    pub fetched: bool,
 }
 
 impl Model for Doing {
@@ -34,7 +36,7 @@ impl Model for Doing {
 
     ghost Value = { Doing };
 
-    ghost view = { λ d. record { operation = d.operation; number = d.number; done = d.done } };
+    ghost view = { λ d. record { operation = d.operation; number = d.number; done = d.done; fetched = d.fetched } };
 }
 
 /// An interrupt: who changed it last, and who did since it got to the interface where it is, oldest first.

@@ -1,5 +1,5 @@
 -- A history that was played so far, and one more moment.
-use Rattle.std.proofs.Common.{◌≡◌, ℕ, ◌+◌, ◌<◌, ◌≤◌, zero, suc, Bool, IsTrue, List, [], ◌∷◌, ◌++◌, length, replicate, take, drop, drop_of_length-le, get_or, Option, Some, None, is_some, IsTrue, refl, sym, ap, ◌∙◌, subst, arith, slice_index_or, slice_get, nat_le}
+use Rattle.std.proofs.Common.{◌≡◌, ℕ, ◌+◌, ◌<◌, ◌≤◌, zero, suc, Bool, false, IsTrue, List, [], ◌∷◌, ◌++◌, length, replicate, take, drop, drop_of_length-le, get_or, Option, Some, None, is_some, IsTrue, refl, sym, ap, ◌∙◌, subst, arith, slice_index_or, slice_get, nat_le}
 use Rattle.std.specs.List.{list_all}
 use Rattle.std.proofs.lemmas.Bool.{and_from}
 use Rattle.std.proofs.lemmas.List.{length-replicate, take_more, take_all, drop_more}
@@ -32,7 +32,7 @@ all_replicate : (test : Doing → Bool) (n : ℕ) (doing : Doing) → IsTrue (te
 all_replicate test zero doing here = refl
 all_replicate test (suc n) doing here = and_from (test doing) (list_all test (replicate n doing)) here (all_replicate test n doing here)
 
-none_called : (n j : ℕ) → is_some (slice_index_or (replicate {A = Option Call} n None) j None) ≡ is_some (slice_index_or (replicate {A = Doing} n (record { operation = None; number = 0; done = [] })) j (record { operation = None; number = 0; done = [] })).operation
+none_called : (n j : ℕ) → is_some (slice_index_or (replicate {A = Option Call} n None) j None) ≡ is_some (slice_index_or (replicate {A = Doing} n (record { operation = None; number = 0; done = []; fetched = false })) j (record { operation = None; number = 0; done = []; fetched = false })).operation
 none_called zero j = refl
 none_called (suc n) zero = refl
 none_called (suc n) (suc j) = none_called n j
@@ -44,13 +44,13 @@ opening_kept shape =
         places = record { changes = length-replicate (interrupt_count shape) _ };
         actors = length-replicate (actor_count shape) _;
       };
-      numbers = all_replicate (λ doing. nat_le doing.number 0) (actor_count shape) (record { operation = None; number = 0; done = [] }) refl;
+      numbers = all_replicate (λ doing. nat_le doing.number 0) (actor_count shape) (record { operation = None; number = 0; done = []; fetched = false }) refl;
     }
 
 opening_one : (guest : GuestSpec) → AreOne (opening_course guest) (opening_track guest.shape)
 opening_one guest =
     record {
-      actors = length-replicate (actor_count guest.shape) None ∙ sym (length-replicate (actor_count guest.shape) (record { operation = None; number = 0; done = [] }));
+      actors = length-replicate (actor_count guest.shape) None ∙ sym (length-replicate (actor_count guest.shape) (record { operation = None; number = 0; done = []; fetched = false }));
       calls = λ j. none_called (actor_count guest.shape) j;
     }
 

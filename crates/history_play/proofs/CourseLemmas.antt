@@ -92,48 +92,48 @@ changes_same state shape actor ItsEnd track = refl
 changes_same state shape actor (Queue offset change) track = refl
 
 -- an event is made in the operation that its actor is in
-pub operation_same : (actor : ℕ) (event : Event) (doing : Doing) → (after_doing actor event doing).operation ≡ doing.operation
-operation_same actor (Raise key) doing = refl
-operation_same actor (Up key) doing = refl
-operation_same actor (Down key) doing = refl
-operation_same actor (Enable vcpu) doing = refl
-operation_same actor (Touch key touching) doing = refl
-operation_same actor (Reach key vcpu) doing = refl
-operation_same actor (Take key vcpu) doing = refl
-operation_same actor (Leave key vcpu) doing = refl
-operation_same actor (Cpu vcpu reg write) doing = refl
-operation_same actor (Read place) doing = refl
-operation_same actor (Put word value) doing = refl
-operation_same actor (CtlrBegin enables) doing = refl
-operation_same actor CtlrEnd doing = refl
-operation_same actor ItsBegin doing = refl
-operation_same actor ItsEnd doing = refl
-operation_same actor (Queue offset change) doing = refl
+pub operation_same : (state : Ideal) (actor : ℕ) (event : Event) (doing : Doing) → (after_doing state actor event doing).operation ≡ doing.operation
+operation_same state actor (Raise key) doing = refl
+operation_same state actor (Up key) doing = refl
+operation_same state actor (Down key) doing = refl
+operation_same state actor (Enable vcpu) doing = refl
+operation_same state actor (Touch key touching) doing = refl
+operation_same state actor (Reach key vcpu) doing = refl
+operation_same state actor (Take key vcpu) doing = refl
+operation_same state actor (Leave key vcpu) doing = refl
+operation_same state actor (Cpu vcpu reg write) doing = refl
+operation_same state actor (Read place) doing = refl
+operation_same state actor (Put word value) doing = refl
+operation_same state actor (CtlrBegin enables) doing = refl
+operation_same state actor CtlrEnd doing = refl
+operation_same state actor ItsBegin doing = refl
+operation_same state actor ItsEnd doing = refl
+operation_same state actor (Queue offset change) doing = refl
 
 -- and it is the same call, or the next command
-number_same : (actor n : ℕ) (event : Event) (doing : Doing) → doing.number ≤ n → (after_doing actor event doing).number ≤ n + 1
-number_same actor n (Raise key) doing h = omega arith
-number_same actor n (Up key) doing h = omega arith
-number_same actor n (Down key) doing h = omega arith
-number_same actor n (Enable vcpu) doing h = omega arith
-number_same actor n (Touch key touching) doing h = omega arith
-number_same actor n (Reach key vcpu) doing h = omega arith
-number_same actor n (Take key vcpu) doing h = omega arith
-number_same actor n (Leave key vcpu) doing h = omega arith
-number_same actor n (Cpu vcpu reg write) doing h = omega arith
-number_same actor n (Read place) doing h = omega arith
-number_same actor n (Put word value) doing h = omega arith
-number_same actor n (CtlrBegin enables) doing h = omega arith
-number_same actor n CtlrEnd doing h = omega arith
-number_same actor n ItsBegin doing h = omega arith
-number_same actor n ItsEnd doing h = omega arith
-number_same actor n (Queue offset change) doing h = omega arith
+number_same : (state : Ideal) (actor n : ℕ) (event : Event) (doing : Doing) → doing.number ≤ n → (after_doing state actor event doing).number ≤ n + 1
+number_same state actor n (Raise key) doing h = omega arith
+number_same state actor n (Up key) doing h = omega arith
+number_same state actor n (Down key) doing h = omega arith
+number_same state actor n (Enable vcpu) doing h = omega arith
+number_same state actor n (Touch key touching) doing h = omega arith
+number_same state actor n (Reach key vcpu) doing h = omega arith
+number_same state actor n (Take key vcpu) doing h = omega arith
+number_same state actor n (Leave key vcpu) doing h = omega arith
+number_same state actor n (Cpu vcpu reg write) doing h = omega arith
+number_same state actor n (Read place) doing h = omega arith
+number_same state actor n (Put word value) doing h = omega arith
+number_same state actor n (CtlrBegin enables) doing h = omega arith
+number_same state actor n CtlrEnd doing h = omega arith
+number_same state actor n ItsBegin doing h = omega arith
+number_same state actor n ItsEnd doing h = omega arith
+number_same state actor n (Queue offset change) doing h = omega arith
 
 -- Calls and doings, by actor.
 
 -- the same actors are in calls
 abbrev InSame : List (Option Call) → List Doing → Type 0
-InSame calls doings = (j : ℕ) → is_some (slice_index_or calls j None) ≡ is_some (slice_index_or doings j (record { operation = None; number = 0; done = [] })).operation
+InSame calls doings = (j : ℕ) → is_some (slice_index_or calls j None) ≡ is_some (slice_index_or doings j (record { operation = None; number = 0; done = []; fetched = false })).operation
 
 set_same : (calls : List (Option Call)) (doings : List Doing) (i : ℕ) (call : Option Call) (doing : Doing) → length calls ≡ length doings → is_some call ≡ is_some doing.operation → InSame calls doings → InSame (slice_set calls i call) (slice_set doings i doing)
 set_same [] [] i call doing len here same = λ j. refl
@@ -141,12 +141,12 @@ set_same [] (y ∷ doings) i call doing len here same = absurd (cc)
 set_same (x ∷ calls) [] i call doing len here same = absurd (cc)
 set_same (x ∷ calls) (y ∷ doings) zero call doing len here same = of
   where
-    of : (j : ℕ) → is_some (slice_index_or (call ∷ calls) j None) ≡ is_some (slice_index_or (doing ∷ doings) j (record { operation = None; number = 0; done = [] })).operation
+    of : (j : ℕ) → is_some (slice_index_or (call ∷ calls) j None) ≡ is_some (slice_index_or (doing ∷ doings) j (record { operation = None; number = 0; done = []; fetched = false })).operation
     of zero = here
     of (suc j) = same (suc j)
 set_same (x ∷ calls) (y ∷ doings) (suc i) call doing len here same = of (set_same calls doings i call doing (omega (arith, len)) here (λ j. same (suc j)))
   where
-    of : InSame (slice_set calls i call) (slice_set doings i doing) → (j : ℕ) → is_some (slice_index_or (x ∷ slice_set calls i call) j None) ≡ is_some (slice_index_or (y ∷ slice_set doings i doing) j (record { operation = None; number = 0; done = [] })).operation
+    of : InSame (slice_set calls i call) (slice_set doings i doing) → (j : ℕ) → is_some (slice_index_or (x ∷ slice_set calls i call) j None) ≡ is_some (slice_index_or (y ∷ slice_set doings i doing) j (record { operation = None; number = 0; done = []; fetched = false })).operation
     of rest zero = same 0
     of rest (suc j) = rest j
 
@@ -167,7 +167,7 @@ pub goes_on : (course : Course) (track : Track) (moment : Moment) → AreOne cou
 goes_on course track (Begin actor operation) one =
     record {
       actors = length-set course.calls actor _ ∙ one.actors ∙ sym (length-set track.doings actor _);
-      calls = set_same course.calls track.doings actor _ (record { operation = Some operation; number = (doing_of track actor).number + 1; done = [] }) one.actors refl one.calls;
+      calls = set_same course.calls track.doings actor _ (record { operation = Some operation; number = (doing_of track actor).number + 1; done = []; fetched = false }) one.actors refl one.calls;
     }
 goes_on course track (End actor answer) one =
     record {
@@ -177,13 +177,13 @@ goes_on course track (End actor answer) one =
 goes_on course track (Happens actor event found) one =
     let ideal = happened actor event course.ideal in
     let call = option_map (made course.ideal event found) (call_of course actor) in
-    let doing = after_doing actor event (doing_of track actor) in
+    let doing = after_doing course.ideal actor event (doing_of track actor) in
     let doings = (after_leaving course.ideal event (after_changes course.ideal.guest.shape actor event track)).doings in
     let same : doings ≡ track.doings = doings_same course.ideal course.ideal.guest.shape actor event track in
-    let here : is_some call ≡ is_some doing.operation = is_some_map (made course.ideal event found) (call_of course actor) ∙ one.calls actor ∙ ap is_some (sym (operation_same actor event (doing_of track actor))) in
+    let here : is_some call ≡ is_some doing.operation = is_some_map (made course.ideal event found) (call_of course actor) ∙ one.calls actor ∙ ap is_some (sym (operation_same course.ideal actor event (doing_of track actor))) in
     record {
       actors = length-map_calls (seeing ideal) (slice_set course.calls actor call) ∙ length-set course.calls actor call ∙ one.actors ∙ ap length (sym same) ∙ sym (length-set doings actor doing);
-      calls = λ j. seen_same (seeing ideal) (slice_set course.calls actor call) j ∙ set_same course.calls track.doings actor call doing one.actors here one.calls j ∙ ap (λ (ds : List Doing). is_some (slice_index_or (slice_set ds actor doing) j (record { operation = None; number = 0; done = [] })).operation) (sym same);
+      calls = λ j. seen_same (seeing ideal) (slice_set course.calls actor call) j ∙ set_same course.calls track.doings actor call doing one.actors here one.calls j ∙ ap (λ (ds : List Doing). is_some (slice_index_or (slice_set ds actor doing) j (record { operation = None; number = 0; done = []; fetched = false })).operation) (sym same);
     }
 
 -- What is kept.
@@ -201,7 +201,7 @@ numbers_more n (x ∷ doings) all =
     let here : x.number ≤ n = nat_le_more x.number n parts.0 in
     and_from (nat_le x.number (n + 1)) (list_all (λ doing. nat_le doing.number (n + 1)) doings) (to_nat_le x.number (n + 1) (omega arith)) (numbers_more n doings parts.1)
 
-pub number_at : (n : ℕ) (doings : List Doing) (i : ℕ) → IsTrue (list_all (λ doing. nat_le doing.number n) doings) → (slice_index_or doings i (record { operation = None; number = 0; done = [] })).number ≤ n
+pub number_at : (n : ℕ) (doings : List Doing) (i : ℕ) → IsTrue (list_all (λ doing. nat_le doing.number n) doings) → (slice_index_or doings i (record { operation = None; number = 0; done = []; fetched = false })).number ≤ n
 number_at n [] i all = omega arith
 number_at n (x ∷ doings) zero all = nat_le_more x.number n (and_parts (nat_le x.number n) (list_all (λ doing. nat_le doing.number n) doings) all).0
 number_at n (x ∷ doings) (suc i) all = number_at n doings i (and_parts (nat_le x.number n) (list_all (λ doing. nat_le doing.number n) doings) all).1
@@ -221,21 +221,21 @@ kept_doing shape n track actor doing changes leaving kept len number =
 pub kept_more : (state : Ideal) (n : ℕ) (track : Track) (moment : Moment) → IsKept state.guest.shape n track → IsKept state.guest.shape (n + 1) (tracked state moment track)
 kept_more state n track (Begin actor operation) kept =
     let at = number_at n track.doings actor kept.numbers in
-    kept_doing state.guest.shape n track actor (record { operation = Some operation; number = (doing_of track actor).number + 1; done = [] }) track.changes track.leaving kept refl (omega arith)
+    kept_doing state.guest.shape n track actor (record { operation = Some operation; number = (doing_of track actor).number + 1; done = []; fetched = false }) track.changes track.leaving kept refl (omega arith)
 kept_more state n track (End actor answer) kept =
     let at = number_at n track.doings actor kept.numbers in
     kept_doing state.guest.shape n track actor (record (doing_of track actor) { operation = None }) track.changes track.leaving kept refl (omega arith)
 kept_more state n track (Happens actor event found) kept =
     let shape = state.guest.shape in
     let after = after_leaving state event (after_changes shape actor event track) in
-    let doing = after_doing actor event (doing_of track actor) in
-    let number = number_same actor n event (doing_of track actor) (number_at n track.doings actor kept.numbers) in
+    let doing = after_doing state actor event (doing_of track actor) in
+    let number = number_same state actor n event (doing_of track actor) (number_at n track.doings actor kept.numbers) in
     subst (λ (ds : List Doing). IsKept shape (n + 1) (record { doings = slice_set ds actor doing; changes = after.changes; leaving = after.leaving })) (sym (doings_same state shape actor event track))
     (kept_doing shape n track actor doing after.changes after.leaving kept (changes_same state shape actor event track) number)
 
 -- an actor that is none is in no call
 pub none_busy : (doings : List Doing) (actor : ℕ) → nat_lt actor (length doings) ≡ false → false ≡ is_some (doing_in doings actor).operation
-none_busy doings actor e = sym (ap (λ (d : Doing). is_some d.operation) (past_end doings actor (record { operation = None; number = 0; done = [] }) e))
+none_busy doings actor e = sym (ap (λ (d : Doing). is_some d.operation) (past_end doings actor (record { operation = None; number = 0; done = []; fetched = false }) e))
 
 pub busy_there : (doings : List Doing) (actor : ℕ) → IsTrue (is_some (doing_in doings actor).operation) → actor < length doings
 busy_there doings actor h = of (nat_lt actor (length doings)) refl

@@ -26,11 +26,9 @@ fn change_queue(
 {
     match change {
         QueueChange::Done { words } => state.finish(offset, words),
-        _ => {
-            state.happens(alloc, actor, &Event::Queue { offset, change })?;
-            Ok(())
-        }
+        _ => state.happens(alloc, actor, &Event::Queue { offset, change })?,
     }
+    Ok(())
 }
 
 /// The state after an event.

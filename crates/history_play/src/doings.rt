@@ -1,8 +1,9 @@
 //! What an actor does.
 ghost use Rattle.std.specs.Prelude.{◌≡◌, ◌<◌, ◌+◌, ◌^◌, IfOk};
 ghost use Rattle.history_check.specs.Histories.{after_doing};
+ghost use Rattle.history_check.specs.Ready.{IsReady};
 
-use history_check::{Doing, Event, Key, ListOf, key_in};
+use history_check::{Doing, Event, Key, ListOf, State, key_in};
 use std::alloc::{AllocError, Global};
 
 /// A second list of the same interrupts.
@@ -16,23 +17,26 @@ pub(crate) fn copied_keys(alloc: Global, keys: &[Key]) -> Result<ListOf<Key>, Al
     Ok(all)
 }
 
-/// What an actor does after an event that it made: a command that ended begins the next, and counts as a call of its own.
+/// What an actor does after an event that it made in a state: a command that ended begins the next, counts as a call of its
+/// own, and is still to be read.
 pub(crate) fn doing_after(
     alloc: Global,
+    state: &State,
     doing: &Doing,
     actor: u32,
     event: &Event,
 ) -> Result<Doing, AllocError>
-    requires { doing.now.number + 1 < 2 ^ 64 }
-    ensures { IfOk result (λ after. after ≡ after_doing actor event.now doing.now) }
+    requires ready { IsReady state.now }
+    requires room { doing.now.number + 1 < 2 ^ 64 }
+    ensures { IfOk result (λ after. after ≡ after_doing state.now actor event.now doing.now) }
 {
-    let _ = actor;
     let operation = doing.operation;
     if let Event::Queue { .. } = *event {
         return Ok(Doing {
             operation,
             number: doing.number + 1,
             done: ListOf::new(alloc),
+            fetched: false,
         });
     }
     let mut done = copied_keys(alloc, doing.done.as_slice())?;
@@ -43,5 +47,6 @@ pub(crate) fn doing_after(
         operation,
         number: doing.number,
         done,
+        fetched: doing.fetched || state.is_fetch(actor, event),
     })
 }

@@ -17,7 +17,8 @@ pub use after::follow;
 pub use can::can_happen;
 pub use history_check::{
     DeviceOp, Event, Found as CallFound, Frame, Group, GuestOp, GuestShape, GuestSpec, IccReg, Irq,
-    Key, Kind, ListOf, Moment, NoMemory, Operation, Preset, PresetList, Touching, opening_irq,
+    Key, Kind, ListOf, Moment, NoMemory, Operation, Place, PlainWord, Preset, PresetList,
+    QueueChange, Touching, opening_irq,
 };
 pub use laws::histories_are_allowed;
 pub use track::{begins, ends, happens, opening_track};

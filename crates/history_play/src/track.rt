@@ -1,5 +1,5 @@
 //! What a history says of its actors and its interrupts, moment by moment.
-ghost use Rattle.std.specs.Prelude.{◌≡◌, ℕ, ◌<◌, ◌+◌, ◌^◌, [], Option, None, IfOk, OnOk, length, replicate};
+ghost use Rattle.std.specs.Prelude.{◌≡◌, ℕ, ◌<◌, ◌+◌, ◌^◌, [], Option, None, false, IfOk, OnOk, length, replicate};
 ghost use Rattle.history_check.specs.Words.{IsShape};
 ghost use Rattle.history_check.specs.Calls.{CanHappen, Found, Moment};
 ghost use Rattle.history_check.specs.Histories.{Ideal, opening_track as opening_track_of, doing_of, tracked};
@@ -16,7 +16,7 @@ use std::alloc::{AllocError, Global};
 
 /// So many actors, none of which is in a call.
 fn idle(alloc: Global, actors: u32) -> Result<ListOf<Doing>, AllocError>
-    ensures { IfOk result (λ doings. doings ≡ replicate actors (record { operation = None; number = 0; done = [] })) }
+    ensures { IfOk result (λ doings. doings ≡ replicate actors (record { operation = None; number = 0; done = []; fetched = false })) }
 {
     let mut doings = ListOf::new(alloc);
     for actor in 0..actors {
@@ -25,6 +25,7 @@ fn idle(alloc: Global, actors: u32) -> Result<ListOf<Doing>, AllocError>
             operation: None,
             number: 0,
             done: ListOf::new(alloc),
+            fetched: false,
         })?;
     }
     Ok(doings)
@@ -68,6 +69,7 @@ pub fn begins(track: &mut Track, alloc: Global, actor: u32, operation: Operation
         operation: Some(operation),
         number: before.number + 1,
         done: ListOf::new(alloc),
+        fetched: false,
     };
     track.doings.set(actor as usize, doing);
 }
@@ -89,6 +91,7 @@ pub fn happens(
 {
     let doing = doing_after(
         alloc,
+        state,
         &track.doings.as_slice()[actor as usize],
         actor,
         event,
@@ -109,6 +112,7 @@ pub fn ends(track: &mut Track, alloc: Global, actor: u32) -> Result<(), AllocErr
         operation: None,
         number: before.number,
         done: copied_keys(alloc, before.done.as_slice())?,
+        fetched: before.fetched,
     };
     track.doings.set(actor as usize, doing);
     Ok(())

@@ -46,7 +46,7 @@ fn guest(alloc: Global) -> Result<GuestSpec, AllocError> {
 
 /// What happens in a history.
 #[derive(Clone, Copy)]
-enum Row {
+pub(crate) enum Row {
     /// A call with one event.
     Call {
         actor: u32,
@@ -106,7 +106,7 @@ fn access(vcpu: u32, reg: IccReg, write: Option<u64>, value: Option<u64>) -> Row
     }
 }
 
-fn reads(vcpu: u32, reg: IccReg, value: u64) -> Row {
+pub(crate) fn reads(vcpu: u32, reg: IccReg, value: u64) -> Row {
     access(vcpu, reg, None, Some(value))
 }
 
@@ -114,7 +114,7 @@ fn ends(vcpu: u32, id: u64) -> Row {
     access(vcpu, IccReg::Eoir1, Some(id), None)
 }
 
-fn begin(actor: u32, op: GuestOp) -> Row {
+pub(crate) fn begin(actor: u32, op: GuestOp) -> Row {
     Row::One {
         moment: Moment::Begin {
             actor,
@@ -123,7 +123,7 @@ fn begin(actor: u32, op: GuestOp) -> Row {
     }
 }
 
-fn happens(actor: u32, event: Event, found: Found) -> Row {
+pub(crate) fn happens(actor: u32, event: Event, found: Found) -> Row {
     Row::One {
         moment: Moment::Happens {
             actor,
@@ -133,7 +133,7 @@ fn happens(actor: u32, event: Event, found: Found) -> Row {
     }
 }
 
-fn end(actor: u32, answer: Option<u64>) -> Row {
+pub(crate) fn end(actor: u32, answer: Option<u64>) -> Row {
     Row::One {
         moment: Moment::End { actor, answer },
     }
@@ -165,14 +165,23 @@ fn moments(alloc: Global, rows: &[Row]) -> Result<ListOf<Moment>, AllocError> {
     Ok(moments)
 }
 
-/// What is wrong with a history, if anything is.
-fn play(alloc: Global, rows: &[Row]) -> Result<Option<Refusal>, NoMemory> {
-    let guest = guest(alloc)?;
+/// What is wrong with a history of a guest, if anything is.
+pub(crate) fn play_on(
+    alloc: Global,
+    guest: &GuestSpec,
+    rows: &[Row],
+) -> Result<Option<Refusal>, NoMemory> {
     if !guest.is_good() {
         return Err(NoMemory);
     }
     let moments = moments(alloc, rows)?;
-    check(alloc, &guest, moments.as_slice())
+    check(alloc, guest, moments.as_slice())
+}
+
+/// The same of the guest of these rows.
+fn play(alloc: Global, rows: &[Row]) -> Result<Option<Refusal>, NoMemory> {
+    let guest = guest(alloc)?;
+    play_on(alloc, &guest, rows)
 }
 
 /// SPI 40 after a message.
@@ -448,7 +457,7 @@ fn play_pending(alloc: Global, last: &[Row]) -> Result<Option<Refusal>, NoMemory
     play(alloc, rows.as_slice())
 }
 
-fn refused(moment: usize, cause: Cause) -> Option<Refusal> {
+pub(crate) fn refused(moment: usize, cause: Cause) -> Option<Refusal> {
     Some(Refusal { moment, cause })
 }
 

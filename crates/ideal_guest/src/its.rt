@@ -1,5 +1,5 @@
 //! The command queue of a guest's ITS.
-ghost use Rattle.std.specs.Prelude.{◌≡◌, ◌<◌, ◌^◌, None, Ok, OnOk, OnErr};
+ghost use Rattle.std.specs.Prelude.{◌≡◌, ◌<◌, ◌^◌, None, Ok, OnOk};
 ghost use Rattle.floor_calls.specs.ItsCmd.Command.{decoded};
 ghost use Rattle.floor_calls.specs.Registers.{fault_of, maps_after};
 ghost use Rattle.floor_calls.specs.Calls.{memory_at, takes_command as takes_command_in, queue_address as queue_address_in, word_address, command_words as command_words_in};
@@ -24,8 +24,8 @@ const ADDRESS: Field = Field {
 /// The bytes of a doubleword.
 const DOUBLEWORD_BYTES: u32 = 8;
 
-/// The address of the queue that GITS_CBASER names.
-fn queue_address(cbaser: u64) -> u64
+/// The address of the command queue that a GITS_CBASER names: bits [51:12], a multiple of 4096.
+pub fn queue_address(cbaser: u64) -> u64
     ensures value { result ≡ queue_address_in cbaser }
     ensures bound { result < 2 ^ 52 }
 {
@@ -68,17 +68,16 @@ impl IdealGuest {
         ]
     }
 
-    /// A command without a fault changes the maps. `NoMemory` leaves the guest as it was.
-    fn carry_out(&mut self, command: &Command) -> Result<(), NoMemory>
+    /// A command without a fault changes the maps.
+    fn carry_out(&mut self, command: &Command)
         requires sound { IsSound self.old }
         requires good { fault_of self.old.shape self.old.tables command.now ≡ None }
-        ensures ok { OnOk result (self.new ≡ record self.old { tables = maps_after self.old.tables command.now }) }
-        ensures err { OnErr result (self.new ≡ self.old) }
+        ensures value { self.new ≡ record self.old { tables = maps_after self.old.tables command.now } }
         ensures sound { IsSound self.new }
         ensures shape { self.new.shape ≡ self.old.shape }
     {
         let shape = self.shape;
-        self.tables.carry_out(command, &shape)
+        self.tables.carry_out(command, &shape);
     }
 
     /// A command without a fault is done: its parts, then the maps, and then the queue goes on.
@@ -94,7 +93,7 @@ impl IdealGuest {
         let events = self.part_events(alloc, parts.as_slice())?;
         let next = advance(self.offset, queue_bytes(self.word(PlainWord::Cbaser)));
         self.happen_all(events.as_slice());
-        self.carry_out(command)?;
+        self.carry_out(command);
         self.set_queue(next, false);
         Ok(())
     }

@@ -118,4 +118,5 @@ pub use floor_calls::split;
 pub use floor_calls::with_part;
 pub use guest::IdealGuest;
 pub use its::bad_commands_stall;
+pub use its::queue_address;
 pub use its::queues_run_dry;

@@ -5,18 +5,22 @@ ghost use Rattle.ideal_guest.specs.Opening.{opening};
 ghost use Rattle.ideal_guest.specs.Sound.{IsSound};
 
 use crate::guest::IdealGuest;
-use floor_calls::{GuestSpec, cpus, empty, enables_in, irqs, opening_enables, plains};
+use floor_calls::{GuestSpec, ItsTables, cpus, enables_in, irqs, opening_enables, plains};
 use std::alloc::{AllocError, Global};
 
 impl IdealGuest {
     /// The state in which a guest opens: the records of its presets, nothing pending or active, memory and stored
-    /// registers 0, and an ITS that has mapped nothing. `AllocError` where memory is refused.
+    /// registers 0, and an ITS that has mapped nothing, and has room for all that it may ever map.
+    /// `AllocError` where memory is refused.
     #[tactic(auto, using(crate::proofs::OpeningLemmas::sound_opening))]
     pub fn open(alloc: Global, guest: &GuestSpec) -> Result<Self, AllocError>
         requires { IsGoodGuest guest.now }
         ensures value { IfOk result (λ state. state ≡ opening guest.now) }
         ensures sound { IfOk result IsSound }
     {
+        let Ok(tables) = ItsTables::of(alloc) else {
+            return Err(AllocError);
+        };
         Ok(IdealGuest {
             shape: guest.shape,
             irqs: irqs(alloc, guest)?,
@@ -25,7 +29,7 @@ impl IdealGuest {
             words: plains(alloc, &guest.shape)?,
             offset: 0,
             is_stalled: false,
-            tables: empty(alloc),
+            tables,
         })
     }
 }

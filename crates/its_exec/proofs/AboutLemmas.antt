@@ -14,9 +14,9 @@ use Rattle.port_call.proofs.PortCore.PlaceLemmas.{lines_hold}
 use Rattle.port_call.specs.About.{is_about, are_about}
 use Rattle.port_call.specs.Piece.{steps_of, takes_none}
 use Rattle.port_call.specs.Tell.{TellsOf, told}
-use Rattle.its_exec.specs.Known.{KnowsSame, IsUntouched, are_within, is_fetched}
+use Rattle.its_exec.specs.Known.{KnowsSame, IsUntouched, are_within, are_going, keeps_read, is_fetched}
 use Rattle.its_exec.specs.Config.{is_kept}
-use Rattle.its_exec.proofs.FrameLemmas.{both, word_of_place, leaves, same_by, within_by, untouched_on, all_steps, off_each}
+use Rattle.its_exec.proofs.FrameLemmas.{both, word_of_place, leaves, same_by, within_by, going_by, untouched_on, all_steps, off_each}
 use Rattle.its_exec.proofs.LookLemmas.{lpi_place}
 
 -- a step about it is on its word, or on a word of a vCPU
@@ -44,6 +44,24 @@ about_ends_none id (made ∷ part) h =
     of (Mark other vcpu) k = refl
     of (Kick vcpu) k = refl
     of _ k = absurd (cc)
+
+about_keeps : (id : ℕ) (part : List Made) → IsTrue (are_about (Lpi id) part) → IsTrue (list_all (λ made. keeps_read made.step) part)
+about_keeps id [] h = refl
+about_keeps id (made ∷ part) h =
+    let parts = and_parts (is_about (Lpi id) made.step) (are_about (Lpi id) part) h in
+    both (keeps_read made.step) (list_all (λ made. keeps_read made.step) part) (of made.step parts.0) (about_keeps id part parts.1)
+  where
+    of : (step : CoreStep) → IsTrue (is_about (Lpi id) step) → IsTrue (keeps_read step)
+    of (Look word) k = refl
+    of (Raise other) k = refl
+    of (Touch other seen kind) k = refl
+    of (Want other) k = refl
+    of (Mark other vcpu) k = refl
+    of (Kick vcpu) k = refl
+    of _ k = absurd (cc)
+
+pub about_going : (id : ℕ) (part : List Made) → IsTrue (are_about (Lpi id) part) → IsTrue (takes_none part) → IsTrue (are_going part)
+about_going id part about none = going_by part none (about_keeps id part about)
 
 pub about_within : (id : ℕ) (part : List Made) → IsTrue (are_about (Lpi id) part) → IsTrue (takes_none part) → IsTrue (are_within part)
 about_within id part about none = within_by part none (about_ends_none id part about)

@@ -185,6 +185,19 @@ has_on old new address part before add keeps has =
           read_stays old new (Word (Ram index)) before (part_events old part) kept.same kept.unread (has.each index at there));
     }
 
+-- what was fetched is known still
+pub has_still : (old new : Seen) (address : ℕ) (part : List Made) (before : List Happened) → Adds old new part → Keeps old new address part → HasFetched old address before → HasFetched new address before
+has_still old new address part before add keeps has =
+    let shape : shape_of new ≡ shape_of old = ap shape_of add.new_is in
+    record {
+      each = λ index at inside.
+          (let there : index < (shape_of old).ram / 8 = omega (arith, inside, ap (λ shape. shape.ram / 8) shape) in
+          let kept = keeps.each (Word (Ram index)) (and_kept (is_fetched address index) (nat_lt index ((shape_of old).ram / 8)) at (lt-ltb index ((shape_of old).ram / 8) there)) in
+          let was = has.each index at there in
+          let Last : Found → Type 0 = λ found. IsLastRead (Word (Ram index)) found before in
+          record { known = kept.same.known ∙ was.known; last = subst Last (sym kept.same.held) was.last });
+    }
+
 -- the look at GICR_PROPBASER keeps all of it
 propbaser_keeps : (old mid : Seen) (address vcpu value : ℕ) → vcpu < (shape_of old).vcpus → (reads : ReadsPlain old mid (Propbaser vcpu) value) → Keeps old mid address (reads.look ∷ [])
 propbaser_keeps old mid address vcpu value there reads =

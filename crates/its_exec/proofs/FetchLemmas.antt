@@ -1,6 +1,6 @@
 -- The doublewords of a command, one after the other.
-use Rattle.std.proofs.Common.{◌≡◌, ◌≢◌, ℕ, zero, suc, ◌^◌, slice_index, ◌+◌, ◌-◌, ◌*◌, ◌/◌, ◌%◌, ◌<◌, ◌≤◌, ◌⊎◌, inl, inr, ◌==◌, ◌&&◌, not, Bool, true, false, nat_lt, nat_le, unwrap_or, if◌then◌else◌, IsTrue, List, [], ◌∷◌, ◌++◌, map, All, Option, Some, None, refl, sym, ap, subst, ◌∙◌, arith}
-use Rattle.std.specs.List.{list_all}
+use Rattle.std.proofs.Common.{◌≡◌, ◌≢◌, ℕ, zero, suc, ◌^◌, slice_index, ◌+◌, ◌-◌, ◌*◌, ◌/◌, ◌%◌, ◌<◌, ◌≤◌, ◌⊎◌, inl, inr, ◌==◌, ◌&&◌, ◌||◌, not, Bool, true, false, nat_lt, nat_le, unwrap_or, if◌then◌else◌, IsTrue, List, [], ◌∷◌, ◌++◌, map, All, Option, Some, None, refl, sym, ap, subst, ◌∙◌, arith}
+use Rattle.std.specs.List.{list_all, list_any}
 use Rattle.std.specs.Option.{option_map_or}
 use Rattle.std.proofs.lemmas.Bool.{and_parts, eq-eqb, eqb-true, lt-ltb, le-ltb, le-leb, cases_lt, ltb-true, leb-true}
 use Rattle.std.proofs.lemmas.List.{append_assoc}
@@ -20,8 +20,8 @@ use Rattle.port_call.proofs.MemoryLemmas.{reads_in}
 use Rattle.port_call.proofs.TurnLemmas.{events_then}
 use Rattle.its_exec.specs.declared.known.KnownQueue.{KnownQueue}
 use Rattle.its_exec.specs.Config.{HoldsCommand}
-use Rattle.its_exec.specs.Known.{Knows, KnowsQueue, KnowsDoubleword, HasRead, Fetches, KnowsSame, Reading, is_read}
-use Rattle.its_exec.proofs.FrameLemmas.{both, word_of_place, since_last, knows_by, Leaves, leaves, knows_on, same_by, within_by, untouched_on, all_steps, off_each}
+use Rattle.its_exec.specs.Known.{Knows, KnowsQueue, KnowsDoubleword, HasRead, Fetches, KnowsSame, Reading, is_read, keeps_read, is_look_of, looks_at}
+use Rattle.its_exec.proofs.FrameLemmas.{both, word_of_place, since_last, knows_by, Leaves, leaves, knows_on, same_by, within_by, going_by, looks_early, looks_late, any_step, untouched_on, all_steps, off_each}
 use Rattle.its_exec.proofs.LookLemmas.{plain_known, reading_joins, reading_none, plain_apart, queue_apart, plain_lpi_apart}
 
 -- Last reads.
@@ -147,6 +147,16 @@ look_ends_none place (made ∷ part) h =
     of (RamLook index) k = refl
     of _ k = absurd (cc)
 
+look_keeps : (place : ℕ) (part : List Made) → IsTrue (list_all (λ made. is_look_at place made.step) part) → IsTrue (list_all (λ made. keeps_read made.step) part)
+look_keeps place [] h = refl
+look_keeps place (made ∷ part) h =
+    let parts = and_parts (is_look_at place made.step) (list_all (λ made. is_look_at place made.step) part) h in
+    both (keeps_read made.step) (list_all (λ made. keeps_read made.step) part) (of made.step parts.0) (look_keeps place part parts.1)
+  where
+    of : (step : CoreStep) → IsTrue (is_look_at place step) → IsTrue (keeps_read step)
+    of (RamLook index) k = refl
+    of _ k = absurd (cc)
+
 all_reads : (view : View) (places : List Place) → IsTrue (list_all is_read (map (read_as view) places))
 all_reads view [] = refl
 all_reads view (place ∷ places) = all_reads view places
@@ -158,6 +168,7 @@ reading_memory old new w n value whole reads =
       adds = reads.adds;
       local = reads.local_is;
       within = within_by reads.part reads.none_taken (look_ends_none (w + n) reads.part steps);
+      going = going_by reads.part reads.none_taken (look_keeps (w + n) reads.part steps);
       reads = ap (list_all is_read) reads.events ∙ all_reads (view_by new) (memory_places (shape_of old) (8 * w + 8 * n) 8);
       untouched = λ id there is.
           untouched_on old new reads.part id reads.adds (within_by reads.part reads.none_taken (look_ends_none (w + n) reads.part steps))
@@ -178,11 +189,12 @@ pub record Fetching (old now : Seen) (queue : KnownQueue) (w count : ℕ) : Type
   pub part : List Made
   pub reading : Reading old now part
   pub has : (n : ℕ) → n < count → w + n < (shape_of old).ram / 8 → HasRead now (Word (Ram (w + n))) (part_events old part)
+  pub looked : 0 < count → w < (shape_of old).ram / 8 → IsTrue (looks_at w part)
   pub knows : KnowsQueue now queue
 
 pub fetching_none : (old : Seen) (queue : KnownQueue) (w : ℕ) → KnowsQueue old queue → Fetching old old queue w 0
 fetching_none old queue w knows =
-    record { part = []; reading = reading_none old; has = λ n small inside. absurd (omega (arith, small)); knows = knows }
+    record { part = []; reading = reading_none old; has = λ n small inside. absurd (omega (arith, small)); looked = λ some inside. absurd (omega (arith, some)); knows = knows }
 
 -- the look at a doubleword in the memory reads it, and nothing else
 one_step : (part : List Made) (step : CoreStep) → steps_of part ≡ step ∷ [] → (look : Made) × ((part ≡ look ∷ []) × (look.step ≡ step))
@@ -275,9 +287,17 @@ fetching_more old now next queue w n value whole so reads =
       part = so.part ++ reads.part;
       reading = reading_joins old now next so.part reads.part so.reading (reading_memory now next w n value same reads);
       has = λ k small inside. subst (By k) (sym events) (of k (cases_lt k n) small inside same (there k inside));
+      looked = λ some inside. look_in (cases_lt 0 n) inside same (ap (λ shape. shape.ram) shape);
       knows = knows_after now next w n value queue same reads so.knows;
     }
   where
+    look_in : (0 < n) ⊎ (n ≤ 0) → w < (shape_of old).ram / 8 → (shape_of now).ram % 8 ≡ 0 → (shape_of now).ram ≡ (shape_of old).ram → IsTrue (looks_at w (so.part ++ reads.part))
+    look_in (inl later) inside whole_now same = looks_early w so.part reads.part (so.looked later inside)
+    look_in (inr first) inside whole_now same =
+        let yes : nat_lt (w + n) ((shape_of now).ram / 8) ≡ true = is_there (shape_of now) w n (omega (arith, first, inside, ap (λ r. r / 8) same)) in
+        let steps : steps_of reads.part ≡ RamLook (w + n) ∷ [] = reads.steps_are ∙ looks_are (shape_of now) w n whole_now ∙ ap (λ b. if b then RamLook (w + n) ∷ [] else []) yes in
+        looks_late w so.part reads.part (sym (any_step (is_look_of w) reads.part) ∙ ap (list_any (is_look_of w)) steps ∙ ap (λ b. b || false) (eq-eqb (w + n) w (omega (arith, first))))
+
     of : (k : ℕ) → (k < n) ⊎ (n ≤ k) → k < n + 1 → w + k < (shape_of old).ram / 8 → (shape_of now).ram % 8 ≡ 0 → w + k < (shape_of now).ram / 8 → HasRead next (Word (Ram (w + k))) (part_events old so.part ++ part_events now reads.part)
     of k (inl less) small inside same there =
         read_stays now next (Word (Ram (w + k))) (part_events old so.part) (part_events now reads.part) (same_by now next (Word (Ram (w + k))) (memory_leaves_ram now next w n k value same reads (λ e. omega (arith, e, less)))) (reads_other now next w n k value same reads (λ e. omega (arith, e, less)))
@@ -340,6 +360,7 @@ fetches s a b c new queue address k0 k1 k2 k3 whole knows is early one two three
       reading = f4.reading;
       address_is = is;
       words_are = words ∙ ap (λ from. map (λ number. memory_at (shape_of s) (view_by new) (from + 8 * number) 8) (0 ∷ 1 ∷ 2 ∷ 3 ∷ [])) (sym same);
+      looked = λ inside. f4.looked (omega arith) inside;
       has = record { each = λ index at inside. each w index at (omega (arith, inside, ap (λ shape. shape.ram / 8) en)) f4.has };
       knows = f4.knows;
     }

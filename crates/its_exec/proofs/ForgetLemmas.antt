@@ -11,7 +11,7 @@ use Rattle.std.proofs.lemmas.List.{append_assoc, map-append}
 use Rattle.port_call.specs.Words.{Lpi, GuestShape, has_interrupt}
 use Rattle.port_call.specs.Calls.{Part, each, parts, lpis_of_device}
 use Rattle.port_call.specs.GicCall.declared.command.Part.TheVariants.{Forget}
-use Rattle.port_call.specs.Registers.{Command, without_events, Maps, event_cmp, pair_of, first_event, with_device, without_event, IsSound}
+use Rattle.port_call.specs.Registers.{Command, without_events, Maps, event_cmp, pair_of, first_event, without_event, IsSound}
 use Rattle.port_call.proofs.ItsTab.TableLemmas.{event_order, same_event, pair_of-without_event, sound-without_event, sound-with_device}
 use Rattle.port_call.proofs.ItsTab.CarryLemmas.{without_events-without_event, without_events-none, fewer_events, first_event-without_events}
 use Rattle.port_call.specs.Core.{Local, Seen, shape_of}
@@ -198,10 +198,6 @@ forgotten_rest was maps device none rest = sym (without_events-none maps device 
 -- there are fewer
 pub fewer : (maps new : Maps) (event : ℕ × ℕ) → IsSome (pair_of maps event) → new ≡ without_event maps event → length new.events < length maps.events
 fewer maps new event there is = let less = fewer_events maps event there in let same = ap (λ m. length m.events) is in omega (arith, less, same)
-
--- the device is mapped first
-pub sound_with : (maps new : Maps) (device bits : ℕ) → IsSound maps → new ≡ with_device maps device bits → IsSound new
-sound_with maps new device bits sound is = subst IsSound (sym is) (sound-with_device maps device bits sound)
 
 pub no_event_left : (maps new : Maps) (device : ℕ) → new ≡ without_events maps device → first_event new device ≡ None
 no_event_left maps new device is = ap (λ m. first_event m device) is ∙ first_event-without_events maps device

@@ -1,6 +1,6 @@
 -- What an actor knows of the guest's words after more steps, and after a step on a word.
 use Rattle.std.proofs.Common.{◌≡◌, ℕ, ◌==◌, ◌&&◌, ◌||◌, not, Bool, true, false, if◌then◌else◌, IsTrue, List, [], ◌∷◌, ◌++◌, find, fold, Option, Some, None, is_some, is_none, unwrap_or, append-nil, refl, sym, ap, ◌∙◌}
-use Rattle.std.specs.List.{list_all}
+use Rattle.std.specs.List.{list_all, list_any}
 use Rattle.std.proofs.lemmas.Bool.{and_parts}
 use Rattle.std.proofs.lemmas.List.{append_assoc}
 use Rattle.std.proofs.lemmas.List.Folds.{list_all-append, find-append}
@@ -11,12 +11,12 @@ use Rattle.port_call.specs.Calls.{place_of_plain, Found, Place, held_at}
 use Rattle.port_call.specs.GicCall.declared.event.Found.TheVariants.{Word as FoundWord, Queue as FoundQueue, Ctlr as FoundCtlr, Lpis as FoundLpis}
 use Rattle.port_call.specs.GicCall.declared.event.Place.TheVariants.{Word, Queue as QueuePlace, Ctlr as CtlrPlace, Lpis}
 use Rattle.port_call.specs.Registers.{queue_of, Maps}
-use Rattle.port_call.specs.Core.{Made, CoreStep, CommandDone, WordId, Irq, Queue, Ctlr, Plain, Vcpu, vcpu_of, ctlr_of, is_on, known, is_known, known_maps, since_turn, since_command, ends_command, place_of_word, word_of, Seen, Adds, shape_of}
+use Rattle.port_call.specs.Core.{Made, CoreStep, RamPut, CommandDone, TurnRelease, WordId, Irq, Queue, Ctlr, Plain, Vcpu, vcpu_of, ctlr_of, is_on, known, is_known, known_maps, since_turn, since_command, ends_command, reading_after, reading_of, read_after, place_of_word, word_of, Seen, Adds, shape_of}
 use Rattle.port_call.specs.Memory.{view_by}
 use Rattle.port_call.specs.Piece.{takes_none, steps_of}
 use Rattle.port_call.proofs.KnownLemmas.{are_off, known_kept, since_turn_on, are_endless, ends_none, maps_kept}
 use Rattle.port_call.proofs.TurnLemmas.{known_by_last}
-use Rattle.its_exec.specs.Known.{Knows, KnowsSame, is_within, are_within, first_step, IsUntouched}
+use Rattle.its_exec.specs.Known.{Knows, KnowsSame, is_within, are_within, is_going, are_going, keeps_read, is_look_of, looks_at, first_step, IsUntouched}
 
 pub both : (a b : Bool) → IsTrue a → IsTrue b → (a && b) ≡ true
 both true true h k = refl
@@ -191,11 +191,102 @@ first_is old new made part id add within on is =
     ∙ ap (λ o. option_or o (find (is_on (shape_of old) old.actor (Irq (Lpi id))) (made ∷ part))) is.none
     ∙ ap (λ b. if b then Some made else find (is_on (shape_of old) old.actor (Irq (Lpi id))) part) on
 
+-- Steps that leave what was read of the next command.
+
+pub going_joins : (early late : List Made) → IsTrue (are_going early) → IsTrue (are_going late) → IsTrue (are_going (early ++ late))
+going_joins early late one two = list_all-append is_going early late ∙ both (are_going early) (are_going late) one two
+
+pub going_by : (part : List Made) → IsTrue (takes_none part) → IsTrue (list_all (λ made. keeps_read made.step) part) → IsTrue (are_going part)
+going_by [] none keeps = refl
+going_by (made ∷ part) none keeps =
+    let nones = and_parts (is_none made.tables) (takes_none part) none in
+    let parts = and_parts (keeps_read made.step) (list_all (λ made. keeps_read made.step) part) keeps in
+    both (is_going made) (are_going part) (both (is_none made.tables) (keeps_read made.step) nones.0 parts.0) (going_by part nones.1 parts.1)
+
+untaken : {X : Type 0} (o : Option Maps) (x y : X) → IsTrue (is_none o) → (if is_some o then x else y) ≡ y
+untaken None x y h = refl
+untaken (Some maps) x y h = absurd (cc)
+
+going_from : (read part : List Made) → IsTrue (are_going part) → fold reading_after (Some read) part ≡ Some (read ++ part)
+going_from read [] h = ap Some (sym (append-nil read))
+going_from read (made ∷ part) h =
+    let parts = and_parts (is_going made) (are_going part) h in
+    let mine = and_parts (is_none made.tables) (keeps_read made.step) parts.0 in
+    ap (λ o. fold reading_after o part) (untaken made.tables (Some []) (read_after made.step made read) mine.0 ∙ by_step made.step mine.1) ∙ going_from (read ++ made ∷ []) part parts.1 ∙ ap Some (append_assoc read (made ∷ []) part)
+  where
+    by_step : (step : CoreStep) → IsTrue (keeps_read step) → read_after step made read ≡ Some (read ++ made ∷ [])
+    by_step TurnRelease k = absurd (cc)
+    by_step (RamPut index seen value) k = absurd (cc)
+    by_step (CommandDone offset stalled done) k = absurd (cc)
+    by_step _ k = refl
+
+pub reading_on : (own part read : List Made) → reading_of own ≡ Some read → IsTrue (are_going part) → reading_of (own ++ part) ≡ Some (read ++ part)
+reading_on own part read is h = fold-append reading_after None own part ∙ ap (λ o. fold reading_after o part) is ∙ going_from read part h
+
+-- whoever has the ITS goes on to have it while it does not give it back
+abbrev pub keeps_its : CoreStep → Bool
+keeps_its TurnRelease = false
+keeps_its step = true
+
+still_from : (o : Option (List Made)) (part : List Made) → IsTrue (is_some o) → IsTrue (list_all (λ made. keeps_its made.step) part) → IsTrue (is_some (fold reading_after o part))
+still_from None part has keeps = absurd (cc)
+still_from (Some read) [] has keeps = refl
+still_from (Some read) (made ∷ part) has keeps =
+    let parts = and_parts (keeps_its made.step) (list_all (λ made. keeps_its made.step) part) keeps in
+    still_from (reading_after (Some read) made) part (by_tables made.tables (read_after made.step made read) (by_step made.step parts.0)) parts.1
+  where
+    by_tables : (o : Option Maps) (later : Option (List Made)) → IsTrue (is_some later) → IsTrue (is_some (if is_some o then Some [] else later))
+    by_tables None later h = h
+    by_tables (Some maps) later h = refl
+
+    by_step : (step : CoreStep) → IsTrue (keeps_its step) → IsTrue (is_some (read_after step made read))
+    by_step TurnRelease k = absurd (cc)
+    by_step (RamPut index seen value) k = refl
+    by_step (CommandDone offset stalled done) k = refl
+    by_step _ k = refl
+
+pub still_reading : (old new : Seen) (part : List Made) → Adds old new part → IsTrue (list_all (λ made. keeps_its made.step) part) → IsTrue (is_some (reading_of old.own)) → IsTrue (is_some (reading_of new.own))
+still_reading old new part add keeps has = ap (λ seen. is_some (reading_of seen.own)) add.new_is ∙ ap is_some (fold-append reading_after None old.own part) ∙ still_from (reading_of old.own) part has keeps
+
+going_keeps : (part : List Made) → IsTrue (are_going part) → IsTrue (list_all (λ made. keeps_its made.step) part)
+going_keeps [] h = refl
+going_keeps (made ∷ part) h =
+    let parts = and_parts (is_going made) (are_going part) h in
+    both (keeps_its made.step) (list_all (λ made. keeps_its made.step) part) (of made.step (and_parts (is_none made.tables) (keeps_read made.step) parts.0).1) (going_keeps part parts.1)
+  where
+    of : (step : CoreStep) → IsTrue (keeps_read step) → IsTrue (keeps_its step)
+    of TurnRelease k = absurd (cc)
+    of _ k = refl
+
+pub going_reading : (old new : Seen) (part : List Made) → Adds old new part → IsTrue (are_going part) → IsTrue (is_some (reading_of old.own)) → IsTrue (is_some (reading_of new.own))
+going_reading old new part add going has = still_reading old new part add (going_keeps part going) has
+
+-- a look among more steps
+pub looks_early : (word : ℕ) (early late : List Made) → IsTrue (looks_at word early) → IsTrue (looks_at word (early ++ late))
+looks_early word [] late h = absurd (cc)
+looks_early word (made ∷ early) late h = of (is_look_of word made.step) h (looks_early word early late)
+  where
+    of : (b : Bool) → IsTrue (b || looks_at word early) → (IsTrue (looks_at word early) → IsTrue (looks_at word (early ++ late))) → IsTrue (b || looks_at word (early ++ late))
+    of true h f = refl
+    of false h f = f h
+
+pub looks_late : (word : ℕ) (early late : List Made) → IsTrue (looks_at word late) → IsTrue (looks_at word (early ++ late))
+looks_late word [] late h = h
+looks_late word (made ∷ early) late h = of (is_look_of word made.step) (looks_late word early late h)
+  where
+    of : (b : Bool) → IsTrue (looks_at word (early ++ late)) → IsTrue (b || looks_at word (early ++ late))
+    of true h = refl
+    of false h = h
+
 -- Steps on other words.
 
 pub all_steps : (p : CoreStep → Bool) (part : List Made) → list_all p (steps_of part) ≡ list_all (λ made. p made.step) part
 all_steps p [] = refl
 all_steps p (made ∷ part) = ap (λ b. p made.step && b) (all_steps p part)
+
+pub any_step : (p : CoreStep → Bool) (part : List Made) → list_any p (steps_of part) ≡ list_any (λ made. p made.step) part
+any_step p [] = refl
+any_step p (made ∷ part) = ap (λ b. p made.step || b) (any_step p part)
 
 pub off_each :
     (shape : GuestShape) (actor : ℕ) (word : WordId) (p : CoreStep → Bool) → ((step : CoreStep) → IsTrue (p step) → (place_of_word shape (word_of shape actor step) == place_of_word shape word) ≡ false) → (part : List Made)

@@ -10,6 +10,7 @@ pub mod FetchLemmas
 pub mod ConfigLemmas
 pub mod AboutLemmas
 pub mod PartLemmas
+pub mod OpenLemmas
 pub mod CommandLemmas
 pub mod ForgetLemmas
 pub mod SweepLemmas

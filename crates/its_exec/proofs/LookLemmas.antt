@@ -19,8 +19,8 @@ use Rattle.port_call.proofs.PieceLemmas.{piece_one, seen_nil, piece_nil}
 use Rattle.port_call.proofs.SettleLemmas.{handed_none}
 use Rattle.port_call.proofs.TurnLemmas.{piece_then, events_then}
 use Rattle.its_exec.specs.declared.known.KnownQueue.{KnownQueue}
-use Rattle.its_exec.specs.Known.{Knows, KnowsQueue, LooksAtQueue, is_read, takes_next, are_within, Reading}
-use Rattle.its_exec.proofs.FrameLemmas.{both, word_of_place, since, since_last, knows_by, Leaves, leaves, knows_on, within_none, within_joins, within_by, untouched_on}
+use Rattle.its_exec.specs.Known.{Knows, KnowsQueue, LooksAtQueue, is_read, takes_next, are_within, are_going, keeps_read, Reading}
+use Rattle.its_exec.proofs.FrameLemmas.{both, word_of_place, since, since_last, knows_by, Leaves, leaves, knows_on, within_none, within_joins, within_by, going_joins, going_by, untouched_on}
 
 -- Parts that only look at plain words.
 
@@ -30,6 +30,7 @@ reading_joins old mid new early late one two =
       adds = adds_join old mid new early late one.adds two.adds;
       local = two.local ∙ one.local;
       within = within_joins early late one.within two.within;
+      going = going_joins early late one.going two.going;
       reads =
           ap (list_all is_read) (events_then old mid early late one.adds) ∙ list_all-append is_read (part_events old early) (part_events mid late)
           ∙ both (list_all is_read (part_events old early)) (list_all is_read (part_events mid late)) one.reads two.reads;
@@ -38,7 +39,7 @@ reading_joins old mid new early late one two =
     }
 
 pub reading_none : (seen : Seen) → Reading seen seen []
-reading_none seen = record { adds = record { new_is = sym (seen_nil seen) }; local = refl; within = refl; reads = refl; untouched = λ id there is. is; piece = piece_nil seen }
+reading_none seen = record { adds = record { new_is = sym (seen_nil seen) }; local = refl; within = refl; going = refl; reads = refl; untouched = λ id there is. is; piece = piece_nil seen }
 
 -- the words of the ITS have places of their own
 pub queue_apart : (shape : GuestShape) (n : ℕ) → (place_of_word shape (Plain n) == place_of_word shape Queue) ≡ false
@@ -71,12 +72,16 @@ off_one shape actor word look step e apart =
 look_within : (look : Made) (index : ℕ) → look.step ≡ RamLook index → IsTrue (takes_none (look ∷ [])) → IsTrue (are_within (look ∷ []))
 look_within look index step none = within_by (look ∷ []) none (ap (λ step. not (ends_command step) && true) step)
 
+look_going : (look : Made) (index : ℕ) → look.step ≡ RamLook index → IsTrue (takes_none (look ∷ [])) → IsTrue (are_going (look ∷ []))
+look_going look index step none = going_by (look ∷ []) none (ap (λ step. keeps_read step && true) step)
+
 pub reading_plain : (old new : Seen) (word : PlainWord) (value : ℕ) (reads : ReadsPlain old new word value) → Reading old new (reads.look ∷ [])
 reading_plain old new word value reads =
     record {
       adds = reads.adds;
       local = reads.local_is;
       within = look_within reads.look (place_of_plain (shape_of old) word) reads.step_is reads.none_taken;
+      going = look_going reads.look (place_of_plain (shape_of old) word) reads.step_is reads.none_taken;
       reads = ap (list_all is_read) reads.events;
       untouched = λ id there is.
           untouched_on old new (reads.look ∷ []) id reads.adds (look_within reads.look (place_of_plain (shape_of old) word) reads.step_is reads.none_taken)
@@ -112,6 +117,7 @@ queue_reading old new found add =
       adds = add.adds;
       local = ap (λ seen. seen.local) add.adds.new_is;
       within = within_by (made ∷ []) (both (is_none add.tables) true (handed_none (Look Queue) found old add.tables refl add.handed) refl) refl;
+      going = going_by (made ∷ []) (both (is_none add.tables) true (handed_none (Look Queue) found old add.tables refl add.handed) refl) refl;
       reads = refl;
       untouched = λ id there is.
           untouched_on old new (made ∷ []) id add.adds (within_by (made ∷ []) (both (is_none add.tables) true (handed_none (Look Queue) found old add.tables refl add.handed) refl) refl)

@@ -16,8 +16,7 @@ use Rattle.port_call.specs.GicCall.declared.event.Event.TheVariants.{Read, Raise
 use Rattle.port_call.specs.GicCall.declared.event.Found.TheVariants.{Nothing}
 use Rattle.port_call.specs.GicCall.declared.event.Place.TheVariants.{Word, Queue as QueuePlace, Ctlr as CtlrPlace, Lpis}
 use Rattle.port_call.specs.GicCall.declared.touch.Touching.TheVariants.{Retarget as RetargetLpi, Configure as ConfigureLpi, Forget as ForgetLpi}
-use Rattle.port_call.specs.Histories.{names}
-use Rattle.port_call.specs.Core.{Local, Made, Look, Raise, Irq, concerned, local_after, succeeds, is_on, owes_nothing, place_of_word, Seen, Adds, AddsStep, made_by, shape_of, seen_after, part_events, found_record, word_of, IsIrqWord, makes, Progress, is_end_of, progress_of, stepped, scan_on, IsProperStep, Scan, idle, is_idle, scan_looked}
+use Rattle.port_call.specs.Core.{Local, Made, Look, Raise, Irq, concerned, local_after, succeeds, is_on, owes_nothing, place_of_word, Seen, Adds, AddsStep, made_by, shape_of, seen_after, part_events, found_record, word_of, IsIrqWord, makes, Progress, is_end_of, progress_of, stepped, scan_on, IsProperStep, Scan, idle, is_idle, scan_looked, may_name}
 use Rattle.port_call.proofs.PortCore.PortLemmas.{adds_join}
 use Rattle.port_call.specs.CoreProper.Progress.{changed_by}
 use Rattle.port_call.specs.About.{is_about, are_about, IsNaming}
@@ -32,13 +31,13 @@ use Rattle.port_call.proofs.SettleLemmas.{handed_none}
 use Rattle.port_call.proofs.TouchLemmas.{named_good}
 use Rattle.port_call.proofs.TurnLemmas.{events_then}
 use Rattle.its_exec.specs.declared.fetch.Fetched.{Fetched}
-use Rattle.its_exec.specs.Known.{HasRead, HasFetched, Reading, IsUntouched, AgreeFound, first_step, is_read, is_read_event, are_within}
+use Rattle.its_exec.specs.Known.{HasRead, HasFetched, Reading, IsUntouched, AgreeFound, first_step, is_read, is_read_event, are_within, are_going}
 use Rattle.its_exec.specs.Config.{is_kept, IsUnread, Keeps, HoldsCommand, config_places, ReadsConfig}
 use Rattle.its_exec.specs.Parts.{lpi_of, has_vcpu_of, is_part_of, LooksAtTarget, Prefix, GoesFirst, IsDue, MakesPart, DoesPart}
-use Rattle.its_exec.proofs.FrameLemmas.{both, within_joins, first_is, first_stays}
+use Rattle.its_exec.proofs.FrameLemmas.{both, within_joins, going_joins, first_is, first_stays}
 use Rattle.its_exec.proofs.FetchLemmas.{last_before}
 use Rattle.its_exec.proofs.ConfigLemmas.{holds_on, has_on, keeps_on, keeps_none, same_on}
-use Rattle.its_exec.proofs.AboutLemmas.{about_within, about_same, about_untouched, tells_about}
+use Rattle.its_exec.proofs.AboutLemmas.{about_within, about_going, about_same, about_untouched, tells_about}
 
 -- Events.
 
@@ -73,6 +72,7 @@ makes_part actor shape targets part view before reads event found are_reads name
             found = subst (All Hands) (sym only) (All-cons Hands happened [] hands (All-nil Hands));
             reads = read;
           };
+      ends = record { before = reads; found = found; split = ap (λ e. reads ++ (record { event = e; found = found }) ∷ []) (sym is) };
     }
 
 -- The look at an LPI's target.
@@ -142,6 +142,7 @@ prefix_none seen address id =
     record {
       adds = record { new_is = sym (seen_nil seen) };
       within = refl;
+      going = refl;
       local = refl;
       keeps = keeps_none seen address;
       reads = refl;
@@ -154,6 +155,7 @@ prefix_reading old mid address id steps reading keeps =
     record {
       adds = reading.adds;
       within = reading.within;
+      going = reading.going;
       local = reading.local;
       keeps = keeps;
       reads = reading.reads;
@@ -173,6 +175,7 @@ prefix_look old mid address id target there looks =
     record {
       adds = looks.adds;
       within = about_within id (looks.look ∷ []) about looks.none_taken;
+      going = about_going id (looks.look ∷ []) about looks.none_taken;
       local = looks.local_is;
       keeps =
           record { each = λ place kept. record { same = about_same old mid address id (looks.look ∷ []) place there about looks.adds looks.none_taken kept; unread = unread_none place (part_events old (looks.look ∷ [])) looks.silent } };
@@ -200,6 +203,7 @@ prefix_joins old mid new address id early late one two =
     record {
       adds = adds_join old mid new early late one.adds two.adds;
       within = within_joins early late one.within two.within;
+      going = going_joins early late one.going two.going;
       local = two.local ∙ one.local;
       keeps = keeps_on old mid new address early late one.adds one.keeps two.keeps;
       reads =
@@ -213,9 +217,9 @@ prefix_joins old mid new address id early late one two =
 
 -- The touch.
 
-due_naming : (old mid : Seen) (address id : ℕ) (p q : Progress) (steps : List Made) → IsTrue (has_interrupt (shape_of old) (Lpi id)) → Adds old mid steps → IsTrue (are_within steps) → Keeps old mid address steps → StaysSo p q → IsDue old address p id
+due_naming : (old mid : Seen) (address id : ℕ) (p q : Progress) (steps : List Made) → IsTrue (has_interrupt (shape_of old) (Lpi id)) → Adds old mid steps → IsTrue (are_within steps) → IsTrue (are_going steps) → Keeps old mid address steps → StaysSo p q → IsDue old address p id
     → IsNaming mid q (Lpi id)
-due_naming old mid address id p q steps there add within keeps stays due =
+due_naming old mid address id p q steps there add within going keeps stays due =
     let operation : q.operation ≡ p.operation = ap (λ r. r.operation) stays.same in
     let There : GuestShape → Type 0 = λ shape. IsTrue (has_interrupt shape (Lpi id)) in
     let shape : shape_of mid ≡ shape_of old = ap shape_of add.new_is in
@@ -225,9 +229,9 @@ due_naming old mid address id p q steps there add within keeps stays due =
       names_it = λ part about none.
           (let later = seen_after mid part in
           let more : Adds mid later part = record { new_is = refl } in
-          let Named : Option Operation → Type 0 = λ operation. IsTrue (option_map_or (λ operation. names (shape_of later) (view_by later) later.actor operation (Lpi id)) operation false) in
+          let Named : Option Operation → Type 0 = λ operation. IsTrue (option_map_or (λ operation. may_name (shape_of later) later.actor later.own operation (Lpi id)) operation false) in
           subst Named (sym operation)
-          (due.names_it later (steps ++ part) (adds_join old mid later steps part add more) (within_joins steps part within (about_within id part about none))
+          (due.names_it later (steps ++ part) (adds_join old mid later steps part add more) (within_joins steps part within (about_within id part about none)) (going_joins steps part going (about_going id part about none))
           (λ place kept.
           same_on old mid later place (keeps.each place kept).same
           (about_same mid later address id part place (subst There (sym shape) there) about more none (subst (Kept place) (sym shape) kept)))));
@@ -262,6 +266,7 @@ prefix_touches old mid new address id kind found part steps there of_part before
       steps = steps ++ late;
       adds = adds_join old mid new steps late before.adds touches.adds;
       within = within_joins steps late before.within (about_within id late touches.about touches.none_taken);
+      going = going_joins steps late before.going (about_going id late touches.about touches.none_taken);
       local_is = subst After before.local touches.local_is;
       keeps = keeps_on old mid new address steps late before.adds before.keeps keeps;
       untouched = λ other its differ is.
@@ -273,7 +278,7 @@ prefix_touches old mid new address id kind found part steps there of_part before
           let mine : IsDue old address p id = subst Due of_part due in
           good_then old mid p steps late before.adds (before.piece p idle mine.ends_other)
           (λ q stays idle_mid.
-          named_good mid (Lpi id) late q touches.piece idle_mid (due_naming old mid address id p q steps there before.adds before.within before.keeps stays mine) (ap (λ r. r.wants) stays.same ∙ none)));
+          named_good mid (Lpi id) late q touches.piece idle_mid (due_naming old mid address id p q steps there before.adds before.within before.going before.keeps stays mine) (ap (λ r. r.wants) stays.same ∙ none)));
     }
 
 -- a touch that reads no configuration
@@ -398,6 +403,7 @@ raised_part old new address id there ease tells =
       steps = tells.part;
       adds = tells.adds;
       within = about_within id tells.part about tells.none_taken;
+      going = about_going id tells.part about tells.none_taken;
       local_is = subst After (sym tells.local_is) (told_at_ease (shape_of old) old.actor key (concerned (shape_of old) (irq_of tells.form.change.found)) old.local ease.owes);
       keeps =
           record {

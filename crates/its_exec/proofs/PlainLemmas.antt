@@ -1,7 +1,6 @@
 -- A command that is no MAPD: it does its parts.
-use Rattle.std.proofs.Common.{◌≡◌, ℕ, ◌%◌, ◌==◌, ◌&&◌, ◌||◌, not, Bool, true, false, nat_lt, IsTrue, IfSome, List, [], ◌++◌, Option, Some, None, Result, Ok, Err, option_map, refl, sym, ap, subst, ◌∙◌, arith}
+use Rattle.std.proofs.Common.{◌≡◌, ℕ, ◌%◌, ◌==◌, ◌&&◌, ◌||◌, not, Bool, true, false, nat_lt, IsTrue, IfSome, List, [], ◌++◌, Option, Some, None, option_map, refl, sym, ap, subst, ◌∙◌, arith}
 use Rattle.std.specs.Option.{option_to_list}
-use Rattle.std.specs.Result.{OnOk, OnErr}
 use Rattle.std.proofs.lemmas.Bool.{eq-eqb, lt-ltb}
 use Rattle.port_call.specs.Words.{Lpi, GuestShape, has_interrupt}
 use Rattle.port_call.specs.Calls.{Part, Map, Clear, parts, each}
@@ -218,11 +217,3 @@ as_some old new address part other e does = let For : Option Part → Type 0 = �
 
 pub does_mapd : (old new : Seen) (address : ℕ) (maps : Maps) (command : Command) (ids : List ℕ) → ((targets : ℕ → Option ℕ) → parts (shape_of old) maps targets command ≡ each ids Forget) → ForgetsAll old new address ids → DoesCommand old new address maps command
 does_mapd old new address maps command ids are forgets = record { top = lpis_end (shape_of old); done = each ids Forget; does = forgets.does maps command are; all = λ targets agree. are targets }
-
-pub ok_on : {E : Type 0} (result : Result Unit E) (A B : Type 0) → OnOk result A → (A → B) → OnOk result B
-ok_on (Ok done) A B h f = f h
-ok_on (Err bad) A B h f = tt
-
-pub err_any : {T E : Type 0} (result : Result T E) (A : Type 0) → A → OnErr result A
-err_any (Ok done) A h = tt
-err_any (Err bad) A h = h

@@ -1,12 +1,12 @@
 -- The command queue.
-use Rattle.std.proofs.Common.{◌≡◌, ◌≢◌, ℕ, ◌+◌, ◌*◌, ◌/◌, ◌%◌, ◌<◌, ◌==◌, ◌&&◌, ◌||◌, not, Bool, true, false, nat_lt, nat_le, if◌then◌else◌, IsTrue, List, [], ◌∷◌, ◌++◌, map, All, length, Option, Some, None, Result, Ok, option_map, fold, find, append-nil, is_some, is_none, unwrap_or, refl, sym, ap, subst, ◌∙◌, arith}
+use Rattle.std.proofs.Common.{◌≡◌, ◌≢◌, inl, inr, ℕ, ◌+◌, ◌*◌, ◌/◌, ◌%◌, ◌<◌, ◌==◌, ◌&&◌, ◌||◌, not, Bool, true, false, nat_lt, nat_le, if◌then◌else◌, IsTrue, List, [], ◌∷◌, ◌++◌, map, All, length, Option, Some, None, Result, Ok, option_map, fold, find, append-nil, is_some, is_none, unwrap_or, refl, sym, ap, subst, ◌∙◌, arith}
 use Rattle.std.specs.List.{list_all, flat_map}
 use Rattle.std.specs.Option.{option_map_or, option_or, ForSome}
-use Rattle.std.proofs.lemmas.Bool.{and_parts, eq-eqb, eqb-true, ne_eqb, lt-ltb, le-leb, ltb-true}
+use Rattle.std.proofs.lemmas.Bool.{and_parts, cases_lt, eq-eqb, eqb-true, ne_eqb, lt-ltb, le-leb, leb-true, ltb-true}
 use Rattle.std.proofs.lemmas.List.{append_assoc}
 use Rattle.std.proofs.lemmas.List.Sums.{fold-append}
 use Rattle.port_call.proofs.TurnLemmas.{known_by_last}
-use Rattle.std.proofs.lemmas.List.Elements.{All-append, All-nil, All-cons}
+use Rattle.std.proofs.lemmas.List.Elements.{All-append, All-nil, All-cons, All-head}
 use Rattle.port_call.specs.Words.{GuestShape, has_bit, field_at, Lpi, IsShape, interrupt_count, has_interrupt}
 use Rattle.port_call.specs.Calls.{place_of_plain, PlainWord, Ram, ItsCtlr, Cbaser, Cwriter, Fault as FaultWord, Event, Done, Stalls, Place, Found, queue_event, command_words, queue_address, next_offset, is_queue_valid, maps_by, memory_places, command_places, IsOffset, memory_at}
 use Rattle.port_call.specs.Registers.{queue_bytes, enabled_in, Command, BadCommand, QueueWord, advanced, queue_of, Maps, IsValid, maps_after, fault_number, fault_of, number_of}
@@ -14,8 +14,9 @@ use Rattle.port_call.specs.GicCall.declared.event.Event.TheVariants.{Queue as Qu
 use Rattle.port_call.specs.GicCall.declared.event.Place.TheVariants.{Word, Queue as QueuePlace}
 use Rattle.port_call.specs.ItsCmd.Command.{decoded}
 use Rattle.port_call.specs.GicCall.declared.event.Found.TheVariants.{Queue as FoundQueue}
+use Rattle.port_call.proofs.GicCall.ReadLemmas.{all_early, all_late}
 use Rattle.port_call.proofs.ItsTab.CarryLemmas.{kept_now}
-use Rattle.port_call.specs.Core.{Made, Local, CoreStep, RamLook, RamPut, CommandDone, WordId, Irq, Plain, Queue, local_after, succeeds, fault_place, known_fault, is_known, is_on, known, known_maps, last_made, no_maps, maps_by_step, maps_after as maps_after_made, since_turn, since_command, ends_command, owes_no_kick, place_of_word, is_taking, word_of, Seen, IsPort, CanMake, made_by, shape_of}
+use Rattle.port_call.specs.Core.{Made, Local, CoreStep, RamLook, RamPut, CommandDone, reading_of, WordId, Irq, Plain, Queue, local_after, succeeds, fault_place, known_fault, is_known, is_on, known, known_maps, last_made, no_maps, maps_by_step, maps_after as maps_after_made, since_turn, since_command, ends_command, owes_no_kick, place_of_word, is_taking, word_of, Seen, IsPort, CanMake, made_by, shape_of}
 use Rattle.port_call.proofs.PortCore.StepWords.{queue_back}
 use Rattle.port_call.specs.Piece.{takes_none}
 use Rattle.port_call.specs.Store.{MayStore, Stores, is_store_step, is_store_miss, stores_not}
@@ -32,7 +33,7 @@ use Rattle.its_exec.specs.Config.{is_kept, HoldsCommand}
 use Rattle.its_exec.specs.Known.{Knows, KnowsQueue, LooksAtQueue, Fetches, is_fetched, are_within, takes_next}
 use Rattle.its_exec.specs.Plan.{IsFresh}
 use Rattle.its_exec.specs.Queue.{HoldsNext, HasBad, MakesStep, StallsAt, IsReady, MovesQueue}
-use Rattle.its_exec.proofs.FrameLemmas.{both, word_of_place, since_last, knows_by, Leaves, leaves, knows_on, within_by, maps_on, off_each, untouched_on}
+use Rattle.its_exec.proofs.FrameLemmas.{both, word_of_place, since_last, knows_by, Leaves, leaves, knows_on, within_by, maps_on, keeps_its, still_reading, going_reading, off_each, untouched_on}
 use Rattle.its_exec.proofs.FetchLemmas.{places_are, address_even, memory_same}
 use Rattle.its_exec.proofs.ConfigLemmas.{holds_on}
 use Rattle.its_exec.proofs.CommandLemmas.{kept_by, words_kept}
@@ -64,10 +65,49 @@ places_all P shape address whole even each =
         (all_at P shape w n whole
         (λ there. each (w + n) (both (nat_le w (w + n)) (nat_lt (w + n) (w + 4)) (le-leb w (w + n) (omega arith)) (lt-ltb (w + n) (w + 4) (omega (arith, small)))) there))
 
+-- what is so of all of them is so of each that is fetched
+pub places_each : (P : Place → Type 0) (shape : GuestShape) (address : ℕ) → shape.ram % 8 ≡ 0 → address % 8 ≡ 0 → All P (flat_map (λ number. memory_places shape (address + 8 * number) 8) (0 ∷ 1 ∷ 2 ∷ 3 ∷ []))
+    → (index : ℕ) → IsTrue (is_fetched address index) → index < shape.ram / 8 → P (Word (Ram index))
+places_each P shape address whole even all index fetched inside =
+    let w = address / 8 in
+    let f : ℕ → List Place = λ n. memory_places shape (8 * w + 8 * n) 8 in
+    let from : address ≡ 8 * w = omega (arith, even) in
+    let All_from : ℕ → Type 0 = λ a. All P (flat_map (λ number. memory_places shape (a + 8 * number) 8) (0 ∷ 1 ∷ 2 ∷ 3 ∷ [])) in
+    let zero : All P (f 0 ++ (f 1 ++ (f 2 ++ (f 3 ++ [])))) = subst All_from from all in
+    let one = all_late P (f 0) (f 1 ++ (f 2 ++ (f 3 ++ []))) zero in
+    let two = all_late P (f 1) (f 2 ++ (f 3 ++ [])) one in
+    let three = all_late P (f 2) (f 3 ++ []) two in
+    let both = and_parts (nat_le w index) (nat_lt index (w + 4)) fetched in
+    let low = leb-true w index both.0 in
+    let high = ltb-true index (w + 4) both.1 in
+    elim (cases_lt index (w + 1)) [
+      | inl a ↦ here 0 (omega (arith, a, low)) (all_early P (f 0) (f 1 ++ (f 2 ++ (f 3 ++ []))) zero)
+      | inr a ↦ elim (cases_lt index (w + 2)) [
+        | inl b ↦ here 1 (omega (arith, a, b)) (all_early P (f 1) (f 2 ++ (f 3 ++ [])) one)
+        | inr b ↦ elim (cases_lt index (w + 3)) [
+          | inl c ↦ here 2 (omega (arith, b, c)) (all_early P (f 2) (f 3 ++ []) two)
+          | inr c ↦ here 3 (omega (arith, c, high)) (all_early P (f 3) [] three)
+        ]
+      ]
+    ]
+  where
+    here : (n : ℕ) → address / 8 + n ≡ index → All P (memory_places shape (8 * (address / 8) + 8 * n) 8) → P (Word (Ram index))
+    here n e all =
+        let w = address / 8 in
+        let yes = lt-ltb (w + n) (shape.ram / 8) (omega (arith, e, inside)) in
+        let At : ℕ → Type 0 = λ i. P (Word (Ram i)) in
+        subst At e (All-head P (Word (Ram (w + n))) [] (subst (All P) (places_are shape w n whole ∙ ap (λ b. if b then Word (Ram (w + n)) ∷ [] else []) yes) all))
+
 -- where the next command is
 pub next_address : (seen : Seen) (queue : KnownQueue) (address : ℕ) → KnowsQueue seen queue → address ≡ queue_address queue.cbaser + queue.offset → queue_address ((view_by seen).words Cbaser) + (view_by seen).offset ≡ address
 next_address seen queue address knows is =
     ap (λ n. queue_address n + (view_by seen).offset) (word_held seen Cbaser queue.cbaser knows.cbaser) ∙ ap (λ n. queue_address queue.cbaser + n) (offset_held seen queue.offset queue.stalled knows.place) ∙ sym is
+
+pub command_each : (P : Place → Type 0) (seen : Seen) (queue : KnownQueue) (address : ℕ) → (shape_of seen).ram % 8 ≡ 0 → KnowsQueue seen queue → address ≡ queue_address queue.cbaser + queue.offset → All P (command_places (shape_of seen) (view_by seen))
+    → (index : ℕ) → IsTrue (is_fetched address index) → index < (shape_of seen).ram / 8 → P (Word (Ram index))
+command_each P seen queue address whole knows is all index fetched inside =
+    let At : ℕ → Type 0 = λ a. All P (flat_map (λ number. memory_places (shape_of seen) (a + 8 * number) 8) (0 ∷ 1 ∷ 2 ∷ 3 ∷ [])) in
+    places_each P (shape_of seen) address whole (address_even queue.cbaser queue.offset address knows.in_range.place is) (subst At (next_address seen queue address knows is) all) index fetched inside
 
 pub command_all : (P : Place → Type 0) (seen : Seen) (queue : KnownQueue) (address : ℕ) → (shape_of seen).ram % 8 ≡ 0 → KnowsQueue seen queue → address ≡ queue_address queue.cbaser + queue.offset
     → ((index : ℕ) → IsTrue (is_fetched address index) → index < (shape_of seen).ram / 8 → P (Word (Ram index))) → All P (command_places (shape_of seen) (view_by seen))
@@ -252,6 +292,24 @@ stored_within old mid word value stores = within_by (stores.misses ++ stores.las
         let parts = and_parts (is_store_step place made.step) (list_all (λ made. is_store_step place made.step) part) h in
         both (not (ends_command made.step)) (list_all (λ made. not (ends_command made.step)) part) (of made.step parts.0) (each part parts.1)
 
+-- the actor goes on to have the ITS
+pub stored_reading : (old mid : Seen) (word : PlainWord) (value : ℕ) → Stores old mid word value → IsTrue (is_some (reading_of old.own)) → IsTrue (is_some (reading_of mid.own))
+stored_reading old mid word value stores has = still_reading old mid (stores.misses ++ stores.last ∷ []) stores.adds (each (stores.misses ++ stores.last ∷ []) (stored_all old mid word value stores)) has
+  where
+    place : ℕ
+    place = place_of_plain (shape_of old) word
+
+    of : (step : CoreStep) → IsTrue (is_store_step place step) → IsTrue (keeps_its step)
+    of (RamLook index) h = refl
+    of (RamPut index seen value) h = refl
+    of _ h = absurd (cc)
+
+    each : (part : List Made) → IsTrue (list_all (λ made. is_store_step place made.step) part) → IsTrue (list_all (λ made. keeps_its made.step) part)
+    each [] h = refl
+    each (made ∷ part) h =
+        let parts = and_parts (is_store_step place made.step) (list_all (λ made. is_store_step place made.step) part) h in
+        both (keeps_its made.step) (list_all (λ made. keeps_its made.step) part) (of made.step parts.0) (each part parts.1)
+
 -- the four doublewords are as they were
 words_left : (old mid : Seen) (queue : KnownQueue) (address : ℕ) → (shape_of old).ram % 8 ≡ 0 → shape_of mid ≡ shape_of old → KnowsQueue old queue → KnowsQueue mid queue → address ≡ queue_address queue.cbaser + queue.offset
     → ((index : ℕ) → index < (shape_of old).ram / 8 → Leaves old mid (Word (Ram index))) → command_words (shape_of mid) (view_by mid) ≡ command_words (shape_of old) (view_by old)
@@ -393,13 +451,16 @@ ended_knows old new queue offset stalled done place knows makes =
 command_by : List Made → Made → List Made
 command_by kept made = if is_some made.tables || ends_command made.step then [] else kept ++ made ∷ []
 
-pub ended_fresh : (old new : Seen) (step : CoreStep) → ends_command step ≡ true → MakesStep old new step → IsFresh new
+pub ended_fresh : (old new : Seen) (step : CoreStep) → ends_command step ≡ true → IsTrue (keeps_its step) → IsTrue (is_some (reading_of old.own)) → MakesStep old new step → IsFresh new
 unfolding command_by
-ended_fresh old new step ends makes =
+ended_fresh old new step ends keeps has makes =
     let made = made_by old step makes.found makes.adds.tables in
     let over : since_command new.own ≡ []
     = ap (λ seen. since_command seen.own) makes.adds.adds.new_is ∙ fold-append command_by [] old.own (made ∷ []) ∙ ap (λ b. if is_some makes.adds.tables || b then [] else since_command old.own ++ made ∷ []) ends ∙ either (is_some makes.adds.tables) (since_command old.own ++ made ∷ []) in
-    record { each = λ id there. record { none = ap (find (is_on (shape_of new) new.actor (Irq (Lpi id)))) over } }
+    record {
+      reading = still_reading old new (made ∷ []) makes.adds.adds (ap (λ b. b && true) keeps) has;
+      each = λ id there. record { none = ap (find (is_on (shape_of new) new.actor (Irq (Lpi id)))) over };
+    }
   where
     either : (b : Bool) (xs : List Made) → (if b || true then [] else xs) ≡ []
     either true xs = refl
@@ -447,7 +508,7 @@ stalled_ready old new shape tables queue fault ready stalls =
       ease = ended_ease mid new queue.offset true None (subst IsAtEase (sym stores.local_is) ready.ease) stalls.ends;
       maps = ready.maps ∙ sym (ended_maps mid new step refl stalls.ends ∙ maps_on old mid (stores.misses ++ stores.last ∷ []) stores.adds (stored_within old mid FaultWord fault stores));
       valid = ready.valid;
-      fresh = ended_fresh mid new step refl stalls.ends;
+      fresh = ended_fresh mid new step refl refl (stored_reading old mid FaultWord fault stores ready.fresh.reading) stalls.ends;
       knows = ended_knows mid new queue queue.offset true None ready.knows.in_range (stored_knows old mid fault queue stores ready.knows) stalls.ends;
     }
 
@@ -498,7 +559,7 @@ moved_ready old new shape tables queue offset place ready makes =
       ease = ended_ease old new offset false None ready.ease makes;
       maps = ready.maps ∙ sym (maps_on old new (made ∷ []) makes.adds.adds within);
       valid = ready.valid;
-      fresh = record { each = λ id there. (let was = subst (There id) same there in untouched_on old new (made ∷ []) id makes.adds.adds within (off_one (shape_of old) old.actor (Irq (Lpi id)) made step refl (queue_lpi_apart (shape_of old) id was)) (ready.fresh.each id was)) };
+      fresh = record { reading = still_reading old new (made ∷ []) makes.adds.adds refl ready.fresh.reading; each = λ id there. (let was = subst (There id) same there in untouched_on old new (made ∷ []) id makes.adds.adds within (off_one (shape_of old) old.actor (Irq (Lpi id)) made step refl (queue_lpi_apart (shape_of old) id was)) (ready.fresh.each id was)) };
       knows = ended_knows old new queue offset false None place ready.knows makes;
     }
 
@@ -514,7 +575,7 @@ fetched_ready old mid shape tables queue fetched ready fetches =
       ease = subst IsAtEase (sym reading.local) ready.ease;
       maps = ready.maps ∙ sym (maps_on old mid fetches.part reading.adds reading.within);
       valid = ready.valid;
-      fresh = record { each = λ id there. (let was = subst (There id) same there in reading.untouched id was (ready.fresh.each id was)) };
+      fresh = record { reading = going_reading old mid fetches.part reading.adds reading.going ready.fresh.reading; each = λ id there. (let was = subst (There id) same there in reading.untouched id was (ready.fresh.each id was)) };
       knows = fetches.knows;
     }
 
@@ -598,7 +659,7 @@ finished_ready mid done new shape tables left queue offset fetched command resul
       ease = ended_ease done new offset false (Some fetched.words) (done_ease mid done fetched.address tables command does ready.ease) makes;
       maps = is ∙ ap (maps_by tables) (sym (sym value ∙ ok)) ∙ sym (ended_maps done new step refl makes ∙ ap (λ maps. maps_by maps (decoded fetched.words)) kept);
       valid = kept_now shape tables left command good is ready.valid;
-      fresh = ended_fresh done new step refl makes;
+      fresh = ended_fresh done new step refl refl (going_reading mid done all.steps all.adds all.going ready.fresh.reading) makes;
       knows = subst To (sym runs) (ended_knows done new queue offset false (Some fetched.words) place now.knows makes);
     }
 
@@ -618,6 +679,6 @@ looked_ready old new shape tables queue is taken ease maps valid fresh looks =
       ease = subst IsAtEase (sym reading.local) ease;
       maps = maps ∙ sym (maps_on old new looks.part reading.adds reading.within);
       valid = valid;
-      fresh = record { each = λ id there. (let was = subst (There id) same there in reading.untouched id was (fresh.each id was)) };
+      fresh = record { reading = going_reading old new looks.part reading.adds reading.going fresh.reading; each = λ id there. (let was = subst (There id) same there in reading.untouched id was (fresh.each id was)) };
       knows = looks.knows;
     }

@@ -1,5 +1,5 @@
 -- Commands that were taken, one after the other.
-use Rattle.std.proofs.Common.{◌≡◌, ℕ, ◌+◌, ◌==◌, ◌&&◌, not, Bool, if◌then◌else◌, IsTrue, List, [], ◌∷◌, ◌++◌, map, All, Option, Some, None, Result, Ok, Err, IfOk, OnErr, append-nil, refl, sym, ap, subst, ◌∙◌}
+use Rattle.std.proofs.Common.{◌≡◌, ℕ, ◌+◌, ◌==◌, ◌&&◌, not, Bool, if◌then◌else◌, IsTrue, List, [], ◌∷◌, ◌++◌, map, All, Option, Some, None, append-nil, refl, sym, ap, subst, ◌∙◌}
 use Rattle.std.proofs.lemmas.List.Elements.{All-nil, All-cons, All-head, All-tail}
 use Rattle.std.proofs.lemmas.List.Elements.{filter-append}
 use Rattle.std.proofs.lemmas.List.{append_assoc}
@@ -7,7 +7,7 @@ use Rattle.std.proofs.lemmas.Bool.{eq-eqb}
 use Rattle.std.specs.List.{list_all}
 use Rattle.std.specs.Option.{option_to_list}
 use Rattle.port_call.specs.Words.{GuestShape}
-use Rattle.port_call.specs.Calls.{ItsCtlr, Cbaser, Cwriter, plain_at, Part, Found, Place, takes_command, is_queue_valid, queue_event, command_parts, Happened, Beside, HandsOut, IsLastRead, Makes, IsCommand, ArePartsThen, HaveSameIts, AreCommands, left_by, held_at, is_beside, named_of, byte_places, command_places, View}
+use Rattle.port_call.specs.Calls.{ItsCtlr, Cbaser, Cwriter, plain_at, Part, Found, Place, takes_command, is_queue_valid, queue_event, command_parts, Happened, Beside, HandsOut, IsLastRead, Makes, IsCommand, ArePartsThen, HaveSameIts, AreCommands, words_read, command_targets, left_by, held_at, is_beside, named_of, byte_places, command_places, View}
 use Rattle.port_call.specs.Registers.{enabled_in, Maps}
 use Rattle.port_call.specs.GicCall.declared.event.Event.TheVariants.{Read}
 use Rattle.port_call.specs.GicCall.declared.event.Found.TheVariants.{Word as FoundWord}
@@ -22,8 +22,8 @@ use Rattle.its_exec.specs.declared.known.KnownQueue.{KnownQueue}
 use Rattle.its_exec.specs.declared.queue.QueueEnd.{QueueEnd}
 use Rattle.its_exec.specs.declared.queue.QueueEnd.TheVariants.{Empty, Stalled}
 use Rattle.its_exec.specs.Known.{LooksAtQueue, is_read}
-use Rattle.its_exec.specs.Queue.{LooksAtFault, TellsFault, EndsAt, IsOverWith, WantsMemory, last_fault}
-use Rattle.its_exec.specs.Run.{IsRun, AreListed, TakenAreRuns, RunsQueue, StopsQueue}
+use Rattle.its_exec.specs.Queue.{LooksAtFault, TellsFault, EndsAt, IsOverWith, last_fault}
+use Rattle.its_exec.specs.Run.{IsRun, AreListed, TakenAreRuns, RunsQueue}
 use Rattle.its_exec.proofs.LookLemmas.{takes_by}
 use Rattle.its_exec.proofs.CommandLemmas.{write_stays}
 use Rattle.its_exec.proofs.PartLemmas.{good_then, reads_beside}
@@ -62,7 +62,7 @@ taken_are_run old new (one ∷ rest) are =
       steps = one.takes.steps ++ later.steps;
       adds = adds_join one.from one.to new one.takes.steps later.steps one.takes.adds later.adds;
       events = λ actor beside number its agree over its_same.
-          (let is = one.takes.is actor (beside.targets number) agree.0 in
+          (let is = one.takes.is actor (command_targets beside number) agree.0 in
           let left = left_by (shape_of one.from) is.view (queue_event (shape_of one.from) is.view) in
           let next = later.events actor beside (number + 1) left agree.1 over is.left in
           let Are : GuestShape → Type 0 = λ shape. AreCommands actor shape beside (number + 1) left next.views (part_events one.to later.steps) in
@@ -118,18 +118,16 @@ makes_after actor view places reads piece are makes =
     }
 
 -- the end of a command
-abbrev ends_by : Option ℕ → GuestShape → View → List Happened → List Happened → Type 0
-ends_by actor shape view before after = Makes actor view (queue_event shape view ∷ []) [] before after
+abbrev ends_by : Option ℕ → GuestShape → View → List Happened → Type 0
+ends_by actor shape view after = Makes actor view (queue_event shape view ∷ []) [] [] after
 
 parts_after :
-    (actor : Option ℕ) (shape : GuestShape) (view : View) (parts : List Part) (reads before piece : List Happened) → ArePartsThen actor shape view.targets parts (ends_by actor shape view) before piece
-    → ArePartsThen actor shape view.targets parts (ends_by actor shape view) (reads ++ before) piece
-parts_after actor shape view [] reads before piece makes =
-    record { events_are = makes.events_are; found = makes.found; reads = All-nil (λ place. IsLastRead place (held_at view place) ((reads ++ before) ++ piece)) }
-parts_after actor shape view (part ∷ parts) reads before piece is =
+    (actor : Option ℕ) (shape : GuestShape) (view : View) (words : List Happened) (parts : List Part) (reads before piece : List Happened) → ArePartsThen actor shape view.targets words parts (ends_by actor shape view) before piece
+    → ArePartsThen actor shape view.targets words parts (ends_by actor shape view) (reads ++ before) piece
+parts_after actor shape view words [] reads before piece makes = makes
+parts_after actor shape view words (part ∷ parts) reads before piece is =
     let places = byte_places shape is.view view.targets part in
     let Read_in : List Happened → Type 0 = λ piece. All (λ place. IsLastRead place (held_at is.view place) piece) places in
-    let Later : List Happened → Type 0 = λ before. ArePartsThen actor shape view.targets parts (ends_by actor shape view) before is.rest in
     let joined : reads ++ (before ++ is.own) ≡ (reads ++ before) ++ is.own = sym (append_assoc reads before is.own) in
     record {
       view = is.view;
@@ -142,7 +140,8 @@ parts_after actor shape view (part ∷ parts) reads before piece is =
             found = is.made.found;
             reads = subst Read_in joined (all_after is.view reads (before ++ is.own) places is.made.reads);
           };
-      later = subst Later joined (parts_after actor shape view parts reads (before ++ is.own) is.rest is.later);
+      ends = is.ends;
+      later = is.later;
     }
 
 command_after : (actor : Option ℕ) (shape : GuestShape) (view : View) (reads piece : List Happened) → IsTrue (list_all is_read reads) → IsCommand actor shape view piece → IsCommand actor shape view (reads ++ piece)
@@ -152,8 +151,9 @@ command_after actor shape view reads piece are is =
       fetch = reads ++ is.fetch;
       rest = is.rest;
       split = ap (λ events. reads ++ events) is.split ∙ sym (append_assoc reads is.fetch is.rest);
+      whole = is.whole;
       fetched = makes_after actor view (command_places shape view) reads is.fetch are is.fetched;
-      done = parts_after actor shape view (command_parts shape view) reads is.fetch is.rest is.done;
+      done = parts_after actor shape view (words_read shape view) (command_parts shape view) reads is.fetch is.rest is.done;
     }
 
 listed_after : (actor : Option ℕ) (shape : GuestShape) (beside : Beside) (number : ℕ) (its : View) (reads piece : List Happened) → IsTrue (list_all is_read reads) → AreListed actor shape beside number its piece → AreListed actor shape beside number its (reads ++ piece)
@@ -236,33 +236,3 @@ queue_runs old start new shape tables end queue looks over =
           (λ q stays idle_to.
           good_then start over.mid q run.steps told.part run.adds (run.piece q idle_to (write_stays p q stays write) (ap (λ r. r.wants) stays.same ∙ none)) (λ r stays_too idle_mid. told.piece r idle_mid));
     }
-
-pub queue_stops : (old start new : Seen) (shape : GuestShape) (tables : Maps) (queue : KnownQueue) → LooksAtQueue old start queue → WantsMemory start new shape tables → StopsQueue old new shape tables
-queue_stops old start new shape tables queue looks wants =
-    let run = taken_are_run start wants.mid wants.commands wants.taken in
-    let last = wants.fetches in
-    let late = run.steps ++ last.part in
-    record {
-      start = start;
-      queue = queue;
-      looks = looks;
-      wants = wants;
-      steps = looks.part ++ late;
-      adds = adds_join old start new looks.part late looks.reading.adds (adds_join start wants.mid new run.steps last.part run.adds last.reading.adds);
-      piece = λ p idle write none.
-          good_then old start p looks.part late looks.reading.adds (looks.reading.piece p idle)
-          (λ q stays idle_to.
-          good_then start wants.mid q run.steps last.part run.adds (run.piece q idle_to (write_stays p q stays write) (ap (λ r. r.wants) stays.same ∙ none)) (λ r stays_too idle_mid. last.reading.piece r idle_mid));
-    }
-
-pub if_runs :
-    (E : Type 0) (old start new : Seen) (shape : GuestShape) (tables : Maps) (queue : KnownQueue) (result : Result QueueEnd E) → LooksAtQueue old start queue → IfOk result (IsOverWith start new shape tables)
-    → IfOk result (RunsQueue old new shape tables)
-if_runs E old start new shape tables queue (Ok end) looks over = queue_runs old start new shape tables end queue looks over
-if_runs E old start new shape tables queue (Err e) looks over = tt
-
-pub if_stops :
-    (E : Type 0) (old start new : Seen) (shape : GuestShape) (tables : Maps) (queue : KnownQueue) (result : Result QueueEnd E) → LooksAtQueue old start queue → OnErr result (WantsMemory start new shape tables)
-    → OnErr result (StopsQueue old new shape tables)
-if_stops E old start new shape tables queue (Ok end) looks wants = tt
-if_stops E old start new shape tables queue (Err e) looks wants = queue_stops old start new shape tables queue looks wants

@@ -1,13 +1,13 @@
 -- What the actor that has the ITS knows of its queue and of the command that it does (own choice: nobody else changes the ITS meanwhile).
-use Rattle.std.specs.Prelude.{◌≡◌, ℕ, ◌+◌, ◌*◌, ◌/◌, ◌<◌, ◌&&◌, ◌==◌, not, Bool, true, false, IsTrue, nat_le, nat_lt, List, [], ◌∷◌, map, find, Option, None, is_none, IfSome}
-use Rattle.std.specs.List.{list_all}
+use Rattle.std.specs.Prelude.{◌≡◌, ℕ, ◌+◌, ◌*◌, ◌/◌, ◌<◌, ◌&&◌, ◌==◌, not, Bool, true, false, IsTrue, nat_le, nat_lt, List, [], ◌∷◌, map, find, Option, Some, None, is_none, IfSome}
+use Rattle.std.specs.List.{list_all, list_any}
 use Rattle.port_call.specs.Words.{Lpi, has_interrupt, target_in, irq_of}
 use Rattle.port_call.specs.Calls.{Ram, ItsCtlr, Cbaser, Cwriter, Event, Found, Place, is_queue_valid, queue_address, Happened, IsLastRead, held_at, memory_at, IsOffset}
 use Rattle.port_call.specs.GicCall.declared.event.Event.TheVariants.{Read}
 use Rattle.port_call.specs.GicCall.declared.event.Found.TheVariants.{Word as FoundWord, Queue as FoundQueue}
 use Rattle.port_call.specs.GicCall.declared.event.Place.TheVariants.{Word, Queue as QueuePlace}
 use Rattle.port_call.specs.Registers.{enabled_in, Maps, has_target}
-use Rattle.port_call.specs.Core.{Made, Irq, is_on, is_known, since_command, ends_command, Seen, Adds, shape_of, part_events}
+use Rattle.port_call.specs.Core.{Made, CoreStep, RamLook, RamPut, CommandDone, TurnRelease, Irq, is_on, is_known, since_command, ends_command, reading_of, Seen, Adds, shape_of, part_events}
 use Rattle.port_call.specs.Memory.{view_by}
 use Rattle.port_call.specs.Piece.{IsPiece}
 use Rattle.its_exec.specs.declared.fetch.Fetched.{Fetched}
@@ -50,6 +50,35 @@ is_within made = is_none made.tables && not (ends_command made.step)
 abbrev pub are_within : List Made → Bool
 are_within part = list_all is_within part
 
+-- a step that leaves what was read of the next command: it neither takes the ITS nor gives it back, stores no word and does not move the queue
+abbrev pub keeps_read : CoreStep → Bool
+keeps_read TurnRelease = false
+keeps_read (RamPut index seen value) = false
+keeps_read (CommandDone offset stalled ending) = false
+keeps_read step = true
+
+abbrev pub is_going : Made → Bool
+is_going made = is_none made.tables && keeps_read made.step
+
+abbrev pub are_going : List Made → Bool
+are_going part = list_all is_going part
+
+-- a look at a word of the memory
+abbrev pub is_look_of : ℕ → CoreStep → Bool
+is_look_of word (RamLook index) = index == word
+is_look_of word step = false
+
+abbrev pub looks_at : ℕ → List Made → Bool
+looks_at word part = list_any (λ made. is_look_of word made.step) part
+
+-- the actor has read the first doubleword of the command at an address, in the memory, since it took the ITS, stored a word or moved the queue
+pub record HasBegun (seen : Seen) (address : ℕ) : Type 0 where
+  pub read : List Made
+  pub reading : reading_of seen.own ≡ Some read
+  pub looked : IsTrue (looks_at (address / 8) read)
+  pub inside : address / 8 < (shape_of seen).ram / 8
+  pub queue : IsTrue (is_known (shape_of seen) seen.actor seen.own (Word Cbaser))
+
 -- the first step of the present command on an LPI's word
 abbrev pub first_step : Seen → ℕ → Option Made
 first_step seen id = find (is_on (shape_of seen) seen.actor (Irq (Lpi id))) (since_command seen.own)
@@ -63,6 +92,7 @@ pub record Reading (old new : Seen) (part : List Made) : Type 0 where
   pub adds : Adds old new part
   pub local : new.local ≡ old.local
   pub within : IsTrue (are_within part)
+  pub going : IsTrue (are_going part)
   pub reads : IsTrue (list_all is_read (part_events old part))
   pub untouched : (id : ℕ) → IsTrue (has_interrupt (shape_of old) (Lpi id)) → IsUntouched old id → IsUntouched new id
   pub piece : IsPiece old part
@@ -107,6 +137,7 @@ pub record Fetches (old new : Seen) (queue : KnownQueue) (fetched : Fetched) : T
   pub address_is : fetched.address ≡ queue_address queue.cbaser + queue.offset
   pub words_are : fetched.words ≡ map (λ number. memory_at (shape_of old) (view_by new) (fetched.address + 8 * number) 8) (0 ∷ 1 ∷ 2 ∷ 3 ∷ [])
   pub has : HasFetched new fetched.address (part_events old part)
+  pub looked : fetched.address / 8 < (shape_of old).ram / 8 → IsTrue (looks_at (fetched.address / 8) part)
   pub knows : KnowsQueue new queue
 
 -- The vCPUs that LPIs are for.

@@ -3,14 +3,12 @@ use Rattle.std.specs.Prelude.{◌≡◌, ◌≢◌, ℕ, ◌<◌, ◌&&◌, Bool
 use Rattle.std.specs.List.{list_all}
 use Rattle.std.specs.Option.{option_map_or}
 use Rattle.port_call.specs.Words.{Lpi, GuestShape, has_interrupt, target_in, is_vcpu_or_none, irq_of}
-use Rattle.port_call.specs.Calls.{Part, Map, Clear, Place, lpi_event, Happened, Makes, byte_places, View}
+use Rattle.port_call.specs.Calls.{Part, Map, Clear, Place, lpi_event, Happened, Makes, EndsWith, byte_places, View}
 use Rattle.port_call.specs.GicCall.declared.command.Part.TheVariants.{Forget, Retarget, Raise, Configure}
-use Rattle.port_call.specs.Histories.{names}
-use Rattle.port_call.specs.Core.{Made, Look, Irq, Seen, Adds, shape_of, part_events, Progress, is_end_of}
-use Rattle.port_call.specs.Memory.{view_by}
+use Rattle.port_call.specs.Core.{Made, Look, Irq, Seen, Adds, shape_of, part_events, Progress, is_end_of, may_name}
 use Rattle.port_call.specs.Piece.{takes_none, IsIdle, IsGoodPiece}
 use Rattle.port_call.specs.Rest.{StaysAtEase}
-use Rattle.its_exec.specs.Known.{KnowsSame, IsUntouched, HasFetched, AgreeFound, are_within, is_read}
+use Rattle.its_exec.specs.Known.{KnowsSame, IsUntouched, HasFetched, AgreeFound, are_within, are_going, is_read}
 use Rattle.its_exec.specs.Config.{is_kept, Keeps}
 
 -- the LPI of a part
@@ -52,30 +50,33 @@ GoesFirst seen part = Unit {0}
 -- the actor's call names an LPI, whatever its steps find, as long as it knows what it goes by while it does the command
 pub record IsDue (seen : Seen) (address : ℕ) (p : Progress) (id : ℕ) : Type 0 where
   pub names_it :
-      (later : Seen) (more : List Made) → Adds seen later more → IsTrue (are_within more) → ((place : Place) → IsTrue (is_kept (shape_of seen) address place) → KnowsSame seen later place)
-      → IsTrue (option_map_or (λ operation. names (shape_of later) (view_by later) later.actor operation (Lpi id)) p.operation false)
+      (later : Seen) (more : List Made) → Adds seen later more → IsTrue (are_within more) → IsTrue (are_going more) → ((place : Place) → IsTrue (is_kept (shape_of seen) address place) → KnowsSame seen later place)
+      → IsTrue (option_map_or (λ operation. may_name (shape_of later) later.actor later.own operation (Lpi id)) p.operation false)
   pub ends_other : is_end_of (shape_of seen) seen.actor p.operation (Lpi id) ≡ false
 
 -- steps before the change of an LPI: they leave the actor as it was, read, and are about no other LPI
 pub record Prefix (old mid : Seen) (address id : ℕ) (steps : List Made) : Type 0 where
   pub adds : Adds old mid steps
   pub within : IsTrue (are_within steps)
+  pub going : IsTrue (are_going steps)
   pub local : mid.local ≡ old.local
   pub keeps : Keeps old mid address steps
   pub reads : IsTrue (list_all is_read (part_events old steps))
   pub untouched : (other : ℕ) → IsTrue (has_interrupt (shape_of old) (Lpi other)) → other ≢ id → IsUntouched old other → IsUntouched mid other
   pub piece : (p : Progress) → IsIdle old p → is_end_of (shape_of old) old.actor p.operation (Lpi id) ≡ false → IsGoodPiece old p steps
 
--- the events of a part, after those of the command before it
+-- the events of a part, which ends with its own, after what was read before it
 pub record MakesPart (actor : Option ℕ) (shape : GuestShape) (targets : ℕ → Option ℕ) (part : Part) (before own : List Happened) : Type 0 where
   pub view : View
   pub made : Makes actor view (lpi_event shape view targets part ∷ []) (byte_places shape view targets part) before own
+  pub ends : EndsWith (lpi_event shape view targets part) own
 
 -- the actor did a part of the command at an address: its event is to be seen, with the reads that it asks for; and the vCPUs that it concerns were told
 pub record DoesPart (old new : Seen) (address : ℕ) (part : Part) : Type 0 where
   pub steps : List Made
   pub adds : Adds old new steps
   pub within : IsTrue (are_within steps)
+  pub going : IsTrue (are_going steps)
   pub local_is : StaysAtEase old.local new.local
   pub keeps : Keeps old new address steps
   pub untouched : (id : ℕ) → IsTrue (has_interrupt (shape_of old) (Lpi id)) → id ≢ lpi_of part → IsUntouched old id → IsUntouched new id

@@ -5,13 +5,14 @@ use Rattle.port_call.specs.Words.{Lpi, GuestShape, has_interrupt}
 use Rattle.port_call.specs.Calls.{Part, Map, Clear, each, parts}
 use Rattle.port_call.specs.GicCall.declared.command.Part.TheVariants.{Forget, Retarget, Raise, Configure}
 use Rattle.port_call.specs.Registers.{Command, Movi, Int, Clear as ClearCommand, Mapd, Mapc, Mapti, Mapi, Inv, Invall, Movall, Discard, Maps, pair_of, id_of, target_of}
-use Rattle.port_call.specs.Core.{Seen, shape_of}
+use Rattle.port_call.specs.Core.{reading_of, Seen, shape_of}
 use Rattle.its_exec.specs.Known.{IsUntouched}
 use Rattle.its_exec.specs.Command.{DoesParts}
 use Rattle.its_exec.specs.Parts.{DoesPart}
 
--- the present command made no step on the word of any LPI yet
+-- the actor has the ITS, and the present command made no step on the word of any LPI yet
 pub record IsFresh (seen : Seen) : Type 0 where
+  pub reading : IsTrue (is_some (reading_of seen.own))
   pub each : (id : ℕ) → IsTrue (has_interrupt (shape_of seen) (Lpi id)) → IsUntouched seen id
 
 -- an event that is mapped again: what it had is forgotten first

@@ -1,10 +1,10 @@
 -- The command queue, as an actor that has the ITS goes over it.
-use Rattle.std.specs.Prelude.{◌≡◌, ℕ, ◌+◌, ◌%◌, true, false, IsTrue, List, [], ◌∷◌, ◌++◌, fold, Option, Some, None, Ok}
+use Rattle.std.specs.Prelude.{◌≡◌, ℕ, ◌+◌, ◌%◌, true, false, IsTrue, List, [], ◌∷◌, ◌++◌, fold, Option, Some, None}
 use Rattle.port_call.specs.Words.{GuestShape}
 use Rattle.port_call.specs.Calls.{queue_address, command_words, queue_event, Runs, Fault as FaultWord, Happened, HaveSameIts, IsCommand, left_by, View}
 use Rattle.port_call.specs.GicCall.declared.event.Event.TheVariants.{Queue as QueueEvent}
 use Rattle.port_call.specs.GicCall.declared.event.Found.TheVariants.{Nothing}
-use Rattle.port_call.specs.Registers.{Command, fault_number, IsValid, is_mapping, Maps}
+use Rattle.port_call.specs.Registers.{fault_number, IsValid, Maps}
 use Rattle.port_call.specs.ItsCmd.Command.{decoded}
 use Rattle.port_call.specs.Core.{CoreStep, RamLook, CommandDone, fault_place, known_maps, ends_command, Made, Seen, Adds, AddsStep, shape_of, part_events, Progress}
 use Rattle.port_call.specs.Piece.{IsIdle, IsGoodPiece, IsRestedPiece}
@@ -17,7 +17,7 @@ use Rattle.its_exec.specs.declared.known.KnownQueue.{KnownQueue}
 use Rattle.its_exec.specs.Config.{HoldsCommand}
 use Rattle.its_exec.specs.declared.queue.QueueEnd.{QueueEnd}
 use Rattle.its_exec.specs.declared.queue.QueueEnd.TheVariants.{Empty, Stalled}
-use Rattle.its_exec.specs.Known.{KnowsQueue, Reading, AgreeWith, are_within, takes_next}
+use Rattle.its_exec.specs.Known.{KnowsQueue, AgreeWith, are_within, takes_next}
 use Rattle.its_exec.specs.Plan.{IsFresh}
 
 -- the actor has the ITS with these tables, and is where a command begins
@@ -152,21 +152,3 @@ pub record IsOverWith (old new : Seen) (shape : GuestShape) (tables : Maps) (end
   pub ready : IsReady mid shape tables queue
   pub over : takes_next queue ≡ false
   pub ends : EndsAt mid new queue (last_fault commands) end
-
--- it only read, and found a good command that maps something
-pub record FetchesMapping (old new : Seen) : Type 0 where
-  pub part : List Made
-  pub reading : Reading old new part
-  pub command : Command
-  pub decoded_is : decoded (command_words (shape_of new) (view_by new)) ≡ Ok command
-  pub mapping : IsTrue (is_mapping command)
-
--- the actor took commands, and fetched one that wants memory: it is still where that begins
-pub record WantsMemory (old new : Seen) (shape : GuestShape) (tables : Maps) : Type 0 where
-  pub mid : Seen
-  pub queue : KnownQueue
-  pub commands : List Taken
-  pub taken : AreTaken old commands mid
-  pub fetches : FetchesMapping mid new
-  pub ready : IsReady new shape tables queue
-  pub takes : takes_next queue ≡ true

@@ -1,8 +1,8 @@
 //! A command without a fault.
-ghost use Rattle.std.specs.Prelude.{◌≡◌, ◌<◌, IsTrue, IfSome, IsSome, None, OnOk, OnErr, true, false};
+ghost use Rattle.std.specs.Prelude.{◌≡◌, ◌<◌, IfSome, IsSome, None, true, false};
 ghost use Rattle.port_call.specs.Words.{has_interrupt, Lpi};
 ghost use Rattle.port_call.specs.Calls.{lpis_of_device};
-ghost use Rattle.port_call.specs.Registers.{IsValid, maps_after, is_mapping, without_events, fault_of, pair_of, with_device, without_device, without_event, IsSound, FitsFields};
+ghost use Rattle.port_call.specs.Registers.{IsValid, maps_after, without_events, fault_of, pair_of, with_device, without_device, without_event, IsSound, FitsFields};
 ghost use Rattle.port_call.specs.Core.{known_maps, shape_of};
 ghost use Rattle.port_call.specs.Rest.{IsAtEase};
 ghost use Rattle.its_exec.specs.Command.{DoesCommand};
@@ -13,7 +13,7 @@ ghost use Rattle.its_exec.specs.Plan.{IsFresh, first_of, second_of, is_several, 
 use crate::fetch::Fetched;
 use crate::part::{do_part, do_some};
 use crate::sweep::do_sweep;
-use port_call::{CallPart as Part, Command, GuestShape, ItsTables, NoMemory, Port};
+use port_call::{CallPart as Part, Command, GuestShape, ItsTables, Port};
 use std::sync::Wait;
 
 /// Forgets the LPI of an event that is mapped, and unmaps the event.
@@ -56,8 +56,7 @@ fn forget_events<P: Port, R: Wait>(
     }
 }
 
-/// MAPD with V = 1: the events of the device are forgotten, and it is mapped with this number of EventID bits. It is mapped
-/// first, since that alone can be refused.
+/// MAPD with V = 1: the events of the device are forgotten, and it is mapped with this number of EventID bits.
 fn replace_device<P: Port, R: Wait>(
     rt: &R,
     port: &mut P,
@@ -65,19 +64,17 @@ fn replace_device<P: Port, R: Wait>(
     fetched: &Fetched,
     device: u32,
     bits: u32,
-) -> Result<(), NoMemory>
+)
+    requires range { device < 65536 }
     requires sound { IsSound tables.old }
     requires valid { HasLpis (shape_of (P.seen port.old)) tables.old }
     requires ease { IsAtEase (P.seen port.old).local }
     requires holds { HoldsCommand (P.seen port.old) fetched.now }
-    ensures does { OnOk result (ForgetsAll (P.seen port.old) (P.seen port.new) fetched.now.address (lpis_of_device tables.old device)) }
-    ensures tables { OnOk result (tables.new ≡ with_device (without_events tables.old device) device bits) }
-    ensures err_port { OnErr result (P.seen port.new ≡ P.seen port.old) }
-    ensures err_tables { OnErr result (tables.new ≡ tables.old) }
+    ensures does { ForgetsAll (P.seen port.old) (P.seen port.new) fetched.now.address (lpis_of_device tables.old device) }
+    ensures tables { tables.new ≡ with_device (without_events tables.old device) device bits }
 {
-    tables.map_device(device, bits)?;
     forget_events(rt, port, tables, fetched, device);
-    Ok(())
+    tables.map_device(device, bits);
 }
 
 /// MAPD with V = 0: the events of the device are forgotten, and it is unmapped.
@@ -175,7 +172,7 @@ fn do_plain<P: Port, R: Wait>(
     shape: &GuestShape,
     fetched: &Fetched,
     command: &Command,
-) -> Result<(), NoMemory>
+)
     requires plain { is_mapd command.now ≡ false }
     requires shape { shape.now ≡ shape_of (P.seen port.old) }
     requires known { tables.old ≡ known_maps (P.seen port.old).own }
@@ -184,26 +181,21 @@ fn do_plain<P: Port, R: Wait>(
     requires ease { IsAtEase (P.seen port.old).local }
     requires holds { HoldsCommand (P.seen port.old) fetched.now }
     requires fresh { IsFresh (P.seen port.old) }
-    ensures does { OnOk result (DoesCommand (P.seen port.old) (P.seen port.new) fetched.now.address tables.old command.now) }
-    ensures tables { OnOk result (tables.new ≡ maps_after tables.old command.now) }
-    ensures err_port { OnErr result (P.seen port.new ≡ P.seen port.old) }
-    ensures err_tables { OnErr result (tables.new ≡ tables.old) }
-    ensures wanted { OnErr result (IsTrue (is_mapping command.now)) }
+    ensures does { DoesCommand (P.seen port.old) (P.seen port.new) fetched.now.address tables.old command.now }
+    ensures tables { tables.new ≡ maps_after tables.old command.now }
 {
     let first = first_part(tables, command);
     let second = second_part(tables, command);
     let several = is_about_several(tables, command);
-    tables.carry_out(command, shape)?;
+    tables.carry_out(command, shape);
     do_some(rt, port, fetched, first);
     do_some(rt, port, fetched, second);
     if several {
         do_sweep(rt, port, tables, fetched, command);
     }
-    Ok(())
 }
 
-/// Does what a command without a fault does to the tables, and its parts. `NoMemory` comes before any part, and leaves the
-/// tables as they were.
+/// Does what a command without a fault does to the tables, and its parts.
 pub(crate) fn do_command<P: Port, R: Wait>(
     rt: &R,
     port: &mut P,
@@ -211,7 +203,7 @@ pub(crate) fn do_command<P: Port, R: Wait>(
     shape: &GuestShape,
     fetched: &Fetched,
     command: &Command,
-) -> Result<(), NoMemory>
+)
     requires shape { shape.now ≡ shape_of (P.seen port.old) }
     requires known { tables.old ≡ known_maps (P.seen port.old).own }
     requires valid { IsValid shape.now tables.old }
@@ -220,11 +212,8 @@ pub(crate) fn do_command<P: Port, R: Wait>(
     requires holds { HoldsCommand (P.seen port.old) fetched.now }
     requires fresh { IsFresh (P.seen port.old) }
     requires fits { FitsFields command.now }
-    ensures does { OnOk result (DoesCommand (P.seen port.old) (P.seen port.new) fetched.now.address tables.old command.now) }
-    ensures tables { OnOk result (tables.new ≡ maps_after tables.old command.now) }
-    ensures err_port { OnErr result (P.seen port.new ≡ P.seen port.old) }
-    ensures err_tables { OnErr result (tables.new ≡ tables.old) }
-    ensures wanted { OnErr result (IsTrue (is_mapping command.now)) }
+    ensures does { DoesCommand (P.seen port.old) (P.seen port.new) fetched.now.address tables.old command.now }
+    ensures tables { tables.new ≡ maps_after tables.old command.now }
 {
     match *command {
         Command::Mapd {
@@ -233,10 +222,7 @@ pub(crate) fn do_command<P: Port, R: Wait>(
             valid: true,
             ..
         } => replace_device(rt, port, tables, fetched, device, size + 1),
-        Command::Mapd { device, .. } => {
-            forget_device(rt, port, tables, fetched, device);
-            Ok(())
-        }
+        Command::Mapd { device, .. } => forget_device(rt, port, tables, fetched, device),
         _ => do_plain(rt, port, tables, shape, fetched, command),
     }
 }

@@ -1,12 +1,12 @@
 //! The command queue.
-ghost use Rattle.std.specs.Prelude.{◌≡◌, IsTrue, None, Some, IfOk, OnOk, OnErr, true, false};
+ghost use Rattle.std.specs.Prelude.{◌≡◌, IsTrue, None, Some, true, false};
 ghost use Rattle.port_call.specs.Registers.{queue_bytes as bytes_of, advanced, fault_number, IsValid, Maps};
 ghost use Rattle.port_call.specs.Calls.{IsOffset};
 ghost use Rattle.port_call.specs.ItsCmd.Command.{decoded};
 ghost use Rattle.port_call.specs.Core.{CommandDone, known_maps, shape_of};
 ghost use Rattle.port_call.specs.Rest.{IsAtEase};
-ghost use Rattle.its_exec.specs.Queue.{HoldsNext, HasBad, MakesStep, StallsAt, IsReady, HasIts, MovesQueue, LooksAtFault, TellsFault, EndsAt, IsOverWith, WantsMemory, TakesCommand, FetchesMapping};
-ghost use Rattle.its_exec.specs.Run.{RunsQueue, StopsQueue};
+ghost use Rattle.its_exec.specs.Queue.{HoldsNext, HasBad, MakesStep, StallsAt, IsReady, HasIts, MovesQueue, LooksAtFault, TellsFault, EndsAt, IsOverWith, TakesCommand};
+ghost use Rattle.its_exec.specs.Run.{RunsQueue};
 ghost use Rattle.its_exec.specs.Plan.{IsFresh};
 ghost use Rattle.port_call.specs.Words.{GuestShape};
 ghost use Rattle.its_exec.specs.Known.{takes_next};
@@ -15,8 +15,8 @@ use crate::command::do_command;
 use crate::fetch::{Fetched, fetch};
 use crate::known::{KnownQueue, look_at_queue};
 use port_call::{
-    CoreStep, GuestShape, ItsTables, NoMemory, PlainWord, Port, UNKNOWN_NUMBER, advance,
-    place_of_plain, put_plain, queue_bytes, queue_decode as decode,
+    CoreStep, GuestShape, ItsTables, PlainWord, Port, UNKNOWN_NUMBER, advance, place_of_plain,
+    put_plain, queue_bytes, queue_decode as decode,
 };
 use std::sync::Wait;
 
@@ -74,28 +74,25 @@ fn take_command<P: Port, R: Wait>(
     tables: &mut ItsTables,
     shape: &GuestShape,
     queue: &mut KnownQueue,
-) -> Result<Option<u8>, NoMemory>
+) -> Option<u8>
     requires ready { IsReady (P.seen port.old) shape.now tables.old queue.old }
     requires takes { takes_next queue.old ≡ true }
     ensures ready { IsReady (P.seen port.new) shape.now tables.new queue.new }
-    ensures takes { IfOk result (TakesCommand (P.seen port.old) (P.seen port.new)) }
-    ensures reads { OnErr result (FetchesMapping (P.seen port.old) (P.seen port.new)) }
-    ensures tables { OnErr result (tables.new ≡ tables.old) }
-    ensures queue { OnErr result (queue.new ≡ queue.old) }
+    ensures takes { TakesCommand (P.seen port.old) (P.seen port.new) result }
 {
     let fetched = fetch(port, queue);
     let Ok(command) = decode(fetched.words) else {
         stall(rt, port, queue, UNKNOWN_NUMBER);
-        return Ok(Some(UNKNOWN_NUMBER));
+        return Some(UNKNOWN_NUMBER);
     };
     if let Some(fault) = tables.fault_in(&command, shape) {
         let number = fault.number();
         stall(rt, port, queue, number);
-        return Ok(Some(number));
+        return Some(number);
     }
-    do_command(rt, port, tables, shape, &fetched, &command)?;
+    do_command(rt, port, tables, shape, &fetched, &command);
     finish(port, queue, &fetched);
-    Ok(None)
+    None
 }
 
 /// The number of the fault that is stored, by a look.
@@ -157,40 +154,37 @@ pub fn run_commands<P: Port, R: Wait>(
     tables: &mut ItsTables,
     shape: &GuestShape,
     from: KnownQueue,
-) -> Result<QueueEnd, NoMemory>
+) -> QueueEnd
     requires ready { IsReady (P.seen port.old) shape.now tables.old from }
-    ensures ends { IfOk result (IsOverWith (P.seen port.old) (P.seen port.new) shape.now tables.new) }
-    ensures wants { OnErr result (WantsMemory (P.seen port.old) (P.seen port.new) shape.now tables.new) }
+    ensures ends { IsOverWith (P.seen port.old) (P.seen port.new) shape.now tables.new result }
     ensures has { HasIts (P.seen port.new) tables.new }
 {
     let mut queue = from;
     let mut fault = None;
     for _ in rt.forever() {
         if !queue.takes_command() {
-            return Ok(end_of(port, &queue, fault));
+            return end_of(port, &queue, fault);
         }
-        fault = take_command(rt, port, tables, shape, &mut queue)?;
+        fault = take_command(rt, port, tables, shape, &mut queue);
     }
     unreachable!()
 }
 
 /// Looks at the queue of the ITS, and takes commands until no further one is taken. `Empty` comes exactly where the queue is
-/// not stalled then, `Stalled` exactly where it is. `NoMemory` comes only at a command that maps something, before any part
-/// of it. The actor has the ITS with these tables, and owes nothing.
+/// not stalled then, `Stalled` exactly where it is. The actor has the ITS with these tables, and owes nothing.
 pub fn run_queue<P: Port, R: Wait>(
     rt: &R,
     port: &mut P,
     tables: &mut ItsTables,
     shape: &GuestShape,
-) -> Result<QueueEnd, NoMemory>
+) -> QueueEnd
     requires shape { shape.now ≡ shape_of (P.seen port.old) }
     requires taken { IsTrue (P.seen port.old).taken }
     requires ease { IsAtEase (P.seen port.old).local }
     requires known { tables.old ≡ known_maps (P.seen port.old).own }
     requires valid { IsValid shape.now tables.old }
     requires fresh { IsFresh (P.seen port.old) }
-    ensures ends { IfOk result (RunsQueue (P.seen port.old) (P.seen port.new) shape.now tables.new) }
-    ensures wants { OnErr result (StopsQueue (P.seen port.old) (P.seen port.new) shape.now tables.new) }
+    ensures ends { RunsQueue (P.seen port.old) (P.seen port.new) shape.now tables.new result }
     ensures has { HasIts (P.seen port.new) tables.new }
 {
     let queue = look_at_queue(port);

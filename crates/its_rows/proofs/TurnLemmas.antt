@@ -1,10 +1,10 @@
 -- An actor that took the ITS has valid maps, and is where a command begins.
-use Rattle.std.proofs.Common.{◌≡◌, List, [], ◌∷◌, ◌++◌, find, is_some, ◌||◌, Some, if◌then◌else◌, sym, ap, subst, ◌∙◌}
+use Rattle.std.proofs.Common.{◌≡◌, IsTrue, List, [], ◌∷◌, ◌++◌, find, is_some, ◌||◌, Option, None, Some, if◌then◌else◌, refl, sym, ap, subst, ◌∙◌}
 use Rattle.std.proofs.lemmas.List.{append_assoc}
 use Rattle.std.proofs.lemmas.List.Sums.{fold-append}
 use Rattle.dev_port.specs.Words.{Lpi, GuestShape}
 use Rattle.port_seq.specs.Registers.{IsValid, Maps}
-use Rattle.dev_port.specs.Core.{Made, Irq, known_maps, is_on, since_command, ends_command, Seen, shape_of}
+use Rattle.dev_port.specs.Core.{Made, Irq, known_maps, is_on, read_after, reading_after, reading_of, since_command, ends_command, Seen, shape_of}
 use Rattle.dev_port.specs.PortCall.Turn.{TakesTurn}
 use Rattle.dev_port.proofs.PortCall.KnownLemmas.{maps_handed}
 use Rattle.pe_op.specs.ItsExec.Plan.{IsFresh}
@@ -25,11 +25,24 @@ since_turn own misses last maps handed =
     ∙ fold-append command_by [] (own ++ misses) (last ∷ [])
     ∙ ap (λ tables. if is_some tables || ends_command last.step then [] else before ++ last ∷ []) handed
 
+abbrev nothing_read : Option (List Made)
+nothing_read = Some []
+
+-- it has the ITS, and has read nothing yet
+turn_reading : (own misses : List Made) (last : Made) (maps : Maps) (seen : Seen) → seen.own ≡ own ++ (misses ++ last ∷ []) → last.tables ≡ Some maps → IsTrue (is_some (reading_of seen.own))
+turn_reading own misses last maps seen is handed =
+    ap (λ own. is_some (reading_of own)) (is ∙ sym (append_assoc own misses (last ∷ []))) ∙ ap is_some (fold-append reading_after None (own ++ misses) (last ∷ [])) ∙ of (reading_of (own ++ misses)) last.tables refl handed
+  where
+    of : (before : Option (List Made)) (o : Option Maps) → last.tables ≡ o → o ≡ Some maps → IsTrue (is_some (reading_after before last))
+    of before None e h = absurd (cc)
+    of None (Some maps) e h = ap (λ o. is_some (if is_some o then nothing_read else None)) e
+    of (Some read) (Some maps) e h = ap (λ o. is_some (if is_some o then nothing_read else read_after last.step last read)) e
+
 pub turn_fresh : (old new : Seen) → TakesTurn old new → IsFresh new
 turn_fresh old new takes =
     let since : since_command new.own ≡ [] = ap (λ seen. since_command seen.own) takes.adds.new_is ∙ since_turn old.own takes.misses takes.last takes.maps takes.handed in
-    record { each = λ id there. record { none = ap (find (is_on (shape_of new) new.actor (Irq (Lpi id)))) since } }
+    record { reading = turn_reading old.own takes.misses takes.last takes.maps new (ap (λ seen. seen.own) takes.adds.new_is) takes.handed; each = λ id there. record { none = ap (find (is_on (shape_of new) new.actor (Irq (Lpi id)))) since } }
 
 -- which tables it took is no matter
 pub fresh_same : (one other : Seen) → other ≡ record one { taken = other.taken } → IsFresh one → IsFresh other
-fresh_same one other e fresh = subst IsFresh (sym e) (record { each = λ id there. record { none = (fresh.each id there).none } })
+fresh_same one other e fresh = subst IsFresh (sym e) (record { reading = fresh.reading; each = λ id there. record { none = (fresh.each id there).none } })

@@ -4,7 +4,7 @@ use crate::guest::{
     CBASER, CONFIG, LATCHED, LpiState, MAPPED, MOVED, NO_COMMAND, NOTHING, PROPBASER, QUEUE_PLACES,
     SECOND_PLACE, SHAPE, TABLE, address_of_place, lpi_state, map_event, open_guest, queue_state,
 };
-use dev_port::{NoMemory, Port, give_turn, put_plain, take_turn};
+use dev_port::{Port, give_turn, put_plain, take_turn};
 use pe_op::{QueueEnd, look_at_queue, move_queue, run_commands, run_queue};
 use port_rest::{
     CLEAR, DEVICE_ID, DISCARD, EVENT_ID, INT, INV, LPI, MAP_LPI, MAPC, MOVI, OTHER_MAPC, SYNC,
@@ -57,7 +57,7 @@ const PLAIN: Row = Row {
 };
 
 /// How a queue ended, its word, and the number of the fault; and the LPI.
-type Outcome = (Result<QueueEnd, NoMemory>, u64, u64, LpiState);
+type Outcome = (QueueEnd, u64, u64, LpiState);
 
 /// Stores a register.
 fn put<P: Port, R: Wait>(rt: &R, port: &mut P, word: PlainWord, value: u64) {
@@ -103,7 +103,7 @@ fn write_commands<P: Port, R: Wait>(rt: &R, port: &mut P, first: u16, commands: 
 }
 
 /// Takes the ITS, runs its queue, and gives it back. None where the actor may not.
-fn run<P: Port, R: Wait>(rt: &R, port: &mut P) -> Option<Result<QueueEnd, NoMemory>> {
+fn run<P: Port, R: Wait>(rt: &R, port: &mut P) -> Option<QueueEnd> {
     if port.shape() != SHAPE || !is_at_ease(port.local_ref()) {
         return None;
     }
@@ -116,7 +116,7 @@ fn run<P: Port, R: Wait>(rt: &R, port: &mut P) -> Option<Result<QueueEnd, NoMemo
 }
 
 /// Takes the ITS, ends the stall of its queue, runs it, and gives it back. None where the actor may not.
-fn retry<P: Port, R: Wait>(rt: &R, port: &mut P) -> Option<Result<QueueEnd, NoMemory>> {
+fn retry<P: Port, R: Wait>(rt: &R, port: &mut P) -> Option<QueueEnd> {
     if port.shape() != SHAPE || !is_at_ease(port.local_ref()) {
         return None;
     }
@@ -142,7 +142,7 @@ fn set_up<P: Port, R: Wait>(rt: &R, port: &mut P) {
 }
 
 /// What is there after a run of the queue that ended so. None where the guest has another shape.
-fn told<P: Port>(port: &mut P, end: Result<QueueEnd, NoMemory>) -> Option<Outcome> {
+fn told<P: Port>(port: &mut P, end: QueueEnd) -> Option<Outcome> {
     let (word, fault) = queue_state(port)?;
     Some((end, word, fault, lpi_state(port)?))
 }
@@ -218,13 +218,13 @@ fn wrapped_of<R: Wait>(rt: &R, alloc: Global) -> Result<Option<Outcome>, AllocEr
 
 /// A queue that came to its end.
 fn went(word: u64, lpi: LpiState) -> Option<Outcome> {
-    Some((Ok(QueueEnd::Empty), word, 0, lpi))
+    Some((QueueEnd::Empty, word, 0, lpi))
 }
 
 /// A queue that stalled at an offset.
 fn stalled(offset: u32, fault: u8, lpi: LpiState) -> Option<Outcome> {
     Some((
-        Ok(QueueEnd::Stalled { offset, fault }),
+        QueueEnd::Stalled { offset, fault },
         u64::from(offset) + 1,
         u64::from(fault),
         lpi,

@@ -5,7 +5,7 @@ use crate::guest::{
     CBASER, LATCHED, LpiState, MAPPED, MOVED, NO_COMMAND, NOTHING, PROPBASER, SECOND_PLACE, SHAPE,
     lpi_state, map_event, open_guest, queue_state,
 };
-use dev_port::{NoMemory, Port, msi};
+use dev_port::{Port, msi};
 use pe_op::{its_op, mem_op};
 use port_rest::{
     CLEAR, DEVICE_ID, DISCARD, EVENT_ID, INV, LPI, MAPC, MAPD, MAPTI, MOVI, OTHER_MAPC, SYNC,
@@ -93,7 +93,7 @@ fn make<P: Port, R: Wait>(
     offset: u32,
     size: u32,
     write: Option<u64>,
-) -> Option<Result<Option<u64>, NoMemory>> {
+) -> Option<Option<u64>> {
     if !can_access(port) || !is_good_access(&port.shape(), frame, offset, size, write) {
         return None;
     }
@@ -120,11 +120,11 @@ fn goes_so<R: Wait>(rt: &R, guest: &mut GuestPort, act: Act) -> bool {
     match act {
         Read(frame, offset, size, value) => {
             guest.set_actor(0);
-            make(rt, guest, frame, offset, size, None) == Some(Ok(Some(value)))
+            make(rt, guest, frame, offset, size, None) == Some(Some(value))
         }
         Write(frame, offset, size, value) => {
             guest.set_actor(0);
-            make(rt, guest, frame, offset, size, Some(value)) == Some(Ok(None))
+            make(rt, guest, frame, offset, size, Some(value)) == Some(None)
         }
         Queue(place, command) => {
             guest.set_actor(0);

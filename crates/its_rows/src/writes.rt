@@ -8,7 +8,7 @@ use crate::guest::{
     CBASER, CONFIG, LpiState, MAPPED, MOVED, NO_COMMAND, NOTHING, PROPBASER, SECOND_PLACE, SHAPE,
     TABLE, lpi_state, open_guest, queue_state,
 };
-use dev_port::{NoMemory, Port, put_plain, read_plain};
+use dev_port::{Port, put_plain, read_plain};
 use pe_op::its_write;
 use port_rest::{INT, MAPC, MAPD, MAPTI, MOVI, OTHER_MAPC, SYNC};
 use port_seq::{Command, Frame, GuestShape, PlainWord, Reg, RegRef, decode};
@@ -69,7 +69,7 @@ fn write_register<P: Port, R: Wait>(
     offset: u32,
     size: u32,
     value: u64,
-) -> Option<Result<(), NoMemory>> {
+) -> Option<()> {
     let shape = port.shape();
     if !can_access(port) || !is_good_access(&shape, Frame::Its, offset, size, Some(value)) {
         return None;
@@ -80,13 +80,13 @@ fn write_register<P: Port, R: Wait>(
     Some(its_write(rt, port, offset, size, value))
 }
 
-/// Makes a write. Whether the actor may, and there is memory for it.
+/// Makes a write. Whether the actor may.
 fn make<P: Port, R: Wait>(rt: &R, port: &mut P, write: Write) -> bool {
     match write {
         Write::Memory(address, value) => store(rt, port, address, value),
         Write::Queue(place, command) => store_command(rt, port, place, &command),
         Write::Its(offset, size, value) => {
-            write_register(rt, port, offset, size, value) == Some(Ok(()))
+            write_register(rt, port, offset, size, value).is_some()
         }
     }
 }

@@ -1,5 +1,5 @@
 -- What a command does to the maps, piece by piece.
-use Rattle.std.proofs.Common.{◌≡◌, ℕ, ◌<◌, ◌==◌, not, Bool, true, false, cond, Some, None, IsSome, IfSome, List, [], ◌∷◌, length, find, Result, Ok, Err, OnOk, refl, sym, ap, subst, arith}
+use Rattle.std.proofs.Common.{◌≡◌, ℕ, ◌<◌, ◌==◌, not, Bool, true, false, cond, Some, None, IsSome, IfSome, List, [], ◌∷◌, length, find, refl, sym, ap, subst, arith}
 use Rattle.std.specs.List.{filter}
 use Rattle.std.specs.Option.{option_map}
 use Rattle.its_cmd.specs.Words.{GuestShape}
@@ -59,7 +59,3 @@ first_event-without_events maps device = ap (option_map (λ pair. pair.0.1)) (no
 -- what a good command leaves is valid
 pub kept_now : (shape : GuestShape) (old new : Maps) (command : Command) → fault_of shape old command ≡ None → new ≡ maps_after old command → IsValid shape old → IsValid shape new
 kept_now shape old new command good is valid = subst (IsValid shape) (sym is) (kept_valid shape old command valid good)
-
-pub kept_after : {E : Type 0} (shape : GuestShape) (old new : Maps) (command : Command) (r : Result (Unit {0}) E) → fault_of shape old command ≡ None → OnOk r (new ≡ maps_after old command) → IsValid shape old → OnOk r (IsValid shape new)
-kept_after shape old new command (Ok done) good is valid = kept_now shape old new command good is valid
-kept_after shape old new command (Err e) good is valid = tt

@@ -36,8 +36,8 @@ owner_only maps event other id sound free there = elim (owner_of maps id) as (λ
   | (Some owner) ↦ λ facts h. sym h ∙ sym (facts.only other there)
 ] (owner_facts maps id sound) free
 
-no_owner : (maps : Maps) (event : ℕ × ℕ) (id : ℕ) → IsSound maps → IfSome (owner_of maps id) (λ owner. owner ≡ event) → pair_of maps event ≡ None → owner_of maps id ≡ None
-no_owner maps event id sound free missing = elim (owner_of maps id) as (λ o. OwnerFacts maps id o → IfSome o (λ owner. owner ≡ event) → o ≡ None) [
+pub owner_missing : (maps : Maps) (event : ℕ × ℕ) (id : ℕ) → IsSound maps → IfSome (owner_of maps id) (λ owner. owner ≡ event) → pair_of maps event ≡ None → owner_of maps id ≡ None
+owner_missing maps event id sound free missing = elim (owner_of maps id) as (λ o. OwnerFacts maps id o → IfSome o (λ owner. owner ≡ event) → o ≡ None) [
   | None ↦ λ facts h. refl
   | (Some owner) ↦ λ facts h. absurd (none-some id (sym (ap (option_map (λ w. w.0)) missing) ∙ ap (id_of maps) (sym h) ∙ facts.found))
 ] (owner_facts maps id sound) free
@@ -57,6 +57,19 @@ same_number x y t = exact_unsigned x y (equal_from_test (nat_cmp x y) t)
 
 other_number : (x y : ℕ) → is_at (nat_cmp x) y ≡ false → x ≢ y
 other_number x y t same = true≢false (sym (ap is_eq (tied_itself nat_cmp_total x)) ∙ ap (λ n. is_at (nat_cmp x) n) same ∙ t)
+
+-- an event that is mapped owns its INTID
+pub owner_there : (maps : Maps) (event pair : ℕ × ℕ) (id : ℕ) → IsSound maps → pair_of maps event ≡ Some pair → pair.0 ≡ id → owner_of maps id ≡ Some event
+owner_there maps event pair id sound there same =
+    let own : id_of maps event ≡ Some id = ap (option_map (λ w. w.0)) there ∙ ap Some same in
+    sym (owner_is maps id (Some event) sound (record { found = own; only = λ other h. one_event maps other event id sound h own; none = tt }))
+
+-- and no other INTID
+pub owner_missing_other : (maps : Maps) (event pair : ℕ × ℕ) (id : ℕ) → IsSound maps → IfSome (owner_of maps id) (λ owner. owner ≡ event) → pair_of maps event ≡ Some pair → pair.0 ≢ id → owner_of maps id ≡ None
+owner_missing_other maps event pair id sound free there other = elim (owner_of maps id) as (λ o. OwnerFacts maps id o → IfSome o (λ owner. owner ≡ event) → o ≡ None) [
+  | None ↦ λ facts h. refl
+  | (Some owner) ↦ λ facts h. absurd (other (same_Some pair.0 id (sym (ap (option_map (λ w. w.0)) there) ∙ ap (id_of maps) (sym h) ∙ facts.found)))
+] (owner_facts maps id sound) free
 
 mapped_cond : {X Y : Type 0} (f : X → Y) (b : Bool) (x y : Option X) → option_map f (cond b x y) ≡ cond b (option_map f x) (option_map f y)
 mapped_cond f true x y = refl
@@ -181,16 +194,6 @@ module _ (owners : List (ℕ × (ℕ × ℕ))) (maps : Maps) (event : ℕ × ℕ
             (same_number id q) (other_number id q));
       }
 
-  -- an event that had no INTID was not mapped after all
-  index-undone : IsSound maps → IfSome (owner_of maps id) (λ owner. owner ≡ event) → pair_of maps event ≡ None → IsIndex owners maps → IsIndex (remove_entry (is_at (nat_cmp id)) (insert_entry nat_cmp owners id event)) maps
-  index-undone sound free missing index = record {
-    ordered = sorted-remove nat_cmp (is_at (nat_cmp id)) (insert_entry nat_cmp owners id event) (sorted_put index);
-    inverse = λ q. looked_taken id q index ∙ elim (is_at (nat_cmp id) q) as (λ b. is_at (nat_cmp id) q ≡ b → cond b None (cond b (Some event) (owner_of maps q)) ≡ owner_of maps q) [
-      | true ↦ λ t. sym (subst (λ n. owner_of maps n ≡ None) (same_number id q t) (no_owner maps event id sound free missing))
-      | false ↦ λ t. refl
-    ] refl;
-  }
-
   index-taken : (icid : ℕ) → IsSound maps → pair_of maps event ≡ Some (id, icid) → IsIndex owners maps → IsIndex (remove_entry (is_at (nat_cmp id)) owners) (without_event maps event)
   index-taken icid sound own index =
       let had : id_of maps event ≡ Some id = ap (option_map (λ w. w.0)) own in
@@ -219,12 +222,6 @@ module _ {maps seen : Maps} {owners : List (ℕ × (ℕ × ℕ))} {events : List
       let mapped' = subst (λ m. IsSome (bits_of m event.0)) (sym view) mapped in
       let free' = subst (λ m. IfSome (owner_of m id) (λ owner. owner ≡ event)) (sym view) free in
       replaced maps (is_left ∙ ap (remove_entry (is_at (nat_cmp pair.0))) is_put) is_events (record { sound = sound-with_event maps event (id, icid) indexed.sound mapped' free'; index = index-moved owners maps event id icid pair.0 pair.1 indexed.sound mapped' free' own moved indexed.index })
-
-  pub indexed-undone : {put left : List (ℕ × (ℕ × ℕ))} → IfSome (owner_of seen id) (λ owner. owner ≡ event) → pair_of maps event ≡ None
-      → put ≡ insert_entry nat_cmp owners id event → left ≡ remove_entry (is_at (nat_cmp id)) put → events ≡ maps.events → IsIndexed left (record maps { events = events })
-  indexed-undone free missing is_put is_left is_events =
-      let free' = subst (λ m. IfSome (owner_of m id) (λ owner. owner ≡ event)) (sym view) free in
-      replaced maps (is_left ∙ ap (remove_entry (is_at (nat_cmp id))) is_put) is_events (record { sound = indexed.sound; index = index-undone owners maps event id indexed.sound free' missing indexed.index })
 
   pub indexed-taken : {left : List (ℕ × (ℕ × ℕ))} → pair_of maps event ≡ Some (id, icid) → left ≡ remove_entry (is_at (nat_cmp id)) owners → events ≡ (without_event maps event).events → IsIndexed left (record maps { events = events })
   indexed-taken own is_left is_events = replaced maps is_left is_events (record { sound = sound-without_event maps event indexed.sound; index = index-taken owners maps event id icid indexed.sound own indexed.index })

@@ -1,7 +1,9 @@
 pub mod MapLemmas
+pub mod RoomLemmas
 pub mod TableLemmas
 pub mod SearchLemmas
 pub mod AfterLemmas
 pub mod IndexLemmas
 pub mod ListLemmas
 pub mod CarryLemmas
+pub mod KeptLemmas

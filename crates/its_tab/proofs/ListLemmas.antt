@@ -1,5 +1,5 @@
 -- The LPIs that pass a test, by one pass over the index.
-use Rattle.std.proofs.Common.{◌≡◌, ℕ, Bool, true, false, cond, Some, None, is_some, nat_eq, Option, IsSome, List, [], ◌∷◌, ◌++◌, refl, sym, ap, ◌∙◌, subst, append_assoc, append-nil, true≢false}
+use Rattle.std.proofs.Common.{◌≡◌, ℕ, Bool, true, false, cond, Some, None, is_some, nat_eq, Option, IsSome, List, [], ◌∷◌, ◌++◌, refl, sym, ap, ◌∙◌, subst, append_assoc, append-nil, true≢false, length, arith}
 use Rattle.std.specs.List.{filter, Contains}
 use Rattle.std.specs.List.Sorted.{IsStrictlyIncreasing}
 use Rattle.std.specs.Option.{option_map, option_and_then, option_eq}
@@ -27,6 +27,10 @@ module _ (p : ℕ → Bool) (whole ids : List ℕ) (id : ℕ) (rest left : List 
 
   pub skipped : p id ≡ false → filter p whole ≡ ids ++ filter p rest
   skipped passes = split ∙ ap (λ b. ids ++ cond b (id ∷ filter p rest) (filter p rest)) passes
+
+pub nothing_left : {K X : Type 0} (es : List (K × X)) → length es ≡ 0 → keys_of es ≡ []
+nothing_left [] h = refl
+nothing_left (e ∷ es) h = absurd (omega arith)
 
 -- what is listed: each number that passes, where those that pass are of events
 pub record Lists (p : ℕ → Bool) (ids : List ℕ) : Type 0 where

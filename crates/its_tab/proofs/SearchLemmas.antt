@@ -1,8 +1,7 @@
 -- What a search of the events finds: the event of an INTID, and the first event of a device.
-use Rattle.std.proofs.Common.{◌≡◌, ◌≢◌, ℕ, ◌<◌, ◌≤◌, ◌==◌, ◌&&◌, true, false, cond, Some, None, Option, IsSome, IfSome, IfNone, List, [], ◌∷◌, if◌then◌else◌, refl, sym, ap, ◌∙◌, subst, find, true≢false, arith}
+use Rattle.std.proofs.Common.{◌≡◌, ◌≢◌, ℕ, ◌<◌, ◌≤◌, ◌==◌, true, false, cond, Some, None, Option, IsSome, IfSome, IfNone, List, [], ◌∷◌, if◌then◌else◌, refl, sym, ap, ◌∙◌, subst, find, true≢false, arith}
 use Rattle.std.specs.declared.cmp.Ordering.{Ordering}
 use Rattle.std.specs.declared.cmp.Ordering.TheVariants.{Less, Equal, Greater}
-use Rattle.std.specs.declared.ops.Bound.TheVariants.{Included, Unbounded}
 use Rattle.std.specs.Bool.{then_some}
 use Rattle.std.specs.Option.{option_map}
 use Rattle.std.specs.Ordering.{nat_cmp, is_le, is_lt, ordering_then}
@@ -11,7 +10,6 @@ use Rattle.std.specs.List.{AllByRecursion}
 use Rattle.std.specs.List.Sorted.{IsStrictlySortedBy}
 use Rattle.std.specs.Map.{keys_of}
 use Rattle.std.specs.BTreeMap.{is_at}
-use Rattle.std.specs.BTreeMap.Range.{entries_between}
 use Rattle.std.proofs.lemmas.Map.Keys.{ge_from_not_lt}
 use Rattle.std.proofs.lemmas.Bool.{eqb-true, eq-eqb}
 use Rattle.std.proofs.lemmas.Option.{none-some, same_Some}
@@ -64,37 +62,33 @@ head device x es h l = elim (x.0.0 == device) as (λ b. (x.0.0 == device) ≡ b 
 ] refl
 
 -- the first event of a device is the first one from its EventID 0 on, if that is one of this device
-first_none : (device : ℕ) (es : List ((ℕ × ℕ) × (ℕ × ℕ))) → entries_between event_cmp (Included (device, 0)) Unbounded es ≡ [] → find (λ pair. pair.0.0 == device) es ≡ None
+first_none : (device : ℕ) (es : List ((ℕ × ℕ) × (ℕ × ℕ))) → find (λ pair. is_le (event_cmp (device, 0) pair.0)) es ≡ None → find (λ pair. pair.0.0 == device) es ≡ None
 first_none device [] h = refl
-first_none device (e ∷ es) h =
-    let from : ℕ × ℕ = (device, 0) in
-    elim (is_le (event_cmp from e.0)) as (λ b. is_le (event_cmp from e.0) ≡ b → cond (b && true) (e ∷ entries_between event_cmp (Included from) Unbounded es) (entries_between event_cmp (Included from) Unbounded es) ≡ [] → find (λ pair. pair.0.0 == device) (e ∷ es) ≡ None) [
-      | true ↦ λ t k. cc
-      | false ↦ λ t k.
-          let before : e.0.0 < device = earlier (nat_cmp device e.0.0) device e.0.1 e.0.0 refl t in
-          passed device e (find (λ pair. pair.0.0 == device) es) (λ same. omega arith) ∙ first_none device es k
-    ] refl h
+first_none device (e ∷ es) h = elim (is_le (event_cmp (device, 0) e.0)) as (λ b. is_le (event_cmp (device, 0) e.0) ≡ b → cond b (Some e) (find (λ pair. is_le (event_cmp (device, 0) pair.0)) es) ≡ None → find (λ pair. pair.0.0 == device) (e ∷ es) ≡ None) [
+  | true ↦ λ t k. absurd (none-some e (sym k))
+  | false ↦ λ t k.
+      let before : e.0.0 < device = earlier (nat_cmp device e.0.0) device e.0.1 e.0.0 refl t in
+      passed device e (find (λ pair. pair.0.0 == device) es) (λ same. omega arith) ∙ first_none device es k
+] refl h
 
-first_some : (device : ℕ) (e : (ℕ × ℕ) × (ℕ × ℕ)) (rest es : List ((ℕ × ℕ) × (ℕ × ℕ))) → IsStrictlySortedBy event_cmp (keys_of es) → entries_between event_cmp (Included (device, 0)) Unbounded es ≡ e ∷ rest → find (λ pair. pair.0.0 == device) es ≡ (if e.0.0 == device then Some e else None)
+first_some : (device : ℕ) (e : (ℕ × ℕ) × (ℕ × ℕ)) (es : List ((ℕ × ℕ) × (ℕ × ℕ))) → IsStrictlySortedBy event_cmp (keys_of es) → find (λ pair. is_le (event_cmp (device, 0) pair.0)) es ≡ Some e → find (λ pair. pair.0.0 == device) es ≡ (if e.0.0 == device then Some e else None)
 unfolding IsStrictlySortedBy
-first_some device e rest [] s h = cc
-first_some device e rest (x ∷ es) s h =
-    let from : ℕ × ℕ = (device, 0) in
-    elim (is_le (event_cmp from x.0)) as (λ b. is_le (event_cmp from x.0) ≡ b → cond (b && true) (x ∷ entries_between event_cmp (Included from) Unbounded es) (entries_between event_cmp (Included from) Unbounded es) ≡ e ∷ rest → find (λ pair. pair.0.0 == device) (x ∷ es) ≡ (if e.0.0 == device then Some e else None)) [
-      | true ↦ λ t k.
-          let same : x ≡ e = cc in
-          let at_least : device ≤ x.0.0 = first_or_later (nat_cmp device x.0.0) device x.0.1 x.0.0 refl t in
-          subst (λ (y : (ℕ × ℕ) × (ℕ × ℕ)). find (λ pair. pair.0.0 == device) (x ∷ es) ≡ (if y.0.0 == device then Some y else None)) same (head device x es s.0 at_least)
-      | false ↦ λ t k.
-          let before : x.0.0 < device = earlier (nat_cmp device x.0.0) device x.0.1 x.0.0 refl t in
-          passed device x (find (λ pair. pair.0.0 == device) es) (λ same. omega arith) ∙ first_some device e rest es s.1 k
-    ] refl h
+first_some device e [] s h = absurd (none-some e h)
+first_some device e (x ∷ es) s h = elim (is_le (event_cmp (device, 0) x.0)) as (λ b. is_le (event_cmp (device, 0) x.0) ≡ b → cond b (Some x) (find (λ pair. is_le (event_cmp (device, 0) pair.0)) es) ≡ Some e → find (λ pair. pair.0.0 == device) (x ∷ es) ≡ (if e.0.0 == device then Some e else None)) [
+  | true ↦ λ t k.
+      let same : x ≡ e = same_Some x e k in
+      let at_least : device ≤ x.0.0 = first_or_later (nat_cmp device x.0.0) device x.0.1 x.0.0 refl t in
+      subst (λ (y : (ℕ × ℕ) × (ℕ × ℕ)). find (λ pair. pair.0.0 == device) (x ∷ es) ≡ (if y.0.0 == device then Some y else None)) same (head device x es s.0 at_least)
+  | false ↦ λ t k.
+      let before : x.0.0 < device = earlier (nat_cmp device x.0.0) device x.0.1 x.0.0 refl t in
+      passed device x (find (λ pair. pair.0.0 == device) es) (λ same. omega arith) ∙ first_some device e es s.1 k
+] refl h
 
-pub first_event_none : (maps : Maps) (device : ℕ) (part : List ((ℕ × ℕ) × (ℕ × ℕ))) → part ≡ entries_between event_cmp (Included (device, 0)) Unbounded maps.events → part ≡ [] → first_event maps device ≡ None
-first_event_none maps device part is empty = ap (option_map (λ pair. pair.0.1)) (first_none device maps.events (sym is ∙ empty))
+pub first_event_none : (maps : Maps) (device : ℕ) → find (λ pair. is_le (event_cmp (device, 0) pair.0)) maps.events ≡ None → first_event maps device ≡ None
+first_event_none maps device none = ap (option_map (λ pair. pair.0.1)) (first_none device maps.events none)
 
-pub first_event_some : (maps : Maps) (device : ℕ) (e : (ℕ × ℕ) × (ℕ × ℕ)) (rest part : List ((ℕ × ℕ) × (ℕ × ℕ))) → IsSound maps → part ≡ entries_between event_cmp (Included (device, 0)) Unbounded maps.events → part ≡ e ∷ rest → first_event maps device ≡ then_some (e.0.0 == device) e.0.1
-first_event_some maps device e rest part sound is there = ap (option_map (λ pair. pair.0.1)) (first_some device e rest maps.events sound.events (sym is ∙ there)) ∙ elim (e.0.0 == device) as (λ b. option_map (λ pair. pair.0.1) (if b then Some e else None) ≡ then_some b e.0.1) [ true ↦ refl | false ↦ refl ]
+pub first_event_some : (maps : Maps) (device : ℕ) (e : (ℕ × ℕ) × (ℕ × ℕ)) → IsSound maps → find (λ pair. is_le (event_cmp (device, 0) pair.0)) maps.events ≡ Some e → first_event maps device ≡ then_some (e.0.0 == device) e.0.1
+first_event_some maps device e sound there = ap (option_map (λ pair. pair.0.1)) (first_some device e maps.events sound.events there) ∙ elim (e.0.0 == device) as (λ b. option_map (λ pair. pair.0.1) (if b then Some e else None) ≡ then_some b e.0.1) [ true ↦ refl | false ↦ refl ]
 
 -- what a search for an INTID tells
 pub record OwnerFacts (maps : Maps) (id : ℕ) (owner : Option (ℕ × ℕ)) : Type 0 where

@@ -1,5 +1,5 @@
 -- The maps stay sound as one of them changes.
-use Rattle.std.proofs.Common.{◌≡◌, ℕ, ◌==◌, Bool, true, false, cond, Some, None, Option, IsSome, IfSome, List, Result, Ok, Err, OnSome, OnOk, OnErr, ◌⊎◌, inl, inr, refl, sym, ap, ◌∙◌, subst, find}
+use Rattle.std.proofs.Common.{◌≡◌, ℕ, ◌==◌, Bool, true, false, cond, Some, None, Option, IsSome, IfSome, OnSome, ◌⊎◌, inl, inr, refl, sym, ap, ◌∙◌, subst, find}
 use Rattle.std.proofs.lemmas.Bool.{eqb-true, eq-eqb}
 use Rattle.std.specs.Option.{option_map}
 use Rattle.std.specs.Ordering.{nat_cmp}
@@ -121,12 +121,6 @@ sound-without_device maps device sound none = record {
       let same : bits_of (without_device maps device) q.0 ≡ bits_of maps q.0 = lookup-removed nat_cmp_total q.0 device maps.devices sound.devices ∙ ap (λ b. cond b None (bits_of maps q.0)) other in
       subst IsSome (sym same) (sound.of_mapped q w h);
 }
-
--- the maps after an insertion that may have failed
-pub sound-inserted : {T E : Type 0} (maps : Maps) (event pair : ℕ × ℕ) (new : List ((ℕ × ℕ) × (ℕ × ℕ))) (r : Result T E) → IsSound maps → IsSome (bits_of maps event.0) → IfSome (owner_of maps pair.0) (λ owner. owner ≡ event)
-    → OnOk r (new ≡ (with_event maps event pair).events) → OnErr r (new ≡ maps.events) → IsSound (record maps { events = new })
-sound-inserted maps event pair new (Ok x) sound mapped owner ok err = subst (λ es. IsSound (record maps { events = es })) (sym ok) (sound-with_event maps event pair sound mapped owner)
-sound-inserted maps event pair new (Err x) sound mapped owner ok err = subst (λ es. IsSound (record maps { events = es })) (sym err) sound
 
 -- the device of an event that is found is mapped, in the maps that callers see
 pub mapped_found : {maps seen : Maps} (event : ℕ × ℕ) (found : Option (ℕ × ℕ)) → maps ≡ seen → IsSound maps → found ≡ pair_of maps event → OnSome found (IsSome (bits_of seen event.0))

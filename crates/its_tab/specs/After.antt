@@ -1,5 +1,5 @@
 -- What a good command makes of the maps, and what the maps of a guest always have (IHI 0069, "ITS commands").
-use Rattle.std.specs.Prelude.{ℕ, ◌≡◌, ◌<◌, ◌≤◌, ◌+◌, ◌^◌, ◌==◌, not, Bool, IsTrue, IfSome, Option, Some, None, true, false, filter}
+use Rattle.std.specs.Prelude.{ℕ, ◌≡◌, ◌<◌, ◌≤◌, ◌+◌, ◌^◌, ◌==◌, not, IsTrue, IfSome, Option, Some, None, true, false, filter}
 use Rattle.its_cmd.specs.Words.{GuestShape, Lpi, has_interrupt}
 use Rattle.its_cmd.specs.declared.command.Command.{Command}
 use Rattle.its_cmd.specs.declared.command.Command.TheVariants.{Movi, Mapd, Mapc, Mapti, Mapi, Discard}
@@ -26,15 +26,6 @@ maps_after maps (Mapi device event icid) = with_event maps (device, event) (even
 maps_after maps (Movi device event icid) = recollected maps (device, event) icid (pair_of maps (device, event))
 maps_after maps (Discard device event) = without_event maps (device, event)
 maps_after maps command = maps
-
--- a command that maps something, so that it can want memory (own choice)
-abbrev pub is_mapping : Command → Bool
-is_mapping (Mapd device size itt_addr valid) = valid
-is_mapping (Mapc icid rdbase valid) = valid
-is_mapping (Mapti device event id icid) = true
-is_mapping (Mapi device event icid) = true
-is_mapping (Movi device event icid) = true
-is_mapping command = false
 
 -- maps that the commands of a guest can make: DeviceIDs and EventIDs are in range, INTIDs are LPIs of the guest, and collections have a vCPU of the guest
 pub record IsValid (shape : GuestShape) (maps : Maps) : Type 0 where

@@ -1,25 +1,22 @@
 //! What a command does to the tables.
-ghost use Rattle.std.specs.Prelude.{◌≡◌, None, OnOk, OnErr, IsTrue};
+ghost use Rattle.std.specs.Prelude.{◌≡◌, ◌<◌, None};
 ghost use Rattle.its_cmd.specs.Words.{IsShape};
 ghost use Rattle.its_tab.specs.Fault.{fault_of};
-ghost use Rattle.its_tab.specs.After.{without_events, maps_after, is_mapping, IsValid};
+ghost use Rattle.its_tab.specs.After.{without_events, maps_after, IsValid};
 ghost use Rattle.its_tab.specs.Maps.{with_device, without_device};
 
 use crate::tables::ItsTables;
-use its_cmd::{Command, GuestShape, NoMemory};
+use its_cmd::{Command, GuestShape};
 
 impl ItsTables {
     /// Does to the tables what a command without a fault, in a guest of this shape, does (IHI 0069, "ITS
-    /// commands"). `NoMemory` leaves the tables as they were; it comes only at MAPD and MAPC with V = 1, MAPTI,
-    /// MAPI and MOVI.
-    #[tactic(auto, using(crate::proofs::CarryLemmas::kept_after, crate::proofs::CarryLemmas::kept_now))]
-    pub fn carry_out(&mut self, command: &Command, shape: &GuestShape) -> Result<(), NoMemory>
+    /// commands").
+    #[tactic(auto, using(crate::proofs::CarryLemmas::kept_now))]
+    pub fn carry_out(&mut self, command: &Command, shape: &GuestShape)
         requires shape { IsShape shape.now }
         requires good { fault_of shape.now self.old command.now ≡ None }
-        ensures ok { OnOk result (self.new ≡ maps_after self.old command.now) }
-        ensures valid { IsValid shape.now self.old → OnOk result (IsValid shape.now self.new) }
-        ensures err { OnErr result (self.new ≡ self.old) }
-        ensures wanted { OnErr result (IsTrue (is_mapping command.now)) }
+        ensures value { self.new ≡ maps_after self.old command.now }
+        ensures valid { IsValid shape.now self.old → IsValid shape.now self.new }
     {
         match *command {
             Command::Mapd {
@@ -32,10 +29,7 @@ impl ItsTables {
                 device,
                 valid: false,
                 ..
-            } => {
-                self.forget_device(device);
-                Ok(())
-            }
+            } => self.forget_device(device),
             Command::Mapc {
                 icid,
                 rdbase,
@@ -45,10 +39,7 @@ impl ItsTables {
                 icid,
                 valid: false,
                 ..
-            } => {
-                self.unmap_collection(icid);
-                Ok(())
-            }
+            } => self.unmap_collection(icid),
             Command::Mapti {
                 device,
                 event,
@@ -65,11 +56,8 @@ impl ItsTables {
                 event,
                 icid,
             } => self.move_event(device, event, icid),
-            Command::Discard { device, event } => {
-                self.unmap_event(device, event);
-                Ok(())
-            }
-            _ => Ok(()),
+            Command::Discard { device, event } => self.unmap_event(device, event),
+            _ => {}
         }
     }
 
@@ -90,14 +78,13 @@ impl ItsTables {
         self.unmap_device(device);
     }
 
-    /// Maps a device, none of whose events is mapped then. The device comes first, since that alone can be refused.
-    fn replace_device(&mut self, device: u32, bits: u32) -> Result<(), NoMemory>
-        ensures ok { OnOk result (self.new ≡ with_device (without_events self.old device) device bits) }
-        ensures err { OnErr result (self.new ≡ self.old) }
+    /// Maps a device, none of whose events is mapped then.
+    fn replace_device(&mut self, device: u32, bits: u32)
+        requires range { device < 65536 }
+        ensures { self.new ≡ with_device (without_events self.old device) device bits }
     {
-        self.map_device(device, bits)?;
         self.forget_events(device);
-        Ok(())
+        self.map_device(device, bits);
     }
 }
 
@@ -167,7 +154,7 @@ mod tests {
         let mut tables = tables(rt.alloc())?;
         for command in COMMANDS {
             assert_eq!(rt; tables.fault_in(&command, &SHAPE), None);
-            tables.carry_out(&command, &SHAPE)?;
+            tables.carry_out(&command, &SHAPE);
         }
         assert_eq!(rt;
             tables.devices(rt.alloc())?.as_slice(),
@@ -201,7 +188,7 @@ mod tests {
                 valid,
             };
             assert_eq!(rt; tables.fault_in(&command, &SHAPE), None);
-            tables.carry_out(&command, &SHAPE)?;
+            tables.carry_out(&command, &SHAPE);
             assert_eq!(rt; tables.first_event(8), None);
             assert_eq!(rt; tables.owner_of(8195), None);
             assert_eq!(rt; tables.bits_of(8), valid.then_some(size + 1));

@@ -3,6 +3,8 @@
 
 mod carry;
 mod fault;
+#[cfg(test)]
+mod full;
 mod message;
 #[cfg(test)]
 mod samples;
@@ -13,4 +15,4 @@ pub use its_cmd::{
     COMMAND_BYTES, Command, FIRST_LPI, GuestShape, MAX_LPIS, NoMemory, QueueWord, advance, decode,
     encode, pack, unpack,
 };
-pub use tables::{ItsTables, empty};
+pub use tables::ItsTables;

@@ -1,113 +1,105 @@
 //! The tables of an ITS.
-ghost use Rattle.std.specs.Prelude.{◌≡◌, ◌≢◌, ◌≤◌, ◌↔◌, ℕ, [], IsTrue, IsSome, IfSome, IfNone, OnSome, IfOk, OnOk, OnErr, Some, None, Contains};
+ghost use Rattle.std.specs.Prelude.{◌≡◌, ◌≢◌, ◌≤◌, ◌<◌, ◌↔◌, ℕ, [], IsTrue, IsSome, IfSome, IfNone, OnSome, IfOk, Some, None, Contains};
 ghost use Rattle.std.specs.List.Sorted.{IsStrictlyIncreasing};
 ghost use Rattle.its_cmd.specs.Words.{GuestShape};
 ghost use Rattle.its_tab.specs.After.{IsValid};
 
-use its_cmd::NoMemory;
+use its_cmd::{MAX_LPIS, NoMemory};
+use sorted_pairs::{first_from, get, put, take};
 use std::alloc::{AllocError, Global};
-use std::collections::BTreeMap;
+use std::collections::VecDeque;
 use std::marker::Model;
+
+/// How many DeviceIDs and how many ICIDs there are: each has 16 bits.
+const NUMBERS: usize = 1 << 16;
 
 /// The tables of an ITS, as three finite maps (IHI 0069, "The ITS tables"): a DeviceID has its number of
 /// EventID bits, an event (a DeviceID and an EventID) its INTID and its collection, and a collection its
-/// vCPU. No two events have one INTID, and each event's device is mapped.
+/// vCPU. No two events have one INTID, and each event's device is mapped. There is room for all that can be mapped from the first on, so
+/// none of the calls asks for memory; a call makes O(log n) comparisons, and moves one block of a table at most, of at most half of it.
 #[derive(Drop)]
 pub struct ItsTables {
-    devices: BTreeMap<u32, u32>,
-    events: BTreeMap<(u32, u32), (u32, u16)>,
-    collections: BTreeMap<u16, u32>,
+    devices: VecDeque<(u32, u32)>,
+    events: VecDeque<((u32, u32), (u32, u16))>,
+    collections: VecDeque<(u16, u32)>,
     // The event of each INTID that one has.
-    owners: BTreeMap<u32, (u32, u32)>,
+    owners: VecDeque<(u32, (u32, u32))>,
 }
 
 impl Model for ItsTables {
-    ghost use Rattle.its_tab.specs.Maps.{Maps, IsIndexed};
+    ghost use Rattle.std.specs.VecDeque.{deque_capacity};
+    ghost use Rattle.its_tab.specs.Maps.{Maps};
+    ghost use Rattle.its_tab.specs.Room.{IsKept};
 
     ghost Value = { Maps };
 
-    ghost view = { λ t. record { devices = t.devices.entries; events = t.events.entries; collections = t.collections.entries } };
+    ghost view = { λ t. record { devices = t.devices.items; events = t.events.items; collections = t.collections.items } };
 
-    ghost invariant = { λ t. IsIndexed t.owners.entries (record { devices = t.devices.entries; events = t.events.entries; collections = t.collections.entries }) };
-}
-
-/// Tables in which nothing is mapped.
-pub fn empty(alloc: Global) -> ItsTables
-    ensures value { result ≡ record { devices = []; events = []; collections = [] } }
-    ensures valid { (shape : GuestShape) → IsValid shape result }
-{
-    ItsTables {
-        devices: BTreeMap::new(alloc),
-        events: BTreeMap::new(alloc),
-        collections: BTreeMap::new(alloc),
-        owners: BTreeMap::new(alloc),
-    }
+    ghost invariant = { λ t. IsKept t.owners.items (record { devices = t.devices.items; events = t.events.items; collections = t.collections.items }) (record { devices = deque_capacity t.devices; events = deque_capacity t.events; collections = deque_capacity t.collections; owners = deque_capacity t.owners }) };
 }
 
 impl ItsTables {
     ghost use Rattle.its_tab.specs.Maps.{bits_of as device_bits, pair_of, id_of, target_of as collection_target, owner_of as owner_in, first_event as first_event_in, with_device, with_event, with_collection, without_device, without_event, without_collection};
+    ghost use Rattle.its_tab.specs.Room.{IsLpi};
     ghost use Rattle.its_tab.specs.Collection.{collection_of as collection_in, has_target as has_target_in};
     ghost use Rattle.its_tab.specs.After.{recollected};
 
-    /// Maps a device with this number of EventID bits, which replace an older number. `NoMemory` leaves the
-    /// tables as they were.
-    pub fn map_device(&mut self, device: u32, bits: u32) -> Result<(), NoMemory>
-        ensures ok { OnOk result (self.new ≡ with_device self.old device bits) }
-        ensures err { OnErr result (self.new ≡ self.old) }
+    /// Tables in which nothing is mapped, with room for all that a guest can map: each DeviceID and each ICID of 16 bits, and an event for
+    /// each of 4,096 LPIs. That is a little more than a megabyte, of which nothing is touched before it is used. `NoMemory` exactly where it
+    /// is refused.
+    pub fn of(alloc: Global) -> Result<ItsTables, NoMemory>
+        ensures value { IfOk result (λ tables. tables ≡ record { devices = []; events = []; collections = [] }) }
+        ensures valid { IfOk result (λ tables. (shape : GuestShape) → IsValid shape tables) }
     {
-        match self.devices.insert(device, bits) {
-            Ok(_) => Ok(()),
-            Err(_) => Err(NoMemory),
-        }
+        Ok(ItsTables {
+            devices: VecDeque::with_capacity(alloc, NUMBERS)?,
+            events: VecDeque::with_capacity(alloc, MAX_LPIS as usize)?,
+            collections: VecDeque::with_capacity(alloc, NUMBERS)?,
+            owners: VecDeque::with_capacity(alloc, MAX_LPIS as usize)?,
+        })
     }
 
-    /// Maps an event of a mapped device to an INTID that no other event has, and to a collection; an older
-    /// pair of the event is replaced. `NoMemory` leaves the tables as they were.
-    pub fn map_event(&mut self, device: u32, event: u32, id: u32, icid: u16) -> Result<(), NoMemory>
+    /// Maps a device with this number of EventID bits, which replace an older number.
+    pub fn map_device(&mut self, device: u32, bits: u32)
+        requires range { device < 65536 }
+        ensures { self.new ≡ with_device self.old device bits }
+    {
+        put(&mut self.devices, device, bits);
+    }
+
+    /// Maps an event of a mapped device to an LPI that no other event has, and to a collection; an older
+    /// pair of the event is replaced.
+    pub fn map_event(&mut self, device: u32, event: u32, id: u32, icid: u16)
         requires mapped { IsSome (device_bits self.old device) }
         requires free { IfSome (owner_in self.old id) (λ owner. owner ≡ (device, event)) }
-        ensures ok { OnOk result (self.new ≡ with_event self.old (device, event) (id, icid)) }
-        ensures err { OnErr result (self.new ≡ self.old) }
+        requires lpi { IsLpi id }
+        ensures { self.new ≡ with_event self.old (device, event) (id, icid) }
     {
-        let Ok(_) = self.owners.insert(id, (device, event)) else {
-            return Err(NoMemory);
-        };
-        match self.events.insert((device, event), (id, icid)) {
-            Ok(None) => Ok(()),
-            Ok(Some((older, _))) => {
-                if older != id {
-                    self.owners.remove(&older);
-                }
-                Ok(())
-            }
-            Err(_) => {
-                self.owners.remove(&id);
-                Err(NoMemory)
+        let older = get(&self.events, (device, event));
+        put(&mut self.owners, id, (device, event));
+        put(&mut self.events, (device, event), (id, icid));
+        if let Some((older, _)) = older {
+            if older != id {
+                take(&mut self.owners, older);
             }
         }
     }
 
     /// Gives an event that is mapped another collection, and keeps its INTID. Nothing happens where it is not
-    /// mapped. `NoMemory` leaves the tables as they were.
-    pub(crate) fn move_event(&mut self, device: u32, event: u32, icid: u16) -> Result<(), NoMemory>
-        ensures ok { OnOk result (self.new ≡ recollected self.old (device, event) icid (pair_of self.old (device, event))) }
-        ensures err { OnErr result (self.new ≡ self.old) }
+    /// mapped.
+    pub(crate) fn move_event(&mut self, device: u32, event: u32, icid: u16)
+        ensures { self.new ≡ recollected self.old (device, event) icid (pair_of self.old (device, event)) }
     {
-        match self.events.get(&(device, event)).copied() {
-            Some((id, _)) => self.map_event(device, event, id, icid),
-            None => Ok(()),
+        if let Some((id, _)) = get(&self.events, (device, event)) {
+            self.map_event(device, event, id, icid);
         }
     }
 
-    /// Maps a collection to a vCPU, which replaces an older one. `NoMemory` leaves the tables as they were.
-    pub fn map_collection(&mut self, icid: u16, vcpu: u32) -> Result<(), NoMemory>
-        ensures ok { OnOk result (self.new ≡ with_collection self.old icid vcpu) }
-        ensures err { OnErr result (self.new ≡ self.old) }
+    /// Maps a collection to a vCPU, which replaces an older one.
+    pub fn map_collection(&mut self, icid: u16, vcpu: u32)
+        ensures { self.new ≡ with_collection self.old icid vcpu }
     {
-        match self.collections.insert(icid, vcpu) {
-            Ok(_) => Ok(()),
-            Err(_) => Err(NoMemory),
-        }
+        put(&mut self.collections, icid, vcpu);
     }
 
     /// Unmaps a device of which no event is mapped. Nothing happens where it is not mapped.
@@ -116,7 +108,7 @@ impl ItsTables {
         ensures value { self.new ≡ without_device self.old device }
         ensures unmapped { IfNone (device_bits self.old device) (self.new ≡ self.old) }
     {
-        self.devices.remove(&device);
+        take(&mut self.devices, device);
     }
 
     /// Unmaps an event. Nothing happens where it is not mapped.
@@ -124,8 +116,8 @@ impl ItsTables {
         ensures value { self.new ≡ without_event self.old (device, event) }
         ensures unmapped { IfNone (pair_of self.old (device, event)) (self.new ≡ self.old) }
     {
-        if let Some((id, _)) = self.events.remove(&(device, event)) {
-            self.owners.remove(&id);
+        if let Some((id, _)) = take(&mut self.events, (device, event)) {
+            take(&mut self.owners, id);
         }
     }
 
@@ -134,7 +126,7 @@ impl ItsTables {
         ensures value { self.new ≡ without_collection self.old icid }
         ensures unmapped { IfNone (collection_target self.old icid) (self.new ≡ self.old) }
     {
-        self.collections.remove(&icid);
+        take(&mut self.collections, icid);
     }
 
     /// The INTID and the collection of an event. None exactly where it is not mapped.
@@ -142,21 +134,21 @@ impl ItsTables {
         ensures value { result ≡ pair_of self.now (device, event) }
         ensures mapped { OnSome result (IsSome (device_bits self.now device)) }
     {
-        self.events.get(&(device, event)).copied()
+        get(&self.events, (device, event))
     }
 
     /// The number of EventID bits of a device. None exactly where it is not mapped.
     pub fn bits_of(&self, device: u32) -> Option<u32>
         ensures { result ≡ device_bits self.now device }
     {
-        self.devices.get(&device).copied()
+        get(&self.devices, device)
     }
 
     /// The vCPU of a collection. None exactly where it is not mapped.
     pub fn target_of(&self, icid: u16) -> Option<u32>
         ensures { result ≡ collection_target self.now icid }
     {
-        self.collections.get(&icid).copied()
+        get(&self.collections, icid)
     }
 
     /// The device and the event that have an INTID. None exactly where no event has it.
@@ -166,7 +158,7 @@ impl ItsTables {
         ensures only { IfSome result (λ owner. (event : ℕ × ℕ) → id_of self.now event ≡ Some id → event ≡ owner) }
         ensures none { IfNone result ((event : ℕ × ℕ) → id_of self.now event ≢ Some id) }
     {
-        self.owners.get(&id).copied()
+        get(&self.owners, id)
     }
 
     /// The collection of an LPI: that of the event that has its INTID. None exactly where no event has it.
@@ -193,9 +185,10 @@ impl ItsTables {
         ensures exactly { IfOk result (λ ids. (id : ℕ) → Contains ids.items id ↔ (collection_in self.now id ≡ Some icid)) }
     {
         let mut ids = Vec::new(alloc);
-        for id in self.owners.keys() {
-            if self.collection_of(*id) == Some(icid) {
-                ids.push(*id)?;
+        for pair in &self.owners {
+            let id = pair.0;
+            if self.collection_of(id) == Some(icid) {
+                ids.push(id)?;
             }
         }
         Ok(ids)
@@ -207,9 +200,10 @@ impl ItsTables {
         ensures exactly { IfOk result (λ ids. (id : ℕ) → Contains ids.items id ↔ IsTrue (has_target_in self.now id)) }
     {
         let mut ids = Vec::new(alloc);
-        for id in self.owners.keys() {
-            if self.has_target(*id) {
-                ids.push(*id)?;
+        for pair in &self.owners {
+            let id = pair.0;
+            if self.has_target(id) {
+                ids.push(id)?;
             }
         }
         Ok(ids)
@@ -221,8 +215,8 @@ impl ItsTables {
         ensures least { IfSome result (λ id. (from ≤ id) × ((other : ℕ) → from ≤ other → IsSome (owner_in self.now other) → id ≤ other)) }
         ensures none { IfNone result ((other : ℕ) → from ≤ other → owner_in self.now other ≡ None) }
     {
-        let (id, _) = self.owners.range(from..).next()?;
-        Some(*id)
+        let (id, _) = first_from(&self.owners, from)?;
+        Some(id)
     }
 
     /// The devices that are mapped, in rising DeviceID, each with the number of its EventID bits.
@@ -230,8 +224,8 @@ impl ItsTables {
         ensures { IfOk result (λ pairs. pairs.items ≡ self.now.devices) }
     {
         let mut pairs = Vec::new(alloc);
-        for (device, bits) in &self.devices {
-            pairs.push((*device, *bits))?;
+        for pair in &self.devices {
+            pairs.push(*pair)?;
         }
         Ok(pairs)
     }
@@ -241,8 +235,8 @@ impl ItsTables {
         ensures { IfOk result (λ pairs. pairs.items ≡ self.now.events) }
     {
         let mut pairs = Vec::new(alloc);
-        for (event, pair) in &self.events {
-            pairs.push((*event, *pair))?;
+        for pair in &self.events {
+            pairs.push(*pair)?;
         }
         Ok(pairs)
     }
@@ -252,8 +246,8 @@ impl ItsTables {
         ensures { IfOk result (λ pairs. pairs.items ≡ self.now.collections) }
     {
         let mut pairs = Vec::new(alloc);
-        for (icid, vcpu) in &self.collections {
-            pairs.push((*icid, *vcpu))?;
+        for pair in &self.collections {
+            pairs.push(*pair)?;
         }
         Ok(pairs)
     }
@@ -265,28 +259,28 @@ impl ItsTables {
         ensures least { IfSome result (λ event. (other : ℕ) → IsSome (pair_of self.now (device, other)) → event ≤ other) }
         ensures none { IfNone result ((event : ℕ) → pair_of self.now (device, event) ≡ None) }
     {
-        let (event, _) = self.events.range((device, 0)..).next()?;
+        let (event, _) = first_from(&self.events, (device, 0))?;
         (event.0 == device).then_some(event.1)
     }
 }
 
 #[cfg(test)]
 mod tests {
-    use super::empty;
+    use super::ItsTables;
     use crate::samples::tables;
     use its_cmd::NoMemory;
 
     #[test]
     fn mapped_and_unmapped(rt: HostRuntime) -> Result<(), NoMemory> {
-        let mut tables = empty(rt.alloc());
-        tables.map_device(8, 5)?;
-        tables.map_collection(1, 1)?;
+        let mut tables = ItsTables::of(rt.alloc())?;
+        tables.map_device(8, 5);
+        tables.map_collection(1, 1);
         assert_eq!(rt; tables.bits_of(8), Some(5));
         assert_eq!(rt; tables.bits_of(9), None);
         assert_eq!(rt; tables.target_of(1), Some(1));
         assert_eq!(rt; tables.first_event(8), None);
         assert_eq!(rt; tables.owner_of(8195), None);
-        tables.map_event(8, 3, 8195, 1)?;
+        tables.map_event(8, 3, 8195, 1);
         assert_eq!(rt; tables.find(8, 3), Some((8195, 1)));
         assert_eq!(rt; tables.owner_of(8195), Some((8, 3)));
         assert_eq!(rt; tables.first_event(8), Some(3));
@@ -320,7 +314,7 @@ mod tests {
         assert_eq!(rt; tables.next_lpi(0), Some(8194));
         assert_eq!(rt; tables.next_lpi(8195), Some(8195));
         assert_eq!(rt; tables.next_lpi(8197), None);
-        tables.map_collection(3, 0)?;
+        tables.map_collection(3, 0);
         assert_eq!(rt;
             tables.lpis_with_target(rt.alloc())?.as_slice(),
             [8194, 8195, 8196].as_slice()

@@ -13,26 +13,26 @@ use Rattle.law_scans_miss_none.specs.Excuse.{is_current}
 use Rattle.law_scans_miss_none.proofs.TrackLemmas.{subject, kind_of, Kind, reaches, alters, keeps, key_cases, changes_here, changes_apart, as_changed, as_reached, happens_changes, happens_here, happens_other, is_queue, doing_kept, number_kept}
 
 -- the number of an actor's turn never goes down
-number_up : (actor : ℕ) (event : Event) (doing : Doing) → doing.number ≤ (after_doing actor event doing).number
-number_up actor event doing = of (is_queue event) refl
+number_up : (ideal : Ideal) (actor : ℕ) (event : Event) (doing : Doing) → doing.number ≤ (after_doing ideal actor event doing).number
+number_up ideal actor event doing = of (is_queue event) refl
   where
-    queued : (e : Event) → is_queue e ≡ true → doing.number ≤ (after_doing actor e doing).number
+    queued : (e : Event) → is_queue e ≡ true → doing.number ≤ (after_doing ideal actor e doing).number
     queued (Queue offset change) h = omega arith
     queued e h = absurd (cc)
 
-    of : (b : Bool) → is_queue event ≡ b → doing.number ≤ (after_doing actor event doing).number
+    of : (b : Bool) → is_queue event ≡ b → doing.number ≤ (after_doing ideal actor event doing).number
     of true e = queued event e
-    of false e = omega (arith, number_kept actor event doing e)
+    of false e = omega (arith, number_kept ideal actor event doing e)
 
 -- what it did stays while its number does
-done_kept : (actor : ℕ) (event : Event) (doing : Doing) (key : Key) → (after_doing actor event doing).number ≡ doing.number → Contains doing.done key → Contains (after_doing actor event doing).done key
-done_kept actor event doing key = of event
+done_kept : (ideal : Ideal) (actor : ℕ) (event : Event) (doing : Doing) (key : Key) → (after_doing ideal actor event doing).number ≡ doing.number → Contains doing.done key → Contains (after_doing ideal actor event doing).done key
+done_kept ideal actor event doing key = of event
   where
     more : (o : Option Key) → Contains doing.done key → Contains (option_map_or (λ k. doing.done ++ k ∷ []) o doing.done) key
     more None h = h
     more (Some k) h = Contains-append_left doing.done (k ∷ []) key h
 
-    of : (e : Event) → (after_doing actor e doing).number ≡ doing.number → Contains doing.done key → Contains (after_doing actor e doing).done key
+    of : (e : Event) → (after_doing ideal actor e doing).number ≡ doing.number → Contains doing.done key → Contains (after_doing ideal actor e doing).done key
     of (Queue offset change) same h = absurd (omega (arith, same))
     of (Raise k) same h = more (Some k) h
     of (Up k) same h = more (Some k) h
@@ -41,8 +41,8 @@ done_kept actor event doing key = of event
     of event same h = h
 
 -- an event that changes an interrupt, and is no leave, is one of those that its actor has done then
-done_now : (actor : ℕ) (event : Event) (doing : Doing) (key : Key) → changed_by event ≡ Some key → ((vcpu : ℕ) → event ≡ Leave key vcpu → ⊥) → Contains (after_doing actor event doing).done key
-done_now actor event doing key = of event
+done_now : (ideal : Ideal) (actor : ℕ) (event : Event) (doing : Doing) (key : Key) → changed_by event ≡ Some key → ((vcpu : ℕ) → event ≡ Leave key vcpu → ⊥) → Contains (after_doing ideal actor event doing).done key
+done_now ideal actor event doing key = of event
   where
     pushed : (k : Key) → Some k ≡ Some key → Contains (doing.done ++ k ∷ []) key
     pushed k e = subst (λ j. Contains (doing.done ++ k ∷ []) j) (same k e) (Contains-append_right doing.done (k ∷ []) k (Contains-here k []))
@@ -50,7 +50,7 @@ done_now actor event doing key = of event
         same : (x : Key) → Some x ≡ Some key → x ≡ key
         same x e = cc
 
-    of : (e : Event) → changed_by e ≡ Some key → ((vcpu : ℕ) → e ≡ Leave key vcpu → ⊥) → Contains (after_doing actor e doing).done key
+    of : (e : Event) → changed_by e ≡ Some key → ((vcpu : ℕ) → e ≡ Leave key vcpu → ⊥) → Contains (after_doing ideal actor e doing).done key
     of (Raise k) h stays = pushed k h
     of (Up k) h stays = pushed k h
     of (Down k) h stays = pushed k h
@@ -67,7 +67,7 @@ module _ (shape : GuestShape) (good : IsShape shape) (ideal : Ideal) (track : Tr
   abbrev after : Track
   after = tracked ideal (Happens actor event found) track
 
-  here : doing_of after actor ≡ after_doing actor event (doing_of track actor)
+  here : doing_of after actor ≡ after_doing ideal actor event (doing_of track actor)
   here = happens_here shape good ideal actor event found track same can in_it
 
   other : (one : ℕ) → one ≢ actor → doing_of after one ≡ doing_of track one
@@ -75,7 +75,7 @@ module _ (shape : GuestShape) (good : IsShape shape) (ideal : Ideal) (track : Tr
 
   pub numbers_up : (one : ℕ) → (doing_of track one).number ≤ (doing_of after one).number
   numbers_up one = elim (cases_eq one actor) [
-    | inl e ↦ subst (λ n. (doing_of track n).number ≤ (doing_of after n).number) (sym e) (subst (λ (d : Doing). (doing_of track actor).number ≤ d.number) (sym here) (number_up actor event (doing_of track actor)))
+    | inl e ↦ subst (λ n. (doing_of track n).number ≤ (doing_of after n).number) (sym e) (subst (λ (d : Doing). (doing_of track actor).number ≤ d.number) (sym here) (number_up ideal actor event (doing_of track actor)))
     | inr differ ↦ subst (λ (d : Doing). (doing_of track one).number ≤ d.number) (sym (other one differ)) (omega arith)
   ]
 
@@ -118,15 +118,15 @@ module _ (shape : GuestShape) (good : IsShape shape) (ideal : Ideal) (track : Tr
   still_done turn low current key done = elim (cases_eq turn.actor actor) [
     | inr differ ↦ subst (λ (d : Doing). Contains d.done key) (sym (other turn.actor differ)) (done (subst (λ (d : Doing). IsTrue (is_some d.operation && d.number == turn.number)) (other turn.actor differ) current))
     | inl e ↦
-        let mine : doing_of after turn.actor ≡ after_doing actor event (doing_of track turn.actor) = subst (λ n. doing_of after n ≡ after_doing actor event (doing_of track n)) (sym e) here in
-        let now = and_parts (is_some (after_doing actor event (doing_of track turn.actor)).operation) ((after_doing actor event (doing_of track turn.actor)).number == turn.number) (subst (λ (d : Doing). IsTrue (is_some d.operation && d.number == turn.number)) mine current) in
-        let number : (after_doing actor event (doing_of track turn.actor)).number ≡ turn.number = eqb-true (after_doing actor event (doing_of track turn.actor)).number turn.number now.1 in
-        let stays : (after_doing actor event (doing_of track turn.actor)).number ≡ (doing_of track turn.actor).number = omega (arith, number, low, number_up actor event (doing_of track turn.actor)) in
+        let mine : doing_of after turn.actor ≡ after_doing ideal actor event (doing_of track turn.actor) = subst (λ n. doing_of after n ≡ after_doing ideal actor event (doing_of track n)) (sym e) here in
+        let now = and_parts (is_some (after_doing ideal actor event (doing_of track turn.actor)).operation) ((after_doing ideal actor event (doing_of track turn.actor)).number == turn.number) (subst (λ (d : Doing). IsTrue (is_some d.operation && d.number == turn.number)) mine current) in
+        let number : (after_doing ideal actor event (doing_of track turn.actor)).number ≡ turn.number = eqb-true (after_doing ideal actor event (doing_of track turn.actor)).number turn.number now.1 in
+        let stays : (after_doing ideal actor event (doing_of track turn.actor)).number ≡ (doing_of track turn.actor).number = omega (arith, number, low, number_up ideal actor event (doing_of track turn.actor)) in
         let before : IsTrue (is_current track turn) =
-        and_from (is_some (doing_of track turn.actor).operation) ((doing_of track turn.actor).number == turn.number) (subst (λ o. IsTrue (is_some o)) (doing_kept actor event (doing_of track turn.actor)) now.0) (eq-eqb (doing_of track turn.actor).number turn.number (sym stays ∙ number)) in
-        subst (λ (d : Doing). Contains d.done key) (sym mine) (done_kept actor event (doing_of track turn.actor) key stays (done before))
+        and_from (is_some (doing_of track turn.actor).operation) ((doing_of track turn.actor).number == turn.number) (subst (λ o. IsTrue (is_some o)) (doing_kept ideal actor event (doing_of track turn.actor)) now.0) (eq-eqb (doing_of track turn.actor).number turn.number (sym stays ∙ number)) in
+        subst (λ (d : Doing). Contains d.done key) (sym mine) (done_kept ideal actor event (doing_of track turn.actor) key stays (done before))
   ]
 
   -- and the event's own
   pub now_done : (key : Key) → changed_by event ≡ Some key → ((vcpu : ℕ) → event ≡ Leave key vcpu → ⊥) → Contains (doing_of after actor).done key
-  now_done key changed stays = subst (λ (d : Doing). Contains d.done key) (sym here) (done_now actor event (doing_of track actor) key changed stays)
+  now_done key changed stays = subst (λ (d : Doing). Contains d.done key) (sym here) (done_now ideal actor event (doing_of track actor) key changed stays)

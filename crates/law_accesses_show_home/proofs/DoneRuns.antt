@@ -1,5 +1,5 @@
 -- What a call that goes on changed at an interface is among what it has done, in each state of a history.
-use Rattle.std.proofs.Common.{◌≡◌, ℕ, ◌+◌, ◌<◌, ◌≤◌, ◌==◌, ◌&&◌, inl, inr, true≢false, not, true, IsTrue, List, [], ◌∷◌, fold, length, replicate, slice_index_or, zero, suc, Contains, Option, Some, None, is_some, refl, sym, ap, ◌∙◌, subst, arith}
+use Rattle.std.proofs.Common.{◌≡◌, ℕ, ◌+◌, ◌<◌, ◌≤◌, ◌==◌, ◌&&◌, inl, inr, true≢false, not, true, IsTrue, List, [], ◌∷◌, fold, length, replicate, slice_index_or, zero, suc, Contains, Option, Some, None, is_some, refl, sym, ap, ◌∙◌, subst, arith, false}
 use Rattle.std.proofs.lemmas.Bool.{cases_eq, and_parts, eqb-true}
 use Rattle.std.proofs.lemmas.List.{length-replicate, length-set}
 use Rattle.law_home_commutes.specs.Words.{Key, GuestShape, has_interrupt, interrupt_count, place_of, IsShape}
@@ -86,7 +86,7 @@ module _ (shape : GuestShape) (good : IsShape shape) where
   pub moment_done : (course : Course) (at : Followed) (moment : Moment) → IsNext course moment → IsAlongDone course at → IsAlongDone (gone_on course moment) (follows at moment)
   moment_done course at (Begin actor operation) next is = record {
     along = moment_along shape good course at (Begin actor operation) next is.along;
-    are = turned at is.are actor (record { operation = Some operation; number = (doing_of at.track actor).number + 1; done = [] }) (in_range course at is actor (subst (λ (s : GuestShape). actor < actor_count s) is.is_course.shape_is next.0)) (omega arith)
+    are = turned at is.are actor (record { operation = Some operation; number = (doing_of at.track actor).number + 1; done = []; fetched = false }) (in_range course at is actor (subst (λ (s : GuestShape). actor < actor_count s) is.is_course.shape_is next.0)) (omega arith)
         (λ turn low current. let both = and_parts true ((doing_of at.track actor).number + 1 == turn.number) current in absurd (omega (arith, low, eqb-true ((doing_of at.track actor).number + 1) turn.number both.1)));
     is_course = goes shape course (Begin actor operation) is.is_course;
   }

@@ -57,7 +57,7 @@ module _ (shape : GuestShape) (state : CoreState) (entry : Entry) (good : IsShap
   turn_in actor within has = number_is actor _ (sound.ties actor Queue within refl ∙ has)
 
   -- a step of another actor on the queue's word leaves it, while somebody has the ITS
-  queue_left : (holder : ℕ) → (queue_of entry.made.found).turn ≡ Some holder → ((seat_at state entry.actor).local.turn ≡ true → ⊥) → word_of shape entry.actor entry.made.step ≡ Queue → entry.made.left ≡ entry.made.found
+  pub queue_left : (holder : ℕ) → (queue_of entry.made.found).turn ≡ Some holder → ((seat_at state entry.actor).local.turn ≡ true → ⊥) → word_of shape entry.actor entry.made.step ≡ Queue → entry.made.left ≡ entry.made.found
   queue_left holder held none on = takes.left ∙ of entry.made.step takes.meets on
     where
       of : (step : CoreStep) → Meets shape entry.actor (seat_at state entry.actor).local (seat_at state entry.actor).own step → word_of shape entry.actor step ≡ Queue → word_after shape entry.actor (seat_at state entry.actor).local step entry.made.found ≡ entry.made.found

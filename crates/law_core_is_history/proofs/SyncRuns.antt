@@ -51,7 +51,7 @@ module _ (shape : GuestShape) (actor : ℕ) (word : WordId) where
   like_all [] kept last like n h = like n h
   like_all (made ∷ own) kept last like n h = like_all own (kept_by kept made) (last_on last made) (like_more kept last made like) n h
 
-  known_since : (own : List Made) (n : ℕ) → known shape actor (since_turn own) word ≡ Some n → known shape actor own word ≡ Some n
+  pub known_since : (own : List Made) (n : ℕ) → known shape actor (since_turn own) word ≡ Some n → known shape actor own word ≡ Some n
   known_since own n h = like_all own [] None (λ m e. absurd (none-some m e)) n h
 
 -- A bad command.

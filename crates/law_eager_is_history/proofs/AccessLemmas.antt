@@ -16,11 +16,11 @@ use Rattle.floor_histories.specs.GicRmap.declared.map.Reg.{Reg as RedistReg}
 use Rattle.floor_histories.specs.GicRmap.declared.map.Reg.TheVariants.{Ctlr as RedistCtlr, Iidr as RedistIidr, Typer as RedistTyper, Pidr2 as RedistPidr2}
 use Rattle.floor_histories.specs.GicRmap.declared.map.RegRef.{RegRef as RedistRef}
 use Rattle.floor_histories.specs.GicRmap.declared.map.RegRef.TheVariants.{Bits as RedistBits, Plain as RedistPlain, Reserved as RedistReserved}
-use Rattle.floor_histories.specs.Calls.{Ram, Propbaser, Pendbaser, Event, Enable, Touch, Put, CtlrBegin, CtlrEnd, Touching, Register, part_key, part_touch, part_event, part_events, part_at, of_spi, router_touch, copy_at, ctlr_events, dist_written, dist_plain, dist_events, is_table_zero, is_in_table, pended_at, enable_events, redist_written, redist_events, memory_written, HappensFreely}
+use Rattle.floor_histories.specs.Calls.{Ram, Propbaser, Pendbaser, Event, Enable, Touch, Put, CtlrBegin, CtlrEnd, Touching, Register, part_key, part_touch, part_event, part_events, part_at, of_spi, router_touch, copy_at, ctlr_events, dist_written, dist_plain, dist_events, is_table_zero, is_in_table, pended_at, enable_events, redist_written, redist_events, memory_written, HappensFreely, pended_events}
 use Rattle.floor_histories.specs.GicCall.declared.event.Event.TheVariants.{Raise}
 use Rattle.floor_histories.specs.Histories.{IdealGuest, view_of, IsSound}
 use Rattle.law_eager_is_history.proofs.EventLemmas.{is_touch, are_distinct, names_key, distinct_found, all_found, map_found}
-use Rattle.law_eager_is_history.proofs.PieceLemmas.{is_pend, IsNamedPiece, of_none, of_one, of_touches, where_true, where_false, of_enable, of_ctlr}
+use Rattle.law_eager_is_history.proofs.PieceLemmas.{is_pend, IsNamedPiece, of_none, of_one, of_touches, where_true, where_false, of_enable, of_ctlr, IsEnablePiece}
 
 -- Registers that have a part for each interrupt.
 
@@ -147,7 +147,7 @@ module _ (actor : ℕ) (guest : IdealGuest) (sound : IsSound guest) where
   pended_touch id true = refl
   pended_touch id false = refl
 
-  enable_piece : (vcpu : ℕ) → All (HappensFreely guest.shape) (enable_events guest.shape (view_of guest) vcpu) → IsNamedPiece actor guest (enable_events guest.shape (view_of guest) vcpu)
+  pub enable_piece : (vcpu : ℕ) → All (HappensFreely guest.shape) (enable_events guest.shape (view_of guest) vcpu) → IsEnablePiece actor guest vcpu (pended_events guest.shape (view_of guest) vcpu)
   enable_piece vcpu can = of ((view_of guest).lpis vcpu || is_table_zero ((view_of guest).words (Pendbaser vcpu))) can
     where
       at : ℕ → Option Event
@@ -163,14 +163,14 @@ module _ (actor : ℕ) (guest : IdealGuest) (sound : IsSound guest) where
       pended_apart i j less key named =
           pended_unnamed key (8192 + j) (holds j) (subst (λ k. is_same_key k (Lpi (8192 + j)) ≡ false) (sym (same_key key (Lpi (8192 + i)) (pended_named key (8192 + i) (holds i) named))) (apart (8192 + i) (8192 + j) (omega (arith, less))))
 
-      of : (b : Bool) → All (HappensFreely guest.shape) (Enable vcpu ∷ cond b [] pended) → IsNamedPiece actor guest (Enable vcpu ∷ cond b [] pended)
+      of : (b : Bool) → All (HappensFreely guest.shape) (Enable vcpu ∷ cond b [] pended) → IsEnablePiece actor guest vcpu (cond b [] pended)
       of true c = of_enable actor guest sound vcpu [] refl refl refl c
       of false c =
           of_enable actor guest sound vcpu pended (all_found is_touch at 0 guest.shape.lpis (λ i. pended_touch (8192 + i) (holds i))) (all_found is_pend at 0 guest.shape.lpis (λ i. pended_pend (8192 + i) (holds i)))
           (distinct_found at guest.shape.lpis 0 guest.shape.lpis (omega arith) (λ i j less below key named. pended_apart i j less key named)) c
 
   redist_written_piece : (vcpu : ℕ) (reg : RedistReg) (half : Half) (value : ℕ) → All (HappensFreely guest.shape) (redist_written guest.shape (view_of guest) vcpu reg half value) → IsNamedPiece actor guest (redist_written guest.shape (view_of guest) vcpu reg half value)
-  redist_written_piece vcpu RedistCtlr half value can = where_true actor guest sound (enable_lpis_after guest.shape false value) (enable_events guest.shape (view_of guest) vcpu) can (enable_piece vcpu)
+  redist_written_piece vcpu RedistCtlr half value can = where_true actor guest sound (enable_lpis_after guest.shape false value) (enable_events guest.shape (view_of guest) vcpu) can (λ c. (enable_piece vcpu c).piece)
   redist_written_piece vcpu PropbaserReg half value can =
       let put = Put (Propbaser vcpu) (propbaser_bits (half_written half ((view_of guest).words (Propbaser vcpu)) value)) in
       where_false actor guest sound ((view_of guest).lpis vcpu) (put ∷ []) can (λ c. of_one actor guest sound put refl refl refl c refl)

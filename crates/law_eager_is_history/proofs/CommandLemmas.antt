@@ -3,11 +3,11 @@ use Rattle.std.proofs.Common.{◌≡◌, ℕ, ◌+◌, zero, suc, Bool, true, fa
 use Rattle.std.specs.List.{list_all, flat_map}
 use Rattle.std.specs.Option.{option_map_or}
 use Rattle.std.proofs.lemmas.Bool.{and_from}
-use Rattle.std.proofs.lemmas.List.{append_assoc, append-nil}
+use Rattle.std.proofs.lemmas.List.{append_assoc, append-nil, map-append}
 use Rattle.std.proofs.lemmas.List.Elements.{All-head, All-tail}
 use Rattle.std.proofs.lemmas.Grind.{fold-append}
 use Rattle.floor_histories.specs.Words.{GuestShape, Irq}
-use Rattle.floor_histories.specs.Calls.{plain_count, Part, Map, Clear, Event, Place, Done, Stalls, lpi_event, command_parts, command_words, command_events, queue_event, next_offset, takes_command, Happened, Beside, HandsOut, Makes, ArePartsThen, IsCommand, AreCommands, HaveSameIts, left_by, byte_places, command_places, CanHappen, HappensFreely, View, ItsCtlr, Cbaser, Cwriter}
+use Rattle.floor_histories.specs.Calls.{plain_count, Part, Map, Clear, Event, Place, Done, Stalls, lpi_event, command_parts, command_words, command_events, queue_event, next_offset, takes_command, Happened, Beside, HandsOut, Makes, ArePartsThen, IsCommand, AreCommands, HaveSameIts, left_by, byte_places, command_places, CanHappen, HappensFreely, View, ItsCtlr, Cbaser, Cwriter, EndsWith, IsLastRead, held_at, words_read, command_targets}
 use Rattle.floor_histories.specs.ItsCmd.Command.{decoded}
 use Rattle.floor_histories.specs.Registers.{fault_number}
 use Rattle.floor_histories.specs.GicCall.declared.command.Part.TheVariants.{Forget, Retarget, Raise, Configure}
@@ -22,7 +22,8 @@ use Rattle.law_eager_is_history.specs.Moments.{reads, part_made, command_made, c
 use Rattle.law_eager_is_history.proofs.CourseLemmas.{state_after, state_append, IsFine, AreFine, fine_append, happenings_append, call_after, call_append}
 use Rattle.law_eager_is_history.proofs.FreshLemmas.{is_no_access}
 use Rattle.law_eager_is_history.proofs.WindowLemmas.{Targets, no_target, AreWindows, next_call, is_within, is_no_turn, windows_after, windows_done, windows_stalled}
-use Rattle.law_eager_is_history.proofs.ReadLemmas.{is_own, read_of, reads_state, reads_happen, reads_fine, piece_makes}
+use Rattle.floor_histories.proofs.GicCall.ReadLemmas.{read_of, all_read, all_early, all_late}
+use Rattle.law_eager_is_history.proofs.ReadLemmas.{is_own, reads_state, reads_happen, reads_fine, piece_makes, own_named, no_read}
 use Rattle.law_eager_is_history.proofs.EventLemmas.{is_plain, IsQuiet, plain_happens, plain_fine, free_can, all_of, shape_events, none_at}
 use Rattle.law_eager_is_history.proofs.PlaceLemmas.{ArePlaces, byte_there, command_there}
 use Rattle.law_eager_is_history.proofs.CallLemmas.{fine_view, reads_all}
@@ -144,13 +145,13 @@ module _ (n actor : ℕ) (guest : IdealGuest) (sound : IsSound guest) where
       (subst (λ s. AreFine actor s (flat_map (part_made guest.shape (view_of guest)) parts)) (sym (part_state part other))
       (parts_fine parts (after_event other event) (shape_event event other ∙ same) (All-tail (HappensFreely guest.shape) event rest can)))
 
-  -- the parts are parts of the command
+  -- the parts are parts of the command, after the first
   parts_then :
-      (Rest : List Happened → List Happened → Type 0) (last : List Event) → ((irqs : List Irq) (before : List Happened) → Rest before (happenings actor last (turn n actor (record guest { irqs = irqs }))))
-      → (parts : List Part) (irqs : List Irq) (before : List Happened)
-      → ArePartsThen (Some actor) guest.shape (view_of guest).targets parts Rest before (happenings actor (flat_map (part_made guest.shape (view_of guest)) parts ++ last) (turn n actor (record guest { irqs = irqs })))
-  parts_then Rest last ends [] irqs before = ends irqs before
-  parts_then Rest last ends (part ∷ parts) irqs before =
+      (words : List Happened) (Rest : List Happened → Type 0) (last : List Event) → ((irqs : List Irq) → Rest (happenings actor last (turn n actor (record guest { irqs = irqs }))))
+      → (parts : List Part) (irqs : List Irq)
+      → ArePartsThen (Some actor) guest.shape (view_of guest).targets words parts Rest words (happenings actor (flat_map (part_made guest.shape (view_of guest)) parts ++ last) (turn n actor (record guest { irqs = irqs })))
+  parts_then words Rest last ends [] irqs = ends irqs
+  parts_then words Rest last ends (part ∷ parts) irqs =
       let targets = (view_of guest).targets in
       let now : IdealGuest = record guest { irqs = irqs } in
       let event = lpi_event guest.shape (view_of guest) targets part in
@@ -164,17 +165,19 @@ module _ (n actor : ℕ) (guest : IdealGuest) (sound : IsSound guest) where
       let made : happenings actor mine state ≡ own =
       happenings_append actor (reads places) (event ∷ []) state ∙ ap (λ xs. xs ++ happenings actor (event ∷ []) (state_after actor (reads places) state)) (reads_happen actor places state)
       ∙ ap (λ s. map (read_of (view_of now)) places ++ happenings actor (event ∷ []) s) (reads_state actor places state) in
-      let makes : Makes (Some actor) (view_of now) (event ∷ []) places before own =
-      piece_makes (Some actor) actor (view_of now) places (event ∷ []) state before (and_from (is_own event) true (part_event guest.shape (view_of guest) targets part).own refl) (part_hands guest.shape (view_of guest) targets part n actor now, tt) in
+      let makes : Makes (Some actor) (view_of now) (event ∷ []) places words own =
+      piece_makes (Some actor) actor (view_of now) places (event ∷ []) state words (and_from (is_own event) true (part_event guest.shape (view_of guest) targets part).own refl) (part_hands guest.shape (view_of guest) targets part n actor now, tt) in
+      let over : EndsWith event own = record { before = map (read_of (view_of now)) places; found = handed_out state event; split = refl } in
       record {
         view = view_of now;
         own = own;
         rest = happenings actor (others ++ last) (turn n actor (record guest { irqs = next }));
         split = ap (λ es. happenings actor es state) (append_assoc mine others last) ∙ happenings_append actor mine (others ++ last) state ∙ ap (λ xs. xs ++ happenings actor (others ++ last) (state_after actor mine state)) made
             ∙ ap (λ s. own ++ happenings actor (others ++ last) s) after;
-        made = subst (λ e. Makes (Some actor) (view_of now) (e ∷ []) (byte_places guest.shape (view_of now) targets part) before own) (sym (part_same guest irqs targets part))
-            (subst (λ ps. Makes (Some actor) (view_of now) (event ∷ []) ps before own) (sym (places_same guest irqs targets part)) makes);
-        later = parts_then Rest last ends parts next (before ++ own);
+        made = subst (λ e. Makes (Some actor) (view_of now) (e ∷ []) (byte_places guest.shape (view_of now) targets part) words own) (sym (part_same guest irqs targets part))
+            (subst (λ ps. Makes (Some actor) (view_of now) (event ∷ []) ps words own) (sym (places_same guest irqs targets part)) makes);
+        ends = subst (λ e. EndsWith e own) (sym (part_same guest irqs targets part)) over;
+        later = parts_then words Rest last ends parts next;
       }
 
   -- the event with which the queue goes on
@@ -252,8 +255,8 @@ module _ (n actor : ℕ) (guest : IdealGuest) (sound : IsSound guest) where
   command_no_turn = command_all is_no_turn (λ place. refl) (λ part. (part_event guest.shape (view_of guest) (view_of guest).targets part).no_turn) (queue_as (λ e. IsTrue (is_no_turn e)) (λ fault. refl) refl)
 
   -- its end begins a window of the vCPUs that the LPIs are for then
-  pub command_windows : (call : Call) (firsts : List Targets) → AreWindows call firsts → AreWindows (call_after actor (command_made guest.shape (view_of guest)) (turn n actor guest) call) (firsts ++ (view_of (after_command guest)).targets ∷ [])
-  command_windows call firsts are =
+  pub command_windows : (call : Call) (t : Targets) (firsts : List Targets) → AreWindows call t firsts → AreWindows (call_after actor (command_made guest.shape (view_of guest)) (turn n actor guest) call) t (firsts ++ (view_of (after_command guest)).targets ∷ [])
+  command_windows call t firsts are =
       let event = queue_event guest.shape (view_of guest) in
       let places = command_places guest.shape (view_of guest) in
       let parts = flat_map (part_made guest.shape (view_of guest)) (command_parts guest.shape (view_of guest)) in
@@ -263,38 +266,99 @@ module _ (n actor : ℕ) (guest : IdealGuest) (sound : IsSound guest) where
       all_of is_within (reads places) parts (reads_all is_within places (λ place. refl)) (parts_all is_within guest.shape (view_of guest) (command_parts guest.shape (view_of guest)) (λ place. refl) (λ part. (part_event guest.shape (view_of guest) (view_of guest).targets part).within)) in
       let middle = state_after actor first state in
       let so_far = call_after actor first state call in
-      let early : AreWindows so_far firsts = windows_after actor first state call firsts within are in
-      let last : AreWindows (next_call middle actor event so_far) (firsts ++ targets_in (happened actor event middle) ∷ []) =
-      queue_as (λ e. AreWindows (next_call middle actor e so_far) (firsts ++ targets_in (happened actor e middle) ∷ []))
-      (λ fault. windows_stalled middle actor so_far firsts early (view_of guest).offset fault)
-      (windows_done middle actor so_far firsts early (next_offset (view_of guest)) (command_words guest.shape (view_of guest))) in
+      let early : AreWindows so_far t firsts = windows_after actor first state call t firsts within are in
+      let last : AreWindows (next_call middle actor event so_far) t (firsts ++ targets_in (happened actor event middle) ∷ []) =
+      queue_as (λ e. AreWindows (next_call middle actor e so_far) t (firsts ++ targets_in (happened actor e middle) ∷ []))
+      (λ fault. windows_stalled middle actor so_far t firsts early (view_of guest).offset fault)
+      (windows_done middle actor so_far t firsts early (next_offset (view_of guest)) (command_words guest.shape (view_of guest))) in
       let ends : happened actor event middle ≡ turn n actor (after_command guest) = sym (state_append actor first (event ∷ []) state) ∙ command_state in
-      subst (λ c. AreWindows c (firsts ++ (view_of (after_command guest)).targets ∷ [])) (sym (call_append actor first (event ∷ []) state call))
-      (subst (λ s. AreWindows (next_call middle actor event so_far) (firsts ++ targets_in s ∷ [])) ends last)
+      subst (λ c. AreWindows c t (firsts ++ (view_of (after_command guest)).targets ∷ [])) (sym (call_append actor first (event ∷ []) state call))
+      (subst (λ s. AreWindows (next_call middle actor event so_far) t (firsts ++ targets_in s ∷ [])) ends last)
 
   -- the events are the command
-  pub is_command : takes_command (view_of guest) ≡ true → IsCommand (Some actor) guest.shape (view_of guest) (happenings actor (command_made guest.shape (view_of guest)) (turn n actor guest))
-  is_command taken =
-      let event = queue_event guest.shape (view_of guest) in
-      let places = command_places guest.shape (view_of guest) in
-      let parts = flat_map (part_made guest.shape (view_of guest)) (command_parts guest.shape (view_of guest)) in
-      let state = turn n actor guest in
-      let fetch : List Happened = map (read_of (view_of guest)) places in
-      let rest = happenings actor (parts ++ event ∷ []) state in
-      let Rest : List Happened → List Happened → Type 0 = λ before after. Makes (Some actor) (view_of guest) (event ∷ []) [] before after in
-      record {
-        taken = taken;
-        fetch = fetch;
-        rest = rest;
-        split = ap (λ es. happenings actor es state) (append_assoc (reads places) parts (event ∷ [])) ∙ happenings_append actor (reads places) (parts ++ event ∷ []) state
-            ∙ ap (λ xs. xs ++ happenings actor (parts ++ event ∷ []) (state_after actor (reads places) state)) (reads_happen actor places state)
-            ∙ ap (λ s. fetch ++ happenings actor (parts ++ event ∷ []) s) (reads_state actor places state);
-        fetched = subst (λ xs. Makes (Some actor) (view_of guest) [] places [] xs) (append-nil fetch) (piece_makes (Some actor) actor (view_of guest) places [] state [] refl tt);
-        done = parts_then Rest (event ∷ [])
-            (λ irqs before. piece_makes (Some actor) actor (view_of guest) [] (event ∷ []) (turn n actor (record guest { irqs = irqs })) before (and_from (is_own event) true (queue_as (λ e. IsTrue (is_own e)) (λ fault. refl) refl) refl)
-            (queue_as (λ e. HandsOut (view_of guest) e (handed_out (turn n actor (record guest { irqs = irqs })) e)) (λ fault. refl) refl, tt))
-            (command_parts guest.shape (view_of guest)) guest.irqs fetch;
-      }
+  module _ (taken : takes_command (view_of guest) ≡ true) where
+    abbrev event : Event
+    event = queue_event guest.shape (view_of guest)
+
+    abbrev places : List Place
+    places = command_places guest.shape (view_of guest)
+
+    abbrev state : Ideal
+    state = turn n actor guest
+
+    abbrev words : List Happened
+    words = words_read guest.shape (view_of guest)
+
+    abbrev Ends : List Happened → Type 0
+    Ends after = Makes (Some actor) (view_of guest) (event ∷ []) [] [] after
+
+    queue_own : IsTrue (is_own event)
+    queue_own = queue_as (λ e. IsTrue (is_own e)) (λ fault. refl) refl
+
+    queue_ends : (irqs : List Irq) → Ends (happenings actor (event ∷ []) (turn n actor (record guest { irqs = irqs })))
+    queue_ends irqs =
+        piece_makes (Some actor) actor (view_of guest) [] (event ∷ []) (turn n actor (record guest { irqs = irqs })) [] (and_from (is_own event) true queue_own refl)
+        (queue_as (λ e. HandsOut (view_of guest) e (handed_out (turn n actor (record guest { irqs = irqs })) e)) (λ fault. refl) refl, tt)
+
+    -- a command of these parts: all reads before the first event are its fetch
+    command_by : (parts : List Part) → command_parts guest.shape (view_of guest) ≡ parts → IsCommand (Some actor) guest.shape (view_of guest) (happenings actor (reads places ++ flat_map (part_made guest.shape (view_of guest)) parts ++ event ∷ []) state)
+    command_by [] are =
+        record {
+          taken = taken;
+          fetch = map (read_of (view_of guest)) places;
+          rest = happenings actor (event ∷ []) state;
+          split = ap (λ es. happenings actor (es ++ event ∷ []) state) (append-nil (reads places)) ∙ happenings_append actor (reads places) (event ∷ []) state
+              ∙ ap (λ xs. xs ++ happenings actor (event ∷ []) (state_after actor (reads places) state)) (reads_happen actor places state)
+              ∙ ap (λ s. map (read_of (view_of guest)) places ++ happenings actor (event ∷ []) s) (reads_state actor places state);
+          whole = ap not (own_named (Some actor) event queue_own);
+          fetched = subst (λ xs. Makes (Some actor) (view_of guest) [] places [] xs) (append-nil (map (read_of (view_of guest)) places)) (piece_makes (Some actor) actor (view_of guest) places [] state [] refl tt);
+          done = subst (λ parts. ArePartsThen (Some actor) guest.shape (view_of guest).targets words parts Ends (map (read_of (view_of guest)) places) (happenings actor (event ∷ []) state)) (sym are) (queue_ends guest.irqs);
+        }
+    command_by (part ∷ parts) are =
+        let view = view_of guest in
+        let targets = view.targets in
+        let first = lpi_event guest.shape view targets part in
+        let bytes = byte_places guest.shape view targets part in
+        let others = flat_map (part_made guest.shape view) parts in
+        let all = places ++ bytes in
+        let fetch : List Happened = map (read_of view) all in
+        let own : List Happened = happenings actor (first ∷ []) state in
+        let next = irqs_after guest first in
+        let after : happened actor first state ≡ turn n actor (record guest { irqs = next }) =
+        plain_happens true actor first state guest (part_plain guest.shape view targets part) ∙ ap (turn n actor) (part_changes guest guest.irqs targets part) in
+        let rest = happenings actor (first ∷ others ++ event ∷ []) state in
+        let events : reads places ++ flat_map (part_made guest.shape view) (part ∷ parts) ++ event ∷ [] ≡ reads all ++ (first ∷ others ++ event ∷ []) =
+        append_assoc (reads places) ((reads bytes ++ first ∷ []) ++ others) (event ∷ []) ∙ ap (λ xs. reads places ++ xs) (append_assoc (reads bytes ++ first ∷ []) others (event ∷ []) ∙ append_assoc (reads bytes) (first ∷ []) (others ++ event ∷ []))
+        ∙ sym (append_assoc (reads places) (reads bytes) (first ∷ others ++ event ∷ [])) ∙ ap (λ xs. xs ++ (first ∷ others ++ event ∷ [])) (sym (map-append Read places bytes)) in
+        let is_first : IsTrue (is_own first) = (part_event guest.shape view targets part).own in
+        let one = piece_makes (Some actor) actor view [] (first ∷ []) state [] (and_from (is_own first) true is_first refl) (part_hands guest.shape view targets part n actor guest, tt) in
+        let read = all_read view all [] own (no_read actor (first ∷ []) state (and_from (is_own first) true is_first refl)) in
+        let later : ArePartsThen (Some actor) guest.shape targets words parts Ends words (happenings actor (others ++ event ∷ []) (turn n actor (record guest { irqs = next }))) = parts_then words Ends (event ∷ []) queue_ends parts next in
+        let done : ArePartsThen (Some actor) guest.shape targets words (part ∷ parts) Ends fetch rest =
+        record {
+          view = view;
+          own = own;
+          rest = happenings actor (others ++ event ∷ []) (turn n actor (record guest { irqs = next }));
+          split = ap (λ s. own ++ happenings actor (others ++ event ∷ []) s) after;
+          made = record { events_are = one.events_are; found = one.found; reads = all_late (λ place. IsLastRead place (held_at view place) (fetch ++ own)) places bytes read };
+          ends = record { before = []; found = handed_out state first; split = refl };
+          later = later;
+        } in
+        let none : Makes (Some actor) view [] all [] fetch = subst (λ xs. Makes (Some actor) view [] all [] xs) (append-nil fetch) (piece_makes (Some actor) actor view all [] state [] refl tt) in
+        record {
+          taken = taken;
+          fetch = fetch;
+          rest = rest;
+          split = ap (λ es. happenings actor es state) events ∙ happenings_append actor (reads all) (first ∷ others ++ event ∷ []) state
+              ∙ ap (λ xs. xs ++ happenings actor (first ∷ others ++ event ∷ []) (state_after actor (reads all) state)) (reads_happen actor all state)
+              ∙ ap (λ s. fetch ++ happenings actor (first ∷ others ++ event ∷ []) s) (reads_state actor all state);
+          whole = ap not (own_named (Some actor) first is_first);
+          fetched = record { events_are = none.events_are; found = none.found; reads = all_early (λ place. IsLastRead place (held_at view place) fetch) places bytes none.reads };
+          done = subst (λ ps. ArePartsThen (Some actor) guest.shape targets words ps Ends fetch rest) (sym are) done;
+        }
+
+    pub is_command : IsCommand (Some actor) guest.shape (view_of guest) (happenings actor (command_made guest.shape (view_of guest)) (turn n actor guest))
+    is_command = command_by (command_parts guest.shape (view_of guest)) refl
 
   pub sound_command : IsSound (after_command guest)
   sound_command = sound_events guest (command_events guest.shape (view_of guest)) sound (command_follows guest sound)
@@ -375,28 +439,28 @@ module _ (n actor : ℕ) where
       of later false = refl
       of later true = all_of is_no_turn (command_made guest.shape (view_of guest)) (commands_made most (after_command guest)) (command_no_turn n actor guest sound) later
 
-  pub commands_windows : (most : ℕ) (guest : IdealGuest) → IsSound guest → (call : Call) (firsts : List Targets) → AreWindows call firsts → AreWindows (call_after actor (commands_made most guest) (turn n actor guest) call) (firsts ++ later_targets most guest)
-  commands_windows zero guest sound call firsts are = subst (AreWindows call) (sym (append-nil firsts)) are
-  commands_windows (suc most) guest sound call firsts are =
+  pub commands_windows : (most : ℕ) (guest : IdealGuest) → IsSound guest → (call : Call) (t : Targets) (firsts : List Targets) → AreWindows call t firsts → AreWindows (call_after actor (commands_made most guest) (turn n actor guest) call) t (firsts ++ later_targets most guest)
+  commands_windows zero guest sound call t firsts are = subst (AreWindows call t) (sym (append-nil firsts)) are
+  commands_windows (suc most) guest sound call t firsts are =
       of
-      (commands_windows most (after_command guest) (sound_command n actor guest sound) (call_after actor (command_made guest.shape (view_of guest)) (turn n actor guest) call) (firsts ++ (view_of (after_command guest)).targets ∷ []) (command_windows n actor guest sound call firsts are))
+      (commands_windows most (after_command guest) (sound_command n actor guest sound) (call_after actor (command_made guest.shape (view_of guest)) (turn n actor guest) call) t (firsts ++ (view_of (after_command guest)).targets ∷ []) (command_windows n actor guest sound call t firsts are))
       (takes_command (view_of guest))
     where
-      of : AreWindows (call_after actor (commands_made most (after_command guest)) (turn n actor (after_command guest)) (call_after actor (command_made guest.shape (view_of guest)) (turn n actor guest) call)) ((firsts ++ (view_of (after_command guest)).targets ∷ []) ++ later_targets most (after_command guest))
-          → (b : Bool) → AreWindows (call_after actor (cond b (command_made guest.shape (view_of guest) ++ commands_made most (after_command guest)) []) (turn n actor guest) call) (firsts ++ cond b ((view_of (after_command guest)).targets ∷ later_targets most (after_command guest)) [])
-      of rest false = subst (AreWindows call) (sym (append-nil firsts)) are
+      of : AreWindows (call_after actor (commands_made most (after_command guest)) (turn n actor (after_command guest)) (call_after actor (command_made guest.shape (view_of guest)) (turn n actor guest) call)) t ((firsts ++ (view_of (after_command guest)).targets ∷ []) ++ later_targets most (after_command guest))
+          → (b : Bool) → AreWindows (call_after actor (cond b (command_made guest.shape (view_of guest) ++ commands_made most (after_command guest)) []) (turn n actor guest) call) t (firsts ++ cond b ((view_of (after_command guest)).targets ∷ later_targets most (after_command guest)) [])
+      of rest false = subst (AreWindows call t) (sym (append-nil firsts)) are
       of rest true =
           let next = after_command guest in
           let made = command_made guest.shape (view_of guest) in
           let more = call_after actor made (turn n actor guest) call in
-          subst (λ c. AreWindows c (firsts ++ ((view_of next).targets ∷ later_targets most next))) (sym (call_append actor made (commands_made most next) (turn n actor guest) call))
-          (subst (λ s. AreWindows (call_after actor (commands_made most next) s more) (firsts ++ ((view_of next).targets ∷ later_targets most next))) (sym (command_state n actor guest sound))
-          (subst (AreWindows (call_after actor (commands_made most next) (turn n actor next) more)) (append_assoc firsts ((view_of next).targets ∷ []) (later_targets most next)) rest))
+          subst (λ c. AreWindows c t (firsts ++ ((view_of next).targets ∷ later_targets most next))) (sym (call_append actor made (commands_made most next) (turn n actor guest) call))
+          (subst (λ s. AreWindows (call_after actor (commands_made most next) s more) t (firsts ++ ((view_of next).targets ∷ later_targets most next))) (sym (command_state n actor guest sound))
+          (subst (AreWindows (call_after actor (commands_made most next) (turn n actor next) more) t) (append_assoc firsts ((view_of next).targets ∷ []) (later_targets most next)) rest))
 
   -- they are the commands of the call, of an ITS that is known, where none is left over
   pub are_commands :
       (most : ℕ) (guest : IdealGuest) → IsSound guest → (form : GuestShape) → guest.shape ≡ form → (beside : Beside) (number : ℕ) (its : View) → HaveSameIts its (view_of guest) → takes_command (view_of (after_commands most guest)) ≡ false
-      → ((k : ℕ) → beside.targets (number + k) ≡ slice_index_or ((view_of guest).targets ∷ later_targets most guest) k no_target)
+      → ((k : ℕ) → command_targets beside (number + k) ≡ slice_index_or ((view_of guest).targets ∷ later_targets most guest) k no_target)
       → AreCommands (Some actor) form beside number its (views_of most guest) (happenings actor (commands_made most guest) (turn n actor guest))
   are_commands zero guest sound form is beside number its same dry targets = ends its (takes_known its (view_of guest) same ∙ dry)
     where
@@ -407,10 +471,10 @@ module _ (n actor : ℕ) where
       (λ dry known. are_commands most (after_command guest) (sound_command n actor guest sound) guest.shape (command_shape n actor guest sound) beside (number + 1) (left_by guest.shape (view_of guest) (queue_event guest.shape (view_of guest))) (command_known n actor guest sound) dry known)
       (takes_command (view_of guest)) refl dry targets
     where
-      of : (takes_command (view_of (after_commands most (after_command guest))) ≡ false → ((k : ℕ) → beside.targets (number + 1 + k) ≡ slice_index_or ((view_of (after_command guest)).targets ∷ later_targets most (after_command guest)) k no_target)
+      of : (takes_command (view_of (after_commands most (after_command guest))) ≡ false → ((k : ℕ) → command_targets beside (number + 1 + k) ≡ slice_index_or ((view_of (after_command guest)).targets ∷ later_targets most (after_command guest)) k no_target)
           → AreCommands (Some actor) guest.shape beside (number + 1) (left_by guest.shape (view_of guest) (queue_event guest.shape (view_of guest))) (views_of most (after_command guest)) (happenings actor (commands_made most (after_command guest)) (turn n actor (after_command guest))))
           → (b : Bool) → takes_command (view_of guest) ≡ b → takes_command (view_of (cond b (after_commands most (after_command guest)) guest)) ≡ false
-          → ((k : ℕ) → beside.targets (number + k) ≡ slice_index_or ((view_of guest).targets ∷ cond b ((view_of (after_command guest)).targets ∷ later_targets most (after_command guest)) []) k no_target)
+          → ((k : ℕ) → command_targets beside (number + k) ≡ slice_index_or ((view_of guest).targets ∷ cond b ((view_of (after_command guest)).targets ∷ later_targets most (after_command guest)) []) k no_target)
           → AreCommands (Some actor) form beside number its (cond b (view_of guest ∷ views_of most (after_command guest)) []) (happenings actor (cond b (command_made guest.shape (view_of guest) ++ commands_made most (after_command guest)) []) (turn n actor guest))
       of next false e dry targets = (piece_makes (Some actor) actor its [] [] (turn n actor guest) [] refl tt, ap not (takes_known its (view_of guest) same ∙ e))
       of more true e dry targets =
@@ -422,10 +486,10 @@ module _ (n actor : ℕ) where
           subst (λ s. AreCommands (Some actor) s beside number its (view_of guest ∷ views_of most next) (happenings actor (made ++ later) (turn n actor guest))) is
           (record {
             same = same;
-            targets_are = sym (targets 0) ∙ ap beside.targets (omega arith);
+            targets_are = sym (targets 0) ∙ ap (command_targets beside) (omega arith);
             own = own;
             rest = rest;
             split = happenings_append actor made later (turn n actor guest) ∙ ap (λ s. own ++ happenings actor later s) (command_state n actor guest sound);
             command = is_command n actor guest sound e;
-            later = more dry (λ k. ap beside.targets (omega arith) ∙ targets (suc k));
+            later = more dry (λ k. ap (command_targets beside) (omega arith) ∙ targets (suc k));
           })

@@ -8,7 +8,7 @@ use Rattle.std.proofs.lemmas.List.{append_assoc, map-append}
 use Rattle.std.proofs.lemmas.List.Elements.{filter-append, All-cons, All-nil, All-tail, Contains-append_left}
 use Rattle.std.proofs.lemmas.Grind.{common_steps}
 use Rattle.floor_histories.specs.Words.{IccReg, Iar0, Iar1, Eoir0, Eoir1, Dir, Sgi1r, Key, Private, Icc, GuestShape, has_interrupt, key_of, deactivated, is_number}
-use Rattle.floor_histories.specs.Registers.{intid_of, is_target, Candidate, taken_by, deactivated_by, first_of, candidates_at, intid_written, Maps}
+use Rattle.floor_histories.specs.Registers.{intid_of, is_target, Candidate, taken_by, deactivated_by, first_of, candidates_at, intid_written}
 use Rattle.floor_histories.specs.Calls.{is_usable, Event, Cpu, Access, sgi_at, icc_raises, Happened, HandsOut, IsLastRead, IsIccCall, IsCall, held_at, is_beside, named_of, HappensFreely, View}
 use Rattle.floor_histories.specs.GicCall.declared.event.Event.TheVariants.{Raise}
 use Rattle.floor_histories.specs.GicCall.declared.event.Found.TheVariants.{Answer}
@@ -21,14 +21,14 @@ use Rattle.gic_ideal.specs.Deeds.{op_events}
 use Rattle.law_eager_is_history.specs.Moments.{first_key, active_key, used_by, between_moves, op_made, op_read, settled, happenings, moment_of}
 use Rattle.law_eager_is_history.proofs.CourseLemmas.{state_after, state_append, AreFine, fine_append, happenings_append, call_after}
 use Rattle.law_eager_is_history.proofs.FreshLemmas.{IsFreshFrom, quiet_then}
-use Rattle.law_eager_is_history.proofs.WindowLemmas.{heads_of, is_within, is_no_turn, beside_of, call_ends, windows_after, operation_after, piece_after, maps_after}
+use Rattle.law_eager_is_history.proofs.WindowLemmas.{heads_of, is_within, is_no_turn, call_ends, windows_after, operation_after, piece_after, maps_after, beside_with}
 use Rattle.law_eager_is_history.proofs.ReadLemmas.{HandOut, named_own, all_hand_out, events_of}
 use Rattle.law_eager_is_history.proofs.EventLemmas.{is_plain, is_calm, all_calm, all_of, all_found, settled_quiet, plain_state, plain_are_fine, shape_events, settled_with}
 use Rattle.law_eager_is_history.proofs.StandLemmas.{as_it_is}
 use Rattle.law_eager_is_history.proofs.UseLemmas.{asking_ends_none, asking_names_none, other_takes_none, other_cpu, other_answer, same_taken, same_cpu, same_answer, ended_named, same_first, first_used, active_used}
 use Rattle.law_eager_is_history.proofs.FirstLemmas.{none_comes, none_before}
 use Rattle.law_eager_is_history.proofs.CpuLemmas.{IsSegment, shows_alone, used_segment, unused_segment}
-use Rattle.law_eager_is_history.proofs.CallLemmas.{IsGoodCall, is_vcpu}
+use Rattle.law_eager_is_history.proofs.CallLemmas.{IsGoodCall, is_vcpu, begun_windows, no_maps}
 use Rattle.law_eager_is_history.proofs.PieceLemmas.{all_weaker}
 use Rattle.law_eager_is_history.proofs.QueueLemmas.{keeps_queue, order_events}
 use Rattle.law_eager_is_history.proofs.OrderLemmas.{order_access}
@@ -195,18 +195,16 @@ icc_call guest sound vcpu there reg write usable =
     } in
     let call = begun first (Access (Icc reg write)) in
     let last = call_after vcpu events first call in
-    let no_maps : Maps = record { devices = []; events = []; collections = [] } in
-    let firsts = targets_in first ∷ [] in
     record {
       fine = fine_append vcpu seg raises first is.fine (subst (λ s. AreFine vcpu s raises) (sym middle) (plain_are_fine false vcpu (settled g) quiet g.shape raises g refl plain can));
       leaves = state_append vcpu seg raises first ∙ ap (state_after vcpu raises) middle ∙ plain_state false vcpu (settled g) quiet raises g plain ∙ settled_with g (after_events raises g) (shape_events raises g);
       shape = shape_events raises g ∙ shape;
       order = λ order. order_events g.shape raises g refl sound_then.words can (all_weaker is_raise keeps_queue raise_keeps raises all) (order_access reg write guest vcpu order);
-      ended = call_ends guest.shape vcpu last (Access (Icc reg write)) (early ++ late) no_maps firsts answer (operation_after vcpu events first call)
+      ended = call_ends guest.shape vcpu last (Access (Icc reg write)) (early ++ late) no_maps (targets_in first) [] answer (operation_after vcpu events first call)
           (piece_after vcpu events first call ∙ happenings_append vcpu seg raises first ∙ ap (λ s. early ++ happenings vcpu raises s) middle)
           (maps_after vcpu events first call (all_of is_no_turn seg raises (moves_no_turn vcpu reg write (used_by guest vcpu reg write)) calm.no_turn))
-          (heads_of _ _ (windows_after vcpu events first call firsts (all_of is_within seg raises (moves_within vcpu reg write (used_by guest vcpu reg write)) calm.within) (record { place = refl; heads = ((λ id. refl), tt) })))
-          (subst (λ v. IsCall guest.shape (beside_of no_maps firsts) v (Access (Icc reg write)) (early ++ late) answer) (sym (is_vcpu guest.shape vcpu there)) made);
+          (heads_of (windows_after vcpu events first call (targets_in first) [] (all_of is_within seg raises (moves_within vcpu reg write (used_by guest vcpu reg write)) calm.within) (begun_windows guest (Access (Icc reg write)))))
+          (subst (λ v. IsCall guest.shape (beside_with no_maps (targets_in first) []) v (Access (Icc reg write)) (early ++ late) answer) (sym (is_vcpu guest.shape vcpu there)) made);
       fresh = λ track rest none later.
           subst (λ ms. IsFreshFrom first track (ms ++ rest)) (sym (ap (map (moment_of vcpu)) (happenings_append vcpu seg raises first) ∙ map-append (moment_of vcpu) early (happenings vcpu raises (state_after vcpu seg first))))
           (subst (λ ms. IsFreshFrom first track ms) (sym (append_assoc (map (moment_of vcpu) early) (map (moment_of vcpu) (happenings vcpu raises (state_after vcpu seg first))) rest))

@@ -4,16 +4,16 @@ use Rattle.std.specs.List.{list_all}
 use Rattle.std.proofs.lemmas.Bool.{and_parts, and_from, eq-eqb}
 use Rattle.std.proofs.lemmas.List.Elements.{All-nil, All-cons, All-append}
 use Rattle.floor_histories.specs.Words.{Key, Lpi, SetPending, has_interrupt, is_same_key, place_of, Irq, raised, target_in}
-use Rattle.floor_histories.specs.Calls.{opening_irq, Register, touched, Event, Enable, Touch, CtlrBegin, CtlrEnd, HandsOut, HappensFreely}
+use Rattle.floor_histories.specs.Calls.{opening_irq, Register, touched, Event, Enable, Touch, CtlrBegin, CtlrEnd, HandsOut, HappensFreely, Place}
 use Rattle.floor_histories.proofs.IdealGuests.KeyLemmas.{IsWhole, whole_changed, irq_changed}
 use Rattle.floor_histories.proofs.IdealGuests.SoundLemmas.{whole_of}
 use Rattle.floor_histories.specs.Registers.{Enables}
 use Rattle.std.proofs.lemmas.Grind.{fold-append}
 use Rattle.floor_histories.specs.Histories.{IdealGuest, irq_at, changed_irq, view_of, after_event, after_events, IsQueueInOrder, IsSound, Ideal, handed_out, happened, Call, targets_in}
-use Rattle.law_eager_is_history.specs.Moments.{settled}
+use Rattle.law_eager_is_history.specs.Moments.{settled, reads}
 use Rattle.law_eager_is_history.proofs.CourseLemmas.{state_after, AreFine, fine_append, state_append, call_after}
 use Rattle.law_eager_is_history.proofs.FreshLemmas.{is_no_access}
-use Rattle.law_eager_is_history.proofs.WindowLemmas.{AreWindows, HaveHeads, heads_of, is_no_turn, windows_after, IsEnabling, enabling, enabling_touched, enabled_heads, next_call}
+use Rattle.law_eager_is_history.proofs.WindowLemmas.{AreWindows, HaveHeads, heads_of, is_no_turn, windows_after, IsEnabling, enabling, enabling_touched, enabled_heads, next_call, enabling_reads}
 use Rattle.law_eager_is_history.proofs.ReadLemmas.{is_own, HandOut, hand_append}
 use Rattle.law_eager_is_history.proofs.EventLemmas.{is_plain, is_calm, is_touch, are_distinct, all_calm, all_of, with_guest, IsQuiet, settled_quiet, plain_state, plain_are_fine, touches_hand}
 use Rattle.law_eager_is_history.proofs.QueueLemmas.{keeps_queue, order_events}
@@ -26,7 +26,13 @@ pub record IsNamedPiece (actor : ℕ) (guest : IdealGuest) (events : List Event)
   pub no_turn : IsTrue (list_all is_no_turn events)
   pub own : IsTrue (list_all is_own events)
   pub order : IsQueueInOrder guest → IsQueueInOrder (after_events events guest)
-  pub windows : (call : Call) → AreWindows call (targets_in (settled guest) ∷ []) → HaveHeads (call_after actor events (settled guest) call) (targets_in (settled guest) ∷ [])
+  pub windows : (call : Call) → AreWindows call (targets_in (settled guest)) [] → HaveHeads (call_after actor events (settled guest) call) (targets_in (settled guest)) []
+
+-- EnableLPIs is stored, and these events follow, also where reads come between
+pub record IsEnablePiece (actor : ℕ) (guest : IdealGuest) (vcpu : ℕ) (events : List Event) : Type 0 where
+  pub piece : IsNamedPiece actor guest (Enable vcpu ∷ events)
+  pub windows : (places : List Place) (call : Call) → AreWindows call (targets_in (settled guest)) []
+      → HaveHeads (call_after actor events (happened actor (Enable vcpu) (settled guest)) (call_after actor (reads places) (happened actor (Enable vcpu) (settled guest)) (next_call (settled guest) actor (Enable vcpu) call))) (targets_in (settled guest)) []
 
 -- a test that another one implies
 pub all_weaker : (one other : Event → Bool) → ((event : Event) → IsTrue (one event) → IsTrue (other event)) → (events : List Event) → IsTrue (list_all one events) → IsTrue (list_all other events)
@@ -76,16 +82,16 @@ targets_kept actor state key value whole id = ap (λ r. target_in r state.guest.
         absent : (guest : IdealGuest) → has_interrupt guest.shape (Lpi id) ≡ false → irq_at guest (Lpi id) ≡ opening_irq false (Lpi id)
         absent guest e = ap (λ b. cond b (slice_index_or guest.irqs (place_of guest.shape (Lpi id)) (opening_irq false (Lpi id))) (opening_irq false (Lpi id))) e
 
-enabling_all : (actor : ℕ) (events : List Event) (state : Ideal) (call : Call) (t : ℕ → Option ℕ) → IsTrue (list_all is_pend events) → IsWhole state.guest → ((id : ℕ) → targets_in state id ≡ t id) → IsEnabling call t → IsEnabling (call_after actor events state call) t
-enabling_all actor [] state call t h whole same is = is
-enabling_all actor (event ∷ events) state call t h whole same is = of event (and_parts (is_pend event) (list_all is_pend events) h).0 (λ s c w f i. enabling_all actor events s c t (and_parts (is_pend event) (list_all is_pend events) h).1 w f i)
+enabling_all : (actor : ℕ) (events : List Event) (state : Ideal) (call : Call) (t : ℕ → Option ℕ) (firsts : List (ℕ → Option ℕ)) → IsTrue (list_all is_pend events) → IsWhole state.guest → ((id : ℕ) → targets_in state id ≡ t id) → IsEnabling call t firsts → IsEnabling (call_after actor events state call) t firsts
+enabling_all actor [] state call t firsts h whole same is = is
+enabling_all actor (event ∷ events) state call t firsts h whole same is = of event (and_parts (is_pend event) (list_all is_pend events) h).0 (λ s c w f i. enabling_all actor events s c t firsts (and_parts (is_pend event) (list_all is_pend events) h).1 w f i)
   where
-    of : (event : Event) → IsTrue (is_pend event) → ((s : Ideal) (c : Call) → IsWhole s.guest → ((id : ℕ) → targets_in s id ≡ t id) → IsEnabling c t → IsEnabling (call_after actor events s c) t)
-        → IsEnabling (call_after actor events (happened actor event state) (next_call state actor event call)) t
+    of : (event : Event) → IsTrue (is_pend event) → ((s : Ideal) (c : Call) → IsWhole s.guest → ((id : ℕ) → targets_in s id ≡ t id) → IsEnabling c t firsts → IsEnabling (call_after actor events s c) t firsts)
+        → IsEnabling (call_after actor events (happened actor event state) (next_call state actor event call)) t firsts
     of (Touch key (Register SetPending value)) h later =
         let kept : (id : ℕ) → targets_in (happened actor (Touch key (Register SetPending value)) state) id ≡ t id = λ id. targets_kept actor state key value whole id ∙ same id in
         later (happened actor (Touch key (Register SetPending value)) state) (next_call state actor (Touch key (Register SetPending value)) call) (whole_changed key (touched state.guest.shape key (Register SetPending value)) state.guest whole) kept
-        (enabling_touched state actor key (Register SetPending value) call t kept is)
+        (enabling_touched state actor key (Register SetPending value) call t firsts kept is)
     of event h later = absurd (cc)
 
 module _ (actor : ℕ) (guest : IdealGuest) (sound : IsSound guest) where
@@ -101,7 +107,7 @@ module _ (actor : ℕ) (guest : IdealGuest) (sound : IsSound guest) where
         no_turn = are.no_turn;
         own = are.own;
         order = order_events guest.shape events guest refl sound.words can keeps;
-        windows = λ call w. heads_of _ _ (windows_after actor events (settled guest) call (targets_in (settled guest) ∷ []) are.within w);
+        windows = λ call w. heads_of (windows_after actor events (settled guest) call (targets_in (settled guest)) [] are.within w);
       }
 
   pub of_none : IsNamedPiece actor guest []
@@ -124,7 +130,7 @@ module _ (actor : ℕ) (guest : IdealGuest) (sound : IsSound guest) where
   where_false false events can piece = piece can
 
   -- EnableLPIs, and then touches
-  pub of_enable : (vcpu : ℕ) (events : List Event) → IsTrue (list_all is_touch events) → IsTrue (list_all is_pend events) → IsTrue (are_distinct events) → All (HappensFreely guest.shape) (Enable vcpu ∷ events) → IsNamedPiece actor guest (Enable vcpu ∷ events)
+  pub of_enable : (vcpu : ℕ) (events : List Event) → IsTrue (list_all is_touch events) → IsTrue (list_all is_pend events) → IsTrue (are_distinct events) → All (HappensFreely guest.shape) (Enable vcpu ∷ events) → IsEnablePiece actor guest vcpu events
   of_enable vcpu events touches pends distinct can =
       let all = Enable vcpu ∷ events in
       let plain : IsTrue (list_all (is_plain false) all) = touches_plain false events touches in
@@ -132,18 +138,25 @@ module _ (actor : ℕ) (guest : IdealGuest) (sound : IsSound guest) where
       let quiet = settled_quiet guest actor in
       let next = after_event guest (Enable vcpu) in
       let state = with_guest (settled guest) next in
+      let first = happened actor (Enable vcpu) (settled guest) in
+      let whole = whole_of guest sound in
+      let noted : (places : List Place) (call : Call) → AreWindows call (targets_in (settled guest)) [] → HaveHeads (call_after actor events first (call_after actor (reads places) first (next_call (settled guest) actor (Enable vcpu) call))) (targets_in (settled guest)) [] =
+      λ places call w.
+      enabled_heads
+      (enabling_all actor events first (call_after actor (reads places) first (next_call (settled guest) actor (Enable vcpu) call)) (targets_in first) [] pends (record { shape = whole.shape; each = whole.each }) (λ id. refl)
+      (enabling_reads first actor places (next_call (settled guest) actor (Enable vcpu) call) (targets_in first) [] (λ id. refl) (enabling (settled guest) actor vcpu call (targets_in (settled guest)) [] w))) in
       record {
-        fine = plain_are_fine false actor (settled guest) quiet guest.shape all guest refl plain can;
-        hands = (refl, touches_hand actor (view_of guest) (settled guest) events next sound.shape touches distinct (λ key there. refl));
-        leaves = plain_state false actor (settled guest) quiet all guest plain;
-        no_access = are.no_access;
-        no_turn = are.no_turn;
-        own = are.own;
-        order = order_events guest.shape all guest refl sound.words can (touches_keep events touches);
-        windows = λ call w.
-            let whole = whole_of guest sound in
-            let first = happened actor (Enable vcpu) (settled guest) in
-            enabled_heads _ (targets_in first) (enabling_all actor events first (next_call (settled guest) actor (Enable vcpu) call) (targets_in first) pends (record { shape = whole.shape; each = whole.each }) (λ id. refl) (enabling (settled guest) actor vcpu call (targets_in (settled guest)) w));
+        piece = record {
+          fine = plain_are_fine false actor (settled guest) quiet guest.shape all guest refl plain can;
+          hands = (refl, touches_hand actor (view_of guest) (settled guest) events next sound.shape touches distinct (λ key there. refl));
+          leaves = plain_state false actor (settled guest) quiet all guest plain;
+          no_access = are.no_access;
+          no_turn = are.no_turn;
+          own = are.own;
+          order = order_events guest.shape all guest refl sound.words can (touches_keep events touches);
+          windows = noted [];
+        };
+        windows = noted;
       }
 
   -- the enables are stored with the mark, touches follow, and the mark is freed
@@ -174,5 +187,5 @@ module _ (actor : ℕ) (guest : IdealGuest) (sound : IsSound guest) where
         order = order_events guest.shape all guest refl sound.words
             (All-cons (HappensFreely guest.shape) (CtlrBegin enables) (events ++ CtlrEnd ∷ []) tt (All-append (HappensFreely guest.shape) events (CtlrEnd ∷ []) can (All-cons (HappensFreely guest.shape) CtlrEnd [] tt (All-nil (HappensFreely guest.shape)))))
             (all_of keeps_queue events (CtlrEnd ∷ []) (touches_keep events touches) refl);
-        windows = λ call w. heads_of _ _ (windows_after actor all (settled guest) call (targets_in (settled guest) ∷ []) are.within w);
+        windows = λ call w. heads_of (windows_after actor all (settled guest) call (targets_in (settled guest)) [] are.within w);
       }

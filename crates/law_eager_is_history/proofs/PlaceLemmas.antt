@@ -1,11 +1,13 @@
 -- The places that calls read are there.
-use Rattle.std.proofs.Common.{◌≡◌, ℕ, ◌+◌, ◌*◌, ◌<◌, ◌≤◌, ◌%◌, ◌/◌, ◌==◌, ◌&&◌, Bool, true, false, cond, IsTrue, IfSome, is_none, All, List, [], ◌∷◌, Option, Some, None, refl, arith}
-use Rattle.std.specs.List.{flat_map}
+use Rattle.std.proofs.Common.{◌≡◌, ℕ, ◌+◌, ◌*◌, ◌<◌, ◌≤◌, ◌%◌, ◌/◌, ◌==◌, ◌&&◌, Bool, true, false, cond, IsTrue, IfSome, is_none, All, List, [], ◌∷◌, Option, Some, None, refl, ◌∙◌, arith}
+use Rattle.std.specs.List.{flat_map, list_all}
+use Rattle.std.proofs.lemmas.Bool.{and_from}
+use Rattle.std.proofs.lemmas.List.Folds.{list_all-append}
 use Rattle.std.specs.Option.{option_map_or}
 use Rattle.std.proofs.lemmas.Grind.{common_steps}
 use Rattle.std.proofs.lemmas.List.Elements.{All-nil, All-cons, All-append}
 use Rattle.floor_histories.proofs.GicFrame.TestLemmas.{left, right, is_under, at_most}
-use Rattle.floor_histories.specs.Registers.{has_lpis, SetSpi, ClrSpi, Router, Propbaser as PropbaserReg, Pendbaser as PendbaserReg, enable_lpis_after, Cbaser as CbaserReg, Cwriter as CwriterReg, Creadr, Baser0 as Baser0Reg, Baser1 as Baser1Reg, config_address, pending_address, Part, is_size, is_within}
+use Rattle.floor_histories.specs.Registers.{has_lpis, SetSpi, ClrSpi, Router, Propbaser as PropbaserReg, Pendbaser as PendbaserReg, enable_lpis_after, Cbaser as CbaserReg, Cwriter as CwriterReg, Creadr, Baser0 as Baser0Reg, Baser1 as Baser1Reg, config_address, pending_address, Part, is_size, is_within, part_of}
 use Rattle.floor_histories.specs.Words.{GuestShape, Frame, Dist, Redist, Its, Ram as Memory, DeviceOp, Message, Wire, Msi, Mem, IsShape}
 use Rattle.floor_histories.specs.GicDmap.declared.map.Reg.TheVariants.{Ctlr as DistCtlr, Typer as DistTyper, Iidr as DistIidr, Pidr2 as DistPidr2}
 use Rattle.floor_histories.specs.GicDmap.declared.map.RegRef.{RegRef as DistRef}
@@ -20,7 +22,7 @@ use Rattle.floor_histories.specs.GicImap.declared.map.Reg.TheVariants.{Ctlr as I
 use Rattle.floor_histories.specs.GicImap.declared.map.RegRef.{RegRef as ItsRef}
 use Rattle.floor_histories.specs.GicImap.declared.map.RegRef.TheVariants.{Plain as ItsPlain, Reserved as ItsReserved}
 use Rattle.floor_histories.specs.GicImap.Map.{decoded as its_decoded}
-use Rattle.floor_histories.specs.Calls.{fits, has_frame, is_good_op, Ram, Propbaser, Pendbaser, ItsCtlr, Cbaser, Cwriter, Place, Part as CommandPart, Map, Clear, is_table_zero, lpis_of, lpi_event, word_address, memory_places, dist_places, table_places, redist_places, its_read_places, its_write_places, its_places, access_places, device_places, byte_places, command_places, HappensFreely, has_place, View}
+use Rattle.floor_histories.specs.Calls.{fits, has_frame, is_good_op, Ram, Propbaser, Pendbaser, ItsCtlr, Cbaser, Cwriter, Place, Part as CommandPart, Map, Clear, is_table_zero, lpis_of, lpi_event, word_address, memory_places, dist_places, table_places, redist_places, its_read_places, its_write_places, its_places, access_places, device_places, byte_places, command_places, HappensFreely, has_place, View, sets_lpis}
 use Rattle.floor_histories.specs.GicCall.declared.event.Place.TheVariants.{Word, Queue as QueuePlace, Lpis}
 use Rattle.floor_histories.specs.GicCall.declared.command.Part.TheVariants.{Forget, Retarget, Raise, Configure}
 use Rattle.floor_histories.specs.Histories.{IdealGuest, view_of, IsSound}
@@ -104,7 +106,9 @@ its_read_there shape ItsPidr2 = none_there shape
 its_write_there : (shape : GuestShape) (reg : ItsReg) → ArePlaces shape (its_write_places reg)
 its_write_there shape ItsCtlrReg = one_there shape (Word Cbaser) (Word Cwriter ∷ QueuePlace ∷ []) refl (one_there shape (Word Cwriter) (QueuePlace ∷ []) refl (one_there shape QueuePlace [] refl (none_there shape)))
 its_write_there shape CbaserReg = one_there shape _ [] refl (none_there shape)
-its_write_there shape CwriterReg = one_there shape (Word ItsCtlr) (Word Cbaser ∷ QueuePlace ∷ []) refl (one_there shape (Word Cbaser) (QueuePlace ∷ []) refl (one_there shape QueuePlace [] refl (none_there shape)))
+its_write_there shape CwriterReg =
+    one_there shape (Word ItsCtlr) (Word Cbaser ∷ QueuePlace ∷ Word Cwriter ∷ []) refl
+    (one_there shape (Word Cbaser) (QueuePlace ∷ Word Cwriter ∷ []) refl (one_there shape QueuePlace (Word Cwriter ∷ []) refl (one_there shape (Word Cwriter) [] refl (none_there shape))))
 its_write_there shape Baser0Reg = one_there shape _ [] refl (none_there shape)
 its_write_there shape Baser1Reg = one_there shape _ [] refl (none_there shape)
 its_write_there shape Creadr = none_there shape
@@ -155,3 +159,43 @@ byte_there guest view (Forget id) sound can = none_there guest.shape
 byte_there guest view (Retarget id target) sound can = none_there guest.shape
 byte_there guest view (Raise id) sound can = none_there guest.shape
 byte_there guest view (Clear id) sound can = none_there guest.shape
+
+-- A write that sets EnableLPIs reads stored words alone.
+
+abbrev pub is_word : Place → Bool
+is_word (Word word) = true
+is_word place = false
+
+memory_word : (shape : GuestShape) (address size : ℕ) → IsTrue (list_all is_word (memory_places shape address size))
+memory_word shape address size = of (part_of address size shape.ram)
+  where
+    of : (o : Option Part) → IsTrue (list_all is_word (option_map_or (λ part. Word (Ram part.index) ∷ []) o []))
+    of None = refl
+    of (Some part) = refl
+
+table_words : (shape : GuestShape) (pendbaser : ℕ) (ids : List ℕ) → IsTrue (list_all is_word (flat_map (λ id. memory_places shape (pending_address pendbaser id).0 1) ids))
+table_words shape pendbaser [] = refl
+table_words shape pendbaser (id ∷ ids) =
+    list_all-append is_word (memory_places shape (pending_address pendbaser id).0 1) (flat_map (λ id. memory_places shape (pending_address pendbaser id).0 1) ids)
+    ∙ and_from (list_all is_word (memory_places shape (pending_address pendbaser id).0 1)) (list_all is_word (flat_map (λ id. memory_places shape (pending_address pendbaser id).0 1) ids)) (memory_word shape (pending_address pendbaser id).0 1)
+    (table_words shape pendbaser ids)
+
+pub set_places : (shape : GuestShape) (view : View) (vcpu : ℕ) (ref : RedistRef) (write : Option ℕ) → sets_lpis shape ref write ≡ true → IsTrue (list_all is_word (redist_places shape view vcpu ref write))
+set_places shape view vcpu (RedistPlain RedistCtlr half) (Some value) h = of (enable_lpis_after shape false value) (view.lpis vcpu) (is_table_zero (view.words (Pendbaser vcpu)))
+  where
+    table : List Place
+    table = flat_map (λ id. memory_places shape (pending_address (view.words (Pendbaser vcpu)) id).0 1) (lpis_of shape)
+
+    of : (b c d : Bool) → IsTrue (list_all is_word (cond b (cond c [] (Word (Pendbaser vcpu) ∷ cond d [] table)) []))
+    of false c d = refl
+    of true true d = refl
+    of true false true = refl
+    of true false false = table_words shape (view.words (Pendbaser vcpu)) (lpis_of shape)
+set_places shape view vcpu (RedistPlain RedistCtlr half) None h = absurd (cc)
+set_places shape view vcpu (RedistPlain RedistIidr half) write h = absurd (cc)
+set_places shape view vcpu (RedistPlain RedistTyper half) write h = absurd (cc)
+set_places shape view vcpu (RedistPlain PropbaserReg half) write h = absurd (cc)
+set_places shape view vcpu (RedistPlain PendbaserReg half) write h = absurd (cc)
+set_places shape view vcpu (RedistPlain RedistPidr2 half) write h = absurd (cc)
+set_places shape view vcpu (RedistBits kind first count) write h = absurd (cc)
+set_places shape view vcpu RedistReserved write h = absurd (cc)

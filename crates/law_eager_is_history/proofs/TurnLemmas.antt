@@ -11,24 +11,25 @@ use Rattle.floor_histories.specs.GicImap.declared.map.Reg.TheVariants.{Ctlr as I
 use Rattle.floor_histories.specs.GicImap.declared.map.RegRef.{RegRef as ItsRef}
 use Rattle.floor_histories.specs.GicImap.declared.map.RegRef.TheVariants.{Plain as ItsPlain, Reserved as ItsReserved}
 use Rattle.floor_histories.specs.GicImap.Map.{decoded as its_decoded}
-use Rattle.floor_histories.specs.Calls.{has_plain, place_of_plain, plain_count, PlainWord, ItsCtlr, Cbaser, Cwriter, Baser0, Baser1, is_good_op, Event, Put, ItsBegin, Access, Runs, unless_enabled, is_in_queue, cwriter_events, its_written, takes_turn, its_events, access_events, queue_places, takes_command, Happened, Beside, HaveSameIts, AreStarted, IsItsCall, IsItsWrite, IsCall, its_written_by, access_places, HappensFreely, View, is_its_enabled}
+use Rattle.floor_histories.specs.Calls.{has_plain, place_of_plain, plain_count, PlainWord, ItsCtlr, Cbaser, Cwriter, Baser0, Baser1, is_good_op, Event, Put, ItsBegin, Access, Runs, unless_enabled, is_in_queue, cwriter_events, its_written, takes_turn, its_events, access_events, queue_places, takes_command, Happened, Beside, HaveSameIts, AreStarted, IsItsCall, IsItsWrite, IsCall, its_written_by, access_places, HappensFreely, View, is_its_enabled, command_targets, enabled_by}
 use Rattle.floor_histories.specs.GicCall.declared.event.Event.TheVariants.{ItsEnd, Queue}
 use Rattle.floor_histories.specs.GicCall.declared.event.Found.TheVariants.{Word as FoundWord}
 use Rattle.floor_histories.specs.GicCall.Call.{starts_commands}
 use Rattle.floor_histories.proofs.GicCall.CallLemmas.{access_valid}
-use Rattle.floor_histories.specs.Histories.{IdealGuest, view_of, word_at, with_word, with_queue, after_events, after_queued, IsQueueInOrder, IsSound, Call, targets_in}
+use Rattle.floor_histories.specs.Histories.{IdealGuest, view_of, word_at, with_word, with_queue, after_events, after_queued, IsQueueInOrder, IsSound, Call, targets_in, begun}
 use Rattle.floor_histories.proofs.IdealGuests.QueueLemmas.{all_run_dry}
 use Rattle.gic_ideal.specs.Deeds.{op_events}
 use Rattle.gic_ideal.proofs.SoundEvents.{sound_events}
 use Rattle.gic_ideal.proofs.StepLemmas.{free_follow, op_is_events}
-use Rattle.law_eager_is_history.specs.Moments.{reads, op_made, settled, happenings, started_by, in_turn}
+use Rattle.law_eager_is_history.specs.Moments.{reads, op_made, settled, happenings, started_by, out_of_turn}
 use Rattle.law_eager_is_history.proofs.CourseLemmas.{state_after, state_append, AreFine, fine_append, happenings_append, call_after, call_append}
 use Rattle.law_eager_is_history.proofs.FreshLemmas.{is_no_access}
-use Rattle.law_eager_is_history.proofs.WindowLemmas.{Targets, no_target, AreWindows, heads_of, is_no_turn, beside_of, next_call, windows_within, windows_after, maps_after}
-use Rattle.law_eager_is_history.proofs.ReadLemmas.{HandOut, read_of, piece_makes}
+use Rattle.law_eager_is_history.proofs.WindowLemmas.{Targets, no_target, AreWindows, heads_of, is_no_turn, beside_of, next_call, windows_after, maps_after, windows_begun}
+use Rattle.floor_histories.proofs.GicCall.ReadLemmas.{read_of}
+use Rattle.law_eager_is_history.proofs.ReadLemmas.{HandOut, piece_makes}
 use Rattle.law_eager_is_history.proofs.EventLemmas.{is_plain, is_calm, all_calm, all_of, plain_state, plain_are_fine, shape_events, settled_with}
 use Rattle.law_eager_is_history.proofs.PlaceLemmas.{access_there}
-use Rattle.law_eager_is_history.proofs.CallLemmas.{IsGoodCall, good_call, is_vcpu, fine_view}
+use Rattle.law_eager_is_history.proofs.CallLemmas.{IsGoodCall, good_call, is_vcpu, fine_view, begun_windows, read_windows, read_maps}
 use Rattle.law_eager_is_history.proofs.QueueLemmas.{word_kept, word_new, events_known, keeps_word, order_put}
 use Rattle.law_eager_is_history.proofs.OrderLemmas.{order_commands}
 use Rattle.law_eager_is_history.proofs.CommandLemmas.{turn, turn_quiet, later_targets, views_of, commands_state, commands_fine, commands_no_access, commands_no_turn, commands_windows, are_commands}
@@ -159,7 +160,7 @@ record AreStartedFrom (actor : ℕ) (shape : GuestShape) (beside : Beside) (its 
   pub fine : AreFine actor (turn shape.vcpus actor guest) (started_by starts guest)
   pub no_access : IsTrue (list_all is_no_access (started_by starts guest))
   pub no_turn : IsTrue (list_all is_no_turn (started_by starts guest))
-  pub windows : (call : Call) (firsts : List Targets) → AreWindows call firsts → AreWindows (call_after actor (started_by starts guest) (turn shape.vcpus actor guest) call) (firsts ++ later_by starts guest)
+  pub windows : (call : Call) (t : Targets) (firsts : List Targets) → AreWindows call t firsts → AreWindows (call_after actor (started_by starts guest) (turn shape.vcpus actor guest) call) t (firsts ++ later_by starts guest)
   pub are : AreStarted starts (Some actor) shape beside its (views_by starts guest) (happenings actor (started_by starts guest) (turn shape.vcpus actor guest))
 
 order_started : (starts : Bool) (guest : IdealGuest) → IsSound guest → IsQueueInOrder guest → IsQueueInOrder (after_started starts guest)
@@ -171,14 +172,14 @@ dry_false true h = absurd (cc)
 dry_false false h = refl
 
 started : (actor : ℕ) (shape : GuestShape) (beside : Beside) (its : View) (starts : Bool) (guest : IdealGuest) → IsSound guest → IsQueueInOrder guest → guest.shape ≡ shape → HaveSameIts its (view_of guest)
-    → ((k : ℕ) → beside.targets (0 + k) ≡ slice_index_or ((view_of guest).targets ∷ later_by starts guest) k no_target) → AreStartedFrom actor shape beside its starts guest
+    → ((k : ℕ) → command_targets beside (0 + k) ≡ slice_index_or ((view_of guest).targets ∷ later_by starts guest) k no_target) → AreStartedFrom actor shape beside its starts guest
 started actor shape beside its false guest sound order is same targets =
     record {
       state = refl;
       fine = tt;
       no_access = refl;
       no_turn = refl;
-      windows = λ call firsts are. subst (AreWindows call) (sym (append-nil firsts)) are;
+      windows = λ call t firsts are. subst (AreWindows call t) (sym (append-nil firsts)) are;
       are = piece_makes (Some actor) actor its [] [] (turn shape.vcpus actor guest) [] refl tt;
     }
 started actor shape beside its true guest sound order is same targets =
@@ -204,7 +205,7 @@ its_call guest sound order vcpu there offset size value takes good =
     let places = access_places shape view Its offset size (Some value) in
     let n = shape.vcpus in
     let state = settled guest in
-    let begun = turn n vcpu guest in
+    let begun_turn = turn n vcpu guest in
     let changed = after_events events guest in
     let commands = started_by starts changed in
     let last = after_started starts changed in
@@ -214,59 +215,69 @@ its_call guest sound order vcpu there offset size value takes good =
     let sound' : IsSound changed = sound_events guest events sound (free_follow guest events can) in
     let firsts = targets_in state ∷ later_by starts changed in
     let beside = beside_of guest.tables firsts in
-    let written : state_after vcpu events begun ≡ turn n vcpu changed = plain_state true vcpu begun (turn_quiet n vcpu guest) events guest piece.plain in
+    let written : state_after vcpu events begun_turn ≡ turn n vcpu changed = plain_state true vcpu begun_turn (turn_quiet n vcpu guest) events guest piece.plain in
     let known : HaveSameIts (its_written_by shape view events) (view_of changed) =
     events_known true shape events guest view refl sound.words (record { ctlr = refl; cbaser = refl; cwriter = refl; offset = refl; stalled = refl; maps = refl }) piece.plain can in
     let run : AreStartedFrom vcpu shape beside (its_written_by shape view events) starts changed =
     started vcpu shape beside (its_written_by shape view events) starts changed sound' (piece.order order) (shape_events events guest) known
-    (λ k. ap beside.targets (omega arith) ∙ ap (λ t. slice_index_or (t ∷ later_by starts changed) k no_target) (sym piece.targets)) in
-    let named = ItsBegin ∷ events ++ commands ++ ItsEnd ∷ [] in
-    let middle : state_after vcpu (events ++ commands) begun ≡ turn n vcpu last = state_append vcpu events commands begun ∙ ap (state_after vcpu commands) written ∙ run.state in
+    (λ k. ap (command_targets beside) (omega arith) ∙ ap (λ t. slice_index_or (t ∷ later_by starts changed) k no_target) (sym piece.targets)) in
+    let all = events ++ commands in
+    let rest = events ++ commands ++ ItsEnd ∷ [] in
+    let middle : state_after vcpu all begun_turn ≡ turn n vcpu last = state_append vcpu events commands begun_turn ∙ ap (state_after vcpu commands) written ∙ run.state in
     let ends : IsTrue (is_number vcpu (Some vcpu)) = eq-eqb vcpu vcpu refl in
-    let register : List Happened = map (read_of view) places ++ happenings vcpu (ItsBegin ∷ events) state in
+    let begin = happenings vcpu (ItsBegin ∷ []) state in
+    let reading : List Happened = map (read_of view) places ++ happenings vcpu events begun_turn in
     let started_are = happenings vcpu commands (turn n vcpu changed) in
     let over = happenings vcpu (ItsEnd ∷ []) (turn n vcpu last) in
-    let made : List Happened = map (read_of view) places ++ happenings vcpu named state in
-    let split : made ≡ register ++ started_are ++ over =
-    ap (λ xs. map (read_of view) places ++ xs) (happenings_append vcpu (ItsBegin ∷ events ++ commands) (ItsEnd ∷ []) state
-    ∙ ap (λ s. happenings vcpu (ItsBegin ∷ events ++ commands) state ++ happenings vcpu (ItsEnd ∷ []) s) middle
-    ∙ ap (λ xs. xs ++ over) (happenings_append vcpu (ItsBegin ∷ events) commands state ∙ ap (λ s. happenings vcpu (ItsBegin ∷ events) state ++ happenings vcpu commands s) written))
-    ∙ sym (append_assoc (map (read_of view) places) (happenings vcpu (ItsBegin ∷ events) state ++ started_are) over)
-    ∙ ap (λ xs. xs ++ over) (sym (append_assoc (map (read_of view) places) (happenings vcpu (ItsBegin ∷ events) state) started_are)) in
+    let made : List Happened = begin ++ (map (read_of view) places ++ happenings vcpu rest begun_turn) in
+    let split : made ≡ (begin ++ reading) ++ started_are ++ over =
+    ap (λ xs. begin ++ xs)
+    (ap (λ xs. map (read_of view) places ++ xs)
+    (happenings_append vcpu all (ItsEnd ∷ []) begun_turn ∙ ap (λ s. happenings vcpu all begun_turn ++ happenings vcpu (ItsEnd ∷ []) s) middle
+    ∙ ap (λ xs. xs ++ over) (happenings_append vcpu events commands begun_turn ∙ ap (λ s. happenings vcpu events begun_turn ++ happenings vcpu commands s) written))
+    ∙ sym (append_assoc (map (read_of view) places) (happenings vcpu events begun_turn ++ started_are) over)
+    ∙ ap (λ xs. xs ++ over) (sym (append_assoc (map (read_of view) places) (happenings vcpu events begun_turn) started_are))) in
     let is : IsItsCall shape beside vcpu offset size value made None = record {
       view = view;
       maps = refl;
       views = views_by starts changed;
-      register = register;
+      register = begin ++ reading;
       commands = started_are;
       last = over;
       split = split;
-      written = piece_makes (Some vcpu) vcpu view places (ItsBegin ∷ events) state [] are.own (refl, piece.hands);
+      written = record {
+        begin = begin;
+        rest = reading;
+        split = refl;
+        begun = piece_makes (Some vcpu) vcpu view [] (ItsBegin ∷ []) state [] refl (refl, tt);
+        made = piece_makes (Some vcpu) vcpu view places events begun_turn [] are.own piece.hands;
+      };
       started = run.are;
       ended = piece_makes (Some vcpu) vcpu view [] (ItsEnd ∷ []) (turn n vcpu last) [] refl (refl, tt);
       answers = refl;
     } in
     let shape_last : last.shape ≡ guest.shape = ap (λ g. g.shape) (sym (op_is_events (Mem Its offset size (Some value)) guest vcpu)) ∙ shape_events (op_events (Mem Its offset size (Some value)) guest vcpu) guest in
-    let call : IsGoodCall vcpu op (reads places ++ named) None guest last =
-    good_call vcpu op places named None guest last guest.tables firsts shape_last (λ old. order_started starts changed sound' (piece.order old)) (access_there shape view Its offset size (Some value) sound.shape good) (
-      record { can = tt; allowed = refl },
-      fine_append vcpu (events ++ commands) (ItsEnd ∷ []) begun
-          (fine_append vcpu events commands begun (plain_are_fine true vcpu begun (turn_quiet n vcpu guest) shape events guest refl piece.plain can) (subst (λ s. AreFine vcpu s commands) (sym written) run.fine))
-          (subst (λ s. AreFine vcpu s (ItsEnd ∷ [])) (sym middle) (record { can = tt; allowed = ends }, tt)),
-    )
-    (state_append vcpu (events ++ commands) (ItsEnd ∷ []) begun ∙ ap (state_after vcpu (ItsEnd ∷ [])) middle ∙ settled_with guest last shape_last)
-    (all_of is_no_access (events ++ commands) (ItsEnd ∷ []) (all_of is_no_access events commands are.no_access run.no_access) refl)
-    (λ call w.
-    let first = next_call state vcpu ItsBegin call in
-    let one : AreWindows first (targets_in state ∷ []) = windows_within state vcpu call (targets_in state ∷ []) w ItsBegin refl in
-    let two : AreWindows (call_after vcpu events begun first) (targets_in state ∷ []) = windows_after vcpu events begun first (targets_in state ∷ []) are.within one in
-    let three : AreWindows (call_after vcpu commands (turn n vcpu changed) (call_after vcpu events begun first)) firsts = run.windows (call_after vcpu events begun first) (targets_in state ∷ []) two in
-    let four : AreWindows (call_after vcpu (events ++ commands) begun first) firsts =
-    subst (λ c. AreWindows c firsts) (sym (call_append vcpu events commands begun first)) (subst (λ s. AreWindows (call_after vcpu commands s (call_after vcpu events begun first)) firsts) (sym written) three) in
-    heads_of _ _
-    (subst (λ c. AreWindows c firsts) (sym (call_append vcpu (events ++ commands) (ItsEnd ∷ []) begun first))
-    (windows_after vcpu (ItsEnd ∷ []) (state_after vcpu (events ++ commands) begun) (call_after vcpu (events ++ commands) begun first) firsts refl four)))
-    (λ call e. maps_after vcpu (events ++ commands ++ ItsEnd ∷ []) begun (next_call state vcpu ItsBegin call) (all_of is_no_turn (events ++ commands) (ItsEnd ∷ []) (all_of is_no_turn events commands are.no_turn run.no_turn) refl))
+    let taken = next_call state vcpu ItsBegin (begun state op) in
+    let read = call_after vcpu (reads places) begun_turn taken in
+    let t = targets_in state in
+    let one : AreWindows read t (t ∷ []) = read_windows vcpu places begun_turn taken t (t ∷ []) (windows_begun state vcpu (begun state op) t [] (begun_windows guest op)) in
+    let two : AreWindows (call_after vcpu events begun_turn read) t (t ∷ []) = windows_after vcpu events begun_turn read t (t ∷ []) are.within one in
+    let three : AreWindows (call_after vcpu commands (turn n vcpu changed) (call_after vcpu events begun_turn read)) t firsts = run.windows (call_after vcpu events begun_turn read) t (t ∷ []) two in
+    let four : AreWindows (call_after vcpu all begun_turn read) t firsts =
+    subst (λ c. AreWindows c t firsts) (sym (call_append vcpu events commands begun_turn read)) (subst (λ s. AreWindows (call_after vcpu commands s (call_after vcpu events begun_turn read)) t firsts) (sym written) three) in
+    let five : AreWindows (call_after vcpu rest begun_turn read) t firsts =
+    subst (λ c. AreWindows c t firsts) (sym (call_append vcpu all (ItsEnd ∷ []) begun_turn read))
+    (windows_after vcpu (ItsEnd ∷ []) (state_after vcpu all begun_turn) (call_after vcpu all begun_turn read) t firsts refl four) in
+    let call : IsGoodCall vcpu op (ItsBegin ∷ reads places ++ rest) None guest last =
+    good_call vcpu op (ItsBegin ∷ []) places rest None guest last guest.tables t firsts shape_last (λ old. order_started starts changed sound' (piece.order old)) (access_there shape view Its offset size (Some value) sound.shape good)
+    (record { can = tt; allowed = refl }, tt)
+    (fine_append vcpu all (ItsEnd ∷ []) begun_turn
+    (fine_append vcpu events commands begun_turn (plain_are_fine true vcpu begun_turn (turn_quiet n vcpu guest) shape events guest refl piece.plain can) (subst (λ s. AreFine vcpu s commands) (sym written) run.fine))
+    (subst (λ s. AreFine vcpu s (ItsEnd ∷ [])) (sym middle) (record { can = tt; allowed = ends }, tt)))
+    (state_append vcpu all (ItsEnd ∷ []) begun_turn ∙ ap (state_after vcpu (ItsEnd ∷ [])) middle ∙ settled_with guest last shape_last) refl
+    (all_of is_no_access all (ItsEnd ∷ []) (all_of is_no_access events commands are.no_access run.no_access) refl) (heads_of five)
+    (maps_after vcpu rest begun_turn read (all_of is_no_turn all (ItsEnd ∷ []) (all_of is_no_turn events commands are.no_turn run.no_turn) refl) ∙ read_maps vcpu places begun_turn taken)
     (subst (λ v. IsCall shape beside v op made None) (sym (is_vcpu shape vcpu there)) (subst (λ b. IsItsWrite b shape beside vcpu offset size value made None) (sym takes) is)) in
-    subst (λ b. IsGoodCall vcpu op (reads places ++ in_turn b events commands) None guest (after_events (op_events (Mem Its offset size (Some value)) guest vcpu) guest)) (sym takes)
-    (subst (λ g. IsGoodCall vcpu op (reads places ++ named) None guest g) (sym (op_is_events (Mem Its offset size (Some value)) guest vcpu)) call)
+    let out = out_of_turn (enabled_by shape Its offset size (Some value)) shape view places events in
+    subst (λ b. IsGoodCall vcpu op (cond b (ItsBegin ∷ reads places ++ rest) out) None guest (after_events (op_events (Mem Its offset size (Some value)) guest vcpu) guest)) (sym takes)
+    (subst (λ g. IsGoodCall vcpu op (ItsBegin ∷ reads places ++ rest) None guest g) (sym (op_is_events (Mem Its offset size (Some value)) guest vcpu)) call)

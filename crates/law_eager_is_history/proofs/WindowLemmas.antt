@@ -1,11 +1,11 @@
 -- What the call of an actor notes at its events: its events, the maps of the ITS, and the vCPUs that LPIs were for.
-use Rattle.std.proofs.Common.{◌≡◌, ℕ, ◌<◌, ◌≤◌, cond, nat_lt, unwrap_or, Some, zero, suc, Bool, true, false, IsTrue, List, [], ◌∷◌, ◌++◌, length, Contains, Option, None, refl, sym, ap, ◌∙◌, subst, slice_index_or, arith}
+use Rattle.std.proofs.Common.{◌≡◌, ℕ, ◌<◌, ◌≤◌, cond, nat_lt, unwrap_or, Some, Bool, true, false, IsTrue, List, [], ◌∷◌, ◌++◌, Contains, Option, None, refl, sym, ap, ◌∙◌, subst, slice_index_or, arith, map}
 use Rattle.std.specs.List.{list_all}
 use Rattle.std.specs.Option.{option_map_or}
 use Rattle.std.proofs.lemmas.Bool.{and_parts, ltb-true, le-ltb}
-use Rattle.std.proofs.lemmas.List.{append_assoc, length-append, append-nil}
+use Rattle.std.proofs.lemmas.List.{append_assoc, append-nil}
 use Rattle.floor_histories.specs.Words.{Key, GuestShape}
-use Rattle.floor_histories.specs.Calls.{Touching, Event, Up, Down, Enable, Touch, Reach, Take, Leave, Cpu, Put, CtlrBegin, CtlrEnd, ItsBegin, Runs, Done, Stalls, Operation, Happened, Beside, IsCall}
+use Rattle.floor_histories.specs.Calls.{Touching, Event, Up, Down, Enable, Touch, Reach, Take, Leave, Cpu, Put, CtlrBegin, CtlrEnd, ItsBegin, Runs, Done, Stalls, Operation, Happened, Beside, IsCall, Place}
 use Rattle.floor_histories.specs.Registers.{Maps}
 use Rattle.floor_histories.specs.GicCall.declared.event.Event.TheVariants.{Raise, Read, ItsEnd, Queue}
 use Rattle.floor_histories.specs.Histories.{Ideal, handed_out, happened, Call, IsEnded, vcpu_of, targets_in, lpi_in, is_ahead, is_passed, noted, made, seeing}
@@ -28,57 +28,33 @@ abbrev pub IsHead : List (Option ℕ) → Option ℕ → Type 0
 IsHead [] t = ⊥
 IsHead (x ∷ xs) t = x ≡ t
 
-abbrev pub AreHeads : List Window → List Targets → Type 0
-AreHeads [] [] = Unit {0}
-AreHeads [] (t ∷ firsts) = ⊥
-AreHeads (w ∷ windows) [] = ⊥
-AreHeads (w ∷ windows) (t ∷ firsts) = ((id : ℕ) → IsHead (w id) (t id)) × AreHeads windows firsts
-
--- the windows of a call: each has a moment, and the first moments are these
-pub record HaveHeads (call : Call) (firsts : List Targets) : Type 0 where
-  pub heads : AreHeads (call.done ++ call.targets ∷ []) firsts
+-- what a call has noted: of the vCPUs that the LPIs were for since it began the first, and those as its commands began
+pub record HaveHeads (call : Call) (t : Targets) (firsts : List Targets) : Type 0 where
+  pub commands : call.commands ≡ firsts
+  pub heads : (id : ℕ) → IsHead (call.targets id) (t id)
 
 -- and it has not stored EnableLPIs
-pub record AreWindows (call : Call) (firsts : List Targets) : Type 0 where
+pub record AreWindows (call : Call) (t : Targets) (firsts : List Targets) : Type 0 where
   pub place : call.place ≡ None
-  pub heads : AreHeads (call.done ++ call.targets ∷ []) firsts
+  pub commands : call.commands ≡ firsts
+  pub heads : (id : ℕ) → IsHead (call.targets id) (t id)
 
-pub heads_of : (call : Call) (firsts : List Targets) → AreWindows call firsts → HaveHeads call firsts
-heads_of call firsts are = record { heads = are.heads }
+pub heads_of : {call : Call} {t : Targets} {firsts : List Targets} → AreWindows call t firsts → HaveHeads call t firsts
+heads_of are = record { commands = are.commands; heads = are.heads }
 
 head_kept : (window more : List (Option ℕ)) (t : Option ℕ) → IsHead window t → IsHead (window ++ more) t
 head_kept [] more t h = absurd h
 head_kept (x ∷ xs) more t h = h
-
-heads_kept : (done : List Window) (targets : Window) (t : Targets) (firsts : List Targets) → AreHeads (done ++ targets ∷ []) firsts → AreHeads (done ++ (λ id. targets id ++ t id ∷ []) ∷ []) firsts
-heads_kept [] targets t [] h = absurd h
-heads_kept [] targets t (f ∷ firsts) h = ((λ id. head_kept (targets id) (t id ∷ []) (f id) (h.0 id)), only firsts h.1)
-  where
-    only : (firsts : List Targets) → AreHeads [] firsts → AreHeads [] firsts
-    only firsts h = h
-heads_kept (d ∷ done) targets t [] h = absurd h
-heads_kept (d ∷ done) targets t (f ∷ firsts) h = (h.0, heads_kept done targets t firsts h.1)
-
-heads_more : (windows : List Window) (t : Targets) (firsts : List Targets) → AreHeads windows firsts → AreHeads (windows ++ (λ id. t id ∷ []) ∷ []) (firsts ++ t ∷ [])
-heads_more [] t [] h = ((λ id. refl), tt)
-heads_more [] t (f ∷ firsts) h = absurd h
-heads_more (w ∷ windows) t [] h = absurd h
-heads_more (w ∷ windows) t (f ∷ firsts) h = (h.0, heads_more windows t firsts h.1)
 
 -- the first moment of a window is one of it
 head_in : (window : List (Option ℕ)) (t : Option ℕ) → IsHead window t → Contains window t
 head_in [] t h = absurd h
 head_in (x ∷ xs) t h = (0, omega arith, h)
 
-in_window : (windows : List Window) (firsts : List Targets) (number id : ℕ) → AreHeads windows firsts → number < length windows → Contains (slice_index_or windows number (λ id. []) id) (slice_index_or firsts number no_target id)
-in_window [] firsts number id heads h = absurd (omega (arith, h))
-in_window (w ∷ windows) [] number id heads h = absurd heads
-in_window (w ∷ windows) (t ∷ firsts) zero id heads h = head_in (w id) (t id) (heads.0 id)
-in_window (w ∷ windows) (t ∷ firsts) (suc number) id heads h = in_window windows firsts number id heads.1 (omega (arith, h))
-
--- an event that ends no command and is no EnableLPIs
+-- an event that begins no command and is no EnableLPIs
 abbrev pub is_within : Event → Bool
 is_within (Enable vcpu) = false
+is_within ItsBegin = false
 is_within (Queue offset Runs) = true
 is_within (Queue offset change) = false
 is_within event = true
@@ -87,63 +63,74 @@ is_within event = true
 abbrev pub next_call : Ideal → ℕ → Event → Call → Call
 next_call state actor event call = seeing (happened actor event state) (made state event (handed_out state event) call)
 
-module _ (state : Ideal) (actor : ℕ) (call : Call) (firsts : List Targets) (are : AreWindows call firsts) where
+module _ (state : Ideal) (actor : ℕ) (call : Call) (t : Targets) (firsts : List Targets) (are : AreWindows call t firsts) where
   -- a call that has not stored EnableLPIs
-  unstored : (event : Event) → AreWindows (next_call state actor event (record call { place = None })) firsts → AreWindows (next_call state actor event call) firsts
-  unstored event is = subst (λ p. AreWindows (next_call state actor event (record call { place = p })) firsts) (sym are.place) is
+  unstored : (event : Event) (more : List Targets) → AreWindows (next_call state actor event (record call { place = None })) t more → AreWindows (next_call state actor event call) t more
+  unstored event more is = subst (λ p. AreWindows (next_call state actor event (record call { place = p })) t more) (sym are.place) is
 
-  kept : (event : Event) → AreHeads (call.done ++ (λ id. call.targets id ++ targets_in (happened actor event state) id ∷ []) ∷ []) firsts
-  kept event = heads_kept call.done call.targets (targets_in (happened actor event state)) firsts are.heads
+  kept : (event : Event) (id : ℕ) → IsHead (call.targets id ++ targets_in (happened actor event state) id ∷ []) (t id)
+  kept event id = head_kept (call.targets id) (targets_in (happened actor event state) id ∷ []) (t id) (are.heads id)
 
-  pub windows_within : (event : Event) → IsTrue (is_within event) → AreWindows (next_call state actor event call) firsts
+  pub windows_within : (event : Event) → IsTrue (is_within event) → AreWindows (next_call state actor event call) t firsts
   windows_within (Enable vcpu) h = absurd (cc)
+  windows_within ItsBegin h = absurd (cc)
   windows_within (Queue offset (Done words)) h = absurd (cc)
   windows_within (Queue offset (Stalls fault)) h = absurd (cc)
-  windows_within (Raise key) h = unstored (Raise key) (record { place = refl; heads = kept (Raise key) })
-  windows_within (Up key) h = unstored (Up key) (record { place = refl; heads = kept (Up key) })
-  windows_within (Down key) h = unstored (Down key) (record { place = refl; heads = kept (Down key) })
-  windows_within (Touch key touch) h = unstored (Touch key touch) (record { place = refl; heads = kept (Touch key touch) })
-  windows_within (Reach key vcpu) h = unstored (Reach key vcpu) (record { place = refl; heads = kept (Reach key vcpu) })
-  windows_within (Take key vcpu) h = unstored (Take key vcpu) (record { place = refl; heads = kept (Take key vcpu) })
-  windows_within (Leave key vcpu) h = unstored (Leave key vcpu) (record { place = refl; heads = kept (Leave key vcpu) })
-  windows_within (Cpu vcpu reg write) h = unstored (Cpu vcpu reg write) (record { place = refl; heads = kept (Cpu vcpu reg write) })
-  windows_within (Read place) h = unstored (Read place) (record { place = refl; heads = kept (Read place) })
-  windows_within (Put word value) h = unstored (Put word value) (record { place = refl; heads = kept (Put word value) })
-  windows_within (CtlrBegin enables) h = unstored (CtlrBegin enables) (record { place = refl; heads = kept (CtlrBegin enables) })
-  windows_within CtlrEnd h = unstored CtlrEnd (record { place = refl; heads = kept CtlrEnd })
-  windows_within ItsBegin h = unstored ItsBegin (record { place = refl; heads = kept ItsBegin })
-  windows_within ItsEnd h = unstored ItsEnd (record { place = refl; heads = kept ItsEnd })
-  windows_within (Queue offset Runs) h = unstored (Queue offset Runs) (record { place = refl; heads = kept (Queue offset Runs) })
+  windows_within (Raise key) h = unstored (Raise key) firsts (record { place = refl; commands = are.commands; heads = kept (Raise key) })
+  windows_within (Up key) h = unstored (Up key) firsts (record { place = refl; commands = are.commands; heads = kept (Up key) })
+  windows_within (Down key) h = unstored (Down key) firsts (record { place = refl; commands = are.commands; heads = kept (Down key) })
+  windows_within (Touch key touch) h = unstored (Touch key touch) firsts (record { place = refl; commands = are.commands; heads = kept (Touch key touch) })
+  windows_within (Reach key vcpu) h = unstored (Reach key vcpu) firsts (record { place = refl; commands = are.commands; heads = kept (Reach key vcpu) })
+  windows_within (Take key vcpu) h = unstored (Take key vcpu) firsts (record { place = refl; commands = are.commands; heads = kept (Take key vcpu) })
+  windows_within (Leave key vcpu) h = unstored (Leave key vcpu) firsts (record { place = refl; commands = are.commands; heads = kept (Leave key vcpu) })
+  windows_within (Cpu vcpu reg write) h = unstored (Cpu vcpu reg write) firsts (record { place = refl; commands = are.commands; heads = kept (Cpu vcpu reg write) })
+  windows_within (Read place) h = unstored (Read place) firsts (record { place = refl; commands = are.commands; heads = kept (Read place) })
+  windows_within (Put word value) h = unstored (Put word value) firsts (record { place = refl; commands = are.commands; heads = kept (Put word value) })
+  windows_within (CtlrBegin enables) h = unstored (CtlrBegin enables) firsts (record { place = refl; commands = are.commands; heads = kept (CtlrBegin enables) })
+  windows_within CtlrEnd h = unstored CtlrEnd firsts (record { place = refl; commands = are.commands; heads = kept CtlrEnd })
+  windows_within ItsEnd h = unstored ItsEnd firsts (record { place = refl; commands = are.commands; heads = kept ItsEnd })
+  windows_within (Queue offset Runs) h = unstored (Queue offset Runs) firsts (record { place = refl; commands = are.commands; heads = kept (Queue offset Runs) })
 
-  -- the end of a command begins another window
-  closed : (t : Targets) → AreHeads ((call.done ++ call.targets ∷ []) ++ (λ id. t id ∷ []) ∷ []) (firsts ++ t ∷ [])
-  closed t = heads_more (call.done ++ call.targets ∷ []) t firsts are.heads
+  -- where the ITS is taken, and where a command ends, one begins
+  begun_more : call.commands ++ targets_in state ∷ [] ≡ firsts ++ targets_in state ∷ []
+  begun_more = ap (λ commands. commands ++ targets_in state ∷ []) are.commands
 
-  pub windows_done : (offset : ℕ) (words : List ℕ) → AreWindows (next_call state actor (Queue offset (Done words)) call) (firsts ++ targets_in (happened actor (Queue offset (Done words)) state) ∷ [])
-  windows_done offset words =
-      subst (λ p. AreWindows (next_call state actor (Queue offset (Done words)) (record call { place = p })) (firsts ++ targets_in (happened actor (Queue offset (Done words)) state) ∷ [])) (sym are.place)
-      (record { place = refl; heads = closed (targets_in (happened actor (Queue offset (Done words)) state)) })
+  pub windows_begun : AreWindows (next_call state actor ItsBegin call) t (firsts ++ targets_in state ∷ [])
+  windows_begun = unstored ItsBegin (firsts ++ targets_in state ∷ []) (record { place = refl; commands = begun_more; heads = kept ItsBegin })
 
-  pub windows_stalled : (offset fault : ℕ) → AreWindows (next_call state actor (Queue offset (Stalls fault)) call) (firsts ++ targets_in (happened actor (Queue offset (Stalls fault)) state) ∷ [])
-  windows_stalled offset fault =
-      subst (λ p. AreWindows (next_call state actor (Queue offset (Stalls fault)) (record call { place = p })) (firsts ++ targets_in (happened actor (Queue offset (Stalls fault)) state) ∷ [])) (sym are.place)
-      (record { place = refl; heads = closed (targets_in (happened actor (Queue offset (Stalls fault)) state)) })
+  pub windows_done : (offset : ℕ) (words : List ℕ) → AreWindows (next_call state actor (Queue offset (Done words)) call) t (firsts ++ targets_in state ∷ [])
+  windows_done offset words = unstored (Queue offset (Done words)) (firsts ++ targets_in state ∷ []) (record { place = refl; commands = begun_more; heads = kept (Queue offset (Done words)) })
+
+  pub windows_stalled : (offset fault : ℕ) → AreWindows (next_call state actor (Queue offset (Stalls fault)) call) t (firsts ++ targets_in state ∷ [])
+  windows_stalled offset fault = unstored (Queue offset (Stalls fault)) (firsts ++ targets_in state ∷ []) (record { place = refl; commands = begun_more; heads = kept (Queue offset (Stalls fault)) })
 
 -- Once EnableLPIs is stored each LPI counts by where it is about its own place: as the call came to it, where no LPI moves meanwhile.
 
-pub record IsEnabling (call : Call) (targets : Targets) : Type 0 where
+pub record IsEnabling (call : Call) (t : Targets) (firsts : List Targets) : Type 0 where
   pub here : ℕ
   pub place : call.place ≡ Some here
-  pub done : call.done ≡ []
-  pub heads : (id : ℕ) → IsHead (call.targets id) (targets id)
+  pub commands : call.commands ≡ firsts
+  pub heads : (id : ℕ) → IsHead (call.targets id) (t id)
 
-none_done : (done : List Window) (targets : Window) (t : Targets) → AreHeads (done ++ targets ∷ []) (t ∷ []) → done ≡ []
-none_done [] targets t h = refl
-none_done (d ∷ []) targets t h = absurd h.1
-none_done (d ∷ e ∷ done) targets t h = absurd h.1
+pub enabling : (state : Ideal) (actor vcpu : ℕ) (call : Call) (t : Targets) (firsts : List Targets) → AreWindows call t firsts → IsEnabling (next_call state actor (Enable vcpu) call) (targets_in (happened actor (Enable vcpu) state)) firsts
+enabling state actor vcpu call t firsts are = record { here = 0; place = refl; commands = are.commands; heads = λ id. let now = targets_in (happened actor (Enable vcpu) state) in subst (λ b. IsHead (cond b [] (now id ∷ [])) (now id)) (sym (le-ltb id 0 (omega arith))) refl }
 
-pub enabling : (state : Ideal) (actor vcpu : ℕ) (call : Call) (t : Targets) → AreWindows call (t ∷ []) → IsEnabling (next_call state actor (Enable vcpu) call) (targets_in (happened actor (Enable vcpu) state))
-enabling state actor vcpu call t are = record { here = 0; place = refl; done = none_done call.done call.targets t are.heads; heads = λ id. let now = targets_in (happened actor (Enable vcpu) state) in subst (λ b. IsHead (cond b [] (now id ∷ [])) (now id)) (sym (le-ltb id 0 (omega arith))) refl }
+-- a read
+passed_head : (b : Bool) (window : List (Option ℕ)) (t : Option ℕ) → IsHead window t → IsHead (cond b window (window ++ t ∷ [])) t
+passed_head true window t h = h
+passed_head false window t h = head_kept window (t ∷ []) t h
+
+enabling_read : (state : Ideal) (actor : ℕ) (at : Place) (call : Call) (t : Targets) (firsts : List Targets) → ((id : ℕ) → targets_in state id ≡ t id) → IsEnabling call t firsts → IsEnabling (next_call state actor (Read at) call) t firsts
+enabling_read state actor at call t firsts same is = record {
+  here = is.here;
+  place = is.place;
+  commands = is.commands;
+  heads = λ id. subst (λ x. IsHead (cond (is_passed call.place id) (call.targets id) (call.targets id ++ x ∷ [])) (t id)) (sym (same id)) (passed_head (is_passed call.place id) (call.targets id) (t id) (is.heads id));
+}
+
+pub enabling_reads : (state : Ideal) (actor : ℕ) (places : List Place) (call : Call) (t : Targets) (firsts : List Targets) → ((id : ℕ) → targets_in state id ≡ t id) → IsEnabling call t firsts → IsEnabling (call_after actor (map Read places) state call) t firsts
+enabling_reads state actor [] call t firsts same is = is
+enabling_reads state actor (at ∷ places) call t firsts same is = enabling_reads state actor places (next_call state actor (Read at) call) t firsts same (enabling_read state actor at call t firsts same is)
 
 -- a touch
 ahead_head : (key : Key) (here id : ℕ) (window : List (Option ℕ)) (t : Option ℕ) → IsHead window t → IsHead (cond (is_passed (Some (unwrap_or (lpi_in key) here)) id) (cond (is_ahead (Some here) key id) [] window) (cond (is_ahead (Some here) key id) [] window ++ t ∷ [])) t
@@ -162,28 +149,29 @@ ahead_head key here id window t h = of (lpi_in key)
         less : (m n : ℕ) → m < n → m ≤ n
         less m n l = omega (arith, l)
 
-pub enabling_touched : (state : Ideal) (actor : ℕ) (key : Key) (touch : Touching) (call : Call) (t : Targets) → ((id : ℕ) → targets_in (happened actor (Touch key touch) state) id ≡ t id) → IsEnabling call t → IsEnabling (next_call state actor (Touch key touch) call) t
-enabling_touched state actor key touch call t same is =
-    subst (λ p. IsEnabling (next_call state actor (Touch key touch) (record call { place = p })) t) (sym is.place)
+pub enabling_touched : (state : Ideal) (actor : ℕ) (key : Key) (touch : Touching) (call : Call) (t : Targets) (firsts : List Targets) → ((id : ℕ) → targets_in (happened actor (Touch key touch) state) id ≡ t id) → IsEnabling call t firsts
+    → IsEnabling (next_call state actor (Touch key touch) call) t firsts
+enabling_touched state actor key touch call t firsts same is =
+    subst (λ p. IsEnabling (next_call state actor (Touch key touch) (record call { place = p })) t firsts) (sym is.place)
     (record {
       here = unwrap_or (lpi_in key) is.here;
       place = refl;
-      done = is.done;
+      commands = is.commands;
       heads = λ id.
           subst (λ x. IsHead (cond (is_passed (Some (unwrap_or (lpi_in key) is.here)) id) (cond (is_ahead (Some is.here) key id) [] (call.targets id)) (cond (is_ahead (Some is.here) key id) [] (call.targets id) ++ x ∷ [])) (t id)) (sym (same id))
           (ahead_head key is.here id (call.targets id) (t id) (is.heads id));
     })
 
-pub enabled_heads : (call : Call) (t : Targets) → IsEnabling call t → HaveHeads call (t ∷ [])
-enabled_heads call t is = record { heads = subst (λ done. AreHeads (done ++ call.targets ∷ []) (t ∷ [])) (sym is.done) (is.heads, tt) }
+pub enabled_heads : {call : Call} {t : Targets} {firsts : List Targets} → IsEnabling call t firsts → HaveHeads call t firsts
+enabled_heads is = record { commands = is.commands; heads = is.heads }
 
 -- Lists of events.
 
-pub windows_after : (actor : ℕ) (events : List Event) (state : Ideal) (call : Call) (firsts : List Targets) → IsTrue (list_all is_within events) → AreWindows call firsts → AreWindows (call_after actor events state call) firsts
-windows_after actor [] state call firsts h are = are
-windows_after actor (event ∷ events) state call firsts h are =
+pub windows_after : (actor : ℕ) (events : List Event) (state : Ideal) (call : Call) (t : Targets) (firsts : List Targets) → IsTrue (list_all is_within events) → AreWindows call t firsts → AreWindows (call_after actor events state call) t firsts
+windows_after actor [] state call t firsts h are = are
+windows_after actor (event ∷ events) state call t firsts h are =
     let parts = and_parts (is_within event) (list_all is_within events) h in
-    windows_after actor events (happened actor event state) (next_call state actor event call) firsts parts.1 (windows_within state actor call firsts are event parts.0)
+    windows_after actor events (happened actor event state) (next_call state actor event call) t firsts parts.1 (windows_within state actor call t firsts are event parts.0)
 
 record IsNoted (state : Ideal) (event : Event) (call : Call) : Type 0 where
   pub operation : (noted state event call).operation ≡ call.operation
@@ -252,24 +240,29 @@ maps_after actor (event ∷ events) state call h =
     let parts = and_parts (is_no_turn event) (list_all is_no_turn events) h in
     maps_after actor events (happened actor event state) (next_call state actor event call) parts.1 ∙ maps_kept state event call parts.0
 
--- a call ends as its definition says, of maps and of vCPUs that its windows have
+-- a call ends as its definition says, of maps and of vCPUs that it noted
+abbrev pub beside_with : Maps → Targets → List Targets → Beside
+beside_with maps t firsts = record { maps = maps; targets = t; commands = firsts }
+
+-- of a call that takes the ITS: of these only those count that its commands begin with
 abbrev pub beside_of : Maps → List Targets → Beside
-beside_of maps firsts = record { maps = maps; targets = λ number. slice_index_or firsts number no_target }
+beside_of maps firsts = beside_with maps (slice_index_or firsts 0 no_target) firsts
 
 pub call_ends :
-    (shape : GuestShape) (actor : ℕ) (call : Call) (operation : Operation) (piece : List Happened) (maps : Maps) (firsts : List Targets) (answer : Option ℕ) → call.operation ≡ operation → call.piece ≡ piece → call.maps ≡ maps → HaveHeads call firsts
-    → IsCall shape (beside_of maps firsts) (vcpu_of shape actor) operation piece answer → IsEnded shape actor call answer
-call_ends shape actor call operation piece maps firsts answer o p m are is =
+    (shape : GuestShape) (actor : ℕ) (call : Call) (operation : Operation) (piece : List Happened) (maps : Maps) (t : Targets) (firsts : List Targets) (answer : Option ℕ) → call.operation ≡ operation → call.piece ≡ piece → call.maps ≡ maps → HaveHeads call t firsts
+    → IsCall shape (beside_with maps t firsts) (vcpu_of shape actor) operation piece answer → IsEnded shape actor call answer
+call_ends shape actor call operation piece maps t firsts answer o p m are is =
     record {
-      beside = beside_of maps firsts;
+      beside = beside_with maps t firsts;
       maps = sym m;
-      targets = λ number id l. in_window (call.done ++ call.targets ∷ []) firsts number id are.heads (omega (arith, l, length-append call.done (call.targets ∷ [])));
-      is_call = subst (λ op. IsCall shape (beside_of maps firsts) (vcpu_of shape actor) op call.piece answer) (sym o) (subst (λ xs. IsCall shape (beside_of maps firsts) (vcpu_of shape actor) operation xs answer) (sym p) is);
+      commands = sym are.commands;
+      targets = λ id. head_in (call.targets id) (t id) (are.heads id);
+      is_call = subst (λ op. IsCall shape (beside_with maps t firsts) (vcpu_of shape actor) op call.piece answer) (sym o) (subst (λ xs. IsCall shape (beside_with maps t firsts) (vcpu_of shape actor) operation xs answer) (sym p) is);
     }
 
 -- of these maps and vCPUs
 pub call_ends_by :
-    (shape : GuestShape) (actor : ℕ) (call : Call) (operation : Operation) (piece : List Happened) (maps : Maps) (firsts : List Targets) (answer : Option ℕ) (o : call.operation ≡ operation) (p : call.piece ≡ piece) (m : call.maps ≡ maps) (are : HaveHeads call firsts)
-    (is : IsCall shape (beside_of maps firsts) (vcpu_of shape actor) operation piece answer) → (call_ends shape actor call operation piece maps firsts answer o p m are is).beside ≡ beside_of maps firsts
+    (shape : GuestShape) (actor : ℕ) (call : Call) (operation : Operation) (piece : List Happened) (maps : Maps) (t : Targets) (firsts : List Targets) (answer : Option ℕ) (o : call.operation ≡ operation) (p : call.piece ≡ piece) (m : call.maps ≡ maps) (are : HaveHeads call t firsts)
+    (is : IsCall shape (beside_with maps t firsts) (vcpu_of shape actor) operation piece answer) → (call_ends shape actor call operation piece maps t firsts answer o p m are is).beside ≡ beside_with maps t firsts
 unfolding call_ends
-call_ends_by shape actor call operation piece maps firsts answer o p m are is = refl
+call_ends_by shape actor call operation piece maps t firsts answer o p m are is = refl

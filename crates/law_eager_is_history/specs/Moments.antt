@@ -2,9 +2,9 @@
 -- (own choice).
 use Rattle.std.specs.Prelude.{ℕ, ◌+◌, ◌==◌, zero, suc, Bool, true, false, List, [], ◌∷◌, ◌++◌, map, replicate, Option, Some, None, option_and_then, if◌then◌else◌}
 use Rattle.std.specs.List.{flat_map}
-use Rattle.floor_histories.specs.Words.{IccReg, Key, DeviceOp, Frame, Its, GuestOp, Icc, Mem, GuestShape, key_of, is_number}
+use Rattle.floor_histories.specs.Words.{IccReg, Key, DeviceOp, Msi, Frame, Its, GuestOp, Icc, Mem, GuestShape, key_of, is_number}
 use Rattle.floor_histories.specs.GicImap.Map.{decoded as its_decoded}
-use Rattle.floor_histories.specs.Calls.{Cbaser, Event, Cpu, Reach, Leave, ItsBegin, Moment, Begin, Happens, Operation, Access, Device, Place, Part, icc_raises, takes_turn, access_events, access_value, device_events, lpi_event, command_parts, queue_event, takes_command, queue_places, Happened, read_answer, access_places, device_places, byte_places, command_places, View}
+use Rattle.floor_histories.specs.Calls.{Cbaser, Event, Cpu, Reach, Leave, ItsBegin, Moment, Begin, Happens, Operation, Access, Device, Place, Part, icc_raises, takes_turn, access_events, access_value, device_events, lpi_event, command_parts, queue_event, takes_command, queue_places, Happened, read_answer, access_places, device_places, byte_places, command_places, View, Enable, enabled_by, pended_events, msi_raises}
 use Rattle.floor_histories.specs.Registers.{first_of}
 use Rattle.floor_histories.specs.GicCall.declared.event.Event.TheVariants.{Read, ItsEnd}
 use Rattle.floor_histories.specs.GicCall.declared.event.Moment.TheVariants.{End}
@@ -62,19 +62,21 @@ abbrev pub takes_its : GuestShape → Frame → ℕ → ℕ → Option ℕ → B
 takes_its shape Its offset size write = takes_turn shape (its_decoded offset size) write
 takes_its shape frame offset size write = false
 
--- the events of an access that takes the ITS, with the commands that it starts, and of one that does not
-abbrev pub in_turn : Bool → List Event → List Event → List Event
-in_turn true events commands = ItsBegin ∷ events ++ commands ++ ItsEnd ∷ []
-in_turn false events commands = events
+-- the events of an access that does not take the ITS: it reads first, or after it set EnableLPIs of a vCPU
+abbrev pub out_of_turn : Option ℕ → GuestShape → View → List Place → List Event → List Event
+out_of_turn None shape view places events = reads places ++ events
+out_of_turn (Some vcpu) shape view places events = Enable vcpu ∷ reads places ++ pended_events shape view vcpu
 
--- an operation of a vCPU: an access of memory reads first, since nobody acts meanwhile
+-- an operation of a vCPU: what an access of memory reads it reads at once, since nobody acts meanwhile; one that takes the ITS does so first
 abbrev pub op_made : GuestOp → IdealGuest → ℕ → List Event
 op_made (Icc reg write) guest vcpu = between_moves vcpu (used_by guest vcpu reg write) (Cpu vcpu reg write) ++ icc_raises guest.shape vcpu reg write
 op_made (Mem frame offset size write) guest vcpu =
     let view = view_of guest in
     let events = access_events guest.shape view frame offset size write in
-    reads (access_places guest.shape view frame offset size write)
-    ++ in_turn (takes_its guest.shape frame offset size write) events (started_by (starts_commands guest.shape view frame offset size write) (after_events events guest))
+    let places = access_places guest.shape view frame offset size write in
+    if takes_its guest.shape frame offset size write
+    then ItsBegin ∷ reads places ++ (events ++ started_by (starts_commands guest.shape view frame offset size write) (after_events events guest) ++ ItsEnd ∷ [])
+    else out_of_turn (enabled_by guest.shape frame offset size write) guest.shape view places events
 
 -- what it answers
 abbrev pub op_read : GuestOp → IdealGuest → ℕ → Option ℕ
@@ -83,7 +85,8 @@ op_read (Mem frame offset size write) guest vcpu = read_answer write (access_val
 
 -- what a device does
 abbrev pub device_made : DeviceOp → IdealGuest → List Event
-device_made op guest = reads (device_places op) ++ device_events (view_of guest) op
+device_made (Msi device event) guest = ItsBegin ∷ reads (device_places (Msi device event)) ++ (msi_raises (view_of guest) device event ++ ItsEnd ∷ [])
+device_made op guest = device_events (view_of guest) op
 
 -- Moments.
 

@@ -4,7 +4,7 @@ use Rattle.std.specs.List.{list_all}
 use Rattle.std.proofs.lemmas.Bool.{and_from}
 use Rattle.std.proofs.lemmas.List.{append_assoc}
 use Rattle.law_unmapped_lpis.specs.Words.{GuestShape}
-use Rattle.law_unmapped_lpis.specs.Calls.{Part, Map, Clear, Event, Runs, Done, Stalls, command_parts, lpi_event, queue_event, ArePartsThen, Happened, IsCommand, Makes, is_beside, named_of, View}
+use Rattle.law_unmapped_lpis.specs.Calls.{Part, Map, Clear, Event, Runs, Done, Stalls, command_parts, lpi_event, queue_event, ArePartsThen, Happened, IsCommand, Makes, is_beside, named_of, View, words_read}
 use Rattle.law_unmapped_lpis.specs.GicCall.declared.command.Part.TheVariants.{Forget, Retarget, Raise, Configure}
 use Rattle.law_unmapped_lpis.specs.GicCall.declared.event.Event.TheVariants.{Queue}
 use Rattle.law_unmapped_lpis.proofs.IdealGuests.KeyLemmas.{IsWhole}
@@ -16,10 +16,17 @@ use Rattle.law_serial_is_eager.proofs.LawLoneCallsAreEager.CommandLemmas.{events
 use Rattle.law_serial_is_eager.proofs.LawLoneCallsAreEager.OneLemmas.{all_beside, queue_is}
 use Rattle.law_serial_is_eager.proofs.LawLoneCallsAreEager.ReadLemmas.{beside_passes}
 use Rattle.law_serial_is_eager.proofs.LawLoneCallsAreEager.RunLemmas.{events_of}
-use Rattle.law_found_parts_are_calls.proofs.OwnLemmas.{same_head, same_tail}
 use Rattle.law_found_parts_are_calls.proofs.SteadyLemmas.{beside_steady, is_steady, targets_steady}
 use Rattle.law_found_parts_are_calls.proofs.TurnRuns.{is_ending}
 use Rattle.law_found_parts_are_calls.proofs.WindowRuns.{begun_after, begun_end, begun_past}
+
+-- Lists.
+
+pub same_head : (one two : Event) (first next : List Event) → one ∷ first ≡ two ∷ next → one ≡ two
+same_head one two first next e = cc
+
+pub same_tail : (one two : Event) (first next : List Event) → one ∷ first ≡ two ∷ next → first ≡ next
+same_tail one two first next e = cc
 
 abbrev pub is_endless : Event → Bool
 is_endless event = not (is_ending event)
@@ -90,16 +97,16 @@ module _ (actor : ℕ) (vcpu : Option ℕ) where
           }
 
   module _ (shape : GuestShape) (view : View) where
-    begun_parts : (parts : List Part) (before piece : List Happened) (more : List Event) (state : Ideal) → ArePartsThen vcpu shape view.targets parts (λ before after. Makes vcpu view (queue_event shape view ∷ []) [] before after) before piece → IsWhole state.guest
+    begun_parts : (words : List Happened) (parts : List Part) (before piece : List Happened) (more : List Event) (state : Ideal) → ArePartsThen vcpu shape view.targets words parts (λ after. Makes vcpu view (queue_event shape view ∷ []) [] [] after) before piece → IsWhole state.guest
         → IsBegun actor piece more state
-    begun_parts [] before piece more state are whole = begun_one (queue_event shape view) (queue_is shape view (λ e. is_ending e ≡ true) (λ fault. refl) refl) piece more state whole are.events_are
-    begun_parts (part ∷ parts) before piece more state are whole =
+    begun_parts words [] before piece more state are whole = begun_one (queue_event shape view) (queue_is shape view (λ e. is_ending e ≡ true) (λ fault. refl) refl) piece more state whole are.events_are
+    begun_parts words (part ∷ parts) before piece more state are whole =
         begun_then piece are.own are.rest more state are.split
         (beside_passes is_endless beside_endless vcpu are.own
         (subst (λ es. IsTrue (list_all is_endless es)) (sym are.made.events_are) (and_from (is_endless (lpi_event shape are.view view.targets part)) true (part_endless shape are.view view.targets part) refl)))
-        (begun_parts parts (before ++ are.own) are.rest more (state_after actor (events_of are.own) state) are.later (whole_events actor (events_of are.own) state whole))
+        (begun_parts words parts words are.rest more (state_after actor (events_of are.own) state) are.later (whole_events actor (events_of are.own) state whole))
 
     pub begun_command : (piece : List Happened) (more : List Event) (state : Ideal) → IsCommand vcpu shape view piece → IsWhole state.guest → IsBegun actor piece more state
     begun_command piece more state is whole =
         begun_then piece is.fetch is.rest more state is.split (all_beside is_endless beside_endless vcpu is.fetch is.fetched.events_are)
-        (begun_parts (command_parts shape view) is.fetch is.rest more (state_after actor (events_of is.fetch) state) is.done (whole_events actor (events_of is.fetch) state whole))
+        (begun_parts (words_read shape view) (command_parts shape view) is.fetch is.rest more (state_after actor (events_of is.fetch) state) is.done (whole_events actor (events_of is.fetch) state whole))

@@ -6,7 +6,7 @@ use Rattle.std.proofs.lemmas.Bool.{and_from, and_parts}
 use Rattle.std.proofs.lemmas.List.{append-nil, append_assoc, length-append}
 use Rattle.std.proofs.Math.Seq.{get_or-append_seam}
 use Rattle.law_unmapped_lpis.specs.Words.{GuestShape, interrupt_count, IsShape}
-use Rattle.law_unmapped_lpis.specs.Calls.{Event, Happened}
+use Rattle.law_unmapped_lpis.specs.Calls.{Event, Happened, command_targets}
 use Rattle.law_unmapped_lpis.specs.Registers.{IsValid, Maps}
 use Rattle.law_unmapped_lpis.proofs.IdealGuests.KeyLemmas.{IsWhole}
 use Rattle.law_unmapped_lpis.specs.Histories.{Ideal, happened, targets_in, vcpu_of}
@@ -127,7 +127,7 @@ module _ (maps : Maps) (firsts : List Targets) (one : Taken) (good : IsShape (sh
   agreed : AgreeWith one.takes.last (known_maps from.own) t
   agreed = agrees_here from mine.first mine.within mine.fresh state ideal come.so parted.0 t come.now come.there come.own_is mine.ending mine.ends parted.1.0 come.none one.takes.last mine.adds
 
-  pub agrees_now : AgreeWith one.takes.last (known_maps from.own) ((beside_of maps firsts).targets number)
+  pub agrees_now : AgreeWith one.takes.last (known_maps from.own) (command_targets (beside_of maps firsts) number)
   agrees_now =
       subst (AgreeWith one.takes.last (known_maps from.own))
       (sym

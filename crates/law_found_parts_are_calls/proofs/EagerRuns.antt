@@ -1,31 +1,25 @@
 -- Runs of parts that are told with what they found, one after the other, are the eager controller's.
-use Rattle.std.proofs.Common.{◌≡◌, ℕ, ◌<◌, Bool, true, false, IsTrue, List, [], ◌∷◌, ◌++◌, Option, Some, None, is_none, refl, sym, ap, ◌∙◌, subst}
-use Rattle.std.specs.List.{list_all}
-use Rattle.std.proofs.lemmas.Bool.{and_from, and_parts}
+use Rattle.std.proofs.Common.{◌≡◌, ℕ, ◌<◌, IsTrue, List, [], ◌∷◌, ◌++◌, Option, None, is_none, refl, sym, ap, ◌∙◌, subst}
 use Rattle.std.proofs.lemmas.List.{append-nil, append_assoc}
 use Rattle.std.proofs.lemmas.List.Elements.{All-replicate}
-use Rattle.law_unmapped_lpis.specs.Words.{Lpi, Its, Mem, GuestShape}
-use Rattle.law_unmapped_lpis.specs.GicImap.Map.{decoded as its_decoded}
-use Rattle.law_unmapped_lpis.specs.Calls.{Event, Touch, Moment, Operation, Access, Device, Residence, Happened, IsCall, IsItsWrite, GuestSpec, IsGoodGuest, is_good_event, is_good_op}
-use Rattle.law_unmapped_lpis.specs.GicCall.declared.touch.Touching.TheVariants.{Retarget as RetargetLpi}
-use Rattle.law_unmapped_lpis.specs.Histories.{IdealGuest, after_events, Ideal, home, Call, IsHistory, IsWhole as IsWholeHistory, actor_count, last_of, opening_course, targets_in, vcpu_of}
+use Rattle.law_unmapped_lpis.specs.Words.{GuestShape}
+use Rattle.law_unmapped_lpis.specs.Calls.{Moment, Operation, Access, Device, Residence, Happened, GuestSpec, IsGoodGuest, is_good_event, is_good_op}
+use Rattle.law_unmapped_lpis.specs.Histories.{IdealGuest, after_events, Ideal, home, Call, IsHistory, IsWhole as IsWholeHistory, actor_count, last_of, opening_course}
 use Rattle.law_unmapped_lpis.specs.IdealGuests.Opening.{opening as opening_guest}
-use Rattle.law_unmapped_lpis.specs.Registers.{has_target, Maps}
+use Rattle.law_unmapped_lpis.specs.Registers.{has_target}
 use Rattle.law_unmapped_lpis.proofs.LawHomeCommutes.HomeLaws.{history_tidy}
 use Rattle.law_unmapped_lpis.proofs.LawHomeCommutes.HomeLemmas.{home_rest}
 use Rattle.law_unmapped_lpis.proofs.LawHomeCommutes.SpotLemmas.{IsTidy}
 use Rattle.law_serial_is_eager.proofs.LawEagerIsHistory.EventLemmas.{shape_events}
-use Rattle.law_serial_is_eager.proofs.LawEagerIsHistory.WindowLemmas.{Targets, beside_of}
-use Rattle.law_unmapped_lpis.specs.LawLoneCallsAreEager.LoneCalls.{AllMoveOwn, IsAtRest, IsLoneCall, eager_events, lone_call}
+use Rattle.law_unmapped_lpis.specs.LawLoneCallsAreEager.LoneCalls.{IsAtRest, IsLoneCall, eager_events, lone_call}
 use Rattle.law_unmapped_lpis.specs.LawLoneCallsAreEager.Runs.{IsGoodCall, LoneCall, eager_after_all}
 use Rattle.law_serial_is_eager.proofs.LawLoneCallsAreEager.EndLemmas.{calls_end_again}
 use Rattle.law_serial_is_eager.proofs.LawLoneCallsAreEager.RestLaws.{rest_stays}
-use Rattle.law_serial_is_eager.proofs.LawLoneCallsAreEager.RunLemmas.{LoneRun, events_of as lone_events, lone_run}
 use Rattle.law_serial_is_eager.proofs.LawLoneCallsAreEager.TargetLemmas.{home_targets}
 use Rattle.law_unmapped_lpis.specs.Mapped.{AreForNone}
 use Rattle.law_unmapped_lpis.proofs.OpeningLemmas.{open_for_none}
 use Rattle.law_unmapped_lpis.proofs.OperationLaws.{accesses_leave_none, devices_leave_none}
-use Rattle.pe_mem.specs.Core.{CoreState, opening, maps_taken, end_of_moments, ideal_of, CoreMoment, IsProperRun}
+use Rattle.pe_mem.specs.Core.{CoreState, opening, end_of_moments, ideal_of, CoreMoment, IsProperRun}
 use Rattle.law_serial_is_eager.specs.LawCoreIsHistory.Laws.{AreCalls}
 use Rattle.law_serial_is_eager.proofs.LawCoreIsHistory.HistorySteps.{runs_history}
 use Rattle.law_serial_is_eager.proofs.LawScansMissNone.RunFrame.{proper_before}
@@ -34,15 +28,8 @@ use Rattle.law_serial_is_eager.proofs.LawLoneAccessesFindAll.EaseRuns.{ease_is_u
 use Rattle.law_serial_is_eager.specs.Serial.{AreFit, IsFit, WholePart, calls_of, moments_in, moments_of, piece_of}
 use Rattle.law_serial_is_eager.proofs.AloneRuns.{AllRest, rest_after, rest_opens}
 use Rattle.law_serial_is_eager.proofs.SerialRuns.{first_next, ideal_next, serial_runs_are_eager, shows_so}
-use Rattle.pe_mem.specs.Found.{takes_its_by}
-use Rattle.law_found_parts_are_calls.specs.Found.{AreAble, AreFoundParts, FoundRunsAreEager, IsAble, IsFoundPart}
-use Rattle.law_found_parts_are_calls.proofs.EndRuns.{commanded, commanded_by, commanded_call, found_parts_are_calls, in_seats, steady}
-use Rattle.law_found_parts_are_calls.proofs.HereRuns.{happened_in, happened_is}
-use Rattle.law_found_parts_are_calls.proofs.MoveRuns.{its_own}
-use Rattle.law_found_parts_are_calls.proofs.OwnLemmas.{is_no_move, own_none}
-use Rattle.law_found_parts_are_calls.proofs.SteadyLemmas.{is_steady}
-use Rattle.law_found_parts_are_calls.proofs.TurnCalls.{read_takes_none}
-use Rattle.law_found_parts_are_calls.proofs.WindowRuns.{begun_after}
+use Rattle.law_found_parts_are_calls.specs.Found.{AreFoundParts, FoundRunsAreEager, IsFoundPart}
+use Rattle.law_found_parts_are_calls.proofs.EndRuns.{found_parts_are_calls}
 
 -- As a guest opens, no call is open.
 
@@ -87,31 +74,6 @@ moments_join : (one two : List WholePart) → moments_of (one ++ two) ≡ moment
 moments_join [] two = refl
 moments_join (part ∷ one) two = ap (λ ms. moments_in part ++ ms) (moments_join one two) ∙ sym (append_assoc (moments_in part) (moments_of one) (moments_of two))
 
--- A part that takes no ITS moves no LPI.
-
-steady_still : (events : List Event) → IsTrue (list_all is_steady events) → IsTrue (list_all is_no_move events)
-steady_still [] h = refl
-steady_still (event ∷ events) h =
-    let parts = and_parts (is_steady event) (list_all is_steady events) h in
-    and_from (is_no_move event) (list_all is_no_move events) (of event parts.0) (steady_still events parts.1)
-  where
-    of : (event : Event) → is_steady event ≡ true → is_no_move event ≡ true
-    of (Touch (Lpi id) (RetargetLpi target)) h = absurd (cc)
-    of event h = refl
-
-its_moves : (guest : GuestSpec) (moments : List Moment) (actor : ℕ) (operation : Operation) (piece : List Happened) (answer : Option ℕ) (run : LoneRun guest moments actor operation piece answer) → takes_its_by guest.shape operation ≡ true → IsAtRest (home (last_of guest moments))
-    → (maps : Maps) (firsts : List Targets) → run.ended.beside ≡ beside_of maps firsts → firsts ≡ targets_in (last_of guest moments) ∷ begun_after actor (lone_events piece) (last_of guest moments) → AllMoveOwn (home (last_of guest moments)) (lone_events piece)
-its_moves guest moments actor (Access (Mem Its offset size (Some value))) piece answer run takes rest maps firsts is firsts_are = of (vcpu_of guest.shape actor) run.is_call
-  where
-    of : (o : Option ℕ) → IsCall guest.shape run.ended.beside o (Access (Mem Its offset size (Some value))) piece answer → AllMoveOwn (home (last_of guest moments)) (lone_events piece)
-    of None is_call = absurd is_call
-    of (Some vcpu) is_call =
-        its_own guest moments actor piece answer offset size value run vcpu takes (subst (λ b. IsItsWrite b guest.shape run.ended.beside vcpu offset size value piece answer) takes is_call) rest maps firsts is firsts_are
-its_moves guest moments actor (Access (Mem Its offset size None)) piece answer run takes rest maps firsts is firsts_are = absurd (read_takes_none guest.shape (its_decoded offset size) takes)
-its_moves guest moments actor (Access op) piece answer run takes rest maps firsts is firsts_are = absurd (cc)
-its_moves guest moments actor (Device op) piece answer run takes rest maps firsts is firsts_are = absurd (cc)
-its_moves guest moments actor Residence piece answer run takes rest maps firsts is firsts_are = absurd (cc)
-
 module _ (guest : GuestSpec) (number : ℕ) (good : IsGoodGuest guest) where
   abbrev start : CoreState
   start = opening guest number
@@ -146,7 +108,7 @@ module _ (guest : GuestSpec) (number : ℕ) (good : IsGoodGuest guest) where
     first : AccessesComeFirst guest number early
     whole : IsWholeHistory guest (past early)
 
-  module _ (early : List CoreMoment) (part : WholePart) (proper : IsProperRun guest number (early ++ moments_in part)) (so : IsSoFar early) (calm : IsCalm guest.shape (home (last_of guest (past early)))) (told : IsFoundPart guest number early part) (able : IsAble guest number early part) where
+  module _ (early : List CoreMoment) (part : WholePart) (proper : IsProperRun guest number (early ++ moments_in part)) (so : IsSoFar early) (calm : IsCalm guest.shape (home (last_of guest (past early)))) (told : IsFoundPart guest number early part) (able : IsFit guest number early part) where
     proper_early : IsProperRun guest number early
     proper_early = proper_before guest number early (moments_in part) proper
 
@@ -187,29 +149,8 @@ module _ (guest : GuestSpec) (number : ℕ) (good : IsGoodGuest guest) where
       whole = subst (IsWholeHistory guest) (sym next_is) (calls_end_again guest (past early) part.actor part.operation piece part.answer lone);
     }
 
-    -- it moves no other LPI where it moves those of a vCPU to itself
-    same_piece : happened_in guest.shape part.actor (end_of_moments guest.shape (opening guest number) early) part.steps ≡ piece
-    same_piece = happened_is guest.shape part.actor part.steps (end_of_moments guest.shape (opening guest number) early) (in_seats guest number early part good proper so.calls told)
-
-    moves : AllMoveOwn (home (last_of guest (past early))) (lone_events piece)
-    moves = subst (λ xs. AllMoveOwn (home (last_of guest (past early))) (lone_events xs)) same_piece (of (takes_its_by guest.shape part.operation) refl)
-      where
-        mine : List Happened
-        mine = happened_in guest.shape part.actor (end_of_moments guest.shape (opening guest number) early) part.steps
-
-        of : (b : Bool) → takes_its_by guest.shape part.operation ≡ b → AllMoveOwn (home (last_of guest (past early))) (lone_events (happened_in guest.shape part.actor (end_of_moments guest.shape (opening guest number) early) part.steps))
-        of false free = own_none (lone_events mine) (home (last_of guest (past early))) (steady_still (lone_events mine) (steady guest number early part good proper so.calls told free))
-        of true takes =
-            let run = subst (λ xs. LoneRun guest (past early) part.actor part.operation xs part.answer) (sym same_piece) (lone_run guest (past early) part.actor part.operation piece part.answer lone) in
-            its_moves guest (past early) part.actor part.operation mine part.answer
-            (record run { ended = commanded guest number early part good proper so.calls told takes none_now; is_call = commanded_call guest number early part good proper so.calls told takes none_now }) takes calm.rest
-            (maps_taken part.steps) (targets_in (last_of guest (past early)) ∷ begun_after part.actor (lone_events mine) (last_of guest (past early))) (commanded_by guest number early part good proper so.calls told takes none_now) refl
-
-    fit_now : IsFit guest number early part
-    fit_now = record { ease = able.ease; good = able.good; moves = moves }
-
   -- all of them
-  all_so : (parts before : List WholePart) → IsProperRun guest number (moments_of before ++ moments_of parts) → IsSoFar (moments_of before) → AreFit guest number [] before → AreFoundParts guest number (moments_of before) parts → AreAble guest number (moments_of before) parts
+  all_so : (parts before : List WholePart) → IsProperRun guest number (moments_of before ++ moments_of parts) → IsSoFar (moments_of before) → AreFit guest number [] before → AreFoundParts guest number (moments_of before) parts → AreFit guest number (moments_of before) parts
       → Calls (moments_of before ++ moments_of parts) × AreFit guest number [] (before ++ parts)
   all_so [] before proper so fit found able = (subst Calls (sym (append-nil (moments_of before))) so.calls, subst (AreFit guest number []) (sym (append-nil before)) fit)
   all_so (part ∷ parts) before proper so fit found able =
@@ -221,10 +162,10 @@ module _ (guest : GuestSpec) (number : ℕ) (good : IsGoodGuest guest) where
       let calm = calm_so before (proper_before guest number so_far (moments_in part) proper_next) so.calls fit in
       let same : moments_of (before ++ part ∷ []) ≡ next = moments_join before (part ∷ []) ∙ ap (λ ms. so_far ++ ms) (append-nil (moments_in part)) in
       let later = all_so parts (before ++ part ∷ []) (subst (λ ms. IsProperRun guest number (ms ++ moments_of parts)) (sym same) proper_all) (subst IsSoFar (sym same) (so_next so_far part proper_next so calm found.0 able.0))
-      (fit_more before part [] fit (fit_now so_far part proper_next so calm found.0 able.0)) (subst (λ ms. AreFoundParts guest number ms parts) (sym same) found.1) (subst (λ ms. AreAble guest number ms parts) (sym same) able.1) in
+      (fit_more before part [] fit able.0) (subst (λ ms. AreFoundParts guest number ms parts) (sym same) found.1) (subst (λ ms. AreFit guest number ms parts) (sym same) able.1) in
       (subst Calls (ap (λ ms. ms ++ moments_of parts) same ∙ sym split) later.0, subst (AreFit guest number []) (append_assoc before (part ∷ []) parts) later.1)
 
 pub found_runs_are_eager : FoundRunsAreEager
 found_runs_are_eager guest number parts good proper found able =
     let all = all_so guest number good parts [] proper (record { calls = tt; rest = rest_opens guest number; first = refl; whole = opens_whole guest }) tt found able in
-    record { calls = all.0; fit = all.1; eager = serial_runs_are_eager guest number parts good proper all.0 all.1 }
+    record { calls = all.0; eager = serial_runs_are_eager guest number parts good proper all.0 all.1 }

@@ -4,7 +4,7 @@ use Rattle.std.specs.List.{list_all, list_any}
 use Rattle.std.proofs.lemmas.Bool.{and_from, and_parts}
 use Rattle.std.proofs.lemmas.List.{append-nil, append_assoc}
 use Rattle.std.proofs.lemmas.List.Elements.{filter_map-append}
-use Rattle.std.proofs.lemmas.List.Folds.{list_any-append}
+use Rattle.std.proofs.lemmas.List.Folds.{list_any-append, list_all-append}
 use Rattle.std.proofs.lemmas.List.Sums.{fold-append}
 use Rattle.law_unmapped_lpis.specs.Words.{IsShape, Dist, Redist, Its, Ram, Icc, Mem, GuestShape, target_in, irq_of}
 use Rattle.law_unmapped_lpis.specs.GicDmap.Map.{decoded as dist_decoded}
@@ -12,14 +12,15 @@ use Rattle.law_unmapped_lpis.specs.GicRmap.Map.{decoded as redist_decoded}
 use Rattle.law_unmapped_lpis.specs.GicImap.Map.{decoded as its_decoded}
 use Rattle.law_unmapped_lpis.specs.GicImap.declared.map.RegRef.{RegRef as ItsRef}
 use Rattle.law_unmapped_lpis.specs.GicImap.declared.map.RegRef.TheVariants.{Plain as ItsPlain, Reserved as ItsReserved}
-use Rattle.law_unmapped_lpis.specs.Calls.{Event, Touch, Operation, Access, Device, Residence, Begin, Place, Runs, Done, Stalls, icc_events, its_events, Beside, Happened, IsCall, IsItsWrite, Makes, View, GuestSpec, IsGoodGuest}
+use Rattle.law_unmapped_lpis.specs.Calls.{Event, Touch, Operation, Access, Device, Residence, Begin, Place, Runs, Done, Stalls, icc_events, its_events, Beside, Happened, IsCall, IsItsWrite, Makes, View, GuestSpec, IsGoodGuest, ItsBegin}
 use Rattle.law_unmapped_lpis.specs.GicCall.declared.event.Event.TheVariants.{Queue}
 use Rattle.law_unmapped_lpis.specs.Registers.{has_target}
 use Rattle.law_unmapped_lpis.proofs.IdealGuests.KeyLemmas.{IsWhole}
-use Rattle.law_unmapped_lpis.specs.Histories.{Ideal, Call, Course, IsEnded, begun, course_of, gone_on, opening_course, targets_in, vcpu_of}
+use Rattle.law_unmapped_lpis.specs.Histories.{Ideal, Call, Course, IsEnded, begun, course_of, gone_on, opening_course, targets_in, vcpu_of, happened}
 use Rattle.law_unmapped_lpis.proofs.LawHistories.CourseLemmas.{begun_here}
+use Rattle.law_serial_is_eager.proofs.GicCall.TraceLemmas.{access_made, op_made}
 use Rattle.law_serial_is_eager.proofs.LawEagerIsHistory.CourseLemmas.{call_after, call_append, state_after}
-use Rattle.law_serial_is_eager.proofs.LawEagerIsHistory.WindowLemmas.{AreWindows, HaveHeads, Targets, beside_of, call_ends, call_ends_by, heads_of, is_no_turn, maps_after, operation_after, piece_after}
+use Rattle.law_serial_is_eager.proofs.LawEagerIsHistory.WindowLemmas.{AreWindows, HaveHeads, Targets, beside_of, call_ends, is_no_turn, maps_after, operation_after, piece_after, beside_with, IsHead, is_within, next_call, windows_after, windows_begun}
 use Rattle.law_serial_is_eager.proofs.LawLoneCallsAreEager.CommandLemmas.{events_both}
 use Rattle.law_serial_is_eager.proofs.LawLoneCallsAreEager.MapsLemmas.{keeps_maps, maps_taken as its_maps_taken}
 use Rattle.law_serial_is_eager.proofs.LawLoneCallsAreEager.PassLemmas.{device_all, dist_all, memory_all, raises_all, redist_all}
@@ -45,7 +46,7 @@ use Rattle.law_found_parts_are_calls.proofs.LookRuns.{look_agrees}
 use Rattle.law_found_parts_are_calls.proofs.SteadyLemmas.{beside_steady, is_steady, maps_steady, named_steady, noted_heads, noting_after, steady_maps, targets_steady}
 use Rattle.law_found_parts_are_calls.proofs.TurnCalls.{IsTurnCall, turn_call}
 use Rattle.law_found_parts_are_calls.proofs.TurnRuns.{all_wait, is_ending, maps_along, take_turns, taken_waits, waits}
-use Rattle.law_found_parts_are_calls.proofs.WindowRuns.{begun_after, begun_past, windows_along}
+use Rattle.law_found_parts_are_calls.proofs.WindowRuns.{begun_after, begun_past, windows_along, is_no_enable}
 
 -- The events of a call that takes no commands of the ITS.
 
@@ -59,16 +60,16 @@ its_steady shape view ItsReserved None = refl
 
 call_steady : (shape : GuestShape) (beside : Beside) (actor : Option ℕ) (operation : Operation) (piece : List Happened) (answer : Option ℕ) → takes_its_by shape operation ≡ false → IsCall shape beside actor operation piece answer → IsTrue (list_all is_steady (events_of piece))
 call_steady shape beside (Some vcpu) (Access (Icc reg write)) piece answer free is = made_steady (Some vcpu) is.view (icc_events shape vcpu reg write) [] [] piece is.made (raises_all is_steady named_steady shape vcpu reg write)
-call_steady shape beside (Some vcpu) (Access (Mem Dist offset size write)) piece answer free is = made_steady (Some vcpu) is.view _ _ [] piece is.made (dist_all is_steady named_steady shape is.view (dist_decoded offset size) write)
+call_steady shape beside (Some vcpu) (Access (Mem Dist offset size write)) piece answer free is = made_steady (Some vcpu) is.view _ _ [] piece (access_made is) (dist_all is_steady named_steady shape is.view (dist_decoded offset size) write)
 call_steady shape beside (Some vcpu) (Access (Mem (Redist of_vcpu) offset size write)) piece answer free is =
-    made_steady (Some vcpu) is.view _ _ [] piece is.made (redist_all is_steady named_steady shape is.view of_vcpu (redist_decoded offset size) write)
-call_steady shape beside (Some vcpu) (Access (Mem Ram offset size None)) piece answer free is = made_steady (Some vcpu) is.view [] _ [] piece is.made refl
-call_steady shape beside (Some vcpu) (Access (Mem Ram offset size (Some value))) piece answer free is = made_steady (Some vcpu) is.view _ _ [] piece is.made (memory_all is_steady named_steady shape is.view offset size value)
-call_steady shape beside (Some vcpu) (Access (Mem Its offset size None)) piece answer free is = made_steady (Some vcpu) is.view _ _ [] piece is.made (its_steady shape is.view (its_decoded offset size) None)
+    made_steady (Some vcpu) is.view _ _ [] piece (access_made is) (redist_all is_steady named_steady shape is.view of_vcpu (redist_decoded offset size) write)
+call_steady shape beside (Some vcpu) (Access (Mem Ram offset size None)) piece answer free is = made_steady (Some vcpu) is.view [] _ [] piece (access_made is) refl
+call_steady shape beside (Some vcpu) (Access (Mem Ram offset size (Some value))) piece answer free is = made_steady (Some vcpu) is.view _ _ [] piece (access_made is) (memory_all is_steady named_steady shape is.view offset size value)
+call_steady shape beside (Some vcpu) (Access (Mem Its offset size None)) piece answer free is = made_steady (Some vcpu) is.view _ _ [] piece (access_made is) (its_steady shape is.view (its_decoded offset size) None)
 call_steady shape beside (Some vcpu) (Access (Mem Its offset size (Some value))) piece answer free is =
     let plain = subst (λ b. IsItsWrite b shape beside vcpu offset size value piece answer) free is in
-    made_steady (Some vcpu) plain.view _ _ [] piece plain.made (its_steady shape plain.view (its_decoded offset size) (Some value))
-call_steady shape beside None (Device op) piece answer free is = made_steady None is.view _ _ [] piece is.made (device_all is_steady named_steady is.view op)
+    made_steady (Some vcpu) plain.view _ _ [] piece (access_made plain) (its_steady shape plain.view (its_decoded offset size) (Some value))
+call_steady shape beside None (Device op) piece answer free is = made_steady None is.view _ [] [] piece (op_made is) (device_all is_steady named_steady is.view op)
 call_steady shape beside (Some vcpu) Residence piece answer free is = beside_passes is_steady beside_steady (Some vcpu) piece (subst (λ xs. IsTrue (list_all is_steady (events_of xs))) (sym is.0) refl)
 call_steady shape beside actor operation piece answer free is = absurd is
 
@@ -198,21 +199,21 @@ module _ (guest : GuestSpec) (number : ℕ) (early : List CoreMoment) (part : Wh
   kind_is : is_by_commands told.found.finding ≡ takes_its_by shape part.operation
   kind_is = told.found.kind ∙ ap (λ (g : GuestSpec). takes_its_by g.shape part.operation) told.told.guest_is
 
-  opened : AreWindows first (targets_in course.ideal ∷ [])
-  opened = record { place = refl; heads = ((λ id. refl), tt) }
+  opened : AreWindows first (targets_in course.ideal) []
+  opened = record { place = refl; commands = refl; heads = λ id. refl }
 
   taken_are : IsTrue (waits (events_of piece)) → maps_taken part.steps ≡ cond (take_turns piece) course.ideal.guest.tables no_maps
   taken_are = maps_along shape part.actor course.ideal.guest.tables no_maps part.steps before course.ideal here refl
 
-  -- with the maps that the part took, and the vCPUs that its windows begin with
-  abbrev beside : List Targets → Beside
-  beside firsts = beside_of (maps_taken part.steps) firsts
+  -- with the maps that the part took, and these vCPUs
+  abbrev beside : Targets → List Targets → Beside
+  beside t firsts = beside_with (maps_taken part.steps) t firsts
 
-  ended : (firsts : List Targets) → last.maps ≡ maps_taken part.steps → HaveHeads last firsts → Agrees told.found.finding (beside_of (maps_taken part.steps) firsts) → IsEnded shape part.actor last part.answer
-  ended firsts maps_are heads agrees =
-      call_ends shape part.actor last part.operation piece (maps_taken part.steps) firsts part.answer (operation_after part.actor (events_of piece) course.ideal first)
+  ended : (t : Targets) (firsts : List Targets) → last.maps ≡ maps_taken part.steps → HaveHeads last t firsts → Agrees told.found.finding (beside_with (maps_taken part.steps) t firsts) → IsEnded shape part.actor last part.answer
+  ended t firsts maps_are heads agrees =
+      call_ends shape part.actor last part.operation piece (maps_taken part.steps) t firsts part.answer (operation_after part.actor (events_of piece) course.ideal first)
       (piece_after part.actor (events_of piece) course.ideal first ∙ sym (handed_out_all shape part.actor part.steps before course.ideal here)) maps_are heads
-      (as_run (beside firsts) (told.found.call (beside firsts) refl agrees))
+      (as_run (beside t firsts) (told.found.call (beside t firsts) refl agrees))
 
   -- Where it takes no commands.
 
@@ -228,7 +229,7 @@ module _ (guest : GuestSpec) (number : ℕ) (early : List CoreMoment) (part : Wh
         of true e = its_maps_taken part.actor course.ideal.guest.tables (events_of piece) course.ideal first refl (keep_maps (events_of piece) steady) e ∙ ap (λ b. cond b course.ideal.guest.tables no_maps) (sym e)
         of false e = maps_after part.actor (events_of piece) course.ideal first (no_turns (events_of piece) e) ∙ ap (λ b. cond b course.ideal.guest.tables no_maps) (sym e)
 
-    agrees_looks : (finding : Finding) → is_by_commands finding ≡ false → IsFinding told.seen part.steps finding → Agrees finding (beside (targets_in course.ideal ∷ []))
+    agrees_looks : (finding : Finding) → is_by_commands finding ≡ false → IsFinding told.seen part.steps finding → Agrees finding (beside (targets_in course.ideal) last.commands)
     agrees_looks (by_looks goes_by targets) kind is =
         λ id going.
         let at = is id going in
@@ -240,7 +241,7 @@ module _ (guest : GuestSpec) (number : ℕ) (early : List CoreMoment) (part : Wh
 
     looked : IsEnded shape part.actor last part.answer
     looked =
-        ended (targets_in course.ideal ∷ []) maps_are
+        ended (targets_in course.ideal) last.commands maps_are
         (noted_heads last (targets_in course.ideal) (noting_after part.actor (events_of piece) course.ideal first (targets_in course.ideal) steady whole (λ id. refl) (inl opened)))
         (agrees_looks told.found.finding (kind_is ∙ free) told.found.is_finding)
 
@@ -267,8 +268,53 @@ module _ (guest : GuestSpec) (number : ℕ) (early : List CoreMoment) (part : Wh
             ap (list_any (λ event. not (is_no_turn event))) split ∙ list_any-append (λ event. not (is_no_turn event)) (events_of turn.register) (events_of turn.late)
             ∙ ap (λ b. b || list_any (λ event. not (is_no_turn event)) (events_of turn.late)) turn.takes
 
+    -- as the ITS is taken
+    abbrev taking : Ideal
+    taking = state_after part.actor turn.early course.ideal
+
+    abbrev onwards : List Event
+    onwards = turn.onwards ++ events_of turn.late
+
+    abbrev taken_for : Targets
+    taken_for = targets_in taking
+
     abbrev firsts : List Targets
-    firsts = targets_in course.ideal ∷ begun_after part.actor (events_of piece) course.ideal
+    firsts = taken_for ∷ begun_after part.actor (events_of piece) course.ideal
+
+    pieces : events_of piece ≡ turn.early ++ ItsBegin ∷ onwards
+    pieces = split ∙ ap (λ es. es ++ events_of turn.late) turn.taking ∙ append_assoc turn.early (ItsBegin ∷ turn.onwards) (events_of turn.late)
+
+    taken_same : (id : ℕ) → taken_for id ≡ targets_in course.ideal id
+    taken_same id = targets_steady part.actor turn.early course.ideal id turn.still whole
+
+    within_endless : (events : List Event) → IsTrue (list_all is_within events) → IsTrue (list_all (λ event. not (is_ending event)) events)
+    within_endless [] h = refl
+    within_endless (event ∷ events) h =
+        let parts = and_parts (is_within event) (list_all is_within events) h in
+        and_from (not (is_ending event)) (list_all (λ event. not (is_ending event)) events) (of event parts.0) (within_endless events parts.1)
+      where
+        of : (event : Event) → is_within event ≡ true → not (is_ending event) ≡ true
+        of (Queue offset Runs) h = refl
+        of (Queue offset (Done words)) h = absurd (cc)
+        of (Queue offset (Stalls fault)) h = absurd (cc)
+        of event h = refl
+
+    begun_are : begun_after part.actor (events_of piece) course.ideal ≡ begun_after part.actor onwards (happened part.actor ItsBegin taking)
+    begun_are = ap (λ es. begun_after part.actor es course.ideal) pieces ∙ begun_past part.actor turn.early (ItsBegin ∷ onwards) course.ideal (within_endless turn.early turn.within)
+
+    -- the windows of the call in the end
+    noted : AreWindows last (targets_in course.ideal) firsts
+    noted =
+        let t = targets_in course.ideal in
+        let early = call_after part.actor turn.early course.ideal first in
+        let taken = next_call taking part.actor ItsBegin early in
+        let all = and_parts (list_all is_no_enable turn.early) (list_all is_no_enable (ItsBegin ∷ onwards)) (sym (list_all-append is_no_enable turn.early (ItsBegin ∷ onwards)) ∙ subst (λ es. IsTrue (list_all is_no_enable es)) pieces turn.enables) in
+        let along =
+        windows_along part.actor onwards (happened part.actor ItsBegin taking) taken t (taken_for ∷ []) all.1
+        (list_all-append is_no_turn turn.onwards (events_of turn.late) ∙ and_from (list_all is_no_turn turn.onwards) (list_all is_no_turn (events_of turn.late)) turn.once turn.later)
+        (windows_begun taking part.actor early t [] (windows_after part.actor turn.early course.ideal first t [] turn.within opened)) in
+        subst (λ c. AreWindows c t firsts) (sym (ap (λ es. call_after part.actor es course.ideal first) pieces ∙ call_append part.actor turn.early (ItsBegin ∷ onwards) course.ideal first))
+        (subst (λ xs. AreWindows (call_after part.actor onwards (happened part.actor ItsBegin taking) taken) t (taken_for ∷ xs)) (sym begun_are) along)
 
     -- the commands among the steps
     module _ (commands : List Taken) (among : TookAmong told.seen part.steps commands) where
@@ -303,7 +349,7 @@ module _ (guest : GuestSpec) (number : ℕ) (early : List CoreMoment) (part : Wh
       none_then id lost =
           now id ∙ none id (ap (λ maps. has_target maps id) (sym (ap (λ (i : Ideal). i.guest.tables) (ideal_is shape part.actor pre before course.ideal) ∙ maps_steady part.actor (events_of (happened_in shape part.actor before pre)) course.ideal early_is.0)) ∙ lost)
 
-      come : IsCome shape part.actor (local_by shape part.actor (seat_at before part.actor).local pre) ((seat_at before part.actor).own ++ pre) post state1 ideal1 0 firsts (targets_in course.ideal)
+      come : IsCome shape part.actor (local_by shape part.actor (seat_at before part.actor).local pre) ((seat_at before part.actor).own ++ pre) post state1 ideal1 0 firsts taken_for
       come = record {
         so = so_after shape good.shape part.actor pre before course.ideal heres.0 (record { sound = at.sound; related = at.related });
         there = there;
@@ -311,10 +357,10 @@ module _ (guest : GuestSpec) (number : ℕ) (early : List CoreMoment) (part : Wh
         own_is = own_after_steps shape part.actor pre before in_seats;
         here = heres.1;
         none = none_then;
-        now = now;
+        now = λ id. now id ∙ sym (taken_same id);
         early = [];
         number_is = refl;
-        firsts_are = ap (λ xs. targets_in course.ideal ∷ xs) begins_so;
+        firsts_are = ap (λ xs. taken_for ∷ xs) begins_so;
       }
         where
           begins_so : begun_after part.actor (events_of (happened_in shape part.actor before part.steps)) course.ideal ≡ begun_after part.actor (events_of (happened_in shape part.actor state1 post)) ideal1
@@ -330,12 +376,12 @@ module _ (guest : GuestSpec) (number : ℕ) (early : List CoreMoment) (part : Wh
       actor_is_so : among.from.actor ≡ part.actor
       actor_is_so = among.actor ∙ told.told.actor_is
 
-      come_from : IsCome (shape_of among.from) among.from.actor among.from.local among.from.own post state1 ideal1 0 firsts (targets_in course.ideal)
+      come_from : IsCome (shape_of among.from) among.from.actor among.from.local among.from.own post state1 ideal1 0 firsts taken_for
       come_from =
-          subst (λ own. IsCome (shape_of among.from) among.from.actor among.from.local own post state1 ideal1 0 firsts (targets_in course.ideal)) (ap (λ own. own ++ pre) (sym told.told.own_is) ∙ sym among.begins)
-          (subst (λ local. IsCome (shape_of among.from) among.from.actor local ((seat_at before part.actor).own ++ pre) post state1 ideal1 0 firsts (targets_in course.ideal)) (sym local_is_so)
-          (subst (λ actor. IsCome (shape_of among.from) actor (local_by shape part.actor (seat_at before part.actor).local pre) ((seat_at before part.actor).own ++ pre) post state1 ideal1 0 firsts (targets_in course.ideal)) (sym actor_is_so)
-          (subst (λ (g : GuestSpec). IsCome g.shape part.actor (local_by shape part.actor (seat_at before part.actor).local pre) ((seat_at before part.actor).own ++ pre) post state1 ideal1 0 firsts (targets_in course.ideal)) (sym guest_is_so) come)))
+          subst (λ own. IsCome (shape_of among.from) among.from.actor among.from.local own post state1 ideal1 0 firsts taken_for) (ap (λ own. own ++ pre) (sym told.told.own_is) ∙ sym among.begins)
+          (subst (λ local. IsCome (shape_of among.from) among.from.actor local ((seat_at before part.actor).own ++ pre) post state1 ideal1 0 firsts taken_for) (sym local_is_so)
+          (subst (λ actor. IsCome (shape_of among.from) actor (local_by shape part.actor (seat_at before part.actor).local pre) ((seat_at before part.actor).own ++ pre) post state1 ideal1 0 firsts taken_for) (sym actor_is_so)
+          (subst (λ (g : GuestSpec). IsCome g.shape part.actor (local_by shape part.actor (seat_at before part.actor).local pre) ((seat_at before part.actor).own ++ pre) post state1 ideal1 0 firsts taken_for) (sym guest_is_so) come)))
         where
           local_is_so : among.from.local ≡ local_by shape part.actor (seat_at before part.actor).local pre
           local_is_so =
@@ -344,7 +390,7 @@ module _ (guest : GuestSpec) (number : ℕ) (early : List CoreMoment) (part : Wh
 
       agrees_among : AgreeAll (beside_of (maps_taken part.steps) firsts) 0 commands
       agrees_among =
-          agree_all (maps_taken part.steps) firsts commands among.from among.to 0 state1 ideal1 (targets_in course.ideal) among.late (subst (λ (g : GuestSpec). IsShape g.shape) (sym guest_is_so) good.shape) among.are come_from
+          agree_all (maps_taken part.steps) firsts commands among.from among.to 0 state1 ideal1 taken_for among.late (subst (λ (g : GuestSpec). IsShape g.shape) (sym guest_is_so) good.shape) among.are come_from
 
     agrees_commands : (finding : Finding) → is_by_commands finding ≡ true → IsFinding told.seen part.steps finding → Agrees finding (beside_of (maps_taken part.steps) firsts)
     agrees_commands (by_looks goes_by targets) kind is = absurd (cc)
@@ -352,19 +398,8 @@ module _ (guest : GuestSpec) (number : ℕ) (early : List CoreMoment) (part : Wh
 
     pub commanded : IsEnded shape part.actor last part.answer
     commanded =
-        ended firsts maps_are_its (heads_of last firsts (windows_along part.actor (events_of piece) course.ideal first (targets_in course.ideal ∷ []) turn.enables opened))
+        ended taken_for firsts maps_are_its (record { commands = noted.commands; heads = λ id. subst (IsHead (last.targets id)) (sym (taken_same id)) (noted.heads id) })
         (agrees_commands told.found.finding (kind_is ∙ takes) told.found.is_finding)
-
-    -- the vCPUs of its commands are those that the LPIs are for as each of them begins
-    pub commanded_by : commanded.beside ≡ beside_of (maps_taken part.steps) firsts
-    unfolding ended commanded
-    commanded_by = call_ends_by shape part.actor last part.operation piece (maps_taken part.steps) firsts part.answer _ _ _ _ _
-
-    pub commanded_call : IsCall guest.shape commanded.beside (vcpu_of guest.shape part.actor) part.operation piece part.answer
-    commanded_call =
-        subst (λ op. IsCall guest.shape commanded.beside (vcpu_of guest.shape part.actor) op piece part.answer) (operation_after part.actor (events_of piece) course.ideal first)
-        (subst (λ xs. IsCall guest.shape commanded.beside (vcpu_of guest.shape part.actor) last.operation xs part.answer)
-        (piece_after part.actor (events_of piece) course.ideal first ∙ sym (handed_out_all shape part.actor part.steps before course.ideal here)) commanded.is_call)
 
   -- Either way.
 

@@ -1,4 +1,5 @@
 pub use Rattle.pe_mem.proofs.CoreProper
+pub use Rattle.law_serial_is_eager.proofs.GicCall
 pub use Rattle.pe_mem.proofs.ItsExec
 pub use Rattle.law_serial_is_eager.proofs.LawCoreIsHistory
 pub use Rattle.law_unmapped_lpis.proofs.LawHistories
@@ -12,9 +13,7 @@ pub mod HereRuns
 pub mod TurnRuns
 pub mod WindowRuns
 pub mod TurnCalls
-pub mod OwnLemmas
 pub mod BegunRuns
-pub mod MoveRuns
 pub mod LookRuns
 pub mod NoneRuns
 pub mod FirstRuns

@@ -1,5 +1,5 @@
 -- What a command makes of LPIs that the maps give no vCPU, while nobody else acts.
-use Rattle.std.proofs.Common.{◌≡◌, ℕ, ◌⊎◌, inl, inr, ◌||◌, not, Bool, true, false, cond, is_none, IsTrue, List, [], ◌∷◌, ◌++◌, Option, Some, None, Result, Ok, Err, refl, sym, ap, ◌∙◌, subst}
+use Rattle.std.proofs.Common.{◌≡◌, ℕ, ◌⊎◌, inl, inr, ◌||◌, not, Bool, true, false, cond, is_none, IsTrue, List, [], ◌∷◌, Option, Some, None, Result, Ok, Err, refl, sym, ap, ◌∙◌, subst}
 use Rattle.std.specs.List.{list_all, list_any}
 use Rattle.std.specs.Option.{option_map, option_map_or}
 use Rattle.std.proofs.lemmas.Bool.{and_from, and_parts}
@@ -8,7 +8,7 @@ use Rattle.law_unmapped_lpis.specs.Words.{GuestShape}
 use Rattle.law_unmapped_lpis.specs.ItsCmd.Command.{decoded}
 use Rattle.law_unmapped_lpis.specs.Registers.{BadCommand, Command, IsValid, maps_after, has_target, fault_of, fault_number, number_of, Maps}
 use Rattle.law_unmapped_lpis.proofs.ItsTab.TableLemmas.{unmapped}
-use Rattle.law_unmapped_lpis.specs.Calls.{Part, Map, Clear, Event, Done, Stalls, command_parts, command_words, decoded_parts, lpi_event, maps_by, next_offset, parts, queue_event, ArePartsThen, Happened, IsCommand, Makes, is_beside, named_of, View}
+use Rattle.law_unmapped_lpis.specs.Calls.{Part, Map, Clear, Event, Done, Stalls, command_parts, command_words, decoded_parts, lpi_event, maps_by, next_offset, parts, queue_event, ArePartsThen, Happened, IsCommand, Makes, is_beside, named_of, View, words_read}
 use Rattle.law_unmapped_lpis.specs.GicCall.declared.command.Part.TheVariants.{Forget, Retarget, Raise, Configure}
 use Rattle.law_unmapped_lpis.specs.GicCall.declared.event.Event.TheVariants.{Queue}
 use Rattle.law_unmapped_lpis.specs.Histories.{IdealGuest, after_event, Ideal, happened, targets_in}
@@ -25,7 +25,7 @@ use Rattle.law_serial_is_eager.proofs.LawLoneCallsAreEager.TargetLemmas.{beside_
 use Rattle.law_unmapped_lpis.specs.Mapped.{AreForNone}
 use Rattle.law_unmapped_lpis.proofs.CommandLemmas.{command_loses}
 use Rattle.law_unmapped_lpis.proofs.PartLemmas.{gives_none, leaves_none, parts_none}
-use Rattle.law_found_parts_are_calls.proofs.OwnLemmas.{same_head, same_tail}
+use Rattle.law_found_parts_are_calls.proofs.BegunRuns.{same_head, same_tail}
 
 -- Pieces of an actor, who is this vCPU if it is one: what is beside the events that are named keeps what is said of the state.
 
@@ -58,20 +58,20 @@ module _ (actor : ℕ) (vcpu : Option ℕ) where
   module _ (shape : GuestShape) (view : View) (Q : List Part → Ideal → Type 0) (R : Ideal → Type 0) (keep : (parts : List Part) → Keeps (Q parts)) (stay : Keeps R)
       (part_on : (other : View) (part : Part) (parts : List Part) (state : Ideal) → Q (part ∷ parts) state → Q parts (happened actor (lpi_event shape other view.targets part) state))
       (queue_on : (state : Ideal) → Q [] state → R (happened actor (queue_event shape view) state)) where
-    past_parts : (parts : List Part) (before piece : List Happened) (state : Ideal) → ArePartsThen vcpu shape view.targets parts (λ before after. Makes vcpu view (queue_event shape view ∷ []) [] before after) before piece → Q parts state
+    past_parts : (words : List Happened) (parts : List Part) (before piece : List Happened) (state : Ideal) → ArePartsThen vcpu shape view.targets words parts (λ after. Makes vcpu view (queue_event shape view ∷ []) [] [] after) before piece → Q parts state
         → R (state_after actor (events_of piece) state)
-    past_parts [] before piece state are now = past_one (Q []) R (keep []) stay (queue_event shape view) queue_on piece state are.events_are now
-    past_parts (part ∷ parts) before piece state are now =
+    past_parts words [] before piece state are now = past_one (Q []) R (keep []) stay (queue_event shape view) queue_on piece state are.events_are now
+    past_parts words (part ∷ parts) before piece state are now =
         subst (λ es. R (state_after actor es state)) (sym (ap events_of are.split ∙ events_both are.own are.rest))
         (subst R (sym (state_append actor (events_of are.own) (events_of are.rest) state))
-        (past_parts parts (before ++ are.own) are.rest (state_after actor (events_of are.own) state) are.later
+        (past_parts words parts words are.rest (state_after actor (events_of are.own) state) are.later
         (past_one (Q (part ∷ parts)) (Q parts) (keep (part ∷ parts)) (keep parts) (lpi_event shape are.view view.targets part) (part_on are.view part parts) are.own state are.made.events_are now)))
 
     past_command : (piece : List Happened) (state : Ideal) → IsCommand vcpu shape view piece → Q (command_parts shape view) state → R (state_after actor (events_of piece) state)
     past_command piece state is now =
         subst (λ es. R (state_after actor es state)) (sym (ap events_of is.split ∙ events_both is.fetch is.rest))
         (subst R (sym (state_append actor (events_of is.fetch) (events_of is.rest) state))
-        (past_parts (command_parts shape view) is.fetch is.rest (state_after actor (events_of is.fetch) state) is.done
+        (past_parts (words_read shape view) (command_parts shape view) is.fetch is.rest (state_after actor (events_of is.fetch) state) is.done
         (past_beside (Q (command_parts shape view)) (keep (command_parts shape view)) is.fetch state is.fetched.events_are now)))
 
 -- The maps after a command.

@@ -3,17 +3,18 @@ use Rattle.std.proofs.Common.{◌≡◌, ℕ, ◌⊎◌, inl, inr, Bool, true, f
 use Rattle.std.specs.List.{list_all}
 use Rattle.std.proofs.lemmas.Bool.{and_parts, le-ltb}
 use Rattle.law_unmapped_lpis.specs.Words.{Key, Private, Spi, Lpi, SetPending, has_interrupt, is_same_key, Irq, raised, wire_up, wire_down}
-use Rattle.law_unmapped_lpis.specs.Calls.{Event, Up, Down, Touch, Reach, Take, Leave, Enable, Runs, Done, Stalls, Touching, Register, Enables as CopyEnables, touched, is_beside}
+use Rattle.law_unmapped_lpis.specs.Calls.{Event, Up, Down, Touch, Reach, Take, Leave, Enable, Runs, Done, Stalls, Touching, Register, Enables as CopyEnables, touched, is_beside, ItsBegin}
 use Rattle.law_unmapped_lpis.specs.GicCall.declared.event.Event.TheVariants.{Raise, Queue}
 use Rattle.law_unmapped_lpis.specs.Histories.{irq_at, Ideal, handed_out, happened, Call, is_passed, made, targets_in}
 use Rattle.law_unmapped_lpis.proofs.IdealGuests.KeyLemmas.{IsWhole, irq_changed}
 use Rattle.law_unmapped_lpis.proofs.LawHistories.StateLemmas.{guest_is}
 use Rattle.law_unmapped_lpis.proofs.LawHistories.TurnSteps.{tables_are}
 use Rattle.law_serial_is_eager.proofs.LawEagerIsHistory.CourseLemmas.{call_after, state_after}
-use Rattle.law_serial_is_eager.proofs.LawEagerIsHistory.WindowLemmas.{AreWindows, HaveHeads, IsEnabling, IsHead, enabled_heads, enabling, enabling_touched, heads_of, next_call, windows_within}
+use Rattle.law_serial_is_eager.proofs.LawEagerIsHistory.WindowLemmas.{AreWindows, HaveHeads, IsEnabling, IsHead, enabled_heads, enabling_touched, heads_of, next_call, windows_within, windows_begun}
 use Rattle.law_serial_is_eager.proofs.LawLoneCallsAreEager.MapsLemmas.{keeps_maps, tables_kept}
 use Rattle.law_serial_is_eager.proofs.LawLoneCallsAreEager.PassLemmas.{PassesNamed, is_plain_touch}
-use Rattle.law_serial_is_eager.proofs.LawLoneCallsAreEager.TargetLemmas.{by_record, either, event_targets}
+use Rattle.law_unmapped_lpis.proofs.LawHistories.TargetLemmas.{by_record, either}
+use Rattle.law_serial_is_eager.proofs.LawLoneCallsAreEager.TargetLemmas.{event_targets}
 
 abbrev pub is_steady : Event → Bool
 is_steady (Touch key touching) = is_plain_touch key touching
@@ -101,7 +102,7 @@ maps_steady actor (event ∷ events) state all =
 
 -- before EnableLPIs is stored, and after that
 abbrev pub IsNoting : Call → (ℕ → Option ℕ) → Type 0
-IsNoting call t = AreWindows call (t ∷ []) ⊎ IsEnabling call t
+IsNoting call t = AreWindows call t call.commands ⊎ IsEnabling call t call.commands
 
 heads_more : (passed : Bool) (window : List (Option ℕ)) (t : Option ℕ) → IsHead window t → IsHead (cond passed window (window ++ t ∷ [])) t
 heads_more true window t h = h
@@ -109,45 +110,47 @@ heads_more false [] t h = absurd h
 heads_more false (x ∷ window) t h = h
 
 -- an event that only the moment of is noted
-enabling_on : (actor : ℕ) (state : Ideal) (event : Event) (call : Call) (t : ℕ → Option ℕ) → ((id : ℕ) → targets_in (happened actor event state) id ≡ t id) → IsEnabling call t → (made state event (handed_out state event) call).place ≡ call.place
-    → (made state event (handed_out state event) call).done ≡ call.done → (made state event (handed_out state event) call).targets ≡ call.targets → IsEnabling (next_call state actor event call) t
-enabling_on actor state event call t now is place done targets =
+enabling_on : (actor : ℕ) (state : Ideal) (event : Event) (call : Call) (t : ℕ → Option ℕ) → ((id : ℕ) → targets_in (happened actor event state) id ≡ t id) → IsEnabling call t call.commands → (made state event (handed_out state event) call).place ≡ call.place
+    → (made state event (handed_out state event) call).targets ≡ call.targets → IsEnabling (next_call state actor event call) t (next_call state actor event call).commands
+enabling_on actor state event call t now is place targets =
     let later = made state event (handed_out state event) call in
     record {
       here = is.here;
       place = place ∙ is.place;
-      done = done ∙ is.done;
+      commands = refl;
       heads = λ id.
           subst (λ x. IsHead (cond (is_passed later.place id) (later.targets id) (later.targets id ++ x ∷ [])) (t id)) (sym (now id))
           (heads_more (is_passed later.place id) (later.targets id) (t id) (subst (λ w. IsHead (w id) (t id)) (sym targets) (is.heads id)));
     }
 
-enabling_again : (actor : ℕ) (state : Ideal) (vcpu : ℕ) (call : Call) (t : ℕ → Option ℕ) → ((id : ℕ) → targets_in (happened actor (Enable vcpu) state) id ≡ t id) → IsEnabling call t → IsEnabling (next_call state actor (Enable vcpu) call) t
-enabling_again actor state vcpu call t now is =
+enabling_again : (actor : ℕ) (state : Ideal) (vcpu : ℕ) (call : Call) (t : ℕ → Option ℕ) → ((id : ℕ) → targets_in (happened actor (Enable vcpu) state) id ≡ t id) → IsEnabling (next_call state actor (Enable vcpu) call) t call.commands
+enabling_again actor state vcpu call t now =
     record {
       here = 0;
       place = refl;
-      done = is.done;
+      commands = refl;
       heads = λ id. subst (λ x. IsHead (cond (nat_lt id 0) [] (x ∷ [])) (t id)) (sym (now id)) (subst (λ b. IsHead (cond b [] (t id ∷ [])) (t id)) (sym (le-ltb id 0 (omega arith))) refl);
     }
 
-retold : (call : Call) (s t : ℕ → Option ℕ) → ((id : ℕ) → s id ≡ t id) → IsEnabling call s → IsEnabling call t
-retold call s t same is = record { here = is.here; place = is.place; done = is.done; heads = λ id. subst (IsHead (call.targets id)) (same id) (is.heads id) }
-
-enabling_steady : (actor : ℕ) (state : Ideal) (event : Event) (call : Call) (t : ℕ → Option ℕ) → is_steady event ≡ true → ((id : ℕ) → targets_in (happened actor event state) id ≡ t id) → IsEnabling call t → IsEnabling (next_call state actor event call) t
-enabling_steady actor state (Enable u) call t h now is = enabling_again actor state u call t now is
-enabling_steady actor state (Touch key touching) call t h now is = enabling_touched state actor key touching call t now is
-enabling_steady actor state (Queue offset Runs) call t h now is = enabling_on actor state (Queue offset Runs) call t now is refl refl refl
+enabling_steady : (actor : ℕ) (state : Ideal) (event : Event) (call : Call) (t : ℕ → Option ℕ) → is_steady event ≡ true → ((id : ℕ) → targets_in (happened actor event state) id ≡ t id) → IsEnabling call t call.commands
+    → IsEnabling (next_call state actor event call) t (next_call state actor event call).commands
+enabling_steady actor state (Enable u) call t h now is = enabling_again actor state u call t now
+enabling_steady actor state (Touch key touching) call t h now is = enabling_touched state actor key touching call t call.commands now is
+enabling_steady actor state (Queue offset Runs) call t h now is = enabling_on actor state (Queue offset Runs) call t now is refl refl
 enabling_steady actor state (Queue offset (Done words)) call t h now is = absurd (cc)
 enabling_steady actor state (Queue offset (Stalls fault)) call t h now is = absurd (cc)
-enabling_steady actor state event call t h now is = enabling_on actor state event call t now is refl refl refl
+enabling_steady actor state event call t h now is = enabling_on actor state event call t now is refl refl
 
-windows_steady : (actor : ℕ) (state : Ideal) (event : Event) (call : Call) (t : ℕ → Option ℕ) → is_steady event ≡ true → ((id : ℕ) → targets_in (happened actor event state) id ≡ t id) → AreWindows call (t ∷ []) → IsNoting (next_call state actor event call) t
-windows_steady actor state (Enable u) call t h now are = inr (retold (next_call state actor (Enable u) call) (targets_in (happened actor (Enable u) state)) t now (enabling state actor u call t are))
+noting_windows : {call : Call} {t : ℕ → Option ℕ} {firsts : List (ℕ → Option ℕ)} → AreWindows call t firsts → IsNoting call t
+noting_windows are = inl (record { place = are.place; commands = refl; heads = are.heads })
+
+windows_steady : (actor : ℕ) (state : Ideal) (event : Event) (call : Call) (t : ℕ → Option ℕ) → is_steady event ≡ true → ((id : ℕ) → targets_in (happened actor event state) id ≡ t id) → AreWindows call t call.commands → IsNoting (next_call state actor event call) t
+windows_steady actor state (Enable u) call t h now are = inr (enabling_again actor state u call t now)
+windows_steady actor state ItsBegin call t h now are = noting_windows (windows_begun state actor call t call.commands are)
 windows_steady actor state (Queue offset (Done words)) call t h now are = absurd (cc)
 windows_steady actor state (Queue offset (Stalls fault)) call t h now are = absurd (cc)
-windows_steady actor state (Queue offset Runs) call t h now are = inl (windows_within state actor call (t ∷ []) are (Queue offset Runs) refl)
-windows_steady actor state event call t h now are = inl (windows_within state actor call (t ∷ []) are event refl)
+windows_steady actor state (Queue offset Runs) call t h now are = noting_windows (windows_within state actor call t call.commands are (Queue offset Runs) refl)
+windows_steady actor state event call t h now are = noting_windows (windows_within state actor call t call.commands are event refl)
 
 noting_on : (actor : ℕ) (state : Ideal) (event : Event) (call : Call) (t : ℕ → Option ℕ) → is_steady event ≡ true → ((id : ℕ) → targets_in (happened actor event state) id ≡ t id) → IsNoting call t → IsNoting (next_call state actor event call) t
 noting_on actor state event call t h now (inl are) = windows_steady actor state event call t h now are
@@ -160,6 +163,6 @@ noting_after actor (event ∷ events) state call t h whole now is =
     let next : (id : ℕ) → targets_in (happened actor event state) id ≡ t id = λ id. steady_targets actor state whole id event parts.0 ∙ now id in
     noting_after actor events (happened actor event state) (next_call state actor event call) t parts.1 ((guest_is actor event state).whole whole) next (noting_on actor state event call t parts.0 next is)
 
-pub noted_heads : (call : Call) (t : ℕ → Option ℕ) → IsNoting call t → HaveHeads call (t ∷ [])
-noted_heads call t (inl are) = heads_of call (t ∷ []) are
-noted_heads call t (inr is) = enabled_heads call t is
+pub noted_heads : (call : Call) (t : ℕ → Option ℕ) → IsNoting call t → HaveHeads call t call.commands
+noted_heads call t (inl are) = heads_of are
+noted_heads call t (inr is) = enabled_heads is

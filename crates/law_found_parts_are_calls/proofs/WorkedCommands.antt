@@ -2,6 +2,7 @@
 use Rattle.std.proofs.Common.{◌≡◌, ℕ, ◌<◌, ◌+◌, nat_lt, true, false, IsTrue, List, [], ◌∷◌, ◌++◌, None, Some, IfSome, Err, Bool, take, nat_le, leb-true, ltb-true, append-nil, refl, sym, ◌∙◌, ap, subst, arith}
 use Rattle.std.proofs.lemmas.Bool.{and_parts}
 use Rattle.std.proofs.lemmas.List.Elements.{All-cons, All-nil}
+use Rattle.law_serial_is_eager.proofs.GicCall.ReadLemmas.{last_read}
 use Rattle.law_unmapped_lpis.specs.Words.{Lpi, has_interrupt, target_in, irq_of}
 use Rattle.law_unmapped_lpis.specs.Registers.{least_in, with_level, without_level, UnknownNumber}
 use Rattle.law_unmapped_lpis.specs.Calls.{Put, Stalls, Place, Beside, HandsOut, Happened, HaveSameIts, IsCall, IsLastRead, held_at, left_by, Cbaser, Cwriter, Fault, ItsCtlr, place_of_plain}
@@ -23,11 +24,12 @@ use Rattle.pe_mem.proofs.ItsExec.LookLemmas.{reading_none}
 use Rattle.pe_mem.proofs.ItsExec.RunLemmas.{taken_are_run}
 use Rattle.pe_mem.proofs.ItsExec.TakeLemmas.{took_bad}
 use Rattle.pe_mem.proofs.PortCall.PieceLemmas.{piece_joins, piece_one}
-use Rattle.law_found_parts_are_calls.specs.Found.{AreAble, AreFoundParts, IsFoundPart}
+use Rattle.law_serial_is_eager.specs.Serial.{AreFit}
+use Rattle.law_found_parts_are_calls.specs.Found.{AreFoundParts, IsFoundPart}
 use Rattle.law_found_parts_are_calls.specs.WorkedCommand.{WorkedCommandIsFound, adds_command, enables, its_parts, makes_queue, queue, stalled, taken, step}
 use Rattle.law_found_parts_are_calls.proofs.EagerRuns.{found_runs_are_eager}
 use Rattle.law_found_parts_are_calls.proofs.WorkedLemmas.{told_in}
-use Rattle.law_found_parts_are_calls.proofs.WorkedWrites.{put, its_is_proper, happens, reads_queue, begins, added, Unread, before_adds, before_enables, queue_call, add_call}
+use Rattle.law_found_parts_are_calls.proofs.WorkedWrites.{put, its_is_proper, happens, reads_queue, begins, added, before_adds, before_enables, queue_call, add_call}
 
 -- The command.
 
@@ -36,7 +38,7 @@ abbrev began : Seen
 began = told_in worked_guest before_enables 0
 
 abbrev early : List Made
-early = take 6 enables.steps
+early = take 7 enables.steps
 
 abbrev from : Seen
 from = record (seen_after began early) { taken = true }
@@ -76,7 +78,7 @@ from_ready =
       ease = record { owes = refl; empty = refl };
       maps = refl;
       valid = empty_valid worked_guest.shape;
-      fresh = record { each = λ id h. subst At (one_lpi id h) (record { none = refl }) };
+      fresh = record { reading = refl; each = λ id h. subst At (one_lpi id h) (record { none = refl }) };
       knows = record { place = record { known = refl; held = refl }; ctlr = record { known = refl; held = refl }; cbaser = record { known = refl; held = refl }; cwriter = record { known = refl; held = refl }; in_range = record { place = refl; within = omega arith } };
     }
 
@@ -90,7 +92,7 @@ to_ready =
       ease = record { owes = refl; empty = refl };
       maps = refl;
       valid = empty_valid worked_guest.shape;
-      fresh = record { each = λ id h. subst At (one_lpi id h) (record { none = refl }) };
+      fresh = record { reading = refl; each = λ id h. subst At (one_lpi id h) (record { none = refl }) };
       knows = record { place = record { known = refl; held = refl }; ctlr = record { known = refl; held = refl }; cbaser = record { known = refl; held = refl }; cwriter = record { known = refl; held = refl }; in_range = record { place = refl; within = omega arith } };
     }
 
@@ -131,6 +133,7 @@ takes_bad =
       address_is = refl;
       words_are = refl;
       has = record { each = λ index h small. absurd (outside index h small) };
+      looked = λ small. absurd (omega (arith, small));
       knows = from_ready.knows;
     })
     (record { each = λ index h small. absurd (outside index h small) })
@@ -183,8 +186,8 @@ enable_call beside maps agrees =
     let writer = happens (Read (Word Cwriter)) (FoundWord 32) in
     let reads = happens (Read (Word ItsCtlr)) (FoundWord 0) in
     let stores = happens (Put ItsCtlr 1) (FoundWord 0) in
-    let Last : Place → Type 0 = λ place. IsLastRead place (held_at view place) (reads_queue ∷ begins ∷ base ∷ writer ∷ reads ∷ stores ∷ []) in
-    let No : Place → Happened → Type 0 = λ place. Unread place in
+    let rest : List Happened = reads_queue ∷ base ∷ writer ∷ reads ∷ stores ∷ [] in
+    let Last : Place → Type 0 = λ place. IsLastRead place (held_at view place) rest in
     let same : HaveSameIts its (view_by from) = record { ctlr = refl; cbaser = refl; cwriter = refl; offset = refl; stalled = refl; maps = maps } in
     let run = taken_are_run from to (one ∷ []) (refl, refl) in
     let Listed : List Made → Type 0 = λ steps. AreListed (Some 0) worked_guest.shape beside 0 its (part_events from steps) in
@@ -193,44 +196,24 @@ enable_call beside maps agrees =
       view = view;
       maps = refl;
       views = listed.views;
-      register = reads_queue ∷ begins ∷ base ∷ writer ∷ reads ∷ stores ∷ [];
+      register = reads_queue ∷ begins ∷ rest;
       commands = happens (Queue 0 (Stalls 10)) Nothing ∷ [];
       last = happens ItsEnd Nothing ∷ [];
       split = refl;
-      written =
-          record {
-            events_are = refl;
-            found = All-cons Hands begins (stores ∷ []) refl (All-cons Hands stores [] refl (All-nil Hands));
-            reads =
-                All-cons Last (Word Cbaser) (Word Cwriter ∷ QueuePlace ∷ [])
-                (record {
-                  before = reads_queue ∷ begins ∷ [];
-                  after = writer ∷ reads ∷ stores ∷ [];
-                  split = refl;
-                  last =
-                      All-cons (No (Word Cbaser)) writer (reads ∷ stores ∷ []) (λ e. absurd (cc))
-                      (All-cons (No (Word Cbaser)) reads (stores ∷ []) (λ e. absurd (cc)) (All-cons (No (Word Cbaser)) stores [] (λ e. absurd (cc)) (All-nil (No (Word Cbaser)))));
-                })
-                (All-cons Last (Word Cwriter) (QueuePlace ∷ [])
-                (record {
-                  before = reads_queue ∷ begins ∷ base ∷ [];
-                  after = reads ∷ stores ∷ [];
-                  split = refl;
-                  last = All-cons (No (Word Cwriter)) reads (stores ∷ []) (λ e. absurd (cc)) (All-cons (No (Word Cwriter)) stores [] (λ e. absurd (cc)) (All-nil (No (Word Cwriter))));
-                })
-                (All-cons Last QueuePlace []
-                (record {
-                  before = [];
-                  after = begins ∷ base ∷ writer ∷ reads ∷ stores ∷ [];
-                  split = refl;
-                  last =
-                      All-cons (No QueuePlace) begins (base ∷ writer ∷ reads ∷ stores ∷ []) (λ e. absurd (cc))
-                      (All-cons (No QueuePlace) base (writer ∷ reads ∷ stores ∷ []) (λ e. absurd (cc))
-                      (All-cons (No QueuePlace) writer (reads ∷ stores ∷ []) (λ e. absurd (cc))
-                      (All-cons (No QueuePlace) reads (stores ∷ []) (λ e. absurd (cc)) (All-cons (No QueuePlace) stores [] (λ e. absurd (cc)) (All-nil (No QueuePlace))))));
-                })
-                (All-nil Last)));
-          };
+      written = record {
+        begin = reads_queue ∷ begins ∷ [];
+        rest = rest;
+        split = refl;
+        begun = record { events_are = refl; found = All-cons Hands begins [] refl (All-nil Hands); reads = All-nil _ };
+        made = record {
+          events_are = refl;
+          found = All-cons Hands stores [] refl (All-nil Hands);
+          reads =
+              All-cons Last (Word Cbaser) (Word Cwriter ∷ QueuePlace ∷ []) (last_read (reads_queue ∷ []) (writer ∷ reads ∷ stores ∷ []) refl)
+              (All-cons Last (Word Cwriter) (QueuePlace ∷ []) (last_read (reads_queue ∷ base ∷ []) (reads ∷ stores ∷ []) refl)
+              (All-cons Last QueuePlace [] (last_read [] (base ∷ writer ∷ reads ∷ stores ∷ []) refl) (All-nil Last)));
+        };
+      };
       started = listed.are;
       ended = record { events_are = refl; found = All-cons Hands (happens ItsEnd Nothing) [] refl (All-nil Hands); reads = All-nil _ };
       answers = refl;
@@ -244,7 +227,7 @@ queue_found =
     record {
       seen = seen;
       told = record { guest_is = refl; actor_is = refl; local_is = refl; own_is = refl };
-      made = record { beside = record { maps = no_maps; targets = λ number id. None }; maps = refl; call = queue_call (record { maps = no_maps; targets = λ number id. None }) };
+      made = record { beside = record { maps = no_maps; targets = λ id. None; commands = (λ id. None) ∷ [] }; maps = refl; call = queue_call (record { maps = no_maps; targets = λ id. None; commands = (λ id. None) ∷ [] }) };
       found =
           record {
             finding = by_commands [];
@@ -260,7 +243,7 @@ add_found =
     record {
       seen = seen;
       told = record { guest_is = refl; actor_is = refl; local_is = refl; own_is = refl };
-      made = record { beside = record { maps = no_maps; targets = λ number id. None }; maps = refl; call = add_call (record { maps = no_maps; targets = λ number id. None }) };
+      made = record { beside = record { maps = no_maps; targets = λ id. None; commands = (λ id. None) ∷ [] }; maps = refl; call = add_call (record { maps = no_maps; targets = λ id. None; commands = (λ id. None) ∷ [] }) };
       found =
           record {
             finding = by_commands [];
@@ -275,7 +258,7 @@ unfolding least_in with_level without_level in_places
 enable_found = record {
   seen = began;
   told = record { guest_is = refl; actor_is = refl; local_is = refl; own_is = refl };
-  made = record { beside = record { maps = no_maps; targets = λ number id. None }; maps = refl; call = enable_call (record { maps = no_maps; targets = λ number id. None }) refl (none_agree, tt) };
+  made = record { beside = record { maps = no_maps; targets = λ id. None; commands = (λ id. None) ∷ [] }; maps = refl; call = enable_call (record { maps = no_maps; targets = λ id. None; commands = (λ id. None) ∷ [] }) refl (none_agree, tt) };
   found =
       record {
         finding = by_commands (one ∷ []);
@@ -288,6 +271,6 @@ enable_found = record {
 pub worked_command_is_found : WorkedCommandIsFound
 worked_command_is_found =
     let found : AreFoundParts worked_guest 0 [] its_parts = (queue_found, (add_found, (enable_found, tt))) in
-    let able : AreAble worked_guest 0 [] its_parts
+    let fits : AreFit worked_guest 0 [] its_parts
     = (record { ease = λ icc. absurd (cc); good = (omega arith, refl) }, (record { ease = λ icc. absurd (cc); good = (omega arith, refl) }, (record { ease = λ icc. absurd (cc); good = (omega arith, refl) }, tt))) in
-    record { good = unmapped_is_for_none.good; proper = its_is_proper; found = found; able = able; fit = found_runs_are_eager worked_guest 0 its_parts unmapped_is_for_none.good its_is_proper found able }
+    record { good = unmapped_is_for_none.good; proper = its_is_proper; found = found; fits = fits; eager = found_runs_are_eager worked_guest 0 its_parts unmapped_is_for_none.good its_is_proper found fits }

@@ -16,7 +16,7 @@ use Rattle.law_serial_is_eager.specs.Worked.{worked_parts}
 use Rattle.law_serial_is_eager.proofs.WorkedLemmas.{worked_parts_are_fit}
 use Rattle.pe_mem.specs.Found.{takes_its_by}
 use Rattle.pe_mem.proofs.FoundLemmas.{found_by_none}
-use Rattle.law_found_parts_are_calls.specs.Found.{AreAble, AreFoundParts, IsFoundPart}
+use Rattle.law_found_parts_are_calls.specs.Found.{AreFoundParts, IsFoundPart}
 use Rattle.law_found_parts_are_calls.specs.Worked.{WorkedPartsAreFound}
 use Rattle.law_found_parts_are_calls.proofs.EagerRuns.{found_runs_are_eager}
 
@@ -52,7 +52,7 @@ found_so : (early : List CoreMoment) (part : WholePart) → takes_its_by worked_
 found_so early part free call = record {
   seen = told_in worked_guest early part.actor;
   told = record { guest_is = refl; actor_is = refl; local_is = refl; own_is = refl };
-  made = record { beside = record { maps = maps_taken part.steps; targets = λ number id. None }; maps = refl; call = call (record { maps = maps_taken part.steps; targets = λ number id. None }) refl };
+  made = record { beside = record { maps = maps_taken part.steps; targets = λ id. None; commands = [] }; maps = refl; call = call (record { maps = maps_taken part.steps; targets = λ id. None; commands = [] }) refl };
   found = found_by_none (told_in worked_guest early part.actor) part.steps part.operation part.answer free call;
 }
 
@@ -83,12 +83,7 @@ worked_found = (
   ),
 )
 
-able_by : (parts : List WholePart) (early : List CoreMoment) → AreFit worked_guest 0 early parts → AreAble worked_guest 0 early parts
-able_by [] early fit = tt
-able_by (part ∷ parts) early fit = (record { ease = fit.0.ease; good = fit.0.good }, able_by parts (early ++ moments_in part) fit.1)
-
 pub worked_parts_are_found : WorkedPartsAreFound
 worked_parts_are_found =
     let fit = worked_parts_are_fit in
-    let able = able_by worked_parts [] fit.fit in
-    record { good = fit.good; proper = fit.proper; found = worked_found; able = able; fit = found_runs_are_eager worked_guest 0 worked_parts fit.good fit.proper worked_found able }
+    record { good = fit.good; proper = fit.proper; found = worked_found; fits = fit.fit; eager = found_runs_are_eager worked_guest 0 worked_parts fit.good fit.proper worked_found fit.fit }

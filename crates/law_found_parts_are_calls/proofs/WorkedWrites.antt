@@ -2,6 +2,7 @@
 use Rattle.std.proofs.Common.{◌≡◌, ℕ, ◌<◌, nat_lt, zero, suc, true, false, IsTrue, List, [], ◌∷◌, ◌++◌, None, take, refl, slice_index_or, arith}
 use Rattle.std.proofs.lemmas.List.Elements.{All-cons, All-nil}
 use Rattle.std.proofs.lemmas.List.Sums.{AllPass-from_list_all}
+use Rattle.law_serial_is_eager.proofs.GicCall.ReadLemmas.{last_read}
 use Rattle.law_unmapped_lpis.specs.Registers.{least_in, with_level, without_level}
 use Rattle.law_unmapped_lpis.specs.Calls.{Event, ItsBegin, Put, Runs, Found, Place, Beside, HandsOut, Happened, IsCall, IsLastRead, held_at, left_by, View, Cbaser, Cwriter, Fault, ItsCtlr, place_of_plain}
 use Rattle.law_unmapped_lpis.specs.GicCall.declared.event.Event.TheVariants.{ItsEnd, Queue, Read}
@@ -30,7 +31,7 @@ abbrev pub put : Made
 put = step (RamPut (place_of_plain worked_guest.shape Fault) 0 10) 0 10 None
 
 abbrev own_before : List Made
-own_before = makes_queue.steps ++ adds_command.steps ++ take 8 enables.steps
+own_before = makes_queue.steps ++ adds_command.steps ++ take 9 enables.steps
 
 its_run : IsRun worked_guest.shape (opening worked_guest 0) (entries_of run)
 unfolding least_in with_level without_level in_places
@@ -58,36 +59,42 @@ its_run =
                         (
                           record { actor = there; can = tt; meets = tt; found = refl; left = refl; tables = refl },
                           (
-                            record { actor = there; can = omega arith; meets = tt; found = refl; left = refl; tables = refl },
+                            record { actor = there; can = refl; meets = tt; found = refl; left = refl; tables = refl },
                             (
                               record { actor = there; can = omega arith; meets = tt; found = refl; left = refl; tables = refl },
                               (
                                 record { actor = there; can = omega arith; meets = tt; found = refl; left = refl; tables = refl },
                                 (
-                                  record { actor = there; can = (omega arith, omega arith); meets = tt; found = refl; left = refl; tables = refl },
+                                  record { actor = there; can = omega arith; meets = tt; found = refl; left = refl; tables = refl },
                                   (
-                                    record { actor = there; can = tt; meets = refl; found = refl; left = refl; tables = refl },
+                                    record { actor = there; can = (omega arith, omega arith); meets = tt; found = refl; left = refl; tables = refl },
                                     (
-                                      record { actor = there; can = refl; meets = tt; found = refl; left = refl; tables = refl },
+                                      record { actor = there; can = tt; meets = refl; found = refl; left = refl; tables = refl },
                                       (
-                                        record { actor = there; can = tt; meets = tt; found = refl; left = refl; tables = refl },
+                                        record { actor = there; can = refl; meets = tt; found = refl; left = refl; tables = refl },
                                         (
-                                          record { actor = there; can = omega arith; meets = tt; found = refl; left = refl; tables = refl },
+                                          record { actor = there; can = tt; meets = tt; found = refl; left = refl; tables = refl },
                                           (
-                                            record { actor = there; can = omega arith; meets = tt; found = refl; left = refl; tables = refl },
+                                            record { actor = there; can = refl; meets = tt; found = refl; left = refl; tables = refl },
                                             (
                                               record { actor = there; can = omega arith; meets = tt; found = refl; left = refl; tables = refl },
                                               (
-                                                record { actor = there; can = (omega arith, omega arith); meets = tt; found = refl; left = refl; tables = refl },
+                                                record { actor = there; can = omega arith; meets = tt; found = refl; left = refl; tables = refl },
                                                 (
                                                   record { actor = there; can = omega arith; meets = tt; found = refl; left = refl; tables = refl },
                                                   (
-                                                    record { actor = there; can = (omega arith, omega arith); meets = record { turn = refl; runs = record { word = taken; known_as = refl; runs = refl } }; found = refl; left = refl; tables = refl },
+                                                    record { actor = there; can = (omega arith, omega arith); meets = tt; found = refl; left = refl; tables = refl },
                                                     (
-                                                      record { actor = there; can = (record { place = refl; within = omega arith }, tt); meets = record { turn = refl; kicks = refl; queue = (record { fetched = All-cons Known QueuePlace (Word Cbaser ∷ []) refl (All-cons Known (Word Cbaser) [] refl (All-nil Known)); ends = refl }, record { seen = 0; value = 10; last = put; is_last = refl; put = refl; stored = refl }) }; found = refl; left = refl; tables = refl },
+                                                      record { actor = there; can = omega arith; meets = tt; found = refl; left = refl; tables = refl },
                                                       (
-                                                        record { actor = there; can = tt; meets = refl; found = refl; left = refl; tables = refl },
-                                                        tt,
+                                                        record { actor = there; can = (omega arith, omega arith); meets = record { turn = refl; runs = record { word = taken; known_as = refl; runs = refl } }; found = refl; left = refl; tables = refl },
+                                                        (
+                                                          record { actor = there; can = (record { place = refl; within = omega arith }, tt); meets = record { turn = refl; kicks = refl; queue = (record { fetched = All-cons Known QueuePlace (Word Cbaser ∷ []) refl (All-cons Known (Word Cbaser) [] refl (All-nil Known)); ends = refl }, record { seen = 0; value = 10; last = put; is_last = refl; put = refl; stored = refl }) }; found = refl; left = refl; tables = refl },
+                                                          (
+                                                            record { actor = there; can = tt; meets = refl; found = refl; left = refl; tables = refl },
+                                                            tt,
+                                                          ),
+                                                        ),
                                                       ),
                                                     ),
                                                   ),
@@ -152,9 +159,6 @@ queued beside = left_by worked_guest.shape (opened beside) (Put Cbaser queue)
 abbrev pub added : Beside → View
 added beside = left_by worked_guest.shape (queued beside) (Put Cwriter 32)
 
-abbrev pub Unread : Place → Happened → Type 0
-Unread place h = h.event ≡ Read place → ⊥
-
 abbrev pub before_adds : List CoreMoment
 before_adds = moments_of (makes_queue ∷ [])
 
@@ -172,32 +176,27 @@ queue_call beside =
     let empties = happens (Put Cwriter 0) (FoundWord 0) in
     let moves = happens (Queue 0 Runs) Nothing in
     let stores = happens (Put Cbaser queue) (FoundWord 0) in
-    let Last : Place → Type 0 = λ place. IsLastRead place (held_at view place) (reads_queue ∷ begins ∷ reads ∷ writer ∷ empties ∷ moves ∷ base ∷ stores ∷ []) in
-    let No : Happened → Type 0 = Unread (Word ItsCtlr) in
+    let rest : List Happened = reads ∷ writer ∷ empties ∷ moves ∷ base ∷ stores ∷ [] in
+    let Last : Place → Type 0 = λ place. IsLastRead place (held_at view place) rest in
     record {
       view = view;
       maps = refl;
       views = [];
-      register = reads_queue ∷ begins ∷ reads ∷ writer ∷ empties ∷ moves ∷ base ∷ stores ∷ [];
+      register = reads_queue ∷ begins ∷ rest;
       commands = [];
       last = happens ItsEnd Nothing ∷ [];
       split = refl;
-      written =
-          record {
-            events_are = refl;
-            found =
-                All-cons Hands begins (empties ∷ moves ∷ stores ∷ []) refl
-                (All-cons Hands empties (moves ∷ stores ∷ []) refl (All-cons Hands moves (stores ∷ []) refl (All-cons Hands stores [] refl (All-nil Hands))));
-            reads =
-                All-cons Last (Word ItsCtlr) []
-                (record {
-                  before = reads_queue ∷ begins ∷ [];
-                  after = writer ∷ empties ∷ moves ∷ base ∷ stores ∷ [];
-                  split = refl;
-                  last = All-cons No writer (empties ∷ moves ∷ base ∷ stores ∷ []) (λ e. absurd (cc)) (All-cons No empties (moves ∷ base ∷ stores ∷ []) (λ e. absurd (cc)) (All-cons No moves (base ∷ stores ∷ []) (λ e. absurd (cc)) (All-cons No base (stores ∷ []) (λ e. absurd (cc)) (All-cons No stores [] (λ e. absurd (cc)) (All-nil No)))));
-                })
-                (All-nil Last);
-          };
+      written = record {
+        begin = reads_queue ∷ begins ∷ [];
+        rest = rest;
+        split = refl;
+        begun = record { events_are = refl; found = All-cons Hands begins [] refl (All-nil Hands); reads = All-nil _ };
+        made = record {
+          events_are = refl;
+          found = All-cons Hands empties (moves ∷ stores ∷ []) refl (All-cons Hands moves (stores ∷ []) refl (All-cons Hands stores [] refl (All-nil Hands)));
+          reads = All-cons Last (Word ItsCtlr) [] (last_read [] (writer ∷ empties ∷ moves ∷ base ∷ stores ∷ []) refl) (All-nil Last);
+        };
+      };
       started = record { events_are = refl; found = All-nil _; reads = All-nil _ };
       ended = record { events_are = refl; found = All-cons Hands (happens ItsEnd Nothing) [] refl (All-nil Hands); reads = All-nil _ };
       answers = refl;
@@ -212,48 +211,31 @@ add_call beside =
     let finds = happens (Read (Word Cbaser)) (FoundWord queue) in
     let writer = happens (Read (Word Cwriter)) (FoundWord 0) in
     let stores = happens (Put Cwriter 32) (FoundWord 0) in
-    let Last : Place → Type 0 = λ place. IsLastRead place (held_at view place) (reads_queue ∷ begins ∷ reads ∷ finds ∷ writer ∷ stores ∷ []) in
-    let No : Place → Happened → Type 0 = λ place. Unread place in
+    let rest : List Happened = reads_queue ∷ reads ∷ finds ∷ writer ∷ stores ∷ [] in
+    let Last : Place → Type 0 = λ place. IsLastRead place (held_at view place) rest in
     record {
       view = view;
       maps = refl;
       views = [];
-      register = reads_queue ∷ begins ∷ reads ∷ finds ∷ writer ∷ stores ∷ [];
+      register = reads_queue ∷ begins ∷ rest;
       commands = [];
       last = happens ItsEnd Nothing ∷ [];
       split = refl;
-      written =
-          record {
-            events_are = refl;
-            found = All-cons Hands begins (stores ∷ []) refl (All-cons Hands stores [] refl (All-nil Hands));
-            reads =
-                All-cons Last (Word ItsCtlr) (Word Cbaser ∷ QueuePlace ∷ [])
-                (record {
-                  before = reads_queue ∷ begins ∷ [];
-                  after = finds ∷ writer ∷ stores ∷ [];
-                  split = refl;
-                  last = All-cons (No (Word ItsCtlr)) finds (writer ∷ stores ∷ []) (λ e. absurd (cc)) (All-cons (No (Word ItsCtlr)) writer (stores ∷ []) (λ e. absurd (cc)) (All-cons (No (Word ItsCtlr)) stores [] (λ e. absurd (cc)) (All-nil (No (Word ItsCtlr)))));
-                })
-                (All-cons Last (Word Cbaser) (QueuePlace ∷ [])
-                (record {
-                  before = reads_queue ∷ begins ∷ reads ∷ [];
-                  after = writer ∷ stores ∷ [];
-                  split = refl;
-                  last = All-cons (No (Word Cbaser)) writer (stores ∷ []) (λ e. absurd (cc)) (All-cons (No (Word Cbaser)) stores [] (λ e. absurd (cc)) (All-nil (No (Word Cbaser))));
-                })
-                (All-cons Last QueuePlace []
-                (record {
-                  before = [];
-                  after = begins ∷ reads ∷ finds ∷ writer ∷ stores ∷ [];
-                  split = refl;
-                  last =
-                      All-cons (No QueuePlace) begins (reads ∷ finds ∷ writer ∷ stores ∷ []) (λ e. absurd (cc))
-                      (All-cons (No QueuePlace) reads (finds ∷ writer ∷ stores ∷ []) (λ e. absurd (cc))
-                      (All-cons (No QueuePlace) finds (writer ∷ stores ∷ []) (λ e. absurd (cc))
-                      (All-cons (No QueuePlace) writer (stores ∷ []) (λ e. absurd (cc)) (All-cons (No QueuePlace) stores [] (λ e. absurd (cc)) (All-nil (No QueuePlace))))));
-                })
-                (All-nil Last)));
-          };
+      written = record {
+        begin = reads_queue ∷ begins ∷ [];
+        rest = rest;
+        split = refl;
+        begun = record { events_are = refl; found = All-cons Hands begins [] refl (All-nil Hands); reads = All-nil _ };
+        made = record {
+          events_are = refl;
+          found = All-cons Hands stores [] refl (All-nil Hands);
+          reads =
+              All-cons Last (Word ItsCtlr) (Word Cbaser ∷ QueuePlace ∷ Word Cwriter ∷ []) (last_read (reads_queue ∷ []) (finds ∷ writer ∷ stores ∷ []) refl)
+              (All-cons Last (Word Cbaser) (QueuePlace ∷ Word Cwriter ∷ []) (last_read (reads_queue ∷ reads ∷ []) (writer ∷ stores ∷ []) refl)
+              (All-cons Last QueuePlace (Word Cwriter ∷ []) (last_read [] (reads ∷ finds ∷ writer ∷ stores ∷ []) refl)
+              (All-cons Last (Word Cwriter) [] (last_read (reads_queue ∷ reads ∷ finds ∷ []) (stores ∷ []) refl) (All-nil Last))));
+        };
+      };
       started = (record { events_are = refl; found = All-nil _; reads = All-nil _ }, refl);
       ended = record { events_are = refl; found = All-cons Hands (happens ItsEnd Nothing) [] refl (All-nil Hands); reads = All-nil _ };
       answers = refl;

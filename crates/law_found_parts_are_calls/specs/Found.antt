@@ -3,11 +3,9 @@ use Rattle.std.specs.Prelude.{◌≡◌, ℕ, ◌<◌, true, List, [], ◌∷◌
 use Rattle.law_unmapped_lpis.specs.Histories.{last_of, opening_course}
 use Rattle.law_unmapped_lpis.specs.Mapped.{AreForNone}
 use Rattle.law_unmapped_lpis.specs.Calls.{GuestSpec, IsGoodGuest}
-use Rattle.pe_mem.specs.Core.{Seen, CoreState, opening, seat_at, MakesCall, end_of_moments, ideal_of, CoreMoment, progress_in, IsProperRun}
+use Rattle.pe_mem.specs.Core.{Seen, CoreState, opening, seat_at, MakesCall, end_of_moments, ideal_of, CoreMoment, IsProperRun}
 use Rattle.law_serial_is_eager.specs.LawCoreIsHistory.Laws.{AreCalls}
-use Rattle.law_serial_is_eager.specs.LawLoneAccessesFindAll.Lone.{IsAtEase}
-use Rattle.law_unmapped_lpis.specs.LawLoneCallsAreEager.Runs.{IsGoodCall}
-use Rattle.law_serial_is_eager.specs.Serial.{AreFit, IsEager, WholePart, is_icc, moments_in, moments_of}
+use Rattle.law_serial_is_eager.specs.Serial.{AreFit, IsEager, WholePart, moments_in, moments_of}
 use Rattle.pe_mem.specs.Found.{IsCallAsFound, takes_its_by}
 
 -- a port tells of an actor in a state of a guest
@@ -36,23 +34,12 @@ abbrev pub AreFoundParts : GuestSpec → ℕ → List CoreMoment → List WholeP
 AreFoundParts guest number early [] = Unit {0}
 AreFoundParts guest number early (part ∷ parts) = IsFoundPart guest number early part × AreFoundParts guest number (early ++ moments_in part) parts
 
--- what such a part has to be besides: where it is for an access of a CPU interface, each vCPU is at ease as it begins; and it is for an operation that its actor
--- can ask for
-pub record IsAble (guest : GuestSpec) (number : ℕ) (early : List CoreMoment) (part : WholePart) : Type 0 where
-  pub ease : is_icc part.operation ≡ true → (vcpu : ℕ) → vcpu < guest.shape.vcpus → IsAtEase guest.shape (end_of_moments guest.shape (opening guest number) early) vcpu (progress_in guest number early vcpu)
-  pub good : IsGoodCall guest.shape part.actor part.operation
-
-abbrev pub AreAble : GuestSpec → ℕ → List CoreMoment → List WholePart → Type 0
-AreAble guest number early [] = Unit {0}
-AreAble guest number early (part ∷ parts) = IsAble guest number early part × AreAble guest number (early ++ moments_in part) parts
-
--- some parts are their calls, and fit; so they are the eager controller's
-pub record AreFitCalls (guest : GuestSpec) (number : ℕ) (parts : List WholePart) : Type 0 where
+-- some parts are their calls, and the eager controller's
+pub record AreEagerCalls (guest : GuestSpec) (number : ℕ) (parts : List WholePart) : Type 0 where
   pub calls : AreCalls guest.shape (opening guest number) (opening_course guest) (moments_of parts)
-  pub fit : AreFit guest number [] parts
   pub eager : IsEager guest number parts
 
 -- so it is in each proper run of such parts: each of them finds the LPIs that the maps give no vCPU for none
 abbrev pub FoundRunsAreEager : Type 0
 FoundRunsAreEager =
-    (guest : GuestSpec) (number : ℕ) (parts : List WholePart) → IsGoodGuest guest → IsProperRun guest number (moments_of parts) → AreFoundParts guest number [] parts → AreAble guest number [] parts → AreFitCalls guest number parts
+    (guest : GuestSpec) (number : ℕ) (parts : List WholePart) → IsGoodGuest guest → IsProperRun guest number (moments_of parts) → AreFoundParts guest number [] parts → AreFit guest number [] parts → AreEagerCalls guest number parts

@@ -5,8 +5,8 @@ use Rattle.law_unmapped_lpis.specs.Calls.{Access, place_of_plain, PlainWord, Cba
 use Rattle.law_unmapped_lpis.specs.Registers.{Maps}
 use Rattle.pe_mem.specs.Core.{Made, CoreStep, CommandDone, Look, RamLook, RamPut, TurnRelease, TurnTake, Queue, no_maps, IsProperRun}
 use Rattle.law_unmapped_lpis.specs.Worked.{worked_guest}
-use Rattle.law_serial_is_eager.specs.Serial.{WholePart, moments_of}
-use Rattle.law_found_parts_are_calls.specs.Found.{AreAble, AreFitCalls, AreFoundParts}
+use Rattle.law_serial_is_eager.specs.Serial.{AreFit, WholePart, moments_of}
+use Rattle.law_found_parts_are_calls.specs.Found.{AreEagerCalls, AreFoundParts}
 
 -- a step that found a word, left another and was handed these maps
 abbrev pub step : CoreStep → ℕ → ℕ → Option Maps → Made
@@ -58,6 +58,7 @@ adds_command =
     writes 0x88 8 32
     (step (Look Queue) free free None
     ∷ step (TurnTake free) free taken (Some no_maps)
+    ∷ step (Look Queue) taken taken None
     ∷ looks_at ItsCtlr 0
     ∷ looks_at Cbaser queue
     ∷ looks_at Cwriter 0
@@ -72,6 +73,7 @@ enables =
     writes 0 4 1
     (step (Look Queue) free free None
     ∷ step (TurnTake free) free taken (Some no_maps)
+    ∷ step (Look Queue) taken taken None
     ∷ looks_at Cbaser queue
     ∷ looks_at Cwriter 32
     ∷ looks_at ItsCtlr 0
@@ -91,5 +93,5 @@ pub record WorkedCommandIsFound : Type 0 where
   pub good : IsGoodGuest worked_guest
   pub proper : IsProperRun worked_guest 0 (moments_of its_parts)
   pub found : AreFoundParts worked_guest 0 [] its_parts
-  pub able : AreAble worked_guest 0 [] its_parts
-  pub fit : AreFitCalls worked_guest 0 its_parts
+  pub fits : AreFit worked_guest 0 [] its_parts
+  pub eager : AreEagerCalls worked_guest 0 its_parts

@@ -24,5 +24,10 @@ pub mod ScanLemmas
 pub mod ScanCalls
 pub mod TurnSteps
 pub mod SyncLaw
+pub mod HeldCalls
+pub mod HeldLaw
+pub mod TargetLemmas
+pub mod TargetsLaw
 pub mod WorkedLemmas
 pub mod WorkedQueueLemmas
+pub mod WorkedReadsLemmas

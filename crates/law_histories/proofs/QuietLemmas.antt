@@ -13,8 +13,9 @@ use Rattle.floor_histories.specs.GicRmap.declared.map.Reg.{Reg as RedistReg}
 use Rattle.floor_histories.specs.GicRmap.declared.map.Reg.TheVariants.{Ctlr as RedistCtlr}
 use Rattle.floor_histories.specs.GicRmap.declared.map.RegRef.{RegRef as RedistRef}
 use Rattle.floor_histories.specs.GicRmap.declared.map.RegRef.TheVariants.{Bits as RedistBits, Plain as RedistPlain, Reserved as RedistReserved}
-use Rattle.floor_histories.specs.Calls.{Event, Touch, Put, CtlrBegin, CtlrEnd, ItsBegin, Touching, Register, Enables as CopyEnables, part_key, part_touch, part_event, of_spi, router_touch, dist_written, dist_plain, dist_events, ctlr_events, is_table_zero, is_in_table, part_events, pended_at, enable_events, redist_written, redist_events, memory_written, part_at, sgi_at, icc_raises, icc_events, View, Ram, Pendbaser}
+use Rattle.floor_histories.specs.Calls.{Event, Touch, Put, CtlrBegin, CtlrEnd, ItsBegin, Touching, Register, Enables as CopyEnables, part_key, part_touch, part_event, of_spi, router_touch, dist_written, dist_plain, dist_events, ctlr_events, is_table_zero, is_in_table, part_events, pended_at, enable_events, redist_written, redist_events, memory_written, part_at, sgi_at, icc_raises, icc_events, View, PlainWord, Ram, Pendbaser, Cbaser}
 use Rattle.floor_histories.specs.GicCall.declared.event.Event.TheVariants.{Raise, ItsEnd, Queue}
+use Rattle.law_histories.specs.Held.{moves_target}
 
 -- Events under a mark.
 
@@ -30,15 +31,25 @@ is_spread CtlrEnd = true
 is_spread (Touch key touching) = is_copy touching
 is_spread event = false
 
--- an event of an actor that takes the ITS, or has it
+-- an event of an actor that takes the ITS, or has it; of the stores those of the register that says where the queue is
+abbrev pub is_base : PlainWord → Bool
+is_base Cbaser = true
+is_base word = false
+
 abbrev pub is_its : Event → Bool
 is_its ItsBegin = true
 is_its ItsEnd = true
 is_its (Queue offset change) = true
+is_its (Put word value) = is_base word
 is_its event = false
 
+-- a touch that changes for which vCPU its LPI is
+abbrev pub is_moving : Event → Bool
+is_moving (Touch key touching) = moves_target touching
+is_moving event = false
+
 abbrev pub is_quiet : Event → Bool
-is_quiet event = not (is_spread event) && not (is_its event)
+is_quiet event = not (is_spread event) && not (is_its event) && not (is_moving event)
 
 -- Lists of events, all of which pass a test.
 

@@ -15,11 +15,12 @@ use Rattle.floor_histories.specs.GicImap.declared.map.RegRef.TheVariants.{Plain 
 use Rattle.floor_histories.specs.GicImap.Map.{decoded as its_decoded}
 use Rattle.floor_histories.specs.GicRmap.Map.{decoded as redist_decoded}
 use Rattle.floor_histories.specs.ItsCmd.Command.{decoded}
-use Rattle.floor_histories.specs.Calls.{Part, Map, Clear as ClearPart, Event, Up, Down, Touch, Reach, Take, Leave, Enable, Cpu, Put, CtlrBegin, CtlrEnd, ItsBegin, Operation, Access, Device, Residence, Place, Runs, Done, Stalls, copy_at, redist_events, its_written, is_in_queue, takes_its, memory_written, icc_events, its_events, access_events, device_events, takes_turn, lpi_event, queue_event, command_words, command_parts, decoded_parts, next_offset, parts, maps_done, Happened, is_beside, named_of, Beside, Makes, ArePartsThen, IsCommand, AreCommands, IsPlainCall, AreStarted, IsItsCall, IsItsWrite, IsCall, left_by, its_written_by, View, is_its_enabled, Cbaser, Cwriter, PlainWord}
+use Rattle.floor_histories.specs.Calls.{Part, Map, Clear as ClearPart, Event, Up, Down, Touch, Reach, Take, Leave, Enable, Cpu, Put, CtlrBegin, CtlrEnd, ItsBegin, Operation, Access, Device, Residence, Place, Runs, Done, Stalls, copy_at, redist_events, its_written, is_in_queue, takes_its, memory_written, icc_events, its_events, access_events, device_events, takes_turn, lpi_event, queue_event, command_words, command_parts, decoded_parts, next_offset, parts, maps_done, Happened, is_beside, named_of, Beside, Makes, ArePartsThen, IsCommand, AreCommands, IsPlainCall, AreStarted, IsItsCall, IsItsWrite, IsCall, left_by, its_written_by, View, is_its_enabled, Cbaser, Cwriter, PlainWord, command_targets, words_read}
 use Rattle.floor_histories.specs.GicCall.declared.command.Part.TheVariants.{Forget, Retarget, Raise as RaisePart, Configure}
 use Rattle.floor_histories.specs.GicCall.declared.event.Event.TheVariants.{Raise, Read, ItsEnd, Queue}
 use Rattle.floor_histories.specs.GicCall.Call.{starts_commands}
-use Rattle.law_histories.proofs.QuietLemmas.{is_spread, is_its, is_quiet, AreSpreadBy, quiet, spread, dist_by, redist_quiet, memory_quiet, icc_quiet}
+use Rattle.floor_histories.proofs.GicCall.TraceLemmas.{its_made, access_made, op_made}
+use Rattle.law_histories.proofs.QuietLemmas.{is_spread, is_its, is_quiet, AreSpreadBy, quiet, spread, dist_by, redist_quiet, memory_quiet, icc_quiet, is_moving}
 use Rattle.law_histories.proofs.ScanLemmas.{Scan, scanned, scan_of, IsDoneBy, is_open, open_ends, IsScanned, scanned_named, scanned_both}
 use Rattle.law_histories.proofs.SpreadLemmas.{events_of}
 
@@ -44,12 +45,12 @@ holds b event = b
 abbrev pub is_apart : Event → Bool
 is_apart event = not (is_its event)
 
-record IsTurnFree (b : Bool) (event : Event) : Type 0 where
+pub record IsTurnFree (b : Bool) (event : Event) : Type 0 where
   pub takes : takes_one event ≡ 0
   pub holds_same : holds b event ≡ b
   pub opens : is_open event ≡ true
 
-turn_free : (b : Bool) (event : Event) → is_apart event ≡ true → IsTurnFree b event
+pub turn_free : (b : Bool) (event : Event) → is_apart event ≡ true → IsTurnFree b event
 turn_free b ItsBegin h = absurd (cc)
 turn_free b ItsEnd h = absurd (cc)
 turn_free b (Queue offset change) h = absurd (cc)
@@ -100,7 +101,7 @@ apart_open (event ∷ events) h =
     ap (λ b. b && list_all is_open events) (turn_free true event both.0).opens ∙ apart_open events both.1
 
 -- reads and moves take no turn
-beside_apart : (actor : Option ℕ) (event : Event) → is_beside actor event ≡ true → is_apart event ≡ true
+pub beside_apart : (actor : Option ℕ) (event : Event) → is_beside actor event ≡ true → is_apart event ≡ true
 beside_apart actor ItsBegin h = absurd (cc)
 beside_apart actor ItsEnd h = absurd (cc)
 beside_apart actor (Queue offset change) h = absurd (cc)
@@ -114,7 +115,7 @@ beside_apart actor (Leave key vcpu) h = refl
 beside_apart actor (Enable vcpu) h = refl
 beside_apart actor (Cpu vcpu reg write) h = refl
 beside_apart actor (Read place) h = refl
-beside_apart actor (Put word value) h = refl
+beside_apart actor (Put word value) h = absurd (cc)
 beside_apart actor (CtlrBegin enables) h = refl
 beside_apart actor CtlrEnd h = refl
 
@@ -193,17 +194,17 @@ module _ (shape : GuestShape) (targets : ℕ → ℕ → Option ℕ) (taken : Ma
   none_appended [] = refl
   none_appended (x ∷ xs) = ap (λ ys. x ∷ ys) (none_appended xs)
 
-  parts_turn : (actor : Option ℕ) (others : ℕ → Option ℕ) (todo all : List Part) (scan later : Scan) (Rest : List Happened → List Happened → Type 0) → scan.made ++ todo ≡ all
-      → ((before after : List Happened) → Rest before after → IsTurn shape targets taken (record scan { made = all }) later true 0 true (events_of after))
-      → (before piece : List Happened) → ArePartsThen actor shape others todo Rest before piece → IsTurn shape targets taken scan later true 0 true (events_of piece)
-  parts_turn actor others [] all scan later Rest are rest before piece is =
-      subst (λ made. IsTurn shape targets taken (record scan { made = made }) later true 0 true (events_of piece)) (sym are ∙ none_appended scan.made) (rest before piece is)
-  parts_turn actor others (part ∷ todo) all scan later Rest are rest before piece is =
+  parts_turn : (actor : Option ℕ) (others : ℕ → Option ℕ) (todo all : List Part) (scan later : Scan) (words : List Happened) (Rest : List Happened → Type 0) → scan.made ++ todo ≡ all
+      → ((after : List Happened) → Rest after → IsTurn shape targets taken (record scan { made = all }) later true 0 true (events_of after))
+      → (before piece : List Happened) → ArePartsThen actor shape others words todo Rest before piece → IsTurn shape targets taken scan later true 0 true (events_of piece)
+  parts_turn actor others [] all scan later words Rest are rest before piece is =
+      subst (λ made. IsTurn shape targets taken (record scan { made = made }) later true 0 true (events_of piece)) (sym are ∙ none_appended scan.made) (rest piece is)
+  parts_turn actor others (part ∷ todo) all scan later words Rest are rest before piece is =
       let next : Scan = record scan { made = scan.made ++ part ∷ [] } in
       subst (λ p. IsTurn shape targets taken scan later true 0 true (events_of p)) (sym is.split)
       (both_turns scan next later true true true 0 0 is.own is.rest
       (makes_turn actor is.view (lpi_event shape is.view others part ∷ []) _ before is.own scan next true true 0 is.made (part_turn scan is.view others part))
-      (parts_turn actor others todo all next later Rest (append_assoc scan.made (part ∷ []) todo ∙ are) rest (before ++ is.own) is.rest is.later))
+      (parts_turn actor others todo all next later words Rest (append_assoc scan.made (part ∷ []) todo ∙ are) rest words is.rest is.later))
 
   -- the end of a command
   module _ (view : View) (scan : Scan) (maps_are : scan.maps ≡ view.maps) (targets_are : view.targets ≡ targets scan.number) (made_is : scan.made ≡ command_parts shape view) where
@@ -254,8 +255,8 @@ module _ (shape : GuestShape) (targets : ℕ → ℕ → Option ℕ) (taken : Ma
       subst (λ p. IsTurn shape targets taken scan later true 0 true (events_of p)) (sym is.split)
       (both_turns scan scan later true true true 0 0 is.fetch is.rest
       (makes_turn actor view [] _ [] is.fetch scan scan true true 0 is.fetched (nothing_turn scan true))
-      (parts_turn actor view.targets (command_parts shape view) (command_parts shape view) scan later (λ before after. Makes actor view (queue_event shape view ∷ []) [] before after) (ap (λ xs. xs ++ command_parts shape view) none)
-      (λ before after makes. makes_turn actor view (queue_event shape view ∷ []) [] before after done later true true 0 makes (end_turn view done maps_are targets_are refl))
+      (parts_turn actor view.targets (command_parts shape view) (command_parts shape view) scan later (words_read shape view) (λ after. Makes actor view (queue_event shape view ∷ []) [] [] after) (ap (λ xs. xs ++ command_parts shape view) none)
+      (λ after makes. makes_turn actor view (queue_event shape view ∷ []) [] [] after done later true true 0 makes (end_turn view done maps_are targets_are refl))
       is.fetch is.rest is.done))
 
 -- what a piece leads to
@@ -265,32 +266,32 @@ pub record LeadsOn (shape : GuestShape) (targets : ℕ → ℕ → Option ℕ) (
 
 module _ (shape : GuestShape) (beside : Beside) where
   commands_turn : (actor : Option ℕ) (number : ℕ) (its : View) (views : List View) (scan : Scan) (piece : List Happened) → scan.maps ≡ its.maps → scan.number ≡ number → scan.made ≡ [] → AreCommands actor shape beside number its views piece
-      → LeadsOn shape beside.targets beside.maps scan true 0 true (events_of piece)
-  commands_turn actor number its [] scan piece maps_are number_is none is = record { later = scan; turn = makes_turn shape beside.targets beside.maps actor its [] [] [] piece scan scan true true 0 is.0 (nothing_turn shape beside.targets beside.maps scan true) }
+      → LeadsOn shape (command_targets beside) beside.maps scan true 0 true (events_of piece)
+  commands_turn actor number its [] scan piece maps_are number_is none is = record { later = scan; turn = makes_turn shape (command_targets beside) beside.maps actor its [] [] [] piece scan scan true true 0 is.0 (nothing_turn shape (command_targets beside) beside.maps scan true) }
   commands_turn actor number its (view ∷ views) scan piece maps_are number_is none is =
       let next : Scan = record { maps = (left_by shape view (queue_event shape view)).maps; made = []; number = scan.number + 1 } in
-      let first = command_turn shape beside.targets beside.maps actor view scan is.own (maps_are ∙ is.same.maps) (is.targets_are ∙ ap beside.targets (sym number_is)) none is.command in
+      let first = command_turn shape (command_targets beside) beside.maps actor view scan is.own (maps_are ∙ is.same.maps) (is.targets_are ∙ ap (command_targets beside) (sym number_is)) none is.command in
       let rest = commands_turn actor (number + 1) (left_by shape view (queue_event shape view)) views next is.rest refl (ap (λ n. n + 1) number_is) refl is.later in
       record {
         later = rest.later;
-        turn = subst (λ p. IsTurn shape beside.targets beside.maps scan rest.later true 0 true (events_of p)) (sym is.split) (both_turns shape beside.targets beside.maps scan next rest.later true true true 0 0 is.own is.rest first rest.turn);
+        turn = subst (λ p. IsTurn shape (command_targets beside) beside.maps scan rest.later true 0 true (events_of p)) (sym is.split) (both_turns shape (command_targets beside) beside.maps scan next rest.later true true true 0 0 is.own is.rest first rest.turn);
       }
 
-  started_turn : (b : Bool) (actor : Option ℕ) (its : View) (views : List View) (scan : Scan) (piece : List Happened) → scan.maps ≡ its.maps → scan.number ≡ 0 → scan.made ≡ [] → AreStarted b actor shape beside its views piece → LeadsOn shape beside.targets beside.maps scan true 0 true (events_of piece)
+  pub started_turn : (b : Bool) (actor : Option ℕ) (its : View) (views : List View) (scan : Scan) (piece : List Happened) → scan.maps ≡ its.maps → scan.number ≡ 0 → scan.made ≡ [] → AreStarted b actor shape beside its views piece → LeadsOn shape (command_targets beside) beside.maps scan true 0 true (events_of piece)
   started_turn true actor its views scan piece maps_are number_is none is = commands_turn actor 0 its views scan piece maps_are number_is none is
-  started_turn false actor its views scan piece maps_are number_is none is = record { later = scan; turn = makes_turn shape beside.targets beside.maps actor its [] [] [] piece scan scan true true 0 is (nothing_turn shape beside.targets beside.maps scan true) }
+  started_turn false actor its views scan piece maps_are number_is none is = record { later = scan; turn = makes_turn shape (command_targets beside) beside.maps actor its [] [] [] piece scan scan true true 0 is (nothing_turn shape (command_targets beside) beside.maps scan true) }
 
   -- before any command
   abbrev pub start : Scan
   start = record { maps = beside.maps; made = []; number = 0 }
 
   -- the events of a write of a register of the ITS: nothing of a command
-  record IsWritten (view : View) (events : List Event) : Type 0 where
-    pub turn : IsTurn shape beside.targets beside.maps start start true 0 true events
+  pub record IsWritten (view : View) (events : List Event) : Type 0 where
+    pub turn : IsTurn shape (command_targets beside) beside.maps start start true 0 true events
     pub maps : (its_written_by shape view events).maps ≡ view.maps
 
   nothing_written : (view : View) → IsWritten view []
-  nothing_written view = record { turn = nothing_turn shape beside.targets beside.maps start true; maps = refl }
+  nothing_written view = record { turn = nothing_turn shape (command_targets beside) beside.maps start true; maps = refl }
 
   unless_written : (b : Bool) (view : View) (events : List Event) → IsWritten view events → IsWritten view (cond b [] events)
   unless_written true view events is = nothing_written view
@@ -317,7 +318,7 @@ module _ (shape : GuestShape) (beside : Beside) where
   reg_written view Baser1Reg half value = unless_written (is_its_enabled view) view _ (one_put view _ _)
   reg_written view reg half value = nothing_written view
 
-  register_written : (view : View) (ref : ItsRef) (value : ℕ) → IsWritten view (its_events shape view ref (Some value))
+  pub register_written : (view : View) (ref : ItsRef) (value : ℕ) → IsWritten view (its_events shape view ref (Some value))
   register_written view (ItsPlain reg half) value = when_written (has_lpis shape) view (its_written view reg half value) (reg_written view reg half value)
   register_written view ItsReserved value = nothing_written view
 
@@ -326,7 +327,7 @@ module _ (shape : GuestShape) (beside : Beside) where
 pub record IsCallTurn (shape : GuestShape) (beside : Beside) (piece : List Happened) : Type 0 where
   pub count : ℕ
   pub few : count ≤ 1
-  pub leads : LeadsOn shape beside.targets beside.maps (record { maps = beside.maps; made = []; number = 0 }) false count false (events_of piece)
+  pub leads : LeadsOn shape (command_targets beside) beside.maps (record { maps = beside.maps; made = []; number = 0 }) false count false (events_of piece)
 
 module _ (shape : GuestShape) (beside : Beside) where
   apart_call : (actor : Option ℕ) (view : View) (events : List Event) (places : List Place) (before piece : List Happened) → Makes actor view events places before piece → list_all is_apart events ≡ true → IsCallTurn shape beside piece
@@ -337,7 +338,7 @@ module _ (shape : GuestShape) (beside : Beside) where
         few = omega arith;
         leads = record {
           later = scan_of beside.maps first events;
-          turn = makes_turn shape beside.targets beside.maps actor view events places before piece first (scan_of beside.maps first events) false false 0 makes (apart_turn shape beside.targets beside.maps first false events all);
+          turn = makes_turn shape (command_targets beside) beside.maps actor view events places before piece first (scan_of beside.maps first events) false false 0 makes (apart_turn shape (command_targets beside) beside.maps first false events all);
         };
       }
 
@@ -346,37 +347,38 @@ module _ (shape : GuestShape) (beside : Beside) where
       let first : Scan = record { maps = beside.maps; made = []; number = 0 } in
       let events = its_events shape is.view (its_decoded offset size) (Some value) in
       let written = register_written shape beside is.view (its_decoded offset size) value in
-      let register = makes_turn shape beside.targets beside.maps (Some vcpu) is.view (ItsBegin ∷ events) _ [] is.register first first false true 1 is.written
+      let register = makes_turn shape (command_targets beside) beside.maps (Some vcpu) is.view (ItsBegin ∷ events) _ [] is.register first first false true 1 (its_made is)
       (record {
         scan_is = record { ends = (tt, written.turn.scan_is.ends); leads = written.turn.scan_is.leads };
         turns = record { takes = ap (λ n. 1 + n) written.turn.turns.takes; held = written.turn.turns.held };
       }) in
       let commands = started_turn shape beside (starts_commands shape is.view Its offset size (Some value)) (Some vcpu) (its_written_by shape is.view events) is.views first is.commands (sym (written.maps ∙ is.maps)) refl refl is.started in
-      let last = makes_turn shape beside.targets beside.maps (Some vcpu) is.view (ItsEnd ∷ []) [] [] is.last commands.later commands.later true false 0 is.ended
+      let last = makes_turn shape (command_targets beside) beside.maps (Some vcpu) is.view (ItsEnd ∷ []) [] [] is.last commands.later commands.later true false 0 is.ended
       (record { scan_is = record { ends = (tt, tt); leads = refl }; turns = record { takes = refl; held = refl } }) in
       record {
         count = 1;
         few = omega arith;
         leads = record {
           later = commands.later;
-          turn = subst (λ p. IsTurn shape beside.targets beside.maps first commands.later false 1 false (events_of p)) (sym is.split)
-              (both_turns shape beside.targets beside.maps first commands.later commands.later false true false 1 0 (is.register ++ is.commands) is.last
-              (both_turns shape beside.targets beside.maps first first commands.later false true true 1 0 is.register is.commands register commands.turn) last);
+          turn = subst (λ p. IsTurn shape (command_targets beside) beside.maps first commands.later false 1 false (events_of p)) (sym is.split)
+              (both_turns shape (command_targets beside) beside.maps first commands.later commands.later false true false 1 0 (is.register ++ is.commands) is.last
+              (both_turns shape (command_targets beside) beside.maps first first commands.later false true true 1 0 is.register is.commands register commands.turn) last);
         };
       }
 
 -- accesses that do not take the ITS
-quiet_apart : (events : List Event) → list_all is_quiet events ≡ true → list_all is_apart events ≡ true
+pub quiet_apart : (events : List Event) → list_all is_quiet events ≡ true → list_all is_apart events ≡ true
 quiet_apart [] h = refl
 quiet_apart (event ∷ events) h =
     let both = and_parts (is_quiet event) (list_all is_quiet events) h in
-    ap (λ b. b && list_all is_apart events) (and_parts (not (is_spread event)) (not (is_its event)) both.0).1 ∙ quiet_apart events both.1
+    let unmoved = and_parts (not (is_spread event) && not (is_its event)) (not (is_moving event)) both.0 in
+    ap (λ b. b && list_all is_apart events) (and_parts (not (is_spread event)) (not (is_its event)) unmoved.0).1 ∙ quiet_apart events both.1
 
 copies_apart : (shape : GuestShape) (enables : Enables) (places : List ℕ) → list_all is_apart (map (copy_at shape enables) places ++ CtlrEnd ∷ []) ≡ true
 copies_apart shape enables [] = refl
 copies_apart shape enables (place ∷ places) = copies_apart shape enables places
 
-spread_apart : (shape : GuestShape) (events : List Event) → AreSpreadBy shape events → list_all is_apart events ≡ true
+pub spread_apart : (shape : GuestShape) (events : List Event) → AreSpreadBy shape events → list_all is_apart events ≡ true
 spread_apart shape events (quiet es all) = quiet_apart es all
 spread_apart shape events (spread enables) = copies_apart shape enables (range_with_len 0 (interrupt_count shape))
 
@@ -388,7 +390,7 @@ untaken_reg view Baser0Reg half value h = absurd (cc)
 untaken_reg view Baser1Reg half value h = absurd (cc)
 untaken_reg view reg half value h = refl
 
-untaken_apart : (shape : GuestShape) (view : View) (ref : ItsRef) (value : ℕ) → takes_turn shape ref (Some value) ≡ false → list_all is_apart (its_events shape view ref (Some value)) ≡ true
+pub untaken_apart : (shape : GuestShape) (view : View) (ref : ItsRef) (value : ℕ) → takes_turn shape ref (Some value) ≡ false → list_all is_apart (its_events shape view ref (Some value)) ≡ true
 untaken_apart shape view (ItsPlain reg half) value h = of (has_lpis shape) h
   where
     of : (b : Bool) → (b && takes_its reg) ≡ false → list_all is_apart (cond b (its_written view reg half value) []) ≡ true
@@ -396,23 +398,23 @@ untaken_apart shape view (ItsPlain reg half) value h = of (has_lpis shape) h
     of false h = refl
 untaken_apart shape view ItsReserved value h = refl
 
-its_read_apart : (shape : GuestShape) (view : View) (ref : ItsRef) → list_all is_apart (its_events shape view ref None) ≡ true
+pub its_read_apart : (shape : GuestShape) (view : View) (ref : ItsRef) → list_all is_apart (its_events shape view ref None) ≡ true
 its_read_apart shape view (ItsPlain reg half) = refl
 its_read_apart shape view ItsReserved = refl
 
 module _ (shape : GuestShape) (beside : Beside) where
   plain_call : (vcpu : ℕ) (frame : Frame) (offset size : ℕ) (write : Option ℕ) (piece : List Happened) (answer : Option ℕ) → (is : IsPlainCall shape beside vcpu frame offset size write piece answer) → list_all is_apart (access_events shape is.view frame offset size write) ≡ true
       → IsCallTurn shape beside piece
-  plain_call vcpu frame offset size write piece answer is all = apart_call shape beside (Some vcpu) is.view (access_events shape is.view frame offset size write) _ [] piece is.made all
+  plain_call vcpu frame offset size write piece answer is all = apart_call shape beside (Some vcpu) is.view (access_events shape is.view frame offset size write) _ [] piece (access_made is) all
 
   write_call : (b : Bool) (vcpu offset size value : ℕ) (piece : List Happened) (answer : Option ℕ) → takes_turn shape (its_decoded offset size) (Some value) ≡ b → IsItsWrite b shape beside vcpu offset size value piece answer → IsCallTurn shape beside piece
   write_call true vcpu offset size value piece answer e is = its_call shape beside vcpu offset size value piece answer is
   write_call false vcpu offset size value piece answer e is = plain_call vcpu Its offset size (Some value) piece answer is (untaken_apart shape is.view (its_decoded offset size) value e)
 
-  msi_turn : (view : View) (device event : ℕ) (scan : Scan) → LeadsOn shape beside.targets beside.maps scan false 1 false (device_events view (Msi device event))
+  msi_turn : (view : View) (device event : ℕ) (scan : Scan) → LeadsOn shape (command_targets beside) beside.maps scan false 1 false (device_events view (Msi device event))
   msi_turn view device event scan = of (translated view.maps (is_its_enabled view) device event)
     where
-      of : (o : Option ℕ) → LeadsOn shape beside.targets beside.maps scan false 1 false (ItsBegin ∷ option_map_or (λ id. Raise (Lpi id) ∷ []) o [] ++ ItsEnd ∷ [])
+      of : (o : Option ℕ) → LeadsOn shape (command_targets beside) beside.maps scan false 1 false (ItsBegin ∷ option_map_or (λ id. Raise (Lpi id) ∷ []) o [] ++ ItsEnd ∷ [])
       of None = record { later = _; turn = record { scan_is = record { ends = (tt, (tt, tt)); leads = refl }; turns = record { takes = refl; held = refl } } }
       of (Some id) = record { later = _; turn = record { scan_is = record { ends = (tt, (tt, (tt, tt))); leads = refl }; turns = record { takes = refl; held = refl } } }
 
@@ -435,7 +437,7 @@ module _ (shape : GuestShape) (beside : Beside) where
       record {
         count = 1;
         few = omega arith;
-        leads = record { later = turn.later; turn = makes_turn shape beside.targets beside.maps None is.view (device_events is.view (Msi device event)) _ [] piece first turn.later false false 1 is.made turn.turn };
+        leads = record { later = turn.later; turn = makes_turn shape (command_targets beside) beside.maps None is.view (device_events is.view (Msi device event)) [] [] piece first turn.later false false 1 (op_made is) turn.turn };
       }
   call_turn (Some vcpu) Residence piece answer is =
       let first : Scan = record { maps = beside.maps; made = []; number = 0 } in
@@ -445,7 +447,7 @@ module _ (shape : GuestShape) (beside : Beside) where
         leads = record {
           later = first;
           turn = record {
-            scan_is = scanned_named (Some vcpu) shape beside.targets beside.maps first first piece (subst (λ p. IsScanned shape beside.targets beside.maps first first (events_of p)) (sym is.0) (record { ends = tt; leads = refl }));
+            scan_is = scanned_named (Some vcpu) shape (command_targets beside) beside.maps first first piece (subst (λ p. IsScanned shape (command_targets beside) beside.maps first first (events_of p)) (sym is.0) (record { ends = tt; leads = refl }));
             turns = turns_named (Some vcpu) false false 0 piece (subst (λ p. TurnsAre false (events_of p) 0 false) (sym is.0) (record { takes = refl; held = refl }));
           };
         };

@@ -1,5 +1,6 @@
 -- Only a write of GICD_CTLR copies its enables, and it copies them to each interrupt in turn.
 use Rattle.std.proofs.Common.{◌≡◌, ℕ, ◌⊎◌, inl, inr, ◌&&◌, not, Bool, true, false, cond, List, [], ◌∷◌, ◌++◌, map, filter, Option, Some, None, refl, sym, ap, ◌∙◌, subst, ◌+◌}
+use Rattle.std.proofs.lemmas.Bool.{and_parts}
 use Rattle.std.specs.List.{list_all, range_with_len}
 use Rattle.std.specs.Option.{option_map_or}
 use Rattle.std.proofs.lemmas.List.{map-append}
@@ -14,11 +15,12 @@ use Rattle.floor_histories.specs.GicImap.declared.map.RegRef.TheVariants.{Plain 
 use Rattle.floor_histories.specs.GicImap.Map.{decoded as its_decoded}
 use Rattle.floor_histories.specs.GicRmap.Map.{decoded as redist_decoded}
 use Rattle.floor_histories.specs.ItsCmd.Command.{decoded}
-use Rattle.floor_histories.specs.Calls.{Part, Map, Clear as ClearPart, Event, Up, Down, Touch, Reach, Take, Leave, Enable, Cpu, Put, CtlrBegin, CtlrEnd, ItsBegin, Operation, Access, Device, Residence, Place, Done, Stalls, copy_at, ctlr_events, redist_events, its_written, is_in_queue, memory_written, icc_events, its_events, access_events, device_events, takes_turn, lpi_event, queue_event, command_words, command_parts, next_offset, Happened, is_beside, named_of, Beside, Makes, ArePartsThen, IsCommand, AreCommands, IsPlainCall, AreStarted, IsItsCall, IsItsWrite, IsCall, left_by, View, is_its_enabled, Cbaser}
+use Rattle.floor_histories.specs.Calls.{Part, Map, Clear as ClearPart, Event, Up, Down, Touch, Reach, Take, Leave, Enable, Cpu, Put, CtlrBegin, CtlrEnd, ItsBegin, Operation, Access, Device, Residence, Place, Done, Stalls, copy_at, ctlr_events, redist_events, its_written, is_in_queue, memory_written, icc_events, its_events, access_events, device_events, takes_turn, lpi_event, queue_event, command_words, command_parts, next_offset, Happened, is_beside, named_of, Beside, Makes, ArePartsThen, IsCommand, AreCommands, IsPlainCall, AreStarted, IsItsCall, IsItsWrite, IsCall, left_by, View, is_its_enabled, Cbaser, words_read}
 use Rattle.floor_histories.specs.GicCall.declared.command.Part.TheVariants.{Forget, Retarget, Raise as RaisePart, Configure}
 use Rattle.floor_histories.specs.GicCall.declared.event.Event.TheVariants.{Raise, Read, ItsEnd, Queue}
 use Rattle.floor_histories.specs.GicCall.Call.{starts_commands}
-use Rattle.law_histories.proofs.QuietLemmas.{is_spread, is_its, is_quiet, none_kept, AreSpreadBy, quiet, spread, dist_by, redist_quiet, memory_quiet, icc_quiet}
+use Rattle.floor_histories.proofs.GicCall.TraceLemmas.{its_made, access_made, op_made}
+use Rattle.law_histories.proofs.QuietLemmas.{is_spread, is_its, is_quiet, none_kept, AreSpreadBy, quiet, spread, dist_by, redist_quiet, memory_quiet, icc_quiet, is_moving}
 
 -- the events of a piece
 abbrev pub events_of : List Happened → List Event
@@ -76,7 +78,7 @@ unspread_makes actor view events places before piece all makes =
 
 -- quiet events are none of them
 unspread_quiet : (events : List Event) → list_all is_quiet events ≡ true → filter is_spread events ≡ []
-unspread_quiet events all = none_kept is_spread is_quiet (λ event h. of (is_spread event) (not (is_its event)) h) events all
+unspread_quiet events all = none_kept is_spread is_quiet (λ event h. of (is_spread event) (not (is_its event)) (and_parts (not (is_spread event) && not (is_its event)) (not (is_moving event)) h).0) events all
   where
     of : (b c : Bool) → (not b && c) ≡ true → b ≡ false
     of true c h = absurd (cc)
@@ -125,21 +127,21 @@ both_none : (one other : List Happened) → spreads_of one ≡ [] → spreads_of
 both_none one other h k = spreads_both one other ∙ ap (λ xs. xs ++ spreads_of other) h ∙ k
 
 unspread_parts :
-    (actor : Option ℕ) (shape : GuestShape) (targets : ℕ → Option ℕ) (parts : List Part) (Rest : List Happened → List Happened → Type 0) → ((before after : List Happened) → Rest before after → spreads_of after ≡ [])
-    → (before piece : List Happened) → ArePartsThen actor shape targets parts Rest before piece → spreads_of piece ≡ []
-unspread_parts actor shape targets [] Rest later before piece is = later before piece is
-unspread_parts actor shape targets (part ∷ parts) Rest later before piece is =
+    (actor : Option ℕ) (shape : GuestShape) (targets : ℕ → Option ℕ) (words : List Happened) (parts : List Part) (Rest : List Happened → Type 0) → ((after : List Happened) → Rest after → spreads_of after ≡ [])
+    → (before piece : List Happened) → ArePartsThen actor shape targets words parts Rest before piece → spreads_of piece ≡ []
+unspread_parts actor shape targets words [] Rest later before piece is = later piece is
+unspread_parts actor shape targets words (part ∷ parts) Rest later before piece is =
     ap spreads_of is.split
     ∙ both_none is.own is.rest
     (unspread_makes actor is.view (lpi_event shape is.view targets part ∷ []) _ before is.own (ap (λ b. not b && true) (lpi_unspread shape is.view targets part)) is.made)
-    (unspread_parts actor shape targets parts Rest later (before ++ is.own) is.rest is.later)
+    (unspread_parts actor shape targets words parts Rest later words is.rest is.later)
 
 unspread_command : (actor : Option ℕ) (shape : GuestShape) (view : View) (piece : List Happened) → IsCommand actor shape view piece → spreads_of piece ≡ []
 unspread_command actor shape view piece is =
     ap spreads_of is.split
     ∙ both_none is.fetch is.rest (unspread_makes actor view [] _ [] is.fetch refl is.fetched)
-    (unspread_parts actor shape view.targets (command_parts shape view) (λ before after. Makes actor view (queue_event shape view ∷ []) [] before after)
-    (λ before after makes. unspread_makes actor view (queue_event shape view ∷ []) [] before after (ap (λ b. not b && true) (queue_unspread shape view)) makes) is.fetch is.rest is.done)
+    (unspread_parts actor shape view.targets (words_read shape view) (command_parts shape view) (λ after. Makes actor view (queue_event shape view ∷ []) [] [] after)
+    (λ after makes. unspread_makes actor view (queue_event shape view ∷ []) [] [] after (ap (λ b. not b && true) (queue_unspread shape view)) makes) is.fetch is.rest is.done)
 
 unspread_commands : (actor : Option ℕ) (shape : GuestShape) (beside : Beside) (number : ℕ) (its : View) (views : List View) (piece : List Happened) → AreCommands actor shape beside number its views piece → spreads_of piece ≡ []
 unspread_commands actor shape beside number its [] piece is = unspread_makes actor its [] [] [] piece refl is.0
@@ -177,14 +179,14 @@ access_spreads shape view Memory offset size (Some value) = inl (unspread_quiet 
 
 plain_spreads : (shape : GuestShape) (beside : Beside) (vcpu : ℕ) (frame : Frame) (offset size : ℕ) (write : Option ℕ) (piece : List Happened) (answer : Option ℕ) → IsPlainCall shape beside vcpu frame offset size write piece answer → SpreadsAre shape (spreads_of piece)
 plain_spreads shape beside vcpu frame offset size write piece answer is =
-    subst (SpreadsAre shape) (sym (makes_spreads (Some vcpu) is.view _ _ [] piece is.made)) (access_spreads shape is.view frame offset size write)
+    subst (SpreadsAre shape) (sym (makes_spreads (Some vcpu) is.view _ _ [] piece (access_made is))) (access_spreads shape is.view frame offset size write)
 
 its_spreads : (shape : GuestShape) (beside : Beside) (vcpu offset size value : ℕ) (piece : List Happened) (answer : Option ℕ) → IsItsCall shape beside vcpu offset size value piece answer → spreads_of piece ≡ []
 its_spreads shape beside vcpu offset size value piece answer is =
     ap spreads_of is.split
     ∙ both_none (is.register ++ is.commands) is.last
     (both_none is.register is.commands
-    (unspread_makes (Some vcpu) is.view _ _ [] is.register (its_unspread shape is.view (its_decoded offset size) (Some value)) is.written)
+    (unspread_makes (Some vcpu) is.view _ _ [] is.register (its_unspread shape is.view (its_decoded offset size) (Some value)) (its_made is))
     (unspread_started (starts_commands shape is.view Its offset size (Some value)) (Some vcpu) shape beside _ is.views is.commands is.started))
     (unspread_makes (Some vcpu) is.view (ItsEnd ∷ []) [] [] is.last refl is.ended)
 
@@ -209,7 +211,7 @@ call_spreads shape beside (Some vcpu) (Access (Mem Its offset size None)) piece 
 call_spreads shape beside (Some vcpu) (Access (Mem Dist offset size write)) piece answer is = plain_spreads shape beside vcpu Dist offset size write piece answer is
 call_spreads shape beside (Some vcpu) (Access (Mem (Redist other) offset size write)) piece answer is = plain_spreads shape beside vcpu (Redist other) offset size write piece answer is
 call_spreads shape beside (Some vcpu) (Access (Mem Memory offset size write)) piece answer is = plain_spreads shape beside vcpu Memory offset size write piece answer is
-call_spreads shape beside None (Device op) piece answer is = inl (unspread_makes None is.view (device_events is.view op) _ [] piece (device_unspread is.view op) is.made)
+call_spreads shape beside None (Device op) piece answer is = inl (unspread_makes None is.view (device_events is.view op) [] [] piece (device_unspread is.view op) (op_made is))
 call_spreads shape beside (Some vcpu) Residence piece answer is = inl (spreads_named (Some vcpu) piece ∙ ap spreads_of is.0)
 call_spreads shape beside None (Access op) piece answer is = absurd is
 call_spreads shape beside (Some vcpu) (Device op) piece answer is = absurd is

@@ -1,15 +1,15 @@
 -- At the end of each command of a history that goes on until all its calls ended.
-use Rattle.std.proofs.Common.{◌≡◌, ℕ, ◌+◌, ◌≤◌, Bool, true, false, inl, inr, Contains, List, [], ◌∷◌, ◌++◌, fold, length, Option, option_map, Some, None, refl, sym, ap, ◌∙◌, subst, slice_index_or, arith}
+use Rattle.std.proofs.Common.{◌≡◌, ℕ, ◌+◌, ◌≤◌, Bool, true, false, inl, inr, List, [], ◌∷◌, ◌++◌, fold, length, Option, option_map, Some, None, refl, sym, ap, ◌∙◌, subst, slice_index_or, arith}
 use Rattle.std.proofs.lemmas.Bool.{cases_eq}
-use Rattle.std.proofs.lemmas.List.{append_assoc, map-append, length-append}
+use Rattle.std.proofs.lemmas.List.{append_assoc, map-append}
 use Rattle.floor_histories.specs.Words.{GuestShape}
 use Rattle.floor_histories.specs.ItsCmd.Command.{decoded}
 use Rattle.floor_histories.specs.Registers.{fault_number, Maps}
-use Rattle.floor_histories.specs.Calls.{Event, Up, Down, Touch, Reach, Take, Leave, Enable, Cpu, Put, CtlrBegin, CtlrEnd, ItsBegin, Found, Moment, Begin, Happens, QueueChange, Runs, Done, Stalls, parts, maps_done, Happened, GuestSpec, IsGoodGuest}
+use Rattle.floor_histories.specs.Calls.{Event, Up, Down, Touch, Reach, Take, Leave, Enable, Cpu, Put, CtlrBegin, CtlrEnd, ItsBegin, Found, Moment, Begin, Happens, QueueChange, Runs, Done, Stalls, parts, maps_done, Happened, GuestSpec, IsGoodGuest, command_targets}
 use Rattle.floor_histories.specs.GicCall.declared.event.Event.TheVariants.{Raise, Read, ItsEnd, Queue}
 use Rattle.floor_histories.specs.GicCall.declared.event.Moment.TheVariants.{End}
-use Rattle.floor_histories.specs.Histories.{Ideal, happened, Call, Course, vcpu_of, call_of, noted, made, seeing, gone_on, course_of, opening_course, IsEnded, IsCallEnded, GoesOn, IsHistory, IsWhole, last_of}
-use Rattle.law_histories.specs.Sync.{parts_in, commands_of, IsDone, IsStalled, SyncHolds}
+use Rattle.floor_histories.specs.Histories.{Ideal, happened, Call, Course, vcpu_of, call_of, targets_in, noted, made, seeing, gone_on, course_of, opening_course, IsEnded, IsCallEnded, GoesOn, IsHistory, IsWhole, last_of}
+use Rattle.law_histories.specs.Sync.{parts_in, begun_for, commands_of, IsDone, IsStalled, SyncHolds}
 use Rattle.law_histories.proofs.CourseLemmas.{IsCourse, opens, nobody_opens, nobody, begun_other, ended_other, made_here, made_other, noted_piece, none_is, goes, mark_is, course_both, goes_before}
 use Rattle.law_histories.proofs.ScanCalls.{takes_one, takes_of, takes_both, call_turn}
 use Rattle.law_histories.proofs.ScanLemmas.{Scan, scan_of, IsDoneBy, IsStalledBy, IsEndOf, AreEnds, ends_later}
@@ -25,8 +25,8 @@ pub record Finally (shape : GuestShape) (actor : ℕ) (call : Call) : Type 0 whe
   pub rest : List Happened
   pub piece_is : last.piece ≡ call.piece ++ rest
   pub maps_are : takes_of (events_of rest) ≡ 0 → last.maps ≡ call.maps
-  pub more : List (ℕ → List (Option ℕ))
-  pub done_is : last.done ≡ call.done ++ more
+  pub more : List (ℕ → Option ℕ)
+  pub commands_are : last.commands ≡ call.commands ++ more
 
 none_appended : {X : Type 0} (xs : List X) → xs ++ [] ≡ xs
 none_appended [] = refl
@@ -52,30 +52,31 @@ noted_maps ideal (Queue offset Runs) call h = refl
 noted_maps ideal (Queue offset (Done words)) call h = refl
 noted_maps ideal (Queue offset (Stalls fault)) call h = refl
 
-abbrev done_by : Event → Call → List (ℕ → List (Option ℕ))
-done_by (Queue offset Runs) call = []
-done_by (Queue offset change) call = call.targets ∷ []
-done_by event call = []
+abbrev begun_by : Ideal → Event → List (ℕ → Option ℕ)
+begun_by ideal ItsBegin = targets_in ideal ∷ []
+begun_by ideal (Queue offset Runs) = []
+begun_by ideal (Queue offset change) = targets_in ideal ∷ []
+begun_by ideal event = []
 
-noted_done : (ideal : Ideal) (event : Event) (call : Call) → (noted ideal event call).done ≡ call.done ++ done_by event call
-noted_done ideal (Raise key) call = sym (none_appended call.done)
-noted_done ideal (Up key) call = sym (none_appended call.done)
-noted_done ideal (Down key) call = sym (none_appended call.done)
-noted_done ideal (Touch key touching) call = sym (none_appended call.done)
-noted_done ideal (Reach key vcpu) call = sym (none_appended call.done)
-noted_done ideal (Take key vcpu) call = sym (none_appended call.done)
-noted_done ideal (Leave key vcpu) call = sym (none_appended call.done)
-noted_done ideal (Enable vcpu) call = sym (none_appended call.done)
-noted_done ideal (Cpu vcpu reg write) call = sym (none_appended call.done)
-noted_done ideal (Read place) call = sym (none_appended call.done)
-noted_done ideal (Put word value) call = sym (none_appended call.done)
-noted_done ideal (CtlrBegin enables) call = sym (none_appended call.done)
-noted_done ideal CtlrEnd call = sym (none_appended call.done)
-noted_done ideal ItsBegin call = sym (none_appended call.done)
-noted_done ideal ItsEnd call = sym (none_appended call.done)
-noted_done ideal (Queue offset Runs) call = sym (none_appended call.done)
-noted_done ideal (Queue offset (Done words)) call = refl
-noted_done ideal (Queue offset (Stalls fault)) call = refl
+noted_begun : (ideal : Ideal) (event : Event) (call : Call) → (noted ideal event call).commands ≡ call.commands ++ begun_by ideal event
+noted_begun ideal (Raise key) call = sym (none_appended call.commands)
+noted_begun ideal (Up key) call = sym (none_appended call.commands)
+noted_begun ideal (Down key) call = sym (none_appended call.commands)
+noted_begun ideal (Touch key touching) call = sym (none_appended call.commands)
+noted_begun ideal (Reach key vcpu) call = sym (none_appended call.commands)
+noted_begun ideal (Take key vcpu) call = sym (none_appended call.commands)
+noted_begun ideal (Leave key vcpu) call = sym (none_appended call.commands)
+noted_begun ideal (Enable vcpu) call = sym (none_appended call.commands)
+noted_begun ideal (Cpu vcpu reg write) call = sym (none_appended call.commands)
+noted_begun ideal (Read place) call = sym (none_appended call.commands)
+noted_begun ideal (Put word value) call = sym (none_appended call.commands)
+noted_begun ideal (CtlrBegin enables) call = sym (none_appended call.commands)
+noted_begun ideal CtlrEnd call = sym (none_appended call.commands)
+noted_begun ideal ItsBegin call = refl
+noted_begun ideal ItsEnd call = sym (none_appended call.commands)
+noted_begun ideal (Queue offset Runs) call = sym (none_appended call.commands)
+noted_begun ideal (Queue offset (Done words)) call = refl
+noted_begun ideal (Queue offset (Stalls fault)) call = refl
 
 no_more : (m n : ℕ) → m + n ≡ 0 → (m ≡ 0) × (n ≡ 0)
 no_more m n e = (omega (arith, e), omega (arith, e))
@@ -91,13 +92,13 @@ before_own shape actor ideal later event found call is =
       rest = one ∷ is.rest;
       piece_is = is.piece_is ∙ ap (λ p. (p ++ one ∷ []) ++ is.rest) (noted_piece ideal event call) ∙ append_assoc call.piece (one ∷ []) is.rest;
       maps_are = λ none. let both = no_more (takes_one event) (takes_of (events_of is.rest)) none in is.maps_are both.1 ∙ noted_maps ideal event call both.0;
-      more = done_by event call ++ is.more;
-      done_is = is.done_is ∙ ap (λ d. d ++ is.more) (noted_done ideal event call) ∙ append_assoc call.done (done_by event call) is.more;
+      more = begun_by ideal event ++ is.more;
+      commands_are = is.commands_are ∙ ap (λ d. d ++ is.more) (noted_begun ideal event call) ∙ append_assoc call.commands (begun_by ideal event) is.more;
     }
 
 -- and of another's
 before_other : (shape : GuestShape) (actor : ℕ) (later : Ideal) (call : Call) → Finally shape actor (seeing later call) → Finally shape actor call
-before_other shape actor later call is = record { last = is.last; answer = is.answer; ended = is.ended; rest = is.rest; piece_is = is.piece_is; maps_are = is.maps_are; more = is.more; done_is = is.done_is }
+before_other shape actor later call is = record { last = is.last; answer = is.answer; ended = is.ended; rest = is.rest; piece_is = is.piece_is; maps_are = is.maps_are; more = is.more; commands_are = is.commands_are }
 
 now_ended : (shape : GuestShape) (actor : ℕ) (call : Call) (answer : Option ℕ) → IsEnded shape actor call answer → Finally shape actor call
 now_ended shape actor call answer is = record {
@@ -108,14 +109,14 @@ now_ended shape actor call answer is = record {
   piece_is = sym (none_appended call.piece);
   maps_are = λ none. refl;
   more = [];
-  done_is = sym (none_appended call.done);
+  commands_are = sym (none_appended call.commands);
 }
 
 module _ (shape : GuestShape) (actor : ℕ) where
   in_none : {call : Call} (o : Option Call) → o ≡ None → o ≡ Some call → ⊥
   in_none o n s = absurd (cc)
 
-  finally : (course : Course) (moments : List Moment) (call : Call) → IsCourse shape course → GoesOn course moments → call_of course actor ≡ Some call → call_of (course_of course moments) actor ≡ None → Finally shape actor call
+  pub finally : (course : Course) (moments : List Moment) (call : Call) → IsCourse shape course → GoesOn course moments → call_of course actor ≡ Some call → call_of (course_of course moments) actor ≡ None → Finally shape actor call
   finally course [] call at going mine none = absurd (in_none (call_of course actor) none mine)
   finally course (Begin other operation ∷ moments) call at going mine none = elim (cases_eq other actor) [
     | inl e ↦ absurd (in_none (call_of course actor) (subst (λ n. call_of course n ≡ None) e (none_is (call_of course other) going.0.1)) mine)
@@ -140,12 +141,17 @@ module _ (shape : GuestShape) (actor : ℕ) where
 
 -- At the end of a command.
 
-index_at : {X : Type 0} (xs ys : List X) (x d : X) → slice_index_or (xs ++ x ∷ ys) (length xs) d ≡ x
-index_at [] ys x d = refl
-index_at (y ∷ xs) ys x d = index_at xs ys x d
+last_at : {X : Type 0} (x : X) (xs more : List X) (d : X) → slice_index_or ((x ∷ xs) ++ more) (length xs) d ≡ fold (λ before now. now) x xs
+last_at x [] more d = refl
+last_at x (y ∷ xs) more d = last_at y xs more d
 
-few_takes : (m n k : ℕ) → k ≤ 1 → 1 ≤ m → k ≡ m + (0 + n) → n ≡ 0
-few_takes m n k l h e = omega (arith, l, h, e)
+-- the last that a call noted of its commands, where that many began
+begun_last : (xs more : List (ℕ → Option ℕ)) (n : ℕ) → n + 1 ≡ length xs → slice_index_or (xs ++ more) n (λ id. None) ≡ fold (λ before now. now) (λ id. None) xs
+begun_last [] more n e = absurd (omega (arith, e))
+begun_last (x ∷ xs) more n e = ap (λ k. slice_index_or ((x ∷ xs) ++ more) k (λ id. None)) (omega (arith, e)) ∙ last_at x xs more (λ id. None)
+
+few_takes : (m n k : ℕ) → k ≤ 1 → 1 ≤ m → k ≡ m + (0 + n) → (m ≡ 1) × (n ≡ 0)
+few_takes m n k l h e = (omega (arith, l, h, e), omega (arith, l, h, e))
 
 -- an end of a command
 abbrev is_end : QueueChange → Bool
@@ -156,22 +162,15 @@ is_end change = true
 record IsEnding (shape : GuestShape) (course : Course) (actor offset : ℕ) (change : QueueChange) : Type 0 where
   pub call : Call
   pub its : call_of course actor ≡ Some call
-  pub targets : ℕ → Option ℕ
-  pub seen : (id : ℕ) → Contains (call.targets id) (targets id)
   pub all : ℕ → ℕ → Option ℕ
   pub scan : Scan
-  pub targets_are : targets ≡ all scan.number
+  pub targets_are : all scan.number ≡ begun_for call
   pub maps_are : scan.maps ≡ course.ideal.guest.tables
   pub made_are : scan.made ≡ parts_in call.piece
   pub end : IsEndOf shape all scan (Queue offset change)
 
 module _ (shape : GuestShape) (course : Course) (actor offset : ℕ) (change : QueueChange) (found : Found) (more : List Moment) (at : IsCourse shape course) (going : GoesOn course (Happens actor (Queue offset change) found ∷ more)) (holder : HasHolder course) (counted : AreCounted course)
     (none : call_of (course_of course (Happens actor (Queue offset change) found ∷ more)) actor ≡ None) (ends : is_end change ≡ true) where
-  done_now : (change : QueueChange) (call : Call) → is_end change ≡ true → (noted course.ideal (Queue offset change) call).done ≡ call.done ++ call.targets ∷ []
-  done_now Runs call h = absurd (cc)
-  done_now (Done words) call h = refl
-  done_now (Stalls fault) call h = refl
-
   is_ending : IsEnding shape course actor offset change
   is_ending =
       let mark = mark_is actor course.ideal.has_its going.0.allowed in
@@ -184,49 +183,38 @@ module _ (shape : GuestShape) (course : Course) (actor offset : ℕ) (change : Q
       let beside = is.ended.beside in
       let pieces : is.last.piece ≡ h.call.piece ++ one ∷ is.rest = is.piece_is ∙ ap (λ p. (p ++ one ∷ []) ++ is.rest) (noted_piece course.ideal (Queue offset change) h.call) ∙ append_assoc h.call.piece (one ∷ []) is.rest in
       let events : events_of is.last.piece ≡ events_of h.call.piece ++ Queue offset change ∷ events_of is.rest = ap events_of pieces ∙ map-append (λ (x : Happened). x.event) h.call.piece (one ∷ is.rest) in
-      let rest_takes : takes_of (events_of is.rest) ≡ 0 =
+      let few : (takes_of (events_of h.call.piece) ≡ 1) × (takes_of (events_of is.rest) ≡ 0) =
       few_takes (takes_of (events_of h.call.piece)) (takes_of (events_of is.rest)) turn.count turn.few h.took (sym turn.leads.turn.turns.takes ∙ ap takes_of events ∙ takes_both (events_of h.call.piece) (Queue offset change ∷ events_of is.rest)) in
-      let maps : beside.maps ≡ h.call.maps = is.ended.maps ∙ is.maps_are rest_takes ∙ noted_maps course.ideal (Queue offset change) h.call refl in
+      let maps : beside.maps ≡ h.call.maps = is.ended.maps ∙ is.maps_are few.1 ∙ noted_maps course.ideal (Queue offset change) h.call refl in
       let scan = scan_of beside.maps (start beside.maps) (events_of h.call.piece) in
-      let number : scan.number ≡ length h.call.done = counted actor h.call beside.maps h.its in
-      let done : is.last.done ≡ h.call.done ++ h.call.targets ∷ is.more = is.done_is ∙ ap (λ d. d ++ is.more) (done_now change h.call ends) ∙ append_assoc h.call.done (h.call.targets ∷ []) is.more in
-      let within : scan.number ≤ length is.last.done = within_done scan.number (length h.call.done) (length is.last.done) (length (h.call.targets ∷ is.more)) number (ap length done ∙ length-append h.call.done (h.call.targets ∷ is.more)) in
-      let window : slice_index_or (is.last.done ++ is.last.targets ∷ []) scan.number (λ id. []) ≡ h.call.targets =
-      ap (λ d. slice_index_or (d ++ is.last.targets ∷ []) scan.number (λ id. [])) done ∙ ap (λ d. slice_index_or d scan.number (λ id. [])) (append_assoc h.call.done (h.call.targets ∷ is.more) (is.last.targets ∷ []))
-      ∙ ap (λ n. slice_index_or (h.call.done ++ h.call.targets ∷ (is.more ++ is.last.targets ∷ [])) n (λ id. [])) number ∙ index_at h.call.done (is.more ++ is.last.targets ∷ []) h.call.targets (λ id. []) in
+      let number : scan.number + 1 ≡ length h.call.commands = ap (λ n. scan.number + n) (sym few.0) ∙ counted actor h.call beside.maps h.its in
+      let begun : beside.commands ≡ h.call.commands ++ (begun_by course.ideal (Queue offset change) ++ is.more) =
+      is.ended.commands ∙ is.commands_are ∙ ap (λ d. d ++ is.more) (noted_begun course.ideal (Queue offset change) h.call) ∙ append_assoc h.call.commands (begun_by course.ideal (Queue offset change)) is.more in
       record {
         call = h.call;
         its = h.its;
-        targets = beside.targets scan.number;
-        seen = λ id. subst (λ w. Contains (w id) (beside.targets scan.number id)) window (is.ended.targets scan.number id within);
-        all = beside.targets;
+        all = command_targets beside;
         scan = scan;
-        targets_are = refl;
+        targets_are = ap (λ cs. slice_index_or cs scan.number (λ id. None)) begun ∙ begun_last h.call.commands (begun_by course.ideal (Queue offset change) ++ is.more) scan.number number;
         maps_are = ap (λ m. (scan_in m h.call).maps) maps ∙ h.maps;
         made_are = made_is beside.maps h.call;
-        end = (ends_later shape beside.targets beside.maps (start beside.maps) (events_of h.call.piece) (Queue offset change ∷ events_of is.rest) (subst (AreEnds shape beside.targets beside.maps (start beside.maps)) events turn.leads.turn.scan_is.ends)).0;
+        end = (ends_later shape (command_targets beside) beside.maps (start beside.maps) (events_of h.call.piece) (Queue offset change ∷ events_of is.rest) (subst (AreEnds shape (command_targets beside) beside.maps (start beside.maps)) events turn.leads.turn.scan_is.ends)).0;
       }
-    where
-      within_done : (n m k l : ℕ) → n ≡ m → k ≡ m + l → n ≤ k
-      within_done n m k l e f = omega (arith, e, f)
 
 -- which the law says
 
-well_done : (shape : GuestShape) (maps : Maps) (call : Call) (words : List ℕ) (targets : ℕ → Option ℕ) (scan : Scan) → scan.maps ≡ maps → scan.made ≡ parts_in call.piece → ((id : ℕ) → Contains (call.targets id) (targets id)) → IsDoneBy shape targets scan words
-    → IsDone shape maps call words
-well_done shape maps call words targets scan maps_are made_are seen is = record {
+well_done : (shape : GuestShape) (maps : Maps) (call : Call) (words : List ℕ) (scan : Scan) → scan.maps ≡ maps → scan.made ≡ parts_in call.piece → IsDoneBy shape (begun_for call) scan words → IsDone shape maps call words
+well_done shape maps call words scan maps_are made_are is = record {
   command = is.command;
-  targets = targets;
   is = is.is;
   good = ap (λ m. fault_number shape m (decoded words)) (sym maps_are) ∙ is.good;
-  seen = seen;
-  done = sym made_are ∙ is.done ∙ ap (λ m. parts shape m targets is.command) maps_are;
+  done = sym made_are ∙ is.done ∙ ap (λ m. parts shape m (begun_for call) is.command) maps_are;
 }
 
 badly_stalled : (shape : GuestShape) (maps : Maps) (call : Call) (fault : ℕ) (scan : Scan) → scan.maps ≡ maps → scan.made ≡ parts_in call.piece → IsStalledBy shape scan fault → IsStalled shape maps call fault
 badly_stalled shape maps call fault scan maps_are made_are is = record { words = is.words; is = ap (λ m. fault_number shape m (decoded is.words)) (sym maps_are) ∙ is.is; nothing = sym made_are ∙ is.nothing }
 
-goes_all : (shape : GuestShape) (course : Course) (moments : List Moment) → IsCourse shape course → IsCourse shape (course_of course moments)
+pub goes_all : (shape : GuestShape) (course : Course) (moments : List Moment) → IsCourse shape course → IsCourse shape (course_of course moments)
 goes_all shape course [] at = at
 goes_all shape course (moment ∷ moments) at = goes_all shape (gone_on course moment) moments (goes shape course moment at)
 
@@ -284,7 +272,7 @@ sync_holds guest moments more good history whole = record {
   well = λ early late actor offset words found split.
       let all = ap (λ ms. ms ++ more) split ∙ append_assoc early (Happens actor (Queue offset (Done words)) found ∷ late) more in
       let is = ending guest good early (late ++ more) actor offset (Done words) found (subst (IsHistory guest) all history) (subst (IsWhole guest) all whole) refl in
-      record { call = is.call; its = is.its; well = well_done guest.shape (last_of guest early).guest.tables is.call words is.targets is.scan is.maps_are is.made_are is.seen (subst (λ t. IsDoneBy guest.shape t is.scan words) (sym is.targets_are) is.end) };
+      record { call = is.call; its = is.its; well = well_done guest.shape (last_of guest early).guest.tables is.call words is.scan is.maps_are is.made_are (subst (λ t. IsDoneBy guest.shape t is.scan words) is.targets_are is.end) };
   badly = λ early late actor offset fault found split.
       let all = ap (λ ms. ms ++ more) split ∙ append_assoc early (Happens actor (Queue offset (Stalls fault)) found ∷ late) more in
       let is = ending guest good early (late ++ more) actor offset (Stalls fault) found (subst (IsHistory guest) all history) (subst (IsWhole guest) all whole) refl in

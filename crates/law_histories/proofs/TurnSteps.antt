@@ -10,7 +10,7 @@ use Rattle.floor_histories.specs.Registers.{Maps}
 use Rattle.floor_histories.specs.Calls.{Event, Up, Down, Touch, Reach, Take, Leave, Enable, Cpu, Put, CtlrBegin, CtlrEnd, ItsBegin, Found, Moment, Begin, Happens, Runs, Done, Stalls, maps_done, Happened}
 use Rattle.floor_histories.specs.GicCall.declared.event.Event.TheVariants.{Raise, Read, ItsEnd, Queue}
 use Rattle.floor_histories.specs.GicCall.declared.event.Moment.TheVariants.{End}
-use Rattle.floor_histories.specs.Histories.{Ideal, is_allowed, happened, Call, Course, vcpu_of, call_of, begun, noted, made, seeing, gone_on, course_of, IsEnded, IsCallEnded, IsHappening, IsNext, GoesOn}
+use Rattle.floor_histories.specs.Histories.{Ideal, is_allowed, happened, Call, Course, vcpu_of, call_of, begun, noted, made, seeing, gone_on, course_of, IsEnded, IsCallEnded, IsHappening, IsNext, GoesOn, targets_in}
 use Rattle.law_histories.specs.Sync.{more_parts, parts_in}
 use Rattle.law_histories.proofs.CourseLemmas.{IsCourse, begun_here, begun_other, ended_here, ended_other, made_here, made_other, noted_piece, call_is, none_is, goes, mark_is}
 use Rattle.law_histories.proofs.ScanCalls.{takes_one, takes_of, takes_both, holds, call_turn}
@@ -37,25 +37,38 @@ scan_more maps ideal event found call = ap (scan_of maps (start maps)) (events_m
 
 -- How many commands ended.
 
-count_more : (maps : Maps) (scan : Scan) (ideal : Ideal) (event : Event) (call : Call) → scan.number ≡ length call.done → (scanned maps scan event).number ≡ length (noted ideal event call).done
-count_more maps scan ideal (Raise key) call h = h
-count_more maps scan ideal (Up key) call h = h
-count_more maps scan ideal (Down key) call h = h
-count_more maps scan ideal (Touch key touching) call h = h
-count_more maps scan ideal (Reach key vcpu) call h = h
-count_more maps scan ideal (Take key vcpu) call h = h
-count_more maps scan ideal (Leave key vcpu) call h = h
-count_more maps scan ideal (Enable vcpu) call h = h
-count_more maps scan ideal (Cpu vcpu reg write) call h = h
-count_more maps scan ideal (Read place) call h = h
-count_more maps scan ideal (Put word value) call h = h
-count_more maps scan ideal (CtlrBegin enables) call h = h
-count_more maps scan ideal CtlrEnd call h = h
-count_more maps scan ideal ItsBegin call h = h
-count_more maps scan ideal ItsEnd call h = h
-count_more maps scan ideal (Queue offset Runs) call h = h
-count_more maps scan ideal (Queue offset (Done words)) call h = ap (λ n. n + 1) h ∙ sym (length-append call.done (call.targets ∷ []))
-count_more maps scan ideal (Queue offset (Stalls fault)) call h = ap (λ n. n + 1) h ∙ sym (length-append call.done (call.targets ∷ []))
+-- with how often the call took the ITS it is how many commands began
+count_more : (maps : Maps) (scan : Scan) (ideal : Ideal) (event : Event) (call : Call) (n : ℕ) → scan.number + n ≡ length call.commands → (scanned maps scan event).number + (n + takes_one event) ≡ length (noted ideal event call).commands
+count_more maps scan ideal event call n h = of event
+  where
+    stays : scan.number + (n + 0) ≡ length call.commands
+    stays = omega (arith, h)
+
+    begins : scan.number + (n + 1) ≡ length (call.commands ++ targets_in ideal ∷ [])
+    begins = let more = length-append call.commands (targets_in ideal ∷ []) in omega (arith, h, more)
+
+    ends : scan.number + 1 + (n + 0) ≡ length (call.commands ++ targets_in ideal ∷ [])
+    ends = let more = length-append call.commands (targets_in ideal ∷ []) in omega (arith, h, more)
+
+    of : (event : Event) → (scanned maps scan event).number + (n + takes_one event) ≡ length (noted ideal event call).commands
+    of (Raise key) = stays
+    of (Up key) = stays
+    of (Down key) = stays
+    of (Touch key touching) = stays
+    of (Reach key vcpu) = stays
+    of (Take key vcpu) = stays
+    of (Leave key vcpu) = stays
+    of (Enable vcpu) = stays
+    of (Cpu vcpu reg write) = stays
+    of (Read place) = stays
+    of (Put word value) = stays
+    of (CtlrBegin enables) = stays
+    of CtlrEnd = stays
+    of ItsBegin = begins
+    of ItsEnd = stays
+    of (Queue offset Runs) = stays
+    of (Queue offset (Done words)) = ends
+    of (Queue offset (Stalls fault)) = ends
 
 -- What was done of the next one.
 
@@ -141,7 +154,7 @@ pub data TurnKind (actor : ℕ) (event : Event) (state : Ideal) : Type 0 where
   takes_turn : event ≡ ItsBegin → TurnKind actor event state
   frees_turn : event ≡ ItsEnd → TurnKind actor event state
 
-kind_of : (actor : ℕ) (event : Event) (state : Ideal) → TurnKind actor event state
+pub kind_of : (actor : ℕ) (event : Event) (state : Ideal) → TurnKind actor event state
 kind_of actor ItsBegin state = takes_turn refl
 kind_of actor ItsEnd state = frees_turn refl
 kind_of actor (Raise key) state = plain (plain_moves actor (Raise key) state refl refl refl (λ taken scan. refl) (λ call. refl))
@@ -244,7 +257,7 @@ module _ (shape : GuestShape) (course : Course) (at : IsCourse shape course) (ho
       (λ same now. subst (IsHolder (gone_on course (Happens actor ItsBegin found))) (same_number actor other now) (holder_takes actor found is.within)) e has
   event_holds actor event found is (frees_turn e) other has = absurd (none-some other (sym (ap (λ ev. (happened actor ev course.ideal).has_its) e) ∙ has))
 
-  moment_holds : (moment : Moment) → IsNext course moment → HasHolder (gone_on course moment)
+  pub moment_holds : (moment : Moment) → IsNext course moment → HasHolder (gone_on course moment)
   moment_holds (Begin actor operation) next other has =
       let h = holder other has in
       record { call = h.call; its = begun_other course actor operation other (λ e. none-some_call actor (none_is (call_of course actor) next.1) (subst (λ n. call_of course n ≡ Some h.call) e h.its)) ∙ h.its; took = h.took; held = h.held; maps = h.maps }
@@ -268,8 +281,11 @@ all_hold shape course (moment ∷ moments) at going holder = all_hold shape (gon
 
 -- How many commands of a call ended.
 
+abbrev pub IsCounted : Maps → Call → Type 0
+IsCounted maps call = (scan_in maps call).number + takes_of (events_of call.piece) ≡ length call.commands
+
 abbrev pub AreCounted : Course → Type 0
-AreCounted course = (actor : ℕ) (call : Call) (maps : Maps) → call_of course actor ≡ Some call → (scan_in maps call).number ≡ length call.done
+AreCounted course = (actor : ℕ) (call : Call) (maps : Maps) → call_of course actor ≡ Some call → IsCounted maps call
 
 same_call : (one other : Call) → Some one ≡ Some other → one ≡ other
 same_call one other e = ap (λ o. option_map_or (λ (c : Call). c) o one) e
@@ -281,9 +297,9 @@ module _ (course : Course) (counted : AreCounted course) where
     | inr differ ↦ counted other call maps (sym (begun_other course actor operation other differ) ∙ is)
   ]
     where
-      begun_counts : other ≡ actor → (scan_in maps call).number ≡ length call.done
+      begun_counts : other ≡ actor → IsCounted maps call
       begun_counts e = elim (cases_lt actor (length course.calls)) [
-        | inl within ↦ subst (λ c. (scan_in maps c).number ≡ length c.done) (same_call (begun course.ideal operation) call (sym (begun_here course actor operation within) ∙ ap (call_of (gone_on course (Begin actor operation))) (sym e) ∙ is)) refl
+        | inl within ↦ subst (IsCounted maps) (same_call (begun course.ideal operation) call (sym (begun_here course actor operation within) ∙ ap (call_of (gone_on course (Begin actor operation))) (sym e) ∙ is)) refl
         | inr past ↦ absurd (none-some_call (get_or_past (slice_set course.calls actor (Some (begun course.ideal operation))) actor None (omega (arith, past, length-set course.calls actor (Some (begun course.ideal operation))))) (ap (call_of (gone_on course (Begin actor operation))) (sym e) ∙ is))
       ]
         where
@@ -304,16 +320,21 @@ module _ (course : Course) (counted : AreCounted course) where
       later : Ideal
       later = happened actor event course.ideal
 
-      made_counts : other ≡ actor → (scan_in maps call).number ≡ length call.done
+      one_take : (m n : ℕ) → m + (n + 0) ≡ m + n
+      one_take m n = omega arith
+
+      made_counts : other ≡ actor → IsCounted maps call
       made_counts e =
           let mine = call_is (call_of course actor) next.within in
           let now = made_here course actor event found mine.0 mine.1 in
-          subst (λ c. (scan_in maps c).number ≡ length c.done) (same_call _ call (sym now ∙ ap (call_of (gone_on course (Happens actor event found))) (sym e) ∙ is))
-          (ap (λ (s : Scan). s.number) (scan_more maps course.ideal event found mine.0) ∙ count_more maps (scan_in maps mine.0) course.ideal event mine.0 (counted actor mine.0 maps mine.1))
+          subst (IsCounted maps) (same_call _ call (sym now ∙ ap (call_of (gone_on course (Happens actor event found))) (sym e) ∙ is))
+          (ap (λ (s : Scan). s.number + takes_of (events_of (made course.ideal event found mine.0).piece)) (scan_more maps course.ideal event found mine.0)
+          ∙ ap (λ n. (scanned maps (scan_in maps mine.0) event).number + n) (ap takes_of (events_more course.ideal event found mine.0) ∙ takes_both (events_of mine.0.piece) (event ∷ []) ∙ one_take (takes_of (events_of mine.0.piece)) (takes_one event))
+          ∙ count_more maps (scan_in maps mine.0) course.ideal event mine.0 (takes_of (events_of mine.0.piece)) (counted actor mine.0 maps mine.1))
 
-      other_counts : (o : Option Call) → call_of course other ≡ o → option_map (seeing (happened actor event course.ideal)) o ≡ Some call → (scan_in maps call).number ≡ length call.done
+      other_counts : (o : Option Call) → call_of course other ≡ o → option_map (seeing (happened actor event course.ideal)) o ≡ Some call → IsCounted maps call
       other_counts None e h = absurd (cc)
-      other_counts (Some before) e h = subst (λ c. (scan_in maps c).number ≡ length c.done) (same_call (seeing (happened actor event course.ideal) before) call h) (counted other before maps e)
+      other_counts (Some before) e h = subst (IsCounted maps) (same_call (seeing (happened actor event course.ideal) before) call h) (counted other before maps e)
 
 pub all_counted : (shape : GuestShape) (course : Course) (moments : List Moment) → IsCourse shape course → GoesOn course moments → AreCounted course → AreCounted (course_of course moments)
 all_counted shape course [] at going counted = counted

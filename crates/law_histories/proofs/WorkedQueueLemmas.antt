@@ -1,15 +1,14 @@
 -- The worked queue: each of its conditions computes.
-use Rattle.std.proofs.Common.{◌≡◌, ◌≢◌, ℕ, ◌≤◌, ◌<◌, ◌^◌, zero, suc, false, IsTrue, Contains, List, [], ◌∷◌, ◌++◌, length, Option, Some, None, is_none, refl, subst, replicate, arith, slice_index_or}
-use Rattle.std.specs.List.{AllByRecursion}
-use Rattle.std.proofs.lemmas.List.{length-append}
+use Rattle.std.proofs.Common.{ℕ, ◌^◌, false, IsTrue, List, [], ◌∷◌, ◌++◌, Option, Some, None, is_none, refl, arith}
 use Rattle.std.proofs.lemmas.List.Elements.{All-nil, All-cons, All-from_recursion}
-use Rattle.floor_histories.specs.Calls.{Ram, ItsCtlr, Cbaser, Cwriter, Put, ItsBegin, Place, Runs, Done, Stalls, queue_event, Happened, HandsOut, IsLastRead, Beside, IsCommand, AreCommands, IsItsCall, held_at, left_by, View, IsGoodGuest, IsGoodPreset}
+use Rattle.floor_histories.specs.Calls.{PlainWord, Ram, ItsCtlr, Cbaser, Cwriter, Put, ItsBegin, Place, QueueChange, Runs, Done, Stalls, queue_event, Happened, HandsOut, IsLastRead, Beside, IsCommand, AreCommands, IsItsCall, held_at, left_by, View, IsGoodGuest, IsGoodPreset}
 use Rattle.floor_histories.specs.GicCall.declared.event.Event.TheVariants.{Read, ItsEnd, Queue}
 use Rattle.floor_histories.specs.GicCall.declared.event.Found.TheVariants.{Nothing, Word as FoundWord, Queue as FoundQueue}
 use Rattle.floor_histories.specs.GicCall.declared.event.Place.TheVariants.{Word, Queue as QueuePlace}
 use Rattle.floor_histories.specs.Histories.{view_at, Call, Course, GoesOn, IsHistory, opening_course, course_of, last_of}
 use Rattle.floor_histories.specs.GicHistory.State.{opening}
-use Rattle.floor_histories.proofs.GicHistory.CallLemmas.{is_some_window, head_in, call_ended, goes_on, hands_one}
+use Rattle.floor_histories.proofs.GicCall.ReadLemmas.{last_read}
+use Rattle.floor_histories.proofs.GicHistory.CallLemmas.{call_ended, goes_on, hands_one}
 use Rattle.law_histories.specs.WorkedQueue.{its_guest, stores, makes_queue, enables_its, maps_collection, syncs, before_write, to_sync, to_end, QueueIsSynced}
 
 -- what is found of the guest as it opens, once it has a queue, and once its ITS is enabled
@@ -32,18 +31,6 @@ second = left_by its_guest.shape first (queue_event its_guest.shape first)
 abbrev third : View
 third = left_by its_guest.shape second (queue_event its_guest.shape second)
 
-pub other_ram : (m n : ℕ) → m ≢ n → Read (Word (Ram m)) ≡ Read (Word (Ram n)) → ⊥
-other_ram m n differ e = differ (cc)
-
--- the same function is the first of each window
-in_each : (windows : List (ℕ → List (Option ℕ))) (targets : ℕ → Option ℕ) → AllByRecursion (λ window. (id : ℕ) → IsTrue (is_some_window (window id)) × (slice_index_or (window id) 0 None ≡ targets id)) windows → (number id : ℕ) → number < length windows → Contains (slice_index_or windows number (λ id. []) id) (targets id)
-in_each [] targets all number id l = absurd (omega (arith, l))
-in_each (window ∷ windows) targets all zero id l = let is = all.0 id in subst (Contains (window id)) is.1 (head_in (window id) is.0)
-in_each (window ∷ windows) targets all (suc number) id l = in_each windows targets all.1 number id (omega (arith, l))
-
-in_windows : (done : List (ℕ → List (Option ℕ))) (last : ℕ → List (Option ℕ)) (targets : ℕ → Option ℕ) → AllByRecursion (λ window. (id : ℕ) → IsTrue (is_some_window (window id)) × (slice_index_or (window id) 0 None ≡ targets id)) (done ++ last ∷ []) → (number id : ℕ) → number ≤ length done → Contains (slice_index_or (done ++ last ∷ []) number (λ id. []) id) (targets id)
-in_windows done last targets all number id l = in_each (done ++ last ∷ []) targets all number id (omega (arith, l, length-append done (last ∷ [])))
-
 pub its_good : IsGoodGuest its_guest
 its_good = record {
   shape = record { some_vcpu = omega arith; vcpus = omega arith; spis = omega arith; spi_blocks = refl; espis = omega arith; espi_blocks = refl; devices = omega arith; lpis = omega arith; ram = omega arith; ram_words = refl };
@@ -53,59 +40,147 @@ its_good = record {
 abbrev from : Course
 from = opening_course its_guest
 
+-- Pieces.
+
+abbrev pub begins : Happened
+begins = record { event = ItsBegin; found = Nothing }
+
+abbrev pub ends : Happened
+ends = record { event = ItsEnd; found = Nothing }
+
+abbrev pub word_read : PlainWord → ℕ → Happened
+word_read word value = record { event = Read (Word word); found = FoundWord value }
+
+abbrev pub queue_read : Happened
+queue_read = record { event = Read QueuePlace; found = FoundQueue 0 false }
+
+abbrev pub puts : PlainWord → ℕ → ℕ → Happened
+puts word value before = record { event = Put word value; found = FoundWord before }
+
+abbrev pub queue_goes : ℕ → QueueChange → Happened
+queue_goes offset change = record { event = Queue offset change; found = Nothing }
+
+-- what a piece has of its places, and of its events
+abbrev IsRead : View → List Happened → Place → Type 0
+IsRead view piece place = IsLastRead place (held_at view place) piece
+
+abbrev Hands : View → Happened → Type 0
+Hands view happened = HandsOut view happened.event happened.found
+
+-- The commands.
+
+-- their doublewords
+abbrev first_words : List Happened
+first_words = word_read (Ram 0) 9 ∷ word_read (Ram 1) 0 ∷ word_read (Ram 2) (2 ^ 63) ∷ word_read (Ram 3) 0 ∷ []
+
+abbrev second_words : List Happened
+second_words = word_read (Ram 4) 5 ∷ word_read (Ram 5) 0 ∷ word_read (Ram 6) 0 ∷ word_read (Ram 7) 0 ∷ []
+
+abbrev third_words : List Happened
+third_words = word_read (Ram 8) 0 ∷ word_read (Ram 9) 0 ∷ word_read (Ram 10) 0 ∷ word_read (Ram 11) 0 ∷ []
+
+-- and how the queue goes on after each
+abbrev first_end : Happened
+first_end = queue_goes 32 (Done maps_collection)
+
+abbrev second_end : Happened
+second_end = queue_goes 64 (Done syncs)
+
+abbrev third_end : Happened
+third_end = queue_goes 64 (Stalls 10)
+
 -- an ITS that had no map as a call took it, and an LPI that was for nobody all along
 abbrev steady : Beside
-steady = record { maps = enabled.maps; targets = λ number. enabled.targets }
+steady = record { maps = enabled.maps; targets = enabled.targets; commands = enabled.targets ∷ enabled.targets ∷ enabled.targets ∷ enabled.targets ∷ [] }
 
-first_is : IsCommand (Some 0) its_guest.shape first ((record { event = Read (Word (Ram 0)); found = FoundWord 9 }) ∷ (record { event = Read (Word (Ram 1)); found = FoundWord 0 }) ∷ (record { event = Read (Word (Ram 2)); found = FoundWord (2 ^ 63) }) ∷ (record { event = Read (Word (Ram 3)); found = FoundWord 0 }) ∷ (record { event = Queue 32 (Done maps_collection); found = Nothing }) ∷ [])
+first_is : IsCommand (Some 0) its_guest.shape first (first_words ++ first_end ∷ [])
 first_is = record {
   taken = refl;
-  fetch = (record { event = Read (Word (Ram 0)); found = FoundWord 9 }) ∷ (record { event = Read (Word (Ram 1)); found = FoundWord 0 }) ∷ (record { event = Read (Word (Ram 2)); found = FoundWord (2 ^ 63) }) ∷ (record { event = Read (Word (Ram 3)); found = FoundWord 0 }) ∷ [];
-  rest = (record { event = Queue 32 (Done maps_collection); found = Nothing }) ∷ [];
+  fetch = first_words;
+  rest = first_end ∷ [];
   split = refl;
-  fetched = record { events_are = refl; found = All-nil _; reads = All-from_recursion (λ (place : Place). IsLastRead place (held_at first place) ((record { event = Read (Word (Ram 0)); found = FoundWord 9 }) ∷ (record { event = Read (Word (Ram 1)); found = FoundWord 0 }) ∷ (record { event = Read (Word (Ram 2)); found = FoundWord (2 ^ 63) }) ∷ (record { event = Read (Word (Ram 3)); found = FoundWord 0 }) ∷ [])) ((Word (Ram 0)) ∷ (Word (Ram 1)) ∷ (Word (Ram 2)) ∷ (Word (Ram 3)) ∷ []) (record { before = []; after = (record { event = Read (Word (Ram 1)); found = FoundWord 0 }) ∷ (record { event = Read (Word (Ram 2)); found = FoundWord (2 ^ 63) }) ∷ (record { event = Read (Word (Ram 3)); found = FoundWord 0 }) ∷ []; split = refl; last = All-from_recursion (λ (happened : Happened). happened.event ≡ Read (Word (Ram 0)) → ⊥) ((record { event = Read (Word (Ram 1)); found = FoundWord 0 }) ∷ (record { event = Read (Word (Ram 2)); found = FoundWord (2 ^ 63) }) ∷ (record { event = Read (Word (Ram 3)); found = FoundWord 0 }) ∷ []) ((λ e. other_ram 1 0 (omega arith) e), ((λ e. other_ram 2 0 (omega arith) e), ((λ e. other_ram 3 0 (omega arith) e), tt))) }, (record { before = (record { event = Read (Word (Ram 0)); found = FoundWord 9 }) ∷ []; after = (record { event = Read (Word (Ram 2)); found = FoundWord (2 ^ 63) }) ∷ (record { event = Read (Word (Ram 3)); found = FoundWord 0 }) ∷ []; split = refl; last = All-from_recursion (λ (happened : Happened). happened.event ≡ Read (Word (Ram 1)) → ⊥) ((record { event = Read (Word (Ram 2)); found = FoundWord (2 ^ 63) }) ∷ (record { event = Read (Word (Ram 3)); found = FoundWord 0 }) ∷ []) ((λ e. other_ram 2 1 (omega arith) e), ((λ e. other_ram 3 1 (omega arith) e), tt)) }, (record { before = (record { event = Read (Word (Ram 0)); found = FoundWord 9 }) ∷ (record { event = Read (Word (Ram 1)); found = FoundWord 0 }) ∷ []; after = (record { event = Read (Word (Ram 3)); found = FoundWord 0 }) ∷ []; split = refl; last = All-from_recursion (λ (happened : Happened). happened.event ≡ Read (Word (Ram 2)) → ⊥) ((record { event = Read (Word (Ram 3)); found = FoundWord 0 }) ∷ []) ((λ e. other_ram 3 2 (omega arith) e), tt) }, (record { before = (record { event = Read (Word (Ram 0)); found = FoundWord 9 }) ∷ (record { event = Read (Word (Ram 1)); found = FoundWord 0 }) ∷ (record { event = Read (Word (Ram 2)); found = FoundWord (2 ^ 63) }) ∷ []; after = []; split = refl; last = All-from_recursion (λ (happened : Happened). happened.event ≡ Read (Word (Ram 3)) → ⊥) ([]) tt }, tt)))) };
+  whole = refl;
+  fetched = record {
+    events_are = refl;
+    found = All-nil _;
+    reads = All-from_recursion (IsRead first first_words) (Word (Ram 0) ∷ Word (Ram 1) ∷ Word (Ram 2) ∷ Word (Ram 3) ∷ []) (
+      last_read [] (word_read (Ram 1) 0 ∷ word_read (Ram 2) (2 ^ 63) ∷ word_read (Ram 3) 0 ∷ []) refl,
+      (
+        last_read (word_read (Ram 0) 9 ∷ []) (word_read (Ram 2) (2 ^ 63) ∷ word_read (Ram 3) 0 ∷ []) refl,
+        (last_read (word_read (Ram 0) 9 ∷ word_read (Ram 1) 0 ∷ []) (word_read (Ram 3) 0 ∷ []) refl, (last_read (word_read (Ram 0) 9 ∷ word_read (Ram 1) 0 ∷ word_read (Ram 2) (2 ^ 63) ∷ []) [] refl, tt)),
+      ),
+    );
+  };
   done = record { events_are = refl; found = hands_one first (Queue 32 (Done maps_collection)) Nothing refl; reads = All-nil _ };
 }
 
-second_is : IsCommand (Some 0) its_guest.shape second ((record { event = Read (Word (Ram 4)); found = FoundWord 5 }) ∷ (record { event = Read (Word (Ram 5)); found = FoundWord 0 }) ∷ (record { event = Read (Word (Ram 6)); found = FoundWord 0 }) ∷ (record { event = Read (Word (Ram 7)); found = FoundWord 0 }) ∷ (record { event = Queue 64 (Done syncs); found = Nothing }) ∷ [])
+second_is : IsCommand (Some 0) its_guest.shape second (second_words ++ second_end ∷ [])
 second_is = record {
   taken = refl;
-  fetch = (record { event = Read (Word (Ram 4)); found = FoundWord 5 }) ∷ (record { event = Read (Word (Ram 5)); found = FoundWord 0 }) ∷ (record { event = Read (Word (Ram 6)); found = FoundWord 0 }) ∷ (record { event = Read (Word (Ram 7)); found = FoundWord 0 }) ∷ [];
-  rest = (record { event = Queue 64 (Done syncs); found = Nothing }) ∷ [];
+  fetch = second_words;
+  rest = second_end ∷ [];
   split = refl;
-  fetched = record { events_are = refl; found = All-nil _; reads = All-from_recursion (λ (place : Place). IsLastRead place (held_at second place) ((record { event = Read (Word (Ram 4)); found = FoundWord 5 }) ∷ (record { event = Read (Word (Ram 5)); found = FoundWord 0 }) ∷ (record { event = Read (Word (Ram 6)); found = FoundWord 0 }) ∷ (record { event = Read (Word (Ram 7)); found = FoundWord 0 }) ∷ [])) ((Word (Ram 4)) ∷ (Word (Ram 5)) ∷ (Word (Ram 6)) ∷ (Word (Ram 7)) ∷ []) (record { before = []; after = (record { event = Read (Word (Ram 5)); found = FoundWord 0 }) ∷ (record { event = Read (Word (Ram 6)); found = FoundWord 0 }) ∷ (record { event = Read (Word (Ram 7)); found = FoundWord 0 }) ∷ []; split = refl; last = All-from_recursion (λ (happened : Happened). happened.event ≡ Read (Word (Ram 4)) → ⊥) ((record { event = Read (Word (Ram 5)); found = FoundWord 0 }) ∷ (record { event = Read (Word (Ram 6)); found = FoundWord 0 }) ∷ (record { event = Read (Word (Ram 7)); found = FoundWord 0 }) ∷ []) ((λ e. other_ram 5 4 (omega arith) e), ((λ e. other_ram 6 4 (omega arith) e), ((λ e. other_ram 7 4 (omega arith) e), tt))) }, (record { before = (record { event = Read (Word (Ram 4)); found = FoundWord 5 }) ∷ []; after = (record { event = Read (Word (Ram 6)); found = FoundWord 0 }) ∷ (record { event = Read (Word (Ram 7)); found = FoundWord 0 }) ∷ []; split = refl; last = All-from_recursion (λ (happened : Happened). happened.event ≡ Read (Word (Ram 5)) → ⊥) ((record { event = Read (Word (Ram 6)); found = FoundWord 0 }) ∷ (record { event = Read (Word (Ram 7)); found = FoundWord 0 }) ∷ []) ((λ e. other_ram 6 5 (omega arith) e), ((λ e. other_ram 7 5 (omega arith) e), tt)) }, (record { before = (record { event = Read (Word (Ram 4)); found = FoundWord 5 }) ∷ (record { event = Read (Word (Ram 5)); found = FoundWord 0 }) ∷ []; after = (record { event = Read (Word (Ram 7)); found = FoundWord 0 }) ∷ []; split = refl; last = All-from_recursion (λ (happened : Happened). happened.event ≡ Read (Word (Ram 6)) → ⊥) ((record { event = Read (Word (Ram 7)); found = FoundWord 0 }) ∷ []) ((λ e. other_ram 7 6 (omega arith) e), tt) }, (record { before = (record { event = Read (Word (Ram 4)); found = FoundWord 5 }) ∷ (record { event = Read (Word (Ram 5)); found = FoundWord 0 }) ∷ (record { event = Read (Word (Ram 6)); found = FoundWord 0 }) ∷ []; after = []; split = refl; last = All-from_recursion (λ (happened : Happened). happened.event ≡ Read (Word (Ram 7)) → ⊥) ([]) tt }, tt)))) };
+  whole = refl;
+  fetched = record {
+    events_are = refl;
+    found = All-nil _;
+    reads = All-from_recursion (IsRead second second_words) (Word (Ram 4) ∷ Word (Ram 5) ∷ Word (Ram 6) ∷ Word (Ram 7) ∷ []) (
+      last_read [] (word_read (Ram 5) 0 ∷ word_read (Ram 6) 0 ∷ word_read (Ram 7) 0 ∷ []) refl,
+      (
+        last_read (word_read (Ram 4) 5 ∷ []) (word_read (Ram 6) 0 ∷ word_read (Ram 7) 0 ∷ []) refl,
+        (last_read (word_read (Ram 4) 5 ∷ word_read (Ram 5) 0 ∷ []) (word_read (Ram 7) 0 ∷ []) refl, (last_read (word_read (Ram 4) 5 ∷ word_read (Ram 5) 0 ∷ word_read (Ram 6) 0 ∷ []) [] refl, tt)),
+      ),
+    );
+  };
   done = record { events_are = refl; found = hands_one second (Queue 64 (Done syncs)) Nothing refl; reads = All-nil _ };
 }
 
-third_is : IsCommand (Some 0) its_guest.shape third ((record { event = Read (Word (Ram 8)); found = FoundWord 0 }) ∷ (record { event = Read (Word (Ram 9)); found = FoundWord 0 }) ∷ (record { event = Read (Word (Ram 10)); found = FoundWord 0 }) ∷ (record { event = Read (Word (Ram 11)); found = FoundWord 0 }) ∷ (record { event = Queue 64 (Stalls 10); found = Nothing }) ∷ [])
+third_is : IsCommand (Some 0) its_guest.shape third (third_words ++ third_end ∷ [])
 third_is = record {
   taken = refl;
-  fetch = (record { event = Read (Word (Ram 8)); found = FoundWord 0 }) ∷ (record { event = Read (Word (Ram 9)); found = FoundWord 0 }) ∷ (record { event = Read (Word (Ram 10)); found = FoundWord 0 }) ∷ (record { event = Read (Word (Ram 11)); found = FoundWord 0 }) ∷ [];
-  rest = (record { event = Queue 64 (Stalls 10); found = Nothing }) ∷ [];
+  fetch = third_words;
+  rest = third_end ∷ [];
   split = refl;
-  fetched = record { events_are = refl; found = All-nil _; reads = All-from_recursion (λ (place : Place). IsLastRead place (held_at third place) ((record { event = Read (Word (Ram 8)); found = FoundWord 0 }) ∷ (record { event = Read (Word (Ram 9)); found = FoundWord 0 }) ∷ (record { event = Read (Word (Ram 10)); found = FoundWord 0 }) ∷ (record { event = Read (Word (Ram 11)); found = FoundWord 0 }) ∷ [])) ((Word (Ram 8)) ∷ (Word (Ram 9)) ∷ (Word (Ram 10)) ∷ (Word (Ram 11)) ∷ []) (record { before = []; after = (record { event = Read (Word (Ram 9)); found = FoundWord 0 }) ∷ (record { event = Read (Word (Ram 10)); found = FoundWord 0 }) ∷ (record { event = Read (Word (Ram 11)); found = FoundWord 0 }) ∷ []; split = refl; last = All-from_recursion (λ (happened : Happened). happened.event ≡ Read (Word (Ram 8)) → ⊥) ((record { event = Read (Word (Ram 9)); found = FoundWord 0 }) ∷ (record { event = Read (Word (Ram 10)); found = FoundWord 0 }) ∷ (record { event = Read (Word (Ram 11)); found = FoundWord 0 }) ∷ []) ((λ e. other_ram 9 8 (omega arith) e), ((λ e. other_ram 10 8 (omega arith) e), ((λ e. other_ram 11 8 (omega arith) e), tt))) }, (record { before = (record { event = Read (Word (Ram 8)); found = FoundWord 0 }) ∷ []; after = (record { event = Read (Word (Ram 10)); found = FoundWord 0 }) ∷ (record { event = Read (Word (Ram 11)); found = FoundWord 0 }) ∷ []; split = refl; last = All-from_recursion (λ (happened : Happened). happened.event ≡ Read (Word (Ram 9)) → ⊥) ((record { event = Read (Word (Ram 10)); found = FoundWord 0 }) ∷ (record { event = Read (Word (Ram 11)); found = FoundWord 0 }) ∷ []) ((λ e. other_ram 10 9 (omega arith) e), ((λ e. other_ram 11 9 (omega arith) e), tt)) }, (record { before = (record { event = Read (Word (Ram 8)); found = FoundWord 0 }) ∷ (record { event = Read (Word (Ram 9)); found = FoundWord 0 }) ∷ []; after = (record { event = Read (Word (Ram 11)); found = FoundWord 0 }) ∷ []; split = refl; last = All-from_recursion (λ (happened : Happened). happened.event ≡ Read (Word (Ram 10)) → ⊥) ((record { event = Read (Word (Ram 11)); found = FoundWord 0 }) ∷ []) ((λ e. other_ram 11 10 (omega arith) e), tt) }, (record { before = (record { event = Read (Word (Ram 8)); found = FoundWord 0 }) ∷ (record { event = Read (Word (Ram 9)); found = FoundWord 0 }) ∷ (record { event = Read (Word (Ram 10)); found = FoundWord 0 }) ∷ []; after = []; split = refl; last = All-from_recursion (λ (happened : Happened). happened.event ≡ Read (Word (Ram 11)) → ⊥) ([]) tt }, tt)))) };
+  whole = refl;
+  fetched = record {
+    events_are = refl;
+    found = All-nil _;
+    reads = All-from_recursion (IsRead third third_words) (Word (Ram 8) ∷ Word (Ram 9) ∷ Word (Ram 10) ∷ Word (Ram 11) ∷ []) (
+      last_read [] (word_read (Ram 9) 0 ∷ word_read (Ram 10) 0 ∷ word_read (Ram 11) 0 ∷ []) refl,
+      (
+        last_read (word_read (Ram 8) 0 ∷ []) (word_read (Ram 10) 0 ∷ word_read (Ram 11) 0 ∷ []) refl,
+        (last_read (word_read (Ram 8) 0 ∷ word_read (Ram 9) 0 ∷ []) (word_read (Ram 11) 0 ∷ []) refl, (last_read (word_read (Ram 8) 0 ∷ word_read (Ram 9) 0 ∷ word_read (Ram 10) 0 ∷ []) [] refl, tt)),
+      ),
+    );
+  };
   done = record { events_are = refl; found = hands_one third (Queue 64 (Stalls 10)) Nothing refl; reads = All-nil _ };
 }
 
-commands_are : AreCommands (Some 0) its_guest.shape steady 0 first (first ∷ second ∷ third ∷ []) ((record { event = Read (Word (Ram 0)); found = FoundWord 9 }) ∷ (record { event = Read (Word (Ram 1)); found = FoundWord 0 }) ∷ (record { event = Read (Word (Ram 2)); found = FoundWord (2 ^ 63) }) ∷ (record { event = Read (Word (Ram 3)); found = FoundWord 0 }) ∷ (record { event = Queue 32 (Done maps_collection); found = Nothing }) ∷ (record { event = Read (Word (Ram 4)); found = FoundWord 5 }) ∷ (record { event = Read (Word (Ram 5)); found = FoundWord 0 }) ∷ (record { event = Read (Word (Ram 6)); found = FoundWord 0 }) ∷ (record { event = Read (Word (Ram 7)); found = FoundWord 0 }) ∷ (record { event = Queue 64 (Done syncs); found = Nothing }) ∷ (record { event = Read (Word (Ram 8)); found = FoundWord 0 }) ∷ (record { event = Read (Word (Ram 9)); found = FoundWord 0 }) ∷ (record { event = Read (Word (Ram 10)); found = FoundWord 0 }) ∷ (record { event = Read (Word (Ram 11)); found = FoundWord 0 }) ∷ (record { event = Queue 64 (Stalls 10); found = Nothing }) ∷ [])
+abbrev second_on : List Happened
+second_on = second_words ++ second_end ∷ third_words ++ third_end ∷ []
+
+abbrev all_commands : List Happened
+all_commands = first_words ++ first_end ∷ second_words ++ second_end ∷ third_words ++ third_end ∷ []
+
+commands_are : AreCommands (Some 0) its_guest.shape steady 0 first (first ∷ second ∷ third ∷ []) all_commands
 commands_are = record {
   same = record { ctlr = refl; cbaser = refl; cwriter = refl; offset = refl; stalled = refl; maps = refl };
   targets_are = refl;
-  own = (record { event = Read (Word (Ram 0)); found = FoundWord 9 }) ∷ (record { event = Read (Word (Ram 1)); found = FoundWord 0 }) ∷ (record { event = Read (Word (Ram 2)); found = FoundWord (2 ^ 63) }) ∷ (record { event = Read (Word (Ram 3)); found = FoundWord 0 }) ∷ (record { event = Queue 32 (Done maps_collection); found = Nothing }) ∷ [];
-  rest = (record { event = Read (Word (Ram 4)); found = FoundWord 5 }) ∷ (record { event = Read (Word (Ram 5)); found = FoundWord 0 }) ∷ (record { event = Read (Word (Ram 6)); found = FoundWord 0 }) ∷ (record { event = Read (Word (Ram 7)); found = FoundWord 0 }) ∷ (record { event = Queue 64 (Done syncs); found = Nothing }) ∷ (record { event = Read (Word (Ram 8)); found = FoundWord 0 }) ∷ (record { event = Read (Word (Ram 9)); found = FoundWord 0 }) ∷ (record { event = Read (Word (Ram 10)); found = FoundWord 0 }) ∷ (record { event = Read (Word (Ram 11)); found = FoundWord 0 }) ∷ (record { event = Queue 64 (Stalls 10); found = Nothing }) ∷ [];
+  own = first_words ++ first_end ∷ [];
+  rest = second_on;
   split = refl;
   command = first_is;
   later = record {
     same = record { ctlr = refl; cbaser = refl; cwriter = refl; offset = refl; stalled = refl; maps = refl };
     targets_are = refl;
-    own = (record { event = Read (Word (Ram 4)); found = FoundWord 5 }) ∷ (record { event = Read (Word (Ram 5)); found = FoundWord 0 }) ∷ (record { event = Read (Word (Ram 6)); found = FoundWord 0 }) ∷ (record { event = Read (Word (Ram 7)); found = FoundWord 0 }) ∷ (record { event = Queue 64 (Done syncs); found = Nothing }) ∷ [];
-    rest = (record { event = Read (Word (Ram 8)); found = FoundWord 0 }) ∷ (record { event = Read (Word (Ram 9)); found = FoundWord 0 }) ∷ (record { event = Read (Word (Ram 10)); found = FoundWord 0 }) ∷ (record { event = Read (Word (Ram 11)); found = FoundWord 0 }) ∷ (record { event = Queue 64 (Stalls 10); found = Nothing }) ∷ [];
+    own = second_words ++ second_end ∷ [];
+    rest = third_words ++ third_end ∷ [];
     split = refl;
     command = second_is;
     later = record {
       same = record { ctlr = refl; cbaser = refl; cwriter = refl; offset = refl; stalled = refl; maps = refl };
       targets_are = refl;
-      own = (record { event = Read (Word (Ram 8)); found = FoundWord 0 }) ∷ (record { event = Read (Word (Ram 9)); found = FoundWord 0 }) ∷ (record { event = Read (Word (Ram 10)); found = FoundWord 0 }) ∷ (record { event = Read (Word (Ram 11)); found = FoundWord 0 }) ∷ (record { event = Queue 64 (Stalls 10); found = Nothing }) ∷ [];
+      own = third_words ++ third_end ∷ [];
       rest = [];
       split = refl;
       command = third_is;
@@ -114,16 +189,40 @@ commands_are = record {
   };
 }
 
-start_is : IsItsCall its_guest.shape steady 0 0x88 8 96 ((record { event = ItsBegin; found = Nothing }) ∷ (record { event = Read (Word ItsCtlr); found = FoundWord 1 }) ∷ (record { event = Read (Word Cbaser); found = FoundWord (2 ^ 63) }) ∷ (record { event = Read QueuePlace; found = FoundQueue 0 false }) ∷ (record { event = Put Cwriter 96; found = FoundWord 0 }) ∷ (record { event = Read (Word (Ram 0)); found = FoundWord 9 }) ∷ (record { event = Read (Word (Ram 1)); found = FoundWord 0 }) ∷ (record { event = Read (Word (Ram 2)); found = FoundWord (2 ^ 63) }) ∷ (record { event = Read (Word (Ram 3)); found = FoundWord 0 }) ∷ (record { event = Queue 32 (Done maps_collection); found = Nothing }) ∷ (record { event = Read (Word (Ram 4)); found = FoundWord 5 }) ∷ (record { event = Read (Word (Ram 5)); found = FoundWord 0 }) ∷ (record { event = Read (Word (Ram 6)); found = FoundWord 0 }) ∷ (record { event = Read (Word (Ram 7)); found = FoundWord 0 }) ∷ (record { event = Queue 64 (Done syncs); found = Nothing }) ∷ (record { event = Read (Word (Ram 8)); found = FoundWord 0 }) ∷ (record { event = Read (Word (Ram 9)); found = FoundWord 0 }) ∷ (record { event = Read (Word (Ram 10)); found = FoundWord 0 }) ∷ (record { event = Read (Word (Ram 11)); found = FoundWord 0 }) ∷ (record { event = Queue 64 (Stalls 10); found = Nothing }) ∷ (record { event = ItsEnd; found = Nothing }) ∷ []) None
+-- The writes.
+
+abbrev pub writer_reads : List Happened
+writer_reads = word_read ItsCtlr 1 ∷ word_read Cbaser (2 ^ 63) ∷ queue_read ∷ word_read Cwriter 0 ∷ puts Cwriter 96 0 ∷ []
+
+start_is : IsItsCall its_guest.shape steady 0 0x88 8 96 ((begins ∷ writer_reads) ++ all_commands ++ ends ∷ []) None
 start_is = record {
   view = enabled;
   maps = refl;
   views = first ∷ second ∷ third ∷ [];
-  register = (record { event = ItsBegin; found = Nothing }) ∷ (record { event = Read (Word ItsCtlr); found = FoundWord 1 }) ∷ (record { event = Read (Word Cbaser); found = FoundWord (2 ^ 63) }) ∷ (record { event = Read QueuePlace; found = FoundQueue 0 false }) ∷ (record { event = Put Cwriter 96; found = FoundWord 0 }) ∷ [];
-  commands = (record { event = Read (Word (Ram 0)); found = FoundWord 9 }) ∷ (record { event = Read (Word (Ram 1)); found = FoundWord 0 }) ∷ (record { event = Read (Word (Ram 2)); found = FoundWord (2 ^ 63) }) ∷ (record { event = Read (Word (Ram 3)); found = FoundWord 0 }) ∷ (record { event = Queue 32 (Done maps_collection); found = Nothing }) ∷ (record { event = Read (Word (Ram 4)); found = FoundWord 5 }) ∷ (record { event = Read (Word (Ram 5)); found = FoundWord 0 }) ∷ (record { event = Read (Word (Ram 6)); found = FoundWord 0 }) ∷ (record { event = Read (Word (Ram 7)); found = FoundWord 0 }) ∷ (record { event = Queue 64 (Done syncs); found = Nothing }) ∷ (record { event = Read (Word (Ram 8)); found = FoundWord 0 }) ∷ (record { event = Read (Word (Ram 9)); found = FoundWord 0 }) ∷ (record { event = Read (Word (Ram 10)); found = FoundWord 0 }) ∷ (record { event = Read (Word (Ram 11)); found = FoundWord 0 }) ∷ (record { event = Queue 64 (Stalls 10); found = Nothing }) ∷ [];
-  last = (record { event = ItsEnd; found = Nothing }) ∷ [];
+  register = begins ∷ writer_reads;
+  commands = all_commands;
+  last = ends ∷ [];
   split = refl;
-  written = record { events_are = refl; found = All-from_recursion (λ (happened : Happened). HandsOut enabled happened.event happened.found) ((record { event = ItsBegin; found = Nothing }) ∷ (record { event = Put Cwriter 96; found = FoundWord 0 }) ∷ []) (refl, (refl, tt)); reads = All-from_recursion (λ (place : Place). IsLastRead place (held_at enabled place) ((record { event = ItsBegin; found = Nothing }) ∷ (record { event = Read (Word ItsCtlr); found = FoundWord 1 }) ∷ (record { event = Read (Word Cbaser); found = FoundWord (2 ^ 63) }) ∷ (record { event = Read QueuePlace; found = FoundQueue 0 false }) ∷ (record { event = Put Cwriter 96; found = FoundWord 0 }) ∷ [])) ((Word ItsCtlr) ∷ (Word Cbaser) ∷ (QueuePlace) ∷ []) (record { before = (record { event = ItsBegin; found = Nothing }) ∷ []; after = (record { event = Read (Word Cbaser); found = FoundWord (2 ^ 63) }) ∷ (record { event = Read QueuePlace; found = FoundQueue 0 false }) ∷ (record { event = Put Cwriter 96; found = FoundWord 0 }) ∷ []; split = refl; last = All-from_recursion (λ (happened : Happened). happened.event ≡ Read (Word ItsCtlr) → ⊥) ((record { event = Read (Word Cbaser); found = FoundWord (2 ^ 63) }) ∷ (record { event = Read QueuePlace; found = FoundQueue 0 false }) ∷ (record { event = Put Cwriter 96; found = FoundWord 0 }) ∷ []) ((λ e. absurd (cc)), ((λ e. absurd (cc)), ((λ e. absurd (cc)), tt))) }, (record { before = (record { event = ItsBegin; found = Nothing }) ∷ (record { event = Read (Word ItsCtlr); found = FoundWord 1 }) ∷ []; after = (record { event = Read QueuePlace; found = FoundQueue 0 false }) ∷ (record { event = Put Cwriter 96; found = FoundWord 0 }) ∷ []; split = refl; last = All-from_recursion (λ (happened : Happened). happened.event ≡ Read (Word Cbaser) → ⊥) ((record { event = Read QueuePlace; found = FoundQueue 0 false }) ∷ (record { event = Put Cwriter 96; found = FoundWord 0 }) ∷ []) ((λ e. absurd (cc)), ((λ e. absurd (cc)), tt)) }, (record { before = (record { event = ItsBegin; found = Nothing }) ∷ (record { event = Read (Word ItsCtlr); found = FoundWord 1 }) ∷ (record { event = Read (Word Cbaser); found = FoundWord (2 ^ 63) }) ∷ []; after = (record { event = Put Cwriter 96; found = FoundWord 0 }) ∷ []; split = refl; last = All-from_recursion (λ (happened : Happened). happened.event ≡ Read (QueuePlace) → ⊥) ((record { event = Put Cwriter 96; found = FoundWord 0 }) ∷ []) ((λ e. absurd (cc)), tt) }, tt))) };
+  written = record {
+    begin = begins ∷ [];
+    rest = writer_reads;
+    split = refl;
+    begun = record { events_are = refl; found = hands_one enabled ItsBegin Nothing refl; reads = All-nil _ };
+    made = record {
+      events_are = refl;
+      found = hands_one enabled (Put Cwriter 96) (FoundWord 0) refl;
+      reads = All-from_recursion (IsRead enabled writer_reads) (Word ItsCtlr ∷ Word Cbaser ∷ QueuePlace ∷ Word Cwriter ∷ []) (
+        last_read [] (word_read Cbaser (2 ^ 63) ∷ queue_read ∷ word_read Cwriter 0 ∷ puts Cwriter 96 0 ∷ []) refl,
+        (
+          last_read (word_read ItsCtlr 1 ∷ []) (queue_read ∷ word_read Cwriter 0 ∷ puts Cwriter 96 0 ∷ []) refl,
+          (
+            last_read (word_read ItsCtlr 1 ∷ word_read Cbaser (2 ^ 63) ∷ []) (word_read Cwriter 0 ∷ puts Cwriter 96 0 ∷ []) refl,
+            (last_read (word_read ItsCtlr 1 ∷ word_read Cbaser (2 ^ 63) ∷ queue_read ∷ []) (puts Cwriter 96 0 ∷ []) refl, tt),
+          ),
+        ),
+      );
+    };
+  };
   started = commands_are;
   ended = record { events_are = refl; found = hands_one enabled ItsEnd Nothing refl; reads = All-nil _ };
   answers = refl;
@@ -138,6 +237,38 @@ stored_two = ((omega arith, refl), (record { within = refl; can = (refl, refl); 
 stored_three : GoesOn (course_of from (stores 0 9 ++ stores 2 (2 ^ 63))) (stores 4 5)
 stored_three = ((omega arith, refl), (record { within = refl; can = (refl, refl); allowed = refl; hands = refl }, (call_ended its_guest.shape 0 _ None refl (λ id. refl) (record { view = opened; targets = refl; made = record { events_are = refl; found = hands_one opened (Put (Ram 4) 5) (FoundWord 0) refl; reads = All-nil _ }; answers = refl }), tt)))
 
+-- of an ITS that no command found mapped
+abbrev unmapped : View → List (ℕ → Option ℕ) → Beside
+unmapped view commands = record { maps = view.maps; targets = view.targets; commands = commands }
+
+abbrev queue_made_by : List Happened
+queue_made_by = word_read ItsCtlr 0 ∷ puts Cwriter 0 0 ∷ queue_goes 0 Runs ∷ puts Cbaser (2 ^ 63) 0 ∷ []
+
+queue_is : IsItsCall its_guest.shape (unmapped opened (opened.targets ∷ [])) 0 0x80 8 (2 ^ 63) ((begins ∷ queue_made_by) ++ ends ∷ []) None
+queue_is = record {
+  view = opened;
+  maps = refl;
+  views = [];
+  register = begins ∷ queue_made_by;
+  commands = [];
+  last = ends ∷ [];
+  split = refl;
+  written = record {
+    begin = begins ∷ [];
+    rest = queue_made_by;
+    split = refl;
+    begun = record { events_are = refl; found = hands_one opened ItsBegin Nothing refl; reads = All-nil _ };
+    made = record {
+      events_are = refl;
+      found = All-from_recursion (Hands opened) (puts Cwriter 0 0 ∷ queue_goes 0 Runs ∷ puts Cbaser (2 ^ 63) 0 ∷ []) (refl, (refl, (refl, tt)));
+      reads = All-from_recursion (IsRead opened queue_made_by) (Word ItsCtlr ∷ []) (last_read [] (puts Cwriter 0 0 ∷ queue_goes 0 Runs ∷ puts Cbaser (2 ^ 63) 0 ∷ []) refl, tt);
+    };
+  };
+  started = record { events_are = refl; found = All-nil _; reads = All-nil _ };
+  ended = record { events_are = refl; found = hands_one opened ItsEnd Nothing refl; reads = All-nil _ };
+  answers = refl;
+}
+
 queue_made : GoesOn (course_of from (stores 0 9 ++ stores 2 (2 ^ 63) ++ stores 4 5)) makes_queue
 queue_made = (
   (omega arith, refl),
@@ -151,31 +282,44 @@ queue_made = (
           record { within = refl; can = record { place = refl; within = omega arith }; allowed = refl; hands = refl },
           (
             record { within = refl; can = (refl, refl); allowed = refl; hands = refl },
-            (
-              record { within = refl; can = tt; allowed = refl; hands = refl },
-              (
-                call_ended its_guest.shape 0 _ None refl (λ id. refl) (record {
-                  view = opened;
-                  maps = refl;
-                  views = [];
-                  register = (record { event = ItsBegin; found = Nothing }) ∷ (record { event = Read (Word ItsCtlr); found = FoundWord 0 }) ∷ (record { event = Put Cwriter 0; found = FoundWord 0 }) ∷ (record { event = Queue 0 Runs; found = Nothing }) ∷ (record { event = Put Cbaser (2 ^ 63); found = FoundWord 0 }) ∷ [];
-                  commands = [];
-                  last = (record { event = ItsEnd; found = Nothing }) ∷ [];
-                  split = refl;
-                  written = record { events_are = refl; found = All-from_recursion (λ (happened : Happened). HandsOut opened happened.event happened.found) ((record { event = ItsBegin; found = Nothing }) ∷ (record { event = Put Cwriter 0; found = FoundWord 0 }) ∷ (record { event = Queue 0 Runs; found = Nothing }) ∷ (record { event = Put Cbaser (2 ^ 63); found = FoundWord 0 }) ∷ []) (refl, (refl, (refl, (refl, tt)))); reads = All-from_recursion (λ (place : Place). IsLastRead place (held_at opened place) ((record { event = ItsBegin; found = Nothing }) ∷ (record { event = Read (Word ItsCtlr); found = FoundWord 0 }) ∷ (record { event = Put Cwriter 0; found = FoundWord 0 }) ∷ (record { event = Queue 0 Runs; found = Nothing }) ∷ (record { event = Put Cbaser (2 ^ 63); found = FoundWord 0 }) ∷ [])) ((Word ItsCtlr) ∷ []) (record { before = (record { event = ItsBegin; found = Nothing }) ∷ []; after = (record { event = Put Cwriter 0; found = FoundWord 0 }) ∷ (record { event = Queue 0 Runs; found = Nothing }) ∷ (record { event = Put Cbaser (2 ^ 63); found = FoundWord 0 }) ∷ []; split = refl; last = All-from_recursion (λ (happened : Happened). happened.event ≡ Read (Word ItsCtlr) → ⊥) ((record { event = Put Cwriter 0; found = FoundWord 0 }) ∷ (record { event = Queue 0 Runs; found = Nothing }) ∷ (record { event = Put Cbaser (2 ^ 63); found = FoundWord 0 }) ∷ []) ((λ e. absurd (cc)), ((λ e. absurd (cc)), ((λ e. absurd (cc)), tt))) }, tt) };
-                  started = record { events_are = refl; found = All-nil _; reads = All-nil _ };
-                  ended = record { events_are = refl; found = hands_one opened ItsEnd Nothing refl; reads = All-nil _ };
-                  answers = refl;
-                }),
-                tt,
-              ),
-            ),
+            (record { within = refl; can = tt; allowed = refl; hands = refl }, (record { beside = unmapped opened (opened.targets ∷ []); maps = refl; commands = refl; targets = λ id. (0, omega arith, refl); is_call = queue_is }, tt)),
           ),
         ),
       ),
     ),
   ),
 )
+
+abbrev enabled_by : List Happened
+enabled_by = word_read Cbaser (2 ^ 63) ∷ word_read Cwriter 0 ∷ queue_read ∷ puts ItsCtlr 1 0 ∷ []
+
+enables_is : IsItsCall its_guest.shape (unmapped queued (queued.targets ∷ [])) 0 0 4 1 ((begins ∷ enabled_by) ++ ends ∷ []) None
+enables_is = record {
+  view = queued;
+  maps = refl;
+  views = [];
+  register = begins ∷ enabled_by;
+  commands = [];
+  last = ends ∷ [];
+  split = refl;
+  written = record {
+    begin = begins ∷ [];
+    rest = enabled_by;
+    split = refl;
+    begun = record { events_are = refl; found = hands_one queued ItsBegin Nothing refl; reads = All-nil _ };
+    made = record {
+      events_are = refl;
+      found = hands_one queued (Put ItsCtlr 1) (FoundWord 0) refl;
+      reads = All-from_recursion (IsRead queued enabled_by) (Word Cbaser ∷ Word Cwriter ∷ QueuePlace ∷ []) (
+        last_read [] (word_read Cwriter 0 ∷ queue_read ∷ puts ItsCtlr 1 0 ∷ []) refl,
+        (last_read (word_read Cbaser (2 ^ 63) ∷ []) (queue_read ∷ puts ItsCtlr 1 0 ∷ []) refl, (last_read (word_read Cbaser (2 ^ 63) ∷ word_read Cwriter 0 ∷ []) (puts ItsCtlr 1 0 ∷ []) refl, tt)),
+      );
+    };
+  };
+  started = (record { events_are = refl; found = All-nil _; reads = All-nil _ }, refl);
+  ended = record { events_are = refl; found = hands_one queued ItsEnd Nothing refl; reads = All-nil _ };
+  answers = refl;
+}
 
 its_enabled : GoesOn (course_of from (stores 0 9 ++ stores 2 (2 ^ 63) ++ stores 4 5 ++ makes_queue)) enables_its
 its_enabled = (
@@ -190,25 +334,7 @@ its_enabled = (
           record { within = refl; can = refl; allowed = refl; hands = refl },
           (
             record { within = refl; can = (refl, refl); allowed = refl; hands = refl },
-            (
-              record { within = refl; can = tt; allowed = refl; hands = refl },
-              (
-                call_ended its_guest.shape 0 _ None refl (λ id. refl) (record {
-                  view = queued;
-                  maps = refl;
-                  views = [];
-                  register = (record { event = ItsBegin; found = Nothing }) ∷ (record { event = Read (Word Cbaser); found = FoundWord (2 ^ 63) }) ∷ (record { event = Read (Word Cwriter); found = FoundWord 0 }) ∷ (record { event = Read QueuePlace; found = FoundQueue 0 false }) ∷ (record { event = Put ItsCtlr 1; found = FoundWord 0 }) ∷ [];
-                  commands = [];
-                  last = (record { event = ItsEnd; found = Nothing }) ∷ [];
-                  split = refl;
-                  written = record { events_are = refl; found = All-from_recursion (λ (happened : Happened). HandsOut queued happened.event happened.found) ((record { event = ItsBegin; found = Nothing }) ∷ (record { event = Put ItsCtlr 1; found = FoundWord 0 }) ∷ []) (refl, (refl, tt)); reads = All-from_recursion (λ (place : Place). IsLastRead place (held_at queued place) ((record { event = ItsBegin; found = Nothing }) ∷ (record { event = Read (Word Cbaser); found = FoundWord (2 ^ 63) }) ∷ (record { event = Read (Word Cwriter); found = FoundWord 0 }) ∷ (record { event = Read QueuePlace; found = FoundQueue 0 false }) ∷ (record { event = Put ItsCtlr 1; found = FoundWord 0 }) ∷ [])) ((Word Cbaser) ∷ (Word Cwriter) ∷ (QueuePlace) ∷ []) (record { before = (record { event = ItsBegin; found = Nothing }) ∷ []; after = (record { event = Read (Word Cwriter); found = FoundWord 0 }) ∷ (record { event = Read QueuePlace; found = FoundQueue 0 false }) ∷ (record { event = Put ItsCtlr 1; found = FoundWord 0 }) ∷ []; split = refl; last = All-from_recursion (λ (happened : Happened). happened.event ≡ Read (Word Cbaser) → ⊥) ((record { event = Read (Word Cwriter); found = FoundWord 0 }) ∷ (record { event = Read QueuePlace; found = FoundQueue 0 false }) ∷ (record { event = Put ItsCtlr 1; found = FoundWord 0 }) ∷ []) ((λ e. absurd (cc)), ((λ e. absurd (cc)), ((λ e. absurd (cc)), tt))) }, (record { before = (record { event = ItsBegin; found = Nothing }) ∷ (record { event = Read (Word Cbaser); found = FoundWord (2 ^ 63) }) ∷ []; after = (record { event = Read QueuePlace; found = FoundQueue 0 false }) ∷ (record { event = Put ItsCtlr 1; found = FoundWord 0 }) ∷ []; split = refl; last = All-from_recursion (λ (happened : Happened). happened.event ≡ Read (Word Cwriter) → ⊥) ((record { event = Read QueuePlace; found = FoundQueue 0 false }) ∷ (record { event = Put ItsCtlr 1; found = FoundWord 0 }) ∷ []) ((λ e. absurd (cc)), ((λ e. absurd (cc)), tt)) }, (record { before = (record { event = ItsBegin; found = Nothing }) ∷ (record { event = Read (Word Cbaser); found = FoundWord (2 ^ 63) }) ∷ (record { event = Read (Word Cwriter); found = FoundWord 0 }) ∷ []; after = (record { event = Put ItsCtlr 1; found = FoundWord 0 }) ∷ []; split = refl; last = All-from_recursion (λ (happened : Happened). happened.event ≡ Read (QueuePlace) → ⊥) ((record { event = Put ItsCtlr 1; found = FoundWord 0 }) ∷ []) ((λ e. absurd (cc)), tt) }, tt))) };
-                  started = (record { events_are = refl; found = All-nil _; reads = All-nil _ }, refl);
-                  ended = record { events_are = refl; found = hands_one queued ItsEnd Nothing refl; reads = All-nil _ };
-                  answers = refl;
-                }),
-                tt,
-              ),
-            ),
+            (record { within = refl; can = tt; allowed = refl; hands = refl }, (record { beside = unmapped queued (queued.targets ∷ []); maps = refl; commands = refl; targets = λ id. (0, omega arith, refl); is_call = enables_is }, tt)),
           ),
         ),
       ),
@@ -217,7 +343,7 @@ its_enabled = (
 )
 
 queue_run : GoesOn (course_of from before_write) (to_sync ++ to_end)
-queue_run = ((omega arith, refl), (record { within = refl; can = tt; allowed = refl; hands = refl }, (record { within = refl; can = refl; allowed = refl; hands = refl }, (record { within = refl; can = refl; allowed = refl; hands = refl }, (record { within = refl; can = refl; allowed = refl; hands = refl }, (record { within = refl; can = (refl, refl); allowed = refl; hands = refl }, (record { within = refl; can = refl; allowed = refl; hands = refl }, (record { within = refl; can = refl; allowed = refl; hands = refl }, (record { within = refl; can = refl; allowed = refl; hands = refl }, (record { within = refl; can = refl; allowed = refl; hands = refl }, (record { within = refl; can = record { place = refl; within = omega arith }; allowed = refl; hands = refl }, (record { within = refl; can = refl; allowed = refl; hands = refl }, (record { within = refl; can = refl; allowed = refl; hands = refl }, (record { within = refl; can = refl; allowed = refl; hands = refl }, (record { within = refl; can = refl; allowed = refl; hands = refl }, (record { within = refl; can = record { place = refl; within = omega arith }; allowed = refl; hands = refl }, (record { within = refl; can = refl; allowed = refl; hands = refl }, (record { within = refl; can = refl; allowed = refl; hands = refl }, (record { within = refl; can = refl; allowed = refl; hands = refl }, (record { within = refl; can = refl; allowed = refl; hands = refl }, (record { within = refl; can = (record { place = refl; within = omega arith }, omega arith); allowed = refl; hands = refl }, (record { within = refl; can = tt; allowed = refl; hands = refl }, (record { beside = steady; maps = refl; targets = λ number id l. in_windows ((λ id. replicate 10 (enabled.targets id)) ∷ (λ id. replicate 5 (enabled.targets id)) ∷ (λ id. replicate 5 (enabled.targets id)) ∷ []) (λ id. replicate 2 (enabled.targets id)) enabled.targets ((λ id. (refl, refl)), ((λ id. (refl, refl)), ((λ id. (refl, refl)), ((λ id. (refl, refl)), tt)))) number id l; is_call = start_is }, tt)))))))))))))))))))))))
+queue_run = ((omega arith, refl), (record { within = refl; can = tt; allowed = refl; hands = refl }, (record { within = refl; can = refl; allowed = refl; hands = refl }, (record { within = refl; can = refl; allowed = refl; hands = refl }, (record { within = refl; can = refl; allowed = refl; hands = refl }, (record { within = refl; can = refl; allowed = refl; hands = refl }, (record { within = refl; can = (refl, refl); allowed = refl; hands = refl }, (record { within = refl; can = refl; allowed = refl; hands = refl }, (record { within = refl; can = refl; allowed = refl; hands = refl }, (record { within = refl; can = refl; allowed = refl; hands = refl }, (record { within = refl; can = refl; allowed = refl; hands = refl }, (record { within = refl; can = record { place = refl; within = omega arith }; allowed = refl; hands = refl }, (record { within = refl; can = refl; allowed = refl; hands = refl }, (record { within = refl; can = refl; allowed = refl; hands = refl }, (record { within = refl; can = refl; allowed = refl; hands = refl }, (record { within = refl; can = refl; allowed = refl; hands = refl }, (record { within = refl; can = record { place = refl; within = omega arith }; allowed = refl; hands = refl }, (record { within = refl; can = refl; allowed = refl; hands = refl }, (record { within = refl; can = refl; allowed = refl; hands = refl }, (record { within = refl; can = refl; allowed = refl; hands = refl }, (record { within = refl; can = refl; allowed = refl; hands = refl }, (record { within = refl; can = (record { place = refl; within = omega arith }, omega arith); allowed = refl; hands = refl }, (record { within = refl; can = tt; allowed = refl; hands = refl }, (record { beside = steady; maps = refl; commands = refl; targets = λ id. (0, omega arith, refl); is_call = start_is }, tt))))))))))))))))))))))))
 
 pub before_goes : GoesOn from before_write
 before_goes =
@@ -226,13 +352,13 @@ before_goes =
     let four : GoesOn from (stores 0 9 ++ stores 2 (2 ^ 63) ++ stores 4 5 ++ makes_queue) = goes_on from (stores 0 9 ++ stores 2 (2 ^ 63) ++ stores 4 5) makes_queue three queue_made in
     goes_on from (stores 0 9 ++ stores 2 (2 ^ 63) ++ stores 4 5 ++ makes_queue) enables_its four its_enabled
 
-queue_goes : IsHistory its_guest ((before_write ++ to_sync) ++ to_end)
-queue_goes = goes_on from before_write (to_sync ++ to_end) before_goes queue_run
+queue_history : IsHistory its_guest ((before_write ++ to_sync) ++ to_end)
+queue_history = goes_on from before_write (to_sync ++ to_end) before_goes queue_run
 
 pub queue_is_synced : QueueIsSynced
 queue_is_synced = record {
   good = its_good;
-  history = queue_goes;
+  history = queue_history;
   whole = All-cons (λ (call : Option Call). IsTrue (is_none call)) None [] refl (All-nil (λ (call : Option Call). IsTrue (is_none call)));
   sync = refl;
   commands = refl;

@@ -15,3 +15,5 @@ pub mod Latches
 pub mod Sync
 pub mod Worked
 pub mod WorkedQueue
+pub mod WorkedReads
+pub mod Held

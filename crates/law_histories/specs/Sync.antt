@@ -1,5 +1,5 @@
 -- What the ITS has done of its queue (IHI 0069, "SYNC": the effects of all commands before it are complete; own choice: each command is complete as it ends).
-use Rattle.std.specs.Prelude.{◌≡◌, ℕ, List, [], ◌∷◌, ◌++◌, map, fold, Contains, Ok, Option, Some, None}
+use Rattle.std.specs.Prelude.{◌≡◌, ℕ, List, [], ◌∷◌, ◌++◌, map, fold, Ok, Option, Some, None}
 use Rattle.std.specs.List.{filter_map}
 use Rattle.std.specs.Option.{option_map_or}
 use Rattle.floor_histories.specs.Words.{Lpi, ClearPending, GuestShape}
@@ -47,15 +47,17 @@ parts_in piece = fold more_parts [] (map (λ happened. happened.event) piece)
 
 -- Their ends.
 
--- a call ends a good command: by the maps of that moment it has no fault, and the call has done its parts, in order, where each LPI was for this vCPU at some
--- moment since the command before it ended
+-- the vCPU that each LPI was for as the command began that a call is in: as it took the ITS, or as the command before ended
+abbrev pub begun_for : Call → ℕ → Option ℕ
+begun_for call = fold (λ before now. now) (λ id. None) call.commands
+
+-- a call ends a good command: by the maps of that moment it has no fault, and the call has done its parts, in order, by the vCPUs that the LPIs were for
+-- as it began
 pub record IsDone (shape : GuestShape) (maps : Maps) (call : Call) (words : List ℕ) : Type 0 where
   pub command : Command
-  pub targets : ℕ → Option ℕ
   pub is : decoded words ≡ Ok command
   pub good : fault_number shape maps (decoded words) ≡ None
-  pub seen : (id : ℕ) → Contains (call.targets id) (targets id)
-  pub done : parts_in call.piece ≡ parts shape maps targets command
+  pub done : parts_in call.piece ≡ parts shape maps (begun_for call) command
 
 -- a call ends a bad one: it has this fault, and the call has done nothing of it
 pub record IsStalled (shape : GuestShape) (maps : Maps) (call : Call) (fault : ℕ) : Type 0 where

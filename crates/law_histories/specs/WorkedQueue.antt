@@ -70,6 +70,7 @@ to_sync =
     ∷ finds ItsCtlr 1
     ∷ finds Cbaser (2 ^ 63)
     ∷ does (Read QueuePlace) (FoundQueue 0 false)
+    ∷ finds Cwriter 0
     ∷ does (Put Cwriter 96) (FoundWord 0)
     ∷ finds (Ram 0) 9
     ∷ finds (Ram 1) 0

@@ -1,9 +1,11 @@
 //! Laws of every history.
 ghost use Rattle.law_histories.specs.Enables.{EnablesAgree};
+ghost use Rattle.law_histories.specs.Held.{BasesAreHeld, TargetsStand};
 ghost use Rattle.law_histories.specs.Latches.{Latches};
 ghost use Rattle.law_histories.specs.Sync.{SyncHolds};
 ghost use Rattle.law_histories.specs.Worked.{WriteIsHalfDone, MessagesMerge};
 ghost use Rattle.law_histories.specs.WorkedQueue.{QueueIsSynced};
+ghost use Rattle.law_histories.specs.WorkedReads.{ReadsCount};
 
 /// A law of every history that can go on until all its calls ended: while nobody writes GICD_CTLR, each interrupt has a
 /// copy of its group enables; and during a write the interrupts up to a place in key order have one of the new enables,
@@ -26,6 +28,18 @@ pub fn sync_holds()
     ensures { SyncHolds }
 {}
 
+/// A law of every history in which all calls ended: whoever stores GITS_CBASER has the ITS. So the queue stays where it is while
+/// an actor does its commands.
+pub fn bases_are_held()
+    ensures { BasesAreHeld }
+{}
+
+/// A law of every history in which all calls ended: while an actor has the ITS, an LPI that its command has not mapped, moved or
+/// forgotten yet is for the vCPU that it was for as the command began. So each part of a command finds *the* vCPU of its LPI.
+pub fn targets_stand()
+    ensures { TargetsStand }
+{}
+
 /// A law of a worked write of GICD_CTLR: it is a history that meets what `enables_agree` asks, and in the middle of it
 /// one interrupt has the new enables, and another one those before.
 #[tactic(auto, using(crate::proofs::WorkedLemmas::write_is_half_done))]
@@ -45,4 +59,12 @@ pub fn worked_messages_merge()
 #[tactic(auto, using(crate::proofs::WorkedQueueLemmas::queue_is_synced))]
 pub fn worked_queue_is_synced()
     ensures { QueueIsSynced }
+{}
+
+/// A law of ten worked calls: a write of GITS_CWRITER, one of GITS_CBASER, a message-signalled interrupt and a write that sets
+/// EnableLPIs, each by what its actor found while it has the ITS, or after EnableLPIs rose, are calls; by a read before that they
+/// are none, whatever the guest has.
+#[tactic(auto, using(crate::proofs::WorkedReadsLemmas::reads_count))]
+pub fn worked_reads_count()
+    ensures { ReadsCount }
 {}

@@ -4,6 +4,6 @@
 mod laws;
 
 pub use laws::{
-    enables_agree, latches, sync_holds, worked_messages_merge, worked_queue_is_synced,
-    worked_write_is_half_done,
+    bases_are_held, enables_agree, latches, sync_holds, targets_stand, worked_messages_merge,
+    worked_queue_is_synced, worked_reads_count, worked_write_is_half_done,
 };

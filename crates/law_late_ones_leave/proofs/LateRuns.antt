@@ -99,7 +99,7 @@ module _ (guest : GuestSpec) (number vcpu : ℕ) (good : IsGoodGuest guest) (wit
 
   other : (early : List CoreMoment) (actor : ℕ) (act : Act) → actor ≢ vcpu → IsNextOf guest number early actor act → (p : Progress) → Kept vcpu (followed_in guest number early) p
       → Kept vcpu (follow shape (StateOf early) (followed_in guest number early) (record { actor = actor; act = act })) p
-  other early actor (begins operation lrs) apart next p kept = other_part early actor (record { operation = Some operation; number = (doing_of (followed_in guest number early).track actor).number + 1; done = [] }) p apart kept
+  other early actor (begins operation lrs) apart next p kept = other_part early actor (record { operation = Some operation; number = (doing_of (followed_in guest number early).track actor).number + 1; done = []; fetched = false }) p apart kept
   other early actor (makes made) apart next p kept = others early actor made apart next p kept
   other early actor (ends answer) apart next p kept = other_part early actor (record (doing_of (followed_in guest number early).track actor) { operation = None }) p apart kept
 
@@ -147,7 +147,7 @@ module _ (guest : GuestSpec) (number vcpu : ℕ) (good : IsGoodGuest guest) (wit
         before : IsTrue (owes_kick vcpu (seat_at (StateOf early) vcpu).local) → IsTrue (owes_kick vcpu p.local)
         before h = subst (λ l. IsTrue (owes_kick vcpu l)) (sym (seat_now guest number vcpu good within early made next).local) h
 
-        here : (one : Happened) → IsSimulatedAs shape (later is) At.ideal vcpu (Some one) → doing_of (fold follows At (event_moments vcpu (Some one))).track vcpu ≡ after_doing vcpu one.event (doing_of At.track vcpu)
+        here : (one : Happened) → IsSimulatedAs shape (later is) At.ideal vcpu (Some one) → doing_of (fold follows At (event_moments vcpu (Some one))).track vcpu ≡ after_doing At.ideal vcpu one.event (doing_of At.track vcpu)
         here one sim = happens_here shape good.shape At.ideal vcpu one.event one.found At.track next.at.related.shape_is sim.can in_doings
 
         by_kick : (o : Option Happened) → what ≡ o → IsSimulatedAs shape (later is) At.ideal vcpu o → IsTrue (has_done_none (doing_of (fold follows At (event_moments vcpu o)).track vcpu).done) → IsTrue (owes_kick vcpu (seat_at (StateOf early) vcpu).local) ⊎ (makes_one what ≡ true) → ⊥
@@ -155,9 +155,9 @@ module _ (guest : GuestSpec) (number vcpu : ℕ) (good : IsGoodGuest guest) (wit
         by_kick None e sim none (inr one_made) = true≢false (sym one_made ∙ ap makes_one e)
         by_kick (Some one) e sim none (inl owes) =
             let goes : is_queue one.event ≡ false = sym (ap ends_command e) ∙ owing_goes_on shape good.shape (StateOf early) At (ProgressOf early) vcpu made next.at next.acts vcpu vcpu owes refl in
-            kept.told (before owes) (none_before vcpu one.event (doing_of At.track vcpu) goes (subst (λ (d : Doing). IsTrue (has_done_none d.done)) (here one sim) none))
+            kept.told (before owes) (none_before At.ideal vcpu one.event (doing_of At.track vcpu) goes (subst (λ (d : Doing). IsTrue (has_done_none d.done)) (here one sim) none))
         by_kick (Some one) e sim none (inr one_made) =
-            done_before vcpu one.event (doing_of At.track vcpu) (subst (λ (d : Doing). IsTrue (has_done_none d.done)) (here one sim) none) (sym (ap makes_one e) ∙ one_made)
+            done_before At.ideal vcpu one.event (doing_of At.track vcpu) (subst (λ (d : Doing). IsTrue (has_done_none d.done)) (here one sim) none) (sym (ap makes_one e) ∙ one_made)
 
     -- what is to leave stays so
     stays_on : (pair : ℕ × Key) → Staying vcpu p pair → stays_in what pair ≡ true → Staying vcpu q pair
@@ -226,7 +226,7 @@ module _ (guest : GuestSpec) (number vcpu : ℕ) (good : IsGoodGuest guest) (wit
       → Kept vcpu (follow shape (StateOf early) (followed_in guest number early) (record { actor = vcpu; act = act })) (progressed shape vcpu (progress_in guest number early vcpu) act)
   own early (begins operation lrs) next kept now =
       let p = progress_in guest number early vcpu in
-      own_part early (record { operation = Some operation; number = (doing_of (followed_in guest number early).track vcpu).number + 1; done = [] }) p (progressed shape vcpu p (begins operation lrs)) refl (rests_so early (begins operation lrs) next refl) (paid_begun operation p.debt) kept
+      own_part early (record { operation = Some operation; number = (doing_of (followed_in guest number early).track vcpu).number + 1; done = []; fetched = false }) p (progressed shape vcpu p (begins operation lrs)) refl (rests_so early (begins operation lrs) next refl) (paid_begun operation p.debt) kept
   own early (makes made) next kept now = mine early made next kept now
   own early (ends answer) next kept now =
       let p = progress_in guest number early vcpu in

@@ -87,38 +87,38 @@ pushed [] key = refl
 pushed (one ∷ keys) key = refl
 
 -- a call that has done nothing after an event, which is of no interrupt then, had done nothing before, unless a command ended
-pub done_before : (actor : ℕ) (event : Event) (doing : Doing) → IsTrue (has_done_none (after_doing actor event doing).done) → is_some (key_in event) ≡ true → ⊥
-done_before actor (Raise key) doing none h = true≢false (sym none ∙ pushed doing.done key)
-done_before actor (Up key) doing none h = true≢false (sym none ∙ pushed doing.done key)
-done_before actor (Down key) doing none h = true≢false (sym none ∙ pushed doing.done key)
-done_before actor (Touch key touching) doing none h = true≢false (sym none ∙ pushed doing.done key)
-done_before actor (Leave key vcpu) doing none h = true≢false (sym h)
-done_before actor (Enable vcpu) doing none h = true≢false (sym h)
-done_before actor (Reach key vcpu) doing none h = true≢false (sym h)
-done_before actor (Take key vcpu) doing none h = true≢false (sym h)
-done_before actor (Cpu vcpu reg write) doing none h = true≢false (sym h)
-done_before actor (Read place) doing none h = true≢false (sym h)
-done_before actor (Put word value) doing none h = true≢false (sym h)
-done_before actor (CtlrBegin enables) doing none h = true≢false (sym h)
-done_before actor CtlrEnd doing none h = true≢false (sym h)
-done_before actor ItsBegin doing none h = true≢false (sym h)
-done_before actor ItsEnd doing none h = true≢false (sym h)
-done_before actor (Queue offset change) doing none h = true≢false (sym h)
+pub done_before : (state : Ideal) (actor : ℕ) (event : Event) (doing : Doing) → IsTrue (has_done_none (after_doing state actor event doing).done) → is_some (key_in event) ≡ true → ⊥
+done_before state actor (Raise key) doing none h = true≢false (sym none ∙ pushed doing.done key)
+done_before state actor (Up key) doing none h = true≢false (sym none ∙ pushed doing.done key)
+done_before state actor (Down key) doing none h = true≢false (sym none ∙ pushed doing.done key)
+done_before state actor (Touch key touching) doing none h = true≢false (sym none ∙ pushed doing.done key)
+done_before state actor (Leave key vcpu) doing none h = true≢false (sym h)
+done_before state actor (Enable vcpu) doing none h = true≢false (sym h)
+done_before state actor (Reach key vcpu) doing none h = true≢false (sym h)
+done_before state actor (Take key vcpu) doing none h = true≢false (sym h)
+done_before state actor (Cpu vcpu reg write) doing none h = true≢false (sym h)
+done_before state actor (Read place) doing none h = true≢false (sym h)
+done_before state actor (Put word value) doing none h = true≢false (sym h)
+done_before state actor (CtlrBegin enables) doing none h = true≢false (sym h)
+done_before state actor CtlrEnd doing none h = true≢false (sym h)
+done_before state actor ItsBegin doing none h = true≢false (sym h)
+done_before state actor ItsEnd doing none h = true≢false (sym h)
+done_before state actor (Queue offset change) doing none h = true≢false (sym h)
 
-pub none_before : (actor : ℕ) (event : Event) (doing : Doing) → is_queue event ≡ false → IsTrue (has_done_none (after_doing actor event doing).done) → IsTrue (has_done_none doing.done)
-none_before actor (Raise key) doing e none = absurd (true≢false (sym none ∙ pushed doing.done key))
-none_before actor (Up key) doing e none = absurd (true≢false (sym none ∙ pushed doing.done key))
-none_before actor (Down key) doing e none = absurd (true≢false (sym none ∙ pushed doing.done key))
-none_before actor (Touch key touching) doing e none = absurd (true≢false (sym none ∙ pushed doing.done key))
-none_before actor (Leave key vcpu) doing e none = none
-none_before actor (Enable vcpu) doing e none = none
-none_before actor (Reach key vcpu) doing e none = none
-none_before actor (Take key vcpu) doing e none = none
-none_before actor (Cpu vcpu reg write) doing e none = none
-none_before actor (Read place) doing e none = none
-none_before actor (Put word value) doing e none = none
-none_before actor (CtlrBegin enables) doing e none = none
-none_before actor CtlrEnd doing e none = none
-none_before actor ItsBegin doing e none = none
-none_before actor ItsEnd doing e none = none
-none_before actor (Queue offset change) doing e none = absurd (true≢false e)
+pub none_before : (state : Ideal) (actor : ℕ) (event : Event) (doing : Doing) → is_queue event ≡ false → IsTrue (has_done_none (after_doing state actor event doing).done) → IsTrue (has_done_none doing.done)
+none_before state actor (Raise key) doing e none = absurd (true≢false (sym none ∙ pushed doing.done key))
+none_before state actor (Up key) doing e none = absurd (true≢false (sym none ∙ pushed doing.done key))
+none_before state actor (Down key) doing e none = absurd (true≢false (sym none ∙ pushed doing.done key))
+none_before state actor (Touch key touching) doing e none = absurd (true≢false (sym none ∙ pushed doing.done key))
+none_before state actor (Leave key vcpu) doing e none = none
+none_before state actor (Enable vcpu) doing e none = none
+none_before state actor (Reach key vcpu) doing e none = none
+none_before state actor (Take key vcpu) doing e none = none
+none_before state actor (Cpu vcpu reg write) doing e none = none
+none_before state actor (Read place) doing e none = none
+none_before state actor (Put word value) doing e none = none
+none_before state actor (CtlrBegin enables) doing e none = none
+none_before state actor CtlrEnd doing e none = none
+none_before state actor ItsBegin doing e none = none
+none_before state actor ItsEnd doing e none = none
+none_before state actor (Queue offset change) doing e none = absurd (true≢false e)

@@ -1,5 +1,5 @@
 -- Accesses of the distributor, of a redistributor and of memory, and those of the ITS that take no turn.
-use Rattle.std.proofs.Common.{◌≡◌, ℕ, ◌+◌, ◌++◌, ◌∷◌, ◌&&◌, ◌||◌, Bool, true, false, cond, IsTrue, Contains, List, [], Option, Some, None, refl, sym, ap, ◌∙◌, subst, slice_index_or, arith}
+use Rattle.std.proofs.Common.{◌≡◌, ℕ, ◌+◌, ◌++◌, ◌∷◌, ◌&&◌, ◌||◌, Bool, true, false, cond, IsTrue, List, [], Option, Some, None, refl, sym, ap, ◌∙◌, subst}
 use Rattle.std.specs.List.{list_all, range_with_len, filter_map}
 use Rattle.std.specs.Option.{option_map_or}
 use Rattle.std.proofs.lemmas.List.{append-nil}
@@ -18,6 +18,7 @@ use Rattle.law_home_commutes.specs.GicRmap.declared.map.Reg.TheVariants.{Ctlr as
 use Rattle.law_home_commutes.specs.GicCall.Access.{starts_commands as register_starts}
 use Rattle.law_home_commutes.specs.GicCall.Call.{starts_commands}
 use Rattle.law_home_commutes.specs.Histories.{IdealGuest, word_at, view_of, after_events, begun, targets_in, vcpu_of, last_of, home, Ideal}
+use Rattle.law_home_commutes.proofs.GicCall.TraceLemmas.{access_made}
 use Rattle.law_eager_is_history.specs.GicIdeal.Deeds.{op_events, queued_events}
 use Rattle.law_eager_is_history.proofs.CourseLemmas.{call_after}
 use Rattle.law_eager_is_history.proofs.EventLemmas.{all_found}
@@ -113,7 +114,7 @@ module _ (guest : GuestSpec) (moments : List Moment) (actor : ℕ) (piece : List
 
   module _ (frame : Frame) (offset size : ℕ) (write : Option ℕ) (run : LoneRun guest moments actor (Access (Mem frame offset size write)) piece answer) (vcpu : ℕ) (is : IsPlainCall guest.shape run.ended.beside vcpu frame offset size write piece answer) where
     made_is : IsMade before (Some vcpu) is.view (access_events guest.shape is.view frame offset size write) (access_places guest.shape is.view frame offset size write) piece
-    made_is = record { whole = home_whole state run.tidy.whole; run = run.run; made = is.made }
+    made_is = record { whole = home_whole state run.tidy.whole; run = run.run; made = access_made is }
 
     passes : starts_commands guest.shape (view_of before) frame offset size write ≡ false
         → IsSame write (access_events guest.shape is.view frame offset size write) (access_events guest.shape (view_of before) frame offset size write) (access_value guest.shape is.view frame offset size) (access_value guest.shape (view_of before) frame offset size)
@@ -123,7 +124,7 @@ module _ (guest : GuestSpec) (moments : List Moment) (actor : ℕ) (piece : List
         record {
           goes =
               run.goes ∙ named.goes
-              ∙ ap (λ events. after_events events before) (is.made.events_are ∙ same.events_are ∙ sym (plain_events before guest.shape actor frame offset size write run.shape_is none));
+              ∙ ap (λ events. after_events events before) ((access_made is).events_are ∙ same.events_are ∙ sym (plain_events before guest.shape actor frame offset size write run.shape_is none));
           answers =
               is.answers ∙ answer_same write (access_value guest.shape is.view frame offset size) (access_value guest.shape (view_of before) frame offset size) same.value_is
               ∙ ap (λ s. read_answer write (access_value s (view_of before) frame offset size)) (sym run.shape_is);
@@ -132,11 +133,10 @@ module _ (guest : GuestSpec) (moments : List Moment) (actor : ℕ) (piece : List
     -- for which vCPUs the LPIs are, where no event moves one
     targets_same : (events : List Event) → events ≡ access_events guest.shape is.view frame offset size write → IsTrue (list_all keeps_targets events) → (id : ℕ) → is.view.targets id ≡ (view_of before).targets id
     targets_same events events_is keep id =
-        let all : IsTrue (list_all keeps_targets (events_of piece)) = beside_passes keeps_targets beside_targets (Some vcpu) piece (subst (λ es. IsTrue (list_all keeps_targets es)) (events_is ∙ sym is.made.events_are) keep) in
+        let all : IsTrue (list_all keeps_targets (events_of piece)) = beside_passes keeps_targets beside_targets (Some vcpu) piece (subst (λ es. IsTrue (list_all keeps_targets es)) (events_is ∙ sym (access_made is).events_are) keep) in
         let call = call_after actor (events_of piece) state (begun state (Access (Mem frame offset size write))) in
-        let same = steady actor (events_of piece) state (begun state (Access (Mem frame offset size write))) (targets_in state) run.tidy.whole (λ i. refl) all (record { done = refl; all = λ i. (refl, tt) }) in
-        let seen : Contains (call.targets id) (run.ended.beside.targets 0 id) = subst (λ done. Contains (slice_index_or (done ++ call.targets ∷ []) 0 (λ i. []) id) (run.ended.beside.targets 0 id)) same.done (run.ended.targets 0 id (omega arith)) in
-        ap (λ f. f id) is.targets ∙ all_contain (call.targets id) (targets_in state id) (run.ended.beside.targets 0 id) (same.all id) seen ∙ sym (home_targets guest.shape state run.tidy id)
+        let same = steady actor (events_of piece) state (begun state (Access (Mem frame offset size write))) (targets_in state) run.tidy.whole (λ i. refl) all (record { all = λ i. (refl, tt) }) in
+        ap (λ f. f id) is.targets ∙ all_contain (call.targets id) (targets_in state id) (run.ended.beside.targets id) (same.all id) (run.ended.targets id) ∙ sym (home_targets guest.shape state run.tidy id)
 
   -- The distributor.
   dist_so : (offset size : ℕ) (write : Option ℕ) (run : LoneRun guest moments actor (Access (Mem Dist offset size write)) piece answer) (vcpu : ℕ) → IsPlainCall guest.shape run.ended.beside vcpu Dist offset size write piece answer → IsEager Dist offset size write
@@ -150,7 +150,7 @@ module _ (guest : GuestSpec) (moments : List Moment) (actor : ℕ) (piece : List
       (redist_same before (Some vcpu) is.view piece guest.shape run.shape_is of_vcpu (redist_decoded offset size) write
       (λ half value by.
       enable_same before (Some vcpu) is.view piece guest.shape of_vcpu
-      (targets_same (Redist of_vcpu) offset size write run vcpu is (redist_written guest.shape is.view of_vcpu RedistCtlr half value) (sym by.made.events_are ∙ is.made.events_are) (written_keeps guest.shape is.view of_vcpu half value)) half value by)
+      (targets_same (Redist of_vcpu) offset size write run vcpu is (redist_written guest.shape is.view of_vcpu RedistCtlr half value) (sym by.made.events_are ∙ (access_made is).events_are) (written_keeps guest.shape is.view of_vcpu half value)) half value by)
       (made_is (Redist of_vcpu) offset size write run vcpu is))
 
   -- Memory.

@@ -2,16 +2,17 @@
 use Rattle.std.proofs.Common.{◌≡◌, ℕ, ◌+◌, ◌*◌, inl, inr, not, Bool, true, false, IsTrue, List, [], ◌∷◌, ◌++◌, map, Option, Some, None, refl, sym, ap, ◌∙◌, subst}
 use Rattle.std.specs.List.{list_all}
 use Rattle.std.specs.Option.{option_map_or}
-use Rattle.std.proofs.lemmas.Bool.{and_from}
-use Rattle.std.proofs.lemmas.List.{append-nil, append_assoc, map-append}
+use Rattle.std.proofs.lemmas.Bool.{and_from, and_parts}
+use Rattle.std.proofs.lemmas.List.{append_assoc, map-append}
 use Rattle.std.proofs.lemmas.List.Elements.{filter-append}
 use Rattle.std.proofs.lemmas.List.Folds.{list_all-append}
 use Rattle.law_home_commutes.specs.Words.{Lpi, GuestShape}
 use Rattle.law_home_commutes.specs.Registers.{config_address, is_enabled, priority_of, part_of, extracted, Part as RamPart, queue_bytes, advanced, fault_number}
-use Rattle.law_home_commutes.specs.Calls.{PlainWord, Ram, Propbaser, Cbaser, Part, Map, Clear, Event, Up, Down, Touch, Reach, Take, Leave, Enable, Cpu, Put, CtlrBegin, CtlrEnd, ItsBegin, Place, Runs, Done, Stalls, MapLpi, lpi_event, queue_address, word_address, command_words, next_offset, queue_event, Happened, is_beside, named_of, held_at, IsLastRead, Makes, memory_places, byte_places, ArePartsThen, command_places, HaveSameIts, View, memory_at}
+use Rattle.law_home_commutes.specs.Calls.{PlainWord, Ram, Propbaser, Cbaser, Part, Map, Clear, Event, Up, Down, Touch, Reach, Take, Leave, Enable, Cpu, Put, CtlrBegin, CtlrEnd, ItsBegin, Place, Runs, Done, Stalls, MapLpi, lpi_event, queue_address, word_address, command_words, next_offset, queue_event, Happened, is_beside, named_of, held_at, IsLastRead, Makes, memory_places, byte_places, ArePartsThen, command_places, HaveSameIts, View, memory_at, Found, words_read}
 use Rattle.law_home_commutes.specs.ItsCmd.Command.{decoded}
 use Rattle.law_home_commutes.specs.GicCall.declared.command.Part.TheVariants.{Forget, Retarget, Raise as RaisePart, Configure}
 use Rattle.law_home_commutes.specs.GicCall.declared.event.Event.TheVariants.{Raise, Read, ItsEnd, Queue}
+use Rattle.law_home_commutes.specs.GicCall.declared.event.Found.TheVariants.{Word as FoundWord}
 use Rattle.law_home_commutes.specs.GicCall.declared.event.Place.TheVariants.{Word}
 use Rattle.law_home_commutes.specs.GicCall.declared.touch.Touching.TheVariants.{Configure as ConfigureLpi}
 use Rattle.law_home_commutes.specs.Histories.{IdealGuest, word_at, view_of, after_event, after_events}
@@ -19,7 +20,7 @@ use Rattle.law_eager_is_history.proofs.PieceLemmas.{all_weaker}
 use Rattle.law_lone_calls_are_eager.proofs.EnableLemmas.{in_flat}
 use Rattle.law_lone_calls_are_eager.proofs.NamedLemmas.{IsIn}
 use Rattle.law_lone_calls_are_eager.proofs.PlainLemmas.{same_word}
-use Rattle.law_lone_calls_are_eager.proofs.ReadLemmas.{keeps, read_held, beside_passes, all_in, last_in}
+use Rattle.law_lone_calls_are_eager.proofs.ReadLemmas.{keeps, read_held, beside_passes, all_in, last_in, kept_at}
 use Rattle.law_lone_calls_are_eager.proofs.RunLemmas.{events_of, spreading_after, IsHomeRun}
 
 -- Runs in pieces.
@@ -87,13 +88,41 @@ words_keep shape word (Queue offset Runs) h = absurd (cc)
 words_keep shape word (Queue offset (Done words)) h = absurd (cc)
 words_keep shape word (Queue offset (Stalls fault)) h = absurd (cc)
 
--- what a piece reads of words is what the guest has as a list of events begins that stores none
-pub reads_word : (b : Bool) (guest : IdealGuest) (actor : Option ℕ) (view : View) (events : List Event) (places : List Place) (before own : List Happened) → Makes actor view events places before own → IsHomeRun b guest (before ++ own)
-    → IsTrue (list_all keeps_words (events_of (before ++ own))) → (word : PlainWord) → IsIn places (Word word) → view.words word ≡ word_at guest word
-reads_word b guest actor view events places before own made run keep word among =
+-- what some reads found of words is what a guest has
+abbrev pub FindWords : IdealGuest → List Happened → Type 0
+FindWords guest piece = (word : PlainWord) (found : Found) → IsIn piece (record { event = Read (Word word); found = found }) → found ≡ FoundWord (word_at guest word)
+
+-- so it is of a run that stores none
+pub words_found : (b : Bool) (guest : IdealGuest) (piece : List Happened) → IsHomeRun b guest piece → IsTrue (list_all keeps_words (events_of piece)) → FindWords guest piece
+words_found b guest piece run keep word found among = read_held (Word word) found piece b guest run (all_weaker keeps_words (keeps guest.shape (Word word)) (words_keep guest.shape word) (events_of piece) keep) among
+
+find_both : (guest : IdealGuest) (before own : List Happened) → FindWords guest before → FindWords guest own → FindWords guest (before ++ own)
+find_both guest [] own one other word found among = other word found among
+find_both guest (h ∷ before) own one other word found (inl e) = one word found (inl e)
+find_both guest (h ∷ before) own one other word found (inr later) = find_both guest before own (λ w f is. one w f (inr is)) other word found later
+
+-- what a piece goes by of words is what the guest has
+pub reads_word : (guest : IdealGuest) (actor : Option ℕ) (view : View) (events : List Event) (places : List Place) (before own : List Happened) → Makes actor view events places before own → FindWords guest (before ++ own) → (word : PlainWord) → IsIn places (Word word)
+    → view.words word ≡ word_at guest word
+reads_word guest actor view events places before own made find word among =
     same_word (view.words word) (word_at guest word)
-    (read_held (Word word) (held_at view (Word word)) (before ++ own) b guest run (all_weaker keeps_words (keeps guest.shape (Word word)) (words_keep guest.shape word) (events_of (before ++ own)) keep)
-    (last_in (Word word) (held_at view (Word word)) (before ++ own) (all_in (λ p. IsLastRead p (held_at view p) (before ++ own)) places (Word word) made.reads among)))
+    (find word (held_at view (Word word)) (last_in (Word word) (held_at view (Word word)) (before ++ own) (all_in (λ p. IsLastRead p (held_at view p) (before ++ own)) places (Word word) made.reads among)))
+
+-- the doublewords of a command, where the guest has them so
+pub words_find : (shape : GuestShape) (guest : IdealGuest) (view : View) → ((word : PlainWord) → IsIn (command_places shape view) (Word word) → view.words word ≡ word_at guest word) → FindWords guest (words_read shape view)
+words_find shape guest view same = of (command_places shape view) same
+  where
+    of : (places : List Place) → ((word : PlainWord) → IsIn places (Word word) → view.words word ≡ word_at guest word) → FindWords guest (map (λ place. (let h : Happened = record { event = Read place; found = held_at view place } in h)) places)
+    of [] same word found among = absurd among
+    of (place ∷ places) same word found (inl e) = found_is place e (same word)
+      where
+        same_place : (one other : Place) → Read one ≡ Read other → one ≡ other
+        same_place one other e = cc
+
+        found_is : (place : Place) → (let h : Happened = record { event = Read place; found = held_at view place } in h) ≡ record { event = Read (Word word); found = found } → (IsIn (place ∷ places) (Word word) → view.words word ≡ word_at guest word)
+            → found ≡ FoundWord (word_at guest word)
+        found_is place e same = let at : place ≡ Word word = same_place place (Word word) (ap (λ (h : Happened). h.event) e) in sym (ap (λ (h : Happened). h.found) e) ∙ ap (held_at view) at ∙ ap FoundWord (same (inl at))
+    of (place ∷ places) same word found (inr later) = of places (λ w is. same w (inr is)) word found later
 
 -- and so of memory
 memory_seen : (shape : GuestShape) (guest : IdealGuest) (view : View) (address size : ℕ) → ((index : ℕ) → IsIn (memory_places shape address size) (Word (Ram index)) → view.words (Ram index) ≡ word_at guest (Ram index))
@@ -166,39 +195,41 @@ part_same shape guest view targets (Configure id) seen = ap (λ byte. Touch (Lpi
     of (Some vcpu) seen = byte_seen shape guest view id vcpu seen
 
 -- the parts, one after the other, and what follows
-pub record PartsDone (guest : IdealGuest) (actor : Option ℕ) (shape : GuestShape) (targets : ℕ → Option ℕ) (parts : List Part) (Rest : List Happened → List Happened → Type 0) (before piece : List Happened) : Type 0 where
+pub record PartsDone (guest : IdealGuest) (actor : Option ℕ) (shape : GuestShape) (targets : ℕ → Option ℕ) (parts : List Part) (Rest : List Happened → Type 0) (piece : List Happened) : Type 0 where
   pub own : List Happened
   pub rest : List Happened
   pub split : piece ≡ own ++ rest
   pub events : events_of (named_of actor own) ≡ map (lpi_event shape (view_of guest) targets) parts
-  pub keep : IsTrue (list_all keeps_words (events_of (before ++ own)))
-  pub later : Rest (before ++ own) rest
+  pub keep : IsTrue (list_all keeps_words (events_of own))
+  pub later : Rest rest
 
 keeps_both : (test : Event → Bool) (first next : List Happened) → IsTrue (list_all test (events_of first)) → IsTrue (list_all test (events_of next)) → IsTrue (list_all test (events_of (first ++ next)))
 keeps_both test first next one two = ap (list_all test) (events_both first next) ∙ list_all-append test (events_of first) (events_of next) ∙ and_from (list_all test (events_of first)) (list_all test (events_of next)) one two
 
-pub parts_done : (b : Bool) (guest : IdealGuest) (actor : Option ℕ) (shape : GuestShape) (targets : ℕ → Option ℕ) (parts : List Part) (Rest : List Happened → List Happened → Type 0) (before piece : List Happened) → ArePartsThen actor shape targets parts Rest before piece
-    → IsHomeRun b guest (before ++ piece) → IsTrue (list_all keeps_words (events_of before)) → PartsDone guest actor shape targets parts Rest before piece
-parts_done b guest actor shape targets [] Rest before piece are run keep = record {
-  own = [];
-  rest = piece;
-  split = refl;
-  events = refl;
-  keep = subst (λ xs. IsTrue (list_all keeps_words (events_of xs))) (sym (append-nil before)) keep;
-  later = subst (λ xs. Rest xs piece) (sym (append-nil before)) are;
-}
-parts_done b guest actor shape targets (part ∷ parts) Rest before piece are run keep =
-    let whole : IsHomeRun b guest ((before ++ are.own) ++ are.rest) = subst (IsHomeRun b guest) (ap (λ xs. before ++ xs) are.split ∙ sym (append_assoc before are.own are.rest)) run in
+pub words_stay : (events : List Event) (guest : IdealGuest) → IsTrue (list_all keeps_words events) → (word : PlainWord) → word_at (after_events events guest) word ≡ word_at guest word
+words_stay [] guest keep word = refl
+words_stay (event ∷ events) guest keep word =
+    let parts = and_parts (keeps_words event) (list_all keeps_words events) keep in
+    words_stay events (after_event guest event) parts.1 word ∙ same_word (word_at (after_event guest event) word) (word_at guest word) (kept_at (Word word) event false guest (words_keep guest.shape word event parts.0))
+
+pub parts_done : (b : Bool) (guest now : IdealGuest) (actor : Option ℕ) (shape : GuestShape) (targets : ℕ → Option ℕ) (words : List Happened) (parts : List Part) (Rest : List Happened → Type 0) (before piece : List Happened) → ArePartsThen actor shape targets words parts Rest before piece
+    → IsHomeRun b now piece → ((word : PlainWord) → word_at now word ≡ word_at guest word) → FindWords guest before → FindWords guest words → PartsDone guest actor shape targets parts Rest piece
+parts_done b guest now actor shape targets words [] Rest before piece are run same find found = record { own = []; rest = piece; split = refl; events = refl; keep = refl; later = are }
+parts_done b guest now actor shape targets words (part ∷ parts) Rest before piece are run same find found =
+    let runs = run_split are.own are.rest b now (subst (IsHomeRun b now) are.split run) in
     let own_keep : IsTrue (list_all keeps_words (events_of are.own)) =
     beside_passes keeps_words beside_words actor are.own (subst (λ es. IsTrue (list_all keeps_words es)) (sym are.made.events_are) (and_from (keeps_words (lpi_event shape are.view targets part)) true (part_words shape are.view targets part) refl)) in
-    let both = keeps_both keeps_words before are.own keep own_keep in
-    let same = part_same shape guest are.view targets part (reads_word b guest actor are.view (lpi_event shape are.view targets part ∷ []) (byte_places shape are.view targets part) before are.own are.made (run_split (before ++ are.own) are.rest b guest whole).0 both) in
-    let next = parts_done b guest actor shape targets parts Rest (before ++ are.own) are.rest are.later whole both in
+    let own_find : FindWords guest are.own = λ word found among. words_found b now are.own runs.0 own_keep word found among ∙ ap FoundWord (same word) in
+    let event_same =
+    part_same shape guest are.view targets part
+    (reads_word guest actor are.view (lpi_event shape are.view targets part ∷ []) (byte_places shape are.view targets part) before are.own are.made (find_both guest before are.own find own_find)) in
+    let next =
+    parts_done (marks_after are.own b) guest (after_events (events_of are.own) now) actor shape targets words parts Rest words are.rest are.later runs.1 (λ word. words_stay (events_of are.own) now own_keep word ∙ same word) found found in
     record {
       own = are.own ++ next.own;
       rest = next.rest;
       split = are.split ∙ ap (λ xs. are.own ++ xs) next.split ∙ sym (append_assoc are.own next.own next.rest);
-      events = named_both actor are.own next.own ∙ ap (λ es. es ++ events_of (named_of actor next.own)) (are.made.events_are ∙ ap (λ e. e ∷ []) same) ∙ ap (λ es. lpi_event shape (view_of guest) targets part ∷ es) next.events;
-      keep = subst (λ xs. IsTrue (list_all keeps_words (events_of xs))) (append_assoc before are.own next.own) next.keep;
-      later = subst (λ xs. Rest xs next.rest) (append_assoc before are.own next.own) next.later;
+      events = named_both actor are.own next.own ∙ ap (λ es. es ++ events_of (named_of actor next.own)) (are.made.events_are ∙ ap (λ e. e ∷ []) event_same) ∙ ap (λ es. lpi_event shape (view_of guest) targets part ∷ es) next.events;
+      keep = keeps_both keeps_words are.own next.own own_keep next.keep;
+      later = next.later;
     }

@@ -5,18 +5,20 @@ use Rattle.std.specs.Option.{option_map_or}
 use Rattle.std.proofs.lemmas.Bool.{and_from}
 use Rattle.law_home_commutes.specs.Words.{Lpi, DeviceOp, Message, Wire, Msi}
 use Rattle.law_home_commutes.specs.Registers.{enabled_in, translated}
-use Rattle.law_home_commutes.specs.Calls.{ItsCtlr, Event, ItsBegin, Moment, Device, device_events, Happened, IsDeviceCall, IsCall, View, is_its_enabled, GuestSpec}
+use Rattle.law_home_commutes.specs.Calls.{ItsCtlr, Event, ItsBegin, Moment, Device, device_events, Happened, IsDeviceCall, IsCall, View, is_its_enabled, GuestSpec, Makes, msi_raises}
 use Rattle.law_home_commutes.specs.GicCall.declared.event.Event.TheVariants.{Raise, ItsEnd}
 use Rattle.law_home_commutes.specs.GicCall.declared.event.Found.TheVariants.{Word as FoundWord}
 use Rattle.law_home_commutes.specs.GicCall.declared.event.Place.TheVariants.{Word}
 use Rattle.law_home_commutes.specs.Histories.{IdealGuest, word_at, view_of, after_events, begun, vcpu_of, last_of, home, Ideal}
 use Rattle.law_eager_is_history.proofs.WindowLemmas.{is_no_turn}
 use Rattle.law_home_commutes.proofs.HomeLemmas.{home_rest}
+use Rattle.law_home_commutes.proofs.GicCall.TraceLemmas.{after_made, op_made}
 use Rattle.law_lone_calls_are_eager.specs.LoneCalls.{lone_call, IsEagerCall, PassesAlone}
+use Rattle.law_lone_calls_are_eager.proofs.CommandLemmas.{run_split}
 use Rattle.law_lone_calls_are_eager.proofs.MapsLemmas.{keeps_maps, beside_maps, maps_taken}
 use Rattle.law_lone_calls_are_eager.proofs.NamedLemmas.{named_run}
 use Rattle.law_lone_calls_are_eager.proofs.ReadLemmas.{keeps, view_holds, beside_passes, some_named}
-use Rattle.law_lone_calls_are_eager.proofs.RunLemmas.{events_of, LoneRun, lone_run}
+use Rattle.law_lone_calls_are_eager.proofs.RunLemmas.{events_of, LoneRun, lone_run, IsHomeRun}
 
 abbrev takes_turn : Event → Bool
 takes_turn event = not (is_no_turn event)
@@ -40,7 +42,7 @@ module _ (guest : GuestSpec) (moments : List Moment) (actor : ℕ) (piece : List
     goes_so : device_events is.view op ≡ device_events (view_of before) op → IsEagerCall actor (Device op) answer before (home (last_of guest (moments ++ lone_call actor (Device op) piece answer)))
     goes_so same =
         let named = named_run false before None piece run.run in
-        record { goes = run.goes ∙ named.goes ∙ ap (λ events. after_events events before) (is.made.events_are ∙ same); answers = is.answers }
+        record { goes = run.goes ∙ named.goes ∙ ap (λ events. after_events events before) ((op_made is).events_are ∙ same); answers = is.answers }
 
   msi_same : (device event : ℕ) → (run : LoneRun guest moments actor (Device (Msi device event)) piece answer) (is : IsDeviceCall run.ended.beside (Msi device event) piece answer)
       → device_events is.view (Msi device event) ≡ device_events (view_of before) (Msi device event)
@@ -51,19 +53,29 @@ module _ (guest : GuestSpec) (moments : List Moment) (actor : ℕ) (piece : List
       same_word : (m n : ℕ) → FoundWord m ≡ FoundWord n → m ≡ n
       same_word m n e = cc
 
+      raising : Makes None is.view (ItsBegin ∷ msi_raises is.view device event) (Word ItsCtlr ∷ []) [] is.made.raising
+      raising = after_made None is.view ItsBegin (msi_raises is.view device event) (Word ItsCtlr ∷ []) is.made.raising is.made.raised
+
+      raises_keep : IsTrue (list_all (keeps before.shape (Word ItsCtlr)) (ItsBegin ∷ msi_raises is.view device event))
+      raises_keep = of (translated is.view.maps (is_its_enabled is.view) device event)
+        where
+          of : (o : Option ℕ) → IsTrue (list_all (keeps before.shape (Word ItsCtlr)) (ItsBegin ∷ option_map_or (λ id. Raise (Lpi id) ∷ []) o []))
+          of None = refl
+          of (Some id) = refl
+
       word_same : is.view.words ItsCtlr ≡ word_at before ItsCtlr
       word_same =
           same_word (is.view.words ItsCtlr) (word_at before ItsCtlr)
-          (view_holds None is.view (device_events is.view (Msi device event)) (Word ItsCtlr ∷ []) piece before is.made run.run (Word ItsCtlr) (inl refl)
-          (msi_all (keeps before.shape (Word ItsCtlr)) is.view device event (λ id. refl) refl refl))
+          (view_holds None is.view (ItsBegin ∷ msi_raises is.view device event) (Word ItsCtlr ∷ []) is.made.raising before raising (run_split is.made.raising is.made.last false before (subst (IsHomeRun false before) is.made.split run.run)).0 (Word ItsCtlr) (inl refl)
+          raises_keep)
 
       kept_all : IsTrue (list_all keeps_maps (events_of piece))
       kept_all =
           beside_passes keeps_maps beside_maps None piece
-          (subst (λ events. IsTrue (list_all keeps_maps events)) (sym is.made.events_are) (msi_all keeps_maps is.view device event (λ id. refl) refl refl))
+          (subst (λ events. IsTrue (list_all keeps_maps events)) (sym (op_made is).events_are) (msi_all keeps_maps is.view device event (λ id. refl) refl refl))
 
       taken : list_any takes_turn (events_of piece) ≡ true
-      taken = some_named takes_turn None piece (subst (λ events. list_any takes_turn events ≡ true) (sym is.made.events_are) refl)
+      taken = some_named takes_turn None piece (subst (λ events. list_any takes_turn events ≡ true) (sym (op_made is).events_are) refl)
 
       maps_same : is.view.maps ≡ before.tables
       maps_same =

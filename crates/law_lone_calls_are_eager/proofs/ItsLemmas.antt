@@ -1,15 +1,18 @@
 -- A write of a register of the ITS that takes it, with the commands that it starts.
-use Rattle.std.proofs.Common.{◌≡◌, ℕ, ◌++◌, ◌∷◌, ◌⊎◌, inl, inr, not, Bool, true, false, cond, IsTrue, List, [], length, Option, Some, refl, sym, ap, ◌∙◌, subst}
+use Rattle.std.proofs.Common.{◌≡◌, ℕ, ◌++◌, ◌∷◌, not, Bool, true, false, cond, IsTrue, List, [], Option, Some, refl, sym, ap, ◌∙◌, subst}
 use Rattle.std.specs.List.{list_all, list_any}
 use Rattle.std.proofs.lemmas.Grind.{fold-append}
+use Rattle.std.proofs.lemmas.Bool.{and_from, and_parts}
 use Rattle.std.proofs.lemmas.List.{append_assoc}
+use Rattle.std.proofs.lemmas.List.Folds.{list_all-append}
 use Rattle.law_home_commutes.specs.Words.{Its, Mem, GuestShape}
 use Rattle.law_home_commutes.specs.GicImap.Map.{decoded as its_decoded}
 use Rattle.law_home_commutes.specs.GicImap.declared.map.RegRef.{RegRef as ItsRef}
 use Rattle.law_home_commutes.specs.Calls.{Cbaser, Event, ItsBegin, Moment, Operation, Access, its_events, its_starts, takes_turn, queue_places, Happened, is_beside, AreStarted, IsItsCall, its_places, its_written_by, HaveSameIts, View, GuestSpec}
 use Rattle.law_home_commutes.specs.GicCall.declared.event.Event.TheVariants.{ItsEnd}
 use Rattle.law_home_commutes.proofs.GicCall.CallLemmas.{its_valid}
-use Rattle.law_home_commutes.specs.Histories.{IdealGuest, word_at, view_of, after_event, after_events, after_queued, IsQueueInOrder, IsSound, Call, begun, last_of, home, Ideal}
+use Rattle.law_home_commutes.proofs.GicCall.TraceLemmas.{its_made}
+use Rattle.law_home_commutes.specs.Histories.{IdealGuest, word_at, view_of, after_event, after_events, after_queued, IsQueueInOrder, IsSound, Call, begun, last_of, home, Ideal, happened, targets_in}
 use Rattle.law_home_commutes.proofs.IdealGuests.KeyLemmas.{IsWhole}
 use Rattle.law_home_commutes.proofs.IdealGuests.QueueLemmas.{commands_end}
 use Rattle.law_eager_is_history.specs.GicIdeal.Deeds.{op_events}
@@ -18,19 +21,18 @@ use Rattle.law_eager_is_history.proofs.CourseLemmas.{state_after, call_after, ca
 use Rattle.law_eager_is_history.proofs.QueueLemmas.{events_known}
 use Rattle.law_eager_is_history.proofs.TurnLemmas.{IsTurnPiece, register_piece}
 use Rattle.law_eager_is_history.proofs.EventLemmas.{is_plain, shape_events}
-use Rattle.law_eager_is_history.proofs.WindowLemmas.{is_no_turn, maps_after}
+use Rattle.law_eager_is_history.proofs.WindowLemmas.{is_no_turn, maps_after, next_call}
 use Rattle.law_home_commutes.proofs.HomeLemmas.{home_rest, home_whole}
-use Rattle.law_lone_calls_are_eager.specs.LoneCalls.{AllMoveOwn, IsAtRest, lone_call, IsEagerCall}
+use Rattle.law_lone_calls_are_eager.specs.LoneCalls.{IsAtRest, lone_call, IsEagerCall}
 use Rattle.law_lone_calls_are_eager.proofs.CommandLemmas.{marks_after, run_split, events_both}
 use Rattle.law_lone_calls_are_eager.proofs.MapsLemmas.{keeps_maps, beside_maps, maps_taken}
-use Rattle.law_lone_calls_are_eager.proofs.MomentLemmas.{target_at, keeps_for, beside_keeps_for, seen_by, seen_kept, targets_after, is_between, grown}
-use Rattle.law_lone_calls_are_eager.proofs.NamedLemmas.{named_run, IsIn}
-use Rattle.law_lone_calls_are_eager.proofs.OneLemmas.{beside_between, all_from, follows_split, own_split, IsAt, HasTargets}
+use Rattle.law_lone_calls_are_eager.proofs.MomentLemmas.{target_at, keeps_for, beside_keeps_for, targets_after, is_between, commands_kept}
+use Rattle.law_lone_calls_are_eager.proofs.NamedLemmas.{named_run}
+use Rattle.law_lone_calls_are_eager.proofs.OneLemmas.{beside_between, all_beside, SplitAt, split_at, whole_after, follows_split, IsAt, HasTargets}
 use Rattle.law_lone_calls_are_eager.proofs.PartLemmas.{IsMade}
 use Rattle.law_lone_calls_are_eager.proofs.QueueLemmas.{queued_is, commands_done}
 use Rattle.law_lone_calls_are_eager.proofs.ReadLemmas.{beside_passes, some_named}
 use Rattle.law_lone_calls_are_eager.proofs.RunLemmas.{events_of, IsHomeRun, Follows, LoneRun}
-use Rattle.law_lone_calls_are_eager.proofs.TargetLemmas.{home_targets}
 use Rattle.law_lone_calls_are_eager.proofs.TurnLemmas.{its_all, IsRegistered, eager_so, already_so, registered, no_turn_passes, sound_run}
 use Rattle.law_lone_calls_are_eager.proofs.PassLemmas.{both_all, makes_all, started_all}
 
@@ -86,16 +88,13 @@ module _ (guest : GuestSpec) (moments : List Moment) (actor : ℕ) (piece : List
 
     -- what all events of the register pass
     pub register_all : (test : Event → Bool) → ((actor : Option ℕ) (event : Event) → is_beside actor event ≡ true → test event ≡ true) → IsTrue (list_all test (ItsBegin ∷ mine)) → IsTrue (list_all test (events_of is.register))
-    register_all test beside all = beside_passes test beside (Some vcpu) is.register (subst (λ es. IsTrue (list_all test es)) (sym is.written.events_are) all)
+    register_all test beside all = beside_passes test beside (Some vcpu) is.register (subst (λ es. IsTrue (list_all test es)) (sym (its_made is).events_are) all)
 
     keep_maps : IsTrue (list_all keeps_maps (events_of is.register))
     keep_maps = register_all keeps_maps beside_maps (its_all keeps_maps (λ word value. refl) (λ offset. refl) guest.shape is.view (its_decoded offset size) value)
 
     keep_targets : (id : ℕ) → IsTrue (list_all (keeps_for id) (events_of is.register))
     keep_targets id = register_all (keeps_for id) (beside_keeps_for id) (its_all (keeps_for id) (λ word value. refl) (λ offset. refl) guest.shape is.view (its_decoded offset size) value)
-
-    between : IsTrue (list_all is_between (events_of is.register))
-    between = register_all is_between beside_between (its_all is_between (λ word value. refl) (λ offset. refl) guest.shape is.view (its_decoded offset size) value)
 
     -- The maps that the call took.
 
@@ -109,16 +108,16 @@ module _ (guest : GuestSpec) (moments : List Moment) (actor : ℕ) (piece : List
         (started_all is_no_turn no_turn_passes (its_starts guest.shape is.view (its_decoded offset size) (Some value)) (Some vcpu) guest.shape run.ended.beside (its_written_by guest.shape is.view mine) is.views is.commands is.started)
         (makes_all is_no_turn no_turn_passes (Some vcpu) is.view (ItsEnd ∷ []) [] [] is.last is.ended refl))
         ∙ maps_taken actor state.guest.tables (events_of is.register) state open_call refl keep_maps
-        (some_named (λ event. not (is_no_turn event)) (Some vcpu) is.register (subst (λ es. list_any (λ event. not (is_no_turn event)) es ≡ true) (sym is.written.events_are) refl))
+        (some_named (λ event. not (is_no_turn event)) (Some vcpu) is.register (subst (λ es. list_any (λ event. not (is_no_turn event)) es ≡ true) (sym (its_made is).events_are) refl))
         ∙ ap (λ (g : IdealGuest). g.tables) (sym (home_rest state))
 
     -- The register.
 
     pub made_is : IsMade before (Some vcpu) is.view (ItsBegin ∷ mine) (its_places guest.shape (its_decoded offset size) (Some value)) is.register
-    made_is = record { whole = home_whole state run.tidy.whole; run = runs.0; made = is.written }
+    made_is = record { whole = home_whole state run.tidy.whole; run = runs.0; made = its_made is }
 
     guest1_is : guest1 ≡ after_events mine before
-    guest1_is = (named_run false before (Some vcpu) is.register runs.0).goes ∙ ap (λ es. after_events es before) is.written.events_are
+    guest1_is = (named_run false before (Some vcpu) is.register runs.0).goes ∙ ap (λ es. after_events es before) (its_made is).events_are
 
     last_still : after_events (events_of is.last) guest2 ≡ guest2
     last_still = (named_run (marks_after is.commands (marks_after is.register false)) guest2 (Some vcpu) is.last runs1.1).goes ∙ ap (λ es. after_events es guest2) is.ended.events_are
@@ -173,49 +172,88 @@ module _ (guest : GuestSpec) (moments : List Moment) (actor : ℕ) (piece : List
       whole : IsWhole before
       whole = home_whole state run.tidy.whole
 
+      -- before the ITS is taken, and after that
+      cut : SplitAt (Some vcpu) ItsBegin is.written.begin
+      cut = split_at (Some vcpu) ItsBegin is.written.begin is.written.begun.events_are
+
+      abbrev early : List Event
+      early = events_of cut.pre
+
+      abbrev onwards : List Event
+      onwards = events_of cut.post ++ events_of is.written.rest
+
+      register_is : events_of is.register ≡ early ++ ItsBegin ∷ onwards
+      register_is =
+          ap events_of (is.written.split ∙ ap (λ xs. xs ++ is.written.rest) cut.split ∙ append_assoc cut.pre ((record { event = ItsBegin; found = cut.found }) ∷ cut.post) is.written.rest)
+          ∙ events_both cut.pre ((record { event = ItsBegin; found = cut.found }) ∷ (cut.post ++ is.written.rest)) ∙ ap (λ es. early ++ ItsBegin ∷ es) (events_both cut.post is.written.rest)
+
+      early_between : IsTrue (list_all is_between early)
+      early_between = all_beside is_between beside_between (Some vcpu) cut.pre cut.pre_none
+
+      onwards_between : IsTrue (list_all is_between onwards)
+      onwards_between =
+          list_all-append is_between (events_of cut.post) (events_of is.written.rest)
+          ∙ and_from (list_all is_between (events_of cut.post)) (list_all is_between (events_of is.written.rest)) (all_beside is_between beside_between (Some vcpu) cut.post cut.post_none)
+          (beside_passes is_between beside_between (Some vcpu) is.written.rest
+          (subst (λ es. IsTrue (list_all is_between es)) (sym is.written.made.events_are) (its_all is_between (λ word value. refl) (λ offset. refl) guest.shape is.view (its_decoded offset size) value)))
+
+      abbrev taking : Ideal
+      taking = state_after actor early state
+
+      abbrev held : IdealGuest
+      held = after_events early before
+
+      parts : Follows actor state before early × Follows actor taking held (ItsBegin ∷ onwards)
+      parts = follows_split actor early (ItsBegin ∷ onwards) state before (subst (Follows actor state before) register_is follow.0)
+
+      keep_onwards : (id : ℕ) → IsTrue (list_all (keeps_for id) onwards)
+      keep_onwards id =
+          (and_parts true (list_all (keeps_for id) onwards)
+          (and_parts (list_all (keeps_for id) early) (list_all (keeps_for id) (ItsBegin ∷ onwards)) (sym (list_all-append (keeps_for id) early (ItsBegin ∷ onwards)) ∙ subst (λ es. IsTrue (list_all (keeps_for id) es)) register_is (keep_targets id))).1).1
+
+      guest1_held : guest1 ≡ after_events onwards held
+      guest1_held = ap (λ es. after_events es before) register_is ∙ fold-append after_event before early (ItsBegin ∷ onwards)
+
       pub at1 : IsAt guest1 call1 0
-      at1 =
-          let window = grown actor (events_of is.register) state before open_call follow.0 between refl in
-          record {
-            place = window.place;
-            number_is = ap length window.done;
-            all = λ id. all_from (call1.targets id) (target_at guest1 id) (λ x among. of id x (window.among id x among) ∙ sym (targets_after before id (events_of is.register) whole (keep_targets id)));
-          }
-        where
-          of : (id : ℕ) (x : Option ℕ) → IsIn (open_call.targets id) x ⊎ IsIn (seen_by before (events_of is.register) id) x → x ≡ target_at before id
-          of id x (inl (inl e)) = sym e ∙ sym (home_targets guest.shape state run.tidy id)
-          of id x (inl (inr none)) = absurd none
-          of id x (inr among) = seen_kept before id (events_of is.register) x whole (keep_targets id) among
+      at1 = record {
+        earlier = [];
+        noted = targets_in taking;
+        commands =
+            ap (λ es. (call_after actor es state open_call).commands) register_is ∙ ap (λ (c : Call). c.commands) (call_append actor early (ItsBegin ∷ onwards) state open_call)
+            ∙ commands_kept actor onwards (happened actor ItsBegin taking) (next_call taking actor ItsBegin (call_after actor early state open_call)) onwards_between
+            ∙ ap (λ xs. xs ++ targets_in taking ∷ []) (commands_kept actor early state open_call early_between);
+        number_is = refl;
+        now = λ id. parts.1.0 id ∙ sym (targets_after held id onwards (whole_after early before whole) (keep_onwards id)) ∙ ap (λ g. target_at g id) (sym guest1_held);
+      }
 
       pub targets1 : HasTargets run.ended.beside (call_after actor (events_of is.commands ++ events_of is.last) state1 call1)
       targets1 =
           subst (HasTargets run.ended.beside) (ap (λ es. call_after actor es state open_call) events_are ∙ call_append actor (events_of is.register) (events_of is.commands ++ events_of is.last) state open_call)
-          (λ number id few. run.ended.targets number id few)
+          run.ended.commands
 
-      some_started : AllMoveOwn before (events_of piece) → HaveSameIts is.view (view_of before) → AreStarted true (Some vcpu) guest.shape run.ended.beside (its_written_by guest.shape is.view mine) is.views is.commands
+      some_started : HaveSameIts is.view (view_of before) → AreStarted true (Some vcpu) guest.shape run.ended.beside (its_written_by guest.shape is.view mine) is.views is.commands
           → guest2 ≡ after_queued guest1
-      some_started moved known are =
-          let moves = own_split (events_of is.register) (events_of is.commands ++ events_of is.last) before (subst (AllMoveOwn before) events_are moved) in
+      some_started known are =
           let done = commands_done guest.shape actor vcpu run.ended.beside is.views 0 (its_written_by guest.shape is.view mine) is.commands (events_of is.last) (marks_after is.register false) guest1 state1 call1 are sound1
           (ap (λ (g : IdealGuest). g.shape) guest1_eager ∙ shape_events eager before ∙ run.shape_is) (known1 known)
-          (own_split (events_of is.commands) (events_of is.last) guest1 moves.1).0 at1 runs1.0
+          at1 runs1.0
           (follows_split actor (events_of is.commands) (events_of is.last) state1 guest1 follow.1).0 targets1 in
           done.goes ∙ sym (queued_is done.count guest1 sound1 order1 done.all)
 
     -- The call.
 
-    started_is : AllMoveOwn before (events_of piece) → mine ≡ eager → (b : Bool) → its_starts guest.shape is.view (its_decoded offset size) (Some value) ≡ b
+    started_is : mine ≡ eager → (b : Bool) → its_starts guest.shape is.view (its_decoded offset size) (Some value) ≡ b
         → (its_starts guest.shape is.view (its_decoded offset size) (Some value) ≡ true → HaveSameIts is.view (view_of before))
         → AreStarted b (Some vcpu) guest.shape run.ended.beside (its_written_by guest.shape is.view mine) is.views is.commands → guest2 ≡ cond b (after_queued (after_events eager before)) (after_events eager before)
-    started_is moved events_same true e known are = some_started events_same moved (known e) are ∙ ap after_queued (guest1_eager events_same)
-    started_is moved events_same false e known are = none_started (its_written_by guest.shape is.view mine) is.views are ∙ guest1_eager events_same
+    started_is events_same true e known are = some_started events_same (known e) are ∙ ap after_queued (guest1_eager events_same)
+    started_is events_same false e known are = none_started (its_written_by guest.shape is.view mine) is.views are ∙ guest1_eager events_same
 
-    goes_so : AllMoveOwn before (events_of piece) → IsRegistered guest.shape before (Some vcpu) is.view is.register value (its_decoded offset size)
+    goes_so : IsRegistered guest.shape before (Some vcpu) is.view is.register value (its_decoded offset size)
         → guest2 ≡ cond (its_starts guest.shape (view_of before) (its_decoded offset size) (Some value)) (after_queued (after_events eager before)) (after_events eager before)
-    goes_so moved (eager_so events_same starts known) =
-        started_is moved events_same (its_starts guest.shape is.view (its_decoded offset size) (Some value)) refl known is.started
+    goes_so (eager_so events_same starts known) =
+        started_is events_same (its_starts guest.shape is.view (its_decoded offset size) (Some value)) refl known is.started
         ∙ ap (λ b. cond b (after_queued (after_events eager before)) (after_events eager before)) starts
-    goes_so moved (already_so none starts still) =
+    goes_so (already_so none starts still) =
         none_started (its_written_by guest.shape is.view mine) is.views (subst (λ b. AreStarted b (Some vcpu) guest.shape run.ended.beside (its_written_by guest.shape is.view mine) is.views is.commands) starts is.started)
         ∙ guest1_is ∙ ap (λ es. after_events es before) none ∙ of (its_starts guest.shape (view_of before) (its_decoded offset size) (Some value))
       where
@@ -223,9 +261,8 @@ module _ (guest : GuestSpec) (moments : List Moment) (actor : ℕ) (piece : List
         of true = sym (ap after_queued still ∙ commands_end (queue_places (word_at before Cbaser)) before rest.dry)
         of false = sym still
 
-    pub its_call_passes : AllMoveOwn before (events_of piece)
-        → IsEagerCall actor (Access (Mem Its offset size (Some value))) answer before (home (last_of guest (moments ++ lone_call actor (Access (Mem Its offset size (Some value))) piece answer)))
-    its_call_passes moved = record {
-      goes = run.goes ∙ piece_is ∙ goes_so moved (registered guest.shape before (Some vcpu) is.view is.register value (its_decoded offset size) takes made_is maps_same rest.order) ∙ sym eager_is;
+    pub its_call_passes : IsEagerCall actor (Access (Mem Its offset size (Some value))) answer before (home (last_of guest (moments ++ lone_call actor (Access (Mem Its offset size (Some value))) piece answer)))
+    its_call_passes = record {
+      goes = run.goes ∙ piece_is ∙ goes_so (registered guest.shape before (Some vcpu) is.view is.register value (its_decoded offset size) takes made_is maps_same rest.order) ∙ sym eager_is;
       answers = is.answers;
     }

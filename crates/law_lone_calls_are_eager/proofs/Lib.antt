@@ -33,6 +33,5 @@ pub mod ItsLemmas
 pub mod CallLaws
 pub mod RestLemmas
 pub mod RestLaws
-pub mod WorkedLemmas
 pub mod EndLemmas
 pub mod RunLaws

@@ -1,5 +1,5 @@
 -- One command of a call does what the eager controller does for its next command, and leaves the call as the next one begins.
-use Rattle.std.proofs.Common.{◌≡◌, ℕ, ◌+◌, ◌≤◌, ◌&&◌, ◌⊎◌, inl, inr, not, Bool, true, false, cond, IsTrue, Contains, List, [], ◌∷◌, ◌++◌, map, length, Option, Some, None, is_none, Result, Ok, Err, refl, sym, ap, ◌∙◌, subst, slice_index_or, arith}
+use Rattle.std.proofs.Common.{◌≡◌, ℕ, ◌+◌, ◌&&◌, not, Bool, true, false, cond, IsTrue, List, [], ◌∷◌, ◌++◌, map, length, Option, Some, None, is_none, Result, Ok, Err, refl, sym, ap, ◌∙◌, subst, slice_index_or}
 use Rattle.std.specs.List.{list_all}
 use Rattle.std.specs.Option.{option_map_or}
 use Rattle.std.proofs.lemmas.Bool.{and_parts, and_from}
@@ -9,35 +9,23 @@ use Rattle.std.proofs.lemmas.Grind.{fold-append}
 use Rattle.law_home_commutes.specs.Words.{GuestShape}
 use Rattle.law_home_commutes.specs.ItsCmd.Command.{decoded}
 use Rattle.law_home_commutes.specs.Registers.{BadCommand, Command, fault_number}
-use Rattle.law_home_commutes.specs.Calls.{Part, Map, Clear, Event, Up, Down, Touch, Reach, Take, Leave, Enable, Cpu, Put, CtlrBegin, CtlrEnd, ItsBegin, Found, Runs, Done, Stalls, lpi_event, command_words, command_parts, decoded_parts, next_offset, queue_event, command_events, Happened, is_beside, named_of, Beside, Makes, IsCommand, command_places, HaveSameIts, View}
+use Rattle.law_home_commutes.specs.Calls.{Part, Map, Clear, Event, Up, Down, Touch, Reach, Take, Leave, Enable, Cpu, Put, CtlrBegin, CtlrEnd, ItsBegin, Found, Runs, Done, Stalls, lpi_event, command_words, command_parts, decoded_parts, next_offset, queue_event, command_events, Happened, is_beside, named_of, Beside, Makes, IsCommand, command_places, HaveSameIts, View, PlainWord, command_targets, words_read}
 use Rattle.law_home_commutes.specs.GicCall.declared.command.Part.TheVariants.{Forget, Retarget, Raise as RaisePart, Configure}
 use Rattle.law_home_commutes.specs.GicCall.declared.event.Event.TheVariants.{Raise, Read, ItsEnd, Queue}
-use Rattle.law_home_commutes.specs.Histories.{IdealGuest, view_of, after_event, after_events, after_command, Ideal, happened, Call, targets_in}
+use Rattle.law_home_commutes.specs.GicCall.declared.event.Place.TheVariants.{Word}
+use Rattle.law_home_commutes.specs.Histories.{IdealGuest, view_of, after_event, after_events, after_command, Ideal, happened, Call, targets_in, word_at}
 use Rattle.law_home_commutes.proofs.IdealGuests.KeyLemmas.{IsWhole}
 use Rattle.law_eager_is_history.proofs.CourseLemmas.{state_after, call_after, call_append}
 use Rattle.law_eager_is_history.proofs.WindowLemmas.{next_call}
-use Rattle.law_lone_calls_are_eager.specs.LoneCalls.{AllMoveOwn}
 use Rattle.law_lone_calls_are_eager.proofs.AgreeLemmas.{parts_by, result_agrees}
-use Rattle.law_lone_calls_are_eager.proofs.CommandLemmas.{run_split, named_both, events_both, keeps_words, beside_words, reads_word, words_same, queue_same, PartsDone, parts_done}
-use Rattle.law_lone_calls_are_eager.proofs.MomentLemmas.{target_at, keeps_for, beside_keeps_for, seen_by, seen_kept, is_between, IsGrown, grown, IsAfter, done_after, guest_whole}
-use Rattle.law_lone_calls_are_eager.proofs.NamedLemmas.{named_run, beside_still, IsIn, is_in}
+use Rattle.law_lone_calls_are_eager.proofs.CommandLemmas.{run_split, named_both, events_both, keeps_words, beside_words, reads_word, words_same, queue_same, PartsDone, parts_done, marks_after, FindWords, words_found, words_find, words_stay}
+use Rattle.law_lone_calls_are_eager.proofs.MomentLemmas.{target_at, is_between, commands_kept, IsAfter, commands_after, guest_whole}
+use Rattle.law_lone_calls_are_eager.proofs.NamedLemmas.{named_run, beside_still, IsIn}
 use Rattle.law_lone_calls_are_eager.proofs.ReadLemmas.{beside_passes}
 use Rattle.law_lone_calls_are_eager.proofs.RunLemmas.{events_of, IsHomeRun, Follows}
-use Rattle.law_lone_calls_are_eager.proofs.TargetLemmas.{AllAre}
-
--- Lists.
-
-pub are_in : (xs : List (Option ℕ)) (t x : Option ℕ) → AllAre xs t → IsIn xs x → x ≡ t
-are_in [] t x are is = absurd is
-are_in (y ∷ ys) t x are (inl e) = sym e ∙ are.0
-are_in (y ∷ ys) t x are (inr later) = are_in ys t x are.1 later
-
-pub all_from : (xs : List (Option ℕ)) (t : Option ℕ) → ((x : Option ℕ) → IsIn xs x → x ≡ t) → AllAre xs t
-all_from [] t each = tt
-all_from (y ∷ ys) t each = (each y (inl refl), all_from ys t (λ x is. each x (inr is)))
 
 -- one named event among others beside it
-record SplitAt (actor : Option ℕ) (event : Event) (piece : List Happened) : Type 0 where
+pub record SplitAt (actor : Option ℕ) (event : Event) (piece : List Happened) : Type 0 where
   pub pre : List Happened
   pub found : Found
   pub post : List Happened
@@ -45,7 +33,7 @@ record SplitAt (actor : Option ℕ) (event : Event) (piece : List Happened) : Ty
   pub pre_none : events_of (named_of actor pre) ≡ []
   pub post_none : events_of (named_of actor post) ≡ []
 
-split_at : (actor : Option ℕ) (event : Event) (piece : List Happened) → events_of (named_of actor piece) ≡ event ∷ [] → SplitAt actor event piece
+pub split_at : (actor : Option ℕ) (event : Event) (piece : List Happened) → events_of (named_of actor piece) ≡ event ∷ [] → SplitAt actor event piece
 split_at actor event [] are = absurd (cc)
 split_at actor event (one ∷ piece) are = of (is_beside actor one.event) refl are (split_at actor event piece)
   where
@@ -123,10 +111,6 @@ pub follows_split : (actor : ℕ) (first next : List Event) (state : Ideal) (gue
 follows_split actor [] next state guest follows = (tt, follows)
 follows_split actor (event ∷ first) next state guest follows = let later = follows_split actor first next (happened actor event state) (after_event guest event) follows.1 in ((follows.0, later.0), later.1)
 
-pub own_split : (first next : List Event) (guest : IdealGuest) → AllMoveOwn guest (first ++ next) → AllMoveOwn guest first × AllMoveOwn (after_events first guest) next
-own_split [] next guest all = (tt, all)
-own_split (event ∷ first) next guest all = let later = own_split first next (after_event guest event) all.1 in ((all.0, later.0), later.1)
-
 pub whole_after : (events : List Event) (guest : IdealGuest) → IsWhole guest → IsWhole (after_events events guest)
 whole_after [] guest whole = whole
 whole_after (event ∷ events) guest whole = whole_after events (after_event guest event) (guest_whole event guest whole)
@@ -140,14 +124,13 @@ queue_is shape view P stalls done = of (fault_number shape view.maps (decoded (c
     of None = done
     of (Some fault) = stalls fault
 
--- a window is closed, and another one begins
+-- another command begins with it, by the vCPUs that the LPIs are for then
 record IsClosed (actor : ℕ) (state : Ideal) (call : Call) (event : Event) : Type 0 where
-  pub place : (next_call state actor event (record call { place = None })).place ≡ None
-  pub done : (next_call state actor event (record call { place = None })).done ≡ call.done ++ call.targets ∷ []
-  pub targets : (id : ℕ) → (next_call state actor event (record call { place = None })).targets id ≡ targets_in (happened actor event state) id ∷ []
+  pub commands : (next_call state actor event call).commands ≡ call.commands ++ targets_in state ∷ []
+  pub same : (id : ℕ) → targets_in (happened actor event state) id ≡ targets_in state id
 
 closes : (actor : ℕ) (state : Ideal) (call : Call) (shape : GuestShape) (view : View) → IsClosed actor state call (queue_event shape view)
-closes actor state call shape view = queue_is shape view (IsClosed actor state call) (λ fault. record { place = refl; done = refl; targets = λ id. refl }) (record { place = refl; done = refl; targets = λ id. refl })
+closes actor state call shape view = queue_is shape view (IsClosed actor state call) (λ fault. record { commands = refl; same = λ id. refl }) (record { commands = refl; same = λ id. refl })
 
 -- The parts.
 
@@ -165,25 +148,27 @@ parts_are shape guest view its words =
 -- The call as a command begins.
 
 pub record IsAt (guest : IdealGuest) (call : Call) (number : ℕ) : Type 0 where
-  pub place : call.place ≡ None
-  pub number_is : length call.done ≡ number
-  pub all : (id : ℕ) → AllAre (call.targets id) (target_at guest id)
+  pub earlier : List (ℕ → Option ℕ)
+  pub noted : ℕ → Option ℕ
+  pub commands : call.commands ≡ earlier ++ noted ∷ []
+  pub number_is : length earlier ≡ number
+  pub now : (id : ℕ) → noted id ≡ target_at guest id
 
--- what its windows have in the end
+-- what it noted in the end
 abbrev pub HasTargets : Beside → Call → Type 0
-HasTargets beside call = (number id : ℕ) → number ≤ length call.done → Contains (slice_index_or (call.done ++ call.targets ∷ []) number (λ id. []) id) (beside.targets number id)
+HasTargets beside call = beside.commands ≡ call.commands
 
 pub record OneDone (actor : ℕ) (guest : IdealGuest) (state : Ideal) (call : Call) (number : ℕ) (events : List Event) : Type 0 where
   pub goes : after_events events guest ≡ after_command guest
   pub at : IsAt (after_command guest) (call_after actor events state call) (number + 1)
 
-module _ (shape : GuestShape) (actor vcpu : ℕ) (beside : Beside) (b : Bool) (guest : IdealGuest) (whole : IsWhole guest) (shape_is : guest.shape ≡ shape) (view : View) (same : HaveSameIts view (view_of guest)) (number : ℕ) (targets_are : view.targets ≡ beside.targets number) (state : Ideal) (call : Call) (at : IsAt guest call number) where
+module _ (shape : GuestShape) (actor vcpu : ℕ) (beside : Beside) (b : Bool) (guest : IdealGuest) (whole : IsWhole guest) (shape_is : guest.shape ≡ shape) (view : View) (same : HaveSameIts view (view_of guest)) (number : ℕ) (targets_are : view.targets ≡ command_targets beside number) (state : Ideal) (call : Call) (at : IsAt guest call number) where
   -- before the queue goes on, and after that
   module _ (early post : List Happened) (found : Found) (after : List Event)
       (words : command_words shape view ≡ command_words shape (view_of guest))
       (named : events_of (named_of (Some vcpu) early) ≡ map (lpi_event shape (view_of guest) view.targets) (command_parts shape view))
       (post_none : events_of (named_of (Some vcpu) post) ≡ [])
-      (run : IsHomeRun b guest early) (moved : AllMoveOwn guest (events_of early)) (follows : Follows actor state guest (events_of early ++ queue_event shape view ∷ events_of post))
+      (run : IsHomeRun b guest early) (follows : Follows actor state guest (events_of early ++ queue_event shape view ∷ events_of post))
       (targets : HasTargets beside (call_after actor (events_of early ++ queue_event shape view ∷ (events_of post ++ after)) state call)) where
     abbrev event : Event
     event = queue_event shape view
@@ -212,18 +197,14 @@ module _ (shape : GuestShape) (actor vcpu : ℕ) (beside : Beside) (b : Bool) (g
     between : IsTrue (list_all is_between (events_of early))
     between = beside_passes is_between beside_between (Some vcpu) early (subst (λ es. IsTrue (list_all is_between es)) (sym named) (part_between shape (view_of guest) view.targets (command_parts shape view)))
 
-    grown1 : IsGrown guest (events_of early) call call1
-    grown1 = grown actor (events_of early) state guest call split_follows.0 between at.place
+    commands1 : call1.commands ≡ at.earlier ++ at.noted ∷ []
+    commands1 = commands_kept actor (events_of early) state call between ∙ at.commands
 
-    -- the window of the command
-    done2 : call2.done ≡ call1.done ++ call1.targets ∷ []
-    done2 = subst (λ p. (next_call state1 actor event (record call1 { place = p })).done ≡ call1.done ++ call1.targets ∷ []) (sym grown1.place) (closes actor state1 call1 shape view).done
+    closed : IsClosed actor state1 call1 (queue_event shape view)
+    closed = closes actor state1 call1 shape view
 
-    place2 : call2.place ≡ None
-    place2 = subst (λ p. (next_call state1 actor event (record call1 { place = p })).place ≡ None) (sym grown1.place) (closes actor state1 call1 shape view).place
-
-    targets2 : (id : ℕ) → call2.targets id ≡ targets_in state2 id ∷ []
-    targets2 id = subst (λ p. (next_call state1 actor event (record call1 { place = p })).targets id ≡ targets_in state2 id ∷ []) (sym grown1.place) ((closes actor state1 call1 shape view).targets id)
+    commands2 : call2.commands ≡ (at.earlier ++ at.noted ∷ []) ++ targets_in state1 ∷ []
+    commands2 = closed.commands ∙ ap (λ xs. xs ++ targets_in state1 ∷ []) commands1
 
     abbrev last : Call
     last = call_after actor (events_of post ++ after) state2 call2
@@ -232,37 +213,19 @@ module _ (shape : GuestShape) (actor vcpu : ℕ) (beside : Beside) (b : Bool) (g
     last_is = call_append actor (events_of early) (event ∷ (events_of post ++ after)) state call
 
     more : IsAfter call2 last
-    more = done_after actor (events_of post ++ after) state2 call2
+    more = commands_after actor (events_of post ++ after) state2 call2
 
-    number1 : length call1.done ≡ number
-    number1 = ap length grown1.done ∙ at.number_is
+    noted_is : beside.commands ≡ at.earlier ++ at.noted ∷ (targets_in state1 ∷ more.more)
+    noted_is =
+        subst (HasTargets beside) last_is targets ∙ more.is ∙ ap (λ xs. xs ++ more.more) commands2 ∙ append_assoc (at.earlier ++ at.noted ∷ []) (targets_in state1 ∷ []) more.more
+        ∙ append_assoc at.earlier (at.noted ∷ []) (targets_in state1 ∷ more.more)
 
-    windows_are : last.done ++ last.targets ∷ [] ≡ call1.done ++ call1.targets ∷ (more.more ++ last.targets ∷ [])
-    windows_are =
-        ap (λ ws. ws ++ last.targets ∷ []) (more.is ∙ ap (λ ws. ws ++ more.more) done2)
-        ∙ append_assoc (call1.done ++ call1.targets ∷ []) more.more (last.targets ∷ []) ∙ append_assoc call1.done (call1.targets ∷ []) (more.more ++ last.targets ∷ [])
-
-    window_is : slice_index_or (last.done ++ last.targets ∷ []) number (λ id. []) ≡ call1.targets
-    window_is =
-        ap (λ ws. slice_index_or ws number (λ id. [])) windows_are ∙ ap (λ n. slice_index_or (call1.done ++ call1.targets ∷ (more.more ++ last.targets ∷ [])) n (λ id. [])) (sym number1)
-        ∙ get_or-append_seam call1.done call1.targets (more.more ++ last.targets ∷ []) (λ id. [])
-
-    within : number ≤ length last.done
-    within =
-        subst (λ n. number ≤ n) (sym (ap length (more.is ∙ ap (λ ws. ws ++ more.more) done2) ∙ length-append (call1.done ++ call1.targets ∷ []) more.more ∙ ap (λ n. n + length more.more) (length-append call1.done (call1.targets ∷ []) ∙ ap (λ n. n + 1) number1)))
-        (omega arith)
-
-    seen : (id : ℕ) → (view.targets id ≡ target_at guest id) ⊎ IsIn (seen_by guest (events_of early) id) (view.targets id)
+    seen : (id : ℕ) → view.targets id ≡ target_at guest id
     seen id =
-        of
-        (grown1.among id (view.targets id)
-        (subst (λ t. IsIn (call1.targets id) t) (sym (ap (λ f. f id) targets_are))
-        (is_in (call1.targets id) (beside.targets number id)
-        (subst (λ w. Contains (w id) (beside.targets number id)) window_is (subst (HasTargets beside) last_is targets number id within)))))
-      where
-        of : IsIn (call.targets id) (view.targets id) ⊎ IsIn (seen_by guest (events_of early) id) (view.targets id) → (view.targets id ≡ target_at guest id) ⊎ IsIn (seen_by guest (events_of early) id) (view.targets id)
-        of (inl is) = inl (are_in (call.targets id) (target_at guest id) (view.targets id) (at.all id) is)
-        of (inr is) = inr is
+        ap (λ f. f id)
+        (targets_are ∙ ap (λ xs. slice_index_or xs number (λ id. None)) noted_is ∙ ap (λ n. slice_index_or (at.earlier ++ at.noted ∷ (targets_in state1 ∷ more.more)) n (λ id. None)) (sym at.number_is)
+        ∙ get_or-append_seam at.earlier at.noted (targets_in state1 ∷ more.more) (λ id. None))
+        ∙ at.now id
 
     -- the events
     named_now : events_of (named_of (Some vcpu) early) ≡ map (lpi_event shape (view_of guest) (target_at guest)) (command_parts shape (view_of guest))
@@ -271,7 +234,7 @@ module _ (shape : GuestShape) (actor vcpu : ℕ) (beside : Beside) (b : Bool) (g
         let clear = is_none (fault_number shape guest.tables result) in
         let are = parts_are shape guest view same words in
         named ∙ ap (map (lpi_event shape (view_of guest) view.targets)) are
-        ∙ result_agrees shape guest whole (Some vcpu) early view.targets seen moved guest.tables result clear (named ∙ ap (map (lpi_event shape (view_of guest) view.targets)) are) (ap (λ s. decoded (command_words s (view_of guest))) shape_is)
+        ∙ result_agrees shape guest view.targets seen guest.tables result clear
         ∙ ap (λ ps. map (lpi_event shape (view_of guest) (target_at guest)) (cond clear ps [])) (sym (decoded_is shape (view_of guest) result))
 
     guest2_is : guest2 ≡ after_command guest
@@ -285,23 +248,14 @@ module _ (shape : GuestShape) (actor vcpu : ℕ) (beside : Beside) (b : Bool) (g
     abbrev call3 : Call
     call3 = call_after actor (events_of post) state2 call2
 
-    grown3 : IsGrown guest2 (events_of post) call2 call3
-    grown3 = grown actor (events_of post) state2 guest2 call2 split_follows.1.1 (all_beside is_between beside_between (Some vcpu) post post_none) place2
-
     next_at : IsAt (after_command guest) call3 (number + 1)
     next_at = record {
-      place = grown3.place;
-      number_is = ap length (grown3.done ∙ done2) ∙ length-append call1.done (call1.targets ∷ []) ∙ ap (λ n. n + 1) number1;
-      all = λ id. all_from (call3.targets id) (target_at (after_command guest) id) (λ x is. of id x (grown3.among id x is) ∙ ap (λ g. target_at g id) guest2_is);
+      earlier = at.earlier ++ at.noted ∷ [];
+      noted = targets_in state1;
+      commands = commands_kept actor (events_of post) state2 call2 (all_beside is_between beside_between (Some vcpu) post post_none) ∙ commands2;
+      number_is = length-append at.earlier (at.noted ∷ []) ∙ ap (λ n. n + 1) at.number_is;
+      now = λ id. sym (closed.same id) ∙ split_follows.1.0 id ∙ ap (λ g. target_at g id) guest2_is;
     }
-      where
-        here : (id : ℕ) (x : Option ℕ) → IsIn (targets_in state2 id ∷ []) x → x ≡ target_at guest2 id
-        here id x (inl e) = sym e ∙ split_follows.1.0 id
-        here id x (inr none) = absurd none
-
-        of : (id : ℕ) (x : Option ℕ) → IsIn (call2.targets id) x ⊎ IsIn (seen_by guest2 (events_of post) id) x → x ≡ target_at guest2 id
-        of id x (inl is) = here id x (subst (λ xs. IsIn xs x) (targets2 id) is)
-        of id x (inr is) = seen_kept guest2 id (events_of post) x (guest_whole event guest1 (whole_after (events_of early) guest whole)) (all_beside (keeps_for id) (beside_keeps_for id) (Some vcpu) post post_none) is
 
     pieces_done : OneDone actor guest state call number (events_of early ++ event ∷ events_of post)
     pieces_done = record {
@@ -311,18 +265,23 @@ module _ (shape : GuestShape) (actor vcpu : ℕ) (beside : Beside) (b : Bool) (g
 
   -- The command.
 
+  fetch_find : (own : List Happened) (command : IsCommand (Some vcpu) shape view own) → IsHomeRun b guest own → FindWords guest command.fetch
+  fetch_find own command run =
+      words_found b guest command.fetch (run_split command.fetch command.rest b guest (subst (IsHomeRun b guest) command.split run)).0 (all_beside keeps_words beside_words (Some vcpu) command.fetch command.fetched.events_are)
+
+  words_seen : (own : List Happened) → IsCommand (Some vcpu) shape view own → IsHomeRun b guest own → (word : PlainWord) → IsIn (command_places shape view) (Word word) → view.words word ≡ word_at guest word
+  words_seen own command run = reads_word guest (Some vcpu) view [] (command_places shape view) [] command.fetch command.fetched (fetch_find own command run)
+
   pub words_are : (own : List Happened) → IsCommand (Some vcpu) shape view own → IsHomeRun b guest own → command_words shape view ≡ command_words shape (view_of guest)
   words_are own command run =
       words_same shape guest view same
-      (reads_word b guest (Some vcpu) view [] (command_places shape view) [] command.fetch command.fetched (run_split command.fetch command.rest b guest (subst (IsHomeRun b guest) command.split run)).0
-      (all_beside keeps_words beside_words (Some vcpu) command.fetch command.fetched.events_are))
+      (words_seen own command run)
 
-  pub one_done : (own : List Happened) (after : List Event) → IsCommand (Some vcpu) shape view own → IsHomeRun b guest own → AllMoveOwn guest (events_of own) → Follows actor state guest (events_of own) → HasTargets beside (call_after actor (events_of own ++ after) state call)
+  pub one_done : (own : List Happened) (after : List Event) → IsCommand (Some vcpu) shape view own → IsHomeRun b guest own → Follows actor state guest (events_of own) → HasTargets beside (call_after actor (events_of own ++ after) state call)
       → OneDone actor guest state call number (events_of own)
-  one_done own after command run moved follows targets =
+  one_done own after command run follows targets =
       subst (OneDone actor guest state call number) (sym events_are)
       (pieces_done early cut.post cut.found after words named cut.post_none (run_split early ((record { event = queue_event shape view; found = cut.found }) ∷ cut.post) b guest (subst (IsHomeRun b guest) own_is run)).0
-      (own_split (events_of early) (queue_event shape view ∷ events_of cut.post) guest (subst (AllMoveOwn guest) events_are moved)).0
       (subst (Follows actor state guest) events_are follows)
       (subst (λ es. HasTargets beside (call_after actor es state call)) (ap (λ es. es ++ after) events_are ∙ append_assoc (events_of early) (queue_event shape view ∷ events_of cut.post) after) targets))
     where
@@ -335,8 +294,13 @@ module _ (shape : GuestShape) (actor vcpu : ℕ) (beside : Beside) (b : Bool) (g
       words : command_words shape view ≡ command_words shape (view_of guest)
       words = words_are own command run
 
-      done : PartsDone guest (Some vcpu) shape view.targets (command_parts shape view) (λ before piece. Makes (Some vcpu) view (queue_event shape view ∷ []) [] before piece) command.fetch command.rest
-      done = parts_done b guest (Some vcpu) shape view.targets (command_parts shape view) (λ before piece. Makes (Some vcpu) view (queue_event shape view ∷ []) [] before piece) command.fetch command.rest command.done run_both fetch_keep
+      runs : IsHomeRun b guest command.fetch × IsHomeRun (marks_after command.fetch b) (after_events (events_of command.fetch) guest) command.rest
+      runs = run_split command.fetch command.rest b guest run_both
+
+      done : PartsDone guest (Some vcpu) shape view.targets (command_parts shape view) (λ after. Makes (Some vcpu) view (queue_event shape view ∷ []) [] [] after) command.rest
+      done =
+          parts_done (marks_after command.fetch b) guest (after_events (events_of command.fetch) guest) (Some vcpu) shape view.targets (words_read shape view) (command_parts shape view) (λ after. Makes (Some vcpu) view (queue_event shape view ∷ []) [] [] after) command.fetch
+          command.rest command.done runs.1 (words_stay (events_of command.fetch) guest fetch_keep) (fetch_find own command run) (words_find shape guest view (words_seen own command run))
 
       cut : SplitAt (Some vcpu) (queue_event shape view) done.rest
       cut = split_at (Some vcpu) (queue_event shape view) done.rest done.later.events_are

@@ -9,7 +9,7 @@ use Rattle.law_home_commutes.specs.Words.{IccReg, Sgi1r, Key, Private, Spi, Lpi,
 use Rattle.law_home_commutes.specs.GicDmap.declared.map.Reg.TheVariants.{Ctlr as DistCtlr}
 use Rattle.law_home_commutes.specs.GicDmap.declared.map.RegRef.{RegRef as DistRef}
 use Rattle.law_home_commutes.specs.GicDmap.declared.map.RegRef.TheVariants.{Bits as DistBits, Plain as DistPlain, Reserved as DistReserved}
-use Rattle.law_home_commutes.specs.Calls.{Ram, Propbaser, Pendbaser, Part, Map, Clear, Event, Up, Down, Touch, Enable, Put, CtlrBegin, CtlrEnd, ItsBegin, Place, QueueChange, Done, Stalls, Touching, Enables as CopyEnables, Register, part_touch, part_event, part_events, part_at, router_touch, copy_at, dist_events, is_table_zero, is_in_table, pended_at, redist_events, memory_written, sgi_at, icc_raises, device_events, lpi_event, queue_event, command_parts, command_words, next_offset, Happened, is_beside, Beside, Makes, ArePartsThen, IsCommand, AreCommands, AreStarted, left_by, View, is_its_enabled}
+use Rattle.law_home_commutes.specs.Calls.{Ram, Propbaser, Pendbaser, Part, Map, Clear, Event, Up, Down, Touch, Enable, Put, CtlrBegin, CtlrEnd, ItsBegin, Place, QueueChange, Done, Stalls, Touching, Enables as CopyEnables, Register, part_touch, part_event, part_events, part_at, router_touch, copy_at, dist_events, is_table_zero, is_in_table, pended_at, redist_events, memory_written, sgi_at, icc_raises, device_events, lpi_event, queue_event, command_parts, command_words, next_offset, Happened, is_beside, Beside, Makes, ArePartsThen, IsCommand, AreCommands, AreStarted, left_by, View, is_its_enabled, words_read}
 use Rattle.law_home_commutes.specs.GicRmap.declared.map.Reg.TheVariants.{Ctlr as RedistCtlr}
 use Rattle.law_home_commutes.specs.GicRmap.declared.map.RegRef.{RegRef as RedistRef}
 use Rattle.law_home_commutes.specs.GicRmap.declared.map.RegRef.TheVariants.{Bits as RedistBits, Plain as RedistPlain, Reserved as RedistReserved}
@@ -158,21 +158,21 @@ module _ (test : Event → Bool) (passes : PassesBeside test) where
   part_all shape view targets (Clear id) = passes.touch (Lpi id) _
   part_all shape view targets (Configure id) = passes.touch (Lpi id) _
 
-  parts_then_all : (actor : Option ℕ) (shape : GuestShape) (targets : ℕ → Option ℕ) (parts : List Part) (Rest : List Happened → List Happened → Type 0) → ((before piece : List Happened) → Rest before piece → IsTrue (list_all test (events_of piece)))
-      → (before piece : List Happened) → ArePartsThen actor shape targets parts Rest before piece → IsTrue (list_all test (events_of piece))
-  parts_then_all actor shape targets [] Rest rest before piece are = rest before piece are
-  parts_then_all actor shape targets (part ∷ parts) Rest rest before piece are =
+  parts_then_all : (actor : Option ℕ) (shape : GuestShape) (targets : ℕ → Option ℕ) (words : List Happened) (parts : List Part) (Rest : List Happened → Type 0) → ((piece : List Happened) → Rest piece → IsTrue (list_all test (events_of piece)))
+      → (before piece : List Happened) → ArePartsThen actor shape targets words parts Rest before piece → IsTrue (list_all test (events_of piece))
+  parts_then_all actor shape targets words [] Rest rest before piece are = rest piece are
+  parts_then_all actor shape targets words (part ∷ parts) Rest rest before piece are =
       subst (λ xs. IsTrue (list_all test (events_of xs))) (sym are.split)
       (both_all are.own are.rest
       (makes_all actor are.view (lpi_event shape are.view targets part ∷ []) _ before are.own are.made (and_from (test (lpi_event shape are.view targets part)) true (part_all shape are.view targets part) refl))
-      (parts_then_all actor shape targets parts Rest rest (before ++ are.own) are.rest are.later))
+      (parts_then_all actor shape targets words parts Rest rest words are.rest are.later))
 
   command_all : (actor : Option ℕ) (shape : GuestShape) (view : View) (piece : List Happened) → IsCommand actor shape view piece → IsTrue (list_all test (events_of piece))
   command_all actor shape view piece is =
       subst (λ xs. IsTrue (list_all test (events_of xs))) (sym is.split)
       (both_all is.fetch is.rest (makes_all actor view [] _ [] is.fetch is.fetched refl)
-      (parts_then_all actor shape view.targets (command_parts shape view) (λ before after. Makes actor view (queue_event shape view ∷ []) [] before after)
-      (λ before after made. makes_all actor view (queue_event shape view ∷ []) [] before after made (and_from (test (queue_event shape view)) true (queue_is shape view (λ e. test e ≡ true) (λ fault. passes.queue view.offset (Stalls fault)) (passes.queue (next_offset view) (Done (command_words shape view)))) refl))
+      (parts_then_all actor shape view.targets (words_read shape view) (command_parts shape view) (λ after. Makes actor view (queue_event shape view ∷ []) [] [] after)
+      (λ after made. makes_all actor view (queue_event shape view ∷ []) [] [] after made (and_from (test (queue_event shape view)) true (queue_is shape view (λ e. test e ≡ true) (λ fault. passes.queue view.offset (Stalls fault)) (passes.queue (next_offset view) (Done (command_words shape view)))) refl))
       is.fetch is.rest is.done))
 
   commands_all : (actor : Option ℕ) (shape : GuestShape) (beside : Beside) (views : List View) (number : ℕ) (its : View) (piece : List Happened) → AreCommands actor shape beside number its views piece → IsTrue (list_all test (events_of piece))

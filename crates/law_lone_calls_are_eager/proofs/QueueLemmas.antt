@@ -11,9 +11,8 @@ use Rattle.law_home_commutes.proofs.IdealGuests.QueueLemmas.{commands_end, all_r
 use Rattle.law_eager_is_history.proofs.CommandLemmas.{sound_command, command_known, command_shape}
 use Rattle.law_eager_is_history.proofs.CourseLemmas.{state_after, call_after, call_append}
 use Rattle.law_eager_is_history.proofs.QueueLemmas.{takes_known}
-use Rattle.law_lone_calls_are_eager.specs.LoneCalls.{AllMoveOwn}
 use Rattle.law_lone_calls_are_eager.proofs.CommandLemmas.{marks_after, run_split, events_both, queue_same}
-use Rattle.law_lone_calls_are_eager.proofs.OneLemmas.{follows_split, own_split, still_beside, queue_is, IsAt, HasTargets, words_are, one_done, none_beside}
+use Rattle.law_lone_calls_are_eager.proofs.OneLemmas.{follows_split, still_beside, queue_is, IsAt, HasTargets, words_are, one_done, none_beside}
 use Rattle.law_lone_calls_are_eager.proofs.RunLemmas.{events_of, IsHomeRun, Follows}
 
 -- What is known of the ITS.
@@ -82,28 +81,27 @@ pub record CommandsDone (guest : IdealGuest) (piece : List Happened) : Type 0 wh
 
 module _ (shape : GuestShape) (actor vcpu : ℕ) (beside : Beside) where
   pub commands_done : (views : List View) (number : ℕ) (its : View) (piece : List Happened) (after : List Event) (b : Bool) (guest : IdealGuest) (state : Ideal) (call : Call) → AreCommands (Some vcpu) shape beside number its views piece
-      → IsSound guest → guest.shape ≡ shape → HaveSameIts its (view_of guest) → AllMoveOwn guest (events_of piece) → IsAt guest call number → IsHomeRun b guest piece → Follows actor state guest (events_of piece) → HasTargets beside (call_after actor (events_of piece ++ after) state call)
+      → IsSound guest → guest.shape ≡ shape → HaveSameIts its (view_of guest) → IsAt guest call number → IsHomeRun b guest piece → Follows actor state guest (events_of piece) → HasTargets beside (call_after actor (events_of piece ++ after) state call)
       → CommandsDone guest piece
-  commands_done [] number its piece after b guest state call are sound shape_is same moved at run follows targets = record {
+  commands_done [] number its piece after b guest state call are sound shape_is same at run follows targets = record {
     count = zero;
     goes = still_beside (Some vcpu) piece guest (none_beside (Some vcpu) piece are.0.events_are);
     all = sym (takes_known its (view_of guest) same) ∙ not-true (takes_command its) are.1;
   }
-  commands_done (view ∷ views) number its piece after b guest state call are sound shape_is same moved at run follows targets =
+  commands_done (view ∷ views) number its piece after b guest state call are sound shape_is same at run follows targets =
       let known : HaveSameIts view (view_of guest) = same_then its view (view_of guest) are.same same in
       let taken : takes_command (view_of guest) ≡ true = sym (takes_known view (view_of guest) known) ∙ are.command.taken in
       let events : events_of piece ≡ events_of are.own ++ events_of are.rest = ap events_of are.split ∙ events_both are.own are.rest in
       let runs = run_split are.own are.rest b guest (subst (IsHomeRun b guest) are.split run) in
       let follow = follows_split actor (events_of are.own) (events_of are.rest) state guest (subst (Follows actor state guest) events follows) in
-      let moves = own_split (events_of are.own) (events_of are.rest) guest (subst (AllMoveOwn guest) events moved) in
       let targets_now : HasTargets beside (call_after actor (events_of are.own ++ (events_of are.rest ++ after)) state call) = subst (λ es. HasTargets beside (call_after actor es state call)) (ap (λ es. es ++ after) events ∙ append_assoc (events_of are.own) (events_of are.rest) after) targets in
       let whole : IsWhole guest = record { shape = sound.shape; each = sound.irqs } in
-      let one = one_done shape actor vcpu beside b guest whole shape_is view known number are.targets_are state call at are.own (events_of are.rest ++ after) are.command runs.0 moves.0 follow.0 targets_now in
+      let one = one_done shape actor vcpu beside b guest whole shape_is view known number are.targets_are state call at are.own (events_of are.rest ++ after) are.command runs.0 follow.0 targets_now in
       let words = words_are shape actor vcpu beside b guest whole shape_is view known number are.targets_are state call at are.own are.command runs.0 in
       let next = after_command guest in
       let left = left_after shape guest view sound shape_is known words in
       let later = commands_done views (number + 1) (left_by shape view (queue_event shape view)) are.rest after (marks_after are.own b) (after_command guest) (state_after actor (events_of are.own) state) (call_after actor (events_of are.own) state call) are.later
-      (sound_command 0 0 guest sound) (command_shape 0 0 guest sound ∙ shape_is) left (subst (λ g. AllMoveOwn g (events_of are.rest)) one.goes moves.1) one.at (subst (λ g. IsHomeRun (marks_after are.own b) g are.rest) one.goes runs.1)
+      (sound_command 0 0 guest sound) (command_shape 0 0 guest sound ∙ shape_is) left one.at (subst (λ g. IsHomeRun (marks_after are.own b) g are.rest) one.goes runs.1)
       (subst (λ g. Follows actor (state_after actor (events_of are.own) state) g (events_of are.rest)) one.goes follow.1) (subst (HasTargets beside) (call_append actor (events_of are.own) (events_of are.rest ++ after) state call) targets_now) in
       record {
         count = suc later.count;

@@ -54,7 +54,7 @@ runs_on guest (call ∷ calls) moments good whole history rest passing =
     let later : IsHistory guest (next ++ moments_of calls) = subst (IsHistory guest) all history in
     let lone : IsLoneCall guest moments call.actor call.operation call.piece call.answer = record { good = good; whole = whole; history = (goes_before (opening_course guest) next (moments_of calls) later).0; shows = passing.0.shows } in
     let run = lone_run guest moments call.actor call.operation call.piece call.answer lone in
-    let eager : IsEagerCall call.actor call.operation call.answer (home (last_of guest moments)) (home (last_of guest next)) = calls_pass_home call.operation guest moments call.actor call.piece call.answer lone rest passing.0.moves in
+    let eager : IsEagerCall call.actor call.operation call.answer (home (last_of guest moments)) (home (last_of guest next)) = calls_pass_home call.operation guest moments call.actor call.piece call.answer lone rest in
     let ends : IsWhole guest next = calls_end_again guest moments call.actor call.operation call.piece call.answer lone in
     let rests : IsAtRest (home (last_of guest next)) = rest_after guest.shape call.actor call.operation (home (last_of guest moments)) run.shape_is rest passing.0.good (home (last_of guest next)) eager.goes in
     let on = runs_on guest calls next good ends later rests passing.1 in (

@@ -1,14 +1,15 @@
 -- For which vCPUs the LPIs are during a call whose events move none of them.
-use Rattle.std.proofs.Common.{◌≡◌, ℕ, zero, suc, Bool, true, false, cond, if◌then◌else◌, IsTrue, Contains, List, [], ◌∷◌, ◌++◌, Option, option_map, Some, None, is_none, find, refl, sym, ap, ◌∙◌, subst, slice_index_or, arith}
+use Rattle.std.proofs.Common.{◌≡◌, ℕ, zero, suc, Bool, true, false, cond, if◌then◌else◌, IsTrue, Contains, List, [], ◌∷◌, ◌++◌, Option, option_map, Some, None, is_none, find, refl, sym, ap, ◌∙◌, subst, arith}
 use Rattle.std.specs.List.{list_all}
 use Rattle.std.specs.Option.{option_map_or}
 use Rattle.std.proofs.lemmas.Bool.{and_parts}
-use Rattle.law_home_commutes.specs.Words.{Key, Lpi, SetPending, GuestShape, has_interrupt, is_same_key, place_of, Irq, cleared, target_in}
-use Rattle.law_home_commutes.specs.Calls.{irq_in, opening_irq, Event, Up, Down, Touch, Reach, Take, Leave, Enable, Cpu, Put, CtlrBegin, CtlrEnd, ItsBegin, Runs, Done, Stalls, Moved, Register, reached, taken, left, is_beside}
+use Rattle.law_home_commutes.specs.Words.{Key, Lpi, SetPending, GuestShape, has_interrupt, is_same_key, Irq, cleared}
+use Rattle.law_home_commutes.specs.Calls.{Event, Up, Down, Touch, Reach, Take, Leave, Enable, Cpu, Put, CtlrBegin, CtlrEnd, ItsBegin, Runs, Done, Stalls, Moved, Register, reached, taken, left, is_beside}
 use Rattle.law_home_commutes.specs.GicCall.declared.event.Event.TheVariants.{Raise, Read, ItsEnd, Queue}
 use Rattle.law_home_commutes.specs.Histories.{IdealGuest, irq_at, view_of, Ideal, Standing, is_of, standing_at, happened, home, Call, targets_in, is_ahead, is_passed, noted}
 use Rattle.law_home_commutes.proofs.IdealGuests.KeyLemmas.{IsWhole}
 use Rattle.law_home_commutes.proofs.LawHistories.StateLemmas.{record_is, guest_is}
+use Rattle.law_home_commutes.proofs.LawHistories.TargetLemmas.{by_record, either}
 use Rattle.law_eager_is_history.proofs.CourseLemmas.{call_after}
 use Rattle.law_eager_is_history.proofs.PieceLemmas.{targets_kept}
 use Rattle.law_eager_is_history.proofs.WindowLemmas.{next_call}
@@ -46,21 +47,6 @@ beside_targets actor (Queue offset (Done words)) h = absurd (cc)
 beside_targets actor (Queue offset (Stalls fault)) h = absurd (cc)
 
 -- They move no LPI.
-
--- what is said of a record that is there says so of all
-pub by_record : (state after : Ideal) (id : ℕ) → after.guest.shape ≡ state.guest.shape → (IsTrue (has_interrupt state.guest.shape (Lpi id)) → (irq_at after.guest (Lpi id)).route ≡ (irq_at state.guest (Lpi id)).route) → targets_in after id ≡ targets_in state id
-by_record state after id shape same = ap (target_in (irq_at after.guest (Lpi id)).route) shape ∙ ap (λ r. target_in r state.guest.shape) (of (has_interrupt state.guest.shape (Lpi id)) refl)
-  where
-    of : (b : Bool) → has_interrupt state.guest.shape (Lpi id) ≡ b → (irq_at after.guest (Lpi id)).route ≡ (irq_at state.guest (Lpi id)).route
-    of true e = same e
-    of false e =
-        ap (λ s. (irq_in s after.guest.irqs (Lpi id)).route) shape
-        ∙ ap (λ b. (if b then slice_index_or after.guest.irqs (place_of state.guest.shape (Lpi id)) (opening_irq false (Lpi id)) else opening_irq false (Lpi id)).route) e
-        ∙ sym (ap (λ b. (if b then slice_index_or state.guest.irqs (place_of state.guest.shape (Lpi id)) (opening_irq false (Lpi id)) else opening_irq false (Lpi id)).route) e)
-
-pub either : (b : Bool) (one other : Irq) → one.route ≡ other.route → (cond b one other).route ≡ other.route
-either true one other e = e
-either false one other e = refl
 
 reached_route : (irq : Irq) → (reached irq).irq.route ≡ irq.route
 reached_route irq = of (is_none irq.act_by)
@@ -111,7 +97,6 @@ all_contain (y ∷ ys) t x are (zero, l, at) = sym at ∙ are.0
 all_contain (y ∷ ys) t x are (suc k, l, at) = all_contain ys t x are.1 (k, omega (arith, l), at)
 
 pub record IsSteady (call : Call) (t : ℕ → Option ℕ) : Type 0 where
-  pub done : call.done ≡ []
   pub all : (id : ℕ) → AllAre (call.targets id) (t id)
 
 noted_steady : (state : Ideal) (event : Event) (call : Call) (t : ℕ → Option ℕ) → keeps_targets event ≡ true → IsSteady call t → IsSteady (noted state event call) t
@@ -119,8 +104,8 @@ noted_steady state (Reach key u) call t h is = is
 noted_steady state (Take key u) call t h is = is
 noted_steady state (Leave key u) call t h is = is
 noted_steady state (Read at) call t h is = is
-noted_steady state (Enable u) call t h is = record { done = is.done; all = λ id. tt }
-noted_steady state (Touch key (Register SetPending value)) call t h is = record { done = is.done; all = λ id. of id (is_ahead call.place key id) }
+noted_steady state (Enable u) call t h is = record { all = λ id. tt }
+noted_steady state (Touch key (Register SetPending value)) call t h is = record { all = λ id. of id (is_ahead call.place key id) }
   where
     of : (id : ℕ) (b : Bool) → AllAre (if b then [] else call.targets id) (t id)
     of id true = tt
@@ -130,7 +115,7 @@ noted_steady state event call t h is = absurd (cc)
 next_steady : (actor : ℕ) (state : Ideal) (event : Event) (call : Call) (t : ℕ → Option ℕ) → keeps_targets event ≡ true → ((id : ℕ) → targets_in (happened actor event state) id ≡ t id) → IsSteady call t → IsSteady (next_call state actor event call) t
 next_steady actor state event call t h now is =
     let noted_is = noted_steady state event call t h is in
-    record { done = noted_is.done; all = λ id. subst (λ x. AllAre (if is_passed (noted state event call).place id then (noted state event call).targets id else (noted state event call).targets id ++ x ∷ []) (t id)) (sym (now id)) (of id (is_passed (noted state event call).place id) (noted_is.all id)) }
+    record { all = λ id. subst (λ x. AllAre (if is_passed (noted state event call).place id then (noted state event call).targets id else (noted state event call).targets id ++ x ∷ []) (t id)) (sym (now id)) (of id (is_passed (noted state event call).place id) (noted_is.all id)) }
   where
     of : (id : ℕ) (b : Bool) → AllAre ((noted state event call).targets id) (t id) → AllAre (if b then (noted state event call).targets id else (noted state event call).targets id ++ t id ∷ []) (t id)
     of id true are = are

@@ -107,7 +107,7 @@ module _ (guest : IdealGuest) (actor : Option ℕ) (view : View) (piece : List H
   writer_events b stored r offset = cond b (Put Cwriter stored ∷ again r offset) []
 
   abbrev writer_places : List Place
-  writer_places = Word ItsCtlr ∷ Word Cbaser ∷ QueuePlace ∷ []
+  writer_places = Word ItsCtlr ∷ Word Cbaser ∷ QueuePlace ∷ Word Cwriter ∷ []
 
   writer_keeps : (word : PlainWord) (b : Bool) (stored : ℕ) (r : Bool) (offset : ℕ) → not (place_of_plain guest.shape word == place_of_plain guest.shape Cwriter) ≡ true → IsTrue (list_all (keeps guest.shape (Word word)) (ItsBegin ∷ writer_events b stored r offset))
   writer_keeps word true stored true offset h = and_from (keeps guest.shape (Word word) (Put Cwriter stored)) true h refl

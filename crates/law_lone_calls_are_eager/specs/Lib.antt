@@ -14,5 +14,4 @@ pub use Rattle.law_eager_is_history.specs as LawEagerIsHistory
 pub use Rattle.law_home_commutes.specs as LawHomeCommutes
 pub mod LoneCalls
 pub mod Laws
-pub mod Worked
 pub mod Runs

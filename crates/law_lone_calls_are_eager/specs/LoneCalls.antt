@@ -1,15 +1,11 @@
 -- One call of a history while nobody else acts, and what the eager controller makes of its operation (own choice).
-use Rattle.std.specs.Prelude.{◌≡◌, ℕ, ◌==◌, Bool, true, false, Result, Ok, List, [], ◌∷◌, ◌++◌, map, Option, None}
-use Rattle.law_home_commutes.specs.Words.{Lpi}
-use Rattle.law_home_commutes.specs.Calls.{Event, Touch, Cpu, Moment, Begin, Operation, Access, Device, Residence, device_events, takes_command, command_words, Happened, GuestSpec, IsGoodGuest}
+use Rattle.std.specs.Prelude.{◌≡◌, ℕ, false, List, [], ◌∷◌, ◌++◌, map, Option, None}
+use Rattle.law_home_commutes.specs.Calls.{Event, Cpu, Moment, Begin, Operation, Access, Device, Residence, device_events, takes_command, Happened, GuestSpec, IsGoodGuest}
 use Rattle.law_home_commutes.specs.GicCall.declared.event.Moment.TheVariants.{End}
-use Rattle.law_home_commutes.specs.GicCall.declared.touch.Touching.TheVariants.{Retarget}
-use Rattle.law_home_commutes.specs.Histories.{IdealGuest, view_of, after_event, after_events, IsQueueInOrder, IsSound, Ideal, happened, home, IsHistory, IsWhole, last_of}
+use Rattle.law_home_commutes.specs.Histories.{IdealGuest, view_of, after_events, IsQueueInOrder, IsSound, Ideal, happened, home, IsHistory, IsWhole, last_of}
 use Rattle.law_eager_is_history.specs.GicIdeal.Deeds.{op_events}
 use Rattle.law_eager_is_history.specs.Moments.{op_read, moment_of}
 use Rattle.law_home_commutes.specs.Home.{ShowsHome}
-use Rattle.law_home_commutes.specs.ItsCmd.Command.{decoded}
-use Rattle.law_home_commutes.specs.Registers.{BadCommand, Command, Movall}
 
 -- What the eager controller does.
 
@@ -57,32 +53,14 @@ PassesAlone operation =
     (guest : GuestSpec) (moments : List Moment) (actor : ℕ) (piece : List Happened) (answer : Option ℕ) → IsLoneCall guest moments actor operation piece answer
     → IsEagerCall actor operation answer (home (last_of guest moments)) (home (last_of guest (moments ++ lone_call actor operation piece answer)))
 
--- Commands of the ITS.
-
--- a command moves all LPIs of a vCPU to the same vCPU
-abbrev pub moves_to_itself : Result Command BadCommand → Bool
-moves_to_itself (Ok (Movall one other)) = one == other
-moves_to_itself result = false
-
--- where the next command of a guest does, an event moves an LPI only to where it is
-abbrev pub MovesOwn : IdealGuest → Event → Type 0
-MovesOwn guest (Touch (Lpi id) (Retarget target)) = moves_to_itself (decoded (command_words guest.shape (view_of guest))) ≡ true → (view_of guest).targets id ≡ target
-MovesOwn guest event = Unit {0}
-
--- so does each of some events, one after the other
-abbrev pub AllMoveOwn : IdealGuest → List Event → Type 0
-AllMoveOwn guest [] = Unit {0}
-AllMoveOwn guest (event ∷ events) = MovesOwn guest event × AllMoveOwn (after_event guest event) events
-
 -- a guest with a valid record of all that it has, whose queue is in order, and whose ITS takes no command by itself
 pub record IsAtRest (guest : IdealGuest) : Type 0 where
   pub sound : IsSound guest
   pub order : IsQueueInOrder guest
   pub dry : takes_command (view_of guest) ≡ false
 
--- so does each such call of an operation, where that guest is at rest and a command that moves the LPIs of a vCPU to itself moves no other
+-- so does each such call of an operation, where that guest is at rest
 abbrev pub PassesAtRest : Operation → Type 0
 PassesAtRest operation =
     (guest : GuestSpec) (moments : List Moment) (actor : ℕ) (piece : List Happened) (answer : Option ℕ) → IsLoneCall guest moments actor operation piece answer
-    → IsAtRest (home (last_of guest moments)) → AllMoveOwn (home (last_of guest moments)) (map (λ (one : Happened). one.event) piece)
-    → IsEagerCall actor operation answer (home (last_of guest moments)) (home (last_of guest (moments ++ lone_call actor operation piece answer)))
+    → IsAtRest (home (last_of guest moments)) → IsEagerCall actor operation answer (home (last_of guest moments)) (home (last_of guest (moments ++ lone_call actor operation piece answer)))

@@ -1,10 +1,10 @@
 -- A history of calls, one after the other, and what the eager controller makes of their operations (own choice).
-use Rattle.std.specs.Prelude.{◌≡◌, ℕ, ◌<◌, IsTrue, List, [], ◌∷◌, ◌++◌, map, Option}
+use Rattle.std.specs.Prelude.{◌≡◌, ℕ, ◌<◌, IsTrue, List, [], ◌∷◌, ◌++◌, Option}
 use Rattle.law_home_commutes.specs.Words.{GuestShape}
 use Rattle.law_home_commutes.specs.Calls.{Moment, Operation, Access, Device, Residence, Happened, GuestSpec, IsGoodGuest, is_good_op, is_good_event}
 use Rattle.law_home_commutes.specs.Histories.{IdealGuest, after_events, home, IsHistory, last_of}
 use Rattle.law_home_commutes.specs.IdealGuests.Opening.{opening}
-use Rattle.law_lone_calls_are_eager.specs.LoneCalls.{eager_events, eager_read, lone_call, AllShow, AllMoveOwn}
+use Rattle.law_lone_calls_are_eager.specs.LoneCalls.{eager_events, eager_read, lone_call, AllShow}
 
 -- a call, during which nobody else acts
 pub record LoneCall : Type 0 where
@@ -26,11 +26,10 @@ IsGoodCall shape actor (Access op) = (actor < shape.vcpus) × IsTrue (is_good_op
 IsGoodCall shape actor (Device op) = IsTrue (is_good_event shape op)
 IsGoodCall shape actor Residence = Unit {0}
 
--- what a call has to be after a history: each access shows the guest with all taken back, and a command that moves the LPIs of a vCPU to itself moves no other
+-- what a call has to be after a history: for an operation that its actor can ask for, where each access shows the guest with all taken back
 pub record IsPassing (guest : GuestSpec) (moments : List Moment) (call : LoneCall) : Type 0 where
   pub good : IsGoodCall guest.shape call.actor call.operation
   pub shows : AllShow call.actor (last_of guest moments) call.piece
-  pub moves : AllMoveOwn (home (last_of guest moments)) (map (λ (one : Happened). one.event) call.piece)
 
 abbrev pub ArePassing : GuestSpec → List Moment → List LoneCall → Type 0
 ArePassing guest moments [] = Unit {0}

@@ -1,7 +1,6 @@
 //! Laws of calls while nobody else acts.
 ghost use Rattle.law_lone_calls_are_eager.specs.Laws.{InterfaceCallsPass, ResidencesPass, DeviceCallsPass, DistributorCallsPass, RedistributorCallsPass, MemoryCallsPass, ItsCallsPass, CallsPassHome, CallsEndAgain, RestStays};
 ghost use Rattle.law_lone_calls_are_eager.specs.Runs.{RunsPassHome};
-ghost use Rattle.law_lone_calls_are_eager.specs.Worked.{MovallGathers};
 
 /// A law of every access of a CPU interface register that an actor makes while nobody else acts.
 pub fn interface_calls_pass()
@@ -34,7 +33,7 @@ pub fn memory_calls_pass()
 {}
 
 /// A law of every access of the ITS, while nobody else acts and the guest is at rest: a write also does the commands that it
-/// starts, of which one that moves the LPIs of a vCPU to itself moves no other.
+/// starts.
 pub fn its_calls_pass()
     ensures { ItsCallsPass }
 {}
@@ -61,11 +60,4 @@ pub fn rest_stays()
 #[tactic(auto, using(crate::proofs::RunLaws::runs_pass_home))]
 pub fn runs_pass_home()
     ensures { RunsPassHome }
-{}
-
-/// A law of a worked call: a history may let a MOVALL from a vCPU to itself move an LPI of nobody to that vCPU, and the eager
-/// controller does not, so the law of calls needs what it asks of such a command.
-#[tactic(auto, using(crate::proofs::WorkedLemmas::movall_gathers))]
-pub fn movall_gathers()
-    ensures { MovallGathers }
 {}

@@ -16,10 +16,10 @@ use Rattle.law_found_parts_are_calls.specs.LawLateOnesLeave.Late.{AccessesComeFi
 use Rattle.law_found_parts_are_calls.specs.LawLoneAccessesFindAll.Lone.{AreAtEase, IsAtEase}
 use Rattle.law_found_parts_are_calls.specs.LawLoneCallsAreEager.LoneCalls.{IsEagerCall}
 use Rattle.law_found_parts_are_calls.specs.LawLoneCallsAreEager.Runs.{AnswerEagerly, IsGoodCall, eager_after_all}
-use Rattle.law_found_parts_are_calls.specs.LawSerialIsEager.Serial.{WholePart, calls_of, is_icc, moments_in, moments_of}
+use Rattle.law_found_parts_are_calls.specs.LawSerialIsEager.Serial.{AreFit, IsFit, WholePart, calls_of, is_icc, moments_in, moments_of}
 use Rattle.law_found_parts_are_calls.proofs.LawSerialIsEager.AloneRuns.{AllRest, rest_after, rest_opens}
 use Rattle.law_found_parts_are_calls.proofs.LawSerialIsEager.SerialRuns.{first_next}
-use Rattle.law_found_parts_are_calls.specs.Found.{AreAble, AreFitCalls, AreFoundParts, IsAble}
+use Rattle.law_found_parts_are_calls.specs.Found.{AreEagerCalls, AreFoundParts}
 use Rattle.law_found_parts_are_calls.proofs.EagerRuns.{found_runs_are_eager}
 use Rattle.seq_guest.specs.LawEntriesArePlans.Entry.{HasEntered, IsEntry, ShowsRegisters}
 use Rattle.seq_guest.proofs.LawEntriesArePlans.EntryRuns.{entries_show_home}
@@ -35,10 +35,10 @@ use Rattle.law_one_thread_is_eager.proofs.FollowLemmas.{parts_follow, state_is}
 use Rattle.law_one_thread_is_eager.proofs.MomentLemmas.{entries_parts, moments_append}
 use Rattle.law_one_thread_is_eager.proofs.ProperLemmas.{progress_both, proper_more}
 
-able_append : (guest : GuestSpec) (number : ℕ) (base : List CoreMoment) (early late : List WholePart) → AreAble guest number base early → AreAble guest number (base ++ moments_of early) late → AreAble guest number base (early ++ late)
-able_append guest number base [] late first next = subst (λ ms. AreAble guest number ms late) (append-nil base) next
-able_append guest number base (part ∷ early) late first next =
-    (first.0, able_append guest number (base ++ moments_in part) early late first.1 (subst (λ ms. AreAble guest number ms late) (sym (append_assoc base (moments_in part) (moments_of early))) next))
+fits_append : (guest : GuestSpec) (number : ℕ) (base : List CoreMoment) (early late : List WholePart) → AreFit guest number base early → AreFit guest number (base ++ moments_of early) late → AreFit guest number base (early ++ late)
+fits_append guest number base [] late first next = subst (λ ms. AreFit guest number ms late) (append-nil base) next
+fits_append guest number base (part ∷ early) late first next =
+    (first.0, fits_append guest number (base ++ moments_in part) early late first.1 (subst (λ ms. AreFit guest number ms late) (sym (append_assoc base (moments_in part) (moments_of early))) next))
 
 found_append : (guest : GuestSpec) (number : ℕ) (base : List CoreMoment) (early late : List WholePart) → AreFoundParts guest number base early → AreFoundParts guest number (base ++ moments_of early) late → AreFoundParts guest number base (early ++ late)
 found_append guest number base [] late first next = subst (λ ms. AreFoundParts guest number ms late) (append-nil base) next
@@ -46,15 +46,15 @@ found_append guest number base (part ∷ early) late first next =
     (first.0, found_append guest number (base ++ moments_in part) early late first.1 (subst (λ ms. AreFoundParts guest number ms late) (sym (append_assoc base (moments_in part) (moments_of early))) next))
 
 -- they are their calls, and fit
-pub fitted : (guest : GuestSpec) (number lrs : ℕ) (parts : List WholePart) → AreSerial guest number lrs parts → AreFitCalls guest number parts
-fitted guest number lrs parts serial = found_runs_are_eager guest number parts serial.good serial.proper serial.found serial.able
+pub fitted : (guest : GuestSpec) (number lrs : ℕ) (parts : List WholePart) → AreSerial guest number lrs parts → AreEagerCalls guest number parts
+fitted guest number lrs parts serial = found_runs_are_eager guest number parts serial.good serial.proper serial.found serial.fits
 
 module _ (old new : GuestTold) (before after : Vcpus) (Are : List WholePart → Type 0) (goes : GoesOn Are old new before after) (early : List WholePart) (run : IsRun new.guest.shape (opening new.guest new.number) new.world) where
   abbrev both : List WholePart
   both = early ++ goes.parts
 
   -- by the guest as it is told
-  more_here : HasDone old.guest old.number old before early → AreAble old.guest old.number (moments_of early) goes.parts → HasDone old.guest old.number new after both
+  more_here : HasDone old.guest old.number old before early → AreFit old.guest old.number (moments_of early) goes.parts → HasDone old.guest old.number new after both
   more_here done about =
       let guest = old.guest in
       let number = old.number in
@@ -78,7 +78,7 @@ module _ (old new : GuestTold) (before after : Vcpus) (Are : List WholePart → 
               formed = subst (λ n. All (IsOfGuest guest.shape n) both) (sym goes.lrs) formed;
               proper = proper;
               found = found_append guest number [] early goes.parts serial.found found;
-              able = able_append guest number [] early goes.parts serial.able about;
+              fits = fits_append guest number [] early goes.parts serial.fits about;
             };
         at = goes.at;
         followed =
@@ -86,10 +86,10 @@ module _ (old new : GuestTold) (before after : Vcpus) (Are : List WholePart → 
       }
 
   -- and by one that is the same
-  pub more_done : (guest : GuestSpec) (number : ℕ) → HasDone guest number old before early → AreAble guest number (moments_of early) goes.parts → HasDone guest number new after both
+  pub more_done : (guest : GuestSpec) (number : ℕ) → HasDone guest number old before early → AreFit guest number (moments_of early) goes.parts → HasDone guest number new after both
   more_done guest number done =
-      subst (λ g. HasDone g number old before early → AreAble g number (moments_of early) goes.parts → HasDone g number new after both) done.guest_is
-      (subst (λ n. HasDone old.guest n old before early → AreAble old.guest n (moments_of early) goes.parts → HasDone old.guest n new after both) done.number_is more_here)
+      subst (λ g. HasDone g number old before early → AreFit g number (moments_of early) goes.parts → HasDone g number new after both) done.guest_is
+      (subst (λ n. HasDone old.guest n old before early → AreFit old.guest n (moments_of early) goes.parts → HasDone old.guest n new after both) done.number_is more_here)
       done
 
 -- The guest with all taken back.
@@ -132,37 +132,37 @@ home_goes guest number lrs actor operation answer early late first all have =
 Resides : WholePart → Type 0
 Resides one = one.operation ≡ Residence
 
-one_about : (guest : GuestSpec) (number : ℕ) (early : List CoreMoment) (part : WholePart) → part.operation ≡ Residence → IsAble guest number early part
+one_about : (guest : GuestSpec) (number : ℕ) (early : List CoreMoment) (part : WholePart) → part.operation ≡ Residence → IsFit guest number early part
 one_about guest number early part is = record { ease = λ icc. absurd (never (sym (ap is_icc is) ∙ icc)); good = subst (IsGoodCall guest.shape part.actor) (sym is) tt }
   where
     never : false ≡ true → ⊥
     never e = cc
 
-about_after : (guest : GuestSpec) (number : ℕ) (base : List CoreMoment) (early late : List WholePart) → All (λ (one : WholePart). one.operation ≡ Residence) early → AreAble guest number (base ++ moments_of early) late → AreAble guest number base (early ++ late)
-about_after guest number base [] late all next = subst (λ ms. AreAble guest number ms late) (append-nil base) next
+about_after : (guest : GuestSpec) (number : ℕ) (base : List CoreMoment) (early late : List WholePart) → All (λ (one : WholePart). one.operation ≡ Residence) early → AreFit guest number (base ++ moments_of early) late → AreFit guest number base (early ++ late)
+about_after guest number base [] late all next = subst (λ ms. AreFit guest number ms late) (append-nil base) next
 about_after guest number base (part ∷ early) late all next = (
   one_about guest number base part (All-head (λ (one : WholePart). one.operation ≡ Residence) part early all),
   about_after guest number (base ++ moments_in part) early late (All-tail (λ (one : WholePart). one.operation ≡ Residence) part early all)
-      (subst (λ ms. AreAble guest number ms late) (sym (append_assoc base (moments_in part) (moments_of early))) next),
+      (subst (λ ms. AreFit guest number ms late) (sym (append_assoc base (moments_in part) (moments_of early))) next),
 )
 
-pub residences_about : (guest : GuestSpec) (number : ℕ) (base : List CoreMoment) (parts : List WholePart) → AreResidences parts → AreAble guest number base parts
-residences_about guest number base parts resides = subst (AreAble guest number base) (append-nil parts) (about_after guest number base parts [] resides.each tt)
+pub residences_about : (guest : GuestSpec) (number : ℕ) (base : List CoreMoment) (parts : List WholePart) → AreResidences parts → AreFit guest number base parts
+residences_about guest number base parts resides = subst (AreFit guest number base) (append-nil parts) (about_after guest number base parts [] resides.each tt)
 
 pub call_about :
     (guest : GuestSpec) (number : ℕ) (base : List CoreMoment) (parts : List WholePart) (actor : ℕ) (operation : Operation) (answer : Option ℕ) (have : HaveCall actor operation answer parts) → (is_icc operation ≡ true → have.early ≡ [])
-    → ((vcpu : ℕ) → vcpu < guest.shape.vcpus → IsAtEase guest.shape (end_of_moments guest.shape (opening guest number) base) vcpu (progress_in guest number base vcpu)) → IsGoodCall guest.shape actor operation → AreAble guest number base parts
+    → ((vcpu : ℕ) → vcpu < guest.shape.vcpus → IsAtEase guest.shape (end_of_moments guest.shape (opening guest number) base) vcpu (progress_in guest number base vcpu)) → IsGoodCall guest.shape actor operation → AreFit guest number base parts
 call_about guest number base parts actor operation answer have first ease good =
     let whole = by_actor actor have.call in
     let mid = base ++ moments_of have.early in
     let same : is_icc operation ≡ true → base ≡ mid = λ icc. sym (ap (λ parts. base ++ moments_of parts) (first icc) ∙ append-nil base) in
-    let about : IsAble guest number mid whole
+    let about : IsFit guest number mid whole
     = record {
       ease = λ icc.
           subst (λ ms. (vcpu : ℕ) → vcpu < guest.shape.vcpus → IsAtEase guest.shape (end_of_moments guest.shape (opening guest number) ms) vcpu (progress_in guest number ms vcpu)) (same (sym (ap is_icc have.operation_is) ∙ icc)) ease;
       good = subst (IsGoodCall guest.shape actor) (sym have.operation_is) good;
     } in
-    subst (AreAble guest number base) (sym have.split)
+    subst (AreFit guest number base) (sym have.split)
     (about_after guest number base have.early (whole ∷ have.late) have.before.each (about, residences_about guest number (mid ++ moments_in whole) have.late have.after))
 
 -- each vCPU is at ease after what was done

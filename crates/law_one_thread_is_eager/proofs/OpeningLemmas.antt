@@ -24,7 +24,7 @@ opens_serial guest number lrs good = record {
   formed = All-nil (IsOfGuest guest.shape lrs);
   proper = record { parted = record { run = tt; actors = All-nil (IsThere guest.shape); parts = λ actor there. refl }; proper = λ actor there. tt };
   found = tt;
-  able = tt;
+  fits = tt;
 }
 
 opens_rest : (guest : GuestSpec) (number : ℕ) (told : GuestTold) (actor : ℕ) → told ≡ record (opening_told told.home guest number) { actor = told.actor } → actor < actor_count guest.shape → IsAtRest (seen_by told actor) (opening_progress guest number actor)

@@ -4,8 +4,8 @@ use Rattle.law_found_parts_are_calls.specs.Histories.{last_of, home, IdealGuest}
 use Rattle.law_found_parts_are_calls.specs.Calls.{GuestSpec, IsGoodGuest}
 use Rattle.law_found_parts_are_calls.specs.Core.{opening, ideal_of, progress_in, IsProperRun}
 use Rattle.seq_guest.specs.PortSeq.Told.{GuestTold}
-use Rattle.law_found_parts_are_calls.specs.Found.{AreAble, AreFoundParts}
-use Rattle.law_found_parts_are_calls.specs.LawSerialIsEager.Serial.{WholePart, moments_of}
+use Rattle.law_found_parts_are_calls.specs.Found.{AreFoundParts}
+use Rattle.law_found_parts_are_calls.specs.LawSerialIsEager.Serial.{AreFit, WholePart, moments_of}
 use Rattle.seq_guest.specs.declared.vcpus.Vcpus.{Vcpus}
 use Rattle.seq_guest.specs.PePlace.Parts.{IsOfGuest, entries_in}
 use Rattle.seq_guest.specs.Guest.{AreAt, AreFollowed}
@@ -21,7 +21,7 @@ pub record AreSerial (guest : GuestSpec) (number lrs : ℕ) (parts : List WholeP
   pub formed : All (IsOfGuest guest.shape lrs) parts
   pub proper : IsProperRun guest number (moments_of parts)
   pub found : AreFoundParts guest number [] parts
-  pub able : AreAble guest number [] parts
+  pub fits : AreFit guest number [] parts
 
 -- they are all that was done to a guest of a port since it opened, and its vCPUs are where that left them
 pub record HasDone (guest : GuestSpec) (number : ℕ) (told : GuestTold) (vcpus : Vcpus) (parts : List WholePart) : Type 0 where

@@ -22,6 +22,7 @@ use Rattle.law_serial_is_eager.proofs.AloneRuns.{next_at}
 use Rattle.law_runs_are_fresh.specs.Fresh.{RunsAreFresh}
 use Rattle.law_runs_are_fresh.proofs.AccessLemmas.{IsAtAccess, at_access}
 use Rattle.law_runs_are_fresh.proofs.AskRuns.{acknowledge_fresh, end_fresh, interface_fresh}
+use Rattle.law_runs_are_fresh.proofs.ReadRuns.{IsWholeRun}
 
 -- One event.
 
@@ -59,7 +60,7 @@ module _ (guest : GuestSpec) (number : ℕ) (good : IsGoodGuest guest) where
   abbrev StateOf : List CoreMoment → CoreState
   StateOf moments = end_of_moments guest.shape (opening guest number) moments
 
-  module _ (early late : List CoreMoment) (actor : ℕ) (act : Act) (next : IsNextOf guest number early actor act) (whole : IsProperRun guest number ((early ++ (record { actor = actor; act = act }) ∷ []) ++ late)) (ended : AreEnded guest.shape ((early ++ (record { actor = actor; act = act }) ∷ []) ++ late)) where
+  module _ (early late : List CoreMoment) (actor : ℕ) (act : Act) (next : IsNextOf guest number early actor act) (whole : IsProperRun guest number ((early ++ (record { actor = actor; act = act }) ∷ []) ++ late)) (ended : AreEnded guest.shape ((early ++ (record { actor = actor; act = act }) ∷ []) ++ late)) (run : IsWholeRun guest number ((early ++ (record { actor = actor; act = act }) ∷ []) ++ late)) where
     abbrev moment : CoreMoment
     moment = record { actor = actor; act = act }
 
@@ -75,7 +76,8 @@ module _ (guest : GuestSpec) (number : ℕ) (good : IsGoodGuest guest) where
               subst (λ s. IsTrue (is_fresh_at_acknowledge (ideal_of shape s late) (followed_in guest number early).ideal (followed_in guest number early).track (Cpu actor access.reg access.write))) (end_more shape (opening guest number) early moment)
               (subst (λ a. IsTrue (is_fresh_at_acknowledge (ideal_of shape (StateOf (early ++ record { actor = actor; act = a } ∷ [])) late) (followed_in guest number early).ideal (followed_in guest number early).track (Cpu actor access.reg access.write))) (sym is)
               (acknowledge_fresh guest number early actor made access.reg access.write good next_made access.step_is access.unkicked here.free here.operation late
-              (subst (λ a. IsProperRun guest number ((early ++ record { actor = actor; act = a } ∷ []) ++ late)) is whole) (subst (λ a. AreEnded guest.shape ((early ++ record { actor = actor; act = a } ∷ []) ++ late)) is ended)));
+              (subst (λ a. IsProperRun guest number ((early ++ record { actor = actor; act = a } ∷ []) ++ late)) is whole) (subst (λ a. AreEnded guest.shape ((early ++ record { actor = actor; act = a } ∷ []) ++ late)) is ended)
+              (subst (λ a. IsWholeRun guest number ((early ++ record { actor = actor; act = a } ∷ []) ++ late)) is run)));
           interface = interface_fresh guest number early actor made access.reg access.write good next_made access.step_is access.unkicked here.free;
           end = end_fresh guest number early actor made access.reg access.write good next_made access.step_is access.unkicked here.free;
         })
@@ -104,16 +106,17 @@ module _ (guest : GuestSpec) (number : ℕ) (good : IsGoodGuest guest) where
             by (inl quiet) = quiet_fresh rest (followed_in guest number early) one.event quiet
             by (inr access) = access_fresh made is one access all
 
-  fresh_from : (late early : List CoreMoment) → IsProperRun guest number (early ++ late) → AreEnded guest.shape (early ++ late) → AllAccess (opening_followed guest) (ideal_of guest.shape (opening guest number) (early ++ late))
+  fresh_from : (late early : List CoreMoment) → IsProperRun guest number (early ++ late) → AreEnded guest.shape (early ++ late) → IsWholeRun guest number (early ++ late) → AllAccess (opening_followed guest) (ideal_of guest.shape (opening guest number) (early ++ late))
       → IsFreshFrom (followed_in guest number early) (ideal_of guest.shape (end_of_moments guest.shape (opening guest number) early) late)
-  fresh_from [] early proper ended all = record { acknowledge = refl; interface = refl; end = refl }
-  fresh_from (moment ∷ late) early proper ended all =
+  fresh_from [] early proper ended run all = record { acknowledge = refl; interface = refl; end = refl }
+  fresh_from (moment ∷ late) early proper ended run all =
       let both = sym (append_assoc early (moment ∷ []) late) in
       let whole = subst (IsProperRun guest number) both proper in
       let ended_whole = subst (AreEnded guest.shape) both ended in
+      let run_whole = subst (IsWholeRun guest number) both run in
       let next = next_at guest number good early moment.actor moment.act (proper_before guest number (early ++ moment ∷ []) late whole) in
-      let later = fresh_from late (early ++ moment ∷ []) whole ended_whole (subst (λ ms. AllAccess (opening_followed guest) (ideal_of guest.shape (opening guest number) ms)) both all) in
-      one_moment early late moment.actor moment.act next whole ended_whole moment.act refl (subst (AllAccess (opening_followed guest)) (ideal_append guest.shape (opening guest number) early (moment ∷ late)) all)
+      let later = fresh_from late (early ++ moment ∷ []) whole ended_whole run_whole (subst (λ ms. AllAccess (opening_followed guest) (ideal_of guest.shape (opening guest number) ms)) both all) in
+      one_moment early late moment.actor moment.act next whole ended_whole run_whole moment.act refl (subst (AllAccess (opening_followed guest)) (ideal_append guest.shape (opening guest number) early (moment ∷ late)) all)
       (subst (λ f. IsFreshFrom f (ideal_of guest.shape (after_moment guest.shape (StateOf early) moment) late)) (followed_more guest number early moment)
       (subst (λ s. IsFreshFrom (followed_in guest number (early ++ moment ∷ [])) (ideal_of guest.shape s late)) (end_more guest.shape (opening guest number) early moment) later))
 
@@ -121,7 +124,7 @@ pub fresh_runs : RunsAreFresh
 fresh_runs guest number moments good proper calls ended =
     let history = (runs_history guest number moments good proper.parted calls).history in
     let whole = whole_is guest number moments good proper.parted calls ended in
-    let fresh = fresh_from guest number good moments [] proper ended (history_access guest (ideal_of guest.shape (opening guest number) moments) good history whole) in
+    let fresh = fresh_from guest number good moments [] proper ended (record { history = history; whole = whole }) (history_access guest (ideal_of guest.shape (opening guest number) moments) good history whole) in
     record {
       acknowledge = fresh.acknowledge;
       interface = fresh.interface;

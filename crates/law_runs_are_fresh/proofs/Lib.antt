@@ -1,7 +1,9 @@
 pub use Rattle.law_serial_is_eager.proofs.LawEagerIsHistory
 pub use Rattle.law_serial_is_eager.proofs.LawLoneCallsAreEager
 pub mod OwnLemmas
+pub mod ReadLemmas
 pub mod TurnLemmas
+pub mod ReadRuns
 pub mod ComingRuns
 pub mod OpenLemmas
 pub mod AskRuns

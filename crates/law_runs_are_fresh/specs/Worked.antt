@@ -99,7 +99,7 @@ pub record ATouchIsAwaited : Type 0 where
   pub history : ideal_of clear_guest.shape (opening clear_guest 0) awaiting_run ≡ awaiting_history
   pub first : comes_first (followed_in clear_guest 0 early_awaiting).ideal 0 spi ≡ true
   pub closed : is_last_open clear_guest.shape (followed_in clear_guest 0 early_awaiting).track 0 spi ≡ false
-  pub awaited : is_awaited clear_guest.shape late_history 0 spi ≡ true
+  pub awaited : is_awaited clear_guest.shape late_history (followed_in clear_guest 0 early_awaiting).track 0 spi ≡ true
   pub fresh : IsFresh clear_guest awaiting_history
 
 -- the read of the worked run

@@ -167,7 +167,7 @@ module _ (shape : GuestShape) (good : IsShape shape) (state : CoreState) (at : F
   operation_after (Some one) sim n = elim (cases_eq n actor) [
     | inl same ↦
         subst (λ m. (doing_of (after_event (Some one)).track m).operation ≡ (doing_of at.track m).operation) (sym same)
-        (ap (λ (d : Doing). d.operation) (happens_here shape good at.ideal actor one.event one.found at.track same_shape sim.can in_doings) ∙ doing_kept actor one.event (doing_of at.track actor))
+        (ap (λ (d : Doing). d.operation) (happens_here shape good at.ideal actor one.event one.found at.track same_shape sim.can in_doings) ∙ doing_kept at.ideal actor one.event (doing_of at.track actor))
     | inr differ ↦ ap (λ (d : Doing). d.operation) (happens_other shape good at.ideal actor one.event one.found at.track n same_shape sim.can differ)
   ]
 
@@ -177,7 +177,7 @@ module _ (shape : GuestShape) (good : IsShape shape) (state : CoreState) (at : F
   number_after (Some one) sim n goes = elim (cases_eq n actor) [
     | inl same ↦
         subst (λ m. (doing_of (after_event (Some one)).track m).number ≡ (doing_of at.track m).number) (sym same)
-        (ap (λ (d : Doing). d.number) (happens_here shape good at.ideal actor one.event one.found at.track same_shape sim.can in_doings) ∙ number_kept actor one.event (doing_of at.track actor) (goes same))
+        (ap (λ (d : Doing). d.number) (happens_here shape good at.ideal actor one.event one.found at.track same_shape sim.can in_doings) ∙ number_kept at.ideal actor one.event (doing_of at.track actor) (goes same))
     | inr differ ↦ ap (λ (d : Doing). d.number) (happens_other shape good at.ideal actor one.event one.found at.track n same_shape sim.can differ)
   ]
 
@@ -353,7 +353,7 @@ pub at_next :
     (shape : GuestShape) (good : IsShape shape) (state : CoreState) (at : Followed) (progress : ℕ → Progress) (actor : ℕ) (act : Act) → IsAt shape state at progress → IsActing shape state progress actor act
     → IsAt shape (after_moment shape state (record { actor = actor; act = act })) (follow shape state at (record { actor = actor; act = act })) (moved_on shape progress (record { actor = actor; act = act }))
 at_next shape good state at progress actor (begins operation lrs) here acts =
-    part_next shape state at progress actor here acts.there (begins operation lrs) (record { operation = Some operation; number = (doing_of at.track actor).number + 1; done = [] }) refl refl refl
+    part_next shape state at progress actor here acts.there (begins operation lrs) (record { operation = Some operation; number = (doing_of at.track actor).number + 1; done = []; fetched = false }) refl refl refl
     (here.rests actor acts.there (none_from (progress actor).operation (and_parts (not (is_some (progress actor).operation)) (has_registers shape actor lrs) acts.fit).0))
     (λ within. (and_parts (not (is_some (progress actor).operation)) (has_registers shape actor lrs) acts.fit).1)
 at_next shape good state at progress actor (makes made) here acts = makes_next shape good state at progress actor made here acts
@@ -383,7 +383,7 @@ excused_part shape state at progress actor act here acts e vcpu key x = of act e
     still doing settled = record { actor = x.actor; there = x.there; owes = x.owes; last = last_without shape state at progress actor here acts.there doing settled x.actor vcpu key x.owes x.last }
 
     of : (a : Act) → is_part a ≡ true → IsTrue (is_settled (seat_at state actor).local) → IsExcused shape state (follow shape state at (record { actor = actor; act = a })).track vcpu key
-    of (begins operation lrs) e settled = still (record { operation = Some operation; number = (doing_of at.track actor).number + 1; done = [] }) settled
+    of (begins operation lrs) e settled = still (record { operation = Some operation; number = (doing_of at.track actor).number + 1; done = []; fetched = false }) settled
     of (makes made) e settled = absurd (true≢false (sym e))
     of (ends answer) e settled = still (record (doing_of at.track actor) { operation = None }) settled
 
@@ -524,10 +524,10 @@ at_opens guest number good = record {
   known = known_opens guest number good;
   related = related_opens guest number good;
   seats = λ actor there. subst (IsSeatOf (opening_progress guest number actor)) (sym (seat_opens guest number actor there)) (record { local = refl; own = refl });
-  calls = λ actor there. ap (λ (d : Doing). d.operation) (get_or-replicate (actor_count guest.shape) actor (record { operation = None; number = 0; done = [] }) (record { operation = None; number = 0; done = [] }) there);
+  calls = λ actor there. ap (λ (d : Doing). d.operation) (get_or-replicate (actor_count guest.shape) actor (record { operation = None; number = 0; done = []; fetched = false }) (record { operation = None; number = 0; done = []; fetched = false }) there);
   rests = λ actor there none. subst (λ (s : Seat). IsTrue (is_settled s.local)) (sym (seat_opens guest number actor there)) refl;
   registers = λ actor there within. absurd (true≢false (sym within));
-  doings_each = length-replicate (actor_count guest.shape) (record { operation = None; number = 0; done = [] });
+  doings_each = length-replicate (actor_count guest.shape) (record { operation = None; number = 0; done = []; fetched = false });
   changes_each = length-replicate (interrupt_count guest.shape) nothing;
   told = opens_told guest number (last_in guest.shape (opening_track guest.shape)) good;
 }

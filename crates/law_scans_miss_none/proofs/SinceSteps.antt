@@ -142,7 +142,7 @@ module _ (shape : GuestShape) (good : IsShape shape) (vcpu : ℕ) (within : vcpu
           ]) (changes_of shape at.track key).since owed
 
       of : (a : Act) → is_part a ≡ true → IsTrue (is_settled (seat_at state actor).local) → AreOwed shape state (follow shape state at (record { actor = actor; act = a })).track vcpu key
-      of (begins operation lrs) e settled = still (record { operation = Some operation; number = (doing_of at.track actor).number + 1; done = [] }) settled
+      of (begins operation lrs) e settled = still (record { operation = Some operation; number = (doing_of at.track actor).number + 1; done = []; fetched = false }) settled
       of (makes made) e settled = absurd (true≢false (sym e))
       of (ends answer) e settled = still (record (doing_of at.track actor) { operation = None }) settled
 

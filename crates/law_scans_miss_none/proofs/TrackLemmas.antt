@@ -34,13 +34,13 @@ is_queue (Queue offset change) = true
 is_queue event = false
 
 -- an event keeps what its actor is in, and the number of that, but for the end of a command
-pub doing_kept : (actor : ℕ) (event : Event) (doing : Doing) → (after_doing actor event doing).operation ≡ doing.operation
-doing_kept actor (Queue offset change) doing = refl
-doing_kept actor event doing = refl
+pub doing_kept : (ideal : Ideal) (actor : ℕ) (event : Event) (doing : Doing) → (after_doing ideal actor event doing).operation ≡ doing.operation
+doing_kept ideal actor (Queue offset change) doing = refl
+doing_kept ideal actor event doing = refl
 
-pub number_kept : (actor : ℕ) (event : Event) (doing : Doing) → is_queue event ≡ false → (after_doing actor event doing).number ≡ doing.number
-number_kept actor (Queue offset change) doing e = absurd (true≢false e)
-number_kept actor event doing e = refl
+pub number_kept : (ideal : Ideal) (actor : ℕ) (event : Event) (doing : Doing) → is_queue event ≡ false → (after_doing ideal actor event doing).number ≡ doing.number
+number_kept ideal actor (Queue offset change) doing e = absurd (true≢false e)
+number_kept ideal actor event doing e = refl
 
 -- Interrupts.
 
@@ -164,18 +164,18 @@ pub happens_changes : (shape : GuestShape) → IsShape shape → (ideal : Ideal)
 happens_changes shape good ideal actor event found track same can = leaving_changes ideal event (after_changes ideal.guest.shape actor event track) ∙ ap (λ s. (after_changes s actor event track).changes) same
 
 pub happens_here : (shape : GuestShape) → IsShape shape → (ideal : Ideal) (actor : ℕ) (event : Event) (found : Found) (track : Track) → ideal.guest.shape ≡ shape → CanHappen shape event → actor < length track.doings
-    → doing_of (tracked ideal (Happens actor event found) track) actor ≡ after_doing actor event (doing_of track actor)
+    → doing_of (tracked ideal (Happens actor event found) track) actor ≡ after_doing ideal actor event (doing_of track actor)
 happens_here shape good ideal actor event found track same can there =
     let before = after_leaving ideal event (after_changes ideal.guest.shape actor event track) in
     let kept = leaving_doings ideal event (after_changes ideal.guest.shape actor event track) ∙ ap (λ s. (after_changes s actor event track).doings) same ∙ changes_doings shape good actor event track can in
-    doing_here actor (after_doing actor event (doing_of track actor)) before (subst (λ n. actor < n) (sym (ap length kept)) there)
+    doing_here actor (after_doing ideal actor event (doing_of track actor)) before (subst (λ n. actor < n) (sym (ap length kept)) there)
 
 pub happens_other : (shape : GuestShape) → IsShape shape → (ideal : Ideal) (actor : ℕ) (event : Event) (found : Found) (track : Track) (other : ℕ) → ideal.guest.shape ≡ shape → CanHappen shape event → other ≢ actor
     → doing_of (tracked ideal (Happens actor event found) track) other ≡ doing_of track other
 happens_other shape good ideal actor event found track other same can differ =
     let before = after_leaving ideal event (after_changes ideal.guest.shape actor event track) in
     let kept = leaving_doings ideal event (after_changes ideal.guest.shape actor event track) ∙ ap (λ s. (after_changes s actor event track).doings) same ∙ changes_doings shape good actor event track can in
-    doing_other actor other (after_doing actor event (doing_of track actor)) before differ ∙ ap (λ doings. slice_index_or doings other (record { operation = None; number = 0; done = [] })) kept
+    doing_other actor other (after_doing ideal actor event (doing_of track actor)) before differ ∙ ap (λ doings. slice_index_or doings other (record { operation = None; number = 0; done = []; fetched = false })) kept
 
 -- Who changed an interrupt last.
 

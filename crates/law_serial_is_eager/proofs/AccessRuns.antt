@@ -83,12 +83,12 @@ TiedTo vcpu None doing = doing.operation ≡ None
 TiedTo vcpu (Some call) doing = (doing.operation ≡ Some call.operation) × (named_of vcpu call.piece ≡ [] → IsTrue (has_done_none doing.done))
 
 -- what is beside the events of a call is of no interrupt of it
-pub beside_same : (actor : ℕ) (vcpu : Option ℕ) (event : Event) (doing : Doing) → is_beside vcpu event ≡ true → (after_doing actor event doing).done ≡ doing.done
-beside_same actor vcpu (Read place) doing h = refl
-beside_same actor vcpu (Reach key w) doing h = refl
-beside_same actor vcpu (Take key w) doing h = refl
-beside_same actor vcpu (Leave key w) doing h = refl
-beside_same actor vcpu event doing h = absurd (cc)
+pub beside_same : (ideal : Ideal) (actor : ℕ) (vcpu : Option ℕ) (event : Event) (doing : Doing) → is_beside vcpu event ≡ true → (after_doing ideal actor event doing).done ≡ doing.done
+beside_same ideal actor vcpu (Read place) doing h = refl
+beside_same ideal actor vcpu (Reach key w) doing h = refl
+beside_same ideal actor vcpu (Take key w) doing h = refl
+beside_same ideal actor vcpu (Leave key w) doing h = refl
+beside_same ideal actor vcpu event doing h = absurd (cc)
 
 -- an access is made in a call for it, which has made no event of an interrupt
 abbrev pub AccessAt : Followed → Moment → Type 0
@@ -107,9 +107,9 @@ module _ (shape : GuestShape) (good : IsShape shape) where
   seen_tied ideal vcpu None doing tied = tied
   seen_tied ideal vcpu (Some call) doing tied = tied
 
-  made_tied : (actor : ℕ) (ideal later : Ideal) (event : Event) (found : Found) (call : Call) (doing : Doing) → TiedTo (vcpu_of shape actor) (Some call) doing → TiedTo (vcpu_of shape actor) (Some (seeing later (made ideal event found call))) (after_doing actor event doing)
-  made_tied actor ideal later event found call doing tied = (
-    doing_kept actor event doing ∙ tied.0 ∙ ap Some (sym (noted_operation ideal event call)),
+  made_tied : (actor : ℕ) (before ideal later : Ideal) (event : Event) (found : Found) (call : Call) (doing : Doing) → TiedTo (vcpu_of shape actor) (Some call) doing → TiedTo (vcpu_of shape actor) (Some (seeing later (made ideal event found call))) (after_doing before actor event doing)
+  made_tied actor before ideal later event found call doing tied = (
+    doing_kept before actor event doing ∙ tied.0 ∙ ap Some (sym (noted_operation ideal event call)),
     λ none. of (is_beside (vcpu_of shape actor) event) refl (sym (filter-append (λ (happened : Happened). not (is_beside (vcpu_of shape actor) happened.event)) call.piece (one ∷ [])) ∙ ap (λ piece. named_of (vcpu_of shape actor) (piece ++ one ∷ [])) (sym (noted_piece ideal event call)) ∙ none),
   )
     where
@@ -120,9 +120,9 @@ module _ (shape : GuestShape) (good : IsShape shape) where
       never [] e = cc
       never (x ∷ xs) e = cc
 
-      of : (b : Bool) → is_beside (vcpu_of shape actor) event ≡ b → named_of (vcpu_of shape actor) call.piece ++ cond (not (is_beside (vcpu_of shape actor) event)) (one ∷ []) [] ≡ [] → IsTrue (has_done_none (after_doing actor event doing).done)
+      of : (b : Bool) → is_beside (vcpu_of shape actor) event ≡ b → named_of (vcpu_of shape actor) call.piece ++ cond (not (is_beside (vcpu_of shape actor) event)) (one ∷ []) [] ≡ [] → IsTrue (has_done_none (after_doing before actor event doing).done)
       of true e none =
-          subst (λ keys. IsTrue (has_done_none keys)) (sym (beside_same actor (vcpu_of shape actor) event doing e)) (tied.1 (nothing (named_of (vcpu_of shape actor) call.piece) (ap (λ b. named_of (vcpu_of shape actor) call.piece ++ cond (not b) (one ∷ []) []) (sym e) ∙ none)))
+          subst (λ keys. IsTrue (has_done_none keys)) (sym (beside_same before actor (vcpu_of shape actor) event doing e)) (tied.1 (nothing (named_of (vcpu_of shape actor) call.piece) (ap (λ b. named_of (vcpu_of shape actor) call.piece ++ cond (not b) (one ∷ []) []) (sym e) ∙ none)))
         where
           nothing : (xs : List Happened) → xs ++ [] ≡ [] → xs ≡ []
           nothing [] e = refl
@@ -158,7 +158,7 @@ module _ (shape : GuestShape) (good : IsShape shape) where
       | inl e ↦ subst (λ n. TiedTo (vcpu_of shape n) (call_of (gone_on course (Happens other event found)) n) (doing_of (follows at (Happens other event found)).track n)) (sym e)
           (subst (λ o. TiedTo (vcpu_of shape other) o (doing_of (follows at (Happens other event found)).track other)) (sym (made_here course other event found mine.0 mine.1))
           (subst (TiedTo (vcpu_of shape other) (Some (seeing (happened other event course.ideal) (made course.ideal event found mine.0)))) (sym (happens_here shape good at.ideal other event found at.track along.along.tidy.shape_is can (in_it other (within (call_of course other) refl next.within))))
-          (made_tied other course.ideal (happened other event course.ideal) event found mine.0 (doing_of at.track other) (subst (λ o. TiedTo (vcpu_of shape other) o (doing_of at.track other)) mine.1 (tied other)))))
+          (made_tied other at.ideal course.ideal (happened other event course.ideal) event found mine.0 (doing_of at.track other) (subst (λ o. TiedTo (vcpu_of shape other) o (doing_of at.track other)) mine.1 (tied other)))))
       | inr differ ↦ subst (λ o. TiedTo (vcpu_of shape actor) o (doing_of (follows at (Happens other event found)).track actor)) (sym (made_other course other event found actor differ))
           (subst (TiedTo (vcpu_of shape actor) (option_map (seeing (happened other event course.ideal)) (call_of course actor))) (sym (happens_other shape good at.ideal other event found at.track actor along.along.tidy.shape_is can differ))
           (seen_tied (happened other event course.ideal) (vcpu_of shape actor) (call_of course actor) (doing_of at.track actor) (tied actor)))
@@ -219,7 +219,7 @@ module _ (shape : GuestShape) (good : IsShape shape) where
 opens_tied : (guest : GuestSpec) (actor : ℕ) → TiedTo (vcpu_of guest.shape actor) (call_of (opening_course guest) actor) (doing_of (opening_followed guest).track actor)
 opens_tied guest actor = subst (λ o. TiedTo (vcpu_of guest.shape actor) o (doing_of (opening_followed guest).track actor)) (sym (nobody_opens guest actor)) (ap (λ (d : Doing). d.operation) (none_doing (actor_count guest.shape) actor))
   where
-    none_doing : (n place : ℕ) → slice_index_or (replicate n (let d : Doing = record { operation = None; number = 0; done = [] } in d)) place (record { operation = None; number = 0; done = [] }) ≡ record { operation = None; number = 0; done = [] }
+    none_doing : (n place : ℕ) → slice_index_or (replicate n (let d : Doing = record { operation = None; number = 0; done = []; fetched = false } in d)) place (record { operation = None; number = 0; done = []; fetched = false }) ≡ record { operation = None; number = 0; done = []; fetched = false }
     none_doing zero place = refl
     none_doing (suc n) zero = refl
     none_doing (suc n) (suc place) = none_doing n place

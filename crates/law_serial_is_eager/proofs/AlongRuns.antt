@@ -180,7 +180,7 @@ module _ (guest : GuestSpec) (number : ℕ) (early : List CoreMoment) (part : Wh
     quiet = All-cons (λ m. IsTrue (changes_nothing m)) (Begin v part.operation) [] refl (All-nil (λ m. IsTrue (changes_nothing m)));
     done =
         subst (λ (f : Followed). IsTrue (has_done_none (doing_of f.track v).done)) (sym (followed_more guest number early (moment_by v (begins part.operation part.lrs))))
-        (subst (λ (d : Doing). IsTrue (has_done_none d.done)) (sym (doing_here v (record { operation = Some part.operation; number = (doing_of (followed_in guest number early).track v).number + 1; done = [] }) (followed_in guest number early).track in_doings)) refl);
+        (subst (λ (d : Doing). IsTrue (has_done_none d.done)) (sym (doing_here v (record { operation = Some part.operation; number = (doing_of (followed_in guest number early).track v).number + 1; done = []; fetched = false }) (followed_in guest number early).track in_doings)) refl);
     operation = ap (λ (q : Progress). q.operation) (progress_more guest number early v (begins part.operation part.lrs));
     wants = λ none. ap (λ (q : Progress). q.wants) (progress_more guest number early v (begins part.operation part.lrs)) ∙ (lone.rest v there).wants;
   }

@@ -1,5 +1,6 @@
 pub use Rattle.law_lone_accesses_find_all.proofs.CoreProper
 pub use Rattle.law_lone_calls_are_eager.proofs.GicBase
+pub use Rattle.law_lone_calls_are_eager.proofs.GicCall
 pub use Rattle.law_lone_calls_are_eager.proofs.GicHistory
 pub use Rattle.law_lone_calls_are_eager.proofs.GicOpen
 pub use Rattle.law_lone_accesses_find_all.proofs.LawAccessesShowHome

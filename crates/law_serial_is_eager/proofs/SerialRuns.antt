@@ -129,7 +129,7 @@ module _ (guest : GuestSpec) (number : ℕ) (good : IsGoodGuest guest) where
       let up = λ (icc : is_icc part.operation ≡ true). ease_is_up_to_date guest number early good (proper_before guest number early (moments_in part) proper_now) first (record { nobody = λ actor there. (rest actor there).operation; ease = fit.0.ease icc }) in
       let shows = shows_so guest number good early part proper_now history_now rest first up fit.0.good in
       let later = passing parts next proper_all history_all (rest_after guest number early part proper_now rest) (first_next guest number good early part proper_now history_now rest first) fit.1 in (
-        record { good = fit.0.good; shows = shows; moves = fit.0.moves },
+        record { good = fit.0.good; shows = shows },
         subst (λ ms. ArePassing guest ms (calls_of guest.shape (end_of_moments guest.shape (end_of_moments guest.shape start early) (moments_in part)) parts)) (ideal_next guest number good early part proper_now history_now rest first)
             (subst (λ s. ArePassing guest (ideal_of guest.shape start next) (calls_of guest.shape s parts)) (fold-append (after_moment guest.shape) start early (moments_in part)) later),
       )

@@ -1,21 +1,20 @@
 -- What a call that names no interrupt wants: nothing.
-use Rattle.std.proofs.Common.{◌≡◌, ℕ, not, true≢false, Bool, true, false, if◌then◌else◌, IsTrue, [], filter, Option, Some, None, unwrap_or, refl, sym, ap, ◌∙◌, subst}
+use Rattle.std.proofs.Common.{◌≡◌, ℕ, ◌&&◌, ◌||◌, not, true≢false, Bool, true, false, if◌then◌else◌, IsTrue, [], filter, Option, Some, None, unwrap_or, refl, sym, ap, ◌∙◌, subst}
 use Rattle.std.specs.Option.{option_map_or}
 use Rattle.law_lone_calls_are_eager.specs.Words.{IccReg, Iar0, Iar1, Hppir0, Hppir1, Key, Icc, GuestShape, is_same_key, irq_of}
 use Rattle.law_lone_calls_are_eager.specs.Calls.{Operation, Access, View}
-use Rattle.law_lone_calls_are_eager.specs.Histories.{asks_first, names}
-use Rattle.law_lone_accesses_find_all.specs.Core.{Made, CoreStep, Look, Raise, Claim, GiveBack, Release, Poll, Kick, Touch, Want, WireUp, WireDown, EnableLpis, RamLook, RamPut, CtlrTake, CtlrEnd, TurnTake, CommandDone, TurnRelease, Mark, TakeIndex, WordId, Irq, Vcpu, Queue, Ctlr, Plain, Index, succeeds, vcpu_of, known_view, Progress, after_claim, after_poll, begun, stepped, keeps_want, Scan, idle, taking, looking, claiming}
+use Rattle.law_lone_calls_are_eager.specs.Histories.{asks_first, names, takes_commands}
+use Rattle.law_lone_accesses_find_all.specs.Core.{Made, CoreStep, Look, Raise, Claim, GiveBack, Release, Poll, Kick, Touch, Want, WireUp, WireDown, EnableLpis, RamLook, RamPut, CtlrTake, CtlrEnd, TurnTake, CommandDone, TurnRelease, Mark, TakeIndex, WordId, Irq, Vcpu, Queue, Ctlr, Plain, Index, succeeds, vcpu_of, known_view, Progress, after_claim, after_poll, begun, stepped, keeps_want, Scan, idle, taking, looking, claiming, has_begun, may_name}
 use Rattle.law_lone_accesses_find_all.specs.CoreProper.Progress.{changed_by}
 use Rattle.law_lone_accesses_find_all.proofs.CoreProper.ScanLemmas.{wants_on}
 use Rattle.law_lone_accesses_find_all.proofs.LawScansMissNone.ScanSteps.{with_made}
 
-is_want : CoreStep → Bool
+abbrev pub is_want : CoreStep → Bool
 is_want (Want key) = true
 is_want step = false
 
 -- a step that asks for no interrupt leaves nothing wanted where nothing is
-wants_stay : (shape : GuestShape) (actor : ℕ) (step : CoreStep) (found : ℕ) (done : Bool) (p : Progress) → is_want step ≡ false → p.wants ≡ [] → (changed_by shape actor step found done p).wants ≡ []
-unfolding is_want
+pub wants_stay : (shape : GuestShape) (actor : ℕ) (step : CoreStep) (found : ℕ) (done : Bool) (p : Progress) → is_want step ≡ false → p.wants ≡ [] → (changed_by shape actor step found done p).wants ≡ []
 wants_stay shape actor (Look word) found done p other none = of word
   where
     of : (w : WordId) → (changed_by shape actor (Look w) found done p).wants ≡ []
@@ -74,9 +73,11 @@ names_none shape view actor Hppir1 None key asks = refl
 names_none shape view actor reg write key asks = absurd (true≢false (sym asks))
 
 asks_none : (shape : GuestShape) (actor : ℕ) (p : Progress) (operation : Operation) → ((view : View) (key : Key) → names shape view actor operation key ≡ false) → p.operation ≡ Some operation → (step : CoreStep) → IsTrue (keeps_want shape actor p step) → is_want step ≡ false
-unfolding is_want
 asks_none shape actor p operation none is (Want key) keeps =
-    absurd (true≢false (sym (subst (λ o. option_map_or (λ operation. names shape (known_view shape actor p.own) actor operation key) o false ≡ true) is keeps) ∙ none (known_view shape actor p.own) key))
+    absurd
+    (true≢false
+    (sym (subst (λ o. option_map_or (λ operation. may_name shape actor p.own operation key) o false ≡ true) is keeps)
+    ∙ ap (λ b. b && (not (takes_commands shape operation) || has_begun shape actor p.own)) (none (known_view shape actor p.own) key)))
 asks_none shape actor p operation none is step keeps = refl
 
 -- while a call names none nothing is wanted

@@ -53,14 +53,14 @@ found_none (suc n) h = absurd (omega (arith, h))
 fit_is : AreFit worked_guest 0 [] worked_parts
 unfolding least_in with_level without_level in_places
 fit_is = (
-  record { ease = λ icc. opens; good = tt; moves = tt },
+  record { ease = λ icc. opens; good = tt },
   (
-    record { ease = λ icc. entered; good = refl; moves = (tt, tt) },
+    record { ease = λ icc. entered; good = refl },
     (
-      record { ease = λ icc. raised; good = tt; moves = (tt, (tt, tt)) },
+      record { ease = λ icc. raised; good = tt },
       (
-        record { ease = λ icc. entered_again; good = (omega arith, refl); moves = (tt, tt) },
-        (record { ease = λ icc. acknowledged; good = (omega arith, refl); moves = (tt, tt) }, (record { ease = λ icc. ended; good = (omega arith, refl); moves = (tt, tt) }, (record { ease = λ icc. found_none; good = tt; moves = (tt, tt) }, tt))),
+        record { ease = λ icc. entered_again; good = (omega arith, refl) },
+        (record { ease = λ icc. acknowledged; good = (omega arith, refl) }, (record { ease = λ icc. ended; good = (omega arith, refl) }, (record { ease = λ icc. found_none; good = tt }, tt))),
       ),
     ),
   ),

@@ -2,7 +2,6 @@
 use Rattle.std.specs.Prelude.{◌≡◌, ℕ, ◌<◌, Bool, true, false, List, [], ◌∷◌, ◌++◌, map, Option}
 use Rattle.law_lone_calls_are_eager.specs.Words.{GuestShape, Icc}
 use Rattle.law_lone_calls_are_eager.specs.Calls.{Operation, Access, Happened, GuestSpec, IsGoodGuest}
-use Rattle.law_lone_calls_are_eager.specs.LoneCalls.{AllMoveOwn}
 use Rattle.law_lone_calls_are_eager.specs.IdealGuests.Opening.{opening as opening_guest}
 use Rattle.law_lone_calls_are_eager.specs.Histories.{home, last_of, opening_course}
 use Rattle.law_lone_accesses_find_all.specs.Core.{Made, events_of, CoreState, opening, seat_at, end_of_moments, ideal_of, Act, CoreMoment, part_of, IsProperRun, progress_in}
@@ -45,12 +44,11 @@ abbrev pub is_icc : Operation → Bool
 is_icc (Access (Icc reg write)) = true
 is_icc operation = false
 
--- what a part has to be after other moments: where it is for an access of a CPU interface, each vCPU is at ease as it begins; it is for an operation that its actor can
--- ask for; and a command that moves the LPIs of a vCPU to itself moves no other
+-- what a part has to be after other moments: where it is for an access of a CPU interface, each vCPU is at ease as it begins; and it is for an operation that its actor
+-- can ask for
 pub record IsFit (guest : GuestSpec) (number : ℕ) (early : List CoreMoment) (part : WholePart) : Type 0 where
   pub ease : is_icc part.operation ≡ true → (vcpu : ℕ) → vcpu < guest.shape.vcpus → IsAtEase guest.shape (end_of_moments guest.shape (opening guest number) early) vcpu (progress_in guest number early vcpu)
   pub good : IsGoodCall guest.shape part.actor part.operation
-  pub moves : AllMoveOwn (home (last_of guest (ideal_of guest.shape (opening guest number) early))) (map (λ (one : Happened). one.event) (piece_of guest.shape (end_of_moments guest.shape (opening guest number) early) part))
 
 abbrev pub AreFit : GuestSpec → ℕ → List CoreMoment → List WholePart → Type 0
 AreFit guest number early [] = Unit {0}

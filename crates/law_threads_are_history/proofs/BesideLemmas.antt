@@ -1,8 +1,8 @@
 -- A call that does not take the ITS is that call with whatever maps, but for a message-signalled interrupt.
-use Rattle.std.proofs.Common.{◌≡◌, ℕ, Bool, true, false, List, Option, Some, None, refl, sym, ◌∙◌, subst}
-use Rattle.std.proofs.lemmas.List.Elements.{All-weaker}
+use Rattle.std.proofs.Common.{◌≡◌, ℕ, Bool, true, false, List, [], Option, Some, None, refl, sym, ◌∙◌, subst}
+use Rattle.std.proofs.lemmas.List.Elements.{All-nil, All-weaker}
 use Rattle.law_ends_agree.specs.Words.{DeviceOp, Message, Wire, Msi, Frame, Dist, Redist, Its, Ram, Icc, Mem, GuestShape}
-use Rattle.law_ends_agree.specs.Calls.{Event, Cpu, Enable, Put, Touch, Found, Operation, Access, Device, Residence, Place, device_events, Beside, HandsOut, Happened, IsCall, IsDeviceCall, IsItsWrite, IsLastRead, IsPlainCall, device_places, held_at, named_of, View}
+use Rattle.law_ends_agree.specs.Calls.{Event, Cpu, Enable, Put, Touch, Found, Operation, Access, Device, Residence, Place, Beside, HandsOut, Happened, IsCall, IsDeviceCall, IsItsWrite, IsLastRead, IsPlainCall, held_at, named_of, View, Makes}
 use Rattle.law_ends_agree.specs.GicCall.declared.event.Event.TheVariants.{Read}
 use Rattle.law_ends_agree.specs.GicCall.declared.event.Place.TheVariants.{Word, Queue as QueuePlace, Ctlr as CtlrPlace, Lpis}
 use Rattle.law_ends_agree.specs.Registers.{Maps}
@@ -35,32 +35,24 @@ abbrev pub is_message : Operation → Bool
 is_message (Device (Msi device event)) = true
 is_message operation = false
 
-module _ (shape : GuestShape) (maps other : Maps) (targets : ℕ → ℕ → Option ℕ) where
+module _ (shape : GuestShape) (maps other : Maps) (targets : ℕ → Option ℕ) (commands : List (ℕ → Option ℕ)) where
   abbrev beside : Maps → Beside
-  beside of_its = record { maps = of_its; targets = targets }
+  beside of_its = record { maps = of_its; targets = targets; commands = commands }
 
   plain_again : (vcpu : ℕ) (frame : Frame) (offset size : ℕ) (write : Option ℕ) (piece : List Happened) (answer : Option ℕ) → IsPlainCall shape (beside maps) vcpu frame offset size write piece answer → IsPlainCall shape (beside other) vcpu frame offset size write piece answer
   plain_again vcpu frame offset size write piece answer is = record { view = is.view; targets = is.targets; made = is.made; answers = is.answers }
 
-  device_with : (op : DeviceOp) (piece : List Happened) (answer : Option ℕ) (is : IsDeviceCall (beside maps) op piece answer) → device_events (with_maps is.view other) op ≡ device_events is.view op → IsDeviceCall (beside other) op piece answer
-  device_with op piece answer is same =
-      record {
-        view = with_maps is.view other;
-        maps = refl;
-        made = record {
-          events_are = is.made.events_are ∙ sym same;
-          found = All-weaker (λ (happened : Happened). HandsOut is.view happened.event happened.found) (λ (happened : Happened). HandsOut (with_maps is.view other) happened.event happened.found)
-              (λ happened h. hands_with is.view other happened.event happened.found h) (named_of None piece) is.made.found;
-          reads =
-              All-weaker (λ place. IsLastRead place (held_at is.view place) piece) (λ place. IsLastRead place (held_at (with_maps is.view other) place) piece)
-              (λ place h. subst (λ f. IsLastRead place f piece) (sym (held_with is.view other place)) h) (device_places op) is.made.reads;
-        };
-        answers = is.answers;
-      }
+  made_with : (view : View) (events : List Event) (piece : List Happened) → Makes None view events [] [] piece → Makes None (with_maps view other) events [] [] piece
+  made_with view events piece is = record {
+    events_are = is.events_are;
+    found = All-weaker (λ (happened : Happened). HandsOut view happened.event happened.found) (λ (happened : Happened). HandsOut (with_maps view other) happened.event happened.found)
+        (λ happened h. hands_with view other happened.event happened.found h) (named_of None piece) is.found;
+    reads = All-nil (λ place. IsLastRead place (held_at (with_maps view other) place) piece);
+  }
 
   device_again : (op : DeviceOp) (piece : List Happened) (answer : Option ℕ) → (is_message (Device op) ≡ true → other ≡ maps) → IsDeviceCall (beside maps) op piece answer → IsDeviceCall (beside other) op piece answer
-  device_again (Message spi) piece answer same is = device_with (Message spi) piece answer is refl
-  device_again (Wire key up) piece answer same is = device_with (Wire key up) piece answer is refl
+  device_again (Message spi) piece answer same is = record { view = with_maps is.view other; maps = refl; made = made_with is.view _ piece is.made; answers = is.answers }
+  device_again (Wire key up) piece answer same is = record { view = with_maps is.view other; maps = refl; made = made_with is.view _ piece is.made; answers = is.answers }
   device_again (Msi device event) piece answer same is = record { view = is.view; maps = is.maps ∙ sym (same refl); made = is.made; answers = is.answers }
 
   pub call_again :

@@ -11,6 +11,7 @@ use Rattle.law_ends_agree.specs.GicImap.declared.map.RegRef.TheVariants.{Plain a
 use Rattle.law_ends_agree.specs.Calls.{Event, ItsBegin, Operation, Access, Device, Residence, Place, icc_events, its_events, msi_raises, Beside, Happened, IsCall, IsItsWrite, Makes, is_beside, named_of, View, is_its_enabled}
 use Rattle.law_ends_agree.specs.GicCall.declared.event.Event.TheVariants.{ItsEnd, Raise}
 use Rattle.law_ends_agree.specs.Registers.{translated}
+use Rattle.law_found_parts_are_calls.proofs.GicCall.TraceLemmas.{access_made, op_made}
 use Rattle.law_runs_are_fresh.proofs.LawEagerIsHistory.WindowLemmas.{is_no_turn}
 use Rattle.law_runs_are_fresh.proofs.LawLoneCallsAreEager.PassLemmas.{device_all, dist_all, memory_all, raises_all, redist_all}
 use Rattle.law_runs_are_fresh.proofs.LawLoneCallsAreEager.ReadLemmas.{beside_passes}
@@ -34,14 +35,14 @@ pub call_steady : (shape : GuestShape) (beside : Beside) (actor : Option ℕ) (o
 call_steady shape beside (Some vcpu) (Access (Icc reg write)) piece answer free is = made_steady (Some vcpu) is.view (icc_events shape vcpu reg write) [] [] piece is.made (raises_all is_steady named_steady shape vcpu reg write)
 call_steady shape beside (Some vcpu) (Access (Mem Dist offset size write)) piece answer free is = made_steady (Some vcpu) is.view _ _ [] piece is.made (dist_all is_steady named_steady shape is.view (dist_decoded offset size) write)
 call_steady shape beside (Some vcpu) (Access (Mem (Redist of_vcpu) offset size write)) piece answer free is =
-    made_steady (Some vcpu) is.view _ _ [] piece is.made (redist_all is_steady named_steady shape is.view of_vcpu (redist_decoded offset size) write)
+    made_steady (Some vcpu) is.view _ _ [] piece (access_made is) (redist_all is_steady named_steady shape is.view of_vcpu (redist_decoded offset size) write)
 call_steady shape beside (Some vcpu) (Access (Mem Ram offset size None)) piece answer free is = made_steady (Some vcpu) is.view [] _ [] piece is.made refl
 call_steady shape beside (Some vcpu) (Access (Mem Ram offset size (Some value))) piece answer free is = made_steady (Some vcpu) is.view _ _ [] piece is.made (memory_all is_steady named_steady shape is.view offset size value)
 call_steady shape beside (Some vcpu) (Access (Mem Its offset size None)) piece answer free is = made_steady (Some vcpu) is.view _ _ [] piece is.made (its_steady shape is.view (its_decoded offset size) None)
 call_steady shape beside (Some vcpu) (Access (Mem Its offset size (Some value))) piece answer free is =
     let plain = subst (λ b. IsItsWrite b shape beside vcpu offset size value piece answer) free is in
     made_steady (Some vcpu) plain.view _ _ [] piece plain.made (its_steady shape plain.view (its_decoded offset size) (Some value))
-call_steady shape beside None (Device op) piece answer free is = made_steady None is.view _ _ [] piece is.made (device_all is_steady named_steady is.view op)
+call_steady shape beside None (Device op) piece answer free is = made_steady None is.view _ _ [] piece (op_made is) (device_all is_steady named_steady is.view op)
 call_steady shape beside (Some vcpu) Residence piece answer free is = beside_passes is_steady beside_steady (Some vcpu) piece (subst (λ xs. IsTrue (list_all is_steady (events_of xs))) (sym is.0) refl)
 call_steady shape beside actor operation piece answer free is = absurd is
 
@@ -74,7 +75,7 @@ message_once view device event = of (translated view.maps (is_its_enabled view) 
     of (Some id) = refl
 
 pub call_once : (shape : GuestShape) (beside : Beside) (actor : Option ℕ) (operation : Operation) (piece : List Happened) (answer : Option ℕ) → is_message operation ≡ true → IsCall shape beside actor operation piece answer → IsTrue (take_once (events_of piece))
-call_once shape beside None (Device (Msi device event)) piece answer message is = once_named None piece (subst (λ es. IsTrue (take_once es)) (sym is.made.events_are) (message_once is.view device event))
+call_once shape beside None (Device (Msi device event)) piece answer message is = once_named None piece (subst (λ es. IsTrue (take_once es)) (sym (op_made is).events_are) (message_once is.view device event))
 call_once shape beside (Some vcpu) (Device (Msi device event)) piece answer message is = absurd is
 call_once shape beside actor (Device (Message spi)) piece answer message is = absurd (cc)
 call_once shape beside actor (Device (Wire key up)) piece answer message is = absurd (cc)

@@ -10,7 +10,7 @@ use Rattle.law_ends_agree.specs.Histories.{irq_at, Ideal, happened, is_allowed, 
 use Rattle.law_ends_agree.proofs.IdealGuests.KeyLemmas.{IsWhole, irq_changed}
 use Rattle.law_found_parts_are_calls.proofs.LawHistories.CourseLemmas.{mark_is}
 use Rattle.law_found_parts_are_calls.proofs.LawHistories.StateLemmas.{guest_is, leave_cases, take_cases}
-use Rattle.law_runs_are_fresh.proofs.LawLoneCallsAreEager.TargetLemmas.{by_record}
+use Rattle.law_found_parts_are_calls.proofs.LawHistories.TargetLemmas.{by_record}
 use Rattle.law_found_parts_are_calls.proofs.SteadyLemmas.{is_steady, steady_targets}
 
 -- The touch of an LPI.

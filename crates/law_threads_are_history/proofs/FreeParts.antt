@@ -1,5 +1,5 @@
 -- A part that does not take the ITS to change it, while other actors act beside it.
-use Rattle.std.proofs.Common.{◌≡◌, ℕ, ◌≤◌, ◌⊎◌, inl, inr, zero, suc, Bool, true, false, cond, IsTrue, Contains, List, [], ◌∷◌, ◌++◌, length, Option, Some, None, refl, sym, ap, ◌∙◌, subst, slice_index_or, arith}
+use Rattle.std.proofs.Common.{◌≡◌, ℕ, ◌⊎◌, inl, inr, Bool, true, false, cond, IsTrue, Contains, List, [], ◌∷◌, ◌++◌, Option, Some, None, refl, sym, ap, ◌∙◌, subst, slice_index_or}
 use Rattle.std.specs.List.{cons_option, filter_map, list_all}
 use Rattle.std.specs.Option.{option_map_or, option_to_list}
 use Rattle.std.proofs.lemmas.Bool.{and_parts}
@@ -21,7 +21,7 @@ use Rattle.law_threads_are_history.proofs.BesideLemmas.{call_again, is_message}
 use Rattle.law_threads_are_history.proofs.CallLemmas.{call_once, call_steady, take_once}
 use Rattle.law_threads_are_history.proofs.ToldParts.{Begins, Ends, IsIdle, IsPartly, Makes, next_seat, partly_ends, partly_makes, told_by}
 use Rattle.law_threads_are_history.proofs.TurnSteps.{TakesNone, TakesTurn, no_turn}
-use Rattle.law_threads_are_history.proofs.WindowLemmas.{IsWindowed, after_kept, before_kept, call_next, keeps_call, next_maps, seen_in, windowed_begun, windowed_made, windowed_seen}
+use Rattle.law_threads_are_history.proofs.WindowLemmas.{IsWindowed, after_kept, before_kept, call_next, next_maps, next_operation, seen_in, windowed_begun, windowed_made, windowed_seen}
 
 -- what a step of an actor stands for, and some
 abbrev pub stands : GuestShape → ℕ → Seat → Made → Option Happened
@@ -70,8 +70,8 @@ pub record IsGoing (shape : GuestShape) (actor : ℕ) (seat : Seat) (part : Part
   pub goes_by : ℕ → Bool
   pub comes : (id : ℕ) → goes_by id ≡ true → Comes shape actor id (targets id) seat part.steps
   pub call :
-      (maps : Maps) (t : ℕ → Option ℕ) → (is_message part.operation ≡ true → maps ≡ maps_taken part.steps) → ((id : ℕ) → goes_by id ≡ true → t id ≡ targets id)
-      → IsCall shape (record { maps = maps; targets = λ number. t }) (vcpu_of shape actor) part.operation (events_from shape actor seat part.steps) part.answer
+      (maps : Maps) (t : ℕ → Option ℕ) (commands : List (ℕ → Option ℕ)) → (is_message part.operation ≡ true → maps ≡ maps_taken part.steps) → ((id : ℕ) → goes_by id ≡ true → t id ≡ targets id)
+      → IsCall shape (record { maps = maps; targets = t; commands = commands }) (vcpu_of shape actor) part.operation (events_from shape actor seat part.steps) part.answer
   pub steady : IsTrue (list_all is_steady (lone_events (events_from shape actor seat part.steps)))
   pub once : is_message part.operation ≡ true → IsTrue (take_once (lone_events (events_from shape actor seat part.steps)))
 
@@ -99,9 +99,9 @@ going_of guest actor base seat part free told = of told.found.finding (told.foun
           let is = looked id goes in
           subst (Comes guest.shape actor id (targets id) seat) (sym is.split)
           (comes_by guest.shape actor id (targets id) is.look is.late is.early seat is.step_is is.target_is is.before is.after);
-      call = λ maps t message agree.
-          call_again guest.shape (maps_taken part.steps) maps (λ number. t) (vcpu_of guest.shape actor) part.operation (events_from guest.shape actor seat part.steps) part.answer free message
-          (call (record { maps = maps_taken part.steps; targets = λ number. t }) refl agree);
+      call = λ maps t commands message agree.
+          call_again guest.shape (maps_taken part.steps) maps t commands (vcpu_of guest.shape actor) part.operation (events_from guest.shape actor seat part.steps) part.answer free message
+          (call (record { maps = maps_taken part.steps; targets = t; commands = commands }) refl agree);
       steady = steady_so;
       once = once_so;
     }
@@ -146,7 +146,6 @@ pub record IsFree (guest : GuestSpec) (actor : ℕ) (ideal : Ideal) (now : Seat)
   pub going : IsGoing guest.shape actor seat part
   pub operation : call.operation ≡ part.operation
   pub piece : events_from guest.shape actor seat part.steps ≡ call.piece ++ events_from guest.shape actor now todo
-  pub done : call.done ≡ []
   pub maps : is_message part.operation ≡ true → IsTakingOnce part (tables_in todo) (lone_events (events_from guest.shape actor now todo)) call
   pub steady : IsTrue (list_all is_steady (lone_events (events_from guest.shape actor now todo)))
   pub windowed : IsWindowed ideal call
@@ -165,7 +164,6 @@ free_begins guest actor ideal now operation acts begins free =
       going = going;
       operation = sym begins.operation_is;
       piece = refl;
-      done = refl;
       maps = λ message. inl (record { all = refl; none = refl; once = going.once message });
       steady = going.steady;
       windowed = windowed_begun ideal operation;
@@ -183,7 +181,6 @@ free_seen guest actor before after now call acts is =
       going = is.going;
       operation = is.operation;
       piece = is.piece;
-      done = is.done;
       maps = λ message. maps_so (is.maps message);
       steady = is.steady;
       windowed = windowed_seen before after call is.windowed;
@@ -283,7 +280,6 @@ module _ (guest : GuestSpec) (actor : ℕ) (ideal : Ideal) (now : Seat) (call : 
       going = is.going;
       operation = is.operation;
       piece = piece_so ∙ ap (λ o. call.piece ++ (option_to_list o ++ later)) quiet;
-      done = is.done;
       maps = λ message. maps_none (maps_so message) turn;
       steady = subst (λ o. IsTrue (list_all is_steady (lone_events (option_to_list o ++ later)))) quiet steady_so;
       windowed = is.windowed;
@@ -348,11 +344,10 @@ module _ (guest : GuestSpec) (actor : ℕ) (ideal : Ideal) (now : Seat) (call : 
       todo = more;
       partly = goes.partly;
       going = is.going;
-      operation = (keeps_call ideal after one.event one.found call steady_both.0).operation ∙ is.operation;
+      operation = next_operation ideal after one.event one.found call ∙ is.operation;
       piece =
           piece_so ∙ ap (λ o. call.piece ++ (option_to_list o ++ later)) stands_is ∙ sym (append_assoc call.piece (one ∷ []) later)
           ∙ ap (λ p. (p ++ one ∷ []) ++ later) (sym (noted_piece ideal one.event call));
-      done = (keeps_call ideal after one.event one.found call steady_both.0).done ∙ is.done;
       maps = λ message. maps_one (maps_so message) turn;
       steady = steady_both.1;
       windowed = windowed_made ideal after one.event one.found call steady_both.0 is.windowed;
@@ -413,24 +408,21 @@ module _ (guest : GuestSpec) (actor : ℕ) (ideal : Ideal) (now : Seat) (call : 
   piece_is : events_from guest.shape actor is.seat is.part.steps ≡ call.piece
   piece_is = is.piece ∙ ap (λ todo. call.piece ++ events_from guest.shape actor now todo) over.todo_is ∙ append-nil call.piece
 
-  in_window : (number id : ℕ) → number ≤ length call.done → Contains (slice_index_or (call.done ++ call.targets ∷ []) number (λ id. []) id) (chosen id)
-  in_window number id few = subst (λ (done : List (ℕ → List (Option ℕ))). Contains (slice_index_or (done ++ call.targets ∷ []) number (λ id. []) id) (chosen id)) (sym is.done) (of number (omega (arith, few, ap length is.done)))
-    where
-      of : (n : ℕ) → n ≤ 0 → Contains (slice_index_or (call.targets ∷ []) n (λ id. []) id) (chosen id)
-      of zero l = chosen_there id
-      of (suc n) l = absurd (omega (arith, l))
+  abbrev beside : Beside
+  beside = record { maps = call.maps; targets = chosen; commands = call.commands }
 
   pub free_ends : FreeEnds guest actor now call answer acts
   free_ends = record {
     ended = record {
-      beside = record { maps = call.maps; targets = λ number. chosen };
+      beside = beside;
       maps = refl;
-      targets = in_window;
+      commands = refl;
+      targets = chosen_there;
       is_call =
-          subst (λ op. IsCall guest.shape (record { maps = call.maps; targets = λ number. chosen }) (vcpu_of guest.shape actor) op call.piece answer) (sym is.operation)
-          (subst (λ xs. IsCall guest.shape (record { maps = call.maps; targets = λ number. chosen }) (vcpu_of guest.shape actor) is.part.operation xs answer) piece_is
-          (subst (IsCall guest.shape (record { maps = call.maps; targets = λ number. chosen }) (vcpu_of guest.shape actor) is.part.operation (events_from guest.shape actor is.seat is.part.steps)) (sym over.answer_is)
-          (is.going.call call.maps chosen maps_are chosen_so)));
+          subst (λ op. IsCall guest.shape beside (vcpu_of guest.shape actor) op call.piece answer) (sym is.operation)
+          (subst (λ xs. IsCall guest.shape beside (vcpu_of guest.shape actor) is.part.operation xs answer) piece_is
+          (subst (IsCall guest.shape beside (vcpu_of guest.shape actor) is.part.operation (events_from guest.shape actor is.seat is.part.steps)) (sym over.answer_is)
+          (is.going.call call.maps chosen call.commands maps_are chosen_so)));
     };
     idle = over.idle;
   }

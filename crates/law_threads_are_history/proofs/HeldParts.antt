@@ -1,19 +1,19 @@
 -- A part that takes the ITS to change it, in its turn and after it.
-use Rattle.std.proofs.Common.{◌≡◌, ℕ, ◌⊎◌, inl, inr, not, Bool, true, false, cond, IsTrue, List, [], ◌∷◌, ◌++◌, Option, Some, None, refl, sym, ap, ◌∙◌, subst, arith}
+use Rattle.std.proofs.Common.{◌≡◌, ℕ, ◌⊎◌, inl, inr, not, Bool, true, false, cond, IsTrue, List, [], ◌∷◌, ◌++◌, Option, Some, None, refl, sym, ap, ◌∙◌, subst}
 use Rattle.std.specs.List.{list_all}
 use Rattle.std.specs.Option.{option_to_list}
 use Rattle.std.proofs.lemmas.Bool.{and_parts}
-use Rattle.std.proofs.lemmas.List.{append-nil, append_assoc, length-append}
+use Rattle.std.proofs.lemmas.List.{append-nil, append_assoc}
 use Rattle.law_ends_agree.specs.Words.{GuestShape}
-use Rattle.law_ends_agree.specs.Calls.{Event, ItsBegin, Happened, IsCall, is_beside, GuestSpec}
+use Rattle.law_ends_agree.specs.Calls.{Event, ItsBegin, Happened, Beside, IsCall, is_beside, GuestSpec}
 use Rattle.law_ends_agree.specs.GicCall.declared.event.Event.TheVariants.{ItsEnd}
 use Rattle.law_ends_agree.specs.Registers.{IsValid, has_target}
 use Rattle.law_ends_agree.proofs.IdealGuests.KeyLemmas.{IsWhole}
-use Rattle.law_ends_agree.specs.Histories.{Ideal, happened, Call, IsEnded, noted, targets_in, vcpu_of}
+use Rattle.law_ends_agree.specs.Histories.{Ideal, happened, Call, IsEnded, targets_in, vcpu_of}
 use Rattle.law_found_parts_are_calls.proofs.LawHistories.CourseLemmas.{noted_piece}
 use Rattle.law_found_parts_are_calls.proofs.LawHistories.TurnSteps.{tables_after, tables_are}
 use Rattle.law_runs_are_fresh.proofs.LawEagerIsHistory.CourseLemmas.{state_after}
-use Rattle.law_runs_are_fresh.proofs.LawEagerIsHistory.WindowLemmas.{Targets, beside_of, is_no_turn}
+use Rattle.law_runs_are_fresh.proofs.LawEagerIsHistory.WindowLemmas.{Targets, is_no_turn}
 use Rattle.law_runs_are_fresh.proofs.LawLoneCallsAreEager.RunLemmas.{events_of as lone_events}
 use Rattle.law_found_parts_are_calls.specs.LawUnmappedLpis.Mapped.{AreForNone}
 use Rattle.law_ends_agree.specs.Core.{Made, Seat, Act, ends, makes}
@@ -24,7 +24,7 @@ use Rattle.law_found_parts_are_calls.proofs.TurnRuns.{is_ending}
 use Rattle.law_found_parts_are_calls.proofs.WindowRuns.{begun_after, begun_past}
 use Rattle.law_threads_are_history.proofs.EventTargets.{SameTargets, is_no_mark, own_mark_kept, same_after}
 use Rattle.law_threads_are_history.proofs.FreeParts.{events_from, stands}
-use Rattle.law_threads_are_history.proofs.HeldWindows.{AreWindowsOf, in_window, windows_end, windows_mark, windows_on}
+use Rattle.law_threads_are_history.proofs.HeldWindows.{HasNoted, noted_end, noted_on, noted_turn}
 use Rattle.law_threads_are_history.proofs.ItsParts.{IsBefore, IsHolding, IsReleased, IsStepHere, IsTurnOn, same_head, same_tail}
 use Rattle.law_threads_are_history.proofs.MatchRuns.{IsMatch, Matches, held_after, is_end}
 use Rattle.law_threads_are_history.proofs.ToldParts.{IsIdle, Makes, next_seat, partly_ends, partly_makes}
@@ -161,7 +161,7 @@ module _ (guest : GuestSpec) (actor : ℕ) (ideal : Ideal) (now : Seat) (call : 
     maps = is.maps;
     early = is.early;
     firsts = firsts_so ∙ ap (λ o. is.early ++ begun_after actor (lone_events (option_to_list o ++ later)) is.ghost) e;
-    windows = is.windows;
+    noted = is.noted;
   }
 
   -- and one that stands for an event
@@ -192,33 +192,33 @@ module _ (guest : GuestSpec) (actor : ℕ) (ideal : Ideal) (now : Seat) (call : 
     tables_one : ghost_after.guest.tables ≡ after.guest.tables
     tables_one = tables_on (Some one)
 
-    -- the windows after it
-    record HasWindows : Type 0 where
+    -- what is noted after it
+    record HasMore : Type 0 where
       early : List Targets
       firsts : firsts_from guest.shape actor is.first is.start is.more ≡ early ++ begun_after actor (lone_events later) ghost_after
-      windows : AreWindowsOf call_after early
+      noted : HasNoted call_after early
 
-    has_windows : is_inner one.event ≡ true → HasWindows
-    has_windows inner = of (is_ending one.event) refl
+    has_more : is_inner one.event ≡ true → HasMore
+    has_more inner = of (is_ending one.event) refl
       where
-        of : (b : Bool) → is_ending one.event ≡ b → HasWindows
+        of : (b : Bool) → is_ending one.event ≡ b → HasMore
         of false end = record {
           early = is.early;
           firsts = firsts_one ∙ ap (λ b. is.early ++ cond b (targets_in ghost_after ∷ begun_after actor (lone_events later) ghost_after) (begun_after actor (lone_events later) ghost_after)) end;
-          windows = windows_on ideal after one.event one.found call is.early inner end is.windows;
+          noted = noted_on ideal after one.event one.found call is.early inner end is.noted;
         }
         of true end = record {
           early = is.early ++ targets_in ghost_after ∷ [];
           firsts =
               firsts_one ∙ ap (λ b. is.early ++ cond b (targets_in ghost_after ∷ begun_after actor (lone_events later) ghost_after) (begun_after actor (lone_events later) ghost_after)) end
               ∙ sym (append_assoc is.early (targets_in ghost_after ∷ []) (begun_after actor (lone_events later) ghost_after));
-          windows = windows_end ideal after one.event one.found call is.early (targets_in ghost_after) end same_one.targets is.windows;
+          noted = noted_end actor ideal one.event one.found call is.early (targets_in ghost_after) end same_one.targets is.noted;
         }
 
     -- in the turn
     holding_one : is_inner one.event ≡ true → not (is_end one.event) ≡ true → IsTurnOn who (lone_events later) → IsHolding guest actor after next call_after acts
     holding_one inner free turn =
-        let has = has_windows inner in
+        let has = has_more inner in
         record {
           seat = is.seat;
           part = is.part;
@@ -240,7 +240,7 @@ module _ (guest : GuestSpec) (actor : ℕ) (ideal : Ideal) (now : Seat) (call : 
           maps = next_maps ideal after one.event one.found call (inner_no_turn one.event inner) ∙ is.maps;
           early = has.early;
           firsts = has.firsts;
-          windows = has.windows;
+          noted = has.noted;
         }
 
     -- its end
@@ -266,9 +266,8 @@ module _ (guest : GuestSpec) (actor : ℕ) (ideal : Ideal) (now : Seat) (call : 
           (ap (λ event. begun_after actor (event ∷ lone_events later) is.ghost) ends ∙ begun_none actor (ItsEnd ∷ lone_events later) is.ghost (all_pass is_endless beside_endless who (lone_events later) over))
           ∙ append-nil is.early
 
-      windows_so : AreWindowsOf call_after is.early
-      windows_so =
-          windows_mark ideal after one.event one.found call is.early (ap (λ event. (noted ideal event call).place) ends) (ap (λ event. (noted ideal event call).done) ends) (ap (λ event. (noted ideal event call).targets) ends) is.windows
+      noted_so : HasNoted call_after is.early
+      noted_so = noted_turn ideal after one.event one.found call is.early ends is.noted
 
       released : IsReleased guest actor next call_after acts
       released = record {
@@ -279,10 +278,11 @@ module _ (guest : GuestSpec) (actor : ℕ) (ideal : Ideal) (now : Seat) (call : 
         operation = next_operation ideal after one.event one.found call ∙ is.operation;
         piece = piece_one;
         firsts = firsts_from guest.shape actor is.first is.start is.more;
-        is_call =
-            subst (λ m. IsCall guest.shape (beside_of m (firsts_from guest.shape actor is.first is.start is.more)) who is.part.operation (events_from guest.shape actor is.seat is.part.steps) is.part.answer) (sym maps_so) turned.call;
+        is_call = λ targets commands same.
+            subst (λ m. IsCall guest.shape (record { maps = m; targets = targets; commands = commands }) who is.part.operation (events_from guest.shape actor is.seat is.part.steps) is.part.answer) (sym maps_so)
+            (turned.call targets commands same);
         beside = over;
-        windows = subst (AreWindowsOf call_after) (sym firsts_end) windows_so;
+        noted = subst (HasNoted call_after) (sym firsts_end) noted_so;
       }
 
     steps_one : IsHolding guest actor after next call_after acts ⊎ ((AreForNone after.guest) × IsReleased guest actor next call_after acts)
@@ -336,7 +336,7 @@ released_makes guest actor ideal now call made acts is = of (stands guest.shape 
     of : (o : Option Happened) → events_from guest.shape actor is.seat is.part.steps ≡ call.piece ++ (option_to_list o ++ events_from guest.shape actor (next_seat guest.shape actor now made) goes.more)
         → IsTrue (list_all (is_beside (vcpu_of guest.shape actor)) (lone_events (option_to_list o ++ events_from guest.shape actor (next_seat guest.shape actor now made) goes.more)))
         → ReleasedSteps guest actor ideal (next_seat guest.shape actor now made) call acts o
-    of None piece beside = record { seat = is.seat; part = is.part; todo = goes.more; partly = goes.partly; operation = is.operation; piece = piece; firsts = is.firsts; is_call = is.is_call; beside = beside; windows = is.windows }
+    of None piece beside = record { seat = is.seat; part = is.part; todo = goes.more; partly = goes.partly; operation = is.operation; piece = piece; firsts = is.firsts; is_call = is.is_call; beside = beside; noted = is.noted }
     of (Some one) piece beside =
         let who = vcpu_of guest.shape actor in
         let more = events_from guest.shape actor (next_seat guest.shape actor now made) goes.more in
@@ -353,9 +353,11 @@ released_makes guest actor ideal now call made acts is = of (stands guest.shape 
             operation = next_operation ideal after one.event one.found call ∙ is.operation;
             piece = piece ∙ sym (append_assoc call.piece (one ∷ []) more) ∙ ap (λ p. (p ++ one ∷ []) ++ more) (sym (noted_piece ideal one.event call));
             firsts = is.firsts;
-            is_call = subst (λ m. IsCall guest.shape (beside_of m is.firsts) who is.part.operation (events_from guest.shape actor is.seat is.part.steps) is.part.answer) (sym maps) is.is_call;
+            is_call = λ targets commands same.
+                subst (λ m. IsCall guest.shape (record { maps = m; targets = targets; commands = commands }) who is.part.operation (events_from guest.shape actor is.seat is.part.steps) is.part.answer) (sym maps)
+                (is.is_call targets commands same);
             beside = parts.1;
-            windows = windows_on ideal after one.event one.found call is.firsts inner (not_ending (is_ending one.event) (beside_endless who one.event parts.0)) is.windows;
+            noted = noted_on ideal after one.event one.found call is.firsts inner (not_ending (is_ending one.event) (beside_endless who one.event parts.0)) is.noted;
           },
         )
 
@@ -384,17 +386,18 @@ pub record ReleasedEnds (guest : GuestSpec) (actor : ℕ) (now : Seat) (call : C
 pub released_ends : (guest : GuestSpec) (actor : ℕ) (now : Seat) (call : Call) (answer : Option ℕ) (acts : List Act) → IsReleased guest actor now call (ends answer ∷ acts) → ReleasedEnds guest actor now call answer acts
 released_ends guest actor now call answer acts is =
     let over = partly_ends guest actor now is.seat is.part answer acts is.todo is.partly in
-    let beside = beside_of call.maps is.firsts in
+    let beside : Beside = record { maps = call.maps; targets = λ id. (is.noted.some id).0; commands = call.commands } in
     let who = vcpu_of guest.shape actor in
     record {
       ended = record {
         beside = beside;
         maps = refl;
-        targets = λ number id few. in_window (call.done ++ call.targets ∷ []) is.firsts number id is.windows.are (omega (arith, few, length-append call.done (call.targets ∷ [])));
+        commands = refl;
+        targets = λ id. (is.noted.some id).1;
         is_call =
             subst (λ op. IsCall guest.shape beside who op call.piece answer) (sym is.operation)
             (subst (λ xs. IsCall guest.shape beside who is.part.operation xs answer) (is.piece ∙ ap (λ todo. call.piece ++ events_from guest.shape actor now todo) over.todo_is ∙ append-nil call.piece)
-            (subst (IsCall guest.shape beside who is.part.operation (events_from guest.shape actor is.seat is.part.steps)) (sym over.answer_is) is.is_call));
+            (subst (IsCall guest.shape beside who is.part.operation (events_from guest.shape actor is.seat is.part.steps)) (sym over.answer_is) (is.is_call (λ id. (is.noted.some id).0) call.commands is.noted.same)));
       };
       idle = over.idle;
     }

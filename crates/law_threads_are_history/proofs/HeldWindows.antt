@@ -1,119 +1,129 @@
--- The windows of a call that takes the ITS to change it: each has what the LPIs were for as its command began.
-use Rattle.std.proofs.Common.{◌≡◌, ℕ, ◌<◌, zero, suc, true, false, if◌then◌else◌, Contains, length, List, [], ◌∷◌, ◌++◌, Option, None, refl, sym, ap, ◌∙◌, subst, slice_index_or, arith}
-use Rattle.std.proofs.lemmas.List.Elements.{Contains-append_left, Contains-append_right}
-use Rattle.law_ends_agree.specs.Words.{Key}
-use Rattle.law_ends_agree.specs.Calls.{Event, Enable, ItsBegin, Touch, Found, Done, Runs, Stalls}
+-- The vCPUs that the LPIs are for as each command begins, as a call that takes the ITS to change it notes them.
+use Rattle.std.proofs.Common.{◌≡◌, ℕ, ◌+◌, zero, suc, Some, IfSome, true, false, if◌then◌else◌, Contains, List, [], ◌∷◌, ◌++◌, Option, None, refl, sym, ap, ◌∙◌, subst, slice_index_or, arith}
+use Rattle.std.proofs.lemmas.List.Elements.{Contains-append_right}
+use Rattle.law_ends_agree.specs.Words.{irq_of, target_in}
+use Rattle.law_ends_agree.specs.Core.{Made, known_maps, shape_of}
+use Rattle.law_ends_agree.specs.Calls.{Event, Enable, ItsBegin, Touch, Found, Done, Runs, Stalls, Beside, command_targets}
 use Rattle.law_ends_agree.specs.GicCall.declared.event.Event.TheVariants.{ItsEnd, Queue}
-use Rattle.law_ends_agree.specs.Histories.{Ideal, Call, come_to, is_ahead, is_passed, noted, seeing, targets_in}
-use Rattle.law_runs_are_fresh.proofs.LawEagerIsHistory.WindowLemmas.{Targets, Window, no_target}
+use Rattle.law_ends_agree.specs.Histories.{Ideal, happened, Call, come_to, is_passed, made, noted, seeing, targets_in}
+use Rattle.law_found_parts_are_calls.specs.PeMem.Found.{Agrees, Finding, by_commands, by_looks, is_by_commands}
+use Rattle.law_found_parts_are_calls.specs.ItsExec.Known.{AgreeWith, first_step}
+use Rattle.law_found_parts_are_calls.specs.ItsExec.Queue.{Taken}
+use Rattle.law_found_parts_are_calls.specs.ItsExec.Run.{AgreeAll}
+use Rattle.law_runs_are_fresh.proofs.LawEagerIsHistory.WindowLemmas.{Targets, no_target}
 use Rattle.law_found_parts_are_calls.proofs.TurnRuns.{is_ending}
 use Rattle.law_threads_are_history.proofs.TurnPieces.{is_inner}
 use Rattle.law_threads_are_history.proofs.WindowLemmas.{call_next}
 
--- Windows and what is in them.
+-- The same vCPUs, command by command.
 
-abbrev pub AreIn : List Window → List Targets → Type 0
-AreIn [] [] = Unit {0}
-AreIn [] (t ∷ firsts) = ⊥
-AreIn (w ∷ windows) [] = ⊥
-AreIn (w ∷ windows) (t ∷ firsts) = ((id : ℕ) → Contains (w id) (t id)) × AreIn windows firsts
+abbrev pub AreSame : List Targets → List Targets → Type 0
+AreSame [] [] = Unit {0}
+AreSame [] (t ∷ firsts) = ⊥
+AreSame (s ∷ others) [] = ⊥
+AreSame (s ∷ others) (t ∷ firsts) = ((id : ℕ) → s id ≡ t id) × AreSame others firsts
 
--- the last one gets more moments
-pub in_kept : (done : List Window) (window more : Window) (firsts : List Targets) → ((id : ℕ) (t : Option ℕ) → Contains (window id) t → Contains (more id) t) → AreIn (done ++ window ∷ []) firsts → AreIn (done ++ more ∷ []) firsts
-in_kept [] window more [] keep are = absurd are
-in_kept [] window more (t ∷ firsts) keep are = ((λ id. keep id (t id) (are.0 id)), none firsts are.1)
+pub same_self : (firsts : List Targets) → AreSame firsts firsts
+same_self [] = tt
+same_self (t ∷ firsts) = ((λ id. refl), same_self firsts)
+
+pub same_more : (firsts others : List Targets) (s t : Targets) → AreSame firsts others → ((id : ℕ) → s id ≡ t id) → AreSame (firsts ++ s ∷ []) (others ++ t ∷ [])
+same_more [] [] s t are now = (now, tt)
+same_more [] (o ∷ others) s t are now = absurd are
+same_more (f ∷ firsts) [] s t are now = absurd are
+same_more (f ∷ firsts) (o ∷ others) s t are now = (are.0, same_more firsts others s t are.1 now)
+
+-- that of a number
+same_at : (firsts others : List Targets) (number id : ℕ) → AreSame firsts others → slice_index_or firsts number no_target id ≡ slice_index_or others number no_target id
+same_at [] [] number id are = refl
+same_at [] (o ∷ others) number id are = absurd are
+same_at (f ∷ firsts) [] number id are = absurd are
+same_at (f ∷ firsts) (o ∷ others) zero id are = are.0 id
+same_at (f ∷ firsts) (o ∷ others) (suc number) id are = same_at firsts others number id are.1
+
+-- whoever agrees with these agrees with those
+agree_with : (one : Taken) (f g : Targets) → ((id : ℕ) → f id ≡ g id) → AgreeWith one.takes.last (known_maps one.from.own) f → AgreeWith one.takes.last (known_maps one.from.own) g
+agree_with one f g same is = record {
+  found = record { each = λ id there. of id (first_step one.takes.last id) (is.found.each id there) };
+  unmapped = λ id lost left. sym (same id) ∙ is.unmapped id lost left;
+}
   where
-    none : (firsts : List Targets) → AreIn [] firsts → AreIn [] firsts
-    none firsts h = h
-in_kept (d ∷ done) window more [] keep are = absurd are
-in_kept (d ∷ done) window more (t ∷ firsts) keep are = (are.0, in_kept done window more firsts keep are.1)
+    of : (id : ℕ) (o : Option Made) → IfSome o (λ (made : Made). f id ≡ target_in (irq_of made.found).route (shape_of one.takes.last)) → IfSome o (λ (made : Made). g id ≡ target_in (irq_of made.found).route (shape_of one.takes.last))
+    of id None h = tt
+    of id (Some made) h = sym (same id) ∙ h
 
--- another one begins
-pub in_more : (windows : List Window) (window : Window) (firsts : List Targets) (t : Targets) → AreIn windows firsts → ((id : ℕ) → Contains (window id) (t id)) → AreIn (windows ++ window ∷ []) (firsts ++ t ∷ [])
-in_more [] window [] t are there = (there, tt)
-in_more [] window (f ∷ firsts) t are there = absurd are
-in_more (w ∷ windows) window [] t are there = absurd are
-in_more (w ∷ windows) window (f ∷ firsts) t are there = (are.0, in_more windows window firsts t are.1 there)
+agree_same : (one other : Beside) (number : ℕ) (commands : List Taken) → ((number id : ℕ) → command_targets one number id ≡ command_targets other number id) → AgreeAll one number commands → AgreeAll other number commands
+agree_same one other number [] same are = tt
+agree_same one other number (taken ∷ commands) same are = (agree_with taken (command_targets one number) (command_targets other number) (same number) are.0, agree_same one other (number + 1) commands same are.1)
 
--- the window of a number
-pub in_window : (windows : List Window) (firsts : List Targets) (number id : ℕ) → AreIn windows firsts → number < length windows → Contains (slice_index_or windows number (λ id. []) id) (slice_index_or firsts number no_target id)
-in_window [] firsts number id are h = absurd (omega (arith, h))
-in_window (w ∷ windows) [] number id are h = absurd are
-in_window (w ∷ windows) (t ∷ firsts) zero id are h = are.0 id
-in_window (w ∷ windows) (t ∷ firsts) (suc number) id are h = in_window windows firsts number id are.1 (omega (arith, h))
+pub agrees_same : (finding : Finding) (one other : Beside) → AreSame one.commands other.commands → is_by_commands finding ≡ true → Agrees finding one → Agrees finding other
+agrees_same (by_looks goes_by targets) one other same kind agrees = absurd (cc)
+agrees_same (by_commands commands) one other same kind agrees = agree_same one other 0 commands (λ number id. same_at one.commands other.commands number id same) agrees
 
 -- A call that has not stored EnableLPIs.
 
-pub record AreWindowsOf (call : Call) (firsts : List Targets) : Type 0 where
+pub record HasNoted (call : Call) (firsts : List Targets) : Type 0 where
   pub place : call.place ≡ None
-  pub are : AreIn (call.done ++ call.targets ∷ []) firsts
+  pub some : (id : ℕ) → (t : Option ℕ) × Contains (call.targets id) t
+  pub same : AreSame firsts call.commands
 
--- another actor makes an event
-seen_more : (place : Option ℕ) (id : ℕ) (window : List (Option ℕ)) (x t : Option ℕ) → place ≡ None → Contains window t → Contains (if is_passed place id then window else window ++ x ∷ []) t
-seen_more place id window x t none h = subst (λ p. Contains (if is_passed p id then window else window ++ x ∷ []) t) (sym none) (Contains-append_left window (x ∷ []) t h)
-
+-- it sees what the LPIs are for at each event
 seen_now : (place : Option ℕ) (id : ℕ) (window : List (Option ℕ)) (x : Option ℕ) → place ≡ None → Contains (if is_passed place id then window else window ++ x ∷ []) x
 seen_now place id window x none = subst (λ p. Contains (if is_passed p id then window else window ++ x ∷ []) x) (sym none) (Contains-append_right window (x ∷ []) x (0, omega arith, refl))
 
-pub windows_seen : (after : Ideal) (call : Call) (firsts : List Targets) → AreWindowsOf call firsts → AreWindowsOf (seeing after call) firsts
-windows_seen after call firsts is = record {
-  place = is.place;
-  are = in_kept call.done call.targets (seeing after call).targets firsts (λ id t h. seen_more call.place id (call.targets id) (targets_in after id) t is.place h) is.are;
-}
+pub sees_some : (after : Ideal) (call : Call) (id : ℕ) → call.place ≡ None → (t : Option ℕ) × Contains ((seeing after call).targets id) t
+sees_some after call id none = (targets_in after id, seen_now call.place id (call.targets id) (targets_in after id) none)
 
--- an event of its own that ends no command
+-- another actor makes an event
+pub noted_seen : (after : Ideal) (call : Call) (firsts : List Targets) → HasNoted call firsts → HasNoted (seeing after call) firsts
+noted_seen after call firsts is = record { place = is.place; some = λ id. sees_some after call id is.place; same = is.same }
+
+-- an event of its own that begins no command
 record Notes (ideal : Ideal) (event : Event) (call : Call) : Type 0 where
   place : (noted ideal event call).place ≡ None
-  done : (noted ideal event call).done ≡ call.done
-  targets : (id : ℕ) (t : Option ℕ) → Contains (call.targets id) t → Contains ((noted ideal event call).targets id) t
-
-not_ahead : (place : Option ℕ) (key : Key) (id : ℕ) (window : List (Option ℕ)) (t : Option ℕ) → place ≡ None → Contains window t → Contains (if is_ahead place key id then [] else window) t
-not_ahead place key id window t none h = subst (λ p. Contains (if is_ahead p key id then [] else window) t) (sym none) h
+  commands : (noted ideal event call).commands ≡ call.commands
 
 notes : (ideal : Ideal) (event : Event) (call : Call) → is_inner event ≡ true → is_ending event ≡ false → call.place ≡ None → Notes ideal event call
 notes ideal ItsBegin call h e none = absurd (cc)
 notes ideal ItsEnd call h e none = absurd (cc)
 notes ideal (Enable vcpu) call h e none = absurd (cc)
-notes ideal (Touch key touching) call h e none = record { place = ap (λ p. come_to p key) none; done = refl; targets = λ id t there. not_ahead call.place key id (call.targets id) t none there }
-notes ideal (Queue offset Runs) call h e none = record { place = none; done = refl; targets = λ id t there. there }
+notes ideal (Touch key touching) call h e none = record { place = ap (λ p. come_to p key) none; commands = refl }
+notes ideal (Queue offset Runs) call h e none = record { place = none; commands = refl }
 notes ideal (Queue offset (Done words)) call h e none = absurd (cc)
 notes ideal (Queue offset (Stalls fault)) call h e none = absurd (cc)
-notes ideal event call h e none = record { place = none; done = refl; targets = λ id t there. there }
+notes ideal event call h e none = record { place = none; commands = refl }
 
-pub windows_on : (before after : Ideal) (event : Event) (found : Found) (call : Call) (firsts : List Targets) → is_inner event ≡ true → is_ending event ≡ false → AreWindowsOf call firsts → AreWindowsOf (call_next before after event found call) firsts
-windows_on before after event found call firsts h e is =
-    let note = notes before event call h e is.place in
-    record {
-      place = note.place;
-      are = subst (λ (done : List Window). AreIn (done ++ (call_next before after event found call).targets ∷ []) firsts) (sym note.done)
-          (in_kept call.done call.targets (call_next before after event found call).targets firsts
-          (λ id t there. seen_more (noted before event call).place id ((noted before event call).targets id) (targets_in after id) t note.place (note.targets id t there)) is.are);
-    }
+after_notes : (before after : Ideal) (event : Event) (found : Found) (call : Call) (firsts : List Targets) → Notes before event call → HasNoted call firsts → HasNoted (call_next before after event found call) firsts
+after_notes before after event found call firsts note is =
+    record { place = note.place; some = λ id. sees_some after (made before event found call) id note.place; same = subst (AreSame firsts) (sym note.commands) is.same }
 
--- the turn's begin and end
-pub windows_mark : (before after : Ideal) (event : Event) (found : Found) (call : Call) (firsts : List Targets) → (noted before event call).place ≡ call.place → (noted before event call).done ≡ call.done → (noted before event call).targets ≡ call.targets → AreWindowsOf call firsts
-    → AreWindowsOf (call_next before after event found call) firsts
-windows_mark before after event found call firsts place done targets is = record {
-  place = place ∙ is.place;
-  are = subst (λ (d : List Window). AreIn (d ++ (call_next before after event found call).targets ∷ []) firsts) (sym done)
-      (in_kept call.done call.targets (call_next before after event found call).targets firsts
-      (λ id t there.
-      seen_more (noted before event call).place id ((noted before event call).targets id) (targets_in after id) t (place ∙ is.place) (subst (λ (w : Window). Contains (w id) t) (sym targets) there)) is.are);
-}
+pub noted_on : (before after : Ideal) (event : Event) (found : Found) (call : Call) (firsts : List Targets) → is_inner event ≡ true → is_ending event ≡ false → HasNoted call firsts → HasNoted (call_next before after event found call) firsts
+noted_on before after event found call firsts h e is = after_notes before after event found call firsts (notes before event call h e is.place) is
+
+-- the end of the turn
+pub noted_turn : (before after : Ideal) (event : Event) (found : Found) (call : Call) (firsts : List Targets) → event ≡ ItsEnd → HasNoted call firsts → HasNoted (call_next before after event found call) firsts
+noted_turn before after event found call firsts ends is =
+    after_notes before after event found call firsts (record { place = ap (λ event. (noted before event call).place) ends ∙ is.place; commands = ap (λ event. (noted before event call).commands) ends }) is
 
 -- one that ends a command
-closing : (before after : Ideal) (event : Event) (found : Found) (call : Call) → is_ending event ≡ true → call.place ≡ None → ((noted before event call).place ≡ None) × ((noted before event call).done ≡ call.done ++ call.targets ∷ [])
-closing before after (Queue offset Runs) found call e none = absurd (cc)
-closing before after (Queue offset (Done words)) found call e none = (none, refl)
-closing before after (Queue offset (Stalls fault)) found call e none = (none, refl)
-closing before after event found call e none = absurd (cc)
+closing : (before : Ideal) (event : Event) (call : Call) → is_ending event ≡ true → call.place ≡ None → ((noted before event call).place ≡ None) × ((noted before event call).commands ≡ call.commands ++ targets_in before ∷ [])
+closing before (Queue offset Runs) call e none = absurd (cc)
+closing before (Queue offset (Done words)) call e none = (none, refl)
+closing before (Queue offset (Stalls fault)) call e none = (none, refl)
+closing before event call e none = absurd (cc)
 
-pub windows_end : (before after : Ideal) (event : Event) (found : Found) (call : Call) (firsts : List Targets) (t : Targets) → is_ending event ≡ true → ((id : ℕ) → t id ≡ targets_in after id) → AreWindowsOf call firsts → AreWindowsOf (call_next before after event found call) (firsts ++ t ∷ [])
-windows_end before after event found call firsts t e now is =
-    let closes = closing before after event found call e is.place in
+ending_targets : (actor : ℕ) (before : Ideal) (event : Event) (id : ℕ) → is_ending event ≡ true → targets_in (happened actor event before) id ≡ targets_in before id
+ending_targets actor before (Queue offset Runs) id e = absurd (cc)
+ending_targets actor before (Queue offset (Done words)) id e = refl
+ending_targets actor before (Queue offset (Stalls fault)) id e = refl
+ending_targets actor before event id e = absurd (cc)
+
+pub noted_end : (actor : ℕ) (before : Ideal) (event : Event) (found : Found) (call : Call) (firsts : List Targets) (t : Targets) → is_ending event ≡ true → ((id : ℕ) → t id ≡ targets_in (happened actor event before) id) → HasNoted call firsts
+    → HasNoted (call_next before (happened actor event before) event found call) (firsts ++ t ∷ [])
+noted_end actor before event found call firsts t e now is =
+    let closes = closing before event call e is.place in
     record {
       place = closes.0;
-      are = subst (λ (done : List Window). AreIn (done ++ (call_next before after event found call).targets ∷ []) (firsts ++ t ∷ [])) (sym closes.1)
-          (in_more (call.done ++ call.targets ∷ []) (call_next before after event found call).targets firsts t is.are
-          (λ id. subst (Contains ((call_next before after event found call).targets id)) (sym (now id)) (seen_now (noted before event call).place id ((noted before event call).targets id) (targets_in after id) closes.0)));
+      some = λ id. sees_some (happened actor event before) (made before event found call) id closes.0;
+      same = subst (AreSame (firsts ++ t ∷ [])) (sym closes.1) (same_more firsts call.commands t (targets_in before) is.same (λ id. now id ∙ ending_targets actor before event id e));
     }

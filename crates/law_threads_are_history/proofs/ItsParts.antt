@@ -10,11 +10,11 @@ use Rattle.law_ends_agree.specs.GicCall.declared.event.Event.TheVariants.{ItsEnd
 use Rattle.law_ends_agree.specs.GicCall.declared.event.Found.TheVariants.{Nothing}
 use Rattle.law_ends_agree.specs.Registers.{IsValid}
 use Rattle.law_ends_agree.proofs.IdealGuests.KeyLemmas.{IsWhole}
-use Rattle.law_ends_agree.specs.Histories.{Ideal, happened, Call, begun, is_passed, noted, seeing, targets_in, vcpu_of}
+use Rattle.law_ends_agree.specs.Histories.{Ideal, happened, Call, begun, made as call_made, noted, seeing, targets_in, vcpu_of}
 use Rattle.law_found_parts_are_calls.proofs.LawHistories.CourseLemmas.{noted_piece}
 use Rattle.law_found_parts_are_calls.proofs.LawHistories.TurnSteps.{tables_are}
 use Rattle.law_runs_are_fresh.proofs.LawEagerIsHistory.CourseLemmas.{state_after}
-use Rattle.law_runs_are_fresh.proofs.LawEagerIsHistory.WindowLemmas.{Targets, beside_of, is_no_turn}
+use Rattle.law_runs_are_fresh.proofs.LawEagerIsHistory.WindowLemmas.{Targets, is_no_turn}
 use Rattle.law_runs_are_fresh.proofs.LawLoneCallsAreEager.MapsLemmas.{tables_kept}
 use Rattle.law_runs_are_fresh.proofs.LawLoneCallsAreEager.RunLemmas.{events_of as lone_events}
 use Rattle.law_found_parts_are_calls.specs.LawUnmappedLpis.Mapped.{AreForNone}
@@ -26,13 +26,13 @@ use Rattle.law_found_parts_are_calls.proofs.WindowRuns.{begun_after}
 use Rattle.pe_place.specs.Parts.{IsCallFound, Part}
 use Rattle.law_threads_are_history.proofs.EventTargets.{SameTargets, same_beside}
 use Rattle.law_threads_are_history.proofs.FreeParts.{events_from, stands, tables_in}
-use Rattle.law_threads_are_history.proofs.HeldWindows.{AreIn, AreWindowsOf, windows_seen}
+use Rattle.law_threads_are_history.proofs.HeldWindows.{HasNoted, AreSame, noted_seen, sees_some}
 use Rattle.law_threads_are_history.proofs.MatchRuns.{Matches, closes, is_end, seat_on}
 use Rattle.law_threads_are_history.proofs.ToldParts.{Begins, IsPartly, Makes, next_seat, partly_makes, told_by}
 use Rattle.law_threads_are_history.proofs.TurnLaws.{IsTurned, firsts_from, its_turn}
 use Rattle.law_threads_are_history.proofs.TurnPieces.{is_inner}
 use Rattle.law_threads_are_history.proofs.TurnSteps.{TakesNone, TakesTurn, no_turn}
-use Rattle.law_threads_are_history.proofs.WindowLemmas.{IsWindowed, call_next, keeps_call, windowed_begun, windowed_made, windowed_seen}
+use Rattle.law_threads_are_history.proofs.WindowLemmas.{IsWindowed, call_next, next_operation, windowed_begun, windowed_made, windowed_seen}
 
 -- what is so of a step of an actor in a state: the LPIs are for the vCPUs that it finds, and it moves none but by a step on its word; who has the ITS knows its maps
 pub record IsStepHere (shape : GuestShape) (actor : ℕ) (now : Seat) (ideal : Ideal) (made : Made) : Type 0 where
@@ -71,7 +71,7 @@ pub record IsBefore (guest : GuestSpec) (actor : ℕ) (ideal : Ideal) (now : Sea
   pub now_is : now ≡ seat_on guest.shape actor seat past
   pub beside : IsTrue (list_all (is_beside (vcpu_of guest.shape actor)) (lone_events (events_from guest.shape actor seat past)))
   pub ahead : IsTurnAhead (vcpu_of guest.shape actor) (lone_events (events_from guest.shape actor now todo))
-  pub done : call.done ≡ []
+  pub commands : call.commands ≡ []
   pub place : call.place ≡ None
   pub untaken : tables_in part.steps ≡ tables_in todo
   pub windowed : IsWindowed ideal call
@@ -95,7 +95,7 @@ its_begins guest actor ideal now operation acts begins takes =
       now_is = refl;
       beside = refl;
       ahead = record { early = turn.early; inner = turn.inner; late = turn.late; split = turn.split; before = turn.before; within = turn.within; after = turn.after };
-      done = refl;
+      commands = refl;
       place = refl;
       untaken = refl;
       windowed = windowed_begun ideal operation;
@@ -117,7 +117,7 @@ before_seen guest actor before after now call acts is = record {
   now_is = is.now_is;
   beside = is.beside;
   ahead = is.ahead;
-  done = is.done;
+  commands = is.commands;
   place = is.place;
   untaken = is.untaken;
   windowed = windowed_seen before after call is.windowed;
@@ -155,7 +155,7 @@ pub record IsHolding (guest : GuestSpec) (actor : ℕ) (ideal : Ideal) (now : Se
   pub maps : call.maps ≡ start.guest.tables
   pub early : List Targets
   pub firsts : firsts_from guest.shape actor first start more ≡ early ++ begun_after actor (lone_events (events_from guest.shape actor now todo)) ghost
-  pub windows : AreWindowsOf call early
+  pub noted : HasNoted call early
 
 -- another actor makes an event that moves no LPI, and leaves it the turn
 pub holding_seen :
@@ -182,7 +182,7 @@ holding_seen guest actor other before event now call acts steady holds is = reco
   maps = is.maps;
   early = is.early;
   firsts = is.firsts;
-  windows = windows_seen (happened other event before) call is.early is.windows;
+  noted = noted_seen (happened other event before) call is.early is.noted;
 }
 
 -- After its turn.
@@ -195,9 +195,11 @@ pub record IsReleased (guest : GuestSpec) (actor : ℕ) (now : Seat) (call : Cal
   pub operation : call.operation ≡ part.operation
   pub piece : events_from guest.shape actor seat part.steps ≡ call.piece ++ events_from guest.shape actor now todo
   pub firsts : List Targets
-  pub is_call : IsCall guest.shape (beside_of call.maps firsts) (vcpu_of guest.shape actor) part.operation (events_from guest.shape actor seat part.steps) part.answer
+  pub is_call :
+      (targets : Targets) (commands : List Targets) → AreSame firsts commands
+      → IsCall guest.shape (record { maps = call.maps; targets = targets; commands = commands }) (vcpu_of guest.shape actor) part.operation (events_from guest.shape actor seat part.steps) part.answer
   pub beside : IsTrue (list_all (is_beside (vcpu_of guest.shape actor)) (lone_events (events_from guest.shape actor now todo)))
-  pub windows : AreWindowsOf call firsts
+  pub noted : HasNoted call firsts
 
 pub released_seen : (guest : GuestSpec) (actor : ℕ) (after : Ideal) (now : Seat) (call : Call) (acts : List Act) → IsReleased guest actor now call acts → IsReleased guest actor now (seeing after call) acts
 released_seen guest actor after now call acts is = record {
@@ -210,7 +212,7 @@ released_seen guest actor after now call acts is = record {
   firsts = is.firsts;
   is_call = is.is_call;
   beside = is.beside;
-  windows = windows_seen after call is.firsts is.windows;
+  noted = noted_seen after call is.firsts is.noted;
 }
 
 -- Steps.
@@ -247,6 +249,13 @@ beside_last shape actor who made (first ∷ steps) seat h k = of (stands shape a
         and_from (is_beside who one.event) (list_all (is_beside who) (lone_events (events_from shape actor (next_seat shape actor seat first) (steps ++ made ∷ [])))) parts.0 (later parts.1)
 
 -- what is beside stores no EnableLPIs
+beside_commands : (who : Option ℕ) (ideal : Ideal) (event : Event) (call : Call) → is_beside who event ≡ true → (noted ideal event call).commands ≡ call.commands
+beside_commands who ideal (Enable vcpu) call h = refl
+beside_commands who ideal (Touch key touching) call h = refl
+beside_commands who ideal ItsBegin call h = absurd (cc)
+beside_commands who ideal (Queue offset change) call h = absurd (cc)
+beside_commands who ideal event call h = refl
+
 beside_place : (who : Option ℕ) (ideal : Ideal) (event : Event) (call : Call) → is_beside who event ≡ true → call.place ≡ None → (noted ideal event call).place ≡ None
 beside_place who ideal (Enable vcpu) call h none = absurd (cc)
 beside_place who ideal (Touch key touching) call h none = absurd (cc)
@@ -326,7 +335,7 @@ module _ (guest : GuestSpec) (actor : ℕ) (ideal : Ideal) (now : Seat) (call : 
     now_is = now_more;
     beside = past_more (subst (λ o. IsTrue (list_all (is_beside who) (lone_events (option_to_list o)))) (sym quiet) refl);
     ahead = subst (λ o. IsTurnAhead who (lone_events (option_to_list o ++ later))) quiet ahead_so;
-    done = is.done;
+    commands = is.commands;
     place = is.place;
     untaken = untaken_so ∙ ap (λ t. cons_option t (tables_in more)) idle.none;
     windowed = is.windowed;
@@ -359,8 +368,7 @@ module _ (guest : GuestSpec) (actor : ℕ) (ideal : Ideal) (now : Seat) (call : 
       let quiet : is_no_turn one.event ≡ true = subst (λ o. IsTrue (no_turn o)) e idle.event in
       let ahead = ahead_one one e quiet in
       let after = happened actor one.event ideal in
-      let steady = beside_steady who one.event ahead.beside in
-      let keeps = keeps_call ideal after one.event one.found call steady in (
+      let steady = beside_steady who one.event ahead.beside in (
         steady,
         record {
           base = is.base;
@@ -370,7 +378,7 @@ module _ (guest : GuestSpec) (actor : ℕ) (ideal : Ideal) (now : Seat) (call : 
           partly = goes.partly;
           told = is.told;
           takes = is.takes;
-          operation = keeps.operation ∙ is.operation;
+          operation = next_operation ideal after one.event one.found call ∙ is.operation;
           piece =
               piece_so ∙ ap (λ o. call.piece ++ (option_to_list o ++ later)) e ∙ sym (append_assoc call.piece (one ∷ []) later)
               ∙ ap (λ p. (p ++ one ∷ []) ++ later) (sym (noted_piece ideal one.event call));
@@ -379,7 +387,7 @@ module _ (guest : GuestSpec) (actor : ℕ) (ideal : Ideal) (now : Seat) (call : 
           now_is = now_more;
           beside = past_more (subst (λ o. IsTrue (list_all (is_beside who) (lone_events (option_to_list o)))) (sym e) (and_from (is_beside who one.event) true ahead.beside refl));
           ahead = ahead.ahead;
-          done = keeps.done ∙ is.done;
+          commands = beside_commands who ideal one.event call ahead.beside ∙ is.commands;
           place = beside_place who ideal one.event call ahead.beside is.place;
           untaken = untaken_so ∙ ap (λ t. cons_option t (tables_in more)) idle.none;
           windowed = windowed_made ideal after one.event one.found call steady is.windowed;
@@ -449,10 +457,10 @@ module _ (guest : GuestSpec) (actor : ℕ) (ideal : Ideal) (now : Seat) (call : 
       maps = refl;
       early = targets_in start ∷ [];
       firsts = refl;
-      windows = record {
+      noted = record {
         place = is.place;
-        are = subst (λ (done : List (ℕ → List (Option ℕ))). AreIn (done ++ (call_next ideal start ItsBegin Nothing call).targets ∷ []) (targets_in start ∷ [])) (sym is.done)
-            ((λ id. (windowed_made ideal start ItsBegin Nothing call refl is.windowed).now id (ap (λ p. is_passed p id) is.place)), tt);
+        some = λ id. sees_some start (call_made ideal ItsBegin Nothing call) id is.place;
+        same = subst (λ (before : List Targets). AreSame (targets_in start ∷ []) (before ++ targets_in ideal ∷ [])) (sym is.commands) ((λ id. refl), tt);
       };
     }
 

@@ -6,7 +6,7 @@ use Rattle.std.proofs.lemmas.Bool.{and_from, and_parts}
 use Rattle.std.proofs.lemmas.List.{append-nil, append_assoc, length-append}
 use Rattle.std.proofs.Math.Seq.{get_or-append_seam}
 use Rattle.law_ends_agree.specs.Words.{Lpi, GuestShape, has_interrupt, target_in, irq_of}
-use Rattle.law_ends_agree.specs.Calls.{Event, Happened, is_beside}
+use Rattle.law_ends_agree.specs.Calls.{Event, Happened, is_beside, command_targets}
 use Rattle.law_ends_agree.specs.GicCall.declared.event.Event.TheVariants.{ItsEnd}
 use Rattle.law_ends_agree.specs.Registers.{IsValid, has_target, Maps}
 use Rattle.law_ends_agree.proofs.IdealGuests.KeyLemmas.{IsWhole}
@@ -302,7 +302,7 @@ module _ (who : Option ℕ) (maps : Maps) (firsts : List Targets) (one : Taken) 
       subst (λ (s : Seen). AgreeWith s (known_maps from.own) t) (sym mine.adds.new_is)
       (record { found = found_first; unmapped = λ id lost left. come.now id ∙ come.none id (ap (λ m. has_target m id) tables ∙ lost) })
 
-  pub agrees_now : AgreeWith one.takes.last (known_maps one.from.own) ((beside_of maps firsts).targets number)
+  pub agrees_now : AgreeWith one.takes.last (known_maps one.from.own) (command_targets (beside_of maps firsts) number)
   agrees_now =
       let rest = begun_after actor (lone_events (events_from shape actor seat (one.takes.steps ++ next))) ghost in
       subst (AgreeWith one.takes.last (known_maps from.own))

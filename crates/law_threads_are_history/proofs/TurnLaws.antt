@@ -1,5 +1,5 @@
 -- A part that takes the ITS to change it is its call by what its actor found from there on, and leaves each LPI that the maps give no vCPU for none.
-use Rattle.std.proofs.Common.{◌≡◌, ℕ, ◌⊎◌, inl, inr, not, true, IsTrue, List, [], ◌∷◌, ◌++◌, Option, Some, None, is_none, refl, sym, ap, ◌∙◌, subst}
+use Rattle.std.proofs.Common.{◌≡◌, ℕ, ◌⊎◌, inl, inr, not, true, IsTrue, List, [], ◌∷◌, ◌++◌, Option, Some, None, is_none, slice_index_or, refl, sym, ap, ◌∙◌, subst}
 use Rattle.std.specs.List.{list_all}
 use Rattle.std.specs.Option.{option_to_list}
 use Rattle.std.proofs.lemmas.Bool.{and_from, and_parts}
@@ -13,7 +13,7 @@ use Rattle.law_ends_agree.specs.Registers.{IsValid, Maps}
 use Rattle.law_ends_agree.proofs.IdealGuests.KeyLemmas.{IsWhole}
 use Rattle.law_ends_agree.specs.Histories.{Ideal, targets_in, vcpu_of}
 use Rattle.law_runs_are_fresh.proofs.LawEagerIsHistory.CourseLemmas.{state_after}
-use Rattle.law_runs_are_fresh.proofs.LawEagerIsHistory.WindowLemmas.{Targets, beside_of}
+use Rattle.law_runs_are_fresh.proofs.LawEagerIsHistory.WindowLemmas.{Targets, beside_of, no_target}
 use Rattle.law_runs_are_fresh.proofs.LawLoneCallsAreEager.CommandLemmas.{events_both}
 use Rattle.law_runs_are_fresh.proofs.LawLoneCallsAreEager.RunLemmas.{events_of as lone_events}
 use Rattle.law_found_parts_are_calls.specs.LawUnmappedLpis.Mapped.{AreForNone}
@@ -30,6 +30,7 @@ use Rattle.law_found_parts_are_calls.proofs.TurnRuns.{is_ending, stands_for_end}
 use Rattle.law_found_parts_are_calls.proofs.WindowRuns.{begun_after, begun_past}
 use Rattle.pe_place.specs.Parts.{IsCallFound, Part}
 use Rattle.law_threads_are_history.proofs.FreeParts.{events_from, stands}
+use Rattle.law_threads_are_history.proofs.HeldWindows.{AreSame, agrees_same, same_self}
 use Rattle.law_threads_are_history.proofs.MatchRuns.{IsCome, Matches, agree_all, beside_ends_none, closes, closes_split, events_split, ghost_is, ghost_on, held_on, matches_split, seat_is, seat_of, seat_on, valid_along}
 use Rattle.law_threads_are_history.proofs.ToldParts.{next_seat, told_by}
 use Rattle.law_threads_are_history.proofs.TurnPieces.{IsTurnPiece, none_steady, turn_none, turn_piece}
@@ -155,7 +156,9 @@ firsts_from shape actor now start more = targets_in start ∷ begun_after actor 
 
 -- what follows
 pub record IsTurnedCall (guest : GuestSpec) (actor : ℕ) (seat : Seat) (part : Part) (now : Seat) (start : Ideal) (more : List Made) : Type 0 where
-  pub call : IsCall guest.shape (beside_of start.guest.tables (firsts_from guest.shape actor now start more)) (vcpu_of guest.shape actor) part.operation (events_from guest.shape actor seat part.steps) part.answer
+  pub call :
+      (targets : Targets) (commands : List Targets) → AreSame (firsts_from guest.shape actor now start more) commands
+      → IsCall guest.shape (record { maps = start.guest.tables; targets = targets; commands = commands }) (vcpu_of guest.shape actor) part.operation (events_from guest.shape actor seat part.steps) part.answer
   pub none : AreForNone (state_after actor (lone_events (events_from guest.shape actor now more)) start).guest
 
 module _ (guest : GuestSpec) (actor : ℕ) (seat : Seat) (part : Part) (now : Seat) (start : Ideal) (more : List Made) (is : IsTurned guest actor seat part now start more) (matches : Matches guest.shape actor true now start more) where
@@ -314,13 +317,19 @@ module _ (guest : GuestSpec) (actor : ℕ) (seat : Seat) (part : Part) (now : Se
   agrees (by_commands []) kind found = tt
   agrees (by_commands (one ∷ commands)) kind found = agree_among one commands found
 
-  call_is : IsCall guest.shape (beside_of maps firsts) who part.operation (events_from guest.shape actor seat part.steps) part.answer
-  call_is =
+  call_with : (targets : Targets) (commands : List Targets) → AreSame firsts commands
+      → IsCall guest.shape (record { maps = maps; targets = targets; commands = commands }) who part.operation (events_from guest.shape actor seat part.steps) part.answer
+  call_with targets commands same =
       let found = is.told.found in
-      found.call (beside_of maps firsts) (sym is.maps_is) (agrees found.finding (found.kind ∙ is.takes) found.is_finding)
+      let kind = found.kind ∙ is.takes in
+      let other : Beside = record { maps = maps; targets = targets; commands = commands } in
+      found.call other (sym is.maps_is) (agrees_same found.finding (beside_of maps firsts) other same kind (agrees found.finding kind found.is_finding))
+
+  call_is : IsCall guest.shape (beside_of maps firsts) who part.operation (events_from guest.shape actor seat part.steps) part.answer
+  call_is = call_with (slice_index_or firsts 0 no_target) firsts (same_self firsts)
 
   pub turned_call : IsTurnedCall guest actor seat part now start more
-  turned_call = record { call = call_is; none = none_is }
+  turned_call = record { call = call_with; none = none_is }
     where
       its : IsItsCallOf guest.shape (beside_of start.guest.tables (firsts_from guest.shape actor now start more)) (vcpu_of guest.shape actor) (events_from guest.shape actor seat part.steps) part.answer
       its = its_call shape (beside_of maps firsts) who part.operation (events_from shape actor seat part.steps) part.answer is.takes call_is

@@ -6,12 +6,13 @@ use Rattle.std.proofs.lemmas.List.{append_assoc, length-append}
 use Rattle.std.proofs.Math.Seq.{get_or-append_seam}
 use Rattle.law_ends_agree.specs.Words.{GuestShape}
 use Rattle.law_ends_agree.specs.GicImap.Map.{decoded as its_decoded}
-use Rattle.law_ends_agree.specs.Calls.{Part, Clear, Map, Event, Enable, ItsBegin, Put, Done, Runs, Stalls, its_events, its_starts, command_parts, lpi_event, queue_event, AreCommands, AreStarted, ArePartsThen, Beside, Happened, IsCommand, IsItsCall, Makes, is_beside, its_written_by, left_by, named_of, View}
+use Rattle.law_ends_agree.specs.Calls.{Part, Clear, Map, Event, Enable, ItsBegin, Put, Done, Runs, Stalls, its_events, its_starts, command_parts, lpi_event, queue_event, AreCommands, AreStarted, ArePartsThen, Beside, Happened, IsCommand, IsItsCall, Makes, is_beside, its_written_by, left_by, named_of, View, words_read}
 use Rattle.law_ends_agree.specs.GicCall.declared.command.Part.TheVariants.{Configure, Forget, Raise, Retarget}
 use Rattle.law_ends_agree.specs.GicCall.declared.event.Event.TheVariants.{ItsEnd, Queue}
 use Rattle.law_ends_agree.specs.Registers.{IsValid, has_target, Maps}
 use Rattle.law_ends_agree.proofs.IdealGuests.KeyLemmas.{IsWhole}
 use Rattle.law_ends_agree.specs.Histories.{Ideal, happened, targets_in}
+use Rattle.law_found_parts_are_calls.proofs.GicCall.TraceLemmas.{its_made}
 use Rattle.law_found_parts_are_calls.proofs.LawHistories.TurnSteps.{tables_after, tables_are}
 use Rattle.law_runs_are_fresh.proofs.LawEagerIsHistory.CourseLemmas.{state_after, state_append}
 use Rattle.law_runs_are_fresh.proofs.LawEagerIsHistory.WindowLemmas.{Targets, beside_of, no_target}
@@ -23,9 +24,8 @@ use Rattle.law_runs_are_fresh.proofs.LawLoneCallsAreEager.ReadLemmas.{beside_pas
 use Rattle.law_runs_are_fresh.proofs.LawLoneCallsAreEager.RunLemmas.{events_of}
 use Rattle.law_runs_are_fresh.proofs.LawLoneCallsAreEager.TurnLemmas.{its_all}
 use Rattle.law_found_parts_are_calls.specs.LawUnmappedLpis.Mapped.{AreForNone}
-use Rattle.law_found_parts_are_calls.proofs.BegunRuns.{beside_endless, begun_command, is_endless, whole_events}
+use Rattle.law_found_parts_are_calls.proofs.BegunRuns.{beside_endless, begun_command, is_endless, same_head, same_tail, whole_events}
 use Rattle.law_found_parts_are_calls.proofs.NoneRuns.{command_none}
-use Rattle.law_found_parts_are_calls.proofs.OwnLemmas.{same_head, same_tail}
 use Rattle.law_found_parts_are_calls.proofs.SteadyLemmas.{beside_steady, is_steady, maps_steady, targets_steady}
 use Rattle.law_found_parts_are_calls.proofs.WindowRuns.{begun_after, begun_past}
 
@@ -100,7 +100,7 @@ module _ (shape : GuestShape) (beside : Beside) (vcpu offset size value : ℕ) (
   written = its_events shape is.view (its_decoded offset size) (Some value)
 
   pub begin_of : FirstNamed (Some vcpu) ItsBegin (its_events shape is.view (its_decoded offset size) (Some value)) is.register
-  begin_of = first_named (Some vcpu) ItsBegin written is.register is.written.events_are
+  begin_of = first_named (Some vcpu) ItsBegin written is.register (its_made is).events_are
 
   pub end_of : FirstNamed (Some vcpu) ItsEnd [] is.last
   end_of = first_named (Some vcpu) ItsEnd [] is.last is.ended.events_are
@@ -178,18 +178,18 @@ by_split : (piece own rest : List Happened) (maps : Maps) → piece ≡ own ++ r
 by_split piece own rest maps split = ap (λ xs. tables_by maps (events_of xs)) split ∙ ap (tables_by maps) (events_both own rest) ∙ by_both (events_of own) (events_of rest) maps
 
 module _ (actor : Option ℕ) (shape : GuestShape) (view : View) where
-  by_parts : (parts : List Part) (before piece : List Happened) (maps : Maps) → ArePartsThen actor shape view.targets parts (λ before after. Makes actor view (queue_event shape view ∷ []) [] before after) before piece → tables_by maps (events_of piece) ≡ tables_after (queue_event shape view) maps
-  by_parts [] before piece maps are = by_one actor (queue_event shape view) piece maps are.events_are
-  by_parts (part ∷ parts) before piece maps are =
+  by_parts : (parts : List Part) (words before piece : List Happened) (maps : Maps) → ArePartsThen actor shape view.targets words parts (λ after. Makes actor view (queue_event shape view ∷ []) [] [] after) before piece → tables_by maps (events_of piece) ≡ tables_after (queue_event shape view) maps
+  by_parts [] words before piece maps are = by_one actor (queue_event shape view) piece maps are.events_are
+  by_parts (part ∷ parts) words before piece maps are =
       by_split piece are.own are.rest maps are.split
       ∙ ap (λ m. tables_by m (events_of are.rest)) (by_one actor (lpi_event shape are.view view.targets part) are.own maps are.made.events_are ∙ part_keeps shape are.view view.targets part maps)
-      ∙ by_parts parts (before ++ are.own) are.rest maps are.later
+      ∙ by_parts parts words words are.rest maps are.later
 
   by_command : (piece : List Happened) (maps : Maps) → IsCommand actor shape view piece → tables_by maps (events_of piece) ≡ tables_after (queue_event shape view) maps
   by_command piece maps is =
       by_split piece is.fetch is.rest maps is.split
       ∙ ap (λ m. tables_by m (events_of is.rest)) (by_kept (events_of is.fetch) maps (all_pass keeps_maps beside_maps actor (events_of is.fetch) (none_beside actor is.fetch is.fetched.events_are)))
-      ∙ by_parts (command_parts shape view) is.fetch is.rest maps is.done
+      ∙ by_parts (command_parts shape view) (words_read shape view) is.fetch is.rest maps is.done
 
 left_maps : (shape : GuestShape) (view : View) (event : Event) → (left_by shape view event).maps ≡ tables_after event view.maps
 left_maps shape view (Put word value) = refl

@@ -13,15 +13,6 @@ use Rattle.law_found_parts_are_calls.specs.PeMem.Looked.{comes_after, comes_befo
 
 -- What an event notes.
 
-noted_done : (ideal : Ideal) (event : Event) (call : Call) → is_steady event ≡ true → (noted ideal event call).done ≡ call.done
-noted_done ideal ItsBegin call h = refl
-noted_done ideal (Enable vcpu) call h = refl
-noted_done ideal (Touch key touching) call h = refl
-noted_done ideal (Queue offset Runs) call h = refl
-noted_done ideal (Queue offset (Done words)) call h = absurd (cc)
-noted_done ideal (Queue offset (Stalls fault)) call h = absurd (cc)
-noted_done ideal event call h = refl
-
 noted_operation : (ideal : Ideal) (event : Event) (call : Call) → (noted ideal event call).operation ≡ call.operation
 noted_operation ideal ItsBegin call = refl
 noted_operation ideal (Enable vcpu) call = refl
@@ -43,13 +34,6 @@ noted_maps ideal event call h = refl
 -- the call of an actor after an event of its own
 abbrev pub call_next : Ideal → Ideal → Event → Found → Call → Call
 call_next before after event found call = seeing after (made before event found call)
-
-pub record KeepsCall (before after : Ideal) (event : Event) (found : Found) (call : Call) : Type 0 where
-  pub operation : (call_next before after event found call).operation ≡ call.operation
-  pub done : (call_next before after event found call).done ≡ call.done
-
-pub keeps_call : (before after : Ideal) (event : Event) (found : Found) (call : Call) → is_steady event ≡ true → KeepsCall before after event found call
-keeps_call before after event found call h = record { operation = noted_operation before event call; done = noted_done before event call h }
 
 pub next_operation : (before after : Ideal) (event : Event) (found : Found) (call : Call) → (call_next before after event found call).operation ≡ call.operation
 next_operation before after event found call = noted_operation before event call

@@ -145,7 +145,7 @@ fn operate<P: Port, R: Wait>(rt: &R, port: &mut P, vcpu: Loaded, does: &Does) ->
         return None;
     }
     let mut vcpu = vcpu;
-    if guest_op(rt, port, &mut vcpu, op) != Ok(*read) {
+    if guest_op(rt, port, &mut vcpu, op) != *read {
         return None;
     }
     Some(vcpu)

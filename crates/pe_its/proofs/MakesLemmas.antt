@@ -1,34 +1,22 @@
 -- Events that make what a call asks for.
-use Rattle.std.proofs.Common.{◌≡◌, ℕ, not, Bool, true, IsTrue, List, [], ◌∷◌, ◌++◌, map, All, Option, refl, sym, ap, subst, ◌∙◌}
-use Rattle.std.proofs.lemmas.List.{map-append}
-use Rattle.std.proofs.lemmas.List.Elements.{All-cons, All-nil, All-head, All-tail, All-append, filter-append}
-use Rattle.pe_mem.specs.Calls.{PlainWord, ItsCtlr, Cbaser, Cwriter, Ram, Propbaser, Pendbaser, Baser0, Baser1, Fault, Event, Put, Found, Place, Runs, Happened, Makes, HandsOut, IsLastRead, is_beside, named_of, held_at, View}
+use Rattle.std.proofs.Common.{◌≡◌, ℕ, not, Bool, true, false, IsTrue, List, [], ◌∷◌, ◌++◌, map, All, Option, refl, sym, ap, subst, ◌∙◌}
+use Rattle.std.proofs.lemmas.List.Elements.{All-cons, All-nil, All-head, All-tail, All-append}
+use Rattle.pe_mem.specs.Calls.{PlainWord, ItsCtlr, Cbaser, Cwriter, Ram, Propbaser, Pendbaser, Baser0, Baser1, Fault, Event, Put, Found, Place, Runs, Happened, Makes, HandsOut, IsLastRead, named_of, held_at, View}
 use Rattle.pe_mem.specs.GicCall.declared.event.Event.TheVariants.{Read, Queue as QueueEvent}
 use Rattle.pe_mem.specs.GicCall.declared.event.Found.TheVariants.{Word as FoundWord, Queue as FoundQueue, Nothing}
 use Rattle.pe_mem.specs.GicCall.declared.event.Place.TheVariants.{Word, Queue as QueuePlace, Ctlr, Lpis}
 use Rattle.pe_mem.specs.Core.{Seen, part_events}
 use Rattle.pe_mem.specs.PortCall.Plain.{is_event_word}
 use Rattle.pe_mem.specs.PortCall.Store.{Stores, MissesStore, AreStoreEvents, AreMissEvents}
+use Rattle.pe_mem.proofs.ItsExec.GicCall.TraceLemmas.{makes_then}
 use Rattle.pe_mem.proofs.ServeLemmas.{one_made}
 use Rattle.pe_mem.proofs.UpdateLemmas.{put_made, reads_beside as store_reads_beside}
 use Rattle.pe_mem.specs.ItsExec.declared.known.KnownQueue.{KnownQueue}
 use Rattle.pe_mem.specs.ItsExec.Known.{queue_reads}
 use Rattle.pe_mem.specs.ItsExec.Queue.{MovesQueue}
-use Rattle.pe_its.specs.Register.{IsUnread, IsLooked, is_queue_place, queue_found}
 
 abbrev Hands : View → Happened → Type 0
 Hands view h = HandsOut view h.event h.found
-
-pub makes_join : (actor : Option ℕ) (view : View) (one two : List Event) (early late : List Happened) → Makes actor view one [] [] early → Makes actor view two [] [] late → Makes actor view (one ++ two) [] [] (early ++ late)
-makes_join actor view one two early late first second =
-    let named : named_of actor (early ++ late) ≡ named_of actor early ++ named_of actor late = filter-append (λ h. not (is_beside actor h.event)) early late in
-    record {
-      events_are =
-          ap (map (λ h. h.event)) named ∙ map-append (λ (h : Happened). h.event) (named_of actor early) (named_of actor late)
-          ∙ ap (λ events. events ++ map (λ h. h.event) (named_of actor late)) first.events_are ∙ ap (λ events. one ++ events) second.events_are;
-      found = subst (All (Hands view)) (sym named) (All-append (Hands view) (named_of actor early) (named_of actor late) first.found second.found);
-      reads = All-nil (λ place. IsLastRead place (held_at view place) (early ++ late));
-    }
 
 -- reads alone
 pub makes_reads : (actor : Option ℕ) (view : View) (reads : List Happened) → named_of actor reads ≡ [] → Makes actor view [] [] [] reads
@@ -42,6 +30,34 @@ makes_reads actor view reads none =
 -- with the last reads of places
 pub makes_with : (actor : Option ℕ) (view : View) (events : List Event) (places : List Place) (piece : List Happened) → Makes actor view events [] [] piece → All (λ place. IsLastRead place (held_at view place) piece) places → Makes actor view events places [] piece
 makes_with actor view events places piece makes reads = record { events_are = makes.events_are; found = makes.found; reads = reads }
+
+-- What looks at the registers of the queue found.
+
+-- a place that was looked at
+abbrev pub is_queue_place : Place → Bool
+is_queue_place QueuePlace = true
+is_queue_place (Word ItsCtlr) = true
+is_queue_place (Word Cbaser) = true
+is_queue_place (Word Cwriter) = true
+is_queue_place place = false
+
+-- and what was found there
+abbrev pub queue_found : KnownQueue → Place → Found
+queue_found queue QueuePlace = FoundQueue queue.offset queue.stalled
+queue_found queue (Word ItsCtlr) = FoundWord queue.ctlr
+queue_found queue (Word Cbaser) = FoundWord queue.cbaser
+queue_found queue (Word Cwriter) = FoundWord queue.cwriter
+queue_found queue place = Nothing
+
+-- some events have no read of a place
+abbrev pub IsUnread : Place → List Happened → Type 0
+IsUnread place events = All (λ happened. happened.event ≡ Read place → ⊥) events
+
+-- a place was looked at, was found as a view has it, and is not read again
+pub record IsLooked (view : View) (queue : KnownQueue) (events : List Happened) (place : Place) : Type 0 where
+  pub there : IsTrue (is_queue_place place)
+  pub held : held_at view place ≡ queue_found queue place
+  pub unread : IsUnread place events
 
 -- Reads of other places.
 
@@ -149,4 +165,4 @@ looked_all view queue events (place ∷ places) all =
 pub looks_then : (actor : Option ℕ) (view : View) (queue : KnownQueue) (events : List Event) (places : List Place) (piece : List Happened) → Makes actor view events [] [] piece → All (IsLooked view queue piece) places
     → Makes actor view events places [] (queue_reads queue ++ piece)
 looks_then actor view queue events places piece makes looked =
-    makes_with actor view events places (queue_reads queue ++ piece) (makes_join actor view [] events (queue_reads queue) piece (makes_reads actor view (queue_reads queue) refl) makes) (looked_all view queue piece places looked)
+    makes_with actor view events places (queue_reads queue ++ piece) (makes_then actor view [] events [] (queue_reads queue) piece (makes_reads actor view (queue_reads queue) refl) makes) (looked_all view queue piece places looked)

@@ -94,7 +94,7 @@ read_served : (old new : Seen) (offset size value : ℕ) (ref : RegRef) → deco
 read_served old new offset size value ref is serves =
     let Of : RegRef → Type 0 = λ ref. ServesRead old new ref value in
     let all : Of (decoded offset size) = subst Of (sym is) serves in
-    record { serves = all.0; reads = all.1; found = λ id there bit. absurd (cc) }
+    record { serves = all.0; reads = all.1; found = λ id there bit. absurd (cc); made = all.0.made }
 
 pub serves_register :
     (old new : Seen) (offset size : ℕ) (reg : Reg) (half : Half) (held value : ℕ) → decoded offset size ≡ Plain reg half → has_lpis (shape_of old) ≡ true → value ≡ half_read half held → ReadsIts old new reg held → ServesAccess old new Its offset size None value
@@ -157,10 +157,7 @@ ignored_places shape (Plain reg half) value h = of (has_lpis shape) h
 pub serves_ignored : (old : Seen) (offset size value : ℕ) → IsAtEase old.local → takes_turn (shape_of old) (decoded offset size) (Some value) ≡ false → ServesAccess old old Its offset size (Some value) 0
 serves_ignored old offset size value ease h =
     let ref = decoded offset size in
-    record {
-      serves =
-          serves_nothing old (λ view. its_events (shape_of old) view ref (Some value)) (λ view. its_places (shape_of old) ref (Some value)) (λ view. command_events (shape_of old) view) ease (λ view. ignored_events (shape_of old) view ref value h)
-          (λ view. ignored_places (shape_of old) ref value h);
-      reads = refl;
-      found = λ id there bit. absurd (cc);
-    }
+    let serves =
+    serves_nothing old (λ view. its_events (shape_of old) view ref (Some value)) (λ view. its_places (shape_of old) ref (Some value)) (λ view. command_events (shape_of old) view) ease (λ view. ignored_events (shape_of old) view ref value h)
+    (λ view. ignored_places (shape_of old) ref value h) in
+    record { serves = serves; reads = refl; found = λ id there bit. absurd (cc); made = serves.made }

@@ -1,16 +1,18 @@
 -- Writes of the registers of the ITS, before any command.
 use Rattle.std.proofs.Common.{◌≡◌, ◌≢◌, ℕ, ◌/◌, ◌%◌, ◌^◌, ◌==◌, ◌&&◌, Bool, true, false, nat_lt, IsTrue, List, [], ◌∷◌, ◌++◌, All, Option, Some, None, if◌then◌else◌, refl, sym, ap, subst, ◌∙◌, arith}
 use Rattle.std.proofs.lemmas.Bool.{eq-eqb, ne_eqb}
-use Rattle.std.proofs.lemmas.List.Elements.{All-cons, All-nil}
+use Rattle.std.proofs.lemmas.List.Elements.{All-cons, All-nil, All-append}
 use Rattle.pe_mem.specs.Words.{GuestShape, bit_of}
 use Rattle.pe_mem.specs.Registers.{Half, half_written, enabled_in, cbaser_bits, baser_bits, queue_offset, queue_bytes, retries, Table, Devices, Collections, Cbaser as CbaserReg, Cwriter as CwriterReg, Maps}
 use Rattle.pe_mem.specs.GicImap.declared.map.Reg.TheVariants.{Ctlr as CtlrReg}
-use Rattle.pe_mem.specs.Calls.{PlainWord, ItsCtlr, Cbaser, Cwriter, place_of_plain, Event, Put, Place, Runs, its_written, Happened, Makes, HaveSameIts, left_by, its_written_by, its_write_places, View}
+use Rattle.pe_mem.specs.Calls.{PlainWord, ItsCtlr, Cbaser, Cwriter, place_of_plain, Event, Put, Place, Runs, its_written, Happened, IsLastRead, held_at, Makes, HaveSameIts, left_by, its_written_by, its_write_places, View}
 use Rattle.pe_mem.specs.GicCall.declared.event.Event.TheVariants.{Read, Queue as QueueEvent}
 use Rattle.pe_mem.specs.GicCall.declared.event.Found.TheVariants.{Word as FoundWord, Queue as FoundQueue}
 use Rattle.pe_mem.specs.GicCall.declared.event.Place.TheVariants.{Word, Queue as QueuePlace}
 use Rattle.pe_mem.specs.GicCall.Access.{starts_commands}
 use Rattle.pe_mem.specs.Core.{Made, known_maps, Seen, Adds, shape_of, part_events}
+use Rattle.pe_mem.proofs.ItsExec.GicCall.ReadLemmas.{last_kept}
+use Rattle.pe_mem.proofs.ItsExec.GicCall.TraceLemmas.{makes_then, read_later}
 use Rattle.pe_mem.proofs.PortCore.PortLemmas.{adds_join}
 use Rattle.pe_mem.specs.PortCall.Memory.{view_by}
 use Rattle.pe_mem.specs.PortCall.Piece.{IsRestedPiece}
@@ -20,13 +22,13 @@ use Rattle.pe_mem.proofs.PortCall.PieceLemmas.{seen_nil, piece_nil, rested}
 use Rattle.pe_mem.proofs.PortCall.TurnLemmas.{rested_then, events_then}
 use Rattle.pe_mem.proofs.ServeLemmas.{none_made}
 use Rattle.pe_mem.specs.ItsExec.declared.known.KnownQueue.{KnownQueue}
-use Rattle.pe_mem.specs.ItsExec.Known.{KnowsQueue}
+use Rattle.pe_mem.specs.ItsExec.Known.{KnowsQueue, queue_reads}
 use Rattle.pe_mem.specs.ItsExec.Queue.{MovesQueue, IsReady, HasIts}
 use Rattle.pe_mem.proofs.ItsExec.LookLemmas.{word_held, offset_held, stalled_held}
 use Rattle.pe_its.specs.declared.change.Change.TheVariants.{Cbaser as CbaserChange, Baser as BaserChange, Cwriter as CwriterChange}
 use Rattle.pe_its.specs.Change.{changed_by, ChangesWord, StoresChanged, KeepsWord}
-use Rattle.pe_its.specs.Register.{IsReadyNow, IsLooked, IsUnread, WritesRegister, Retries, RetriesBy, retried, baser_reg, baser_word}
-use Rattle.pe_its.proofs.MakesLemmas.{makes_join, stored_made, stored_unread, missed_made, missed_unread, moved_made, moved_unread, unread_join}
+use Rattle.pe_its.specs.Register.{IsReadyNow, WritesRegister, Retries, RetriesBy, retried, baser_reg, baser_word}
+use Rattle.pe_its.proofs.MakesLemmas.{IsLooked, IsUnread, looks_then, stored_made, stored_unread, missed_made, missed_unread, moved_made, moved_unread, unread_join}
 use Rattle.pe_its.proofs.StoredLemmas.{control_knows, cwriter_knows, stored_maps, stored_has, missed_has, has_then, ready_has, stored_ready}
 
 -- The guest as it was found: the registers of the queue so, and any other word this.
@@ -78,11 +80,10 @@ control_writes old new queue value ctlr is stores ready half =
       adds = stores.adds;
       local_is = stores.local_is;
       maps_are = refl;
-      made = subst By is (stored_made (Some old.actor) old new ItsCtlr ctlr view refl stores refl);
-      looked =
-          All-cons Is (Word Cbaser) (Word Cwriter ∷ QueuePlace ∷ []) (record { there = refl; held = refl; unread = stored_unread old new ItsCtlr ctlr (Word Cbaser) refl stores (λ e. absurd (cc)) })
-          (All-cons Is (Word Cwriter) (QueuePlace ∷ []) (record { there = refl; held = refl; unread = stored_unread old new ItsCtlr ctlr (Word Cwriter) refl stores (λ e. absurd (cc)) })
-          (All-cons Is QueuePlace [] (record { there = refl; held = refl; unread = stored_unread old new ItsCtlr ctlr QueuePlace refl stores (λ e. absurd (cc)) }) (All-nil Is)));
+      made =
+          looks_then (Some old.actor) view queue (its_written view CtlrReg half value) (its_write_places CtlrReg) (part_events old part)
+          (subst By is (stored_made (Some old.actor) old new ItsCtlr ctlr view refl stores refl))
+          (All-cons Is (Word Cbaser) (Word Cwriter ∷ QueuePlace ∷ []) (record { there = refl; held = refl; unread = stored_unread old new ItsCtlr ctlr (Word Cbaser) refl stores (λ e. absurd (cc)) }) (All-cons Is (Word Cwriter) (QueuePlace ∷ []) (record { there = refl; held = refl; unread = stored_unread old new ItsCtlr ctlr (Word Cwriter) refl stores (λ e. absurd (cc)) }) (All-cons Is QueuePlace [] (record { there = refl; held = refl; unread = stored_unread old new ItsCtlr ctlr QueuePlace refl stores (λ e. absurd (cc)) }) (All-nil Is))));
       starts_are = refl;
       left = λ starts.
           subst Left is
@@ -113,8 +114,10 @@ cbaser_ignored old queue half value on =
       adds = record { new_is = sym (seen_nil old) };
       local_is = refl;
       maps_are = refl;
-      made = subst By (sym (ap events on)) (none_made (Some old.actor) view);
-      looked = control_looked view queue [] refl (All-nil (λ h. h.event ≡ Read (Word ItsCtlr) → ⊥));
+      made =
+          looks_then (Some old.actor) view queue (its_written view CbaserReg half value) (its_write_places CbaserReg) []
+          (subst By (sym (ap events on)) (none_made (Some old.actor) view))
+          (control_looked view queue [] refl (All-nil (λ h. h.event ≡ Read (Word ItsCtlr) → ⊥)));
       starts_are = refl;
       left = never;
       piece = rested old [] (piece_nil old);
@@ -137,11 +140,11 @@ cbaser_writes old a b new queue half value (Some found) off first moves changes 
     let stores_this = cbaser_bits (half_written half found value) in
     let By : ℕ → Type 0 = λ n. Makes actor view (Put Cbaser n ∷ []) [] [] (part_events b three) in
     let last : By stores_this = subst By (some_is changes.value stores_this (sym changes.changed_is)) (stored_made actor b new Cbaser changes.value view refl stored (sym changes.found_is)) in
-    let late = makes_join actor view (QueueEvent 0 Runs ∷ []) (Put Cbaser stores_this ∷ []) (part_events a two) (part_events b three) (moved_made actor a b 0 view moves) last in
+    let late = makes_then actor view (QueueEvent 0 Runs ∷ []) (Put Cbaser stores_this ∷ []) [] (part_events a two) (part_events b three) (moved_made actor a b 0 view moves) last in
     let events : List Event = Put Cwriter 0 ∷ QueueEvent 0 Runs ∷ Put Cbaser stores_this ∷ [] in
     let piece : List Happened = part_events old one ++ (part_events a two ++ part_events b three) in
     let whole : Makes actor view events [] [] piece
-    = makes_join actor view (Put Cwriter 0 ∷ []) (QueueEvent 0 Runs ∷ Put Cbaser stores_this ∷ []) (part_events old one) (part_events a two ++ part_events b three) (stored_made actor old a Cwriter 0 view refl first refl) late in
+    = makes_then actor view (Put Cwriter 0 ∷ []) (QueueEvent 0 Runs ∷ Put Cbaser stores_this ∷ []) [] (part_events old one) (part_events a two ++ part_events b three) (stored_made actor old a Cwriter 0 view refl first refl) late in
     let events_are : part_events old (one ++ (two ++ three)) ≡ piece
     = events_then old a one (two ++ three) first.adds ∙ ap (λ events. part_events old one ++ events) (events_then a b two three moves.adds) in
     let unread : IsUnread (Word ItsCtlr) piece
@@ -156,8 +159,10 @@ cbaser_writes old a b new queue half value (Some found) off first moves changes 
       adds = adds_join old a new one (two ++ three) first.adds (adds_join a b new two three moves.adds stored.adds);
       local_is = stored.local_is ∙ moves.local_is ∙ first.local_is;
       maps_are = refl;
-      made = subst ByEvents (sym (ap choose off)) (subst ByPiece (sym events_are) whole);
-      looked = control_looked view queue (part_events old (one ++ (two ++ three))) refl (subst (IsUnread (Word ItsCtlr)) (sym events_are) unread);
+      made =
+          looks_then (Some old.actor) view queue (its_written view CbaserReg half value) (its_write_places CbaserReg) (part_events old (one ++ (two ++ three)))
+          (subst ByEvents (sym (ap choose off)) (subst ByPiece (sym events_are) whole))
+          (control_looked view queue (part_events old (one ++ (two ++ three))) refl (subst (IsUnread (Word ItsCtlr)) (sym events_are) unread));
       starts_are = refl;
       left = never;
       piece = rested_then old a one (two ++ three) first.adds (rested old one first.piece) (rested_then a b two three moves.adds moves.piece (rested b three stored.piece));
@@ -201,8 +206,10 @@ baser_ignored old queue table half value on =
       adds = record { new_is = sym (seen_nil old) };
       local_is = refl;
       maps_are = refl;
-      made = subst By (sym (baser_events view table half value ∙ ap events on)) (none_made (Some old.actor) view);
-      looked = subst Looked (sym (baser_places table)) (control_looked view queue [] refl (All-nil (λ h. h.event ≡ Read (Word ItsCtlr) → ⊥)));
+      made =
+          looks_then (Some old.actor) view queue (its_written view (baser_reg table) half value) (its_write_places (baser_reg table)) []
+          (subst By (sym (baser_events view table half value ∙ ap events on)) (none_made (Some old.actor) view))
+          (subst Looked (sym (baser_places table)) (control_looked view queue [] refl (All-nil (λ h. h.event ≡ Read (Word ItsCtlr) → ⊥))));
       starts_are = baser_starts view table half value;
       left = never;
       piece = rested old [] (piece_nil old);
@@ -230,9 +237,9 @@ baser_writes old new queue table half value (Some found) off changes =
       local_is = stored.local_is;
       maps_are = refl;
       made =
-          subst ByEvents (sym (baser_events view table half value ∙ ap choose off))
-          (subst By (some_is changes.value (bits found) (sym changes.changed_is) ∙ ap bits (sym held)) (stored_made actor old new word changes.value view (baser_kept table) stored (held ∙ sym changes.found_is)));
-      looked = subst Looked (sym (baser_places table)) (control_looked view queue (part_events old part) refl (stored_unread old new word changes.value (Word ItsCtlr) (baser_kept table) stored (baser_apart table)));
+          looks_then (Some old.actor) view queue (its_written view (baser_reg table) half value) (its_write_places (baser_reg table)) (part_events old part)
+          (subst ByEvents (sym (baser_events view table half value ∙ ap choose off)) (subst By (some_is changes.value (bits found) (sym changes.changed_is) ∙ ap bits (sym held)) (stored_made actor old new word changes.value view (baser_kept table) stored (held ∙ sym changes.found_is))))
+          (subst Looked (sym (baser_places table)) (control_looked view queue (part_events old part) refl (stored_unread old new word changes.value (Word ItsCtlr) (baser_kept table) stored (baser_apart table))));
       starts_are = baser_starts view table half value;
       left = never;
       piece = rested old _ stored.piece;
@@ -247,6 +254,18 @@ cwriter_looked view queue events ctlr cbaser offset stalled one two three =
     All-cons Is (Word ItsCtlr) (Word Cbaser ∷ QueuePlace ∷ []) (record { there = refl; held = ap FoundWord ctlr; unread = one })
     (All-cons Is (Word Cbaser) (QueuePlace ∷ []) (record { there = refl; held = ap FoundWord cbaser; unread = two })
     (All-cons Is QueuePlace [] (record { there = refl; held = ap (λ n. FoundQueue n view.is_stalled) offset ∙ ap (FoundQueue queue.offset) stalled; unread = three }) (All-nil Is)))
+
+cwriter_made : (actor : Option ℕ) (view : View) (queue : KnownQueue) (events : List Event) (piece : List Happened) → Makes actor view events [] [] piece → All (IsLooked view queue piece) (Word ItsCtlr ∷ Word Cbaser ∷ QueuePlace ∷ [])
+    → IsLastRead (Word Cwriter) (held_at view (Word Cwriter)) piece → Makes actor view events (Word ItsCtlr ∷ Word Cbaser ∷ QueuePlace ∷ Word Cwriter ∷ []) [] (queue_reads queue ++ piece)
+cwriter_made actor view queue events piece made looked last =
+    let places : List Place = Word ItsCtlr ∷ Word Cbaser ∷ QueuePlace ∷ [] in
+    let first = looks_then actor view queue events places piece made looked in
+    let Last : Place → Type 0 = λ place. IsLastRead place (held_at view place) (queue_reads queue ++ piece) in
+    record {
+      events_are = first.events_are;
+      found = first.found;
+      reads = All-append Last places (Word Cwriter ∷ []) first.reads (All-cons Last (Word Cwriter) [] (read_later (Word Cwriter) (held_at view (Word Cwriter)) (queue_reads queue) piece last) (All-nil Last));
+    }
 
 out_by : (b : Bool) (n : ℕ) → (if b then Some n else None) ≡ None → b ≡ false
 out_by true n e = absurd (cc)
@@ -275,10 +294,11 @@ cwriter_ignored old new queue half value keeps =
       adds = keeps.looks.adds;
       local_is = keeps.looks.local_is;
       maps_are = refl;
-      made = subst By (sym (ap choose out)) (missed_made (Some old.actor) old new Cwriter view refl keeps.looks);
-      looked =
-          cwriter_looked view queue (part_events old part) refl refl refl refl (missed_unread old new Cwriter (Word ItsCtlr) refl keeps.looks (λ e. absurd (cc))) (missed_unread old new Cwriter (Word Cbaser) refl keeps.looks (λ e. absurd (cc)))
-          (missed_unread old new Cwriter QueuePlace refl keeps.looks (λ e. absurd (cc)));
+      made =
+          cwriter_made (Some old.actor) view queue (its_written view CwriterReg half value) (part_events old part)
+          (subst By (sym (ap choose out)) (missed_made (Some old.actor) old new Cwriter view refl keeps.looks))
+          (cwriter_looked view queue (part_events old part) refl refl refl refl (missed_unread old new Cwriter (Word ItsCtlr) refl keeps.looks (λ e. absurd (cc))) (missed_unread old new Cwriter (Word Cbaser) refl keeps.looks (λ e. absurd (cc))) (missed_unread old new Cwriter QueuePlace refl keeps.looks (λ e. absurd (cc))))
+          (keeps.read);
       starts_are = out;
       left = never;
       piece = rested old _ keeps.looks.piece;
@@ -332,7 +352,7 @@ cwriter_writes old mid new queue after half value found offset changes offset_is
     let By : ℕ → Type 0 = λ n. Makes actor view (Put Cwriter n ∷ []) [] [] (part_events old one) in
     let first : By to = subst By (sym inside.1) (stored_made actor old mid Cwriter changes.value view refl stored (sym changes.found_is)) in
     let piece : List Happened = part_events old one ++ part_events mid retry.part in
-    let whole : Makes actor view (Put Cwriter to ∷ rest) [] [] piece = makes_join actor view (Put Cwriter to ∷ []) rest (part_events old one) (part_events mid retry.part) first retry.made in
+    let whole : Makes actor view (Put Cwriter to ∷ rest) [] [] piece = makes_then actor view (Put Cwriter to ∷ []) rest [] (part_events old one) (part_events mid retry.part) first retry.made in
     let events_are : part_events old (one ++ retry.part) ≡ piece = events_then old mid one retry.part stored.adds in
     let unread : (place : Place) → (Read (Word Cwriter) ≡ Read place → ⊥) → IsUnread place (part_events old (one ++ retry.part))
     = λ place differ. subst (IsUnread place) (sym events_are) (unread_join place (part_events old one) (part_events mid retry.part) (stored_unread old mid Cwriter changes.value place refl stored differ) (retry.unread place)) in
@@ -348,9 +368,11 @@ cwriter_writes old mid new queue after half value found offset changes offset_is
       adds = adds_join old mid new one retry.part stored.adds retry.adds;
       local_is = retry.local_is ∙ stored.local_is;
       maps_are = refl;
-      made = subst ByEvents (sym (ap choose inside.0)) (subst ByPiece (sym events_are) whole);
-      looked =
-          cwriter_looked view queue (part_events old (one ++ retry.part)) refl refl refl refl (unread (Word ItsCtlr) (λ e. absurd (cc))) (unread (Word Cbaser) (λ e. absurd (cc))) (unread QueuePlace (λ e. absurd (cc)));
+      made =
+          cwriter_made (Some old.actor) view queue (its_written view CwriterReg half value) (part_events old (one ++ retry.part))
+          (subst ByEvents (sym (ap choose inside.0)) (subst ByPiece (sym events_are) whole))
+          (cwriter_looked view queue (part_events old (one ++ retry.part)) refl refl refl refl (unread (Word ItsCtlr) (λ e. absurd (cc))) (unread (Word Cbaser) (λ e. absurd (cc))) (unread QueuePlace (λ e. absurd (cc))))
+          (subst (IsLastRead (Word Cwriter) (FoundWord found)) (sym events_are) (last_kept (Word Cwriter) (FoundWord found) (part_events old one) (part_events mid retry.part) changes.read (retry.unread (Word Cwriter))));
       starts_are = inside.0;
       left = λ starts.
           subst Left (sym (ap choose inside.0))

@@ -18,7 +18,7 @@ use Rattle.pe_mem.specs.ItsExec.Known.{Knows, KnowsQueue}
 use Rattle.pe_mem.specs.ItsExec.Queue.{IsReady, HasIts}
 use Rattle.pe_mem.proofs.ItsExec.FrameLemmas.{both, since, knows_by, knows_on, maps_on, untouched_on}
 use Rattle.pe_mem.proofs.ItsExec.LookLemmas.{queue_apart, plain_lpi_apart}
-use Rattle.pe_mem.proofs.ItsExec.QueueLemmas.{stored_off, stored_leaves, stored_leaves_plain, stored_within}
+use Rattle.pe_mem.proofs.ItsExec.QueueLemmas.{stored_off, stored_leaves, stored_leaves_plain, stored_within, stored_reading}
 use Rattle.pe_its.specs.Register.{IsReadyNow}
 
 -- the word is known as it was stored
@@ -118,6 +118,7 @@ stored_ready old new word value queue after stores ready knows =
       valid = subst (λ shape. IsValid shape (known_maps new.own)) (sym same) (subst (IsValid (shape_of old)) (sym maps) ready.valid);
       fresh =
           record {
+            reading = stored_reading old new word value stores ready.fresh.reading;
             each = λ id there.
                 (let was = subst (There id) same there in
                 untouched_on old new part id stores.adds within

@@ -1,10 +1,10 @@
 -- A write of a register that takes the ITS: what the actor makes while it has the ITS, and the whole call.
-use Rattle.std.proofs.Common.{◌≡◌, ℕ, zero, suc, ◌+◌, ◌&&◌, ◌||◌, Bool, true, false, IsTrue, IfSome, List, [], ◌∷◌, ◌++◌, slice_index_or, if◌then◌else◌, Option, Some, None, Result, Ok, Err, IfOk, OnErr, is_none, is_some, find, cond, append-nil, refl, sym, ap, subst, ◌∙◌, arith}
+use Rattle.std.proofs.Common.{◌≡◌, ℕ, zero, suc, ◌+◌, ◌&&◌, ◌||◌, Bool, true, false, IsTrue, IfSome, List, [], map, ◌∷◌, ◌++◌, slice_index_or, if◌then◌else◌, Option, Some, None, is_none, is_some, find, cond, append-nil, refl, sym, ap, subst, ◌∙◌, arith}
 use Rattle.std.specs.List.{list_all, filter_map, cons_option}
 use Rattle.std.specs.Option.{option_and_then}
 use Rattle.std.proofs.lemmas.Bool.{and_parts, eqb-true}
 use Rattle.std.proofs.lemmas.List.{append_assoc}
-use Rattle.std.proofs.lemmas.List.Elements.{All-nil, filter_map-append}
+use Rattle.std.proofs.lemmas.List.Elements.{filter_map-append}
 use Rattle.std.proofs.lemmas.List.Sums.{fold-append}
 use Rattle.pe_mem.specs.Words.{Lpi, Its, GuestShape, has_interrupt, target_in, irq_of}
 use Rattle.pe_mem.specs.Registers.{Targets, has_lpis, Half, IsValid, Maps}
@@ -12,11 +12,11 @@ use Rattle.pe_mem.specs.GicImap.declared.map.Reg.{Reg}
 use Rattle.pe_mem.specs.GicImap.declared.map.RegRef.{RegRef}
 use Rattle.pe_mem.specs.GicImap.declared.map.RegRef.TheVariants.{Plain}
 use Rattle.pe_mem.specs.GicImap.Map.{decoded}
-use Rattle.pe_mem.specs.Calls.{Event, ItsBegin, Place, its_written, takes_its, takes_turn, its_events, its_starts, Happened, Beside, Makes, IsLastRead, HaveSameIts, AreStarted, held_at, IsItsCall, IsItsWrite as IsItsWriteCall, IsCall, its_written_by, its_write_places, its_places, View}
+use Rattle.pe_mem.specs.Calls.{Event, ItsBegin, Place, its_written, takes_its, takes_turn, its_events, its_starts, Happened, Beside, Makes, HaveSameIts, AreStarted, IsItsCall, IsItsWrite as IsItsWriteCall, IsCall, its_written_by, its_write_places, its_places, View, command_targets}
 use Rattle.pe_mem.specs.GicCall.declared.event.Event.TheVariants.{ItsEnd}
 use Rattle.pe_mem.specs.GicCall.declared.event.Found.TheVariants.{Nothing}
 use Rattle.pe_mem.specs.GicCall.Access.{starts_commands as register_starts}
-use Rattle.pe_mem.specs.Core.{Local, Made, Irq, is_on, known_maps, no_maps, since_command, ends_command, Seen, IsPort, Adds, local_by, shape_of, seen_after, part_events, vcpu_of_actor, maps_taken, Progress}
+use Rattle.pe_mem.specs.Core.{Local, Made, Irq, is_on, known_maps, no_maps, since_command, ends_command, Seen, IsPort, Adds, local_by, shape_of, seen_after, part_events, vcpu_of_actor, maps_taken, Progress, reading_of, reading_after, read_after}
 use Rattle.pe_mem.proofs.PortCore.PortLemmas.{adds_join}
 use Rattle.pe_mem.specs.PortCall.Memory.{view_by}
 use Rattle.pe_mem.specs.PortCall.Piece.{IsIdle, IsGoodPiece, IsPiece, IsRestedPiece}
@@ -35,14 +35,15 @@ use Rattle.pe_mem.proofs.ItsExec.CommandLemmas.{write_stays}
 use Rattle.pe_mem.proofs.ItsExec.FrameLemmas.{maps_on}
 use Rattle.pe_mem.proofs.ItsExec.LookLemmas.{takes_by}
 use Rattle.pe_mem.proofs.ItsExec.PartLemmas.{good_then}
-use Rattle.pe_mem.proofs.ItsExec.RunLemmas.{taken_are_run, all_after, told_end}
-use Rattle.pe_mem.specs.Call.{CanAccess, MakesAccess, StopsAccess, IsPieceOf, access_of}
+use Rattle.pe_mem.proofs.ItsExec.RunLemmas.{taken_are_run, told_end}
+use Rattle.pe_mem.specs.Call.{CanAccess, MakesAccess, IsPieceOf, access_of}
 use Rattle.pe_mem.proofs.CallLemmas.{can_ease, can_turn, can_after, proper_of}
 use Rattle.pe_mem.proofs.ServeLemmas.{one_made, none_made}
-use Rattle.pe_its.specs.Write.{BeginsWrite, RunsAll, RunsIf, ServesWrite, StopsWrite, StopsInTurn}
-use Rattle.pe_its.proofs.MakesLemmas.{makes_join, makes_reads, makes_with, looks_then}
+use Rattle.pe_its.specs.Write.{BeginsWrite, RunsAll, RunsIf, ServesWrite}
+use Rattle.pe_mem.proofs.ItsExec.GicCall.TraceLemmas.{makes_then}
+use Rattle.pe_its.proofs.MakesLemmas.{makes_reads}
 use Rattle.pe_mem.specs.Found.{TookAmong, are_before, by_commands}
-use Rattle.pe_mem.proofs.FoundLemmas.{among_after, among_before, before_both}
+use Rattle.pe_mem.proofs.FoundLemmas.{among_after, among_before}
 use Rattle.pe_its.proofs.BeforeLemmas.{made_before, turn_before, written_before}
 
 -- The vCPUs that the LPIs are for, as the commands found them.
@@ -75,14 +76,21 @@ targets_of [] number = λ id. None
 targets_of (one ∷ rest) zero = found_targets one.takes.last
 targets_of (one ∷ rest) (suc number) = targets_of rest number
 
-agree_all : (beside : Beside) (n : ℕ) (commands : List Taken) → ((m : ℕ) → beside.targets (n + m) ≡ targets_of commands m) → AgreeAll beside n commands
+listed_targets : (commands : List Taken) (m : ℕ) → slice_index_or (map (λ (one : Taken). found_targets one.takes.last) commands) m (λ id. None) ≡ targets_of commands m
+unfolding targets_of
+listed_targets [] zero = refl
+listed_targets [] (suc m) = refl
+listed_targets (one ∷ rest) zero = refl
+listed_targets (one ∷ rest) (suc m) = listed_targets rest m
+
+agree_all : (beside : Beside) (n : ℕ) (commands : List Taken) → ((m : ℕ) → command_targets beside (n + m) ≡ targets_of commands m) → AgreeAll beside n commands
 unfolding targets_of
 agree_all beside n [] same = tt
 agree_all beside n (one ∷ rest) same =
     let none : n + 0 ≡ n = omega arith in
-    let first : beside.targets n ≡ found_targets one.takes.last = ap beside.targets (sym none) ∙ same 0 in
+    let first : command_targets beside n ≡ found_targets one.takes.last = ap (command_targets beside) (sym none) ∙ same 0 in
     let Agree : (ℕ → Option ℕ) → Type 0 = λ targets. AgreeWith one.takes.last (known_maps one.from.own) targets in
-    let next : (m : ℕ) → beside.targets (n + 1 + m) ≡ targets_of rest m = λ m. (let more : n + 1 + m ≡ n + suc m = omega arith in ap beside.targets more ∙ same (suc m)) in
+    let next : (m : ℕ) → command_targets beside (n + 1 + m) ≡ targets_of rest m = λ m. (let more : n + 1 + m ≡ n + suc m = omega arith in ap (command_targets beside) more ∙ same (suc m)) in
     (subst Agree (sym first) (agree_with one.takes.last (known_maps one.from.own)), agree_all beside (n + 1) rest next)
 
 -- What the actor makes while it has the ITS.
@@ -127,13 +135,6 @@ inside_begins old mid reg half value starts begins =
     let looks = begins.looks in
     let writes = begins.writes in
     inside_joins old begins.start mid (inside_piece old begins.start looks.part looks.reading.adds looks.reading.local looks.reading.piece) (inside_rested begins.start mid writes.part writes.adds writes.local_is writes.piece)
-
-inside_stops : (old new : Seen) (reg : Reg) (half : Half) (value : ℕ) → StopsWrite old new reg half value → Inside old new
-inside_stops old new reg half value stops =
-    let wants = stops.wants in
-    let reading = wants.fetches.reading in
-    inside_joins old stops.mid new (inside_begins old stops.mid reg half value true stops.begins)
-    (inside_joins stops.mid wants.mid new (inside_run stops.mid wants.mid wants.commands wants.taken) (inside_piece wants.mid new wants.fetches.part reading.adds reading.local reading.piece))
 
 inside_over : (old new : Seen) → (runs : RunsAll old new) → Inside old new
 inside_over old new runs =
@@ -252,7 +253,7 @@ inside_call old new reg half value serves =
     let register : List Happened = queue_reads begins.queue ++ part_events start writes.part in
     let before : IsTrue (are_before (part_events old first.part))
     = ap are_before (events_then old start looks.part writes.part looks.reading.adds ∙ ap (λ events. events ++ part_events start writes.part) looks.events)
-    ∙ before_both (queue_reads begins.queue) (part_events start writes.part) refl (made_before (Some start.actor) view events [] [] (part_events start writes.part) writes.made (written_before view reg half value)) in
+    ∙ made_before (Some start.actor) view events (its_write_places reg) [] register writes.made (written_before view reg half value) in
     let By : ℕ → Type 0 = λ actor. Makes (Some actor) view events (its_write_places reg) [] register in
     record {
       inside = inside_joins old mid new first run.inside;
@@ -264,7 +265,7 @@ inside_call old new reg half value serves =
           events_then old mid first.part run.inside.part first.adds
           ∙ ap (λ events. events ++ part_events mid run.inside.part) (events_then old start looks.part writes.part looks.reading.adds ∙ ap (λ events. events ++ part_events start writes.part) looks.events)
           ∙ ap (λ events. register ++ events) run.events;
-      written = subst By actor_is (looks_then (Some start.actor) view begins.queue events (its_write_places reg) (part_events start writes.part) writes.made writes.looked);
+      written = subst By actor_is writes.made;
       took = run.took;
       among = among_after old mid first.part run.inside.part run.took first.adds before run.among;
       started = λ beside agrees.
@@ -335,28 +336,6 @@ round old a d new offset size value is_new can takes inside ease gives =
       after = after;
     }
 
-pub stops_access : (old a b c d new : Seen) (offset size value : ℕ) (reg : Reg) (half : Half) → IsPort new → CanAccess old → TakesTurn old a → b ≡ record a { taken = true } → StopsWrite b c reg half value → IsAtEase c.local → d ≡ record c { taken = false } → GivesTurn d new
-    → StopsAccess old new Its offset size (Some value)
-stops_access old a b c d new offset size value reg half is_new can takes b_is stops ease d_is gives =
-    let inside = inside_home a b c d b_is d_is takes.tables (inside_stops b c reg half value stops) in
-    let all = round old a d new offset size value is_new can takes inside (subst (λ seen. IsAtEase seen.local) (sym d_is) ease) gives in
-    record { part = (takes.misses ++ takes.last ∷ []) ++ (inside.part ++ gives.last ∷ []); adds = all.adds; piece = all.piece; stays = all.stays; tables = all.tables; after = all.after }
-
-pub stops_in_turn : (old a b c d new : Seen) (offset size value : ℕ) (reg : Reg) (half : Half) → decoded offset size ≡ Plain reg half → TakesTurn old a → b ≡ record a { taken = true } → StopsWrite b c reg half value → d ≡ record c { taken = false } → GivesTurn d new → StopsInTurn old new offset size (Some value)
-stops_in_turn old a b c d new offset size value reg half is takes b_is stops d_is gives =
-    record {
-      value = value;
-      write_is = refl;
-      reg = reg;
-      half = half;
-      register_is = is;
-      start = a;
-      takes = takes;
-      last = c;
-      stops = subst (λ b. StopsWrite b c reg half value) b_is stops;
-      gives = subst (λ d. GivesTurn d new) d_is gives;
-    }
-
 -- The call.
 
 none_is : (o : Option Maps) → IsTrue (is_none o) → o ≡ None
@@ -403,11 +382,8 @@ its_call shape beside actor offset size value reg half view turn register comman
     let events = its_written view reg half value in
     let access : List Event = its_events shape view (decoded offset size) (Some value) in
     let events_are : access ≡ events = access_events_are shape view (decoded offset size) reg half value is has in
-    let bare : Makes (Some actor) view events [] [] register = record { events_are = written.events_are; found = written.found; reads = All-nil (λ place. IsLastRead place (held_at view place) register) } in
-    let whole : Makes (Some actor) view (ItsBegin ∷ events) (its_write_places reg) [] (turn ++ register)
-    = makes_with (Some actor) view (ItsBegin ∷ events) (its_write_places reg) (turn ++ register) (makes_join (Some actor) view (ItsBegin ∷ []) events turn register began bare) (all_after view turn register (its_write_places reg) written.reads) in
-    let ByEvents : List Event → Type 0 = λ events. Makes (Some actor) view (ItsBegin ∷ events) (its_write_places reg) [] (turn ++ register) in
-    let ByPlaces : List Place → Type 0 = λ places. Makes (Some actor) view (ItsBegin ∷ access) places [] (turn ++ register) in
+    let ByEvents : List Event → Type 0 = λ events. Makes (Some actor) view events (its_write_places reg) [] register in
+    let ByPlaces : List Place → Type 0 = λ places. Makes (Some actor) view access places [] register in
     let Runs : Bool → List Event → Type 0 = λ b events. AreStarted b (Some actor) shape beside (its_written_by shape view events) started.views commands in
     let RunsBy : Bool → Type 0 = λ b. Runs b events in
     let RunsOf : List Event → Type 0 = λ events. Runs (its_starts shape view (decoded offset size) (Some value)) events in
@@ -419,7 +395,14 @@ its_call shape beside actor offset size value reg half view turn register comman
       commands = commands;
       last = last;
       split = refl;
-      written = subst ByPlaces (sym (access_places_are shape (decoded offset size) reg half value is has)) (subst ByEvents (sym events_are) whole);
+      written =
+          record {
+            begin = turn;
+            rest = register;
+            split = refl;
+            begun = began;
+            made = subst ByPlaces (sym (access_places_are shape (decoded offset size) reg half value is has)) (subst ByEvents (sym events_are) written);
+          };
       started = subst RunsOf (sym events_are) (subst RunsBy (sym (access_starts_are shape view (decoded offset size) reg half value is has)) started.are);
       ended = ended;
       answers = refl;
@@ -450,7 +433,7 @@ makes_write old a b c d new offset size value reg half is_new can is takes_so ta
     let Turn : List Happened → Type 0 = λ piece. Makes (Some actor) view (ItsBegin ∷ []) [] [] piece in
     let began : Turn (part_events old turn)
     = subst Turn (sym takes.events.split)
-    (makes_join (Some actor) view [] (ItsBegin ∷ []) takes.events.reads (begin ∷ []) (makes_reads (Some actor) view takes.events.reads (reads_beside (Some actor) takes.events.reads takes.events.are_reads)) (one_made (Some actor) view begin refl refl)) in
+    (makes_then (Some actor) view [] (ItsBegin ∷ []) [] takes.events.reads (begin ∷ []) (makes_reads (Some actor) view takes.events.reads (reads_beside (Some actor) takes.events.reads takes.events.are_reads)) (one_made (Some actor) view begin refl refl)) in
     let Give : List Happened → Type 0 = λ piece. Makes (Some actor) view (ItsEnd ∷ []) [] [] piece in
     let ended : Give (part_events d give) = subst Give (sym gives.events) (one_made (Some actor) view end refl refl) in
     let ByActor : ℕ → Type 0 = λ actor. Makes (Some actor) view events (its_write_places reg) [] made.register in
@@ -476,13 +459,13 @@ makes_write old a b c d new offset size value reg half is_new can is takes_so ta
     (subst RunsBy actor_b (subst RunsIn shape_b (made.started beside agrees))) ended in
     let whole : By (Some actor) = subst Write (sym takes_so) (subst Of (sym events_are) call) in
     subst By (sym is_actor) whole) in
-    let own : Beside = record { maps = maps_taken part; targets = targets_of made.took } in
+    let own : Beside = record { maps = maps_taken part; targets = λ id. None; commands = map (λ (one : Taken). found_targets one.takes.last) made.took } in
     let among : TookAmong old part made.took
     = among_after old a turn (inside.part ++ give) made.took takes.adds (turn_before (part_events old turn) takes.events) (among_before a inside.part give made.took (among_home a b inside.part made.took b_is made.among)) in
     record {
       part = part;
       adds = all.adds;
-      call = record { beside = own; maps = refl; call = call_of own refl (agree_all own 0 made.took (λ m. (let same : 0 + m ≡ m = omega arith in ap (targets_of made.took) same))) };
+      call = record { beside = own; maps = refl; call = call_of own refl (agree_all own 0 made.took (λ m. (let same : 0 + m ≡ m = omega arith in ap (command_targets own) same ∙ listed_targets made.took m))) };
       found = record { finding = by_commands made.took; kind = sym takes_so; is_finding = among; call = call_of };
       piece = all.piece;
       proper = proper_of old new part operation None all.adds all.after all.piece;
@@ -510,6 +493,19 @@ turn_has old a b tables can takes b_is tables_are =
 command_by : List Made → Made → List Made
 command_by kept made = if is_some made.tables || ends_command made.step then [] else kept ++ made ∷ []
 
+abbrev nothing_read : Option (List Made)
+nothing_read = Some []
+
+-- it has the ITS, and has read nothing yet
+turn_reading : (own misses : List Made) (last : Made) (maps : Maps) (seen : Seen) → seen.own ≡ own ++ (misses ++ last ∷ []) → last.tables ≡ Some maps → IsTrue (is_some (reading_of seen.own))
+turn_reading own misses last maps seen is handed =
+    ap (λ own. is_some (reading_of own)) (is ∙ sym (append_assoc own misses (last ∷ []))) ∙ ap is_some (fold-append reading_after None (own ++ misses) (last ∷ [])) ∙ of (reading_of (own ++ misses)) last.tables refl handed
+  where
+    of : (before : Option (List Made)) (o : Option Maps) → last.tables ≡ o → o ≡ Some maps → IsTrue (is_some (reading_after before last))
+    of before None e h = absurd (cc)
+    of None (Some maps) e h = ap (λ o. is_some (if is_some o then nothing_read else None)) e
+    of (Some read) (Some maps) e h = ap (λ o. is_some (if is_some o then nothing_read else read_after last.step last read)) e
+
 pub turn_fresh : (old a b : Seen) → TakesTurn old a → b ≡ record a { taken = true } → IsFresh b
 unfolding command_by
 turn_fresh old a b takes b_is =
@@ -519,14 +515,4 @@ turn_fresh old a b takes b_is =
     ∙ ap since_command (sym (append_assoc old.own takes.misses (takes.last ∷ [])))
     ∙ fold-append command_by [] (old.own ++ takes.misses) (takes.last ∷ [])
     ∙ ap (λ tables. if is_some tables || ends_command takes.last.step then [] else before ++ takes.last ∷ []) takes.handed in
-    record { each = λ id there. record { none = ap (find (is_on (shape_of b) b.actor (Irq (Lpi id)))) since } }
-
--- As results.
-
-pub ok_then : (E : Type 0) (result : Result Unit E) (A B : Type 0) → IfOk result (λ done. A) → (A → B) → IfOk result (λ done. B)
-ok_then E (Ok done) A B h f = f h
-ok_then E (Err e) A B h f = tt
-
-pub err_then : (E : Type 0) (result : Result Unit E) (A B : Type 0) → OnErr result A → (A → B) → OnErr result B
-err_then E (Ok done) A B h f = tt
-err_then E (Err e) A B h f = f h
+    record { reading = turn_reading old.own takes.misses takes.last takes.maps b (ap (λ seen. seen.own) b_is ∙ ap (λ seen. seen.own) takes.adds.new_is) takes.handed; each = λ id there. record { none = ap (find (is_on (shape_of b) b.actor (Irq (Lpi id)))) since } }

@@ -1,8 +1,10 @@
 -- An actor stores the plain word of a register of the ITS, changed from what it found, unless the write is ignored for that.
-use Rattle.std.specs.Prelude.{◌≡◌, ℕ, ◌<◌, nat_lt, Option, Some, None, Result, Ok, Err, if◌then◌else◌}
+use Rattle.std.specs.Prelude.{◌≡◌, [], ◌∷◌, ◌++◌, ℕ, ◌<◌, nat_lt, Option, Some, None, Result, Ok, Err, if◌then◌else◌}
 use Rattle.pe_mem.specs.Registers.{half_limit, half_written, cbaser_bits, baser_bits, queue_offset, queue_bytes}
-use Rattle.pe_mem.specs.Calls.{PlainWord}
-use Rattle.pe_mem.specs.Core.{Seen}
+use Rattle.pe_mem.specs.Calls.{PlainWord, IsLastRead}
+use Rattle.pe_mem.specs.GicCall.declared.event.Found.TheVariants.{Word as FoundWord}
+use Rattle.pe_mem.specs.GicCall.declared.event.Place.TheVariants.{Word}
+use Rattle.pe_mem.specs.Core.{Seen, part_events}
 use Rattle.pe_mem.specs.PortCall.Store.{Stores, MissesStore}
 use Rattle.pe_its.specs.declared.change.Change.{Change}
 use Rattle.pe_its.specs.declared.change.Change.TheVariants.{Cbaser, Baser, Cwriter}
@@ -24,18 +26,20 @@ FitsChange (Cbaser half value) = value < half_limit half
 FitsChange (Baser half value) = value < half_limit half
 FitsChange (Cwriter cbaser half value) = value < half_limit half
 
--- an actor stored a word changed from this, which it found
+-- an actor stored a word changed from this, which it found, and which its last look had found
 pub record StoresChanged (old new : Seen) (word : PlainWord) (changed : ℕ → Option ℕ) (found : ℕ) : Type 0 where
   pub value : ℕ
   pub changed_is : changed found ≡ Some value
   pub stores : Stores old new word value
   pub found_is : stores.last.found ≡ found
+  pub read : IsLastRead (Word word) (FoundWord found) (part_events old (stores.misses ++ stores.last ∷ []))
 
 -- it looked at a word, for which the write is ignored
 pub record KeepsWord (old new : Seen) (word : PlainWord) (changed : ℕ → Option ℕ) : Type 0 where
   pub found : ℕ
   pub kept : changed found ≡ None
   pub looks : MissesStore old new word
+  pub read : IsLastRead (Word word) (FoundWord found) (part_events old looks.part)
 
 -- what became of it: the word that was found where it was stored
 abbrev pub ChangesWord : Seen → Seen → PlainWord → (ℕ → Option ℕ) → Option ℕ → Type 0

@@ -1,16 +1,13 @@
 -- The actor that has the ITS serves a write of a register: the register, and the commands that this starts.
-use Rattle.std.specs.Prelude.{◌≡◌, ℕ, Bool, true, false, Option, Some}
+use Rattle.std.specs.Prelude.{◌≡◌, ℕ, Bool, true, false}
 use Rattle.pe_mem.specs.Words.{GuestShape}
 use Rattle.pe_mem.specs.Registers.{Half, Maps}
 use Rattle.pe_mem.specs.GicImap.declared.map.Reg.{Reg}
-use Rattle.pe_mem.specs.GicImap.declared.map.RegRef.TheVariants.{Plain}
-use Rattle.pe_mem.specs.GicImap.Map.{decoded}
 use Rattle.pe_mem.specs.Core.{Seen}
-use Rattle.pe_mem.specs.PortCall.Turn.{TakesTurn, GivesTurn}
 use Rattle.pe_mem.specs.ItsExec.declared.known.KnownQueue.{KnownQueue}
 use Rattle.pe_mem.specs.ItsExec.declared.queue.QueueEnd.{QueueEnd}
 use Rattle.pe_mem.specs.ItsExec.Known.{LooksAtQueue}
-use Rattle.pe_mem.specs.ItsExec.Queue.{IsOverWith, WantsMemory}
+use Rattle.pe_mem.specs.ItsExec.Queue.{IsOverWith}
 use Rattle.pe_its.specs.Register.{WritesRegister}
 
 -- it looked at the registers of the queue, and wrote the register
@@ -37,24 +34,3 @@ pub record ServesWrite (old new : Seen) (reg : Reg) (half : Half) (value : ℕ) 
   pub starts : Bool
   pub begins : BeginsWrite old mid reg half value starts
   pub runs : RunsIf starts mid new
-
--- it wrote the register, and took commands up to one that memory was refused for
-pub record StopsWrite (old new : Seen) (reg : Reg) (half : Half) (value : ℕ) : Type 0 where
-  pub mid : Seen
-  pub begins : BeginsWrite old mid reg half value true
-  pub shape : GuestShape
-  pub tables : Maps
-  pub wants : WantsMemory mid new shape tables
-
--- the whole of it: a vCPU took the ITS and its tables, wrote a register, took commands up to one that memory was refused for, and gave the ITS back
-pub record StopsInTurn (old new : Seen) (offset size : ℕ) (write : Option ℕ) : Type 0 where
-  pub value : ℕ
-  pub write_is : write ≡ Some value
-  pub reg : Reg
-  pub half : Half
-  pub register_is : decoded offset size ≡ Plain reg half
-  pub start : Seen
-  pub takes : TakesTurn old start
-  pub last : Seen
-  pub stops : StopsWrite (record start { taken = true }) last reg half value
-  pub gives : GivesTurn (record last { taken = false }) new

@@ -1,16 +1,14 @@
 //! Accesses of the ITS, each the whole call.
-ghost use Rattle.std.specs.Prelude.{◌≡◌, ℕ, IsTrue, IfOk, OnErr, Some, true};
+ghost use Rattle.std.specs.Prelude.{◌≡◌, ℕ, IsTrue, Some};
 ghost use Rattle.pe_mem.specs.Words.{Its};
 ghost use Rattle.pe_mem.specs.GicImap.Map.{decoded};
 ghost use Rattle.pe_mem.specs.Registers.{is_size};
 ghost use Rattle.pe_mem.specs.Calls.{fits as fits_in, takes_its, takes_turn};
-ghost use Rattle.pe_mem.specs.Core.{shape_of};
-ghost use Rattle.pe_mem.specs.Call.{CanAccess, MakesAccess, StopsAccess};
-ghost use Rattle.pe_its.specs.Write.{StopsInTurn};
+ghost use Rattle.pe_mem.specs.Call.{CanAccess, MakesAccess};
 
 use crate::read::read_its;
 use crate::write::its_write;
-use pe_mem::{GuestShape, NoMemory, Port, Reg, RegRef, decode};
+use pe_mem::{GuestShape, Port, Reg, RegRef, decode};
 use std::sync::Wait;
 
 /// Whether a write of a register takes the ITS.
@@ -37,7 +35,6 @@ fn is_taking(shape: &GuestShape, offset: u32, size: u32) -> bool
 /// that fits the size (IHI 0069, "The ITS register map"). A read looks once at what its register goes by, if it goes by
 /// anything. A write of GITS_CTLR, GITS_CBASER, GITS_CWRITER, GITS_BASER0 or GITS_BASER1 is `its_write`. What the map does not
 /// have, and all of it in a guest without LPIs, reads 0 and ignores writes; so do writes of the registers that are only read.
-/// `NoMemory` comes only at a command that maps something, of a write that takes the ITS: then what was done is no whole call.
 /// The vCPU has nothing at its interface and owes nothing, before and after.
 pub fn its_op<P: Port, R: Wait>(
     rt: &R,
@@ -45,20 +42,17 @@ pub fn its_op<P: Port, R: Wait>(
     offset: u32,
     size: u32,
     write: Option<u64>,
-) -> Result<Option<u64>, NoMemory>
+) -> Option<u64>
     requires can { CanAccess (P.seen port.old) }
     requires size { IsTrue (is_size size) }
     requires fits { IsTrue (fits_in size write) }
-    ensures made { IfOk result (λ answer. MakesAccess (P.seen port.old) (P.seen port.new) Its offset size write answer) }
-    ensures stopped { OnErr result (StopsAccess (P.seen port.old) (P.seen port.new) Its offset size write) }
-    ensures wants { OnErr result (StopsInTurn (P.seen port.old) (P.seen port.new) offset size write) }
-    ensures takes { OnErr result (takes_turn (shape_of (P.seen port.old)) (decoded offset size) write ≡ true) }
+    ensures { MakesAccess (P.seen port.old) (P.seen port.new) Its offset size write result }
 {
     let Some(value) = write else {
-        return Ok(Some(read_its(port, offset, size)));
+        return Some(read_its(port, offset, size));
     };
     if is_taking(&port.shape(), offset, size) {
-        its_write(rt, port, offset, size, value)?;
+        its_write(rt, port, offset, size, value);
     }
-    Ok(None)
+    None
 }

@@ -1,9 +1,9 @@
 -- A piece of a memory-mapped access, as the whole call.
-use Rattle.std.proofs.Common.{◌≡◌, ℕ, ◌&&◌, ◌||◌, not, Bool, true, false, cond, IsTrue, List, [], ◌∷◌, map, Option, Some, None, refl, sym, ap, subst, ◌∙◌}
+use Rattle.std.proofs.Common.{◌≡◌, if◌then◌else◌, ℕ, ◌&&◌, ◌||◌, not, Bool, true, false, cond, IsTrue, List, [], ◌∷◌, map, Option, Some, None, refl, sym, ap, subst, ◌∙◌}
 use Rattle.std.proofs.lemmas.Bool.{and_from, and_parts}
 use Rattle.its_exec.specs.Words.{Frame, Dist, Redist, Its, Ram as Memory, Lpi, has_interrupt}
 use Rattle.its_exec.specs.GicImap.Map.{decoded as its_decoded}
-use Rattle.its_exec.specs.Calls.{Operation, takes_turn, Happened, Beside, IsCall, IsPlainCall, IsItsWrite, read_answer, Event, Place, access_events, Makes, access_places}
+use Rattle.its_exec.specs.Calls.{Operation, takes_turn, Happened, Beside, IsCall, IsPlainCall, IsItsWrite, read_answer, MakesPlain, sets_lpis}
 use Rattle.its_exec.specs.GicDmap.Map.{decoded as dist_decoded}
 use Rattle.its_exec.specs.GicRmap.Map.{decoded as redist_decoded}
 use Rattle.pe_mem.specs.Redist.{ServesRedist}
@@ -14,9 +14,13 @@ use Rattle.its_exec.specs.PortCall.Rest.{IsAtEase, StaysAtEase}
 use Rattle.its_exec.proofs.PortCall.RestLemmas.{ease_owes}
 use Rattle.its_exec.proofs.PortCall.TurnLemmas.{not_taken}
 use Rattle.pe_mem.specs.Call.{CanAccess, MakesAccess, ServesAccess, NamesBy, IsPieceOf, access_of}
-use Rattle.its_exec.specs.Histories.{named_by_access}
+use Rattle.its_exec.specs.Histories.{named_by_access, starts_queue, takes_commands}
+use Rattle.its_exec.specs.Registers.{Cwriter, has_lpis}
+use Rattle.its_exec.specs.GicImap.declared.map.Reg.TheVariants.{Ctlr as ItsCtlrReg}
+use Rattle.its_exec.specs.GicImap.declared.map.RegRef.{RegRef as ItsRef}
+use Rattle.its_exec.specs.GicImap.declared.map.RegRef.TheVariants.{Plain as ItsPlain}
 use Rattle.pe_mem.specs.Found.{by_looks, goes_by_target, takes_its_by}
-use Rattle.pe_mem.proofs.TargetLemmas.{events_with, makes_targeted, places_with, value_with, with_targets}
+use Rattle.pe_mem.proofs.TargetLemmas.{plain_with, value_with, with_targets}
 
 -- What a vCPU has that can make an access.
 
@@ -98,22 +102,17 @@ plain_call seen beside Its offset size (Some value) answer piece plain call =
 -- the access with its LPIs for other vCPUs that agree with what it found
 call_with :
     (old new : Seen) (frame : Frame) (offset size : ℕ) (write : Option ℕ) (value : ℕ) (answer : Option ℕ) (beside : Beside) → answer ≡ read_answer write value → (made : ServesAccess old new frame offset size write value)
-    → ((id : ℕ) → IsTrue (has_interrupt (shape_of old) (Lpi id)) → IsTrue (goes_by_target (shape_of old) made.serves.view frame offset size write id) → beside.targets 0 id ≡ made.serves.view.targets id)
+    → ((id : ℕ) → IsTrue (has_interrupt (shape_of old) (Lpi id)) → IsTrue (goes_by_target (shape_of old) made.serves.view frame offset size write id) → beside.targets id ≡ made.serves.view.targets id)
     → IsPlainCall (shape_of old) beside old.actor frame offset size write (part_events old made.serves.part) answer
 call_with old new frame offset size write value answer beside answers made agree =
     let shape = shape_of old in
     let serves = made.serves in
-    let t = beside.targets 0 in
+    let t = beside.targets in
     let view = with_targets t serves.view in
-    let ByEvents : List Event → Type 0 = λ events. Makes (Some old.actor) view events (access_places shape view frame offset size write) [] (part_events old serves.part) in
-    let ByPlaces : List Place → Type 0 = λ places. Makes (Some old.actor) view (access_events shape serves.view frame offset size write) places [] (part_events old serves.part) in
     record {
       view = view;
       targets = refl;
-      made =
-          subst ByEvents (sym (events_with shape t serves.view frame offset size write agree))
-          (subst ByPlaces (sym (places_with shape t serves.view frame offset size write))
-          (makes_targeted (Some old.actor) serves.view t (access_events shape serves.view frame offset size write) (access_places shape serves.view frame offset size write) [] (part_events old serves.part) serves.made));
+      made = plain_with shape old.actor t serves.view frame offset size write (part_events old serves.part) agree made.made;
       answers = answers ∙ made.reads ∙ ap (read_answer write) (sym (value_with shape t serves.view frame offset size));
     }
 
@@ -123,6 +122,26 @@ plain_kind seen (Redist vcpu) offset size write plain = refl
 plain_kind seen Memory offset size write plain = refl
 plain_kind seen Its offset size write plain = plain
 
+plain_commands : (seen : Seen) (frame : Frame) (offset size : ℕ) (write : Option ℕ) → IsPlain seen frame offset size write → takes_commands (shape_of seen) (access_of frame offset size write) ≡ false
+plain_commands seen Dist offset size write plain = refl
+plain_commands seen (Redist vcpu) offset size write plain = refl
+plain_commands seen Memory offset size write plain = refl
+plain_commands seen Its offset size None plain = refl
+plain_commands seen Its offset size (Some value) plain = of (its_decoded offset size) plain
+  where
+    by : (a b : Bool) → (a && true) ≡ false → (a && b) ≡ false
+    by true b h = absurd (cc)
+    by false b h = refl
+
+    none : (a : Bool) → (a && false) ≡ false
+    none true = refl
+    none false = refl
+
+    of : (ref : ItsRef) → takes_turn (shape_of seen) ref (Some value) ≡ false → (has_lpis (shape_of seen) && starts_queue ref) ≡ false
+    of (ItsPlain ItsCtlrReg half) h = h
+    of (ItsPlain Cwriter half) h = h
+    of ref h = none (has_lpis (shape_of seen))
+
 pub makes_access :
     (old new : Seen) (frame : Frame) (offset size : ℕ) (write : Option ℕ) (value : ℕ) (answer : Option ℕ) → IsPort new → CanAccess old → IsPlain old frame offset size write → answer ≡ read_answer write value
     → ServesAccess old new frame offset size write value → MakesAccess old new frame offset size write answer
@@ -131,14 +150,14 @@ makes_access old new frame offset size write value answer is_new can plain answe
     let part = serves.part in
     let operation = access_of frame offset size write in
     let after = can_after old new part can serves.adds serves.stays in
-    let by : NamesBy (shape_of old) old.actor operation (λ view. named_by_access (shape_of old) view frame offset size write) = record { ends_none = λ key. refl; named_are = λ view. refl } in
+    let by : NamesBy (shape_of old) old.actor operation (λ view. named_by_access (shape_of old) view frame offset size write) = record { commands = plain_commands old frame offset size write plain; ends_none = λ key. refl; named_are = λ view. refl } in
     let actor : vcpu_of_actor (shape_of old) old.actor ≡ Some old.actor = ap (λ b. cond b (Some old.actor) None) can.vcpu in
     let Agree : (ℕ → Option ℕ) → Type 0 = λ t. (id : ℕ) → IsTrue (has_interrupt (shape_of old) (Lpi id)) → IsTrue (goes_by_target (shape_of old) serves.view frame offset size write id) → t id ≡ serves.view.targets id in
-    let call : (beside : Beside) → Agree (beside.targets 0) → IsCall (shape_of old) beside (vcpu_of_actor (shape_of old) old.actor) operation (part_events old part) answer
+    let call : (beside : Beside) → Agree beside.targets → IsCall (shape_of old) beside (vcpu_of_actor (shape_of old) old.actor) operation (part_events old part) answer
     = λ beside agree.
     (let Of : Option ℕ → Type 0 = λ actor. IsCall (shape_of old) beside actor operation (part_events old part) answer in
     subst Of (sym actor) (plain_call old beside frame offset size write answer (part_events old part) plain (call_with old new frame offset size write value answer beside answers made agree))) in
-    let own : Beside = record { maps = maps_taken part; targets = λ number. serves.view.targets } in
+    let own : Beside = record { maps = maps_taken part; targets = serves.view.targets; commands = [] } in
     let goes : ℕ → Bool = λ id. has_interrupt (shape_of old) (Lpi id) && goes_by_target (shape_of old) serves.view frame offset size write id in
     record {
       part = part;
@@ -161,7 +180,11 @@ makes_access old new frame offset size write value answer is_new can plain answe
 -- Frames.
 
 pub dist_accessed : (old new : Seen) (offset size : ℕ) (write : Option ℕ) (value : ℕ) → ServesDist old new (dist_decoded offset size) write value → ServesAccess old new Dist offset size write value
-dist_accessed old new offset size write value made = record { serves = made.serves; reads = made.reads; found = λ id there bit. absurd (cc) }
+dist_accessed old new offset size write value made = record { serves = made.serves; reads = made.reads; found = λ id there bit. absurd (cc); made = made.serves.made }
 
 pub redist_accessed : (old new : Seen) (vcpu offset size : ℕ) (write : Option ℕ) (value : ℕ) → ServesRedist old new vcpu (redist_decoded offset size) write value → ServesAccess old new (Redist vcpu) offset size write value
-redist_accessed old new vcpu offset size write value made = record { serves = made.serves; reads = made.reads; found = made.found }
+redist_accessed old new vcpu offset size write value made = record { serves = made.serves; reads = made.reads; found = made.found; made = of (sets_lpis (shape_of old) (redist_decoded offset size) write) refl }
+  where
+    of : (b : Bool) → sets_lpis (shape_of old) (redist_decoded offset size) write ≡ b → MakesPlain (if b then Some vcpu else None) (shape_of old) made.serves.view old.actor (Redist vcpu) offset size write (part_events old made.serves.part)
+    of true h = made.after h
+    of false h = made.serves.made

@@ -2,7 +2,7 @@
 use Rattle.std.proofs.Common.{◌≡◌, ℕ, zero, suc, ◌+◌, ◌<◌, ◌==◌, ◌||◌, not, Bool, true, false, cond, if◌then◌else◌, IsTrue, IfSome, List, [], ◌∷◌, ◌++◌, map, All, Option, Some, None, option_map, add-one, append-nil, refl, sym, ap, subst, ◌∙◌, arith}
 use Rattle.std.specs.List.{range_with_len, filter_map, cons_option, list_any}
 use Rattle.std.specs.Option.{option_map_or, option_to_list}
-use Rattle.std.proofs.lemmas.Bool.{ne_eqb, eq-eqb, eqb-true}
+use Rattle.std.proofs.lemmas.Bool.{and_from, ne_eqb, eq-eqb, eqb-true}
 use Rattle.std.proofs.lemmas.List.Folds.{list_any-append}
 use Rattle.its_exec.specs.Registers.{Targets, joined, part_at}
 use Rattle.std.proofs.lemmas.List.Elements.{All-head, All-tail, All-nil, All-push}
@@ -10,8 +10,8 @@ use Rattle.its_exec.specs.Words.{Key, Kind, is_same_key, Irq, irq_of}
 use Rattle.its_exec.proofs.GicBase.KeyLemmas.{same_itself}
 use Rattle.its_exec.specs.Calls.{Event, Touch, Record, Operation, Touching, Happened, Makes, HandsOut, IsLastRead, is_beside, named_of, held_at, View}
 use Rattle.its_exec.proofs.GicCall.RangeLemmas.{filter_map_more, filter_map_found, filter_map_none}
-use Rattle.its_exec.specs.Histories.{key_in, names}
-use Rattle.its_exec.specs.Core.{Local, Made, known_view, Seen, Adds, shape_of, part_events, makes, is_end_of, progress_of}
+use Rattle.its_exec.specs.Histories.{key_in, names, takes_commands}
+use Rattle.its_exec.specs.Core.{Local, Made, has_begun, known_view, may_name, Seen, Adds, shape_of, part_events, makes, is_end_of, progress_of}
 use Rattle.its_exec.proofs.PortCore.PortLemmas.{adds_join}
 use Rattle.its_exec.specs.PortCall.About.{IsNamedPiece}
 use Rattle.its_exec.specs.PortCall.Piece.{IsIdle, IsGoodPiece, IsPiece}
@@ -119,15 +119,15 @@ own_joins old mid operation early late adds one two p idle is none =
     good_joins old p early late first (subst (λ s. IsGoodPiece s q late) adds.new_is second)
 
 -- a piece about an interrupt, in a call that names it
-pub own_of_named : (seen : Seen) (operation : Operation) (key : Key) (part : List Made) → ((key : Key) → is_end_of (shape_of seen) seen.actor (Some operation) key ≡ false)
+pub own_of_named : (seen : Seen) (operation : Operation) (key : Key) (part : List Made) → takes_commands (shape_of seen) operation ≡ false → ((key : Key) → is_end_of (shape_of seen) seen.actor (Some operation) key ≡ false)
     → ((view : View) → IsTrue (names (shape_of seen) view seen.actor operation key)) → IsNamedPiece seen key part → IsPieceOf seen operation part
-own_of_named seen operation key part ends named piece p idle is none =
+own_of_named seen operation key part commands ends named piece p idle is none =
     let shape = shape_of seen in
     named_good seen key part p piece idle
     (record {
       names_it = λ later about untaken.
-          let Named : Option Operation → Type 0 = λ operation. IsTrue (option_map_or (λ operation. names shape (known_view shape seen.actor (seen.own ++ later)) seen.actor operation key) operation false) in
-          subst Named (sym is) (named (known_view shape seen.actor (seen.own ++ later)));
+          let Named : Option Operation → Type 0 = λ operation. IsTrue (option_map_or (λ operation. may_name shape seen.actor (seen.own ++ later) operation key) operation false) in
+          subst Named (sym is) (and_from (names shape (known_view shape seen.actor (seen.own ++ later)) seen.actor operation key) _ (named (known_view shape seen.actor (seen.own ++ later))) (ap (λ b. not b || has_begun shape seen.actor (seen.own ++ later)) commands));
       ends_other = ap (λ operation. is_end_of shape seen.actor operation key) is ∙ ends key;
     })
     none
@@ -229,9 +229,10 @@ touches_more old mid new at n irqs key touching found here each one =
       piece = λ operation naming.
           let is_named : (view : View) → IsTrue (names (shape_of old) view old.actor operation key) = λ view. naming.names_each view key (subst (λ events. is_key_of events key) (sym events) (key_late (filter_map at (range_with_len 0 n)) key touching)) in
           let before : NamesAll (shape_of old) old.actor operation (filter_map at (range_with_len 0 n))
-          = record { ends_none = naming.ends_none; names_each = λ view other h. naming.names_each view other (subst (λ events. is_key_of events other) (sym events) (key_early (filter_map at (range_with_len 0 n)) (Touch key touching ∷ []) other h)) } in
+          = record { commands = naming.commands; ends_none = naming.ends_none; names_each = λ view other h. naming.names_each view other (subst (λ events. is_key_of events other) (sym events) (key_early (filter_map at (range_with_len 0 n)) (Touch key touching ∷ []) other h)) } in
           let Ends : Seen → Type 0 = λ seen. (key : Key) → is_end_of (shape_of seen) seen.actor (Some operation) key ≡ false in
+          let Commands : Seen → Type 0 = λ seen. takes_commands (shape_of seen) operation ≡ false in
           let Names : Seen → Type 0 = λ seen. (view : View) → IsTrue (names (shape_of seen) view seen.actor operation key) in
           let mid_is = sym each.adds.new_is in
-          own_joins old mid operation each.part late each.adds (each.piece operation before) (own_of_named mid operation key late (subst Ends mid_is naming.ends_none) (subst Names mid_is is_named) one.piece);
+          own_joins old mid operation each.part late each.adds (each.piece operation before) (own_of_named mid operation key late (subst Commands mid_is naming.commands) (subst Ends mid_is naming.ends_none) (subst Names mid_is is_named) one.piece);
     }

@@ -5,12 +5,13 @@ use Rattle.std.specs.Option.{option_map_or}
 use Rattle.std.proofs.lemmas.List.Elements.{All-cons, All-nil, All-append}
 use Rattle.its_exec.specs.Words.{Lpi, GuestShape, intid_of, Irq, is_number, has_interrupt}
 use Rattle.its_exec.specs.Registers.{pending_address, Part}
-use Rattle.its_exec.specs.Calls.{PlainWord, Ram, Pendbaser, Event, Touch, Enable, Record, Place, is_table_zero, pended_at, enable_events, lpis_of, is_in_table, Happened, Makes, HandsOut, IsLastRead, named_of, held_at, memory_places, table_places, View}
+use Rattle.its_exec.specs.Calls.{PlainWord, Ram, Pendbaser, Event, Touch, Enable, Record, Place, is_table_zero, pended_at, pended_events, enable_events, lpis_of, is_in_table, Happened, Makes, MakesAfter, HandsOut, IsLastRead, named_of, held_at, memory_places, table_places, View}
 use Rattle.its_exec.specs.GicCall.declared.event.Event.TheVariants.{Read}
 use Rattle.its_exec.specs.GicCall.declared.event.Found.TheVariants.{Word as FoundWord, Lpis as FoundLpis}
 use Rattle.its_exec.specs.GicCall.declared.event.Place.TheVariants.{Word}
 use Rattle.its_exec.specs.Histories.{before_enabling}
 use Rattle.its_exec.specs.Core.{Made, EnableLpis, vcpu_of, Seen, Adds, AddsStep, shape_of, made_by, part_events}
+use Rattle.its_exec.proofs.GicCall.TraceLemmas.{after_made}
 use Rattle.its_exec.proofs.PortCore.PortLemmas.{adds_join}
 use Rattle.its_exec.specs.PortCall.Piece.{takes_none, IsPiece}
 use Rattle.its_exec.specs.PortCall.Plain.{ReadsPlain}
@@ -25,7 +26,7 @@ use Rattle.pe_mem.specs.Pending.{part_of_number, pend}
 use Rattle.pe_mem.specs.Redist.{EnablesLpis}
 use Rattle.pe_mem.specs.declared.pending.Fetched.{Fetched}
 use Rattle.pe_mem.proofs.EachLemmas.{found_below, all_below, events_of_touched, own_joins, own_of_piece, stays_self}
-use Rattle.pe_mem.proofs.ServeLemmas.{nothing_known, one_made}
+use Rattle.pe_mem.proofs.ServeLemmas.{nothing_known, none_made, one_made}
 use Rattle.pe_mem.proofs.TableLemmas.{TableBase, TableSoFar, is_pended, pend_at, last_read_before, unread_of}
 use Rattle.std.proofs.lemmas.Bool.{and_parts, leb-true, ltb-true}
 use Rattle.pe_mem.specs.Found.{reads_bit}
@@ -71,19 +72,21 @@ enables_again old new vcpu found ease was add =
     let one : By true = subst By was (enabled old new vcpu found add) in
     let view = enable_view old true 0 in
     let happened : Happened = record { event = Enable vcpu; found = FoundLpis true } in
-    let Of : List Happened → Type 0 = λ piece. Makes (Some old.actor) view (Enable vcpu ∷ []) [] [] piece in
+    let after : MakesAfter (Some old.actor) view (Enable vcpu) [] [] (part_events old (one.step ∷ []))
+    = record { begin = happened ∷ []; rest = []; split = one.events; begun = one_made (Some old.actor) view happened refl refl; made = none_made (Some old.actor) view } in
     record {
       serves =
           record {
             view = view;
             part = one.step ∷ [];
             adds = one.adds;
-            made = subst Of (sym one.events) (one_made (Some old.actor) view happened refl refl);
+            made = after_made (Some old.actor) view (Enable vcpu) [] [] (part_events old (one.step ∷ [])) after;
             stays = subst (StaysAtEase old.local) (sym one.local_is) (stays_self old.local ease);
             none_taken = one.none_taken;
             piece = λ operation by. own_of_piece old operation (one.step ∷ []) one.piece;
           };
       found = λ id there bit. absurd (cc);
+      after = after;
     }
 
 -- The table has only zeros.
@@ -100,29 +103,30 @@ enables_none old mid new vcpu found pendbaser ease was only add reads =
     let events : part_events old part ≡ happened ∷ read ∷ []
     = events_then old mid (one.step ∷ []) (reads.look ∷ []) one.adds ∙ ap (λ early. early ++ part_events mid (reads.look ∷ [])) one.events ∙ ap (λ late. happened ∷ late) reads.events in
     let Hands : Happened → Type 0 = λ h. HandsOut view h.event h.found in
-    let Last : Place → Type 0 = λ place. IsLastRead place (held_at view place) (happened ∷ read ∷ []) in
-    let last : Last (Word (Pendbaser vcpu)) = record { before = happened ∷ []; after = []; split = refl; last = All-nil (λ h. h.event ≡ Read (Word (Pendbaser vcpu)) → ⊥) } in
+    let Last : Place → Type 0 = λ place. IsLastRead place (held_at view place) (read ∷ []) in
+    let last : Last (Word (Pendbaser vcpu)) = record { before = []; after = []; split = refl; last = All-nil (λ h. h.event ≡ Read (Word (Pendbaser vcpu)) → ⊥) } in
     let zeros : (if is_table_zero pendbaser then [] else filter_map (λ number. pended_at (shape_of old) view vcpu (8192 + number)) (range_with_len 0 (shape_of old).lpis)) ≡ []
     = ap (λ b. if b then [] else filter_map (λ number. pended_at (shape_of old) view vcpu (8192 + number)) (range_with_len 0 (shape_of old).lpis)) only in
     let nowhere : table_places (shape_of old) view vcpu ≡ Word (Pendbaser vcpu) ∷ []
     = ap (λ b. Word (Pendbaser vcpu) ∷ (if b then [] else flat_map (λ id. memory_places (shape_of old) (pending_address pendbaser id).0 1) (lpis_of (shape_of old)))) only in
-    let made : Makes (Some old.actor) view (Enable vcpu ∷ []) (Word (Pendbaser vcpu) ∷ []) [] (happened ∷ read ∷ [])
-    = record { events_are = refl; found = All-cons Hands happened [] refl (All-nil Hands); reads = All-cons Last (Word (Pendbaser vcpu)) [] last (All-nil Last) } in
-    let ByEvents : List Event → Type 0 = λ events. Makes (Some old.actor) view (Enable vcpu ∷ events) (Word (Pendbaser vcpu) ∷ []) [] (happened ∷ read ∷ []) in
-    let ByPlaces : List Place → Type 0 = λ places. Makes (Some old.actor) view (enable_events (shape_of old) view vcpu) places [] (happened ∷ read ∷ []) in
-    let Of : List Happened → Type 0 = λ piece. Makes (Some old.actor) view (enable_events (shape_of old) view vcpu) (table_places (shape_of old) view vcpu) [] piece in
+    let made : Makes (Some old.actor) view [] (Word (Pendbaser vcpu) ∷ []) [] (read ∷ []) = record { events_are = refl; found = All-nil Hands; reads = All-cons Last (Word (Pendbaser vcpu)) [] last (All-nil Last) } in
+    let ByEvents : List Event → Type 0 = λ events. Makes (Some old.actor) view events (Word (Pendbaser vcpu) ∷ []) [] (read ∷ []) in
+    let ByPlaces : List Place → Type 0 = λ places. Makes (Some old.actor) view (pended_events (shape_of old) view vcpu) places [] (read ∷ []) in
+    let after : MakesAfter (Some old.actor) view (Enable vcpu) (pended_events (shape_of old) view vcpu) (table_places (shape_of old) view vcpu) (part_events old part)
+    = record { begin = happened ∷ []; rest = read ∷ []; split = events; begun = one_made (Some old.actor) view happened refl refl; made = subst ByPlaces (sym nowhere) (subst ByEvents (sym zeros) made) } in
     record {
       serves =
           record {
             view = view;
             part = part;
             adds = adds_join old mid new (one.step ∷ []) (reads.look ∷ []) one.adds reads.adds;
-            made = subst Of (sym events) (subst ByPlaces (sym nowhere) (subst ByEvents (sym zeros) made));
+            made = after_made (Some old.actor) view (Enable vcpu) (pended_events (shape_of old) view vcpu) (table_places (shape_of old) view vcpu) (part_events old part) after;
             stays = subst (StaysAtEase old.local) (sym (reads.local_is ∙ one.local_is)) (stays_self old.local ease);
             none_taken = none_append (one.step ∷ []) (reads.look ∷ []) one.none_taken reads.none_taken;
             piece = λ operation by. own_of_piece old operation part (piece_then old mid (one.step ∷ []) (reads.look ∷ []) one.adds one.piece reads.piece);
           };
       found = λ id there bit. absurd (true≢false (sym bit ∙ ap (λ b. not b && is_in_table (shape_of old) view vcpu id) only));
+      after = after;
     }
 
 -- The table.
@@ -153,7 +157,7 @@ enables_table old mid start new vcpu found pendbaser last was some add reads so 
             view = view;
             part = part;
             adds = adds_join old mid new (one.step ∷ []) (reads.look ∷ [] ++ base.part) one.adds (adds_join mid start new (reads.look ∷ []) base.part reads.adds base.adds);
-            made = subst ByEvents (sym events_so) (subst ByPlaces (sym places_so) (subst Of (sym events) made));
+            made = after_made (Some old.actor) view (Enable vcpu) (pended_events shape view vcpu) (table_places shape view vcpu) (part_events old part) after;
             stays = subst (λ local. StaysAtEase local new.local) (reads.local_is ∙ one.local_is) base.stays;
             none_taken = none_append (one.step ∷ []) (reads.look ∷ [] ++ base.part) one.none_taken (none_append (reads.look ∷ []) base.part reads.none_taken base.none_taken);
             piece = λ operation by.
@@ -163,6 +167,7 @@ enables_table old mid start new vcpu found pendbaser last was some add reads so 
                 (own_joins mid start operation (reads.look ∷ []) base.part reads.adds (own_of_piece mid operation (reads.look ∷ []) reads.piece) (base.piece operation there));
           };
       found = found_so;
+      after = after;
     }
   where
     shape : GuestShape
@@ -210,10 +215,8 @@ enables_table old mid start new vcpu found pendbaser last was some add reads so 
         ∙ ap (λ early. early ++ part_events mid (reads.look ∷ [] ++ base.part)) one.events
         ∙ ap (λ late. happened ∷ late) (events_then mid start (reads.look ∷ []) base.part reads.adds ∙ ap (λ early. early ++ rest) reads.events)
 
-    named : named_of (Some old.actor) (happened ∷ read ∷ rest) ≡ happened ∷ touched
-    named =
-        ap (λ late. happened ∷ late)
-        (ap (λ actor. named_of (Some actor) rest) (sym actor) ∙ base.named ∙ ap (λ shape. filter_map (touched_at (pend_at base.pended) base.irqs) (range_with_len 0 shape.lpis)) same)
+    named : named_of (Some old.actor) (read ∷ rest) ≡ touched
+    named = ap (λ actor. named_of (Some actor) rest) (sym actor) ∙ base.named ∙ ap (λ shape. filter_map (touched_at (pend_at base.pended) base.irqs) (range_with_len 0 shape.lpis)) same
 
     pended_is : (m : ℕ) → m < count → pend_at base.pended m ≡ pended_at shape view vcpu (8192 + m)
     pended_is m h =
@@ -229,8 +232,8 @@ enables_table old mid start new vcpu found pendbaser last was some add reads so 
     list_is : filter_map (pend_at base.pended) (range_with_len 0 count) ≡ pending
     list_is = found_below (pend_at base.pended) (λ number. pended_at shape view vcpu (8192 + number)) count pended_is
 
-    events_so : enable_events shape view vcpu ≡ Enable vcpu ∷ filter_map (pend_at base.pended) (range_with_len 0 count)
-    events_so = ap (λ (b : Bool). Enable vcpu ∷ (if b then [] else pending)) some ∙ ap (λ events. Enable vcpu ∷ events) (sym list_is)
+    events_so : pended_events shape view vcpu ≡ filter_map (pend_at base.pended) (range_with_len 0 count)
+    events_so = ap (λ (b : Bool). if b then [] else pending) some ∙ sym list_is
 
     bits : ℕ → List Place
     bits id = memory_places shape (pending_address pendbaser id).0 1
@@ -242,7 +245,7 @@ enables_table old mid start new vcpu found pendbaser last was some add reads so 
     Hands h = HandsOut view h.event h.found
 
     Last : Place → Type 0
-    Last place = IsLastRead place (held_at view place) (happened ∷ read ∷ rest)
+    Last place = IsLastRead place (held_at view place) (read ∷ rest)
 
     hands : (m : ℕ) → m < count → IfSome (touched_at (pend_at base.pended) base.irqs m) Hands
     hands m h = of (base.pended m)
@@ -259,27 +262,27 @@ enables_table old mid start new vcpu found pendbaser last was some add reads so 
 
         of : (o : Option Part) → IfSome o (λ p. IsLastRead (Word (Ram p.index)) (FoundWord (base.words p.index)) rest) → All Last (option_map_or (λ part. Word (Ram part.index) ∷ []) o [])
         of None is = All-nil Last
-        of (Some p) is = All-cons Last (Word (Ram p.index)) [] (last_read_before (Word (Ram p.index)) (FoundWord (base.words p.index)) (happened ∷ read ∷ []) rest is) (All-nil Last)
+        of (Some p) is = All-cons Last (Word (Ram p.index)) [] (last_read_before (Word (Ram p.index)) (FoundWord (base.words p.index)) (read ∷ []) rest is) (All-nil Last)
 
     base_read : Last (Word (Pendbaser vcpu))
-    base_read = record { before = happened ∷ []; after = rest; split = refl; last = unread_of (Word (Pendbaser vcpu)) rest base.other }
+    base_read = record { before = []; after = rest; split = refl; last = unread_of (Word (Pendbaser vcpu)) rest base.other }
 
-    made : Makes (Some old.actor) view (Enable vcpu ∷ filter_map (pend_at base.pended) (range_with_len 0 count)) (Word (Pendbaser vcpu) ∷ flat_map bits (lpis_of shape)) [] (happened ∷ read ∷ rest)
+    made : Makes (Some old.actor) view (filter_map (pend_at base.pended) (range_with_len 0 count)) (Word (Pendbaser vcpu) ∷ flat_map bits (lpis_of shape)) [] (read ∷ rest)
     made =
         record {
-          events_are = ap (map (λ h. h.event)) named ∙ ap (λ events. Enable vcpu ∷ events) (events_of_touched (pend_at base.pended) base.irqs (range_with_len 0 count));
-          found = subst (All Hands) (sym named) (All-cons Hands happened touched refl (all_below Hands (touched_at (pend_at base.pended) base.irqs) count hands));
+          events_are = ap (map (λ h. h.event)) named ∙ events_of_touched (pend_at base.pended) base.irqs (range_with_len 0 count);
+          found = subst (All Hands) (sym named) (all_below Hands (touched_at (pend_at base.pended) base.irqs) count hands);
           reads = All-cons Last (Word (Pendbaser vcpu)) (flat_map bits (lpis_of shape)) base_read (all_flat Last bits 8192 count bit_read);
         }
 
     ByEvents : List Event → Type 0
-    ByEvents events = Makes (Some old.actor) view events (table_places shape view vcpu) [] (part_events old part)
+    ByEvents events = Makes (Some old.actor) view events (table_places shape view vcpu) [] (read ∷ rest)
 
     ByPlaces : List Place → Type 0
-    ByPlaces places = Makes (Some old.actor) view (Enable vcpu ∷ filter_map (pend_at base.pended) (range_with_len 0 count)) places [] (part_events old part)
+    ByPlaces places = Makes (Some old.actor) view (filter_map (pend_at base.pended) (range_with_len 0 count)) places [] (read ∷ rest)
 
-    Of : List Happened → Type 0
-    Of piece = Makes (Some old.actor) view (Enable vcpu ∷ filter_map (pend_at base.pended) (range_with_len 0 count)) (Word (Pendbaser vcpu) ∷ flat_map bits (lpis_of shape)) [] piece
+    after : MakesAfter (Some old.actor) view (Enable vcpu) (pended_events shape view vcpu) (table_places shape view vcpu) (part_events old part)
+    after = record { begin = happened ∷ []; rest = read ∷ rest; split = events; begun = one_made (Some old.actor) view happened refl refl; made = subst ByEvents (sym events_so) (subst ByPlaces (sym places_so) made) }
 
     lpi_range : (id : ℕ) → IsTrue (has_interrupt shape (Lpi id)) → (8192 ≤ id) × (id < 8192 + shape.lpis)
     lpi_range id there = let both = and_parts (nat_le 8192 id) (nat_lt id (8192 + shape.lpis)) there in (leb-true 8192 id both.0, ltb-true id (8192 + shape.lpis) both.1)

@@ -1,6 +1,6 @@
 -- Accesses of a redistributor.
 use Rattle.its_exec.specs.Registers.{Half, iidr, pidr2, half_read, has_lpis, Whole, Propbaser, Pendbaser, enable_lpis_after, pendbaser_read}
-use Rattle.its_exec.specs.Calls.{Event, PlainWord, Propbaser as PropbaserWord, Pendbaser as PendbaserWord, Put, Place, part_events as parts_events, enable_events, redist_held, redist_written, Happened, Makes, IsLastRead, held_at, redist_places, table_places, View}
+use Rattle.its_exec.specs.Calls.{Event, PlainWord, Propbaser as PropbaserWord, Pendbaser as PendbaserWord, Put, Place, part_events as parts_events, enable_events, redist_held, redist_written, Happened, Makes, IsLastRead, held_at, redist_places, table_places, View, Enable, MakesAfter, pended_events}
 use Rattle.std.proofs.Common.{◌%◌, ◌^◌, ◌≡◌, ℕ, ◌&&◌, not, Bool, true, false, if◌then◌else◌, IsTrue, List, [], ◌∷◌, ◌++◌, All, Some, None, is_none, refl, sym, ap, subst, ◌∙◌, ◌==◌, Option, inl, inr, ◌⊎◌, arith}
 use Rattle.std.proofs.lemmas.Bool.{eq-eqb, ne_eqb}
 use Rattle.its_exec.specs.Words.{GuestShape, bit_of, has_bit, Redist, Kind, Lpi, has_interrupt}
@@ -192,13 +192,13 @@ pub writes_propbaser : (old new : Seen) (vcpu : ℕ) (reg : Reg) (half : Half) (
 writes_propbaser old new vcpu reg half value e stores =
     let events : View → List Event = λ view. redist_written (shape_of old) view vcpu Propbaser half value in
     let named : View → List Event = λ view. redist_written (shape_of old) (before_enabling vcpu view) vcpu Propbaser half value in
-    write_by old new vcpu reg Propbaser half value e (record { serves = serves_freely old new events (λ view. Lpis vcpu ∷ []) named stores; found = λ id there bit. absurd (cc) })
+    write_by old new vcpu reg Propbaser half value e (record { serves = serves_freely old new events (λ view. Lpis vcpu ∷ []) named stores; found = λ id there bit. absurd (cc); after = λ sets. absurd (cc) })
 
 pub writes_pendbaser : (old new : Seen) (vcpu : ℕ) (reg : Reg) (half : Half) (value : ℕ) → reg ≡ Pendbaser → StoresTable old new vcpu (PendbaserWord vcpu) (changed_by (PendbaserChange half value)) → WritesRedist old new vcpu reg half value
 writes_pendbaser old new vcpu reg half value e stores =
     let events : View → List Event = λ view. redist_written (shape_of old) view vcpu Pendbaser half value in
     let named : View → List Event = λ view. redist_written (shape_of old) (before_enabling vcpu view) vcpu Pendbaser half value in
-    write_by old new vcpu reg Pendbaser half value e (record { serves = serves_freely old new events (λ view. Lpis vcpu ∷ []) named stores; found = λ id there bit. absurd (cc) })
+    write_by old new vcpu reg Pendbaser half value e (record { serves = serves_freely old new events (λ view. Lpis vcpu ∷ []) named stores; found = λ id there bit. absurd (cc); after = λ sets. absurd (cc) })
 
 pub low_enable : (shape : GuestShape) (value : ℕ) → enable_lpis_after shape false (value % 2 ^ 32) ≡ enable_lpis_after shape false value
 low_enable shape value = let bit : has_bit (value % 2 ^ 32) 0 ≡ has_bit value 0 = ap (λ n. n == 1) (omega arith) in ap (λ b. has_lpis shape && b) bit
@@ -207,24 +207,26 @@ pub writes_ctlr : (old new : Seen) (vcpu : ℕ) (reg : Reg) (half : Half) (value
 writes_ctlr old new vcpu reg half value e rises enables =
     let shape = shape_of old in
     let Of : Bool → Type 0 = λ b.
-    (serves : Serves old new (λ view. if b then enable_events shape view vcpu else []) (λ view. if b then (if view.lpis vcpu then [] else table_places shape view vcpu) else []) (λ view. if b then enable_events shape (before_enabling vcpu view) vcpu else [])) × ((id : ℕ) → IsTrue (has_interrupt shape (Lpi id)) → IsTrue (b && reads_bit shape serves.view vcpu id) → IsLookedAt old serves.part id (serves.view.targets id)) in
-    let one : Of true = (enables.serves, enables.found) in
+    (serves : Serves old new (λ view. if b then enable_events shape view vcpu else []) (λ view. if b then (if view.lpis vcpu then [] else table_places shape view vcpu) else []) (λ view. if b then enable_events shape (before_enabling vcpu view) vcpu else [])) × ((id : ℕ) → IsTrue (has_interrupt shape (Lpi id)) → IsTrue (b && reads_bit shape serves.view vcpu id) → IsLookedAt old serves.part id (serves.view.targets id))
+    × (IsTrue b → MakesAfter (Some old.actor) serves.view (Enable vcpu) (pended_events shape serves.view vcpu) (if b then (if serves.view.lpis vcpu then [] else table_places shape serves.view vcpu) else []) (part_events old serves.part)) in
+    let one : Of true = (enables.serves, enables.found, λ sets. enables.after) in
     let both = subst Of (sym rises) one in
-    write_by old new vcpu reg Ctlr half value e (record { serves = both.0; found = both.1 })
+    write_by old new vcpu reg Ctlr half value e (record { serves = both.0; found = both.1; after = both.2 })
 
 pub keeps_ctlr : (old : Seen) (vcpu : ℕ) (reg : Reg) (half : Half) (value : ℕ) → IsAtEase old.local → reg ≡ Ctlr → enable_lpis_after (shape_of old) false value ≡ false → WritesRedist old old vcpu reg half value
 keeps_ctlr old vcpu reg half value ease e stays =
     let shape = shape_of old in
     let Of : Bool → Type 0 = λ b.
-    (serves : Serves old old (λ view. if b then enable_events shape view vcpu else []) (λ view. if b then (if view.lpis vcpu then [] else table_places shape view vcpu) else []) (λ view. if b then enable_events shape (before_enabling vcpu view) vcpu else [])) × ((id : ℕ) → IsTrue (has_interrupt shape (Lpi id)) → IsTrue (b && reads_bit shape serves.view vcpu id) → IsLookedAt old serves.part id (serves.view.targets id)) in
-    let none : Of false = (serves_nothing old (λ view. []) (λ view. []) (λ view. []) ease (λ view. refl) (λ view. refl), λ id there bit. absurd (cc)) in
+    (serves : Serves old old (λ view. if b then enable_events shape view vcpu else []) (λ view. if b then (if view.lpis vcpu then [] else table_places shape view vcpu) else []) (λ view. if b then enable_events shape (before_enabling vcpu view) vcpu else [])) × ((id : ℕ) → IsTrue (has_interrupt shape (Lpi id)) → IsTrue (b && reads_bit shape serves.view vcpu id) → IsLookedAt old serves.part id (serves.view.targets id))
+    × (IsTrue b → MakesAfter (Some old.actor) serves.view (Enable vcpu) (pended_events shape serves.view vcpu) (if b then (if serves.view.lpis vcpu then [] else table_places shape serves.view vcpu) else []) (part_events old serves.part)) in
+    let none : Of false = (serves_nothing old (λ view. []) (λ view. []) (λ view. []) ease (λ view. refl) (λ view. refl), λ id there bit. absurd (cc), λ sets. absurd (cc)) in
     let both = subst Of (sym stays) none in
-    write_by old old vcpu reg Ctlr half value e (record { serves = both.0; found = both.1 })
+    write_by old old vcpu reg Ctlr half value e (record { serves = both.0; found = both.1; after = both.2 })
 
 pub writes_fixed : (old : Seen) (vcpu : ℕ) (reg : Reg) (half : Half) (value : ℕ) → IsAtEase old.local → (reg ≡ Iidr) ⊎ ((reg ≡ Typer) ⊎ (reg ≡ Pidr2)) → WritesRedist old old vcpu reg half value
-writes_fixed old vcpu reg half value ease (inl e) = write_by old old vcpu reg Iidr half value e (record { serves = serves_nothing old (λ view. []) (λ view. []) (λ view. []) ease (λ view. refl) (λ view. refl); found = λ id there bit. absurd (cc) })
-writes_fixed old vcpu reg half value ease (inr (inl e)) = write_by old old vcpu reg Typer half value e (record { serves = serves_nothing old (λ view. []) (λ view. []) (λ view. []) ease (λ view. refl) (λ view. refl); found = λ id there bit. absurd (cc) })
-writes_fixed old vcpu reg half value ease (inr (inr e)) = write_by old old vcpu reg Pidr2 half value e (record { serves = serves_nothing old (λ view. []) (λ view. []) (λ view. []) ease (λ view. refl) (λ view. refl); found = λ id there bit. absurd (cc) })
+writes_fixed old vcpu reg half value ease (inl e) = write_by old old vcpu reg Iidr half value e (record { serves = serves_nothing old (λ view. []) (λ view. []) (λ view. []) ease (λ view. refl) (λ view. refl); found = λ id there bit. absurd (cc); after = λ sets. absurd (cc) })
+writes_fixed old vcpu reg half value ease (inr (inl e)) = write_by old old vcpu reg Typer half value e (record { serves = serves_nothing old (λ view. []) (λ view. []) (λ view. []) ease (λ view. refl) (λ view. refl); found = λ id there bit. absurd (cc); after = λ sets. absurd (cc) })
+writes_fixed old vcpu reg half value ease (inr (inr e)) = write_by old old vcpu reg Pidr2 half value e (record { serves = serves_nothing old (λ view. []) (λ view. []) (λ view. []) ease (λ view. refl) (λ view. refl); found = λ id there bit. absurd (cc); after = λ sets. absurd (cc) })
 
 -- Whole accesses.
 
@@ -235,6 +237,7 @@ served_bits old new vcpu kind first count None value made =
       serves = serves_parts old new (Redist vcpu) kind first count None value (λ view. parts_events (shape_of old) (Redist vcpu) kind first count None) (λ view. parts_events (shape_of old) (Redist vcpu) kind first count None) (λ view. refl) (λ view. refl) made;
       reads = parts_read old new (Redist vcpu) kind first count None value made;
       found = λ id there bit. absurd (cc);
+      after = λ sets. absurd (cc);
     }
 served_bits old new vcpu kind first count (Some written) value made =
     record {
@@ -243,23 +246,24 @@ served_bits old new vcpu kind first count (Some written) value made =
           (λ view. refl) (λ view. refl) made;
       reads = refl;
       found = λ id there bit. absurd (cc);
+      after = λ sets. absurd (cc);
     }
 
 pub served_read : (old new : Seen) (vcpu : ℕ) (reg : Reg) (half : Half) (held value : ℕ) → value ≡ half_read half held → ReadsRedist old new vcpu reg held → ServesRedist old new vcpu (Plain reg half) None value
 unfolding serves_freely
-served_read old new vcpu Ctlr half held value is read = record { serves = serves_freely old new (λ view. []) (λ view. redist_places (shape_of old) view vcpu (Plain Ctlr Whole) None) (λ view. []) read.serves; reads = ap Some (is ∙ ap (half_read half) read.value_is); found = λ id there bit. absurd (cc) }
-served_read old new vcpu Iidr half held value is read = record { serves = serves_freely old new (λ view. []) (λ view. []) (λ view. []) read.serves; reads = ap Some (is ∙ ap (half_read half) read.value_is); found = λ id there bit. absurd (cc) }
-served_read old new vcpu Typer half held value is read = record { serves = serves_freely old new (λ view. []) (λ view. []) (λ view. []) read.serves; reads = ap Some (is ∙ ap (half_read half) read.value_is); found = λ id there bit. absurd (cc) }
-served_read old new vcpu Propbaser half held value is read = record { serves = serves_freely old new (λ view. []) (λ view. Word (PropbaserWord vcpu) ∷ []) (λ view. []) read.serves; reads = ap Some (is ∙ ap (half_read half) read.value_is); found = λ id there bit. absurd (cc) }
-served_read old new vcpu Pendbaser half held value is read = record { serves = serves_freely old new (λ view. []) (λ view. Word (PendbaserWord vcpu) ∷ []) (λ view. []) read.serves; reads = ap Some (is ∙ ap (half_read half) read.value_is); found = λ id there bit. absurd (cc) }
-served_read old new vcpu Pidr2 half held value is read = record { serves = serves_freely old new (λ view. []) (λ view. []) (λ view. []) read.serves; reads = ap Some (is ∙ ap (half_read half) read.value_is); found = λ id there bit. absurd (cc) }
+served_read old new vcpu Ctlr half held value is read = record { serves = serves_freely old new (λ view. []) (λ view. redist_places (shape_of old) view vcpu (Plain Ctlr Whole) None) (λ view. []) read.serves; reads = ap Some (is ∙ ap (half_read half) read.value_is); found = λ id there bit. absurd (cc); after = λ sets. absurd (cc) }
+served_read old new vcpu Iidr half held value is read = record { serves = serves_freely old new (λ view. []) (λ view. []) (λ view. []) read.serves; reads = ap Some (is ∙ ap (half_read half) read.value_is); found = λ id there bit. absurd (cc); after = λ sets. absurd (cc) }
+served_read old new vcpu Typer half held value is read = record { serves = serves_freely old new (λ view. []) (λ view. []) (λ view. []) read.serves; reads = ap Some (is ∙ ap (half_read half) read.value_is); found = λ id there bit. absurd (cc); after = λ sets. absurd (cc) }
+served_read old new vcpu Propbaser half held value is read = record { serves = serves_freely old new (λ view. []) (λ view. Word (PropbaserWord vcpu) ∷ []) (λ view. []) read.serves; reads = ap Some (is ∙ ap (half_read half) read.value_is); found = λ id there bit. absurd (cc); after = λ sets. absurd (cc) }
+served_read old new vcpu Pendbaser half held value is read = record { serves = serves_freely old new (λ view. []) (λ view. Word (PendbaserWord vcpu) ∷ []) (λ view. []) read.serves; reads = ap Some (is ∙ ap (half_read half) read.value_is); found = λ id there bit. absurd (cc); after = λ sets. absurd (cc) }
+served_read old new vcpu Pidr2 half held value is read = record { serves = serves_freely old new (λ view. []) (λ view. []) (λ view. []) read.serves; reads = ap Some (is ∙ ap (half_read half) read.value_is); found = λ id there bit. absurd (cc); after = λ sets. absurd (cc) }
 
 pub served_write : (old new : Seen) (vcpu : ℕ) (reg : Reg) (half : Half) (value : ℕ) → WritesRedist old new vcpu reg half value → ServesRedist old new vcpu (Plain reg half) (Some value) 0
-served_write old new vcpu reg half value writes = record { serves = writes.serves; reads = refl; found = writes.found }
+served_write old new vcpu reg half value writes = record { serves = writes.serves; reads = refl; found = writes.found; after = writes.after }
 
 pub served_none : (old : Seen) (vcpu : ℕ) (write : Option ℕ) → IsAtEase old.local → ServesRedist old old vcpu Reserved write 0
-served_none old vcpu None ease = record { serves = serves_nothing old (λ view. []) (λ view. []) (λ view. []) ease (λ view. refl) (λ view. refl); reads = refl; found = λ id there bit. absurd (cc) }
-served_none old vcpu (Some value) ease = record { serves = serves_nothing old (λ view. []) (λ view. []) (λ view. []) ease (λ view. refl) (λ view. refl); reads = refl; found = λ id there bit. absurd (cc) }
+served_none old vcpu None ease = record { serves = serves_nothing old (λ view. []) (λ view. []) (λ view. []) ease (λ view. refl) (λ view. refl); reads = refl; found = λ id there bit. absurd (cc); after = λ sets. absurd (cc) }
+served_none old vcpu (Some value) ease = record { serves = serves_nothing old (λ view. []) (λ view. []) (λ view. []) ease (λ view. refl) (λ view. refl); reads = refl; found = λ id there bit. absurd (cc); after = λ sets. absurd (cc) }
 
 pub served_by : (old new : Seen) (vcpu : ℕ) (reference other : RegRef) (write its : Option ℕ) (value : ℕ) → reference ≡ other → write ≡ its → ServesRedist old new vcpu other its value → ServesRedist old new vcpu reference write value
 served_by old new vcpu reference other write its value e f serves =

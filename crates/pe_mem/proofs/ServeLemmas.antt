@@ -29,7 +29,7 @@ nothing_known seen = known_view (shape_of seen) seen.actor []
 pub names_all_by : (shape : GuestShape) (actor : ℕ) (operation : Operation) (named : View → List Event) (events : List Event) → NamesBy shape actor operation named → ((view : View) (key : Key) → is_key_of events key → is_key_of (named view) key)
     → NamesAll shape actor operation events
 names_all_by shape actor operation named events by covers =
-    record { ends_none = by.ends_none; names_each = λ view key h. subst (λ events. is_key_of events key) (sym (by.named_are view)) (covers view key h) }
+    record { commands = by.commands; ends_none = by.ends_none; names_each = λ view key h. subst (λ events. is_key_of events key) (sym (by.named_are view)) (covers view key h) }
 
 -- No event.
 
@@ -85,7 +85,7 @@ serves_touch old new key touching found events named is names_it made =
       made = subst By (sym is) (subst Of (sym made.events) (one_made (Some old.actor) view happened refl refl));
       stays = made.local_is;
       none_taken = made.none_taken;
-      piece = λ operation by. own_of_named old operation key part by.ends_none (λ view. subst (λ events. is_key_of events key) (sym (by.named_are view)) (names_it view)) made.piece;
+      piece = λ operation by. own_of_named old operation key part by.commands by.ends_none (λ view. subst (λ events. is_key_of events key) (sym (by.named_are view)) (names_it view)) made.piece;
     }
 
 -- a raise

@@ -3,7 +3,7 @@ use Rattle.std.proofs.Common.{append-nil, add-one, zero, suc, ◌≡◌, ◌≢�
 use Rattle.std.specs.List.{range_with_len, filter_map, list_any}
 use Rattle.std.specs.Option.{option_map_or, option_to_list}
 use Rattle.std.proofs.lemmas.List.Folds.{list_any-append}
-use Rattle.std.proofs.lemmas.Bool.{eq-eqb, ne_eqb, leb-true, lt-ltb, le-leb, cases_eq}
+use Rattle.std.proofs.lemmas.Bool.{and_from, eq-eqb, ne_eqb, leb-true, lt-ltb, le-leb, cases_eq}
 use Rattle.std.proofs.lemmas.List.{append_assoc}
 use Rattle.std.proofs.lemmas.List.Elements.{All-cons, All-nil, All-append, filter-append}
 use Rattle.its_exec.specs.Words.{Key, Lpi, GuestShape, has_interrupt, is_same_key, has_bit, Irq, is_number}
@@ -14,8 +14,8 @@ use Rattle.its_exec.specs.GicCall.declared.event.Event.TheVariants.{Read}
 use Rattle.its_exec.specs.GicCall.declared.event.Found.TheVariants.{Word as FoundWord}
 use Rattle.its_exec.specs.GicCall.declared.event.Place.TheVariants.{Word}
 use Rattle.its_exec.proofs.GicCall.RangeLemmas.{filter_map_more, filter_map_found, filter_map_none}
-use Rattle.its_exec.specs.Histories.{before_enabling, names, key_in}
-use Rattle.its_exec.specs.Core.{Made, CoreStep, Look, Raise, Touch as TouchStep, Want, Mark, Kick, Irq as IrqWord, Plain, known_view, place_of_word, plain_from, blocks_from, word_of, Seen, Adds, shape_of, seen_after, part_events, is_end_of}
+use Rattle.its_exec.specs.Histories.{before_enabling, names, takes_commands, key_in}
+use Rattle.its_exec.specs.Core.{Made, CoreStep, Look, Raise, Touch as TouchStep, Want, Mark, Kick, Irq as IrqWord, Plain, has_begun, may_name, place_of_word, plain_from, blocks_from, word_of, Seen, Adds, shape_of, seen_after, part_events, is_end_of}
 use Rattle.its_exec.proofs.PortCore.PlaceLemmas.{lines_hold}
 use Rattle.its_exec.proofs.PortCore.PortLemmas.{adds_join}
 use Rattle.its_exec.proofs.PortCore.StepLocals.{no_bit}
@@ -328,15 +328,15 @@ base_kept old now next vcpu pendbaser n base target late adds silent same none p
     }
 
 -- a piece about an interrupt, in a call that names it by what the actor knows
-own_of_known : (seen : Seen) (operation : Operation) (key : Key) (part : List Made) → ((key : Key) → is_end_of (shape_of seen) seen.actor (Some operation) key ≡ false)
+own_of_known : (seen : Seen) (operation : Operation) (key : Key) (part : List Made) → takes_commands (shape_of seen) operation ≡ false → ((key : Key) → is_end_of (shape_of seen) seen.actor (Some operation) key ≡ false)
     → ((later : List Made) → IsTrue (are_about key later) → IsTrue (takes_none later) → IsTrue (names (shape_of seen) (view_by (seen_after seen later)) seen.actor operation key)) → IsNamedPiece seen key part → IsPieceOf seen operation part
-own_of_known seen operation key part ends named piece p idle is none =
+own_of_known seen operation key part commands ends named piece p idle is none =
     let shape = shape_of seen in
     named_good seen key part p piece idle
     (record {
       names_it = λ later about untaken.
-          let Named : Option Operation → Type 0 = λ operation. IsTrue (option_map_or (λ operation. names shape (known_view shape seen.actor (seen.own ++ later)) seen.actor operation key) operation false) in
-          subst Named (sym is) (named later about untaken);
+          let Named : Option Operation → Type 0 = λ operation. IsTrue (option_map_or (λ operation. may_name shape seen.actor (seen.own ++ later) operation key) operation false) in
+          subst Named (sym is) (and_from (names shape (view_by (seen_after seen later)) seen.actor operation key) _ (named later about untaken) (ap (λ b. not b || has_begun shape seen.actor (seen.own ++ later)) commands));
       ends_other = ap (λ operation. is_end_of shape seen.actor operation key) is ∙ ends key;
     })
     none
@@ -396,7 +396,7 @@ base_touched old now next vcpu pendbaser n word found part base target vcpu_ther
           let By : Seen → Type 0 = λ seen. NamesBy (shape_of seen) seen.actor operation (λ view. enable_events (shape_of seen) (before_enabling vcpu view) vcpu) in
           let its : NamesBy (shape_of now) now.actor operation (λ view. enable_events (shape_of now) (before_enabling vcpu view) vcpu) = subst By (sym base.adds.new_is) by in
           own_joins old now operation base.part late base.adds (base.piece operation by)
-          (own_of_known now operation key late its.ends_none
+          (own_of_known now operation key late its.commands its.ends_none
           (λ later about untaken.
           let after = seen_after now later in
           let adds : Adds now after later = record { new_is = refl } in

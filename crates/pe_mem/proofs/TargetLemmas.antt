@@ -15,9 +15,10 @@ use Rattle.its_exec.specs.GicRmap.Map.{decoded as redist_decoded}
 use Rattle.its_exec.specs.GicImap.declared.map.RegRef.{RegRef as ItsRef}
 use Rattle.its_exec.specs.GicImap.declared.map.RegRef.TheVariants.{Plain as ItsPlain, Reserved as ItsReserved}
 use Rattle.its_exec.specs.GicImap.Map.{decoded as its_decoded}
-use Rattle.its_exec.specs.Calls.{Pendbaser, Event, Touch, Put, Enable, Cpu, Found, Place, dist_events, dist_value, enable_events, is_in_table, is_table_zero, its_value, pended_at, redist_events, redist_value, access_events, access_value, its_events, Happened, HandsOut, IsLastRead, Makes, access_places, held_at, named_of, redist_places, View, Register, its_held, its_written}
+use Rattle.its_exec.specs.Calls.{Pendbaser, Event, Touch, Put, Enable, Cpu, Found, Place, dist_events, dist_value, enable_events, is_in_table, is_table_zero, its_value, pended_at, redist_events, redist_value, access_events, access_value, its_events, Happened, HandsOut, IsLastRead, Makes, access_places, held_at, named_of, redist_places, View, Register, its_held, its_written, MakesPlain, enabled_by, sets_lpis, pended_events}
 use Rattle.its_exec.specs.GicCall.declared.event.Event.TheVariants.{Read}
 use Rattle.its_exec.specs.GicCall.declared.event.Place.TheVariants.{Word, Queue as QueuePlace, Ctlr, Lpis}
+use Rattle.its_exec.proofs.GicCall.TraceLemmas.{sets_events}
 use Rattle.its_exec.specs.GicImap.declared.map.Reg.{Reg as ItsReg}
 use Rattle.pe_mem.specs.Found.{goes_by, goes_by_target, reads_bit}
 use Rattle.pe_mem.proofs.EachLemmas.{found_below}
@@ -163,3 +164,53 @@ events_with shape t view (Redist vcpu) offset size write agrees = redist_same sh
 events_with shape t view Its offset size write agrees = its_same shape t view (its_decoded offset size) write
 events_with shape t view Memory offset size None agrees = refl
 events_with shape t view Memory offset size (Some value) agrees = refl
+
+-- so it is with the events of an access
+pub plain_with :
+    (shape : GuestShape) (actor : ℕ) (t : ℕ → Option ℕ) (view : View) (frame : Frame) (offset size : ℕ) (write : Option ℕ) (piece : List Happened)
+    → ((id : ℕ) → IsTrue (has_interrupt shape (Lpi id)) → IsTrue (goes_by_target shape view frame offset size write id) → t id ≡ view.targets id)
+    → MakesPlain (enabled_by shape frame offset size write) shape view actor frame offset size write piece → MakesPlain (enabled_by shape frame offset size write) shape (with_targets t view) actor frame offset size write piece
+plain_with shape actor t view frame offset size write piece agrees made = by frame agrees made
+  where
+    Plain : Frame → View → Type 0
+    Plain frame view = Makes (Some actor) view (access_events shape view frame offset size write) (access_places shape view frame offset size write) [] piece
+
+    over : (frame : Frame) → access_events shape (with_targets t view) frame offset size write ≡ access_events shape view frame offset size write → Plain frame view → Plain frame (with_targets t view)
+    over frame same made =
+        let places = access_places shape view frame offset size write in
+        subst (λ events. Makes (Some actor) (with_targets t view) events (access_places shape (with_targets t view) frame offset size write) [] piece) (sym same)
+        (subst (λ places. Makes (Some actor) (with_targets t view) (access_events shape view frame offset size write) places [] piece) (sym (places_with shape t view frame offset size write))
+        (makes_targeted (Some actor) view t (access_events shape view frame offset size write) places [] piece made))
+
+    tail : (event : Event) (some more : List Event) → event ∷ some ≡ event ∷ more → some ≡ more
+    tail event some more e = cc
+
+    by : (frame : Frame) → ((id : ℕ) → IsTrue (has_interrupt shape (Lpi id)) → IsTrue (goes_by_target shape view frame offset size write id) → t id ≡ view.targets id)
+        → MakesPlain (enabled_by shape frame offset size write) shape view actor frame offset size write piece → MakesPlain (enabled_by shape frame offset size write) shape (with_targets t view) actor frame offset size write piece
+    by Dist agrees made = over Dist (events_with shape t view Dist offset size write agrees) made
+    by Its agrees made = over Its (events_with shape t view Its offset size write agrees) made
+    by Memory agrees made = over Memory (events_with shape t view Memory offset size write agrees) made
+    by (Redist vcpu) agrees made = of (sets_lpis shape (redist_decoded offset size) write) refl made
+      where
+        ref : RedistRef
+        ref = redist_decoded offset size
+
+        same : redist_events shape (with_targets t view) vcpu ref write ≡ redist_events shape view vcpu ref write
+        same = events_with shape t view (Redist vcpu) offset size write agrees
+
+        of : (b : Bool) → sets_lpis shape ref write ≡ b → MakesPlain (if b then Some vcpu else None) shape view actor (Redist vcpu) offset size write piece → MakesPlain (if b then Some vcpu else None) shape (with_targets t view) actor (Redist vcpu) offset size write piece
+        of false h made = over (Redist vcpu) same made
+        of true h made =
+            let pended : pended_events shape (with_targets t view) vcpu ≡ pended_events shape view vcpu
+            = tail (Enable vcpu) (pended_events shape (with_targets t view) vcpu) (pended_events shape view vcpu) (sym (sets_events shape (with_targets t view) vcpu ref write h) ∙ same ∙ sets_events shape view vcpu ref write h) in
+            let places = redist_places shape view vcpu ref write in
+            record {
+              begin = made.begin;
+              rest = made.rest;
+              split = made.split;
+              begun = makes_targeted (Some actor) view t (Enable vcpu ∷ []) [] [] made.begin made.begun;
+              made =
+                  subst (λ events. Makes (Some actor) (with_targets t view) events (redist_places shape (with_targets t view) vcpu ref write) [] made.rest) (sym pended)
+                  (subst (λ places. Makes (Some actor) (with_targets t view) (pended_events shape view vcpu) places [] made.rest) (sym (redist_placed shape t view vcpu ref write))
+                  (makes_targeted (Some actor) view t (pended_events shape view vcpu) places [] made.rest made.made));
+            }

@@ -3,8 +3,8 @@ use Rattle.std.specs.Prelude.{◌≡◌, ℕ, false, IsTrue, List, [], Option, S
 use Rattle.std.specs.List.{list_any}
 use Rattle.std.specs.Option.{option_map_or}
 use Rattle.its_exec.specs.Words.{Key, Frame, Mem, GuestShape, Lpi, has_interrupt, is_same_key}
-use Rattle.its_exec.specs.Calls.{Event, Operation, Access, Place, access_events, access_value, Makes, access_places, read_answer, View}
-use Rattle.its_exec.specs.Histories.{key_in, named_by, named_by_access, names}
+use Rattle.its_exec.specs.Calls.{Event, Operation, Access, Place, access_events, access_value, Makes, access_places, read_answer, View, MakesPlain, enabled_by}
+use Rattle.its_exec.specs.Histories.{key_in, named_by, named_by_access, names, takes_commands}
 use Rattle.its_exec.specs.Core.{Made, is_vcpu, Seen, Adds, shape_of, part_events, MakesCall, IsProperPart, Progress, is_end_of, is_settled}
 use Rattle.its_exec.specs.PortCall.Piece.{IsIdle, IsGoodPiece, IsPiece, takes_none}
 use Rattle.its_exec.specs.PortCall.Rest.{StaysAtEase}
@@ -39,28 +39,21 @@ pub record MakesAccess (old new : Seen) (frame : Frame) (offset size : ℕ) (wri
   pub tables : new.taken ≡ false
   pub after : CanAccess new
 
--- a part of a call that memory was refused for: it is no whole call, but proper so far, and nothing is owed
-pub record StopsAccess (old new : Seen) (frame : Frame) (offset size : ℕ) (write : Option ℕ) : Type 0 where
-  pub part : List Made
-  pub adds : Adds old new part
-  pub piece : IsPieceOf old (access_of frame offset size write) part
-  pub stays : StaysAtEase old.local new.local
-  pub tables : new.taken ≡ false
-  pub after : CanAccess new
-
 -- Pieces.
 
 -- one of some events is of the interrupt
 abbrev pub is_key_of : List Event → Key → Type 0
 is_key_of events key = IsTrue (list_any (λ event. option_map_or (is_same_key key) (key_in event) false) events)
 
--- a call ends no interrupt, and names all that some events are of, whatever its actor knows of the guest
+-- a call ends no interrupt, takes no commands, and names all that some events are of, whatever its actor knows of the guest
 pub record NamesAll (shape : GuestShape) (actor : ℕ) (operation : Operation) (events : List Event) : Type 0 where
+  pub commands : takes_commands shape operation ≡ false
   pub ends_none : (key : Key) → is_end_of shape actor (Some operation) key ≡ false
   pub names_each : (view : View) (key : Key) → is_key_of events key → IsTrue (names shape view actor operation key)
 
--- a call ends no interrupt, and names those that these events are of, with what its actor knows of the guest
+-- a call ends no interrupt, takes no commands, and names those that these events are of, with what its actor knows of the guest
 pub record NamesBy (shape : GuestShape) (actor : ℕ) (operation : Operation) (named : View → List Event) : Type 0 where
+  pub commands : takes_commands shape operation ≡ false
   pub ends_none : (key : Key) → is_end_of shape actor (Some operation) key ≡ false
   pub named_are : (view : View) → named_by shape view actor operation ≡ named view
 
@@ -91,3 +84,4 @@ pub record ServesAccess (old new : Seen) (frame : Frame) (offset size : ℕ) (wr
       (λ view. named_by_access (shape_of old) view frame offset size write)
   pub reads : read_answer write value ≡ read_answer write (access_value (shape_of old) serves.view frame offset size)
   pub found : (id : ℕ) → IsTrue (has_interrupt (shape_of old) (Lpi id)) → IsTrue (goes_by_target (shape_of old) serves.view frame offset size write id) → IsLookedAt old serves.part id (serves.view.targets id)
+  pub made : MakesPlain (enabled_by (shape_of old) frame offset size write) (shape_of old) serves.view old.actor frame offset size write (part_events old serves.part)

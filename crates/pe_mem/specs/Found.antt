@@ -82,7 +82,7 @@ IsFinding seen part (by_commands commands) = TookAmong seen part commands
 
 -- the vCPUs that LPIs are for agree with that
 abbrev pub Agrees : Finding → Beside → Type 0
-Agrees (by_looks goes_by targets) beside = (id : ℕ) → goes_by id ≡ true → beside.targets 0 id ≡ targets id
+Agrees (by_looks goes_by targets) beside = (id : ℕ) → goes_by id ≡ true → beside.targets id ≡ targets id
 Agrees (by_commands commands) beside = AgreeAll beside 0 commands
 
 -- they are those of the call, of an ITS with the maps as it was taken, whatever vCPUs the LPIs are for that agree with that

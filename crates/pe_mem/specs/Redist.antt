@@ -5,7 +5,7 @@ use Rattle.its_exec.specs.Registers.{Half, Whole}
 use Rattle.its_exec.specs.GicRmap.declared.map.Reg.{Reg}
 use Rattle.its_exec.specs.GicRmap.declared.map.RegRef.{RegRef}
 use Rattle.its_exec.specs.GicRmap.declared.map.RegRef.TheVariants.{Plain}
-use Rattle.its_exec.specs.Calls.{PlainWord, Put, enable_events, redist_events, redist_written, redist_held, redist_value, table_places, redist_places, read_answer}
+use Rattle.its_exec.specs.Calls.{PlainWord, Put, enable_events, redist_events, redist_written, redist_held, redist_value, table_places, redist_places, read_answer, Enable, MakesAfter, pended_events, sets_lpis}
 use Rattle.its_exec.specs.GicCall.declared.event.Event.TheVariants.{Read}
 use Rattle.its_exec.specs.GicCall.declared.event.Found.TheVariants.{Lpis as FoundLpis}
 use Rattle.its_exec.specs.GicCall.declared.event.Place.TheVariants.{Lpis}
@@ -23,6 +23,9 @@ pub record ServesRedist (old new : Seen) (vcpu : ℕ) (reference : RegRef) (writ
       (λ view. redist_events (shape_of old) (before_enabling vcpu view) vcpu reference write)
   pub reads : read_answer write value ≡ read_answer write (redist_value (shape_of old) serves.view vcpu reference)
   pub found : (id : ℕ) → IsTrue (has_interrupt (shape_of old) (Lpi id)) → IsTrue (goes_by (shape_of old) serves.view vcpu reference write id) → IsLookedAt old serves.part id (serves.view.targets id)
+  pub after :
+      IsTrue (sets_lpis (shape_of old) reference write)
+      → MakesAfter (Some old.actor) serves.view (Enable vcpu) (pended_events (shape_of old) serves.view vcpu) (redist_places (shape_of old) serves.view vcpu reference write) (part_events old serves.part)
 
 -- a read of a register that has no part for each interrupt
 pub record ReadsRedist (old new : Seen) (vcpu : ℕ) (reg : Reg) (value : ℕ) : Type 0 where
@@ -35,6 +38,9 @@ pub record WritesRedist (old new : Seen) (vcpu : ℕ) (reg : Reg) (half : Half) 
       Serves old new (λ view. redist_written (shape_of old) view vcpu reg half value) (λ view. redist_places (shape_of old) view vcpu (Plain reg half) (Some value))
       (λ view. redist_written (shape_of old) (before_enabling vcpu view) vcpu reg half value)
   pub found : (id : ℕ) → IsTrue (has_interrupt (shape_of old) (Lpi id)) → IsTrue (goes_by (shape_of old) serves.view vcpu (Plain reg half) (Some value) id) → IsLookedAt old serves.part id (serves.view.targets id)
+  pub after :
+      IsTrue (sets_lpis (shape_of old) (Plain reg half) (Some value))
+      → MakesAfter (Some old.actor) serves.view (Enable vcpu) (pended_events (shape_of old) serves.view vcpu) (redist_places (shape_of old) serves.view vcpu (Plain reg half) (Some value)) (part_events old serves.part)
 
 -- an actor looked at EnableLPIs of a vCPU, and found this
 pub record LooksAtLpis (old new : Seen) (vcpu : ℕ) (enabled : Bool) : Type 0 where
@@ -54,3 +60,5 @@ pub record EnablesLpis (old new : Seen) (vcpu : ℕ) : Type 0 where
   pub serves :
       Serves old new (λ view. enable_events (shape_of old) view vcpu) (λ view. if view.lpis vcpu then [] else table_places (shape_of old) view vcpu) (λ view. enable_events (shape_of old) (before_enabling vcpu view) vcpu)
   pub found : (id : ℕ) → IsTrue (has_interrupt (shape_of old) (Lpi id)) → IsTrue (reads_bit (shape_of old) serves.view vcpu id) → IsLookedAt old serves.part id (serves.view.targets id)
+  pub after :
+      MakesAfter (Some old.actor) serves.view (Enable vcpu) (pended_events (shape_of old) serves.view vcpu) (if serves.view.lpis vcpu then [] else table_places (shape_of old) serves.view vcpu) (part_events old serves.part)

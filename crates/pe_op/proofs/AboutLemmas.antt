@@ -6,7 +6,7 @@ use Rattle.std.proofs.lemmas.List.{append_assoc}
 use Rattle.std.proofs.lemmas.List.Elements.{All-nil, All-cons, All-append, All-weaker, filter-append, filter_map-append}
 use Rattle.pe_icc.specs.Words.{GuestShape, Frame, Dist, Redist, Its, Ram, Mem}
 use Rattle.pe_icc.specs.GicImap.Map.{decoded}
-use Rattle.pe_icc.specs.Calls.{Event, Place, takes_turn, Happened, Beside, HandsOut, IsLastRead, IsPlainCall, IsItsCall, IsItsWrite, IsAccessCall, Makes, held_at, is_beside, named_of, read_answer, View}
+use Rattle.pe_icc.specs.Calls.{Event, Place, takes_turn, Happened, Beside, HandsOut, IsLastRead, IsPlainCall, IsItsCall, IsItsWrite, IsAccessCall, Makes, held_at, is_beside, named_of, read_answer, View, MakesAfter, MakesPlain, enabled_by}
 use Rattle.pe_icc.specs.GicCall.declared.event.Event.TheVariants.{Read}
 use Rattle.pe_icc.specs.Registers.{Maps}
 use Rattle.pe_icc.specs.Core.{Made, no_maps, maps_taken}
@@ -65,12 +65,33 @@ makes_between actor view events places before piece after first last makes =
           places makes.reads;
     }
 
+-- a piece that begins with an event: moves before it are before that, and moves after it are after it
+after_between : (actor : ℕ) (view : View) (event : Event) (events : List Event) (places : List Place) (before piece after : List Happened) → IsTrue (are_moves actor before) → IsTrue (are_moves actor after) → MakesAfter (Some actor) view event events places piece
+    → MakesAfter (Some actor) view event events places (before ++ (piece ++ after))
+after_between actor view event events places before piece after first last makes =
+    record {
+      begin = before ++ (makes.begin ++ []);
+      rest = [] ++ (makes.rest ++ after);
+      split =
+          ap (λ piece. before ++ (piece ++ after)) makes.split
+          ∙ ap (λ events. before ++ events) (append_assoc makes.begin makes.rest after)
+          ∙ sym (append_assoc before makes.begin (makes.rest ++ after))
+          ∙ ap (λ begin. (before ++ begin) ++ (makes.rest ++ after)) (sym (append-nil makes.begin));
+      begun = makes_between actor view (event ∷ []) [] before makes.begin [] first refl makes.begun;
+      made = makes_between actor view events places [] makes.rest after refl last makes.made;
+    }
+
 -- Calls.
+
+plain_made_between : (enabled : Option ℕ) (shape : GuestShape) (view : View) (vcpu : ℕ) (frame : Frame) (offset size : ℕ) (write : Option ℕ) (before piece after : List Happened) → IsTrue (are_moves vcpu before) → IsTrue (are_moves vcpu after)
+    → MakesPlain enabled shape view vcpu frame offset size write piece → MakesPlain enabled shape view vcpu frame offset size write (before ++ (piece ++ after))
+plain_made_between None shape view vcpu frame offset size write before piece after first last made = makes_between vcpu view _ _ before piece after first last made
+plain_made_between (Some enabled) shape view vcpu frame offset size write before piece after first last made = after_between vcpu view _ _ _ before piece after first last made
 
 plain_between : (shape : GuestShape) (beside : Beside) (vcpu : ℕ) (frame : Frame) (offset size : ℕ) (write answer : Option ℕ) (before piece after : List Happened) → IsTrue (are_moves vcpu before) → IsTrue (are_moves vcpu after)
     → IsPlainCall shape beside vcpu frame offset size write piece answer → IsPlainCall shape beside vcpu frame offset size write (before ++ (piece ++ after)) answer
 plain_between shape beside vcpu frame offset size write answer before piece after first last call =
-    record { view = call.view; targets = call.targets; made = makes_between vcpu call.view _ _ before piece after first last call.made; answers = call.answers }
+    record { view = call.view; targets = call.targets; made = plain_made_between (enabled_by shape frame offset size write) shape call.view vcpu frame offset size write before piece after first last call.made; answers = call.answers }
 
 -- of a write that takes the ITS, the moves before it are before the turn, and those after it are after the turn
 its_between : (shape : GuestShape) (beside : Beside) (vcpu offset size value : ℕ) (answer : Option ℕ) (before piece after : List Happened) → IsTrue (are_moves vcpu before) → IsTrue (are_moves vcpu after)
@@ -89,7 +110,7 @@ its_between shape beside vcpu offset size value answer before piece after first 
           ∙ sym (append_assoc before (call.register ++ call.commands) (call.last ++ after))
           ∙ ap (λ events. events ++ (call.last ++ after)) (sym (append_assoc before call.register call.commands))
           ∙ ap (λ register. ((before ++ register) ++ call.commands) ++ (call.last ++ after)) (sym (append-nil call.register));
-      written = makes_between vcpu call.view _ _ before call.register [] first refl call.written;
+      written = after_between vcpu call.view _ _ _ before call.register [] first refl call.written;
       started = call.started;
       ended = makes_between vcpu call.view _ _ [] call.last after refl last call.ended;
       answers = call.answers;

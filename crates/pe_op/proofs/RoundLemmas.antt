@@ -1,8 +1,7 @@
 -- A memory-mapped access between an exit and an entry.
-use Rattle.std.proofs.Common.{◌≡◌, ℕ, true, if◌then◌else◌, IsTrue, List, ◌++◌, Option, Some, None, Result, Ok, Err, IfOk, OnErr, is_some, is_none, refl, sym, ap, subst, ◌∙◌}
-use Rattle.pe_icc.specs.Words.{Frame, Its, Mem}
-use Rattle.pe_icc.specs.GicImap.Map.{decoded}
-use Rattle.pe_icc.specs.Calls.{takes_turn, Happened, Beside, IsCall}
+use Rattle.std.proofs.Common.{◌≡◌, ℕ, true, if◌then◌else◌, IsTrue, List, ◌++◌, Option, Some, None, is_some, is_none, refl, sym, ap, subst, ◌∙◌}
+use Rattle.pe_icc.specs.Words.{Frame, Mem}
+use Rattle.pe_icc.specs.Calls.{Happened, Beside, IsCall}
 use Rattle.pe_icc.specs.VcpuState.declared.loaded.Loaded.{Loaded}
 use Rattle.pe_icc.specs.VcpuState.declared.shelved.Shelved.{Shelved}
 use Rattle.pe_icc.specs.VcpuState.Holding.{held_keys}
@@ -20,9 +19,9 @@ use Rattle.pe_icc.specs.Operate.{MayReenter}
 use Rattle.pe_icc.proofs.AmidLemmas.{leads_then}
 use Rattle.pe_icc.proofs.IccLemmas.{part_proper, part_runs}
 use Rattle.pe_icc.proofs.ReenterLemmas.{enter_leads, good_leads, idle_again, piece_leads}
-use Rattle.pe_its.specs.PeMem.Call.{IsPieceOf, MakesAccess, StopsAccess, access_of}
-use Rattle.pe_its.specs.PeMem.Found.{IsCallAsFound, takes_its_by, takes_turn_by}
-use Rattle.pe_op.specs.Operation.{DoesOperation, LeavesFirst, StopsOperation}
+use Rattle.pe_its.specs.PeMem.Call.{IsPieceOf, MakesAccess, access_of}
+use Rattle.pe_its.specs.PeMem.Found.{IsCallAsFound, takes_its_by}
+use Rattle.pe_op.specs.Operation.{DoesOperation, LeavesFirst}
 use Rattle.pe_op.proofs.AboutLemmas.{access_answers, access_between, maps_between}
 use Rattle.pe_op.proofs.FoundLemmas.{finding_between}
 
@@ -172,32 +171,3 @@ round_done old mid mid2 new before after shelved frame offset size write answer 
       up = enters.up;
       same = round_same old new before after access round;
     }
-
-pub round_stopped :
-    (old mid mid2 new : Seen) (before after : Loaded) (shelved : Shelved) (frame : Frame) (offset size : ℕ) (write : Option ℕ) → shelved ≡ shelved_of before → Leaves old mid before shelved → StopsAccess mid mid2 frame offset size write → frame ≡ Its
-    → takes_turn (shape_of mid) (decoded offset size) write ≡ true → Enters mid2 new shelved before.regs.n after → StopsOperation old new (Mem frame offset size write) before after
-round_stopped old mid mid2 new before after shelved frame offset size write is leaves stops its takes enters =
-    let access = stops.part in
-    let round : Round old new before after access = record { mid = mid; mid2 = mid2; shelved = shelved; shelved_is = is; leaves = leaves; adds = stops.adds; enters = enters } in
-    let leads = round_leads old new before after access frame offset size write round stops.piece in
-    let begin = λ (p : Progress) (run : IsRunning old before p). begins_so old before frame offset size write p run in
-    record {
-      part = round_part old new before after access round;
-      adds = round_adds old new before after access round;
-      takes = ap (λ frame. takes_turn_by (shape_of old) (Mem frame offset size write)) its ∙ ap (λ (seen : Seen). takes_turn (shape_of seen) (decoded offset size) write) (sym leaves.adds.new_is) ∙ takes;
-      proper = λ p run. (tt, leads.proper (progressed (shape_of old) old.actor p (begins (access_of frame offset size write) before.regs.n)) (begin p run));
-      goes_on = λ p run. leads.after (progressed (shape_of old) old.actor p (begins (access_of frame offset size write) before.regs.n)) (begin p run);
-      made = left_first old new before after access round;
-      up = enters.up;
-      same = round_same old new before after access round;
-    }
-
--- As results.
-
-pub ok_each : {X : Type 0} (E : Type 0) (result : Result X E) (A B : X → Type 0) → IfOk result A → ((x : X) → A x → B x) → IfOk result B
-ok_each E (Ok x) A B holds to = to x holds
-ok_each E (Err e) A B holds to = tt
-
-pub err_each : {X : Type 0} (E : Type 0) (result : Result X E) (A B C D : Type 0) → OnErr result A → OnErr result B → OnErr result C → (A → B → C → D) → OnErr result D
-err_each E (Ok x) A B C D one two three to = tt
-err_each E (Err e) A B C D one two three to = to one two three

@@ -1,18 +1,18 @@
 -- One operation of a vCPU that is on a PE: an access of a register of its CPU interface; or a memory-mapped access, round which it leaves its PE and enters
 -- it again (own choice).
-use Rattle.std.specs.Prelude.{◌≡◌, ℕ, true, false, List, [], ◌∷◌, ◌++◌, map, Option, Some, is_some, is_none}
+use Rattle.std.specs.Prelude.{◌≡◌, ℕ, false, List, [], ◌∷◌, ◌++◌, map, Option, Some, is_some, is_none}
 use Rattle.pe_icc.specs.Words.{GuestOp, Icc, Mem}
 use Rattle.pe_icc.specs.Calls.{Access}
 use Rattle.pe_icc.specs.VcpuState.declared.loaded.Loaded.{Loaded}
 use Rattle.pe_icc.specs.VcpuState.Holding.{held_keys}
-use Rattle.pe_icc.specs.Core.{Made, Poll, Seen, Adds, shape_of, part_events, seen_after, MakesCall, Act, begins, makes, part_of, Progress, paid, progress_of, IsProper}
+use Rattle.pe_icc.specs.Core.{Made, Poll, Seen, Adds, shape_of, part_events, seen_after, MakesCall, part_of, Progress, progress_of, IsProper}
 use Rattle.pe_icc.specs.PortCall.Piece.{steps_of}
 use Rattle.pe_icc.specs.PeLoop.Leave.{left_by}
 use Rattle.pe_icc.specs.PeLoop.Stay.{IsUp}
-use Rattle.pe_icc.specs.Amid.{IsRunning, IsAble, IsSame}
+use Rattle.pe_icc.specs.Amid.{IsRunning, IsSame}
 use Rattle.pe_icc.specs.Icc.{IsLight}
 use Rattle.pe_icc.specs.Operate.{finds_kick}
-use Rattle.pe_its.specs.PeMem.Found.{IsCallAsFound, takes_turn_by}
+use Rattle.pe_its.specs.PeMem.Found.{IsCallAsFound}
 
 -- the value that an operation writes; a read has none
 abbrev pub written_by : GuestOp → Option ℕ
@@ -44,21 +44,5 @@ pub record DoesOperation (old new : Seen) (op : GuestOp) (before after : Loaded)
   pub goes_on : (p : Progress) → IsRunning old before p → IsRunning new after (progress_of (shape_of old) old.actor p (part_of (Access op) before.regs.n part answer))
   pub answers : is_some answer ≡ is_none (written_by op)
   pub made : IsMadeBy old op before part
-  pub up : IsUp new after
-  pub same : IsSame before after
-
--- the beginning of a part: for a call, with the steps so far
-abbrev pub begun_part : GuestOp → ℕ → List Made → List Act
-begun_part op lrs part = begins (Access op) lrs ∷ map makes part
-
--- memory was refused for an operation, one that takes the ITS: the part that it added is no whole call, but proper so far wherever the vCPU's protocol was between
--- two accesses, and no scan is owed then; it is the same vCPU, on its PE again
-pub record StopsOperation (old new : Seen) (op : GuestOp) (before after : Loaded) : Type 0 where
-  pub part : List Made
-  pub adds : Adds old new part
-  pub takes : takes_turn_by (shape_of old) op ≡ true
-  pub proper : (p : Progress) → IsRunning old before p → IsProper (shape_of old) old.actor p (begun_part op before.regs.n part)
-  pub goes_on : (p : Progress) → IsRunning old before p → IsAble new after (Access op) paid (progress_of (shape_of old) old.actor p (begun_part op before.regs.n part))
-  pub made : LeavesFirst old before part
   pub up : IsUp new after
   pub same : IsSame before after

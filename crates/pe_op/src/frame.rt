@@ -1,22 +1,18 @@
 //! Accesses of any frame, each the whole call.
-ghost use Rattle.std.specs.Prelude.{◌≡◌, IsTrue, IfOk, OnErr, true};
-ghost use Rattle.pe_icc.specs.Words.{Its};
-ghost use Rattle.pe_icc.specs.GicImap.Map.{decoded};
+ghost use Rattle.std.specs.Prelude.{IsTrue};
 ghost use Rattle.pe_icc.specs.Registers.{is_size};
-ghost use Rattle.pe_icc.specs.Calls.{fits as fits_in, has_frame, takes_turn};
+ghost use Rattle.pe_icc.specs.Calls.{fits as fits_in, has_frame};
 ghost use Rattle.pe_icc.specs.Core.{shape_of};
-ghost use Rattle.pe_its.specs.PeMem.Call.{CanAccess, MakesAccess, StopsAccess};
-ghost use Rattle.pe_its.specs.Write.{StopsInTurn};
+ghost use Rattle.pe_its.specs.PeMem.Call.{CanAccess, MakesAccess};
 
-use pe_icc::{Frame, NoMemory, Port};
+use pe_icc::{Frame, Port};
 use pe_its::{dist_op, its_op, memory_op, redist_op};
 use std::sync::Wait;
 
 /// Makes an access of 1, 2, 4 or 8 bytes at a byte offset in a frame, or at an address of the guest's memory: a read, which
 /// answers its value, or a write of a value that fits the size (IHI 0069, "The GIC memory-mapped register maps"). It is
-/// `dist_op`, `redist_op`, `its_op` or `memory_op`; the guest has the vCPU whose redistributor is named. `NoMemory` comes only
-/// at a command of the ITS that maps something: then what was done is no whole call, but the ITS is given back. The vCPU has
-/// nothing at its interface and owes nothing, before and after.
+/// `dist_op`, `redist_op`, `its_op` or `memory_op`; the guest has the vCPU whose redistributor is named. The vCPU has nothing at
+/// its interface and owes nothing, before and after.
 pub fn mem_op<P: Port, R: Wait>(
     rt: &R,
     port: &mut P,
@@ -24,21 +20,17 @@ pub fn mem_op<P: Port, R: Wait>(
     offset: u32,
     size: u32,
     write: Option<u64>,
-) -> Result<Option<u64>, NoMemory>
+) -> Option<u64>
     requires can { CanAccess (P.seen port.old) }
     requires there { IsTrue (has_frame (shape_of (P.seen port.old)) frame) }
     requires size { IsTrue (is_size size) }
     requires fits { IsTrue (fits_in size write) }
-    ensures made { IfOk result (λ answer. MakesAccess (P.seen port.old) (P.seen port.new) frame offset size write answer) }
-    ensures stopped { OnErr result (StopsAccess (P.seen port.old) (P.seen port.new) frame offset size write) }
-    ensures wants { OnErr result (StopsInTurn (P.seen port.old) (P.seen port.new) offset size write) }
-    ensures its { OnErr result (frame ≡ Its) }
-    ensures takes { OnErr result (takes_turn (shape_of (P.seen port.old)) (decoded offset size) write ≡ true) }
+    ensures { MakesAccess (P.seen port.old) (P.seen port.new) frame offset size write result }
 {
     match frame {
-        Frame::Dist => Ok(dist_op(rt, port, offset, size, write)),
-        Frame::Redist { vcpu } => Ok(redist_op(rt, port, vcpu, offset, size, write)),
+        Frame::Dist => dist_op(rt, port, offset, size, write),
+        Frame::Redist { vcpu } => redist_op(rt, port, vcpu, offset, size, write),
         Frame::Its => its_op(rt, port, offset, size, write),
-        Frame::Ram => Ok(memory_op(rt, port, offset, size, write)),
+        Frame::Ram => memory_op(rt, port, offset, size, write),
     }
 }

@@ -1,13 +1,13 @@
 //! A memory-mapped access of a vCPU that is on a PE.
-ghost use Rattle.std.specs.Prelude.{◌≡◌, IsTrue, IfOk, OnErr};
+ghost use Rattle.std.specs.Prelude.{IsTrue};
 ghost use Rattle.pe_icc.specs.Words.{Mem};
 ghost use Rattle.pe_icc.specs.Core.{shape_of};
 ghost use Rattle.pe_icc.specs.Calls.{is_good_op};
 ghost use Rattle.pe_icc.specs.PeLoop.Stay.{IsUp};
-ghost use Rattle.pe_op.specs.Operation.{DoesOperation, StopsOperation};
+ghost use Rattle.pe_op.specs.Operation.{DoesOperation};
 
 use crate::frame::mem_op;
-use pe_icc::{Frame, Loaded, NoMemory, Port, copy_of, enter, leave};
+use pe_icc::{Frame, Loaded, Port, copy_of, enter, leave};
 use std::sync::Wait;
 
 /// Makes a memory-mapped access: the vCPU leaves its PE before it, and enters it again after it.
@@ -19,11 +19,10 @@ pub(crate) fn access_frame<P: Port, R: Wait>(
     offset: u32,
     size: u32,
     write: Option<u64>,
-) -> Result<Option<u64>, NoMemory>
+) -> Option<u64>
     requires up { IsUp (P.seen port.old) vcpu.old }
     requires good { IsTrue (is_good_op (shape_of (P.seen port.old)) (Mem frame offset size write)) }
-    ensures done { IfOk result (λ answer. DoesOperation (P.seen port.old) (P.seen port.new) (Mem frame offset size write) vcpu.old vcpu.new answer) }
-    ensures stopped { OnErr result (StopsOperation (P.seen port.old) (P.seen port.new) (Mem frame offset size write) vcpu.old vcpu.new) }
+    ensures { DoesOperation (P.seen port.old) (P.seen port.new) (Mem frame offset size write) vcpu.old vcpu.new result }
 {
     let lrs = vcpu.regs.n;
     let shelved = leave(port, copy_of(vcpu));

@@ -42,7 +42,7 @@ look_call : (old : Seen) (vcpu : Loaded) (made : Made) → made.step ≡ Look (V
 look_call old vcpu made is up =
     let shape = shape_of old in
     let none : Option ℕ = None in
-    let beside : Beside = record { maps = maps_taken (made ∷ []); targets = λ number id. None } in
+    let beside : Beside = record { maps = maps_taken (made ∷ []); targets = λ id. None; commands = [] } in
     let one : vcpu_of_actor shape old.actor ≡ Some old.actor = ap (λ b. if b then Some old.actor else None) up.on.actor.is_one in
     record {
       beside = beside;

@@ -87,7 +87,7 @@ again_call old mid new vcpu loaded shelved up leaves enters =
     let part = leaves.part ++ enters.part in
     let shape = shape_of old in
     let none : Option ℕ = None in
-    let beside : Beside = record { maps = maps_taken part; targets = λ number id. None } in
+    let beside : Beside = record { maps = maps_taken part; targets = λ id. None; commands = [] } in
     let moves : IsTrue (are_moves old.actor (part_events old part))
     = moves_join old mid leaves.part enters.part leaves.adds (ap (are_moves old.actor) leaves.events ∙ only_leave old.actor _) enters.moves in
     let one : vcpu_of_actor shape old.actor ≡ Some old.actor = ap (λ b. if b then Some old.actor else None) up.on.actor.is_one in

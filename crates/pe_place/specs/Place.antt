@@ -1,5 +1,6 @@
 -- Where a vCPU is, with what its port tells of it (own choice).
-use Rattle.std.specs.Prelude.{◌≡◌, ℕ, List, ◌∷◌, take}
+use Rattle.std.specs.Prelude.{◌≡◌, ℕ, ◌<◌, List, [], ◌∷◌, take, vec_capacity}
+use Rattle.std.specs.declared.vec.Vec.{Vec}
 use Rattle.dev_port.specs.Core.{Seen, Progress}
 use Rattle.pe_op.specs.PeLoop.Stay.{IsOff, IsUp}
 use Rattle.pe_op.specs.PeLoop.Enter.{IsBetween}
@@ -58,3 +59,8 @@ abbrev pub IsShown : Place → List ℕ → Type 0
 IsShown (Shelf vcpu) list = ⊥
 IsShown (Aside vcpu) list = ⊥
 IsShown (Pe vcpu) list = list ≡ vcpu.regs.hcr ∷ take vcpu.regs.n vcpu.regs.lr
+
+-- a list that has nothing yet, and room for ICH_HCR and all list registers that a PE can have
+pub record IsRoom {Z : Type 0} (list : Vec ℕ Z) : Type 0 where
+  pub none : list.items ≡ []
+  pub room : 16 < vec_capacity list

@@ -1,16 +1,15 @@
 //! Where a vCPU is, over a port that is the vCPU's.
-ghost use Rattle.std.specs.Prelude.{◌≡◌, ℕ, ◌≤◌, ◌∷◌, true, false, take, IfOk};
+ghost use Rattle.std.specs.Prelude.{◌≡◌, ℕ, ◌≤◌, ◌∷◌, true, false, take};
 ghost use Rattle.dev_port.specs.Words.{MAX_LIST_REGISTERS};
 ghost use Rattle.dev_port.specs.Core.{is_vcpu, shape_of};
 ghost use Rattle.pe_op.specs.PeLoop.Stay.{IsUp};
 ghost use Rattle.pe_place.specs.declared.place.Place.TheVariants.{Pe as OnPe};
 ghost use Rattle.pe_place.specs.Parts.{AreResidences};
-ghost use Rattle.pe_place.specs.Place.{pe, spot_of, entered, left, gone_aside, returned, IsAt, HasRegisters, IsShown};
+ghost use Rattle.pe_place.specs.Place.{pe, spot_of, entered, left, gone_aside, returned, IsAt, HasRegisters, IsShown, IsRoom};
 ghost use Rattle.pe_place.specs.Moves.{Moves, Reenters, ReentersAt, LooksForKick, WasNotKicked};
 
 use dev_port::{CoreStep, LrList, Port, VcpuWord, WordId};
 use pe_op::{Loaded, Shelved, copy_of, enter, leave};
-use std::alloc::{AllocError, Global};
 
 /// Where a vCPU is between two calls.
 #[derive(Debug, Drop)]
@@ -98,37 +97,35 @@ fn reenter<P: Port>(port: &mut P, vcpu: &mut Loaded)
     *vcpu = enter(port, shelved, lrs);
 }
 
-/// ICH_HCR, and then each list register of the vCPU's PE.
-fn registers(alloc: Global, vcpu: &Loaded) -> Result<LrList, AllocError>
-    requires { vcpu.now.regs.n ≤ MAX_LIST_REGISTERS }
-    ensures { IfOk result (λ list. list ≡ vcpu.now.regs.hcr ∷ take vcpu.now.regs.n vcpu.now.regs.lr) }
+/// ICH_HCR, and then each list register of the vCPU's PE, in a list that has room for them.
+fn registers(vcpu: &Loaded, room: Vec<u64>) -> LrList
+    requires few { vcpu.now.regs.n ≤ MAX_LIST_REGISTERS }
+    requires room { IsRoom room }
+    ensures { result ≡ vcpu.now.regs.hcr ∷ take vcpu.now.regs.n vcpu.now.regs.lr }
 {
-    let mut list = LrList::new(alloc);
-    list.push(u64::from(vcpu.regs.hcr))?;
+    let mut list = room;
+    list.push_reserved(u64::from(vcpu.regs.hcr));
     for word in &vcpu.regs.lr[..vcpu.regs.n as usize] {
-        list.push(*word)?;
+        list.push_reserved(*word);
     }
-    Ok(list)
+    LrList::from(list)
 }
 
-/// The vCPU, which is on a PE, leaves it and enters it again: ICH_HCR and the list registers of the PE then. An error where memory
-/// for them is refused.
-pub fn show_pe<P: Port>(
-    alloc: Global,
-    port: &mut P,
-    place: &mut Place,
-) -> Result<LrList, AllocError>
+/// The vCPU, which is on a PE, leaves it and enters it again: ICH_HCR and the list registers of the PE then, in a list that has room
+/// for them.
+pub fn show_pe<P: Port>(port: &mut P, place: &mut Place, room: Vec<u64>) -> LrList
     requires at { IsAt (P.seen port.old) place.old }
     requires on { spot_of place.old ≡ pe }
+    requires room { IsRoom room }
     ensures reenters { ReentersAt (P.seen port.old) (P.seen port.new) place.old place.new }
     ensures spot { spot_of place.new ≡ spot_of place.old }
     ensures registers { (lrs : ℕ) → HasRegisters lrs place.old → HasRegisters lrs place.new }
-    ensures shown { IfOk result (IsShown place.new) }
+    ensures shown { IsShown place.new result }
 {
     match place {
         Place::Pe(vcpu) => {
             reenter(port, vcpu);
-            registers(alloc, vcpu)
+            registers(vcpu, room)
         }
         Place::Shelf(_) | Place::Aside(_) => unreachable!(),
     }

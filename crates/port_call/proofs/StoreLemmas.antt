@@ -90,7 +90,7 @@ late_events seen made index expected value is late =
 
 -- The actor's own state stays.
 
-store_local : (seen : Seen) (index expected value found : ℕ) → local_after (shape_of seen) seen.actor seen.local (RamPut index expected value) found ≡ seen.local
+pub store_local : (seen : Seen) (index expected value found : ℕ) → local_after (shape_of seen) seen.actor seen.local (RamPut index expected value) found ≡ seen.local
 store_local seen index expected value found = of (found == expected)
   where
     of : (b : Bool) → (if b then seen.local else seen.local) ≡ seen.local
@@ -99,17 +99,17 @@ store_local seen index expected value found = of (found == expected)
 
 -- Misses.
 
-and_true : (a b : Bool) → IsTrue a → IsTrue b → (a && b) ≡ true
+pub and_true : (a b : Bool) → IsTrue a → IsTrue b → (a && b) ≡ true
 and_true true true h k = refl
 and_true true false h k = absurd (cc)
 and_true false b h k = absurd (cc)
 
 -- reads of the word, or none
-miss_events_join : (b : Bool) (word : PlainWord) (early late : List Happened) → AreMissEvents b word early → AreMissEvents b word late → AreMissEvents b word (early ++ late)
+pub miss_events_join : (b : Bool) (word : PlainWord) (early late : List Happened) → AreMissEvents b word early → AreMissEvents b word late → AreMissEvents b word (early ++ late)
 miss_events_join true word early late one two = All-append (λ happened. happened.event ≡ Read (Word word)) early late one two
 miss_events_join false word early late one two = ap (λ events. events ++ late) one ∙ two
 
-pub misses_join : (old mid new : Seen) (word : PlainWord) → MissesStore old mid word → MissesStore mid new word → MissesStore old new word
+unfoldable pub misses_join : (old mid new : Seen) (word : PlainWord) → MissesStore old mid word → MissesStore mid new word → MissesStore old new word
 misses_join old mid new word one two =
     let shape : shape_of mid ≡ shape_of old = ap shape_of one.adds.new_is in
     let missed : IsTrue (list_all (is_store_miss (place_of_plain (shape_of old) word)) two.part) = subst (λ shape. IsTrue (list_all (is_store_miss (place_of_plain shape word)) two.part)) shape two.missed in
@@ -125,7 +125,7 @@ misses_join old mid new word one two =
       piece = piece_then old mid one.part two.part one.adds one.piece two.piece;
     }
 
-store_events_join : (b : Bool) (word : PlainWord) (value found : ℕ) (early late : List Happened) → AreMissEvents b word early → AreStoreEvents b word value found late → AreStoreEvents b word value found (early ++ late)
+pub store_events_join : (b : Bool) (word : PlainWord) (value found : ℕ) (early late : List Happened) → AreMissEvents b word early → AreStoreEvents b word value found late → AreStoreEvents b word value found (early ++ late)
 store_events_join true word value found early late one two =
     record {
       reads = early ++ two.reads;
@@ -134,7 +134,7 @@ store_events_join true word value found early late one two =
     }
 store_events_join false word value found early late one two = ap (λ events. events ++ late) one ∙ two
 
-pub misses_then_stores : (old mid new : Seen) (word : PlainWord) (value : ℕ) → MissesStore old mid word → Stores mid new word value → Stores old new word value
+unfoldable pub misses_then_stores : (old mid new : Seen) (word : PlainWord) (value : ℕ) → MissesStore old mid word → Stores mid new word value → Stores old new word value
 misses_then_stores old mid new word value one two =
     let shape : shape_of mid ≡ shape_of old = ap shape_of one.adds.new_is in
     let missed : IsTrue (list_all (is_store_miss (place_of_plain (shape_of old) word)) two.misses) = subst (λ shape. IsTrue (list_all (is_store_miss (place_of_plain shape word)) two.misses)) shape two.missed in
@@ -162,11 +162,11 @@ misses_then_stores old mid new word value one two =
 
 -- One look, and one try.
 
-miss_of_reads : (b : Bool) (word : PlainWord) (found : ℕ) → AreMissEvents b word (if_event b (read_of word found))
+pub miss_of_reads : (b : Bool) (word : PlainWord) (found : ℕ) → AreMissEvents b word (if_event b (read_of word found))
 miss_of_reads true word found = All-cons (λ happened. happened.event ≡ Read (Word word)) (read_of word found) [] refl (All-nil (λ happened. happened.event ≡ Read (Word word)))
 miss_of_reads false word found = refl
 
-pub look_misses : (old mid : Seen) (word : PlainWord) (index found : ℕ) → IsTrue (has_plain (shape_of old) word) → index ≡ place_of_plain (shape_of old) word → plain_at (shape_of old) index ≡ word → AddsStep old mid (RamLook index) found → MissesStore old mid word
+unfoldable pub look_misses : (old mid : Seen) (word : PlainWord) (index found : ℕ) → IsTrue (has_plain (shape_of old) word) → index ≡ place_of_plain (shape_of old) word → plain_at (shape_of old) index ≡ word → AddsStep old mid (RamLook index) found → MissesStore old mid word
 look_misses old mid word index found there is back add =
     let made = made_by old (RamLook index) found add.tables in
     let place = place_of_plain (shape_of old) word in
@@ -213,7 +213,7 @@ try_misses mid new word index seen value found is late known add =
     no_events true = All-nil (λ happened. happened.event ≡ Read (Word word))
     no_events false = refl
 
-pub try_stores :
+unfoldable pub try_stores :
     (mid new : Seen) (word : PlainWord) (index seen value found : ℕ) → IsTrue (has_plain (shape_of mid) word) → index ≡ place_of_plain (shape_of mid) word → plain_at (shape_of mid) index ≡ word → (found == seen) ≡ true
     → IsTrue (goes_by_known mid (RamPut index seen value)) → AddsStep mid new (RamPut index seen value) found → Stores mid new word value
 try_stores mid new word index seen value found there is back e known add =

@@ -9,8 +9,7 @@ use Rattle.std.proofs.lemmas.List.Sums.{fold-append}
 use Rattle.floor_core.specs.Words.{Key, GuestShape, is_same_key, irq_of, is_number}
 use Rattle.floor_core.proofs.GicBase.KeyLemmas.{same_key}
 use Rattle.floor_core.specs.Calls.{Operation}
-use Rattle.floor_core.specs.Histories.{names}
-use Rattle.floor_core.specs.Core.{Made, CoreStep, Look, Touch, Want, Kick, Irq, local_after, succeeds, known_view, Seen, shape_of, seen_after, makes, Progress, is_end_of, progressed, progress_of, scan_on, stepped, IsProper, IsProperStep, keeps_seen, keeps_want, keeps_trap_scan, keeps_failed_claim, keeps_far_end, keeps_refill, Scan, idle, is_idle, scan_looked}
+use Rattle.floor_core.specs.Core.{Made, CoreStep, Look, Touch, Want, Kick, Irq, local_after, succeeds, Seen, shape_of, seen_after, makes, Progress, is_end_of, progressed, progress_of, scan_on, stepped, IsProper, IsProperStep, keeps_seen, keeps_want, may_name, keeps_trap_scan, keeps_failed_claim, keeps_far_end, keeps_refill, Scan, idle, is_idle, scan_looked}
 use Rattle.floor_core.proofs.PortCore.PortLemmas.{seen_joins}
 use Rattle.floor_core.specs.CoreProper.Progress.{changed_by}
 use Rattle.floor_core.proofs.CoreProper.PartLemmas.{proper_append}
@@ -110,14 +109,14 @@ trying_proper seen p key step trying known is naming =
       seen = subst own (sym is.own) known;
     }
   where
-    named : IsTrue (option_map_or (λ operation. names (shape_of seen) (known_view (shape_of seen) seen.actor p.own) seen.actor operation key) p.operation false)
+    named : IsTrue (option_map_or (λ operation. may_name (shape_of seen) seen.actor p.own operation key) p.operation false)
     named =
-        let Named : List Made → Type 0 = λ own. IsTrue (option_map_or (λ operation. names (shape_of seen) (known_view (shape_of seen) seen.actor own) seen.actor operation key) p.operation false) in
+        let Named : List Made → Type 0 = λ own. IsTrue (option_map_or (λ operation. may_name (shape_of seen) seen.actor own operation key) p.operation false) in
         subst Named (append-nil seen.own ∙ sym is.own) (naming.names_it [] refl refl)
 
     trying_want : (step : CoreStep) → IsTrue (is_trying key step) → IsTrue (keeps_want (shape_of seen) seen.actor p step)
     trying_want (Want other) h =
-        let Named : Key → Type 0 = λ key. IsTrue (option_map_or (λ operation. names (shape_of seen) (known_view (shape_of seen) seen.actor p.own) seen.actor operation key) p.operation false) in
+        let Named : Key → Type 0 = λ key. IsTrue (option_map_or (λ operation. may_name (shape_of seen) seen.actor p.own operation key) p.operation false) in
         subst Named (same_key key other h) named
     trying_want (Look (Irq other)) h = refl
     trying_want (Touch other seen kind) h = refl
@@ -180,8 +179,8 @@ naming_on seen p q key part about none same naming =
     let shape = shape_of seen in
     record {
       names_it = λ later about' none'.
-          let Named : List Made → Type 0 = λ own. IsTrue (option_map_or (λ operation. names shape (known_view shape seen.actor own) seen.actor operation key) q.operation false) in
-          let By : Option Operation → Type 0 = λ operation. IsTrue (option_map_or (λ operation. names shape (known_view shape seen.actor (seen.own ++ (part ++ later))) seen.actor operation key) operation false) in
+          let Named : List Made → Type 0 = λ own. IsTrue (option_map_or (λ operation. may_name shape seen.actor own operation key) q.operation false) in
+          let By : Option Operation → Type 0 = λ operation. IsTrue (option_map_or (λ operation. may_name shape seen.actor (seen.own ++ (part ++ later)) operation key) operation false) in
           subst Named (sym (append_assoc seen.own part later)) (subst By (sym same) (naming.names_it (part ++ later) (about_append key part later about about') (none_append part later none none')));
       ends_other = ap (λ operation. is_end_of shape seen.actor operation key) same ∙ naming.ends_other;
     }

@@ -3,8 +3,7 @@ use Rattle.std.specs.Prelude.{◌≡◌, Bool, true, false, IsTrue, List, [], �
 use Rattle.std.specs.List.{list_all}
 use Rattle.std.specs.Option.{option_map_or}
 use Rattle.floor_core.specs.Words.{Key, is_same_key}
-use Rattle.floor_core.specs.Histories.{names}
-use Rattle.floor_core.specs.Core.{Made, CoreStep, Look, Raise, Touch, Want, Mark, Kick, Irq, known_view, Seen, shape_of, seen_after, makes, Progress, is_end_of, progress_of, IsProper}
+use Rattle.floor_core.specs.Core.{Made, CoreStep, Look, Raise, Touch, Want, Mark, Kick, Irq, Seen, shape_of, seen_after, makes, Progress, is_end_of, progress_of, IsProper, may_name}
 use Rattle.port_call.specs.Piece.{steps_of, takes_none, IsIdle, StaysSo}
 
 -- a look at the interrupt, a change of it, a step that asks for it, a mark of it, or a kick
@@ -25,7 +24,7 @@ are_about key part = list_all (is_about key) (steps_of part)
 pub record IsNaming (seen : Seen) (p : Progress) (key : Key) : Type 0 where
   pub names_it :
       (part : List Made) → IsTrue (are_about key part) → IsTrue (takes_none part)
-      → IsTrue (option_map_or (λ operation. names (shape_of seen) (known_view (shape_of seen) seen.actor (seen.own ++ part)) seen.actor operation key) p.operation false)
+      → IsTrue (option_map_or (λ operation. may_name (shape_of seen) seen.actor (seen.own ++ part) operation key) p.operation false)
   pub ends_other : is_end_of (shape_of seen) seen.actor p.operation key ≡ false
 
 -- what an actor does is proper, and leaves it as far in its protocol, with no scan in progress, and asking for no interrupt

@@ -27,9 +27,8 @@ pub use floor_calls::{
     Actor as GuestActor, Answer, Answers, COMMAND_BYTES, Command, CpuRec, DeviceOp, Enables,
     End as GuestEnd, Ends, GuestOp, GuestShape, GuestSpec, Guests, Irq, ItsReg as Reg,
     ItsRegRef as RegRef, ItsTables, ListOf, LrList, NoMemory, PeOp, PlainWord, RunOut, Touching,
-    empty, enables_in, encode, interrupt_count, irq_pack as pack, irq_unpack, irqs,
-    its_decode as decode, key_at, opening_cpu, opening_enables, place_of_plain, plain_count,
-    queue_unpack,
+    enables_in, encode, interrupt_count, irq_pack as pack, irq_unpack, irqs, its_decode as decode,
+    key_at, opening_cpu, opening_enables, place_of_plain, plain_count, queue_unpack,
 };
 pub use laws::{opening_is_sound, parts_join, runs_are_sound, runs_join, steps_keep_sound};
 pub use local::{Local, Phase};

@@ -15,9 +15,8 @@ pub use port_core::{
     Answer, Answers, Atomic, COMMAND_BYTES, Command, CoreStep, CtlrWord, DeviceOp, Enables,
     EndWords, Entry, GuestActor as Actor, GuestOp, GuestWords, Guests, ItsTables, Local, LrList,
     Made, NO_VCPUS, NoMemory, PeOp, PlainWord, Port, Reg, RegRef, RunOut, Touching, VcpuWord,
-    WordId, WordList, actor_at, decode, empty, encode, guest_of, index_bit, index_bits,
-    index_words, key_of_bit, number_of, opening_cpu, place_of_plain, place_of_word, word_at,
-    word_count,
+    WordId, WordList, actor_at, decode, encode, guest_of, index_bit, index_bits, index_words,
+    key_of_bit, number_of, opening_cpu, place_of_plain, place_of_word, word_at, word_count,
 };
 pub use table::{Telling, Tells, operate};
 pub use words::{guest_words, opening_words};

@@ -66,12 +66,15 @@ impl GuestPort {
         let words = opening_words(alloc, &opened.guest)?;
         let locals = opened.locals(alloc)?;
         let (table, seat) = Table::of_words(alloc, words.as_slice(), &opened)?;
+        let Ok(tables) = ItsTables::of(alloc) else {
+            return Err(AllocError);
+        };
         Ok(GuestPort {
             opened,
             table,
             seat,
             locals,
-            its: ItsHome::Here(port_ops::empty(alloc)),
+            its: ItsHome::Here(tables),
             actor: 0,
         })
     }

@@ -53,7 +53,10 @@ impl GuestTable {
         let opened = Opened::of(alloc, number, guest)?;
         let words = opening_words(alloc, &opened.guest)?;
         let mut slots = Vec::new(alloc);
-        slots.push(Some(port_ops::empty(alloc)))?;
+        let Ok(tables) = ItsTables::of(alloc) else {
+            return Err(AllocError);
+        };
+        slots.push(Some(tables))?;
         match Table::new(alloc, words.as_slice(), slots, &opened) {
             Ok((table, seat)) => Ok((GuestTable { opened, table }, GuestRoot { seat })),
             Err(_) => Err(AllocError),

@@ -119,6 +119,7 @@ module _ (specs : List GuestSpec) (lrs : ℕ) (machine next : Machine) (told lat
       as_was : IsMachineAt specs lrs machine told (λ n. parts n ++ []) ideals
       as_was = record {
         lrs_is = at.lrs_is;
+        few_lrs = at.few_lrs;
         guests = at.guests;
         ports = at.ports;
         ideals_each = at.ideals_each;

@@ -37,6 +37,7 @@ pub record ClosesSoFar (first machine : Machine) (before told : SeqTold) (count 
 same_parts : (specs : List GuestSpec) (lrs : ℕ) (machine : Machine) (told : SeqTold) (parts other : ℕ → List WholePart) (ideals : List IdealGuest) → ((number : ℕ) → parts number ≡ other number) → IsMachineAt specs lrs machine told parts ideals → IsMachineAt specs lrs machine told other ideals
 same_parts specs lrs machine told parts other ideals same at = record {
   lrs_is = at.lrs_is;
+  few_lrs = at.few_lrs;
   guests = at.guests;
   ports = at.ports;
   ideals_each = at.ideals_each;

@@ -17,3 +17,4 @@ pub mod OpenLemmas
 pub mod CloseLemmas
 pub mod EndLemmas
 pub mod LeftLemmas
+pub mod RoomLemmas

@@ -102,6 +102,7 @@ module _ (specs : List GuestSpec) (lrs number : ℕ) (Does : GuestTold → Guest
     pub machine_acts : IsMachineAt specs lrs (record next { pes = pes }) later (λ n. parts n ++ more_of number more n) after
     machine_acts = record {
       lrs_is = acts.lrs ∙ at.lrs_is;
+      few_lrs = at.few_lrs;
       guests = ap length acts.next_is ∙ length-set machine.guests.items number acts.after ∙ at.guests;
       ports = ap length acts.told_is ∙ length-set told.guests number acts.guest ∙ at.ports;
       ideals_each = but.each ∙ at.ideals_each;

@@ -128,14 +128,15 @@ same_some : (a b : IdealGuest) → Some a ≡ Some b → a ≡ b
 same_some a b e = cc
 
 pub opens_none :
-    (scenario : Scenario) (machine : Machine) (told : SeqTold) (residents : List (Option VcpuName)) → All IsGoodGuest scenario.guests → machine.lrs ≡ scenario.lrs → machine.pes ≡ opened_to 0 residents
+    (scenario : Scenario) (machine : Machine) (told : SeqTold) (residents : List (Option VcpuName)) → All IsGoodGuest scenario.guests → machine.lrs ≡ scenario.lrs → scenario.lrs ≤ 16 → machine.pes ≡ opened_to 0 residents
     → AreOpened scenario.guests scenario.lrs told machine.guests.items (length scenario.guests) → OpensSoFar scenario machine told residents 0
-opens_none scenario machine told residents good lrs pes opened = record {
+opens_none scenario machine told residents good lrs few pes opened = record {
   parts = λ number. [];
   calls = λ number guest is. refl;
   at =
       record {
         lrs_is = lrs;
+        few_lrs = few;
         guests = opened.each;
         ports = opened.ports;
         ideals_each = length-map scenario.guests opening_guest;

@@ -6,4 +6,5 @@ pub mod Steps
 pub mod Machine
 pub mod Opened
 pub mod Acts
+pub mod Room
 pub mod Run

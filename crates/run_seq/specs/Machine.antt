@@ -1,5 +1,5 @@
 -- The PEs and the vCPUs of a schedule, over the port of its guests (own choice).
-use Rattle.std.specs.Prelude.{◌≡◌, ℕ, ◌<◌, Bool, true, false, IsTrue, List, [], ◌++◌, length, map, All, Option, Some, None, slice_get, slice_set}
+use Rattle.std.specs.Prelude.{◌≡◌, ℕ, ◌≤◌, ◌<◌, Bool, true, false, IsTrue, List, [], ◌++◌, length, map, All, Option, Some, None, slice_get, slice_set}
 use Rattle.law_ends_agree.specs.Histories.{IdealGuest}
 use Rattle.law_ends_agree.specs.IdealGuests.Opening.{opening as opening_guest}
 use Rattle.law_ends_agree.specs.GicIdeal.Eager.{after_step, step_answer}
@@ -52,6 +52,7 @@ pub record StandsOnce (pes : List (Option VcpuName)) : Type 0 where
 -- of the ideal controller
 pub record IsMachineAt (specs : List GuestSpec) (lrs : ℕ) (machine : Machine) (told : SeqTold) (parts : ℕ → List WholePart) (ideals : List IdealGuest) : Type 0 where
   pub lrs_is : machine.lrs ≡ lrs
+  pub few_lrs : lrs ≤ 16
   pub guests : length machine.guests.items ≡ length specs
   pub ports : length told.guests ≡ length specs
   pub ideals_each : length ideals ≡ length specs

@@ -1,11 +1,12 @@
 //! All PEs and vCPUs of a scenario, over its port.
-ghost use Rattle.std.specs.Prelude.{◌≡◌, ◌+◌, ◌≤◌, ◌∷◌, [], All, IfOk, IsTrue, None, length, replicate};
+ghost use Rattle.std.specs.Prelude.{◌≡◌, ◌+◌, ◌≤◌, All, IfOk, None, length};
 ghost use Rattle.law_ends_agree.specs.Words.{MAX_LIST_REGISTERS, Vcpu as VcpuActor};
 ghost use Rattle.law_ends_agree.specs.Calls.{IsGoodGuest};
 ghost use Rattle.law_one_thread_is_eager.specs.PortSeq.Ports.{told_all};
 ghost use Rattle.law_one_thread_is_eager.specs.PortSeq.Told.{IsOpening};
 ghost use Rattle.run_seq.specs.Opened.{AreOpened};
 
+use crate::room::zeros;
 use law_ends_agree::{
     Actor, Answer, DeviceOp, GuestOp, LrList, NoMemory, PeOp, Pes, Scenario, Step, VcpuName,
     answer_of, move_pes, opening_pes,
@@ -52,15 +53,7 @@ fn open_all(
     Ok(guests)
 }
 
-/// ICH_HCR and list registers that are all zeros.
-fn zeros(alloc: Global, lrs: u32) -> Result<LrList, AllocError>
-    ensures { IfOk result (λ list. list ≡ replicate (lrs + 1) 0) }
-{
-    Ok(LrList::from(vec![in alloc; 0; lrs as usize + 1]?))
-}
-
 impl Machine {
-    ghost use Rattle.std.specs.Prelude.{OnOk};
     ghost use Rattle.law_ends_agree.specs.Calls.{Access, Device as DeviceCall};
     ghost use Rattle.law_ends_agree.specs.ScnBase.declared.step.Step.TheVariants.{Pe as PeStep};
     ghost use Rattle.law_one_thread_is_eager.specs.PortSeq.Told.{guest_at};
@@ -69,6 +62,8 @@ impl Machine {
     ghost use Rattle.law_ends_agree.specs.ScnBase.declared.step.Mode.TheVariants.{Schedule};
     ghost use Rattle.law_ends_agree.specs.ScnBase.Good.{IsGood};
     ghost use Rattle.run_seq.specs.Acts.{HasVcpu, HasLoaded, CanOperate, CanReceive, MovesVcpu, ShowsVcpu, CallsOnce, ActsAs};
+    ghost use Rattle.law_one_thread_is_eager.specs.PePlace.Place.{IsRoom};
+    ghost use Rattle.run_seq.specs.Room.{HasRoomFor};
 
     /// The PEs and the vCPUs as a scenario opens: on PE 0, 1, .. the vCPUs in order of guest and number, as far as both last.
     /// `NoMemory` comes where memory is refused.
@@ -94,7 +89,7 @@ impl Machine {
                     guest: name.guest,
                     vcpu: name.vcpu,
                 };
-                machine.step(rt, alloc, port, &Step::Pe { pe: pe as u32, op })?;
+                machine.step(rt, port, &Step::Pe { pe: pe as u32, op }, None);
             }
         }
         Ok(machine)
@@ -118,39 +113,38 @@ impl Machine {
         self.guests[name.guest as usize].leave(rt, port.current_mut(), name.vcpu);
     }
 
-    /// A vCPU that is on a PE leaves it and enters it again: ICH_HCR and the list registers of the PE then. An error where memory
-    /// for them is refused.
+    /// A vCPU that is on a PE leaves it and enters it again: ICH_HCR and the list registers of the PE then, in a list that has room
+    /// for them.
     fn show<R: Wait>(
         &mut self,
         rt: &R,
-        alloc: Global,
         port: &mut SeqPort,
         name: VcpuName,
-    ) -> Result<LrList, AllocError>
-        requires { HasLoaded self.old (told_all port.old) name }
-        ensures { IfOk result (λ list. GuestActs name.guest (ShowsVcpu name.vcpu list) self.old self.new (told_all port.old) (told_all port.new)) }
+        room: Vec<u64>,
+    ) -> LrList
+        requires loaded { HasLoaded self.old (told_all port.old) name }
+        requires room { IsRoom room }
+        ensures { GuestActs name.guest (ShowsVcpu name.vcpu result) self.old self.new (told_all port.old) (told_all port.new) }
     {
         port.set_actor(first_of(name.guest));
         let guest = &mut self.guests[name.guest as usize];
-        let list = guest.show(rt, alloc, port.current_mut(), name.vcpu)?;
-        Ok(list)
+        guest.show(rt, port.current_mut(), name.vcpu, room)
     }
 
-    /// A vCPU that is on a PE does an operation. `NoMemory` comes only at a write that takes the ITS.
+    /// A vCPU that is on a PE does an operation.
     fn operate<R: Wait>(
         &mut self,
         rt: &R,
         port: &mut SeqPort,
         name: VcpuName,
         op: &GuestOp,
-    ) -> Result<Option<u64>, NoMemory>
+    ) -> Option<u64>
         requires { CanOperate self.old (told_all port.old) name op.now }
-        ensures { IfOk result (λ value. GuestActs name.guest (CallsOnce name.vcpu (Access op.now) value) self.old self.new (told_all port.old) (told_all port.new)) }
+        ensures { GuestActs name.guest (CallsOnce name.vcpu (Access op.now) result) self.old self.new (told_all port.old) (told_all port.new) }
     {
         port.set_actor(first_of(name.guest));
         let guest = &mut self.guests[name.guest as usize];
-        let value = guest.operate(rt, port.current_mut(), name.vcpu, op)?;
-        Ok(value)
+        guest.operate(rt, port.current_mut(), name.vcpu, op)
     }
 
     /// A device of a guest does an operation.
@@ -169,89 +163,85 @@ impl Machine {
         self.guests[guest as usize].receive(rt, port.current_mut(), device, op);
     }
 
-    /// A step of a PE, before the PEs are noted anew, and what it answers. An error where memory for that is refused.
+    /// A step of a PE, before the PEs are noted anew, and what it answers, in a list that has room for it.
     fn pe_step<R: Wait>(
         &mut self,
         rt: &R,
-        alloc: Global,
         port: &mut SeqPort,
         pe: u32,
         op: PeOp,
-    ) -> Result<Answer, AllocError>
-        requires { IsReady self.old (told_all port.old) (PeStep pe op) }
-        ensures { IfOk result (ActsAs self.old self.new (told_all port.old) (told_all port.new) (PeStep pe op)) }
+        room: Option<Vec<u64>>,
+    ) -> Answer
+        requires ready { IsReady self.old (told_all port.old) (PeStep pe op) }
+        requires room { HasRoomFor (PeStep pe op) room }
+        ensures { ActsAs self.old self.new (told_all port.old) (told_all port.new) (PeStep pe op) result }
     {
         match (op, self.pes.as_slice()[pe as usize]) {
             (PeOp::Enter { guest, vcpu }, _) => self.enter(rt, port, VcpuName { guest, vcpu }),
             (PeOp::Exit, Some(name)) => self.leave(rt, port, name),
             (PeOp::Exit, None) => {}
             (PeOp::Lrs, Some(name)) => {
-                return Ok(Answer::Regs(self.show(rt, alloc, port, name)?));
+                return Answer::Regs(self.show(rt, port, name, room.unwrap()));
             }
-            (PeOp::Lrs, None) => return Ok(Answer::Regs(zeros(alloc, self.lrs)?)),
+            (PeOp::Lrs, None) => return Answer::Regs(zeros(room.unwrap(), self.lrs)),
         }
-        Ok(Answer::Nothing)
+        Answer::Nothing
     }
 
-    /// A step, before the PEs are noted anew, and what it answers. `NoMemory` comes where memory for the answer is refused, and for
-    /// a command of the ITS.
+    /// A step, before the PEs are noted anew, and what it answers.
     fn act<R: Wait>(
         &mut self,
         rt: &R,
-        alloc: Global,
         port: &mut SeqPort,
         step: &Step,
-    ) -> Result<Answer, NoMemory>
-        requires { IsReady self.old (told_all port.old) step.now }
-        ensures { IfOk result (ActsAs self.old self.new (told_all port.old) (told_all port.new) step.now) }
+        room: Option<Vec<u64>>,
+    ) -> Answer
+        requires ready { IsReady self.old (told_all port.old) step.now }
+        requires room { HasRoomFor step.now room }
+        ensures { ActsAs self.old self.new (told_all port.old) (told_all port.new) step.now result }
     {
         match *step {
             Step::Vcpu { guest, vcpu, op } => {
                 let name = VcpuName { guest, vcpu };
-                Ok(answer_of(self.operate(rt, port, name, &op)?))
+                answer_of(self.operate(rt, port, name, &op))
             }
             Step::Device { guest, device, op } => {
                 self.receive(rt, port, guest, device, &op);
-                Ok(Answer::Nothing)
+                Answer::Nothing
             }
-            Step::Pe { pe, op } => Ok(self.pe_step(rt, alloc, port, pe, op)?),
+            Step::Pe { pe, op } => self.pe_step(rt, port, pe, op, room),
         }
     }
 
-    /// Does a step, and answers what it reads. `NoMemory` comes where memory for the answer is refused, and for a command of
-    /// the ITS.
+    /// Does a step, and answers what it reads: the list registers that it shows in a list that has room for them. It asks for no
+    /// memory.
     pub(crate) fn step<R: Wait>(
         &mut self,
         rt: &R,
-        alloc: Global,
         port: &mut SeqPort,
         step: &Step,
-    ) -> Result<Answer, NoMemory>
-        requires { IsReady self.old (told_all port.old) step.now }
-        ensures { IfOk result (DoesStep self.old self.new (told_all port.old) (told_all port.new) step.now) }
+        room: Option<Vec<u64>>,
+    ) -> Answer
+        requires ready { IsReady self.old (told_all port.old) step.now }
+        requires room { HasRoomFor step.now room }
+        ensures { DoesStep self.old self.new (told_all port.old) (told_all port.new) step.now result }
     {
-        let answer = self.act(rt, alloc, port, step)?;
+        let answer = self.act(rt, port, step, room);
         move_pes(step, &mut self.pes);
-        Ok(answer)
+        answer
     }
 
-    /// Each vCPU that is on a PE leaves it. `NoMemory` does not come.
-    pub(crate) fn close<R: Wait>(
-        &mut self,
-        rt: &R,
-        alloc: Global,
-        port: &mut SeqPort,
-    ) -> Result<(), NoMemory>
+    /// Each vCPU that is on a PE leaves it.
+    pub(crate) fn close<R: Wait>(&mut self, rt: &R, port: &mut SeqPort)
         requires of { IsMachine self.old (told_all port.old) }
         requires few { length self.old.pes ≤ 8 }
-        ensures { OnOk result (Closes self.old self.new (told_all port.old) (told_all port.new)) }
+        ensures { Closes self.old self.new (told_all port.old) (told_all port.new) }
     {
         for pe in 0..self.pes.len() {
             if self.pes.as_slice()[pe].is_some() {
                 let op = PeOp::Exit;
-                self.step(rt, alloc, port, &Step::Pe { pe: pe as u32, op })?;
+                self.step(rt, port, &Step::Pe { pe: pe as u32, op }, None);
             }
         }
-        Ok(())
     }
 }

@@ -10,6 +10,7 @@ ghost use Rattle.law_one_thread_is_eager.specs.SeqGuest.Guest.{cpus_of};
 ghost use Rattle.run_seq.specs.Run.{HasRun, SamePorts};
 
 use crate::machine::{Machine, first_of};
+use crate::room::{rooms_for, take_room};
 use crate::watch::SeqWatch;
 use law_ends_agree::{Answers, CpuRecs, Done, Guests, NoMemory, RunOut, Scenario, ends_of};
 use law_one_thread_is_eager::{SeqPort, add_cpus};
@@ -32,7 +33,8 @@ fn all_cpus(alloc: Global, port: &mut SeqPort, guests: &Guests) -> Result<CpuRec
 }
 
 /// Does the steps of a scenario one after the other, on the words of its guests as they opened: what they answered, and the
-/// records of the CPU interfaces once each vCPU that is on a PE has left it. An error may come wherever memory is asked for.
+/// records of the CPU interfaces once each vCPU that is on a PE has left it. Memory is asked for before the first step, and after the
+/// last one for the records: an error comes where it is refused, and no step asks for any.
 pub fn run_on<R: Wait>(
     rt: &R,
     alloc: Global,
@@ -44,17 +46,23 @@ pub fn run_on<R: Wait>(
     ensures { IfOk result (λ done. HasRun scenario.now done (told_all port.new)) }
 {
     let mut machine = Machine::opening(rt, alloc, port, scenario)?;
-    let mut answers = Answers::new(alloc);
+    let mut rooms = rooms_for(alloc, scenario.steps.as_slice())?;
+    let mut answers = Vec::with_capacity(alloc, scenario.steps.len())?;
     for step in scenario.steps.as_slice() {
-        answers.push(machine.step(rt, alloc, port, step)?)?;
+        let room = take_room(&mut rooms, step);
+        answers.push_reserved(machine.step(rt, port, step, room));
     }
-    machine.close(rt, alloc, port)?;
+    machine.close(rt, port);
     let cpus = all_cpus(alloc, port, &scenario.guests)?;
-    Ok(Done { answers, cpus })
+    Ok(Done {
+        answers: Answers::from(answers),
+        cpus,
+    })
 }
 
 /// Runs a scenario: its steps one after the other, through the words of its guests and vCPUs that enter and leave PEs with its list
-/// registers, and shows the run to the watch, which was shown less than 2^64 - 1 before. An error where memory is refused.
+/// registers, and shows the run to the watch, which was shown less than 2^64 - 1 before. An error where memory is refused, before the
+/// first step or after the last one.
 pub fn run<R: Wait, W: SeqWatch>(
     rt: &R,
     alloc: Global,

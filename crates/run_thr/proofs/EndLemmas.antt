@@ -1,5 +1,5 @@
 -- A run ends: all steps of the scenario were done, by their own actors.
-use Rattle.std.proofs.Common.{◌≡◌, ℕ, ◌+◌, ◌-◌, ◌<◌, ◌==◌, ◌&&◌, ◌||◌, not, inl, inr, suc, true≢false, Bool, true, false, if◌then◌else◌, IsTrue, All, List, [], ◌∷◌, ◌++◌, length, map, Some, refl, sym, ap, subst, ◌∙◌, arith}
+use Rattle.std.proofs.Common.{◌≡◌, ℕ, ◌+◌, ◌-◌, ◌<◌, ◌&&◌, not, inl, inr, suc, true≢false, Bool, true, false, if◌then◌else◌, IsTrue, All, List, [], ◌∷◌, ◌++◌, length, map, Some, refl, sym, ap, subst, ◌∙◌, arith}
 use Rattle.std.specs.Prelude.{slice_get}
 use Rattle.std.proofs.Math.Logic.{∥∥₁_elim, ∥∥₁_map}
 use Rattle.std.proofs.Props.{props}
@@ -78,9 +78,7 @@ module _ (scenario : Scenario) (words : List WordsTold) (devices : List DeviceTo
   script_done : (p : ℕ) (trip : TripTold) → slice_get trips p ≡ Some trip → length trip.answers ≡ length (vcpu_ops trip.vcpu.guest trip.vcpu.vcpu scenario.steps)
   script_done p trip e =
       let done = at_all (λ (trip : TripTold). IsTrue (is_done trip)) trips p trip roll.done e in
-      let not_spent = at_all (λ (trip : TripTold). trip.spent ≡ false) trips p trip roll.none_spent e in
-      let all : (length trip.answers == length trip.script) ≡ true = subst (λ spent. IsTrue (spent || (length trip.answers == length trip.script))) not_spent done in
-      eqb-true (length trip.answers) (length trip.script) all ∙ ap length (at_all (IsTrip words scenario.lrs scenario.steps) trips p trip roll.trip e).script
+      eqb-true (length trip.answers) (length trip.script) done ∙ ap length (at_all (IsTrip words scenario.lrs scenario.steps) trips p trip roll.trip e).script
 
   pub all_heard : AllHeard scenario.steps (map heard_of trips)
   all_heard =
@@ -119,14 +117,13 @@ module _ (scenario : Scenario) (words : List WordsTold) (devices : List DeviceTo
     trip_ran p trip e =
         let one = words_at words trip.vcpu.guest in
         let is_trip = at_all (IsTrip words scenario.lrs scenario.steps) trips p trip roll.trip e in
-        let not_spent = at_all (λ (trip : TripTold). trip.spent ≡ false) trips p trip roll.none_spent e in
         let calls : own_steps one.guest.shape trip.vcpu.guest trip.vcpu.vcpu scenario.steps answers ≡ calls_answered trip.script trip.answers =
         vcpu_calls scenario.steps (map heard_of trips) answers one.guest.shape p (heard_of trip) are (apart_in_run words (map heard_of trips) roll.set.number names_are) (mapped heard_of trips p trip e) (trip_few scenario words devices trips roll p trip e)
         ∙ ap (λ script. calls_answered script trip.answers) (sym is_trip.script) in
         let Gone : ℕ → Type 0 = λ n. HasGone n (opening_seen one trip.vcpu.vcpu) trip.seen (λ (p : Progress). Unit {0}) (own_steps one.guest.shape trip.vcpu.guest trip.vcpu.vcpu scenario.steps answers) in
         let registers : scenario.lrs ≡ (if is_vcpu one.guest.shape trip.vcpu.vcpu then scenario.lrs else 0) =
         ap (λ (vcpu : Bool). if vcpu then scenario.lrs else 0) (sym (lt-ltb trip.vcpu.vcpu one.guest.shape.vcpus (trip_few scenario words devices trips roll p trip e))) in
-        ∥∥₁_map (is_trip.gone not_spent) (λ gone.
+        ∥∥₁_map is_trip.gone (λ gone.
         record {
           seen = trip.seen;
           own_is = sym (trip_steps p trip e);
@@ -285,8 +282,7 @@ module _ (scenario : Scenario) (words : List WordsTold) (devices : List DeviceTo
     cpu_is p trip e =
         let one = words_at words trip.vcpu.guest in
         let is_trip = at_all (IsTrip words scenario.lrs scenario.steps) trips p trip roll.trip e in
-        let not_spent = at_all (λ (trip : TripTold). trip.spent ≡ false) trips p trip roll.none_spent e in
-        ∥∥₁_elim (is_trip.gone not_spent) (Prim.hlevel props)
+        ∥∥₁_elim is_trip.gone (Prim.hlevel props)
         (λ gone.
         ap (λ own. (local_by one.guest.shape trip.vcpu.vcpu (opening_local_of one.guest one.number trip.vcpu.vcpu) own).cpu) (trip_steps p trip e ∙ ap (λ (s : Seen). s.own) gone.adds.new_is)
         ∙ sym (ap (λ (s : Seen). s.local.cpu) gone.adds.new_is) ∙ is_trip.off.cpu)

@@ -1,5 +1,5 @@
 -- All actors that a run ends with: each is there once.
-use Rattle.std.proofs.Common.{◌≡◌, ℕ, ◌+◌, ◌<◌, inl, inr, zero, suc, true, false, IsTrue, All, List, [], ◌∷◌, ◌++◌, length, map, Some, refl, sym, ap, subst, ◌∙◌, arith}
+use Rattle.std.proofs.Common.{◌≡◌, ℕ, ◌+◌, ◌<◌, inl, inr, zero, suc, true, IsTrue, All, List, [], ◌∷◌, ◌++◌, length, map, Some, refl, sym, ap, subst, ◌∙◌, arith}
 use Rattle.std.specs.Prelude.{slice_get}
 use Rattle.std.proofs.lemmas.Option.{get_or_from_slice_get, slice_get_within}
 use Rattle.law_threads_are_history.specs.Core.{Seen}
@@ -52,7 +52,6 @@ pub record Roll (scenario : Scenario) (words : List WordsTold) (devices : List D
   pub trip : All (IsTrip words scenario.lrs scenario.steps) trips
   pub placed : (p : ℕ) (trip : TripTold) → slice_get trips p ≡ Some trip → trip.place ≡ p
   pub done : All (λ (trip : TripTold). IsTrue (is_done trip)) trips
-  pub none_spent : All (λ (trip : TripTold). trip.spent ≡ false) trips
 
 -- their ports
 abbrev pub seens_of : List DeviceTold → List TripTold → List Seen

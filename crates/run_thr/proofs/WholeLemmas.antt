@@ -1,5 +1,5 @@
 -- From what the calls of a run say, one after the other: who was there at first, and that the run was done.
-use Rattle.std.proofs.Common.{◌≡◌, ℕ, ◌<◌, false, All, List, [], ◌∷◌, append-nil, length, length-append, map, take, get_or, Option, refl, sym, ap, subst, ◌∙◌, arith}
+use Rattle.std.proofs.Common.{◌≡◌, ℕ, ◌<◌, All, List, [], ◌∷◌, append-nil, length, length-append, map, take, get_or, Option, refl, sym, ap, subst, ◌∙◌, arith}
 use Rattle.std.specs.Prelude.{◌^◌}
 use Rattle.std.proofs.Math.Seq.{take-length}
 use Rattle.std.proofs.lemmas.List.Elements.{All-get_or}
@@ -66,8 +66,8 @@ told_names (device ∷ devices) = ap (λ (names : List DeviceName). name_of (dev
 module _ {J : Type 0} {run : Ghosts J} (scenario : Scenario) (words : List WordsTold) (lrs : ℕ) (steps : List Step) (set : IsSet scenario words) (lrs_is : scenario.lrs ≡ lrs) (steps_are : scenario.steps ≡ steps) (cast : Cast J run) (has : HasCast words cast (length words) 0 []) where
   pub roll_of :
       (shelf : ShelfTold) (old new : List (Hand J run)) (slots : List (Option (Trip J run))) → devices_in old ≡ map device_told cast.devices.items → HaveReturned shelf old new → All (IsDevice words steps) (devices_in new)
-      → AllCame (length cast.trips.items) slots → All (IsTrip words lrs steps) (trips_in slots) → All (λ (trip : TripTold). trip.spent ≡ false) (trips_in slots) → Roll scenario words (devices_in new) (trips_in slots)
-  roll_of shelf old new slots devices_are returned device came trip none_spent = record {
+      → AllCame (length cast.trips.items) slots → All (IsTrip words lrs steps) (trips_in slots) → Roll scenario words (devices_in new) (trips_in slots)
+  roll_of shelf old new slots devices_are returned device came trip = record {
     set = set;
     names = returned.names ∙ ap (map name_of) devices_are ∙ told_names cast.devices.items ∙ cast_names scenario words set cast has;
     device = subst (λ (s : List Step). All (IsDevice words s) (devices_in new)) (sym steps_are) device;
@@ -76,7 +76,6 @@ module _ {J : Type 0} {run : Ghosts J} (scenario : Scenario) (words : List Words
     trip = subst (λ (s : List Step). All (IsTrip words scenario.lrs s) (trips_in slots)) (sym steps_are) (subst (λ n. All (IsTrip words n steps) (trips_in slots)) (sym lrs_is) trip);
     placed = came.placed;
     done = came.done;
-    none_spent = none_spent;
   }
 
 -- the roots after all were joined, devices first

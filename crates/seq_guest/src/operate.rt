@@ -1,8 +1,7 @@
 //! An operation of a vCPU of a guest.
-ghost use Rattle.std.specs.Prelude.{◌≡◌, ◌≢◌, ℕ, ◌<◌, true, IsTrue, IfOk, OnOk, OnErr};
+ghost use Rattle.std.specs.Prelude.{◌≡◌, ◌≢◌, ℕ, ◌<◌, IsTrue};
 ghost use Rattle.guest_end.specs.Calls.{Access, is_good_op};
 ghost use Rattle.pe_place.specs.Core.{shape_of};
-ghost use Rattle.pe_place.specs.PeMem.Found.{takes_turn_by};
 ghost use Rattle.port_seq.specs.Ports.{told};
 ghost use Rattle.seq_guest.specs.Operation.{is_of_registers as is_of_registers_by};
 ghost use Rattle.pe_place.specs.Parts.{AreOneCall};
@@ -12,7 +11,7 @@ ghost use Rattle.seq_guest.specs.Guest.{AreAt, GoesOn, MakesWay, Operates, NoneK
 
 use crate::vcpus::Vcpus;
 use pe_place::operate_on;
-use port_seq::{CorePort as Port, Frame, GuestOp, GuestPort, NoMemory};
+use port_seq::{CorePort as Port, Frame, GuestOp, GuestPort};
 use std::sync::Wait;
 
 /// Whether an operation accesses a register of the distributor, of a redistributor or of the ITS: one that may be of interrupts
@@ -30,20 +29,19 @@ fn is_of_registers(op: &GuestOp) -> bool
 }
 
 impl Vcpus {
-    /// A vCPU that is on a PE does an operation. `NoMemory` comes only at a write that takes the ITS.
+    /// A vCPU that is on a PE does an operation.
     fn operate_one<R: Wait>(
         &mut self,
         rt: &R,
         port: &mut GuestPort,
         vcpu: u32,
         op: &GuestOp,
-    ) -> Result<Option<u64>, NoMemory>
+    ) -> Option<u64>
         requires at { AreAt (told port.old) self.old }
         requires there { vcpu < (told port.old).guest.shape.vcpus }
         requires on { spot_at self.old vcpu ≡ pe }
         requires good { IsTrue (is_good_op (told port.old).guest.shape op.now) }
-        ensures goes_on { IfOk result (λ answer. GoesOn (AreOneCall vcpu (Access op.now) answer) (told port.old) (told port.new) self.old self.new) }
-        ensures memory { OnErr result (takes_turn_by (told port.old).guest.shape op.now ≡ true) }
+        ensures goes_on { GoesOn (AreOneCall vcpu (Access op.now) result) (told port.old) (told port.new) self.old self.new }
         ensures spots { ChangesSpots for_none self.old self.new }
     {
         port.set_actor(vcpu);
@@ -64,28 +62,26 @@ impl Vcpus {
     }
 
     /// A vCPU that is on a PE does an operation, and no other vCPU is on one while that accesses a register over interrupts.
-    /// `NoMemory` comes only at a write that takes the ITS.
     pub fn operate<R: Wait>(
         &mut self,
         rt: &R,
         port: &mut GuestPort,
         vcpu: u32,
         op: &GuestOp,
-    ) -> Result<Option<u64>, NoMemory>
+    ) -> Option<u64>
         requires at { AreAt (told port.old) self.old }
         requires there { vcpu < (told port.old).guest.shape.vcpus }
         requires on { spot_at self.old vcpu ≡ pe }
         requires none { (other : ℕ) → spot_at self.old other ≢ aside }
         requires good { IsTrue (is_good_op (told port.old).guest.shape op.now) }
-        ensures operates { IfOk result (Operates (told port.old) (told port.new) self.old self.new vcpu op.now) }
-        ensures memory { OnErr result (takes_turn_by (told port.old).guest.shape op.now ≡ true) }
-        ensures spots { OnOk result (ChangesSpots for_none self.old self.new) }
-        ensures quiet { OnOk result (NoneKicked (told port.new) self.new) }
+        ensures operates { Operates (told port.old) (told port.new) self.old self.new vcpu op.now result }
+        ensures spots { ChangesSpots for_none self.old self.new }
+        ensures quiet { NoneKicked (told port.new) self.new }
     {
         self.make_way(port, vcpu, op);
-        let answer = self.operate_one(rt, port, vcpu, op)?;
+        let answer = self.operate_one(rt, port, vcpu, op);
         self.come_back(port);
         self.answer_kicks(rt, port);
-        Ok(answer)
+        answer
     }
 }

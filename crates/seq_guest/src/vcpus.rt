@@ -23,7 +23,7 @@ pub struct Vcpus {
 impl Vcpus {
     ghost use Rattle.pe_place.specs.Parts.{AreResidences};
     ghost use Rattle.pe_place.specs.declared.place.Place.{Place};
-    ghost use Rattle.pe_place.specs.Place.{shelf, pe, IsShown, entered, left, gone_aside, returned};
+    ghost use Rattle.pe_place.specs.Place.{shelf, pe, IsShown, IsRoom, entered, left, gone_aside, returned};
     ghost use Rattle.law_entries_are_plans.specs.LawRegistersStand.Asks.{IsUnkicked};
     ghost use Rattle.port_seq.specs.Told.{state_of};
     ghost use Rattle.seq_guest.specs.Guest.{AreAt, GoesOn, Shows, ShowsList, NoneKicked, spot_at, ChangesSpots, for_none, for_one, but_one, for_all};
@@ -199,42 +199,39 @@ impl Vcpus {
         self.answer_kicks(rt, port);
     }
 
-    /// A vCPU that is on a PE leaves it and enters it again: ICH_HCR and the list registers of the PE then. An error where memory
-    /// for them is refused.
-    fn show_one(
-        &mut self,
-        alloc: Global,
-        port: &mut GuestPort,
-        vcpu: u32,
-    ) -> Result<LrList, AllocError>
+    /// A vCPU that is on a PE leaves it and enters it again: ICH_HCR and the list registers of the PE then, in a list that has
+    /// room for them.
+    fn show_one(&mut self, port: &mut GuestPort, vcpu: u32, room: Vec<u64>) -> LrList
         requires at { AreAt (told port.old) self.old }
         requires there { vcpu < (told port.old).guest.shape.vcpus }
         requires on { spot_at self.old vcpu ≡ pe }
+        requires room { IsRoom room }
         ensures shows { Shows (told port.old) (told port.new) self.old self.new vcpu }
         ensures spots { ChangesSpots for_none self.old self.new }
-        ensures list { IfOk result (λ list. (place : Place) → slice_get self.new.places.items vcpu ≡ Some place → IsShown place list) }
+        ensures list { (place : Place) → slice_get self.new.places.items vcpu ≡ Some place → IsShown place result }
     {
         port.set_actor(vcpu);
-        show_pe(alloc, port, &mut self.places[vcpu as usize])
+        show_pe(port, &mut self.places[vcpu as usize], room)
     }
 
-    /// What a vCPU's PE shows in its list registers, and the kicks are answered that this gives.
+    /// What a vCPU's PE shows in its list registers, in a list that has room for them, and the kicks are answered that this gives.
     pub fn show<R: Wait>(
         &mut self,
         rt: &R,
-        alloc: Global,
         port: &mut GuestPort,
         vcpu: u32,
-    ) -> Result<LrList, AllocError>
+        room: Vec<u64>,
+    ) -> LrList
         requires at { AreAt (told port.old) self.old }
         requires there { vcpu < (told port.old).guest.shape.vcpus }
         requires on { spot_at self.old vcpu ≡ pe }
+        requires room { IsRoom room }
         ensures goes_on { GoesOn AreResidences (told port.old) (told port.new) self.old self.new }
         ensures spots { ChangesSpots for_none self.old self.new }
-        ensures shown { IfOk result (ShowsList (told port.old) (told port.new) self.old self.new vcpu) }
+        ensures shown { ShowsList (told port.old) (told port.new) self.old self.new vcpu result }
         ensures quiet { NoneKicked (told port.new) self.new }
     {
-        let shown = self.show_one(alloc, port, vcpu);
+        let shown = self.show_one(port, vcpu, room);
         self.answer_kicks(rt, port);
         shown
     }

@@ -104,7 +104,7 @@ module _ (scenario : Scenario) (words : List WordsTold) (set : IsSet scenario wo
   pub opens_trip :
       (vcpu place : ℕ) (script : List GuestOp) (seen : Seen) (cpu : CpuRec) → vcpu < (words_at words guest).guest.shape.vcpus → script ≡ vcpu_ops guest vcpu scenario.steps → seen ≡ opening_seen (words_at words guest) vcpu → PortIsOf words seen
       → cpu ≡ opening_cpu (get_or scenario.guests guest no_guest).on → place ≡ length (all_vcpus (take guest words)) + vcpu
-      → IsTrip words scenario.lrs scenario.steps (record { vcpu = record { guest = guest; vcpu = vcpu; cpu = cpu; next = 0 }; place = place; script = script; answers = []; spent = false; seen = seen })
+      → IsTrip words scenario.lrs scenario.steps (record { vcpu = record { guest = guest; vcpu = vcpu; cpu = cpu; next = 0 }; place = place; script = script; answers = []; seen = seen })
   opens_trip vcpu place script seen cpu few script_is seen_is of cpu_is place_is =
       let told = words_at words guest in
       let from = opening_seen told vcpu in
@@ -134,7 +134,7 @@ module _ (scenario : Scenario) (words : List WordsTold) (set : IsSet scenario wo
             (subst (All (GoodOp told.guest.shape)) (sym script_is) (good_ops scenario.pes (shapes_of scenario.guests) guest vcpu told.guest.shape guest_shape scenario.steps set.good.each_step));
         next = refl;
         most = omega arith;
-        gone = λ fresh.
+        gone =
             ∣ subst (λ (s : Seen). HasGone scenario.lrs from s (IsBetween s) (calls_answered script [])) (sym seen_is)
             (subst (HasGone scenario.lrs from from (IsBetween from)) (sym (answered_none script)) (gone_nowhere scenario.lrs from (IsBetween from) registers (record { new_is = sym (seen_nil from) }) (record { rest = record { local = refl; own = refl; scan = refl; wants = refl }; none_failed = refl; debt = refl })))
             ∣₁;

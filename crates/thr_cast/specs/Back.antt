@@ -1,5 +1,5 @@
 -- vCPUs that came back from the shelf (own choice).
-use Rattle.std.specs.Prelude.{◌≡◌, false, List, [], ◌∷◌, All, map, Option, Some, None}
+use Rattle.std.specs.Prelude.{◌≡◌, List, [], ◌∷◌, map, Option, Some, None}
 use Rattle.thr_trip.specs.declared.naming.Naming.{Ghosts}
 use Rattle.thr_trip.specs.declared.trip.Trip.{Trip}
 use Rattle.thr_trip.specs.Told.{trip_told}
@@ -17,8 +17,7 @@ trips_in (None ∷ slots) = trips_in slots
 abbrev pub heard_of : TripTold → Heard
 heard_of trip = record { name = record { guest = trip.vcpu.guest; vcpu = trip.vcpu.vcpu }; answers = trip.answers }
 
--- they brought back what each was answered and the record of its CPU interface, and memory was refused to none
+-- they brought back what each was answered and the record of its CPU interface
 pub record BroughtBack (trips : List TripTold) (back : Back) : Type 0 where
   pub heard : back.heard ≡ map heard_of trips
   pub cpus : back.cpus ≡ map (λ trip. trip.vcpu.cpu) trips
-  pub none_spent : All (λ trip. trip.spent ≡ false) trips

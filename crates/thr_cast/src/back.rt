@@ -20,8 +20,7 @@ pub struct Back {
     pub cpus: CpuRecs,
 }
 
-/// What the vCPUs bring back that lie in these slots, and their ports are joined again. An error where memory is refused, or was
-/// refused for an operation of one of them.
+/// What the vCPUs bring back that lie in these slots, and their ports are joined again. An error where memory is refused.
 pub fn take_apart<'a, J: Naming>(
     alloc: Global,
     words: &'a SharedWords,
@@ -40,10 +39,7 @@ pub fn take_apart<'a, J: Naming>(
     let mut cpus = CpuRecs::new(alloc);
     for slot in slots {
         let Some(trip) = slot else { unreachable!() };
-        let (vcpu, answers, port, spent) = trip.into_parts();
-        if spent {
-            return Err(NoMemory);
-        }
+        let (vcpu, answers, port) = trip.into_parts();
         join(words, root, port);
         let name = VcpuName {
             guest: vcpu.guest,

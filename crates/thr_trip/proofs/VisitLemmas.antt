@@ -1,5 +1,5 @@
 -- A vCPU enters a PE, does operations there, and leaves it.
-use Rattle.std.proofs.Common.{◌≡◌, ℕ, ◌<◌, ◌≤◌, All, Bool, true, false, true≢false, IsTrue, List, [], ◌∷◌, ◌++◌, append-nil, length, length-append, Option, Some, refl, sym, ap, subst, ◌∙◌, arith}
+use Rattle.std.proofs.Common.{◌≡◌, ℕ, ◌<◌, ◌≤◌, All, IsTrue, List, [], ◌∷◌, ◌++◌, append-nil, length, length-append, Option, Some, refl, sym, ap, subst, ◌∙◌, arith}
 use Rattle.std.specs.Prelude.{slice_get}
 use Rattle.std.proofs.Math.Logic.{∥∥₁_map}
 use Rattle.std.proofs.lemmas.Option.{slice_get_within}
@@ -12,7 +12,7 @@ use Rattle.pe_place.proofs.PeIcc.LawLemmas.{entry_runs, exit_rests}
 use Rattle.pe_place.specs.PeLoop.Enter.{Enters, IsBetween}
 use Rattle.pe_place.specs.PeLoop.Leave.{Leaves}
 use Rattle.pe_place.specs.PeLoop.Stay.{IsUp}
-use Rattle.pe_place.specs.PeOp.Operation.{DoesOperation, StopsOperation}
+use Rattle.pe_place.specs.PeOp.Operation.{DoesOperation}
 use Rattle.pe_place.specs.Parts.{Part, residence}
 use Rattle.pe_place.proofs.MoveLemmas.{residence_found}
 use Rattle.pe_place.specs.VcpuState.declared.loaded.Loaded.{Loaded}
@@ -31,14 +31,14 @@ use Rattle.port_table.proofs.PortCore.SameLemmas.{same_after, same_twice}
 
 -- Operations on the PE.
 
-pub operates_none : (script : List GuestOp) (seen : Seen) (vcpu : Loaded) (answers : List (Option ℕ)) → IsUp seen vcpu → length answers ≤ length script → Operates script seen seen vcpu vcpu answers answers false
+pub operates_none : (script : List GuestOp) (seen : Seen) (vcpu : Loaded) (answers : List (Option ℕ)) → IsUp seen vcpu → length answers ≤ length script → Operates script seen seen vcpu vcpu answers answers
 operates_none script seen vcpu answers up most =
     record {
       actor = record { home = refl; guest = refl; number = refl; actor = refl };
       up = up;
       same = record { base = refl; lrs = refl };
       most = most;
-      goes_on = λ none from gone. gone;
+      goes_on = λ from gone. gone;
     }
 
 same_vcpu : (one two three : Loaded) → IsSame one two → IsSame two three → IsSame one three
@@ -46,9 +46,9 @@ same_vcpu one two three a b =
     record { base = ap (λ (base : Shelved). record base { cpu = one.base.cpu }) b.base ∙ a.base; lrs = b.lrs ∙ a.lrs }
 
 pub operates_more :
-    (script : List GuestOp) (first old new : Seen) (start before after : Loaded) (answered answers : List (Option ℕ)) (op : GuestOp) (answer : Option ℕ) → Operates script first old start before answered answers false
+    (script : List GuestOp) (first old new : Seen) (start before after : Loaded) (answered answers : List (Option ℕ)) (op : GuestOp) (answer : Option ℕ) → Operates script first old start before answered answers
     → slice_get script (length answers) ≡ Some op → DoesOperation old new op before after answer
-    → Operates script first new start after answered (answers ++ answer ∷ []) false
+    → Operates script first new start after answered (answers ++ answer ∷ [])
 operates_more script first old new start before after answered answers op answer so there does =
     let part : Part = record { operation = Access op; lrs = before.regs.n; steps = does.part; answer = answer } in
     let within = slice_get_within script (length answers) op there in
@@ -57,22 +57,10 @@ operates_more script first old new start before after answered answers op answer
       up = does.up;
       same = same_vcpu start before after so.same does.same;
       most = omega (arith, length-append answers (answer ∷ []), within);
-      goes_on = λ none from gone.
-          let here = so.goes_on none from gone in
+      goes_on = λ from gone.
+          let here = so.goes_on from gone in
           subst (HasGone start.regs.n from new (IsRunning new after)) (sym (answered_more script answers op answer there))
           (goes_on_by start.regs.n from old new (IsRunning old before) (IsRunning new after) (calls_answered script answers) part so.same.lrs does.adds (record { made = does.call; found = does.found }) does.proper does.goes_on here);
-    }
-
-pub operates_stopped :
-    (script : List GuestOp) (first old new : Seen) (start before after : Loaded) (answered answers : List (Option ℕ)) (op : GuestOp) → Operates script first old start before answered answers false → StopsOperation old new op before after
-    → Operates script first new start after answered answers true
-operates_stopped script first old new start before after answered answers op so stops =
-    record {
-      actor = same_twice first old new so.actor (same_after old new stops.part stops.adds);
-      up = stops.up;
-      same = same_vcpu start before after so.same stops.same;
-      most = so.most;
-      goes_on = λ none. absurd (true≢false none);
     }
 
 -- The entry before them, and the exit after them.
@@ -89,12 +77,12 @@ leaves_by lrs from old new vcpu shelved calls lrs_is leaves gone =
     (goes_on_by lrs from old new (IsRunning old vcpu) (IsBetween new) calls (residence n leaves.part) lrs_is leaves.adds (residence_found old n leaves.part leaves.call) (λ p run. (exit_rests old new n vcpu shelved leaves p run).proper)
     (λ p run. (exit_rests old new n vcpu shelved leaves p run).between) gone)
 
--- A whole visit, of a vCPU that is not spent.
+-- A whole visit.
 
-module _ (words : List WordsTold) (lrs : ℕ) (steps : List Step) (trip : TripTold) (is : IsTrip words lrs steps trip) (fresh : trip.spent ≡ false) (entered operated left : Seen) (loaded after : Loaded) (back : Shelved) (next : ℕ) (answers : List (Option ℕ)) (refused : Bool) (enters : Enters trip.seen entered trip.vcpu lrs loaded) (operates : Operates trip.script entered operated loaded after trip.answers answers refused) (leaves : Leaves operated left after back) (back_is : back ≡ shelved_of after) (next_is : next ≡ length answers) where
+module _ (words : List WordsTold) (lrs : ℕ) (steps : List Step) (trip : TripTold) (is : IsTrip words lrs steps trip) (entered operated left : Seen) (loaded after : Loaded) (back : Shelved) (next : ℕ) (answers : List (Option ℕ)) (enters : Enters trip.seen entered trip.vcpu lrs loaded) (operates : Operates trip.script entered operated loaded after trip.answers answers) (leaves : Leaves operated left after back) (back_is : back ≡ shelved_of after) (next_is : next ≡ length answers) where
   -- how it is after it
   abbrev pub visited : TripTold
-  visited = record { vcpu = record back { next = next }; place = trip.place; script = trip.script; answers = answers; spent = refused; seen = left }
+  visited = record { vcpu = record back { next = next }; place = trip.place; script = trip.script; answers = answers; seen = left }
 
   same_actor : IsSameActor trip.seen left
   same_actor = same_twice trip.seen operated left (same_twice trip.seen entered operated (same_after trip.seen entered enters.part enters.adds) operates.actor) (same_after operated left leaves.part leaves.adds)
@@ -109,14 +97,14 @@ module _ (words : List WordsTold) (lrs : ℕ) (steps : List Step) (trip : TripTo
   by_name : (Says : ℕ → ℕ → Type 0) → Says trip.vcpu.guest trip.vcpu.vcpu → Says back.guest back.vcpu
   by_name Says so = subst (λ number. Says back.guest number) same_number (subst (λ guest. Says guest trip.vcpu.vcpu) same_guest so)
 
-  goes_on : HasGone lrs (opened words trip) trip.seen (IsBetween trip.seen) (calls_answered trip.script trip.answers) → refused ≡ false → HasGone lrs (opened words trip) left (IsBetween left) (calls_answered trip.script answers)
-  goes_on gone none =
+  goes_on : HasGone lrs (opened words trip) trip.seen (IsBetween trip.seen) (calls_answered trip.script trip.answers) → HasGone lrs (opened words trip) left (IsBetween left) (calls_answered trip.script answers)
+  goes_on gone =
       let from = opened words trip in
       let first = calls_answered trip.script trip.answers in
       let all = calls_answered trip.script answers in
       leaves_by lrs from operated left after back all (operates.same.lrs ∙ enters.lrs_is) leaves
       (subst (λ n. HasGone n from operated (IsRunning operated after) all) enters.lrs_is
-      (operates.goes_on none from (subst (λ n. HasGone n from entered (IsRunning entered loaded) first) (sym enters.lrs_is) (enters_by lrs from trip.seen entered trip.vcpu loaded first enters gone))))
+      (operates.goes_on from (subst (λ n. HasGone n from entered (IsRunning entered loaded) first) (sym enters.lrs_is) (enters_by lrs from trip.seen entered trip.vcpu loaded first enters gone))))
 
   pub visited_is : IsTrip words lrs steps visited
   visited_is =
@@ -136,7 +124,7 @@ module _ (words : List WordsTold) (lrs : ℕ) (steps : List Step) (trip : TripTo
         good = subst (λ (guest : GuestSpec). All (λ op. IsTrue (is_good_op guest.shape op)) trip.script) (sym same_actor.guest) is.good;
         next = next_is;
         most = operates.most;
-        gone = λ none.
+        gone =
             by_name (λ guest vcpu. ∥ HasGone lrs (from guest vcpu) left (IsBetween left) (calls_answered trip.script answers) ∥₁)
-            (∥∥₁_map (is.gone fresh) (λ gone. goes_on gone none));
+            (∥∥₁_map is.gone (λ gone. goes_on gone));
       }

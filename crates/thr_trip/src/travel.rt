@@ -26,7 +26,7 @@ impl<'a, J: Naming + Send> Traveller for Trip<'a, J> {
     }
 
     fn done(&self) -> bool {
-        self.spent || self.answers.len() == self.script.len()
+        self.answers.len() == self.script.len()
     }
 }
 

@@ -23,12 +23,10 @@ pub struct Trip<'a, J: Naming> {
     port: TablePort<'a>,
     /// Room for all of them is there from the start.
     pub(crate) answers: Vec<Option<u64>>,
-    /// Memory was refused for an operation: no further one is done.
-    pub(crate) spent: bool,
     run: PhantomData<J>,
     ghost few: { length script < 4294967296 },
     ghost room: { length script ≤ vec_capacity answers },
-    ghost is: { IsTrip J.words J.lrs J.steps (record { vcpu = vcpu; place = place; script = script; answers = answers.items; spent = spent; seen = seen_of port }) },
+    ghost is: { IsTrip J.words J.lrs J.steps (record { vcpu = vcpu; place = place; script = script; answers = answers.items; seen = seen_of port }) },
 }
 
 /// The vCPU as it is on no PE.
@@ -58,8 +56,8 @@ impl<'a, J: Naming> Trip<'a, J> {
         port: TablePort<'a>,
     ) -> Result<Self, AllocError>
         requires few { length script < 4294967296 }
-        requires is { IsTrip J.words J.lrs J.steps (record { vcpu = vcpu; place = place; script = script; answers = []; spent = false; seen = seen_of port }) }
-        ensures { IfOk result (λ trip. trip_told trip ≡ record { vcpu = vcpu; place = place; script = script; answers = []; spent = false; seen = seen_of port.entry }) }
+        requires is { IsTrip J.words J.lrs J.steps (record { vcpu = vcpu; place = place; script = script; answers = []; seen = seen_of port }) }
+        ensures { IfOk result (λ trip. trip_told trip ≡ record { vcpu = vcpu; place = place; script = script; answers = []; seen = seen_of port.entry }) }
     {
         let answers = Vec::with_capacity(alloc, script.len())?;
         Ok(Trip {
@@ -68,13 +66,12 @@ impl<'a, J: Naming> Trip<'a, J> {
             script,
             port,
             answers,
-            spent: false,
             run: PhantomData,
         })
     }
 
     /// The vCPU enters a PE with so many list registers (1 to 16), does the next operations of its script, at most so many, and
-    /// leaves the PE. It is spent where memory was refused for one.
+    /// leaves the PE.
     pub(crate) fn visit_pe<R: Wait, G: Gate>(
         &mut self,
         rt: &R,
@@ -88,7 +85,7 @@ impl<'a, J: Naming> Trip<'a, J> {
         ensures { (trip_told self.new).place ≡ (trip_told self.old).place }
     {
         let mut loaded = enter(&mut self.port, copy_of(&self.vcpu), lrs);
-        self.spent = operate(
+        operate(
             rt,
             &mut self.port,
             &mut loaded,
@@ -101,18 +98,17 @@ impl<'a, J: Naming> Trip<'a, J> {
         self.vcpu.next = self.answers.len() as u32;
     }
 
-    /// What is left of a vCPU that is done: its record, the answers of its script, its port, and whether it is spent.
-    pub fn into_parts(self) -> (Shelved, Vec<Option<u64>>, TablePort<'a>, bool)
-        ensures parts { (result.0 ≡ self.entry.vcpu) × (result.1.items ≡ (trip_told self.entry).answers) × (seen_of result.2 ≡ (trip_told self.entry).seen) × (result.3 ≡ (trip_told self.entry).spent) }
+    /// What is left of a vCPU that is done: its record, the answers of its script, and its port.
+    pub fn into_parts(self) -> (Shelved, Vec<Option<u64>>, TablePort<'a>)
+        ensures parts { (result.0 ≡ self.entry.vcpu) × (result.1.items ≡ (trip_told self.entry).answers) × (seen_of result.2 ≡ (trip_told self.entry).seen) }
         ensures is { IsTrip J.words J.lrs J.steps (trip_told self.entry) }
     {
         let Trip {
             vcpu,
             answers,
             port,
-            spent,
             ..
         } = self;
-        (vcpu, answers, port, spent)
+        (vcpu, answers, port)
     }
 }

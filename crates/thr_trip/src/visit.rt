@@ -5,7 +5,7 @@ ghost use Rattle.pe_place.specs.Core.{shape_of};
 ghost use Rattle.port_table.specs.Calls.{is_good_op};
 ghost use Rattle.thr_trip.specs.Operate.{Operates};
 
-use gic_io::{Gate, GuestOp, NoMemory};
+use gic_io::{Gate, GuestOp};
 use pe_place::{Loaded, guest_op};
 use port_table::CorePort as Port;
 use std::sync::Wait;
@@ -32,7 +32,7 @@ impl<'g, G: Gate> Passes<'g, G> {
 }
 
 /// The vCPU, which is on a PE, does the next operations of its script, at most so many, and their answers are kept behind those of
-/// the operations before. Whether memory was refused for one: then no further one is done.
+/// the operations before. There is room for them.
 pub(crate) fn operate<P: Port, R: Wait, G: Gate>(
     rt: &R,
     port: &mut P,
@@ -41,25 +41,21 @@ pub(crate) fn operate<P: Port, R: Wait, G: Gate>(
     answers: &mut Vec<Option<u64>>,
     most: u32,
     passes: &mut Passes<'_, G>,
-) -> bool
+)
     requires up { IsUp (P.seen port.old) vcpu.old }
     requires good { All (λ op. IsTrue (is_good_op (shape_of (P.seen port.old)) op)) script.now }
     requires room { length script.now ≤ vec_capacity answers.old }
     requires within { vec_len answers.old ≤ length script.now }
     ensures room { vec_capacity answers.new ≡ vec_capacity answers.old }
-    ensures operates { Operates script.now (P.seen port.old) (P.seen port.new) vcpu.old vcpu.new answers.old.items answers.new.items result }
+    ensures operates { Operates script.now (P.seen port.old) (P.seen port.new) vcpu.old vcpu.new answers.old.items answers.new.items }
 {
     for _ in 0..most {
         let Some(op) = script.get(answers.len()) else {
-            return false;
+            return;
         };
         passes.pass();
         let answer = guest_op(rt, port, vcpu, op);
         passes.pass();
-        match answer {
-            Ok(answer) => answers.push_reserved(answer),
-            Err(NoMemory) => return true,
-        }
+        answers.push_reserved(answer);
     }
-    false
 }

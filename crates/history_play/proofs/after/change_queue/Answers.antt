@@ -1,4 +1,4 @@
-use Rattle.std.proofs.Common.{◌≡◌, OnOk, sym, subst}
+use Rattle.std.proofs.Common.{◌≡◌, sym, subst}
 use Rattle.history_check.specs.GicCall.declared.event.Event.TheVariants.{Queue}
 use Rattle.history_check.specs.GicCall.declared.event.Found.TheVariants.{Nothing}
 use Rattle.history_check.specs.Histories.{happened}
@@ -10,4 +10,4 @@ finish-requires-clause-good c = faultless c.args.state.now c.args.actor c.args.o
 
 pub returns-in-Done-clause-value : goal.returns-in-Done-clause-value
 returns-in-Done-clause-value c =
-    subst (λ change. OnOk c.finish.result (c.finish.new.self ≡ happened c.args.actor (Queue c.args.offset change) c.args.state.now)) (sym c.in-Done.is) (c.finish.ensures.ok c.args.actor)
+    subst (λ change. c.finish.new.self ≡ happened c.args.actor (Queue c.args.offset change) c.args.state.now) (sym c.in-Done.is) (c.finish.ensures.value c.args.actor)

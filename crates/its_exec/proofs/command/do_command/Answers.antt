@@ -2,9 +2,7 @@
 use Rattle.std.proofs.Common.{ap}
 use Rattle.port_call.specs.Calls.{parts, lpis_of_device}
 use Rattle.port_call.specs.Core.{shape_of}
-use Rattle.its_exec.specs.Command.{DoesCommand}
-use Rattle.its_exec.specs.Plan.{ForgetsAll}
-use Rattle.its_exec.proofs.PlainLemmas.{does_mapd, ok_on}
+use Rattle.its_exec.proofs.PlainLemmas.{does_mapd}
 use Rattle.its_exec.proofs.command.do_command.Goals as goal
 
 pub returns-in-Mapd-default-default-default-true-clause-does : goal.returns-in-Mapd-default-default-default-true-clause-does
@@ -14,8 +12,7 @@ returns-in-Mapd-default-default-default-true-clause-does g c =
     let address = c.args.fetched.now.address in
     let maps = c.args.tables.now in
     let ids = lpis_of_device maps c.in-Mapd-default-default-default-true.device in
-    ok_on c.replace_device.result (ForgetsAll old new address ids) (DoesCommand old new address maps c.args.command.now) c.replace_device.ensures.does
-    (λ forgets. does_mapd old new address maps c.args.command.now ids (λ targets. ap (parts (shape_of old) maps targets) c.in-Mapd-default-default-default-true.is) forgets)
+    does_mapd old new address maps c.args.command.now ids (λ targets. ap (parts (shape_of old) maps targets) c.in-Mapd-default-default-default-true.is) c.replace_device.ensures.does
 
 pub returns-in-Mapd-clause-does : goal.returns-in-Mapd-clause-does
 returns-in-Mapd-clause-does g c =

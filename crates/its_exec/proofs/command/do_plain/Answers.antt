@@ -24,7 +24,7 @@ returns-then-several-clause-does g c =
     let mid = g.P.Port.seen c.do_some.new.port in
     let before = g.P.Port.seen c.do_some-2.new.port in
     let address = c.args.fetched.now.address in
-    does_several old mid before (g.P.Port.seen c.do_sweep.new.port) address c.args.tables.now c.carry_out.new.self c.args.command.now (sym c.is_about_several-several.ensures ∙ c.if-several.true) c.in_ok-carry_out.ensures.ok
+    does_several old mid before (g.P.Port.seen c.do_sweep.new.port) address c.args.tables.now c.carry_out.new.self c.args.command.now (sym c.is_about_several-several.ensures ∙ c.if-several.true) c.carry_out.ensures.value
     (as_some old mid address c.first_part-first.result _ c.first_part-first.ensures c.do_some.ensures) (as_some mid before address c.second_part-second.result _ c.second_part-second.ensures c.do_some-2.ensures) c.do_sweep.ensures
 
 pub returns-else-several-clause-does : goal.returns-else-several-clause-does

@@ -6,6 +6,6 @@ pub loop-preserved : goal.loop-preserved
 loop-preserved g c = (
   tt,
   tt,
-  c.take_command.ensures.ready,
-  taken_more (g.P.Port.seen c.args.port.now) (g.P.Port.seen c.loop.port) (g.P.Port.seen c.take_command.new.port) c.loop.fault c.in_ok-fault.fault c.loop.invariant.3 c.in_ok-fault.ensures.takes,
+  c.take_command-fault.ensures.ready,
+  taken_more (g.P.Port.seen c.args.port.now) (g.P.Port.seen c.loop.port) (g.P.Port.seen c.take_command-fault.new.port) c.loop.fault c.take_command-fault.result c.loop.invariant.3 c.take_command-fault.ensures.takes,
 )

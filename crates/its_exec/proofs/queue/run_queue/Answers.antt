@@ -1,6 +1,6 @@
 -- The looks, and then the commands.
 use Rattle.its_exec.proofs.QueueLemmas.{looked_ready}
-use Rattle.its_exec.proofs.RunLemmas.{if_runs, if_stops}
+use Rattle.its_exec.proofs.RunLemmas.{queue_runs}
 use Rattle.its_exec.proofs.queue.run_queue.Goals as goal
 
 pub run_commands-requires : goal.run_commands-requires
@@ -13,10 +13,5 @@ run_commands-requires g c =
 
 pub returns-clause-ends : goal.returns-clause-ends
 returns-clause-ends g c =
-    if_runs _ (g.P.Port.seen c.args.port.now) (g.P.Port.seen c.look_at_queue-queue.new.port) (g.P.Port.seen c.run_commands.new.port) c.args.shape.now c.run_commands.new.tables c.look_at_queue-queue.result c.run_commands.result
+    queue_runs (g.P.Port.seen c.args.port.now) (g.P.Port.seen c.look_at_queue-queue.new.port) (g.P.Port.seen c.run_commands.new.port) c.args.shape.now c.run_commands.new.tables c.run_commands.result c.look_at_queue-queue.result
     c.look_at_queue-queue.ensures c.run_commands.ensures.ends
-
-pub returns-clause-wants : goal.returns-clause-wants
-returns-clause-wants g c =
-    if_stops _ (g.P.Port.seen c.args.port.now) (g.P.Port.seen c.look_at_queue-queue.new.port) (g.P.Port.seen c.run_commands.new.port) c.args.shape.now c.run_commands.new.tables c.look_at_queue-queue.result c.run_commands.result
-    c.look_at_queue-queue.ensures c.run_commands.ensures.wants

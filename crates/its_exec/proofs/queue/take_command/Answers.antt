@@ -1,12 +1,9 @@
 -- The next command: it is fetched, and done, or the queue stalls at it.
 use Rattle.std.proofs.Common.{ap, sym, subst, ◌∙◌, option_map, Some}
-use Rattle.port_call.specs.Registers.{fault_number, number_of, Maps}
-use Rattle.port_call.specs.ItsCmd.Command.{decoded}
-use Rattle.port_call.specs.Core.{Seen}
+use Rattle.port_call.specs.Registers.{fault_number, number_of}
 use Rattle.its_exec.specs.declared.known.KnownQueue.{KnownQueue}
-use Rattle.its_exec.specs.Queue.{IsReady, FetchesMapping}
+use Rattle.its_exec.specs.Queue.{IsReady}
 use Rattle.its_exec.proofs.QueueLemmas.{ready_shape, takes_runs, holds_next, fetched_ready, fetched_bad, stalled_ready, done_next, done_good, finished_ready}
-use Rattle.its_exec.proofs.PlainLemmas.{err_any}
 use Rattle.its_exec.proofs.TakeLemmas.{took_good, took_bad}
 use Rattle.its_exec.proofs.queue.take_command.Goals as goal
 
@@ -42,29 +39,23 @@ pub do_command-requires-clause-known : goal.do_command-requires-clause-known
 do_command-requires-clause-known g c =
     (fetched_ready (g.P.Port.seen c.args.port.now) (g.P.Port.seen c.fetch-fetched.new.port) c.args.shape.now c.args.tables.now c.args.queue.now c.fetch-fetched.result c.requires.ready c.fetch-fetched.ensures.fetches).maps
 
-pub returns-in_err-do_command-clause-ready : goal.returns-in_err-do_command-clause-ready
-returns-in_err-do_command-clause-ready g c =
-    let old = g.P.Port.seen c.args.port.now in
-    let mid = g.P.Port.seen c.fetch-fetched.new.port in
-    let new = g.P.Port.seen c.do_command.new.port in
-    let now = fetched_ready old mid c.args.shape.now c.args.tables.now c.args.queue.now c.fetch-fetched.result c.requires.ready c.fetch-fetched.ensures.fetches in
-    let At : Seen → Type 0 = λ seen. IsReady seen c.args.shape.now c.do_command.new.tables c.args.queue.now in
-    let By : Maps → Type 0 = λ tables. IsReady mid c.args.shape.now tables c.args.queue.now in
-    subst At (sym c.in_err-do_command.ensures.err_port) (subst By (sym c.in_err-do_command.ensures.err_tables) now)
+pub do_command-requires-clause-fresh : goal.do_command-requires-clause-fresh
+do_command-requires-clause-fresh g c =
+    (fetched_ready (g.P.Port.seen c.args.port.now) (g.P.Port.seen c.fetch-fetched.new.port) c.args.shape.now c.args.tables.now c.args.queue.now c.fetch-fetched.result c.requires.ready c.fetch-fetched.ensures.fetches).fresh
 
 pub finish-requires-clause-next : goal.finish-requires-clause-next
 finish-requires-clause-next g c =
     let old = g.P.Port.seen c.args.port.now in
     let mid = g.P.Port.seen c.fetch-fetched.new.port in
     done_next mid (g.P.Port.seen c.do_command.new.port) c.args.queue.now c.fetch-fetched.result c.args.tables.now c.in-Ok.command (g.P.Port.is_port c.fetch-fetched.new.port).good.shape.ram_words
-    (holds_next old mid c.args.queue.now c.fetch-fetched.result c.fetch-fetched.ensures.fetches c.fetch-fetched.ensures.holds) c.in_ok-do_command.ensures.does
+    (holds_next old mid c.args.queue.now c.fetch-fetched.result c.fetch-fetched.ensures.fetches c.fetch-fetched.ensures.holds) c.do_command.ensures.does
 
 pub finish-requires-clause-good : goal.finish-requires-clause-good
 finish-requires-clause-good g c =
     let old = g.P.Port.seen c.args.port.now in
     let mid = g.P.Port.seen c.fetch-fetched.new.port in
     let now = fetched_ready old mid c.args.shape.now c.args.tables.now c.args.queue.now c.fetch-fetched.result c.requires.ready c.fetch-fetched.ensures.fetches in
-    done_good mid (g.P.Port.seen c.do_command.new.port) c.args.shape.now c.args.tables.now c.args.queue.now c.fetch-fetched.result c.in-Ok.command c.decode.result now c.in_ok-do_command.ensures.does c.decode.ensures.value c.in-Ok.is (sym c.fault_in.ensures ∙ c.in_default-fault_in.is)
+    done_good mid (g.P.Port.seen c.do_command.new.port) c.args.shape.now c.args.tables.now c.args.queue.now c.fetch-fetched.result c.in-Ok.command c.decode.result now c.do_command.ensures.does c.decode.ensures.value c.in-Ok.is (sym c.fault_in.ensures ∙ c.in_default-fault_in.is)
 
 pub returns-clause-ready : goal.returns-clause-ready
 returns-clause-ready g c =
@@ -77,8 +68,8 @@ returns-clause-ready g c =
     let moved : KnownQueue → KnownQueue = λ q. record queue { offset = q.offset } in
     subst To (ap moved c.finish.ensures.queue ∙ sym c.finish.ensures.queue)
     (finished_ready mid (g.P.Port.seen c.do_command.new.port) new c.args.shape.now c.args.tables.now c.do_command.new.tables queue c.finish.new.queue.offset c.fetch-fetched.result c.in-Ok.command c.decode.result
-    (g.P.Port.is_port c.fetch-fetched.new.port).good.shape.ram_words now (holds_next old mid queue c.fetch-fetched.result c.fetch-fetched.ensures.fetches c.fetch-fetched.ensures.holds) (takes_runs queue c.requires.takes) c.in_ok-do_command.ensures.does
-    c.in_ok-do_command.ensures.tables c.decode.ensures.value c.in-Ok.is (sym c.fault_in.ensures ∙ c.in_default-fault_in.is) c.finish.ensures.place c.finish.ensures.ends)
+    (g.P.Port.is_port c.fetch-fetched.new.port).good.shape.ram_words now (holds_next old mid queue c.fetch-fetched.result c.fetch-fetched.ensures.fetches c.fetch-fetched.ensures.holds) (takes_runs queue c.requires.takes) c.do_command.ensures.does
+    c.do_command.ensures.tables c.decode.ensures.value c.in-Ok.is (sym c.fault_in.ensures ∙ c.in_default-fault_in.is) c.finish.ensures.place c.finish.ensures.ends)
 
 pub returns-in_default-clause-takes : goal.returns-in_default-clause-takes
 returns-in_default-clause-takes g c =
@@ -102,20 +93,6 @@ returns-clause-takes g c =
     let queue = c.args.queue.now in
     let moved : KnownQueue → KnownQueue = λ q. record queue { offset = q.offset } in
     took_good old mid (g.P.Port.seen c.do_command.new.port) (g.P.Port.seen c.finish.new.port) c.args.shape.now c.args.tables.now queue c.finish.new.queue.offset c.fetch-fetched.result c.in-Ok.command c.decode.result
-    (g.P.Port.is_port c.fetch-fetched.new.port).good.shape.ram_words c.requires.ready c.requires.takes c.fetch-fetched.ensures.fetches c.fetch-fetched.ensures.holds c.in_ok-do_command.ensures.does c.decode.ensures.value c.in-Ok.is
+    (g.P.Port.is_port c.fetch-fetched.new.port).good.shape.ram_words c.requires.ready c.requires.takes c.fetch-fetched.ensures.fetches c.fetch-fetched.ensures.holds c.do_command.ensures.does c.decode.ensures.value c.in-Ok.is
     (sym c.fault_in.ensures ∙ c.in_default-fault_in.is) (ap (λ queue. queue.offset) c.finish.ensures.queue) c.finish.ensures.ends c.do_command.new.tables c.finish.new.queue (returns-clause-ready g c)
-    (c.finish.ensures.queue ∙ sym (ap moved c.finish.ensures.queue)) (takes_runs queue c.requires.takes) c.in_ok-do_command.ensures.tables
-
-pub returns-in_err-do_command-clause-reads : goal.returns-in_err-do_command-clause-reads
-returns-in_err-do_command-clause-reads g c =
-    let old = g.P.Port.seen c.args.port.now in
-    let next = holds_next old (g.P.Port.seen c.fetch-fetched.new.port) c.args.queue.now c.fetch-fetched.result c.fetch-fetched.ensures.fetches c.fetch-fetched.ensures.holds in
-    let To : Seen → Type 0 = λ seen. FetchesMapping old seen in
-    err_any c.from_residual.result (FetchesMapping old (g.P.Port.seen c.do_command.new.port))
-    (subst To (sym c.in_err-do_command.ensures.err_port) (record {
-      part = c.fetch-fetched.ensures.fetches.part;
-      reading = c.fetch-fetched.ensures.fetches.reading;
-      command = c.in-Ok.command;
-      decoded_is = ap decoded (sym next.words_are) ∙ sym c.decode.ensures.value ∙ c.in-Ok.is;
-      mapping = c.in_err-do_command.ensures.wanted;
-    }))
+    (c.finish.ensures.queue ∙ sym (ap moved c.finish.ensures.queue)) (takes_runs queue c.requires.takes) c.do_command.ensures.tables

@@ -8,14 +8,14 @@ use Rattle.pe_its.proofs.change.try_change.Goals as goal
 
 pub returns-in_default : goal.returns-in_default
 returns-in_default g c =
-    keeps_looked (g.P.Port.seen c.args.port.now) (g.P.Port.seen c.step-seen.new.self) c.args.word (changed_by c.args.change) c.place_of_plain-index.result c.step-seen.result c.requires.there
+    keeps_looked (g.P.Port.seen c.args.port.now) (g.P.Port.seen c.step-seen.new.self) c.args.word (changed_by c.args.change) c.place_of_plain-index.result c.step-seen.result c.requires.there c.requires.kept
     (c.place_of_plain-index.ensures.value ∙ ap (λ shape. place_of_plain shape c.args.word) c.shape.ensures)
     (ap (λ shape. plain_at shape c.place_of_plain-index.result) (sym c.shape.ensures) ∙ c.place_of_plain-index.ensures.inverse)
     (sym c.applied.ensures ∙ c.in_default.is) c.step-seen.ensures.adds
 
 pub returns-then-step-seen : goal.returns-then-step-seen
 returns-then-step-seen g c =
-    stores_tried (g.P.Port.seen c.args.port.now) (g.P.Port.seen c.step-seen.new.self) (g.P.Port.seen c.step.new.self) c.args.word (changed_by c.args.change) c.place_of_plain-index.result c.step-seen.result c.in-Some.value c.step.result c.requires.there
+    stores_tried (g.P.Port.seen c.args.port.now) (g.P.Port.seen c.step-seen.new.self) (g.P.Port.seen c.step.new.self) c.args.word (changed_by c.args.change) c.place_of_plain-index.result c.step-seen.result c.in-Some.value c.step.result c.requires.there c.requires.kept
     (c.place_of_plain-index.ensures.value ∙ ap (λ shape. place_of_plain shape c.args.word) c.shape.ensures)
     (ap (λ shape. plain_at shape c.place_of_plain-index.result) (sym c.shape.ensures) ∙ c.place_of_plain-index.ensures.inverse)
     (sym c.applied.ensures ∙ c.in-Some.is) (eq-eqb c.step.result c.step-seen.result c.if-step-seen.true) c.step-seen.ensures.adds c.step.ensures.adds

@@ -1,5 +1,5 @@
 -- The looks, the register, and the commands.
-use Rattle.std.proofs.Common.{refl, sym, subst, ◌∙◌}
+use Rattle.std.proofs.Common.{true, refl, sym, subst, ◌∙◌}
 use Rattle.pe_mem.specs.Words.{GuestShape}
 use Rattle.pe_mem.specs.Registers.{Maps}
 use Rattle.pe_mem.specs.Core.{shape_of}
@@ -31,3 +31,12 @@ run_commands-requires g c =
     let By : Maps → Type 0 = λ maps. IsReady new (shape_of new) maps c.in-Some.queue in
     let For : GuestShape → Type 0 = λ shape. IsReady new shape c.args.tables.now c.in-Some.queue in
     record { ready = subst For (sym c.shape-shape.ensures) (subst By (sym (ready.maps ∙ c.write_register.ensures.has.maps)) c.in-Some.ensures.ready) }
+
+pub returns-in-Some-clause-serves : goal.returns-in-Some-clause-serves
+returns-in-Some-clause-serves g c =
+    record {
+      mid = g.P.Port.seen c.write_register.new.port;
+      starts = true;
+      begins = record { start = g.P.Port.seen c.look_at_queue-queue.new.port; queue = c.look_at_queue-queue.result; looks = c.look_at_queue-queue.ensures; writes = c.in-Some.ensures.writes };
+      runs = record { shape = c.shape-shape.result; tables = c.run_commands.new.tables; end = c.run_commands.result; over = c.run_commands.ensures.ends };
+    }

@@ -5,8 +5,8 @@ use Rattle.pe_op.specs.Operation.{DoesOperation}
 use Rattle.pe_op.proofs.FoundLemmas.{icc_found}
 use Rattle.pe_op.proofs.operation.guest_op.Goals as goal
 
-pub returns-in-Icc-clause-done : goal.returns-in-Icc-clause-done
-returns-in-Icc-clause-done g c =
+pub returns-in-Icc : goal.returns-in-Icc
+returns-in-Icc g c =
     let old = g.P.Port.seen c.args.port.now in
     let new = g.P.Port.seen c.icc_op.new.port in
     let made = c.icc_op.ensures in

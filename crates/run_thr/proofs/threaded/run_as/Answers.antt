@@ -53,7 +53,7 @@ all_answers-requires g c =
     let slots = c.close-slots.result.items in
     let has = c.in_ok-add_devices.ensures.workers shelf (nat_lt 0 c.args.pes) c.in_ok-add_pes.ensures.workers in
     let came = subst (λ n. AllCame n slots) (c.in_ok-shelf.ensures.places ∙ cast.trips.ok.0) (all_came shelf.places slots c.close-slots.ensures) in
-    let roll = roll_of scenario g.J.Naming.words g.J.Naming.lrs g.J.Naming.steps c.requires.set c.requires.lrs c.requires.steps cast c.in_ok-cast.ensures.cast shelf c.add_devices.new.workers.items workers slots has.devices_are c.run_crew.ensures c.gather.ensures.devices came c.in_ok-heard.ensures.trips c.in_ok-heard.ensures.back.none_spent in
+    let roll = roll_of scenario g.J.Naming.words g.J.Naming.lrs g.J.Naming.steps c.requires.set c.requires.lrs c.requires.steps cast c.in_ok-cast.ensures.cast shelf c.add_devices.new.workers.items workers slots has.devices_are c.run_crew.ensures c.gather.ensures.devices came c.in_ok-heard.ensures.trips in
     subst (λ (steps : List Step). AllHeard steps c.as_slice-2.result.now) (sym c.as_slice.ensures)
     (subst (AllHeard scenario.steps) (sym (c.as_slice-2.ensures ∙ c.in_ok-heard.ensures.back.heard)) (all_heard scenario g.J.Naming.words (devices_in workers) (trips_in slots) roll))
 
@@ -66,7 +66,7 @@ returns-clause-ran g c =
     let slots = c.close-slots.result.items in
     let has = c.in_ok-add_devices.ensures.workers shelf (nat_lt 0 c.args.pes) c.in_ok-add_pes.ensures.workers in
     let came = subst (λ n. AllCame n slots) (c.in_ok-shelf.ensures.places ∙ cast.trips.ok.0) (all_came shelf.places slots c.close-slots.ensures) in
-    let roll = roll_of scenario g.J.Naming.words g.J.Naming.lrs g.J.Naming.steps c.requires.set c.requires.lrs c.requires.steps cast c.in_ok-cast.ensures.cast shelf c.add_devices.new.workers.items workers slots has.devices_are c.run_crew.ensures c.gather.ensures.devices came c.in_ok-heard.ensures.trips c.in_ok-heard.ensures.back.none_spent in
+    let roll = roll_of scenario g.J.Naming.words g.J.Naming.lrs g.J.Naming.steps c.requires.set c.requires.lrs c.requires.steps cast c.in_ok-cast.ensures.cast shelf c.add_devices.new.workers.items workers slots has.devices_are c.run_crew.ensures c.gather.ensures.devices came c.in_ok-heard.ensures.trips in
     let first = told_root c.of.new.root in
     let root = told_root c.take_apart.new.root in
     let answers = c.in_ok-answers.answers in

@@ -1,5 +1,5 @@
 -- One more vCPU came back.
-use Rattle.std.proofs.Common.{◌≡◌, false, All, List, [], ◌∷◌, ◌++◌, length, map, Option, sym, ap, subst, ◌∙◌, arith}
+use Rattle.std.proofs.Common.{◌≡◌, All, List, [], ◌∷◌, ◌++◌, length, map, Option, sym, ap, subst, ◌∙◌, arith}
 use Rattle.std.specs.Vec.Iter.{into_iter_items}
 use Rattle.thr_trip.specs.Core.{Seen}
 use Rattle.thr_trip.specs.PortTable.All.{told_root}
@@ -32,7 +32,6 @@ loop-slot-preserved g c =
     let trips = trips_in at.yielded in
     let more = trips_in (at.yielded ++ slot ∷ []) in
     let longer : more ≡ trips ++ told ∷ [] = trips_with at.yielded slot trip c.in-Some-slot.is in
-    let not_spent : told.spent ≡ false = sym parts.3 ∙ c.if-spent.false in
     let own : Heard = record { name = record { guest = c.into_parts-answers.result.0.guest; vcpu = c.into_parts-answers.result.0.vcpu }; answers = c.from-answers.result } in
     let heard_is : own ≡ heard_of told =
     ap (λ (answers : List (Option _)). (let one : Heard = record { name = record { guest = c.into_parts-answers.result.0.guest; vcpu = c.into_parts-answers.result.0.vcpu }; answers = answers } in one)) (c.from-answers.ensures ∙ parts.1)
@@ -51,7 +50,6 @@ loop-slot-preserved g c =
       cpus =
           each_with (λ (trip : TripTold). trip.vcpu.cpu) trips more told at.cpus c.push-in-loop-slot.new.self longer at.invariant.cpus
           (c.in_ok-push-2.ensures.ok ∙ ap (λ (vcpu : Shelved). at.cpus ++ vcpu.cpu ∷ []) parts.0);
-      none_spent = subst (All (λ (trip : TripTold). trip.spent ≡ false)) (sym longer) (all_more (λ (trip : TripTold). trip.spent ≡ false) trips told at.invariant.none_spent not_spent);
     }
 
 pub returns : goal.returns
@@ -69,6 +67,5 @@ returns g c =
           record {
             heard = at.invariant.heard ∙ ap (map heard_of) trips;
             cpus = at.invariant.cpus ∙ ap (map (λ (trip : TripTold). trip.vcpu.cpu)) trips;
-            none_spent = subst (All (λ (trip : TripTold). trip.spent ≡ false)) trips at.invariant.none_spent;
           };
     }

@@ -1,5 +1,5 @@
 -- The first vCPUs came back.
-use Rattle.std.proofs.Common.{◌≡◌, false, All, ◌++◌, length, map}
+use Rattle.std.proofs.Common.{◌≡◌, All, ◌++◌, length, map}
 use Rattle.std.specs.Vec.Iter.{into_iter_items, into_iter_len}
 use Rattle.thr_trip.specs.PortTable.All.{told_root}
 use Rattle.thr_trip.specs.PortTable.Told.{AreRoots}
@@ -20,5 +20,4 @@ invariant-loop-slot g l =
       trips : All (IsTrip g.J.Naming.words g.J.Naming.lrs g.J.Naming.steps) (trips_in l.yielded);
       heard : l.heard ≡ map heard_of (trips_in l.yielded);
       cpus : l.cpus ≡ map (λ (trip : TripTold). trip.vcpu.cpu) (trips_in l.yielded);
-      none_spent : All (λ (trip : TripTold). trip.spent ≡ false) (trips_in l.yielded);
     }

@@ -1,5 +1,5 @@
 -- It has its own script and port, and has done nothing.
-use Rattle.std.proofs.Common.{◌≡◌, ◌<◌, false, List, [], length, get_or, refl, ap, subst, ◌∙◌, arith}
+use Rattle.std.proofs.Common.{◌≡◌, ◌<◌, List, [], length, get_or, refl, ap, subst, ◌∙◌, arith}
 use Rattle.std.proofs.lemmas.List.{get_or_default}
 use Rattle.thr_trip.specs.PortOps.Opened.{no_guest}
 use Rattle.thr_trip.specs.PortTable.All.{told_root}
@@ -30,7 +30,7 @@ new-requires-clause-is g c =
     let seen = seen_of c.split-port.result in
     let port = subst (λ (ws : List WordsTold). seen ≡ opening_seen (words_at ws c.args.guest) c.args.vcpu) c.requires.words c.split-port.ensures.port in
     let of = subst (λ (ws : List WordsTold). PortIsOf ws seen) c.requires.words c.split-port.ensures.of in
-    let trip : TripTold = record { vcpu = record { guest = c.args.guest; vcpu = c.args.vcpu; cpu = c.opening_cpu.result; next = 0 }; place = c.args.place; script = c.in_ok-script.script; answers = []; spent = false; seen = seen } in
+    let trip : TripTold = record { vcpu = record { guest = c.args.guest; vcpu = c.args.vcpu; cpu = c.opening_cpu.result; next = 0 }; place = c.args.place; script = c.in_ok-script.script; answers = []; seen = seen } in
     let guests = c.args.scenario.now.guests in
     let there : c.args.guest < length guests = subst (λ n. c.args.guest < n) c.requires.set.each c.requires.guest in
     let cpu = c.opening_cpu.ensures ∙ ap (λ (gs : List GuestSpec). opening_cpu (get_or gs c.args.guest c.index-as_slice-guest.result).on) c.as_slice-2.ensures ∙ ap (λ (guest : GuestSpec). opening_cpu guest.on) (get_or_default guests c.args.guest c.index-as_slice-guest.result no_guest there) in

@@ -1,6 +1,7 @@
 use Rattle.std.proofs.Common.{◌≡◌, ◌++◌}
+use Rattle.std.specs.VecDeque.Iter.{deque_iter_rest}
 use Rattle.its_tab.proofs.tables.ItsTables.collections.Given as goal
 
 -- the pairs that are listed so far, and those that are left
-abbrev pub invariant-loop-icid : goal.invariant-loop-icid
-invariant-loop-icid l = l.pairs.items ++ l.icid-iterator ≡ l.self.collections
+abbrev pub invariant-loop-pair : goal.invariant-loop-pair
+invariant-loop-pair l = l.pairs.items ++ deque_iter_rest l.pair-iterator ≡ l.self.collections

@@ -1,6 +1,7 @@
 use Rattle.std.proofs.Common.{◌≡◌, ◌++◌}
+use Rattle.std.specs.VecDeque.Iter.{deque_iter_rest}
 use Rattle.its_tab.proofs.tables.ItsTables.events.Given as goal
 
 -- the pairs that are listed so far, and those that are left
-abbrev pub invariant-loop-event : goal.invariant-loop-event
-invariant-loop-event l = l.pairs.items ++ l.event-iterator ≡ l.self.events
+abbrev pub invariant-loop-pair : goal.invariant-loop-pair
+invariant-loop-pair l = l.pairs.items ++ deque_iter_rest l.pair-iterator ≡ l.self.events

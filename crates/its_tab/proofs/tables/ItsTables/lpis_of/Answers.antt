@@ -1,22 +1,25 @@
-use Rattle.std.proofs.Common.{◌∙◌, ℕ, Bool, Some, nat_eq, sym, ap}
+use Rattle.std.proofs.Common.{rules, ◌≡◌, ◌∙◌, ℕ, Bool, Some, nat_eq, sym, ap}
 use Rattle.std.specs.Option.{option_eq}
+use Rattle.std.specs.Map.{keys_of}
+use Rattle.std.specs.VecDeque.Iter.{deque_iter_rest}
 use Rattle.its_tab.specs.Collection.{collection_of}
-use Rattle.its_tab.proofs.ListLemmas.{Lists, kept, skipped, all_listed, owned_in, some_from_equal, equal_from_some}
+use Rattle.its_tab.proofs.ListLemmas.{Lists, kept, skipped, all_listed, owned_in, some_from_equal, equal_from_some, nothing_left}
 use Rattle.its_tab.proofs.tables.ItsTables.lpis_of.Goals as goal
 
-pub loop-id-preserved-in-Continue-1 : goal.loop-id-preserved-in-Continue-1
-loop-id-preserved-in-Continue-1 c =
+pub loop-pair-preserved-in-Continue-1 : goal.loop-pair-preserved-in-Continue-1
+loop-pair-preserved-in-Continue-1 c =
     let p : ℕ → Bool = λ id. option_eq nat_eq (collection_of c.args.self.now id) (Some c.args.icid) in
-    kept p c.into_iter-id-iterator.result c.loop-id.ids.items c.in-Some.id.now c.next.new.self c.loop-id.id-iterator c.loop-id.invariant c.in-Some.ensures.steps c.push.new.self.items (ap (λ o. option_eq nat_eq o (Some c.args.icid)) (sym c.collection_of.ensures) ∙ sym c.eq.ensures ∙ c.if-eq.true) c.in_ok-push.ensures.items
+    kept p (keys_of (deque_iter_rest c.into_iter-pair-iterator.result)) c.loop-pair.ids.items c.in-Some.pair.now.0 (keys_of (deque_iter_rest c.next.new.self)) (keys_of (deque_iter_rest c.loop-pair.pair-iterator)) c.loop-pair.invariant (ap keys_of c.in-Some.ensures.steps) c.push.new.self.items (ap (λ o. option_eq nat_eq o (Some c.args.icid)) (sym c.collection_of.ensures) ∙ sym c.eq.ensures ∙ c.if-eq.true) c.in_ok-push.ensures.items
 
-pub loop-id-preserved : goal.loop-id-preserved
-loop-id-preserved c =
+pub loop-pair-preserved : goal.loop-pair-preserved
+loop-pair-preserved c =
     let p : ℕ → Bool = λ id. option_eq nat_eq (collection_of c.args.self.now id) (Some c.args.icid) in
-    skipped p c.into_iter-id-iterator.result c.loop-id.ids.items c.in-Some.id.now c.next.new.self c.loop-id.id-iterator c.loop-id.invariant c.in-Some.ensures.steps (ap (λ o. option_eq nat_eq o (Some c.args.icid)) (sym c.collection_of.ensures) ∙ sym c.eq.ensures ∙ c.if-eq.false)
+    skipped p (keys_of (deque_iter_rest c.into_iter-pair-iterator.result)) c.loop-pair.ids.items c.in-Some.pair.now.0 (keys_of (deque_iter_rest c.next.new.self)) (keys_of (deque_iter_rest c.loop-pair.pair-iterator)) c.loop-pair.invariant (ap keys_of c.in-Some.ensures.steps) (ap (λ o. option_eq nat_eq o (Some c.args.icid)) (sym c.collection_of.ensures) ∙ sym c.eq.ensures ∙ c.if-eq.false)
 
-facts : (c : goal.In-None) → Lists (λ id. option_eq nat_eq (collection_of c.args.self.now id) (Some c.args.icid)) c.loop-id.ids.items
+facts : (c : goal.In-None) → Lists (λ id. option_eq nat_eq (collection_of c.args.self.now id) (Some c.args.icid)) c.loop-pair.ids.items
 facts c =
-    all_listed (λ id. option_eq nat_eq (collection_of c.args.self.now id) (Some c.args.icid)) c.self.inside.owners.entries c.into_iter-id-iterator.result c.loop-id.ids.items c.loop-id.id-iterator c.self.view_is c.self.invariant (c.into_iter-id-iterator.ensures.into_iter_gives ∙ c.keys-id-items.ensures.rest) c.loop-id.invariant c.in-None.ensures.steps.0 (λ id. owned_in c.args.self.now id c.args.icid)
+    let all : deque_iter_rest c.into_iter-pair-iterator.result ≡ c.self.inside.owners.items = search rules in
+    all_listed (λ id. option_eq nat_eq (collection_of c.args.self.now id) (Some c.args.icid)) c.self.inside.owners.items (keys_of (deque_iter_rest c.into_iter-pair-iterator.result)) c.loop-pair.ids.items (keys_of (deque_iter_rest c.loop-pair.pair-iterator)) c.self.view_is c.self.invariant.indexed (ap keys_of all) c.loop-pair.invariant (nothing_left (deque_iter_rest c.loop-pair.pair-iterator) c.in-None.ensures.steps.0) (λ id. owned_in c.args.self.now id c.args.icid)
 
 pub returns-clause-rising : goal.returns-clause-rising
 returns-clause-rising c = (facts c).rising

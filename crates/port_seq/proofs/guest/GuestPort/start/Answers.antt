@@ -30,6 +30,6 @@ invariant_of-result c =
       sound = ∣ opening_sound opened.guest opened.number _ world good ∣₁;
       made = opening_made opened.guest opened.number _ world good;
       own = c.in_ok-locals.ensures ∙ sym (ap (λ w. locals_in (state_after opened.guest opened.number w)) world);
-      maps = λ maps e. sym (same_Some c.empty.result maps e) ∙ c.empty.ensures.value ∙ sym (ap (λ w. (state_after opened.guest opened.number w).maps) world);
+      maps = λ maps e. sym (same_Some c.in-Ok.tables maps e) ∙ c.in-Ok.ensures.value ∙ sym (ap (λ w. (state_after opened.guest opened.number w).maps) world);
       turn = λ taker e. absurd (cc);
     }

@@ -12,14 +12,14 @@ pub new-requires : goal.new-requires
 new-requires c =
     let opened = c.in_ok-opened.opened in
     let slots : c.push.new.self.items ≡ Some no_maps ∷ [] =
-    c.in_ok-push.ensures.items ∙ ap (λ (xs : List (Option Maps)). xs ++ Some c.empty.result ∷ []) c.new-slots.ensures.items ∙ ap (λ (m : Maps). Some m ∷ []) c.empty.ensures.value in
+    c.in_ok-push.ensures.items ∙ ap (λ (xs : List (Option Maps)). xs ++ Some c.in-Ok.tables ∷ []) c.new-slots.ensures.items ∙ ap (λ (m : Maps). Some m ∷ []) c.in-Ok.ensures.value in
     opens_shared opened c.as_slice.result.now c.push.new.self.items (c.as_slice.ensures ∙ c.in_ok-words.ensures opened.number) slots
 
 pub invariant_of-result : goal.invariant_of-result
 invariant_of-result c =
     let opened = c.in_ok-opened.opened in
-    let table = c.in-Ok.ensures.ok in
-    let slots : c.push.new.self.items ≡ Some c.empty.result ∷ [] = c.in_ok-push.ensures.items ∙ ap (λ (xs : List (Option Maps)). xs ++ Some c.empty.result ∷ []) c.new-slots.ensures.items in
+    let table = c.in-Ok-new.ensures.ok in
+    let slots : c.push.new.self.items ≡ Some c.in-Ok.tables ∷ [] = c.in_ok-push.ensures.items ∙ ap (λ (xs : List (Option Maps)). xs ++ Some c.in-Ok.tables ∷ []) c.new-slots.ensures.items in
     record {
       good = subst (λ o. IsGoodGuest o.guest) (sym c.in_ok-opened.ensures) c.requires;
       key = table.5;

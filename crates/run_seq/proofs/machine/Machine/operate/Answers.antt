@@ -41,6 +41,6 @@ returns g c =
     = record { has = c.requires.loaded.one.guest; again_is = c.set_actor.ensures ∙ ap (λ a. telling a (told_all port)) c.first_of.ensures; lent_is = c.current_mut.ensures.value; vcpus_are = c.index_mut-guest.ensures.value } in
     let same = lent_told machine port again lent vcpus number is in
     let op = c.args.op.now in
-    let value = c.in_ok-value.value in
+    let value = c.operate.result in
     acts_by machine port again lent vcpus number is (CallsOnce c.args.name.vcpu (Access op) value) _ last after refl refl refl
-    (once_from_any _ (told last) 0 vcpus after c.args.name.vcpu op value (subst (λ t. Operates t (told last) vcpus after c.args.name.vcpu op value) same c.in_ok-value.ensures.operates) c.in_ok-value.ensures.spots c.in_ok-value.ensures.quiet)
+    (once_from_any _ (told last) 0 vcpus after c.args.name.vcpu op value (subst (λ t. Operates t (told last) vcpus after c.args.name.vcpu op value) same c.operate.ensures.operates) c.operate.ensures.spots c.operate.ensures.quiet)

@@ -1,18 +1,23 @@
 -- The step of a PE, by its operation and by who stands there.
-use Rattle.std.proofs.Common.{get_or, None, sym, ap, ◌∙◌}
+use Rattle.std.proofs.Common.{◌≤◌, get_or, None, sym, ap, subst, ◌∙◌}
+use Rattle.law_ends_agree.specs.Words.{MAX_LIST_REGISTERS}
 use Rattle.law_one_thread_is_eager.specs.PortSeq.Ports.{told_all}
 use Rattle.run_seq.proofs.PlaceLemmas.{after_as, has_entered, has_left, none_left, who_enters, who_stands}
 use Rattle.run_seq.proofs.machine.Machine.pe_step.Goals.{in-Enter-default, in-Exit-Some, in-Exit-None}
 use Rattle.run_seq.proofs.machine.Machine.pe_step.Goals as goal
 
 pub enter-requires : goal.enter-requires
-enter-requires g c = who_enters c.args.self.now (told_all c.args.port.now) c.args.pe c.args.op c.in-Enter-default.guest c.in-Enter-default.vcpu c.in-Enter-default.is-0 c.requires
+enter-requires g c = who_enters c.args.self.now (told_all c.args.port.now) c.args.pe c.args.op c.in-Enter-default.guest c.in-Enter-default.vcpu c.in-Enter-default.is-0 c.requires.ready
 
 pub leave-requires : goal.leave-requires
-leave-requires g c = (who_stands c.args.self.now (told_all c.args.port.now) c.args.pe c.args.op c.in-Exit-Some.name (ap (λ pes. get_or pes c.args.pe None) (sym c.as_slice.ensures) ∙ c.in-Exit-Some.is-1) c.requires).one
+leave-requires g c = (who_stands c.args.self.now (told_all c.args.port.now) c.args.pe c.args.op c.in-Exit-Some.name (ap (λ pes. get_or pes c.args.pe None) (sym c.as_slice.ensures) ∙ c.in-Exit-Some.is-1) c.requires.ready).one
 
-pub show-requires : goal.show-requires
-show-requires g c = who_stands c.args.self.now (told_all c.args.port.now) c.args.pe c.args.op c.in-Lrs-Some.name (ap (λ pes. get_or pes c.args.pe None) (sym c.as_slice.ensures) ∙ c.in-Lrs-Some.is-1) c.requires
+pub show-requires-clause-loaded : goal.show-requires-clause-loaded
+show-requires-clause-loaded g c = who_stands c.args.self.now (told_all c.args.port.now) c.args.pe c.args.op c.in-Lrs-Some.name (ap (λ pes. get_or pes c.args.pe None) (sym c.as_slice.ensures) ∙ c.in-Lrs-Some.is-1) c.requires.ready
+
+-- a PE has at most sixteen list registers
+pub zeros-requires-clause-lrs : goal.zeros-requires-clause-lrs
+zeros-requires-clause-lrs g c = let at = c.requires.ready.of.at in subst (λ n. n ≤ MAX_LIST_REGISTERS) (sym at.lrs_is) at.few_lrs
 
 pub returns : goal.returns
 returns g c =

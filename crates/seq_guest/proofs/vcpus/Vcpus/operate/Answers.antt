@@ -5,5 +5,5 @@ use Rattle.seq_guest.proofs.vcpus.Vcpus.operate.Goals as goal
 
 pub returns-clause-operates : goal.returns-clause-operates
 returns-clause-operates g c =
-    operates (told c.args.port.now) (told c.make_way.new.port) (told c.operate_one.new.port) (told c.come_back.new.port) (told c.answer_kicks.new.port) c.args.self.now c.make_way.new.self c.operate_one.new.self c.come_back.new.self c.answer_kicks.new.self c.args.vcpu c.args.op.now c.in_ok-answer.answer
-    c.make_way.ensures.way c.in_ok-answer.ensures.goes_on c.come_back.ensures.goes_on c.answer_kicks.ensures.goes_on
+    operates (told c.args.port.now) (told c.make_way.new.port) (told c.operate_one-answer.new.port) (told c.come_back.new.port) (told c.answer_kicks.new.port) c.args.self.now c.make_way.new.self c.operate_one-answer.new.self c.come_back.new.self c.answer_kicks.new.self c.args.vcpu c.args.op.now c.operate_one-answer.result
+    c.make_way.ensures.way c.operate_one-answer.ensures.goes_on c.come_back.ensures.goes_on c.answer_kicks.ensures.goes_on

@@ -2,7 +2,6 @@
 use Rattle.pe_place.specs.declared.place.Place.TheVariants.{Pe}
 use Rattle.port_seq.specs.Ports.{told}
 use Rattle.seq_guest.proofs.GuestLemmas.{goes_then}
-use Rattle.pe_place.proofs.OperateLemmas.{if_ok}
 use Rattle.seq_guest.proofs.vcpus.Vcpus.show.Goals as goal
 
 pub answer_kicks-requires : goal.answer_kicks-requires
@@ -15,5 +14,4 @@ returns-clause-goes_on g c =
 pub returns-clause-shown : goal.returns-clause-shown
 returns-clause-shown g c =
     let shows = c.show_one-shown.ensures.shows in
-    if_ok c.show_one-shown.result
-    (λ list shown. record { mid = told c.show_one-shown.new.port; between = c.show_one-shown.new.self; shows = shows; list_is = shown (Pe shows.loaded) shows.place; later = c.answer_kicks.ensures.goes_on }) c.show_one-shown.ensures.list
+    record { mid = told c.show_one-shown.new.port; between = c.show_one-shown.new.self; shows = shows; list_is = c.show_one-shown.ensures.list (Pe shows.loaded) shows.place; later = c.answer_kicks.ensures.goes_on }

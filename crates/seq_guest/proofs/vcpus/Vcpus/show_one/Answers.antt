@@ -5,7 +5,6 @@ use Rattle.port_seq.specs.Told.{seen_of}
 use Rattle.pe_place.specs.Place.{IsShown}
 use Rattle.pe_place.specs.Moves.{ReentersAt}
 use Rattle.seq_guest.proofs.GuestLemmas.{place_is}
-use Rattle.pe_place.proofs.OperateLemmas.{if_ok}
 use Rattle.seq_guest.proofs.PlacesLemmas.{same_spot, place_set}
 use Rattle.seq_guest.proofs.ShowLemmas.{one_shows}
 use Rattle.seq_guest.proofs.vcpus.Vcpus.show_one.Goals as goal
@@ -25,7 +24,7 @@ returns-clause-list c =
     let before = c.index_mut.result.now in
     let after = c.show_pe.new.place in
     let is = place_is (told c.args.port.now) c.args.self.now c.args.vcpu before c.requires.at c.requires.there c.index_mut.ensures.value in
-    if_ok c.show_pe.result (λ list shown place there. subst (λ place. IsShown place list) (place_set c.args.self.now.places.items c.args.vcpu before after place is there) shown) c.show_pe.ensures.shown
+    λ place there. subst (λ place. IsShown place c.show_pe.result) (place_set c.args.self.now.places.items c.args.vcpu before after place is there) c.show_pe.ensures.shown
 
 pub returns-clause-spots : goal.returns-clause-spots
 returns-clause-spots c = same_spot c.args.self.now _ c.args.vcpu c.index_mut.result.now c.show_pe.new.place refl (place_is (told c.args.port.now) c.args.self.now c.args.vcpu c.index_mut.result.now c.requires.at c.requires.there c.index_mut.ensures.value) c.show_pe.ensures.spot
