@@ -1,4 +1,4 @@
-"""The worked scenarios of the repository, each with what the reader says of it."""
+"""The worked scenarios of the repository, and the worked inputs of `host`, each with what the reader says of it."""
 import json
 import re
 from typing import NamedTuple
@@ -7,8 +7,14 @@ from .rattle import NoData, Source, Struct, end_of, find, split
 
 BAD = re.compile(r"bad scenario: code (\d+) step (\d+)")
 # A document's row of a fault: the code, a scenario between backticks, and the message.
-FAULT_ROW = re.compile(r"\| \d \| `(\{.*\})` \| `(bad scenario: .*)` \|")
+FAULT_ROW = re.compile(r"\| \d+ \| `(\{.*\})` \| `(bad scenario: .*)` \|")
+# The line that tells people of a fault: where it is, and what its code is called.
+HINT = re.compile(r"(?:outside of the steps|guest \d+(?:, preset \d+)?|step (\d+)): (\w+)")
+NAMES = ("Shape", "Limit", "UnknownRegister", "UnknownActor", "NotLoaded", "PeBusy", "PeStep", "WireLevel", "Address")
 MAX_STEPS = 100_000
+# How the name of an example of `host` begins, and the crate whose tests have inputs of `host`.
+LINKED = "host-"
+LINKED_ROWS = "host_rows"
 
 
 class Row(NamedTuple):
@@ -24,16 +30,47 @@ def fault_in(told):
     return (int(bad[1]), int(bad[2])) if bad else None
 
 
-def examples(root):
-    """The scenarios of examples/, each with its text."""
+def fault_told(line):
+    """The fault that a line for people names; none where it is no such line."""
+    told = HINT.match(line)
+    return (NAMES.index(told[2]) + 1, int(told[1] or 0)) if told and told[2] in NAMES else None
+
+
+def all_examples(root):
+    """All of examples/, each with its text."""
     for path in sorted(root.glob("examples/*.json")):
-        yield Row(f"examples/{path.name}", path.read_text(), fault_in(path.with_suffix(".txt").read_text()))
+        yield path.name, Row(f"examples/{path.name}", path.read_text(), fault_in(path.with_suffix(".txt").read_text()))
+
+
+def examples(root):
+    """The scenarios of examples/."""
+    return (row for name, row in all_examples(root) if not name.startswith(LINKED))
+
+
+def linked_examples(root):
+    """The inputs of `host` of examples/."""
+    return (row for name, row in all_examples(root) if name.startswith(LINKED))
+
+
+def all_documented(root):
+    """What stands in the tables of faults."""
+    for row in FAULT_ROW.finditer((root / "docs/SCENARIO.md").read_text()):
+        yield Row("docs/SCENARIO.md", row[1], fault_in(row[2]))
 
 
 def documented(root):
-    """The scenarios in the table of faults."""
-    for row in FAULT_ROW.finditer((root / "docs/SCENARIO.md").read_text()):
-        yield Row("docs/SCENARIO.md", row[1], fault_in(row[2]))
+    """The scenarios in the tables of faults."""
+    return (row for row in all_documented(root) if not is_linked(row.text))
+
+
+def linked_documented(root):
+    """The inputs of `host` in the tables of faults."""
+    return (row for row in all_documented(root) if is_linked(row.text))
+
+
+def is_linked(text):
+    """A text is an object of `host`: its vCPUs stand outside of any guest."""
+    return not {"vcpus", "links"}.isdisjoint(json.loads(text))
 
 
 def sources(root):
@@ -48,6 +85,8 @@ def sources(root):
 def tests(root):
     """The scenarios of all tests, of whatever form."""
     for crate, module, source in sources(root):
+        if crate == LINKED_ROWS:
+            continue
         own = MADE.get((crate, module))
         rows = [*of_tables(source), *of_calls(source, is_made=own is not None), *(own(source) if own else [])]
         rows += of_texts(source, {text for _, text, _ in rows})
@@ -55,8 +94,8 @@ def tests(root):
 
 
 def of_tables(source):
-    """The rows of the tables that are constants of a file: of structs, of an input, a status and a text, or of
-    a text with its fault and what is told of it."""
+    """The rows of the tables that are constants of a file: of structs, of an input, a status and a text, of
+    a text with its fault and what is told of it, or of a text with the line that tells its fault."""
     for name in source.constants:
         for entry in table_of(source, name):
             if isinstance(entry, Struct) and {"before", "steps", "lines"} <= set(entry):
@@ -67,6 +106,8 @@ def of_tables(source):
                 yield name, as_text(entry[0]), fault_in(entry[2])
             elif isinstance(entry, tuple) and len(entry) == 2 and is_fault(entry[0]):
                 yield name, entry[0][0], entry[0][1:]
+            elif isinstance(entry, tuple) and len(entry) == 2 and isinstance(entry[1], str) and is_object(entry[0]) and fault_told(entry[1]):
+                yield name, entry[0], fault_told(entry[1])
 
 
 def is_fault(entry):
@@ -99,13 +140,23 @@ def as_text(text):
     return text.decode(errors="replace") if isinstance(text, bytes) else text
 
 
-def is_scenario(text):
-    """A text is an object with guests and steps."""
+def fields_of(text):
+    """The names of the fields of a text that is an object; none where it is none."""
     try:
         value = json.loads(as_text(text)) if isinstance(text, (str, bytes)) else None
     except ValueError:
-        return False
-    return isinstance(value, dict) and {"guests", "steps"} <= set(value)
+        return None
+    return set(value) if isinstance(value, dict) else None
+
+
+def is_object(text):
+    """A text is an object with guests or steps."""
+    return not {"guests", "steps"}.isdisjoint(fields_of(text) or set())
+
+
+def is_scenario(text):
+    """A text is an object with guests and steps."""
+    return {"guests", "steps"} <= (fields_of(text) or set())
 
 
 def of_calls(source, is_made):
@@ -174,13 +225,39 @@ def full(source):
     yield "counts_steps", before + ",7]}", (2, 0)
 
 
-MADE = {("thr_rows", "many"): many, ("scn_rows", "steps"): registers, ("scn_rows", "outside"): full}
+def hinted(source):
+    """Each step of a guest, with the line that tells its fault, or that of a step before it."""
+    for steps, line in source.constant("STEPS"):
+        yield "STEPS", f'{{"guests":[{{}}],"steps":[{steps}]}}', fault_told(line)
+
+
+MADE = {("thr_rows", "many"): many, ("scn_rows", "steps"): registers, ("scn_rows", "outside"): full, ("hint_rows", "steps"): hinted}
+
+
+def linked_tests(root):
+    """The inputs of `host` of its tests: whole ones with their text or with the code and the step of their fault, or with its code alone; and
+    steps between two texts, with the code and the step of their fault or none."""
+    files = {module: source for crate, module, source in sources(root) if crate == LINKED_ROWS}
+    runs, faults = files["runs"], files["faults"]
+    rows = [("ROWS", text, fault_in(told)) for text, told in runs.constant("ROWS")]
+    rows += [("REFUSED", text, (code, step)) for text, code, step in runs.constant("REFUSED")]
+    rows += [("WHOLES", text, (code, 0)) for text, code in faults.constant("WHOLES")]
+    rows += [("STEPS", faults.constant("BEFORE") + steps + faults.constant("AFTER"), fault) for steps, fault in faults.constant("STEPS")]
+    rows += [("APART", faults.constant("APART"), None)]
+    return (Row(f"crates/{LINKED_ROWS}: {name}", text, fault) for name, text, fault in rows)
+
+
+def looks_like_part(text):
+    """A text may be a part of a scenario: it is no format of texts, and no line that tells a fault."""
+    return '"guests"' in text and "{{" not in text and not HINT.match(text)
 
 
 def left_out(root, rows):
     """The texts in sources that look like a part of a scenario and are in no row."""
     whole = "\n".join(row.text for row in rows if len(row.text) < MAX_STEPS)
     for crate, module, source in sources(root):
+        if crate == LINKED_ROWS:
+            continue
         for kind, text in source.tokens:
-            if kind == "text" and '"guests"' in as_text(text) and as_text(text) not in whole:
+            if kind == "text" and looks_like_part(as_text(text)) and as_text(text) not in whole:
                 yield f"crates/{crate}/src/{module}.rt: {as_text(text)[:60]}"

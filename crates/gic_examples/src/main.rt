@@ -16,8 +16,13 @@ const TEXT: &str = ".txt";
 /// How the name of a scenario begins that is run on threads. Its text is the same in every schedule.
 const ON_THREADS: &str = "threads-";
 
-/// The words for such a scenario, and those for every other one.
+/// How the name begins of what has links of physical interrupts.
+const WITH_LINKS: &str = "host-";
+
+/// The words for these, and those for every other one.
 const THREADS: [&str; 3] = ["threads", "3", "2"];
+
+const HOST: [&str; 1] = ["host"];
 
 const IN_ORDER: [&str; 1] = ["run"];
 
@@ -25,6 +30,8 @@ const IN_ORDER: [&str; 1] = ["run"];
 fn words_for(alloc: Global, name: &str) -> Result<Vec<String>, AllocError> {
     let words: &[&str] = if name.starts_with(ON_THREADS) {
         &THREADS
+    } else if name.starts_with(WITH_LINKS) {
+        &HOST
     } else {
         &IN_ORDER
     };

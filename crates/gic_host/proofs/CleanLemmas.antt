@@ -7,10 +7,10 @@ use Rattle.std.proofs.lemmas.Bool.{and_from, le-leb}
 use Rattle.std.proofs.lemmas.List.{length-map}
 use Rattle.serde_json.specs.Data.{Data}
 use Rattle.serde_json.specs.View.{view}
-use Rattle.scn_base.specs.declared.fault.Fault.{Fault}
-use Rattle.scn_base.specs.Codes.{first_code, first_of, ok_unless, both, shape_code}
-use Rattle.json_field.specs.Field.{elements_at, has_only}
-use Rattle.scn_turn.specs.Turn.{before_steps, step_and_rest}
+use Rattle.scn_read.specs.ScnBase.declared.fault.Fault.{Fault}
+use Rattle.scn_read.specs.ScnBase.Codes.{first_code, first_of, ok_unless, both, shape_code}
+use Rattle.scn_read.specs.JsonField.Field.{elements_at, has_only}
+use Rattle.scn_read.specs.Reading.{before_steps, step_and_rest}
 use Rattle.scn_read.proofs.ListLemmas.{ok_parts}
 use Rattle.scn_read.proofs.GoodLemmas.{read_parts}
 use Rattle.gic_host.specs.declared.link.Link.{Link}

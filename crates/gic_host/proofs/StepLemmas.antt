@@ -1,8 +1,8 @@
 -- The steps that were read, and those that are left.
 use Rattle.std.proofs.Common.{◌≡◌, ℕ, ◌+◌, ◌<◌, Bool, List, [], ◌∷◌, ◌++◌, length, get_or, drop, map, Result, Ok, Err, sym}
 use Rattle.serde_json.specs.Data.{Data}
-use Rattle.scn_base.specs.declared.fault.Fault.{Fault}
-use Rattle.scn_turn.proofs.TurnLemmas.{all_steps, all_steps-step}
+use Rattle.scn_read.specs.ScnBase.declared.fault.Fault.{Fault}
+use Rattle.scn_read.proofs.StepLemmas.{all_steps, all_steps-step}
 use Rattle.scn_read.proofs.ListLemmas.{drop_item}
 use Rattle.gic_host.specs.declared.link.Link.{Link}
 use Rattle.gic_host.specs.declared.step.HostStep.{HostStep}

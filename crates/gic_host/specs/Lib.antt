@@ -1,3 +1,5 @@
+pub use Rattle.gic_report.specs as GicReport
+pub use Rattle.scn_read.specs as ScnRead
 pub mod Link
 pub mod State
 pub mod Text

@@ -4,7 +4,7 @@ use Rattle.std.specs.Str.{bytes_eq}
 use Rattle.serde_json.specs.Data.{Data}
 use Rattle.serde_json.specs.Find.{get}
 use Rattle.gic_ich.specs.Words.{Iar0}
-use Rattle.scn_turn.specs.Turn.{step_and_rest}
+use Rattle.scn_read.specs.Reading.{step_and_rest}
 use Rattle.scn_read.specs.ScnBase.declared.fault.Fault.{Fault}
 use Rattle.scn_read.specs.ScnBase.Codes.{shape_code, limit_code, unknown_register_code, unknown_actor_code, first_code, first_of, first_met, ok_unless}
 use Rattle.scn_read.specs.GicGuest.Good.{passes}

@@ -14,12 +14,10 @@ use crate::good::{Standing, has_clash, is_priority, is_spi, loaded_after};
 use crate::link::{Link, LinkList};
 use crate::scenario::{HostScenario, MAX_LINKS, MAX_STEPS, MAX_VCPUS};
 use crate::step::{HostStep, HostStepList, PhysSet};
-use json_field::{elements_at, flag_at, has_only, list_at, number_at, number_or, text_at};
-use scn_base::{
-    Fault, IccReg, LIMIT, SHAPE, UNKNOWN_ACTOR, UNKNOWN_REGISTER, both, first_code,
-    is_list_register_count,
+use scn_read::{
+    Fault, IccReg, LIMIT, ReadRefusal, SHAPE, UNKNOWN_ACTOR, UNKNOWN_REGISTER, both, elements_at,
+    first_code, flag_at, has_only, is_list_register_count, list_at, number_at, number_or, text_at,
 };
-use scn_read::ReadRefusal;
 use serde_json::Value;
 use std::alloc::{AllocError, Global};
 

@@ -2,21 +2,21 @@
 use Rattle.std.proofs.Common.{◌≡◌, ℕ, ◌+◌, ◌<◌, ◌≤◌, ◌⊎◌, List, [], ◌++◌, length, Contains, codes, lit<, lit≤, Option, Some, None, IfSome, OnSome, IsSome, IsSomeAnd, Result, Ok, Err, IfOk, OnOk, length-append, append-nil, inl, inr, refl, sym, ap, ◌∙◌, subst, arith}
 use Rattle.std.specs.Result.{result_unwrap_or}
 use Rattle.std.proofs.lemmas.Option.{same_Some}
-use Rattle.gic_report.specs.GicIo.Faults.{HasRisen}
-use Rattle.gic_report.specs.GicIo.Sink.{Grew, GrewByPrefix}
-use Rattle.gic_report.specs.GicIo.Source.{HasReadCount, HasReadAtMost}
+use Rattle.gic_host.specs.GicReport.GicIo.Faults.{HasRisen}
+use Rattle.gic_host.specs.GicReport.GicIo.Sink.{Grew, GrewByPrefix}
+use Rattle.gic_host.specs.GicReport.GicIo.Source.{HasReadCount, HasReadAtMost}
 use Rattle.serde_json.specs.Data.{Data}
-use Rattle.scn_read.specs.ScnBase.declared.scenario.Scenario.{Scenario}
-use Rattle.scn_read.specs.ScnBase.declared.fault.Fault.{Fault}
-use Rattle.scn_read.specs.ScnBase.declared.step.Mode.{Mode}
-use Rattle.scn_read.specs.ScnBase.declared.step.Mode.TheVariants.{Schedule, Threads as OnThreads}
-use Rattle.scn_read.specs.Reading.{reading}
+use Rattle.gic_host.specs.ScnRead.ScnBase.declared.scenario.Scenario.{Scenario}
+use Rattle.gic_host.specs.ScnRead.ScnBase.declared.fault.Fault.{Fault}
+use Rattle.gic_host.specs.ScnRead.ScnBase.declared.step.Mode.{Mode}
+use Rattle.gic_host.specs.ScnRead.ScnBase.declared.step.Mode.TheVariants.{Schedule, Threads as OnThreads}
+use Rattle.gic_host.specs.declared.scenario.HostScenario.{HostScenario}
 use Rattle.gic_top.specs.declared.command.Command.{Command}
-use Rattle.gic_top.specs.declared.command.Command.TheVariants.{Run, Threads, Soak}
+use Rattle.gic_top.specs.declared.command.Command.TheVariants.{Run, Threads, Soak, Host}
 use Rattle.gic_top.specs.declared.tool.Reply.{Reply}
 use Rattle.gic_top.specs.declared.tool.Reply.TheVariants.{Ran, Usage, BadJson, BadScenario, ReadFault, TooLong, NoMemory}
-use Rattle.gic_top.specs.Tool.{max_input, statuses, input_mode, line, HasInput, IsNoJson, Spells, SpellsScenario, SpellsFault, IsRun, IsOk, IsUsage, IsBadJson, IsBadScenario, IsReadFault, IsWriteFault, IsTooLong, IsNoMemory, IsRow, IsOutcome, IsWritten, IsRefusal, HasItsAnswer, WasShown}
-use Rattle.gic_top.specs.Reply.{status_of, text_of, IsReplyTo, IsReplyOf, IsSoakReply, IsReplyFor, IsUnrun}
+use Rattle.gic_top.specs.Tool.{max_input, statuses, Reading, scenarios, links, Said, said, input_reading, line, HasInput, IsNoJson, Spells, SpellsSaid, SpellsFault, IsRun, IsHosted, IsOk, IsUsage, IsBadJson, IsBadScenario, IsReadFault, IsWriteFault, IsTooLong, IsNoMemory, IsRow, IsOutcome, IsWritten, IsRefusal, HasItsAnswer, WasShown}
+use Rattle.gic_top.specs.Reply.{status_of, text_of, IsTextOf, IsValueReply, IsReplyTo, IsReplyOf, IsSoakReply, IsReplyFor, IsUnrun}
 
 -- one more run was shown, and where the watch tells of which scenario, it tells this
 pub shown_once : {A E : Type 0} (result : Result A E) (before after : ℕ) (last : Option Scenario) (scenario : Scenario) → OnOk result (after ≡ before + 1) → OnOk result (IfSome last (λ shown. shown ≡ scenario))
@@ -24,29 +24,37 @@ pub shown_once : {A E : Type 0} (result : Result A E) (before after : ℕ) (last
 shown_once (Ok value) before after last scenario counted told = record { counted = counted; told = told }
 shown_once (Err error) before after last scenario counted told = tt
 
--- a reply to an input is the row of its status, where the command is done as a run in this mode is
-read_row : (mode : Mode) (command : Option Command) (before after : Option (List ℕ)) (faults_before faults_after : ℕ) (wrote : List ℕ → Type 0) (showed : Mode → Scenario → Type 0) (reply : Reply) → input_mode command ≡ Some mode
-    → (IsRun mode before after wrote showed → IsOk command before after wrote showed)
-    → IsReplyOf mode showed before after faults_before faults_after reply → wrote (text_of reply) → IsRow command before after faults_before faults_after wrote showed (status_of reply)
-read_row mode command before after fb fa wrote showed reply asked ok is written = row reply is written
+-- a reply to an input is the row of its status, where the command reads it so, and what it does with what was read is that
+read_row : (reading : Reading) (command : Option Command) (before after : Option (List ℕ)) (faults_before faults_after : ℕ) (wrote : List ℕ → Type 0) (showed : Mode → Scenario → Type 0) (reply : Reply) → input_reading command ≡ Some reading
+    → ((what : Said reading) (text : List ℕ) → HasInput before after (λ bytes. SpellsSaid reading bytes what) → IsTextOf reading showed what text → wrote text → IsOk command before after wrote showed)
+    → IsReplyOf reading showed before after faults_before faults_after reply → wrote (text_of reply) → IsRow command before after faults_before faults_after wrote showed (status_of reply)
+read_row reading command before after fb fa wrote showed reply asked ok is written = row reply is written
   where
-    reads : IsSome (input_mode command)
+    reads : IsSome (input_reading command)
     reads = subst IsSome (sym asked) refl
 
-    row : (reply : Reply) → IsReplyOf mode showed before after fb fa reply → wrote (text_of reply) → IsRow command before after fb fa wrote showed (status_of reply)
-    row (Ran text) is written =
-        let run = is.2 in
-        inl (refl, ok (record { scenario = is.0; out = run.out; read = is.1; shown = run.shown; answers = run.answers; written = subst wrote run.text_is written }))
+    row : (reply : Reply) → IsReplyOf reading showed before after fb fa reply → wrote (text_of reply) → IsRow command before after fb fa wrote showed (status_of reply)
+    row (Ran text) is written = inl (refl, ok is.0 text is.1 is.2 written)
     row Usage is written = absurd is
     row BadJson is written = inr (inr (inl (refl, record { asked = reads; read = is; written = written })))
-    row (BadScenario text) is written = inr (inr (inr (inl (refl, record { mode = mode; fault = is.0; asked = asked; read = is.1; written = subst wrote is.2 written }))))
+    row (BadScenario text) is written = inr (inr (inr (inl (refl, record { reading = reading; fault = is.0; asked = asked; read = is.1; written = subst wrote is.2 written }))))
     row ReadFault is written = inr (inr (inr (inr (inl (refl, record { asked = reads; risen = is; written = written })))))
     row TooLong is written = inr (inr (inr (inr (inr (inl (refl, record { asked = reads; taken = is; written = written }))))))
     row NoMemory is written = inr (inr (inr (inr (inr (inr (refl, record { asked = some command asked; taken = is; written = written }))))))
       where
-        some : (asked : Option Command) → input_mode asked ≡ Some mode → IsSome asked
-        some None is = let none : ◌≡◌ {A = Option Mode} None (Some mode) = is in absurd cc
+        some : (asked : Option Command) → input_reading asked ≡ Some reading → IsSome asked
+        some None is = let none : ◌≡◌ {A = Option Reading} None (Some reading) = is in absurd cc
         some (Some command) is = refl
+
+-- what was read was run in a mode, or with links
+mode_run : (mode : Mode) (before after : Option (List ℕ)) (wrote : List ℕ → Type 0) (showed : Mode → Scenario → Type 0) (scenario : Scenario) (text : List ℕ) → HasInput before after (λ bytes. SpellsSaid (scenarios mode) bytes scenario)
+    → IsTextOf (scenarios mode) showed scenario text → wrote text → IsRun mode before after wrote showed
+mode_run mode before after wrote showed scenario text read run written =
+    record { scenario = scenario; out = run.out; read = read; shown = run.shown; answers = run.answers; written = subst wrote run.text_is written }
+
+links_run : (before after : Option (List ℕ)) (wrote : List ℕ → Type 0) (showed : Mode → Scenario → Type 0) (scenario : HostScenario) (text : List ℕ) → HasInput before after (λ bytes. SpellsSaid links bytes scenario)
+    → IsTextOf links showed scenario text → wrote text → IsHosted before after wrote
+links_run before after wrote showed scenario text read is written = record { scenario = scenario; read = read; written = subst wrote is written }
 
 -- where a source tells what it told before, nothing was read
 none_told : (before : Option (List ℕ)) → IfSome before (λ all. IsSomeAnd before (λ rest. all ≡ [] ++ rest))
@@ -75,8 +83,11 @@ soak_row number steps before after fb fa wrote showed NoMemory same is written =
 -- a reply is the row of its status
 row_of : (command : Option Command) (before after : Option (List ℕ)) (faults_before faults_after : ℕ) (wrote : List ℕ → Type 0) (showed : Mode → Scenario → Type 0) (reply : Reply) → IsReplyFor showed command before after faults_before faults_after reply → wrote (text_of reply)
     → IsRow command before after faults_before faults_after wrote showed (status_of reply)
-row_of (Some Run) before after fb fa wrote showed reply is written = read_row Schedule (Some Run) before after fb fa wrote showed reply refl (λ run. run) is written
-row_of (Some (Threads pes per_turn)) before after fb fa wrote showed reply is written = read_row OnThreads (Some (Threads pes per_turn)) before after fb fa wrote showed reply refl (λ run. run) is written
+row_of (Some Run) before after fb fa wrote showed reply is written =
+    read_row (scenarios Schedule) (Some Run) before after fb fa wrote showed reply refl (mode_run Schedule before after wrote showed) is written
+row_of (Some (Threads pes per_turn)) before after fb fa wrote showed reply is written =
+    read_row (scenarios OnThreads) (Some (Threads pes per_turn)) before after fb fa wrote showed reply refl (mode_run OnThreads before after wrote showed) is written
+row_of (Some Host) before after fb fa wrote showed reply is written = read_row links (Some Host) before after fb fa wrote showed reply refl (links_run before after wrote showed) is written
 row_of (Some (Soak number steps)) before after fb fa wrote showed reply is written = soak_row number steps before after fb fa wrote showed reply is.0 is.1 written
 row_of None before after fb fa wrote showed reply is written = inr (inl (ap status_of is, record { asked = refl; written = subst (λ r. wrote (text_of r)) is written }))
 
@@ -160,11 +171,11 @@ soak_status status o number steps asked sure = let row = o.row in grind arith
 one_value : (bytes : List ℕ) (a b : Data) → Spells bytes a → Spells bytes b → a ≡ b
 one_value bytes a b x y = same_Some a b (sym x.reads ∙ y.reads)
 
--- no bytes spell a scenario and a fault
-no_both : (mode : Mode) (bytes : List ℕ) (scenario : Scenario) (fault : Fault) → SpellsScenario mode bytes scenario → SpellsFault mode bytes fault → ⊥
-no_both mode bytes scenario fault s f =
+-- no bytes spell something that is read so and a fault of it
+no_both : (reading : Reading) (bytes : List ℕ) (what : Said reading) (fault : Fault) → SpellsSaid reading bytes what → SpellsFault reading bytes fault → ⊥
+no_both reading bytes what fault s f =
     let same : s.value ≡ f.value = one_value bytes s.value f.value s.spelled f.spelled in
-    let clash : ◌≡◌ {A = Result Scenario Fault} (Ok scenario) (Err fault) = sym s.scenario_is ∙ ap (reading mode) same ∙ f.fault_is in
+    let clash : ◌≡◌ {A = Result (Said reading) Fault} (Ok what) (Err fault) = sym s.said_is ∙ ap (said reading) same ∙ f.fault_is in
     cc
 
 -- more bytes than the limit were taken, so there were more
@@ -173,60 +184,61 @@ taken_past bytes None taken = absurd taken.read.told
 taken_past bytes (Some rest) taken = omega (arith, ap length taken.read.told, length-append taken.part rest, taken.counted)
 
 -- the reply to bytes that were told is the answer that they have
-told_answer : (mode : Mode) (showed : Mode → Scenario → Type 0) (bytes : List ℕ) (after : Option (List ℕ)) (faults_before faults_after : ℕ) (reply : Reply) → (HasRisen faults_before faults_after → ⊥) → IsReplyOf mode showed (Some bytes) after faults_before faults_after reply
-    → HasItsAnswer mode bytes (status_of reply)
-told_answer mode showed bytes after fb fa (Ran text) sure is =
+told_answer : (reading : Reading) (showed : Mode → Scenario → Type 0) (bytes : List ℕ) (after : Option (List ℕ)) (faults_before faults_after : ℕ) (reply : Reply) → (HasRisen faults_before faults_after → ⊥) → IsReplyOf reading showed (Some bytes) after faults_before faults_after reply
+    → HasItsAnswer reading bytes (status_of reply)
+told_answer reading showed bytes after fb fa (Ran text) sure is =
     let input = is.1 in
     record {
-      accepted = λ scenario other within. inl refl;
+      accepted = λ what other within. inl refl;
       no_json = λ none within. absurd (none input.input.value input.input.spelled);
-      faulty = λ fault other within. absurd (no_both mode bytes is.0 fault input.input other);
+      faulty = λ fault other within. absurd (no_both reading bytes is.0 fault input.input other);
       too_long = λ past. absurd (omega (arith, past, input.within));
     }
-told_answer mode showed bytes after fb fa Usage sure is = absurd is
-told_answer mode showed bytes after fb fa BadJson sure is =
+told_answer reading showed bytes after fb fa Usage sure is = absurd is
+told_answer reading showed bytes after fb fa BadJson sure is =
     record {
-      accepted = λ scenario other within. absurd (is.input other.value other.spelled);
+      accepted = λ what other within. absurd (is.input other.value other.spelled);
       no_json = λ none within. inl refl;
       faulty = λ fault other within. absurd (is.input other.value other.spelled);
       too_long = λ past. absurd (omega (arith, past, is.within));
     }
-told_answer mode showed bytes after fb fa (BadScenario text) sure is =
+told_answer reading showed bytes after fb fa (BadScenario text) sure is =
     let input = is.1 in
     record {
-      accepted = λ scenario other within. absurd (no_both mode bytes scenario is.0 other input.input);
+      accepted = λ what other within. absurd (no_both reading bytes what is.0 other input.input);
       no_json = λ none within. absurd (none input.input.value input.input.spelled);
       faulty = λ fault other within. inl refl;
       too_long = λ past. absurd (omega (arith, past, input.within));
     }
-told_answer mode showed bytes after fb fa ReadFault sure is = absurd (sure is)
-told_answer mode showed bytes after fb fa TooLong sure is =
+told_answer reading showed bytes after fb fa ReadFault sure is = absurd (sure is)
+told_answer reading showed bytes after fb fa TooLong sure is =
     let past : max_input < length bytes = taken_past bytes after is in
     record {
-      accepted = λ scenario other within. absurd (omega (arith, past, within));
+      accepted = λ what other within. absurd (omega (arith, past, within));
       no_json = λ none within. absurd (omega (arith, past, within));
       faulty = λ fault other within. absurd (omega (arith, past, within));
       too_long = λ past. inl refl;
     }
-told_answer mode showed bytes after fb fa NoMemory sure is =
+told_answer reading showed bytes after fb fa NoMemory sure is =
     record {
-      accepted = λ scenario other within. inr refl;
+      accepted = λ what other within. inr refl;
       no_json = λ none within. inr refl;
       faulty = λ fault other within. inr refl;
       too_long = λ past. inr refl;
     }
 
 -- so it is of a reply to a command that reads
-for_mode : (mode : Mode) (showed : Mode → Scenario → Type 0) (before after : Option (List ℕ)) (faults_before faults_after : ℕ) (reply : Reply) → (HasRisen faults_before faults_after → ⊥) → IsReplyOf mode showed before after faults_before faults_after reply
-    → IfSome before (λ bytes. HasItsAnswer mode bytes (status_of reply))
-for_mode mode showed None after fb fa reply sure is = tt
-for_mode mode showed (Some bytes) after fb fa reply sure is = told_answer mode showed bytes after fb fa reply sure is
+for_reading : (reading : Reading) (showed : Mode → Scenario → Type 0) (before after : Option (List ℕ)) (faults_before faults_after : ℕ) (reply : Reply) → (HasRisen faults_before faults_after → ⊥) → IsReplyOf reading showed before after faults_before faults_after reply
+    → IfSome before (λ bytes. HasItsAnswer reading bytes (status_of reply))
+for_reading reading showed None after fb fa reply sure is = tt
+for_reading reading showed (Some bytes) after fb fa reply sure is = told_answer reading showed bytes after fb fa reply sure is
 
 for_its_answer : (showed : Mode → Scenario → Type 0) (command : Option Command) (before after : Option (List ℕ)) (faults_before faults_after : ℕ) (reply : Reply) → (HasRisen faults_before faults_after → ⊥) → IsReplyFor showed command before after faults_before faults_after reply
-    → IfSome (input_mode command) (λ mode. IfSome before (λ bytes. HasItsAnswer mode bytes (status_of reply)))
-for_its_answer showed (Some Run) before after fb fa reply sure is = for_mode Schedule showed before after fb fa reply sure is
-for_its_answer showed (Some (Threads pes per_turn)) before after fb fa reply sure is = for_mode OnThreads showed before after fb fa reply sure is
+    → IfSome (input_reading command) (λ reading. IfSome before (λ bytes. HasItsAnswer reading bytes (status_of reply)))
+for_its_answer showed (Some Run) before after fb fa reply sure is = for_reading (scenarios Schedule) showed before after fb fa reply sure is
+for_its_answer showed (Some (Threads pes per_turn)) before after fb fa reply sure is = for_reading (scenarios OnThreads) showed before after fb fa reply sure is
 for_its_answer showed (Some (Soak number steps)) before after fb fa reply sure is = tt
+for_its_answer showed (Some Host) before after fb fa reply sure is = for_reading links showed before after fb fa reply sure is
 for_its_answer showed None before after fb fa reply sure is = tt
 
 -- the status where neither the source nor the sink had a fault
@@ -234,18 +246,18 @@ status_there : (tb ta : Option (List ℕ)) (kb ka : ℕ) (text : List ℕ) (own 
 status_there tb ta kb ka text own status sure (inl whole) = whole.0
 status_there tb ta kb ka text own status sure (inr part) = absurd (sure part.1)
 
--- what holds of each mode, where a fact is known of it, holds once the fact is
+-- what holds of each reading, where a fact is known of it, holds once the fact is
 where_so : {A P : Type 0} (asked : Option A) (Q : A → Type 0) → (P → IfSome asked Q) → IfSome asked (λ a. P → Q a)
 where_so None Q each = tt
 where_so (Some a) Q each = each
 
 pub its_answer : (showed : Mode → Scenario → Type 0) (command : Option Command) (before after : Option (List ℕ)) (faults_before faults_after : ℕ) (taken_before taken_after : Option (List ℕ)) (sink_before sink_after : ℕ) (reply : Reply) (status : ℕ)
     → IsReplyFor showed command before after faults_before faults_after reply → IsWritten taken_before taken_after sink_before sink_after (text_of reply) (status_of reply) status
-    → IfSome (input_mode command) (λ mode. (HasRisen faults_before faults_after → ⊥) → (HasRisen sink_before sink_after → ⊥) → IfSome before (λ bytes. HasItsAnswer mode bytes status))
+    → IfSome (input_reading command) (λ reading. (HasRisen faults_before faults_after → ⊥) → (HasRisen sink_before sink_after → ⊥) → IfSome before (λ bytes. HasItsAnswer reading bytes status))
 its_answer showed command before after fb fa tb ta kb ka reply status is done =
-    where_so (input_mode command) (λ mode. (HasRisen kb ka → ⊥) → IfSome before (λ bytes. HasItsAnswer mode bytes status))
-    (λ sure. where_so (input_mode command) (λ mode. IfSome before (λ bytes. HasItsAnswer mode bytes status))
-    (λ sure_sink. subst (λ (s : ℕ). IfSome (input_mode command) (λ mode. IfSome before (λ bytes. HasItsAnswer mode bytes s))) (sym (status_there tb ta kb ka (text_of reply) (status_of reply) status sure_sink done.written))
+    where_so (input_reading command) (λ reading. (HasRisen kb ka → ⊥) → IfSome before (λ bytes. HasItsAnswer reading bytes status))
+    (λ sure. where_so (input_reading command) (λ reading. IfSome before (λ bytes. HasItsAnswer reading bytes status))
+    (λ sure_sink. subst (λ (s : ℕ). IfSome (input_reading command) (λ reading. IfSome before (λ bytes. HasItsAnswer reading bytes s))) (sym (status_there tb ta kb ka (text_of reply) (status_of reply) status sure_sink done.written))
     (for_its_answer showed command before after fb fa reply sure is)))
 
 -- a status that is not 0, 6 or 9 is that of a reply before which no run is made
@@ -270,7 +282,7 @@ unrun tb ta kb ka reply status done written whole refused =
 
 -- An input that was read to its end, and the reply to its bytes.
 
-module _ (mode : Mode) (showed : Mode → Scenario → Type 0) (before after : Option (List ℕ)) (faults_before faults_after : ℕ) (bytes : List ℕ) (whole : IfSome before (λ all. bytes ≡ all)) (within : length bytes ≤ max_input) (ended : OnSome before (after ≡ Some [])) where
+module _ (reading : Reading) (showed : Mode → Scenario → Type 0) (before after : Option (List ℕ)) (faults_before faults_after : ℕ) (bytes : List ℕ) (whole : IfSome before (λ all. bytes ≡ all)) (within : length bytes ≤ max_input) (ended : OnSome before (after ≡ Some [])) where
   input_of : (told : Option (List ℕ)) (P : List ℕ → Type 0) → IfSome told (λ all. bytes ≡ all) → P bytes → IfSome told P
   input_of None P same holds = tt
   input_of (Some all) P same holds = subst P same holds
@@ -285,15 +297,31 @@ module _ (mode : Mode) (showed : Mode → Scenario → Type 0) (before after : O
   at_most : HasReadAtMost before after max_input
   at_most = record { part = bytes; within = within; read = record { told = rest_of before whole ended } }
 
-  reply_is : (reply : Reply) → IsReplyTo mode showed bytes reply → IsReplyOf mode showed before after faults_before faults_after reply
-  reply_is (Ran text) is = (is.0, input (λ all. SpellsScenario mode all is.0) is.1, is.2)
+  reply_is : (reply : Reply) → IsReplyTo reading showed bytes reply → IsReplyOf reading showed before after faults_before faults_after reply
+  reply_is (Ran text) is = (is.0, input (λ all. SpellsSaid reading all is.0) is.1, is.2)
   reply_is Usage is = absurd is
   reply_is BadJson is = input IsNoJson is
-  reply_is (BadScenario text) is = (is.0, input (λ all. SpellsFault mode all is.0) is.1, is.2)
+  reply_is (BadScenario text) is = (is.0, input (λ all. SpellsFault reading all is.0) is.1, is.2)
   reply_is ReadFault is = absurd is
   reply_is TooLong is = absurd is
   reply_is NoMemory is = at_most
 
-  pub whole_reply : {E : Type 0} (result : Result Reply E) → IfOk result (IsReplyTo mode showed bytes) → IsReplyOf mode showed before after faults_before faults_after (result_unwrap_or result NoMemory)
+  pub whole_reply : {E : Type 0} (result : Result Reply E) → IfOk result (IsReplyTo reading showed bytes) → IsReplyOf reading showed before after faults_before faults_after (result_unwrap_or result NoMemory)
   whole_reply (Ok reply) is = reply_is reply is
   whole_reply (Err error) is = at_most
+
+-- The reply to a value that some bytes spell is the reply to these.
+
+module _ (reading : Reading) (showed : Mode → Scenario → Type 0) (bytes : List ℕ) (value : Data) (spelled : Spells bytes value) where
+  spelled_is : (reply : Reply) → IsValueReply reading (IsTextOf reading showed) value reply → IsReplyTo reading showed bytes reply
+  spelled_is (Ran text) is = (is.0, record { value = value; spelled = spelled; said_is = is.1 }, is.2)
+  spelled_is Usage is = absurd is
+  spelled_is BadJson is = absurd is
+  spelled_is (BadScenario text) is = (is.0, record { value = value; spelled = spelled; fault_is = is.1 }, is.2)
+  spelled_is ReadFault is = absurd is
+  spelled_is TooLong is = absurd is
+  spelled_is NoMemory is = absurd is
+
+  pub spelled_reply : {E : Type 0} (result : Result Reply E) → IfOk result (IsValueReply reading (IsTextOf reading showed) value) → IfOk result (IsReplyTo reading showed bytes)
+  spelled_reply (Ok reply) is = spelled_is reply is
+  spelled_reply (Err error) is = tt

@@ -3,7 +3,7 @@ use Rattle.std.specs.Prelude.{◌≡◌, ℕ, ◌-◌, ◌^◌, ◌<◌, ◌≤�
 use Rattle.std.specs.Str.Parse.{digits_value}
 use Rattle.std.specs.declared.alloc.Global.{Global}
 use Rattle.gic_top.specs.declared.command.Command.{Command}
-use Rattle.gic_top.specs.declared.command.Command.TheVariants.{Run, Threads, Soak}
+use Rattle.gic_top.specs.declared.command.Command.TheVariants.{Run, Threads, Soak, Host}
 
 -- the number, of at most so much, whose decimal digits a word is: without a sign, and without zeros before them
 abbrev pub number_in : ℕ → List ℕ → Option ℕ
@@ -58,6 +58,11 @@ soak_with (number ∷ []) = None
 soak_with (number ∷ steps ∷ []) = soak_of (number_in (2 ^ 64 - 1) number) (number_in 100000 steps)
 soak_with (number ∷ steps ∷ argument ∷ arguments) = None
 
+-- `host` stands alone
+abbrev pub host_with : List (List ℕ) → Option Command
+host_with [] = Some Host
+host_with (argument ∷ arguments) = None
+
 -- the command that words are: the first names it, and the others are its arguments
 abbrev pub command_of : List (List ℕ) → Option Command
 command_of [] = None
@@ -65,7 +70,8 @@ command_of (name ∷ arguments) =
     if bytes_eq name (codes "run") then run_with arguments
     else (if bytes_eq name (codes "threads") then threads_with arguments
     else (if bytes_eq name (codes "soak") then soak_with arguments
-    else None))
+    else (if bytes_eq name (codes "host") then host_with arguments
+    else None)))
 
 -- the command that the words of a command line are
 abbrev pub command_in : List (String Global) → Option Command
@@ -76,3 +82,4 @@ abbrev pub IsInBounds : Command → Type 0
 IsInBounds Run = ⊤
 IsInBounds (Threads pes per_turn) = IsCount 8 pes × IsCount 1000 per_turn
 IsInBounds (Soak number steps) = steps ≤ 100000
+IsInBounds Host = ⊤

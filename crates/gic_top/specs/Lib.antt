@@ -1,5 +1,5 @@
-pub use Rattle.gic_report.specs.GicIo
-pub use Rattle.scn_read.specs.ScnBase
+pub use Rattle.gic_host.specs.GicReport.GicIo
+pub use Rattle.gic_host.specs.ScnRead.ScnBase
 pub mod Command
 pub mod Tool
 pub mod Reply

@@ -1,22 +1,27 @@
 -- What the tool has to write, inside the crate.
-use Rattle.std.specs.Prelude.{◌≡◌, ℕ, ◌+◌, List, Option, Some, None, codes, ⊤}
-use Rattle.gic_report.specs.GicIo.Faults.{HasRisen}
-use Rattle.gic_report.specs.GicIo.Source.{HasReadCount, HasReadAtMost}
-use Rattle.gic_report.specs.GicSoak.Generated.{generated}
-use Rattle.scn_read.specs.ScnBase.declared.scenario.Scenario.{Scenario}
-use Rattle.scn_read.specs.ScnBase.declared.fault.Fault.{Fault}
+use Rattle.std.specs.Prelude.{◌≡◌, ℕ, ◌+◌, List, Option, Some, None, Ok, Err, codes, ⊤}
+use Rattle.serde_json.specs.Data.{Data}
+use Rattle.gic_host.specs.GicReport.GicIo.Faults.{HasRisen}
+use Rattle.gic_host.specs.GicReport.GicIo.Source.{HasReadCount, HasReadAtMost}
+use Rattle.gic_host.specs.GicReport.GicSoak.Generated.{generated}
+use Rattle.gic_host.specs.ScnRead.ScnBase.declared.scenario.Scenario.{Scenario}
+use Rattle.gic_host.specs.ScnRead.ScnBase.declared.fault.Fault.{Fault}
 use Rattle.run_seq.specs.Calls.{RunOut}
-use Rattle.scn_read.specs.ScnBase.declared.step.Mode.{Mode}
-use Rattle.scn_read.specs.ScnBase.declared.step.Mode.TheVariants.{Schedule, Threads as OnThreads}
-use Rattle.gic_report.specs.Text.{text as text_in}
+use Rattle.gic_host.specs.ScnRead.ScnBase.declared.step.Mode.{Mode}
+use Rattle.gic_host.specs.ScnRead.ScnBase.declared.step.Mode.TheVariants.{Schedule, Threads as OnThreads}
+use Rattle.gic_host.specs.GicReport.Text.{text as text_in}
+use Rattle.gic_host.specs.Text.{text as host_text}
+use Rattle.gic_host.specs.declared.scenario.HostScenario.{HostScenario}
 use Rattle.gic_top.specs.declared.command.Command.{Command}
-use Rattle.gic_top.specs.declared.command.Command.TheVariants.{Run, Threads, Soak}
+use Rattle.gic_top.specs.declared.command.Command.TheVariants.{Run, Threads, Soak, Host}
 use Rattle.gic_top.specs.Command.{IsCount}
 use Rattle.gic_top.specs.declared.tool.Way.{Way}
 use Rattle.gic_top.specs.declared.tool.Way.TheVariants.{InOrder, OnPes}
+use Rattle.gic_top.specs.declared.tool.Asked.{Asked}
+use Rattle.gic_top.specs.declared.tool.Asked.TheVariants.{ScenarioRun, LinksRun}
 use Rattle.gic_top.specs.declared.tool.Reply.{Reply}
 use Rattle.gic_top.specs.declared.tool.Reply.TheVariants.{Ran, Usage, BadJson, BadScenario, ReadFault, TooLong, NoMemory}
-use Rattle.gic_top.specs.Tool.{SpellsScenario, SpellsFault, IsNoJson, HasInput, MayAnswer, max_input, soak_text, fault_line, line}
+use Rattle.gic_top.specs.Tool.{Reading, scenarios, links, Said, said, SpellsSaid, SpellsFault, IsNoJson, HasInput, MayAnswer, max_input, soak_text, fault_line, line}
 
 -- the mode of a way to run
 abbrev pub mode_of : Way → Mode
@@ -28,12 +33,31 @@ abbrev pub IsWay : Way → Type 0
 IsWay InOrder = ⊤
 IsWay (OnPes pes per_turn) = IsCount 8 pes × IsCount 1000 per_turn
 
+-- what the input is read as
+abbrev pub reading_of : Asked → Reading
+reading_of (ScenarioRun way) = scenarios (mode_of way)
+reading_of LinksRun = links
+
+-- so it is asked for
+abbrev pub IsAsked : Asked → Type 0
+IsAsked (ScenarioRun way) = IsWay way
+IsAsked LinksRun = ⊤
+
 -- the text is that of what a run of the scenario in this mode, which was shown, may answer
 pub record IsRunText (mode : Mode) (showed : Mode → Scenario → Type 0) (scenario : Scenario) (text : List ℕ) : Type 0 where
   pub out : RunOut
   pub shown : showed mode scenario
   pub answers : MayAnswer mode scenario out
   pub text_is : text ≡ text_in scenario out
+
+-- the text is that of a run with links
+abbrev pub IsHostText : HostScenario → List ℕ → Type 0
+IsHostText scenario text = text ≡ host_text scenario
+
+-- the text is one that a run of what was read may give
+abbrev pub IsTextOf : (reading : Reading) → (Mode → Scenario → Type 0) → Said reading → List ℕ → Type 0
+IsTextOf (scenarios mode) showed = IsRunText mode showed
+IsTextOf links showed = IsHostText
 
 -- the status of a reply
 abbrev pub status_of : Reply → ℕ
@@ -65,27 +89,37 @@ IsUnrun ReadFault = ⊤
 IsUnrun TooLong = ⊤
 IsUnrun NoMemory = ⊥
 
--- the reply is the one to these bytes, read for a run in this mode; `showed` says the run of which scenario the watch was shown, in which mode
-abbrev pub IsReplyTo : Mode → (Mode → Scenario → Type 0) → List ℕ → Reply → Type 0
-IsReplyTo mode showed bytes (Ran text) = (scenario : Scenario) × SpellsScenario mode bytes scenario × IsRunText mode showed scenario text
-IsReplyTo mode showed bytes Usage = ⊥
-IsReplyTo mode showed bytes BadJson = IsNoJson bytes
-IsReplyTo mode showed bytes (BadScenario text) = (fault : Fault) × SpellsFault mode bytes fault × (text ≡ fault_line fault)
-IsReplyTo mode showed bytes ReadFault = ⊥
-IsReplyTo mode showed bytes TooLong = ⊥
-IsReplyTo mode showed bytes NoMemory = ⊤
+-- the reply is the one to a value that is read so; `Gives` says which texts a run of what was read may give
+abbrev pub IsValueReply : (reading : Reading) → (Said reading → List ℕ → Type 0) → Data → Reply → Type 0
+IsValueReply reading Gives value (Ran text) = (what : Said reading) × (said reading value ≡ Ok what) × Gives what text
+IsValueReply reading Gives value Usage = ⊥
+IsValueReply reading Gives value BadJson = ⊥
+IsValueReply reading Gives value (BadScenario text) = (fault : Fault) × (said reading value ≡ Err fault) × (text ≡ fault_line fault)
+IsValueReply reading Gives value ReadFault = ⊥
+IsValueReply reading Gives value TooLong = ⊥
+IsValueReply reading Gives value NoMemory = ⊥
+
+-- the reply is the one to these bytes, read so; `showed` says the run of which scenario the watch was shown, in which mode
+abbrev pub IsReplyTo : (reading : Reading) → (Mode → Scenario → Type 0) → List ℕ → Reply → Type 0
+IsReplyTo reading showed bytes (Ran text) = (what : Said reading) × SpellsSaid reading bytes what × IsTextOf reading showed what text
+IsReplyTo reading showed bytes Usage = ⊥
+IsReplyTo reading showed bytes BadJson = IsNoJson bytes
+IsReplyTo reading showed bytes (BadScenario text) = (fault : Fault) × SpellsFault reading bytes fault × (text ≡ fault_line fault)
+IsReplyTo reading showed bytes ReadFault = ⊥
+IsReplyTo reading showed bytes TooLong = ⊥
+IsReplyTo reading showed bytes NoMemory = ⊤
 
 -- the reply is the one to what a source gave
-abbrev pub IsReplyOf : Mode → (Mode → Scenario → Type 0) → Option (List ℕ) → Option (List ℕ) → ℕ → ℕ → Reply → Type 0
-IsReplyOf mode showed before after faults_before faults_after (Ran text) =
-    (scenario : Scenario) × HasInput before after (λ bytes. SpellsScenario mode bytes scenario) × IsRunText mode showed scenario text
-IsReplyOf mode showed before after faults_before faults_after Usage = ⊥
-IsReplyOf mode showed before after faults_before faults_after BadJson = HasInput before after IsNoJson
-IsReplyOf mode showed before after faults_before faults_after (BadScenario text) =
-    (fault : Fault) × HasInput before after (λ bytes. SpellsFault mode bytes fault) × (text ≡ fault_line fault)
-IsReplyOf mode showed before after faults_before faults_after ReadFault = HasRisen faults_before faults_after
-IsReplyOf mode showed before after faults_before faults_after TooLong = HasReadCount before after (max_input + 1)
-IsReplyOf mode showed before after faults_before faults_after NoMemory = HasReadAtMost before after max_input
+abbrev pub IsReplyOf : (reading : Reading) → (Mode → Scenario → Type 0) → Option (List ℕ) → Option (List ℕ) → ℕ → ℕ → Reply → Type 0
+IsReplyOf reading showed before after faults_before faults_after (Ran text) =
+    (what : Said reading) × HasInput before after (λ bytes. SpellsSaid reading bytes what) × IsTextOf reading showed what text
+IsReplyOf reading showed before after faults_before faults_after Usage = ⊥
+IsReplyOf reading showed before after faults_before faults_after BadJson = HasInput before after IsNoJson
+IsReplyOf reading showed before after faults_before faults_after (BadScenario text) =
+    (fault : Fault) × HasInput before after (λ bytes. SpellsFault reading bytes fault) × (text ≡ fault_line fault)
+IsReplyOf reading showed before after faults_before faults_after ReadFault = HasRisen faults_before faults_after
+IsReplyOf reading showed before after faults_before faults_after TooLong = HasReadCount before after (max_input + 1)
+IsReplyOf reading showed before after faults_before faults_after NoMemory = HasReadAtMost before after max_input
 
 -- the reply is the one to `soak`
 abbrev pub IsSoakReply : (Scenario → Type 0) → ℕ → ℕ → Reply → Type 0
@@ -99,7 +133,9 @@ IsSoakReply showed number steps NoMemory = ⊤
 
 -- the reply is the one to a command, or to words that are none, and to what a source gave
 abbrev pub IsReplyFor : (Mode → Scenario → Type 0) → Option Command → Option (List ℕ) → Option (List ℕ) → ℕ → ℕ → Reply → Type 0
-IsReplyFor showed (Some Run) before after faults_before faults_after reply = IsReplyOf Schedule showed before after faults_before faults_after reply
-IsReplyFor showed (Some (Threads pes per_turn)) before after faults_before faults_after reply = IsReplyOf OnThreads showed before after faults_before faults_after reply
+IsReplyFor showed (Some Run) before after faults_before faults_after reply = IsReplyOf (scenarios Schedule) showed before after faults_before faults_after reply
+IsReplyFor showed (Some (Threads pes per_turn)) before after faults_before faults_after reply =
+    IsReplyOf (scenarios OnThreads) showed before after faults_before faults_after reply
 IsReplyFor showed (Some (Soak number steps)) before after faults_before faults_after reply = (after ≡ before) × IsSoakReply (showed Schedule) number steps reply
+IsReplyFor showed (Some Host) before after faults_before faults_after reply = IsReplyOf links showed before after faults_before faults_after reply
 IsReplyFor showed None before after faults_before faults_after reply = reply ≡ Usage

@@ -1,24 +1,27 @@
 -- What the top call answers to words and an input (own choice).
-use Rattle.std.specs.Prelude.{◌≡◌, ℕ, ◌+◌, ◌-◌, ◌^◌, ◌<◌, ◌≤◌, ◌⊎◌, List, [], ◌∷◌, ◌++◌, length, codes, IsUtf8, Option, Some, None, IfSome, OnSome, IsSome, Ok, Err}
+use Rattle.std.specs.Prelude.{◌≡◌, ℕ, ◌+◌, ◌-◌, ◌^◌, ◌<◌, ◌≤◌, ◌⊎◌, List, [], ◌∷◌, ◌++◌, length, codes, IsUtf8, Option, Some, None, IfSome, OnSome, IsSome, Result, Ok, Err}
 use Rattle.serde_json.specs.Data.{Data}
 use Rattle.serde_json.specs.Read.{read}
 use Rattle.run_seq.specs.LawEagerIsHistory.Possible.{IsPossible}
-use Rattle.gic_report.specs.GicIo.Faults.{HasRisen}
-use Rattle.gic_report.specs.GicIo.Sink.{Grew, GrewByPrefix}
-use Rattle.gic_report.specs.GicIo.Source.{HasReadCount, HasReadAtMost}
-use Rattle.scn_read.specs.ScnBase.declared.scenario.Scenario.{Scenario}
+use Rattle.gic_host.specs.GicReport.GicIo.Faults.{HasRisen}
+use Rattle.gic_host.specs.GicReport.GicIo.Sink.{Grew, GrewByPrefix}
+use Rattle.gic_host.specs.GicReport.GicIo.Source.{HasReadCount, HasReadAtMost}
+use Rattle.gic_host.specs.ScnRead.ScnBase.declared.scenario.Scenario.{Scenario}
 use Rattle.run_seq.specs.Calls.{RunOut}
-use Rattle.scn_read.specs.ScnBase.declared.step.Mode.{Mode}
-use Rattle.scn_read.specs.ScnBase.declared.step.Mode.TheVariants.{Schedule, Threads as OnThreads}
-use Rattle.scn_read.specs.ScnBase.declared.fault.Fault.{Fault}
-use Rattle.scn_read.specs.Reading.{reading}
-use Rattle.scn_read.specs.ScnBase.Shown.{fault_text}
+use Rattle.gic_host.specs.ScnRead.ScnBase.declared.step.Mode.{Mode}
+use Rattle.gic_host.specs.ScnRead.ScnBase.declared.step.Mode.TheVariants.{Schedule, Threads as OnThreads}
+use Rattle.gic_host.specs.ScnRead.ScnBase.declared.fault.Fault.{Fault}
+use Rattle.gic_host.specs.ScnRead.Reading.{reading as scenario_in}
+use Rattle.gic_host.specs.ScnRead.ScnBase.Shown.{fault_text}
 use Rattle.run_seq.specs.GicIdeal.Eager.{eager}
-use Rattle.gic_report.specs.GicSoak.Generated.{generated}
-use Rattle.gic_report.specs.Text.{text, newline}
-use Rattle.gic_report.specs.Soak.{soak_line}
+use Rattle.gic_host.specs.GicReport.GicSoak.Generated.{generated}
+use Rattle.gic_host.specs.GicReport.Text.{text, newline}
+use Rattle.gic_host.specs.GicReport.Soak.{soak_line}
+use Rattle.gic_host.specs.declared.scenario.HostScenario.{HostScenario}
+use Rattle.gic_host.specs.Reading.{reading as links_in}
+use Rattle.gic_host.specs.Text.{text as host_text}
 use Rattle.gic_top.specs.declared.command.Command.{Command}
-use Rattle.gic_top.specs.declared.command.Command.TheVariants.{Run, Threads, Soak}
+use Rattle.gic_top.specs.declared.command.Command.TheVariants.{Run, Threads, Soak, Host}
 
 -- the bytes are UTF-8, and JSON that reads as this value
 pub record Spells (bytes : List ℕ) (value : Data) : Type 0 where
@@ -29,17 +32,40 @@ pub record Spells (bytes : List ℕ) (value : Data) : Type 0 where
 abbrev pub IsNoJson : List ℕ → Type 0
 IsNoJson bytes = (value : Data) → Spells bytes value → ⊥
 
--- the bytes spell this scenario, to be run in this mode
-pub record SpellsScenario (mode : Mode) (bytes : List ℕ) (scenario : Scenario) : Type 0 where
-  pub value : Data
-  pub spelled : Spells bytes value
-  pub scenario_is : reading mode value ≡ Ok scenario
+-- what an input is read as: a scenario, to be run in a mode, or links of physical interrupts
+pub data Reading : Type 0 where
+  scenarios : Mode → Reading
+  links : Reading
 
--- the bytes spell a value that has this fault as a scenario to be run in this mode
-pub record SpellsFault (mode : Mode) (bytes : List ℕ) (fault : Fault) : Type 0 where
+-- what is read so
+abbrev pub Said : Reading → Type 0
+Said (scenarios mode) = Scenario
+Said links = HostScenario
+
+-- what a value says, read so, or its fault
+abbrev pub said : (reading : Reading) → Data → Result (Said reading) Fault
+said (scenarios mode) value = scenario_in mode value
+said links value = links_in value
+
+-- the bytes spell a value that says this, read so
+pub record SpellsSaid (reading : Reading) (bytes : List ℕ) (what : Said reading) : Type 0 where
   pub value : Data
   pub spelled : Spells bytes value
-  pub fault_is : reading mode value ≡ Err fault
+  pub said_is : said reading value ≡ Ok what
+
+-- the bytes spell a value that has this fault, read so
+pub record SpellsFault (reading : Reading) (bytes : List ℕ) (fault : Fault) : Type 0 where
+  pub value : Data
+  pub spelled : Spells bytes value
+  pub fault_is : said reading value ≡ Err fault
+
+-- the bytes spell this scenario, to be run in this mode
+abbrev pub SpellsScenario : Mode → List ℕ → Scenario → Type 0
+SpellsScenario mode bytes scenario = SpellsSaid (scenarios mode) bytes scenario
+
+-- the bytes spell these links and the steps of a run with them
+abbrev pub SpellsLinks : List ℕ → HostScenario → Type 0
+SpellsLinks bytes scenario = SpellsSaid links bytes scenario
 
 -- what a run may answer: where steps are done in order, what the ideal controller answers; on threads, what it answers in a fresh history that holds each actor's steps in order
 abbrev pub MayAnswer : Mode → Scenario → RunOut → Type 0
@@ -85,12 +111,13 @@ Showed scheduled last_schedule threaded last_threads old new =
 abbrev pub most_runs : ℕ
 most_runs = 2 ^ 64 - 1
 
--- the mode of the runs for which a command reads its input; none where it reads none
-abbrev pub input_mode : Option Command → Option Mode
-input_mode (Some Run) = Some Schedule
-input_mode (Some (Threads pes per_turn)) = Some OnThreads
-input_mode (Some (Soak number steps)) = None
-input_mode None = None
+-- what a command reads its input as; none where it reads none
+abbrev pub input_reading : Option Command → Option Reading
+input_reading (Some Run) = Some (scenarios Schedule)
+input_reading (Some (Threads pes per_turn)) = Some (scenarios OnThreads)
+input_reading (Some (Soak number steps)) = None
+input_reading (Some Host) = Some links
+input_reading None = None
 
 -- The rows of the table of answers to a command, or to words that are none. Where the source told the bytes that it had left before the call, they are `before`, and
 -- `after` those that it then has left; `wrote` says what the sink took, and `showed` the run of which scenario the watch was shown, in which mode.
@@ -116,11 +143,18 @@ pub record IsSoak (number steps : ℕ) (before after : Option (List ℕ)) (wrote
   pub shown : showed Schedule (generated number steps)
   pub written : wrote (soak_text number steps)
 
+-- links and steps were read, and the text of their run written
+pub record IsHosted (before after : Option (List ℕ)) (wrote : List ℕ → Type 0) : Type 0 where
+  pub scenario : HostScenario
+  pub read : HasInput before after (λ bytes. SpellsLinks bytes scenario)
+  pub written : wrote (host_text scenario)
+
 -- what a command asks for was done
 abbrev pub IsOk : Option Command → Option (List ℕ) → Option (List ℕ) → (List ℕ → Type 0) → (Mode → Scenario → Type 0) → Type 0
 IsOk (Some Run) before after wrote showed = IsRun Schedule before after wrote showed
 IsOk (Some (Threads pes per_turn)) before after wrote showed = IsRun OnThreads before after wrote showed
 IsOk (Some (Soak number steps)) before after wrote showed = IsSoak number steps before after wrote showed
+IsOk (Some Host) before after wrote showed = IsHosted before after wrote
 IsOk None before after wrote showed = ⊥
 
 -- the words are no command
@@ -130,27 +164,27 @@ pub record IsUsage (command : Option Command) (wrote : List ℕ → Type 0) : Ty
 
 -- the input is no JSON
 pub record IsBadJson (command : Option Command) (before after : Option (List ℕ)) (wrote : List ℕ → Type 0) : Type 0 where
-  pub asked : IsSome (input_mode command)
+  pub asked : IsSome (input_reading command)
   pub read : HasInput before after IsNoJson
   pub written : wrote (line (codes "bad json"))
 
--- the input spells a value that has a fault as a scenario for the command's mode
+-- the input spells a value that has a fault as what the command reads
 pub record IsBadScenario (command : Option Command) (before after : Option (List ℕ)) (wrote : List ℕ → Type 0) : Type 0 where
-  pub mode : Mode
+  pub reading : Reading
   pub fault : Fault
-  pub asked : input_mode command ≡ Some mode
-  pub read : HasInput before after (λ bytes. SpellsFault mode bytes fault)
+  pub asked : input_reading command ≡ Some reading
+  pub read : HasInput before after (λ bytes. SpellsFault reading bytes fault)
   pub written : wrote (fault_line fault)
 
 -- the source's count of faults rose
 pub record IsReadFault (command : Option Command) (faults_before faults_after : ℕ) (wrote : List ℕ → Type 0) : Type 0 where
-  pub asked : IsSome (input_mode command)
+  pub asked : IsSome (input_reading command)
   pub risen : HasRisen faults_before faults_after
   pub written : wrote (line (codes "read fault"))
 
 -- more bytes than the limit were taken from the source
 pub record IsTooLong (command : Option Command) (before after : Option (List ℕ)) (wrote : List ℕ → Type 0) : Type 0 where
-  pub asked : IsSome (input_mode command)
+  pub asked : IsSome (input_reading command)
   pub taken : HasReadCount before after (max_input + 1)
   pub written : wrote (line (codes "too long"))
 
@@ -192,9 +226,9 @@ abbrev pub IsRefusal : Option (List ℕ) → Option (List ℕ) → ℕ → ℕ �
 IsRefusal taken_before taken_after sink_before sink_after status =
     IsWritten taken_before taken_after sink_before sink_after (line (codes "no memory")) 9 status
 
--- every input of a run in this mode has its answer, where memory is not refused
-pub record HasItsAnswer (mode : Mode) (bytes : List ℕ) (status : ℕ) : Type 0 where
-  pub accepted : (scenario : Scenario) → SpellsScenario mode bytes scenario → length bytes ≤ max_input → (status ≡ 0) ⊎ (status ≡ 9)
+-- every input that is read so has its answer, where memory is not refused
+pub record HasItsAnswer (reading : Reading) (bytes : List ℕ) (status : ℕ) : Type 0 where
+  pub accepted : (what : Said reading) → SpellsSaid reading bytes what → length bytes ≤ max_input → (status ≡ 0) ⊎ (status ≡ 9)
   pub no_json : IsNoJson bytes → length bytes ≤ max_input → (status ≡ 3) ⊎ (status ≡ 9)
-  pub faulty : (fault : Fault) → SpellsFault mode bytes fault → length bytes ≤ max_input → (status ≡ 4) ⊎ (status ≡ 9)
+  pub faulty : (fault : Fault) → SpellsFault reading bytes fault → length bytes ≤ max_input → (status ≡ 4) ⊎ (status ≡ 9)
   pub too_long : max_input < length bytes → (status ≡ 7) ⊎ (status ≡ 9)

@@ -1,9 +1,9 @@
 //! The commands, and their reading from words.
 
 ghost use Rattle.std.specs.Prelude.{◌≡◌, ◌≤◌, ◌↔◌, IsTrue, IfSome, map, string_bytes};
-ghost use Rattle.gic_top.specs.Command.{command_in, number_in, count_in, IsPadded, IsCount, run_with as command_with, threads_with as threads_command_with, soak_with as soak_command_with, IsInBounds};
+ghost use Rattle.gic_top.specs.Command.{command_in, number_in, count_in, IsPadded, IsCount, run_with as command_with, threads_with as threads_command_with, soak_with as soak_command_with, host_with as host_command_with, IsInBounds};
 
-use scn_read::{MAX_PES, MAX_STEPS};
+use gic_host::scenarios::{MAX_PES, MAX_STEPS};
 
 /// The most operations of a vCPU while it is on a PE that `threads` can ask for.
 const MAX_PER_TURN: u32 = 1000;
@@ -26,6 +26,8 @@ pub enum Command {
         /// How many steps it has, at most 100000.
         steps: u32,
     },
+    /// `host`: reads physical interrupts that are linked to virtual ones, does the steps with them, and writes the text.
+    Host,
 }
 
 /// Whether a word begins with a plus, or with a zero before another character.
@@ -91,6 +93,13 @@ fn soak_with(arguments: &[String]) -> Option<Command>
     Some(Command::Soak { number, steps })
 }
 
+/// `host` and its arguments, of which there are none.
+fn host_with(arguments: &[String]) -> Option<Command>
+    ensures { result ≡ host_command_with (map string_bytes arguments.now) }
+{
+    arguments.is_empty().then_some(Command::Host)
+}
+
 impl Command {
     /// The command that the words after the program's name are: the first names it, the others are its
     /// arguments. None where they are of no form that is built. Capitals count.
@@ -103,6 +112,7 @@ impl Command {
             "run" => run_with(arguments),
             "threads" => threads_with(arguments),
             "soak" => soak_with(arguments),
+            "host" => host_with(arguments),
             _ => None,
         }
     }

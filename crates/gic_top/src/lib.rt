@@ -6,16 +6,17 @@ mod shown;
 mod tool;
 
 pub use command::Command;
-pub use gic_report::{
+pub use gic_host as host;
+pub use gic_host::report::{
     Bytes, Failed, Gate, MemSink, MemSource, OpenGate, Sink, Source, StdSink, StdSource, SureSink,
     SureSource, generate, text,
 };
-pub use run_seq::{Command as QueueCommand, SeqWatch, eager, encode, run as run_seq_run};
-pub use run_thr::{ThrWatch, run as run_thr_run};
-pub use scn_read::{
+pub use gic_host::scenarios::{
     Answer, DeviceOp, Frame, GuestOp, GuestShape, GuestSpec, Guests, IccReg, Key, ListOf, MAX_PES,
     Mode, NoMemory, PeOp, Preset, PresetList, RunOut, Scenario, Standing, Step, Steps, read,
 };
+pub use run_seq::{Command as QueueCommand, SeqWatch, eager, encode, run as run_seq_run};
+pub use run_thr::{ThrWatch, run as run_thr_run};
 pub use shown::{NOTHING_SHOWN, Shown};
 pub use tool::{
     BAD_JSON, BAD_SCENARIO, MAX_INPUT, NO_MEMORY, OK, READ_FAULT, TOO_LONG, USAGE, WRITE_FAULT,

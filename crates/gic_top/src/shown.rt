@@ -2,9 +2,9 @@
 
 ghost use Rattle.std.specs.Prelude.{None};
 
+use gic_host::scenarios::Scenario;
 use run_seq::{Done, SeqPort, SeqWatch};
 use run_thr::{RootSeat, SharedWords, ThrWatch};
-use scn_read::Scenario;
 
 /// How many runs were shown, of each kind. It keeps nothing else of them.
 #[derive(Clone, Copy, Debug, PartialEq, Eq)]

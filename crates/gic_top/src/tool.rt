@@ -1,21 +1,25 @@
 //! From words and an input to a status, and the text or message that is written.
 
 ghost use Rattle.std.specs.Prelude.{◌≡◌, ◌≢◌, ◌<◌, ◌≤◌, ◌⊎◌, ℕ, IfOk, IfErr, IfSome, OnOk, Some, None, Contains};
-ghost use Rattle.gic_report.specs.GicIo.Faults.{HasRisen};
-ghost use Rattle.gic_report.specs.GicIo.Sink.{Grew};
-ghost use Rattle.scn_read.specs.ScnBase.Good.{IsGood};
-ghost use Rattle.gic_report.specs.GicSoak.Generated.{generated};
+ghost use Rattle.serde_json.specs.View.{view};
+ghost use Rattle.gic_host.specs.GicReport.GicIo.Faults.{HasRisen};
+ghost use Rattle.gic_host.specs.GicReport.GicIo.Sink.{Grew};
+ghost use Rattle.gic_host.specs.ScnRead.ScnBase.Good.{IsGood};
+ghost use Rattle.gic_host.specs.GicReport.GicSoak.Generated.{generated};
+ghost use Rattle.gic_top.specs.declared.command.Command.TheVariants.{Host};
+ghost use Rattle.gic_top.specs.declared.tool.Asked.TheVariants.{LinksRun};
 ghost use Rattle.gic_top.specs.Command.{command_in, IsInBounds};
-ghost use Rattle.gic_top.specs.Tool.{statuses, input_mode, soak_text, fault_line as line_of, MayAnswer, Showed, most_runs, IsOk, IsUsage, IsBadJson, IsBadScenario, IsReadFault, IsWriteFault, IsTooLong, IsNoMemory, IsOutcome, IsWritten, IsRefusal, HasItsAnswer, WasShown};
-ghost use Rattle.gic_top.specs.Reply.{mode_of, status_of, text_of, IsWay, IsRunText, IsReplyTo, IsReplyOf, IsSoakReply, IsReplyFor, IsUnrun};
+ghost use Rattle.gic_top.specs.Tool.{statuses, scenarios, links, input_reading, soak_text, fault_line as line_of, MayAnswer, Showed, most_runs, IsOk, IsUsage, IsBadJson, IsBadScenario, IsReadFault, IsWriteFault, IsTooLong, IsNoMemory, IsOutcome, IsWritten, IsRefusal, HasItsAnswer, WasShown};
+ghost use Rattle.gic_top.specs.Reply.{mode_of, reading_of, status_of, text_of, IsWay, IsAsked, IsRunText, IsHostText, IsValueReply, IsReplyTo, IsReplyOf, IsSoakReply, IsReplyFor, IsUnrun};
 
 use crate::command::Command;
-use gic_report::{
+use gic_host::report::{
     Bytes, Gate, ReadError, Sink, Source, generate, read_all, soak_line, text, write_all,
 };
+use gic_host::scenarios::{Fault, MAX_STEPS, Mode, NoMemory, ReadRefusal, RunOut, Scenario, read};
+use gic_host::{read_host, run_host};
 use run_seq::SeqWatch;
 use run_thr::ThrWatch;
-use scn_read::{Fault, MAX_STEPS, Mode, NoMemory, ReadRefusal, RunOut, Scenario, read};
 use serde_json::Value;
 use std::alloc::{AllocError, Global};
 use std::sync::Wait;
@@ -198,52 +202,96 @@ fn reply_to_soak<R: Wait, W: SeqWatch>(
     }
 }
 
-/// The reply to the bytes of an input. A run is shown to the watch.
-fn reply_to<R: Threads + Wait + Sync, G: Gate + Sync, W: SeqWatch + ThrWatch>(
+/// What an input is read as, and how that is run.
+#[derive(Clone, Copy, Debug, PartialEq, Eq)]
+enum Asked {
+    /// A scenario, to be run so.
+    ScenarioRun(Way),
+    /// Links of physical interrupts.
+    LinksRun,
+}
+
+/// The reply to a value that is read as a scenario. A run is shown to the watch.
+fn scenario_reply<R: Threads + Wait + Sync, G: Gate + Sync, W: SeqWatch + ThrWatch>(
     rt: &R,
     alloc: Global,
     way: Way,
-    bytes: &[u8],
+    value: &Value,
     gate: &G,
     watch: &mut W,
 ) -> Result<Reply, NoMemory>
     requires way { IsWay way }
     requires room { W.scheduled watch.old < most_runs }
     requires threads_room { W.threaded watch.old < most_runs }
-    ensures reply { IfOk result (IsReplyTo (mode_of way) (Showed W.scheduled W.last_schedule W.threaded W.last_threads watch.old watch.new) bytes.now) }
+    ensures reply { IfOk result (IsValueReply (scenarios (mode_of way))
+        (IsRunText (mode_of way) (Showed W.scheduled W.last_schedule W.threaded W.last_threads watch.old watch.new)) (view value.now)) }
     ensures unwatched { IfOk result (λ reply. IsUnrun reply → watch.new ≡ watch.old) }
 {
-    let value = match Value::from_slice(alloc, bytes) {
-        Ok(value) => value,
-        Err(error) if error.is_memory() => return Err(NoMemory),
-        Err(_) => return Ok(Reply::BadJson),
-    };
-    match read(alloc, &value, way.mode()) {
+    match read(alloc, value, way.mode()) {
         Ok(scenario) => Ok(Reply::Ran(run(rt, alloc, way, &scenario, gate, watch)?)),
         Err(ReadRefusal::Bad(fault)) => Ok(Reply::BadScenario(fault_line(alloc, fault)?)),
         Err(ReadRefusal::NoMemory) => Err(NoMemory),
     }
 }
 
-/// The reply to what a source has left. A run is shown to the watch.
+/// The reply to a value that is read as links.
+fn links_reply(alloc: Global, value: &Value) -> Result<Reply, NoMemory>
+    ensures { IfOk result (IsValueReply links IsHostText (view value.now)) }
+{
+    match read_host(alloc, value) {
+        Ok(scenario) => Ok(Reply::Ran(run_host(alloc, &scenario)?)),
+        Err(ReadRefusal::Bad(fault)) => Ok(Reply::BadScenario(fault_line(alloc, fault)?)),
+        Err(ReadRefusal::NoMemory) => Err(NoMemory),
+    }
+}
+
+/// The reply to the bytes of an input. A run of a scenario is shown to the watch, and no other.
+fn reply_to<R: Threads + Wait + Sync, G: Gate + Sync, W: SeqWatch + ThrWatch>(
+    rt: &R,
+    alloc: Global,
+    asked: Asked,
+    bytes: &[u8],
+    gate: &G,
+    watch: &mut W,
+) -> Result<Reply, NoMemory>
+    requires asked { IsAsked asked }
+    requires room { W.scheduled watch.old < most_runs }
+    requires threads_room { W.threaded watch.old < most_runs }
+    ensures reply { IfOk result (IsReplyTo (reading_of asked) (Showed W.scheduled W.last_schedule W.threaded W.last_threads watch.old watch.new) bytes.now) }
+    ensures unwatched { IfOk result (λ reply. IsUnrun reply → watch.new ≡ watch.old) }
+    ensures links_unwatched { asked ≡ LinksRun → watch.new ≡ watch.old }
+{
+    let value = match Value::from_slice(alloc, bytes) {
+        Ok(value) => value,
+        Err(error) if error.is_memory() => return Err(NoMemory),
+        Err(_) => return Ok(Reply::BadJson),
+    };
+    match asked {
+        Asked::ScenarioRun(way) => scenario_reply(rt, alloc, way, &value, gate, watch),
+        Asked::LinksRun => links_reply(alloc, &value),
+    }
+}
+
+/// The reply to what a source has left. A run of a scenario is shown to the watch, and no other.
 fn reply_of<R: Threads + Wait + Sync, S: Source, G: Gate + Sync, W: SeqWatch + ThrWatch>(
     rt: &R,
     alloc: Global,
-    way: Way,
+    asked: Asked,
     source: &mut S,
     gate: &G,
     watch: &mut W,
 ) -> Reply
-    requires way { IsWay way }
+    requires asked { IsAsked asked }
     requires room { W.scheduled watch.old < most_runs }
     requires threads_room { W.threaded watch.old < most_runs }
-    ensures reply { IsReplyOf (mode_of way) (Showed W.scheduled W.last_schedule W.threaded W.last_threads watch.old watch.new)
+    ensures reply { IsReplyOf (reading_of asked) (Showed W.scheduled W.last_schedule W.threaded W.last_threads watch.old watch.new)
         (S.left source.old) (S.left source.new) (S.faults source.old) (S.faults source.new) result }
     ensures unwatched { IsUnrun result → watch.new ≡ watch.old }
+    ensures links_unwatched { asked ≡ LinksRun → watch.new ≡ watch.old }
 {
     match read_all(alloc, source, MAX_INPUT) {
         Ok(bytes) => {
-            reply_to(rt, alloc, way, bytes.as_slice(), gate, watch).unwrap_or(Reply::NoMemory)
+            reply_to(rt, alloc, asked, bytes.as_slice(), gate, watch).unwrap_or(Reply::NoMemory)
         }
         Err(ReadError::ReadFault) => Reply::ReadFault,
         Err(ReadError::TooLong) => Reply::TooLong,
@@ -251,7 +299,7 @@ fn reply_of<R: Threads + Wait + Sync, S: Source, G: Gate + Sync, W: SeqWatch + T
     }
 }
 
-/// The reply to a command, or to words that are none, and to what a source has left. A run is shown to the watch.
+/// The reply to a command, or to words that are none, and to what a source has left. A run of a scenario is shown to the watch, and no other.
 fn reply_for<R: Threads + Wait + Sync, S: Source, G: Gate + Sync, W: SeqWatch + ThrWatch>(
     rt: &R,
     alloc: Global,
@@ -265,15 +313,21 @@ fn reply_for<R: Threads + Wait + Sync, S: Source, G: Gate + Sync, W: SeqWatch + 
     requires threads_room { W.threaded watch.old < most_runs }
     ensures reply { IsReplyFor (Showed W.scheduled W.last_schedule W.threaded W.last_threads watch.old watch.new)
         command (S.left source.old) (S.left source.new) (S.faults source.old) (S.faults source.new) result }
-    ensures unread { input_mode command ≡ None → source.new ≡ source.old }
+    ensures unread { input_reading command ≡ None → source.new ≡ source.old }
     ensures unwatched { IsUnrun result → watch.new ≡ watch.old }
+    ensures host_unwatched { command ≡ Some Host → watch.new ≡ watch.old }
 {
     match command {
-        Some(Command::Run) => reply_of(rt, alloc, Way::InOrder, source, gate, watch),
+        Some(Command::Run) => {
+            let asked = Asked::ScenarioRun(Way::InOrder);
+            reply_of(rt, alloc, asked, source, gate, watch)
+        }
         Some(Command::Threads { pes, per_turn }) => {
-            reply_of(rt, alloc, Way::OnPes { pes, per_turn }, source, gate, watch)
+            let asked = Asked::ScenarioRun(Way::OnPes { pes, per_turn });
+            reply_of(rt, alloc, asked, source, gate, watch)
         }
         Some(Command::Soak { number, steps }) => reply_to_soak(rt, alloc, number, steps, watch),
+        Some(Command::Host) => reply_of(rt, alloc, Asked::LinksRun, source, gate, watch),
         None => Reply::Usage,
     }
 }
@@ -301,9 +355,10 @@ pub fn refuse_words<K: Sink>(sink: &mut K) -> u8
 /// `run` reads a scenario from the source, in JSON, does its steps one after the other, and writes the text of the run to the
 /// sink. `threads P Q` does so on P PEs, each a thread, with up to Q operations of a vCPU while it is on one, and each device in a
 /// thread of its own; the PEs pass the gate. `soak N STEPS` makes the scenario of the number N, of so many steps, and writes one
-/// line of its run. Each run goes through the interrupt words of its guests and vCPUs that enter and leave PEs with the scenario's
-/// list registers, and is shown to the watch, which was shown less than 2^64 - 1 of either kind before. A text or a message is built whole before its first byte is
-/// written. The words are those after the program's name. The status is [`OK`] or another of this module's.
+/// line of its run. Each such run goes through the interrupt words of its guests and vCPUs that enter and leave PEs with the scenario's
+/// list registers, and is shown to the watch, which was shown less than 2^64 - 1 of either kind before. `host` reads physical interrupts
+/// with their links to virtual ones from the source, does the steps with them on list registers, and writes their text; it is shown to no
+/// watch. A text or a message is built whole before its first byte is written. The words are those after the program's name. The status is [`OK`] or another of this module's.
 pub fn run_tool<
     R: Threads + Wait + Sync,
     S: Source,
@@ -350,16 +405,17 @@ pub fn run_tool<
 
     // Words that are no command are refused, and only a command that reads its input does.
     ensures usage_where_no_command { command_in words.now ≡ None → (result ≡ 2) ⊎ (result ≡ 6) }
-    ensures unread_unless_asked { input_mode (command_in words.now) ≡ None → source.new ≡ source.old }
+    ensures unread_unless_asked { input_reading (command_in words.now) ≡ None → source.new ≡ source.old }
 
     // The watch is as it was, but where a run was made, or may have been.
     ensures unwatched { result ≢ 0 → result ≢ 6 → result ≢ 9 → watch.new ≡ watch.old }
+    ensures host_unwatched { command_in words.now ≡ Some Command.Host → watch.new ≡ watch.old }
 
     // Where no fault comes from outside, each input has its answer.
-    ensures complete { IfSome (input_mode (command_in words.now)) (λ mode.
+    ensures complete { IfSome (input_reading (command_in words.now)) (λ reading.
         ¬ HasRisen (S.faults source.old) (S.faults source.new)
         → ¬ HasRisen (K.faults sink.old) (K.faults sink.new)
-        → IfSome (S.left source.old) (λ bytes. HasItsAnswer mode bytes result)) }
+        → IfSome (S.left source.old) (λ bytes. HasItsAnswer reading bytes result)) }
 
     // `soak` needs no input.
     ensures soak_complete { (number steps : ℕ) → command_in words.now ≡ Some (Command.Soak number steps)

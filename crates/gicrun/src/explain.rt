@@ -1,24 +1,31 @@
 //! What is told to people, on the standard error, beside what the sink takes.
 use gic_top::{BAD_JSON, BAD_SCENARIO, Command, USAGE};
-use scn_hint::{Cause, Mode, ReadRefusal, hint_of, read};
+use scn_hint::{Cause, Mode, ReadRefusal, hint_of, host_hint_of, read, read_host};
 use serde_json::Value;
 use std::alloc::Global;
 use std::io::{Eprint, Result};
 
 const HOW: &str =
-    "usage: gicrun run | gicrun threads P Q | gicrun soak N STEPS (decimal numbers: P PEs, 1 to 8, with up to Q operations of a vCPU while it is on one, 1 to 1000; N from 0 to 2^64 - 1, STEPS from 0 to 100000; run and threads read a scenario from the standard input)";
+    "usage: gicrun run | gicrun threads P Q | gicrun soak N STEPS | gicrun host (decimal numbers: P PEs, 1 to 8, with up to Q operations of a vCPU while it is on one, 1 to 1000; N from 0 to 2^64 - 1, STEPS from 0 to 100000; run and threads read a scenario from the standard input, host links of physical interrupts and their steps)";
 
-/// For which mode the input of a command is read, where it is.
-fn mode_of(command: Option<Command>) -> Option<Mode> {
-    match command? {
-        Command::Run => Some(Mode::Schedule),
-        Command::Threads { .. } => Some(Mode::Threads),
-        Command::Soak { .. } => None,
+/// Tells why a value is no scenario in this mode.
+fn explain_scenario(rt: &impl Eprint, alloc: Global, mode: Mode, value: &Value) -> Result<()> {
+    match read(alloc, value, mode) {
+        Err(ReadRefusal::Bad(fault)) => eprintln!(rt; "gicrun: {}", hint_of(value, fault)),
+        _ => Ok(()),
     }
 }
 
-/// Tells why these bytes are no scenario in this mode.
-fn explain_input(rt: &impl Eprint, alloc: Global, mode: Mode, bytes: &[u8]) -> Result<()> {
+/// Tells why a value is no links and steps of them.
+fn explain_links(rt: &impl Eprint, alloc: Global, value: &Value) -> Result<()> {
+    match read_host(alloc, value) {
+        Err(ReadRefusal::Bad(fault)) => eprintln!(rt; "gicrun: {}", host_hint_of(value, fault)),
+        _ => Ok(()),
+    }
+}
+
+/// Tells why these bytes are not what a command reads.
+fn explain_input(rt: &impl Eprint, alloc: Global, command: Command, bytes: &[u8]) -> Result<()> {
     let value = match Value::from_slice(alloc, bytes) {
         Ok(value) => value,
         Err(error) => {
@@ -28,9 +35,11 @@ fn explain_input(rt: &impl Eprint, alloc: Global, mode: Mode, bytes: &[u8]) -> R
             };
         }
     };
-    match read(alloc, &value, mode) {
-        Err(ReadRefusal::Bad(fault)) => eprintln!(rt; "gicrun: {}", hint_of(&value, fault)),
-        _ => Ok(()),
+    match command {
+        Command::Run => explain_scenario(rt, alloc, Mode::Schedule, &value),
+        Command::Threads { .. } => explain_scenario(rt, alloc, Mode::Threads, &value),
+        Command::Host => explain_links(rt, alloc, &value),
+        Command::Soak { .. } => Ok(()),
     }
 }
 
@@ -42,10 +51,10 @@ pub(crate) fn explain(
     status: u8,
     bytes: Option<&[u8]>,
 ) -> Result<()> {
-    match (status, mode_of(command), bytes) {
+    match (status, command, bytes) {
         (USAGE, _, _) => eprintln!(rt; "gicrun: {HOW}"),
-        (BAD_JSON | BAD_SCENARIO, Some(mode), Some(bytes)) => {
-            explain_input(rt, alloc, mode, bytes)
+        (BAD_JSON | BAD_SCENARIO, Some(command), Some(bytes)) => {
+            explain_input(rt, alloc, command, bytes)
         }
         _ => Ok(()),
     }

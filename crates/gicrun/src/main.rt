@@ -1,10 +1,10 @@
-//! Runs a scenario of guests, devices and interrupts, and writes what the guests read.
+//! Runs a scenario of guests, devices and interrupts, or of physical interrupts that are linked to virtual ones, and writes what the guests read.
 #![tactic(auto)]
 
 ghost use Rattle.std.specs.Prelude.{◌≡◌, ◌≢◌, ◌<◌, ◌⊎◌, ℕ, Some, None, Contains, IfOk, IfErr, IfSome};
 ghost use Rattle.gic_top.specs.GicIo.Faults.{HasRisen};
 ghost use Rattle.gic_top.specs.Command.{command_in};
-ghost use Rattle.gic_top.specs.Tool.{statuses, input_mode, Showed, most_runs, IsOutcome, IsRefusal, HasItsAnswer};
+ghost use Rattle.gic_top.specs.Tool.{statuses, input_reading, Showed, most_runs, IsOutcome, IsRefusal, HasItsAnswer};
 
 mod explain;
 mod noted;
@@ -50,11 +50,11 @@ fn status<R: Threads + Wait + Sync, S: Source, K: Sink, G: Gate + Sync, W: SeqWa
     ensures outcome { IfOk words (λ words. IsOutcome (command_in words.items) (S.left source.old) (S.left source.new) (S.faults source.old) (S.faults source.new)
         (K.taken sink.old) (K.taken sink.new) (K.faults sink.old) (K.faults sink.new)
         (Showed W.scheduled W.last_schedule W.threaded W.last_threads watch.old watch.new) result) }
-    ensures unread_unless_asked { IfOk words (λ words. input_mode (command_in words.items) ≡ None → source.new ≡ source.old) }
-    ensures complete { IfOk words (λ words. IfSome (input_mode (command_in words.items)) (λ mode.
+    ensures unread_unless_asked { IfOk words (λ words. input_reading (command_in words.items) ≡ None → source.new ≡ source.old) }
+    ensures complete { IfOk words (λ words. IfSome (input_reading (command_in words.items)) (λ reading.
         ¬ HasRisen (S.faults source.old) (S.faults source.new)
         → ¬ HasRisen (K.faults sink.old) (K.faults sink.new)
-        → IfSome (S.left source.old) (λ bytes. HasItsAnswer mode bytes result))) }
+        → IfSome (S.left source.old) (λ bytes. HasItsAnswer reading bytes result))) }
     ensures soak_complete { IfOk words (λ words. (number steps : ℕ) → command_in words.items ≡ Some (Command.Soak number steps)
         → ¬ HasRisen (K.faults sink.old) (K.faults sink.new)
         → (result ≡ 0) ⊎ (result ≡ 9)) }

@@ -2,8 +2,8 @@
 ghost use Rattle.std.specs.Prelude.{◌≤◌, ◌<◌};
 
 use crate::plain::Plain;
-use gic_host::{HostScenario, HostStep, HostStepList, Link, LinkList, PhysSet, run_host};
-use gic_ich::IccReg;
+use gic_top::IccReg;
+use gic_top::host::{HostScenario, HostStep, HostStepList, Link, LinkList, PhysSet, run_host};
 use std::alloc::{AllocError, Global};
 use std::fmt::Write;
 use std::test::Fail;

@@ -1,6 +1,6 @@
 //! Texts that say nothing to run, and their faults.
-use gic_host::read_host;
-use scn_read::{Fault, ReadRefusal};
+use gic_top::host::read_host;
+use gic_top::host::scenarios::{Fault, ReadRefusal};
 use serde_json::Value;
 use std::alloc::Global;
 use std::test::Fail;

@@ -1,6 +1,6 @@
 //! A plain program of linked interrupts, which goes by no registers and no plan.
-use gic_host::{HostScenario, HostStep, Link, PhysSet};
-use gic_ich::IccReg;
+use gic_top::IccReg;
+use gic_top::host::{HostScenario, HostStep, Link, PhysSet};
 use std::alloc::{AllocError, Global};
 use std::fmt::Write;
 

@@ -1,8 +1,7 @@
 //! Linked list registers, word by word.
-use floor_lists::{Group, Irq, Key, Outcome, Route, access, fresh};
-use gic_host::{Link, LinkList, are_linked, fit_registers, linked};
-use gic_ich::{HCR_EN, IccReg, IchRegs, MAX_LIST_REGISTERS};
-use gic_open::opening_cpu;
+use gic_top::host::lists::{Group, Irq, Key, Outcome, Route, access, fresh};
+use gic_top::host::registers::{HCR_EN, IccReg, IchRegs, MAX_LIST_REGISTERS};
+use gic_top::host::{Link, LinkList, are_linked, fit_registers, linked, opening_cpu};
 use std::test::Fail;
 
 /// An edge-triggered interrupt of group 1 for vCPU 0 that is pending.

@@ -1,7 +1,6 @@
-//! Runs from their bytes, and what they write.
-use gic_host::{read_host, run_host};
-use serde_json::Value;
-use std::alloc::Global;
+//! Runs from their bytes through the whole tool, and what they write.
+use crate::tool::run;
+use gic_top::{BAD_JSON, BAD_SCENARIO, OK};
 use std::test::Fail;
 
 /// What is run, and its text.
@@ -44,18 +43,69 @@ const ROWS: [Row; 9] = [
     (r#"{"vcpus":1,"lrs":1,"links":[],"steps":[]}"#, "end 0 0\n"),
 ];
 
-/// The text of a run.
-fn text_of(alloc: Global, input: &str) -> Result<String, Fail> {
-    let value = Value::from_str(alloc, input)?;
-    let scenario = read_host(alloc, &value)?;
-    let bytes = run_host(alloc, &scenario)?;
-    Ok(String::from_utf8_lossy(alloc, bytes.as_slice())?)
-}
-
 #[test]
 fn runs_write_their_texts(rt: HostRuntime) -> Result<(), Fail> {
     for (input, text) in ROWS {
-        assert_eq!(rt; text_of(rt.alloc(), input)?.as_str(), text, "at {input}");
+        let (status, wrote) = run(&rt, rt.alloc(), input)?;
+        assert_eq!(rt; status, OK, "at {input}");
+        assert_eq!(rt; wrote.as_str(), text, "at {input}");
     }
+    Ok(())
+}
+
+/// What is refused, and the code and the step of its fault.
+const REFUSED: [(&str, u8, u32); 8] = [
+    (
+        r#"{"vcpus":1,"lrs":4,"links":[{"phys":100,"vid":40,"vcpu":0,"prio":160},{"phys":100,"vid":41,"vcpu":0,"prio":160}],"steps":[]}"#,
+        11,
+        0,
+    ),
+    (
+        r#"{"vcpus":1,"lrs":4,"links":[{"phys":100,"vid":40,"vcpu":0,"prio":160}],"steps":[{"phys":99}]}"#,
+        4,
+        1,
+    ),
+    (
+        r#"{"vcpus":1,"lrs":4,"links":[{"phys":100,"vid":40,"vcpu":0,"prio":160}],"steps":[{"phys":100,"set":"raise"}]}"#,
+        1,
+        1,
+    ),
+    (
+        r#"{"vcpus":1,"lrs":4,"links":[],"steps":[{"icc":"SGI1R","write":0}]}"#,
+        3,
+        1,
+    ),
+    (
+        r#"{"vcpus":1,"lrs":4,"links":[],"steps":[{"exit":true},{"exit":true}]}"#,
+        5,
+        2,
+    ),
+    (
+        r#"{"vcpus":1,"lrs":4,"links":[],"steps":[{"enter":0}]}"#,
+        6,
+        1,
+    ),
+    (r#"{"vcpus":9,"lrs":4,"links":[],"steps":[]}"#, 2, 0),
+    // A scenario of `run` has none of the fields.
+    (r#"{"guests":[{}],"steps":[]}"#, 1, 0),
+];
+
+#[test]
+fn faults_are_told(rt: HostRuntime) -> Result<(), Fail> {
+    for (input, code, step) in REFUSED {
+        let (status, wrote) = run(&rt, rt.alloc(), input)?;
+        let want = format!(in rt.alloc(); "bad scenario: code {code} step {step}\n")?;
+        assert_eq!(rt; status, BAD_SCENARIO, "at {input}");
+        assert_eq!(rt; wrote.as_str(), want.as_str(), "at {input}");
+    }
+    Ok(())
+}
+
+/// What is no JSON.
+#[test]
+fn no_json_is_told(rt: HostRuntime) -> Result<(), Fail> {
+    let (status, wrote) = run(&rt, rt.alloc(), "{")?;
+    assert_eq!(rt; status, BAD_JSON);
+    assert_eq!(rt; wrote.as_str(), "bad json\n");
     Ok(())
 }

@@ -5,17 +5,17 @@ use Rattle.std.specs.List.{list_all}
 use Rattle.std.proofs.lemmas.Bool.{and_parts, cases_lt, eq-eqb}
 use Rattle.std.proofs.lemmas.List.Elements.{All-head, All-tail}
 use Rattle.serde_json.specs.Data.{Data}
-use Rattle.scn_read.specs.ScnBase.Codes.{first_code, first_of, first_met, ok_unless}
-use Rattle.scn_read.specs.ScnBase.StepFault.{step_fault}
-use Rattle.scn_read.specs.ScnBase.Standing.{standing_after}
-use Rattle.scn_read.specs.ScnBase.Words.{Icc, Mem, Message, Wire, Msi, Enter, Exit, Lrs}
-use Rattle.scn_read.specs.ScnBase.declared.fault.Fault.{Fault}
-use Rattle.scn_read.specs.ScnBase.declared.standing.Standing.{Standing}
-use Rattle.scn_read.specs.ScnBase.declared.step.Mode.{Mode}
-use Rattle.scn_read.specs.ScnBase.declared.step.Step.{Step}
-use Rattle.scn_read.specs.ScnBase.declared.step.Step.TheVariants.{Vcpu, Device, Pe}
-use Rattle.scn_read.specs.Reading.{before_steps, step_and_rest, steps_of}
-use Rattle.scn_read.specs.Step.{step_of, step_said, judged}
+use Rattle.gic_host.specs.ScnRead.ScnBase.Codes.{first_code, first_of, first_met, ok_unless}
+use Rattle.gic_host.specs.ScnRead.ScnBase.StepFault.{step_fault}
+use Rattle.gic_host.specs.ScnRead.ScnBase.Standing.{standing_after}
+use Rattle.gic_host.specs.ScnRead.ScnBase.Words.{Icc, Mem, Message, Wire, Msi, Enter, Exit, Lrs}
+use Rattle.gic_host.specs.ScnRead.ScnBase.declared.fault.Fault.{Fault}
+use Rattle.gic_host.specs.ScnRead.ScnBase.declared.standing.Standing.{Standing}
+use Rattle.gic_host.specs.ScnRead.ScnBase.declared.step.Mode.{Mode}
+use Rattle.gic_host.specs.ScnRead.ScnBase.declared.step.Step.{Step}
+use Rattle.gic_host.specs.ScnRead.ScnBase.declared.step.Step.TheVariants.{Vcpu, Device, Pe}
+use Rattle.gic_host.specs.ScnRead.Reading.{before_steps, step_and_rest, steps_of}
+use Rattle.gic_host.specs.ScnRead.Step.{step_of, step_said, judged}
 
 some_code : (a b : ℕ) → Some a ≡ Some b → a ≡ b
 some_code a b e = cc

@@ -4,8 +4,8 @@ use Rattle.std.specs.Prelude.{is_some, option_map, option_and_then, if◌then◌
 use Rattle.std.specs.Option.{option_map_or}
 use Rattle.serde_json.specs.Data.{Data}
 use Rattle.serde_json.specs.Find.{get, as_bool}
-use Rattle.scn_read.specs.JsonField.Field.{has_only, other_field, number_of, number_or, flag_or, list_of, list_at, list_or_empty}
-use Rattle.scn_read.specs.GicGuest.Good.{passes}
+use Rattle.gic_host.specs.ScnRead.JsonField.Field.{has_only, other_field, number_of, number_or, flag_or, list_of, list_at, list_or_empty}
+use Rattle.gic_host.specs.ScnRead.GicGuest.Good.{passes}
 use Rattle.scn_hint.specs.declared.field.What.{What}
 use Rattle.scn_hint.specs.declared.field.What.TheVariants.{OutOfRange, WrongLength}
 use Rattle.scn_hint.specs.declared.field.Rule.{Rule}

@@ -3,16 +3,16 @@ use Rattle.std.proofs.Common.{◌≡◌, ◌≢◌, ℕ, ◌-◌, ◌⊎◌, inl
 use Rattle.std.specs.Prelude.{IsSome, nat_eq, option_map, option_and_then, slice_get, codes, if◌then◌else◌}
 use Rattle.std.proofs.lemmas.Bool.{cases_lt, eqb-true, eq-eqb, le-leb}
 use Rattle.serde_json.specs.Data.{Data}
-use Rattle.scn_read.specs.JsonField.Field.{elements_at}
-use Rattle.scn_read.specs.ScnBase.declared.fault.Fault.{Fault}
-use Rattle.scn_read.specs.ScnBase.declared.scenario.Scenario.{Scenario}
-use Rattle.scn_read.specs.ScnBase.declared.standing.Standing.{Standing}
-use Rattle.scn_read.specs.ScnBase.declared.step.Mode.{Mode}
-use Rattle.scn_read.specs.ScnBase.declared.step.Step.{Step as StepOf}
-use Rattle.scn_read.specs.declared.form.Form.{Form}
-use Rattle.scn_read.specs.Form.{form_of}
-use Rattle.scn_read.specs.Step.{step_of, said_by, judged}
-use Rattle.scn_read.specs.Reading.{reading, reading_inside, outside_fault, opening_at, steps_of, scenario_or_fault}
+use Rattle.gic_host.specs.ScnRead.JsonField.Field.{elements_at}
+use Rattle.gic_host.specs.ScnRead.ScnBase.declared.fault.Fault.{Fault}
+use Rattle.gic_host.specs.ScnRead.ScnBase.declared.scenario.Scenario.{Scenario}
+use Rattle.gic_host.specs.ScnRead.ScnBase.declared.standing.Standing.{Standing}
+use Rattle.gic_host.specs.ScnRead.ScnBase.declared.step.Mode.{Mode}
+use Rattle.gic_host.specs.ScnRead.ScnBase.declared.step.Step.{Step as StepOf}
+use Rattle.gic_host.specs.ScnRead.declared.form.Form.{Form}
+use Rattle.gic_host.specs.ScnRead.Form.{form_of}
+use Rattle.gic_host.specs.ScnRead.Step.{step_of, said_by, judged}
+use Rattle.gic_host.specs.ScnRead.Reading.{reading, reading_inside, outside_fault, opening_at, steps_of, scenario_or_fault}
 use Rattle.scn_hint.specs.declared.field.What.{What}
 use Rattle.scn_hint.specs.declared.place.Place.{Place}
 use Rattle.scn_hint.specs.declared.place.Place.TheVariants.{Scenario as TheScenario, Guest, Preset, Step}

@@ -4,11 +4,11 @@ use Rattle.std.specs.Prelude.{is_some, option_map, codes, if◌then◌else◌}
 use Rattle.std.proofs.lemmas.Bool.{and_parts, and_from, ne_eqb}
 use Rattle.std.proofs.lemmas.List.Elements.{All-nil, All-cons, All-head, All-tail}
 use Rattle.serde_json.specs.Data.{Data}
-use Rattle.scn_read.specs.JsonField.Field.{has_only, number_at, number_or, flag_or, list_at, list_or_empty, elements_at}
-use Rattle.scn_read.specs.ScnBase.Codes.{first_met, first_of}
-use Rattle.scn_read.specs.Guest.{is_guest, are_numbers, numbers_of, are_in_range, own_fault, guest_fault, guest_fields, vcpus_of, spis_of, espis_of}
-use Rattle.scn_read.specs.Preset.{is_private, is_preset, is_in_range, is_there, is_spi, written_of, preset_fault, preset_fields, vcpu_at}
-use Rattle.scn_read.specs.Reading.{is_scenario, is_scenario_in_range, scenario_fault, scenario_fields, outside_fault}
+use Rattle.gic_host.specs.ScnRead.JsonField.Field.{has_only, number_at, number_or, flag_or, list_at, list_or_empty, elements_at}
+use Rattle.gic_host.specs.ScnRead.ScnBase.Codes.{first_met, first_of}
+use Rattle.gic_host.specs.ScnRead.Guest.{is_guest, are_numbers, numbers_of, are_in_range, own_fault, guest_fault, guest_fields, vcpus_of, spis_of, espis_of}
+use Rattle.gic_host.specs.ScnRead.Preset.{is_private, is_preset, is_in_range, is_there, is_spi, written_of, preset_fault, preset_fields, vcpu_at}
+use Rattle.gic_host.specs.ScnRead.Reading.{is_scenario, is_scenario_in_range, scenario_fault, scenario_fields, outside_fault}
 use Rattle.scn_hint.specs.declared.field.What.{What}
 use Rattle.scn_hint.specs.declared.field.What.TheVariants.{NotEdge, NotThere}
 use Rattle.scn_hint.specs.declared.field.Kind.TheVariants.{Number, List as AList}

@@ -6,14 +6,14 @@ use Rattle.std.specs.List.{list_all, list_any}
 use Rattle.std.specs.Str.{bytes_eq}
 use Rattle.serde_json.specs.Data.{Data, Members, null, boolean, number, string, array, object}
 use Rattle.serde_json.specs.Find.{get, as_bool, as_str, as_object}
-use Rattle.scn_read.specs.JsonField.Field.{has_only, other_field, names, number_of, number_or, number_at, flag_at, pair_at, list_of, pair_in}
-use Rattle.scn_read.specs.ScnBase.Codes.{shape_code, limit_code, unknown_register_code, first_met, ok_unless}
-use Rattle.scn_read.specs.ScnBase.declared.step.Step.{Step}
-use Rattle.scn_read.specs.GicGuest.Good.{passes}
-use Rattle.scn_read.specs.declared.form.Form.{Form}
-use Rattle.scn_read.specs.declared.form.Form.TheVariants.{AccessRegister, AccessDistributor, AccessRedistributor, AccessIts, AccessMemory, SendMessage, MoveWire, SendMsi, EnterPe, ExitPe, ShowPe}
-use Rattle.scn_read.specs.Form.{row_of, form_of}
-use Rattle.scn_read.specs.Step.{said, said_by, form_said, is_register_step, register_at, is_access_step, is_wire_step, are_msi_numbers, pair_of}
+use Rattle.gic_host.specs.ScnRead.JsonField.Field.{has_only, other_field, names, number_of, number_or, number_at, flag_at, pair_at, list_of, pair_in}
+use Rattle.gic_host.specs.ScnRead.ScnBase.Codes.{shape_code, limit_code, unknown_register_code, first_met, ok_unless}
+use Rattle.gic_host.specs.ScnRead.ScnBase.declared.step.Step.{Step}
+use Rattle.gic_host.specs.ScnRead.GicGuest.Good.{passes}
+use Rattle.gic_host.specs.ScnRead.declared.form.Form.{Form}
+use Rattle.gic_host.specs.ScnRead.declared.form.Form.TheVariants.{AccessRegister, AccessDistributor, AccessRedistributor, AccessIts, AccessMemory, SendMessage, MoveWire, SendMsi, EnterPe, ExitPe, ShowPe}
+use Rattle.gic_host.specs.ScnRead.Form.{row_of, form_of}
+use Rattle.gic_host.specs.ScnRead.Step.{said, said_by, form_said, is_register_step, register_at, is_access_step, is_wire_step, are_msi_numbers, pair_of}
 use Rattle.scn_hint.specs.declared.field.Rule.{Rule}
 use Rattle.scn_hint.specs.declared.field.Kind.{Kind}
 use Rattle.scn_hint.specs.declared.field.Kind.TheVariants.{Number, Flag, Yes, Text, Pair, List as AList}

@@ -2,8 +2,8 @@
 use Rattle.std.specs.Prelude.{ℕ, List, [], ◌∷◌, Bool, Option, Some, None, is_some, if◌then◌else◌}
 use Rattle.serde_json.specs.Data.{Data}
 use Rattle.serde_json.specs.Find.{get, as_object}
-use Rattle.scn_read.specs.JsonField.Field.{number_at, flag_at, text_at, pair_at, list_at, other_field}
-use Rattle.scn_read.specs.GicGuest.Good.{passes}
+use Rattle.gic_host.specs.ScnRead.JsonField.Field.{number_at, flag_at, text_at, pair_at, list_at, other_field}
+use Rattle.gic_host.specs.ScnRead.GicGuest.Good.{passes}
 use Rattle.scn_hint.specs.declared.field.Rule.{Rule}
 use Rattle.scn_hint.specs.declared.field.Kind.{Kind}
 use Rattle.scn_hint.specs.declared.field.Kind.TheVariants.{Number, Flag, Yes, Text, Pair, List as AList}

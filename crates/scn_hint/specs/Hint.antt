@@ -2,11 +2,11 @@
 use Rattle.std.specs.Prelude.{◌≡◌, ℕ, ◌-◌, List, All, Bool, nat_eq, nat_le, if◌then◌else◌, Option, Some, None, is_some, option_map, option_and_then, slice_get, codes}
 use Rattle.std.specs.Str.{bytes_eq}
 use Rattle.serde_json.specs.Data.{Data}
-use Rattle.scn_read.specs.JsonField.Field.{elements_at, number_at}
-use Rattle.scn_read.specs.Form.{form_of}
-use Rattle.scn_read.specs.Guest.{guest_fields}
-use Rattle.scn_read.specs.Preset.{is_private, preset_fields}
-use Rattle.scn_read.specs.Reading.{scenario_fields}
+use Rattle.gic_host.specs.ScnRead.JsonField.Field.{elements_at, number_at}
+use Rattle.gic_host.specs.ScnRead.Form.{form_of}
+use Rattle.gic_host.specs.ScnRead.Guest.{guest_fields}
+use Rattle.gic_host.specs.ScnRead.Preset.{is_private, preset_fields}
+use Rattle.gic_host.specs.ScnRead.Reading.{scenario_fields}
 use Rattle.scn_hint.specs.declared.field.What.{What}
 use Rattle.scn_hint.specs.declared.field.What.TheVariants.{Unknown, OfOthers}
 use Rattle.scn_hint.specs.declared.field.Kind.TheVariants.{Number}
@@ -31,6 +31,7 @@ name_of code =
     else if nat_eq code 7 then codes "PeStep"
     else if nat_eq code 8 then codes "WireLevel"
     else if nat_eq code 9 then codes "Address"
+    else if nat_eq code 11 then codes "LinkTwice"
     else codes "Unknown"
 
 -- what a fault outside of the steps asks for, by its code

@@ -1,12 +1,12 @@
 -- A field is told of each fault that the reader finds (own choice).
 use Rattle.std.specs.Prelude.{◌≡◌, ◌↔◌, ◌⊎◌, ℕ, List, false, Option, Some, IsSome, Err, option_and_then, slice_get, codes}
 use Rattle.serde_json.specs.Data.{Data}
-use Rattle.scn_read.specs.JsonField.Field.{elements_at}
-use Rattle.scn_read.specs.ScnBase.Codes.{shape_code}
-use Rattle.scn_read.specs.ScnBase.declared.fault.Fault.{Fault}
-use Rattle.scn_read.specs.declared.form.Form.{Form}
-use Rattle.scn_read.specs.Form.{form_of}
-use Rattle.scn_read.specs.Step.{step_said}
+use Rattle.gic_host.specs.ScnRead.JsonField.Field.{elements_at}
+use Rattle.gic_host.specs.ScnRead.ScnBase.Codes.{shape_code}
+use Rattle.gic_host.specs.ScnRead.ScnBase.declared.fault.Fault.{Fault}
+use Rattle.gic_host.specs.ScnRead.declared.form.Form.{Form}
+use Rattle.gic_host.specs.ScnRead.Form.{form_of}
+use Rattle.gic_host.specs.ScnRead.Step.{step_said}
 use Rattle.scn_hint.specs.declared.field.What.{What}
 use Rattle.scn_hint.specs.declared.place.Place.{Place}
 use Rattle.scn_hint.specs.declared.place.Place.TheVariants.{Scenario, Guest, Preset, Step}

@@ -1,9 +1,9 @@
 -- Numbers that are outside of their ranges, and presets of what a guest does not have (own choice).
 use Rattle.std.specs.Prelude.{ℕ, ◌%◌, ◌&&◌, ◌||◌, ◌==◌, List, [], ◌∷◌, length, Bool, true, false, nat_lt, nat_le, if◌then◌else◌, Option, Some, None, option_and_then, unwrap_or, codes}
 use Rattle.serde_json.specs.Data.{Data}
-use Rattle.scn_read.specs.JsonField.Field.{number_at, flag_or, list_at}
-use Rattle.scn_read.specs.Guest.{vcpus_of, spis_of, espis_of}
-use Rattle.scn_read.specs.Preset.{is_private, id_of, is_spi, written_of}
+use Rattle.gic_host.specs.ScnRead.JsonField.Field.{number_at, flag_or, list_at}
+use Rattle.gic_host.specs.ScnRead.Guest.{vcpus_of, spis_of, espis_of}
+use Rattle.gic_host.specs.ScnRead.Preset.{is_private, id_of, is_spi, written_of}
 use Rattle.scn_hint.specs.declared.field.What.{What}
 use Rattle.scn_hint.specs.declared.field.What.TheVariants.{OutOfRange, WrongLength, NotEdge, NotThere}
 use Rattle.scn_hint.specs.declared.limit.Limit.{Limit}

@@ -4,14 +4,14 @@ use Rattle.std.specs.List.{list_any}
 use Rattle.std.specs.Str.{bytes_eq}
 use Rattle.serde_json.specs.Data.{Data}
 use Rattle.serde_json.specs.Find.{get}
-use Rattle.scn_read.specs.JsonField.Field.{number_at, number_or, elements_at}
-use Rattle.scn_read.specs.GicGuest.Good.{passes}
-use Rattle.scn_read.specs.GicGuest.GicRam.Access.{is_size}
-use Rattle.scn_read.specs.Guest.{numbers_of}
-use Rattle.scn_read.specs.declared.form.Form.{Form}
-use Rattle.scn_read.specs.declared.form.Form.TheVariants.{AccessRedistributor, SendMessage, MoveWire, SendMsi, EnterPe, ExitPe, ShowPe}
-use Rattle.scn_read.specs.Form.{row_of, forms}
-use Rattle.scn_read.specs.Step.{pair_of, register_at}
+use Rattle.gic_host.specs.ScnRead.JsonField.Field.{number_at, number_or, elements_at}
+use Rattle.gic_host.specs.ScnRead.GicGuest.Good.{passes}
+use Rattle.gic_host.specs.ScnRead.GicGuest.GicRam.Access.{is_size}
+use Rattle.gic_host.specs.ScnRead.Guest.{numbers_of}
+use Rattle.gic_host.specs.ScnRead.declared.form.Form.{Form}
+use Rattle.gic_host.specs.ScnRead.declared.form.Form.TheVariants.{AccessRedistributor, SendMessage, MoveWire, SendMsi, EnterPe, ExitPe, ShowPe}
+use Rattle.gic_host.specs.ScnRead.Form.{row_of, forms}
+use Rattle.gic_host.specs.ScnRead.Step.{pair_of, register_at}
 use Rattle.scn_hint.specs.declared.field.What.{What}
 use Rattle.scn_hint.specs.declared.field.What.TheVariants.{Unknown, SecondForm, OtherActor, NoForm, NoActor, BadSize, TooLong, TooLarge, NoRegister, NotReadable, NotWritable, NotThere, NotLoaded, NoVcpu, Busy, NotOnThreads, SameLevel, Outside}
 use Rattle.scn_hint.specs.Field.{amiss_in, is_object}

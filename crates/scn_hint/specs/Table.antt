@@ -1,7 +1,9 @@
 -- What the fields of each kind of object hold, in the order of their names (own choice).
 use Rattle.std.specs.Prelude.{List, [], ◌∷◌, Bool, true, false, if◌then◌else◌}
-use Rattle.scn_read.specs.declared.form.Form.{Form}
-use Rattle.scn_read.specs.declared.form.Form.TheVariants.{AccessRegister, AccessDistributor, AccessRedistributor, AccessIts, AccessMemory, SendMessage, MoveWire, SendMsi, EnterPe, ExitPe, ShowPe}
+use Rattle.gic_host.specs.ScnRead.declared.form.Form.{Form}
+use Rattle.gic_host.specs.ScnRead.declared.form.Form.TheVariants.{AccessRegister, AccessDistributor, AccessRedistributor, AccessIts, AccessMemory, SendMessage, MoveWire, SendMsi, EnterPe, ExitPe, ShowPe}
+use Rattle.gic_host.specs.declared.form.HostForm.{HostForm}
+use Rattle.gic_host.specs.declared.form.HostForm.TheVariants.{Physical, Access, EnterPe as LoadVcpu, ExitPe as UnloadVcpu, ShowPe as ShowLoaded}
 use Rattle.scn_hint.specs.declared.field.Rule.{Rule}
 use Rattle.scn_hint.specs.declared.field.Kind.{Kind}
 use Rattle.scn_hint.specs.declared.field.Kind.TheVariants.{Number, Flag, Yes, Text, Pair, List as AList}
@@ -38,3 +40,18 @@ rules_of SendMsi = must Pair ∷ must Pair ∷ []
 rules_of EnterPe = must Number ∷ must Pair ∷ []
 rules_of ExitPe = must Number ∷ must Yes ∷ []
 rules_of ShowPe = must Number ∷ must Yes ∷ []
+
+-- of links and their steps: vcpus, lrs, links, steps; of a link: phys, vid, vcpu, prio
+abbrev pub host_rules : List Rule
+host_rules = must Number ∷ must Number ∷ must AList ∷ must AList ∷ []
+
+abbrev pub link_rules : List Rule
+link_rules = must Number ∷ must Number ∷ must Number ∷ must Number ∷ []
+
+-- of a step with links, of a form, in the order of its row
+abbrev pub host_step_rules : HostForm → List Rule
+host_step_rules Physical = must Number ∷ may Text ∷ []
+host_step_rules Access = must Text ∷ may Number ∷ []
+host_step_rules LoadVcpu = must Number ∷ []
+host_step_rules UnloadVcpu = must Yes ∷ []
+host_step_rules ShowLoaded = must Yes ∷ []

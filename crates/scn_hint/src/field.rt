@@ -4,7 +4,7 @@ ghost use Rattle.serde_json.specs.View.{view};
 ghost use Rattle.scn_hint.specs.Field.{holds as holds_of, misfit_of, misfit_in, amiss_in, told, is_object as is_object_of};
 
 use crate::limit::Limit;
-use scn_read::{Form, flag_at, list_at, number_at, other_field, pair_at, text_at};
+use gic_host::scenarios::{Form, flag_at, list_at, number_at, other_field, pair_at, text_at};
 use serde_json::Value;
 
 /// What a field holds.

@@ -2,7 +2,7 @@
 
 use crate::place::Place;
 use crate::step::step_at;
-use scn_read::{
+use gic_host::scenarios::{
     DEFAULT_DEVICES, DEFAULT_VCPUS, counts, elements_at, number_at, number_or, pair_at, text_at,
 };
 use serde_json::Value;
@@ -34,9 +34,14 @@ fn value_at(value: &Value, place: Place) -> Option<&Value> {
 impl<'v> Held<'v> {
     /// What the field of this name holds at a place.
     pub(crate) fn at(value: &'v Value, place: Place, field: &str) -> Held<'v> {
-        let Some(object) = value_at(value, place) else {
-            return Held::Other;
-        };
+        match value_at(value, place) {
+            Some(object) => Held::of(object, field),
+            None => Held::Other,
+        }
+    }
+
+    /// What the field of this name holds of an object.
+    pub(crate) fn of(object: &'v Value, field: &str) -> Held<'v> {
         if let Some(text) = text_at(object, field) {
             return Held::Text(text);
         }

@@ -1,8 +1,8 @@
 //! Where a fault is, and what it means.
 ghost use Rattle.std.specs.Prelude.{◌≡◌, ◌≢◌, ◌⊎◌, option_map, Err, Some};
 ghost use Rattle.serde_json.specs.View.{view};
-ghost use Rattle.scn_read.specs.ScnBase.declared.step.Mode.{Mode};
-ghost use Rattle.scn_read.specs.Reading.{reading};
+ghost use Rattle.gic_host.specs.ScnRead.ScnBase.declared.step.Mode.{Mode};
+ghost use Rattle.gic_host.specs.ScnRead.Reading.{reading};
 ghost use Rattle.scn_hint.specs.Field.{told};
 ghost use Rattle.scn_hint.specs.Hint.{AllFit, asks_of, name_of, step_number, told_of_step, trouble_at};
 ghost use Rattle.scn_hint.specs.Law.{IsNamed};
@@ -13,7 +13,8 @@ use crate::field::Amiss;
 use crate::held::{Held, Room};
 use crate::place::{Asks, Place, outside};
 use crate::step::within;
-use scn_read::{
+use gic_host::LINK_TWICE;
+use gic_host::scenarios::{
     ADDRESS, Fault, LIMIT, NOT_LOADED, PE_BUSY, PE_STEP, SHAPE, UNKNOWN_ACTOR, UNKNOWN_REGISTER,
     WIRE_LEVEL,
 };
@@ -34,7 +35,7 @@ pub struct Hint<'v> {
     pub(crate) room: Room,
 }
 
-/// What a code, 1 to 9, is called: `Shape`, `Limit` and so on; `Unknown` where it is none.
+/// What a code, 1 to 9 or 11, is called: `Shape`, `Limit` and so on; `Unknown` where it is none.
 pub fn code_name(code: u8) -> &'static str
     ensures { result.now ≡ name_of code }
 {
@@ -48,6 +49,7 @@ pub fn code_name(code: u8) -> &'static str
         PE_STEP => "PeStep",
         WIRE_LEVEL => "WireLevel",
         ADDRESS => "Address",
+        LINK_TWICE => "LinkTwice",
         _ => "Unknown",
     }
 }

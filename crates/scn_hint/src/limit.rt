@@ -1,12 +1,12 @@
 //! Numbers that are outside of their ranges, and presets of what a guest does not have.
 ghost use Rattle.std.specs.Prelude.{◌≡◌, ◌≢◌, map, option_map};
 ghost use Rattle.serde_json.specs.View.{view};
-ghost use Rattle.scn_read.specs.Preset.{is_private as is_private_in, written_of};
+ghost use Rattle.gic_host.specs.ScnRead.Preset.{is_private as is_private_in, written_of};
 ghost use Rattle.scn_hint.specs.Field.{told};
 ghost use Rattle.scn_hint.specs.Limit.{number_of, fits as fits_in, limit_amiss as limit_amiss_in, limits_amiss as limits_amiss_in, length_amiss as length_amiss_in, scenario_limit as scenario_limit_in, guest_limits, edge_amiss as edge_amiss_in, preset_limit as preset_limit_in, there_amiss as there_amiss_in};
 
 use crate::field::{Amiss, What};
-use scn_read::{
+use gic_host::scenarios::{
     DEFAULT_TARGET, MAX_DEVICES, MAX_ESPIS, MAX_GROUP, MAX_GUESTS, MAX_LIST_REGISTERS, MAX_LPIS,
     MAX_PES, MAX_PRIORITY, MAX_RAM, MAX_SPIS, MAX_STEPS, MAX_VCPUS, PRIVATE_COUNT, SGI_COUNT,
     counts, flag_or, list_at, number_at, number_or,

@@ -1,7 +1,7 @@
 //! Which register of the CPU interface somebody may mean.
 
 use crate::held::Held;
-use scn_read::IccReg;
+use gic_host::scenarios::IccReg;
 
 /// The registers of the CPU interface.
 const REGISTERS: [IccReg; 18] = [

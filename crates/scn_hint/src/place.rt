@@ -7,7 +7,7 @@ ghost use Rattle.scn_hint.specs.Hint.{AllFit, IsFitGuest, asks_of, guest_in, ste
 use crate::field::{Amiss, What, first_amiss, is_object, misfit};
 use crate::limit::{guest_limit, preset_limit, scenario_limit, there_amiss};
 use crate::table::{GUEST_RULES, NUMBER, PRIVATE_RULES, SCENARIO_RULES, SHARED_RULES};
-use scn_read::{
+use gic_host::scenarios::{
     GUEST_FIELDS, LIMIT, PRIVATE_COUNT, PRIVATE_FIELDS, SCENARIO_FIELDS, SHAPE, SHARED_FIELDS,
     UNKNOWN_ACTOR, elements_at, number_at,
 };

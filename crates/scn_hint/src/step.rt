@@ -1,15 +1,15 @@
 //! With which field of a step something is amiss, by the code of its fault.
 ghost use Rattle.std.specs.Prelude.{◌≡◌, option_map};
 ghost use Rattle.serde_json.specs.View.{view};
-ghost use Rattle.scn_read.specs.ScnBase.GicRam.Access.{is_size as is_size_of};
-ghost use Rattle.scn_read.specs.Form.{form_of};
+ghost use Rattle.gic_host.specs.ScnRead.ScnBase.GicRam.Access.{is_size as is_size_of};
+ghost use Rattle.gic_host.specs.ScnRead.Form.{form_of};
 ghost use Rattle.scn_hint.specs.Field.{told};
 ghost use Rattle.scn_hint.specs.Hint.{step_in, told_of_step};
 ghost use Rattle.scn_hint.specs.Step.{actor_fields, is_among, what_of_step, formless as formless_in, shape_amiss as shape_amiss_in, limit_told as limit_told_in, register_told as register_told_in, has_vcpu as has_vcpu_in, has_device as has_device_in, device_told as device_told_in, actor_told as actor_told_in, loaded_told as loaded_told_in, step_told as step_told_in, step_amiss as step_amiss_in};
 
 use crate::field::{Amiss, What, first_amiss, is_object};
 use crate::table::rules_of;
-use scn_read::{
+use gic_host::scenarios::{
     DEFAULT_DEVICES, DEFAULT_SIZE, DEFAULT_VCPUS, Form, IccReg, LIMIT, NOT_LOADED, PE_BUSY,
     PE_STEP, SHAPE, UNKNOWN_ACTOR, UNKNOWN_REGISTER, WIRE_LEVEL, elements_at, number_at, number_or,
     pair_at, text_at,

@@ -1,9 +1,10 @@
 //! What the fields of each kind of object hold, in the order of their names.
 ghost use Rattle.std.specs.Prelude.{◌≡◌};
-ghost use Rattle.scn_hint.specs.Table.{rules_of as rules_for};
+ghost use Rattle.scn_hint.specs.Table.{rules_of as rules_for, host_step_rules as host_step_rules_for};
 
 use crate::field::{Kind, Rule};
-use scn_read::Form;
+use gic_host::HostForm;
+use gic_host::scenarios::Form;
 
 /// A field that has to be there and holds a number.
 pub(crate) const NUMBER: Rule = Rule {
@@ -45,6 +46,11 @@ const MAY_FLAG: Rule = Rule {
     kind: Kind::Flag,
     needed: false,
 };
+/// One that holds a text where it is there.
+const MAY_TEXT: Rule = Rule {
+    kind: Kind::Text,
+    needed: false,
+};
 /// One that holds a list where it is there.
 const MAY_LIST: Rule = Rule {
     kind: Kind::List,
@@ -80,5 +86,23 @@ pub(crate) fn rules_of(form: Form) -> &'static [Rule]
         Form::SendMsi => &[PAIR, PAIR],
         Form::EnterPe => &[NUMBER, PAIR],
         Form::ExitPe | Form::ShowPe => &[NUMBER, YES],
+    }
+}
+
+/// Of the fields of links and their steps: `vcpus`, `lrs`, `links`, `steps`.
+pub(crate) const HOST_RULES: [Rule; 4] = [NUMBER, NUMBER, LIST, LIST];
+
+/// Of the fields of a link: `phys`, `vid`, `vcpu`, `prio`.
+pub(crate) const LINK_RULES: [Rule; 4] = [NUMBER, NUMBER, NUMBER, NUMBER];
+
+/// Of the fields of a step with links, of a form, in the order of its row.
+pub(crate) fn host_step_rules(form: HostForm) -> &'static [Rule]
+    ensures { result.now ≡ host_step_rules_for form }
+{
+    match form {
+        HostForm::Physical => &[NUMBER, MAY_TEXT],
+        HostForm::Access => &[TEXT, MAY_NUMBER],
+        HostForm::EnterPe => &[NUMBER],
+        HostForm::ExitPe | HostForm::ShowPe => &[YES],
     }
 }

@@ -6,7 +6,7 @@ use crate::hint::{Hint, code_name};
 use crate::limit::{Limit, Multiple};
 use crate::nearest::nearest;
 use crate::place::Place;
-use scn_read::{Form, SHAPE};
+use gic_host::scenarios::{Form, SHAPE};
 use std::fmt;
 
 /// The most characters of an input that are told of one name.
@@ -109,7 +109,7 @@ fn actor_of(form: Form) -> &'static str {
 
 /// What is amiss with the shape of an object.
 #[derive(Clone, Copy)]
-struct OfShape<'h>(&'h Amiss<'h>, Held<'h>);
+pub(crate) struct OfShape<'h>(pub(crate) &'h Amiss<'h>, pub(crate) Held<'h>);
 
 impl fmt::Display for OfShape<'_> {
     fn fmt<W: fmt::Write>(&self, f: &mut fmt::Formatter<W>) -> fmt::Result {

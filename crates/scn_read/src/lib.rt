@@ -14,7 +14,8 @@ pub use defaults::{DEFAULT_DEVICES, DEFAULT_SIZE, DEFAULT_TARGET, DEFAULT_VCPUS}
 pub use form::{Form, Row};
 pub use guest::{GUEST_FIELDS, counts};
 pub use json_field::{
-    elements_at, flag_at, flag_or, list_at, number_at, number_or, other_field, pair_at, text_at,
+    elements_at, flag_at, flag_or, has_only, list_at, number_at, number_or, other_field, pair_at,
+    text_at,
 };
 pub use preset::{Counts, PRIVATE_FIELDS, SHARED_FIELDS};
 pub use reading::{SCENARIO_FIELDS, read};
@@ -26,4 +27,5 @@ pub use scn_base::{
     MAX_LIST_REGISTERS, MAX_LPIS, MAX_PES, MAX_PRIORITY, MAX_RAM, MAX_SPIS, MAX_STEPS, MAX_VCPUS,
     Mode, NOT_LOADED, NoMemory, PE_BUSY, PE_STEP, PRIVATE_COUNT, PeOp, Preset, PresetList, RunOut,
     SGI_COUNT, SHAPE, Scenario, Standing, Step, Steps, UNKNOWN_ACTOR, UNKNOWN_REGISTER, WIRE_LEVEL,
+    both, first_code, is_list_register_count,
 };

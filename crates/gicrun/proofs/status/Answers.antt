@@ -1,7 +1,7 @@
 use Rattle.std.proofs.Common.{◌≡◌, None, IfOk, IfSome, subst, sym}
 use Rattle.gic_top.specs.GicIo.Faults.{HasRisen}
 use Rattle.gic_top.specs.Command.{command_in}
-use Rattle.gic_top.specs.Tool.{input_mode, Showed, IsOutcome, HasItsAnswer}
+use Rattle.gic_top.specs.Tool.{input_reading, Showed, IsOutcome, HasItsAnswer}
 use Rattle.gicrun.proofs.status.Goals as goal
 
 pub returns-in-Ok-clause-outcome : goal.returns-in-Ok-clause-outcome
@@ -16,15 +16,15 @@ returns-in-Ok-clause-outcome g c =
 
 pub returns-in-Ok-clause-unread_unless_asked : goal.returns-in-Ok-clause-unread_unless_asked
 returns-in-Ok-clause-unread_unless_asked g c =
-    subst (λ answer. IfOk answer (λ words. input_mode (command_in words.items) ≡ None → c.run_tool.new.source ≡ c.args.source.now)) (sym c.in-Ok.is)
-    (subst (λ items. input_mode (command_in items) ≡ None → c.run_tool.new.source ≡ c.args.source.now) c.as_slice.ensures.value c.run_tool.ensures.unread_unless_asked)
+    subst (λ answer. IfOk answer (λ words. input_reading (command_in words.items) ≡ None → c.run_tool.new.source ≡ c.args.source.now)) (sym c.in-Ok.is)
+    (subst (λ items. input_reading (command_in items) ≡ None → c.run_tool.new.source ≡ c.args.source.now) c.as_slice.ensures.value c.run_tool.ensures.unread_unless_asked)
 
 pub returns-in-Ok-clause-complete : goal.returns-in-Ok-clause-complete
 returns-in-Ok-clause-complete g c =
     let source = g.S.Source in let sink = g.K.Sink in
-    subst (λ answer. IfOk answer (λ words. IfSome (input_mode (command_in words.items)) (λ mode. ¬ HasRisen (source.faults c.args.source.now) (source.faults c.run_tool.new.source)
+    subst (λ answer. IfOk answer (λ words. IfSome (input_reading (command_in words.items)) (λ reading. ¬ HasRisen (source.faults c.args.source.now) (source.faults c.run_tool.new.source)
     → ¬ HasRisen (sink.faults c.args.sink.now) (sink.faults c.run_tool.new.sink)
-    → IfSome (source.left c.args.source.now) (λ bytes. HasItsAnswer mode bytes c.run_tool.result)))) (sym c.in-Ok.is)
-    (subst (λ items. IfSome (input_mode (command_in items)) (λ mode. ¬ HasRisen (source.faults c.args.source.now) (source.faults c.run_tool.new.source)
+    → IfSome (source.left c.args.source.now) (λ bytes. HasItsAnswer reading bytes c.run_tool.result)))) (sym c.in-Ok.is)
+    (subst (λ items. IfSome (input_reading (command_in items)) (λ reading. ¬ HasRisen (source.faults c.args.source.now) (source.faults c.run_tool.new.source)
     → ¬ HasRisen (sink.faults c.args.sink.now) (sink.faults c.run_tool.new.sink)
-    → IfSome (source.left c.args.source.now) (λ bytes. HasItsAnswer mode bytes c.run_tool.result))) c.as_slice.ensures.value c.run_tool.ensures.complete)
+    → IfSome (source.left c.args.source.now) (λ bytes. HasItsAnswer reading bytes c.run_tool.result))) c.as_slice.ensures.value c.run_tool.ensures.complete)

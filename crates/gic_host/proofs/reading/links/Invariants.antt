@@ -1,6 +1,6 @@
 use Rattle.std.proofs.Common.{◌≡◌, ◌++◌, map, drop, fold, None}
 use Rattle.serde_json.specs.View.{view}
-use Rattle.scn_base.specs.Codes.{first_code, first_of}
+use Rattle.scn_read.specs.ScnBase.Codes.{first_code, first_of}
 use Rattle.gic_host.specs.Reading.{link_fault, link_of}
 use Rattle.gic_host.proofs.reading.links.Given as goal
 

@@ -1,6 +1,6 @@
 use Rattle.std.proofs.Common.{◌≡◌, ◌+◌, map, drop, true}
 use Rattle.serde_json.specs.View.{view}
-use Rattle.scn_turn.proofs.TurnLemmas.{all_steps}
+use Rattle.scn_read.proofs.StepLemmas.{all_steps}
 use Rattle.gic_host.specs.Reading.{steps_of}
 use Rattle.gic_host.proofs.reading.steps.Given as goal
 

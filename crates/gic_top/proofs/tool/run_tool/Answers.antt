@@ -1,7 +1,8 @@
-use Rattle.std.proofs.Common.{◌≡◌, None, subst}
+use Rattle.std.proofs.Common.{◌≡◌, Some, None, subst}
 use Rattle.gic_top.specs.Command.{command_in}
+use Rattle.gic_top.specs.declared.command.Command.TheVariants.{Host}
 use Rattle.gic_top.specs.Reply.{IsReplyFor}
-use Rattle.gic_top.specs.Tool.{input_mode, Showed}
+use Rattle.gic_top.specs.Tool.{input_reading, Showed}
 use Rattle.gic_top.proofs.ReplyLemmas.{outcome, closed, ok_row, usage_row, bad_json_row, bad_scenario_row, read_fault_row, write_fault_row, too_long_row, no_memory_row, no_command_status, soak_status, its_answer, unrun}
 use Rattle.gic_top.proofs.tool.run_tool.Goals as goal
 
@@ -29,9 +30,10 @@ returns g c =
       too_long = too_long_row status o;
       no_memory = no_memory_row status o;
       usage_where_no_command = no_command_status status o;
-      unread_unless_asked = subst (λ asked. input_mode asked ≡ None → read ≡ c.args.source.now) c.of.ensures.value c.reply_for-reply.ensures.unread;
+      unread_unless_asked = subst (λ asked. input_reading asked ≡ None → read ≡ c.args.source.now) c.of.ensures.value c.reply_for-reply.ensures.unread;
       unwatched = λ ok cut refused. c.reply_for-reply.ensures.unwatched
           (unrun (sink.taken c.args.sink.now) (sink.taken wrote) (sink.faults c.args.sink.now) (sink.faults wrote) c.reply_for-reply.result c.tell.result c.tell.ensures ok cut refused);
+      host_unwatched = subst (λ asked. asked ≡ Some Host → seen ≡ watch) c.of.ensures.value c.reply_for-reply.ensures.host_unwatched;
       complete = its_answer showed command (source.left c.args.source.now) (source.left read) (source.faults c.args.source.now) (source.faults read)
           (sink.taken c.args.sink.now) (sink.taken wrote) (sink.faults c.args.sink.now) (sink.faults wrote) c.reply_for-reply.result c.tell.result
           reply c.tell.ensures;
