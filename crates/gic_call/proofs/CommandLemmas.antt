@@ -45,15 +45,15 @@ module _ (shape : GuestShape) (view : View) (maps : Maps) (targets : ℕ → Opt
   abbrev HasLpi : ℕ → Type 0
   HasLpi id = IsTrue (has_interrupt shape (Lpi id))
 
-  forget_happens : (id : ℕ) → HasLpi id → Happens (Forget id)
+  pub forget_happens : (id : ℕ) → HasLpi id → Happens (Forget id)
   forget_happens id there = record { there = there; fits = refl }
 
-  map_happens : (id vcpu : ℕ) → HasLpi id → vcpu < shape.vcpus → Happens (Map id vcpu)
+  pub map_happens : (id vcpu : ℕ) → HasLpi id → vcpu < shape.vcpus → Happens (Map id vcpu)
   map_happens id vcpu there target =
       let byte : ℕ = config_byte shape view (Some vcpu) id in
       record { there = there; fits = both (nat_lt vcpu shape.vcpus) (is_priority (priority_of byte)) (is_under vcpu shape.vcpus target) (priority_fits byte) }
 
-  retarget_happens : (id : ℕ) (target : Option ℕ) → HasLpi id → IsTrue (is_vcpu_or_none shape target) → Happens (Retarget id target)
+  pub retarget_happens : (id : ℕ) (target : Option ℕ) → HasLpi id → IsTrue (is_vcpu_or_none shape target) → Happens (Retarget id target)
   retarget_happens id target there fits = record { there = there; fits = fits }
 
   raise_happens : (id : ℕ) → HasLpi id → Happens (Raise id)
@@ -62,7 +62,7 @@ module _ (shape : GuestShape) (view : View) (maps : Maps) (targets : ℕ → Opt
   clear_happens : (id : ℕ) → HasLpi id → Happens (ClearLpi id)
   clear_happens id there = record { there = there; fits = refl }
 
-  configure_happens : (id : ℕ) → HasLpi id → Happens (Configure id)
+  pub configure_happens : (id : ℕ) → HasLpi id → Happens (Configure id)
   configure_happens id there = record { there = there; fits = priority_fits (config_byte shape view (targets id) id) }
 
   -- a part for each of some LPIs, and for one number of which something is known
@@ -84,15 +84,15 @@ module _ (shape : GuestShape) (view : View) (maps : Maps) (targets : ℕ → Opt
   all_for vcpu = All-filter (λ id. is_number vcpu (targets id)) HasLpi (lpis_of shape) all_lpis
 
   -- a vCPU that a command names without a fault
-  vcpu_fits : (vcpu : ℕ) → nat_le shape.vcpus vcpu ≡ false → IsTrue (is_vcpu_or_none shape (Some vcpu))
+  pub vcpu_fits : (vcpu : ℕ) → nat_le shape.vcpus vcpu ≡ false → IsTrue (is_vcpu_or_none shape (Some vcpu))
   vcpu_fits vcpu h = is_under vcpu shape.vcpus (below_from_test shape.vcpus vcpu h)
 
   module _ (valid : IsValid shape maps) where
-    id_there : (device event : ℕ) → IfSome (id_of maps (device, event)) HasLpi
+    pub id_there : (device event : ℕ) → IfSome (id_of maps (device, event)) HasLpi
     id_there device event = mapped_there shape maps (device, event) valid
 
     -- the vCPU of a collection
-    target_there : (icid : ℕ) → IfSome (target_of maps icid) (λ vcpu. vcpu < shape.vcpus)
+    pub target_there : (icid : ℕ) → IfSome (target_of maps icid) (λ vcpu. vcpu < shape.vcpus)
     target_there icid = elim (target_of maps icid) as (λ o. target_of maps icid ≡ o → IfSome o (λ vcpu. vcpu < shape.vcpus)) [
       | None ↦ λ e. tt
       | (Some vcpu) ↦ λ e. valid.target icid vcpu e

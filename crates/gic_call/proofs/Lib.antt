@@ -14,6 +14,7 @@ pub mod FitLemmas
 pub mod PartLemmas
 pub mod CallLemmas
 pub mod CommandLemmas
+pub mod DeviceLemmas
 pub mod ReadLemmas
 pub mod TraceLemmas
 pub mod LateLemmas

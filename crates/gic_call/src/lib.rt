@@ -10,11 +10,8 @@ mod laws;
 mod moves;
 mod touch;
 
-pub use access::Events;
-pub use access::ctlr_events;
-pub use access::part_events;
 pub use access::part_key;
-pub use access::sgi_events;
+pub use access::part_touch;
 pub use command::Part;
 pub use event::Event;
 pub use event::Found;

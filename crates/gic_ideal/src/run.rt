@@ -59,38 +59,30 @@ fn show(
     }
 }
 
-/// Does a step, and answers what it reads.
+/// Does a step, and answers what it reads. Memory is asked for where it shows list registers, and there alone.
 fn do_step(
     alloc: Global,
     states: &mut Vec<IdealGuest>,
     pes: &Pes,
     lrs: u32,
     step: &Step,
-) -> Result<Answer, NoMemory>
+) -> Result<Answer, AllocError>
     requires sound { All IsSound states.old.items }
     requires lrs { 1 ≤ lrs × lrs ≤ MAX_LIST_REGISTERS }
     requires formed { IsTrue (is_formed Mode.Schedule (length pes.now) (state_shapes states.old.items) step.now) }
     requires residents { ResidentsExist (state_shapes states.old.items) pes.now }
     ensures answer { IfOk result (λ answer. answer ≡ step_answer lrs pes.now step.now states.old.items) }
-    ensures after { OnOk result (states.new.items ≡ after_step step.now states.old.items) }
-    ensures sound { OnOk result (All IsSound states.new.items) }
-    ensures shapes { OnOk result (state_shapes states.new.items ≡ state_shapes states.old.items) }
+    ensures after { states.new.items ≡ after_step step.now states.old.items }
+    ensures sound { All IsSound states.new.items }
+    ensures shapes { state_shapes states.new.items ≡ state_shapes states.old.items }
 {
     match *step {
-        Step::Vcpu { guest, vcpu, op } => {
-            let answer = states[guest as usize].operate(alloc, vcpu, op)?;
-            Ok(answer)
-        }
+        Step::Vcpu { guest, vcpu, op } => Ok(states[guest as usize].operate(vcpu, op)),
         Step::Device { guest, op, .. } => {
-            states[guest as usize].receive(alloc, op)?;
+            states[guest as usize].receive(op);
             Ok(Answer::Nothing)
         }
-        Step::Pe { pe, op: PeOp::Lrs } => Ok(show(
-            alloc,
-            states,
-            lrs,
-            pes.as_slice()[pe as usize],
-        )?),
+        Step::Pe { pe, op: PeOp::Lrs } => show(alloc, states, lrs, pes.as_slice()[pe as usize]),
         Step::Pe { .. } => Ok(Answer::Nothing),
     }
 }
@@ -102,7 +94,7 @@ fn do_steps(
     mut pes: Pes,
     lrs: u32,
     steps: &Steps,
-) -> Result<Answers, NoMemory>
+) -> Result<Answers, AllocError>
     requires sound { All IsSound states.old.items }
     requires lrs { 1 ≤ lrs × lrs ≤ MAX_LIST_REGISTERS }
     requires formed { All (λ step. IsTrue (is_formed Mode.Schedule (length pes) (state_shapes states.old.items) step)) steps.now }

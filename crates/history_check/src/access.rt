@@ -1,14 +1,17 @@
 //! Accesses of CPU interface registers, for which only what stands at the interface counts.
-ghost use Rattle.std.specs.Prelude.{◌≡◌, ◌<◌, List, IfOk, OnOk, OnErr, map};
+ghost use Rattle.std.specs.Prelude.{◌≡◌, ◌<◌, List, IfOk, OnOk, OnErr, IsTrue, map};
+ghost use Rattle.floor_histories.specs.Words.{has_interrupt};
 ghost use Rattle.floor_histories.specs.Registers.{Candidate, taken_by, deactivated_by, answer_of, cpu_after, first_of, interface_answer, candidates_at, HasBinaryPoints, intid_read};
 ghost use Rattle.floor_histories.specs.Histories.{with_cpu, interface_at, shown_at, standing_at};
 ghost use Rattle.floor_histories.specs.GicHistory.Moves.{after_access};
+ghost use Rattle.history_check.specs.Access.{accessed_one};
 ghost use Rattle.history_check.specs.Ready.{IsReady};
 
-use crate::shown::{Shown, accessed, first_candidate};
+use crate::shown::Shown;
+use crate::standing::Standing;
 use crate::state::State;
 use floor_histories::{
-    Candidate, CpuRec, Group, IccReg, ListOf, acknowledged, cpu_written, highest_pending,
+    Candidate, CpuRec, Group, IccReg, ListOf, acknowledged, cpu_written, earlier, highest_pending,
     intid_deactivated, intid_or_spurious, level_activated, read_plain,
 };
 use std::alloc::{AllocError, Global};
@@ -78,21 +81,37 @@ fn cpu_then(taken: Option<Candidate>, reg: IccReg, write: Option<u64>, cpu: &Cpu
 }
 
 impl State {
-    /// What stands at a vCPU's interface, as accesses see it.
-    fn shown(&self, alloc: Global, vcpu: u32) -> Result<ListOf<Shown>, AllocError>
+    /// What stands at an interface, as accesses see it.
+    fn shown(&self, one: &Standing) -> Shown
+        requires ready { IsReady self.now }
+        requires there { IsTrue (has_interrupt self.now.guest.shape one.now.key) }
+        ensures { result ≡ shown_at self.now one.now }
+    {
+        let irq = self.irq(one.key);
+        Shown {
+            key: one.key,
+            prio: irq.prio,
+            group: irq.group,
+            entry: one.entry,
+        }
+    }
+
+    /// What an access leaves at a vCPU's interface that acknowledges a candidate and deactivates the interrupt with an INTID,
+    /// or none.
+    fn accessed(
+        &self,
+        alloc: Global,
+        vcpu: u32,
+        taken: Option<Candidate>,
+        ended: Option<u32>,
+    ) -> Result<ListOf<Standing>, AllocError>
         requires ready { IsReady self.now }
         requires there { vcpu < self.now.guest.shape.vcpus }
-        ensures { IfOk result (λ all. all ≡ map (shown_at self.now) (standing_at self.now vcpu)) }
+        ensures { IfOk result (λ all. all ≡ map (accessed_one taken ended) (map (shown_at self.now) (standing_at self.now vcpu))) }
     {
         let mut all = ListOf::new(alloc);
         for one in self.standing(vcpu) {
-            let irq = self.irq(one.key);
-            all.push(Shown {
-                key: one.key,
-                prio: irq.prio,
-                group: irq.group,
-                entry: one.entry,
-            })?;
+            all.push(self.shown(one).accessed(taken, ended))?;
         }
         Ok(all)
     }
@@ -109,34 +128,29 @@ impl State {
         self.guest.cpus.set(vcpu as usize, cpu);
     }
 
-    /// What an access of a register of a vCPU's CPU interface reads, if it reads. `AllocError` where memory is refused.
-    pub fn read(
-        &self,
-        alloc: Global,
-        reg: IccReg,
-        write: Option<u64>,
-        vcpu: u32,
-    ) -> Result<Option<u64>, AllocError>
+    /// The first of the interrupts at a vCPU's interface that can be delivered to it, if there is one.
+    pub fn first_at(&self, vcpu: u32) -> Option<Candidate>
         requires ready { IsReady self.now }
         requires there { vcpu < self.now.guest.shape.vcpus }
-        ensures { IfOk result (λ read. read ≡ interface_answer reg write (interface_at self.now vcpu)) }
+        ensures { result ≡ first_of (candidates_at (interface_at self.now vcpu)) }
     {
         let cpu = self.cpu(vcpu);
-        let shown = self.shown(alloc, vcpu)?;
-        let first = first_candidate(shown.as_slice(), &cpu);
-        Ok(answer(first, reg, write, &cpu))
+        let mut first = None;
+        for one in self.standing(vcpu) {
+            if let Some(next) = self.shown(one).candidate(&cpu) {
+                first = Some(earlier(first, next));
+            }
+        }
+        first
     }
 
-    /// The first of the interrupts at a vCPU's interface that can be delivered to it, if there is one. `AllocError` where
-    /// memory is refused.
-    pub fn first_at(&self, alloc: Global, vcpu: u32) -> Result<Option<Candidate>, AllocError>
+    /// What an access of a register of a vCPU's CPU interface reads, if it reads.
+    pub fn read(&self, reg: IccReg, write: Option<u64>, vcpu: u32) -> Option<u64>
         requires ready { IsReady self.now }
         requires there { vcpu < self.now.guest.shape.vcpus }
-        ensures { IfOk result (λ first. first ≡ first_of (candidates_at (interface_at self.now vcpu))) }
+        ensures { result ≡ interface_answer reg write (interface_at self.now vcpu) }
     {
-        let cpu = self.cpu(vcpu);
-        let shown = self.shown(alloc, vcpu)?;
-        Ok(first_candidate(shown.as_slice(), &cpu))
+        answer(self.first_at(vcpu), reg, write, &self.cpu(vcpu))
     }
 
     /// A vCPU reads a register of its CPU interface, or writes a value to it: of the interrupts, only those that stand at the
@@ -156,10 +170,9 @@ impl State {
         ensures ready { IsReady self.new }
     {
         let cpu = self.cpu(vcpu);
-        let shown = self.shown(alloc, vcpu)?;
-        let first = first_candidate(shown.as_slice(), &cpu);
+        let first = self.first_at(vcpu);
         let found = taken(first, reg, write, &cpu);
-        let standing = accessed(alloc, shown.as_slice(), found, ended(reg, write, &cpu))?;
+        let standing = self.accessed(alloc, vcpu, found, ended(reg, write, &cpu))?;
         let read = answer(first, reg, write, &cpu);
         self.set_cpu(vcpu, cpu_then(found, reg, write, &cpu));
         self.set_standing(vcpu, standing);

@@ -1,5 +1,5 @@
 //! Fresh at an acknowledge: which interrupts come first, and which of them an open call excuses.
-ghost use Rattle.std.specs.Prelude.{◌≡◌, ◌<◌, ◌||◌, not, true, IfOk, IsTrue};
+ghost use Rattle.std.specs.Prelude.{◌≡◌, ◌<◌, ◌||◌, not, true, IsTrue};
 ghost use Rattle.std.specs.Option.{option_map_or};
 ghost use Rattle.floor_histories.specs.Words.{has_interrupt};
 ghost use Rattle.floor_histories.specs.Registers.{is_before, first_of, candidates_at};
@@ -12,7 +12,6 @@ use crate::coming::is_awaited;
 use crate::state::State;
 use crate::track::Track;
 use floor_histories::{Candidate, IccReg, Key, Moment, deliverable, interrupt_count, key_at};
-use std::alloc::{AllocError, Global};
 
 /// Whether a candidate is before the first of others, or there is none.
 fn is_ahead(candidate: &Candidate, first: Option<Candidate>) -> bool
@@ -84,30 +83,29 @@ pub fn asks_first(reg: IccReg, write: Option<u64>) -> bool
 
 /// At an access of a CPU interface register after which these moments come: where it reads IAR or HPPIR, whether each home
 /// interrupt that can be delivered to the vCPU and is before the first at its interface was changed last in an open call, or
-/// an open call has still to make an event of it. `AllocError` where memory is refused.
+/// an open call has still to make an event of it.
 pub fn is_fresh_at_acknowledge(
-    alloc: Global,
     track: &Track,
     state: &State,
     vcpu: u32,
     reg: IccReg,
     write: Option<u64>,
     later: &[Moment],
-) -> Result<bool, AllocError>
+) -> bool
     requires ready { IsReady state.now }
     requires places { HasPlaces state.now.guest.shape track.now }
     requires there { vcpu < state.now.guest.shape.vcpus }
-    ensures { IfOk result (λ is. is ≡ is_fresh_of later.now state.now track.now (Event.Cpu vcpu reg write)) }
+    ensures { result ≡ is_fresh_of later.now state.now track.now (Event.Cpu vcpu reg write) }
 {
     if !asks_first(reg, write) {
-        return Ok(true);
+        return true;
     }
-    let first = state.first_at(alloc, vcpu)?;
+    let first = state.first_at(vcpu);
     for place in 0..interrupt_count(state.shape()) {
         let key = key_at(place, state.shape());
         if !may_wait(track, state, vcpu, key, first, later) {
-            return Ok(false);
+            return false;
         }
     }
-    Ok(true)
+    true
 }

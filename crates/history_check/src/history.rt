@@ -1,5 +1,5 @@
 //! Each event: what it hands out, and the state after it.
-ghost use Rattle.std.specs.Prelude.{◌≡◌, ℕ, IfOk, OnOk, OnErr, IsTrue, None};
+ghost use Rattle.std.specs.Prelude.{◌≡◌, ℕ, OnOk, OnErr, IsTrue, None};
 ghost use Rattle.floor_histories.specs.ItsCmd.Command.{decoded};
 ghost use Rattle.floor_histories.specs.Registers.{maps_after, fault_of, fault_number};
 ghost use Rattle.floor_histories.specs.Calls.{has_plain, QueueChange, held_at, CanHappen, HappensFreely, has_place};
@@ -47,16 +47,16 @@ impl State {
     }
 
     /// What an event hands out to the actor that makes it: the record that it touches, what an access reads, what a word or
-    /// a place holds. `AllocError` where memory is refused.
-    pub fn handed_out(&self, alloc: Global, event: &Event) -> Result<Found, AllocError>
+    /// a place holds.
+    pub fn handed_out(&self, event: &Event) -> Found
         requires ready { IsReady self.now }
         requires can { CanHappen self.now.guest.shape event.now }
-        ensures { IfOk result (λ found. found ≡ handed_out self.now event.now) }
+        ensures { result ≡ handed_out self.now event.now }
     {
-        Ok(match *event {
+        match *event {
             Event::Touch { key, .. } => Found::Record { irq: self.irq(key) },
             Event::Cpu { vcpu, reg, write } => Found::Answer {
-                value: self.read(alloc, reg, write, vcpu)?,
+                value: self.read(reg, write, vcpu),
             },
             Event::Put { word, .. } => Found::Word {
                 value: self.word(word),
@@ -70,7 +70,7 @@ impl State {
             Event::Reach { .. } | Event::Take { .. } | Event::Leave { .. } => Found::Nothing,
             Event::CtlrBegin { .. } | Event::CtlrEnd | Event::ItsBegin | Event::ItsEnd =>
                 Found::Nothing,
-        })
+        }
     }
 
     /// A mark is taken, or is free again.

@@ -1,13 +1,11 @@
 //! An interrupt at a CPU interface as accesses of its registers see it.
-ghost use Rattle.std.specs.Prelude.{◌≡◌, IfOk, map};
-ghost use Rattle.std.specs.List.{filter_map};
+ghost use Rattle.std.specs.Prelude.{◌≡◌};
 ghost use Rattle.floor_histories.specs.Words.{has_active_state as keeps_active};
-ghost use Rattle.floor_histories.specs.Registers.{first_of, candidate_of};
+ghost use Rattle.floor_histories.specs.Registers.{candidate_of};
 ghost use Rattle.history_check.specs.Access.{accessed_one};
 
 use crate::standing::Standing;
-use floor_histories::{Candidate, CpuRec, Entry, Group, Key, ListOf, earlier, listens};
-use std::alloc::{AllocError, Global};
+use floor_histories::{Candidate, CpuRec, Entry, Group, Key, listens};
 use std::marker::Model;
 
 /// An interrupt at a CPU interface, with the priority and the group of its record.
@@ -56,7 +54,7 @@ impl Shown {
     }
 
     /// What an access leaves of it that acknowledges a candidate and deactivates the interrupt with an INTID, or none.
-    fn accessed(&self, taken: Option<Candidate>, ended: Option<u32>) -> Standing
+    pub(crate) fn accessed(&self, taken: Option<Candidate>, ended: Option<u32>) -> Standing
         ensures { result ≡ accessed_one taken ended self.now }
     {
         let mut entry = self.entry;
@@ -79,33 +77,4 @@ impl Shown {
             entry,
         }
     }
-}
-
-/// The first of the candidates at an interface.
-pub(crate) fn first_candidate(shown: &[Shown], cpu: &CpuRec) -> Option<Candidate>
-    ensures { result ≡ first_of (filter_map (candidate_of cpu.now) shown.now) }
-{
-    let mut first = None;
-    for one in shown {
-        if let Some(next) = one.candidate(cpu) {
-            first = Some(earlier(first, next));
-        }
-    }
-    first
-}
-
-/// What an access leaves at an interface.
-pub(crate) fn accessed(
-    alloc: Global,
-    shown: &[Shown],
-    taken: Option<Candidate>,
-    ended: Option<u32>,
-) -> Result<ListOf<Standing>, AllocError>
-    ensures { IfOk result (λ all. all ≡ map (accessed_one taken ended) shown.now) }
-{
-    let mut all = ListOf::new(alloc);
-    for one in shown {
-        all.push(one.accessed(taken, ended))?;
-    }
-    Ok(all)
 }

@@ -1,5 +1,5 @@
 //! Whether a moment may come next in a history, and whether that is fresh then.
-ghost use Rattle.std.specs.Prelude.{◌≡◌, ℕ, ◌<◌, ◌↔◌, List, is_some, IfOk, IfSome, IfNone, IsTrue};
+ghost use Rattle.std.specs.Prelude.{◌≡◌, ℕ, ◌<◌, ◌↔◌, List, is_some, IfSome, IfNone, IsTrue};
 ghost use Rattle.history_check.specs.Calls.{CanHappen, Moment};
 ghost use Rattle.history_check.specs.Histories.{Course, IsHappening, Ideal, doing_of};
 ghost use Rattle.history_check.specs.Ready.{IsReady};
@@ -13,7 +13,6 @@ use history_check::{
     Doing, Event, Found, IccReg, Moment, Operation, QueueChange, State, Track,
     is_fresh_at_acknowledge,
 };
-use std::alloc::{AllocError, Global};
 
 /// Why a moment does not come next in a fresh history.
 #[derive(Clone, Copy, Debug, PartialEq, Eq, Hash)]
@@ -82,24 +81,17 @@ fn cause_of_end(track: &Track, actor: u32, answer: Option<u64>) -> Option<Cause>
 }
 
 /// Whether an event may happen, in a call of its actor's, and hands out what is there.
-fn may_happen(
-    alloc: Global,
-    state: &State,
-    track: &Track,
-    actor: u32,
-    event: &Event,
-    found: &Found,
-) -> Result<bool, AllocError>
+fn may_happen(state: &State, track: &Track, actor: u32, event: &Event, found: &Found) -> bool
     requires ready { IsReady state.now }
-    ensures happening { (course : Course) → course.ideal ≡ state.now → AreOne course track.now → IfOk result (λ may. IsTrue may ↔ IsHappening course actor event.now found.now) }
-    ensures can { IfOk result (λ may. IsTrue may → CanHappen state.now.guest.shape event.now) }
-    ensures there { IfOk result (λ may. IsTrue may → IsTrue (is_some (doing_of track.now actor).operation)) }
+    ensures happening { (course : Course) → course.ideal ≡ state.now → AreOne course track.now → (IsTrue result ↔ IsHappening course actor event.now found.now) }
+    ensures can { IsTrue result → CanHappen state.now.guest.shape event.now }
+    ensures there { IsTrue result → IsTrue (is_some (doing_of track.now actor).operation) }
 {
     if !is_within(track, actor) || !can_happen(state.shape(), event) {
-        return Ok(false);
+        return false;
     }
-    let there = state.handed_out(alloc, event)?;
-    Ok(state.is_allowed(actor, event) && is_same(found, &there))
+    let there = state.handed_out(event);
+    state.is_allowed(actor, event) && is_same(found, &there)
 }
 
 /// Whether an event is the end of a command that has a fault.
@@ -122,101 +114,87 @@ fn is_faulty(state: &State, event: &Event) -> bool
 
 /// Why an access of a CPU interface register is not fresh, where these moments come after it.
 fn staleness_of_access(
-    alloc: Global,
     state: &State,
     track: &Track,
     vcpu: u32,
     reg: IccReg,
     write: Option<u64>,
     later: &[Moment],
-) -> Result<Option<Cause>, AllocError>
+) -> Option<Cause>
     requires ready { IsReady state.now }
     requires followed { IsFollowed state.now.guest.shape track.now }
     requires there { vcpu < state.now.guest.shape.vcpus }
-    ensures none { IfOk result (λ cause. IfNone cause (IsEventFresh state.now track.now (Event.Cpu vcpu reg write) later.now)) }
-    ensures some { IfOk result (λ cause. IfSome cause (λ cause. IsStale cause state.now track.now (Event.Cpu vcpu reg write) later.now)) }
+    ensures none { IfNone result (IsEventFresh state.now track.now (Event.Cpu vcpu reg write) later.now) }
+    ensures some { IfSome result (λ cause. IsStale cause state.now track.now (Event.Cpu vcpu reg write) later.now) }
 {
-    if !is_fresh_at_acknowledge(alloc, track, state, vcpu, reg, write, later)? {
-        return Ok(Some(Cause::Acknowledge));
+    if !is_fresh_at_acknowledge(track, state, vcpu, reg, write, later) {
+        return Some(Cause::Acknowledge);
     }
     if !track.is_fresh_at_interface(state, vcpu, reg, write) {
-        return Ok(Some(Cause::Interface));
+        return Some(Cause::Interface);
     }
     if !track.is_fresh_at_end(state, vcpu, reg, write) {
-        return Ok(Some(Cause::End));
+        return Some(Cause::End);
     }
-    Ok(None)
+    None
 }
 
 /// Why an event is not fresh, where these moments come after it.
-fn staleness(
-    alloc: Global,
-    state: &State,
-    track: &Track,
-    event: &Event,
-    later: &[Moment],
-) -> Result<Option<Cause>, AllocError>
+fn staleness(state: &State, track: &Track, event: &Event, later: &[Moment]) -> Option<Cause>
     requires ready { IsReady state.now }
     requires followed { IsFollowed state.now.guest.shape track.now }
     requires can { CanHappen state.now.guest.shape event.now }
-    ensures none { IfOk result (λ cause. IfNone cause (IsEventFresh state.now track.now event.now later.now)) }
-    ensures some { IfOk result (λ cause. IfSome cause (λ cause. IsStale cause state.now track.now event.now later.now)) }
+    ensures none { IfNone result (IsEventFresh state.now track.now event.now later.now) }
+    ensures some { IfSome result (λ cause. IsStale cause state.now track.now event.now later.now) }
 {
     match *event {
         Event::Cpu { vcpu, reg, write } => {
-            staleness_of_access(alloc, state, track, vcpu, reg, write, later)
+            staleness_of_access(state, track, vcpu, reg, write, later)
         }
-        _ => Ok(None),
+        _ => None,
     }
 }
 
 /// Why an event does not happen next, where these moments come after it.
 fn cause_of_event(
-    alloc: Global,
     state: &State,
     track: &Track,
     actor: u32,
     event: &Event,
     found: &Found,
     later: &[Moment],
-) -> Result<Option<Cause>, AllocError>
+) -> Option<Cause>
     requires ready { IsReady state.now }
     requires followed { IsFollowed state.now.guest.shape track.now }
-    ensures none { IfOk result (λ cause. IfNone cause ((course : Course) → course.ideal ≡ state.now → AreOne course track.now → IsFine course track.now (Moment.Happens actor event.now found.now) later.now)) }
-    ensures some { IfOk result (λ cause. IfSome cause (λ cause. (course : Course) → course.ideal ≡ state.now → AreOne course track.now → IsCause cause course track.now (Moment.Happens actor event.now found.now) later.now)) }
-    ensures follow { IfOk result (λ cause. IfNone cause (CanFollow state.now (Moment.Happens actor event.now found.now))) }
+    ensures none { IfNone result ((course : Course) → course.ideal ≡ state.now → AreOne course track.now → IsFine course track.now (Moment.Happens actor event.now found.now) later.now) }
+    ensures some { IfSome result (λ cause. (course : Course) → course.ideal ≡ state.now → AreOne course track.now → IsCause cause course track.now (Moment.Happens actor event.now found.now) later.now) }
+    ensures follow { IfNone result (CanFollow state.now (Moment.Happens actor event.now found.now)) }
 {
-    if !may_happen(alloc, state, track, actor, event, found)? {
-        return Ok(Some(Cause::Forbidden));
+    if !may_happen(state, track, actor, event, found) {
+        return Some(Cause::Forbidden);
     }
     if is_faulty(state, event) {
-        return Ok(Some(Cause::Unknown));
+        return Some(Cause::Unknown);
     }
-    staleness(alloc, state, track, event, later)
+    staleness(state, track, event, later)
 }
 
 /// Why a moment does not come next in a fresh history, where these come after it; none where it does. Of the end of a call it
-/// asks that the actor is in one, and not what an ended call has to be. `AllocError` where memory is refused.
-pub fn judge(
-    alloc: Global,
-    state: &State,
-    track: &Track,
-    moment: &Moment,
-    later: &[Moment],
-) -> Result<Option<Cause>, AllocError>
+/// asks that the actor is in one, and not what an ended call has to be.
+pub fn judge(state: &State, track: &Track, moment: &Moment, later: &[Moment]) -> Option<Cause>
     requires ready { IsReady state.now }
     requires followed { IsFollowed state.now.guest.shape track.now }
-    ensures none { IfOk result (λ cause. IfNone cause ((course : Course) → course.ideal ≡ state.now → AreOne course track.now → IsFine course track.now moment.now later.now)) }
-    ensures some { IfOk result (λ cause. IfSome cause (λ cause. (course : Course) → course.ideal ≡ state.now → AreOne course track.now → IsCause cause course track.now moment.now later.now)) }
-    ensures follow { IfOk result (λ cause. IfNone cause (CanFollow state.now moment.now)) }
+    ensures none { IfNone result ((course : Course) → course.ideal ≡ state.now → AreOne course track.now → IsFine course track.now moment.now later.now) }
+    ensures some { IfSome result (λ cause. (course : Course) → course.ideal ≡ state.now → AreOne course track.now → IsCause cause course track.now moment.now later.now) }
+    ensures follow { IfNone result (CanFollow state.now moment.now) }
 {
     match moment {
-        Moment::Begin { actor, operation } => Ok(cause_of_begin(state, track, *actor, operation)),
+        Moment::Begin { actor, operation } => cause_of_begin(state, track, *actor, operation),
         Moment::Happens {
             actor,
             event,
             found,
-        } => cause_of_event(alloc, state, track, *actor, event, found, later),
-        Moment::End { actor, answer } => Ok(cause_of_end(track, *actor, *answer)),
+        } => cause_of_event(state, track, *actor, event, found, later),
+        Moment::End { actor, answer } => cause_of_end(track, *actor, *answer),
     }
 }

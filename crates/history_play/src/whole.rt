@@ -43,7 +43,7 @@ pub fn check(
     for number in 0..moments.len() {
         let moment = &moments[number];
         let later = moments_after(moments, number);
-        if let Some(cause) = judge(alloc, &state, &track, moment, later)? {
+        if let Some(cause) = judge(&state, &track, moment, later) {
             return Ok(Some(Refusal {
                 moment: number,
                 cause,

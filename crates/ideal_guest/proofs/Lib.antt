@@ -10,4 +10,6 @@ pub mod CandidateLemmas
 pub mod OpeningLemmas
 pub mod SoundLemmas
 pub mod PartLemmas
+pub mod EachLemmas
+pub mod SweepLemmas
 pub mod QueueLemmas

@@ -1,14 +1,14 @@
 -- The commands of a queue, one after the other.
-use Rattle.std.proofs.Common.{◌≡◌, ◌≢◌, ℕ, zero, suc, ◌+◌, ◌-◌, ◌*◌, ◌/◌, ◌%◌, ◌<◌, ◌≤◌, ◌==◌, ◌&&◌, ◌⊎◌, inl, inr, not, Bool, true, false, cond, nat_lt, is_none, IsTrue, Option, Some, None, List, [], ◌∷◌, map, refl, sym, ap, ◌∙◌, subst, arith, true≢false}
+use Rattle.std.proofs.Common.{◌≡◌, ◌≢◌, ℕ, zero, suc, ◌+◌, ◌-◌, ◌*◌, ◌/◌, ◌%◌, ◌<◌, ◌≤◌, ◌==◌, ◌&&◌, ◌⊎◌, inl, inr, not, Bool, true, false, cond, nat_lt, is_none, IsTrue, Option, Some, None, option_map, Ok, List, [], ◌∷◌, map, refl, sym, ap, ◌∙◌, subst, arith, true≢false}
 use Rattle.std.specs.Option.{option_map_or}
 use Rattle.std.proofs.lemmas.Grind.{common_steps}
 use Rattle.std.proofs.lemmas.Bool.{eq-eqb, cases_lt}
 use Rattle.floor_calls.proofs.GicFrame.TestLemmas.{under}
 use Rattle.std.proofs.lemmas.List.Sums.{fold-append}
 use Rattle.floor_calls.specs.Words.{Irq, GuestShape, field_at}
-use Rattle.floor_calls.specs.Registers.{queue_bytes, advanced, fault_number}
+use Rattle.floor_calls.specs.Registers.{queue_bytes, advanced, Command, Maps, number_of, fault_of, fault_number, maps_after}
 use Rattle.floor_calls.specs.ItsCmd.Command.{decoded}
-use Rattle.floor_calls.specs.Calls.{Cbaser, Cwriter, Fault, Done, Stalls, Part, Map, Clear, View, is_its_enabled, lpi_event, is_queue_valid, queue_places, takes_command, command_words, decoded_parts, command_parts, queue_event, next_offset}
+use Rattle.floor_calls.specs.Calls.{Cbaser, Cwriter, Fault, Done, Stalls, Event, Part, Map, Clear, View, is_its_enabled, lpi_event, is_queue_valid, queue_places, takes_command, command_words, decoded_parts, command_parts, parts, maps_done, maps_by, queue_event, next_offset}
 use Rattle.floor_calls.specs.GicCall.declared.event.Event.TheVariants.{Queue}
 use Rattle.floor_calls.specs.GicCall.declared.command.Part.TheVariants.{Forget, Retarget, Raise, Configure}
 use Rattle.ideal_guest.specs.declared.guest.IdealGuest.{IdealGuest}
@@ -61,7 +61,38 @@ bad_command guest fault h =
     ∙ ap (λ e. after_event (after_parts guest) e) stalls
     ∙ ap (λ ps. after_event (after_events (map (lpi_event guest.shape view view.targets) ps) guest) (Queue view.offset (Stalls fault))) none
 
--- a command without one: the queue goes on, and its registers stay
+-- a command without one: its parts, and then the maps
+abbrev pub carried_out : IdealGuest → Command → IdealGuest
+carried_out guest command =
+    record (after_events (map (lpi_event guest.shape (view_of guest) (view_of guest).targets) (parts guest.shape guest.tables (view_of guest).targets command)) guest) { tables = maps_after guest.tables command }
+
+-- and then the queue goes on
+done_command : (guest : IdealGuest) (command : Command) → decoded (command_words guest.shape (view_of guest)) ≡ Ok command → fault_of guest.shape guest.tables command ≡ None
+    → after_command guest
+    ≡ with_queue (carried_out guest command) (advanced guest.offset (queue_bytes (word_at guest Cbaser))) false
+done_command guest command next good =
+    let view : View = view_of guest in
+    let event : Part → Event = lpi_event guest.shape view view.targets in
+    let words = command_words guest.shape view in
+    let offset = advanced guest.offset (queue_bytes (word_at guest Cbaser)) in
+    let none : next_fault guest ≡ None = ap (fault_number guest.shape guest.tables) next ∙ ap (option_map number_of) good in
+    let goes_on : queue_event guest.shape view ≡ Queue offset (Done words) = ap (λ o. option_map_or (λ n. Queue view.offset (Stalls n)) o (Queue (next_offset view) (Done words))) none in
+    let are : command_parts guest.shape view ≡ parts guest.shape guest.tables view.targets command = ap (λ o. cond (is_none o) (decoded_parts guest.shape view (decoded words)) []) none ∙ ap (decoded_parts guest.shape view) next in
+    let tables : (after_parts guest).tables ≡ guest.tables = kept_parts (λ g. g.tables) (λ g irqs. refl) guest.shape view view.targets (command_parts guest.shape view) guest in
+    let maps : maps_done (after_parts guest).tables words ≡ maps_after guest.tables command = ap (λ t. maps_done t words) tables ∙ ap (maps_by guest.tables) next in
+    last_event guest
+    ∙ ap (λ e. after_event (after_parts guest) e) goes_on
+    ∙ ap (queued_with (after_parts guest) offset) maps
+    ∙ ap (λ ps. queued_with (after_events (map event ps) guest) offset (maps_after guest.tables command)) are
+  where
+    queued_with : IdealGuest → ℕ → Maps → IdealGuest
+    queued_with g offset maps = record (with_queue g offset false) { tables = maps }
+
+pub command_done : (guest now : IdealGuest) (command : Command) (offset : ℕ) → decoded (command_words guest.shape (view_of guest)) ≡ Ok command → fault_of guest.shape guest.tables command ≡ None
+    → now ≡ carried_out guest command → offset ≡ advanced guest.offset (queue_bytes (word_at guest Cbaser)) → with_queue now offset false ≡ after_command guest
+command_done guest now command offset next good is at = ap (λ g. with_queue g offset false) is ∙ ap (λ n. with_queue (carried_out guest command) n false) at ∙ sym (done_command guest command next good)
+
+-- then its registers stay
 record GoesOn (guest after : IdealGuest) : Type 0 where
   cbaser : word_at after Cbaser ≡ word_at guest Cbaser
   cwriter : word_at after Cwriter ≡ word_at guest Cwriter

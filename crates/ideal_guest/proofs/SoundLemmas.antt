@@ -7,11 +7,12 @@ use Rattle.std.proofs.lemmas.List.{length-set, get_or-set_same, get_or-set_other
 use Rattle.std.proofs.lemmas.List.Elements.{All-set}
 use Rattle.floor_calls.specs.Words.{Irq, Route, Affinity, Target, is_number, target_in, raised, wire_up, wire_down, cleared, acknowledged, deactivated, is_routed_as, is_vcpu_or_none, IsRecordOf, IsHome, GuestShape, Key, Private, Spi, Lpi, IccReg, IsShape, has_interrupt, is_same_key, is_sgi, key_of, Kind, SetEnable, ClearEnable, SetPending, ClearPending, SetActive, ClearActive, Priority, Config, Routing, has_bit}
 use Rattle.floor_calls.proofs.GicWord.ValidLemmas.{valid_raised, valid_wire_up, valid_wire_down, valid_acknowledged, valid_deactivated}
-use Rattle.floor_calls.specs.Registers.{CpuRec, Candidate, is_deliverable, HasBinaryPoints, cpu_after, Enables as GroupEnables, part_written, activated, Maps, IsValid}
+use Rattle.floor_calls.specs.Registers.{CpuRec, Candidate, is_deliverable, HasBinaryPoints, cpu_after, Enables as GroupEnables, part_written, activated, Maps, without_event, IsValid}
 use Rattle.floor_calls.proofs.GicPrio.AccessLemmas.{points_after, levels_after}
 use Rattle.floor_calls.specs.Calls.{opening_cpu, with_irq_in, PlainWord, Ram, Propbaser, Pendbaser, ItsCtlr, Cbaser, Cwriter, Baser0, Baser1, Fault, has_plain, place_of_plain, Touching, Register, Enables, MapLpi, CanTouch, touched, IsOffset, is_stored, has_wire}
 use Rattle.floor_calls.specs.GicCall.declared.touch.Touching.TheVariants.{Read, Retarget, Configure, Forget}
 use Rattle.floor_calls.proofs.GicCall.TouchLemmas.{touch_valid}
+use Rattle.floor_calls.proofs.ItsTab.AfterLemmas.{valid-without_event}
 use Rattle.floor_calls.specs.GicBase.declared.operation.Kind.TheVariants.{Group}
 use Rattle.ideal_guest.specs.declared.guest.IdealGuest.{IdealGuest}
 use Rattle.ideal_guest.specs.Ideal.{irq_at, cpu_at, word_at, with_queue, changed_irq, changed_at, after_acknowledge, after_deactivation}
@@ -303,6 +304,9 @@ sound_with_maps guest maps sound valid =
       fault = sound.fault;
       maps = valid;
     }
+
+pub sound_unmapped : (guest : IdealGuest) (maps : Maps) (event : ℕ × ℕ) → IsSound guest → maps ≡ without_event guest.tables event → IsSound (record guest { tables = maps })
+sound_unmapped guest maps event sound is = sound_with_maps guest maps sound (subst (IsValid guest.shape) (sym is) (valid-without_event guest.shape guest.tables event sound.maps))
 
 pub sound_stalled : (guest : IdealGuest) (offset fault : ℕ) → IsSound guest → IsOffset offset → fault < 256 → IsSound (record guest { words = slice_set guest.words (place_of_plain guest.shape Fault) fault; offset = offset; is_stalled = true })
 sound_stalled guest offset fault sound at small =

@@ -1,18 +1,17 @@
 //! What a vCPU's accesses of memory and of memory-mapped registers do, and what they read.
-ghost use Rattle.std.specs.Prelude.{◌≡◌, ◌≤◌, ◌<◌, ◌+◌, ◌^◌, ◌%◌, ◌∷◌, [], IsTrue, IfOk, All, None};
+ghost use Rattle.std.specs.Prelude.{◌≡◌, ◌≤◌, ◌<◌, ◌+◌, ◌^◌, ◌%◌, IsTrue, None};
 ghost use Rattle.floor_calls.specs.Words.{has_interrupt};
 ghost use Rattle.floor_calls.specs.Registers.{part_bits, is_size};
-ghost use Rattle.floor_calls.specs.Calls.{FitsHalf, FitParts, FitsDist, HappensFreely, memory_at, part_at, part_value as part_value_in, dist_events as dist_events_in, dist_plain, dist_written as dist_written_in, dist_held as dist_held_in, dist_value as dist_value_in};
-ghost use Rattle.ideal_guest.specs.Ideal.{view_of};
+ghost use Rattle.floor_calls.specs.Calls.{FitsHalf, FitParts, FitsDist, memory_at, part_at, part_value as part_value_in, part_events, ctlr_events, dist_events, dist_plain, dist_written, dist_held as dist_held_in, dist_value as dist_value_in};
+ghost use Rattle.ideal_guest.specs.Ideal.{view_of, after_events};
 ghost use Rattle.ideal_guest.specs.Sound.{IsSound};
 
 use crate::guest::IdealGuest;
 use floor_calls::{
-    DistReg, DistRegRef as DistRef, Event, Events, Frame, Half, IIDR, Key, Kind, PIDR2, PlainWord,
-    Touching, ctlr_events, enables_in, extract, insert, key_of, message_intid, part_events,
-    part_key, read_part, split, with_part,
+    DistReg, DistRegRef as DistRef, Enables, Frame, Half, IIDR, Key, Kind, PIDR2, PlainWord,
+    Touching, enables_in, extract, interrupt_count, key_at, key_of, message_intid, part_key,
+    part_touch, read_part, split, with_part,
 };
-use std::alloc::{AllocError, Global};
 
 /// A write of 1 to an interrupt's part of ICPENDR.
 pub(crate) const CLEAR: Touching = Touching::Register {
@@ -25,29 +24,6 @@ pub(crate) fn low(value: u64) -> u32
     ensures { result ≡ value % 2 ^ 32 }
 {
     (value % (1 << 32)) as u32
-}
-
-/// The touch of an interrupt.
-pub(crate) fn touch(key: Key, touching: Touching) -> Event
-    ensures { result ≡ Event.Touch key touching }
-{
-    Event::Touch { key, touching }
-}
-
-/// The store of a value in a plain word.
-pub(crate) fn put(word: PlainWord, value: u64) -> Event
-    ensures { result ≡ Event.Put word value }
-{
-    Event::Put { word, value }
-}
-
-/// The list of one event.
-pub(crate) fn one(alloc: Global, event: Event) -> Result<Events, AllocError>
-    ensures { IfOk result (λ events. events ≡ event ∷ []) }
-{
-    let mut events = Events::new(alloc);
-    events.push(event)?;
-    Ok(events)
 }
 
 impl IdealGuest {
@@ -97,23 +73,41 @@ impl IdealGuest {
         key_of(id, 0, &self.shape) == Some(Key::Spi(id))
     }
 
-    /// The events of an access of a half of an IROUTER.
-    fn router_events(
-        &self,
-        alloc: Global,
-        id: u32,
-        half: Half,
+    /// Makes an access of registers that have a part for each interrupt, in a frame: of a kind, for `count` interrupts from
+    /// the INTID `first` on, in rising order; a read, or a write of a value (IHI 0069, "The Distributor register map").
+    pub(crate) fn access_parts(
+        &mut self,
+        frame: Frame,
+        kind: Kind,
+        first: u32,
+        count: u32,
         write: Option<u64>,
-    ) -> Result<Events, AllocError>
-        requires sound { IsSound self.now }
+    )
+        requires sound { IsSound self.old }
+        requires fits { FitParts kind first count }
+        ensures after { self.new ≡ after_events (part_events self.old.shape frame kind first count write) self.old }
+        ensures sound { IsSound self.new }
+        ensures shape { self.new.shape ≡ self.old.shape }
+    {
+        let shape = self.shape;
+        for number in 0..count {
+            if let Some(key) = part_key(frame, kind, first + number, &shape) {
+                self.touch(key, part_touch(kind, write, number));
+            }
+        }
+    }
+
+    /// Makes an access of a half of an IROUTER.
+    fn access_router(&mut self, id: u32, half: Half, write: Option<u64>)
+        requires sound { IsSound self.old }
         requires fits { FitsHalf half write }
-        ensures value { IfOk result (λ events. events ≡ dist_plain self.now.shape (view_of self.now) (DistReg.Router id) half write) }
-        ensures valid { IfOk result (All (HappensFreely self.now.shape)) }
+        ensures after { self.new ≡ after_events (dist_plain self.old.shape (view_of self.old) (DistReg.Router id) half write) self.old }
+        ensures sound { IsSound self.new }
+        ensures shape { self.new.shape ≡ self.old.shape }
     {
         if !self.has_spi(id) {
-            return Ok(Events::new(alloc));
+            return;
         }
-        let key = Key::Spi(id);
         let kind = Kind::Routing;
         let touching = match write {
             None => Touching::Read { kind },
@@ -122,56 +116,65 @@ impl IdealGuest {
                 value: half.written(self.part(Frame::Dist, kind, id, 0), value),
             },
         };
-        one(alloc, touch(key, touching))
+        self.touch(Key::Spi(id), touching);
     }
 
-    /// The events of a write of a register of the distributor that has no part for each interrupt.
-    fn dist_written(&self, alloc: Global, reg: DistReg, value: u64) -> Result<Events, AllocError>
-        requires { IsSound self.now }
-        ensures value { IfOk result (λ events. events ≡ dist_written_in self.now.shape reg value) }
-        ensures valid { IfOk result (All (HappensFreely self.now.shape)) }
+    /// Writes GICD_CTLR: its enables are stored, and copied to each interrupt in key order.
+    fn write_ctlr(&mut self, enables: Enables)
+        requires { IsSound self.old }
+        ensures after { self.new ≡ after_events (ctlr_events self.old.shape enables) self.old }
+        ensures sound { IsSound self.new }
+        ensures shape { self.new.shape ≡ self.old.shape }
+    {
+        let shape = self.shape;
+        let copy = Touching::Enables {
+            en0: enables.group0,
+            en1: enables.group1,
+        };
+        self.set_enables(enables);
+        for place in 0..interrupt_count(&shape) {
+            self.touch(key_at(place, &shape), copy);
+        }
+    }
+
+    /// Writes a register of the distributor that has no part for each interrupt.
+    fn write_dist(&mut self, reg: DistReg, value: u64)
+        requires { IsSound self.old }
+        ensures after { self.new ≡ after_events (dist_written self.old.shape reg value) self.old }
+        ensures sound { IsSound self.new }
+        ensures shape { self.new.shape ≡ self.old.shape }
     {
         let id = message_intid(low(value));
         let key = Key::Spi(id);
         match reg {
-            DistReg::Ctlr => ctlr_events(alloc, enables_in(low(value)), &self.shape),
-            DistReg::SetSpi if self.has_spi(id) => one(alloc, Event::Raise { key }),
-            DistReg::ClrSpi if self.has_spi(id) => one(alloc, touch(key, CLEAR)),
-            _ => Ok(Events::new(alloc)),
+            DistReg::Ctlr => self.write_ctlr(enables_in(low(value))),
+            DistReg::SetSpi if self.has_spi(id) => self.raise(key),
+            DistReg::ClrSpi if self.has_spi(id) => self.touch(key, CLEAR),
+            _ => {}
         }
     }
 
-    /// The events of an access of the distributor.
-    pub(crate) fn dist_events(
-        &self,
-        alloc: Global,
-        reference: DistRef,
-        write: Option<u64>,
-    ) -> Result<Events, AllocError>
-        requires sound { IsSound self.now }
+    /// Makes an access of the distributor.
+    pub(crate) fn access_dist(&mut self, reference: DistRef, write: Option<u64>)
+        requires sound { IsSound self.old }
         requires fits { FitsDist reference write }
-        ensures value { IfOk result (λ events. events ≡ dist_events_in self.now.shape (view_of self.now) reference write) }
-        ensures valid { IfOk result (All (HappensFreely self.now.shape)) }
+        ensures after { self.new ≡ after_events (dist_events self.old.shape (view_of self.old) reference write) self.old }
+        ensures sound { IsSound self.new }
+        ensures shape { self.new.shape ≡ self.old.shape }
     {
-        match reference {
-            DistRef::Bits { kind, first, count } => part_events(
-                alloc,
-                Frame::Dist,
-                kind,
-                first,
-                count,
-                write,
-                &self.shape,
-            ),
-            DistRef::Plain {
-                reg: DistReg::Router { id },
-                half,
-            } => self.router_events(alloc, id, half, write),
-            DistRef::Plain { reg, .. } => match write {
-                Some(value) => self.dist_written(alloc, reg, value),
-                None => Ok(Events::new(alloc)),
-            },
-            DistRef::Reserved => Ok(Events::new(alloc)),
+        match (reference, write) {
+            (DistRef::Bits { kind, first, count }, _) => {
+                self.access_parts(Frame::Dist, kind, first, count, write);
+            }
+            (
+                DistRef::Plain {
+                    reg: DistReg::Router { id },
+                    half,
+                },
+                _,
+            ) => self.access_router(id, half, write),
+            (DistRef::Plain { reg, .. }, Some(value)) => self.write_dist(reg, value),
+            _ => {}
         }
     }
 

@@ -1,67 +1,54 @@
 //! What the calls of vCPUs and devices do to one guest.
-ghost use Rattle.std.specs.Prelude.{◌≡◌, ◌<◌, ℕ, IsTrue, IfOk, OnOk, All, Some};
+ghost use Rattle.std.specs.Prelude.{◌≡◌, ◌<◌, ℕ, IsTrue, Some};
 ghost use Rattle.floor_calls.specs.Registers.{is_size};
-ghost use Rattle.floor_calls.specs.Calls.{fits, has_frame, is_usable, is_good_op, is_good_event, HappensFreely, memory_written, access_events as access_events_in, access_value as access_value_in, device_events as device_events_in};
+ghost use Rattle.floor_calls.specs.Calls.{fits, has_frame, is_usable, is_good_op, is_good_event, memory_written, sgi_events, access_events, access_value as access_value_in};
 ghost use Rattle.floor_calls.specs.GicCall.Call.{starts_commands as starts_commands_in};
-ghost use Rattle.ideal_guest.specs.Ideal.{view_of};
+ghost use Rattle.ideal_guest.specs.Ideal.{view_of, after_events};
 ghost use Rattle.ideal_guest.specs.Call.{op_answer, after_op, after_device};
 ghost use Rattle.ideal_guest.specs.Sound.{IsSound};
 
-use crate::access::{one, put};
 use crate::guest::IdealGuest;
 use floor_calls::{
-    Answer, DeviceOp, Event, Events, Frame, GuestOp, IccReg, Key, NoMemory, PlainWord, dist_access,
-    insert, its_access, redist_access, sgi_events, split,
+    Answer, DeviceOp, Frame, GuestOp, IccReg, Key, PlainWord, dist_access, has_bit, insert,
+    its_access, redist_access, sgi_intid, sgi_targets, split,
 };
-use std::alloc::{AllocError, Global};
 
 impl IdealGuest {
-    /// The event of a write of memory, which is in the guest's.
-    fn memory_events(
-        &self,
-        alloc: Global,
-        offset: u32,
-        size: u32,
-        value: u64,
-    ) -> Result<Events, AllocError>
-        requires sound { IsSound self.now }
+    /// Writes memory, where it is the guest's.
+    fn write_memory(&mut self, offset: u32, size: u32, value: u64)
+        requires sound { IsSound self.old }
         requires size { IsTrue (is_size size) }
         requires fits { IsTrue (fits size (Some value)) }
-        ensures value { IfOk result (λ events. events ≡ memory_written self.now.shape (view_of self.now) offset size value) }
-        ensures valid { IfOk result (All (HappensFreely self.now.shape)) }
+        ensures after { self.new ≡ after_events (memory_written self.old.shape (view_of self.old) offset size value) self.old }
+        ensures sound { IsSound self.new }
+        ensures shape { self.new.shape ≡ self.old.shape }
     {
         let Some(part) = split(u64::from(offset), size, self.shape.ram) else {
-            return Ok(Events::new(alloc));
+            return;
         };
         let word = PlainWord::Ram { index: part.index };
         let value = insert(self.word(word), &part, value);
-        one(alloc, put(word, value))
+        self.set_word(word, value);
     }
 
-    /// The events of an access of memory or of a memory-mapped register, before any command.
-    fn access_events(
-        &self,
-        alloc: Global,
-        frame: Frame,
-        offset: u32,
-        size: u32,
-        write: Option<u64>,
-    ) -> Result<Events, AllocError>
-        requires sound { IsSound self.now }
+    /// Makes an access of memory or of a memory-mapped register, before any command.
+    fn access_frame(&mut self, frame: Frame, offset: u32, size: u32, write: Option<u64>)
+        requires sound { IsSound self.old }
         requires size { IsTrue (is_size size) }
         requires fits { IsTrue (fits size write) }
-        requires frame { IsTrue (has_frame self.now.shape frame) }
-        ensures value { IfOk result (λ events. events ≡ access_events_in self.now.shape (view_of self.now) frame offset size write) }
-        ensures valid { IfOk result (All (HappensFreely self.now.shape)) }
+        requires frame { IsTrue (has_frame self.old.shape frame) }
+        ensures after { self.new ≡ after_events (access_events self.old.shape (view_of self.old) frame offset size write) self.old }
+        ensures sound { IsSound self.new }
+        ensures shape { self.new.shape ≡ self.old.shape }
     {
         match (frame, write) {
-            (Frame::Dist, _) => self.dist_events(alloc, dist_access(offset, size, write), write),
+            (Frame::Dist, _) => self.access_dist(dist_access(offset, size, write), write),
             (Frame::Redist { vcpu }, _) => {
-                self.redist_events(alloc, vcpu, redist_access(offset, size, write), write)
+                self.access_redist(vcpu, redist_access(offset, size, write), write);
             }
-            (Frame::Its, _) => self.its_events(alloc, its_access(offset, size, write), write),
-            (Frame::Ram, Some(value)) => self.memory_events(alloc, offset, size, value),
-            (Frame::Ram, None) => Ok(Events::new(alloc)),
+            (Frame::Its, _) => self.access_its(its_access(offset, size, write), write),
+            (Frame::Ram, Some(value)) => self.write_memory(offset, size, value),
+            (Frame::Ram, None) => {}
         }
     }
 
@@ -93,126 +80,110 @@ impl IdealGuest {
         }
     }
 
+    /// Makes the SGI of a write of ICC_SGI1R by a vCPU pending at each vCPU that the value names, in rising order.
+    fn send(&mut self, value: u64, sender: u32)
+        requires { IsSound self.old }
+        ensures after { self.new ≡ after_events (sgi_events self.old.shape sender value) self.old }
+        ensures sound { IsSound self.new }
+        ensures shape { self.new.shape ≡ self.old.shape }
+    {
+        let targets = sgi_targets(value, sender, &self.shape);
+        let id = sgi_intid(value);
+        for vcpu in 0..self.shape.vcpus {
+            if has_bit(u64::from(targets.0), vcpu) {
+                self.raise(Key::Private { vcpu, id });
+            }
+        }
+    }
+
     /// Does an access of a register of a vCPU's CPU interface, and answers what it reads.
-    fn operate_icc(
-        &mut self,
-        alloc: Global,
-        vcpu: u32,
-        reg: IccReg,
-        write: Option<u64>,
-    ) -> Result<Answer, NoMemory>
+    fn operate_icc(&mut self, vcpu: u32, reg: IccReg, write: Option<u64>) -> Answer
         requires sound { IsSound self.old }
         requires there { vcpu < self.old.shape.vcpus }
         requires usable { IsTrue (is_usable reg write) }
-        ensures answer { IfOk result (λ answer. answer ≡ op_answer (GuestOp.Icc reg write) self.old vcpu) }
-        ensures after { OnOk result (self.new ≡ after_op (GuestOp.Icc reg write) self.old vcpu) }
-        ensures sound { OnOk result (IsSound self.new) }
-        ensures shape { OnOk result (self.new.shape ≡ self.old.shape) }
+        ensures answer { result ≡ op_answer (GuestOp.Icc reg write) self.old vcpu }
+        ensures after { self.new ≡ after_op (GuestOp.Icc reg write) self.old vcpu }
+        ensures sound { IsSound self.new }
+        ensures shape { self.new.shape ≡ self.old.shape }
     {
         let answer = self.access(reg, write, vcpu);
         if let (IccReg::Sgi1r, Some(value)) = (reg, write) {
-            let shape = self.shape;
-            let events = sgi_events(alloc, value, vcpu, &shape)?;
-            self.happen_all(events.as_slice());
+            self.send(value, vcpu);
         }
-        Ok(answer.map_or(Answer::Nothing, Answer::Value))
+        answer.map_or(Answer::Nothing, Answer::Value)
     }
 
     /// Does an access of memory or of a memory-mapped register, and answers what it reads.
-    fn operate_memory(
-        &mut self,
-        alloc: Global,
-        frame: Frame,
-        offset: u32,
-        size: u32,
-        write: Option<u64>,
-    ) -> Result<Answer, NoMemory>
+    fn operate_memory(&mut self, frame: Frame, offset: u32, size: u32, write: Option<u64>) -> Answer
         requires sound { IsSound self.old }
         requires size { IsTrue (is_size size) }
         requires fits { IsTrue (fits size write) }
         requires frame { IsTrue (has_frame self.old.shape frame) }
-        ensures answer { (vcpu : ℕ) → IfOk result (λ answer. answer ≡ op_answer (GuestOp.Mem frame offset size write) self.old vcpu) }
-        ensures after { (vcpu : ℕ) → OnOk result (self.new ≡ after_op (GuestOp.Mem frame offset size write) self.old vcpu) }
-        ensures sound { OnOk result (IsSound self.new) }
-        ensures shape { OnOk result (self.new.shape ≡ self.old.shape) }
+        ensures answer { (vcpu : ℕ) → result ≡ op_answer (GuestOp.Mem frame offset size write) self.old vcpu }
+        ensures after { (vcpu : ℕ) → self.new ≡ after_op (GuestOp.Mem frame offset size write) self.old vcpu }
+        ensures sound { IsSound self.new }
+        ensures shape { self.new.shape ≡ self.old.shape }
     {
         let answer = match write {
             None => Answer::Value(self.access_value(frame, offset, size)),
             Some(_) => Answer::Nothing,
         };
         let starts = self.starts_commands(frame, offset, size, write);
-        let events = self.access_events(alloc, frame, offset, size, write)?;
-        self.happen_all(events.as_slice());
+        self.access_frame(frame, offset, size, write);
         if starts {
-            self.run_queue(alloc)?;
+            self.run_queue();
         }
-        Ok(answer)
+        answer
     }
 
     /// Does an operation of a vCPU, with the commands of the ITS that it starts, and answers the value that it reads; a
     /// write answers nothing. The vCPU is numbered from 0, below the shape's, and the operation is one that a scenario of
-    /// this shape may have. `NoMemory` where memory is refused: the guest is then of no further use.
-    pub fn operate(&mut self, alloc: Global, vcpu: u32, op: GuestOp) -> Result<Answer, NoMemory>
+    /// this shape may have.
+    pub fn operate(&mut self, vcpu: u32, op: GuestOp) -> Answer
         requires sound { IsSound self.old }
         requires there { vcpu < self.old.shape.vcpus }
         requires good { IsTrue (is_good_op self.old.shape op) }
-        ensures answer { IfOk result (λ answer. answer ≡ op_answer op self.old vcpu) }
-        ensures after { OnOk result (self.new ≡ after_op op self.old vcpu) }
-        ensures sound { OnOk result (IsSound self.new) }
-        ensures shape { OnOk result (self.new.shape ≡ self.old.shape) }
+        ensures answer { result ≡ op_answer op self.old vcpu }
+        ensures after { self.new ≡ after_op op self.old vcpu }
+        ensures sound { IsSound self.new }
+        ensures shape { self.new.shape ≡ self.old.shape }
     {
         match op {
-            GuestOp::Icc { reg, write } => self.operate_icc(alloc, vcpu, reg, write),
+            GuestOp::Icc { reg, write } => self.operate_icc(vcpu, reg, write),
             GuestOp::Mem {
                 frame,
                 offset,
                 size,
                 write,
-            } => self.operate_memory(alloc, frame, offset, size, write),
+            } => self.operate_memory(frame, offset, size, write),
         }
     }
 
-    /// The events of what a device does.
-    fn device_events(&self, alloc: Global, op: DeviceOp) -> Result<Events, AllocError>
-        requires sound { IsSound self.now }
-        requires good { IsTrue (is_good_event self.now.shape op) }
-        ensures value { IfOk result (λ events. events ≡ device_events_in (view_of self.now) op) }
-        ensures valid { IfOk result (All (HappensFreely self.now.shape)) }
+    /// Makes the LPI of a message-signalled interrupt pending, where the ITS translates it.
+    fn translate(&mut self, device: u32, event: u32)
+        requires { IsSound self.old }
+        ensures after { self.new ≡ after_device (DeviceOp.Msi device event) self.old }
+        ensures sound { IsSound self.new }
+        ensures shape { self.new.shape ≡ self.old.shape }
     {
-        match op {
-            DeviceOp::Message { spi } => one(alloc, Event::Raise { key: Key::Spi(spi) }),
-            DeviceOp::Wire { key, up: true } => one(alloc, Event::Up { key }),
-            DeviceOp::Wire { key, up: false } => one(alloc, Event::Down { key }),
-            DeviceOp::Msi { device, event } => self.msi_events(alloc, device, event),
-        }
-    }
-
-    /// The events of a message-signalled interrupt.
-    fn msi_events(&self, alloc: Global, device: u32, event: u32) -> Result<Events, AllocError>
-        requires { IsSound self.now }
-        ensures value { IfOk result (λ events. events ≡ device_events_in (view_of self.now) (DeviceOp.Msi device event)) }
-        ensures valid { IfOk result (All (HappensFreely self.now.shape)) }
-    {
-        let mut events = one(alloc, Event::ItsBegin)?;
         if let Some(id) = self.tables.translated(self.is_its_enabled(), device, event) {
-            events.push(Event::Raise { key: Key::Lpi(id) })?;
+            self.raise(Key::Lpi(id));
         }
-        events.push(Event::ItsEnd)?;
-        Ok(events)
     }
 
     /// Does what a device does: sends a message or an MSI, or moves a wire. It is one that a scenario of this shape may
-    /// have; an MSI that the ITS does not translate does nothing. `NoMemory` where memory is refused: the guest is then
-    /// of no further use.
-    pub fn receive(&mut self, alloc: Global, op: DeviceOp) -> Result<(), NoMemory>
+    /// have; an MSI that the ITS does not translate does nothing.
+    pub fn receive(&mut self, op: DeviceOp)
         requires sound { IsSound self.old }
         requires good { IsTrue (is_good_event self.old.shape op) }
-        ensures after { OnOk result (self.new ≡ after_device op self.old) }
-        ensures sound { OnOk result (IsSound self.new) }
-        ensures shape { OnOk result (self.new.shape ≡ self.old.shape) }
+        ensures after { self.new ≡ after_device op self.old }
+        ensures sound { IsSound self.new }
+        ensures shape { self.new.shape ≡ self.old.shape }
     {
-        let events = self.device_events(alloc, op)?;
-        self.happen_all(events.as_slice());
-        Ok(())
+        match op {
+            DeviceOp::Message { spi } => self.raise(Key::Spi(spi)),
+            DeviceOp::Wire { key, up } => self.wire(key, up),
+            DeviceOp::Msi { device, event } => self.translate(device, event),
+        }
     }
 }

@@ -1,7 +1,7 @@
 //! The command queue of a guest's ITS.
-ghost use Rattle.std.specs.Prelude.{◌≡◌, ◌<◌, ◌^◌, None, Ok, OnOk};
+ghost use Rattle.std.specs.Prelude.{◌≡◌, ◌<◌, ◌^◌, None, Ok};
 ghost use Rattle.floor_calls.specs.ItsCmd.Command.{decoded};
-ghost use Rattle.floor_calls.specs.Registers.{fault_of, maps_after};
+ghost use Rattle.floor_calls.specs.Registers.{fault_of};
 ghost use Rattle.floor_calls.specs.Calls.{memory_at, takes_command as takes_command_in, queue_address as queue_address_in, word_address, command_words as command_words_in};
 ghost use Rattle.ideal_guest.specs.Ideal.{view_of, after_command, after_queued};
 ghost use Rattle.ideal_guest.specs.Queue.{QueuesRunDry, BadCommandsStall};
@@ -9,10 +9,9 @@ ghost use Rattle.ideal_guest.specs.Sound.{IsSound};
 
 use crate::guest::IdealGuest;
 use floor_calls::{
-    COMMAND_BYTES, Command, Field, NoMemory, PlainWord, UNKNOWN_NUMBER, advance, has_bit,
-    queue_bytes, queue_decode as decode,
+    COMMAND_BYTES, Command, Field, PlainWord, UNKNOWN_NUMBER, advance, has_bit, queue_bytes,
+    queue_decode as decode,
 };
-use std::alloc::Global;
 
 /// GITS_CBASER.Valid.
 const VALID: u32 = 63;
@@ -68,73 +67,52 @@ impl IdealGuest {
         ]
     }
 
-    /// A command without a fault changes the maps.
-    fn carry_out(&mut self, command: &Command)
-        requires sound { IsSound self.old }
-        requires good { fault_of self.old.shape self.old.tables command.now ≡ None }
-        ensures value { self.new ≡ record self.old { tables = maps_after self.old.tables command.now } }
-        ensures sound { IsSound self.new }
-        ensures shape { self.new.shape ≡ self.old.shape }
-    {
-        let shape = self.shape;
-        self.tables.carry_out(command, &shape);
-    }
-
-    /// A command without a fault is done: its parts, then the maps, and then the queue goes on.
-    fn finish(&mut self, alloc: Global, command: &Command) -> Result<(), NoMemory>
+    /// A command without a fault is done, and then the queue goes on.
+    fn finish(&mut self, command: &Command)
         requires sound { IsSound self.old }
         requires next { decoded (command_words_in self.old.shape (view_of self.old)) ≡ Ok command.now }
         requires good { fault_of self.old.shape self.old.tables command.now ≡ None }
-        ensures ok { OnOk result (self.new ≡ after_command self.old) }
+        ensures ok { self.new ≡ after_command self.old }
         ensures sound { IsSound self.new }
         ensures shape { self.new.shape ≡ self.old.shape }
     {
-        let parts = self.parts(alloc, command)?;
-        let events = self.part_events(alloc, parts.as_slice())?;
         let next = advance(self.offset, queue_bytes(self.word(PlainWord::Cbaser)));
-        self.happen_all(events.as_slice());
         self.carry_out(command);
         self.set_queue(next, false);
-        Ok(())
     }
 
-    /// The next command is done, or the queue stalls at it where it has a fault. After `NoMemory` only its parts may
-    /// have happened.
-    fn do_command(&mut self, alloc: Global) -> Result<(), NoMemory>
+    /// The next command is done, or the queue stalls at it where it has a fault.
+    fn do_command(&mut self)
         requires { IsSound self.old }
-        ensures ok { OnOk result (self.new ≡ after_command self.old) }
+        ensures ok { self.new ≡ after_command self.old }
         ensures sound { IsSound self.new }
         ensures shape { self.new.shape ≡ self.old.shape }
     {
         let shape = self.shape;
         let Ok(command) = decode(self.command_words()) else {
             self.stall(self.offset, UNKNOWN_NUMBER);
-            return Ok(());
+            return;
         };
         match self.tables.fault_in(&command, &shape) {
-            Some(fault) => {
-                self.stall(self.offset, fault.number());
-                Ok(())
-            }
-            None => self.finish(alloc, &command),
+            Some(fault) => self.stall(self.offset, fault.number()),
+            None => self.finish(&command),
         }
     }
 
     /// All commands that are taken are done.
-    pub(crate) fn run_queue(&mut self, alloc: Global) -> Result<(), NoMemory>
+    pub(crate) fn run_queue(&mut self)
         requires { IsSound self.old }
-        ensures ok { OnOk result (self.new ≡ after_queued self.old) }
+        ensures ok { self.new ≡ after_queued self.old }
         ensures sound { IsSound self.new }
         ensures shape { self.new.shape ≡ self.old.shape }
     {
         let places = queue_bytes(self.word(PlainWord::Cbaser)) / COMMAND_BYTES;
         for _place in 0..places {
             if !self.takes_command() {
-                return Ok(());
+                return;
             }
-            self.do_command(alloc)?;
+            self.do_command();
         }
-        Ok(())
     }
 }
 

@@ -1,16 +1,15 @@
 //! What a vCPU's accesses of the ITS do before any command, and what they read.
-ghost use Rattle.std.specs.Prelude.{◌≡◌, IsTrue, IfOk, All, None, Some};
-ghost use Rattle.floor_calls.specs.Calls.{has_plain, FitsHalf, FitsIts, HappensFreely, is_stored, is_its_enabled as is_enabled_in, is_in_queue as is_in_queue_of, baser_written, cwriter_events as cwriter_events_in, its_written as its_written_in, its_held as its_held_in, its_value as its_value_in, its_events as its_events_in, its_starts as its_starts_in};
-ghost use Rattle.ideal_guest.specs.Ideal.{view_of};
+ghost use Rattle.std.specs.Prelude.{◌≡◌, IsTrue, None, Some};
+ghost use Rattle.floor_calls.specs.Calls.{has_plain, FitsHalf, FitsIts, is_stored, is_its_enabled as is_enabled_in, is_in_queue as is_in_queue_of, baser_written, cwriter_events, its_written, its_held as its_held_in, its_value as its_value_in, its_events, its_starts as its_starts_in};
+ghost use Rattle.ideal_guest.specs.Ideal.{view_of, after_events};
 ghost use Rattle.ideal_guest.specs.Sound.{IsSound};
 
-use crate::access::{low, one, put};
+use crate::access::low;
 use crate::guest::IdealGuest;
 use floor_calls::{
-    Event, Events, Half, IIDR, ItsReg as Reg, ItsRegRef as RegRef, PIDR2, PlainWord, QueueChange,
-    Table, baser, baser_after, cbaser_after, creadr, enabled_in, offset_in, queue_bytes, retries,
+    Half, IIDR, ItsReg as Reg, ItsRegRef as RegRef, PIDR2, PlainWord, Table, baser, baser_after,
+    cbaser_after, creadr, enabled_in, offset_in, queue_bytes, retries,
 };
-use std::alloc::{AllocError, Global};
 
 impl IdealGuest {
     /// Whether the ITS is enabled: GITS_CTLR.Enabled.
@@ -29,114 +28,96 @@ impl IdealGuest {
         offset_in(value) < u64::from(queue_bytes(self.word(PlainWord::Cbaser)))
     }
 
-    /// The events of a write of GITS_CWRITER, before any command.
-    fn cwriter_events(&self, alloc: Global, value: u64) -> Result<Events, AllocError>
-        requires { IsSound self.now }
-        ensures value { IfOk result (λ events. events ≡ cwriter_events_in (view_of self.now) value) }
-        ensures valid { IfOk result (All (HappensFreely self.now.shape)) }
+    /// Writes GITS_CWRITER, before any command.
+    fn write_cwriter(&mut self, value: u64)
+        requires { IsSound self.old }
+        ensures after { self.new ≡ after_events (cwriter_events (view_of self.old) value) self.old }
+        ensures sound { IsSound self.new }
+        ensures shape { self.new.shape ≡ self.old.shape }
     {
         if !self.is_in_queue(value) {
-            return Ok(Events::new(alloc));
+            return;
         }
-        let mut events = one(alloc, put(PlainWord::Cwriter, offset_in(value)))?;
-        if self.is_stalled && retries(self.word(PlainWord::Cbaser), value) {
-            events.push(Event::Queue {
-                offset: self.offset,
-                change: QueueChange::Runs,
-            })?;
+        let runs = self.is_stalled && retries(self.word(PlainWord::Cbaser), value);
+        self.set_word(PlainWord::Cwriter, offset_in(value));
+        if runs {
+            self.set_queue(self.offset, false);
         }
-        Ok(events)
     }
 
-    /// The events of a write of GITS_CBASER.
-    fn cbaser_events(&self, alloc: Global, half: Half, value: u64) -> Result<Events, AllocError>
-        requires sound { IsSound self.now }
+    /// Writes GITS_CBASER.
+    fn write_cbaser(&mut self, half: Half, value: u64)
+        requires sound { IsSound self.old }
         requires fits { FitsHalf half (Some value) }
-        ensures value { IfOk result (λ events. events ≡ its_written_in (view_of self.now) Reg.Cbaser half value) }
-        ensures valid { IfOk result (All (HappensFreely self.now.shape)) }
+        ensures after { self.new ≡ after_events (its_written (view_of self.old) Reg.Cbaser half value) self.old }
+        ensures sound { IsSound self.new }
+        ensures shape { self.new.shape ≡ self.old.shape }
     {
         if self.is_its_enabled() {
-            return Ok(Events::new(alloc));
+            return;
         }
         let stored = self.word(PlainWord::Cbaser);
-        let mut events = one(alloc, put(PlainWord::Cwriter, 0))?;
-        events.push(Event::Queue {
-            offset: 0,
-            change: QueueChange::Runs,
-        })?;
-        let value = cbaser_after(false, stored, half.written(stored, value));
-        events.push(put(PlainWord::Cbaser, value))?;
-        Ok(events)
+        let value = half.written(stored, value);
+        self.set_word(PlainWord::Cwriter, 0);
+        self.set_queue(0, false);
+        self.set_word(PlainWord::Cbaser, cbaser_after(false, stored, value));
     }
 
-    /// The events of a write of GITS_BASER0 or GITS_BASER1, which is in this plain word.
-    fn baser_events(
-        &self,
-        alloc: Global,
-        word: PlainWord,
-        half: Half,
-        value: u64,
-    ) -> Result<Events, AllocError>
-        requires sound { IsSound self.now }
-        requires there { IsTrue (has_plain self.now.shape word) }
+    /// Writes GITS_BASER0 or GITS_BASER1, which is in this plain word.
+    fn write_baser(&mut self, word: PlainWord, half: Half, value: u64)
+        requires sound { IsSound self.old }
+        requires there { IsTrue (has_plain self.old.shape word) }
         requires stored { IsTrue (is_stored word) }
         requires fits { FitsHalf half (Some value) }
-        ensures value { IfOk result (λ events. events ≡ baser_written (view_of self.now) word half value) }
-        ensures valid { IfOk result (All (HappensFreely self.now.shape)) }
+        ensures after { self.new ≡ after_events (baser_written (view_of self.old) word half value) self.old }
+        ensures sound { IsSound self.new }
+        ensures shape { self.new.shape ≡ self.old.shape }
     {
         if self.is_its_enabled() {
-            return Ok(Events::new(alloc));
+            return;
         }
         let stored = self.word(word);
-        let value = baser_after(false, stored, half.written(stored, value));
-        one(alloc, put(word, value))
+        let value = half.written(stored, value);
+        self.set_word(word, baser_after(false, stored, value));
     }
 
-    /// The events of a write of a register of the ITS, before any command.
-    fn its_written(
-        &self,
-        alloc: Global,
-        reg: Reg,
-        half: Half,
-        value: u64,
-    ) -> Result<Events, AllocError>
-        requires sound { IsSound self.now }
+    /// Writes a register of the ITS, before any command.
+    fn write_its(&mut self, reg: Reg, half: Half, value: u64)
+        requires sound { IsSound self.old }
         requires fits { FitsHalf half (Some value) }
-        ensures value { IfOk result (λ events. events ≡ its_written_in (view_of self.now) reg half value) }
-        ensures valid { IfOk result (All (HappensFreely self.now.shape)) }
+        ensures after { self.new ≡ after_events (its_written (view_of self.old) reg half value) self.old }
+        ensures sound { IsSound self.new }
+        ensures shape { self.new.shape ≡ self.old.shape }
     {
         match reg {
             Reg::Ctlr => {
                 let enabled = u64::from(enabled_in(low(value)));
-                one(alloc, put(PlainWord::ItsCtlr, enabled))
+                self.set_word(PlainWord::ItsCtlr, enabled);
             }
-            Reg::Cbaser => self.cbaser_events(alloc, half, value),
+            Reg::Cbaser => self.write_cbaser(half, value),
             Reg::Cwriter => {
-                self.cwriter_events(alloc, half.written(self.word(PlainWord::Cwriter), value))
+                let stored = self.word(PlainWord::Cwriter);
+                self.write_cwriter(half.written(stored, value));
             }
-            Reg::Baser0 => self.baser_events(alloc, PlainWord::Baser0, half, value),
-            Reg::Baser1 => self.baser_events(alloc, PlainWord::Baser1, half, value),
-            Reg::Iidr | Reg::Typer | Reg::Creadr | Reg::Pidr2 => Ok(Events::new(alloc)),
+            Reg::Baser0 => self.write_baser(PlainWord::Baser0, half, value),
+            Reg::Baser1 => self.write_baser(PlainWord::Baser1, half, value),
+            Reg::Iidr | Reg::Typer | Reg::Creadr | Reg::Pidr2 => {}
         }
     }
 
-    /// The events of an access of the ITS, before any command.
-    pub(crate) fn its_events(
-        &self,
-        alloc: Global,
-        reference: RegRef,
-        write: Option<u64>,
-    ) -> Result<Events, AllocError>
-        requires sound { IsSound self.now }
+    /// Makes an access of the ITS, before any command.
+    pub(crate) fn access_its(&mut self, reference: RegRef, write: Option<u64>)
+        requires sound { IsSound self.old }
         requires fits { FitsIts reference write }
-        ensures value { IfOk result (λ events. events ≡ its_events_in self.now.shape (view_of self.now) reference write) }
-        ensures valid { IfOk result (All (HappensFreely self.now.shape)) }
+        ensures after { self.new ≡ after_events (its_events self.old.shape (view_of self.old) reference write) self.old }
+        ensures sound { IsSound self.new }
+        ensures shape { self.new.shape ≡ self.old.shape }
     {
         match (reference, write) {
             (RegRef::Plain { reg, half }, Some(value)) if self.shape.lpis != 0 => {
-                self.its_written(alloc, reg, half, value)
+                self.write_its(reg, half, value);
             }
-            _ => Ok(Events::new(alloc)),
+            _ => {}
         }
     }
 

@@ -1,18 +1,19 @@
 //! What a vCPU's accesses of a redistributor do, and what they read.
-ghost use Rattle.std.specs.Prelude.{◌≡◌, ◌≤◌, ◌<◌, IsTrue, IfOk, IfSome, All, Some, None};
+ghost use Rattle.std.specs.Prelude.{◌≡◌, ◌≤◌, ◌<◌, ◌+◌, IsTrue, Some, None, if◌then◌else◌};
+ghost use Rattle.std.specs.List.{range_with_len, filter_map};
 ghost use Rattle.floor_calls.specs.Words.{has_interrupt};
-ghost use Rattle.floor_calls.specs.Calls.{FitsHalf, FitsRedist, HappensFreely, is_in_table as is_in_table_of, pended_at, enable_events as enable_events_in, redist_written as redist_written_in, redist_events as redist_events_in, redist_held as redist_held_in, redist_value as redist_value_in};
-ghost use Rattle.ideal_guest.specs.Ideal.{view_of};
+ghost use Rattle.floor_calls.specs.Calls.{FitsHalf, FitsRedist, is_in_table as is_in_table_of, pended_at, enable_events, redist_written, redist_events, redist_held as redist_held_in, redist_value as redist_value_in};
+ghost use Rattle.floor_calls.specs.GicCall.declared.event.Event.TheVariants.{Touch};
+ghost use Rattle.ideal_guest.specs.Ideal.{view_of, after_events};
 ghost use Rattle.ideal_guest.specs.Sound.{IsSound};
 
-use crate::access::{low, one, put, touch};
+use crate::access::low;
 use crate::guest::IdealGuest;
 use floor_calls::{
-    Event, Events, FIRST_LPI, Frame, Half, IIDR, Key, Kind, PIDR2, PlainWord, RedistReg as Reg,
-    RedistRegRef as RegRef, Touching, enable_lpis_after, has_bit, part_events, pendbaser_after,
-    pendbaser_read, pending_address, propbaser_after, target_in,
+    FIRST_LPI, Frame, Half, IIDR, Key, Kind, PIDR2, PlainWord, RedistReg as Reg,
+    RedistRegRef as RegRef, Touching, enable_lpis_after, has_bit, pendbaser_after, pendbaser_read,
+    pending_address, propbaser_after, target_in,
 };
-use std::alloc::{AllocError, Global};
 
 /// PTZ, in what GICR_PENDBASER stores.
 const PTZ: u32 = 62;
@@ -35,106 +36,96 @@ impl IdealGuest {
         has_bit(self.memory(address, 1), bit)
     }
 
-    /// The event of an LPI as EnableLPIs of a vCPU rises, if it is for the vCPU and in its pending table.
-    fn pended(&self, vcpu: u32, id: u32) -> Option<Event>
+    /// Whether an LPI becomes pending as EnableLPIs of a vCPU rises: it is for the vCPU, and in its pending table.
+    fn is_pended(&self, vcpu: u32, id: u32) -> bool
         requires sound { IsSound self.now }
         requires there { vcpu < self.now.shape.vcpus }
         requires lpi { IsTrue (has_interrupt self.now.shape (Key.Lpi id)) }
-        ensures value { result ≡ pended_at self.now.shape (view_of self.now) vcpu id }
-        ensures valid { IfSome result (HappensFreely self.now.shape) }
+        ensures { pended_at self.now.shape (view_of self.now) vcpu id ≡ (if result then Some (Touch (Key.Lpi id) (Touching.Register Kind.SetPending 1)) else None) }
     {
-        let key = Key::Lpi(id);
-        let is_for = target_in(self.irq(key).route, &self.shape) == Some(vcpu);
-        if is_for && self.is_in_table(vcpu, id) {
-            return Some(touch(key, PEND));
-        }
-        None
+        let target = target_in(self.irq(Key::Lpi(id)).route, &self.shape);
+        target == Some(vcpu) && self.is_in_table(vcpu, id)
     }
 
-    /// The events of a write of 1 to EnableLPIs.
-    fn enable_events(&self, alloc: Global, vcpu: u32) -> Result<Events, AllocError>
-        requires sound { IsSound self.now }
-        requires there { vcpu < self.now.shape.vcpus }
-        ensures value { IfOk result (λ events. events ≡ enable_events_in self.now.shape (view_of self.now) vcpu) }
-        ensures valid { IfOk result (All (HappensFreely self.now.shape)) }
+    /// The LPIs that are for a vCPU and in its pending table become pending, in rising INTID.
+    fn pend_lpis(&mut self, vcpu: u32)
+        requires sound { IsSound self.old }
+        requires there { vcpu < self.old.shape.vcpus }
+        ensures after { self.new ≡ after_events (filter_map (λ number. pended_at self.old.shape (view_of self.old) vcpu (8192 + number)) (range_with_len 0 self.old.shape.lpis)) self.old }
+        ensures sound { IsSound self.new }
+        ensures shape { self.new.shape ≡ self.old.shape }
     {
-        let mut events = one(alloc, Event::Enable { vcpu })?;
-        let is_zero = has_bit(self.word(PlainWord::Pendbaser { vcpu }), PTZ);
-        if self.cpu(vcpu).lpis || is_zero {
-            return Ok(events);
-        }
         for number in 0..self.shape.lpis {
-            if let Some(event) = self.pended(vcpu, FIRST_LPI + number) {
-                events.push(event)?;
+            let id = FIRST_LPI + number;
+            if self.is_pended(vcpu, id) {
+                self.touch(Key::Lpi(id), PEND);
             }
         }
-        Ok(events)
     }
 
-    /// The events of a write of a register of a redistributor that has no part for each interrupt.
-    fn redist_written(
-        &self,
-        alloc: Global,
-        vcpu: u32,
-        reg: Reg,
-        half: Half,
-        value: u64,
-    ) -> Result<Events, AllocError>
-        requires sound { IsSound self.now }
-        requires there { vcpu < self.now.shape.vcpus }
+    /// Writes 1 to EnableLPIs.
+    fn write_enable(&mut self, vcpu: u32)
+        requires sound { IsSound self.old }
+        requires there { vcpu < self.old.shape.vcpus }
+        ensures after { self.new ≡ after_events (enable_events self.old.shape (view_of self.old) vcpu) self.old }
+        ensures sound { IsSound self.new }
+        ensures shape { self.new.shape ≡ self.old.shape }
+    {
+        let is_zero = has_bit(self.word(PlainWord::Pendbaser { vcpu }), PTZ);
+        let stays = self.cpu(vcpu).lpis || is_zero;
+        self.enable_lpis(vcpu);
+        if !stays {
+            self.pend_lpis(vcpu);
+        }
+    }
+
+    /// Writes a register of a redistributor that has no part for each interrupt.
+    fn write_redist(&mut self, vcpu: u32, reg: Reg, half: Half, value: u64)
+        requires sound { IsSound self.old }
+        requires there { vcpu < self.old.shape.vcpus }
         requires fits { FitsHalf half (Some value) }
-        ensures value { IfOk result (λ events. events ≡ redist_written_in self.now.shape (view_of self.now) vcpu reg half value) }
-        ensures valid { IfOk result (All (HappensFreely self.now.shape)) }
+        ensures after { self.new ≡ after_events (redist_written self.old.shape (view_of self.old) vcpu reg half value) self.old }
+        ensures sound { IsSound self.new }
+        ensures shape { self.new.shape ≡ self.old.shape }
     {
         let enabled = self.cpu(vcpu).lpis;
         match reg {
             Reg::Ctlr if enable_lpis_after(&self.shape, false, low(value)) => {
-                self.enable_events(alloc, vcpu)
+                self.write_enable(vcpu);
             }
             Reg::Propbaser if !enabled => {
                 let word = PlainWord::Propbaser { vcpu };
                 let stored = self.word(word);
-                let value = propbaser_after(false, stored, half.written(stored, value));
-                one(alloc, put(word, value))
+                let value = half.written(stored, value);
+                self.set_word(word, propbaser_after(false, stored, value));
             }
             Reg::Pendbaser if !enabled => {
                 let word = PlainWord::Pendbaser { vcpu };
                 let stored = self.word(word);
-                let value = pendbaser_after(false, stored, half.written(stored, value));
-                one(alloc, put(word, value))
+                let value = half.written(stored, value);
+                self.set_word(word, pendbaser_after(false, stored, value));
             }
-            _ => Ok(Events::new(alloc)),
+            _ => {}
         }
     }
 
-    /// The events of an access of a vCPU's redistributor.
-    pub(crate) fn redist_events(
-        &self,
-        alloc: Global,
-        vcpu: u32,
-        reference: RegRef,
-        write: Option<u64>,
-    ) -> Result<Events, AllocError>
-        requires sound { IsSound self.now }
-        requires there { vcpu < self.now.shape.vcpus }
+    /// Makes an access of a vCPU's redistributor.
+    pub(crate) fn access_redist(&mut self, vcpu: u32, reference: RegRef, write: Option<u64>)
+        requires sound { IsSound self.old }
+        requires there { vcpu < self.old.shape.vcpus }
         requires fits { FitsRedist reference write }
-        ensures value { IfOk result (λ events. events ≡ redist_events_in self.now.shape (view_of self.now) vcpu reference write) }
-        ensures valid { IfOk result (All (HappensFreely self.now.shape)) }
+        ensures after { self.new ≡ after_events (redist_events self.old.shape (view_of self.old) vcpu reference write) self.old }
+        ensures sound { IsSound self.new }
+        ensures shape { self.new.shape ≡ self.old.shape }
     {
         match (reference, write) {
-            (RegRef::Bits { kind, first, count }, _) => part_events(
-                alloc,
-                Frame::Redist { vcpu },
-                kind,
-                first,
-                count,
-                write,
-                &self.shape,
-            ),
-            (RegRef::Plain { reg, half }, Some(value)) => {
-                self.redist_written(alloc, vcpu, reg, half, value)
+            (RegRef::Bits { kind, first, count }, _) => {
+                self.access_parts(Frame::Redist { vcpu }, kind, first, count, write);
             }
-            _ => Ok(Events::new(alloc)),
+            (RegRef::Plain { reg, half }, Some(value)) => {
+                self.write_redist(vcpu, reg, half, value);
+            }
+            _ => {}
         }
     }
 

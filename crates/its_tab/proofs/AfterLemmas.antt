@@ -99,7 +99,7 @@ valid-with_event shape maps event pair bits valid mapped below lpi owner = recor
   target = valid.target;
 }
 
-valid-without_event : (shape : GuestShape) (maps : Maps) (event : ℕ × ℕ) → IsValid shape maps → IsValid shape (without_event maps event)
+pub valid-without_event : (shape : GuestShape) (maps : Maps) (event : ℕ × ℕ) → IsValid shape maps → IsValid shape (without_event maps event)
 valid-without_event shape maps event valid = record {
   sound = sound-without_event maps event valid.sound;
   device = valid.device;

@@ -9,28 +9,28 @@ use Rattle.ideal_guest.specs.Sound.{IsSound}
 use Rattle.gic_ideal.proofs.StateLemmas.{guest_there, at_guest_there}
 use Rattle.gic_ideal.proofs.run.do_step.Goals as goal
 
-pub returns-in_ok-receive-in-Device-clause-shapes : goal.returns-in_ok-receive-in-Device-clause-shapes
-returns-in_ok-receive-in-Device-clause-shapes c =
+pub returns-in-Device-clause-shapes : goal.returns-in-Device-clause-shapes
+returns-in-Device-clause-shapes c =
     map-set_same (λ state. state.shape) c.args.states.now.items c.in-Device.guest c.receive.new.self c.index_mut-in-Device.result.now
-    (c.in_ok-receive-in-Device.ensures.shape ∙ ap (λ state. state.shape) c.index_mut-in-Device.ensures.value)
+    (c.receive.ensures.shape ∙ ap (λ state. state.shape) c.index_mut-in-Device.ensures.value)
 
-pub returns-in_ok-receive-in-Device-clause-after : goal.returns-in_ok-receive-in-Device-clause-after
-returns-in_ok-receive-in-Device-clause-after c =
+pub returns-in-Device-clause-after : goal.returns-in-Device-clause-after
+returns-in-Device-clause-after c =
     let states = c.args.states.now.items in
     let formed = rw c.in-Device.is at c.requires.formed in
     let there : c.in-Device.guest < length states = guest_there states c.in-Device.guest (λ shape. nat_lt c.in-Device.device shape.devices && is_good_event shape c.in-Device.op) formed in
-    ap (slice_set states c.in-Device.guest) c.in_ok-receive-in-Device.ensures.after
+    ap (slice_set states c.in-Device.guest) c.receive.ensures.after
     ∙ sym (at_guest_there c.in-Device.guest (after_device c.in-Device.op) states c.index_mut-in-Device.result.now there c.index_mut-in-Device.ensures.value)
     ∙ ap (λ step. after_step step states) (sym c.in-Device.is)
 
-pub returns-in_ok-receive-in-Device-clause-sound : goal.returns-in_ok-receive-in-Device-clause-sound
-returns-in_ok-receive-in-Device-clause-sound c =
-    All-set IsSound c.args.states.now.items c.in-Device.guest c.receive.new.self c.in_ok-receive-in-Device.ensures.sound c.requires.sound
+pub returns-in-Device-clause-sound : goal.returns-in-Device-clause-sound
+returns-in-Device-clause-sound c =
+    All-set IsSound c.args.states.now.items c.in-Device.guest c.receive.new.self c.receive.ensures.sound c.requires.sound
 
-pub returns-in_ok-answer-in-Vcpu-clause-sound : goal.returns-in_ok-answer-in-Vcpu-clause-sound
-returns-in_ok-answer-in-Vcpu-clause-sound c = All-set IsSound c.args.states.now.items c.in-Vcpu.guest c.operate.new.self c.in_ok-answer-in-Vcpu.ensures.sound c.requires.sound
+pub returns-in-Vcpu-clause-sound : goal.returns-in-Vcpu-clause-sound
+returns-in-Vcpu-clause-sound c = All-set IsSound c.args.states.now.items c.in-Vcpu.guest c.operate.new.self c.operate.ensures.sound c.requires.sound
 
-pub returns-in_ok-answer-in-Vcpu-clause-shapes : goal.returns-in_ok-answer-in-Vcpu-clause-shapes
-returns-in_ok-answer-in-Vcpu-clause-shapes c =
+pub returns-in-Vcpu-clause-shapes : goal.returns-in-Vcpu-clause-shapes
+returns-in-Vcpu-clause-shapes c =
     map-set_same (λ state. state.shape) c.args.states.now.items c.in-Vcpu.guest c.operate.new.self c.index_mut.result.now
-    (c.in_ok-answer-in-Vcpu.ensures.shape ∙ ap (λ state. state.shape) c.index_mut.ensures.value)
+    (c.operate.ensures.shape ∙ ap (λ state. state.shape) c.index_mut.ensures.value)

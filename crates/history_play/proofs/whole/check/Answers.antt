@@ -10,14 +10,14 @@ returns-in-Some-clause-refused c =
     let moments = c.args.moments.now in
     let number = c.loop-number.number in
     let within : number < length moments = omega arith in
-    refuses c.args.guest.now moments _ number _ c.in-Some.cause c.loop-number.state c.loop-number.track within c.moments_after-later.ensures (there_at moments number _ within) c.loop-number.invariant (rw c.in-Some.is at c.in_ok-cause.ensures.some)
+    refuses c.args.guest.now moments _ number _ c.in-Some.cause c.loop-number.state c.loop-number.track within c.moments_after-later.ensures (there_at moments number _ within) c.loop-number.invariant (rw c.in-Some.is at c.judge.ensures.some)
 
 pub loop-number-preserved : goal.loop-number-preserved
 loop-number-preserved c =
     let moments = c.args.moments.now in
     let number = c.loop-number.number in
     let within : number < length moments = omega arith in
-    goes_in c.args.guest.now moments _ number _ c.loop-number.state c.follow.new.state c.loop-number.track c.follow.new.track within c.moments_after-later.ensures c.loop-number.invariant (rw c.in_default.is at c.in_ok-cause.ensures.none)
+    goes_in c.args.guest.now moments _ number _ c.loop-number.state c.follow.new.state c.loop-number.track c.follow.new.track within c.moments_after-later.ensures c.loop-number.invariant (rw c.in_default.is at c.judge.ensures.none)
     c.in_ok-follow.ensures.ready c.in_ok-follow.ensures.state c.in_ok-follow.ensures.track
 
 pub returns-clause-fresh : goal.returns-clause-fresh

@@ -13,6 +13,6 @@ loop-place-preserved c =
       shape = c.do_command.ensures.shape ∙ c.loop-place.invariant.shape;
       places = c.loop-place.invariant.places;
       left =
-          subst (λ g. after_commands (c.queue_bytes-places.result / 32 - (c.loop-place._place + 1)) g ≡ after_queued c.args.self.now) (sym c.in_ok-do_command.ensures.ok)
+          subst (λ g. after_commands (c.queue_bytes-places.result / 32 - (c.loop-place._place + 1)) g ≡ after_queued c.args.self.now) (sym c.do_command.ensures.ok)
           (sym (commands_step (c.queue_bytes-places.result / 32) c.loop-place._place c.loop-place.self c.loop-place-test.true (sym c.takes_command.ensures ∙ c.if-not-takes_command.false)) ∙ c.loop-place.invariant.left);
     }

@@ -1,6 +1,0 @@
-use Rattle.std.proofs.Common.{◌≡◌, map, take}
-use Rattle.floor_histories.specs.Histories.{shown_at, standing_at}
-use Rattle.history_check.proofs.state.State.shown.Given as goal
-
-abbrev pub invariant-loop-one : goal.invariant-loop-one
-invariant-loop-one l = l.all ≡ map (shown_at l.self) (take l.one-index (standing_at l.self l.vcpu))
