@@ -1,0 +1,3 @@
+pub mod Name
+pub mod Tree
+pub mod Content
