@@ -5,7 +5,7 @@ use Rattle.std.proofs.lemmas.Grind.{common_steps}
 use Rattle.std.proofs.lemmas.List.{append_assoc, get_or-set_same, get_or-set_other, length-set}
 use Rattle.std.proofs.lemmas.List.FromFn.{length-map-range_with_len, get_or-map-range_with_len}
 use Rattle.floor_histories.specs.Words.{GuestShape}
-use Rattle.floor_histories.specs.Calls.{GuestSpec}
+use Rattle.floor_histories.specs.Histories.{IdealGuest}
 use Rattle.floor_lists.specs.Lists.{Offer}
 use Rattle.port_core.specs.declared.local.Local.{Local}
 use Rattle.port_core.specs.declared.run.Made.{Made}
@@ -110,7 +110,7 @@ follows shape actor (moment ∷ moments) state p there is =
         (subst (λ a. IsSeatOf (progressed shape actor p moment.act) (seat_at (after_moment shape state (record { actor = a; act = moment.act })) actor)) (sym (eqb-true moment.actor actor e)) (act_follows shape actor state p moment.act there is))
     by_actor false e rest = rest p (subst (IsSeatOf p) (sym (other_stays shape actor moment.actor state moment.act (λ same. grind (arith, common_steps, e, same)))) is)
 
-pub progress_follows : (guest : GuestSpec) (number : ℕ) (moments : List CoreMoment) (actor : ℕ) → actor < actor_count guest.shape → IsSeatOf (progress_in guest number moments actor) (seat_at (end_of_moments guest.shape (opening guest number) moments) actor)
+pub progress_follows : (guest : IdealGuest) (number : ℕ) (moments : List CoreMoment) (actor : ℕ) → actor < actor_count guest.shape → IsSeatOf (progress_in guest number moments actor) (seat_at (end_of_moments guest.shape (opening guest number) moments) actor)
 progress_follows guest number moments actor there =
     let seats = length-map-range_with_len (opening_seat guest number) 0 (actor_count guest.shape) in
     let mine : seat_at (opening guest number) actor ≡ opening_seat guest number actor

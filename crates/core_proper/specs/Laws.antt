@@ -1,7 +1,8 @@
 -- Laws of runs with their parts.
 use Rattle.std.specs.Prelude.{◌∷◌, replicate, ◌≡◌, ◌↔◌, ◌<◌, ℕ, List, ◌++◌, Option}
 use Rattle.floor_histories.specs.Words.{GuestShape}
-use Rattle.floor_histories.specs.Calls.{Operation, GuestSpec}
+use Rattle.floor_histories.specs.Calls.{Operation}
+use Rattle.floor_histories.specs.Histories.{IdealGuest}
 use Rattle.port_core.specs.declared.run.Made.{Made}
 use Rattle.port_core.specs.Port.{Seen, Adds, shape_of}
 use Rattle.port_core.specs.Run.{CoreState, Seat, seat_at, opening, end_of}
@@ -38,7 +39,7 @@ pub record IsSeatOf (p : Progress) (seat : Seat) : Type 0 where
 -- so it is at the end of every run
 abbrev pub ProgressFollows : Type 0
 ProgressFollows =
-    (guest : GuestSpec) (number : ℕ) (moments : List CoreMoment) (actor : ℕ) → actor < actor_count guest.shape → IsSeatOf (progress_in guest number moments actor) (seat_at (end_of_moments guest.shape (opening guest number) moments) actor)
+    (guest : IdealGuest) (number : ℕ) (moments : List CoreMoment) (actor : ℕ) → actor < actor_count guest.shape → IsSeatOf (progress_in guest number moments actor) (seat_at (end_of_moments guest.shape (opening guest number) moments) actor)
 
 -- an actor at rest is at rest again after a proper part of it
 abbrev pub PartsRest : Type 0

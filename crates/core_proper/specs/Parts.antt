@@ -2,7 +2,8 @@
 use Rattle.std.specs.Prelude.{ℕ, ◌<◌, ◌==◌, ◌&&◌, not, Bool, true, false, IsTrue, List, [], ◌∷◌, ◌++◌, map, filter, filter_map, All, nat_le, if◌then◌else◌, Option, Some, None}
 use Rattle.std.specs.Option.{option_map}
 use Rattle.floor_histories.specs.Words.{GuestShape}
-use Rattle.floor_histories.specs.Calls.{GuestSpec, Operation}
+use Rattle.floor_histories.specs.Calls.{Operation}
+use Rattle.floor_histories.specs.Histories.{IdealGuest}
 use Rattle.port_core.specs.declared.run.Entry.{Entry}
 use Rattle.port_core.specs.declared.run.Made.{Made}
 use Rattle.port_core.specs.Local.{is_vcpu}
@@ -53,7 +54,7 @@ are_parts shape actor within (makes made ∷ acts) = within && are_parts shape a
 are_parts shape actor within (ends answer ∷ acts) = within && are_parts shape actor false acts
 
 -- a run of a guest from its opening, with its parts
-pub record IsPartedRun (guest : GuestSpec) (number : ℕ) (moments : List CoreMoment) : Type 0 where
+pub record IsPartedRun (guest : IdealGuest) (number : ℕ) (moments : List CoreMoment) : Type 0 where
   pub run : IsRun guest.shape (opening guest number) (entries_of moments)
   pub actors : All (λ moment. moment.actor < actor_count guest.shape) moments
   pub parts : (actor : ℕ) → actor < actor_count guest.shape → IsTrue (are_parts guest.shape actor false (own_acts actor moments))

@@ -2,7 +2,8 @@
 use Rattle.std.specs.Prelude.{ℕ, ◌==◌, ◌&&◌, ◌||◌, not, Bool, true, false, List, [], ◌∷◌, ◌++◌, fold, filter, is_none, if◌then◌else◌, Option, Some, None, option_to_list, unwrap_or}
 use Rattle.std.specs.Option.{option_map, option_map_or}
 use Rattle.floor_histories.specs.Words.{IccReg, Eoir0, Eoir1, Dir, Key, Icc, Mem, GuestShape, is_same_key, key_of, Irq, is_number, irq_of}
-use Rattle.floor_histories.specs.Calls.{Operation, Access, GuestSpec}
+use Rattle.floor_histories.specs.Calls.{Operation, Access}
+use Rattle.floor_histories.specs.Histories.{IdealGuest}
 use Rattle.floor_lists.specs.Lists.{IchRegs, misr_of, Pending, Active, Offer, first_among, plan, regs_of, chosen_as}
 use Rattle.floor_histories.specs.Registers.{intid_written}
 use Rattle.port_core.specs.declared.local.Local.{Local}
@@ -49,7 +50,7 @@ pub record Progress : Type 0 where
   -- the interrupts that it wants and did not touch since
   pub wants : List Key
 
-abbrev pub opening_progress : GuestSpec → ℕ → ℕ → Progress
+abbrev pub opening_progress : IdealGuest → ℕ → ℕ → Progress
 opening_progress guest number actor =
     let local = (opening_seat guest number actor).local in
     record {
@@ -212,5 +213,5 @@ abbrev pub progress_of : GuestShape → ℕ → Progress → List Act → Progre
 progress_of shape actor p acts = fold (progressed shape actor) p acts
 
 -- an actor at the end of a run of a guest from its opening
-abbrev pub progress_in : GuestSpec → ℕ → List CoreMoment → ℕ → Progress
+abbrev pub progress_in : IdealGuest → ℕ → List CoreMoment → ℕ → Progress
 progress_in guest number moments actor = progress_of guest.shape actor (opening_progress guest number actor) (own_acts actor moments)

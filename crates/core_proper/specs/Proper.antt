@@ -3,7 +3,7 @@ use Rattle.std.specs.Prelude.{ℕ, ◌<◌, ◌==◌, ◌&&◌, ◌||◌, not, B
 use Rattle.std.specs.List.{list_any}
 use Rattle.std.specs.Option.{option_map_or}
 use Rattle.floor_histories.specs.Words.{IccReg, Iar0, Iar1, Hppir0, Hppir1, Key, GuestShape, is_number}
-use Rattle.floor_histories.specs.Calls.{Cbaser, Place, Operation, command_places, GuestSpec}
+use Rattle.floor_histories.specs.Calls.{Cbaser, Place, Operation, command_places}
 use Rattle.floor_histories.specs.GicCall.declared.event.Place.TheVariants.{Word}
 use Rattle.port_core.specs.declared.at_list.AtIrq.{AtIrq}
 use Rattle.port_core.specs.declared.local.Local.{Local}
@@ -16,7 +16,7 @@ use Rattle.port_core.specs.Known.{known, known_view, is_known}
 use Rattle.port_core.specs.Local.{is_at, owes_nothing}
 use Rattle.port_core.specs.Actor.{actor_count}
 use Rattle.port_core.specs.Step.{word_of}
-use Rattle.floor_histories.specs.Histories.{is_memory_at, names, takes_commands}
+use Rattle.floor_histories.specs.Histories.{is_memory_at, names, takes_commands, IdealGuest}
 use Rattle.core_proper.specs.Parts.{Act, begins, makes, ends, CoreMoment, own_acts, IsPartedRun}
 use Rattle.core_proper.specs.Progress.{Progress, opening_progress, Debt, paid, after_end, before_next, ended_by, is_end_of, is_paid, progressed}
 use Rattle.core_proper.specs.Scan.{is_idle, scan_allows}
@@ -162,6 +162,6 @@ IsProper shape actor p [] = Unit {0}
 IsProper shape actor p (act ∷ acts) = IsProperAct shape actor p act × IsProper shape actor (progressed shape actor p act) acts
 
 -- a run of a guest from its opening, with its parts, is proper: each actor's own list is
-pub record IsProperRun (guest : GuestSpec) (number : ℕ) (moments : List CoreMoment) : Type 0 where
+pub record IsProperRun (guest : IdealGuest) (number : ℕ) (moments : List CoreMoment) : Type 0 where
   pub parted : IsPartedRun guest number moments
   pub proper : (actor : ℕ) → actor < actor_count guest.shape → IsProper guest.shape actor (opening_progress guest number actor) (own_acts actor moments)

@@ -2,6 +2,7 @@
 use Rattle.std.specs.Prelude.{ℕ, ◌^◌, true, false, List, [], ◌∷◌, Some, None}
 use Rattle.floor_histories.specs.Words.{Iar1, Eoir1, Key, Spi, Message, Icc}
 use Rattle.floor_histories.specs.Calls.{Reach, Leave, Cpu, Moment, Begin, Happens, Operation, Access, Device, Residence, GuestSpec}
+use Rattle.floor_histories.specs.Histories.{IdealGuest, opening_guest}
 use Rattle.floor_histories.specs.GicCall.declared.event.Event.TheVariants.{Raise as RaiseEvent, Read}
 use Rattle.floor_histories.specs.GicCall.declared.event.Found.TheVariants.{Nothing, Answer, Lpis as FoundLpis}
 use Rattle.floor_histories.specs.GicCall.declared.event.Moment.TheVariants.{End}
@@ -12,13 +13,17 @@ use Rattle.port_core.specs.declared.word_id.WordId.TheVariants.{Irq, Vcpu}
 use Rattle.core_proper.specs.Parts.{Act, begins, makes, ends, CoreMoment}
 
 -- a vCPU and a device, and SPI 40, which is enabled, of group 1 and of priority 0xa0
-abbrev pub worked_guest : GuestSpec
-worked_guest =
+abbrev pub worked_spec : GuestSpec
+worked_spec =
     record {
       shape = record { vcpus = 1; spis = 32; espis = 0; devices = 1; lpis = 0; ram = 0 };
       on = true;
       presets = (record { id = 40; prio = 0xa0; edge = true; group = 1; to = Some 0; vcpu = None }) ∷ [];
     }
+
+-- as it opens
+abbrev pub worked_guest : IdealGuest
+worked_guest = opening_guest worked_spec
 
 abbrev pub spi : Key
 spi = Spi 40

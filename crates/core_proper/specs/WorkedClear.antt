@@ -3,6 +3,7 @@
 use Rattle.std.specs.Prelude.{ℕ, ◌^◌, true, false, List, [], ◌∷◌, Some, None}
 use Rattle.floor_histories.specs.Words.{Iar1, Message, Dist, Mem, ClearPending, G1, Irq as IrqRecord, Affinity}
 use Rattle.floor_histories.specs.Calls.{Reach, Leave, Cpu, Touch as TouchEvent, Record, Moment, Begin, Happens, Operation, Access, Device, Residence, Touching, Register, GuestSpec}
+use Rattle.floor_histories.specs.Histories.{IdealGuest, opening_guest}
 use Rattle.floor_histories.specs.GicCall.declared.event.Event.TheVariants.{Raise as RaiseEvent}
 use Rattle.floor_histories.specs.GicCall.declared.event.Found.TheVariants.{Nothing, Answer}
 use Rattle.floor_histories.specs.GicCall.declared.event.Moment.TheVariants.{End}
@@ -12,13 +13,17 @@ use Rattle.core_proper.specs.Parts.{Act, begins, ends, CoreMoment}
 use Rattle.core_proper.specs.Worked.{spi, opened_word, pending_word, held_word, vcpu_does, made, reads_iar}
 
 -- two vCPUs and a device, and SPI 40, which is enabled, of group 1, of priority 0xa0 and for vCPU 0
-abbrev pub clear_guest : GuestSpec
-clear_guest =
+abbrev pub clear_spec : GuestSpec
+clear_spec =
     record {
       shape = record { vcpus = 2; spis = 32; espis = 0; devices = 1; lpis = 0; ram = 0 };
       on = true;
       presets = (record { id = 40; prio = 0xa0; edge = true; group = 1; to = Some 0; vcpu = None }) ∷ [];
     }
+
+-- as it opens
+abbrev pub clear_guest : IdealGuest
+clear_guest = opening_guest clear_spec
 
 -- the SPI's word while it is held and vCPU 1 waits for it, once it is given back too, and once it is released
 abbrev pub wanted_word : ℕ

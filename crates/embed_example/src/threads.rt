@@ -2,7 +2,6 @@
 ghost use Rattle.std.specs.Prelude.{◌≡◌, IfOk, OnOk, map};
 ghost use Rattle.std.specs.Thread.{IsSync};
 ghost use Rattle.port_table.specs.All.{told_words, told_root};
-ghost use Rattle.port_table.specs.Ports.{seen_of};
 ghost use Rattle.port_table.specs.Told.{AreRoots, AllDone, opening_root};
 ghost use Rattle.embed_example.specs.Alone.{IsAlone};
 ghost use Rattle.embed_example.specs.Rest.{Rests};
@@ -16,7 +15,7 @@ use crate::vcpu::Vcpu;
 use crate::waking::Waking;
 use port_rest::one_guest;
 use port_seq::{Actor, CorePort as Port, EndWords, Mode};
-use port_table::{RootSeat, SharedWords, TablePort, finish, join, split, start};
+use port_table::{RootSeat, SharedWords, finish, join, split, start};
 use std::alloc::Global;
 use std::sync::Wait;
 use std::thread::{Threads, join_mut};
@@ -46,17 +45,17 @@ fn run_one<P: Port, T: TakesTurns, R: Wait>(
 }
 
 /// The thread of a vCPU and that of the device.
-fn run_two<R: Threads + Wait + Sync>(
+fn run_two<P: Port + Send, R: Threads + Wait + Sync>(
     rt: &R,
-    one: &mut Waking<'_, TablePort<'_>>,
-    two: &mut Waking<'_, TablePort<'_>>,
+    one: &mut P,
+    two: &mut P,
     vcpu: &mut Vcpu,
     signals: &Signals,
 ) -> Result<(), Fault>
-    requires one { (seen_of one.old.port).number ≡ 0 }
-    requires two { (seen_of two.old.port).number ≡ 0 }
-    ensures one { OnOk result (Rests (seen_of one.old.port) (seen_of one.new.port)) }
-    ensures two { OnOk result (Rests (seen_of two.old.port) (seen_of two.new.port)) }
+    requires one { (P.seen one.old).number ≡ 0 }
+    requires two { (P.seen two.old).number ≡ 0 }
+    ensures one { OnOk result (Rests (P.seen one.old) (P.seen one.new)) }
+    ensures two { OnOk result (Rests (P.seen two.old) (P.seen two.new)) }
 {
     let mut device = Device::new();
     let (vcpu_went, device_went) = join_mut(
@@ -69,28 +68,28 @@ fn run_two<R: Threads + Wait + Sync>(
 }
 
 /// The threads of both vCPUs and of the device.
-fn run_three<R: Threads + Wait + Sync>(
+fn run_three<P: Port + Send, R: Threads + Wait + Sync>(
     rt: &R,
-    one: &mut Waking<'_, TablePort<'_>>,
-    two: &mut Waking<'_, TablePort<'_>>,
-    three: &mut Waking<'_, TablePort<'_>>,
+    one: &mut P,
+    two: &mut P,
+    three: &mut P,
     first: &mut Vcpu,
     second: &mut Vcpu,
     signals: &Signals,
 ) -> Result<(), Fault>
-    requires one { (seen_of one.old.port).number ≡ 0 }
-    requires two { (seen_of two.old.port).number ≡ 0 }
-    requires three { (seen_of three.old.port).number ≡ 0 }
-    ensures one { OnOk result (Rests (seen_of one.old.port) (seen_of one.new.port)) }
-    ensures two { OnOk result (Rests (seen_of two.old.port) (seen_of two.new.port)) }
-    ensures three { OnOk result (Rests (seen_of three.old.port) (seen_of three.new.port)) }
+    requires one { (P.seen one.old).number ≡ 0 }
+    requires two { (P.seen two.old).number ≡ 0 }
+    requires three { (P.seen three.old).number ≡ 0 }
+    ensures one { OnOk result (Rests (P.seen one.old) (P.seen one.new)) }
+    ensures two { OnOk result (Rests (P.seen two.old) (P.seen two.new)) }
+    ensures three { OnOk result (Rests (P.seen three.old) (P.seen three.new)) }
 {
     let (first_went, others_went) = join_mut(
         rt,
         &mut || run_one(rt, one, first, signals),
         &mut || -> Result<(), Fault>
-            requires { IsSync R.row × ((seen_of two.now.port).number ≡ 0) × ((seen_of three.now.port).number ≡ 0) }
-            ensures { OnOk result (Rests (seen_of two.entry.now.port) (seen_of two.exit.now.port) × Rests (seen_of three.entry.now.port) (seen_of three.exit.now.port)) }
+            requires { IsSync R.row × ((P.seen two.now).number ≡ 0) × ((P.seen three.now).number ≡ 0) }
+            ensures { OnOk result (Rests (P.seen two.entry.now) (P.seen two.exit.now) × Rests (P.seen three.entry.now) (P.seen three.exit.now)) }
         { run_two(rt, two, three, second, signals) },
     );
     first_went?;

@@ -1,6 +1,8 @@
 -- Histories: the ideal controller's guest, and what may happen in it, by one name each.
 pub use Rattle.gic_history.specs.IdealGuests.Call.{after_device, after_op, op_answer}
+pub use Rattle.gic_history.specs.IdealGuests.CanOpen.{AreForNone, CanOpen, OpeningsCanOpen, copy_in}
 pub use Rattle.gic_history.specs.IdealGuests.Ideal.{access_answer, after_acknowledge, after_command, after_commands, after_deactivation, after_event, after_events, after_queue, after_queued, candidate_at, candidates, changed_at, changed_irq, cpu_at, irq_at, is_named, view_of, with_cpu, with_queue, with_word, word_at}
+pub use Rattle.gic_history.specs.IdealGuests.Opening.{opening as opening_guest}
 pub use Rattle.gic_history.specs.IdealGuests.Queue.{BadCommandsStall, IsQueueInOrder, QueuesRunDry, is_of_event}
 pub use Rattle.gic_history.specs.IdealGuests.Sound.{IsIdealCpu, IsIdealRecord, IsSound}
 pub use Rattle.gic_history.specs.IdealGuests.declared.guest.IdealGuest.{IdealGuest}
@@ -10,4 +12,4 @@ pub use Rattle.gic_history.specs.Laws.{CommandsExcuseOnceRead, EachClauseRefuses
 pub use Rattle.gic_history.specs.Moves.{after_leave, after_reach, after_take, all_left, emptied, handed_out, happened, home, is_allowed, standing_of, with_entry, without}
 pub use Rattle.gic_history.specs.Named.{before_enabling, key_in, named_by, named_by_access, names}
 pub use Rattle.gic_history.specs.State.{Ideal, Standing, interface_at, is_home, is_of, moved_at, shown_at, standing_at, view_at, with_irq, with_standing}
-pub use Rattle.gic_history.specs.Worked.{awaited, begins_clear, begins_message, begins_write, calls, clears, clears_lpi, ends, ends_and_leaves, ends_message, fetched, fetches, gets_its, in_flight, kept, leave, leaves_and_ends, lpi_guest, mapped_lpi, message, migrated, outdated, overlooked, passed_by, pending_irq, pends_lpi, preempted, queue_guest, reach, reads, refilled, repeated, returned, served, stores_clear, take, takes_over, told_lpi, unbegun, unended, unread, waiting_lpi, wire_up, withdrawn, worked_guest, writes}
+pub use Rattle.gic_history.specs.Worked.{awaited, begins_clear, begins_message, begins_write, calls, clears, clears_lpi, ends, ends_and_leaves, ends_message, fetched, fetches, gets_its, in_flight, kept, leave, leaves_and_ends, lpi_guest, lpi_spec, mapped_lpi, message, migrated, outdated, overlooked, passed_by, pending_irq, pends_lpi, preempted, queue_guest, queue_spec, reach, reads, refilled, repeated, returned, served, stores_clear, take, takes_over, told_lpi, unbegun, unended, unread, waiting_lpi, wire_up, withdrawn, worked_guest, worked_spec, writes}

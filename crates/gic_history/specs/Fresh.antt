@@ -4,7 +4,8 @@ use Rattle.std.specs.List.{list_all, list_any, range_with_len}
 use Rattle.std.specs.Option.{option_map_or, option_and_then}
 use Rattle.ideal_guest.specs.Words.{IccReg, Iar0, Iar1, Hppir0, Hppir1, Eoir0, Eoir1, Dir, Key, Its, Mem, GuestShape, interrupt_count, is_same_key, key_at, key_of, place_of, intid_of, is_number, is_pending}
 use Rattle.ideal_guest.specs.Registers.{Cwriter, has_lpis, deactivated_by, is_deliverable, is_before, first_of, candidates_at, intid_written}
-use Rattle.ideal_guest.specs.Calls.{Ram, Event, Cpu, Reach, Leave, Place, Moment, Begin, Happens, Operation, Access, command_places, GuestSpec}
+use Rattle.ideal_guest.specs.Calls.{Ram, Event, Cpu, Reach, Leave, Place, Moment, Begin, Happens, Operation, Access, command_places}
+use Rattle.ideal_guest.specs.declared.guest.IdealGuest.{IdealGuest}
 use Rattle.ideal_guest.specs.GicCall.declared.event.Event.TheVariants.{Read, Queue}
 use Rattle.ideal_guest.specs.GicCall.declared.event.Moment.TheVariants.{End}
 use Rattle.ideal_guest.specs.GicCall.declared.event.Place.TheVariants.{Word}
@@ -241,7 +242,7 @@ is_kept_from clause state track [] = true
 is_kept_from clause state track (moment ∷ moments) =
     clause state track moment && is_kept_from clause (after_moment state moment) (tracked state moment track) moments
 
-abbrev pub is_kept : (Ideal → Track → Moment → Bool) → GuestSpec → List Moment → Bool
+abbrev pub is_kept : (Ideal → Track → Moment → Bool) → IdealGuest → List Moment → Bool
 is_kept clause guest moments = is_kept_from clause (opening guest) (opening_track guest.shape) moments
 
 -- the first clause goes by what is still to come, so it is asked of each event with the rest of the history
@@ -250,11 +251,11 @@ is_acknowledged_from state track [] = true
 is_acknowledged_from state track (moment ∷ moments) =
     of_event (is_fresh_at_acknowledge moments) state track moment && is_acknowledged_from (after_moment state moment) (tracked state moment track) moments
 
-abbrev pub is_acknowledged : GuestSpec → List Moment → Bool
+abbrev pub is_acknowledged : IdealGuest → List Moment → Bool
 is_acknowledged guest moments = is_acknowledged_from (opening guest) (opening_track guest.shape) moments
 
 -- a history of a guest is fresh: how far its calls got is told by the history itself, so it is asked of one in which all calls ended
-pub record IsFresh (guest : GuestSpec) (moments : List Moment) : Type 0 where
+pub record IsFresh (guest : IdealGuest) (moments : List Moment) : Type 0 where
   pub acknowledge : IsTrue (is_acknowledged guest moments)
   pub interface : IsTrue (is_kept (of_event is_fresh_at_interface) guest moments)
   pub end : IsTrue (is_kept (of_event is_fresh_at_end) guest moments)

@@ -2,7 +2,8 @@
 use Rattle.std.specs.Prelude.{◌≡◌, ℕ, ◌+◌, ◌<◌, ◌&&◌, nat_lt, Bool, false, IsTrue, List, [], ◌∷◌, ◌++◌, map, replicate, fold, All, Contains, Option, option_map, Some, None, is_none, is_some, unwrap_or, slice_index_or, slice_set, if◌then◌else◌}
 use Rattle.std.specs.Option.{option_map_or}
 use Rattle.ideal_guest.specs.Words.{Key, Lpi, GuestShape}
-use Rattle.ideal_guest.specs.Calls.{Event, Enable, Touch, ItsBegin, Runs, Found, Moment, Begin, Happens, Operation, Happened, Beside, IsCall, CanHappen, GuestSpec}
+use Rattle.ideal_guest.specs.Calls.{Event, Enable, Touch, ItsBegin, Runs, Found, Moment, Begin, Happens, Operation, Happened, Beside, IsCall, CanHappen}
+use Rattle.ideal_guest.specs.declared.guest.IdealGuest.{IdealGuest}
 use Rattle.ideal_guest.specs.GicCall.declared.event.Event.TheVariants.{Queue}
 use Rattle.ideal_guest.specs.GicCall.declared.event.Moment.TheVariants.{End}
 use Rattle.ideal_guest.specs.Registers.{Maps}
@@ -33,7 +34,7 @@ actor_count shape = shape.vcpus + shape.devices
 abbrev pub vcpu_of : GuestShape → ℕ → Option ℕ
 vcpu_of shape actor = if nat_lt actor shape.vcpus then Some actor else None
 
-abbrev pub opening_course : GuestSpec → Course
+abbrev pub opening_course : IdealGuest → Course
 opening_course guest = record { ideal = opening guest; calls = replicate (actor_count guest.shape) None }
 
 abbrev pub call_of : Course → ℕ → Option Call
@@ -131,13 +132,13 @@ GoesOn course [] = Unit {0}
 GoesOn course (moment ∷ moments) = IsNext course moment × GoesOn (gone_on course moment) moments
 
 -- a history of a guest from its opening
-abbrev pub IsHistory : GuestSpec → List Moment → Type 0
+abbrev pub IsHistory : IdealGuest → List Moment → Type 0
 IsHistory guest moments = GoesOn (opening_course guest) moments
 
 -- its last state
-abbrev pub last_of : GuestSpec → List Moment → Ideal
+abbrev pub last_of : IdealGuest → List Moment → Ideal
 last_of guest moments = (course_of (opening_course guest) moments).ideal
 
 -- all calls ended
-abbrev pub IsWhole : GuestSpec → List Moment → Type 0
+abbrev pub IsWhole : IdealGuest → List Moment → Type 0
 IsWhole guest moments = All (λ call. IsTrue (is_none call)) (course_of (opening_course guest) moments).calls

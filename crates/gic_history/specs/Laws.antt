@@ -1,6 +1,7 @@
 -- Laws of worked histories: the definitions say of them what a reader expects.
 use Rattle.std.specs.Prelude.{◌≡◌, ◌++◌, Bool, true, false, List, [], ◌∷◌, Some, None, option_map}
-use Rattle.ideal_guest.specs.Calls.{GuestSpec, Moment, Touch, Reach, Take, Leave, ItsBegin, CtlrEnd, Runs, Register}
+use Rattle.ideal_guest.specs.Calls.{Moment, Touch, Reach, Take, Leave, ItsBegin, CtlrEnd, Runs, Register}
+use Rattle.ideal_guest.specs.declared.guest.IdealGuest.{IdealGuest}
 use Rattle.gic_history.specs.Fresh.{IsFresh, is_acknowledged, is_kept, of_event, of_end, is_fresh_at_interface, is_fresh_at_end}
 use Rattle.ideal_guest.specs.Words.{Spi, ClearPending}
 use Rattle.ideal_guest.specs.GicCall.declared.event.Event.TheVariants.{Queue, ItsEnd}
@@ -29,7 +30,7 @@ pub record WorkedHistoriesAreFresh : Type 0 where
   pub awaited : IsFreshHistory awaited
 
 -- which of the four clauses of fresh moments of a guest keep
-abbrev pub kept_clauses : GuestSpec → List Moment → List Bool
+abbrev pub kept_clauses : IdealGuest → List Moment → List Bool
 kept_clauses guest moments =
     is_acknowledged guest moments
     ∷ is_kept (of_event is_fresh_at_interface) guest moments
@@ -38,7 +39,7 @@ kept_clauses guest moments =
     ∷ []
 
 -- moments are a history of a guest that keeps just these clauses
-pub record IsHistoryThatKeeps (guest : GuestSpec) (moments : List Moment) (clauses : List Bool) : Type 0 where
+pub record IsHistoryThatKeeps (guest : IdealGuest) (moments : List Moment) (clauses : List Bool) : Type 0 where
   pub history : IsHistory guest moments
   pub keeps : kept_clauses guest moments ≡ clauses
 

@@ -3,10 +3,9 @@ use Rattle.std.specs.Prelude.{ℕ, Bool, not, List, [], map, find, replicate, Op
 use Rattle.std.specs.List.{list_any}
 use Rattle.ideal_guest.specs.Words.{Key, is_same_key, Irq}
 use Rattle.ideal_guest.specs.Registers.{AtInterface, InterfaceState}
-use Rattle.ideal_guest.specs.Calls.{Entry, Moved, at_interface, View, GuestSpec}
+use Rattle.ideal_guest.specs.Calls.{Entry, Moved, at_interface, View}
 use Rattle.ideal_guest.specs.declared.guest.IdealGuest.{IdealGuest}
 use Rattle.ideal_guest.specs.Ideal.{irq_at, changed_irq, cpu_at, view_of}
-use Rattle.ideal_guest.specs.Opening.{opening as opening_guest}
 
 -- an interrupt at an interface, with what the interface has of it
 pub record Standing : Type 0 where
@@ -20,9 +19,9 @@ pub record Ideal : Type 0 where
   pub spreads : Option ℕ
   pub has_its : Option ℕ
 
--- as a guest opens: nothing is at an interface
-abbrev pub opening : GuestSpec → Ideal
-opening guest = record { guest = opening_guest guest; at = replicate guest.shape.vcpus []; spreads = None; has_its = None }
+-- as a guest opens: nothing is at an interface, and nobody has the ITS
+abbrev pub opening : IdealGuest → Ideal
+opening guest = record { guest = guest; at = replicate guest.shape.vcpus []; spreads = None; has_its = None }
 
 -- what stands at a vCPU's interface
 abbrev pub standing_at : Ideal → ℕ → List Standing

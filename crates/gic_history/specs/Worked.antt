@@ -1,8 +1,10 @@
 -- Worked histories of a guest with two vCPUs and a device: fresh ones, and for each clause of fresh one that this clause alone refuses.
 use Rattle.std.specs.Prelude.{ℕ, Bool, true, false, List, [], ◌∷◌, ◌++◌, Option, Some, None}
+use Rattle.ideal_guest.specs.Opening.{opening as opening_guest}
 use Rattle.ideal_guest.specs.Words.{IccReg, Iar1, Eoir1, Rpr, Spi, Lpi, Message, Wire, Dist, Redist, Its, Ram as Memory, Icc, Mem, SetPending, ClearPending, Routing, G1, Irq, Affinity, Target}
 use Rattle.ideal_guest.specs.Registers.{Mapti, Int, Clear, encoded}
-use Rattle.ideal_guest.specs.Calls.{Ram, Event, Up, Touch, Reach, Take, Leave, Cpu, Enable, Put, ItsBegin, Done, Found, Record, Moment, Begin, Happens, Operation, Access, Device, Residence, Touching, Register, MapLpi, opening_irq, GuestSpec, Preset}
+use Rattle.ideal_guest.specs.Calls.{Ram, Event, Up, Touch, Reach, Take, Leave, Cpu, Enable, Put, ItsBegin, Done, Found, Record, Moment, Begin, Happens, Operation, Access, Device, Residence, Touching, Register, MapLpi, opening_irq, Preset, GuestSpec}
+use Rattle.ideal_guest.specs.declared.guest.IdealGuest.{IdealGuest}
 use Rattle.ideal_guest.specs.GicCall.declared.event.Event.TheVariants.{Raise, Read, ItsEnd, Queue}
 use Rattle.ideal_guest.specs.GicCall.declared.event.Found.TheVariants.{Nothing, Answer, Word as FoundWord, Lpis as FoundLpis}
 use Rattle.ideal_guest.specs.GicCall.declared.event.Moment.TheVariants.{End}
@@ -13,13 +15,17 @@ use Rattle.ideal_guest.specs.GicCall.declared.touch.Touching.TheVariants.{Retarg
 abbrev preset : ℕ → ℕ → Bool → Preset
 preset id prio edge = record { id = id; prio = prio; edge = edge; group = 1; to = Some 0; vcpu = None }
 
-abbrev pub worked_guest : GuestSpec
-worked_guest =
+abbrev pub worked_spec : GuestSpec
+worked_spec =
     record {
       shape = record { vcpus = 2; spis = 32; espis = 0; devices = 1; lpis = 0; ram = 0 };
       on = true;
       presets = preset 40 0xa0 true ∷ preset 41 0xa0 false ∷ preset 42 0x20 true ∷ [];
     }
+
+-- as it opens
+abbrev pub worked_guest : IdealGuest
+worked_guest = opening_guest worked_spec
 
 -- Calls with one event.
 
@@ -174,8 +180,12 @@ kept = wire_up 41 ++ reach 0 41 ++ reads 0 Iar1 41 ++ ends 0 41
 -- Windows of a write of EnableLPIs.
 
 -- two vCPUs and three LPIs
-abbrev pub lpi_guest : GuestSpec
-lpi_guest = record { shape = record { vcpus = 2; spis = 0; espis = 0; devices = 0; lpis = 3; ram = 0 }; on = true; presets = [] }
+abbrev pub lpi_spec : GuestSpec
+lpi_spec = record { shape = record { vcpus = 2; spis = 0; espis = 0; devices = 0; lpis = 3; ram = 0 }; on = true; presets = [] }
+
+-- as it opens
+abbrev pub lpi_guest : IdealGuest
+lpi_guest = opening_guest lpi_spec
 
 -- an LPI that a command has mapped to vCPU 0
 abbrev pub mapped_lpi : Irq
@@ -196,8 +206,12 @@ passed_by =
 -- From when on a command of the ITS excuses.
 
 -- four vCPUs, an LPI, and memory for three commands
-abbrev pub queue_guest : GuestSpec
-queue_guest = record { shape = record { vcpus = 4; spis = 0; espis = 0; devices = 0; lpis = 1; ram = 96 }; on = true; presets = [] }
+abbrev pub queue_spec : GuestSpec
+queue_spec = record { shape = record { vcpus = 4; spis = 0; espis = 0; devices = 0; lpis = 1; ram = 96 }; on = true; presets = [] }
+
+-- as it opens
+abbrev pub queue_guest : IdealGuest
+queue_guest = opening_guest queue_spec
 
 -- an LPI that is for vCPU 0, and then pending
 abbrev pub told_lpi : Irq

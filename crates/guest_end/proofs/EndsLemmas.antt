@@ -75,14 +75,14 @@ module _ (guests : List GuestSpec) (words : List GuestWords) (cpus rest : List C
   -- what the end of that guest asks for
   pub record EndsNext (one : GuestWords) : Type 0 where
     pub good : IsGoodGuest guest
-    pub ended : IsAtEnd guest one (take guest.shape.vcpus rest)
+    pub ended : IsAtEnd guest.shape one (take guest.shape.vcpus rest)
 
   pub next_ends : (one : GuestWords) → get_or words count one ≡ one → HaveEnded guests words cpus → EndsNext one
   next_ends one one_is have =
       let first = next_end have.ideals have.all in
       let there = (drop_later words count first.one first.later first.words_are).0 in
       let same : first.one ≡ one = sym (get_or_from_slice_get words count first.one one there) ∙ one_is in
-      record { good = first.at.good; ended = subst (λ (w : GuestWords). IsAtEnd guest w (take guest.shape.vcpus rest)) same first.at.ended }
+      record { good = first.at.good; ended = subst (λ (w : GuestWords). IsAtEnd guest.shape w (take guest.shape.vcpus rest)) same first.at.ended }
 
   -- the CPU records last
   pub next_cpus : HaveEnded guests words cpus → guest.shape.vcpus ≤ length rest
@@ -97,7 +97,7 @@ module _ (guests : List GuestSpec) (words : List GuestWords) (cpus rest : List C
       taken_within (x ∷ xs) zero e = omega arith
       taken_within (x ∷ xs) (suc n) e = let rest = taken_within xs n (omega (arith, e)) in omega (arith, rest)
 
-  pub ends_more : (one : GuestWords) (end : End) (next : List End) → get_or words count one ≡ one → next ≡ ends ++ end ∷ [] → end ≡ end_of (opening guest) (guest_of guest one (take guest.shape.vcpus rest)) → EndsSoFar guests words cpus (drop guest.shape.vcpus rest) next (suc count)
+  pub ends_more : (one : GuestWords) (end : End) (next : List End) → get_or words count one ≡ one → next ≡ ends ++ end ∷ [] → end ≡ end_of (opening guest) (guest_of guest.shape one (take guest.shape.vcpus rest)) → EndsSoFar guests words cpus (drop guest.shape.vcpus rest) next (suc count)
   ends_more one end next one_is pushed end_is = record {
     going = λ ideals all.
         let still = so.going ideals all in
@@ -106,7 +106,7 @@ module _ (guests : List GuestSpec) (words : List GuestWords) (cpus rest : List C
         let ideals_there = drop_later ideals count first.ideal first.others first.ideals_are in
         let same : first.one ≡ one = sym (get_or_from_slice_get words count first.one one words_there.0) ∙ one_is in
         let line : end ≡ end_of (opening guest) first.ideal
-        = end_is ∙ ap (λ (w : GuestWords). end_of (opening guest) (guest_of guest w (take guest.shape.vcpus rest))) (sym same) ∙ first.at.lines in
+        = end_is ∙ ap (λ (w : GuestWords). end_of (opening guest) (guest_of guest.shape w (take guest.shape.vcpus rest))) (sym same) ∙ first.at.lines in
         record {
           at =
               subst (λ (ws : List GuestWords). AllEndAt (drop (suc count) guests) ws (drop guest.shape.vcpus rest) (drop (suc count) ideals)) words_there.1

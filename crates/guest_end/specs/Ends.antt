@@ -11,9 +11,9 @@ use Rattle.guest_end.specs.Home.{IsAtEnd, guest_of}
 -- a guest ended with these words and CPU records, and its end lines are those of this guest of the ideal controller
 pub record EndsAt (guest : GuestSpec) (words : GuestWords) (cpus : List CpuRec) (ideal : IdealGuest) : Type 0 where
   pub good : IsGoodGuest guest
-  pub ended : IsAtEnd guest words cpus
+  pub ended : IsAtEnd guest.shape words cpus
   pub vcpus : length words.vcpus ≡ guest.shape.vcpus
-  pub lines : end_of (opening_guest guest) (guest_of guest words cpus) ≡ end_of (opening_guest guest) ideal
+  pub lines : end_of (opening_guest guest) (guest_of guest.shape words cpus) ≡ end_of (opening_guest guest) ideal
 
 -- so did each of some guests, the CPU records of which stand one guest's after the other's
 abbrev pub AllEndAt : List GuestSpec → List GuestWords → List CpuRec → List IdealGuest → Type 0

@@ -2,7 +2,7 @@
 use Rattle.std.specs.Prelude.{◌≡◌, ℕ, Bool, false, IsTrue, List, length, map, All, None, slice_index_or, slice_set, if◌then◌else◌}
 use Rattle.std.specs.List.{range_with_len}
 use Rattle.port_core.specs.Words.{GuestShape, Irq, IsWord, irq_of}
-use Rattle.port_core.specs.Calls.{Fault, opening_cpu, place_of_plain, GuestSpec}
+use Rattle.port_core.specs.Calls.{Fault, opening_cpu, place_of_plain}
 use Rattle.port_core.specs.Registers.{CpuRec, is_queue_word, queue_of}
 use Rattle.gic_ideal.specs.IdealGuests.declared.guest.IdealGuest.{IdealGuest}
 use Rattle.gic_ideal.specs.IdealGuests.Sound.{IsSound}
@@ -25,23 +25,23 @@ abbrev pub plain_at_home : GuestShape → Bool → List ℕ → List ℕ
 plain_at_home shape is_stalled words = if is_stalled then words else slice_set words (place_of_plain shape Fault) 0
 
 -- the guest
-abbrev pub guest_of : GuestSpec → GuestWords → List CpuRec → IdealGuest
-guest_of spec words cpus =
+abbrev pub guest_of : GuestShape → GuestWords → List CpuRec → IdealGuest
+guest_of shape words cpus =
     let queue = queue_of words.queue in
     record {
-      shape = spec.shape;
+      shape = shape;
       irqs = map home_irq words.irqs;
       cpus = cpus_at_home words.vcpus cpus;
       enables = (ctlr_of words.ctlr).enables;
-      words = plain_at_home spec.shape queue.stalled words.plain;
+      words = plain_at_home shape queue.stalled words.plain;
       offset = queue.offset;
       is_stalled = queue.stalled;
       tables = words.tables;
     }
 
--- the words are those of a guest of this spec, with one CPU record for each vCPU
-pub record IsAtEnd (spec : GuestSpec) (words : GuestWords) (cpus : List CpuRec) : Type 0 where
+-- the words are those of a guest of this shape, with one CPU record for each vCPU
+pub record IsAtEnd (shape : GuestShape) (words : GuestWords) (cpus : List CpuRec) : Type 0 where
   pub well_formed : All IsWord words.irqs
   pub queue : IsTrue (is_queue_word words.queue)
   pub each : length cpus ≡ length words.vcpus
-  pub sound : IsSound (guest_of spec words cpus)
+  pub sound : IsSound (guest_of shape words cpus)

@@ -77,8 +77,8 @@ fn without_tables(
     words: &GuestWords,
     cpus: &[CpuRec],
 ) -> Result<IdealGuest, AllocError>
-    requires { IsAtEnd spec.now words.now cpus.now }
-    ensures value { IfOk result (λ guest. record guest { tables = words.now.tables } ≡ guest_of spec.now words.now cpus.now) }
+    requires { IsAtEnd spec.now.shape words.now cpus.now }
+    ensures value { IfOk result (λ guest. record guest { tables = words.now.tables } ≡ guest_of spec.now.shape words.now cpus.now) }
     ensures unmapped { IfOk result (λ guest. guest.tables ≡ record { devices = []; events = []; collections = [] }) }
 {
     let queue = port_core::queue_unpack(words.queue).unwrap();
@@ -107,8 +107,8 @@ pub fn end_of(
     cpus: &[CpuRec],
 ) -> Result<End, NoMemory>
     requires good { IsGoodGuest spec.now }
-    requires ended { IsAtEnd spec.now words.now cpus.now }
-    ensures { IfOk result (λ end. end ≡ end_between (opening spec.now) (guest_of spec.now words.now cpus.now)) }
+    requires ended { IsAtEnd spec.now.shape words.now cpus.now }
+    ensures { IfOk result (λ end. end ≡ end_between (opening spec.now) (guest_of spec.now.shape words.now cpus.now)) }
 {
     let opened = IdealGuest::open(alloc, spec)?;
     let closed = without_tables(alloc, spec, words, cpus)?;

@@ -6,13 +6,12 @@ use Rattle.std.proofs.lemmas.Option.{same_Some}
 use Rattle.std.proofs.lemmas.List.{length-set, length-replicate}
 use Rattle.std.proofs.lemmas.List.Elements.{All-set, All-head, All-tail}
 use Rattle.floor_histories.specs.Registers.{Candidate, AtInterface, candidates_at, acknowledged_at, deactivated_at, acknowledged_entry, deactivated_entry, Enables, taken_by, deactivated_by, cpu_after, CpuRec, HasBinaryPoints, Maps}
-use Rattle.floor_histories.specs.Calls.{opening_cpu, has_plain, place_of_plain, PlainWord, Entry, Moved, IsEntryOf, IsMovedOf, GuestSpec}
+use Rattle.floor_histories.specs.Calls.{opening_cpu, has_plain, place_of_plain, PlainWord, Entry, Moved, IsEntryOf, IsMovedOf}
 use Rattle.floor_histories.specs.Words.{IccReg, Key, GuestShape, has_interrupt, is_same_key, intid_of, Irq, has_active_state, IsRecordOf}
 use Rattle.history_check.specs.Access.{taken_one, ended_one, accessed_one}
 use Rattle.floor_histories.proofs.GicBase.KeyLemmas.{same_key, same_itself}
 use Rattle.floor_histories.proofs.GicOpen.KeyLemmas.{irq_same, irq_other, length-with_irq_in}
-use Rattle.floor_histories.specs.Histories.{irq_at, cpu_at, with_cpu, with_word, with_queue, IsIdealCpu, IsSound, Ideal, Standing, shown_at, standing_at, is_of, moved_at, interface_at, with_irq, with_standing, with_entry, without, standing_of}
-use Rattle.floor_histories.specs.IdealGuests.Opening.{opening as opening_guest}
+use Rattle.floor_histories.specs.Histories.{IdealGuest, irq_at, cpu_at, with_cpu, with_word, with_queue, IsIdealCpu, IsSound, Ideal, Standing, shown_at, standing_at, is_of, moved_at, interface_at, with_irq, with_standing, with_entry, without, standing_of}
 use Rattle.floor_histories.specs.GicHistory.State.{opening}
 use Rattle.floor_histories.specs.GicHistory.Moves.{after_access}
 use Rattle.history_check.specs.Ready.{fits, IsReady}
@@ -24,15 +23,15 @@ none_fit shape (suc n) = none_fit shape n
 points_of : (cpus : List CpuRec) → All IsIdealCpu cpus → All HasBinaryPoints cpus
 points_of cpus all = λ k d h. (all k d h).points
 
--- a guest opens ready
-pub ready_opening : (guest : GuestSpec) → IsSound (opening_guest guest) → IsReady (opening guest)
+-- a sound guest opens ready
+pub ready_opening : (guest : IdealGuest) → IsSound guest → IsReady (opening guest)
 ready_opening guest sound =
     record {
       shape = sound.shape;
       irqs = sound.irqs;
       cpus = sound.cpus;
       words = sound.words;
-      points = points_of (opening_guest guest).cpus sound.interfaces;
+      points = points_of guest.cpus sound.interfaces;
       records = λ key there. (sound.records key there).valid;
       at = length-replicate guest.shape.vcpus [];
       standing = none_fit guest.shape guest.shape.vcpus;

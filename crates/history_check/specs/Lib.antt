@@ -4,6 +4,7 @@ pub use Rattle.floor_histories.specs.Registers
 pub use Rattle.floor_histories.specs.Words
 pub use Rattle.floor_histories.specs.GicCall
 pub use Rattle.floor_histories.specs.GicHistory
+pub use Rattle.floor_histories.specs.IdealGuests
 pub use Rattle.floor_histories.specs.ItsCmd
 pub mod Ready
 pub mod Access

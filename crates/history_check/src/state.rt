@@ -4,6 +4,7 @@ ghost use Rattle.floor_histories.specs.Words.{has_interrupt};
 ghost use Rattle.floor_histories.specs.Calls.{IsGoodGuest};
 ghost use Rattle.floor_histories.specs.Histories.{irq_at, cpu_at, is_home, standing_at, moved_at};
 ghost use Rattle.floor_histories.specs.GicHistory.State.{opening};
+ghost use Rattle.floor_histories.specs.IdealGuests.Opening.{opening as opening_guest};
 ghost use Rattle.history_check.specs.Ready.{IsReady};
 
 use crate::standing::{Standing, entry_of, is_somewhere};
@@ -49,7 +50,7 @@ impl State {
     #[tactic(auto, using(crate::proofs::ReadyLemmas::ready_opening))]
     pub fn open(alloc: Global, guest: &GuestSpec) -> Result<Self, AllocError>
         requires { IsGoodGuest guest.now }
-        ensures value { IfOk result (λ state. state ≡ opening guest.now) }
+        ensures value { IfOk result (λ state. state ≡ opening (opening_guest guest.now)) }
         ensures ready { IfOk result IsReady }
     {
         let at = none_standing(alloc, guest.shape.vcpus)?;

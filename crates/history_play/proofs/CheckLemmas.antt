@@ -4,9 +4,9 @@ use Rattle.std.specs.List.{list_all}
 use Rattle.std.proofs.lemmas.Bool.{and_from}
 use Rattle.std.proofs.lemmas.List.{length-replicate, take_more, take_all, drop_more}
 use Rattle.history_check.specs.Words.{interrupt_count, GuestShape}
-use Rattle.history_check.specs.Calls.{Moment, Begin, Happens, GuestSpec}
+use Rattle.history_check.specs.Calls.{Moment, Begin, Happens}
 use Rattle.history_check.specs.GicCall.declared.event.Moment.TheVariants.{End}
-use Rattle.history_check.specs.Histories.{Ideal, Call, Course, actor_count, opening_course, gone_on, Doing, Track, opening_track, tracked, after_moment, IsFresh}
+use Rattle.history_check.specs.Histories.{IdealGuest, Ideal, Call, Course, actor_count, opening_course, gone_on, Doing, Track, opening_track, tracked, after_moment, IsFresh}
 use Rattle.history_check.specs.GicHistory.State.{opening}
 use Rattle.history_check.specs.Ready.{IsReady}
 use Rattle.history_play.specs.Coming.{AreOne, IsFine, IsCause}
@@ -17,7 +17,7 @@ use Rattle.history_play.proofs.CourseLemmas.{goes_on, shape_kept, kept_more}
 use Rattle.history_play.proofs.PlayedLemmas.{course_more, track_more, allowed_more, fresh_more, all_fresh}
 
 -- so many moments were played, to this state and this track, and others come after them
-pub record IsPlayed (guest : GuestSpec) (moments later : List Moment) (number : ℕ) (state : Ideal) (track : Track) : Type 0 where
+pub record IsPlayed (guest : IdealGuest) (moments later : List Moment) (number : ℕ) (state : Ideal) (track : Track) : Type 0 where
   pub ready : IsReady state
   pub kept : IsKept state.guest.shape number track
   pub state_is : (course_at guest moments).ideal ≡ state
@@ -47,14 +47,14 @@ opening_kept shape =
       numbers = all_replicate (λ doing. nat_le doing.number 0) (actor_count shape) (record { operation = None; number = 0; done = []; fetched = false }) refl;
     }
 
-opening_one : (guest : GuestSpec) → AreOne (opening_course guest) (opening_track guest.shape)
+opening_one : (guest : IdealGuest) → AreOne (opening_course guest) (opening_track guest.shape)
 opening_one guest =
     record {
       actors = length-replicate (actor_count guest.shape) None ∙ sym (length-replicate (actor_count guest.shape) (record { operation = None; number = 0; done = []; fetched = false }));
       calls = λ j. none_called (actor_count guest.shape) j;
     }
 
-pub opened : (guest : GuestSpec) (later : List Moment) (state : Ideal) (track : Track) → IsReady state → state ≡ opening guest → track ≡ opening_track guest.shape → IsPlayed guest [] later 0 state track
+pub opened : (guest : IdealGuest) (later : List Moment) (state : Ideal) (track : Track) → IsReady state → state ≡ opening guest → track ≡ opening_track guest.shape → IsPlayed guest [] later 0 state track
 opened guest later state track ready is tracks =
     subst (λ t. IsPlayed guest [] later 0 state t) (sym tracks)
     (subst (λ s. IsPlayed guest [] later 0 s (opening_track guest.shape)) (sym is)
@@ -76,7 +76,7 @@ gone_ideal course (Happens actor event found) = refl
 gone_ideal course (End actor answer) = refl
 
 -- from the course and the track themselves
-more : (guest : GuestSpec) (moments later : List Moment) (number : ℕ) (moment : Moment) → IsPlayed guest moments (moment ∷ later) number (course_at guest moments).ideal (track_at guest moments) → IsFine (course_at guest moments) (track_at guest moments) moment later
+more : (guest : IdealGuest) (moments later : List Moment) (number : ℕ) (moment : Moment) → IsPlayed guest moments (moment ∷ later) number (course_at guest moments).ideal (track_at guest moments) → IsFine (course_at guest moments) (track_at guest moments) moment later
     → IsReady (after_moment (course_at guest moments).ideal moment)
     → IsPlayed guest (moments ++ moment ∷ []) later (number + 1) (after_moment (course_at guest moments).ideal moment) (tracked (course_at guest moments).ideal moment (track_at guest moments))
 more guest moments later number moment so fine ready =
@@ -93,7 +93,7 @@ more guest moments later number moment so fine ready =
     }
 
 -- the same where only the state and the track are known to be theirs
-pub goes : (guest : GuestSpec) (moments later : List Moment) (number : ℕ) (moment : Moment) (state state' : Ideal) (track track' : Track) → IsPlayed guest moments (moment ∷ later) number state track
+pub goes : (guest : IdealGuest) (moments later : List Moment) (number : ℕ) (moment : Moment) (state state' : Ideal) (track track' : Track) → IsPlayed guest moments (moment ∷ later) number state track
     → ((course : Course) → course.ideal ≡ state → AreOne course track → IsFine course track moment later)
     → IsReady state' → state' ≡ after_moment state moment → track' ≡ tracked state moment track → IsPlayed guest (moments ++ moment ∷ []) later (number + 1) state' track'
 goes guest moments later number moment state state' track track' so fine ready is tracks =
@@ -108,7 +108,7 @@ goes guest moments later number moment state state' track track' so fine ready i
     (subst (λ t. IsPlayed guest (moments ++ moment ∷ []) later (number + 1) (after_moment course.ideal moment) t) (ap (λ s. tracked s moment own) so.state_is ∙ ap (λ t. tracked state moment t) so.track_is ∙ sym tracks) next)
 
 -- the same of a list, by an index
-pub goes_in : (guest : GuestSpec) (moments later : List Moment) (number : ℕ) (moment : Moment) (state state' : Ideal) (track track' : Track) → number < length moments → later ≡ drop (number + 1) moments
+pub goes_in : (guest : IdealGuest) (moments later : List Moment) (number : ℕ) (moment : Moment) (state state' : Ideal) (track track' : Track) → number < length moments → later ≡ drop (number + 1) moments
     → IsPlayed guest (take number moments) (drop number moments) number state track
     → ((course : Course) → course.ideal ≡ state → AreOne course track → IsFine course track (get_or moments number moment) later)
     → IsReady state' → state' ≡ after_moment state (get_or moments number moment) → track' ≡ tracked state (get_or moments number moment) track → IsPlayed guest (take (number + 1) moments) (drop (number + 1) moments) (number + 1) state' track'
@@ -121,7 +121,7 @@ goes_in guest moments later number moment state state' track track' within rest 
     (goes guest (take number moments) later number one state state' track track' first fine ready is tracks))
 
 -- all were played
-pub plays_all : (guest : GuestSpec) (moments : List Moment) (number : ℕ) (state : Ideal) (track : Track) → length moments ≤ number → IsPlayed guest (take number moments) (drop number moments) number state track → IsFresh guest moments
+pub plays_all : (guest : IdealGuest) (moments : List Moment) (number : ℕ) (state : Ideal) (track : Track) → length moments ≤ number → IsPlayed guest (take number moments) (drop number moments) number state track → IsFresh guest moments
 plays_all guest moments number state track all so =
     let whole : IsFreshBefore guest moments (drop number moments) = subst (λ ms. IsFreshBefore guest ms (drop number moments)) (take_all number moments all) so.fresh in
     all_fresh guest moments (subst (λ ms. IsFreshBefore guest moments ms) (drop_of_length-le moments all) whole)
@@ -133,7 +133,7 @@ there_at [] i d h = absurd (omega (arith, h))
 there_at (x ∷ xs) zero d h = refl
 there_at (x ∷ xs) (suc i) d h = there_at xs i d (omega (arith, h))
 
-pub refuses : (guest : GuestSpec) (moments later : List Moment) (number : ℕ) (moment : Moment) (cause : Cause) (state : Ideal) (track : Track) → number < length moments → later ≡ drop (number + 1) moments → slice_get moments number ≡ Some moment → IsPlayed guest (take number moments) (drop number moments) number state track
+pub refuses : (guest : IdealGuest) (moments later : List Moment) (number : ℕ) (moment : Moment) (cause : Cause) (state : Ideal) (track : Track) → number < length moments → later ≡ drop (number + 1) moments → slice_get moments number ≡ Some moment → IsPlayed guest (take number moments) (drop number moments) number state track
     → ((course : Course) → course.ideal ≡ state → AreOne course track → IsCause cause course track moment later) → IsRefused guest moments (record { moment = number; cause = cause })
 refuses guest moments later number moment cause state track within rest there so why =
     record {

@@ -2,9 +2,9 @@
 use Rattle.std.proofs.Common.{◌≡◌, Bool, true, IsTrue, List, [], ◌∷◌, ◌++◌, refl, subst, sym, Option, None, Some, is_some}
 use Rattle.std.proofs.lemmas.Bool.{and_parts, and_from}
 use Rattle.std.proofs.lemmas.List.{append_assoc, append-nil}
-use Rattle.history_check.specs.Calls.{Moment, Begin, Happens, GuestSpec}
+use Rattle.history_check.specs.Calls.{Moment, Begin, Happens}
 use Rattle.history_check.specs.GicCall.declared.event.Moment.TheVariants.{End}
-use Rattle.history_check.specs.Histories.{Ideal, Call, Course, opening_course, call_of, gone_on, course_of, IsCallEnded, IsNext, GoesOn, Track, opening_track, tracked, after_moment, of_event, of_end, is_fresh_at_acknowledge, is_fresh_at_interface, is_fresh_at_end, is_kept_from, is_acknowledged_from, IsFresh}
+use Rattle.history_check.specs.Histories.{IdealGuest, Ideal, Call, Course, opening_course, call_of, gone_on, course_of, IsCallEnded, IsNext, GoesOn, Track, opening_track, tracked, after_moment, of_event, of_end, is_fresh_at_acknowledge, is_fresh_at_interface, is_fresh_at_end, is_kept_from, is_acknowledged_from, IsFresh}
 use Rattle.history_check.specs.GicHistory.State.{opening}
 use Rattle.history_play.specs.Coming.{IsComing, IsFine}
 use Rattle.history_play.specs.Played.{GoesOnFreely, IsAllowed, course_at, track_from, track_at, is_acknowledged_before, IsFreshBefore}
@@ -62,13 +62,13 @@ before_none state track (moment ∷ moments) so =
     let first : IsTrue (of_event (is_fresh_at_acknowledge moments) state track moment) = subst (λ ms. IsTrue (of_event (is_fresh_at_acknowledge ms) state track moment)) (append-nil moments) parts.0 in
     and_from (of_event (is_fresh_at_acknowledge moments) state track moment) (is_acknowledged_from after (tracked state moment track) moments) first (before_none after (tracked state moment track) moments parts.1)
 
-pub track_more : (guest : GuestSpec) (moments : List Moment) (moment : Moment) → track_at guest (moments ++ moment ∷ []) ≡ tracked (course_at guest moments).ideal moment (track_at guest moments)
+pub track_more : (guest : IdealGuest) (moments : List Moment) (moment : Moment) → track_at guest (moments ++ moment ∷ []) ≡ tracked (course_at guest moments).ideal moment (track_at guest moments)
 track_more guest moments moment = track_more_from (opening_course guest) (opening_track guest.shape) moments moment
 
-pub allowed_more : (guest : GuestSpec) (moments : List Moment) (moment : Moment) → IsAllowed guest moments → IsComing (course_at guest moments) moment → IsAllowed guest (moments ++ moment ∷ [])
+pub allowed_more : (guest : IdealGuest) (moments : List Moment) (moment : Moment) → IsAllowed guest moments → IsComing (course_at guest moments) moment → IsAllowed guest (moments ++ moment ∷ [])
 allowed_more guest moments moment so coming = goes_more (opening_course guest) moments moment so coming
 
-pub fresh_more : (guest : GuestSpec) (moments later : List Moment) (moment : Moment) → IsFreshBefore guest moments (moment ∷ later) → IsFine (course_at guest moments) (track_at guest moments) moment later → IsFreshBefore guest (moments ++ moment ∷ []) later
+pub fresh_more : (guest : IdealGuest) (moments later : List Moment) (moment : Moment) → IsFreshBefore guest moments (moment ∷ later) → IsFine (course_at guest moments) (track_at guest moments) moment later → IsFreshBefore guest (moments ++ moment ∷ []) later
 fresh_more guest moments later moment so fine =
     record {
       acknowledge = before_more (opening_course guest) (opening_track guest.shape) moments later moment so.acknowledge fine.acknowledge;
@@ -77,7 +77,7 @@ fresh_more guest moments later moment so fine =
       deactivation = kept_more_from of_end (opening_course guest) (opening_track guest.shape) moments moment so.deactivation fine.deactivation;
     }
 
-pub all_fresh : (guest : GuestSpec) (moments : List Moment) → IsFreshBefore guest moments [] → IsFresh guest moments
+pub all_fresh : (guest : IdealGuest) (moments : List Moment) → IsFreshBefore guest moments [] → IsFresh guest moments
 all_fresh guest moments so =
     record {
       acknowledge = before_none (opening guest) (opening_track guest.shape) moments so.acknowledge;

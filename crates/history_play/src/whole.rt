@@ -1,6 +1,7 @@
 //! Whether a list of moments is a fresh history of a guest.
 ghost use Rattle.std.specs.Prelude.{◌≡◌, ◌<◌, ◌+◌, IfOk, IfSome, IfNone, length, drop};
 ghost use Rattle.history_check.specs.Histories.{IsFresh};
+ghost use Rattle.history_check.specs.IdealGuests.Opening.{opening as opening_guest};
 ghost use Rattle.history_check.specs.Calls.{IsGoodGuest};
 ghost use Rattle.history_play.specs.Played.{IsAllowed, IsRefused};
 
@@ -34,9 +35,9 @@ pub fn check(
     moments: &[Moment],
 ) -> Result<Option<Refusal>, NoMemory>
     requires { IsGoodGuest guest.now }
-    ensures allowed { IfOk result (λ refusal. IfNone refusal (IsAllowed guest.now moments.now)) }
-    ensures fresh { IfOk result (λ refusal. IfNone refusal (IsFresh guest.now moments.now)) }
-    ensures refused { IfOk result (λ refusal. IfSome refusal (IsRefused guest.now moments.now)) }
+    ensures allowed { IfOk result (λ refusal. IfNone refusal (IsAllowed (opening_guest guest.now) moments.now)) }
+    ensures fresh { IfOk result (λ refusal. IfNone refusal (IsFresh (opening_guest guest.now) moments.now)) }
+    ensures refused { IfOk result (λ refusal. IfSome refusal (IsRefused (opening_guest guest.now) moments.now)) }
 {
     let mut state = State::open(alloc, guest)?;
     let mut track = opening_track(alloc, &guest.shape)?;

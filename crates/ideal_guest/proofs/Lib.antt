@@ -1,4 +1,5 @@
 pub use Rattle.floor_calls.proofs.GicBase
+pub use Rattle.floor_calls.proofs.GicBits
 pub use Rattle.floor_calls.proofs.GicCall
 pub use Rattle.floor_calls.proofs.GicFrame
 pub use Rattle.floor_calls.proofs.GicOpen
@@ -8,6 +9,7 @@ pub use Rattle.floor_calls.proofs.ItsTab
 pub mod KeyLemmas
 pub mod CandidateLemmas
 pub mod OpeningLemmas
+pub mod CanOpenLemmas
 pub mod SoundLemmas
 pub mod PartLemmas
 pub mod EachLemmas

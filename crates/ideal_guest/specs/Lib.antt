@@ -7,9 +7,11 @@ pub use Rattle.floor_calls.specs.GicDmap
 pub use Rattle.floor_calls.specs.GicGuest
 pub use Rattle.floor_calls.specs.GicImap
 pub use Rattle.floor_calls.specs.GicRmap
+pub use Rattle.floor_calls.specs.GicWord
 pub use Rattle.floor_calls.specs.ItsCmd
 pub mod Opening
 pub mod Ideal
 pub mod Sound
 pub mod Queue
 pub mod Call
+pub mod CanOpen

@@ -1,6 +1,7 @@
 //! How a guest opens.
 ghost use Rattle.std.specs.Prelude.{◌≡◌, IfOk};
 ghost use Rattle.floor_calls.specs.Calls.{IsGoodGuest};
+ghost use Rattle.ideal_guest.specs.CanOpen.{OpeningsCanOpen};
 ghost use Rattle.ideal_guest.specs.Opening.{opening};
 ghost use Rattle.ideal_guest.specs.Sound.{IsSound};
 
@@ -33,3 +34,8 @@ impl IdealGuest {
         })
     }
 }
+
+/// A law of every good guest: the state in which it opens is one in which a guest can open.
+pub fn openings_can_open()
+    ensures { OpeningsCanOpen }
+{}

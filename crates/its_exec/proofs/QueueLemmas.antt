@@ -159,7 +159,7 @@ can_end seen queue fetched offset port taken ease next good is place =
             kicks = ap (λ set. set.0 == 0) (owes_none seen.local ease.owes).kicks;
             queue =
                 record {
-                  fetched = all_known seen queue fetched port.good.shape.ram_words next;
+                  fetched = all_known seen queue fetched port.good.sound.shape.ram_words next;
                   ends = good_event seen queue fetched next good ∙ ap (λ n. QueueEvent n (Done fetched.words)) (sym is);
                 };
           };
@@ -381,7 +381,7 @@ known_stored old mid fault stores =
 
 pub can_stall : (old mid : Seen) (queue : KnownQueue) (fault : ℕ) → IsPort old → IsPort mid → IsTrue old.taken → IsAtEase old.local → HasBad old queue fault → Stores old mid FaultWord fault → CanMake mid (CommandDone queue.offset true None)
 can_stall old mid queue fault opened port taken ease has stores =
-    let now = stored_bad old mid queue fault opened.good.shape.ram_words stores has in
+    let now = stored_bad old mid queue fault opened.good.sound.shape.ram_words stores has in
     let same : shape_of mid ≡ shape_of old = ap shape_of stores.adds.new_is in
     let actor : mid.actor ≡ old.actor = ap (λ seen. seen.actor) stores.adds.new_is in
     let taken_now : IsTrue mid.taken = ap (λ seen. seen.taken) stores.adds.new_is ∙ taken in
@@ -396,7 +396,7 @@ can_stall old mid queue fault opened port taken ease has stores =
             kicks = subst Kick (sym stores.local_is) (ap (λ set. set.0 == 0) (owes_none old.local ease.owes).kicks);
             queue = (
               record {
-                fetched = all_known mid queue now.fetched port.good.shape.ram_words now.next;
+                fetched = all_known mid queue now.fetched port.good.sound.shape.ram_words now.next;
                 ends = bad_event mid queue now.fetched fault now.next now.bad ∙ ap (λ n. QueueEvent queue.offset (Stalls n)) (sym known);
               },
               record {
@@ -664,7 +664,7 @@ finished_ready mid done new shape tables left queue offset fetched command resul
     }
 
 pub ready_shape : (seen : Seen) (shape : GuestShape) (tables : Maps) (queue : KnownQueue) → IsPort seen → IsReady seen shape tables queue → IsShape shape
-ready_shape seen shape tables queue port ready = subst IsShape (sym ready.shape_is) port.good.shape
+ready_shape seen shape tables queue port ready = subst IsShape (sym ready.shape_is) port.good.sound.shape
 
 -- the looks at the queue only read
 pub looked_ready : (old new : Seen) (shape : GuestShape) (tables : Maps) (queue : KnownQueue) → shape ≡ shape_of old → IsTrue old.taken → IsAtEase old.local → tables ≡ known_maps old.own → IsValid shape tables → IsFresh old → LooksAtQueue old new queue

@@ -3,9 +3,9 @@ use Rattle.std.proofs.Common.{◌≡◌, ℕ, ◌+◌, ◌<◌, ◌≤◌, ◌==
 use Rattle.std.proofs.lemmas.Bool.{cases_eq, and_parts, eqb-true}
 use Rattle.std.proofs.lemmas.List.{length-replicate, length-set}
 use Rattle.law_home_commutes.specs.Words.{Key, GuestShape, has_interrupt, interrupt_count, place_of, IsShape}
-use Rattle.law_home_commutes.specs.Calls.{Event, Reach, Leave, Found, Moment, Begin, Happens, Entry, CanHappen, GuestSpec, IsGoodGuest}
+use Rattle.law_home_commutes.specs.Calls.{Event, Reach, Leave, Found, Moment, Begin, Happens, Entry, CanHappen}
 use Rattle.law_home_commutes.specs.GicCall.declared.event.Moment.TheVariants.{End}
-use Rattle.law_home_commutes.specs.Histories.{Turn, Doing, Changes, doing_of, changes_of, changed_by, with_doing, Call, Course, GoesOn, IsCallEnded, IsNext, actor_count, call_of, gone_on, opening_course, is_allowed, Ideal, is_of, standing_at}
+use Rattle.law_home_commutes.specs.Histories.{Turn, Doing, Changes, doing_of, changes_of, changed_by, with_doing, Call, Course, GoesOn, IsCallEnded, IsNext, actor_count, call_of, gone_on, opening_course, is_allowed, Ideal, is_of, standing_at, IdealGuest, CanOpen}
 use Rattle.law_home_commutes.proofs.LawHistories.CourseLemmas.{IsCourse, goes, opens}
 use Rattle.law_home_commutes.proofs.LawHistories.StandLemmas.{of_key, standing_of_key, any_nowhere}
 use Rattle.law_home_commutes.proofs.SpotLemmas.{Spot, IsSpot, IsTidy}
@@ -113,7 +113,7 @@ module _ (shape : GuestShape) (good : IsShape shape) where
   moments_done course at [] going is = (is.are, is.along.tidy)
   moments_done course at (moment ∷ moments) going is = moments_done (gone_on course moment) (follows at moment) moments going.1 (moment_done course at moment going.0 is)
 
-pub opens_done : (guest : GuestSpec) → (good : IsGoodGuest guest) → IsAlongDone guest.shape good.shape (opening_course guest) (opening_followed guest)
+pub opens_done : (guest : IdealGuest) → (good : CanOpen guest) → IsAlongDone guest.shape good.sound.shape (opening_course guest) (opening_followed guest)
 opens_done guest good = record {
   along = opens_along guest good;
   are = record {
@@ -133,7 +133,7 @@ pub changes_are_done : ChangesAreDone
 changes_are_done guest moments key turn good history there away changed current = of (so.1.placed key).spot (so.1.placed key).is
   where
     so : AreDone guest.shape (followed_by guest moments) × IsTidy guest.shape (followed_by guest moments).ideal
-    so = moments_done guest.shape good.shape (opening_course guest) (opening_followed guest) moments history (opens_done guest good)
+    so = moments_done guest.shape good.sound.shape (opening_course guest) (opening_followed guest) moments history (opens_done guest good)
 
     of : (spot : Option Spot) → IsSpot guest.shape key (of_key (followed_by guest moments).ideal key) spot → Contains (doing_of (followed_by guest moments).track turn.actor).done key
     of None is = absurd (true≢false (sym (ap not (any_nowhere (is_of key) (followed_by guest moments).ideal.at (λ n. none_passes (is_of key) (standing_at (followed_by guest moments).ideal n) (is n)))) ∙ away))

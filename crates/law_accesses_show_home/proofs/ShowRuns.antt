@@ -8,4 +8,4 @@ use Rattle.law_accesses_show_home.proofs.StayRuns.{stand_so}
 pub up_to_date_shows_home : UpToDateShowsHome
 up_to_date_shows_home guest moments vcpu reg write good history few rest finds =
     let so = stand_so guest moments good history in
-    shows guest.shape good.shape (followed_by guest moments) so.1 so.0 rest vcpu few reg write finds
+    shows guest.shape good.sound.shape (followed_by guest moments) so.1 so.0 rest vcpu few reg write finds

@@ -4,10 +4,10 @@ use Rattle.std.specs.Option.{option_map_or}
 use Rattle.std.proofs.lemmas.Bool.{and_parts}
 use Rattle.std.proofs.lemmas.List.{length-replicate}
 use Rattle.law_home_commutes.specs.Words.{Key, GuestShape, interrupt_count, IsShape}
-use Rattle.law_home_commutes.specs.Calls.{Event, Up, Down, Touch, Reach, Take, Leave, Enable, Cpu, Put, CtlrBegin, CtlrEnd, ItsBegin, Found, Moment, Begin, Happens, Entry, may_reach, may_take, CanHappen, GuestSpec, IsGoodGuest}
+use Rattle.law_home_commutes.specs.Calls.{Event, Up, Down, Touch, Reach, Take, Leave, Enable, Cpu, Put, CtlrBegin, CtlrEnd, ItsBegin, Found, Moment, Begin, Happens, Entry, may_reach, may_take, CanHappen}
 use Rattle.law_home_commutes.specs.GicCall.declared.event.Event.TheVariants.{Raise, Read, ItsEnd, Queue}
 use Rattle.law_home_commutes.specs.GicCall.declared.event.Moment.TheVariants.{End}
-use Rattle.law_home_commutes.specs.Histories.{irq_at, cpu_at, Course, GoesOn, IsHistory, IsNext, gone_on, opening_course, is_allowed, happened, Ideal, is_home, is_of}
+use Rattle.law_home_commutes.specs.Histories.{irq_at, cpu_at, Course, GoesOn, IsHistory, IsNext, gone_on, opening_course, is_allowed, happened, Ideal, is_home, is_of, IdealGuest, CanOpen}
 use Rattle.law_home_commutes.specs.GicHistory.State.{opening}
 use Rattle.law_home_commutes.proofs.LawHistories.LatchLaw.{empty_at}
 use Rattle.law_home_commutes.proofs.LawHistories.StandLemmas.{of_key, standing_of_key}
@@ -89,7 +89,7 @@ module _ (shape : GuestShape) (good : IsShape shape) where
   moments_along course at [] going is = (is.all, is.tidy)
   moments_along course at (moment ∷ moments) going is = moments_along (gone_on course moment) (follows at moment) moments going.1 (moment_along course at moment going.0 is)
 
-pub opens_along : (guest : GuestSpec) → IsGoodGuest guest → IsAlong guest.shape (opening_course guest) (opening_followed guest)
+pub opens_along : (guest : IdealGuest) → CanOpen guest → IsAlong guest.shape (opening_course guest) (opening_followed guest)
 opens_along guest good = record {
   same = refl;
   tidy = opens_tidy guest good;
@@ -98,8 +98,8 @@ opens_along guest good = record {
 }
 
 -- so it is of all at the end of a history
-pub stand_so : (guest : GuestSpec) (moments : List Moment) → IsGoodGuest guest → IsHistory guest moments → AllAsReached guest.shape (followed_by guest moments) × IsTidy guest.shape (followed_by guest moments).ideal
-stand_so guest moments good history = moments_along guest.shape good.shape (opening_course guest) (opening_followed guest) moments history (opens_along guest good)
+pub stand_so : (guest : IdealGuest) (moments : List Moment) → CanOpen guest → IsHistory guest moments → AllAsReached guest.shape (followed_by guest moments) × IsTidy guest.shape (followed_by guest moments).ideal
+stand_so guest moments good history = moments_along guest.shape good.sound.shape (opening_course guest) (opening_followed guest) moments history (opens_along guest good)
 
 pub stands_as_reached : StandsAsReached
 stands_as_reached guest moments vcpu standing good history few there none =

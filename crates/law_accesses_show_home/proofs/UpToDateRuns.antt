@@ -148,7 +148,7 @@ pub stays_up_to_date : StaysUpToDate
 stays_up_to_date guest moments more good history quiet up =
     let parts = goes_before (opening_course guest) moments more history in
     let at = followed_by guest moments in
-    let here = moments_along guest.shape good.shape (opening_course guest) (opening_followed guest) moments parts.0 (opens_done guest good) in
-    let fresh = moments_fresh guest.shape good.shape (course_of (opening_course guest) moments) at more parts.1 here quiet (record { told = told_from guest.shape good.shape at up; left = up.none_late }) in
-    let later = moments_along guest.shape good.shape (course_of (opening_course guest) moments) at more parts.1 here in
-    subst (IsUpToDate guest.shape) (sym (fold-append follows (opening_followed guest) moments more)) (up_from guest.shape good.shape (fold follows at more) later.along.tidy fresh)
+    let here = moments_along guest.shape good.sound.shape (opening_course guest) (opening_followed guest) moments parts.0 (opens_done guest good) in
+    let fresh = moments_fresh guest.shape good.sound.shape (course_of (opening_course guest) moments) at more parts.1 here quiet (record { told = told_from guest.shape good.sound.shape at up; left = up.none_late }) in
+    let later = moments_along guest.shape good.sound.shape (course_of (opening_course guest) moments) at more parts.1 here in
+    subst (IsUpToDate guest.shape) (sym (fold-append follows (opening_followed guest) moments more)) (up_from guest.shape good.sound.shape (fold follows at more) later.along.tidy fresh)

@@ -1,8 +1,8 @@
 -- What stands at an interface and was not changed since it got there (own choice).
 use Rattle.std.specs.Prelude.{◌≡◌, ℕ, ◌<◌, true, false, IsTrue, List, [], Contains}
 use Rattle.law_home_commutes.specs.Words.{GuestShape, Irq, is_pending, is_ripe}
-use Rattle.law_home_commutes.specs.Calls.{Moment, GuestSpec, IsGoodGuest}
-use Rattle.law_home_commutes.specs.Histories.{changes_of, IsHistory, Ideal, Standing, standing_at, irq_at, cpu_at}
+use Rattle.law_home_commutes.specs.Calls.{Moment}
+use Rattle.law_home_commutes.specs.Histories.{changes_of, IsHistory, Ideal, Standing, standing_at, irq_at, cpu_at, IdealGuest, CanOpen}
 use Rattle.law_home_commutes.specs.Registers.{takes_kind}
 use Rattle.law_scans_miss_none.specs.LawRegistersStand.Followed.{Followed, followed_by}
 
@@ -25,5 +25,5 @@ pub record IsAsReached (shape : GuestShape) (at : Followed) (vcpu : ℕ) (standi
 -- so it is in each state of a history, of what nobody changed since it got to the interface
 abbrev pub StandsAsReached : Type 0
 StandsAsReached =
-    (guest : GuestSpec) (moments : List Moment) (vcpu : ℕ) (standing : Standing) → IsGoodGuest guest → IsHistory guest moments → vcpu < guest.shape.vcpus → Contains (standing_at (followed_by guest moments).ideal vcpu) standing
+    (guest : IdealGuest) (moments : List Moment) (vcpu : ℕ) (standing : Standing) → CanOpen guest → IsHistory guest moments → vcpu < guest.shape.vcpus → Contains (standing_at (followed_by guest moments).ideal vcpu) standing
     → (changes_of guest.shape (followed_by guest moments).track standing.key).since ≡ [] → IsAsReached guest.shape (followed_by guest moments) vcpu standing

@@ -1,9 +1,9 @@
 -- When an access of a CPU interface finds all that the guest has for it there (own choice).
 use Rattle.std.specs.Prelude.{◌≡◌, ℕ, ◌<◌, ◌++◌, Bool, true, false, IsTrue, List, [], All, Option, Some}
 use Rattle.law_home_commutes.specs.Words.{IccReg, Key, GuestShape, has_interrupt}
-use Rattle.law_home_commutes.specs.Calls.{Event, Reach, Take, Leave, Moment, Happens, GuestSpec, IsGoodGuest}
+use Rattle.law_home_commutes.specs.Calls.{Event, Reach, Take, Leave, Moment, Happens}
 use Rattle.law_home_commutes.specs.GicCall.declared.event.Event.TheVariants.{Read}
-use Rattle.law_home_commutes.specs.Histories.{asks_first, changes_of, comes_first, ended_by, has_left_all, is_far_active, IsHistory, Ideal, is_home}
+use Rattle.law_home_commutes.specs.Histories.{asks_first, changes_of, comes_first, ended_by, has_left_all, is_far_active, IsHistory, Ideal, is_home, IdealGuest, CanOpen}
 use Rattle.law_home_commutes.specs.Home.{ShowsHome}
 use Rattle.law_scans_miss_none.specs.LawRegistersStand.Followed.{Followed, followed_by}
 
@@ -20,7 +20,7 @@ pub record FindsAll (shape : GuestShape) (state : Ideal) (vcpu : ℕ) (reg : Icc
 -- such an access shows the guest with all taken back
 abbrev pub UpToDateShowsHome : Type 0
 UpToDateShowsHome =
-    (guest : GuestSpec) (moments : List Moment) (vcpu : ℕ) (reg : IccReg) (write : Option ℕ) → IsGoodGuest guest → IsHistory guest moments → vcpu < guest.shape.vcpus → IsUpToDate guest.shape (followed_by guest moments)
+    (guest : IdealGuest) (moments : List Moment) (vcpu : ℕ) (reg : IccReg) (write : Option ℕ) → CanOpen guest → IsHistory guest moments → vcpu < guest.shape.vcpus → IsUpToDate guest.shape (followed_by guest moments)
     → FindsAll guest.shape (followed_by guest moments).ideal vcpu reg write → ShowsHome (followed_by guest moments).ideal vcpu reg write
 
 -- It stays so.
@@ -41,5 +41,5 @@ changes_nothing moment = true
 -- what is up to date stays so through such moments
 abbrev pub StaysUpToDate : Type 0
 StaysUpToDate =
-    (guest : GuestSpec) (moments more : List Moment) → IsGoodGuest guest → IsHistory guest (moments ++ more) → All (λ moment. IsTrue (changes_nothing moment)) more → IsUpToDate guest.shape (followed_by guest moments)
+    (guest : IdealGuest) (moments more : List Moment) → CanOpen guest → IsHistory guest (moments ++ more) → All (λ moment. IsTrue (changes_nothing moment)) more → IsUpToDate guest.shape (followed_by guest moments)
     → IsUpToDate guest.shape (followed_by guest (moments ++ more))

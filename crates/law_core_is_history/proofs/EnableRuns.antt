@@ -3,8 +3,8 @@ use Rattle.std.proofs.Common.{◌≡◌, ℕ, ◌<◌, Bool, cond, IsTrue, ◌++
 use Rattle.std.proofs.lemmas.Bool.{ltb-true}
 use Rattle.floor_core.specs.Words.{Key, GuestShape, has_interrupt, Irq, is_number, is_vcpu_or_none, irq_of}
 use Rattle.floor_core.specs.Registers.{Enables}
-use Rattle.floor_core.specs.Histories.{irq_at, Ideal, opening_course, course_of, IsHistory, IsWhole}
-use Rattle.law_histories.specs.Enables.{copy_in, replaced_in, CopiesAgree, CopiesAgreeIn}
+use Rattle.floor_core.specs.Histories.{irq_at, Ideal, opening_course, course_of, IsHistory, IsWhole, copy_in}
+use Rattle.law_histories.specs.Enables.{replaced_in, CopiesAgree, CopiesAgreeIn}
 use Rattle.law_histories.proofs.EnableLaw.{enables_agree as histories_agree}
 use Rattle.floor_core.specs.Core.{AtIrq, Irq as IrqWord, Ctlr, given_back, entry_for, back_of, CoreState, opening, word_in, IsSound, end_of_moments, ideal_of}
 use Rattle.floor_core.proofs.PortCore.StepTies.{number_self}

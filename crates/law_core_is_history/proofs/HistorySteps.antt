@@ -4,10 +4,10 @@ use Rattle.std.proofs.lemmas.Bool.{and_parts, cases_eq, eq-eqb, ne_eqb}
 use Rattle.std.proofs.lemmas.List.{get_or-set_same, get_or-set_other, get_or-replicate, length-replicate, length-set, length-map}
 use Rattle.std.proofs.lemmas.Grind.{fold-append}
 use Rattle.floor_core.specs.Words.{GuestShape, IsShape}
-use Rattle.floor_core.specs.Calls.{Moment, Begin, Operation, Happened, CanHappen, GuestSpec, IsGoodGuest}
+use Rattle.floor_core.specs.Calls.{Moment, Begin, Operation, Happened, CanHappen}
 use Rattle.floor_core.specs.GicCall.declared.event.Moment.TheVariants.{End}
 use Rattle.std.proofs.lemmas.List.Elements.{All-head, All-tail}
-use Rattle.floor_core.specs.Histories.{Call, Course, IsCallEnded, actor_count as count_of, call_of, made as made_in, seeing, gone_on, course_of, opening_course, GoesOn, happened}
+use Rattle.floor_core.specs.Histories.{Call, Course, IsCallEnded, actor_count as count_of, call_of, made as made_in, seeing, gone_on, course_of, opening_course, GoesOn, happened, IdealGuest, CanOpen}
 use Rattle.floor_core.proofs.GicHistory.CallLemmas.{goes_on}
 use Rattle.floor_core.specs.Core.{Made, actor_count, CoreState, opening, after, seat_at, IsRun, IsSound, after_moment, end_of_moments, event_moments, ideal_moments, ideal_of, Act, begins, makes, ends, CoreMoment, IsPartedRun, own_acts, entries_of, entry_by, are_parts, has_registers}
 use Rattle.floor_core.proofs.PortCore.OpeningLemmas.{opens_sound}
@@ -171,12 +171,12 @@ module _ (shape : GuestShape) (good : IsShape shape) where
       }
 
 -- what every run leads to
-pub run_leads : (guest : GuestSpec) (number : ℕ) (moments : List CoreMoment) → (good : IsGoodGuest guest) → IsPartedRun guest number moments → AreCalls guest.shape (opening guest number) (opening_course guest) moments → LeadsTo guest.shape good.shape (opening guest number) (opening_course guest) moments
+pub run_leads : (guest : IdealGuest) (number : ℕ) (moments : List CoreMoment) → (good : CanOpen guest) → IsPartedRun guest number moments → AreCalls guest.shape (opening guest number) (opening_course guest) moments → LeadsTo guest.shape good.sound.shape (opening guest number) (opening_course guest) moments
 run_leads guest number moments good parted calls =
     let shape = guest.shape in
     let course = opening_course guest in
     let none : (actor : ℕ) → actor < actor_count shape → is_some (call_of course actor) ≡ false = λ actor there. ap is_some (get_or-replicate (actor_count shape) actor None None there) in
-    history_from shape good.shape (opening guest number) course moments
+    history_from shape good.sound.shape (opening guest number) course moments
     (record { sound = opens_sound guest number good; related = related_opens guest number good; known = known_opens guest number good; each = length-replicate (actor_count shape) None })
     parted.actors (λ actor there. subst (λ b. IsTrue (are_parts shape actor b (own_acts actor moments))) (sym (none actor there)) (parted.parts actor there)) parted.run calls
 

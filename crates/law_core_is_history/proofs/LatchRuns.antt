@@ -2,8 +2,9 @@
 use Rattle.std.proofs.Common.{◌≡◌, ℕ, ◌+◌, ◌<◌, ◌&&◌, ◌||◌, zero, suc, Bool, true, false, cond, IsTrue, List, [], ◌∷◌, map, length, find, Option, Some, None, is_some, refl, sym, ap, ◌∙◌, subst, slice_index_or, arith}
 use Rattle.std.specs.List.{list_any, range_with_len}
 use Rattle.std.proofs.lemmas.Bool.{ltb-true}
+use Rattle.law_histories.proofs.IdealGuests.CanOpenLemmas.{openings_can_open}
 use Rattle.floor_core.specs.Words.{Key, GuestShape, has_interrupt, is_same_key, Irq, is_number, is_vcpu_or_none, irq_of}
-use Rattle.floor_core.specs.Histories.{irq_at, Ideal, opening_course, course_of}
+use Rattle.floor_core.specs.Histories.{irq_at, Ideal, opening_course, course_of, opening_guest}
 use Rattle.law_histories.specs.Latches.{has_cause, has_cause_there}
 use Rattle.law_histories.proofs.LatchLaw.{latches as histories_latch}
 use Rattle.floor_core.specs.Core.{AtIrq, Irq as IrqWord, given_back, entry_for, back_of, CoreState, opening, word_in, IsSound, end_of_moments, ideal_of}
@@ -91,9 +92,10 @@ module _ (shape : GuestShape) (state : CoreState) (ideal : Ideal) (key : Key) (s
           held_by vcpu few e (entry_for key (locals_of state vcpu).at) refl (sym (ap (is_number vcpu) e ∙ number_self vcpu) ∙ sound.ties vcpu (IrqWord key) (omega (arith, few)) there)
 
 pub runs_latch : Latches
-runs_latch guest number key moments good there parted calls edge =
-    let leads = run_leads guest number moments good parted calls in
-    let law = histories_latch guest key (ideal_of guest.shape (opening guest number) moments) good there leads.goes edge in
+runs_latch spec number key moments good there parted calls edge =
+    let guest = opening_guest spec in
+    let leads = run_leads guest number moments (openings_can_open spec good) parted calls in
+    let law = histories_latch spec key (ideal_of guest.shape (opening guest number) moments) good there leads.goes edge in
     record {
       there = causes_same guest.shape (end_of_moments guest.shape (opening guest number) moments) (course_of (opening_course guest) (ideal_of guest.shape (opening guest number) moments)).ideal key leads.at.sound leads.at.related there ∙ law.there;
       history = law;

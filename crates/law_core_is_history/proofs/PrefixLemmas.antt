@@ -4,10 +4,9 @@ use Rattle.std.proofs.lemmas.Bool.{and_parts, and_from}
 use Rattle.std.proofs.lemmas.List.{map-append, get_or-replicate}
 use Rattle.std.proofs.lemmas.List.Elements.{All-nil, All-cons, All-head, All-tail, All-from_get_or, filter-append, filter_map-append}
 use Rattle.floor_core.specs.Words.{GuestShape}
-use Rattle.floor_core.specs.Histories.{Call, Course, call_of, course_of, opening_course, IsWhole}
+use Rattle.floor_core.specs.Histories.{Call, Course, call_of, course_of, opening_course, IsWhole, IdealGuest, CanOpen}
 use Rattle.floor_core.specs.Core.{actor_count, CoreState, opening, seat_at, IsRun, after_moment, ideal_moments, ideal_of, Act, begins, makes, ends, CoreMoment, own_acts, step_of, entry_by, entries_of, are_parts, has_registers, IsPartedRun}
 use Rattle.floor_core.proofs.PortCore.RunLemmas.{run_splits}
-use Rattle.floor_core.specs.Calls.{GuestSpec, IsGoodGuest}
 use Rattle.law_core_is_history.specs.Laws.{AreCalls}
 use Rattle.law_core_is_history.specs.Whole.{within_after, AreEnded}
 use Rattle.law_core_is_history.proofs.HistorySteps.{run_leads}
@@ -34,7 +33,7 @@ all_before : (P : CoreMoment → Type 0) (early late : List CoreMoment) → All 
 all_before P [] late all = All-nil P
 all_before P (moment ∷ moments) late all = All-cons P moment moments (All-head P moment (moments ++ late) all) (all_before P moments late (All-tail P moment (moments ++ late) all))
 
-pub parted_before : (guest : GuestSpec) (number : ℕ) (early late : List CoreMoment) → IsPartedRun guest number (early ++ late) → IsPartedRun guest number early
+pub parted_before : (guest : IdealGuest) (number : ℕ) (early late : List CoreMoment) → IsPartedRun guest number (early ++ late) → IsPartedRun guest number early
 parted_before guest number early late parted = record {
   run = (run_splits guest.shape (opening guest number) (entries_of early) (entries_of late) (subst (IsRun guest.shape (opening guest number)) (entries_both early late) parted.run)).0;
   actors = all_before (λ (moment : CoreMoment). moment.actor < actor_count guest.shape) early late parted.actors;
@@ -52,7 +51,7 @@ not_some : (o : Option Call) → is_some o ≡ false → IsTrue (is_none o)
 not_some None e = refl
 not_some (Some call) e = absurd (cc)
 
-pub whole_is : (guest : GuestSpec) (number : ℕ) (moments : List CoreMoment) → IsGoodGuest guest → IsPartedRun guest number moments → AreCalls guest.shape (opening guest number) (opening_course guest) moments → AreEnded guest.shape moments
+pub whole_is : (guest : IdealGuest) (number : ℕ) (moments : List CoreMoment) → CanOpen guest → IsPartedRun guest number moments → AreCalls guest.shape (opening guest number) (opening_course guest) moments → AreEnded guest.shape moments
     → IsWhole guest (ideal_of guest.shape (opening guest number) moments)
 whole_is guest number moments good parted calls ended =
     let leads = run_leads guest number moments good parted calls in

@@ -1,8 +1,8 @@
 -- The moments that runs come to.
 use Rattle.std.proofs.Common.{ℕ, Option, Some, None}
 use Rattle.floor_core.specs.Words.{GuestShape, IsShape}
-use Rattle.floor_core.specs.Calls.{Happened, GuestSpec, IsGoodGuest}
-use Rattle.floor_core.specs.Histories.{happened, Ideal}
+use Rattle.floor_core.specs.Calls.{Happened}
+use Rattle.floor_core.specs.Histories.{happened, Ideal, IdealGuest, CanOpen}
 use Rattle.floor_core.specs.GicHistory.State.{opening as opening_ideal}
 use Rattle.floor_core.specs.Core.{Entry, CoreState, opening, after, Takes, IsSound}
 use Rattle.floor_core.proofs.PortCore.OpeningLemmas.{opens_sound}
@@ -30,5 +30,5 @@ reaches_next shape state entry good at takes =
     of None related next known = record { sound = next; known = known; ideal = at.ideal; related = related }
     of (Some happening) is next known = record { sound = next; known = known; ideal = happened entry.actor happening.event at.ideal; related = is.related }
 
-pub reached_opens : (guest : GuestSpec) (number : ℕ) → IsGoodGuest guest → IsReached guest.shape (opening guest number)
+pub reached_opens : (guest : IdealGuest) (number : ℕ) → CanOpen guest → IsReached guest.shape (opening guest number)
 reached_opens guest number good = record { sound = opens_sound guest number good; known = known_opens guest number good; ideal = opening_ideal guest; related = related_opens guest number good }

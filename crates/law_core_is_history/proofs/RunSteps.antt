@@ -1,23 +1,19 @@
 -- Every step of every run is what it stands for.
-use Rattle.std.proofs.Common.{◌≡◌, ℕ, ◌<◌, false, IsTrue, List, [], ◌∷◌, Option, Some, None, arith, true≢false, refl, sym, ap, ◌∙◌, subst}
-use Rattle.std.proofs.lemmas.Bool.{ltb-true}
+use Rattle.std.proofs.Common.{◌≡◌, ℕ, ◌<◌, false, if◌then◌else◌, slice_index, slice_index_or, IsTrue, List, [], ◌∷◌, Option, Some, None, arith, true≢false, refl, sym, ap, ◌∙◌, subst}
+use Rattle.std.proofs.lemmas.Bool.{ltb-true, eqb-true}
 use Rattle.std.proofs.lemmas.Option.{none-some}
 use Rattle.std.proofs.lemmas.List.{get_or-replicate, length-replicate}
 use Rattle.floor_core.specs.Words.{GuestShape, IsShape, Irq, irq_of, packed}
-use Rattle.floor_core.specs.Registers.{CpuRec, enables_in, Maps}
-use Rattle.floor_core.specs.Calls.{irqs_of, irq_in, opening_cpu, opening_enables, plain_count, plain_at, Happened, GuestSpec, IsGoodGuest}
-use Rattle.law_histories.proofs.GicOpen.OpeningLemmas.{openings_valid, opening_valid}
-use Rattle.floor_core.specs.Histories.{cpu_at, Ideal}
-use Rattle.law_histories.specs.IdealGuests.Opening.{opening as opening_guest}
-use Rattle.law_histories.proofs.IdealGuests.OpeningLemmas.{word_opening}
+use Rattle.floor_core.specs.Registers.{QueueWord, Maps}
+use Rattle.floor_core.specs.Calls.{plain_count, plain_at, place_of_plain, Happened}
+use Rattle.floor_core.specs.Histories.{irq_at, cpu_at, word_at, Ideal, IdealGuest, CanOpen}
 use Rattle.floor_core.specs.GicHistory.State.{opening as opening_ideal}
-use Rattle.floor_core.specs.Core.{Entry, CoreStep, Look, Raise, Claim, GiveBack, Release, Poll, Kick, Touch, Want, WireUp, WireDown, EnableLpis, RamLook, RamPut, CtlrTake, CtlrEnd, TurnTake, CommandDone, TurnRelease, Mark, TakeIndex, CtlrWord, WordId, Irq as IrqWord, Vcpu, Queue, Ctlr, Plain, Index, has_word, CoreState, Seat, opening, opening_seat, opening_word_of, after, Takes, IsRun, IsSound, end_of}
-use Rattle.floor_core.proofs.PortCore.OpeningLemmas.{opens_sound, seat_opens, word_opens}
+use Rattle.floor_core.specs.Core.{Entry, CoreStep, Look, Raise, Claim, GiveBack, Release, Poll, Kick, Touch, Want, WireUp, WireDown, EnableLpis, RamLook, RamPut, CtlrTake, CtlrEnd, TurnTake, CommandDone, TurnRelease, Mark, TakeIndex, CtlrWord, WordId, Irq as IrqWord, Vcpu, Queue, Ctlr, Plain, Index, fault_place, has_word, CoreState, Seat, opening, opening_seat, opening_word_of, after, Takes, IsRun, IsSound, end_of}
+use Rattle.floor_core.proofs.PortCore.OpeningLemmas.{opens_sound, record_back, queue_is, ctlr_is, seat_opens, word_opens}
 use Rattle.floor_core.proofs.PortCore.StepLemmas.{steps_sound}
-use Rattle.floor_core.proofs.PortCore.StepWords.{packed_is, ctlr_back}
 use Rattle.law_core_is_history.specs.Known.{IsKnown}
 use Rattle.law_core_is_history.specs.Laws.{followed, followed_by, IsFollowedBy, IsFollowed, RunsAreSimulated}
-use Rattle.law_core_is_history.specs.Related.{bare, WordSays, SeatSays, Related, locals_of, but_lpis}
+use Rattle.law_core_is_history.specs.Related.{bare, WordSays, SeatSays, Related, locals_of}
 use Rattle.law_core_is_history.specs.Simulates.{IsSimulated, IsSimulatedAs, event_of}
 use Rattle.law_core_is_history.proofs.AccessSteps.{simulates_poll}
 use Rattle.law_core_is_history.proofs.CauseSteps.{simulates_raise, simulates_wire_up, simulates_wire_down}
@@ -26,11 +22,11 @@ use Rattle.law_core_is_history.proofs.EnableSteps.{simulates_enable}
 use Rattle.law_core_is_history.proofs.KnownSteps.{keeps_known}
 use Rattle.law_core_is_history.proofs.MarkSteps.{simulates_ctlr_take, simulates_ctlr_end, simulates_turn_take, simulates_turn_release}
 use Rattle.law_core_is_history.proofs.MoveSteps.{simulates_give_back, simulates_release}
-use Rattle.law_core_is_history.proofs.PutSteps.{simulates_ram_put}
+use Rattle.law_core_is_history.proofs.PutSteps.{plain_back, simulates_ram_put}
 use Rattle.law_core_is_history.proofs.QueueSteps.{simulates_command_done}
 use Rattle.law_core_is_history.proofs.QuietSteps.{simulates_kick, simulates_mark, simulates_want, simulates_take_index}
-use Rattle.law_core_is_history.proofs.ReadSteps.{simulates_look, simulates_ram_look}
-use Rattle.law_core_is_history.proofs.StepContext.{one, IsStep}
+use Rattle.law_core_is_history.proofs.ReadSteps.{plain_there, simulates_look, simulates_ram_look}
+use Rattle.law_core_is_history.proofs.StepContext.{one, IsStep, lpis_back}
 use Rattle.law_core_is_history.proofs.TouchSteps.{simulates_touch}
 
 -- Each kind of step.
@@ -81,32 +77,33 @@ run_simulates shape state ideal (entry ∷ entries) good sound related known run
 
 -- The opening.
 
-module _ (guest : GuestSpec) (number : ℕ) (good : IsGoodGuest guest) where
-  cpu_opens : (vcpu : ℕ) → vcpu < guest.shape.vcpus → cpu_at (opening_guest guest) vcpu ≡ opening_cpu guest.on
-  cpu_opens vcpu there = get_or-replicate guest.shape.vcpus vcpu (opening_cpu guest.on) (opening_cpu false) there
+module _ (guest : IdealGuest) (number : ℕ) (good : CanOpen guest) where
+  -- a plain word
+  plain_opens : (index : ℕ) → index < plain_count guest.shape → word_at guest (plain_at guest.shape index) ≡ slice_index_or guest.words index 0
+  plain_opens index few =
+      ap (λ b. if b then slice_index guest.words (place_of_plain guest.shape (plain_at guest.shape index)) else 0) (plain_there guest.shape index few) ∙ ap (slice_index guest.words) (plain_back guest.shape index few)
 
   says_open : (word : WordId) → IsTrue (has_word guest.shape word) → WordSays guest.shape (locals_of (opening guest number)) (opening_ideal guest) word (opening_word_of guest word)
   says_open (IrqWord key) there =
-      let valid = opening_valid guest key good there in
-      let irq = irq_in guest.shape (irqs_of guest) key in
-      let back : irq_of (packed irq) ≡ irq = packed_is irq valid.record_of.packable in
+      let is = good.sound.records key there in
+      let irq = irq_at guest key in
+      let back : irq_of (packed irq) ≡ irq = record_back guest key good there in
       record {
-        home = λ h. ap bare back ∙ ap (λ o. record irq { holder = o; want = false }) (sym valid.home.unheld) ∙ ap (λ w. record irq { want = w }) (sym valid.home.unwanted);
-        held = λ vcpu h. absurd (none-some vcpu (sym (ap (λ (i : Irq). i.holder) back ∙ valid.home.unheld) ∙ h));
+        home = λ h. ap bare back ∙ ap (λ o. record irq { holder = o; want = false }) (sym is.home.unheld) ∙ ap (λ w. record irq { want = w }) (sym is.home.unwanted);
+        held = λ vcpu h. absurd (none-some vcpu (sym (ap (λ (i : Irq). i.holder) back ∙ is.home.unheld) ∙ h));
       }
-  says_open (Vcpu vcpu) there = ap (λ (c : CpuRec). c.lpis) (cpu_opens vcpu (ltb-true vcpu guest.shape.vcpus there))
-  says_open Queue there = record { turn = refl; offset = refl; stalled = refl }
-  says_open Ctlr there =
-      let ctlr : CtlrWord = record { enables = enables_in (opening_enables guest.on); mark = None } in
-      let back = ctlr_back ctlr (λ a e. absurd (cc)) in
-      record { enables = sym (ap (λ (c : CtlrWord). c.enables) back); spreads = sym (ap (λ (c : CtlrWord). c.mark) back) }
-  says_open (Plain index) there = record { stored = λ e. word_opening guest (plain_at guest.shape index); fault = λ e h. absurd (true≢false (sym h)) }
+  says_open (Vcpu vcpu) there = sym (lpis_back (record { lpis = (cpu_at guest vcpu).lpis; kick = false }))
+  says_open Queue there =
+      let back = queue_is guest good in
+      record { turn = sym (ap (λ (q : QueueWord). q.turn) back); offset = sym (ap (λ (q : QueueWord). q.offset) back); stalled = sym (ap (λ (q : QueueWord). q.stalled) back) }
+  says_open Ctlr there = let back = ctlr_is guest in record { enables = sym (ap (λ (c : CtlrWord). c.enables) back); spreads = sym (ap (λ (c : CtlrWord). c.mark) back) }
+  says_open (Plain index) there = record { stored = λ e. plain_opens index (ltb-true index (plain_count guest.shape) there); fault = λ e h. ap (slice_index guest.words) (sym (eqb-true index (fault_place guest.shape) e)) }
   says_open (Index vcpu number) there = tt
 
   stands_open : (vcpu : ℕ) → vcpu < guest.shape.vcpus → SeatSays (opening_ideal guest) vcpu (opening_seat guest number vcpu).local
   stands_open vcpu there = record {
     at = get_or-replicate guest.shape.vcpus vcpu [] [] there;
-    cpu = record { same = ap but_lpis (cpu_opens vcpu there); lpis = λ h. absurd (true≢false (sym h)) };
+    cpu = record { same = refl; lpis = λ h. h };
     given = refl;
   }
 
@@ -116,9 +113,9 @@ module _ (guest : GuestSpec) (number : ℕ) (good : IsGoodGuest guest) where
     words = λ word there. subst (WordSays guest.shape (locals_of (opening guest number)) (opening_ideal guest) word) (sym (word_opens guest number word good there)) (says_open word there);
     seats = λ vcpu there. subst (λ (s : Seat). SeatSays (opening_ideal guest) vcpu s.local) (sym (seat_opens guest number vcpu (omega (arith, there)))) (stands_open vcpu there);
     maps = refl;
-    irqs_each = (openings_valid guest good).each;
-    cpus_each = length-replicate guest.shape.vcpus (opening_cpu guest.on);
-    words_each = length-replicate (plain_count guest.shape) 0;
+    irqs_each = good.sound.irqs;
+    cpus_each = good.sound.cpus;
+    words_each = good.sound.words;
     at_each = length-replicate guest.shape.vcpus [];
   }
 
@@ -127,5 +124,5 @@ module _ (guest : GuestSpec) (number : ℕ) (good : IsGoodGuest guest) where
 
 pub runs_simulate : RunsAreSimulated
 runs_simulate guest number entries good run =
-    let whole = run_simulates guest.shape (opening guest number) (opening_ideal guest) entries good.shape (opens_sound guest number good) (related_opens guest number good) (known_opens guest number good) run in
+    let whole = run_simulates guest.shape (opening guest number) (opening_ideal guest) entries good.sound.shape (opens_sound guest number good) (related_opens guest number good) (known_opens guest number good) run in
     record { follows = whole.0; related = whole.1 }

@@ -8,9 +8,9 @@ use Rattle.floor_core.specs.Words.{GuestShape, IsShape}
 use Rattle.law_histories.specs.ItsCmd.Command.{decoded}
 use Rattle.floor_core.specs.Registers.{QueueWord, queue_of, fault_number, Maps}
 use Rattle.floor_core.specs.GicCall.declared.event.Event.TheVariants.{Queue as QueueEvent}
-use Rattle.floor_core.specs.Calls.{Place, Done, Stalls, queue_event, command_words, next_offset, command_places, View, Cbaser, GuestSpec}
+use Rattle.floor_core.specs.Calls.{Place, Done, Stalls, queue_event, command_words, next_offset, command_places, View, Cbaser}
 use Rattle.floor_core.specs.GicCall.declared.event.Place.TheVariants.{Word, Queue as QueuePlace}
-use Rattle.floor_core.specs.Histories.{opening_course, IsHistory, IsWhole}
+use Rattle.floor_core.specs.Histories.{opening_course, IsHistory, IsWhole, IdealGuest}
 use Rattle.law_histories.proofs.SyncLaw.{sync_holds as histories_hold}
 use Rattle.floor_core.specs.Core.{Made, CoreStep, CommandDone, WordId, Queue, known_fault, Meets, word_after, is_on, known, known_word, known_view, is_known, since_turn, owes_no_kick, CoreState, opening, seat_at, word_in, after, Takes, IsRun, IsSound, after_moment, end_of_moments, ideal_of, CoreMoment, entry_by, step_of, entries_of, IsPartedRun}
 use Rattle.floor_core.proofs.PortCore.PlaceLemmas.{word_same}
@@ -103,7 +103,7 @@ module _ (shape : GuestShape) (state : CoreState) (actor offset : ℕ) (found le
 entries_both : (early late : List CoreMoment) → entries_of (early ++ late) ≡ entries_of early ++ entries_of late
 entries_both early late = filter_map-append (λ (moment : CoreMoment). option_map (entry_by moment.actor) (step_of moment.act)) early late
 
-taken_at : (guest : GuestSpec) (number : ℕ) (early late : List CoreMoment) (actor : ℕ) (made : Made) → IsPartedRun guest number (early ++ steps actor made ∷ late) → Takes guest.shape (end_of_moments guest.shape (opening guest number) early) (entry_by actor made)
+taken_at : (guest : IdealGuest) (number : ℕ) (early late : List CoreMoment) (actor : ℕ) (made : Made) → IsPartedRun guest number (early ++ steps actor made ∷ late) → Takes guest.shape (end_of_moments guest.shape (opening guest number) early) (entry_by actor made)
 taken_at guest number early late actor made parted =
     let shape = guest.shape in
     let split = run_splits shape (opening guest number) (entries_of early) (entries_of (steps actor made ∷ late)) (subst (IsRun shape (opening guest number)) (entries_both early (steps actor made ∷ late)) parted.run) in
@@ -131,7 +131,7 @@ runs_hold guest number moments more good parted calls ended =
           let first = parted_before guest number before (steps actor made ∷ late) now in
           let lead = run_leads guest number before good first (calls_before shape (opening guest number) (opening_course guest) before (steps actor made ∷ late) (subst (AreCalls shape (opening guest number) (opening_course guest)) split (calls_before shape (opening guest number) (opening_course guest) moments more calls))) in
           subst (StallsAlone shape (end_of_moments shape (opening guest number) before)) (sym (fold-append (after_moment shape) (opening guest number) before (steps actor made ∷ [])))
-          (stalled_so good.shape (end_of_moments shape (opening guest number) before) actor made offset step lead.at.sound lead.at.known (taken_at guest number before late actor made now));
+          (stalled_so good.sound.shape (end_of_moments shape (opening guest number) before) actor made offset step lead.at.sound lead.at.known (taken_at guest number before late actor made now));
     }
   where
     stalled_so : IsShape guest.shape → (state : CoreState) (actor : ℕ) (made : Made) (offset : ℕ) → made.step ≡ CommandDone offset true None → IsSound guest.shape state → IsKnown guest.shape state → Takes guest.shape state (entry_by actor made) → StallsAlone guest.shape state (after guest.shape state (entry_by actor made))

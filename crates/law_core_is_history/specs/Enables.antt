@@ -2,8 +2,7 @@
 use Rattle.std.specs.Prelude.{ℕ, List, ◌++◌}
 use Rattle.floor_core.specs.Words.{GuestShape, irq_of}
 use Rattle.floor_core.specs.Registers.{Enables}
-use Rattle.floor_core.specs.Calls.{GuestSpec, IsGoodGuest}
-use Rattle.floor_core.specs.Histories.{opening_course}
+use Rattle.floor_core.specs.Histories.{opening_course, IdealGuest, CanOpen}
 use Rattle.law_histories.specs.Enables.{replaced_in, CopiesAgree}
 use Rattle.floor_core.specs.Core.{Irq, Ctlr, ctlr_of, CoreState, opening, word_in, end_of_moments, ideal_of, CoreMoment, IsPartedRun}
 use Rattle.law_core_is_history.specs.Laws.{AreCalls}
@@ -16,5 +15,5 @@ WordsAgree shape state old = let ctlr = ctlr_of (word_in shape state Ctlr) in Co
 -- at each moment of a run that can go on until all its parts ended, each of them the call that it was begun for
 abbrev pub EnablesAgree : Type 0
 EnablesAgree =
-    (guest : GuestSpec) (number : ℕ) (moments more : List CoreMoment) → IsGoodGuest guest → IsPartedRun guest number (moments ++ more) → AreCalls guest.shape (opening guest number) (opening_course guest) (moments ++ more)
+    (guest : IdealGuest) (number : ℕ) (moments more : List CoreMoment) → CanOpen guest → IsPartedRun guest number (moments ++ more) → AreCalls guest.shape (opening guest number) (opening_course guest) (moments ++ more)
     → AreEnded guest.shape (moments ++ more) → WordsAgree guest.shape (end_of_moments guest.shape (opening guest number) moments) (replaced_in guest (ideal_of guest.shape (opening guest number) moments)).1

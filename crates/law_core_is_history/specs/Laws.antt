@@ -1,8 +1,8 @@
 -- Laws of every run of the core.
 use Rattle.std.specs.Prelude.{◌≡◌, ℕ, IsTrue, List, [], ◌∷◌, Option, Some, None}
 use Rattle.floor_core.specs.Words.{GuestShape}
-use Rattle.floor_core.specs.Calls.{Happened, CanHappen, GuestSpec, IsGoodGuest}
-use Rattle.floor_core.specs.Histories.{Ideal, is_allowed, handed_out, happened, Course, call_of, course_of, opening_course, IsCallEnded, IsHistory, last_of}
+use Rattle.floor_core.specs.Calls.{Happened, CanHappen}
+use Rattle.floor_core.specs.Histories.{Ideal, is_allowed, handed_out, happened, Course, call_of, course_of, opening_course, IsCallEnded, IsHistory, last_of, IdealGuest, CanOpen}
 use Rattle.floor_core.specs.GicHistory.State.{opening as opening_ideal}
 use Rattle.floor_core.specs.Core.{Entry, CoreState, opening, after, seat_at, IsRun, end_of, after_moment, end_of_moments, ideal_moments, ideal_of, Act, begins, makes, ends, CoreMoment, IsPartedRun}
 use Rattle.law_core_is_history.specs.Related.{Related}
@@ -36,13 +36,13 @@ IsFollowed shape state ideal (entry ∷ entries) =
 
 -- a run is what it stands for: each step the event of the ideal controller that it stands for, or nothing, and the words and actors at its end say what the
 -- ideal controller has then
-pub record IsSimulation (guest : GuestSpec) (number : ℕ) (entries : List Entry) : Type 0 where
+pub record IsSimulation (guest : IdealGuest) (number : ℕ) (entries : List Entry) : Type 0 where
   pub follows : IsFollowed guest.shape (opening guest number) (opening_ideal guest) entries
   pub related : Related guest.shape (end_of guest.shape (opening guest number) entries) (followed guest.shape (opening guest number) (opening_ideal guest) entries)
 
 -- whatever the actors of a good guest do, and in whatever order their steps come
 abbrev pub RunsAreSimulated : Type 0
-RunsAreSimulated = (guest : GuestSpec) (number : ℕ) (entries : List Entry) → IsGoodGuest guest → IsRun guest.shape (opening guest number) entries → IsSimulation guest number entries
+RunsAreSimulated = (guest : IdealGuest) (number : ℕ) (entries : List Entry) → CanOpen guest → IsRun guest.shape (opening guest number) entries → IsSimulation guest number entries
 
 -- Runs that are told with their parts are simulated too.
 
@@ -60,10 +60,10 @@ AreCalls shape state course (moment ∷ moments) =
 
 -- a run whose parts make their calls is a history of the ideal controller, with the same answers, and the words and actors at its end say what the ideal
 -- controller has then
-pub record IsHistoryOf (guest : GuestSpec) (number : ℕ) (moments : List CoreMoment) : Type 0 where
+pub record IsHistoryOf (guest : IdealGuest) (number : ℕ) (moments : List CoreMoment) : Type 0 where
   pub history : IsHistory guest (ideal_of guest.shape (opening guest number) moments)
   pub related : Related guest.shape (end_of_moments guest.shape (opening guest number) moments) (last_of guest (ideal_of guest.shape (opening guest number) moments))
 
 abbrev pub Simulates : Type 0
 Simulates =
-    (guest : GuestSpec) (number : ℕ) (moments : List CoreMoment) → IsGoodGuest guest → IsPartedRun guest number moments → AreCalls guest.shape (opening guest number) (opening_course guest) moments → IsHistoryOf guest number moments
+    (guest : IdealGuest) (number : ℕ) (moments : List CoreMoment) → CanOpen guest → IsPartedRun guest number moments → AreCalls guest.shape (opening guest number) (opening_course guest) moments → IsHistoryOf guest number moments

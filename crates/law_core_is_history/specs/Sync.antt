@@ -2,8 +2,7 @@
 use Rattle.std.specs.Prelude.{◌≡◌, ◌≢◌, ℕ, Bool, true, IsTrue, List, [], ◌∷◌, ◌++◌, Option, None}
 use Rattle.floor_core.specs.Words.{GuestShape}
 use Rattle.floor_core.specs.Registers.{queue_of}
-use Rattle.floor_core.specs.Calls.{GuestSpec, IsGoodGuest}
-use Rattle.floor_core.specs.Histories.{opening_course}
+use Rattle.floor_core.specs.Histories.{opening_course, IdealGuest, CanOpen}
 use Rattle.law_histories.specs.Sync.{commands_of, mapped_by, IsSynced}
 use Rattle.floor_core.specs.Core.{Made, CommandDone, WordId, Queue, owes_no_kick, has_word, CoreState, opening, seat_at, word_in, end_of_moments, ideal_of, makes, CoreMoment, IsPartedRun}
 use Rattle.law_core_is_history.specs.Laws.{AreCalls}
@@ -20,9 +19,9 @@ pub record StallsAlone (shape : GuestShape) (before later : CoreState) : Type 0 
   pub maps : later.maps ≡ before.maps
 
 -- at a moment of a run, as after a SYNC: the history so far, and the maps; no actor ends a command before each kick for it is sent; and bad ones stall alone
-pub record IsSyncedRun (guest : GuestSpec) (number : ℕ) (moments : List CoreMoment) : Type 0 where
+pub record IsSyncedRun (guest : IdealGuest) (number : ℕ) (moments : List CoreMoment) : Type 0 where
   pub history : IsSynced guest (ideal_of guest.shape (opening guest number) moments)
-  pub maps : (end_of_moments guest.shape (opening guest number) moments).maps ≡ mapped_by (commands_of (ideal_of guest.shape (opening guest number) moments))
+  pub maps : (end_of_moments guest.shape (opening guest number) moments).maps ≡ mapped_by guest.tables (commands_of (ideal_of guest.shape (opening guest number) moments))
   pub kicks :
       (early late : List CoreMoment) (actor : ℕ) (made : Made) → moments ≡ early ++ steps actor made ∷ late → (offset : ℕ) (stalled : Bool) (ending : Option (List ℕ)) → made.step ≡ CommandDone offset stalled ending →
       IsTrue (owes_no_kick (seat_at (end_of_moments guest.shape (opening guest number) early) actor).local)
@@ -33,5 +32,5 @@ pub record IsSyncedRun (guest : GuestSpec) (number : ℕ) (moments : List CoreMo
 -- at each moment of a run that can go on until all its parts ended, each of them the call that it was begun for
 abbrev pub SyncHolds : Type 0
 SyncHolds =
-    (guest : GuestSpec) (number : ℕ) (moments more : List CoreMoment) → IsGoodGuest guest → IsPartedRun guest number (moments ++ more) → AreCalls guest.shape (opening guest number) (opening_course guest) (moments ++ more)
+    (guest : IdealGuest) (number : ℕ) (moments more : List CoreMoment) → CanOpen guest → IsPartedRun guest number (moments ++ more) → AreCalls guest.shape (opening guest number) (opening_course guest) (moments ++ more)
     → AreEnded guest.shape (moments ++ more) → IsSyncedRun guest number moments

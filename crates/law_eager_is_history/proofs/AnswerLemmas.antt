@@ -6,6 +6,7 @@ use Rattle.std.proofs.lemmas.Bool.Decides.{eqb_tells}
 use Rattle.std.proofs.lemmas.List.{append_assoc, length-map}
 use Rattle.std.proofs.lemmas.List.Elements.{All-head, All-tail}
 use Rattle.std.proofs.lemmas.Option.{slice_get-map, same_Some}
+use Rattle.floor_histories.proofs.IdealGuests.CanOpenLemmas.{openings_can_open}
 use Rattle.floor_histories.specs.Words.{GuestOp, Icc, Mem, GuestShape}
 use Rattle.floor_histories.specs.Calls.{GuestSpec, IsGoodGuest, shapes_of, Event, Moment, Operation, Access, Device as DeviceCall, Residence, Happened}
 use Rattle.floor_histories.specs.GicGuest.declared.outcome.Answer.TheVariants.{Nothing}
@@ -127,7 +128,7 @@ eager_history scenario n guest good at =
     let good_guest : IsGoodGuest guest = one_good scenario.guests n guest good.each_guest at in
     let shape_at : slice_get (shapes_of scenario.guests) n ≡ Some guest.shape = slice_get-map (λ (g : GuestSpec). g.shape) scenario.guests n ∙ ap (option_map (λ (g : GuestSpec). g.shape)) at in
     let opened : slice_get guests n ≡ Some (opening guest) = slice_get-map opening scenario.guests n ∙ ap (option_map opening) at in
-    let run = whole_run Schedule scenario.pes (shapes_of scenario.guests) n guest steps good_guest shape_at good.each_step in
+    let run = whole_run Schedule scenario.pes (shapes_of scenario.guests) n (opening guest) steps (openings_can_open guest good_guest) shape_at good.each_step in
     record {
       is = run.is;
       calls = λ actor. same_calls scenario.lrs n guest.shape actor steps Residence (opening_pes scenario.pes (shapes_of scenario.guests)) guests (opening guest) opened refl;
@@ -175,5 +176,5 @@ eager_possible scenario good =
           let moments = history_of n scenario.steps (opening guest) in
           let is = eager_history scenario n guest good at in
           let opened : slice_get guests n ≡ Some (opening guest) = slice_get-map opening scenario.guests n ∙ ap (option_map opening) at in
-          ∣ record { moments = moments; is = is.is; calls = is.calls; ends = end_at guests closed n (opening guest) (home (last_of guest moments)) opened is.ends } ∣₁;
+          ∣ record { moments = moments; is = is.is; calls = is.calls; ends = end_at guests closed n (opening guest) (home (last_of (opening guest) moments)) opened is.ends } ∣₁;
     }

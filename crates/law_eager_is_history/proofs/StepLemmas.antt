@@ -8,19 +8,16 @@ use Rattle.std.proofs.lemmas.List.{append_assoc, append-nil}
 use Rattle.std.proofs.lemmas.List.Elements.{All-nil, All-cons, All-head, All-tail}
 use Rattle.floor_histories.proofs.GicFrame.TestLemmas.{under}
 use Rattle.floor_histories.specs.Words.{Frame, Dist, Redist, Its, Ram as Memory, GuestOp, Icc, Mem, GuestShape}
-use Rattle.floor_histories.specs.Registers.{queue_bytes}
 use Rattle.floor_histories.specs.GicImap.Map.{decoded as its_decoded}
 use Rattle.floor_histories.specs.GicImap.declared.map.RegRef.{RegRef as ItsRef}
 use Rattle.floor_histories.specs.GicImap.declared.map.RegRef.TheVariants.{Plain as ItsPlain, Reserved as ItsReserved}
-use Rattle.floor_histories.specs.Calls.{Cbaser, Cwriter, GuestSpec, IsGoodGuest, passes, is_good_op, is_good_event, Event, Moment, Operation, Access, Device as DeviceCall, takes_turn, device_events}
+use Rattle.floor_histories.specs.Calls.{passes, is_good_op, is_good_event, Event, Moment, Operation, Access, Device as DeviceCall, takes_turn, device_events}
 use Rattle.gic_ideal.specs.ScnBase.declared.step.Mode.{Mode}
 use Rattle.gic_ideal.specs.ScnBase.declared.step.Step.{Step}
 use Rattle.gic_ideal.specs.ScnBase.declared.step.Step.TheVariants.{Vcpu, Device, Pe}
 use Rattle.gic_ideal.specs.ScnBase.Good.{is_formed}
 use Rattle.floor_histories.proofs.GicCall.CallLemmas.{device_valid}
-use Rattle.floor_histories.specs.Histories.{IdealGuest, view_of, word_at, after_event, after_events, IsQueueInOrder, IsSound, after_leave, emptied, home, Call, begun, Course, IsEnded, actor_count, course_of, gone_on, GoesOn, last_of, Track, opening_track}
-use Rattle.floor_histories.specs.IdealGuests.Opening.{opening}
-use Rattle.floor_histories.proofs.IdealGuests.OpeningLemmas.{word_opening, empty_valid, sound_opening}
+use Rattle.floor_histories.specs.Histories.{IdealGuest, view_of, after_event, after_events, IsQueueInOrder, IsSound, after_leave, emptied, home, Call, begun, Course, IsEnded, actor_count, course_of, gone_on, GoesOn, last_of, Track, opening_track, CanOpen}
 use Rattle.gic_ideal.specs.Deeds.{op_events, step_events, steps_events}
 use Rattle.gic_ideal.proofs.SoundEvents.{sound_events}
 use Rattle.gic_ideal.proofs.StepLemmas.{free_follow, op_follows}
@@ -148,19 +145,6 @@ module _ (mode : Mode) (pes : ℕ) (shapes : List GuestShape) (n : ℕ) (shape :
 
 -- From the opening.
 
-pub order_opening : (guest : GuestSpec) → IsQueueInOrder (opening guest)
-order_opening guest =
-    let cbaser = word_opening guest Cbaser in
-    let cwriter = word_opening guest Cwriter in
-    record {
-      next = some (word_at (opening guest) Cbaser);
-      writer = subst (λ w. w < queue_bytes (word_at (opening guest) Cbaser)) (sym cwriter) (some (word_at (opening guest) Cbaser));
-      place = ap (λ w. w % 32) cwriter;
-    }
-  where
-    some : (cbaser : ℕ) → 0 < queue_bytes cbaser
-    some cbaser = omega arith
-
 -- all that stands at an interface taken back: nothing
 home_is : (guest : IdealGuest) → home (settled guest) ≡ guest
 home_is guest = ap (λ s. s.guest) (of 0 guest.shape.vcpus)
@@ -172,25 +156,25 @@ home_is guest = ap (λ s. s.guest) (of 0 guest.shape.vcpus)
     of a zero = refl
     of a (suc n) = ap (λ s. fold emptied s (range_with_len (a + 1) n)) (one a) ∙ of (a + 1) n
 
-pub record IsWholeRun (n : ℕ) (guest : GuestSpec) (steps : List Step) : Type 0 where
-  pub is : IsFreshWhole guest (history_of n steps (opening guest))
-  pub ends : home (last_of guest (history_of n steps (opening guest))) ≡ after_events (steps_events n steps (opening guest)) (opening guest)
+pub record IsWholeRun (n : ℕ) (guest : IdealGuest) (steps : List Step) : Type 0 where
+  pub is : IsFreshWhole guest (history_of n steps guest)
+  pub ends : home (last_of guest (history_of n steps guest)) ≡ after_events (steps_events n steps guest) guest
 
 none_open : (count : ℕ) → All (λ (call : Option Call). IsTrue (is_none call)) (replicate count None)
 none_open zero = All-nil (λ call. IsTrue (is_none call))
 none_open (suc count) = All-cons (λ call. IsTrue (is_none call)) None (replicate count None) refl (none_open count)
 
-pub whole_run : (mode : Mode) (pes : ℕ) (shapes : List GuestShape) (n : ℕ) (guest : GuestSpec) (steps : List Step) → IsGoodGuest guest → slice_get shapes n ≡ Some guest.shape → All (λ step. IsTrue (is_formed mode pes shapes step)) steps → IsWholeRun n guest steps
+pub whole_run : (mode : Mode) (pes : ℕ) (shapes : List GuestShape) (n : ℕ) (guest : IdealGuest) (steps : List Step) → CanOpen guest → slice_get shapes n ≡ Some guest.shape → All (λ step. IsTrue (is_formed mode pes shapes step)) steps → IsWholeRun n guest steps
 whole_run mode pes shapes n guest steps good at formed =
-    let run = steps_run mode pes shapes n guest.shape at steps (opening guest) (sound_opening guest good (empty_valid guest.shape)) (order_opening guest) refl formed in
-    let moments = history_of n steps (opening guest) in
+    let run = steps_run mode pes shapes n guest.shape at steps guest good.sound good.queue refl formed in
+    let moments = history_of n steps guest in
     let fresh : IsFreshFrom (opening_ideal guest) (opening_track guest.shape) moments =
-    subst (IsFreshFrom (opening_ideal guest) (opening_track guest.shape)) (append-nil moments) (run.fresh (opening_track guest.shape) [] refl (λ later left. none_fresh (settled (after_events (steps_events n steps (opening guest)) (opening guest))) later)) in
+    subst (IsFreshFrom (opening_ideal guest) (opening_track guest.shape)) (append-nil moments) (run.fresh (opening_track guest.shape) [] refl (λ later left. none_fresh (settled (after_events (steps_events n steps guest) guest)) later)) in
     record {
       is = record {
         history = run.goes;
         fresh = record { acknowledge = fresh.acknowledge; interface = fresh.interface; end = fresh.end; deactivation = fresh.deactivation };
         whole = subst (λ (c : Course). All (λ call. IsTrue (is_none call)) c.calls) (sym run.leaves) (none_open (actor_count guest.shape));
       };
-      ends = ap (λ (c : Course). home c.ideal) run.leaves ∙ home_is (after_events (steps_events n steps (opening guest)) (opening guest));
+      ends = ap (λ (c : Course). home c.ideal) run.leaves ∙ home_is (after_events (steps_events n steps guest) guest);
     }

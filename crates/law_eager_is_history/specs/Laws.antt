@@ -14,9 +14,9 @@ use Rattle.law_eager_is_history.specs.Possible.{IsFreshWhole, IsPossible}
 -- the steps of a scenario are a fresh history of the guest of a number, in which each actor makes its operations with the answers of the eager controller,
 -- and whose last state is the guest in which that ends
 pub record IsHistoryOfEager (scenario : Scenario) (n : ℕ) (guest : GuestSpec) (moments : List Moment) : Type 0 where
-  pub is : IsFreshWhole guest moments
+  pub is : IsFreshWhole (opening guest) moments
   pub calls : (actor : ℕ) → calls_of actor moments ≡ own_steps guest.shape n actor scenario.steps (eager scenario).answers
-  pub ends : slice_get (after_steps scenario.steps (map opening scenario.guests)) n ≡ Some (home (last_of guest moments))
+  pub ends : slice_get (after_steps scenario.steps (map opening scenario.guests)) n ≡ Some (home (last_of (opening guest) moments))
 
 abbrev pub EagerIsAHistory : Type 0
 EagerIsAHistory =

@@ -8,13 +8,13 @@ use Rattle.std.proofs.lemmas.Option.{same_Some}
 use Rattle.port_ops.specs.Words.{IccReg, Key, GuestShape, has_interrupt, intid_of, IsShape, Irq, cleared, has_active_state}
 use Rattle.port_ops.proofs.GicBase.KeyLemmas.{same_key}
 use Rattle.port_ops.specs.Registers.{Candidate, taken_by, deactivated_by, AtInterface, candidates_at, acknowledged_entry, deactivated_entry, acknowledged_at, deactivated_at}
-use Rattle.port_ops.specs.Calls.{Event, Up, Down, Touch, Reach, Take, Leave, Enable, Cpu, Put, CtlrBegin, CtlrEnd, ItsBegin, Moment, Begin, Happens, Runs, Done, Stalls, Entry, Moved, reached, taken, left, IsEntryOf, IsMovedOf, CanHappen, GuestSpec, IsGoodGuest, has_wire}
+use Rattle.port_ops.specs.Calls.{Event, Up, Down, Touch, Reach, Take, Leave, Enable, Cpu, Put, CtlrBegin, CtlrEnd, ItsBegin, Moment, Begin, Happens, Runs, Done, Stalls, Entry, Moved, reached, taken, left, IsEntryOf, IsMovedOf, CanHappen, has_wire}
 use Rattle.port_ops.specs.GicCall.declared.event.Event.TheVariants.{Raise, Read, ItsEnd, Queue}
 use Rattle.port_ops.specs.GicCall.declared.event.Moment.TheVariants.{End}
 use Rattle.guest_end.proofs.GicCall.MoveLemmas.{reached_valid, taken_valid, left_valid}
-use Rattle.law_core_is_history.specs.Histories.{IdealGuest, irq_at, cpu_at, IsIdealRecord, IsSound, Course, GoesOn, gone_on, course_of, opening_course, IsHistory, last_of, happened, after_take, after_leave, with_entry, without, standing_of, Ideal, Standing, standing_at, is_of, shown_at, interface_at, with_irq, with_standing}
-use Rattle.guest_end.proofs.IdealGuests.OpeningLemmas.{empty_valid, sound_opening}
-use Rattle.guest_end.proofs.IdealGuests.SoundLemmas.{sound_put, sound_with_cpu, cpu_valid, cpu_after_valid}
+use Rattle.law_core_is_history.specs.Histories.{IdealGuest, irq_at, cpu_at, IsIdealRecord, IsSound, Course, GoesOn, gone_on, course_of, opening_course, IsHistory, last_of, happened, after_take, after_leave, with_entry, without, standing_of, Ideal, Standing, standing_at, is_of, shown_at, interface_at, with_irq, with_standing, CanOpen}
+use Rattle.guest_end.proofs.IdealGuests.OpeningLemmas.{empty_valid}
+use Rattle.guest_end.proofs.IdealGuests.SoundLemmas.{sound_with_maps, sound_put, sound_with_cpu, cpu_valid, cpu_after_valid}
 use Rattle.law_core_is_history.specs.GicHistory.Moves.{after_access}
 use Rattle.law_core_is_history.specs.GicHistory.State.{opening}
 use Rattle.guest_end.proofs.GicIdeal.SoundEvents.{sound_event}
@@ -212,8 +212,8 @@ steady_goes course (Begin actor operation ∷ moments) steady going = steady_goe
 steady_goes course (Happens actor event found ∷ moments) steady going = steady_goes (gone_on course (Happens actor event found)) moments (steady_event actor event course.ideal going.0.can steady) going.1
 steady_goes course (End actor answer ∷ moments) steady going = steady_goes (gone_on course (End actor answer)) moments steady going.1
 
-steady_opens : (guest : GuestSpec) → IsGoodGuest guest → IsSteady (opening guest)
-steady_opens guest good = record { guest = sound_opening guest good (empty_valid guest.shape); standing = All-replicate (All CanStand) guest.shape.vcpus [] (All-nil CanStand) }
+steady_opens : (guest : IdealGuest) → CanOpen guest → IsSteady (opening guest)
+steady_opens guest good = record { guest = sound_with_maps guest no_maps good.sound (empty_valid guest.shape); standing = All-replicate (All CanStand) guest.shape.vcpus [] (All-nil CanStand) }
 
-pub steady_last : (guest : GuestSpec) (moments : List Moment) → IsGoodGuest guest → IsHistory guest moments → IsSteady (last_of guest moments)
+pub steady_last : (guest : IdealGuest) (moments : List Moment) → CanOpen guest → IsHistory guest moments → IsSteady (last_of guest moments)
 steady_last guest moments good history = steady_goes (opening_course guest) moments (steady_opens guest good) history

@@ -5,7 +5,7 @@ use Rattle.std.proofs.lemmas.List.{ext_get_or, get_or_default, get_or-map, get_o
 use Rattle.std.proofs.lemmas.List.FromFn.{get_or-map-range_with_len, length-map-range_with_len}
 use Rattle.port_ops.specs.Words.{Spi, GuestShape, has_interrupt, interrupt_count, key_at, IsShape, Irq}
 use Rattle.port_ops.specs.GuestWords.{word_among, words_among}
-use Rattle.port_ops.specs.Calls.{Fault, irq_in, opening_cpu, opening_irq, has_plain, place_of_plain, plain_at, plain_count, GuestSpec}
+use Rattle.port_ops.specs.Calls.{Fault, irq_in, opening_cpu, opening_irq, has_plain, place_of_plain, plain_at, plain_count}
 use Rattle.port_ops.proofs.GicOpen.KeyLemmas.{irq_in_there, key_at_there}
 use Rattle.port_ops.specs.Registers.{Enables, CpuRec, Maps}
 use Rattle.law_core_is_history.specs.Histories.{Ideal, IdealGuest, cpu_at, word_at}
@@ -143,7 +143,7 @@ module _ (shape : GuestShape) (state : CoreState) (ideal : Ideal) (good : IsShap
 
 -- The guest.
 
-pub guest_same : (spec : GuestSpec) (state : CoreState) (ideal : Ideal) → IsShape spec.shape → IsSound spec.shape state → Related spec.shape state ideal → AreEmpty spec.shape state → told_in spec state ≡ without_past_fault ideal.guest
+pub guest_same : (spec : IdealGuest) (state : CoreState) (ideal : Ideal) → IsShape spec.shape → IsSound spec.shape state → Related spec.shape state ideal → AreEmpty spec.shape state → told_in spec state ≡ without_past_fault ideal.guest
 guest_same spec state ideal good sound related empty =
     let shape = spec.shape in
     let queue = related.words Queue refl in

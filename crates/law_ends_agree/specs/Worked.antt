@@ -1,22 +1,20 @@
 -- Ends of the worked run and of its beginning.
 use Rattle.std.specs.Prelude.{◌≡◌, List, [], ◌∷◌, take, true, false, Some, None}
-use Rattle.law_core_is_history.specs.Histories.{opening_course}
+use Rattle.law_core_is_history.specs.Histories.{opening_course, CanOpen}
 use Rattle.guest_end.specs.GicIdeal.Ends.{end_of}
-use Rattle.guest_end.specs.IdealGuests.Opening.{opening as opening_guest}
 use Rattle.port_ops.specs.GicGuest.declared.outcome.End.{End}
-use Rattle.port_ops.specs.Calls.{IsGoodGuest}
 use Rattle.law_core_is_history.specs.Core.{opening, CoreMoment, IsPartedRun, worked_guest, worked_run, spi}
 use Rattle.law_core_is_history.specs.Laws.{AreCalls}
 use Rattle.law_ends_agree.specs.End.{AreEmpty, state_after, told_in, EndsAtHome}
 
 -- a run of the worked guest meets what the law asks, and ends with these lines
 pub record EndsWith (moments : List CoreMoment) (told : End) : Type 0 where
-  pub good : IsGoodGuest worked_guest
+  pub good : CanOpen worked_guest
   pub parted : IsPartedRun worked_guest 0 moments
   pub calls : AreCalls worked_guest.shape (opening worked_guest 0) (opening_course worked_guest) moments
   pub empty : AreEmpty worked_guest.shape (state_after worked_guest 0 moments)
   pub ends : EndsAtHome worked_guest 0 moments
-  pub lines : end_of (opening_guest worked_guest) (told_in worked_guest (state_after worked_guest 0 moments)) ≡ told
+  pub lines : end_of worked_guest (told_in worked_guest (state_after worked_guest 0 moments)) ≡ told
 
 -- a guest that ends as it opened
 abbrev pub as_opened : End

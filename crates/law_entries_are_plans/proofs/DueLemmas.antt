@@ -2,8 +2,8 @@
 use Rattle.std.proofs.Common.{◌≡◌, ℕ, ◌<◌, ◌&&◌, ◌||◌, inl, inr, Bool, true, false, cond, IsTrue, List, [], ◌∷◌, filter, map, Contains, Some, None, is_none, refl, sym, ap, ◌∙◌, subst}
 use Rattle.std.proofs.lemmas.Bool.{and_parts, and_from, eqb-true}
 use Rattle.law_serial_is_eager.specs.Words.{Key, GuestShape, has_interrupt, intid_of, Irq, is_number, is_ripe}
-use Rattle.law_serial_is_eager.specs.Calls.{Entry, left, GuestSpec, IsGoodGuest}
-use Rattle.law_serial_is_eager.specs.Histories.{Track, IsHistory, home, interface_at, is_home, is_of, shown_at, standing_at, IdealGuest, cpu_at, irq_at}
+use Rattle.law_serial_is_eager.specs.Calls.{Entry, left}
+use Rattle.law_serial_is_eager.specs.Histories.{Track, IsHistory, home, interface_at, is_home, is_of, shown_at, standing_at, IdealGuest, cpu_at, irq_at, CanOpen}
 use Rattle.law_serial_is_eager.specs.Registers.{Candidate, CpuRec, is_deliverable, is_group_enabled, takes_kind, candidates_at}
 use Rattle.law_serial_is_eager.proofs.LawHistories.StandLemmas.{home_nowhere, of_key, standing_of_key}
 use Rattle.law_serial_is_eager.proofs.LawHomeCommutes.HomeLemmas.{home_irq}
@@ -46,7 +46,7 @@ pub record IsShown (shape : GuestShape) (guest : IdealGuest) (state : CoreState)
   pub due : IsDue shape state track vcpu key
   pub same : offer_in shape state key ≡ offer_home guest key
 
-module _ (guest : GuestSpec) (number : ℕ) (moments : List CoreMoment) (vcpu : ℕ) (good : IsGoodGuest guest) (proper : IsProperRun guest number moments) (history : IsHistory guest (ideal_of guest.shape (opening guest number) moments)) (few : vcpu < guest.shape.vcpus)
+module _ (guest : IdealGuest) (number : ℕ) (moments : List CoreMoment) (vcpu : ℕ) (good : CanOpen guest) (proper : IsProperRun guest number moments) (history : IsHistory guest (ideal_of guest.shape (opening guest number) moments)) (few : vcpu < guest.shape.vcpus)
     (up : IsUpToDate guest.shape (followed_in guest number moments)) (alone : IsAlone guest number moments vcpu) (none : (actor : ℕ) → actor < actor_count guest.shape → (progress_in guest number moments actor).wants ≡ []) where
   abbrev shape : GuestShape
   shape = guest.shape
@@ -81,7 +81,7 @@ module _ (guest : GuestSpec) (number : ℕ) (moments : List CoreMoment) (vcpu : 
 
     -- it is at no interface
     passes_home : (key : Key) → IsTrue (has_interrupt shape key) → Passes shape back vcpu key → is_home at.ideal key ≡ true
-    passes_home key there passes = of (where_is shape good.shape at tidy all up vcpu few key there)
+    passes_home key there passes = of (where_is shape good.sound.shape at tidy all up vcpu few key there)
       where
         not_here : (w : ℕ) (entry : Entry) → of_key at.ideal key w ≡ standing_of_key key entry ∷ [] → w ≡ vcpu → ⊥
         not_here w entry is same =
@@ -100,12 +100,12 @@ module _ (guest : GuestSpec) (number : ℕ) (moments : List CoreMoment) (vcpu : 
         stood w entry is e reached (inl active) = not_here w entry is.here (active_there (irq_at at.ideal.guest key) entry vcpu w (subst (λ (i : Irq). is_number vcpu i.act_by ≡ true) e active))
         stood w entry is e reached (inr delivered) =
             let now : IsTrue (is_deliverable key (left w (record { irq = irq_at at.ideal.guest key; entry = entry })) vcpu (cpu_at at.ideal.guest vcpu) shape) =
-            subst (λ (i : Irq). IsTrue (is_deliverable key i vcpu (cpu_at at.ideal.guest vcpu) shape)) e (subst (λ (c : CpuRec). IsTrue (is_deliverable key (irq_at back key) vcpu c shape)) (home_cpu shape good.shape at tidy all up vcpu few) delivered) in
-            let there = stands_there shape good.shape at tidy all up vcpu few key w entry is reached now in
+            subst (λ (i : Irq). IsTrue (is_deliverable key i vcpu (cpu_at at.ideal.guest vcpu) shape)) e (subst (λ (c : CpuRec). IsTrue (is_deliverable key (irq_at back key) vcpu c shape)) (home_cpu shape good.sound.shape at tidy all up vcpu few) delivered) in
+            let there = stands_there shape good.sound.shape at tidy all up vcpu few key w entry is reached now in
             Contains-nothing shown (subst (λ list. Contains list shown) none_shown there)
 
-        of : Where shape good.shape at tidy all up vcpu few key → is_home at.ideal key ≡ true
-        of (nowhere none e) = is_home_so shape good.shape at tidy all up vcpu few key none
+        of : Where shape good.sound.shape at tidy all up vcpu few key → is_home at.ideal key ≡ true
+        of (nowhere none e) = is_home_so shape good.sound.shape at tidy all up vcpu few key none
         of (somewhere w entry is e reached) = absurd (stood w entry is e reached passes)
 
     -- and due

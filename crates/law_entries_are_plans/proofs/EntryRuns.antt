@@ -6,7 +6,7 @@ use Rattle.std.proofs.lemmas.List.{append-nil}
 use Rattle.std.proofs.lemmas.List.Sums.{fold-append}
 use Rattle.law_serial_is_eager.specs.Words.{Key, GuestShape, has_interrupt, irq_of}
 use Rattle.law_serial_is_eager.specs.GicCall.declared.event.Moment.TheVariants.{End}
-use Rattle.law_serial_is_eager.specs.Calls.{Residence, GuestSpec}
+use Rattle.law_serial_is_eager.specs.Calls.{Residence}
 use Rattle.law_serial_is_eager.specs.Histories.{Track, Course, IsHistory, gone_on, last_of, opening_course, home, IdealGuest, cpu_at}
 use Rattle.law_serial_is_eager.specs.Lists.{IchRegs, plan, regs_of}
 use Rattle.law_serial_is_eager.specs.GicIdeal.Shown.{offers_of}
@@ -46,7 +46,7 @@ use Rattle.law_entries_are_plans.proofs.PlaceLemmas.{offer_as, offer_home, offer
 use Rattle.law_entries_are_plans.proofs.PlanLemmas.{HasPlan}
 use Rattle.law_entries_are_plans.proofs.StayLemmas.{failed_before, untrapped_before}
 
-module _ (guest : GuestSpec) (number : ℕ) (early : List CoreMoment) (part : WholePart) (lone : IsLonePart guest number early part) (resides : part.operation ≡ Residence) where
+module _ (guest : IdealGuest) (number : ℕ) (early : List CoreMoment) (part : WholePart) (lone : IsLonePart guest number early part) (resides : part.operation ≡ Residence) where
   abbrev shape : GuestShape
   shape = guest.shape
 
@@ -76,7 +76,7 @@ module _ (guest : GuestSpec) (number : ℕ) (early : List CoreMoment) (part : Wh
     acts = next_so guest number early part lone pre late made e
 
     is : IsStep shape (state_at guest number early part pre) (followed_in guest number (so_far early part pre)).ideal v made.step made.found made.left made.tables
-    is = is_step shape lone.good.shape (state_at guest number early part pre) (followed_in guest number (so_far early part pre)) (progress_on shape (opening_progress guest number) (so_far early part pre)) v made acts.at acts.acts
+    is = is_step shape lone.good.sound.shape (state_at guest number early part pre) (followed_in guest number (so_far early part pre)) (progress_on shape (opening_progress guest number) (so_far early part pre)) v made acts.at acts.acts
 
     abbrev q : Progress
     q = with_made shape v made p (changed_by shape v made.step made.found (succeeds shape v p.local made.step made.found) p)
@@ -116,7 +116,7 @@ module _ (guest : GuestSpec) (number : ℕ) (early : List CoreMoment) (part : Wh
     unfolding is
     covers_q free failed =
         leaves lone.few (followed_in guest number (so_far early part pre)).track next_track acts.at.told p (seat_so guest number v lone.good (so_far early part pre) made acts) made.step is
-        (lasts shape lone.good.shape (state_at guest number early part pre) (followed_in guest number (so_far early part pre)) (progress_on shape (opening_progress guest number) (so_far early part pre)) v made acts.at acts.acts)
+        (lasts shape lone.good.sound.shape (state_at guest number early part pre) (followed_in guest number (so_far early part pre)) (progress_on shape (opening_progress guest number) (so_far early part pre)) v made acts.at acts.acts)
         (proper_so guest number v lone.good (so_far early part pre) made acts) (scans_overlook_none guest number (so_far early part pre) v lone.good acts.before lone.few) free failed
 
     lrs_q : q.lrs ≡ part.lrs
@@ -126,7 +126,7 @@ module _ (guest : GuestSpec) (number : ℕ) (early : List CoreMoment) (part : Wh
     then_on : IsUnkicked shape (state_at guest number early part (pre ++ made ∷ [])) v → (p_at guest number early part (pre ++ made ∷ [])).failed ≡ false → Enters shape back v part.lrs q → Enters shape back v part.lrs (p_at guest number early part (pre ++ made ∷ []))
     then_on free failed now =
         subst (Enters shape back v part.lrs) (sym p_is)
-        (enters_on shape lone.good.shape back (later is) next_track v part.lrs lone.few q lrs_q (ready_q free) now (covers_q (free_on free) (failed_q failed)))
+        (enters_on shape lone.good.sound.shape back (later is) next_track v part.lrs lone.few q lrs_q (ready_q free) now (covers_q (free_on free) (failed_q failed)))
 
     -- a look at an interrupt
     seen : (k : Key) → made.step ≡ Look (Irq k) → IsTrue (has_interrupt shape k) × ((irq_of made.found).holder ≡ None → (irq_of made.found).want ≡ false → offer_as k (irq_of made.found) ≡ offer_home back k)
@@ -145,7 +145,7 @@ module _ (guest : GuestSpec) (number : ℕ) (early : List CoreMoment) (part : Wh
         let done = succeeds shape v p.local made.step made.found in
         let now = going before.0 (failed_before shape v made.found done p made.step no_poll before.1 (failed_q failed)) (untrapped_before shape v made.found done p made.step no_poll (untrapped_q untrapped)) in
         then_on free failed
-        (enters_made shape lone.good.shape back v part.lrs p made.found made.left made.tables made.step no_poll (proper_so guest number v lone.good (so_far early part pre) made acts) (no_end guest number early part lone resides pre inside.along) seen (failed_q failed) (untrapped_q untrapped) now)
+        (enters_made shape lone.good.sound.shape back v part.lrs p made.found made.left made.tables made.step no_poll (proper_so guest number v lone.good (so_far early part pre) made acts) (no_end guest number early part lone resides pre inside.along) seen (failed_q failed) (untrapped_q untrapped) now)
 
     -- and that look
     going_looks : made.step ≡ Poll None None → GoingAt (pre ++ made ∷ [])

@@ -2,10 +2,10 @@
 use Rattle.std.proofs.Common.{◌≡◌, ℕ, true≢false, true, IsTrue, All, List, [], ◌∷◌, None, is_some, refl, sym, ap, ◌∙◌, subst}
 use Rattle.std.proofs.lemmas.List.Elements.{All-head, All-tail}
 use Rattle.law_serial_is_eager.specs.Words.{GuestShape}
-use Rattle.law_serial_is_eager.specs.Calls.{Event, Reach, Take, Leave, Moment, Begin, Happens, CanHappen, GuestSpec, IsGoodGuest}
+use Rattle.law_serial_is_eager.specs.Calls.{Event, Reach, Take, Leave, Moment, Begin, Happens, CanHappen}
 use Rattle.law_serial_is_eager.specs.GicCall.declared.event.Event.TheVariants.{Read}
 use Rattle.law_serial_is_eager.specs.GicCall.declared.event.Moment.TheVariants.{End}
-use Rattle.law_serial_is_eager.specs.Histories.{Course, GoesOn, IsNext, course_of, gone_on, happened, home, is_allowed}
+use Rattle.law_serial_is_eager.specs.Histories.{Course, GoesOn, IsNext, course_of, gone_on, happened, home, is_allowed, IdealGuest, CanOpen}
 use Rattle.law_serial_is_eager.proofs.LawHomeCommutes.HomeLaws.{moment_tidy, move_keeps}
 use Rattle.law_serial_is_eager.proofs.LawHomeCommutes.SpotLemmas.{IsTidy}
 use Rattle.law_serial_is_eager.specs.Core.{CoreState, after_moment, Act, begins, makes, ends, CoreMoment, Progress, progress_in, progressed, IsProperRun}
@@ -51,5 +51,5 @@ rests_kept shape actor = record { other = λ state at progress other act apart h
     own state at progress (makes made) here acts rests none = absurd (true≢false (sym acts.fit ∙ ap is_some (sym (operation_on shape actor made (progress actor)) ∙ none)))
     own state at progress (ends answer) here acts rests none = none_wanted (progress actor).wants acts.proper.want
 
-pub rests_unwanted : (guest : GuestSpec) (number : ℕ) (moments : List CoreMoment) (actor : ℕ) → IsGoodGuest guest → IsProperRun guest number moments → (progress_in guest number moments actor).operation ≡ None → (progress_in guest number moments actor).wants ≡ []
+pub rests_unwanted : (guest : IdealGuest) (number : ℕ) (moments : List CoreMoment) (actor : ℕ) → CanOpen guest → IsProperRun guest number moments → (progress_in guest number moments actor).operation ≡ None → (progress_in guest number moments actor).wants ≡ []
 rests_unwanted guest number moments actor good proper none = (runs_keep guest number actor Rests good (rests_kept guest.shape actor) (λ h. refl) moments proper).keeps none

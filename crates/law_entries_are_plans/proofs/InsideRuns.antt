@@ -5,7 +5,7 @@ use Rattle.std.proofs.lemmas.Bool.{lt-ltb}
 use Rattle.std.proofs.lemmas.List.{append-nil, append_assoc}
 use Rattle.std.proofs.lemmas.List.Sums.{fold-append}
 use Rattle.law_serial_is_eager.specs.Words.{Key, GuestShape, has_interrupt}
-use Rattle.law_serial_is_eager.specs.Calls.{Residence, Happened, IsCall, is_beside, named_of, GuestSpec}
+use Rattle.law_serial_is_eager.specs.Calls.{Residence, Happened, IsCall, is_beside, named_of}
 use Rattle.law_serial_is_eager.specs.Histories.{Course, GoesOn, IsHistory, course_of, gone_on, last_of, opening_course, vcpu_of, home, names, IdealGuest, cpu_at}
 use Rattle.law_serial_is_eager.proofs.LawHistories.CourseLemmas.{goes_before}
 use Rattle.law_serial_is_eager.proofs.LawHomeCommutes.HomeLaws.{history_tidy}
@@ -35,7 +35,7 @@ use Rattle.law_entries_are_plans.proofs.HomeRuns.{home_stays}
 use Rattle.law_entries_are_plans.proofs.PlaceLemmas.{offer_as, offer_home}
 use Rattle.law_entries_are_plans.proofs.StayLemmas.{far_stays}
 
-module _ (guest : GuestSpec) (number : ℕ) (early : List CoreMoment) (part : WholePart) where
+module _ (guest : IdealGuest) (number : ℕ) (early : List CoreMoment) (part : WholePart) where
   -- the guest with all taken back, before the part
   abbrev pub home_before : IdealGuest
   home_before = home (last_of guest (ideal_of guest.shape (opening guest number) early))
@@ -50,7 +50,7 @@ module _ (guest : GuestSpec) (number : ℕ) (early : List CoreMoment) (part : Wh
     pub far : (p_at guest number early part pre).far ≡ None
     pub lrs : (p_at guest number early part pre).lrs ≡ part.lrs
 
-module _ (guest : GuestSpec) (number : ℕ) (early : List CoreMoment) (part : WholePart) (lone : IsLonePart guest number early part) (resides : part.operation ≡ Residence) where
+module _ (guest : IdealGuest) (number : ℕ) (early : List CoreMoment) (part : WholePart) (lone : IsLonePart guest number early part) (resides : part.operation ≡ Residence) where
   abbrev shape : GuestShape
   shape = guest.shape
 

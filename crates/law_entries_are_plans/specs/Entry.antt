@@ -2,8 +2,8 @@
 use Rattle.std.specs.Prelude.{◌≡◌, ℕ, ◌<◌, not, Bool, true, false, IsTrue, List, ◌∷◌, ◌++◌, take, None}
 use Rattle.std.specs.List.{list_all}
 use Rattle.law_serial_is_eager.specs.Words.{GuestShape}
-use Rattle.law_serial_is_eager.specs.Calls.{Residence, GuestSpec, IsGoodGuest}
-use Rattle.law_serial_is_eager.specs.Histories.{last_of, opening_course, home, IdealGuest, cpu_at}
+use Rattle.law_serial_is_eager.specs.Calls.{Residence}
+use Rattle.law_serial_is_eager.specs.Histories.{last_of, opening_course, home, IdealGuest, cpu_at, CanOpen}
 use Rattle.law_serial_is_eager.specs.Lists.{IchRegs, plan, regs_of}
 use Rattle.law_serial_is_eager.specs.GicIdeal.Shown.{offers_of, registers_of}
 use Rattle.law_serial_is_eager.specs.Core.{Made, CoreStep, Poll, CoreState, opening, end_of_moments, ideal_of, CoreMoment, Progress, progress_in, IsProperRun}
@@ -42,7 +42,7 @@ pub record ShowsRegisters (guest : IdealGuest) (vcpu n : ℕ) (regs : IchRegs) :
 -- a vCPU that enters while nobody else acts, where all was at ease before, has the registers of the guest with all that stands at interfaces taken back
 abbrev pub EntriesShowHome : Type 0
 EntriesShowHome =
-    (guest : GuestSpec) (number : ℕ) (early : List CoreMoment) (part : WholePart) → IsGoodGuest guest → IsProperRun guest number (early ++ moments_in part) → AreCalls guest.shape (opening guest number) (opening_course guest) (early ++ moments_in part)
+    (guest : IdealGuest) (number : ℕ) (early : List CoreMoment) (part : WholePart) → CanOpen guest → IsProperRun guest number (early ++ moments_in part) → AreCalls guest.shape (opening guest number) (opening_course guest) (early ++ moments_in part)
     → AccessesComeFirst guest number early → AreAtEase guest number early → part.actor < guest.shape.vcpus → IsEntry part
     → HasEntered guest.shape (end_of_moments guest.shape (opening guest number) (early ++ moments_in part)) part.actor (progress_in guest number (early ++ moments_in part) part.actor)
     → ShowsRegisters (home (last_of guest (ideal_of guest.shape (opening guest number) (early ++ moments_in part)))) part.actor part.lrs (progress_in guest number (early ++ moments_in part) part.actor).regs

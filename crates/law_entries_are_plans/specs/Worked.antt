@@ -1,7 +1,7 @@
 -- A vCPU that enters with an SPI that a device made pending: what the law asks of it holds, and what its registers are.
 use Rattle.std.specs.Prelude.{◌≡◌, ◌^◌, List, [], ◌∷◌, ◌++◌, take, None}
-use Rattle.law_serial_is_eager.specs.Calls.{Residence, IsGoodGuest}
-use Rattle.law_serial_is_eager.specs.Histories.{last_of, opening_course, home}
+use Rattle.law_serial_is_eager.specs.Calls.{Residence}
+use Rattle.law_serial_is_eager.specs.Histories.{last_of, opening_course, home, CanOpen}
 use Rattle.law_serial_is_eager.specs.GicIdeal.Shown.{registers_of}
 use Rattle.law_serial_is_eager.specs.Core.{Claim, Look, Poll, TakeIndex, Irq, Vcpu, opening, end_of_moments, ideal_of, CoreMoment, progress_in, IsProperRun, worked_guest, worked_run, spi, pending_word, held_word}
 use Rattle.law_serial_is_eager.specs.LawCoreIsHistory.Laws.{AreCalls}
@@ -27,7 +27,7 @@ abbrev pub entry_run : List CoreMoment
 entry_run = raised_run ++ moments_in entering_part
 
 pub record WorkedEntryShowsHome : Type 0 where
-  pub good : IsGoodGuest worked_guest
+  pub good : CanOpen worked_guest
   pub same : entry_run ≡ entered_run
   pub proper : IsProperRun worked_guest 0 entry_run
   pub calls : AreCalls worked_guest.shape (opening worked_guest 0) (opening_course worked_guest) entry_run

@@ -9,12 +9,11 @@ use Rattle.law_unmapped_lpis.specs.Words.{GuestShape, interrupt_count, IsShape}
 use Rattle.law_unmapped_lpis.specs.Calls.{Event, Happened, command_targets}
 use Rattle.law_unmapped_lpis.specs.Registers.{IsValid, Maps}
 use Rattle.law_unmapped_lpis.proofs.IdealGuests.KeyLemmas.{IsWhole}
-use Rattle.law_unmapped_lpis.specs.Histories.{Ideal, happened, targets_in, vcpu_of}
+use Rattle.law_unmapped_lpis.specs.Histories.{Ideal, happened, targets_in, vcpu_of, AreForNone}
 use Rattle.law_serial_is_eager.proofs.LawEagerIsHistory.CourseLemmas.{state_after}
 use Rattle.law_serial_is_eager.proofs.LawEagerIsHistory.WindowLemmas.{Targets, beside_of, no_target}
 use Rattle.law_serial_is_eager.proofs.LawLoneCallsAreEager.CommandLemmas.{events_both}
 use Rattle.law_serial_is_eager.proofs.LawLoneCallsAreEager.RunLemmas.{events_of}
-use Rattle.law_unmapped_lpis.specs.Mapped.{AreForNone}
 use Rattle.pe_mem.specs.Core.{Local, Made, actor_count, ends_command, known_maps, Seen, events_of as port_events, local_by, part_events, shape_of, CoreState, seat_at}
 use Rattle.law_serial_is_eager.specs.LawCoreIsHistory.Laws.{followed_by}
 use Rattle.law_serial_is_eager.specs.LawCoreIsHistory.Related.{Related}

@@ -3,9 +3,8 @@ use Rattle.std.proofs.Common.{◌≡◌, ℕ, ◌<◌, IsTrue, List, [], ◌∷�
 use Rattle.std.proofs.lemmas.List.{append-nil, append_assoc}
 use Rattle.std.proofs.lemmas.List.Elements.{All-replicate}
 use Rattle.law_unmapped_lpis.specs.Words.{GuestShape}
-use Rattle.law_unmapped_lpis.specs.Calls.{Moment, Operation, Access, Device, Residence, Happened, GuestSpec, IsGoodGuest, is_good_event, is_good_op}
-use Rattle.law_unmapped_lpis.specs.Histories.{IdealGuest, after_events, Ideal, home, Call, IsHistory, IsWhole as IsWholeHistory, actor_count, last_of, opening_course}
-use Rattle.law_unmapped_lpis.specs.IdealGuests.Opening.{opening as opening_guest}
+use Rattle.law_unmapped_lpis.specs.Calls.{Moment, Operation, Access, Device, Residence, Happened, is_good_event, is_good_op}
+use Rattle.law_unmapped_lpis.specs.Histories.{IdealGuest, after_events, Ideal, home, Call, IsHistory, IsWhole as IsWholeHistory, actor_count, last_of, opening_course, CanOpen, AreForNone}
 use Rattle.law_unmapped_lpis.specs.Registers.{has_target}
 use Rattle.law_unmapped_lpis.proofs.LawHomeCommutes.HomeLaws.{history_tidy}
 use Rattle.law_unmapped_lpis.proofs.LawHomeCommutes.HomeLemmas.{home_rest}
@@ -16,8 +15,6 @@ use Rattle.law_unmapped_lpis.specs.LawLoneCallsAreEager.Runs.{IsGoodCall, LoneCa
 use Rattle.law_serial_is_eager.proofs.LawLoneCallsAreEager.EndLemmas.{calls_end_again}
 use Rattle.law_serial_is_eager.proofs.LawLoneCallsAreEager.RestLaws.{rest_stays}
 use Rattle.law_serial_is_eager.proofs.LawLoneCallsAreEager.TargetLemmas.{home_targets}
-use Rattle.law_unmapped_lpis.specs.Mapped.{AreForNone}
-use Rattle.law_unmapped_lpis.proofs.OpeningLemmas.{open_for_none}
 use Rattle.law_unmapped_lpis.proofs.OperationLaws.{accesses_leave_none, devices_leave_none}
 use Rattle.pe_mem.specs.Core.{CoreState, opening, end_of_moments, ideal_of, CoreMoment, IsProperRun}
 use Rattle.law_serial_is_eager.specs.LawCoreIsHistory.Laws.{AreCalls}
@@ -33,7 +30,7 @@ use Rattle.law_found_parts_are_calls.proofs.EndRuns.{found_parts_are_calls}
 
 -- As a guest opens, no call is open.
 
-opens_whole : (guest : GuestSpec) → IsWholeHistory guest []
+opens_whole : (guest : IdealGuest) → IsWholeHistory guest []
 opens_whole guest = All-replicate (λ (call : Option Call). IsTrue (is_none call)) (actor_count guest.shape) None refl
 
 -- LPIs that the maps give no vCPU.
@@ -74,7 +71,7 @@ moments_join : (one two : List WholePart) → moments_of (one ++ two) ≡ moment
 moments_join [] two = refl
 moments_join (part ∷ one) two = ap (λ ms. moments_in part ++ ms) (moments_join one two) ∙ sym (append_assoc (moments_in part) (moments_of one) (moments_of two))
 
-module _ (guest : GuestSpec) (number : ℕ) (good : IsGoodGuest guest) where
+module _ (guest : IdealGuest) (number : ℕ) (good : CanOpen guest) where
   abbrev start : CoreState
   start = opening guest number
 
@@ -92,7 +89,7 @@ module _ (guest : GuestSpec) (number : ℕ) (good : IsGoodGuest guest) where
   calm_so : (parts : List WholePart) → IsProperRun guest number (moments_of parts) → Calls (moments_of parts) → AreFit guest number [] parts → IsCalm guest.shape (home (last_of guest (past (moments_of parts))))
   calm_so parts proper calls fit =
       subst (IsCalm guest.shape) (sym (serial_runs_are_eager guest number parts good proper calls fit).ends)
-      (calm_after_all guest.shape (calls_of guest.shape (opening guest number) parts) (opening_guest guest) (record { shape_is = refl; rest = rest_stays.opens guest good; none = open_for_none guest good })
+      (calm_after_all guest.shape (calls_of guest.shape (opening guest number) parts) guest (record { shape_is = refl; rest = rest_stays.opens guest good; none = good.none })
       (good_calls parts [] (opening guest number) fit))
 
   -- one more part that is fit

@@ -12,11 +12,11 @@ use Rattle.law_unmapped_lpis.specs.GicRmap.Map.{decoded as redist_decoded}
 use Rattle.law_unmapped_lpis.specs.GicImap.Map.{decoded as its_decoded}
 use Rattle.law_unmapped_lpis.specs.GicImap.declared.map.RegRef.{RegRef as ItsRef}
 use Rattle.law_unmapped_lpis.specs.GicImap.declared.map.RegRef.TheVariants.{Plain as ItsPlain, Reserved as ItsReserved}
-use Rattle.law_unmapped_lpis.specs.Calls.{Event, Touch, Operation, Access, Device, Residence, Begin, Place, Runs, Done, Stalls, icc_events, its_events, Beside, Happened, IsCall, IsItsWrite, Makes, View, GuestSpec, IsGoodGuest, ItsBegin}
+use Rattle.law_unmapped_lpis.specs.Calls.{Event, Touch, Operation, Access, Device, Residence, Begin, Place, Runs, Done, Stalls, icc_events, its_events, Beside, Happened, IsCall, IsItsWrite, Makes, View, ItsBegin}
 use Rattle.law_unmapped_lpis.specs.GicCall.declared.event.Event.TheVariants.{Queue}
 use Rattle.law_unmapped_lpis.specs.Registers.{has_target}
 use Rattle.law_unmapped_lpis.proofs.IdealGuests.KeyLemmas.{IsWhole}
-use Rattle.law_unmapped_lpis.specs.Histories.{Ideal, Call, Course, IsEnded, begun, course_of, gone_on, opening_course, targets_in, vcpu_of, happened}
+use Rattle.law_unmapped_lpis.specs.Histories.{Ideal, Call, Course, IsEnded, begun, course_of, gone_on, opening_course, targets_in, vcpu_of, happened, IdealGuest, CanOpen, AreForNone}
 use Rattle.law_unmapped_lpis.proofs.LawHistories.CourseLemmas.{begun_here}
 use Rattle.law_serial_is_eager.proofs.GicCall.TraceLemmas.{access_made, op_made}
 use Rattle.law_serial_is_eager.proofs.LawEagerIsHistory.CourseLemmas.{call_after, call_append, state_after}
@@ -27,7 +27,6 @@ use Rattle.law_serial_is_eager.proofs.LawLoneCallsAreEager.PassLemmas.{device_al
 use Rattle.law_serial_is_eager.proofs.LawLoneCallsAreEager.ReadLemmas.{beside_passes}
 use Rattle.law_serial_is_eager.proofs.LawLoneCallsAreEager.RunLemmas.{events_of}
 use Rattle.law_serial_is_eager.proofs.LawLoneCallsAreEager.TurnLemmas.{its_all}
-use Rattle.law_unmapped_lpis.specs.Mapped.{AreForNone}
 use Rattle.pe_mem.specs.Core.{Made, actor_count, no_maps, events_of as port_events, local_by, part_events, shape_of, CoreState, IsRun, opening, seat_at, maps_taken, vcpu_of_actor, after_moment, end_of_moments, ideal_moments, ideal_of, CoreMoment, ends, entries_of, entry_by, makes, step_of, IsProperRun}
 use Rattle.pe_mem.proofs.PortCore.RunLemmas.{run_splits}
 use Rattle.pe_mem.proofs.CoreProper.PartLemmas.{same_end}
@@ -137,7 +136,7 @@ cut_same (made ∷ own) one two e = cut_same own one two (same_rest made made (o
 
 -- The call.
 
-module _ (guest : GuestSpec) (number : ℕ) (early : List CoreMoment) (part : WholePart) (good : IsGoodGuest guest) (proper : IsProperRun guest number (early ++ moments_in part)) (calls : AreCalls guest.shape (opening guest number) (opening_course guest) early)
+module _ (guest : IdealGuest) (number : ℕ) (early : List CoreMoment) (part : WholePart) (good : CanOpen guest) (proper : IsProperRun guest number (early ++ moments_in part)) (calls : AreCalls guest.shape (opening guest number) (opening_course guest) early)
     (told : IsFoundPart guest number early part) where
   abbrev shape : GuestShape
   shape = guest.shape
@@ -176,15 +175,15 @@ module _ (guest : GuestSpec) (number : ℕ) (early : List CoreMoment) (part : Wh
       (run_splits shape start (entries_of early) (entries_of (moments_in part)) (subst (IsRun shape start) (filter_map-append (λ (moment : CoreMoment). option_map (entry_by moment.actor) (step_of moment.act)) early (moments_in part)) proper.parted.run)).1)
 
   pub here : AreHere shape part.actor before course.ideal part.steps
-  here = here_all shape good.shape part.actor part.steps before course.ideal at.sound at.related at.known run
+  here = here_all shape good.sound.shape part.actor part.steps before course.ideal at.sound at.related at.known run
 
   whole : IsWhole course.ideal.guest
-  whole = whole_so shape good.shape before course.ideal at.related
+  whole = whole_so shape good.sound.shape before course.ideal at.related
 
   -- as it is told, and as it is in the run
   told_is : (steps : List Made) → part_events told.seen steps ≡ happened_in shape part.actor before steps
   told_is steps =
-      ap (λ (g : GuestSpec). port_events g.shape told.seen.actor told.seen.local told.seen.own steps) told.told.guest_is
+      ap (λ (g : IdealGuest). port_events g.shape told.seen.actor told.seen.local told.seen.own steps) told.told.guest_is
       ∙ ap (λ actor. port_events shape actor told.seen.local told.seen.own steps) told.told.actor_is
       ∙ ap (λ local. port_events shape part.actor local told.seen.own steps) told.told.local_is
       ∙ ap (λ own. port_events shape part.actor (seat_at before part.actor).local own steps) told.told.own_is
@@ -194,10 +193,10 @@ module _ (guest : GuestSpec) (number : ℕ) (early : List CoreMoment) (part : Wh
   as_run beside is =
       subst (λ xs. IsCall shape beside (vcpu_of shape part.actor) part.operation xs part.answer) (told_is part.steps)
       (subst (λ actor. IsCall shape beside (vcpu_of shape actor) part.operation (part_events told.seen part.steps) part.answer) told.told.actor_is
-      (subst (λ (g : GuestSpec). IsCall g.shape beside (vcpu_of g.shape told.seen.actor) part.operation (part_events told.seen part.steps) part.answer) told.told.guest_is is))
+      (subst (λ (g : IdealGuest). IsCall g.shape beside (vcpu_of g.shape told.seen.actor) part.operation (part_events told.seen part.steps) part.answer) told.told.guest_is is))
 
   kind_is : is_by_commands told.found.finding ≡ takes_its_by shape part.operation
-  kind_is = told.found.kind ∙ ap (λ (g : GuestSpec). takes_its_by g.shape part.operation) told.told.guest_is
+  kind_is = told.found.kind ∙ ap (λ (g : IdealGuest). takes_its_by g.shape part.operation) told.told.guest_is
 
   opened : AreWindows first (targets_in course.ideal) []
   opened = record { place = refl; commands = refl; heads = λ id. refl }
@@ -236,7 +235,7 @@ module _ (guest : GuestSpec) (number : ℕ) (early : List CoreMoment) (part : Wh
         let found
         = look_agrees shape part.actor at.early at.late at.look before course.ideal id (subst (AreHere shape part.actor before course.ideal) at.split here)
         (subst (λ steps. IsTrue (list_all is_steady (events_of (happened_in shape part.actor before steps)))) at.split steady) whole at.step_is in
-        found ∙ sym (at.target_is ∙ ap (λ (g : GuestSpec). target_in (irq_of at.look.found).route g.shape) told.told.guest_is)
+        found ∙ sym (at.target_is ∙ ap (λ (g : IdealGuest). target_in (irq_of at.look.found).route g.shape) told.told.guest_is)
     agrees_looks (by_commands commands) kind is = absurd (cc)
 
     looked : IsEnded shape part.actor last part.answer
@@ -351,7 +350,7 @@ module _ (guest : GuestSpec) (number : ℕ) (early : List CoreMoment) (part : Wh
 
       come : IsCome shape part.actor (local_by shape part.actor (seat_at before part.actor).local pre) ((seat_at before part.actor).own ++ pre) post state1 ideal1 0 firsts taken_for
       come = record {
-        so = so_after shape good.shape part.actor pre before course.ideal heres.0 (record { sound = at.sound; related = at.related });
+        so = so_after shape good.sound.shape part.actor pre before course.ideal heres.0 (record { sound = at.sound; related = at.related });
         there = there;
         local_is = local_after_steps shape part.actor pre before in_seats;
         own_is = own_after_steps shape part.actor pre before in_seats;
@@ -381,16 +380,16 @@ module _ (guest : GuestSpec) (number : ℕ) (early : List CoreMoment) (part : Wh
           subst (λ own. IsCome (shape_of among.from) among.from.actor among.from.local own post state1 ideal1 0 firsts taken_for) (ap (λ own. own ++ pre) (sym told.told.own_is) ∙ sym among.begins)
           (subst (λ local. IsCome (shape_of among.from) among.from.actor local ((seat_at before part.actor).own ++ pre) post state1 ideal1 0 firsts taken_for) (sym local_is_so)
           (subst (λ actor. IsCome (shape_of among.from) actor (local_by shape part.actor (seat_at before part.actor).local pre) ((seat_at before part.actor).own ++ pre) post state1 ideal1 0 firsts taken_for) (sym actor_is_so)
-          (subst (λ (g : GuestSpec). IsCome g.shape part.actor (local_by shape part.actor (seat_at before part.actor).local pre) ((seat_at before part.actor).own ++ pre) post state1 ideal1 0 firsts taken_for) (sym guest_is_so) come)))
+          (subst (λ (g : IdealGuest). IsCome g.shape part.actor (local_by shape part.actor (seat_at before part.actor).local pre) ((seat_at before part.actor).own ++ pre) post state1 ideal1 0 firsts taken_for) (sym guest_is_so) come)))
         where
           local_is_so : among.from.local ≡ local_by shape part.actor (seat_at before part.actor).local pre
           local_is_so =
-              among.local ∙ ap (λ (g : GuestSpec). local_by g.shape told.seen.actor told.seen.local pre) told.told.guest_is ∙ ap (λ actor. local_by shape actor told.seen.local pre) told.told.actor_is
+              among.local ∙ ap (λ (g : IdealGuest). local_by g.shape told.seen.actor told.seen.local pre) told.told.guest_is ∙ ap (λ actor. local_by shape actor told.seen.local pre) told.told.actor_is
               ∙ ap (λ local. local_by shape part.actor local pre) told.told.local_is
 
       agrees_among : AgreeAll (beside_of (maps_taken part.steps) firsts) 0 commands
       agrees_among =
-          agree_all (maps_taken part.steps) firsts commands among.from among.to 0 state1 ideal1 taken_for among.late (subst (λ (g : GuestSpec). IsShape g.shape) (sym guest_is_so) good.shape) among.are come_from
+          agree_all (maps_taken part.steps) firsts commands among.from among.to 0 state1 ideal1 taken_for among.late (subst (λ (g : IdealGuest). IsShape g.shape) (sym guest_is_so) good.sound.shape) among.are come_from
 
     agrees_commands : (finding : Finding) → is_by_commands finding ≡ true → IsFinding told.seen part.steps finding → Agrees finding (beside_of (maps_taken part.steps) firsts)
     agrees_commands (by_looks goes_by targets) kind is = absurd (cc)

@@ -6,9 +6,8 @@ use Rattle.std.proofs.lemmas.List.{get_or-set_other}
 use Rattle.std.specs.List.{slice_index_or}
 use Rattle.law_unmapped_lpis.specs.Words.{Lpi, GuestShape, has_interrupt, target_in, irq_of}
 use Rattle.law_unmapped_lpis.specs.Registers.{has_target, Maps}
-use Rattle.law_unmapped_lpis.specs.Histories.{irq_at, Ideal, targets_in}
+use Rattle.law_unmapped_lpis.specs.Histories.{irq_at, Ideal, targets_in, AreForNone}
 use Rattle.law_serial_is_eager.proofs.LawEagerIsHistory.WindowLemmas.{Targets}
-use Rattle.law_unmapped_lpis.specs.Mapped.{AreForNone}
 use Rattle.pe_mem.specs.Core.{Local, Made, CoreStep, CommandDone, WordId, Irq, actor_count, Meets, ends_command, is_on, known_maps, maps_by_step, place_of_word, Adds, Seen, seen_after, shape_of, CoreState, seat_at, word_in, word_of}
 use Rattle.law_serial_is_eager.specs.LawCoreIsHistory.Laws.{followed_by}
 use Rattle.pe_mem.specs.ItsExec.Known.{AgreeFound, AgreeWith, are_within, first_step, is_within}

@@ -11,7 +11,7 @@ use Rattle.law_unmapped_lpis.proofs.ItsTab.TableLemmas.{unmapped}
 use Rattle.law_unmapped_lpis.specs.Calls.{Part, Map, Clear, Event, Done, Stalls, command_parts, command_words, decoded_parts, lpi_event, maps_by, next_offset, parts, queue_event, ArePartsThen, Happened, IsCommand, Makes, is_beside, named_of, View, words_read}
 use Rattle.law_unmapped_lpis.specs.GicCall.declared.command.Part.TheVariants.{Forget, Retarget, Raise, Configure}
 use Rattle.law_unmapped_lpis.specs.GicCall.declared.event.Event.TheVariants.{Queue}
-use Rattle.law_unmapped_lpis.specs.Histories.{IdealGuest, after_event, Ideal, happened, targets_in}
+use Rattle.law_unmapped_lpis.specs.Histories.{IdealGuest, after_event, Ideal, happened, targets_in, AreForNone}
 use Rattle.law_unmapped_lpis.proofs.IdealGuests.KeyLemmas.{IsWhole}
 use Rattle.law_unmapped_lpis.proofs.LawHistories.StateLemmas.{guest_is}
 use Rattle.law_unmapped_lpis.proofs.LawHistories.TurnSteps.{tables_after, tables_are}
@@ -22,7 +22,6 @@ use Rattle.law_serial_is_eager.proofs.LawLoneCallsAreEager.MomentLemmas.{target_
 use Rattle.law_serial_is_eager.proofs.LawLoneCallsAreEager.OneLemmas.{queue_is}
 use Rattle.law_serial_is_eager.proofs.LawLoneCallsAreEager.RunLemmas.{events_of}
 use Rattle.law_serial_is_eager.proofs.LawLoneCallsAreEager.TargetLemmas.{beside_targets, event_targets}
-use Rattle.law_unmapped_lpis.specs.Mapped.{AreForNone}
 use Rattle.law_unmapped_lpis.proofs.CommandLemmas.{command_loses}
 use Rattle.law_unmapped_lpis.proofs.PartLemmas.{gives_none, leaves_none, parts_none}
 use Rattle.law_found_parts_are_calls.proofs.BegunRuns.{same_head, same_tail}

@@ -3,15 +3,15 @@ use Rattle.std.proofs.Common.{◌≡◌, ℕ, false, List, [], ◌∷◌, ◌++�
 use Rattle.std.proofs.lemmas.List.Elements.{All-nil}
 use Rattle.law_unmapped_lpis.specs.Words.{Eoir1, Iar1}
 use Rattle.law_unmapped_lpis.specs.Registers.{least_in, with_level, without_level}
-use Rattle.law_unmapped_lpis.specs.Calls.{Cpu, Residence, Beside, IsCall, View, GuestSpec}
+use Rattle.law_unmapped_lpis.specs.Calls.{Cpu, Residence, Beside, IsCall, View}
 use Rattle.law_unmapped_lpis.specs.GicCall.declared.event.Event.TheVariants.{Raise}
 use Rattle.law_unmapped_lpis.specs.GicCall.declared.event.Found.TheVariants.{Answer, Nothing}
-use Rattle.law_unmapped_lpis.specs.Histories.{view_at}
+use Rattle.law_unmapped_lpis.specs.Histories.{view_at, IdealGuest}
 use Rattle.law_unmapped_lpis.specs.GicHistory.State.{opening as opening_ideal}
 use Rattle.law_unmapped_lpis.proofs.GicHistory.CallLemmas.{hands_one}
 use Rattle.pe_mem.specs.Lists.{in_places}
 use Rattle.pe_mem.specs.Core.{Seen, part_events, opening, seat_at, maps_taken, vcpu_of_actor, end_of_moments, CoreMoment, spi, worked_guest}
-use Rattle.law_serial_is_eager.specs.Serial.{AreFit, WholePart, moments_in, moments_of}
+use Rattle.law_serial_is_eager.specs.Serial.{WholePart, moments_of}
 use Rattle.law_serial_is_eager.specs.Worked.{worked_parts}
 use Rattle.law_serial_is_eager.proofs.WorkedLemmas.{worked_parts_are_fit}
 use Rattle.pe_mem.specs.Found.{takes_its_by}
@@ -25,7 +25,7 @@ abbrev opened : View
 opened = view_at (opening_ideal worked_guest)
 
 -- what a port tells of an actor of a guest after some moments
-abbrev pub told_in : GuestSpec → List CoreMoment → ℕ → Seen
+abbrev pub told_in : IdealGuest → List CoreMoment → ℕ → Seen
 told_in guest early actor =
     let seat = seat_at (end_of_moments guest.shape (opening guest 0) early) actor in
     record {

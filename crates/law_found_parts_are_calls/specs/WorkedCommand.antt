@@ -1,7 +1,8 @@
 -- Worked parts that take the ITS, the last of which takes a command.
 use Rattle.std.specs.Prelude.{ℕ, ◌+◌, ◌^◌, true, false, List, [], ◌∷◌, Option, Some, None}
 use Rattle.law_unmapped_lpis.specs.Words.{Its, Mem}
-use Rattle.law_unmapped_lpis.specs.Calls.{Access, place_of_plain, PlainWord, Cbaser, Cwriter, Fault, ItsCtlr, IsGoodGuest}
+use Rattle.law_unmapped_lpis.specs.Calls.{Access, place_of_plain, PlainWord, Cbaser, Cwriter, Fault, ItsCtlr}
+use Rattle.law_unmapped_lpis.specs.Histories.{CanOpen}
 use Rattle.law_unmapped_lpis.specs.Registers.{Maps}
 use Rattle.pe_mem.specs.Core.{Made, CoreStep, CommandDone, Look, RamLook, RamPut, TurnRelease, TurnTake, Queue, no_maps, IsProperRun}
 use Rattle.law_unmapped_lpis.specs.Worked.{worked_guest}
@@ -90,7 +91,7 @@ its_parts = makes_queue ∷ adds_command ∷ enables ∷ []
 
 -- they meet what the law asks of parts that take the ITS
 pub record WorkedCommandIsFound : Type 0 where
-  pub good : IsGoodGuest worked_guest
+  pub good : CanOpen worked_guest
   pub proper : IsProperRun worked_guest 0 (moments_of its_parts)
   pub found : AreFoundParts worked_guest 0 [] its_parts
   pub fits : AreFit worked_guest 0 [] its_parts

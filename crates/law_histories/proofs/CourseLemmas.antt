@@ -6,12 +6,11 @@ use Rattle.std.proofs.lemmas.List.{get_or-set_same, get_or-set_other, get_or_pas
 use Rattle.std.proofs.lemmas.List.Elements.{All-get_or}
 use Rattle.std.proofs.lemmas.Option.{none-some}
 use Rattle.floor_histories.specs.Words.{GuestShape, is_number}
-use Rattle.floor_histories.proofs.GicOpen.OpeningLemmas.{openings_valid}
-use Rattle.floor_histories.specs.Calls.{Event, Up, Down, Touch, Reach, Take, Leave, Enable, Cpu, Put, CtlrBegin, CtlrEnd, ItsBegin, Found, Moment, Begin, Happens, Operation, Runs, Done, Stalls, GuestSpec, IsGoodGuest}
+use Rattle.floor_histories.specs.Calls.{Event, Up, Down, Touch, Reach, Take, Leave, Enable, Cpu, Put, CtlrBegin, CtlrEnd, ItsBegin, Found, Moment, Begin, Happens, Operation, Runs, Done, Stalls}
 use Rattle.floor_histories.specs.GicCall.declared.event.Event.TheVariants.{Raise, Read, ItsEnd, Queue}
 use Rattle.floor_histories.specs.GicCall.declared.event.Moment.TheVariants.{End}
 use Rattle.floor_histories.proofs.IdealGuests.KeyLemmas.{IsWhole}
-use Rattle.floor_histories.specs.Histories.{Ideal, happened, Call, Course, GoesOn, actor_count, opening_course, call_of, begun, noted, made, seeing, gone_on, course_of}
+use Rattle.floor_histories.specs.Histories.{Ideal, happened, Call, Course, GoesOn, actor_count, opening_course, call_of, begun, noted, made, seeing, gone_on, course_of, IdealGuest, CanOpen}
 use Rattle.law_histories.proofs.StateLemmas.{guest_is}
 
 -- a course of a guest of this shape: it has a place for each call, and for each record
@@ -20,14 +19,14 @@ pub record IsCourse (shape : GuestShape) (course : Course) : Type 0 where
   pub whole : IsWhole course.ideal.guest
   pub each : length course.calls ≡ actor_count shape
 
-pub opens : (guest : GuestSpec) → IsGoodGuest guest → IsCourse guest.shape (opening_course guest)
+pub opens : (guest : IdealGuest) → CanOpen guest → IsCourse guest.shape (opening_course guest)
 opens guest good = record {
   shape_is = refl;
-  whole = record { shape = good.shape; each = (openings_valid guest good).each };
+  whole = record { shape = good.sound.shape; each = good.sound.irqs };
   each = length-replicate (actor_count guest.shape) None;
 }
 
-pub nobody_opens : (guest : GuestSpec) (actor : ℕ) → call_of (opening_course guest) actor ≡ None
+pub nobody_opens : (guest : IdealGuest) (actor : ℕ) → call_of (opening_course guest) actor ≡ None
 nobody_opens guest actor = of (actor_count guest.shape) actor
   where
     none : Option Call

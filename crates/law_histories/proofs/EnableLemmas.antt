@@ -7,9 +7,8 @@ use Rattle.floor_histories.specs.Registers.{part_written}
 use Rattle.floor_histories.specs.Calls.{Event, Up, Down, Touch, Reach, Take, Leave, Enable, Cpu, Put, CtlrBegin, CtlrEnd, ItsBegin, Runs, Done, Stalls, Moved, Touching, Register, Enables as CopyEnables, MapLpi, reached, taken, left, touched}
 use Rattle.floor_histories.specs.GicCall.declared.event.Event.TheVariants.{Raise, Read, ItsEnd, Queue}
 use Rattle.floor_histories.specs.GicCall.declared.touch.Touching.TheVariants.{Read as ReadTouch, Retarget, Configure, Forget}
-use Rattle.floor_histories.specs.Histories.{irq_at, Ideal, moved_at, is_of, standing_at, Standing, happened}
+use Rattle.floor_histories.specs.Histories.{irq_at, Ideal, moved_at, is_of, standing_at, Standing, happened, copy_in}
 use Rattle.floor_histories.proofs.IdealGuests.KeyLemmas.{IsWhole}
-use Rattle.law_histories.specs.Enables.{copy_in}
 use Rattle.law_histories.proofs.QuietLemmas.{is_spread, is_copy}
 use Rattle.law_histories.proofs.StateLemmas.{take_cases, leave_cases, record_after, record_is}
 

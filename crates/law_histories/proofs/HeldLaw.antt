@@ -4,10 +4,10 @@ use Rattle.std.proofs.lemmas.Bool.{and_parts, cases_eq, cases_lt}
 use Rattle.std.proofs.lemmas.Grind.{fold-append}
 use Rattle.std.proofs.lemmas.List.{append_assoc, map-append, length-set, get_or_past}
 use Rattle.floor_histories.specs.Words.{GuestShape}
-use Rattle.floor_histories.specs.Calls.{Cbaser, Event, Put, ItsBegin, Found, Moment, Begin, Happens, Happened, GuestSpec, IsGoodGuest}
+use Rattle.floor_histories.specs.Calls.{Cbaser, Event, Put, ItsBegin, Found, Moment, Begin, Happens, Happened}
 use Rattle.floor_histories.specs.GicCall.declared.event.Event.TheVariants.{ItsEnd}
 use Rattle.floor_histories.specs.GicCall.declared.event.Moment.TheVariants.{End}
-use Rattle.floor_histories.specs.Histories.{Ideal, is_allowed, happened, Call, Course, vcpu_of, call_of, begun, made, seeing, gone_on, course_of, opening_course, IsHappening, IsNext, GoesOn, IsHistory, IsWhole, last_of}
+use Rattle.floor_histories.specs.Histories.{Ideal, is_allowed, happened, Call, Course, vcpu_of, call_of, begun, made, seeing, gone_on, course_of, opening_course, IsHappening, IsNext, GoesOn, IsHistory, IsWhole, last_of, IdealGuest, CanOpen}
 use Rattle.law_histories.specs.Held.{BasesAreHeld}
 use Rattle.law_histories.proofs.CourseLemmas.{IsCourse, opens, nobody_opens, nobody, begun_here, begun_other, ended_here, ended_other, made_here, made_other, noted_piece, call_is, goes, mark_is, course_both, goes_before}
 use Rattle.law_histories.proofs.HeldCalls.{is_owned, are_held, held_later, call_held}
@@ -106,7 +106,7 @@ all_have shape course [] at going have = have
 all_have shape course (moment ∷ moments) at going have = all_have shape (gone_on course moment) moments (goes shape course moment at) going.1 (moment_has shape course at have moment going.0)
 
 -- whoever makes such an event has the ITS
-pub owned_are_held : (guest : GuestSpec) (early late : List Moment) (actor : ℕ) (event : Event) (found : Found) → is_owned event ≡ true → IsGoodGuest guest → IsHistory guest (early ++ Happens actor event found ∷ late) → IsWhole guest (early ++ Happens actor event found ∷ late)
+pub owned_are_held : (guest : IdealGuest) (early late : List Moment) (actor : ℕ) (event : Event) (found : Found) → is_owned event ≡ true → CanOpen guest → IsHistory guest (early ++ Happens actor event found ∷ late) → IsWhole guest (early ++ Happens actor event found ∷ late)
     → (last_of guest early).has_its ≡ Some actor
 owned_are_held guest early late actor event found owned good history whole =
     let shape = guest.shape in

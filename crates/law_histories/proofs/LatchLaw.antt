@@ -10,7 +10,7 @@ use Rattle.floor_histories.specs.Calls.{Event, Up, Down, Touch, Reach, Take, Lea
 use Rattle.floor_histories.specs.GicCall.declared.event.Event.TheVariants.{Raise, Read, ItsEnd, Queue}
 use Rattle.floor_histories.specs.GicCall.declared.event.Found.TheVariants.{Nothing, Answer, Word as FoundWord, Queue as FoundQueue, Ctlr as FoundCtlr, Lpis as FoundLpis}
 use Rattle.floor_histories.specs.GicCall.declared.event.Moment.TheVariants.{End}
-use Rattle.floor_histories.specs.Histories.{irq_at, after_moment, Course, IsNext, GoesOn, gone_on, course_of, opening_course, happened, Ideal, Standing, standing_at, is_of, moved_at}
+use Rattle.floor_histories.specs.Histories.{irq_at, after_moment, Course, IsNext, GoesOn, gone_on, course_of, opening_course, happened, Ideal, Standing, standing_at, is_of, moved_at, opening_guest}
 use Rattle.floor_histories.proofs.IdealGuests.KeyLemmas.{IsWhole}
 use Rattle.floor_histories.specs.GicHistory.State.{opening}
 use Rattle.law_histories.specs.Latches.{Latch, no_latch, latched, latch_from, StaysEdge, is_iar, is_pending_at, acknowledges, has_cause_there, has_cause, has_cause_at, Latches}
@@ -173,7 +173,7 @@ empty_at zero vcpu = refl
 empty_at (suc n) zero = refl
 empty_at (suc n) (suc vcpu) = empty_at n vcpu
 
-opens_tracked : (guest : GuestSpec) (key : Key) → IsGoodGuest guest → IsTrue (has_interrupt guest.shape key) → IsBeside key (opening guest) no_latch
+opens_tracked : (guest : GuestSpec) (key : Key) → IsGoodGuest guest → IsTrue (has_interrupt guest.shape key) → IsBeside key (opening (opening_guest guest)) no_latch
 opens_tracked guest key good there =
     let valid = opening_valid guest key good there in
     record {
@@ -185,14 +185,15 @@ opens_tracked guest key good there =
         lpi = λ h. valid.no_rise;
         latched = away (record {
           nowhere = λ vcpu. ap (filter (is_of key)) (empty_at guest.shape.vcpus vcpu);
-          record_is = ap (λ b. b || (irq_at (opening guest).guest key).soft) valid.no_rise ∙ valid.no_soft;
+          record_is = ap (λ b. b || (irq_at (opening_guest guest) key).soft) valid.no_rise ∙ valid.no_soft;
         });
       };
     }
 
 pub latches : Latches
-latches guest key moments good there history edge =
-    let end = beside_all key (opening_course guest) moments no_latch history edge (opens_tracked guest key good there) in
+latches spec key moments good there history edge =
+    let guest = opening_guest spec in
+    let end = beside_all key (opening_course guest) moments no_latch history edge (opens_tracked spec key good there) in
     let state = (course_of (opening_course guest) moments).ideal in
     record {
       there = cause_is key state _ end.tracked;

@@ -12,9 +12,9 @@ use Rattle.floor_histories.specs.Calls.{Event, Up, Down, Touch, Reach, Take, Lea
 use Rattle.floor_histories.specs.GicCall.declared.event.Event.TheVariants.{Raise, Read, ItsEnd, Queue}
 use Rattle.floor_histories.specs.GicCall.declared.event.Moment.TheVariants.{End}
 use Rattle.floor_histories.specs.GicCall.declared.touch.Touching.TheVariants.{Read as ReadTouch, Retarget, Configure, Forget}
-use Rattle.floor_histories.specs.Histories.{irq_at, Ideal, happened, Course, IsHappening, IsNext, GoesOn, gone_on, course_of}
+use Rattle.floor_histories.specs.Histories.{irq_at, Ideal, happened, Course, IsHappening, IsNext, GoesOn, gone_on, course_of, copy_in}
 use Rattle.floor_histories.proofs.IdealGuests.KeyLemmas.{IsWhole}
-use Rattle.law_histories.specs.Enables.{copy_in, replaced, CopiesAgreeIn}
+use Rattle.law_histories.specs.Enables.{replaced, CopiesAgreeIn}
 use Rattle.law_histories.proofs.QuietLemmas.{is_spread}
 use Rattle.law_histories.proofs.StateLemmas.{record_is, guest_is}
 use Rattle.law_histories.proofs.CourseLemmas.{IsCourse, goes, mark_is}

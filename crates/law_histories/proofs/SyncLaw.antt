@@ -5,10 +5,10 @@ use Rattle.std.proofs.lemmas.List.{append_assoc, map-append}
 use Rattle.floor_histories.specs.Words.{GuestShape}
 use Rattle.floor_histories.specs.ItsCmd.Command.{decoded}
 use Rattle.floor_histories.specs.Registers.{fault_number, Maps}
-use Rattle.floor_histories.specs.Calls.{Event, Up, Down, Touch, Reach, Take, Leave, Enable, Cpu, Put, CtlrBegin, CtlrEnd, ItsBegin, Found, Moment, Begin, Happens, QueueChange, Runs, Done, Stalls, parts, maps_done, Happened, GuestSpec, IsGoodGuest, command_targets}
+use Rattle.floor_histories.specs.Calls.{Event, Up, Down, Touch, Reach, Take, Leave, Enable, Cpu, Put, CtlrBegin, CtlrEnd, ItsBegin, Found, Moment, Begin, Happens, QueueChange, Runs, Done, Stalls, parts, maps_done, Happened, command_targets}
 use Rattle.floor_histories.specs.GicCall.declared.event.Event.TheVariants.{Raise, Read, ItsEnd, Queue}
 use Rattle.floor_histories.specs.GicCall.declared.event.Moment.TheVariants.{End}
-use Rattle.floor_histories.specs.Histories.{Ideal, happened, Call, Course, vcpu_of, call_of, targets_in, noted, made, seeing, gone_on, course_of, opening_course, IsEnded, IsCallEnded, GoesOn, IsHistory, IsWhole, last_of}
+use Rattle.floor_histories.specs.Histories.{Ideal, happened, Call, Course, vcpu_of, call_of, targets_in, noted, made, seeing, gone_on, course_of, opening_course, IsEnded, IsCallEnded, GoesOn, IsHistory, IsWhole, last_of, IdealGuest, CanOpen}
 use Rattle.law_histories.specs.Sync.{parts_in, begun_for, commands_of, IsDone, IsStalled, SyncHolds}
 use Rattle.law_histories.proofs.CourseLemmas.{IsCourse, opens, nobody_opens, nobody, begun_other, ended_other, made_here, made_other, noted_piece, none_is, goes, mark_is, course_both, goes_before}
 use Rattle.law_histories.proofs.ScanCalls.{takes_one, takes_of, takes_both, call_turn}
@@ -218,7 +218,7 @@ pub goes_all : (shape : GuestShape) (course : Course) (moments : List Moment) â†
 goes_all shape course [] at = at
 goes_all shape course (moment âˆ· moments) at = goes_all shape (gone_on course moment) moments (goes shape course moment at)
 
-module _ (guest : GuestSpec) (good : IsGoodGuest guest) where
+module _ (guest : IdealGuest) (good : CanOpen guest) where
   opening_holder : HasHolder (opening_course guest)
   opening_holder actor has = absurd (cc)
 

@@ -4,10 +4,10 @@ use Rattle.std.proofs.lemmas.Bool.{cases_eq}
 use Rattle.std.proofs.lemmas.Grind.{fold-append}
 use Rattle.std.proofs.lemmas.List.{append_assoc}
 use Rattle.floor_histories.specs.Words.{GuestShape, Lpi, Spi, Private}
-use Rattle.floor_histories.specs.Calls.{Event, Up, Down, Touch, Reach, Take, Leave, Enable, Cpu, Put, CtlrBegin, CtlrEnd, ItsBegin, Runs, Done, Stalls, Found, Moment, Begin, Happens, GuestSpec, IsGoodGuest}
+use Rattle.floor_histories.specs.Calls.{Event, Up, Down, Touch, Reach, Take, Leave, Enable, Cpu, Put, CtlrBegin, CtlrEnd, ItsBegin, Runs, Done, Stalls, Found, Moment, Begin, Happens}
 use Rattle.floor_histories.specs.GicCall.declared.event.Event.TheVariants.{Raise, Read, ItsEnd, Queue}
 use Rattle.floor_histories.specs.GicCall.declared.event.Moment.TheVariants.{End}
-use Rattle.floor_histories.specs.Histories.{Ideal, happened, Call, Course, call_of, made, noted, seeing, gone_on, course_of, opening_course, IsHappening, IsNext, GoesOn, IsHistory, IsWhole, targets_in}
+use Rattle.floor_histories.specs.Histories.{Ideal, happened, Call, Course, call_of, made, noted, seeing, gone_on, course_of, opening_course, IsHappening, IsNext, GoesOn, IsHistory, IsWhole, targets_in, IdealGuest, CanOpen}
 use Rattle.law_histories.specs.Held.{TargetsStand, has_moved, moved_after, moves_lpi}
 use Rattle.law_histories.specs.Sync.{begun_for}
 use Rattle.law_histories.proofs.CourseLemmas.{IsCourse, opens, nobody_opens, begun_other, ended_here, ended_other, made_here, made_other, call_is, goes, course_both, goes_before}
@@ -150,7 +150,7 @@ all_stand shape course id (moment ∷ moments) at going owned holder stand =
 
 -- All moments of a history.
 
-module _ (guest : GuestSpec) (good : IsGoodGuest guest) where
+module _ (guest : IdealGuest) (good : CanOpen guest) where
   owned_here : (early late : List Moment) (moment : Moment) → IsHistory guest (early ++ moment ∷ late) → IsWhole guest (early ++ moment ∷ late) → IsOwnedBy (course_of (opening_course guest) early) moment
   owned_here early late (Happens actor event found) history whole = λ owned. owned_are_held guest early late actor event found owned good history whole
   owned_here early late (Begin actor operation) history whole = tt

@@ -2,15 +2,16 @@
 use Rattle.std.proofs.Common.{ℕ, true, IsTrue, All, Option, is_none, List, [], ◌∷◌, ◌++◌, map, Some, None, refl, arith}
 use Rattle.std.specs.List.{range_with_len}
 use Rattle.std.proofs.lemmas.List.Elements.{All-nil, All-cons, All-from_recursion}
+use Rattle.floor_histories.proofs.IdealGuests.CanOpenLemmas.{openings_can_open}
 use Rattle.floor_histories.specs.Words.{key_at, Iar1, Spi}
-use Rattle.floor_histories.specs.Calls.{opening_irq, Cpu, CtlrBegin, CtlrEnd, Record, copy_at, Happened, HandsOut, View, IsGoodGuest, IsGoodPreset}
+use Rattle.floor_histories.specs.Calls.{opening_irq, Cpu, CtlrBegin, CtlrEnd, Record, copy_at, Happened, HandsOut, View, IsGoodPreset}
 use Rattle.floor_histories.specs.GicCall.declared.event.Event.TheVariants.{Raise}
 use Rattle.floor_histories.specs.GicCall.declared.event.Found.TheVariants.{Nothing, Answer}
-use Rattle.floor_histories.specs.Histories.{view_at, Call, Course, GoesOn, IsHistory, opening_course, worked_guest, message, reach, leave, reads}
+use Rattle.floor_histories.specs.Histories.{view_at, Call, Course, GoesOn, IsHistory, opening_course, worked_guest, message, reach, leave, reads, CanOpen}
 use Rattle.floor_histories.specs.GicHistory.State.{opening}
 use Rattle.floor_histories.specs.Registers.{least_in, with_level, without_level}
 use Rattle.floor_histories.proofs.GicHistory.CallLemmas.{call_ended, goes_on, hands_one}
-use Rattle.law_histories.specs.Worked.{small_guest, new_enables, half_written, other_half, WriteIsHalfDone, merged, apart, MessagesMerge}
+use Rattle.law_histories.specs.Worked.{small_guest, small_spec, new_enables, half_written, other_half, WriteIsHalfDone, merged, apart, MessagesMerge}
 
 -- what is found of the guest as it opens
 abbrev opened : View
@@ -19,11 +20,13 @@ opened = view_at (opening small_guest)
 abbrev HandsIt : Happened → Type 0
 HandsIt happened = HandsOut opened happened.event happened.found
 
-small_good : IsGoodGuest small_guest
-small_good = record {
-  shape = record { some_vcpu = omega arith; vcpus = omega arith; spis = omega arith; spi_blocks = refl; espis = omega arith; espi_blocks = refl; devices = omega arith; lpis = omega arith; ram = omega arith; ram_words = refl };
-  presets = All-nil (IsGoodPreset small_guest.shape);
-}
+small_good : CanOpen small_guest
+small_good =
+    openings_can_open small_spec
+    (record {
+      shape = record { some_vcpu = omega arith; vcpus = omega arith; spis = omega arith; spi_blocks = refl; espis = omega arith; espi_blocks = refl; devices = omega arith; lpis = omega arith; ram = omega arith; ram_words = refl };
+      presets = All-nil (IsGoodPreset small_spec.shape);
+    })
 
 -- the events of the write, each of which hands out what the guest has as it opens
 abbrev copied_one : ℕ → Happened

@@ -1,15 +1,16 @@
 -- The worked queue: each of its conditions computes.
 use Rattle.std.proofs.Common.{ℕ, ◌^◌, false, IsTrue, List, [], ◌∷◌, ◌++◌, Option, Some, None, is_none, refl, arith}
 use Rattle.std.proofs.lemmas.List.Elements.{All-nil, All-cons, All-from_recursion}
-use Rattle.floor_histories.specs.Calls.{PlainWord, Ram, ItsCtlr, Cbaser, Cwriter, Put, ItsBegin, Place, QueueChange, Runs, Done, Stalls, queue_event, Happened, HandsOut, IsLastRead, Beside, IsCommand, AreCommands, IsItsCall, held_at, left_by, View, IsGoodGuest, IsGoodPreset}
+use Rattle.floor_histories.proofs.IdealGuests.CanOpenLemmas.{openings_can_open}
+use Rattle.floor_histories.specs.Calls.{PlainWord, Ram, ItsCtlr, Cbaser, Cwriter, Put, ItsBegin, Place, QueueChange, Runs, Done, Stalls, queue_event, Happened, HandsOut, IsLastRead, Beside, IsCommand, AreCommands, IsItsCall, held_at, left_by, View, IsGoodPreset}
 use Rattle.floor_histories.specs.GicCall.declared.event.Event.TheVariants.{Read, ItsEnd, Queue}
 use Rattle.floor_histories.specs.GicCall.declared.event.Found.TheVariants.{Nothing, Word as FoundWord, Queue as FoundQueue}
 use Rattle.floor_histories.specs.GicCall.declared.event.Place.TheVariants.{Word, Queue as QueuePlace}
-use Rattle.floor_histories.specs.Histories.{view_at, Call, Course, GoesOn, IsHistory, opening_course, course_of, last_of}
+use Rattle.floor_histories.specs.Histories.{view_at, Call, Course, GoesOn, IsHistory, opening_course, course_of, last_of, CanOpen}
 use Rattle.floor_histories.specs.GicHistory.State.{opening}
 use Rattle.floor_histories.proofs.GicCall.ReadLemmas.{last_read}
 use Rattle.floor_histories.proofs.GicHistory.CallLemmas.{call_ended, goes_on, hands_one}
-use Rattle.law_histories.specs.WorkedQueue.{its_guest, stores, makes_queue, enables_its, maps_collection, syncs, before_write, to_sync, to_end, QueueIsSynced}
+use Rattle.law_histories.specs.WorkedQueue.{its_guest, its_spec, stores, makes_queue, enables_its, maps_collection, syncs, before_write, to_sync, to_end, QueueIsSynced}
 
 -- what is found of the guest as it opens, once it has a queue, and once its ITS is enabled
 abbrev opened : View
@@ -31,11 +32,13 @@ second = left_by its_guest.shape first (queue_event its_guest.shape first)
 abbrev third : View
 third = left_by its_guest.shape second (queue_event its_guest.shape second)
 
-pub its_good : IsGoodGuest its_guest
-its_good = record {
-  shape = record { some_vcpu = omega arith; vcpus = omega arith; spis = omega arith; spi_blocks = refl; espis = omega arith; espi_blocks = refl; devices = omega arith; lpis = omega arith; ram = omega arith; ram_words = refl };
-  presets = All-nil (IsGoodPreset its_guest.shape);
-}
+pub its_good : CanOpen its_guest
+its_good =
+    openings_can_open its_spec
+    (record {
+      shape = record { some_vcpu = omega arith; vcpus = omega arith; spis = omega arith; spi_blocks = refl; espis = omega arith; espi_blocks = refl; devices = omega arith; lpis = omega arith; ram = omega arith; ram_words = refl };
+      presets = All-nil (IsGoodPreset its_spec.shape);
+    })
 
 abbrev from : Course
 from = opening_course its_guest

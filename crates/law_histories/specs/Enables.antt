@@ -2,21 +2,17 @@
 -- the copies).
 use Rattle.std.specs.Prelude.{◌≡◌, ℕ, ◌<◌, ◌≤◌, IsTrue, List, ◌++◌, fold, Option, Some, None}
 use Rattle.floor_histories.specs.Words.{Key, GuestShape, has_interrupt, place_of, Irq}
-use Rattle.floor_histories.specs.Calls.{CtlrBegin, Moment, Happens, GuestSpec, IsGoodGuest}
+use Rattle.floor_histories.specs.Calls.{CtlrBegin, Moment, Happens}
 use Rattle.floor_histories.specs.Registers.{Enables}
-use Rattle.floor_histories.specs.Histories.{irq_at, Ideal, IsHistory, IsWhole, last_of}
+use Rattle.floor_histories.specs.Histories.{irq_at, Ideal, IsHistory, IsWhole, last_of, IdealGuest, CanOpen, copy_in}
 use Rattle.floor_histories.specs.GicHistory.State.{opening}
-
--- the copy that an interrupt has
-abbrev pub copy_in : Irq → Enables
-copy_in irq = record { group0 = irq.en0; group1 = irq.en1 }
 
 -- what GICD_CTLR has, and what the last write of it replaced, after a moment
 abbrev pub replaced : Enables × Enables → Moment → Enables × Enables
 replaced pair (Happens actor (CtlrBegin enables) found) = (enables, pair.0)
 replaced pair moment = pair
 
-abbrev pub replaced_in : GuestSpec → List Moment → Enables × Enables
+abbrev pub replaced_in : IdealGuest → List Moment → Enables × Enables
 replaced_in guest moments = fold replaced ((opening guest).guest.enables, (opening guest).guest.enables) moments
 
 -- a write of GICD_CTLR is half done: the interrupts before a place in key order have copies of the new enables, and the others of those that it replaced
@@ -37,4 +33,4 @@ CopiesAgreeIn state old = CopiesAgree state.guest.shape (irq_at state.guest) sta
 -- that begin no call.)
 abbrev pub EnablesAgree : Type 0
 EnablesAgree =
-    (guest : GuestSpec) (moments more : List Moment) → IsGoodGuest guest → IsHistory guest (moments ++ more) → IsWhole guest (moments ++ more) → CopiesAgreeIn (last_of guest moments) (replaced_in guest moments).1
+    (guest : IdealGuest) (moments more : List Moment) → CanOpen guest → IsHistory guest (moments ++ more) → IsWhole guest (moments ++ more) → CopiesAgreeIn (last_of guest moments) (replaced_in guest moments).1

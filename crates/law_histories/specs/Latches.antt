@@ -7,7 +7,7 @@ use Rattle.floor_histories.specs.Calls.{Event, Up, Touch, Reach, Take, Cpu, Foun
 use Rattle.floor_histories.specs.GicCall.declared.event.Event.TheVariants.{Raise}
 use Rattle.floor_histories.specs.GicCall.declared.event.Found.TheVariants.{Answer}
 use Rattle.floor_histories.specs.GicCall.declared.touch.Touching.TheVariants.{Forget}
-use Rattle.floor_histories.specs.Histories.{irq_at, after_moment, IsHistory, last_of, Ideal, Standing, is_of, moved_at}
+use Rattle.floor_histories.specs.Histories.{irq_at, after_moment, IsHistory, last_of, Ideal, Standing, is_of, moved_at, IdealGuest, opening_guest}
 use Rattle.floor_histories.specs.GicHistory.State.{opening}
 
 -- Events of an interrupt.
@@ -73,7 +73,7 @@ abbrev pub latch_from : Key → Ideal → Latch → List Moment → Latch
 latch_from key state latch [] = latch
 latch_from key state latch (moment ∷ moments) = latch_from key (after_moment state moment) (latched key state moment latch) moments
 
-abbrev pub latch_of : GuestSpec → Key → List Moment → Latch
+abbrev pub latch_of : IdealGuest → Key → List Moment → Latch
 latch_of guest key moments = latch_from key (opening guest) no_latch moments
 
 -- it is edge-triggered all along
@@ -96,11 +96,13 @@ has_cause_at state vcpu key = option_map_or (λ moved. moved.entry.rise || moved
 
 -- at the end of a history: a cause is there exactly where one came since they were spent; and an acknowledge would find one at its vCPU's interface, which
 -- came since they were spent: so none is acknowledged twice, nor after a clear
-pub record LatchHolds (guest : GuestSpec) (key : Key) (moments : List Moment) : Type 0 where
+pub record LatchHolds (guest : IdealGuest) (key : Key) (moments : List Moment) : Type 0 where
   pub there : has_cause (last_of guest moments) key ≡ nat_lt (latch_of guest key moments).spent (latch_of guest key moments).cause
   pub found : (vcpu : ℕ) (reg : IccReg) (found : Found) → acknowledges (last_of guest moments) key (Cpu vcpu reg None) found ≡ true → has_cause_at (last_of guest moments) vcpu key ≡ true
   pub came : (vcpu : ℕ) (reg : IccReg) (found : Found) → acknowledges (last_of guest moments) key (Cpu vcpu reg None) found ≡ true → (latch_of guest key moments).spent < (latch_of guest key moments).cause
 
--- in every history of a good guest, of each interrupt that is edge-triggered all along
+-- in every history of a good guest from its opening, of each interrupt that is edge-triggered all along
 abbrev pub Latches : Type 0
-Latches = (guest : GuestSpec) (key : Key) (moments : List Moment) → IsGoodGuest guest → IsTrue (has_interrupt guest.shape key) → IsHistory guest moments → StaysEdge key (opening guest) moments → LatchHolds guest key moments
+Latches =
+    (spec : GuestSpec) (key : Key) (moments : List Moment) → IsGoodGuest spec → IsTrue (has_interrupt spec.shape key) → IsHistory (opening_guest spec) moments
+    → StaysEdge key (opening (opening_guest spec)) moments → LatchHolds (opening_guest spec) key moments

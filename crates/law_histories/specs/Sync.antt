@@ -5,11 +5,11 @@ use Rattle.std.specs.Option.{option_map_or}
 use Rattle.floor_histories.specs.Words.{Lpi, ClearPending, GuestShape}
 use Rattle.floor_histories.specs.Registers.{Command, fault_number, Maps}
 use Rattle.floor_histories.specs.ItsCmd.Command.{decoded}
-use Rattle.floor_histories.specs.Calls.{Part, Map, Clear, Event, Touch, Put, ItsBegin, Found, Moment, Happens, Done, Stalls, Register, MapLpi, parts, maps_done, Happened, GuestSpec, IsGoodGuest}
+use Rattle.floor_histories.specs.Calls.{Part, Map, Clear, Event, Touch, Put, ItsBegin, Found, Moment, Happens, Done, Stalls, Register, MapLpi, parts, maps_done, Happened}
 use Rattle.floor_histories.specs.GicCall.declared.command.Part.TheVariants.{Forget, Retarget, Raise, Configure}
 use Rattle.floor_histories.specs.GicCall.declared.event.Event.TheVariants.{Raise as RaiseEvent, Queue}
 use Rattle.floor_histories.specs.GicCall.declared.touch.Touching.TheVariants.{Retarget as RetargetLpi, Configure as ConfigureLpi, Forget as ForgetLpi}
-use Rattle.floor_histories.specs.Histories.{Call, call_of, course_of, opening_course, IsHistory, IsWhole, last_of}
+use Rattle.floor_histories.specs.Histories.{Call, call_of, course_of, opening_course, IsHistory, IsWhole, last_of, IdealGuest, CanOpen}
 
 -- Commands.
 
@@ -22,8 +22,8 @@ abbrev pub commands_of : List Moment → List (List ℕ)
 commands_of moments = filter_map command_in moments
 
 -- what they have mapped, one after the other
-abbrev pub mapped_by : List (List ℕ) → Maps
-mapped_by commands = fold maps_done (record { devices = []; events = []; collections = [] }) commands
+abbrev pub mapped_by : Maps → List (List ℕ) → Maps
+mapped_by maps commands = fold maps_done maps commands
 
 -- the part of a command that an event is, if it is one; the configuration that a touch brings is what its call read, and no matter here
 abbrev pub part_of : Event → Option Part
@@ -66,24 +66,24 @@ pub record IsStalled (shape : GuestShape) (maps : Maps) (call : Call) (fault : �
   pub nothing : parts_in call.piece ≡ []
 
 -- the call of an actor ends one so, where the history so far is this
-pub record EndsWell (guest : GuestSpec) (moments : List Moment) (actor : ℕ) (words : List ℕ) : Type 0 where
+pub record EndsWell (guest : IdealGuest) (moments : List Moment) (actor : ℕ) (words : List ℕ) : Type 0 where
   pub call : Call
   pub its : call_of (course_of (opening_course guest) moments) actor ≡ Some call
   pub well : IsDone guest.shape (last_of guest moments).guest.tables call words
 
-pub record EndsBadly (guest : GuestSpec) (moments : List Moment) (actor fault : ℕ) : Type 0 where
+pub record EndsBadly (guest : IdealGuest) (moments : List Moment) (actor fault : ℕ) : Type 0 where
   pub call : Call
   pub its : call_of (course_of (opening_course guest) moments) actor ≡ Some call
   pub badly : IsStalled guest.shape (last_of guest moments).guest.tables call fault
 
 -- The law.
 
--- at a moment, as after a SYNC: the maps are what all good commands so far have mapped, and each of them was done before it ended; a bad one was not begun
-pub record IsSynced (guest : GuestSpec) (moments : List Moment) : Type 0 where
-  pub maps : (last_of guest moments).guest.tables ≡ mapped_by (commands_of moments)
+-- at a moment, as after a SYNC: the maps are what all good commands so far made of those with which the guest opened, and each of them was done before it ended; a bad one was not begun
+pub record IsSynced (guest : IdealGuest) (moments : List Moment) : Type 0 where
+  pub maps : (last_of guest moments).guest.tables ≡ mapped_by guest.tables (commands_of moments)
   pub well : (early late : List Moment) (actor offset : ℕ) (words : List ℕ) (found : Found) → moments ≡ early ++ Happens actor (Queue offset (Done words)) found ∷ late → EndsWell guest early actor words
   pub badly : (early late : List Moment) (actor offset fault : ℕ) (found : Found) → moments ≡ early ++ Happens actor (Queue offset (Stalls fault)) found ∷ late → EndsBadly guest early actor fault
 
--- at each moment of a history of a good guest that can go on until all its calls ended
+-- at each moment of a history of a guest that can go on until all its calls ended
 abbrev pub SyncHolds : Type 0
-SyncHolds = (guest : GuestSpec) (moments more : List Moment) → IsGoodGuest guest → IsHistory guest (moments ++ more) → IsWhole guest (moments ++ more) → IsSynced guest moments
+SyncHolds = (guest : IdealGuest) (moments more : List Moment) → CanOpen guest → IsHistory guest (moments ++ more) → IsWhole guest (moments ++ more) → IsSynced guest moments

@@ -3,19 +3,22 @@ use Rattle.std.specs.Prelude.{◌≡◌, ℕ, true, false, List, [], ◌∷◌, 
 use Rattle.std.specs.List.{range_with_len}
 use Rattle.floor_histories.specs.Words.{Private, Spi, Dist, Mem, key_at, Iar1}
 use Rattle.floor_histories.specs.Registers.{Enables}
-use Rattle.floor_histories.specs.Calls.{opening_irq, CtlrBegin, CtlrEnd, Record, Moment, Begin, Happens, Access, copy_at, GuestSpec, IsGoodGuest}
+use Rattle.floor_histories.specs.Calls.{opening_irq, CtlrBegin, CtlrEnd, Record, Moment, Begin, Happens, Access, copy_at, GuestSpec}
 use Rattle.floor_histories.specs.GicCall.declared.event.Found.TheVariants.{Nothing}
 use Rattle.floor_histories.specs.GicCall.declared.event.Moment.TheVariants.{End}
-use Rattle.floor_histories.specs.Histories.{irq_at, IsHistory, IsWhole, last_of, worked_guest, message, reach, leave, reads}
+use Rattle.floor_histories.specs.Histories.{irq_at, IsHistory, IsWhole, last_of, worked_guest, message, reach, leave, reads, IdealGuest, CanOpen, opening_guest, copy_in}
 use Rattle.floor_histories.specs.GicHistory.State.{opening}
-use Rattle.law_histories.specs.Enables.{copy_in}
 use Rattle.law_histories.specs.Latches.{StaysEdge, latch_of, has_cause}
 
 -- A write of GICD_CTLR.
 
 -- a vCPU with its private interrupts and nothing else; both group enables are 1 as it opens
-abbrev pub small_guest : GuestSpec
-small_guest = record { shape = record { vcpus = 1; spis = 0; espis = 0; devices = 0; lpis = 0; ram = 0 }; on = true; presets = [] }
+abbrev pub small_spec : GuestSpec
+small_spec = record { shape = record { vcpus = 1; spis = 0; espis = 0; devices = 0; lpis = 0; ram = 0 }; on = true; presets = [] }
+
+-- as it opens
+abbrev pub small_guest : IdealGuest
+small_guest = opening_guest small_spec
 
 -- EnableGrp0 is 0 after the write
 abbrev pub new_enables : Enables
@@ -33,7 +36,7 @@ other_half = map copied (range_with_len 10 22) ++ Happens 0 CtlrEnd Nothing ∷ 
 
 -- the write is a whole history; in the middle of it SGI 3 has a copy of the new enables, and interrupt 20 one of the old ones
 pub record WriteIsHalfDone : Type 0 where
-  pub good : IsGoodGuest small_guest
+  pub good : CanOpen small_guest
   pub history : IsHistory small_guest (half_written ++ other_half)
   pub whole : IsWhole small_guest (half_written ++ other_half)
   pub taken : (last_of small_guest half_written).spreads ≡ Some 0

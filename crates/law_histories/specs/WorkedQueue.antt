@@ -3,17 +3,21 @@ use Rattle.std.specs.Prelude.{◌≡◌, ℕ, ◌*◌, ◌^◌, true, false, Lis
 use Rattle.floor_histories.specs.Words.{Its, Ram as Memory, Mem}
 use Rattle.floor_histories.specs.Registers.{Sync, Mapc, encoded}
 use Rattle.floor_histories.specs.ItsCmd.Command.{decoded}
-use Rattle.floor_histories.specs.Calls.{PlainWord, Ram, ItsCtlr, Cbaser, Cwriter, Event, Put, ItsBegin, Found, Moment, Begin, Happens, Access, Runs, Done, Stalls, GuestSpec, IsGoodGuest}
+use Rattle.floor_histories.specs.Calls.{PlainWord, Ram, ItsCtlr, Cbaser, Cwriter, Event, Put, ItsBegin, Found, Moment, Begin, Happens, Access, Runs, Done, Stalls, GuestSpec}
 use Rattle.floor_histories.specs.GicCall.declared.event.Event.TheVariants.{Read, ItsEnd, Queue}
 use Rattle.floor_histories.specs.GicCall.declared.event.Found.TheVariants.{Nothing, Word as FoundWord, Queue as FoundQueue}
 use Rattle.floor_histories.specs.GicCall.declared.event.Moment.TheVariants.{End}
 use Rattle.floor_histories.specs.GicCall.declared.event.Place.TheVariants.{Word, Queue as QueuePlace}
-use Rattle.floor_histories.specs.Histories.{IsHistory, IsWhole, last_of}
+use Rattle.floor_histories.specs.Histories.{IsHistory, IsWhole, last_of, IdealGuest, CanOpen, opening_guest}
 use Rattle.law_histories.specs.Sync.{commands_of}
 
 -- a vCPU, an LPI, and memory for three commands
-abbrev pub its_guest : GuestSpec
-its_guest = record { shape = record { vcpus = 1; spis = 0; espis = 0; devices = 0; lpis = 1; ram = 96 }; on = true; presets = [] }
+abbrev pub its_spec : GuestSpec
+its_spec = record { shape = record { vcpus = 1; spis = 0; espis = 0; devices = 0; lpis = 1; ram = 96 }; on = true; presets = [] }
+
+-- as it opens
+abbrev pub its_guest : IdealGuest
+its_guest = opening_guest its_spec
 
 -- the vCPU makes an event
 abbrev pub does : Event → Found → Moment
@@ -97,7 +101,7 @@ to_end =
 
 -- all is a whole history; at the end of the SYNC both commands count, and the collection is mapped
 pub record QueueIsSynced : Type 0 where
-  pub good : IsGoodGuest its_guest
+  pub good : CanOpen its_guest
   pub history : IsHistory its_guest ((before_write ++ to_sync) ++ to_end)
   pub whole : IsWhole its_guest ((before_write ++ to_sync) ++ to_end)
   pub sync : decoded syncs ≡ Ok (Sync 0)

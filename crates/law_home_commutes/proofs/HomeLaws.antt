@@ -1,14 +1,13 @@
 -- Each state of a history is tidy, and so the laws of the guest with all taken back hold in it.
-use Rattle.std.proofs.Common.{◌≡◌, ℕ, true, false, IsTrue, List, [], ◌∷◌, filter, Option, None, refl, sym, ap, ◌∙◌, subst}
+use Rattle.std.proofs.Common.{◌≡◌, ℕ, false, IsTrue, List, [], ◌∷◌, filter, Option, None, refl, sym, ap, ◌∙◌, subst}
 use Rattle.std.specs.Option.{option_map_or}
 use Rattle.std.proofs.lemmas.Bool.{and_parts}
 use Rattle.std.proofs.lemmas.List.{length-replicate}
-use Rattle.law_histories.specs.Words.{Key, GuestShape, is_of_vcpu}
-use Rattle.law_histories.proofs.GicOpen.OpeningLemmas.{openings_valid, opening_valid}
-use Rattle.law_histories.specs.Calls.{Event, Up, Down, Touch, Reach, Take, Leave, Enable, Cpu, Put, CtlrBegin, CtlrEnd, ItsBegin, Moment, Begin, Happens, may_reach, may_take, CanHappen, GuestSpec, IsGoodGuest}
+use Rattle.law_histories.specs.Words.{Key, GuestShape}
+use Rattle.law_histories.specs.Calls.{Event, Up, Down, Touch, Reach, Take, Leave, Enable, Cpu, Put, CtlrBegin, CtlrEnd, ItsBegin, Moment, Begin, Happens, may_reach, may_take, CanHappen}
 use Rattle.law_histories.specs.GicCall.declared.event.Event.TheVariants.{Raise, Read, ItsEnd, Queue}
 use Rattle.law_histories.specs.GicCall.declared.event.Moment.TheVariants.{End}
-use Rattle.law_histories.specs.Histories.{irq_at, cpu_at, Course, IsNext, GoesOn, IsHistory, gone_on, course_of, opening_course, last_of, is_allowed, happened, home, Ideal, is_of, is_home, moved_at}
+use Rattle.law_histories.specs.Histories.{irq_at, cpu_at, Course, IsNext, GoesOn, IsHistory, gone_on, course_of, opening_course, last_of, is_allowed, happened, home, Ideal, is_of, is_home, moved_at, IdealGuest, CanOpen}
 use Rattle.law_histories.specs.GicHistory.State.{opening}
 use Rattle.law_histories.proofs.LatchLaw.{empty_at, seats_after}
 use Rattle.law_histories.proofs.StandLemmas.{of_key}
@@ -23,13 +22,13 @@ use Rattle.law_home_commutes.proofs.SpotLemmas.{Spot, IsSpot, IsTidy}
 
 -- As a guest opens.
 
-pub opens_tidy : (guest : GuestSpec) → IsGoodGuest guest → IsTidy guest.shape (opening guest)
+pub opens_tidy : (guest : IdealGuest) → CanOpen guest → IsTidy guest.shape (opening guest)
 opens_tidy guest good = record {
   shape_is = refl;
-  whole = record { shape = good.shape; each = (openings_valid guest good).each };
+  whole = record { shape = good.sound.shape; each = good.sound.irqs };
   seats = length-replicate guest.shape.vcpus [];
   placed = λ key. record { spot = None; is = λ vcpu. ap (filter (is_of key)) (empty_at guest.shape.vcpus vcpu) };
-  records = λ key there. let valid = opening_valid guest key good there in record { valid = valid.record_of; owner = ap (λ o. option_map_or (λ vcpu. is_of_vcpu vcpu key) o true) valid.inactive };
+  records = λ key there. record { valid = (good.sound.records key there).valid; owner = good.own key there };
 }
 
 -- A move.
@@ -117,7 +116,7 @@ pub moments_tidy : (shape : GuestShape) (course : Course) (moments : List Moment
 moments_tidy shape course [] going tidy = tidy
 moments_tidy shape course (moment ∷ moments) going tidy = moments_tidy shape (gone_on course moment) moments going.1 (moment_tidy shape course moment going.0 tidy)
 
-pub history_tidy : (guest : GuestSpec) (moments : List Moment) → IsGoodGuest guest → IsHistory guest moments → IsTidy guest.shape (last_of guest moments)
+pub history_tidy : (guest : IdealGuest) (moments : List Moment) → CanOpen guest → IsHistory guest moments → IsTidy guest.shape (last_of guest moments)
 history_tidy guest moments good history = moments_tidy guest.shape (opening_course guest) moments history (opens_tidy guest good)
 
 pub moves_keep_home : MovesKeepHome

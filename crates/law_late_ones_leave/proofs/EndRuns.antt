@@ -4,8 +4,8 @@ use Rattle.std.specs.List.{list_any}
 use Rattle.std.proofs.lemmas.Bool.{and_parts, eqb-true, lt-ltb, ltb-true}
 use Rattle.std.proofs.lemmas.List.Elements.{All-nil, All-head, All-tail}
 use Rattle.law_scans_miss_none.specs.Words.{Key, GuestShape}
-use Rattle.law_scans_miss_none.specs.Calls.{Happened, GuestSpec, IsGoodGuest}
-use Rattle.law_scans_miss_none.specs.Histories.{has_left_all, left_behind, of_end}
+use Rattle.law_scans_miss_none.specs.Calls.{Happened}
+use Rattle.law_scans_miss_none.specs.Histories.{has_left_all, left_behind, of_end, IdealGuest, CanOpen}
 use Rattle.law_scans_miss_none.specs.Core.{is_vcpu, CoreState, opening, seat_at, stands_for, CanStep, is_poll, end_of_moments, event_moments, ideal_of, Act, begins, makes, ends, CoreMoment, Progress, is_paid, opening_progress, progress_in, IsProperEnd, IsProperRun, ends_refill, gives_back, is_empty}
 use Rattle.law_scans_miss_none.specs.Excuse.{followed_in}
 use Rattle.law_scans_miss_none.specs.LawRegistersStand.Followed.{Followed, follows}
@@ -17,7 +17,7 @@ use Rattle.law_late_ones_leave.proofs.LateRuns.{late_ones_leave}
 use Rattle.law_late_ones_leave.proofs.LeavingLemmas.{left_by, leaving_event, none_left}
 use Rattle.law_late_ones_leave.proofs.StayLemmas.{access_so}
 
-module _ (guest : GuestSpec) (number : ℕ) (good : IsGoodGuest guest) where
+module _ (guest : IdealGuest) (number : ℕ) (good : CanOpen guest) where
   abbrev shape : GuestShape
   shape = guest.shape
 

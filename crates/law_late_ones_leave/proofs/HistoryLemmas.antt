@@ -2,8 +2,8 @@
 use Rattle.std.proofs.Common.{◌≡◌, ℕ, ◌&&◌, true≢false, Bool, true, false, IsTrue, List, [], ◌∷◌, ◌++◌, fold, refl, sym, ap, ◌∙◌, subst}
 use Rattle.std.proofs.lemmas.Bool.{and_parts}
 use Rattle.std.proofs.lemmas.List.{append-nil}
-use Rattle.law_scans_miss_none.specs.Calls.{Moment, GuestSpec}
-use Rattle.law_scans_miss_none.specs.Histories.{Track, is_kept, is_kept_from, Ideal}
+use Rattle.law_scans_miss_none.specs.Calls.{Moment}
+use Rattle.law_scans_miss_none.specs.Histories.{Track, is_kept, is_kept_from, Ideal, IdealGuest}
 use Rattle.law_scans_miss_none.specs.Core.{opening, seat_at, end_of_moments, ideal_moments, ideal_of, Act, CoreMoment}
 use Rattle.law_scans_miss_none.proofs.CoreProper.PartLemmas.{ideal_append}
 use Rattle.law_scans_miss_none.specs.Excuse.{followed_in}
@@ -31,7 +31,7 @@ kept_both clause (moment ∷ early) late at h g =
     let parts = and_parts (clause at.ideal at.track moment) (clause_from clause (follows at moment) early) h in
     joined (clause at.ideal at.track moment) (clause_from clause (follows at moment) (early ++ late)) parts.0 (kept_both clause early late (follows at moment) parts.1 g)
 
-module _ (clause : Ideal → Track → Moment → Bool) (guest : GuestSpec) (number : ℕ) (early : List CoreMoment) (actor : ℕ) (act : Act) where
+module _ (clause : Ideal → Track → Moment → Bool) (guest : IdealGuest) (number : ℕ) (early : List CoreMoment) (actor : ℕ) (act : Act) where
   -- what the next moment of a run stands for
   abbrev pub Next : Type 0
   Next = IsTrue (clause_from clause (followed_in guest number early) (ideal_moments guest.shape (seat_at (end_of_moments guest.shape (opening guest number) early) actor) actor act))

@@ -3,14 +3,13 @@ use Rattle.std.proofs.Common.{◌≡◌, ℕ, ◌<◌, ◌==◌, ◌||◌, inl, 
 use Rattle.std.proofs.lemmas.Bool.{eqb-true}
 use Rattle.std.proofs.lemmas.List.Elements.{All-contains_itself}
 use Rattle.law_scans_miss_none.specs.Words.{IccReg, Key, GuestShape, has_interrupt, intid_of, is_pending, irq_of}
-use Rattle.law_scans_miss_none.specs.Histories.{changes_of, cpu_at}
+use Rattle.law_scans_miss_none.specs.Histories.{changes_of, cpu_at, IdealGuest, CanOpen}
 use Rattle.law_scans_miss_none.specs.Lists.{IchRegs, misr_of, cpu_in}
 use Rattle.law_scans_miss_none.proofs.GicIcv.CpuLemmas.{holds}
 use Rattle.law_scans_miss_none.proofs.GicIcv.DeafLemmas.{deactivated_deaf}
 use Rattle.law_scans_miss_none.proofs.GicIcv.PlaceLemmas.{map_among}
 use Rattle.law_scans_miss_none.specs.Registers.{deactivated_by, IsInterface}
 use Rattle.law_scans_miss_none.proofs.IdealGuests.KeyLemmas.{key_intid, key_there}
-use Rattle.law_scans_miss_none.specs.Calls.{GuestSpec, IsGoodGuest}
 use Rattle.law_scans_miss_none.specs.Core.{Local, Made, Poll, Irq, interface_of, local_after, shown, is_ready, succeeds, vcpu_of, is_at, CoreState, opening, seat_at, word_in, IsLocal, end_of_moments, IsSeatOf, CoreMoment, makes, Debt, paid, before_next, Progress, opening_progress, after_poll, is_paid, is_to_scan, progress_in, stepped, RegistersAgree, after_operation}
 use Rattle.law_scans_miss_none.proofs.PortCore.AtLemmas.{entry_is}
 use Rattle.law_scans_miss_none.proofs.PortCore.StepTies.{number_is}
@@ -58,7 +57,7 @@ quiet_after regs trapping debt e = of (misr_of regs == 0) trapping (is_paid debt
     of true true c f g h e = absurd (true≢false e)
     of false b c f g h e = absurd (true≢false e)
 
-module _ (guest : GuestSpec) (number vcpu : ℕ) (good : IsGoodGuest guest) (within : vcpu < guest.shape.vcpus) (early : List CoreMoment) (made : Made) (next : IsNextOf guest number early vcpu (makes made)) where
+module _ (guest : IdealGuest) (number vcpu : ℕ) (good : CanOpen guest) (within : vcpu < guest.shape.vcpus) (early : List CoreMoment) (made : Made) (next : IsNextOf guest number early vcpu (makes made)) where
   abbrev shape : GuestShape
   shape = guest.shape
 
@@ -72,7 +71,7 @@ module _ (guest : GuestSpec) (number vcpu : ℕ) (good : IsGoodGuest guest) (wit
   p = progress_in guest number early vcpu
 
   abbrev is : IsStep guest.shape (end_of_moments guest.shape (opening guest number) early) (followed_in guest number early).ideal vcpu made.step made.found made.left made.tables
-  is = is_step guest.shape good.shape (end_of_moments guest.shape (opening guest number) early) (followed_in guest number early) (progress_on guest.shape (opening_progress guest number) early) vcpu made next.at next.acts
+  is = is_step guest.shape good.sound.shape (end_of_moments guest.shape (opening guest number) early) (followed_in guest number early) (progress_on guest.shape (opening_progress guest number) early) vcpu made next.at next.acts
 
   abbrev pub seat_now : IsSeatOf (progress_in guest number early vcpu) (seat_at (end_of_moments guest.shape (opening guest number) early) vcpu)
   seat_now = seat_so guest number vcpu good early made next
@@ -118,7 +117,7 @@ module _ (guest : GuestSpec) (number vcpu : ℕ) (good : IsGoodGuest guest) (wit
     local = subst (IsLocal shape vcpu) (sym seat_now.local) (is.sound.locals vcpu is.takes.actor)
 
     interface : IsInterface (interface_of p.local)
-    interface = is_interface shape vcpu p.local good.shape local
+    interface = is_interface shape vcpu p.local good.sound.shape local
 
     entry_there : Contains p.local.at late.entry × (late.entry.key ≡ key)
     entry_there = entry_is (Contains p.local.at) key p.local.at late.entry (All-contains_itself p.local.at) late.there

@@ -4,8 +4,8 @@ use Rattle.std.specs.List.{list_any}
 use Rattle.std.proofs.lemmas.Bool.{and_parts, cases_eq, eqb-true}
 use Rattle.std.proofs.lemmas.List.Elements.{All-nil, All-head, All-tail, All-weaker}
 use Rattle.law_scans_miss_none.specs.Words.{Key, GuestShape}
-use Rattle.law_scans_miss_none.specs.Calls.{Happens, Happened, GuestSpec, IsGoodGuest}
-use Rattle.law_scans_miss_none.specs.Histories.{Doing, doing_of, left_behind, with_doing, after_doing}
+use Rattle.law_scans_miss_none.specs.Calls.{Happens, Happened}
+use Rattle.law_scans_miss_none.specs.Histories.{Doing, doing_of, left_behind, with_doing, after_doing, IdealGuest, CanOpen}
 use Rattle.law_scans_miss_none.specs.Core.{AtIrq, Local, Made, Poll, local_after, Meets, succeeds, is_at, CoreState, opening, seat_at, end_of_moments, event_moments, ideal_moments, IsSeatOf, Act, begins, makes, ends, CoreMoment, Progress, is_paid, opening_progress, progressed, progress_in, stepped, IsProperRun, is_empty}
 use Rattle.law_scans_miss_none.specs.LawCoreIsHistory.Simulates.{IsSimulatedAs}
 use Rattle.law_scans_miss_none.proofs.LawCoreIsHistory.AfterLemmas.{later}
@@ -43,7 +43,7 @@ unpaid : (before after : Bool) → (IsTrue after → IsTrue before) → before �
 unpaid before true paid e = absurd (true≢false (sym (paid refl) ∙ e))
 unpaid before false paid e = refl
 
-module _ (guest : GuestSpec) (number vcpu : ℕ) (good : IsGoodGuest guest) (within : vcpu < guest.shape.vcpus) where
+module _ (guest : IdealGuest) (number vcpu : ℕ) (good : CanOpen guest) (within : vcpu < guest.shape.vcpus) where
   abbrev shape : GuestShape
   shape = guest.shape
 
@@ -65,13 +65,13 @@ module _ (guest : GuestSpec) (number vcpu : ℕ) (good : IsGoodGuest guest) (wit
       at = followed_in guest number early
 
       what : Option Happened
-      what = event shape good.shape (StateOf early) (followed_in guest number early) (ProgressOf early) actor made next.at next.acts
+      what = event shape good.sound.shape (StateOf early) (followed_in guest number early) (ProgressOf early) actor made next.at next.acts
 
-      sim : IsSimulatedAs guest.shape (later (is_step shape good.shape (StateOf early) (followed_in guest number early) (ProgressOf early) actor made next.at next.acts)) (followed_in guest number early).ideal actor
-          (event shape good.shape (StateOf early) (followed_in guest number early) (ProgressOf early) actor made next.at next.acts)
-      sim = simulated shape good.shape (StateOf early) (followed_in guest number early) (ProgressOf early) actor made next.at next.acts
+      sim : IsSimulatedAs guest.shape (later (is_step shape good.sound.shape (StateOf early) (followed_in guest number early) (ProgressOf early) actor made next.at next.acts)) (followed_in guest number early).ideal actor
+          (event shape good.sound.shape (StateOf early) (followed_in guest number early) (ProgressOf early) actor made next.at next.acts)
+      sim = simulated shape good.sound.shape (StateOf early) (followed_in guest number early) (ProgressOf early) actor made next.at next.acts
 
-      new : (one : Happened) → event shape good.shape (StateOf early) (followed_in guest number early) (ProgressOf early) actor made next.at next.acts ≡ Some one → All (Staying vcpu p) (left_behind (followed_in guest number early).ideal (followed_in guest number early).track one.event)
+      new : (one : Happened) → event shape good.sound.shape (StateOf early) (followed_in guest number early) (ProgressOf early) actor made next.at next.acts ≡ Some one → All (Staying vcpu p) (left_behind (followed_in guest number early).ideal (followed_in guest number early).track one.event)
       new one e = elim (access_so shape actor (seat_at (StateOf early) actor).local (seat_at (StateOf early) actor).own made.step made.found one e) [
         | inl quiet ↦ subst (All (Staying vcpu p)) (sym (none_left (followed_in guest number early).ideal (followed_in guest number early).track one.event quiet)) (All-nil (Staying vcpu p))
         | inr access ↦
@@ -79,14 +79,14 @@ module _ (guest : GuestSpec) (number vcpu : ℕ) (good : IsGoodGuest guest) (wit
             (left_by (Staying vcpu p) (followed_in guest number early).ideal (followed_in guest number early).track actor access.reg access.write (λ key left same. absurd (apart same)))
       ]
 
-      of : (o : Option Happened) → event shape good.shape (StateOf early) (followed_in guest number early) (ProgressOf early) actor made next.at next.acts ≡ o
-          → IsSimulatedAs guest.shape (later (is_step shape good.shape (StateOf early) (followed_in guest number early) (ProgressOf early) actor made next.at next.acts)) (followed_in guest number early).ideal actor o
+      of : (o : Option Happened) → event shape good.sound.shape (StateOf early) (followed_in guest number early) (ProgressOf early) actor made next.at next.acts ≡ o
+          → IsSimulatedAs guest.shape (later (is_step shape good.sound.shape (StateOf early) (followed_in guest number early) (ProgressOf early) actor made next.at next.acts)) (followed_in guest number early).ideal actor o
           → Kept vcpu (fold follows (followed_in guest number early) (event_moments actor o)) p
       of None e sim = kept
       of (Some one) e sim = record {
         told = λ owes none. kept.told owes
             (subst (λ (d : Doing). IsTrue (has_done_none d.done))
-            (happens_other shape good.shape (followed_in guest number early).ideal actor one.event one.found (followed_in guest number early).track vcpu next.at.related.shape_is sim.can (λ same. apart (sym same))) none);
+            (happens_other shape good.sound.shape (followed_in guest number early).ideal actor one.event one.found (followed_in guest number early).track vcpu next.at.related.shape_is sim.can (λ same. apart (sym same))) none);
         late = leaving_event (Staying vcpu p) (Staying vcpu p) (followed_in guest number early).ideal actor one.found (followed_in guest number early).track one.event (λ pair h stays. h) (new one e) kept.late;
       }
 
@@ -126,10 +126,10 @@ module _ (guest : GuestSpec) (number vcpu : ℕ) (good : IsGoodGuest guest) (wit
     q = stepped shape vcpu made p
 
     abbrev is : IsStep shape (StateOf early) At.ideal vcpu made.step made.found made.left made.tables
-    is = is_step shape good.shape (StateOf early) At (ProgressOf early) vcpu made next.at next.acts
+    is = is_step shape good.sound.shape (StateOf early) At (ProgressOf early) vcpu made next.at next.acts
 
     abbrev what : Option Happened
-    what = event shape good.shape (StateOf early) At (ProgressOf early) vcpu made next.at next.acts
+    what = event shape good.sound.shape (StateOf early) At (ProgressOf early) vcpu made next.at next.acts
 
     local_now : q.local ≡ local_after shape vcpu (seat_at (StateOf early) vcpu).local made.step made.found
     local_now = local_on shape vcpu made p ∙ ap (λ l. local_after shape vcpu l made.step made.found) (seat_now guest number vcpu good within early made next).local
@@ -148,13 +148,13 @@ module _ (guest : GuestSpec) (number vcpu : ℕ) (good : IsGoodGuest guest) (wit
         before h = subst (λ l. IsTrue (owes_kick vcpu l)) (sym (seat_now guest number vcpu good within early made next).local) h
 
         here : (one : Happened) → IsSimulatedAs shape (later is) At.ideal vcpu (Some one) → doing_of (fold follows At (event_moments vcpu (Some one))).track vcpu ≡ after_doing At.ideal vcpu one.event (doing_of At.track vcpu)
-        here one sim = happens_here shape good.shape At.ideal vcpu one.event one.found At.track next.at.related.shape_is sim.can in_doings
+        here one sim = happens_here shape good.sound.shape At.ideal vcpu one.event one.found At.track next.at.related.shape_is sim.can in_doings
 
         by_kick : (o : Option Happened) → what ≡ o → IsSimulatedAs shape (later is) At.ideal vcpu o → IsTrue (has_done_none (doing_of (fold follows At (event_moments vcpu o)).track vcpu).done) → IsTrue (owes_kick vcpu (seat_at (StateOf early) vcpu).local) ⊎ (makes_one what ≡ true) → ⊥
         by_kick None e sim none (inl owes) = kept.told (before owes) none
         by_kick None e sim none (inr one_made) = true≢false (sym one_made ∙ ap makes_one e)
         by_kick (Some one) e sim none (inl owes) =
-            let goes : is_queue one.event ≡ false = sym (ap ends_command e) ∙ owing_goes_on shape good.shape (StateOf early) At (ProgressOf early) vcpu made next.at next.acts vcpu vcpu owes refl in
+            let goes : is_queue one.event ≡ false = sym (ap ends_command e) ∙ owing_goes_on shape good.sound.shape (StateOf early) At (ProgressOf early) vcpu made next.at next.acts vcpu vcpu owes refl in
             kept.told (before owes) (none_before At.ideal vcpu one.event (doing_of At.track vcpu) goes (subst (λ (d : Doing). IsTrue (has_done_none d.done)) (here one sim) none))
         by_kick (Some one) e sim none (inr one_made) =
             done_before At.ideal vcpu one.event (doing_of At.track vcpu) (subst (λ (d : Doing). IsTrue (has_done_none d.done)) (here one sim) none) (sym (ap makes_one e) ∙ one_made)
@@ -203,7 +203,7 @@ module _ (guest : GuestSpec) (number vcpu : ℕ) (good : IsGoodGuest guest) (wit
             (and_parts (has_done_none (doing_of At.track vcpu).done) true (subst (λ ev. IsTrue (is_access_first At.ideal At.track (Happens vcpu ev one.found) && true)) access.event_is whole)).0
 
     mine : Kept vcpu (follow shape (StateOf early) At (record { actor = vcpu; act = makes made })) q
-    mine = of what refl (simulated shape good.shape (StateOf early) At (ProgressOf early) vcpu made next.at next.acts)
+    mine = of what refl (simulated shape good.sound.shape (StateOf early) At (ProgressOf early) vcpu made next.at next.acts)
       where
         of : (o : Option Happened) → what ≡ o → IsSimulatedAs shape (later is) At.ideal vcpu o → Kept vcpu (fold follows At (event_moments vcpu o)) q
         of None e sim = record {
@@ -276,7 +276,7 @@ all_left vcpu p (pair ∷ leaving) scanned all = of (pair.0 == vcpu) refl (all_l
 
 -- a vCPU that has made no event of an interrupt owes itself no kick
 pub none_owed :
-    (guest : GuestSpec) (number : ℕ) (moments : List CoreMoment) (vcpu : ℕ) → IsGoodGuest guest → IsProperRun guest number moments → vcpu < guest.shape.vcpus → AccessesComeFirst guest number moments
+    (guest : IdealGuest) (number : ℕ) (moments : List CoreMoment) (vcpu : ℕ) → CanOpen guest → IsProperRun guest number moments → vcpu < guest.shape.vcpus → AccessesComeFirst guest number moments
     → IsTrue (has_done_none (doing_of (followed_in guest number moments).track vcpu).done) → IsTrue (owes_kick vcpu (progress_in guest number moments vcpu).local) → ⊥
 none_owed guest number moments vcpu good proper within first none owes =
     (runs_on guest number good (KeptAt guest number vcpu good within) (one_more guest number vcpu good within) (opens guest number vcpu good within) moments proper first).told owes none

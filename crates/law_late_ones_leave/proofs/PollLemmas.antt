@@ -1,7 +1,7 @@
 -- An access of a CPU interface in a proper run: what its vCPU is then.
 use Rattle.std.proofs.Common.{◌≡◌, ℕ, true≢false, not, Bool, true, false, IsTrue, List, Option, Some, refl, sym, ap, ◌∙◌, subst}
 use Rattle.law_scans_miss_none.specs.Words.{IccReg, GuestShape}
-use Rattle.law_scans_miss_none.specs.Calls.{GuestSpec, IsGoodGuest}
+use Rattle.law_scans_miss_none.specs.Histories.{IdealGuest, CanOpen}
 use Rattle.law_scans_miss_none.specs.Core.{Local, Made, Poll, Meets, is_ready, vcpu_of, CoreState, opening, seat_at, word_in, word_of, end_of_moments, IsSeatOf, CoreMoment, makes, Progress, opening_progress, progress_in, IsProperStep, is_idle}
 use Rattle.law_scans_miss_none.proofs.LawCoreIsHistory.StepContext.{IsStep}
 use Rattle.law_scans_miss_none.specs.LawRegistersStand.Asks.{IsUnkicked}
@@ -23,12 +23,12 @@ pub record IsPolled (shape : GuestShape) (state : CoreState) (vcpu : ℕ) (p : P
   pub free : IsUnkicked shape state vcpu
   pub none_failed : p.failed ≡ false
 
-module _ (guest : GuestSpec) (number vcpu : ℕ) (good : IsGoodGuest guest) (early : List CoreMoment) (made : Made) (next : IsNextOf guest number early vcpu (makes made)) where
+module _ (guest : IdealGuest) (number vcpu : ℕ) (good : CanOpen guest) (early : List CoreMoment) (made : Made) (next : IsNextOf guest number early vcpu (makes made)) where
   abbrev State : CoreState
   State = end_of_moments guest.shape (opening guest number) early
 
   abbrev is : IsStep guest.shape (end_of_moments guest.shape (opening guest number) early) (followed_in guest number early).ideal vcpu made.step made.found made.left made.tables
-  is = is_step guest.shape good.shape (end_of_moments guest.shape (opening guest number) early) (followed_in guest number early) (progress_on guest.shape (opening_progress guest number) early) vcpu made next.at next.acts
+  is = is_step guest.shape good.sound.shape (end_of_moments guest.shape (opening guest number) early) (followed_in guest number early) (progress_on guest.shape (opening_progress guest number) early) vcpu made next.at next.acts
 
   p_is : progress_on guest.shape (opening_progress guest number) early vcpu ≡ progress_in guest number early vcpu
   p_is = progress_is guest.shape early (opening_progress guest number) vcpu

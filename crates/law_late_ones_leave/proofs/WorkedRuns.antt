@@ -2,11 +2,12 @@
 use Rattle.std.proofs.Common.{arith, ◌≡◌, ℕ, ◌<◌, false, IsTrue, [], ◌∷◌, refl, zero, suc, All, slice_index_or}
 use Rattle.std.proofs.lemmas.List.Elements.{All-nil, All-cons}
 use Rattle.std.proofs.lemmas.List.Sums.{AllPass-from_list_all}
+use Rattle.law_scans_miss_none.proofs.IdealGuests.CanOpenLemmas.{openings_can_open}
 use Rattle.law_scans_miss_none.specs.Registers.{least_in, with_level, without_level}
 use Rattle.law_scans_miss_none.specs.Lists.{in_places}
-use Rattle.law_scans_miss_none.specs.Histories.{is_kept, of_end}
-use Rattle.law_scans_miss_none.specs.Calls.{IsGoodGuest, IsGoodPreset}
-use Rattle.law_scans_miss_none.specs.Core.{ideal_of, actor_count, opening, IsRun, own_acts, entries_of, are_parts, opening_progress, IsProper, IsProperRun, spi, worked_guest}
+use Rattle.law_scans_miss_none.specs.Histories.{is_kept, of_end, CanOpen}
+use Rattle.law_scans_miss_none.specs.Calls.{IsGoodPreset}
+use Rattle.law_scans_miss_none.specs.Core.{ideal_of, actor_count, opening, IsRun, own_acts, entries_of, are_parts, opening_progress, IsProper, IsProperRun, spi, worked_guest, worked_spec}
 use Rattle.law_scans_miss_none.proofs.CoreProper.WorkedLemmas.{vcpu_there, device_there, vcpu_is, are_proper, acts_are_proper, no_other, is_there, is_below}
 use Rattle.law_scans_miss_none.specs.LawRegistersStand.Worked.{level_guest}
 use Rattle.law_scans_miss_none.proofs.LawRegistersStand.WorkedSteps.{level_is_behind}
@@ -120,11 +121,13 @@ raised_actors = λ k d h. is_below (slice_index_or raised_run k d).actor 2 (AllP
 raised_proper : IsProperRun worked_guest 0 raised_run
 raised_proper = record { parted = record { run = raised_is_run; actors = raised_actors; parts = raised_parts }; proper = raised_each }
 
-raised_good : IsGoodGuest worked_guest
-raised_good = record {
-  shape = record { some_vcpu = omega arith; vcpus = omega arith; spis = omega arith; spi_blocks = refl; espis = omega arith; espi_blocks = refl; devices = omega arith; lpis = omega arith; ram = omega arith; ram_words = refl };
-  presets = All-cons (IsGoodPreset worked_guest.shape) _ [] (record { there = refl; addressed = refl; prio = omega arith; prio_bits = refl; group = omega arith; sgi_is_edge = refl }) (All-nil (IsGoodPreset worked_guest.shape));
-}
+raised_good : CanOpen worked_guest
+raised_good =
+    openings_can_open worked_spec
+    (record {
+      shape = record { some_vcpu = omega arith; vcpus = omega arith; spis = omega arith; spi_blocks = refl; espis = omega arith; espi_blocks = refl; devices = omega arith; lpis = omega arith; ram = omega arith; ram_words = refl };
+      presets = All-cons (IsGoodPreset worked_spec.shape) _ [] (record { there = refl; addressed = refl; prio = omega arith; prio_bits = refl; group = omega arith; sgi_is_edge = refl }) (All-nil (IsGoodPreset worked_spec.shape));
+    })
 
 stays_late : is_kept of_end worked_guest (ideal_of worked_guest.shape (opening worked_guest 0) raised_run) ≡ false
 unfolding least_in with_level without_level in_places

@@ -1,8 +1,8 @@
 -- A worked run: a wire stays up while its level-triggered SPI is acknowledged and ended, and the SPI leaves before the call of its end is over.
 use Rattle.std.specs.Prelude.{ℕ, ◌≡◌, ◌^◌, false, List, [], ◌∷◌, ◌++◌, Some, None}
 use Rattle.law_scans_miss_none.specs.Words.{Eoir1, Iar1, Message}
-use Rattle.law_scans_miss_none.specs.Calls.{Device, Residence, IsGoodGuest}
-use Rattle.law_scans_miss_none.specs.Histories.{is_kept, of_end}
+use Rattle.law_scans_miss_none.specs.Calls.{Device, Residence}
+use Rattle.law_scans_miss_none.specs.Histories.{is_kept, of_end, CanOpen}
 use Rattle.law_scans_miss_none.specs.Core.{Claim, GiveBack, Kick, Look, Mark, Poll, Raise, Release, TakeIndex, Irq, opening, ideal_of, begins, ends, CoreMoment, IsProperRun, worked_guest, spi, opened_word, pending_word, held_word, vcpu_does, device_does, made, reads_iar, writes_eoir}
 use Rattle.law_scans_miss_none.specs.LawRegistersStand.Worked.{level_guest, level_run, held_high_word}
 use Rattle.law_scans_miss_none.specs.Excuse.{followed_in}
@@ -28,7 +28,7 @@ left_run =
 
 -- the run meets what the laws ask, and the SPI is to leave after its end, and has left
 pub record LateRunLeaves : Type 0 where
-  pub good : IsGoodGuest level_guest
+  pub good : CanOpen level_guest
   pub proper : IsProperRun level_guest 0 left_run
   pub first : AccessesComeFirst level_guest 0 left_run
   pub late : (followed_in level_guest 0 ended_run).track.leaving ≡ (0, spi) ∷ []
@@ -64,6 +64,6 @@ raised_run =
 
 -- it is proper, and the call ends while the SPI is still to leave
 pub record RaisedRunStays : Type 0 where
-  pub good : IsGoodGuest worked_guest
+  pub good : CanOpen worked_guest
   pub proper : IsProperRun worked_guest 0 raised_run
   pub late : is_kept of_end worked_guest (ideal_of worked_guest.shape (opening worked_guest 0) raised_run) ≡ false

@@ -3,9 +3,8 @@ use Rattle.std.proofs.Common.{◌≡◌, ℕ, ◌<◌, ◌&&◌, ◌||◌, Bool,
 use Rattle.std.specs.Option.{option_map_or}
 use Rattle.std.proofs.lemmas.Bool.{and_parts, and_from, eqb-true}
 use Rattle.law_late_ones_leave.specs.Words.{Key, GuestShape, has_interrupt, intid_of, Irq, is_number, is_ripe}
-use Rattle.law_late_ones_leave.specs.Histories.{comes_first, is_far_active, interface_at, is_home, irq_at, cpu_at}
+use Rattle.law_late_ones_leave.specs.Histories.{comes_first, is_far_active, interface_at, is_home, irq_at, cpu_at, IdealGuest, CanOpen}
 use Rattle.law_late_ones_leave.specs.Registers.{first_of, is_before, is_deliverable, is_group_enabled, takes_kind, InterfaceState, candidates_at}
-use Rattle.law_late_ones_leave.specs.Calls.{GuestSpec, IsGoodGuest}
 use Rattle.law_late_ones_leave.specs.Core.{Phase, Folding, interface_of, is_ready, CoreState, opening, end_of_moments, CoreMoment, Progress, opening_progress, progress_in, IsProperRun}
 use Rattle.law_late_ones_leave.specs.LawCoreIsHistory.Related.{is_folding}
 use Rattle.law_late_ones_leave.specs.LawScansMissNone.Excuse.{IsExcused, followed_in}
@@ -30,7 +29,7 @@ not_folding phase h = of (is_folding phase) refl
         clash Folding e h = cc
         clash p e h = cc
 
-module _ (guest : GuestSpec) (number : ℕ) (moments : List CoreMoment) (vcpu : ℕ) (good : IsGoodGuest guest) (proper : IsProperRun guest number moments) (few : vcpu < guest.shape.vcpus) where
+module _ (guest : IdealGuest) (number : ℕ) (moments : List CoreMoment) (vcpu : ℕ) (good : CanOpen guest) (proper : IsProperRun guest number moments) (few : vcpu < guest.shape.vcpus) where
   abbrev shape : GuestShape
   shape = guest.shape
 

@@ -2,8 +2,7 @@
 use Rattle.std.proofs.Common.{◌≡◌, ℕ, ◌<◌, ◌==◌, ◌&&◌, ◌||◌, inl, inr, true≢false, Bool, true, false, IsTrue, All, List, [], ◌∷◌, Option, Some, None, is_some, refl, sym, ap, ◌∙◌, subst}
 use Rattle.std.proofs.lemmas.List.Elements.{All-head}
 use Rattle.law_late_ones_leave.specs.Words.{Key, GuestShape, has_interrupt}
-use Rattle.law_late_ones_leave.specs.Histories.{Turn, changes_of, doing_of, is_home}
-use Rattle.law_late_ones_leave.specs.Calls.{GuestSpec, IsGoodGuest}
+use Rattle.law_late_ones_leave.specs.Histories.{Turn, changes_of, doing_of, is_home, IdealGuest, CanOpen}
 use Rattle.law_late_ones_leave.specs.Core.{AtIrq, Local, actor_count, is_at, CoreState, opening, seat_at, end_of_moments, CoreMoment, Progress, is_paid, opening_progress, progress_in, IsProperRun, is_empty}
 use Rattle.law_late_ones_leave.proofs.LawCoreIsHistory.StandingLemmas.{home_is}
 use Rattle.law_late_ones_leave.specs.LawScansMissNone.Excuse.{followed_in, is_current}
@@ -18,7 +17,7 @@ use Rattle.law_late_ones_leave.proofs.LateRuns.{late_ones_leave}
 use Rattle.law_lone_accesses_find_all.specs.Lone.{AreAtEase, EaseIsUpToDate, IsAtEase}
 use Rattle.law_lone_accesses_find_all.proofs.HereLemmas.{end_is, p_is, local_is, an_actor, within_vcpus, held_at}
 
-module _ (guest : GuestSpec) (number : ℕ) (moments : List CoreMoment) (good : IsGoodGuest guest) (proper : IsProperRun guest number moments) (firsts : AccessesComeFirst guest number moments) (are : AreAtEase guest number moments) where
+module _ (guest : IdealGuest) (number : ℕ) (moments : List CoreMoment) (good : CanOpen guest) (proper : IsProperRun guest number moments) (firsts : AccessesComeFirst guest number moments) (are : AreAtEase guest number moments) where
   abbrev shape : GuestShape
   shape = guest.shape
 

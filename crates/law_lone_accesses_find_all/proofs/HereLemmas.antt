@@ -4,10 +4,9 @@ use Rattle.std.specs.List.{list_any}
 use Rattle.std.proofs.lemmas.Bool.{eq-eqb, lt-ltb, ltb-true}
 use Rattle.std.proofs.lemmas.List.Sums.{fold-append}
 use Rattle.law_late_ones_leave.specs.Words.{Key, GuestShape, has_interrupt, is_number, is_vcpu_or_none}
-use Rattle.law_late_ones_leave.specs.Histories.{interface_at, shown_at, is_home, is_of, standing_at, irq_at, cpu_at}
+use Rattle.law_late_ones_leave.specs.Histories.{interface_at, shown_at, is_home, is_of, standing_at, irq_at, cpu_at, IdealGuest, CanOpen}
 use Rattle.law_late_ones_leave.specs.Registers.{InterfaceState}
 use Rattle.law_late_ones_leave.proofs.LawHistories.StandLemmas.{any_somewhere}
-use Rattle.law_late_ones_leave.specs.Calls.{GuestSpec, IsGoodGuest}
 use Rattle.law_late_ones_leave.specs.Core.{Local, Irq as IrqWord, Vcpu, actor_count, interface_of, shown, is_at, CoreState, opening, seat_at, after_moment, end_of_moments, Act, CoreMoment, Progress, opening_progress, progress_in, IsProperRun}
 use Rattle.law_late_ones_leave.specs.LawCoreIsHistory.Related.{bare, but_lpis, is_folding}
 use Rattle.law_late_ones_leave.proofs.LawCoreIsHistory.AccessLemmas.{shown_same}
@@ -22,7 +21,7 @@ use Rattle.law_late_ones_leave.proofs.LawScansMissNone.Frame.{IsAt, follow, at_n
 use Rattle.law_late_ones_leave.proofs.LawScansMissNone.RunFrame.{IsNextOf, end_more, followed_more, runs_on}
 
 -- what is kept along a run holds at its end
-pub end_is : (guest : GuestSpec) (number : ℕ) → IsGoodGuest guest → (moments : List CoreMoment) → IsProperRun guest number moments
+pub end_is : (guest : IdealGuest) (number : ℕ) → CanOpen guest → (moments : List CoreMoment) → IsProperRun guest number moments
     → IsAt guest.shape (end_of_moments guest.shape (opening guest number) moments) (followed_in guest number moments) (progress_on guest.shape (opening_progress guest number) moments)
 end_is guest number good moments proper = runs_on guest number good KeptAt one_more (at_opens guest number good) moments proper
   where
@@ -32,12 +31,12 @@ end_is guest number good moments proper = runs_on guest number good KeptAt one_m
     one_more : (early : List CoreMoment) (actor : ℕ) (act : Act) → IsNextOf guest number early actor act → KeptAt early → KeptAt (early ++ record { actor = actor; act = act } ∷ [])
     one_more early actor act next kept =
         let moment : CoreMoment = record { actor = actor; act = act } in
-        let later = at_next guest.shape good.shape (end_of_moments guest.shape (opening guest number) early) (followed_in guest number early) (progress_on guest.shape (opening_progress guest number) early) actor act next.at next.acts in
+        let later = at_next guest.shape good.sound.shape (end_of_moments guest.shape (opening guest number) early) (followed_in guest number early) (progress_on guest.shape (opening_progress guest number) early) actor act next.at next.acts in
         subst (λ s. IsAt guest.shape s (followed_in guest number (early ++ moment ∷ [])) (progress_on guest.shape (opening_progress guest number) (early ++ moment ∷ []))) (sym (end_more guest.shape (opening guest number) early moment))
         (subst (λ f. IsAt guest.shape (after_moment guest.shape (end_of_moments guest.shape (opening guest number) early) moment) f (progress_on guest.shape (opening_progress guest number) (early ++ moment ∷ []))) (sym (followed_more guest number early moment))
         (subst (λ q. IsAt guest.shape (after_moment guest.shape (end_of_moments guest.shape (opening guest number) early) moment) (follow guest.shape (end_of_moments guest.shape (opening guest number) early) (followed_in guest number early) moment) q) (sym (fold-append (moved_on guest.shape) (opening_progress guest number) early (moment ∷ []))) later))
 
-module _ (guest : GuestSpec) (number : ℕ) (moments : List CoreMoment) (good : IsGoodGuest guest) (proper : IsProperRun guest number moments) where
+module _ (guest : IdealGuest) (number : ℕ) (moments : List CoreMoment) (good : CanOpen guest) (proper : IsProperRun guest number moments) where
   abbrev pub shape : GuestShape
   shape = guest.shape
 

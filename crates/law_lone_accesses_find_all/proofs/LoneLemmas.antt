@@ -3,8 +3,7 @@ use Rattle.std.proofs.Common.{◌≡◌, ◌≢◌, ℕ, ◌<◌, ◌==◌, ◌&
 use Rattle.std.specs.Option.{option_map_or}
 use Rattle.std.proofs.lemmas.Bool.{cases_eq, and_parts, eqb-true}
 use Rattle.law_late_ones_leave.specs.Words.{Key, GuestShape, has_interrupt}
-use Rattle.law_late_ones_leave.specs.Histories.{Turn, changes_of, doing_of}
-use Rattle.law_late_ones_leave.specs.Calls.{GuestSpec, IsGoodGuest}
+use Rattle.law_late_ones_leave.specs.Histories.{Turn, changes_of, doing_of, IdealGuest, CanOpen}
 use Rattle.law_late_ones_leave.specs.Core.{actor_count, CoreState, opening, seat_at, end_of_moments, CoreMoment, Progress, opening_progress, progress_in, IsProperRun, has_key}
 use Rattle.law_late_ones_leave.specs.LawScansMissNone.Excuse.{followed_in, is_current, IsExcused}
 use Rattle.law_late_ones_leave.specs.LawRegistersStand.Followed.{Followed}
@@ -15,7 +14,7 @@ use Rattle.law_late_ones_leave.proofs.LawScansMissNone.WantRuns.{wants_are_kept}
 use Rattle.law_lone_accesses_find_all.specs.Lone.{IsAlone}
 use Rattle.law_lone_accesses_find_all.proofs.HereLemmas.{end_is, p_is}
 
-module _ (guest : GuestSpec) (number : ℕ) (moments : List CoreMoment) (vcpu : ℕ) (good : IsGoodGuest guest) (proper : IsProperRun guest number moments) (few : vcpu < guest.shape.vcpus) (alone : IsAlone guest number moments vcpu) where
+module _ (guest : IdealGuest) (number : ℕ) (moments : List CoreMoment) (vcpu : ℕ) (good : CanOpen guest) (proper : IsProperRun guest number moments) (few : vcpu < guest.shape.vcpus) (alone : IsAlone guest number moments vcpu) where
   abbrev shape : GuestShape
   shape = guest.shape
 

@@ -1,10 +1,9 @@
 -- An access of a vCPU that is alone finds all that is there for it.
 use Rattle.std.proofs.Common.{◌≡◌, ℕ, ◌<◌, Bool, true, false, IsTrue, List, Option, Some, refl}
 use Rattle.law_late_ones_leave.specs.Words.{IccReg, Eoir0, Eoir1, Dir, Key, GuestShape, has_interrupt}
-use Rattle.law_late_ones_leave.specs.Histories.{asks_first, comes_first, ended_by, is_far_active}
+use Rattle.law_late_ones_leave.specs.Histories.{asks_first, comes_first, ended_by, is_far_active, IdealGuest, CanOpen}
 use Rattle.law_late_ones_leave.proofs.IdealGuests.KeyLemmas.{key_there}
 use Rattle.law_late_ones_leave.specs.Registers.{intid_written}
-use Rattle.law_late_ones_leave.specs.Calls.{GuestSpec, IsGoodGuest}
 use Rattle.law_late_ones_leave.specs.Core.{CoreMoment, IsProperRun}
 use Rattle.law_late_ones_leave.specs.LawScansMissNone.Excuse.{followed_in}
 use Rattle.law_late_ones_leave.specs.LawRegistersStand.Followed.{Followed}
@@ -20,7 +19,7 @@ ended_there shape vcpu Eoir1 (Some value) key e = key_there (intid_written value
 ended_there shape vcpu Dir (Some value) key e = key_there (intid_written value) vcpu shape key e
 ended_there shape vcpu reg write key e = absurd (cc)
 
-module _ (guest : GuestSpec) (number : ℕ) (moments : List CoreMoment) (vcpu : ℕ) (reg : IccReg) (write : Option ℕ) (good : IsGoodGuest guest) (proper : IsProperRun guest number moments) (few : vcpu < guest.shape.vcpus)
+module _ (guest : IdealGuest) (number : ℕ) (moments : List CoreMoment) (vcpu : ℕ) (reg : IccReg) (write : Option ℕ) (good : CanOpen guest) (proper : IsProperRun guest number moments) (few : vcpu < guest.shape.vcpus)
     (alone : IsAlone guest number moments vcpu) (ready : IsReadyFor guest number moments vcpu reg write) where
   abbrev shape : GuestShape
   shape = guest.shape

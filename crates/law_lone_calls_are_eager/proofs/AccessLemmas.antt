@@ -13,7 +13,7 @@ use Rattle.law_home_commutes.specs.GicImap.declared.map.Reg.{Reg as ItsReg}
 use Rattle.law_home_commutes.specs.GicImap.declared.map.Reg.TheVariants.{Ctlr as ItsCtlrReg, Iidr as ItsIidr, Typer as ItsTyper, Pidr2 as ItsPidr2}
 use Rattle.law_home_commutes.specs.GicImap.declared.map.RegRef.{RegRef as ItsRef}
 use Rattle.law_home_commutes.specs.GicImap.declared.map.RegRef.TheVariants.{Plain as ItsPlain, Reserved as ItsReserved}
-use Rattle.law_home_commutes.specs.Calls.{Cbaser, Pendbaser, Event, Enable, Touch, Moment, Access, Register, is_table_zero, is_in_table, pended_at, its_written, takes_its, redist_written, access_events, access_value, its_events, its_starts, takes_turn, queue_places, Happened, IsPlainCall, IsCall, access_places, its_places, read_answer, View, GuestSpec}
+use Rattle.law_home_commutes.specs.Calls.{Cbaser, Pendbaser, Event, Enable, Touch, Moment, Access, Register, is_table_zero, is_in_table, pended_at, its_written, takes_its, redist_written, access_events, access_value, its_events, its_starts, takes_turn, queue_places, Happened, IsPlainCall, IsCall, access_places, its_places, read_answer, View}
 use Rattle.law_home_commutes.specs.GicRmap.declared.map.Reg.TheVariants.{Ctlr as RedistCtlr}
 use Rattle.law_home_commutes.specs.GicCall.Access.{starts_commands as register_starts}
 use Rattle.law_home_commutes.specs.GicCall.Call.{starts_commands}
@@ -102,7 +102,7 @@ answer_same : (write : Option ℕ) (value other : ℕ) → (write ≡ None → v
 answer_same None value other same = ap Some (same refl)
 answer_same (Some written) value other same = refl
 
-module _ (guest : GuestSpec) (moments : List Moment) (actor : ℕ) (piece : List Happened) (answer : Option ℕ) where
+module _ (guest : IdealGuest) (moments : List Moment) (actor : ℕ) (piece : List Happened) (answer : Option ℕ) where
   abbrev state : Ideal
   state = last_of guest moments
 

@@ -5,7 +5,7 @@ use Rattle.std.specs.Option.{option_map_or}
 use Rattle.std.proofs.lemmas.Bool.{and_from}
 use Rattle.law_home_commutes.specs.Words.{Lpi, DeviceOp, Message, Wire, Msi}
 use Rattle.law_home_commutes.specs.Registers.{enabled_in, translated}
-use Rattle.law_home_commutes.specs.Calls.{ItsCtlr, Event, ItsBegin, Moment, Device, device_events, Happened, IsDeviceCall, IsCall, View, is_its_enabled, GuestSpec, Makes, msi_raises}
+use Rattle.law_home_commutes.specs.Calls.{ItsCtlr, Event, ItsBegin, Moment, Device, device_events, Happened, IsDeviceCall, IsCall, View, is_its_enabled, Makes, msi_raises}
 use Rattle.law_home_commutes.specs.GicCall.declared.event.Event.TheVariants.{Raise, ItsEnd}
 use Rattle.law_home_commutes.specs.GicCall.declared.event.Found.TheVariants.{Word as FoundWord}
 use Rattle.law_home_commutes.specs.GicCall.declared.event.Place.TheVariants.{Word}
@@ -31,7 +31,7 @@ msi_all test view device event raise begin end = of (translated view.maps (is_it
     of None = and_from (test ItsBegin) (list_all test (ItsEnd ∷ [])) begin (and_from (test ItsEnd) true end refl)
     of (Some id) = and_from (test ItsBegin) (list_all test (Raise (Lpi id) ∷ ItsEnd ∷ [])) begin (and_from (test (Raise (Lpi id))) (list_all test (ItsEnd ∷ [])) (raise id) (and_from (test ItsEnd) true end refl))
 
-module _ (guest : GuestSpec) (moments : List Moment) (actor : ℕ) (piece : List Happened) (answer : Option ℕ) where
+module _ (guest : IdealGuest) (moments : List Moment) (actor : ℕ) (piece : List Happened) (answer : Option ℕ) where
   abbrev state : Ideal
   state = last_of guest moments
 

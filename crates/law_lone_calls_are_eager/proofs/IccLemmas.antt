@@ -4,7 +4,7 @@ use Rattle.std.specs.List.{list_all}
 use Rattle.std.specs.Option.{option_map_or}
 use Rattle.law_home_commutes.specs.Registers.{intid_of, is_target}
 use Rattle.law_home_commutes.specs.Words.{IccReg, Sgi1r, Private, Icc, GuestShape}
-use Rattle.law_home_commutes.specs.Calls.{Event, Cpu, Moment, Access, Residence, sgi_at, icc_raises, icc_events, Happened, is_beside, named_of, IsIccCall, IsCall, GuestSpec}
+use Rattle.law_home_commutes.specs.Calls.{Event, Cpu, Moment, Access, Residence, sgi_at, icc_raises, icc_events, Happened, is_beside, named_of, IsIccCall, IsCall}
 use Rattle.law_home_commutes.specs.GicCall.declared.event.Event.TheVariants.{Raise}
 use Rattle.law_home_commutes.specs.GicCall.declared.event.Found.TheVariants.{Answer}
 use Rattle.law_home_commutes.specs.Histories.{IdealGuest, access_answer, after_events, vcpu_of, last_of, home}
@@ -51,7 +51,7 @@ access_answered shape guest vcpu reg write (one ∷ named) answer run are is = o
     of (inl e) = same answer (access_answer reg write guest vcpu) (sym (ap (λ (h : Happened). h.found) e) ∙ found_is)
     of (inr later) = absurd (let no = event_passes is_raise named _ (subst (λ xs. IsTrue (list_all is_raise xs)) (sym rest_is) (raises_all shape vcpu reg write)) later in cc)
 
-module _ (guest : GuestSpec) (moments : List Moment) (actor : ℕ) (piece : List Happened) (answer : Option ℕ) where
+module _ (guest : IdealGuest) (moments : List Moment) (actor : ℕ) (piece : List Happened) (answer : Option ℕ) where
   abbrev before : IdealGuest
   before = home (last_of guest moments)
 

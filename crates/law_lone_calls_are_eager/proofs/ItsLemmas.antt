@@ -8,13 +8,12 @@ use Rattle.std.proofs.lemmas.List.Folds.{list_all-append}
 use Rattle.law_home_commutes.specs.Words.{Its, Mem, GuestShape}
 use Rattle.law_home_commutes.specs.GicImap.Map.{decoded as its_decoded}
 use Rattle.law_home_commutes.specs.GicImap.declared.map.RegRef.{RegRef as ItsRef}
-use Rattle.law_home_commutes.specs.Calls.{Cbaser, Event, ItsBegin, Moment, Operation, Access, its_events, its_starts, takes_turn, queue_places, Happened, is_beside, AreStarted, IsItsCall, its_places, its_written_by, HaveSameIts, View, GuestSpec}
+use Rattle.law_home_commutes.specs.Calls.{Event, ItsBegin, Moment, Operation, Access, its_events, its_starts, takes_turn, Happened, is_beside, AreStarted, IsItsCall, its_places, its_written_by, HaveSameIts, View}
 use Rattle.law_home_commutes.specs.GicCall.declared.event.Event.TheVariants.{ItsEnd}
 use Rattle.law_home_commutes.proofs.GicCall.CallLemmas.{its_valid}
 use Rattle.law_home_commutes.proofs.GicCall.TraceLemmas.{its_made}
-use Rattle.law_home_commutes.specs.Histories.{IdealGuest, word_at, view_of, after_event, after_events, after_queued, IsQueueInOrder, IsSound, Call, begun, last_of, home, Ideal, happened, targets_in}
+use Rattle.law_home_commutes.specs.Histories.{IdealGuest, view_of, after_event, after_events, after_queued, IsQueueInOrder, IsSound, Call, begun, last_of, home, Ideal, happened, targets_in}
 use Rattle.law_home_commutes.proofs.IdealGuests.KeyLemmas.{IsWhole}
-use Rattle.law_home_commutes.proofs.IdealGuests.QueueLemmas.{commands_end}
 use Rattle.law_eager_is_history.specs.GicIdeal.Deeds.{op_events}
 use Rattle.law_eager_is_history.proofs.GicIdeal.StepLemmas.{op_is_events}
 use Rattle.law_eager_is_history.proofs.CourseLemmas.{state_after, call_after, call_append}
@@ -33,10 +32,10 @@ use Rattle.law_lone_calls_are_eager.proofs.PartLemmas.{IsMade}
 use Rattle.law_lone_calls_are_eager.proofs.QueueLemmas.{queued_is, commands_done}
 use Rattle.law_lone_calls_are_eager.proofs.ReadLemmas.{beside_passes, some_named}
 use Rattle.law_lone_calls_are_eager.proofs.RunLemmas.{events_of, IsHomeRun, Follows, LoneRun}
-use Rattle.law_lone_calls_are_eager.proofs.TurnLemmas.{its_all, IsRegistered, eager_so, already_so, registered, no_turn_passes, sound_run}
+use Rattle.law_lone_calls_are_eager.proofs.TurnLemmas.{its_all, IsRegistered, registered, no_turn_passes, sound_run}
 use Rattle.law_lone_calls_are_eager.proofs.PassLemmas.{both_all, makes_all, started_all}
 
-module _ (guest : GuestSpec) (moments : List Moment) (actor : ℕ) (piece : List Happened) (answer : Option ℕ) (offset size value : ℕ) where
+module _ (guest : IdealGuest) (moments : List Moment) (actor : ℕ) (piece : List Happened) (answer : Option ℕ) (offset size value : ℕ) where
   abbrev op : Operation
   op = Access (Mem Its offset size (Some value))
 
@@ -250,19 +249,12 @@ module _ (guest : GuestSpec) (moments : List Moment) (actor : ℕ) (piece : List
 
     goes_so : IsRegistered guest.shape before (Some vcpu) is.view is.register value (its_decoded offset size)
         → guest2 ≡ cond (its_starts guest.shape (view_of before) (its_decoded offset size) (Some value)) (after_queued (after_events eager before)) (after_events eager before)
-    goes_so (eager_so events_same starts known) =
-        started_is events_same (its_starts guest.shape is.view (its_decoded offset size) (Some value)) refl known is.started
-        ∙ ap (λ b. cond b (after_queued (after_events eager before)) (after_events eager before)) starts
-    goes_so (already_so none starts still) =
-        none_started (its_written_by guest.shape is.view mine) is.views (subst (λ b. AreStarted b (Some vcpu) guest.shape run.ended.beside (its_written_by guest.shape is.view mine) is.views is.commands) starts is.started)
-        ∙ guest1_is ∙ ap (λ es. after_events es before) none ∙ of (its_starts guest.shape (view_of before) (its_decoded offset size) (Some value))
-      where
-        of : (b : Bool) → before ≡ cond b (after_queued (after_events eager before)) (after_events eager before)
-        of true = sym (ap after_queued still ∙ commands_end (queue_places (word_at before Cbaser)) before rest.dry)
-        of false = sym still
+    goes_so so =
+        started_is so.events (its_starts guest.shape is.view (its_decoded offset size) (Some value)) refl so.known is.started
+        ∙ ap (λ b. cond b (after_queued (after_events eager before)) (after_events eager before)) so.starts
 
     pub its_call_passes : IsEagerCall actor (Access (Mem Its offset size (Some value))) answer before (home (last_of guest (moments ++ lone_call actor (Access (Mem Its offset size (Some value))) piece answer)))
     its_call_passes = record {
-      goes = run.goes ∙ piece_is ∙ goes_so (registered guest.shape before (Some vcpu) is.view is.register value (its_decoded offset size) takes made_is maps_same rest.order) ∙ sym eager_is;
+      goes = run.goes ∙ piece_is ∙ goes_so (registered guest.shape before (Some vcpu) is.view is.register value (its_decoded offset size) takes made_is maps_same) ∙ sym eager_is;
       answers = is.answers;
     }

@@ -2,10 +2,8 @@
 use Rattle.std.proofs.Common.{◌≡◌, ◌≢◌, ℕ, ◌+◌, ◌*◌, ◌/◌, ◌%◌, ◌^◌, ◌<◌, ◌==◌, ◌||◌, ◌⊎◌, inl, inr, not, Bool, true, false, IsTrue, All, List, [], ◌∷◌, ◌++◌, Option, refl, sym, ap, ◌∙◌, subst, arith}
 use Rattle.std.specs.List.{list_all}
 use Rattle.std.proofs.lemmas.Bool.{and_parts, ne_eqb}
-use Rattle.std.proofs.lemmas.Grind.{common_steps}
 use Rattle.std.proofs.lemmas.List.Elements.{All-tail}
-use Rattle.law_home_commutes.specs.Words.{GuestShape, has_bit, field_at}
-use Rattle.law_home_commutes.specs.Registers.{Low, High, half_written, queue_offset}
+use Rattle.law_home_commutes.specs.Words.{GuestShape}
 use Rattle.law_home_commutes.specs.Calls.{PlainWord, ItsCtlr, Cbaser, Cwriter, Baser0, Baser1, place_of_plain, its_from, Event, Put, Runs, Happened, is_beside, HandsOut, View}
 use Rattle.law_home_commutes.specs.GicCall.declared.event.Event.TheVariants.{Read, Queue}
 use Rattle.law_home_commutes.specs.GicCall.declared.event.Found.TheVariants.{Queue as FoundQueue}
@@ -106,17 +104,3 @@ queue_seen offset stalled (one ∷ piece) b guest run all (inr later) =
 
 pub beside_runs : (shape : GuestShape) (actor : Option ℕ) (event : Event) → is_beside actor event ≡ true → runs_only shape event ≡ true
 beside_runs shape actor event h = ap (λ b. b || is_runs event) (beside_keeps shape QueuePlace actor event h)
-
--- What a write of GITS_CWRITER makes of the offset, half by half.
-
-pub offset_low : (one other value : ℕ) → queue_offset (half_written Low one value) ≡ queue_offset (half_written Low other value)
-offset_low one other value = ap (λ n. n * 2 ^ 5) (low one other value)
-  where
-    low : (one other value : ℕ) → field_at (one / 2 ^ 32 * 2 ^ 32 + value) 5 15 ≡ field_at (other / 2 ^ 32 * 2 ^ 32 + value) 5 15
-    low one other value = omega arith
-
-pub offset_high : (stored value : ℕ) → stored % 32 ≡ 0 → stored < 2 ^ 20 → queue_offset (half_written High stored value) ≡ stored
-offset_high stored value place small = omega (arith, place, small)
-
-pub bit_high : (stored value : ℕ) → stored % 32 ≡ 0 → has_bit (half_written High stored value) 0 ≡ false
-bit_high stored value place = grind (arith, common_steps, place)

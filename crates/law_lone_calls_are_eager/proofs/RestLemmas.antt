@@ -6,12 +6,11 @@ use Rattle.std.proofs.lemmas.Bool.{and_parts}
 use Rattle.std.proofs.lemmas.List.{get_or-set_other}
 use Rattle.law_home_commutes.specs.Words.{IccReg, Key, GuestShape, key_of, acknowledged, deactivated}
 use Rattle.law_home_commutes.proofs.GicFrame.TestLemmas.{under}
-use Rattle.law_home_commutes.specs.Calls.{PlainWord, Ram, Propbaser, Pendbaser, ItsCtlr, Cbaser, Cwriter, Baser0, Baser1, Fault, has_plain, place_of_plain, its_from, Event, Up, Down, Touch, Enable, Cpu, Put, CtlrBegin, takes_command, HaveSameIts}
+use Rattle.law_home_commutes.specs.Calls.{PlainWord, Ram, Propbaser, Pendbaser, ItsCtlr, Cbaser, Cwriter, Baser0, Baser1, Fault, has_plain, place_of_plain, its_from, Event, Up, Down, Touch, Enable, Cpu, Put, CtlrBegin, HaveSameIts}
 use Rattle.law_home_commutes.specs.Registers.{taken_by, deactivated_by, Candidate}
 use Rattle.law_home_commutes.specs.GicCall.declared.event.Event.TheVariants.{Raise, Queue}
 use Rattle.law_home_commutes.specs.Histories.{IdealGuest, cpu_at, candidates, changed_irq, with_word, view_of, after_acknowledge, after_deactivation, after_event, after_events}
 use Rattle.law_home_commutes.specs.IdealGuests.Ideal.{after_access}
-use Rattle.law_eager_is_history.proofs.QueueLemmas.{takes_known}
 use Rattle.law_lone_calls_are_eager.proofs.PassLemmas.{PassesNamed}
 use Rattle.law_lone_calls_are_eager.proofs.QueueLemmas.{same_after}
 
@@ -102,9 +101,6 @@ its_same [] guest all = record { ctlr = refl; cbaser = refl; cwriter = refl; off
 its_same (event ∷ events) guest all =
     let parts = and_parts (is_apart event) (list_all is_apart events) all in
     same_after (view_of guest) (view_of (after_event guest event)) (view_of (after_events events (after_event guest event))) (event_apart guest event parts.0) (its_same events (after_event guest event) parts.1)
-
-pub takes_same : (events : List Event) (guest : IdealGuest) → IsTrue (list_all is_apart events) → takes_command (view_of (after_events events guest)) ≡ takes_command (view_of guest)
-takes_same events guest all = sym (takes_known (view_of guest) (view_of (after_events events guest)) (its_same events guest all))
 
 -- So does each operation that takes no command.
 pub apart_passes : PassesNamed is_apart

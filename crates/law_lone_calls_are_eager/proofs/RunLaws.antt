@@ -4,9 +4,8 @@ use Rattle.std.specs.List.{range_with_len}
 use Rattle.std.proofs.lemmas.List.{append-nil, append_assoc}
 use Rattle.std.proofs.lemmas.List.Elements.{All-replicate}
 use Rattle.law_home_commutes.specs.Words.{GuestShape}
-use Rattle.law_home_commutes.specs.Calls.{Moment, Operation, Access, Device, Residence, GuestSpec, IsGoodGuest, is_good_op, is_good_event}
-use Rattle.law_home_commutes.specs.Histories.{IdealGuest, after_events, Ideal, Standing, after_leave, emptied, home, Call, IsHistory, IsWhole, actor_count, opening_course, last_of}
-use Rattle.law_home_commutes.specs.IdealGuests.Opening.{opening}
+use Rattle.law_home_commutes.specs.Calls.{Moment, Operation, Access, Device, Residence, is_good_op, is_good_event}
+use Rattle.law_home_commutes.specs.Histories.{IdealGuest, after_events, Ideal, Standing, after_leave, emptied, home, Call, IsHistory, IsWhole, actor_count, opening_course, last_of, CanOpen}
 use Rattle.law_home_commutes.specs.GicHistory.State.{opening as opening_ideal}
 use Rattle.law_home_commutes.proofs.LawHistories.CourseLemmas.{goes_before}
 use Rattle.law_lone_calls_are_eager.specs.LoneCalls.{eager_events, IsLoneCall, IsEagerCall, IsAtRest}
@@ -23,15 +22,15 @@ none_stands zero vcpu = refl
 none_stands (suc count) zero = refl
 none_stands (suc count) (suc vcpu) = none_stands count vcpu
 
-none_leaves : (guest : GuestSpec) (vcpus : List ℕ) → fold emptied (opening_ideal guest) vcpus ≡ opening_ideal guest
+none_leaves : (guest : IdealGuest) (vcpus : List ℕ) → fold emptied (opening_ideal guest) vcpus ≡ opening_ideal guest
 none_leaves guest [] = refl
 none_leaves guest (vcpu ∷ vcpus) =
     ap (λ state. fold emptied state vcpus) (ap (λ (at : List Standing). fold (λ now standing. after_leave standing.key vcpu now) (opening_ideal guest) at) (none_stands guest.shape.vcpus vcpu)) ∙ none_leaves guest vcpus
 
-home_opening : (guest : GuestSpec) → home (opening_ideal guest) ≡ opening guest
+home_opening : (guest : IdealGuest) → home (opening_ideal guest) ≡ guest
 home_opening guest = ap (λ (state : Ideal). state.guest) (none_leaves guest (range_with_len 0 guest.shape.vcpus))
 
-opens_whole : (guest : GuestSpec) → IsWhole guest []
+opens_whole : (guest : IdealGuest) → IsWhole guest []
 opens_whole guest = All-replicate (λ (call : Option Call). IsTrue (is_none call)) (actor_count guest.shape) None refl
 
 -- A guest is at rest after each call.
@@ -45,7 +44,7 @@ rest_after shape actor Residence guest same rest good after goes = subst IsAtRes
 -- Call by call.
 
 runs_on :
-    (guest : GuestSpec) (calls : List LoneCall) (moments : List Moment) → IsGoodGuest guest → IsWhole guest moments → IsHistory guest (moments ++ moments_of calls) → IsAtRest (home (last_of guest moments)) → ArePassing guest moments calls
+    (guest : IdealGuest) (calls : List LoneCall) (moments : List Moment) → CanOpen guest → IsWhole guest moments → IsHistory guest (moments ++ moments_of calls) → IsAtRest (home (last_of guest moments)) → ArePassing guest moments calls
     → (home (last_of guest (moments ++ moments_of calls)) ≡ eager_after_all calls (home (last_of guest moments))) × AnswerEagerly calls (home (last_of guest moments))
 runs_on guest [] moments good whole history rest passing = (ap (λ ms. home (last_of guest ms)) (append-nil moments), tt)
 runs_on guest (call ∷ calls) moments good whole history rest passing =

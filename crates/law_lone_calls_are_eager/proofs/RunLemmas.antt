@@ -2,11 +2,11 @@
 use Rattle.std.proofs.Common.{◌≡◌, ℕ, ◌<◌, ◌||◌, not, Bool, true, false, IsTrue, List, [], ◌∷◌, ◌++◌, map, length, Option, Some, is_some, refl, sym, ap, ◌∙◌, subst}
 use Rattle.std.proofs.lemmas.Grind.{fold-append}
 use Rattle.law_home_commutes.specs.Words.{GuestShape}
-use Rattle.law_home_commutes.specs.Calls.{Event, Up, Down, Touch, Reach, Take, Leave, Enable, Cpu, Put, CtlrBegin, CtlrEnd, ItsBegin, Found, Moment, Begin, Happens, Operation, Happened, HandsOut, IsCall, CanHappen, View, GuestSpec, IsGoodGuest}
+use Rattle.law_home_commutes.specs.Calls.{Event, Up, Down, Touch, Reach, Take, Leave, Enable, Cpu, Put, CtlrBegin, CtlrEnd, ItsBegin, Found, Moment, Begin, Happens, Operation, Happened, HandsOut, IsCall, CanHappen, View}
 use Rattle.law_home_commutes.specs.GicCall.declared.event.Event.TheVariants.{Raise, Read, ItsEnd, Queue}
 use Rattle.law_home_commutes.specs.GicCall.declared.event.Found.TheVariants.{Answer}
 use Rattle.law_home_commutes.specs.GicCall.declared.event.Moment.TheVariants.{End}
-use Rattle.law_home_commutes.specs.Histories.{IdealGuest, access_answer, view_of, after_event, after_events, Ideal, handed_out, happened, home, targets_in, Call, Course, IsEnded, IsCallEnded, actor_count, vcpu_of, GoesOn, IsHistory, begun, made, seeing, gone_on, course_of, call_of, opening_course, last_of}
+use Rattle.law_home_commutes.specs.Histories.{IdealGuest, access_answer, view_of, after_event, after_events, Ideal, handed_out, happened, home, targets_in, Call, Course, IsEnded, IsCallEnded, actor_count, vcpu_of, GoesOn, IsHistory, begun, made, seeing, gone_on, course_of, call_of, opening_course, last_of, CanOpen}
 use Rattle.law_home_commutes.proofs.LawHistories.CourseLemmas.{IsCourse, opens, goes, goes_before, begun_here, made_here}
 use Rattle.law_home_commutes.proofs.LawHistories.EnableLaw.{nobody_spreads}
 use Rattle.law_home_commutes.proofs.LawHistories.StateLemmas.{guest_is, take_cases, leave_cases}
@@ -186,7 +186,7 @@ home_steps shape actor (one ∷ piece) state tidy fine handed shows =
 
 -- The call.
 
-pub record LoneRun (guest : GuestSpec) (moments : List Moment) (actor : ℕ) (operation : Operation) (piece : List Happened) (answer : Option ℕ) : Type 0 where
+pub record LoneRun (guest : IdealGuest) (moments : List Moment) (actor : ℕ) (operation : Operation) (piece : List Happened) (answer : Option ℕ) : Type 0 where
   pub there : actor < length (course_of (opening_course guest) moments).calls
   pub tidy : IsTidy guest.shape (last_of guest moments)
   pub shape_is : (home (last_of guest moments)).shape ≡ guest.shape
@@ -206,13 +206,13 @@ shape_after actor [] state = refl
 shape_after actor (event ∷ events) state = shape_after actor events (happened actor event state) ∙ (guest_is actor event state).shape
 
 -- as far as nobody asks what its accesses find
-pub record IsLoneEnded (guest : GuestSpec) (moments : List Moment) (actor : ℕ) (operation : Operation) (piece : List Happened) (answer : Option ℕ) : Type 0 where
+pub record IsLoneEnded (guest : IdealGuest) (moments : List Moment) (actor : ℕ) (operation : Operation) (piece : List Happened) (answer : Option ℕ) : Type 0 where
   pub there : actor < length (course_of (opening_course guest) moments).calls
   pub end : LoneEnd actor answer (gone_on (course_of (opening_course guest) moments) (Begin actor operation)) (begun (last_of guest moments) operation) piece
   pub ended : IsEnded guest.shape actor (call_after actor (events_of piece) (last_of guest moments) (begun (last_of guest moments) operation)) answer
   pub is_call : IsCall guest.shape ended.beside (vcpu_of guest.shape actor) operation piece answer
 
-pub lone_ended : (guest : GuestSpec) (moments : List Moment) (actor : ℕ) (operation : Operation) (piece : List Happened) (answer : Option ℕ) → IsGoodGuest guest → IsHistory guest (moments ++ lone_call actor operation piece answer) → IsLoneEnded guest moments actor operation piece answer
+pub lone_ended : (guest : IdealGuest) (moments : List Moment) (actor : ℕ) (operation : Operation) (piece : List Happened) (answer : Option ℕ) → CanOpen guest → IsHistory guest (moments ++ lone_call actor operation piece answer) → IsLoneEnded guest moments actor operation piece answer
 lone_ended guest moments actor operation piece answer good history =
     let call = lone_call actor operation piece answer in
     let course = course_of (opening_course guest) moments in
@@ -232,7 +232,7 @@ lone_ended guest moments actor operation piece answer good history =
           (subst (λ xs. IsCall guest.shape ended.beside (vcpu_of guest.shape actor) last.operation xs answer) (piece_after actor (events_of piece) course.ideal open_call ∙ sym end.piece_is) ended.is_call);
     }
 
-pub lone_run : (guest : GuestSpec) (moments : List Moment) (actor : ℕ) (operation : Operation) (piece : List Happened) (answer : Option ℕ) → IsLoneCall guest moments actor operation piece answer → LoneRun guest moments actor operation piece answer
+pub lone_run : (guest : IdealGuest) (moments : List Moment) (actor : ℕ) (operation : Operation) (piece : List Happened) (answer : Option ℕ) → IsLoneCall guest moments actor operation piece answer → LoneRun guest moments actor operation piece answer
 lone_run guest moments actor operation piece answer is =
     let call = lone_call actor operation piece answer in
     let course = course_of (opening_course guest) moments in

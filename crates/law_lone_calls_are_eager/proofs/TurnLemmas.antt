@@ -11,7 +11,7 @@ use Rattle.law_home_commutes.specs.GicImap.declared.map.RegRef.TheVariants.{Plai
 use Rattle.law_home_commutes.specs.Calls.{PlainWord, Event, Up, Down, Touch, Reach, Take, Leave, Enable, Cpu, Put, CtlrBegin, CtlrEnd, ItsBegin, QueueChange, Runs, Done, Stalls, its_written, takes_its, its_events, its_starts, takes_turn, Happened, is_beside, its_places, its_write_places, HaveSameIts, CanHappen, View}
 use Rattle.law_home_commutes.specs.GicCall.declared.event.Event.TheVariants.{Raise, Read, ItsEnd, Queue}
 use Rattle.law_home_commutes.specs.GicCall.Access.{starts_commands as register_starts}
-use Rattle.law_home_commutes.specs.Histories.{IdealGuest, view_of, after_event, after_events, IsQueueInOrder, IsSound}
+use Rattle.law_home_commutes.specs.Histories.{IdealGuest, view_of, after_event, after_events, IsSound}
 use Rattle.law_eager_is_history.specs.GicIdeal.Laws.{CanFollow}
 use Rattle.law_eager_is_history.proofs.GicIdeal.SoundEvents.{sound_event}
 use Rattle.law_eager_is_history.proofs.WindowLemmas.{is_no_turn}
@@ -19,7 +19,7 @@ use Rattle.law_lone_calls_are_eager.proofs.MapsLemmas.{keeps_maps}
 use Rattle.law_lone_calls_are_eager.proofs.PartLemmas.{IsMade}
 use Rattle.law_lone_calls_are_eager.proofs.PassLemmas.{PassesBeside}
 use Rattle.law_lone_calls_are_eager.proofs.RunLemmas.{events_of, spreading_after, IsHomeRun}
-use Rattle.law_lone_calls_are_eager.proofs.WrittenLemmas.{IsWritten, as_eager, stored_already, register_written}
+use Rattle.law_lone_calls_are_eager.proofs.WrittenLemmas.{IsWritten, register_written}
 
 -- What all events of a register pass.
 
@@ -61,25 +61,23 @@ module _ (test : Event → Bool) (put : (word : PlainWord) (value : ℕ) → tes
 -- A register, as the access names it.
 
 module _ (shape : GuestShape) (guest : IdealGuest) (actor : Option ℕ) (view : View) (piece : List Happened) (value : ℕ) where
-  pub data IsRegistered (ref : ItsRef) : Type 0 where
-    eager_so : its_events shape view ref (Some value) ≡ its_events shape (view_of guest) ref (Some value) → its_starts shape view ref (Some value) ≡ its_starts shape (view_of guest) ref (Some value) → (its_starts shape view ref (Some value) ≡ true → HaveSameIts view (view_of guest)) → IsRegistered ref
-    already_so : its_events shape view ref (Some value) ≡ [] → its_starts shape view ref (Some value) ≡ false → after_events (its_events shape (view_of guest) ref (Some value)) guest ≡ guest → IsRegistered ref
+  pub record IsRegistered (ref : ItsRef) : Type 0 where
+    pub events : its_events shape view ref (Some value) ≡ its_events shape (view_of guest) ref (Some value)
+    pub starts : its_starts shape view ref (Some value) ≡ its_starts shape (view_of guest) ref (Some value)
+    pub known : its_starts shape view ref (Some value) ≡ true → HaveSameIts view (view_of guest)
 
-  pub registered : (ref : ItsRef) → takes_turn shape ref (Some value) ≡ true → IsMade guest actor view (ItsBegin ∷ its_events shape view ref (Some value)) (its_places shape ref (Some value)) piece → view.maps ≡ guest.tables → IsQueueInOrder guest → IsRegistered ref
-  registered (ItsPlain reg half) takes made maps order =
+  pub registered : (ref : ItsRef) → takes_turn shape ref (Some value) ≡ true → IsMade guest actor view (ItsBegin ∷ its_events shape view ref (Some value)) (its_places shape ref (Some value)) piece → view.maps ≡ guest.tables → IsRegistered ref
+  registered (ItsPlain reg half) takes made maps =
       let both = and_parts (has_lpis shape) (takes_its reg) takes in
-      of both.0 (register_written guest actor view piece reg half value both.1 maps order (subst (λ b. IsMade guest actor view (ItsBegin ∷ cond b (its_written view reg half value) []) (cond b (its_write_places reg) []) piece) both.0 made))
+      of both.0 (register_written guest actor view piece reg half value both.1 maps (subst (λ b. IsMade guest actor view (ItsBegin ∷ cond b (its_written view reg half value) []) (cond b (its_write_places reg) []) piece) both.0 made))
     where
       of : has_lpis shape ≡ true → IsWritten guest actor view piece reg half value → IsRegistered (ItsPlain reg half)
-      of on (as_eager events starts known) =
-          eager_so
-          (ap (λ b. cond b (its_written view reg half value) []) on ∙ events ∙ sym (ap (λ b. cond b (its_written (view_of guest) reg half value) []) on))
-          (ap (λ b. b && register_starts view reg half value) on ∙ starts ∙ sym (ap (λ b. b && register_starts (view_of guest) reg half value) on))
-          (λ h. known (sym (ap (λ b. b && register_starts view reg half value) on) ∙ h))
-      of on (stored_already none starts still) =
-          already_so (ap (λ b. cond b (its_written view reg half value) []) on ∙ none) (ap (λ b. b && register_starts view reg half value) on ∙ starts)
-          (ap (λ b. after_events (cond b (its_written (view_of guest) reg half value) []) guest) on ∙ still)
-  registered ItsReserved takes made maps order = absurd (cc)
+      of on is = record {
+        events = ap (λ b. cond b (its_written view reg half value) []) on ∙ is.events ∙ sym (ap (λ b. cond b (its_written (view_of guest) reg half value) []) on);
+        starts = ap (λ b. b && register_starts view reg half value) on ∙ is.starts ∙ sym (ap (λ b. b && register_starts (view_of guest) reg half value) on);
+        known = λ h. is.known (sym (ap (λ b. b && register_starts view reg half value) on) ∙ h);
+      }
+  registered ItsReserved takes made maps = absurd (cc)
 
 -- No other turn.
 

@@ -1,31 +1,31 @@
 -- Each write of a register of the ITS that takes it: its events, and whether it starts commands, are those of the guest as the call begins.
-use Rattle.std.proofs.Common.{◌≡◌, ℕ, ◌^◌, ◌<◌, ◌==◌, ◌&&◌, inl, inr, not, Bool, true, false, cond, nat_lt, IsTrue, List, [], ◌∷◌, ◌++◌, Option, refl, sym, ap, ◌∙◌, subst, arith}
+use Rattle.std.proofs.Common.{◌≡◌, ℕ, ◌^◌, ◌<◌, ◌==◌, ◌&&◌, inl, inr, not, Bool, true, false, cond, nat_lt, IsTrue, List, [], ◌∷◌, ◌++◌, Option, refl, sym, ap, ◌∙◌, subst}
 use Rattle.std.specs.List.{list_all}
 use Rattle.std.proofs.lemmas.Bool.{and_from}
-use Rattle.std.proofs.lemmas.List.{set-get_or}
-use Rattle.law_home_commutes.specs.Words.{has_bit, bit_of}
-use Rattle.law_home_commutes.specs.Registers.{Half, Low, High, Whole, half_written, Cbaser as CbaserReg, Cwriter as CwriterReg, Creadr, Baser0 as Baser0Reg, Baser1 as Baser1Reg, enabled_in, cbaser_bits, queue_bytes, queue_offset, retries, baser_bits}
+use Rattle.law_home_commutes.specs.Words.{bit_of}
+use Rattle.law_home_commutes.specs.Registers.{Half, half_written, Cbaser as CbaserReg, Cwriter as CwriterReg, Creadr, Baser0 as Baser0Reg, Baser1 as Baser1Reg, enabled_in, cbaser_bits, queue_bytes, queue_offset, retries, baser_bits}
 use Rattle.law_home_commutes.specs.GicImap.declared.map.Reg.{Reg as ItsReg}
 use Rattle.law_home_commutes.specs.GicImap.declared.map.Reg.TheVariants.{Ctlr as ItsCtlrReg, Iidr as ItsIidr, Typer as ItsTyper, Pidr2 as ItsPidr2}
 use Rattle.law_home_commutes.specs.Calls.{PlainWord, ItsCtlr, Cbaser, Cwriter, Baser0, Baser1, place_of_plain, Event, Put, ItsBegin, Place, Runs, its_written, takes_its, is_in_queue, Happened, named_of, held_at, IsLastRead, its_write_places, HaveSameIts, View, is_its_enabled}
 use Rattle.law_home_commutes.specs.GicCall.declared.event.Event.TheVariants.{Queue}
 use Rattle.law_home_commutes.specs.GicCall.declared.event.Place.TheVariants.{Word, Queue as QueuePlace}
 use Rattle.law_home_commutes.specs.GicCall.Access.{starts_commands as register_starts}
-use Rattle.law_home_commutes.specs.Histories.{IdealGuest, word_at, with_word, view_of, after_events, IsQueueInOrder}
+use Rattle.law_home_commutes.specs.Histories.{IdealGuest, word_at, view_of}
 use Rattle.law_lone_calls_are_eager.proofs.NamedLemmas.{named_run}
 use Rattle.law_lone_calls_are_eager.proofs.PartLemmas.{IsMade}
 use Rattle.law_lone_calls_are_eager.proofs.PlainLemmas.{word_held}
 use Rattle.law_lone_calls_are_eager.proofs.ReadLemmas.{keeps, view_holds, beside_passes, all_in, last_in}
-use Rattle.law_lone_calls_are_eager.proofs.RegisterLemmas.{ctlr_cwriter, ctlr_cbaser, ctlr_baser0, ctlr_baser1, cbaser_cwriter, cbaser_ctlr, cwriter_ctlr, word_later, runs_only, IsSeen, queue_pair, queue_seen, beside_runs, offset_low, offset_high, bit_high}
+use Rattle.law_lone_calls_are_eager.proofs.RegisterLemmas.{ctlr_cwriter, ctlr_cbaser, ctlr_baser0, ctlr_baser1, cbaser_cwriter, cbaser_ctlr, cwriter_ctlr, word_later, runs_only, IsSeen, queue_pair, queue_seen, beside_runs}
 
 module _ (guest : IdealGuest) (actor : Option ℕ) (view : View) (piece : List Happened) where
   abbrev IsBy : List Event → List Place → Type 0
   IsBy events places = IsMade guest actor view events places piece
 
-  -- as the eager controller does; or it stores what stands there already, and starts nothing
-  pub data IsWritten (reg : ItsReg) (half : Half) (value : ℕ) : Type 0 where
-    as_eager : its_written view reg half value ≡ its_written (view_of guest) reg half value → register_starts view reg half value ≡ register_starts (view_of guest) reg half value → (register_starts view reg half value ≡ true → HaveSameIts view (view_of guest)) → IsWritten reg half value
-    stored_already : its_written view reg half value ≡ [] → register_starts view reg half value ≡ false → after_events (its_written (view_of guest) reg half value) guest ≡ guest → IsWritten reg half value
+  -- as the eager controller does
+  pub record IsWritten (reg : ItsReg) (half : Half) (value : ℕ) : Type 0 where
+    pub events : its_written view reg half value ≡ its_written (view_of guest) reg half value
+    pub starts : register_starts view reg half value ≡ register_starts (view_of guest) reg half value
+    pub known : register_starts view reg half value ≡ true → HaveSameIts view (view_of guest)
 
   later : (events : List Event) (places : List Place) → IsBy events places → (word : PlainWord) (value : ℕ) (early rest : List Event) → events ≡ early ++ Put word value ∷ rest → IsTrue (list_all (keeps guest.shape (Word word)) early) → view.words word ≡ word_at guest word
   later events places is word value early rest e keep =
@@ -119,7 +119,7 @@ module _ (guest : IdealGuest) (actor : Option ℕ) (view : View) (piece : List H
   writer_runs true stored false offset = refl
   writer_runs false stored r offset = refl
 
-  module _ (half : Half) (value : ℕ) (maps : view.maps ≡ guest.tables) (order : IsQueueInOrder guest) where
+  module _ (half : Half) (value : ℕ) (maps : view.maps ≡ guest.tables) where
     abbrev mine : ℕ
     mine = half_written half (view.words Cwriter) value
 
@@ -136,11 +136,20 @@ module _ (guest : IdealGuest) (actor : Option ℕ) (view : View) (piece : List H
       ctlr_is : view.words ItsCtlr ≡ word_at guest ItsCtlr
       ctlr_is = word_held guest actor view piece (ItsBegin ∷ events) writer_places is ItsCtlr (inl refl) (writer_keeps ItsCtlr (is_in_queue view mine) (queue_offset mine) (view.is_stalled && retries (view.words Cbaser) mine) view.offset (ctlr_cwriter guest.shape))
 
-      -- the write is not ignored
-      cwriter_is : is_in_queue view mine ≡ true → view.words Cwriter ≡ word_at guest Cwriter
-      cwriter_is e =
+      -- the stored offset is known, whether the write is ignored or not
+      cwriter_is : (b : Bool) → is_in_queue view mine ≡ b → view.words Cwriter ≡ word_at guest Cwriter
+      cwriter_is true e =
           later (ItsBegin ∷ events) writer_places is Cwriter (queue_offset mine) (ItsBegin ∷ []) (again (view.is_stalled && retries (view.words Cbaser) mine) view.offset)
           (ap (λ b. ItsBegin ∷ writer_events b (queue_offset mine) (view.is_stalled && retries (view.words Cbaser) mine) view.offset) e) refl
+      cwriter_is false e =
+          word_held guest actor view piece (ItsBegin ∷ events) writer_places is Cwriter (inr (inr (inr (inl refl))))
+          (ap (λ b. list_all (keeps guest.shape (Word Cwriter)) (ItsBegin ∷ writer_events b (queue_offset mine) (view.is_stalled && retries (view.words Cbaser) mine) view.offset)) e)
+
+      same : mine ≡ eager
+      same = ap (λ n. half_written half n value) (cwriter_is (is_in_queue view mine) refl)
+
+      in_same : is_in_queue view mine ≡ is_in_queue (view_of guest) eager
+      in_same = ap (λ n. nat_lt (queue_offset n) (queue_bytes (view.words Cbaser))) same ∙ ap (λ c. nat_lt (queue_offset eager) (queue_bytes c)) cbaser_is
 
       queue_is : is_in_queue view mine ≡ true → (r : Bool) → (view.is_stalled && retries (view.words Cbaser) mine) ≡ r → (view.offset ≡ guest.offset) × (view.is_stalled ≡ guest.is_stalled)
       queue_is e true r =
@@ -163,78 +172,35 @@ module _ (guest : IdealGuest) (actor : Option ℕ) (view : View) (piece : List H
           (ap (λ x. list_all (keeps guest.shape QueuePlace) (ItsBegin ∷ writer_events x (queue_offset mine) (view.is_stalled && retries (view.words Cbaser) mine) view.offset)) e
           ∙ ap (λ x. list_all (keeps guest.shape QueuePlace) (ItsBegin ∷ writer_events true (queue_offset mine) x view.offset)) r))
 
-      written : is_in_queue view mine ≡ true → IsWritten CwriterReg half value
-      written e =
-          let writer = cwriter_is e in
+      written : (b : Bool) → is_in_queue view mine ≡ b → IsWritten CwriterReg half value
+      written true e =
           let queue = queue_is e (view.is_stalled && retries (view.words Cbaser) mine) refl in
-          let same : mine ≡ eager = ap (λ n. half_written half n value) writer in
-          let in_same : is_in_queue view mine ≡ is_in_queue (view_of guest) eager = ap (λ n. nat_lt (queue_offset n) (queue_bytes (view.words Cbaser))) same ∙ ap (λ c. nat_lt (queue_offset eager) (queue_bytes c)) cbaser_is in
-          as_eager
-          (ap (λ b. writer_events b (queue_offset mine) (view.is_stalled && retries (view.words Cbaser) mine) view.offset) in_same
-          ∙ ap (λ n. writer_events (is_in_queue (view_of guest) eager) (queue_offset n) (view.is_stalled && retries (view.words Cbaser) n) view.offset) same
-          ∙ ap (λ c. writer_events (is_in_queue (view_of guest) eager) (queue_offset eager) (view.is_stalled && retries c eager) view.offset) cbaser_is
-          ∙ ap (λ b. writer_events (is_in_queue (view_of guest) eager) (queue_offset eager) (b && retries (word_at guest Cbaser) eager) view.offset) queue.1
-          ∙ ap (λ o. writer_events (is_in_queue (view_of guest) eager) (queue_offset eager) (guest.is_stalled && retries (word_at guest Cbaser) eager) o) queue.0)
-          in_same
-          (λ h. record { ctlr = ctlr_is; cbaser = cbaser_is; cwriter = writer; offset = queue.0; stalled = queue.1; maps = maps })
-
-      -- and where it is, so it is for the guest, or it stores what stands there
-      ignored_so : is_in_queue view mine ≡ false → is_in_queue (view_of guest) eager ≡ false → IsWritten CwriterReg half value
-      ignored_so e f =
-          as_eager
-          (ap (λ b. writer_events b (queue_offset mine) (view.is_stalled && retries (view.words Cbaser) mine) view.offset) e
-          ∙ sym (ap (λ b. writer_events b (queue_offset eager) (guest.is_stalled && retries (word_at guest Cbaser) eager) guest.offset) f))
-          (e ∙ sym f) (λ h. absurd (let no = sym h ∙ e in cc))
-
-      same_offset : queue_offset mine ≡ queue_offset eager → is_in_queue view mine ≡ is_in_queue (view_of guest) eager
-      same_offset e = ap (λ n. nat_lt n (queue_bytes (view.words Cbaser))) e ∙ ap (λ c. nat_lt (queue_offset eager) (queue_bytes c)) cbaser_is
-
-  put_itself : (n : ℕ) → n ≡ word_at guest Cwriter → with_word guest Cwriter n ≡ guest
-  put_itself n e =
-      ap (λ m. with_word guest Cwriter m) e
-      ∙ ap (λ words. let g : IdealGuest = record guest { words = words } in g) (set-get_or guest.words (place_of_plain guest.shape Cwriter) 0)
-
-  small_writer : IsQueueInOrder guest → word_at guest Cwriter < 2 ^ 20
-  small_writer order = within (word_at guest Cbaser) (word_at guest Cwriter) order.writer
-    where
-      within : (cbaser writer : ℕ) → writer < queue_bytes cbaser → writer < 2 ^ 20
-      within cbaser writer h = omega (arith, h)
-
-  high_ignored : (value : ℕ) (maps : view.maps ≡ guest.tables) (order : IsQueueInOrder guest) → IsBy (ItsBegin ∷ its_written view CwriterReg High value) writer_places → is_in_queue view (half_written High (view.words Cwriter) value) ≡ false → IsWritten CwriterReg High value
-  high_ignored value maps order is e = of (is_in_queue (view_of guest) (half_written High (word_at guest Cwriter) value)) refl
-    where
-      w : ℕ
-      w = half_written High (word_at guest Cwriter) value
-
-      no_retry : (a b : Bool) (n : ℕ) → has_bit n 0 ≡ false → (a && (b && has_bit n 0)) ≡ false
-      no_retry true true n h = h
-      no_retry true false n h = refl
-      no_retry false b n h = refl
-
-      of : (b : Bool) → is_in_queue (view_of guest) (half_written High (word_at guest Cwriter) value) ≡ b → IsWritten CwriterReg High value
-      of false f = ignored_so High value maps order is e f
-      of true f =
-          stored_already
-          (ap (λ b. writer_events b (queue_offset (half_written High (view.words Cwriter) value)) (view.is_stalled && retries (view.words Cbaser) (half_written High (view.words Cwriter) value)) view.offset) e) e
-          (ap (λ b. after_events (writer_events b (queue_offset (half_written High (word_at guest Cwriter) value)) (guest.is_stalled && retries (word_at guest Cbaser) (half_written High (word_at guest Cwriter) value)) guest.offset) guest) f
-          ∙ ap (λ r. after_events (writer_events true (queue_offset (half_written High (word_at guest Cwriter) value)) r guest.offset) guest)
-          (no_retry guest.is_stalled (nat_lt (queue_offset (half_written High (word_at guest Cwriter) value)) (queue_bytes (word_at guest Cbaser))) (half_written High (word_at guest Cwriter) value) (bit_high (word_at guest Cwriter) value order.place))
-          ∙ put_itself (queue_offset (half_written High (word_at guest Cwriter) value)) (offset_high (word_at guest Cwriter) value order.place (small_writer order)))
-
-  cwriter : (half : Half) (value : ℕ) → view.maps ≡ guest.tables → IsQueueInOrder guest → IsBy (ItsBegin ∷ its_written view CwriterReg half value) writer_places → (b : Bool) → is_in_queue view (half_written half (view.words Cwriter) value) ≡ b → IsWritten CwriterReg half value
-  cwriter half value maps order is true e = written half value maps order is e
-  cwriter Low value maps order is false e = ignored_so Low value maps order is e (sym (same_offset Low value maps order is (offset_low (view.words Cwriter) (word_at guest Cwriter) value)) ∙ e)
-  cwriter Whole value maps order is false e = ignored_so Whole value maps order is e (sym (same_offset Whole value maps order is refl) ∙ e)
-  cwriter High value maps order is false e = high_ignored value maps order is e
+          record {
+            events =
+                ap (λ b. writer_events b (queue_offset mine) (view.is_stalled && retries (view.words Cbaser) mine) view.offset) in_same
+                ∙ ap (λ n. writer_events (is_in_queue (view_of guest) eager) (queue_offset n) (view.is_stalled && retries (view.words Cbaser) n) view.offset) same
+                ∙ ap (λ c. writer_events (is_in_queue (view_of guest) eager) (queue_offset eager) (view.is_stalled && retries c eager) view.offset) cbaser_is
+                ∙ ap (λ b. writer_events (is_in_queue (view_of guest) eager) (queue_offset eager) (b && retries (word_at guest Cbaser) eager) view.offset) queue.1
+                ∙ ap (λ o. writer_events (is_in_queue (view_of guest) eager) (queue_offset eager) (guest.is_stalled && retries (word_at guest Cbaser) eager) o) queue.0;
+            starts = in_same;
+            known = λ h. record { ctlr = ctlr_is; cbaser = cbaser_is; cwriter = cwriter_is true e; offset = queue.0; stalled = queue.1; maps = maps };
+          }
+      written false e = record {
+        events =
+            ap (λ b. writer_events b (queue_offset mine) (view.is_stalled && retries (view.words Cbaser) mine) view.offset) e
+            ∙ sym (ap (λ b. writer_events b (queue_offset eager) (guest.is_stalled && retries (word_at guest Cbaser) eager) guest.offset) (sym in_same ∙ e));
+        starts = in_same;
+        known = λ h. absurd (let no = sym h ∙ e in cc);
+      }
 
   -- Each register.
-  pub register_written : (reg : ItsReg) (half : Half) (value : ℕ) → takes_its reg ≡ true → view.maps ≡ guest.tables → IsQueueInOrder guest → IsBy (ItsBegin ∷ its_written view reg half value) (its_write_places reg) → IsWritten reg half value
-  register_written ItsCtlrReg half value takes maps order is = as_eager refl refl (λ h. ctlr half value maps is)
-  register_written CbaserReg half value takes maps order is = as_eager (cbaser half value is) refl (λ h. absurd (cc))
-  register_written CwriterReg half value takes maps order is = cwriter half value maps order is (is_in_queue view (half_written half (view.words Cwriter) value)) refl
-  register_written Baser0Reg half value takes maps order is = as_eager (baser Baser0 half value (ctlr_baser0 guest.shape) is) refl (λ h. absurd (cc))
-  register_written Baser1Reg half value takes maps order is = as_eager (baser Baser1 half value (ctlr_baser1 guest.shape) is) refl (λ h. absurd (cc))
-  register_written ItsIidr half value takes maps order is = absurd (cc)
-  register_written ItsTyper half value takes maps order is = absurd (cc)
-  register_written Creadr half value takes maps order is = absurd (cc)
-  register_written ItsPidr2 half value takes maps order is = absurd (cc)
+  pub register_written : (reg : ItsReg) (half : Half) (value : ℕ) → takes_its reg ≡ true → view.maps ≡ guest.tables → IsBy (ItsBegin ∷ its_written view reg half value) (its_write_places reg) → IsWritten reg half value
+  register_written ItsCtlrReg half value takes maps is = record { events = refl; starts = refl; known = λ h. ctlr half value maps is }
+  register_written CbaserReg half value takes maps is = record { events = cbaser half value is; starts = refl; known = λ h. absurd (cc) }
+  register_written CwriterReg half value takes maps is = written half value maps is (is_in_queue view (half_written half (view.words Cwriter) value)) refl
+  register_written Baser0Reg half value takes maps is = record { events = baser Baser0 half value (ctlr_baser0 guest.shape) is; starts = refl; known = λ h. absurd (cc) }
+  register_written Baser1Reg half value takes maps is = record { events = baser Baser1 half value (ctlr_baser1 guest.shape) is; starts = refl; known = λ h. absurd (cc) }
+  register_written ItsIidr half value takes maps is = absurd (cc)
+  register_written ItsTyper half value takes maps is = absurd (cc)
+  register_written Creadr half value takes maps is = absurd (cc)
+  register_written ItsPidr2 half value takes maps is = absurd (cc)

@@ -1,9 +1,8 @@
 -- Laws of calls while nobody else acts, kind by kind.
 use Rattle.std.specs.Prelude.{ℕ, ◌<◌, IsTrue, List, ◌++◌, Option}
 use Rattle.law_home_commutes.specs.Words.{IccReg, DeviceOp, Dist, Redist, Its, Ram, GuestOp, Icc, Mem}
-use Rattle.law_home_commutes.specs.Calls.{Moment, Operation, Access, Device, Residence, device_events, Happened, GuestSpec, IsGoodGuest, is_good_op, is_good_event}
-use Rattle.law_home_commutes.specs.Histories.{IsWhole, IdealGuest, view_of, after_events}
-use Rattle.law_home_commutes.specs.IdealGuests.Opening.{opening}
+use Rattle.law_home_commutes.specs.Calls.{Moment, Operation, Access, Device, Residence, device_events, Happened, is_good_op, is_good_event}
+use Rattle.law_home_commutes.specs.Histories.{IsWhole, IdealGuest, view_of, after_events, CanOpen}
 use Rattle.law_eager_is_history.specs.GicIdeal.Deeds.{op_events}
 use Rattle.law_lone_calls_are_eager.specs.LoneCalls.{lone_call, IsLoneCall, IsAtRest, PassesAlone, PassesAtRest}
 
@@ -42,12 +41,12 @@ CallsPassHome = (operation : Operation) → PassesAtRest operation
 -- all calls ended again after such a call
 abbrev pub CallsEndAgain : Type 0
 CallsEndAgain =
-    (guest : GuestSpec) (moments : List Moment) (actor : ℕ) (operation : Operation) (piece : List Happened) (answer : Option ℕ) → IsLoneCall guest moments actor operation piece answer
+    (guest : IdealGuest) (moments : List Moment) (actor : ℕ) (operation : Operation) (piece : List Happened) (answer : Option ℕ) → IsLoneCall guest moments actor operation piece answer
     → IsWhole guest (moments ++ lone_call actor operation piece answer)
 
 -- what calls rest on stays under the eager controller: a guest is at rest as it opens, and after each operation of a vCPU and of a device
 pub record RestStays : Type 0 where
-  pub opens : (guest : GuestSpec) → IsGoodGuest guest → IsAtRest (opening guest)
+  pub opens : (guest : IdealGuest) → CanOpen guest → IsAtRest guest
   pub accesses :
       (guest : IdealGuest) (vcpu : ℕ) (op : GuestOp) → IsAtRest guest → vcpu < guest.shape.vcpus → IsTrue (is_good_op guest.shape op) → IsAtRest (after_events (op_events op guest vcpu) guest)
   pub devices : (guest : IdealGuest) (op : DeviceOp) → IsAtRest guest → IsTrue (is_good_event guest.shape op) → IsAtRest (after_events (device_events (view_of guest) op) guest)

@@ -1,8 +1,8 @@
 -- One call of a history while nobody else acts, and what the eager controller makes of its operation (own choice).
-use Rattle.std.specs.Prelude.{◌≡◌, ℕ, false, List, [], ◌∷◌, ◌++◌, map, Option, None}
-use Rattle.law_home_commutes.specs.Calls.{Event, Cpu, Moment, Begin, Operation, Access, Device, Residence, device_events, takes_command, Happened, GuestSpec, IsGoodGuest}
+use Rattle.std.specs.Prelude.{◌≡◌, ℕ, List, [], ◌∷◌, ◌++◌, map, Option, None}
+use Rattle.law_home_commutes.specs.Calls.{Event, Cpu, Moment, Begin, Operation, Access, Device, Residence, device_events, Happened}
 use Rattle.law_home_commutes.specs.GicCall.declared.event.Moment.TheVariants.{End}
-use Rattle.law_home_commutes.specs.Histories.{IdealGuest, view_of, after_events, IsQueueInOrder, IsSound, Ideal, happened, home, IsHistory, IsWhole, last_of}
+use Rattle.law_home_commutes.specs.Histories.{IdealGuest, view_of, after_events, IsQueueInOrder, IsSound, Ideal, happened, home, IsHistory, IsWhole, last_of, CanOpen}
 use Rattle.law_eager_is_history.specs.GicIdeal.Deeds.{op_events}
 use Rattle.law_eager_is_history.specs.Moments.{op_read, moment_of}
 use Rattle.law_home_commutes.specs.Home.{ShowsHome}
@@ -36,8 +36,8 @@ AllShow actor state [] = Unit {0}
 AllShow actor state (one ∷ piece) = Shows state one.event × AllShow actor (happened actor one.event state) piece
 
 -- after a history of a good guest in which all calls ended comes such a call
-pub record IsLoneCall (guest : GuestSpec) (moments : List Moment) (actor : ℕ) (operation : Operation) (piece : List Happened) (answer : Option ℕ) : Type 0 where
-  pub good : IsGoodGuest guest
+pub record IsLoneCall (guest : IdealGuest) (moments : List Moment) (actor : ℕ) (operation : Operation) (piece : List Happened) (answer : Option ℕ) : Type 0 where
+  pub good : CanOpen guest
   pub whole : IsWhole guest moments
   pub history : IsHistory guest (moments ++ lone_call actor operation piece answer)
   pub shows : AllShow actor (last_of guest moments) piece
@@ -50,17 +50,16 @@ pub record IsEagerCall (actor : ℕ) (operation : Operation) (answer : Option �
 -- so does each such call of an operation, to the guest with all taken back
 abbrev pub PassesAlone : Operation → Type 0
 PassesAlone operation =
-    (guest : GuestSpec) (moments : List Moment) (actor : ℕ) (piece : List Happened) (answer : Option ℕ) → IsLoneCall guest moments actor operation piece answer
+    (guest : IdealGuest) (moments : List Moment) (actor : ℕ) (piece : List Happened) (answer : Option ℕ) → IsLoneCall guest moments actor operation piece answer
     → IsEagerCall actor operation answer (home (last_of guest moments)) (home (last_of guest (moments ++ lone_call actor operation piece answer)))
 
--- a guest with a valid record of all that it has, whose queue is in order, and whose ITS takes no command by itself
+-- a guest with a valid record of all that it has, whose queue is in order; its ITS may have commands that no write has started yet
 pub record IsAtRest (guest : IdealGuest) : Type 0 where
   pub sound : IsSound guest
   pub order : IsQueueInOrder guest
-  pub dry : takes_command (view_of guest) ≡ false
 
 -- so does each such call of an operation, where that guest is at rest
 abbrev pub PassesAtRest : Operation → Type 0
 PassesAtRest operation =
-    (guest : GuestSpec) (moments : List Moment) (actor : ℕ) (piece : List Happened) (answer : Option ℕ) → IsLoneCall guest moments actor operation piece answer
+    (guest : IdealGuest) (moments : List Moment) (actor : ℕ) (piece : List Happened) (answer : Option ℕ) → IsLoneCall guest moments actor operation piece answer
     → IsAtRest (home (last_of guest moments)) → IsEagerCall actor operation answer (home (last_of guest moments)) (home (last_of guest (moments ++ lone_call actor operation piece answer)))

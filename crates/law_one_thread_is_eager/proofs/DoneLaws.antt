@@ -3,7 +3,7 @@ use Rattle.law_one_thread_is_eager.specs.Laws.{CallsPassHome, GuestsOpenAtHome, 
 use Rattle.law_one_thread_is_eager.proofs.DoneLemmas.{call_about, ease_after, home_goes, home_stays, more_done, residences_about}
 use Rattle.law_one_thread_is_eager.proofs.OpeningLemmas.{opens_done, opens_home}
 use Rattle.std.proofs.Common.{ℕ, ◌<◌, ◌++◌, subst, sym}
-use Rattle.law_found_parts_are_calls.specs.Calls.{GuestSpec}
+use Rattle.law_found_parts_are_calls.specs.Histories.{IdealGuest}
 use Rattle.law_one_thread_is_eager.specs.Laws.{ShowsHomeOf}
 use Rattle.law_one_thread_is_eager.proofs.ShowLemmas.{shown_here}
 use Rattle.law_found_parts_are_calls.specs.LawSerialIsEager.Serial.{moments_of}
@@ -29,7 +29,7 @@ pub registers_show_home : RegistersShowHome
 registers_show_home guest number old new before after early vcpu list done run quiet few shown =
     subst (λ g. Shown g number) done.guest_is (subst (λ n. Shown old.guest n) done.number_is here) done few
   where
-    Shown : GuestSpec → ℕ → Type 0
+    Shown : IdealGuest → ℕ → Type 0
     Shown g n = HasDone g n old before early → vcpu < g.shape.vcpus → ShowsHomeOf g n before.lrs new after early (shown.shows.goes_on.parts ++ shown.later.parts) vcpu list
 
     here : Shown old.guest old.number

@@ -2,7 +2,7 @@
 use Rattle.std.proofs.Common.{◌≡◌, ℕ, inl, inr, List, [], ◌∷◌, ◌++◌, refl, sym, ap, ◌∙◌, subst}
 use Rattle.std.proofs.lemmas.Bool.{cases_eq}
 use Rattle.std.proofs.lemmas.List.{append_assoc}
-use Rattle.law_found_parts_are_calls.specs.Calls.{IsGoodGuest}
+use Rattle.law_found_parts_are_calls.specs.Histories.{CanOpen}
 use Rattle.law_found_parts_are_calls.specs.Core.{seen_after, CoreState, IsRun, end_of, opening, seat_at, end_of_moments, CoreMoment, entries_of, IsProperRun}
 use Rattle.seq_guest.specs.PortSeq.Told.{GuestTold, state_of}
 use Rattle.law_found_parts_are_calls.proofs.CoreProper.PartLemmas.{same_end}
@@ -48,7 +48,7 @@ module _ (told : GuestTold) (early : List CoreMoment) (same : entries_of early �
             found = mine.0.found;
           }
 
-      pub told_then : IsGoodGuest told.guest → IsRun told.guest.shape (opening told.guest told.number) (told_after told part).world → AreTold (told_after told part) parts
+      pub told_then : CanOpen told.guest → IsRun told.guest.shape (opening told.guest told.number) (told_after told part).world → AreTold (told_after told part) parts
       told_then good run actor = elim (cases_eq actor part.actor) [
         | inl is ↦
             subst (λ n. AreFoundCalls (seen_by (told_after told part) n) (parts_by n parts)) (sym is)
@@ -60,7 +60,7 @@ module _ (told : GuestTold) (early : List CoreMoment) (same : entries_of early �
 
 -- Part by part.
 
-pub parts_follow : (told : GuestTold) (early : List CoreMoment) (parts : List WholePart) → IsGoodGuest told.guest → entries_of early ≡ told.world → IsProperRun told.guest told.number (early ++ moments_of parts) → AreTold told parts → AreFoundParts told.guest told.number early parts
+pub parts_follow : (told : GuestTold) (early : List CoreMoment) (parts : List WholePart) → CanOpen told.guest → entries_of early ≡ told.world → IsProperRun told.guest told.number (early ++ moments_of parts) → AreTold told parts → AreFoundParts told.guest told.number early parts
 parts_follow told early [] good same proper are = tt
 parts_follow told early (part ∷ parts) good same proper are =
     let guest = told.guest in

@@ -2,7 +2,7 @@
 use Rattle.std.proofs.Common.{◌≡◌, ℕ, ◌<◌, ◌≤◌, false, IsTrue, All, List, ◌++◌, sym, ap, ◌∙◌, subst}
 use Rattle.std.proofs.lemmas.Grind.{flat_map-append}
 use Rattle.std.proofs.lemmas.List.Sums.{fold-append}
-use Rattle.law_found_parts_are_calls.specs.Calls.{GuestSpec}
+use Rattle.law_found_parts_are_calls.specs.Histories.{IdealGuest}
 use Rattle.law_found_parts_are_calls.specs.Core.{actor_count, IsRun, opening, are_parts, opening_progress, progress_in, progress_of, progressed, IsProper, IsProperRun}
 use Rattle.law_found_parts_are_calls.proofs.CoreProper.PartLemmas.{proper_append}
 use Rattle.law_found_parts_are_calls.specs.LawSerialIsEager.Serial.{WholePart, moments_of}
@@ -15,7 +15,7 @@ pub acts_both : (actor : ℕ) (early late : List WholePart) → acts_in (parts_b
 acts_both actor early late = ap acts_in (parts_append actor early late) ∙ flat_map-append acts_of (parts_by actor early) (parts_by actor late)
 
 -- its protocol after both
-pub progress_both : (guest : GuestSpec) (number : ℕ) (early late : List WholePart) (actor : ℕ)
+pub progress_both : (guest : IdealGuest) (number : ℕ) (early late : List WholePart) (actor : ℕ)
     → progress_in guest number (moments_of (early ++ late)) actor ≡ progress_after guest.shape late (progress_in guest number (moments_of early)) actor
 progress_both guest number early late actor =
     let start = opening_progress guest number actor in
@@ -23,7 +23,7 @@ progress_both guest number early late actor =
     ∙ fold-append (progressed guest.shape actor) start (acts_in (parts_by actor early)) (acts_in (parts_by actor late))
     ∙ ap (λ acts. progress_of guest.shape actor (progress_of guest.shape actor start acts) (acts_in (parts_by actor late))) (sym (own_parts actor early))
 
-module _ (guest : GuestSpec) (number lrs : ℕ) (early late : List WholePart) (some : 1 ≤ lrs) (most : lrs ≤ 16) where
+module _ (guest : IdealGuest) (number lrs : ℕ) (early late : List WholePart) (some : 1 ≤ lrs) (most : lrs ≤ 16) where
   abbrev both : List WholePart
   both = early ++ late
 

@@ -2,7 +2,7 @@
 use Rattle.std.proofs.Common.{◌≡◌, ◌≢◌, ℕ, ◌==◌, Bool, if◌then◌else◌, List, [], ◌∷◌, ◌++◌, map, filter, length, refl, ap, ◌∙◌}
 use Rattle.std.proofs.lemmas.Bool.{eq-eqb}
 use Rattle.law_found_parts_are_calls.specs.Words.{GuestShape}
-use Rattle.law_found_parts_are_calls.specs.Calls.{IsGoodGuest}
+use Rattle.law_found_parts_are_calls.specs.Histories.{CanOpen}
 use Rattle.law_found_parts_are_calls.specs.Core.{Entry, Made, actor_count, seen_after, CoreState, IsRun, Seat, end_of, opening, own_steps, seat_at, entry_by}
 use Rattle.law_found_parts_are_calls.proofs.PortCore.RunLemmas.{local_of_run, own_of_run, run_splits, runs_joined}
 use Rattle.seq_guest.proofs.PortSeq.KeptLemmas.{told_sound}
@@ -22,7 +22,7 @@ own_mine actor (made ∷ steps) =
     let rest = filter (λ (entry : Entry). entry.actor == actor) (map (entry_by actor) steps) in
     ap (λ (b : Bool). map (λ (entry : Entry). entry.made) (if b then entry_by actor made ∷ rest else rest)) (eq-eqb actor actor refl) ∙ ap (λ steps. made ∷ steps) (own_mine actor steps)
 
-module _ (told : GuestTold) (part : WholePart) (good : IsGoodGuest told.guest) (run : IsRun told.guest.shape (opening told.guest told.number) (told_after told part).world) where
+module _ (told : GuestTold) (part : WholePart) (good : CanOpen told.guest) (run : IsRun told.guest.shape (opening told.guest told.number) (told_after told part).world) where
   abbrev shape : GuestShape
   shape = told.guest.shape
 

@@ -5,7 +5,6 @@ use Rattle.std.proofs.lemmas.List.{append_assoc}
 use Rattle.law_found_parts_are_calls.specs.Lists.{IchRegs}
 use Rattle.law_found_parts_are_calls.specs.GicIdeal.Shown.{registers_of}
 use Rattle.law_found_parts_are_calls.specs.Histories.{IdealGuest}
-use Rattle.law_found_parts_are_calls.specs.Calls.{GuestSpec}
 use Rattle.law_found_parts_are_calls.specs.Core.{CoreState, IsRun, opening, end_of_moments, Progress, progress_in}
 use Rattle.law_found_parts_are_calls.proofs.PortCore.RunLemmas.{run_splits}
 use Rattle.seq_guest.specs.PortSeq.Told.{GuestTold, state_of}
@@ -26,12 +25,12 @@ use Rattle.law_one_thread_is_eager.proofs.ProperLemmas.{progress_both}
 run_before : (mid new : GuestTold) (before after : Vcpus) → GoesOn AreResidences mid new before after → IsRun new.guest.shape (opening new.guest new.number) new.world → IsRun mid.guest.shape (opening mid.guest mid.number) mid.world
 run_before mid new before after goes run =
     (run_splits mid.guest.shape (opening mid.guest mid.number) mid.world (entries_in goes.parts)
-    (subst (λ (g : GuestSpec). IsRun g.shape (opening g mid.number) (mid.world ++ entries_in goes.parts)) goes.same.guest
+    (subst (λ (g : IdealGuest). IsRun g.shape (opening g mid.number) (mid.world ++ entries_in goes.parts)) goes.same.guest
     (subst (λ n. IsRun new.guest.shape (opening new.guest n) (mid.world ++ entries_in goes.parts)) goes.same.number (subst (IsRun new.guest.shape (opening new.guest new.number)) goes.world run)))).0
 
 module _ (keep : ResidencesKeepHome) (old mid new : GuestTold) (before between after : Vcpus) (early : List WholePart) (vcpu : ℕ) (list : List ℕ) (done : HasDone old.guest old.number old before early) (run : IsRun new.guest.shape (opening new.guest new.number) new.world)
     (quiet : NoneKicked old before) (few : vcpu < old.guest.shape.vcpus) (shows : Shows old mid before between vcpu) (list_is : list ≡ shows.loaded.regs.hcr ∷ take shows.loaded.regs.n shows.loaded.regs.lr) (later : GoesOn AreResidences mid new between after) where
-  abbrev guest : GuestSpec
+  abbrev guest : IdealGuest
   guest = old.guest
 
   abbrev number : ℕ
@@ -57,7 +56,7 @@ module _ (keep : ResidencesKeepHome) (old mid new : GuestTold) (before between a
     where
       state : end_of_moments guest.shape (opening guest number) (moments_of so_far) ≡ state_of mid
       state =
-          subst (λ (g : GuestSpec). end_of_moments g.shape (opening g number) (moments_of so_far) ≡ state_of mid) first.done.guest_is
+          subst (λ (g : IdealGuest). end_of_moments g.shape (opening g number) (moments_of so_far) ≡ state_of mid) first.done.guest_is
           (subst (λ n. end_of_moments mid.guest.shape (opening mid.guest n) (moments_of so_far) ≡ state_of mid) first.done.number_is (state_is mid (moments_of so_far) (entries_parts so_far ∙ sym first.done.world)))
 
   part_is : so_far ≡ early ++ shows.part ∷ []

@@ -3,7 +3,7 @@ use Rattle.std.proofs.Common.{◌≡◌, ◌≢◌, ℕ, ◌<◌, ◌≤◌, ◌
 use Rattle.std.proofs.lemmas.Bool.{ne_eqb}
 use Rattle.law_core_is_history.specs.Words.{GuestShape, IsShape}
 use Rattle.law_core_is_history.specs.Lists.{misr_of}
-use Rattle.law_core_is_history.specs.Calls.{GuestSpec, IsGoodGuest}
+use Rattle.law_core_is_history.specs.Histories.{IdealGuest, CanOpen}
 use Rattle.law_core_is_history.specs.Core.{Local, Made, CoreStep, is_ready, CoreState, opening, after, Takes, IsLocal, end_of_moments, begins, ends, CoreMoment, entry_by, Progress, is_paid, progressed, progress_in, stepped, IsProperRun, IsProperStep, Purpose, planned, trapped, bare, Scan, idle, taking, looking, claiming}
 use Rattle.law_core_is_history.proofs.CoreProper.ScanLemmas.{local_on}
 use Rattle.law_core_is_history.proofs.AfterLemmas.{later}
@@ -70,12 +70,12 @@ asks_kept shape good vcpu within = record {
         (own_asks shape state going.reached.ideal vcpu made.found made.left made.tables within p going.seat local going.stands made.step is proper after_local.points asks)
 
 -- so it is at the end of a proper run
-pub asks_so : (guest : GuestSpec) (number : ℕ) (moments : List CoreMoment) (vcpu : ℕ) → IsGoodGuest guest → IsProperRun guest number moments → vcpu < guest.shape.vcpus
+pub asks_so : (guest : IdealGuest) (number : ℕ) (moments : List CoreMoment) (vcpu : ℕ) → CanOpen guest → IsProperRun guest number moments → vcpu < guest.shape.vcpus
     → let p = progress_in guest number moments vcpu in Asks guest.shape (end_of_moments guest.shape (opening guest number) moments) vcpu p p.scan
 asks_so guest number moments vcpu good proper within =
-    (ends_so false guest number moments vcpu (λ telling state p. Asks guest.shape state vcpu p p.scan) good proper within (asks_kept guest.shape good.shape vcpu within) (λ ready. absurd (true≢false (sym ready))) (λ f. absurd (true≢false (sym f)))).1.more
+    (ends_so false guest number moments vcpu (λ telling state p. Asks guest.shape state vcpu p p.scan) good proper within (asks_kept guest.shape good.sound.shape vcpu within) (λ ready. absurd (true≢false (sym ready))) (λ f. absurd (true≢false (sym f)))).1.more
 
-module _ (guest : GuestSpec) (number : ℕ) (moments : List CoreMoment) (vcpu : ℕ) (good : IsGoodGuest guest) (proper : IsProperRun guest number moments) (within : vcpu < guest.shape.vcpus) (filled : IsFilled (progress_in guest number moments vcpu)) where
+module _ (guest : IdealGuest) (number : ℕ) (moments : List CoreMoment) (vcpu : ℕ) (good : CanOpen guest) (proper : IsProperRun guest number moments) (within : vcpu < guest.shape.vcpus) (filled : IsFilled (progress_in guest number moments vcpu)) where
   asking : let p = progress_in guest number moments vcpu in IsMirrored p.regs.hcr p.local.cpu × (HasAll guest.shape (end_of_moments guest.shape (opening guest number) moments) vcpu p → misr_of p.regs ≡ 0)
   asking =
       let p = progress_in guest number moments vcpu in

@@ -168,7 +168,7 @@ ends_are_seen guest number moments vcpu key good proper within filled all behind
     let p = progress_in guest number moments vcpu in
     let state = end_of_moments guest.shape (opening guest number) moments in
     let telling = fold follows (opening_followed guest) (ideal_of guest.shape (opening guest number) moments) in
-    let so = (ends_so false guest number moments vcpu (λ telling state p. IsKeptSo guest.shape vcpu telling state p) good proper within (ends_kept guest.shape good.shape vcpu within) first (λ f. absurd (true≢false (sym f)))).1.more in
+    let so = (ends_so false guest number moments vcpu (λ telling state p. IsKeptSo guest.shape vcpu telling state p) good proper within (ends_kept guest.shape good.sound.shape vcpu within) first (λ f. absurd (true≢false (sym f)))).1.more in
     (subst (Sees guest.shape state vcpu telling p) (idle_is p.scan filled.loaded.scan) so.sees filled.loaded.ready filled.untrapped filled.paid all).here key behind.there behind.at behind.unchanged behind.pending
   where
     first : IsKeptSo guest.shape vcpu (opening_followed guest) (opening guest number) (opening_progress guest number vcpu)

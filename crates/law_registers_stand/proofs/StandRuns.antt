@@ -3,7 +3,8 @@ use Rattle.std.proofs.Common.{◌≡◌, ◌≢◌, ℕ, ◌<◌, ◌≤◌, ◌
 use Rattle.std.proofs.lemmas.Bool.{and_parts, eqb-true, eq-eqb, leb-true, lt-ltb}
 use Rattle.std.proofs.lemmas.List.Sums.{fold-append}
 use Rattle.law_core_is_history.specs.Words.{IccReg, Key, Icc, Mem, GuestShape, IsShape, Irq, irq_of}
-use Rattle.law_core_is_history.specs.Calls.{Operation, Access, GuestSpec, IsGoodGuest}
+use Rattle.law_core_is_history.specs.Calls.{Operation, Access}
+use Rattle.law_core_is_history.specs.Histories.{IdealGuest, CanOpen}
 use Rattle.law_core_is_history.specs.Core.{Made, CoreStep, Look, Claim, Poll, Irq as IrqWord, Vcpu, Queue, Ctlr, Plain, Index, succeeds, vcpu_of, is_vcpu, CoreState, opening, seat_at, after, Takes, IsRun, IsLocal, after_moment, end_of_moments, ideal_moments, ideal_of, IsSeatOf, Act, begins, makes, ends, CoreMoment, own_acts, entries_of, entry_by, has_registers, are_parts, Progress, Debt, paid, after_end, before_next, after_claim, after_poll, begun, is_paid, opening_progress, owed_after_part, owed_by_call, progressed, progress_of, progress_in, stepped, IsProper, IsProperAct, IsProperEnd, IsProperRun, IsProperStep, RegistersAgree, Scan, idle, taking, looking, claiming, is_idle}
 use Rattle.law_core_is_history.proofs.PortCore.OpeningLemmas.{seat_opens}
 use Rattle.law_core_is_history.specs.CoreProper.Progress.{changed_by}
@@ -229,7 +230,7 @@ module _ (finds : Bool) (shape : GuestShape) (good : IsShape shape) (vcpu : ℕ)
           rest (inside_after inside moment.act) (progressed shape vcpu p moment.act) next.0 next.1 proper.1 (λ f. (active f).1)
       by_actor false e rest parts proper active = rest inside p (other telling state inside p moment.actor moment.act (λ same. true≢false (sym (eq-eqb moment.actor vcpu same) ∙ e)) runs.0 holds) parts proper active
 
-pub opens : (finds : Bool) (guest : GuestSpec) (number vcpu : ℕ) → IsGoodGuest guest → vcpu < guest.shape.vcpus → IsGoing finds guest.shape (opening guest number) vcpu false (opening_progress guest number vcpu)
+pub opens : (finds : Bool) (guest : IdealGuest) (number vcpu : ℕ) → CanOpen guest → vcpu < guest.shape.vcpus → IsGoing finds guest.shape (opening guest number) vcpu false (opening_progress guest number vcpu)
 opens finds guest number vcpu good within = record {
   reached = reached_opens guest number good;
   seat = subst (IsSeatOf (opening_progress guest number vcpu)) (sym (seat_opens guest number vcpu (omega (arith, within)))) (record { local = refl; own = refl });
@@ -240,11 +241,11 @@ opens finds guest number vcpu good within = record {
 
 -- at the end of a proper run
 pub ends_so :
-    (finds : Bool) (guest : GuestSpec) (number : ℕ) (moments : List CoreMoment) (vcpu : ℕ) (P : Followed → CoreState → Progress → Type 0) (good : IsGoodGuest guest) (proper : IsProperRun guest number moments) (within : vcpu < guest.shape.vcpus) (kept : IsKept finds guest.shape vcpu P)
+    (finds : Bool) (guest : IdealGuest) (number : ℕ) (moments : List CoreMoment) (vcpu : ℕ) (P : Followed → CoreState → Progress → Type 0) (good : CanOpen guest) (proper : IsProperRun guest number moments) (within : vcpu < guest.shape.vcpus) (kept : IsKept finds guest.shape vcpu P)
     → P (opening_followed guest) (opening guest number) (opening_progress guest number vcpu) → (IsTrue finds → EndsActive guest.shape vcpu (opening_progress guest number vcpu) (own_acts vcpu moments))
-    → (inside : Bool) × Holds finds guest.shape good.shape vcpu within P kept (followed_by guest (ideal_of guest.shape (opening guest number) moments)) (end_of_moments guest.shape (opening guest number) moments) inside (progress_in guest number moments vcpu)
+    → (inside : Bool) × Holds finds guest.shape good.sound.shape vcpu within P kept (followed_by guest (ideal_of guest.shape (opening guest number) moments)) (end_of_moments guest.shape (opening guest number) moments) inside (progress_in guest number moments vcpu)
 ends_so finds guest number moments vcpu P good proper within kept first active =
-    goes finds guest.shape good.shape vcpu within P kept moments (opening_followed guest) (opening guest number) false (opening_progress guest number vcpu) (record { going = opens finds guest number vcpu good within; more = first }) proper.parted.run (proper.parted.parts vcpu (omega (arith, within)))
+    goes finds guest.shape good.sound.shape vcpu within P kept moments (opening_followed guest) (opening guest number) false (opening_progress guest number vcpu) (record { going = opens finds guest number vcpu good within; more = first }) proper.parted.run (proper.parted.parts vcpu (omega (arith, within)))
     (proper.proper vcpu (omega (arith, within))) active
 
 -- nothing else

@@ -2,21 +2,25 @@
 use Rattle.std.proofs.Common.{◌≡◌, ℕ, ◌<◌, false, IsTrue, [], ◌∷◌, refl, arith, zero, suc, All, replicate, slice_index_or}
 use Rattle.std.proofs.lemmas.List.Elements.{All-nil, All-cons}
 use Rattle.std.proofs.lemmas.List.Sums.{AllPass-from_list_all}
+use Rattle.law_core_is_history.proofs.IdealGuests.CanOpenLemmas.{openings_can_open}
 use Rattle.law_core_is_history.specs.Registers.{least_in, with_level, without_level}
 use Rattle.law_core_is_history.specs.Lists.{in_places}
-use Rattle.law_core_is_history.specs.Calls.{IsGoodGuest, IsGoodPreset}
+use Rattle.law_core_is_history.specs.Calls.{IsGoodPreset}
+use Rattle.law_core_is_history.specs.Histories.{CanOpen}
 use Rattle.law_core_is_history.specs.Core.{actor_count, opening, IsRun, end_of_moments, ideal_of, own_acts, entries_of, are_parts, opening_progress, progress_in, IsProper, IsProperRun, spi}
 use Rattle.law_core_is_history.proofs.CoreProper.WorkedLemmas.{vcpu_there, device_there, vcpu_is, are_proper, acts_are_proper, no_other, is_there, is_below}
 use Rattle.law_registers_stand.specs.Asks.{HasAll, IsFilled}
 use Rattle.law_registers_stand.specs.Ends.{IsBehind}
 use Rattle.law_registers_stand.specs.Followed.{followed_by}
-use Rattle.law_registers_stand.specs.Worked.{level_guest, level_run, LevelRunIsBehind}
+use Rattle.law_registers_stand.specs.Worked.{level_guest, level_spec, level_run, LevelRunIsBehind}
 
-level_good : IsGoodGuest level_guest
-level_good = record {
-  shape = record { some_vcpu = omega arith; vcpus = omega arith; spis = omega arith; spi_blocks = refl; espis = omega arith; espi_blocks = refl; devices = omega arith; lpis = omega arith; ram = omega arith; ram_words = refl };
-  presets = All-cons (IsGoodPreset level_guest.shape) _ [] (record { there = refl; addressed = refl; prio = omega arith; prio_bits = refl; group = omega arith; sgi_is_edge = refl }) (All-nil (IsGoodPreset level_guest.shape));
-}
+level_good : CanOpen level_guest
+level_good =
+    openings_can_open level_spec
+    (record {
+      shape = record { some_vcpu = omega arith; vcpus = omega arith; spis = omega arith; spi_blocks = refl; espis = omega arith; espi_blocks = refl; devices = omega arith; lpis = omega arith; ram = omega arith; ram_words = refl };
+      presets = All-cons (IsGoodPreset level_spec.shape) _ [] (record { there = refl; addressed = refl; prio = omega arith; prio_bits = refl; group = omega arith; sgi_is_edge = refl }) (All-nil (IsGoodPreset level_spec.shape));
+    })
 
 level_vcpu : IsTrue (are_proper level_guest.shape 0 (opening_progress level_guest 0 0) (own_acts 0 level_run))
 unfolding least_in with_level without_level in_places

@@ -4,7 +4,7 @@ use Rattle.std.specs.List.{list_any}
 use Rattle.law_core_is_history.specs.Words.{GuestShape, has_bit}
 use Rattle.law_core_is_history.specs.Lists.{IchRegs, hcr_npie, hcr_vgrp0eie, hcr_vgrp0die, hcr_vgrp1eie, hcr_vgrp1die, listed_of, is_pending, misr_of, has_ended}
 use Rattle.law_core_is_history.specs.Registers.{CpuRec}
-use Rattle.law_core_is_history.specs.Calls.{GuestSpec, IsGoodGuest}
+use Rattle.law_core_is_history.specs.Histories.{IdealGuest, CanOpen}
 use Rattle.law_core_is_history.specs.Core.{Vcpu, vcpu_of, CoreState, opening, word_in, end_of_moments, CoreMoment, Progress, is_paid, progress_in, IsProperRun}
 use Rattle.law_registers_stand.specs.Stands.{IsLoaded}
 
@@ -30,7 +30,7 @@ pub record IsFilled (p : Progress) : Type 0 where
 -- so a vCPU's registers ask at every moment of every proper run where it is such
 abbrev pub GroupsMirrored : Type 0
 GroupsMirrored =
-    (guest : GuestSpec) (number : ℕ) (moments : List CoreMoment) (vcpu : ℕ) → IsGoodGuest guest → IsProperRun guest number moments → vcpu < guest.shape.vcpus → IsFilled (progress_in guest number moments vcpu)
+    (guest : IdealGuest) (number : ℕ) (moments : List CoreMoment) (vcpu : ℕ) → CanOpen guest → IsProperRun guest number moments → vcpu < guest.shape.vcpus → IsFilled (progress_in guest number moments vcpu)
     → IsMirrored (progress_in guest number moments vcpu).regs.hcr (progress_in guest number moments vcpu).local.cpu
 
 -- a vCPU is not kicked
@@ -45,5 +45,5 @@ pub record HasAll (shape : GuestShape) (state : CoreState) (vcpu : ℕ) (p : Pro
 -- and then none is asserted
 abbrev pub NoneAsserted : Type 0
 NoneAsserted =
-    (guest : GuestSpec) (number : ℕ) (moments : List CoreMoment) (vcpu : ℕ) → IsGoodGuest guest → IsProperRun guest number moments → vcpu < guest.shape.vcpus → IsFilled (progress_in guest number moments vcpu)
+    (guest : IdealGuest) (number : ℕ) (moments : List CoreMoment) (vcpu : ℕ) → CanOpen guest → IsProperRun guest number moments → vcpu < guest.shape.vcpus → IsFilled (progress_in guest number moments vcpu)
     → HasAll guest.shape (end_of_moments guest.shape (opening guest number) moments) vcpu (progress_in guest number moments vcpu) → IsQuiet (progress_in guest number moments vcpu).regs

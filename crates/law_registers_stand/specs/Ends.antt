@@ -1,9 +1,8 @@
 -- The end of an interrupt that is pending behind its list register is seen (own choice; IHI 0069, ICH_LR<n>_EL2.EOI).
 use Rattle.std.specs.Prelude.{◌≡◌, ℕ, ◌<◌, true, IsTrue, List, [], Contains}
 use Rattle.law_core_is_history.specs.Words.{Key, GuestShape, has_interrupt, intid_of, is_pending, irq_of}
-use Rattle.law_core_is_history.specs.Histories.{changes_of}
+use Rattle.law_core_is_history.specs.Histories.{changes_of, IdealGuest, CanOpen}
 use Rattle.law_core_is_history.specs.Lists.{IchRegs, seen_in, listed_of, is_live, unpacked}
-use Rattle.law_core_is_history.specs.Calls.{GuestSpec, IsGoodGuest}
 use Rattle.law_core_is_history.specs.Core.{Irq, is_at, CoreState, opening, word_in, end_of_moments, ideal_of, CoreMoment, Progress, progress_in, IsProperRun}
 use Rattle.law_registers_stand.specs.Asks.{HasAll, IsFilled}
 use Rattle.law_registers_stand.specs.Followed.{Followed, followed_by}
@@ -23,7 +22,7 @@ SeesEnd regs key = (word : ℕ) → Contains (listed_of regs) word → is_live (
 -- chose
 abbrev pub EndsAreSeen : Type 0
 EndsAreSeen =
-    (guest : GuestSpec) (number : ℕ) (moments : List CoreMoment) (vcpu : ℕ) (key : Key) → IsGoodGuest guest → IsProperRun guest number moments → vcpu < guest.shape.vcpus → IsFilled (progress_in guest number moments vcpu)
+    (guest : IdealGuest) (number : ℕ) (moments : List CoreMoment) (vcpu : ℕ) (key : Key) → CanOpen guest → IsProperRun guest number moments → vcpu < guest.shape.vcpus → IsFilled (progress_in guest number moments vcpu)
     → HasAll guest.shape (end_of_moments guest.shape (opening guest number) moments) vcpu (progress_in guest number moments vcpu)
     → IsBehind guest.shape (end_of_moments guest.shape (opening guest number) moments) (followed_by guest (ideal_of guest.shape (opening guest number) moments)) (progress_in guest number moments vcpu) key
     → SeesEnd (progress_in guest number moments vcpu).regs key

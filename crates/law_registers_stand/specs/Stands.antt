@@ -1,7 +1,7 @@
 -- The registers of a vCPU stand for its interface (own choice; IHI 0069, "Usage model for the List registers").
 use Rattle.std.specs.Prelude.{◌⊎◌, ℕ, ◌<◌, Bool, true, IsTrue, List, [], ◌∷◌}
 use Rattle.law_core_is_history.specs.Words.{GuestShape, is_number, irq_of}
-use Rattle.law_core_is_history.specs.Calls.{GuestSpec, IsGoodGuest}
+use Rattle.law_core_is_history.specs.Histories.{IdealGuest, CanOpen}
 use Rattle.law_core_is_history.specs.Core.{CoreStep, Claim, is_ready, Act, begins, makes, ends, CoreMoment, own_acts, Progress, is_paid, opening_progress, progressed, progress_in, IsProperRun, RegistersAgree, Scan, idle, is_idle}
 
 -- a vCPU may do accesses: no scan of it is in progress, and it has looked at its candidates since it last held nothing
@@ -28,6 +28,6 @@ EndsActive shape vcpu p (act ∷ acts) = IsTrue (finds_active vcpu p act) × End
 -- it there
 abbrev pub RegistersStand : Type 0
 RegistersStand =
-    (guest : GuestSpec) (number : ℕ) (moments : List CoreMoment) (vcpu : ℕ) → IsGoodGuest guest → IsProperRun guest number moments → vcpu < guest.shape.vcpus → IsLoaded (progress_in guest number moments vcpu)
+    (guest : IdealGuest) (number : ℕ) (moments : List CoreMoment) (vcpu : ℕ) → CanOpen guest → IsProperRun guest number moments → vcpu < guest.shape.vcpus → IsLoaded (progress_in guest number moments vcpu)
     → IsTrue (is_paid (progress_in guest number moments vcpu).debt) ⊎ EndsActive guest.shape vcpu (opening_progress guest number vcpu) (own_acts vcpu moments)
     → RegistersAgree (progress_in guest number moments vcpu).regs (progress_in guest number moments vcpu).local

@@ -2,20 +2,25 @@
 -- pending in its record.
 use Rattle.std.specs.Prelude.{ℕ, ◌≡◌, ◌^◌, true, false, List, [], ◌∷◌, replicate, Some, None}
 use Rattle.law_core_is_history.specs.Words.{Iar1, Wire}
-use Rattle.law_core_is_history.specs.Calls.{Device, Residence, GuestSpec, IsGoodGuest}
+use Rattle.law_core_is_history.specs.Calls.{Device, Residence, GuestSpec}
+use Rattle.law_core_is_history.specs.Histories.{IdealGuest, CanOpen, opening_guest}
 use Rattle.law_core_is_history.specs.Core.{Look, WireUp, Claim, Poll, Kick, Mark, TakeIndex, Irq, opening, end_of_moments, ideal_of, begins, ends, CoreMoment, progress_in, IsProperRun, spi, vcpu_does, device_does, made, reads_iar}
 use Rattle.law_registers_stand.specs.Asks.{HasAll, IsFilled}
 use Rattle.law_registers_stand.specs.Ends.{IsBehind}
 use Rattle.law_registers_stand.specs.Followed.{followed_by}
 
 -- a vCPU and a device, and SPI 40, which is level-triggered, enabled, of group 1 and of priority 0xa0
-abbrev pub level_guest : GuestSpec
-level_guest =
+abbrev pub level_spec : GuestSpec
+level_spec =
     record {
       shape = record { vcpus = 1; spis = 32; espis = 0; devices = 1; lpis = 0; ram = 0 };
       on = true;
       presets = (record { id = 40; prio = 0xa0; edge = false; group = 1; to = Some 0; vcpu = None }) ∷ [];
     }
+
+-- as it opens
+abbrev pub level_guest : IdealGuest
+level_guest = opening_guest level_spec
 
 -- its word as the guest opens, once the wire is up, and while the vCPU holds it
 abbrev pub low_word : ℕ
@@ -47,7 +52,7 @@ level_run =
 
 -- the run meets what the laws ask, and the one list register has State 2, group 1, priority 0xa0, EOI and INTID 40
 pub record LevelRunIsBehind : Type 0 where
-  pub good : IsGoodGuest level_guest
+  pub good : CanOpen level_guest
   pub proper : IsProperRun level_guest 0 level_run
   pub filled : IsFilled (progress_in level_guest 0 level_run 0)
   pub all : HasAll level_guest.shape (end_of_moments level_guest.shape (opening level_guest 0) level_run) 0 (progress_in level_guest 0 level_run 0)

@@ -6,8 +6,8 @@ use Rattle.std.proofs.lemmas.Bool.{and_parts, and_from, ltb-true, ne_eqb}
 use Rattle.std.proofs.lemmas.List.{append_assoc}
 use Rattle.law_serial_is_eager.specs.Words.{IccReg, Key, Icc, GuestShape, has_interrupt, key_at}
 use Rattle.law_serial_is_eager.proofs.GicOpen.KeyLemmas.{key_at_there}
-use Rattle.law_serial_is_eager.specs.Calls.{Cpu, Moment, Access, GuestSpec, IsGoodGuest}
-use Rattle.law_serial_is_eager.specs.Histories.{asks_first, changes_of, comes_first, doing_of, ended_by, has_named, is_awaited, is_excused, is_far_active, is_fresh_at_acknowledge, is_fresh_at_end, is_fresh_at_interface, is_last_open, is_open, is_to_come, keys_in, Standing, standing_at}
+use Rattle.law_serial_is_eager.specs.Calls.{Cpu, Moment, Access}
+use Rattle.law_serial_is_eager.specs.Histories.{asks_first, changes_of, comes_first, doing_of, ended_by, has_named, is_awaited, is_excused, is_far_active, is_fresh_at_acknowledge, is_fresh_at_end, is_fresh_at_interface, is_last_open, is_open, is_to_come, keys_in, Standing, standing_at, IdealGuest, CanOpen}
 use Rattle.law_serial_is_eager.proofs.LawHistories.CourseLemmas.{mark_is}
 use Rattle.law_serial_is_eager.proofs.LawEagerIsHistory.FirstLemmas.{all_keys}
 use Rattle.law_serial_is_eager.specs.Core.{Made, Poll, Irq as IrqWord, vcpu_of, is_vcpu, CoreState, opening, seat_at, CanStep, is_poll, end_of_moments, ideal_of, makes, CoreMoment, Progress, opening_progress, progress_in, IsProperRun, has_key}
@@ -31,7 +31,7 @@ use Rattle.law_runs_are_fresh.proofs.OpenLemmas.{all_open, all_stand, any_in_ran
 use Rattle.law_runs_are_fresh.proofs.OwnLemmas.{own_wants}
 use Rattle.law_runs_are_fresh.proofs.ReadRuns.{IsWholeRun, wants_named}
 
-module _ (guest : GuestSpec) (number : ℕ) (early : List CoreMoment) (v : ℕ) (made : Made) (reg : IccReg) (write : Option ℕ) (good : IsGoodGuest guest) (next : IsNextOf guest number early v (makes made)) (step_is : made.step ≡ Poll (Some reg) write) (unkicked : (vcpu_of made.found).kick ≡ false)
+module _ (guest : IdealGuest) (number : ℕ) (early : List CoreMoment) (v : ℕ) (made : Made) (reg : IccReg) (write : Option ℕ) (good : CanOpen guest) (next : IsNextOf guest number early v (makes made)) (step_is : made.step ≡ Poll (Some reg) write) (unkicked : (vcpu_of made.found).kick ≡ false)
     (free : IsTrue (owes_kick v (seat_at (end_of_moments guest.shape (opening guest number) early) v).local) → ⊥) where
   abbrev shape : GuestShape
   shape = guest.shape
@@ -123,7 +123,7 @@ module _ (guest : GuestSpec) (number : ℕ) (early : List CoreMoment) (v : ℕ) 
         of_all : asks_first reg write ≡ true → IsTrue (list_all (λ key. not (comes_first at.ideal v key) || is_excused later at.ideal at.track v key) (keys_in at.ideal.guest.shape))
         of_all asks =
             subst (λ (s : GuestShape). IsTrue (list_all (λ key. not (comes_first at.ideal v key) || (is_last_open s at.track v key || is_awaited s later at.track v key)) (keys_in s))) (sym shape_is)
-            (all_keys guest.shape (λ key. not (comes_first at.ideal v key) || (is_last_open guest.shape at.track v key || is_awaited guest.shape later at.track v key)) (λ place within. key_fresh asks (key_at guest.shape place) (key_at_there guest.shape place good.shape within)))
+            (all_keys guest.shape (λ key. not (comes_first at.ideal v key) || (is_last_open guest.shape at.track v key || is_awaited guest.shape later at.track v key)) (λ place within. key_fresh asks (key_at guest.shape place) (key_at_there guest.shape place good.sound.shape within)))
 
         of : (b : Bool) → asks_first reg write ≡ b → IsTrue (not b || list_all (λ key. not (comes_first at.ideal v key) || is_excused later at.ideal at.track v key) (keys_in at.ideal.guest.shape))
         of false e = refl

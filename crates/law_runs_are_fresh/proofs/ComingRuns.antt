@@ -4,7 +4,7 @@ use Rattle.std.proofs.lemmas.Bool.{and_parts, and_from, cases_eq, eq-eqb, ne_eqb
 use Rattle.std.proofs.lemmas.List.{append-nil, append_assoc}
 use Rattle.law_serial_is_eager.specs.Words.{Key, GuestShape, is_same_key}
 use Rattle.law_serial_is_eager.proofs.GicBase.KeyLemmas.{same_itself}
-use Rattle.law_serial_is_eager.specs.Calls.{Moment, Happens, Happened, GuestSpec, IsGoodGuest}
+use Rattle.law_serial_is_eager.specs.Calls.{Moment, Happens, Happened}
 use Rattle.law_serial_is_eager.specs.Core.{Local, Made, CoreStep, Touch, actor_count, succeeds, CoreState, Seat, opening, seat_at, event_done, stands_for, after_moment, end_of_moments, event_moments, ideal_moments, ideal_of, Act, begins, makes, ends, CoreMoment, has_registers, Progress, opening_progress, progress_in, IsProperEnd, IsProperRun, has_key}
 use Rattle.law_serial_is_eager.specs.CoreProper.Progress.{changed_by}
 use Rattle.law_serial_is_eager.proofs.CoreProper.ScanLemmas.{wants_on}
@@ -15,7 +15,7 @@ use Rattle.law_serial_is_eager.proofs.LawScansMissNone.ScanSteps.{with_made}
 use Rattle.law_serial_is_eager.proofs.LawScansMissNone.WantSteps.{as_touch, is_touch_of, wants_kept}
 use Rattle.law_serial_is_eager.proofs.LawLateOnesLeave.PollLemmas.{proper_so, seat_so}
 use Rattle.law_serial_is_eager.proofs.AloneRuns.{next_at, none_wanted}
-use Rattle.law_serial_is_eager.specs.Histories.{ends_turn, is_event_of, is_to_come}
+use Rattle.law_serial_is_eager.specs.Histories.{ends_turn, is_event_of, is_to_come, IdealGuest, CanOpen}
 use Rattle.law_runs_are_fresh.proofs.OwnLemmas.{ended_none, own_wants}
 use Rattle.law_runs_are_fresh.proofs.TurnLemmas.{unwanting}
 
@@ -47,7 +47,7 @@ touch_comes shape actor local own step found key rest touches done =
 
 -- Along a run.
 
-module _ (guest : GuestSpec) (number : ℕ) (good : IsGoodGuest guest) (actor : ℕ) (there : actor < actor_count guest.shape) (key : Key) where
+module _ (guest : IdealGuest) (number : ℕ) (good : CanOpen guest) (actor : ℕ) (there : actor < actor_count guest.shape) (key : Key) where
   abbrev shape : GuestShape
   shape = guest.shape
 

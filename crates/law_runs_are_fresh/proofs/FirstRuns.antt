@@ -5,10 +5,10 @@ use Rattle.std.proofs.lemmas.Bool.{cases_eq, false_from_ne_true}
 use Rattle.std.proofs.lemmas.List.{append_assoc}
 use Rattle.std.proofs.lemmas.List.Elements.{All-head}
 use Rattle.law_serial_is_eager.specs.Words.{Key, Icc, GuestShape, has_interrupt}
-use Rattle.law_serial_is_eager.specs.Calls.{Cpu, Found, Access, GuestSpec, IsGoodGuest}
+use Rattle.law_serial_is_eager.specs.Calls.{Cpu, Found, Access}
 use Rattle.law_serial_is_eager.specs.GicCall.declared.event.Found.TheVariants.{Answer}
 use Rattle.law_serial_is_eager.specs.Registers.{interface_answer}
-use Rattle.law_serial_is_eager.specs.Histories.{Turn, changes_of, comes_first, doing_of, has_left_all, IsHistory, opening_course, Standing, is_of, standing_at}
+use Rattle.law_serial_is_eager.specs.Histories.{Turn, changes_of, comes_first, doing_of, has_left_all, IsHistory, opening_course, Standing, is_of, standing_at, IdealGuest, CanOpen}
 use Rattle.law_serial_is_eager.proofs.LawHistories.CourseLemmas.{goes_before, mark_is}
 use Rattle.law_serial_is_eager.proofs.LawHistories.StandLemmas.{of_key, standing_of_key, none_filtered}
 use Rattle.law_serial_is_eager.proofs.LawHomeCommutes.SpotLemmas.{IsTidy}
@@ -44,7 +44,7 @@ use Rattle.law_runs_are_fresh.proofs.AccessLemmas.{IsAtAccess, at_access}
 use Rattle.law_runs_are_fresh.proofs.FirstLemmas.{first_is_own}
 use Rattle.law_runs_are_fresh.proofs.OwnLemmas.{own_wants}
 
-module _ (guest : GuestSpec) (number : ℕ) (early late : List CoreMoment) (v : ℕ) (made : Made) (good : IsGoodGuest guest) (proper : IsProperRun guest number (early ++ (record { actor = v; act = makes made }) ∷ late))
+module _ (guest : IdealGuest) (number : ℕ) (early late : List CoreMoment) (v : ℕ) (made : Made) (good : CanOpen guest) (proper : IsProperRun guest number (early ++ (record { actor = v; act = makes made }) ∷ late))
     (calls : AreCalls guest.shape (opening guest number) (opening_course guest) (early ++ (record { actor = v; act = makes made }) ∷ late)) (ended : AreEnded guest.shape (early ++ (record { actor = v; act = makes made }) ∷ late)) (alone : AsksAlone guest number early v made) where
   abbrev shape : GuestShape
   shape = guest.shape
@@ -143,5 +143,5 @@ module _ (guest : GuestSpec) (number : ℕ) (early late : List CoreMoment) (v : 
 
 pub acknowledges_find_the_first : AcknowledgesFindTheFirst
 acknowledges_find_the_first guest number early late v made good proper calls ended alone =
-    first_is_own guest.shape good.shape (followed_in guest number early) (tidy guest number early late v made good proper calls ended alone) v alone.read.few (so guest number early late v made good proper calls ended alone) (gone guest number early late v made good proper calls ended alone)
+    first_is_own guest.shape good.sound.shape (followed_in guest number early) (tidy guest number early late v made good proper calls ended alone) v alone.read.few (so guest number early late v made good proper calls ended alone) (gone guest number early late v made good proper calls ended alone)
     (none_comes guest number early late v made good proper calls ended alone)

@@ -3,8 +3,8 @@ use Rattle.std.proofs.Common.{◌≡◌, ℕ, ◌⊎◌, inl, inr, true≢false,
 use Rattle.std.proofs.lemmas.Bool.{and_from}
 use Rattle.std.proofs.lemmas.List.{append_assoc}
 use Rattle.law_serial_is_eager.specs.Words.{GuestShape}
-use Rattle.law_serial_is_eager.specs.Calls.{Event, Cpu, Moment, Happens, Happened, GuestSpec, IsGoodGuest}
-use Rattle.law_serial_is_eager.specs.Histories.{after_moment as ideal_after, is_acknowledged_from, is_fresh_at_acknowledge, is_fresh_at_end, is_fresh_at_interface, of_event, tracked}
+use Rattle.law_serial_is_eager.specs.Calls.{Event, Cpu, Moment, Happens, Happened}
+use Rattle.law_serial_is_eager.specs.Histories.{after_moment as ideal_after, is_acknowledged_from, is_fresh_at_acknowledge, is_fresh_at_end, is_fresh_at_interface, of_event, tracked, IdealGuest, CanOpen}
 use Rattle.law_serial_is_eager.specs.Core.{Made, CoreState, opening, seat_at, stands_for, after_moment, end_of_moments, event_moments, ideal_moments, ideal_of, Act, begins, makes, ends, CoreMoment, IsProperRun}
 use Rattle.law_serial_is_eager.proofs.CoreProper.PartLemmas.{ideal_append}
 use Rattle.law_serial_is_eager.specs.LawCoreIsHistory.Whole.{AreEnded}
@@ -53,7 +53,7 @@ with_event at actor one rest now later =
 
 -- Along a run.
 
-module _ (guest : GuestSpec) (number : ℕ) (good : IsGoodGuest guest) where
+module _ (guest : IdealGuest) (number : ℕ) (good : CanOpen guest) where
   abbrev shape : GuestShape
   shape = guest.shape
 

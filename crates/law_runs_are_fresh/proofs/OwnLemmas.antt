@@ -2,8 +2,8 @@
 use Rattle.std.proofs.Common.{◌≡◌, ℕ, ◌<◌, ◌&&◌, not, true≢false, true, false, IsTrue, List, [], ◌∷◌, fold, Option, Some, None, is_some, refl, sym, ap, ◌∙◌, subst}
 use Rattle.std.proofs.lemmas.Bool.{and_parts}
 use Rattle.law_serial_is_eager.specs.Words.{Key, GuestShape}
-use Rattle.law_serial_is_eager.specs.Calls.{Operation, View, GuestSpec}
-use Rattle.law_serial_is_eager.specs.Histories.{names}
+use Rattle.law_serial_is_eager.specs.Calls.{Operation, View}
+use Rattle.law_serial_is_eager.specs.Histories.{names, IdealGuest}
 use Rattle.law_serial_is_eager.specs.Core.{actor_count, Act, begins, makes, ends, CoreMoment, are_parts, has_registers, own_acts, Progress, opening_progress, progressed, progress_in, progress_of, stepped, IsProper, IsProperRun}
 use Rattle.law_serial_is_eager.specs.LawCoreIsHistory.Whole.{AreEnded, within_after}
 use Rattle.law_serial_is_eager.proofs.LawScansMissNone.ProgressLemmas.{operation_on}
@@ -17,7 +17,7 @@ within_of shape actor (begins operation lrs ∷ acts) p = within_of shape actor 
 within_of shape actor (makes made ∷ acts) p = within_of shape actor acts (stepped shape actor made p) ∙ ap (λ o. fold within_after (is_some o) acts) (operation_on shape actor made p)
 within_of shape actor (ends answer ∷ acts) p = within_of shape actor acts (progressed shape actor p (ends answer))
 
-pub within_is : (guest : GuestSpec) (number : ℕ) (moments : List CoreMoment) (actor : ℕ) → is_some (progress_in guest number moments actor).operation ≡ fold within_after false (own_acts actor moments)
+pub within_is : (guest : IdealGuest) (number : ℕ) (moments : List CoreMoment) (actor : ℕ) → is_some (progress_in guest number moments actor).operation ≡ fold within_after false (own_acts actor moments)
 within_is guest number moments actor = within_of guest.shape actor (own_acts actor moments) (opening_progress guest number actor)
 
 none_of : {X : Type 0} (o : Option X) → is_some o ≡ false → o ≡ None
@@ -25,7 +25,7 @@ none_of None e = refl
 none_of (Some x) e = absurd (true≢false e)
 
 -- where all parts ended it is in none
-pub ended_none : (guest : GuestSpec) (number : ℕ) (moments : List CoreMoment) (actor : ℕ) → actor < actor_count guest.shape → AreEnded guest.shape moments → (progress_in guest number moments actor).operation ≡ None
+pub ended_none : (guest : IdealGuest) (number : ℕ) (moments : List CoreMoment) (actor : ℕ) → actor < actor_count guest.shape → AreEnded guest.shape moments → (progress_in guest number moments actor).operation ≡ None
 ended_none guest number moments actor there ended = none_of (progress_in guest number moments actor).operation (within_is guest number moments actor ∙ ended actor there)
 
 -- an actor wants nothing where it is in no part, or in one for a call that names no interrupt
@@ -60,6 +60,6 @@ wants_little shape actor (ends answer ∷ acts) p proper parts little =
     wants_little shape actor acts (progressed shape actor p (ends answer)) proper.1 fit.1 (record { out = λ e. nothing; none = λ operation e names_none. nothing })
 
 -- so it is at every moment of every proper run
-pub own_wants : (guest : GuestSpec) (number : ℕ) (moments : List CoreMoment) → IsProperRun guest number moments → (actor : ℕ) → actor < actor_count guest.shape → WantsLittle guest.shape actor (progress_in guest number moments actor)
+pub own_wants : (guest : IdealGuest) (number : ℕ) (moments : List CoreMoment) → IsProperRun guest number moments → (actor : ℕ) → actor < actor_count guest.shape → WantsLittle guest.shape actor (progress_in guest number moments actor)
 own_wants guest number moments proper actor there =
     wants_little guest.shape actor (own_acts actor moments) (opening_progress guest number actor) (proper.proper actor there) (proper.parted.parts actor there) (record { out = λ e. refl; none = λ operation e names_none. refl })

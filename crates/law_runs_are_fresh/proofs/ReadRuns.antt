@@ -6,12 +6,12 @@ use Rattle.std.proofs.lemmas.Bool.{and_parts, and_from, cases_eq, cases_Bool, lt
 use Rattle.std.proofs.lemmas.List.{append_assoc}
 use Rattle.law_serial_is_eager.specs.Words.{Key, GuestShape, is_number}
 use Rattle.law_serial_is_eager.specs.Registers.{queue_of}
-use Rattle.law_serial_is_eager.specs.Calls.{Ram, Cbaser, Event, Put, Found, Moment, Begin, Happens, Operation, Happened, plain_at, vcpu_word_of, its_word_of, its_from, vcpus_from, queue_address, command_places, GuestSpec, IsGoodGuest}
+use Rattle.law_serial_is_eager.specs.Calls.{Ram, Cbaser, Event, Put, Found, Moment, Begin, Happens, Operation, Happened, plain_at, vcpu_word_of, its_word_of, its_from, vcpus_from, queue_address, command_places}
 use Rattle.law_serial_is_eager.specs.GicCall.declared.event.Event.TheVariants.{Read, Queue as QueueEvent}
 use Rattle.law_serial_is_eager.specs.GicCall.declared.event.Found.TheVariants.{Word as FoundWord}
 use Rattle.law_serial_is_eager.specs.GicCall.declared.event.Moment.TheVariants.{End}
 use Rattle.law_serial_is_eager.specs.GicCall.declared.event.Place.TheVariants.{Word}
-use Rattle.law_serial_is_eager.specs.Histories.{Ideal, Doing, Course, after_doing, happened, course_of, doing_of, ends_turn, gone_on, has_named, is_fetch, is_memory_at, last_of, opening_course, takes_commands, view_at, with_doing, word_at, IsHistory, IsWhole}
+use Rattle.law_serial_is_eager.specs.Histories.{Ideal, Doing, Course, after_doing, happened, course_of, doing_of, ends_turn, gone_on, has_named, is_fetch, is_memory_at, last_of, opening_course, takes_commands, view_at, with_doing, word_at, IsHistory, IsWhole, IdealGuest, CanOpen}
 use Rattle.law_serial_is_eager.specs.Core.{Local, Made, CoreStep, Look, RamLook, RamPut, CommandDone, Want, Queue, Plain, actor_count, fault_place, known, known_view, known_word, since_turn, has_begun, is_look_at, may_name, reading_of, is_settled, owes_nothing, IsSeatOf, has_key, keeps_want, word_after, succeeds, stands_for, word_of, CoreState, Seat, opening, seat_at, word_in, after_moment, end_of_moments, event_moments, ideal_moments, ideal_of, Act, begins, makes, ends, CoreMoment, entry_by, has_registers, Progress, opening_progress, progressed, progress_in, IsProperEnd, IsProperRun}
 use Rattle.law_serial_is_eager.specs.CoreProper.Progress.{changed_by}
 use Rattle.law_serial_is_eager.specs.LawCoreIsHistory.Simulates.{IsSimulatedAs}
@@ -71,11 +71,11 @@ same_some x y e = cc
 -- Along a run, all of whose parts ended as calls.
 
 -- the whole history
-pub record IsWholeRun (guest : GuestSpec) (number : ℕ) (moments : List CoreMoment) : Type 0 where
+pub record IsWholeRun (guest : IdealGuest) (number : ℕ) (moments : List CoreMoment) : Type 0 where
   pub history : IsHistory guest (ideal_of guest.shape (opening guest number) moments)
   pub whole : IsWhole guest (ideal_of guest.shape (opening guest number) moments)
 
-module _ (guest : GuestSpec) (number : ℕ) (good : IsGoodGuest guest) (actor : ℕ) (there : actor < actor_count guest.shape) where
+module _ (guest : IdealGuest) (number : ℕ) (good : CanOpen guest) (actor : ℕ) (there : actor < actor_count guest.shape) where
   abbrev shape : GuestShape
   shape = guest.shape
 
@@ -157,7 +157,7 @@ module _ (guest : GuestSpec) (number : ℕ) (good : IsGoodGuest guest) (actor : 
     later = after_moment guest.shape (end_of_moments guest.shape (opening guest number) early) (record { actor = other; act = makes made })
 
     same_seat : seat_at (after_moment guest.shape (end_of_moments guest.shape (opening guest number) early) (record { actor = other; act = makes made })) actor ≡ seat_at (end_of_moments guest.shape (opening guest number) early) actor
-    same_seat = seat_other guest.shape (end_of_moments guest.shape (opening guest number) early) (entry_by other made) good.shape next.at.sound next.acts.run.0 actor (λ e. differ (sym e))
+    same_seat = seat_other guest.shape (end_of_moments guest.shape (opening guest number) early) (entry_by other made) good.sound.shape next.at.sound next.acts.run.0 actor (λ e. differ (sym e))
 
     none : (seat_at (end_of_moments guest.shape (opening guest number) early) other).local.turn ≡ true → ⊥
     none h = differ (same_some other actor (sym (number_is other _ (next.at.sound.ties other Queue next.acts.there refl ∙ h)) ∙ has))
@@ -166,11 +166,11 @@ module _ (guest : GuestSpec) (number : ℕ) (good : IsGoodGuest guest) (actor : 
         → IsReading guest.shape actor (after_moment guest.shape (end_of_moments guest.shape (opening guest number) early) (record { actor = other; act = makes made })) fetched read
     other_reading late all fetched read before =
         let queue : word_in guest.shape (after_moment guest.shape (end_of_moments guest.shape (opening guest number) early) (record { actor = other; act = makes made })) Queue ≡ word_in guest.shape (end_of_moments guest.shape (opening guest number) early) Queue =
-        word_stays guest.shape good.shape (end_of_moments guest.shape (opening guest number) early) other made next.at.sound next.acts.run.0 Queue refl
-        (λ on. queue_left guest.shape (end_of_moments guest.shape (opening guest number) early) (entry_by other made) good.shape next.at.sound next.acts.run.0 actor
+        word_stays guest.shape good.sound.shape (end_of_moments guest.shape (opening guest number) early) other made next.at.sound next.acts.run.0 Queue refl
+        (λ on. queue_left guest.shape (end_of_moments guest.shape (opening guest number) early) (entry_by other made) good.sound.shape next.at.sound next.acts.run.0 actor
         (ap (λ n. (queue_of n).turn) (next.acts.run.0.found ∙ ap (word_in guest.shape (end_of_moments guest.shape (opening guest number) early)) on) ∙ has) none on) in
         let base : word_in guest.shape (after_moment guest.shape (end_of_moments guest.shape (opening guest number) early) (record { actor = other; act = makes made })) (Plain (base_place guest.shape)) ≡ word_in guest.shape (end_of_moments guest.shape (opening guest number) early) (Plain (base_place guest.shape)) =
-        word_stays guest.shape good.shape (end_of_moments guest.shape (opening guest number) early) other made next.at.sound next.acts.run.0 (Plain (base_place guest.shape)) (base_there guest.shape) (λ on. next.acts.run.0.left ∙ foreign_base late all made.step refl on) in
+        word_stays guest.shape good.sound.shape (end_of_moments guest.shape (opening guest number) early) other made next.at.sound next.acts.run.0 (Plain (base_place guest.shape)) (base_there guest.shape) (λ on. next.acts.run.0.left ∙ foreign_base late all made.step refl on) in
         let at : queue_at guest.shape (after_moment guest.shape (end_of_moments guest.shape (opening guest number) early) (record { actor = other; act = makes made })) ≡ queue_at guest.shape (end_of_moments guest.shape (opening guest number) early) =
         ap (λ n. queue_address n + (queue_of (word_in guest.shape (after_moment guest.shape (end_of_moments guest.shape (opening guest number) early) (record { actor = other; act = makes made })) Queue)).offset) base
         ∙ ap (λ n. queue_address (word_in guest.shape (end_of_moments guest.shape (opening guest number) early) (Plain (base_place guest.shape))) + (queue_of n).offset) queue in
@@ -196,7 +196,7 @@ module _ (guest : GuestSpec) (number : ℕ) (good : IsGoodGuest guest) (actor : 
   other_keeps early other (makes made) next differ late all kept =
       record {
         reads = λ read is.
-            (let before = kept.reads read (sym (ap (λ (s : Seat). reading_of s.own) (seat_other guest.shape (end_of_moments guest.shape (opening guest number) early) (entry_by other made) good.shape next.at.sound next.acts.run.0 actor (λ e. differ (sym e)))) ∙ is) in
+            (let before = kept.reads read (sym (ap (λ (s : Seat). reading_of s.own) (seat_other guest.shape (end_of_moments guest.shape (opening guest number) early) (entry_by other made) good.sound.shape next.at.sound next.acts.run.0 actor (λ e. differ (sym e)))) ∙ is) in
             subst (λ b. IsReading guest.shape actor (after_moment guest.shape (end_of_moments guest.shape (opening guest number) early) (record { actor = other; act = makes made })) b read) (sym fetched) (other_reading early other made next differ before.turn late all (doing_of (followed_in guest number early).track actor).fetched read before));
         wants = λ some operation is takes. fetched ∙ kept.wants some operation is takes;
       }
@@ -204,11 +204,11 @@ module _ (guest : GuestSpec) (number : ℕ) (good : IsGoodGuest guest) (actor : 
       of : (o : Option Happened) → IsSimulatedAs guest.shape (after_moment guest.shape (end_of_moments guest.shape (opening guest number) early) (record { actor = other; act = makes made })) (followed_in guest number early).ideal other o
           → (doing_of (fold follows (followed_in guest number early) (event_moments other o)).track actor).fetched ≡ (doing_of (followed_in guest number early).track actor).fetched
       of None sim = refl
-      of (Some one) sim = ap (λ (d : Doing). d.fetched) (happens_other guest.shape good.shape (followed_in guest number early).ideal other one.event one.found (followed_in guest number early).track actor next.at.related.shape_is sim.can (λ e. differ (sym e)))
+      of (Some one) sim = ap (λ (d : Doing). d.fetched) (happens_other guest.shape good.sound.shape (followed_in guest number early).ideal other one.event one.found (followed_in guest number early).track actor next.at.related.shape_is sim.can (λ e. differ (sym e)))
 
       fetched : (doing_of (fold follows (followed_in guest number early) (ideal_moments guest.shape (seat_at (end_of_moments guest.shape (opening guest number) early) other) other (makes made))).track actor).fetched ≡ (doing_of (followed_in guest number early).track actor).fetched
       fetched = of (stands_for guest.shape other (seat_at (end_of_moments guest.shape (opening guest number) early) other).local (seat_at (end_of_moments guest.shape (opening guest number) early) other).own made.step made.found)
-          (simulated guest.shape good.shape (end_of_moments guest.shape (opening guest number) early) (followed_in guest number early) _ other made next.at next.acts)
+          (simulated guest.shape good.sound.shape (end_of_moments guest.shape (opening guest number) early) (followed_in guest number early) _ other made next.at next.acts)
 
   -- Its own moments.
 
@@ -236,14 +236,14 @@ module _ (guest : GuestSpec) (number : ℕ) (good : IsGoodGuest guest) (actor : 
 
     sim : IsSimulatedAs guest.shape (after_moment guest.shape (end_of_moments guest.shape (opening guest number) early) (record { actor = actor; act = makes made })) (followed_in guest number early).ideal actor
         (stands_for guest.shape actor (seat_at (end_of_moments guest.shape (opening guest number) early) actor).local (seat_at (end_of_moments guest.shape (opening guest number) early) actor).own made.step made.found)
-    sim = simulated guest.shape good.shape (end_of_moments guest.shape (opening guest number) early) (followed_in guest number early) _ actor made next.at next.acts
+    sim = simulated guest.shape good.sound.shape (end_of_moments guest.shape (opening guest number) early) (followed_in guest number early) _ actor made next.at next.acts
 
     abbrev Now : Option Happened → Bool
     Now o = (doing_of (fold follows (followed_in guest number early) (event_moments actor o)).track actor).fetched
 
     now_is : (one : Happened) → IsSimulatedAs guest.shape (after_moment guest.shape (end_of_moments guest.shape (opening guest number) early) (record { actor = actor; act = makes made })) (followed_in guest number early).ideal actor (Some one)
         → (doing_of (fold follows (followed_in guest number early) (event_moments actor (Some one))).track actor).fetched ≡ (after_doing (followed_in guest number early).ideal actor one.event (doing_of (followed_in guest number early).track actor)).fetched
-    now_is one is = ap (λ (d : Doing). d.fetched) (happens_here guest.shape good.shape (followed_in guest number early).ideal actor one.event one.found (followed_in guest number early).track next.at.related.shape_is is.can (subst (λ n. actor < n) (sym next.at.doings_each) there))
+    now_is one is = ap (λ (d : Doing). d.fetched) (happens_here guest.shape good.sound.shape (followed_in guest number early).ideal actor one.event one.found (followed_in guest number early).track next.at.related.shape_is is.can (subst (λ n. actor < n) (sym next.at.doings_each) there))
 
     keeps : is_done made.step ≡ false → (doing_of (followed_in guest number early).track actor).fetched ≡ true
         → (doing_of (fold follows (followed_in guest number early) (event_moments actor (stands_for guest.shape actor (seat_at (end_of_moments guest.shape (opening guest number) early) actor).local (seat_at (end_of_moments guest.shape (opening guest number) early) actor).own made.step made.found))).track actor).fetched ≡ true
@@ -347,7 +347,7 @@ module _ (guest : GuestSpec) (number : ℕ) (good : IsGoodGuest guest) (actor : 
     own_made : IsKept (after_moment guest.shape (end_of_moments guest.shape (opening guest number) early) (record { actor = actor; act = makes made })) (fold follows (followed_in guest number early) (ideal_moments guest.shape (seat_at (end_of_moments guest.shape (opening guest number) early) actor) actor (makes made)))
         (progressed guest.shape actor (progress_in guest number early actor) (makes made))
     own_made = record {
-      reads = own_reading guest.shape good.shape (end_of_moments guest.shape (opening guest number) early) actor made next.at.sound next.acts.run.0 (doing_of (followed_in guest number early).track actor).fetched _ keeps looks kept.reads;
+      reads = own_reading guest.shape good.sound.shape (end_of_moments guest.shape (opening guest number) early) actor made next.at.sound next.acts.run.0 (doing_of (followed_in guest number early).track actor).fetched _ keeps looks kept.reads;
       wants = own_wants_next;
     }
 

@@ -3,8 +3,8 @@ use Rattle.std.proofs.Common.{◌≡◌, ℕ, ◌<◌, ◌&&◌, inl, inr, Bool,
 use Rattle.std.proofs.lemmas.Bool.{and_parts}
 use Rattle.std.proofs.lemmas.List.{append_assoc}
 use Rattle.law_serial_is_eager.specs.Words.{IccReg, Key, has_interrupt}
-use Rattle.law_serial_is_eager.specs.Calls.{Event, Cpu, Happens, Happened, GuestSpec, IsGoodGuest}
-use Rattle.law_serial_is_eager.specs.Histories.{Ideal, Track, comes_first, is_fresh_at_end, is_fresh_at_interface, is_kept, of_event}
+use Rattle.law_serial_is_eager.specs.Calls.{Event, Cpu, Happens, Happened}
+use Rattle.law_serial_is_eager.specs.Histories.{Ideal, Track, comes_first, is_fresh_at_end, is_fresh_at_interface, is_kept, of_event, IdealGuest, CanOpen}
 use Rattle.law_serial_is_eager.specs.Core.{Made, Poll, vcpu_of, opening, seat_at, stands_for, end_of_moments, event_moments, ideal_of, Act, begins, makes, ends, CoreMoment, progress_in, IsProperRun}
 use Rattle.law_serial_is_eager.specs.LawRegistersStand.Followed.{Followed}
 use Rattle.law_serial_is_eager.specs.LawScansMissNone.Excuse.{IsExcused, followed_in}
@@ -30,7 +30,7 @@ use Rattle.law_runs_are_fresh.proofs.FreshRuns.{quiet_fresh}
 
 -- A clause of each access, in a run in which accesses come first.
 
-module _ (guest : GuestSpec) (number : ℕ) (good : IsGoodGuest guest) (clause : Ideal → Track → Event → Bool) (quiet : (at : Followed) (event : Event) → is_access event ≡ false → IsTrue (clause at.ideal at.track event))
+module _ (guest : IdealGuest) (number : ℕ) (good : CanOpen guest) (clause : Ideal → Track → Event → Bool) (quiet : (at : Followed) (event : Event) → is_access event ≡ false → IsTrue (clause at.ideal at.track event))
     (access :
     (early : List CoreMoment) (actor : ℕ) (made : Made) (reg : IccReg) (write : Option ℕ) → IsNextOf guest number early actor (makes made) → made.step ≡ Poll (Some reg) write → (vcpu_of made.found).kick ≡ false
     → (IsTrue (owes_kick actor (seat_at (end_of_moments guest.shape (opening guest number) early) actor).local) → ⊥) → IsTrue (clause (followed_in guest number early).ideal (followed_in guest number early).track (Cpu actor reg write))) where
@@ -80,7 +80,7 @@ module _ (guest : GuestSpec) (number : ℕ) (good : IsGoodGuest guest) (clause :
 -- The first interrupt.
 
 acknowledged_so :
-    (guest : GuestSpec) (number : ℕ) → IsGoodGuest guest → (early late : List CoreMoment) (vcpu : ℕ) (made : Made) (key : Key) → IsProperRun guest number (early ++ (record { actor = vcpu; act = makes made }) ∷ late) → Asks guest vcpu made → IsTrue (has_interrupt guest.shape key)
+    (guest : IdealGuest) (number : ℕ) → CanOpen guest → (early late : List CoreMoment) (vcpu : ℕ) (made : Made) (key : Key) → IsProperRun guest number (early ++ (record { actor = vcpu; act = makes made }) ∷ late) → Asks guest vcpu made → IsTrue (has_interrupt guest.shape key)
     → (IsExcused guest.shape (end_of_moments guest.shape (opening guest number) early) (followed_in guest number early).track vcpu key → ⊥) → (IsWantedBy guest.shape (progress_in guest number early) key → ⊥)
     → comes_first (followed_in guest number early).ideal vcpu key ≡ false
 acknowledged_so guest number good early late vcpu made key proper asks there told unwanted = of (record_in guest.shape (end_of_moments guest.shape (opening guest number) early) key).want refl

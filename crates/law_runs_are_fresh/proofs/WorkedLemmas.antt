@@ -2,16 +2,17 @@
 use Rattle.std.proofs.Common.{◌≡◌, ◌≢◌, ℕ, ◌<◌, Bool, true, false, IsTrue, All, [], take, nat_lt, slice_index_or, zero, suc, Some, None, refl, arith}
 use Rattle.std.proofs.lemmas.List.Elements.{All-nil, All-cons}
 use Rattle.std.proofs.lemmas.List.Sums.{AllPass-from_list_all}
+use Rattle.law_serial_is_eager.proofs.PortCore.IdealGuests.CanOpenLemmas.{openings_can_open}
 use Rattle.law_serial_is_eager.specs.Words.{Iar1, G1}
-use Rattle.law_serial_is_eager.specs.Calls.{Cpu, Touch as TouchEvent, Record, View, IsGoodGuest, IsGoodPreset}
+use Rattle.law_serial_is_eager.specs.Calls.{Cpu, Touch as TouchEvent, Record, View, IsGoodPreset}
 use Rattle.law_serial_is_eager.specs.GicCall.declared.event.Event.TheVariants.{Raise as RaiseEvent}
 use Rattle.law_serial_is_eager.specs.GicCall.declared.event.Found.TheVariants.{Nothing, Answer}
-use Rattle.law_serial_is_eager.specs.Histories.{last_of, opening_course, view_at, IsFresh, comes_first, is_last_open}
+use Rattle.law_serial_is_eager.specs.Histories.{last_of, opening_course, view_at, IsFresh, comes_first, is_last_open, CanOpen}
 use Rattle.law_serial_is_eager.specs.GicHistory.State.{opening as opening_ideal}
 use Rattle.law_serial_is_eager.proofs.GicHistory.CallLemmas.{call_ended, hands_one}
 use Rattle.law_serial_is_eager.specs.Registers.{least_in, with_level, without_level}
 use Rattle.law_serial_is_eager.specs.Lists.{in_places}
-use Rattle.law_serial_is_eager.specs.Core.{AtIrq, actor_count, opening, IsRun, ideal_of, CoreMoment, own_acts, entries_of, are_parts, opening_progress, progress_in, IsProper, IsProperRun, spi, worked_guest, worked_run, clear_guest, clears, found_pending}
+use Rattle.law_serial_is_eager.specs.Core.{AtIrq, actor_count, opening, IsRun, ideal_of, CoreMoment, own_acts, entries_of, are_parts, opening_progress, progress_in, IsProper, IsProperRun, spi, worked_guest, worked_run, clear_guest, clear_spec, clears, found_pending}
 use Rattle.law_serial_is_eager.proofs.CoreProper.WorkedLemmas.{are_proper, acts_are_proper, is_below, worked_is_proper}
 use Rattle.law_serial_is_eager.specs.LawCoreIsHistory.Laws.{AreCalls}
 use Rattle.law_serial_is_eager.specs.LawCoreIsHistory.Whole.{AreEnded}
@@ -95,11 +96,13 @@ awaiting_calls : AreCalls clear_guest.shape (opening clear_guest 0) (opening_cou
 unfolding least_in with_level without_level in_places
 awaiting_calls = (tt, (tt, (tt, (tt, (call_ended clear_guest.shape 2 _ None refl (λ id. refl) (record { view = opened; maps = refl; made = record { events_are = refl; found = hands_one opened (RaiseEvent spi) Nothing refl; reads = All-nil _ }; answers = refl }), (tt, (tt, (tt, (tt, (tt, (call_ended clear_guest.shape 0 _ None refl (λ id. refl) (refl, refl), (tt, (tt, (tt, (tt, (tt, (tt, (tt, (tt, (call_ended clear_guest.shape 0 _ None refl (λ id. refl) (refl, refl), (tt, (tt, (tt, (tt, (tt, (call_ended clear_guest.shape 0 _ None refl (λ id. refl) (refl, refl), (tt, (tt, (call_ended clear_guest.shape 0 _ (Some 1023) refl (λ id. refl) (record { view = opened; made = record { events_are = refl; found = hands_one opened (Cpu 0 Iar1 None) (Answer (Some 1023)) ((Some 1023), refl); reads = All-nil _ }; answers = (0, omega arith, refl) }), (tt, (tt, (tt, (tt, (call_ended clear_guest.shape 1 _ None refl (λ id. refl) (record { view = found_view; targets = refl; made = record { events_are = refl; found = hands_one found_view (TouchEvent spi clears) (Record found_pending) refl; reads = All-nil _ }; answers = refl }), tt))))))))))))))))))))))))))))))))))
 
-awaiting_good : IsGoodGuest clear_guest
-awaiting_good = record {
-  shape = record { some_vcpu = omega arith; vcpus = omega arith; spis = omega arith; spi_blocks = refl; espis = omega arith; espi_blocks = refl; devices = omega arith; lpis = omega arith; ram = omega arith; ram_words = refl };
-  presets = All-cons (IsGoodPreset clear_guest.shape) _ [] (record { there = refl; addressed = refl; prio = omega arith; prio_bits = refl; group = omega arith; sgi_is_edge = refl }) (All-nil (IsGoodPreset clear_guest.shape));
-}
+awaiting_good : CanOpen clear_guest
+awaiting_good =
+    openings_can_open clear_spec
+    (record {
+      shape = record { some_vcpu = omega arith; vcpus = omega arith; spis = omega arith; spi_blocks = refl; espis = omega arith; espi_blocks = refl; devices = omega arith; lpis = omega arith; ram = omega arith; ram_words = refl };
+      presets = All-cons (IsGoodPreset clear_spec.shape) _ [] (record { there = refl; addressed = refl; prio = omega arith; prio_bits = refl; group = omega arith; sgi_is_edge = refl }) (All-nil (IsGoodPreset clear_spec.shape));
+    })
 
 awaiting_ended : AreEnded clear_guest.shape awaiting_run
 awaiting_ended zero there = refl

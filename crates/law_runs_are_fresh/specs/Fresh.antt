@@ -1,7 +1,6 @@
 -- Runs of the core are fresh (own choice).
 use Rattle.std.specs.Prelude.{ℕ, List}
-use Rattle.law_serial_is_eager.specs.Histories.{opening_course, IsFresh}
-use Rattle.law_serial_is_eager.specs.Calls.{GuestSpec, IsGoodGuest}
+use Rattle.law_serial_is_eager.specs.Histories.{opening_course, IsFresh, IdealGuest, CanOpen}
 use Rattle.law_serial_is_eager.specs.Core.{opening, ideal_of, CoreMoment, IsProperRun}
 use Rattle.law_serial_is_eager.specs.LawCoreIsHistory.Laws.{AreCalls}
 use Rattle.law_serial_is_eager.specs.LawCoreIsHistory.Whole.{AreEnded}
@@ -9,5 +8,5 @@ use Rattle.law_serial_is_eager.specs.LawCoreIsHistory.Whole.{AreEnded}
 -- every proper run whose parts are whole calls is fresh, in whatever order the steps of its actors come
 abbrev pub RunsAreFresh : Type 0
 RunsAreFresh =
-    (guest : GuestSpec) (number : ℕ) (moments : List CoreMoment) → IsGoodGuest guest → IsProperRun guest number moments → AreCalls guest.shape (opening guest number) (opening_course guest) moments → AreEnded guest.shape moments
+    (guest : IdealGuest) (number : ℕ) (moments : List CoreMoment) → CanOpen guest → IsProperRun guest number moments → AreCalls guest.shape (opening guest number) (opening_course guest) moments → AreEnded guest.shape moments
     → IsFresh guest (ideal_of guest.shape (opening guest number) moments)

@@ -2,11 +2,11 @@
 -- by itself, is still to be cleared. And the read of the worked run in which nobody else is in a part.
 use Rattle.std.specs.Prelude.{◌≡◌, ◌^◌, true, false, List, [], ◌∷◌, ◌++◌, take, drop, Some, None}
 use Rattle.law_serial_is_eager.specs.Words.{Iar1, Message, Dist, Mem}
-use Rattle.law_serial_is_eager.specs.Calls.{Reach, Leave, Cpu, Touch as TouchEvent, Record, Moment, Begin, Happens, Operation, Access, Device, Residence, IsGoodGuest}
+use Rattle.law_serial_is_eager.specs.Calls.{Reach, Leave, Cpu, Touch as TouchEvent, Record, Moment, Begin, Happens, Operation, Access, Device, Residence}
 use Rattle.law_serial_is_eager.specs.GicCall.declared.event.Event.TheVariants.{Raise as RaiseEvent}
 use Rattle.law_serial_is_eager.specs.GicCall.declared.event.Found.TheVariants.{Nothing, Answer}
 use Rattle.law_serial_is_eager.specs.GicCall.declared.event.Moment.TheVariants.{End}
-use Rattle.law_serial_is_eager.specs.Histories.{IsFresh, comes_first, is_awaited, is_last_open, opening_course}
+use Rattle.law_serial_is_eager.specs.Histories.{IsFresh, comes_first, is_awaited, is_last_open, opening_course, CanOpen}
 use Rattle.law_serial_is_eager.specs.Core.{Made, Look, Raise, Claim, GiveBack, Release, Poll, Kick, Touch, Want, Mark, TakeIndex, Irq, opening, ideal_of, begins, makes, ends, CoreMoment, IsProperRun, worked_guest, worked_run, spi, opened_word, pending_word, held_word, vcpu_does, made, reads_iar, clear_guest, clears, found_pending, wanted_word, given_wanted_word, free_wanted_word, other_does, third_does}
 use Rattle.law_serial_is_eager.specs.LawCoreIsHistory.Laws.{AreCalls}
 use Rattle.law_serial_is_eager.specs.LawCoreIsHistory.Whole.{AreEnded}
@@ -92,7 +92,7 @@ awaiting_history = early_history ++ Happens 0 (Cpu 0 Iar1 None) (Answer (Some 10
 
 -- it meets what the law asks, and as vCPU 0 reads, the SPI comes first, was not changed last in a call that is open, and is awaited
 pub record ATouchIsAwaited : Type 0 where
-  pub good : IsGoodGuest clear_guest
+  pub good : CanOpen clear_guest
   pub proper : IsProperRun clear_guest 0 awaiting_run
   pub calls : AreCalls clear_guest.shape (opening clear_guest 0) (opening_course clear_guest) awaiting_run
   pub ended : AreEnded clear_guest.shape awaiting_run
@@ -107,7 +107,7 @@ abbrev pub read_made : Made
 read_made = record { step = Poll (Some Iar1) None; found = 0; left = 0; tables = None }
 
 pub record AReadIsAlone : Type 0 where
-  pub good : IsGoodGuest worked_guest
+  pub good : CanOpen worked_guest
   pub same : take 17 worked_run ++ (record { actor = 0; act = makes read_made }) ∷ drop 18 worked_run ≡ worked_run
   pub proper : IsProperRun worked_guest 0 worked_run
   pub calls : AreCalls worked_guest.shape (opening worked_guest 0) (opening_course worked_guest) worked_run

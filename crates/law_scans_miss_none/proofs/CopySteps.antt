@@ -2,9 +2,8 @@
 use Rattle.std.proofs.Common.{◌≡◌, ◌≢◌, ℕ, ◌<◌, ◌==◌, ◌&&◌, inl, inr, true≢false, true, false, map, Option, Some, None, if◌then◌else◌, refl, sym, ap, ◌∙◌, subst}
 use Rattle.std.proofs.lemmas.Bool.{lt-ltb}
 use Rattle.law_registers_stand.specs.Words.{IccReg, GuestShape, IsShape}
-use Rattle.law_registers_stand.specs.Histories.{Ideal}
+use Rattle.law_registers_stand.specs.Histories.{Ideal, IdealGuest, CanOpen, cpu_at}
 use Rattle.law_registers_stand.specs.Registers.{CpuRec, Maps}
-use Rattle.law_registers_stand.specs.Calls.{GuestSpec, IsGoodGuest}
 use Rattle.law_registers_stand.specs.Core.{Local, Folding, CoreStep, Look, Poll, Kick, EnableLpis, Vcpu, local_after, accessed, shown, vcpu_of, CoreState, opening, seat_at, word_in, word_of, after_moment, Act, begins, makes, ends, Progress, opening_progress, progressed}
 use Rattle.law_registers_stand.proofs.PortCore.OpeningLemmas.{word_opens}
 use Rattle.law_registers_stand.specs.LawCoreIsHistory.Related.{is_folding}
@@ -90,10 +89,10 @@ module _ (shape : GuestShape) (good : IsShape shape) (vcpu : ℕ) (within : vcpu
           is : IsStep shape state at.ideal vcpu made.step made.found made.left made.tables
           is = is_step shape good state at progress vcpu made here acts
 
-opens : (guest : GuestSpec) (number vcpu : ℕ) → IsGoodGuest guest → vcpu < guest.shape.vcpus → Copied guest.shape vcpu (opening guest number) (opening_followed guest) (opening_progress guest number vcpu)
+opens : (guest : IdealGuest) (number vcpu : ℕ) → CanOpen guest → vcpu < guest.shape.vcpus → Copied guest.shape vcpu (opening guest number) (opening_followed guest) (opening_progress guest number vcpu)
 opens guest number vcpu good within free phase =
-    sym (ap (λ n. (vcpu_of n).lpis) (word_opens guest number (Vcpu vcpu) good (lt-ltb vcpu guest.shape.vcpus within)))
+    sym (lpis_back (record { lpis = (cpu_at guest vcpu).lpis; kick = false })) ∙ sym (ap (λ n. (vcpu_of n).lpis) (word_opens guest number (Vcpu vcpu) good (lt-ltb vcpu guest.shape.vcpus within)))
 
 pub copies_are_current : CopiesAreCurrent
 copies_are_current guest number moments vcpu good proper within free phase =
-    (runs_keep guest number vcpu (Copied guest.shape vcpu) good (kept guest.shape good.shape vcpu within) (opens guest number vcpu good within) moments proper).keeps free phase
+    (runs_keep guest number vcpu (Copied guest.shape vcpu) good (kept guest.shape good.sound.shape vcpu within) (opens guest number vcpu good within) moments proper).keeps free phase

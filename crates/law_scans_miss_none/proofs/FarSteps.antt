@@ -9,7 +9,7 @@ use Rattle.law_registers_stand.proofs.GicBase.KeyLemmas.{same_key}
 use Rattle.law_registers_stand.specs.Calls.{Operation, Access}
 use Rattle.law_registers_stand.specs.Histories.{Track, Ideal}
 use Rattle.law_registers_stand.specs.Registers.{Maps}
-use Rattle.law_registers_stand.specs.Core.{AtIrq, Local, Made, CoreStep, Look, Claim, Release, Poll, Kick, Irq, succeeds, vcpu_of, CoreState, seat_at, word_in, word_of, after_moment, Act, begins, makes, ends, Progress, after_claim, after_poll, begun, ended_by, is_end_of, progressed, IsProperStep, is_empty, Scan, idle, claiming, is_idle, scan_allows}
+use Rattle.law_registers_stand.specs.Core.{AtIrq, Local, Made, CoreStep, Look, Claim, Release, Poll, Kick, Irq, succeeds, vcpu_of, CoreState, seat_at, word_in, word_of, after_moment, Act, begins, makes, ends, Progress, after_claim, after_poll, begun, ended_by, is_end_of, progressed, IsProperStep, is_empty, Scan, idle, claiming, is_idle, scan_allows, concerns}
 use Rattle.law_registers_stand.specs.CoreProper.Progress.{changed_by}
 use Rattle.law_registers_stand.specs.LawCoreIsHistory.Related.{is_folding}
 use Rattle.law_registers_stand.proofs.LawCoreIsHistory.StandingLemmas.{passes, not_given}
@@ -17,7 +17,7 @@ use Rattle.law_registers_stand.proofs.LawCoreIsHistory.StepContext.{IsStep}
 use Rattle.law_scans_miss_none.specs.Excuse.{IsExcused}
 use Rattle.law_registers_stand.specs.Followed.{Followed}
 use Rattle.law_scans_miss_none.specs.Far.{HasLookedFar, FarEndsAreKnown}
-use Rattle.law_scans_miss_none.specs.Index.{concerns, waits_for}
+use Rattle.law_scans_miss_none.specs.Index.{waits_for}
 use Rattle.law_scans_miss_none.specs.Waiting.{record_in}
 use Rattle.law_registers_stand.proofs.LawCoreIsHistory.AfterLemmas.{later, word_cases, left_in}
 use Rattle.law_scans_miss_none.proofs.CalmSteps.{IsCalm, OwnCalm, scans, accesses, goes_on, kick_failed, no_poll_by, own_calm}
@@ -209,7 +209,7 @@ module _ (shape : GuestShape) (good : IsShape shape) (vcpu : ℕ) (within : vcpu
 
 pub far_ends_are_known : FarEndsAreKnown
 far_ends_are_known guest number moments vcpu key good proper within far home active =
-    (runs_keep guest number vcpu (Known guest.shape vcpu) good (kept guest.shape good.shape vcpu within) (λ key far home active. absurd (none_far far.inactive)) moments proper).keeps key far home active
+    (runs_keep guest number vcpu (Known guest.shape vcpu) good (kept guest.shape good.sound.shape vcpu within) (λ key far home active. absurd (none_far far.inactive)) moments proper).keeps key far home active
   where
     none_far : None ≡ Some false → ⊥
     none_far e = absurd (cc)

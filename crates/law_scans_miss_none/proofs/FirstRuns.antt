@@ -4,10 +4,9 @@ use Rattle.std.specs.Option.{option_map_or}
 use Rattle.std.proofs.lemmas.Bool.{and_parts, lt-ltb, leb-true}
 use Rattle.std.proofs.lemmas.List.Folds.{Any-from_list_any}
 use Rattle.law_registers_stand.specs.Words.{Key, GuestShape, Irq as IrqRecord}
-use Rattle.law_registers_stand.specs.Histories.{Track}
+use Rattle.law_registers_stand.specs.Histories.{Track, IdealGuest, CanOpen}
 use Rattle.law_registers_stand.specs.Lists.{listed_of, is_pending, is_pending_state, LrState, Pending, state_has_pending, state_has_active, unpacked}
 use Rattle.law_registers_stand.specs.Registers.{first_of, is_before, is_deliverable, candidates_at}
-use Rattle.law_registers_stand.specs.Calls.{GuestSpec, IsGoodGuest}
 use Rattle.law_registers_stand.specs.Core.{Local, Made, actor_count, local_after, interface_of, is_ready, CoreState, opening, seat_at, after, IsLocal, after_moment, end_of_moments, IsSeatOf, Act, begins, makes, ends, CoreMoment, entry_by, has_registers, Progress, opening_progress, is_paid, progressed, progress_in, stepped, IsProperStep, IsProperRun, RegistersAgree, Scan, idle, taking, looking, claiming}
 use Rattle.law_registers_stand.proofs.PortCore.StepLemmas.{steps_sound}
 use Rattle.law_registers_stand.proofs.CoreProper.ScanLemmas.{failed_on, debt_on}
@@ -61,7 +60,7 @@ leaves_due shape state later_state track later_track vcpu p q scan local regs tr
     of (looking purpose from offers) h = tt
     of (claiming claims takes) h = bounds h
 
-module _ (guest : GuestSpec) (number vcpu : ℕ) (good : IsGoodGuest guest) (within : vcpu < guest.shape.vcpus) where
+module _ (guest : IdealGuest) (number vcpu : ℕ) (good : CanOpen guest) (within : vcpu < guest.shape.vcpus) where
   abbrev shape : GuestShape
   shape = guest.shape
 
@@ -95,9 +94,9 @@ module _ (guest : GuestSpec) (number vcpu : ℕ) (good : IsGoodGuest guest) (wit
       → Kept shape vcpu (after shape (StateOf early) (entry_by actor made)) (follow shape (StateOf early) (followed_in guest number early) (record { actor = actor; act = makes made })) p
   others early actor made apart next p kept =
       let at = followed_in guest number early in
-      let is = is_step shape good.shape (StateOf early) at (ProgressOf early) actor made next.at next.acts in
+      let is = is_step shape good.sound.shape (StateOf early) at (ProgressOf early) actor made next.at next.acts in
       let later_track = (follow shape (StateOf early) at (record { actor = actor; act = makes made })).track in
-      let lasted = lasts shape good.shape (StateOf early) at (ProgressOf early) actor made next.at next.acts in
+      let lasted = lasts shape good.sound.shape (StateOf early) at (ProgressOf early) actor made next.at next.acts in
       let none = no_poll_by vcpu actor made.step apart in
       record {
         began = kept.began;
@@ -119,7 +118,7 @@ module _ (guest : GuestSpec) (number vcpu : ℕ) (good : IsGoodGuest guest) (wit
     p_is = progress_is shape early (opening_progress guest number) vcpu
 
     abbrev is : IsStep shape (StateOf early) (followed_in guest number early).ideal vcpu made.step made.found made.left made.tables
-    is = is_step shape good.shape (StateOf early) (followed_in guest number early) (ProgressOf early) vcpu made next.at next.acts
+    is = is_step shape good.sound.shape (StateOf early) (followed_in guest number early) (ProgressOf early) vcpu made next.at next.acts
 
     seat : IsSeatOf p (seat_at (StateOf early) vcpu)
     seat = subst (λ r. IsSeatOf r (seat_at (StateOf early) vcpu)) p_is (next.at.seats vcpu next.acts.there)
@@ -161,12 +160,12 @@ module _ (guest : GuestSpec) (number vcpu : ℕ) (good : IsGoodGuest guest) (wit
     leaves_so : LeavesIf shape (later is) (follow shape (StateOf early) (followed_in guest number early) (record { actor = vcpu; act = makes made })).track vcpu (stepped shape vcpu made p)
     leaves_so free failed owed asked =
         let later_track = (follow shape (StateOf early) (followed_in guest number early) (record { actor = vcpu; act = makes made })).track in
-        let lasted = lasts shape good.shape (StateOf early) (followed_in guest number early) (ProgressOf early) vcpu made next.at next.acts in
+        let lasted = lasts shape good.sound.shape (StateOf early) (followed_in guest number early) (ProgressOf early) vcpu made next.at next.acts in
         let none : q.failed ≡ false = sym (failed_on shape vcpu q) ∙ failed in
         let settled : IsTrue (is_paid q.debt) = subst (λ d. IsTrue (is_paid d)) (debt_on shape vcpu q) owed in
         let lrs = lrs_made shape vcpu made p in
         let covers : Covers shape (later is) later_track vcpu q q.scan = leaves within (followed_in guest number early).track later_track next.at.told p seat made.step is lasted proper (λ f n. scans_overlook_none guest number early vcpu good next.before within f n) free none in
-        leaves_on shape good.shape (later is) later_track vcpu q (subst (λ n. 1 ≤ n) (sym lrs) few_some.0) (subst (λ n. n ≤ 16) (sym lrs) few_some.1) settled after_stands after_asks began covers
+        leaves_on shape good.sound.shape (later is) later_track vcpu q (subst (λ n. 1 ≤ n) (sym lrs) few_some.0) (subst (λ n. n ≤ 16) (sym lrs) few_some.1) settled after_stands after_asks began covers
         (λ scanned. made_leaves within (followed_in guest number early).track later_track p seat stands asks kept.leaves made.step is proper lasted after_local after_stands free none settled scanned) asked
 
     mine : Kept shape vcpu (after shape (StateOf early) (entry_by vcpu made)) (follow shape (StateOf early) (followed_in guest number early) (record { actor = vcpu; act = makes made })) (stepped shape vcpu made p)
@@ -224,9 +223,9 @@ module _ (guest : GuestSpec) (number vcpu : ℕ) (good : IsGoodGuest guest) (wit
         → IsTrue (is_deliverable key (record_in shape (StateOf moments) key) vcpu (progress_in guest number moments vcpu).local.cpu shape)
         → option_map_or (is_before (as_candidate key (record_in shape (StateOf moments) key))) (first_of (candidates_at (interface_of (progress_in guest number moments vcpu).local))) true ≡ false
     comes key due deliverable = elim (bounds.left key due deliverable) [
-      | inl listed ↦ absurd (unlisted shape (StateOf moments) (followed_in guest number moments).track vcpu r.local r.regs good.shape at_end.sound there seat.local agrees key due listed)
+      | inl listed ↦ absurd (unlisted shape (StateOf moments) (followed_in guest number moments).track vcpu r.local r.regs good.sound.shape at_end.sound there seat.local agrees key due listed)
       | inr later ↦
-          first_later shape vcpu r.local r.regs r.trapping key (record_in shape (StateOf moments) key) good.shape (subst (IsLocal shape vcpu) (sym seat.local) (at_end.sound.locals vcpu there)) agrees bounds.groups
+          first_later shape vcpu r.local r.regs r.trapping key (record_in shape (StateOf moments) key) good.sound.shape (subst (IsLocal shape vcpu) (sym seat.local) (at_end.sound.locals vcpu there)) agrees bounds.groups
           (more_pending r.trapping refl key (record_in shape (StateOf moments) key) later) later
     ]
       where

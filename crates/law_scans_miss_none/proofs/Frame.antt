@@ -6,12 +6,12 @@ use Rattle.std.proofs.lemmas.List.{length-set, length-replicate, get_or-replicat
 use Rattle.std.proofs.lemmas.List.Elements.{All-head, All-tail}
 use Rattle.std.proofs.lemmas.List.Sums.{fold-append}
 use Rattle.law_registers_stand.specs.Words.{Key, GuestShape, has_interrupt, interrupt_count, is_same_key, place_of, IsShape, has_bit}
-use Rattle.law_registers_stand.specs.Calls.{Event, Reach, Take, Cpu, Put, Operation, Happened, GuestSpec, IsGoodGuest, plain_at}
+use Rattle.law_registers_stand.specs.Calls.{Event, Reach, Take, Cpu, Put, Operation, Happened, plain_at}
 use Rattle.law_registers_stand.specs.GicCall.declared.event.Event.TheVariants.{Read, Queue as QueueEvent}
 use Rattle.law_registers_stand.specs.GicCall.declared.event.Found.TheVariants.{Answer, Word as FoundWord}
 use Rattle.law_registers_stand.specs.GicCall.declared.event.Place.TheVariants.{Word}
 use Rattle.law_registers_stand.specs.Registers.{interface_answer}
-use Rattle.law_registers_stand.specs.Histories.{Turn, Doing, Changes, opening_track, changed_by, doing_of, changes_of, with_doing}
+use Rattle.law_registers_stand.specs.Histories.{Turn, Doing, Changes, opening_track, changed_by, doing_of, changes_of, with_doing, IdealGuest, CanOpen}
 use Rattle.law_registers_stand.specs.Core.{Local, Made, CoreStep, Look, Claim, Poll, RamLook, RamPut, CommandDone, actor_count, Irq, Meets, fault_place, succeeds, vcpu_of, interface_of, is_at, owes_no_kick, owes_no_mark, has_no_cand, CoreState, Seat, opening, seat_at, after, IsRun, IsSound, silent, event_done, after_moment, end_of_moments, event_moments, ideal_moments, ideal_of, IsSeatOf, Act, begins, makes, ends, CoreMoment, own_acts, entries_of, entry_by, are_parts, has_registers, Progress, opening_progress, progressed, progress_of, progress_in, stepped, IsProper, IsProperAct, IsProperRun, is_settled}
 use Rattle.law_registers_stand.proofs.PortCore.OpeningLemmas.{opens_sound, seat_opens}
 use Rattle.law_registers_stand.proofs.PortCore.StepLemmas.{steps_sound}
@@ -480,7 +480,7 @@ pub record IsKeptBy (shape : GuestShape) (vcpu : ℕ) (Keeps : CoreState → Fol
       (state : CoreState) (at : Followed) (progress : ℕ → Progress) (act : Act) → IsAt shape state at progress → IsActing shape state progress vcpu act → Keeps state at (progress vcpu)
       → Keeps (after_moment shape state (record { actor = vcpu; act = act })) (follow shape state at (record { actor = vcpu; act = act })) (progressed shape vcpu (progress vcpu) act)
 
-pub record IsKept (guest : GuestSpec) (number : ℕ) (moments : List CoreMoment) (vcpu : ℕ) (Keeps : CoreState → Followed → Progress → Type 0) : Type 0 where
+pub record IsKept (guest : IdealGuest) (number : ℕ) (moments : List CoreMoment) (vcpu : ℕ) (Keeps : CoreState → Followed → Progress → Type 0) : Type 0 where
   pub at : IsAt guest.shape (end_of_moments guest.shape (opening guest number) moments) (followed_in guest number moments) (progress_on guest.shape (opening_progress guest number) moments)
   pub keeps : Keeps (end_of_moments guest.shape (opening guest number) moments) (followed_in guest number moments) (progress_in guest number moments vcpu)
 
@@ -518,7 +518,7 @@ module _ (shape : GuestShape) (good : IsShape shape) (vcpu : ℕ) (Keeps : CoreS
         keeps = subst (λ f. Keeps (end_of_moments shape later moments) f (progress_on shape (moved_on shape progress moment) moments vcpu)) joined rest.keeps;
       }
 
-pub at_opens : (guest : GuestSpec) (number : ℕ) → IsGoodGuest guest → IsAt guest.shape (opening guest number) (opening_followed guest) (opening_progress guest number)
+pub at_opens : (guest : IdealGuest) (number : ℕ) → CanOpen guest → IsAt guest.shape (opening guest number) (opening_followed guest) (opening_progress guest number)
 at_opens guest number good = record {
   sound = opens_sound guest number good;
   known = known_opens guest number good;
@@ -534,10 +534,10 @@ at_opens guest number good = record {
 
 -- every proper run
 pub runs_keep :
-    (guest : GuestSpec) (number vcpu : ℕ) (Keeps : CoreState → Followed → Progress → Type 0) → IsGoodGuest guest → IsKeptBy guest.shape vcpu Keeps → Keeps (opening guest number) (opening_followed guest) (opening_progress guest number vcpu)
+    (guest : IdealGuest) (number vcpu : ℕ) (Keeps : CoreState → Followed → Progress → Type 0) → CanOpen guest → IsKeptBy guest.shape vcpu Keeps → Keeps (opening guest number) (opening_followed guest) (opening_progress guest number vcpu)
     → (moments : List CoreMoment) → IsProperRun guest number moments → IsKept guest number moments vcpu Keeps
 runs_keep guest number vcpu Keeps good by opens moments proper =
-    let ended = goes guest.shape good.shape vcpu Keeps by moments (opening guest number) (opening_followed guest) (opening_progress guest number) (at_opens guest number good) opens
+    let ended = goes guest.shape good.sound.shape vcpu Keeps by moments (opening guest number) (opening_followed guest) (opening_progress guest number) (at_opens guest number good) opens
     (record { actors = proper.parted.actors; parts = proper.parted.parts; run = proper.parted.run; proper = proper.proper }) in
     record {
       at = ended.at_end;

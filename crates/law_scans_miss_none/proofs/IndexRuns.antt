@@ -1,19 +1,20 @@
 -- The candidate indices are complete at every moment of every run.
-use Rattle.std.proofs.Common.{◌≡◌, ℕ, zero, suc, map, fold, if◌then◌else◌, slice_index_or, slice_set, ◌&&◌, ◌||◌, inl, inr, Bool, true, false, IsTrue, List, [], ◌∷◌, Option, None, refl, ap, ◌∙◌, subst}
-use Rattle.law_registers_stand.specs.Words.{Key, GuestShape, has_interrupt, IsShape, Irq as IrqRecord, irq_of, interrupt_count, key_at, place_of, Private, is_number, is_ripe, is_pending, is_forwarded, target_in}
-use Rattle.law_registers_stand.specs.Calls.{irqs_of, irq_in, opening_irq, opening_irqs, with_preset, after_preset, Preset, GuestSpec, preset_key, IsGoodGuest}
-use Rattle.std.specs.List.{range_with_len}
-use Rattle.law_registers_stand.proofs.GicOpen.OpeningLemmas.{opening_valid}
-use Rattle.law_registers_stand.specs.Core.{Entry, Irq, CoreState, opening, word_in, after, IsRun, end_of, CoreStep}
-use Rattle.law_registers_stand.proofs.PortCore.OpeningLemmas.{word_opens}
-use Rattle.law_registers_stand.proofs.PortCore.StepWords.{packed_is}
-use Rattle.law_scans_miss_none.specs.Index.{concerns, IsTold, IsComplete, IndexIsComplete}
+use Rattle.std.proofs.Common.{◌≡◌, ℕ, ◌+◌, ◌*◌, ◌/◌, ◌%◌, nat_lt, inl, inr, IsTrue, List, [], ◌∷◌, Option, sym, subst, arith}
+use Rattle.std.proofs.lemmas.Bool.{and_from, lt-ltb}
+use Rattle.std.proofs.lemmas.Grind.{common_steps}
+use Rattle.law_registers_stand.specs.Words.{Key, GuestShape, has_bit, has_interrupt, is_of_vcpu, IsShape}
+use Rattle.law_registers_stand.specs.Core.{concerns, Entry, Irq, Index, has_word, index_bit, index_bits, index_words, is_asked, key_of_bit, CoreState, opening, word_in, after, IsRun, end_of, CoreStep}
+use Rattle.law_registers_stand.proofs.PortCore.IndexLemmas.{asked_indexed}
+use Rattle.law_registers_stand.proofs.PortCore.OpeningLemmas.{opens_sound, record_opens, word_opens}
+use Rattle.law_registers_stand.proofs.PortCore.StepLocals.{bit_there}
+use Rattle.law_scans_miss_none.specs.Index.{IsTold, IsComplete, IndexIsComplete}
 use Rattle.law_registers_stand.specs.Registers.{Maps}
 use Rattle.law_registers_stand.proofs.LawCoreIsHistory.StepContext.{IsStep}
 use Rattle.law_scans_miss_none.proofs.ToldLemmas.{Lasts, Told, AllTold}
-use Rattle.law_registers_stand.specs.Histories.{Ideal}
+use Rattle.law_registers_stand.specs.Histories.{irq_at, Ideal, IdealGuest, CanOpen}
 use Rattle.law_registers_stand.proofs.LawCoreIsHistory.ReachedRuns.{IsReached, reaches_next, reached_opens}
 use Rattle.law_scans_miss_none.proofs.IndexSteps.{keeps_complete}
+use Rattle.law_scans_miss_none.proofs.TellSteps.{concerns_own}
 
 -- Nothing is said of who changed an interrupt last.
 
@@ -38,78 +39,26 @@ run_complete shape state (entry ∷ entries) good at told run =
     run_complete shape (after shape state entry) entries good (reaches_next shape state entry good at run.0)
     (keeps_complete shape state at.ideal entry.actor entry.made.step entry.made.found entry.made.left entry.made.tables is (no_matter is) told) run.1
 
--- As a guest opens, no wire is up.
+-- As a guest opens, each interrupt that concerns a vCPU has its bit.
 
-AreDown : List IrqRecord → Type 0
-AreDown irqs = (i : ℕ) (d : IrqRecord) → d.line ≡ false → (slice_index_or irqs i d).line ≡ false
+key_back : (shape : GuestShape) (vcpu : ℕ) (key : Key) → IsShape shape → IsTrue (has_interrupt shape key) → IsTrue (is_of_vcpu vcpu key) → key_of_bit shape vcpu (index_bit shape key) ≡ key
+key_back shape vcpu key is there own = grind (arith, common_steps, is.vcpus, is.spis, is.espis, is.lpis)
 
-mapped_down : {T : Type 0} (f : T → IrqRecord) (xs : List T) → ((x : T) → (f x).line ≡ false) → AreDown (map f xs)
-unfolding AreDown
-mapped_down f [] down i d h = h
-mapped_down f (x ∷ xs) down zero d h = down x
-mapped_down f (x ∷ xs) down (suc i) d h = mapped_down f xs down i d h
-
-set_down : (irqs : List IrqRecord) (at : ℕ) (irq : IrqRecord) → irq.line ≡ false → AreDown irqs → AreDown (slice_set irqs at irq)
-unfolding AreDown
-set_down [] at irq down are i d h = h
-set_down (first ∷ rest) zero irq down are zero d h = down
-set_down (first ∷ rest) zero irq down are (suc i) d h = are (suc i) d h
-set_down (first ∷ rest) (suc at) irq down are zero d h = are zero d h
-set_down (first ∷ rest) (suc at) irq down are (suc i) d h = set_down rest at irq down (λ j e g. are (suc j) e g) i d h
-
-opening_down : (on : Bool) (key : Key) → (opening_irq on key).line ≡ false
-opening_down on (Private vcpu id) = refl
-opening_down on key = refl
-
-in_down : (shape : GuestShape) (irqs : List IrqRecord) (key : Key) → AreDown irqs → (irq_in shape irqs key).line ≡ false
-unfolding AreDown
-in_down shape irqs key are = of (has_interrupt shape key)
-  where
-    of : (b : Bool) → (if b then slice_index_or irqs (place_of shape key) (opening_irq false key) else opening_irq false key).line ≡ false
-    of true = are (place_of shape key) (opening_irq false key) (opening_down false key)
-    of false = opening_down false key
-
-preset_down : (shape : GuestShape) (irqs : List IrqRecord) (preset : Preset) → AreDown irqs → AreDown (after_preset shape irqs preset)
-preset_down shape irqs preset are = of (has_interrupt shape (preset_key preset))
-  where
-    irq : IrqRecord
-    irq = with_preset preset (irq_in shape irqs (preset_key preset))
-
-    of : (b : Bool) → AreDown (if b then slice_set irqs (place_of shape (preset_key preset)) irq else irqs)
-    of true = set_down irqs (place_of shape (preset_key preset)) irq (in_down shape irqs (preset_key preset) are) are
-    of false = are
-
-presets_down : (shape : GuestShape) (irqs : List IrqRecord) (presets : List Preset) → AreDown irqs → AreDown (fold (after_preset shape) irqs presets)
-presets_down shape irqs [] are = are
-presets_down shape irqs (preset ∷ presets) are = presets_down shape (after_preset shape irqs preset) presets (preset_down shape irqs preset are)
-
-opens_down : (guest : GuestSpec) (key : Key) → (irq_in guest.shape (irqs_of guest) key).line ≡ false
-opens_down guest key =
-    in_down guest.shape (irqs_of guest) key
-    (presets_down guest.shape (opening_irqs guest.on guest.shape) guest.presets (mapped_down (λ place. opening_irq guest.on (key_at guest.shape place)) (range_with_len 0 (interrupt_count guest.shape)) (λ place. opening_down guest.on (key_at guest.shape place))))
-
--- so none is pending, and none is active
-idle_concerns : (shape : GuestShape) (vcpu : ℕ) (irq : IrqRecord) → irq.line ≡ false → irq.rise ≡ false → irq.soft ≡ false → irq.act_by ≡ None → concerns shape vcpu irq ≡ false
-idle_concerns shape vcpu irq line rise soft active =
-    ap (λ o. is_ripe irq vcpu shape || is_number vcpu o) active ∙ ap (λ b. (b && irq.enabled && is_forwarded irq && is_number vcpu (target_in irq.route shape)) || false) pending
-  where
-    either : (b : Bool) → (if b then false else false) ≡ false
-    either true = refl
-    either false = refl
-
-    pending : is_pending irq ≡ false
-    pending = ap (λ s. (if irq.edge then irq.rise else irq.line) || s) soft ∙ ap (λ r. (if irq.edge then r else irq.line) || false) rise ∙ ap (λ l. (if irq.edge then false else l) || false) line ∙ ap (λ b. b || false) (either irq.edge)
-
-pub opens_told : (guest : GuestSpec) (number : ℕ) (last : ℕ → Key → Type 0) → IsGoodGuest guest → AllTold guest.shape (opening guest number) last
+pub opens_told : (guest : IdealGuest) (number : ℕ) (last : ℕ → Key → Type 0) → CanOpen guest → AllTold guest.shape (opening guest number) last
 opens_told guest number last good key vcpu there within home asks =
-    let valid = opening_valid guest key good there in
-    let irq = irq_in guest.shape (irqs_of guest) key in
-    let word : irq_of (word_in guest.shape (opening guest number) (Irq key)) ≡ irq = ap irq_of (word_opens guest number (Irq key) good there) ∙ packed_is irq valid.record_of.packable in
-    absurd (no_true (idle_concerns guest.shape vcpu irq (opens_down guest key) valid.no_rise valid.no_soft valid.inactive) (subst (λ i. IsTrue (concerns guest.shape vcpu i)) word asks))
-  where
-    no_true : {b : Bool} → b ≡ false → IsTrue b → ⊥
-    no_true {b} e h = cc
+    let shape = guest.shape in
+    let bit = index_bit shape key in
+    let few = bit_there shape key good.sound.shape there in
+    let own = concerns_own shape key vcpu (word_in shape (opening guest number) (Irq key)) there ((opens_sound guest number good).words (Irq key) there) asks in
+    let asked : IsTrue (concerns shape vcpu (irq_at guest key)) = subst (λ i. IsTrue (concerns shape vcpu i)) (record_opens guest number key good there) asks in
+    let is : IsTrue (is_asked guest vcpu bit) =
+    and_from (nat_lt bit (index_bits shape)) (concerns shape vcpu (irq_at guest (key_of_bit shape vcpu bit))) (lt-ltb bit (index_bits shape) few)
+    (subst (λ k. IsTrue (concerns shape vcpu (irq_at guest k))) (sym (key_back shape vcpu key good.sound.shape there own)) asked) in
+    let same : 64 * (bit / 64) + bit % 64 ≡ bit = omega arith in
+    let has : IsTrue (has_word shape (Index vcpu (bit / 64))) =
+    and_from (nat_lt vcpu shape.vcpus) (nat_lt (bit / 64) (index_words shape)) (lt-ltb vcpu shape.vcpus within) (lt-ltb (bit / 64) (index_words shape) (omega (arith, few))) in
+    inl (subst (λ w. IsTrue (has_bit w (bit % 64))) (sym (word_opens guest number (Index vcpu (bit / 64)) good has)) (asked_indexed guest vcpu (bit / 64) (bit % 64) (omega arith) (subst (λ b. IsTrue (is_asked guest vcpu b)) (sym same) is)))
 
 pub runs_complete : IndexIsComplete
 runs_complete guest number entries good run =
-    complete guest.shape (end_of guest.shape (opening guest number) entries) (run_complete guest.shape (opening guest number) entries good.shape (reached_opens guest number good) (opens_told guest number anyone good) run)
+    complete guest.shape (end_of guest.shape (opening guest number) entries) (run_complete guest.shape (opening guest number) entries good.sound.shape (reached_opens guest number good) (opens_told guest number anyone good) run)

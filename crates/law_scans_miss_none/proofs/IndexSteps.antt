@@ -7,21 +7,22 @@ use Rattle.std.proofs.lemmas.Option.{none-some}
 use Rattle.std.proofs.lemmas.List.{get_or-set_same, get_or-set_other}
 use Rattle.std.proofs.lemmas.Nat.{pow_below}
 use Rattle.std.proofs.lemmas.Nat.Bits.{bit_at_and, bit_at_not, bit_at-pow_other, bit_at_above}
+use Rattle.law_registers_stand.proofs.PortCore.IndexLemmas.{or_left, or_right, pow_self}
 use Rattle.law_registers_stand.specs.Registers.{Targets, Maps, CpuRec}
 use Rattle.law_registers_stand.specs.Words.{Back, Key, IccReg, GuestShape, has_interrupt, is_of_vcpu, is_same_key, IsShape, has_bit, irq_of}
 use Rattle.law_registers_stand.proofs.GicBase.KeyLemmas.{same_key}
 use Rattle.law_registers_stand.specs.Calls.{Touching, touched}
-use Rattle.law_registers_stand.specs.Core.{Local, Cands, CoreStep, Look, Raise, Claim, GiveBack, Release, Poll, Kick, Touch, Want, WireUp, WireDown, Mark, TakeIndex, WordId, Irq, Index, Folding, vcpu_of, local_after, concerned, concerned_by, polled, accessed, claimed, looked, is_settled_by_look, succeeds, is_cand, is_vcpu, settled, without_vcpu, without_cand, with_cand_word, owing_both, owes_no_mark, has_word, index_bit, index_words, CoreState, seat_at, word_in, word_of, IsIrqWord, AtIrq, Phase, Scanning, Loaded, local_done}
+use Rattle.law_registers_stand.specs.Core.{Local, Cands, CoreStep, Look, Raise, Claim, GiveBack, Release, Poll, Kick, Touch, Want, WireUp, WireDown, Mark, TakeIndex, WordId, Irq, Index, Folding, vcpu_of, local_after, concerned, concerned_by, polled, accessed, claimed, looked, is_settled_by_look, succeeds, is_cand, is_vcpu, settled, without_vcpu, without_cand, with_cand_word, owing_both, owes_no_mark, has_word, index_bit, index_words, CoreState, seat_at, word_in, word_of, IsIrqWord, AtIrq, Phase, Scanning, Loaded, local_done, concerns}
 use Rattle.law_registers_stand.proofs.PortCore.StepLocals.{bit_there}
 use Rattle.law_registers_stand.proofs.PortCore.StepLemmas.{steps_sound}
 use Rattle.law_registers_stand.proofs.PortCore.StepMade.{all_three}
 use Rattle.law_registers_stand.specs.Histories.{Ideal}
 use Rattle.law_registers_stand.proofs.LawCoreIsHistory.StepContext.{one, IsStep, has}
-use Rattle.law_scans_miss_none.specs.Index.{concerns, is_indexed, owes_mark}
+use Rattle.law_scans_miss_none.specs.Index.{is_indexed, owes_mark}
 use Rattle.law_registers_stand.proofs.LawCoreIsHistory.AfterLemmas.{later, left_in, word_cases}
 use Rattle.law_registers_stand.proofs.CoreProper.CandLemmas.{cand_same}
 use Rattle.law_scans_miss_none.proofs.ToldLemmas.{owes_none, index_there, step_changes, Lasts, Told, AllTold, Kicks, told_taken, told_owed, index_stays, carries, marks_stay, cands_stay, carries_quiet}
-use Rattle.law_scans_miss_none.proofs.TellSteps.{or_left, or_right, pow_self, concerns_own, same_bit, not_both, Tells, claim_held, tells, tells_raise, tells_wire_up, tells_wire_down, tells_claim, tells_give_back, tells_release, tells_touch, tells_want}
+use Rattle.law_scans_miss_none.proofs.TellSteps.{concerns_own, same_bit, not_both, Tells, claim_held, tells, tells_raise, tells_wire_up, tells_wire_down, tells_claim, tells_give_back, tells_release, tells_touch, tells_want}
 
 -- whether or not a step does what it is for
 pub either_way : {T : Type 0} (part : Local → T) (b : Bool) (done local : Local) → part done ≡ part local → part (if b then done else local) ≡ part local

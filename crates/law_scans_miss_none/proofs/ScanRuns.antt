@@ -116,4 +116,4 @@ module _ (shape : GuestShape) (good : IsShape shape) (vcpu : ℕ) (within : vcpu
 
 pub scans_overlook_none : ScanOverlooksNone
 scans_overlook_none guest number moments vcpu good proper within free failed =
-    (runs_keep guest number vcpu (Going guest.shape vcpu) good (kept guest.shape good.shape vcpu within) (λ free failed. tt) moments proper).keeps free failed
+    (runs_keep guest number vcpu (Going guest.shape vcpu) good (kept guest.shape good.sound.shape vcpu within) (λ free failed. tt) moments proper).keeps free failed

@@ -3,14 +3,12 @@ use Rattle.std.proofs.Common.{◌≡◌, ◌≢◌, ℕ, ◌+◌, ◌<◌, ◌==
 use Rattle.std.proofs.lemmas.Bool.{cases_eq, eq-eqb, and_from}
 use Rattle.std.proofs.lemmas.List.Elements.{All-nil, All-push, All-weaker}
 use Rattle.law_registers_stand.specs.Words.{Key, GuestShape, has_interrupt, place_of, IsShape, is_number, Irq as IrqRecord, irq_of}
-use Rattle.law_registers_stand.specs.Calls.{Reach, Happened, irqs_of, irq_in, GuestSpec, IsGoodGuest}
+use Rattle.law_registers_stand.specs.Calls.{Reach, Happened}
 use Rattle.law_registers_stand.specs.GicCall.declared.event.Found.TheVariants.{Nothing}
-use Rattle.law_registers_stand.proofs.GicOpen.OpeningLemmas.{opening_valid}
 use Rattle.std.proofs.lemmas.Option.{none-some}
 use Rattle.law_registers_stand.specs.Core.{AtIrq, Meets, is_at, silent, word_of, Local, Made, Poll, Irq, Vcpu, local_after, CoreState, Seat, opening, seat_at, word_in, after_moment, Act, begins, makes, ends, Progress, opening_progress, progressed, is_settled}
-use Rattle.law_registers_stand.proofs.PortCore.OpeningLemmas.{word_opens}
-use Rattle.law_registers_stand.proofs.PortCore.StepWords.{packed_is}
-use Rattle.law_registers_stand.specs.Histories.{Turn, Doing, Changes, doing_of, changes_of, turn_of, with_doing}
+use Rattle.law_registers_stand.proofs.PortCore.OpeningLemmas.{record_opens}
+use Rattle.law_registers_stand.specs.Histories.{Turn, Doing, Changes, doing_of, changes_of, turn_of, with_doing, IdealGuest, CanOpen}
 use Rattle.law_registers_stand.specs.LawCoreIsHistory.Related.{is_folding}
 use Rattle.law_registers_stand.specs.LawCoreIsHistory.Simulates.{IsSimulatedAs}
 use Rattle.law_registers_stand.proofs.LawCoreIsHistory.StepContext.{IsStep}
@@ -192,13 +190,11 @@ module _ (shape : GuestShape) (good : IsShape shape) (vcpu : ℕ) (within : vcpu
           of state at progress made here acts owed key there held (goes_on no_poll calm) = owed_next state at progress vcpu made here acts (progress vcpu) (inl calm) owed key there held
 
 -- as a guest opens nothing is held
-opens : (guest : GuestSpec) (number vcpu : ℕ) → IsGoodGuest guest → Owed guest.shape vcpu (opening guest number) (opening_followed guest) (opening_progress guest number vcpu)
+opens : (guest : IdealGuest) (number vcpu : ℕ) → CanOpen guest → Owed guest.shape vcpu (opening guest number) (opening_followed guest) (opening_progress guest number vcpu)
 opens guest number vcpu good key there free phase held =
-    let valid = opening_valid guest key good there in
-    let irq = irq_in guest.shape (irqs_of guest) key in
-    let word : record_in guest.shape (opening guest number) key ≡ irq = ap irq_of (word_opens guest number (Irq key) good there) ∙ packed_is irq valid.record_of.packable in
-    absurd (none-some vcpu (sym (ap (λ (i : IrqRecord). i.holder) word ∙ valid.home.unheld) ∙ held))
+    let word = record_opens guest number key good there in
+    absurd (none-some vcpu (sym (ap (λ (i : IrqRecord). i.holder) word ∙ (good.sound.records key there).home.unheld) ∙ held))
 
 pub changes_are_owed : ChangesAreOwed
 changes_are_owed guest number moments vcpu key good proper within there free phase held =
-    (runs_keep guest number vcpu (Owed guest.shape vcpu) good (kept guest.shape good.shape vcpu within) (opens guest number vcpu good) moments proper).keeps key there free phase held
+    (runs_keep guest number vcpu (Owed guest.shape vcpu) good (kept guest.shape good.sound.shape vcpu within) (opens guest number vcpu good) moments proper).keeps key there free phase held

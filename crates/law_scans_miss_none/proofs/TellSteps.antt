@@ -1,16 +1,15 @@
 -- What each step leaves of its own interrupt, and whom it owes for that.
-use Rattle.std.proofs.Common.{◌≡◌, ◌≢◌, ℕ, ◌^◌, ◌<◌, ◌==◌, ◌&&◌, ◌||◌, ◌⊎◌, inl, inr, true≢false, not, max, Bool, true, false, IsTrue, List, [], ◌∷◌, Option, Some, None, is_none, is_some, bit_or, if◌then◌else◌, refl, sym, ap, ◌∙◌, subst, arith}
-use Rattle.std.specs.Int.{bit_at}
+use Rattle.std.proofs.Common.{◌≡◌, ◌≢◌, ℕ, ◌^◌, ◌<◌, ◌==◌, ◌&&◌, ◌||◌, ◌⊎◌, inl, inr, true≢false, not, Bool, true, false, IsTrue, List, [], ◌∷◌, Option, Some, None, is_none, is_some, if◌then◌else◌, refl, sym, ap, ◌∙◌, subst, arith}
 use Rattle.std.specs.Option.{option_map_or}
-use Rattle.std.proofs.lemmas.Bool.{and_parts, and_from, or_cases, ltb-true, eqb-true, eq-eqb}
+use Rattle.std.proofs.lemmas.Bool.{and_parts, and_from, or_cases, ltb-true, eqb-true}
 use Rattle.std.proofs.lemmas.Grind.{common_steps}
 use Rattle.std.proofs.lemmas.Option.{none-some}
-use Rattle.std.proofs.lemmas.Nat.Bits.{bit_at_or, bit_at-lt, bit_at-pow_same}
+use Rattle.law_registers_stand.proofs.PortCore.IndexLemmas.{or_left, or_right, pow_self}
 use Rattle.law_registers_stand.specs.Registers.{Targets, Maps}
 use Rattle.law_registers_stand.specs.Words.{Back, Key, Private, Spi, Lpi, GuestShape, has_interrupt, is_of_vcpu, is_same_key, IsShape, has_bit, Irq as IrqRecord, raised, wire_up, wire_down, is_number, is_ripe, is_pending, is_forwarded, target_in, irq_of, packed, IsIrq, IsSeat}
 use Rattle.law_registers_stand.proofs.GicBase.KeyLemmas.{same_itself}
 use Rattle.law_registers_stand.specs.Calls.{Touching, may_reach, may_take, reached, taken, touched}
-use Rattle.law_registers_stand.specs.Core.{AtIrq, Local, CoreStep, Look, Raise, Claim, GiveBack, Release, Touch, Want, WireUp, WireDown, WordId, Irq, local_after, concerned, concerned_by, holder_or_active, target_of, marked_of_release, told_of_release, succeeds, changed, claimed_irq, may_move, may_hold, moved_of, touched_irq, given_back, released, is_active_at, is_vcpu, with_all, with_some, with_vcpu, no_vcpus, owing_both, entry_for, without_at, back_of, index_bit, CoreState, seat_at, word_of, IsIrqWord, look_event, event_done}
+use Rattle.law_registers_stand.specs.Core.{AtIrq, Local, CoreStep, Look, Raise, Claim, GiveBack, Release, Touch, Want, WireUp, WireDown, WordId, Irq, local_after, concerned, concerned_by, holder_or_active, target_of, marked_of_release, told_of_release, succeeds, changed, claimed_irq, may_move, may_hold, moved_of, touched_irq, given_back, released, is_active_at, is_vcpu, with_all, with_some, with_vcpu, no_vcpus, owing_both, entry_for, without_at, back_of, index_bit, CoreState, seat_at, word_of, IsIrqWord, look_event, event_done, concerns}
 use Rattle.law_registers_stand.proofs.PortCore.StepTies.{number_is, none_is}
 use Rattle.law_registers_stand.proofs.PortCore.StepWords.{packed_is, owned_of}
 use Rattle.law_registers_stand.proofs.PortCore.StepMade.{all_three}
@@ -19,33 +18,10 @@ use Rattle.law_registers_stand.proofs.PortCore.AtomicLemmas.{moved_packable}
 use Rattle.law_registers_stand.specs.Histories.{Ideal, irq_at}
 use Rattle.law_registers_stand.proofs.LawCoreIsHistory.StepContext.{one, IsStep, finds, says_found}
 use Rattle.law_registers_stand.specs.LawCoreIsHistory.Related.{bare}
-use Rattle.law_scans_miss_none.specs.Index.{concerns, waits_for, owes_kick, owes_mark}
+use Rattle.law_scans_miss_none.specs.Index.{waits_for, owes_kick, owes_mark}
 use Rattle.law_scans_miss_none.proofs.ToldLemmas.{unwanted, IsOwnRelease, event_changes, step_changes, IsAsBefore, IsOwedNow}
 
 -- Bits of sets.
-
-pub or_left : (a b i : ℕ) → IsTrue (has_bit a i) → IsTrue (has_bit (bit_or a b) i)
-or_left a b i h =
-    let here = eqb-true (bit_at a i) 1 h in
-    let few = bit_at-lt b i in
-    let both = bit_at_or a b i in
-    eq-eqb (bit_at (bit_or a b) i) 1 (most (bit_at a i) (bit_at b i) (bit_at (bit_or a b) i) both here few)
-  where
-    most : (x y m : ℕ) → m ≡ max x y → x ≡ 1 → y < 2 → m ≡ 1
-    most x y m e one few = omega (arith, e, one, few)
-
-pub or_right : (a b i : ℕ) → IsTrue (has_bit b i) → IsTrue (has_bit (bit_or a b) i)
-or_right a b i h =
-    let here = eqb-true (bit_at b i) 1 h in
-    let few = bit_at-lt a i in
-    let both = bit_at_or a b i in
-    eq-eqb (bit_at (bit_or a b) i) 1 (most (bit_at a i) (bit_at b i) (bit_at (bit_or a b) i) both here few)
-  where
-    most : (x y m : ℕ) → m ≡ max x y → y ≡ 1 → x < 2 → m ≡ 1
-    most x y m e one few = omega (arith, e, one, few)
-
-pub pow_self : (k : ℕ) → IsTrue (has_bit (2 ^ k) k)
-pow_self k = eq-eqb (bit_at (2 ^ k) k) 1 (bit_at-pow_same k)
 
 some_keeps : (set : Targets) (o : Option ℕ) (v : ℕ) → IsTrue (has_bit set.0 v) → IsTrue (has_bit (with_some set o).0 v)
 some_keeps set None v h = h

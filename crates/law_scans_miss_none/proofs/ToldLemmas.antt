@@ -8,12 +8,12 @@ use Rattle.law_registers_stand.specs.GicCall.declared.event.Event.TheVariants.{R
 use Rattle.law_registers_stand.specs.GicCall.declared.event.Place.TheVariants.{Word}
 use Rattle.law_registers_stand.specs.GicCall.declared.event.Found.TheVariants.{Answer, Word as FoundWord}
 use Rattle.law_registers_stand.specs.Registers.{interface_answer, Maps}
-use Rattle.law_registers_stand.specs.Core.{fault_place, succeeds, vcpu_of, Local, CoreStep, Look, Raise, Claim, Release, Poll, Touch, WireUp, WireDown, RamLook, RamPut, Irq, Index, local_after, interface_of, is_at, is_cand, owes_no_mark, has_word, index_bit, index_bits, index_words, CoreState, Seat, seat_at, word_in, after, word_of, actor_count, silent, event_done, stands_for}
+use Rattle.law_registers_stand.specs.Core.{fault_place, succeeds, vcpu_of, Local, CoreStep, Look, Raise, Claim, Release, Poll, Touch, WireUp, WireDown, RamLook, RamPut, Irq, Index, local_after, interface_of, is_at, is_cand, owes_no_mark, has_word, index_bit, index_bits, index_words, CoreState, Seat, seat_at, word_in, after, word_of, actor_count, silent, event_done, stands_for, concerns}
 use Rattle.std.specs.Option.{option_and_then, option_map_or}
 use Rattle.law_registers_stand.proofs.PortCore.StepLocals.{bit_there, no_bit}
 use Rattle.law_registers_stand.specs.Histories.{Ideal, changed_by}
 use Rattle.law_registers_stand.proofs.LawCoreIsHistory.StepContext.{IsStep}
-use Rattle.law_scans_miss_none.specs.Index.{concerns, waits_for, is_indexed, is_taken, owes_kick, owes_mark}
+use Rattle.law_scans_miss_none.specs.Index.{waits_for, is_indexed, is_taken, owes_kick, owes_mark}
 use Rattle.law_registers_stand.proofs.LawCoreIsHistory.AfterLemmas.{later, word_cases, word_stays, local_mine, seat_other}
 use Rattle.law_scans_miss_none.proofs.TrackLemmas.{subject}
 

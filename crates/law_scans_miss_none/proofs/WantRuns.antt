@@ -3,15 +3,12 @@ use Rattle.std.proofs.Common.{◌≡◌, ◌≢◌, ℕ, ◌<◌, ◌==◌, ◌|
 use Rattle.std.proofs.lemmas.Bool.{cases_eq, eq-eqb, ne_eqb}
 use Rattle.law_registers_stand.specs.Words.{Key, GuestShape, has_interrupt, IsShape, Irq as IrqRecord, irq_of}
 use Rattle.law_registers_stand.proofs.GicBase.KeyLemmas.{same_itself}
-use Rattle.law_registers_stand.specs.Calls.{irqs_of, irq_in, GuestSpec, IsGoodGuest}
-use Rattle.law_registers_stand.proofs.GicOpen.OpeningLemmas.{opening_valid}
+use Rattle.law_registers_stand.specs.Histories.{IdealGuest, CanOpen}
 use Rattle.law_registers_stand.specs.Core.{Local, Made, CoreStep, Irq, actor_count, succeeds, CoreState, opening, seat_at, word_in, after, Takes, IsRun, word_of, after_moment, end_of_moments, IsSeatOf, Act, begins, makes, ends, CoreMoment, own_acts, entries_of, entry_by, Progress, opening_progress, progressed, progress_of, stepped, has_key}
-use Rattle.law_registers_stand.proofs.PortCore.OpeningLemmas.{seat_opens, word_opens}
-use Rattle.law_registers_stand.proofs.PortCore.StepWords.{packed_is}
+use Rattle.law_registers_stand.proofs.PortCore.OpeningLemmas.{record_opens, seat_opens}
 use Rattle.law_registers_stand.specs.CoreProper.Progress.{changed_by}
 use Rattle.law_registers_stand.proofs.CoreProper.FollowLemmas.{steps_follow}
 use Rattle.law_registers_stand.proofs.LawCoreIsHistory.StepContext.{IsStep}
-use Rattle.law_scans_miss_none.specs.Waiting.{record_in}
 use Rattle.law_scans_miss_none.specs.Wants.{IsWantedBy, AreWanted, WantsAreKept}
 use Rattle.law_registers_stand.proofs.LawCoreIsHistory.AfterLemmas.{later, word_cases, seat_mine, seat_other}
 use Rattle.law_registers_stand.proofs.LawCoreIsHistory.ReachedRuns.{IsReached, reaches_next, reached_opens}
@@ -154,16 +151,14 @@ module _ (shape : GuestShape) (good : IsShape shape) where
       let by = rest key there h in
       record { actor = by.actor; there = by.there; wants = subst (λ (p : Progress). IsTrue (has_key key p.wants)) (all_more progress moment moments by.actor) by.wants }
 
-opens : (guest : GuestSpec) (number : ℕ) → IsGoodGuest guest → IsAll guest.shape (opening guest number) (opening_progress guest number)
+opens : (guest : IdealGuest) (number : ℕ) → CanOpen guest → IsAll guest.shape (opening guest number) (opening_progress guest number)
 opens guest number good = record {
   reached = reached_opens guest number good;
   seats = λ actor there. subst (IsSeatOf (opening_progress guest number actor)) (sym (seat_opens guest number actor there)) (record { local = refl; own = refl });
   wanted = λ key there h.
-      let valid = opening_valid guest key good there in
-      let irq = irq_in guest.shape (irqs_of guest) key in
-      let word : record_in guest.shape (opening guest number) key ≡ irq = ap irq_of (word_opens guest number (Irq key) good there) ∙ packed_is irq valid.record_of.packable in
-      absurd (true≢false (sym h ∙ ap (λ (i : IrqRecord). i.want) word ∙ valid.home.unwanted));
+      let word = record_opens guest number key good there in
+      absurd (true≢false (sym h ∙ ap (λ (i : IrqRecord). i.want) word ∙ (good.sound.records key there).home.unwanted));
 }
 
 pub wants_are_kept : WantsAreKept
-wants_are_kept guest number moments good parted = all_go guest.shape good.shape moments (opening guest number) (opening_progress guest number) (opens guest number good) parted.run
+wants_are_kept guest number moments good parted = all_go guest.shape good.sound.shape moments (opening guest number) (opening_progress guest number) (opens guest number good) parted.run

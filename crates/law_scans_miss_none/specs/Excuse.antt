@@ -2,14 +2,13 @@
 use Rattle.std.specs.Prelude.{ℕ, ◌<◌, ◌==◌, ◌&&◌, Bool, false, IsTrue, List, is_some}
 use Rattle.std.specs.Option.{option_map_or}
 use Rattle.law_registers_stand.specs.Words.{Key, GuestShape}
-use Rattle.law_registers_stand.specs.Calls.{GuestSpec}
-use Rattle.law_registers_stand.specs.Histories.{Turn, Track, doing_of, changes_of}
+use Rattle.law_registers_stand.specs.Histories.{Turn, Track, doing_of, changes_of, IdealGuest}
 use Rattle.law_registers_stand.specs.Core.{actor_count, CoreState, opening, seat_at, ideal_of, CoreMoment}
 use Rattle.law_registers_stand.specs.Followed.{Followed, followed_by}
 use Rattle.law_scans_miss_none.specs.Index.{owes_kick}
 
 -- at the end of a run
-abbrev pub followed_in : GuestSpec → ℕ → List CoreMoment → Followed
+abbrev pub followed_in : IdealGuest → ℕ → List CoreMoment → Followed
 followed_in guest number moments = followed_by guest (ideal_of guest.shape (opening guest number) moments)
 
 -- a call, or a command of one, goes on

@@ -3,7 +3,7 @@ use Rattle.std.specs.Prelude.{◌≡◌, ℕ, ◌<◌, ◌||◌, not, true, fals
 use Rattle.std.specs.Option.{option_map_or}
 use Rattle.law_registers_stand.specs.Words.{Key, GuestShape, intid_of}
 use Rattle.law_registers_stand.specs.Registers.{is_before, is_deliverable, first_of, candidates_at}
-use Rattle.law_registers_stand.specs.Calls.{GuestSpec, IsGoodGuest}
+use Rattle.law_registers_stand.specs.Histories.{IdealGuest, CanOpen}
 use Rattle.law_registers_stand.specs.Core.{interface_of, CoreState, opening, end_of_moments, CoreMoment, Progress, progress_in, is_paid, IsProperRun}
 use Rattle.law_registers_stand.specs.Stands.{IsLoaded}
 use Rattle.law_scans_miss_none.specs.Excuse.{followed_in}
@@ -22,7 +22,7 @@ pub record MayAsk (shape : GuestShape) (state : CoreState) (vcpu : ℕ) (p : Pro
 -- at every moment of every proper run: no interrupt that is due and deliverable to such a vCPU comes before the first at its interface, and there is one where any is
 abbrev pub FirstComesFirst : Type 0
 FirstComesFirst =
-    (guest : GuestSpec) (number : ℕ) (moments : List CoreMoment) (vcpu : ℕ) (key : Key) → IsGoodGuest guest → IsProperRun guest number moments → vcpu < guest.shape.vcpus
+    (guest : IdealGuest) (number : ℕ) (moments : List CoreMoment) (vcpu : ℕ) (key : Key) → CanOpen guest → IsProperRun guest number moments → vcpu < guest.shape.vcpus
     → MayAsk guest.shape (end_of_moments guest.shape (opening guest number) moments) vcpu (progress_in guest number moments vcpu)
     → IsDue guest.shape (end_of_moments guest.shape (opening guest number) moments) (followed_in guest number moments).track vcpu key
     → let irq = record_in guest.shape (end_of_moments guest.shape (opening guest number) moments) key in

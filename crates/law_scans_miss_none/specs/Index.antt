@@ -2,12 +2,8 @@
 use Rattle.std.specs.Prelude.{◌≡◌, ◌⊎◌, ℕ, ◌<◌, ◌/◌, ◌%◌, ◌&&◌, ◌||◌, Bool, false, IsTrue, List, None, is_none}
 use Rattle.std.specs.Option.{option_map_or}
 use Rattle.law_registers_stand.specs.Words.{Key, GuestShape, has_interrupt, is_same_key, has_bit, Irq as IrqRecord, is_number, is_ripe, irq_of}
-use Rattle.law_registers_stand.specs.Calls.{GuestSpec, IsGoodGuest}
-use Rattle.law_registers_stand.specs.Core.{Local, Entry, Irq, Index, actor_count, is_cand, index_bit, CoreState, opening, seat_at, word_in, IsRun, end_of}
-
--- an interrupt concerns a vCPU: it is ripe for it, or active by it
-abbrev pub concerns : GuestShape → ℕ → IrqRecord → Bool
-concerns shape vcpu irq = is_ripe irq vcpu shape || is_number vcpu irq.act_by
+use Rattle.law_registers_stand.specs.Histories.{IdealGuest, CanOpen}
+use Rattle.law_registers_stand.specs.Core.{Local, Entry, Irq, Index, actor_count, is_cand, index_bit, CoreState, opening, seat_at, word_in, IsRun, end_of, concerns}
 
 -- it waits for the vCPU: it is inactive and ripe for it, or active by it, so that the vCPU may take it to its interface, but for what it enables there itself
 abbrev pub waits_for : GuestShape → ℕ → IrqRecord → Bool
@@ -46,4 +42,4 @@ IsComplete shape state =
 
 -- so it is at every moment of every run
 abbrev pub IndexIsComplete : Type 0
-IndexIsComplete = (guest : GuestSpec) (number : ℕ) (entries : List Entry) → IsGoodGuest guest → IsRun guest.shape (opening guest number) entries → IsComplete guest.shape (end_of guest.shape (opening guest number) entries)
+IndexIsComplete = (guest : IdealGuest) (number : ℕ) (entries : List Entry) → CanOpen guest → IsRun guest.shape (opening guest number) entries → IsComplete guest.shape (end_of guest.shape (opening guest number) entries)

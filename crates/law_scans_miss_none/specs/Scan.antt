@@ -2,9 +2,8 @@
 use Rattle.std.specs.Prelude.{◌≡◌, ◌⊎◌, ℕ, ◌/◌, ◌≤◌, false, IsTrue, List, Contains, None, ◌<◌}
 use Rattle.std.specs.Option.{option_map}
 use Rattle.law_registers_stand.specs.Words.{Key, GuestShape}
-use Rattle.law_registers_stand.specs.Histories.{Track}
+use Rattle.law_registers_stand.specs.Histories.{Track, IdealGuest, CanOpen}
 use Rattle.law_registers_stand.specs.Lists.{Pending, Offer, first_among, plan, regs_of, chosen_as}
-use Rattle.law_registers_stand.specs.Calls.{GuestSpec, IsGoodGuest}
 use Rattle.law_registers_stand.specs.Core.{is_cand, index_bit, CoreState, opening, end_of_moments, CoreMoment, Progress, progress_in, IsProperRun, alone, Purpose, planned, trapped, bare, Scan, idle, taking, looking, claiming}
 use Rattle.law_scans_miss_none.specs.Excuse.{followed_in}
 use Rattle.law_scans_miss_none.specs.Waiting.{record_in, IsDue}
@@ -44,6 +43,6 @@ Covers shape state track vcpu p (claiming claims takes) = HasScanned shape state
 -- so it is at every moment of every proper run, of a vCPU that is not kicked and had no claim fail
 abbrev pub ScanOverlooksNone : Type 0
 ScanOverlooksNone =
-    (guest : GuestSpec) (number : ℕ) (moments : List CoreMoment) (vcpu : ℕ) → IsGoodGuest guest → IsProperRun guest number moments → vcpu < guest.shape.vcpus → IsUnkicked guest.shape (end_of_moments guest.shape (opening guest number) moments) vcpu
+    (guest : IdealGuest) (number : ℕ) (moments : List CoreMoment) (vcpu : ℕ) → CanOpen guest → IsProperRun guest number moments → vcpu < guest.shape.vcpus → IsUnkicked guest.shape (end_of_moments guest.shape (opening guest number) moments) vcpu
     → (progress_in guest number moments vcpu).failed ≡ false
     → Covers guest.shape (end_of_moments guest.shape (opening guest number) moments) (followed_in guest number moments).track vcpu (progress_in guest number moments vcpu) (progress_in guest number moments vcpu).scan

@@ -5,10 +5,10 @@ use Rattle.std.proofs.lemmas.Bool.{and_parts, and_from, cases_eq, cases_lt}
 use Rattle.std.proofs.lemmas.List.{append_assoc, get_or_past}
 use Rattle.std.proofs.lemmas.List.Elements.{filter-append}
 use Rattle.law_lone_calls_are_eager.specs.Words.{IccReg, Icc, GuestShape, IsShape}
-use Rattle.law_lone_calls_are_eager.specs.Calls.{Event, Cpu, Reach, Take, Leave, Found, Moment, Begin, Happens, Operation, Access, icc_raises, Beside, Happened, IsCall, is_beside, named_of, CanHappen, GuestSpec, IsGoodGuest}
+use Rattle.law_lone_calls_are_eager.specs.Calls.{Event, Cpu, Reach, Take, Leave, Found, Moment, Begin, Happens, Operation, Access, icc_raises, Beside, Happened, IsCall, is_beside, named_of, CanHappen}
 use Rattle.law_lone_calls_are_eager.specs.GicCall.declared.event.Event.TheVariants.{Read}
 use Rattle.law_lone_calls_are_eager.specs.GicCall.declared.event.Moment.TheVariants.{End}
-use Rattle.law_lone_calls_are_eager.specs.Histories.{Doing, after_doing, doing_of, is_kept, Call, Course, GoesOn, IsCallEnded, IsHistory, IsNext, IsWhole, actor_count, call_of, course_of, gone_on, made, opening_course, seeing, vcpu_of, happened, Ideal}
+use Rattle.law_lone_calls_are_eager.specs.Histories.{Doing, after_doing, doing_of, is_kept, Call, Course, GoesOn, IsCallEnded, IsHistory, IsNext, IsWhole, actor_count, call_of, course_of, gone_on, made, opening_course, seeing, vcpu_of, happened, Ideal, IdealGuest, CanOpen}
 use Rattle.law_lone_calls_are_eager.proofs.LawHistories.CourseLemmas.{begun_here, begun_other, call_is, ended_here, ended_other, made_here, made_other, nobody, nobody_opens, noted_piece}
 use Rattle.law_lone_calls_are_eager.proofs.LawEagerIsHistory.FreshLemmas.{is_no_access}
 use Rattle.law_lone_calls_are_eager.proofs.PassLemmas.{raises_all}
@@ -216,7 +216,7 @@ module _ (shape : GuestShape) (good : IsShape shape) where
   ends_tied [] course at along tied going = (along, tied)
   ends_tied (moment ∷ moments) course at along tied going = ends_tied moments (gone_on course moment) (follows at moment) (moment_done shape good course at moment going.0 along) (tied_next course at along tied moment going.0) going.1
 
-opens_tied : (guest : GuestSpec) (actor : ℕ) → TiedTo (vcpu_of guest.shape actor) (call_of (opening_course guest) actor) (doing_of (opening_followed guest).track actor)
+opens_tied : (guest : IdealGuest) (actor : ℕ) → TiedTo (vcpu_of guest.shape actor) (call_of (opening_course guest) actor) (doing_of (opening_followed guest).track actor)
 opens_tied guest actor = subst (λ o. TiedTo (vcpu_of guest.shape actor) o (doing_of (opening_followed guest).track actor)) (sym (nobody_opens guest actor)) (ap (λ (d : Doing). d.operation) (none_doing (actor_count guest.shape) actor))
   where
     none_doing : (n place : ℕ) → slice_index_or (replicate n (let d : Doing = record { operation = None; number = 0; done = []; fetched = false } in d)) place (record { operation = None; number = 0; done = []; fetched = false }) ≡ record { operation = None; number = 0; done = []; fetched = false }
@@ -225,10 +225,10 @@ opens_tied guest actor = subst (λ o. TiedTo (vcpu_of guest.shape actor) o (doin
     none_doing (suc n) (suc place) = none_doing n place
 
 -- each access of a history after which nobody is in a call
-ended_access : (guest : GuestSpec) (moments : List Moment) → IsGoodGuest guest → IsHistory guest moments → ((actor : ℕ) → call_of (course_of (opening_course guest) moments) actor ≡ None) → AllAccess (opening_followed guest) moments
-ended_access guest moments good history none = all_access guest.shape good.shape moments (opening_course guest) (opening_followed guest) (opens_done guest good) (opens_tied guest) history none
+ended_access : (guest : IdealGuest) (moments : List Moment) → CanOpen guest → IsHistory guest moments → ((actor : ℕ) → call_of (course_of (opening_course guest) moments) actor ≡ None) → AllAccess (opening_followed guest) moments
+ended_access guest moments good history none = all_access guest.shape good.sound.shape moments (opening_course guest) (opening_followed guest) (opens_done guest good) (opens_tied guest) history none
 
-pub history_access : (guest : GuestSpec) (moments : List Moment) → IsGoodGuest guest → IsHistory guest moments → IsWhole guest moments → AllAccess (opening_followed guest) moments
+pub history_access : (guest : IdealGuest) (moments : List Moment) → CanOpen guest → IsHistory guest moments → IsWhole guest moments → AllAccess (opening_followed guest) moments
 history_access guest moments good history whole = ended_access guest moments good history (λ actor. nobody (course_of (opening_course guest) moments).calls actor whole)
 
 -- one that is among others
@@ -255,15 +255,15 @@ accesses_first [] at all = refl
 accesses_first (moment ∷ moments) at all =
     and_from (is_access_first at.ideal at.track moment) (clause_from is_access_first (follows at moment) moments) (access_first at moment all.0) (accesses_first moments (follows at moment) all.1)
 
-pub accesses_come_first : (guest : GuestSpec) (moments : List Moment) → IsGoodGuest guest → IsHistory guest moments → IsWhole guest moments → IsTrue (is_kept is_access_first guest moments)
+pub accesses_come_first : (guest : IdealGuest) (moments : List Moment) → CanOpen guest → IsHistory guest moments → IsWhole guest moments → IsTrue (is_kept is_access_first guest moments)
 accesses_come_first guest moments good history whole = accesses_first moments (opening_followed guest) (history_access guest moments good history whole)
 
 -- so it does in a history that says of each actor that it is in no call
-pub rests_first : (guest : GuestSpec) (moments : List Moment) → IsGoodGuest guest → IsHistory guest moments → ((actor : ℕ) → actor < actor_count guest.shape → (doing_of (followed_by guest moments).track actor).operation ≡ None) → IsTrue (is_kept is_access_first guest moments)
+pub rests_first : (guest : IdealGuest) (moments : List Moment) → CanOpen guest → IsHistory guest moments → ((actor : ℕ) → actor < actor_count guest.shape → (doing_of (followed_by guest moments).track actor).operation ≡ None) → IsTrue (is_kept is_access_first guest moments)
 rests_first guest moments good history rest = accesses_first moments (opening_followed guest) (ended_access guest moments good history none)
   where
-    ends : IsAlongDone guest.shape good.shape (course_of (opening_course guest) moments) (followed_by guest moments) × AllTied guest.shape good.shape (course_of (opening_course guest) moments) (followed_by guest moments)
-    ends = ends_tied guest.shape good.shape moments (opening_course guest) (opening_followed guest) (opens_done guest good) (opens_tied guest) history
+    ends : IsAlongDone guest.shape good.sound.shape (course_of (opening_course guest) moments) (followed_by guest moments) × AllTied guest.shape good.sound.shape (course_of (opening_course guest) moments) (followed_by guest moments)
+    ends = ends_tied guest.shape good.sound.shape moments (opening_course guest) (opening_followed guest) (opens_done guest good) (opens_tied guest) history
 
     tied_none : (vcpu : Option ℕ) (o : Option Call) (doing : Doing) → TiedTo vcpu o doing → doing.operation ≡ None → o ≡ None
     tied_none vcpu None doing tied e = refl

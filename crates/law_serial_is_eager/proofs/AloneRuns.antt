@@ -4,7 +4,8 @@ use Rattle.std.proofs.lemmas.Bool.{cases_eq}
 use Rattle.std.proofs.lemmas.List.{append-nil}
 use Rattle.std.proofs.lemmas.List.Sums.{fold-append}
 use Rattle.law_lone_calls_are_eager.specs.Words.{Key, GuestShape}
-use Rattle.law_lone_calls_are_eager.specs.Calls.{Operation, GuestSpec, IsGoodGuest}
+use Rattle.law_lone_calls_are_eager.specs.Calls.{Operation}
+use Rattle.law_lone_calls_are_eager.specs.Histories.{IdealGuest, CanOpen}
 use Rattle.law_lone_accesses_find_all.specs.Core.{Made, actor_count, Act, makes, begins, ends, CoreMoment, own_acts, part_of, Progress, opening_progress, progressed, progress_in, progress_of, IsProper, IsProperRun, wants_nothing}
 use Rattle.law_lone_accesses_find_all.proofs.CoreProper.PartLemmas.{proper_append}
 use Rattle.law_lone_accesses_find_all.proofs.LawCoreIsHistory.HistorySteps.{own_here, own_other}
@@ -41,7 +42,7 @@ same_pushed {X = X} (a ∷ xs) (b ∷ ys) x y e =
     tails : (a c : X) (front back : List X) → a ∷ front ≡ c ∷ back → front ≡ back
     tails a c front back e = cc
 
-pub next_at : (guest : GuestSpec) (number : ℕ) → IsGoodGuest guest → (early : List CoreMoment) (actor : ℕ) (act : Act) → IsProperRun guest number (early ++ moment_by actor act ∷ []) → IsNextOf guest number early actor act
+pub next_at : (guest : IdealGuest) (number : ℕ) → CanOpen guest → (early : List CoreMoment) (actor : ℕ) (act : Act) → IsProperRun guest number (early ++ moment_by actor act ∷ []) → IsNextOf guest number early actor act
 next_at guest number good early actor act proper = runs_on guest number good KeptAt one_more (λ e a c h. absurd (nothing_pushed e (moment_by a c) h)) (early ++ moment_by actor act ∷ []) proper early actor act refl
   where
     KeptAt : List CoreMoment → Type 0
@@ -66,13 +67,13 @@ pub own_none : (actor other : ℕ) (acts : List Act) → other ≢ actor → own
 own_none actor other [] differ = refl
 own_none actor other (act ∷ acts) differ = own_other actor other act (map (moment_by actor) acts) differ ∙ own_none actor other acts differ
 
-pub progress_mine : (guest : GuestSpec) (number : ℕ) (early : List CoreMoment) (actor : ℕ) (acts : List Act)
+pub progress_mine : (guest : IdealGuest) (number : ℕ) (early : List CoreMoment) (actor : ℕ) (acts : List Act)
     → progress_in guest number (early ++ map (moment_by actor) acts) actor ≡ progress_of guest.shape actor (progress_in guest number early actor) acts
 progress_mine guest number early actor acts =
     ap (progress_of guest.shape actor (opening_progress guest number actor)) (own_both actor early (map (moment_by actor) acts) ∙ ap (λ rest. own_acts actor early ++ rest) (own_all actor acts))
     ∙ fold-append (progressed guest.shape actor) (opening_progress guest number actor) (own_acts actor early) acts
 
-pub progress_other : (guest : GuestSpec) (number : ℕ) (early : List CoreMoment) (actor other : ℕ) (acts : List Act) → other ≢ actor → progress_in guest number (early ++ map (moment_by actor) acts) other ≡ progress_in guest number early other
+pub progress_other : (guest : IdealGuest) (number : ℕ) (early : List CoreMoment) (actor other : ℕ) (acts : List Act) → other ≢ actor → progress_in guest number (early ++ map (moment_by actor) acts) other ≡ progress_in guest number early other
 progress_other guest number early actor other acts differ =
     ap (progress_of guest.shape other (opening_progress guest number other)) (own_both other early (map (moment_by actor) acts) ∙ ap (λ rest. own_acts other early ++ rest) (own_none actor other acts differ) ∙ append-nil (own_acts other early))
 
@@ -83,10 +84,10 @@ pub record IsResting (p : Progress) : Type 0 where
   pub operation : p.operation ≡ None
   pub wants : p.wants ≡ []
 
-abbrev pub AllRest : GuestSpec → ℕ → List CoreMoment → Type 0
+abbrev pub AllRest : IdealGuest → ℕ → List CoreMoment → Type 0
 AllRest guest number moments = (actor : ℕ) → actor < actor_count guest.shape → IsResting (progress_in guest number moments actor)
 
-pub rest_opens : (guest : GuestSpec) (number : ℕ) → AllRest guest number []
+pub rest_opens : (guest : IdealGuest) (number : ℕ) → AllRest guest number []
 rest_opens guest number actor there = record { operation = refl; wants = refl }
 
 pub none_wanted : (keys : List Key) → IsTrue (wants_nothing keys) → keys ≡ []
@@ -100,7 +101,7 @@ part_ends shape actor p operation lrs steps answer proper =
     let end = ((proper_append shape actor p acts (ends answer ∷ [])).0 proper).1.0 in
     subst IsResting (sym (fold-append (progressed shape actor) p acts (ends answer ∷ []))) (record { operation = refl; wants = none_wanted q.wants end.want })
 
-pub rest_after : (guest : GuestSpec) (number : ℕ) (early : List CoreMoment) (part : WholePart) → IsProperRun guest number (early ++ moments_in part) → AllRest guest number early → AllRest guest number (early ++ moments_in part)
+pub rest_after : (guest : IdealGuest) (number : ℕ) (early : List CoreMoment) (part : WholePart) → IsProperRun guest number (early ++ moments_in part) → AllRest guest number early → AllRest guest number (early ++ moments_in part)
 rest_after guest number early part proper rest actor there = elim (cases_eq actor part.actor) [
   | inr differ ↦ subst IsResting (sym (progress_other guest number early part.actor actor (part_of part.operation part.lrs part.steps part.answer) differ)) (rest actor there)
   | inl same ↦

@@ -6,10 +6,10 @@ use Rattle.std.proofs.lemmas.List.{append-nil, append_assoc, map-append}
 use Rattle.std.proofs.lemmas.List.Elements.{All-nil, All-cons, All-append, All-head, All-tail}
 use Rattle.std.proofs.lemmas.List.Sums.{fold-append}
 use Rattle.law_lone_calls_are_eager.specs.Words.{Key, GuestShape}
-use Rattle.law_lone_calls_are_eager.specs.Calls.{Event, Cpu, Reach, Take, Leave, Found, Moment, Begin, Happens, Happened, is_beside, View, GuestSpec, IsGoodGuest}
+use Rattle.law_lone_calls_are_eager.specs.Calls.{Event, Cpu, Reach, Take, Leave, Found, Moment, Begin, Happens, Happened, is_beside, View}
 use Rattle.law_lone_calls_are_eager.specs.GicCall.declared.event.Event.TheVariants.{Read}
 use Rattle.law_lone_calls_are_eager.specs.GicCall.declared.event.Moment.TheVariants.{End}
-use Rattle.law_lone_calls_are_eager.specs.Histories.{Doing, Track, doing_of, tracked, Course, IsHistory, course_of, gone_on, last_of, opening_course, happened, names, Ideal}
+use Rattle.law_lone_calls_are_eager.specs.Histories.{Doing, Track, doing_of, tracked, Course, IsHistory, course_of, gone_on, last_of, opening_course, happened, names, Ideal, IdealGuest, CanOpen}
 use Rattle.law_lone_calls_are_eager.proofs.LawHistories.CourseLemmas.{goes_before}
 use Rattle.law_lone_accesses_find_all.specs.Core.{Local, Made, actor_count, local_after, CoreState, Seat, opening, seat_at, stands_for, after_moment, end_of_moments, event_moments, ideal_moments, ideal_of, Act, makes, begins, ends, CoreMoment, Progress, progress_in, stepped, IsProperRun}
 use Rattle.law_lone_accesses_find_all.proofs.CoreProper.PartLemmas.{ideal_append}
@@ -41,7 +41,7 @@ ideal_so (Begin actor operation ∷ moments) course at same = ideal_so moments (
 ideal_so (Happens actor event found ∷ moments) course at same = ideal_so moments (gone_on course (Happens actor event found)) (follows at (Happens actor event found)) (ap (happened actor event) same)
 ideal_so (End actor answer ∷ moments) course at same = ideal_so moments (gone_on course (End actor answer)) (follows at (End actor answer)) same
 
-pub state_so : (guest : GuestSpec) (moments : List Moment) → last_of guest moments ≡ (followed_by guest moments).ideal
+pub state_so : (guest : IdealGuest) (moments : List Moment) → last_of guest moments ≡ (followed_by guest moments).ideal
 state_so guest moments = ideal_so moments (opening_course guest) (opening_followed guest) refl
 
 -- What is no access.
@@ -98,8 +98,8 @@ abbrev pub NamesNone : GuestShape → WholePart → Type 0
 NamesNone shape part = (view : View) (key : Key) → names shape view part.actor part.operation key ≡ false
 
 -- a vCPU's part while nobody else acts, after moments at whose end all are at rest and up to date
-pub record IsLonePart (guest : GuestSpec) (number : ℕ) (early : List CoreMoment) (part : WholePart) : Type 0 where
-  pub good : IsGoodGuest guest
+pub record IsLonePart (guest : IdealGuest) (number : ℕ) (early : List CoreMoment) (part : WholePart) : Type 0 where
+  pub good : CanOpen guest
   pub proper : IsProperRun guest number (early ++ moments_in part)
   pub history : IsHistory guest (ideal_of guest.shape (opening guest number) (early ++ moments_in part))
   pub rest : AllRest guest number early
@@ -107,7 +107,7 @@ pub record IsLonePart (guest : GuestSpec) (number : ℕ) (early : List CoreMomen
   pub up : IsUpToDate guest.shape (followed_in guest number early)
   pub few : part.actor < guest.shape.vcpus
 
-module _ (guest : GuestSpec) (number : ℕ) (early : List CoreMoment) (part : WholePart) where
+module _ (guest : IdealGuest) (number : ℕ) (early : List CoreMoment) (part : WholePart) where
   -- the core, the vCPU and what the part stands for so far
   abbrev pub state_at : List Made → CoreState
   state_at pre = end_of_moments guest.shape (opening guest number) (so_far early part pre)
@@ -150,7 +150,7 @@ module _ (guest : GuestSpec) (number : ℕ) (early : List CoreMoment) (part : Wh
   pub whole_is : early ++ moments_in part ≡ so_far early part part.steps ++ moment_by part.actor (ends part.answer) ∷ []
   whole_is = splits part.steps [] (sym (append-nil part.steps))
 
-module _ (guest : GuestSpec) (number : ℕ) (early : List CoreMoment) (part : WholePart) (lone : IsLonePart guest number early part) where
+module _ (guest : IdealGuest) (number : ℕ) (early : List CoreMoment) (part : WholePart) (lone : IsLonePart guest number early part) where
   abbrev shape : GuestShape
   shape = guest.shape
 

@@ -3,8 +3,7 @@ use Rattle.std.proofs.Common.{◌≡◌, ℕ, ◌||◌, ◌&&◌, true≢false, 
 use Rattle.std.specs.Option.{option_map_or}
 use Rattle.std.proofs.lemmas.Bool.{and_parts}
 use Rattle.law_lone_calls_are_eager.specs.Words.{IccReg, Iar0, Iar1, Hppir0, Hppir1, Eoir0, Eoir1, Dir, Key, GuestShape, has_interrupt, is_number}
-use Rattle.law_lone_calls_are_eager.specs.Histories.{asks_first, ended_by as ended_in}
-use Rattle.law_lone_calls_are_eager.specs.Calls.{GuestSpec, IsGoodGuest}
+use Rattle.law_lone_calls_are_eager.specs.Histories.{asks_first, ended_by as ended_in, IdealGuest, CanOpen}
 use Rattle.law_lone_accesses_find_all.specs.Core.{Local, Made, Poll, Irq as IrqWord, vcpu_of, is_at, CoreState, opening, end_of_moments, makes, CoreMoment, Progress, Debt, paid, after_end, before_next, ended_by, is_end_of, is_paid, progress_in, asks_first as asks_by, may_access}
 use Rattle.law_lone_accesses_find_all.specs.LawScansMissNone.Far.{HasLookedFar}
 use Rattle.law_lone_accesses_find_all.specs.LawScansMissNone.First.{MayAsk}
@@ -57,7 +56,7 @@ right_of true b e h = absurd (true≢false e)
 
 -- The access.
 
-module _ (guest : GuestSpec) (number : ℕ) (early : List CoreMoment) (v : ℕ) (made : Made) (reg : IccReg) (write : Option ℕ) (good : IsGoodGuest guest) (next : IsNextOf guest number early v (makes made)) (step_is : made.step ≡ Poll (Some reg) write) (unkicked : (vcpu_of made.found).kick ≡ false) where
+module _ (guest : IdealGuest) (number : ℕ) (early : List CoreMoment) (v : ℕ) (made : Made) (reg : IccReg) (write : Option ℕ) (good : CanOpen guest) (next : IsNextOf guest number early v (makes made)) (step_is : made.step ≡ Poll (Some reg) write) (unkicked : (vcpu_of made.found).kick ≡ false) where
   abbrev shape : GuestShape
   shape = guest.shape
 

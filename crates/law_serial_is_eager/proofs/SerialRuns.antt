@@ -5,9 +5,9 @@ use Rattle.std.proofs.lemmas.List.{append-nil, append_assoc}
 use Rattle.std.proofs.lemmas.List.Elements.{All-nil, All-cons, All-head, All-tail}
 use Rattle.std.proofs.lemmas.List.Sums.{fold-append}
 use Rattle.law_lone_calls_are_eager.specs.Words.{IccReg, Icc, GuestShape}
-use Rattle.law_lone_calls_are_eager.specs.Calls.{Cpu, Operation, Access, icc_raises, Beside, Happened, IsCall, named_of, GuestSpec, IsGoodGuest}
+use Rattle.law_lone_calls_are_eager.specs.Calls.{Cpu, Operation, Access, icc_raises, Beside, Happened, IsCall, named_of}
 use Rattle.law_lone_calls_are_eager.specs.LoneCalls.{AllShow}
-use Rattle.law_lone_calls_are_eager.specs.Histories.{IsHistory, last_of, opening_course, vcpu_of, home}
+use Rattle.law_lone_calls_are_eager.specs.Histories.{IsHistory, last_of, opening_course, vcpu_of, home, IdealGuest, CanOpen}
 use Rattle.law_lone_calls_are_eager.proofs.LawHistories.CourseLemmas.{goes_before}
 use Rattle.law_lone_calls_are_eager.proofs.LawEagerIsHistory.FreshLemmas.{is_no_access}
 use Rattle.law_lone_calls_are_eager.specs.Runs.{ArePassing, IsGoodCall, moments_in as call_moments}
@@ -66,7 +66,7 @@ named_first shape beside actor reg write piece answer few is = (subst (λ o. IsC
 
 -- One part.
 
-module _ (guest : GuestSpec) (number : ℕ) (good : IsGoodGuest guest) (early : List CoreMoment) (part : WholePart) (proper : IsProperRun guest number (early ++ moments_in part))
+module _ (guest : IdealGuest) (number : ℕ) (good : CanOpen guest) (early : List CoreMoment) (part : WholePart) (proper : IsProperRun guest number (early ++ moments_in part))
     (history : IsHistory guest (ideal_of guest.shape (opening guest number) (early ++ moments_in part))) (rest : AllRest guest number early) (first : AccessesComeFirst guest number early) where
   abbrev shape : GuestShape
   shape = guest.shape
@@ -113,7 +113,7 @@ module _ (guest : GuestSpec) (number : ℕ) (good : IsGoodGuest guest) (early : 
 
 -- Part by part.
 
-module _ (guest : GuestSpec) (number : ℕ) (good : IsGoodGuest guest) where
+module _ (guest : IdealGuest) (number : ℕ) (good : CanOpen guest) where
   passing :
       (parts : List WholePart) (early : List CoreMoment) → IsProperRun guest number (early ++ moments_of parts) → IsHistory guest (ideal_of guest.shape (opening guest number) (early ++ moments_of parts)) → AllRest guest number early → AccessesComeFirst guest number early
       → AreFit guest number early parts → ArePassing guest (ideal_of guest.shape (opening guest number) early) (calls_of guest.shape (end_of_moments guest.shape (opening guest number) early) parts)

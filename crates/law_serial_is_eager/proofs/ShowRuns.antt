@@ -6,9 +6,9 @@ use Rattle.std.proofs.lemmas.Bool.{and_parts}
 use Rattle.std.proofs.lemmas.List.{append-nil, append_assoc}
 use Rattle.std.proofs.lemmas.List.Sums.{fold-append}
 use Rattle.law_lone_calls_are_eager.specs.Words.{IccReg, Key, Icc, GuestShape}
-use Rattle.law_lone_calls_are_eager.specs.Calls.{Event, Cpu, Begin, Access, Happened, is_beside, named_of, GuestSpec}
+use Rattle.law_lone_calls_are_eager.specs.Calls.{Event, Cpu, Begin, Access, Happened, is_beside, named_of}
 use Rattle.law_lone_calls_are_eager.specs.LoneCalls.{AllShow, Shows}
-use Rattle.law_lone_calls_are_eager.specs.Histories.{asks_first, ended_by as ended_in, Course, course_of, gone_on, last_of, opening_course, happened, names, Ideal}
+use Rattle.law_lone_calls_are_eager.specs.Histories.{asks_first, ended_by as ended_in, Course, course_of, gone_on, last_of, opening_course, happened, names, Ideal, IdealGuest}
 use Rattle.law_lone_calls_are_eager.specs.LawHomeCommutes.Home.{ShowsHome}
 use Rattle.law_lone_calls_are_eager.proofs.LawEagerIsHistory.FreshLemmas.{is_no_access}
 use Rattle.law_lone_calls_are_eager.proofs.ReadLemmas.{beside_passes}
@@ -44,7 +44,7 @@ quiet_shows actor (one ∷ piece) state quiet =
 
 -- A part for an access of a CPU interface.
 
-module _ (guest : GuestSpec) (number : ℕ) (early : List CoreMoment) (part : WholePart) (reg : IccReg) (write : Option ℕ) (lone : IsLonePart guest number early part) (is_op : part.operation ≡ Access (Icc reg write)) where
+module _ (guest : IdealGuest) (number : ℕ) (early : List CoreMoment) (part : WholePart) (reg : IccReg) (write : Option ℕ) (lone : IsLonePart guest number early part) (is_op : part.operation ≡ Access (Icc reg write)) where
   abbrev shape : GuestShape
   shape = guest.shape
 

@@ -1,9 +1,8 @@
 -- Runs of the core in which one part follows the other (own choice).
 use Rattle.std.specs.Prelude.{◌≡◌, ℕ, ◌<◌, Bool, true, false, List, [], ◌∷◌, ◌++◌, map, Option}
 use Rattle.law_lone_calls_are_eager.specs.Words.{GuestShape, Icc}
-use Rattle.law_lone_calls_are_eager.specs.Calls.{Operation, Access, Happened, GuestSpec, IsGoodGuest}
-use Rattle.law_lone_calls_are_eager.specs.IdealGuests.Opening.{opening as opening_guest}
-use Rattle.law_lone_calls_are_eager.specs.Histories.{home, last_of, opening_course}
+use Rattle.law_lone_calls_are_eager.specs.Calls.{Operation, Access, Happened}
+use Rattle.law_lone_calls_are_eager.specs.Histories.{home, last_of, opening_course, IdealGuest, CanOpen}
 use Rattle.law_lone_accesses_find_all.specs.Core.{Made, events_of, CoreState, opening, seat_at, end_of_moments, ideal_of, Act, CoreMoment, part_of, IsProperRun, progress_in}
 use Rattle.law_lone_accesses_find_all.specs.LawCoreIsHistory.Laws.{AreCalls}
 use Rattle.law_lone_accesses_find_all.specs.Lone.{IsAtEase}
@@ -46,20 +45,20 @@ is_icc operation = false
 
 -- what a part has to be after other moments: where it is for an access of a CPU interface, each vCPU is at ease as it begins; and it is for an operation that its actor
 -- can ask for
-pub record IsFit (guest : GuestSpec) (number : ℕ) (early : List CoreMoment) (part : WholePart) : Type 0 where
+pub record IsFit (guest : IdealGuest) (number : ℕ) (early : List CoreMoment) (part : WholePart) : Type 0 where
   pub ease : is_icc part.operation ≡ true → (vcpu : ℕ) → vcpu < guest.shape.vcpus → IsAtEase guest.shape (end_of_moments guest.shape (opening guest number) early) vcpu (progress_in guest number early vcpu)
   pub good : IsGoodCall guest.shape part.actor part.operation
 
-abbrev pub AreFit : GuestSpec → ℕ → List CoreMoment → List WholePart → Type 0
+abbrev pub AreFit : IdealGuest → ℕ → List CoreMoment → List WholePart → Type 0
 AreFit guest number early [] = Unit {0}
 AreFit guest number early (part ∷ parts) = IsFit guest number early part × AreFit guest number (early ++ moments_in part) parts
 
 -- with all that stands at interfaces taken back, the guest ends as the eager controller's does, and each part answers what that answers
-pub record IsEager (guest : GuestSpec) (number : ℕ) (parts : List WholePart) : Type 0 where
-  pub ends : home (last_of guest (ideal_of guest.shape (opening guest number) (moments_of parts))) ≡ eager_after_all (calls_of guest.shape (opening guest number) parts) (opening_guest guest)
-  pub answers : AnswerEagerly (calls_of guest.shape (opening guest number) parts) (opening_guest guest)
+pub record IsEager (guest : IdealGuest) (number : ℕ) (parts : List WholePart) : Type 0 where
+  pub ends : home (last_of guest (ideal_of guest.shape (opening guest number) (moments_of parts))) ≡ eager_after_all (calls_of guest.shape (opening guest number) parts) guest
+  pub answers : AnswerEagerly (calls_of guest.shape (opening guest number) parts) guest
 
 -- so it is of every proper run of such parts that make their calls
 abbrev pub SerialRunsAreEager : Type 0
 SerialRunsAreEager =
-    (guest : GuestSpec) (number : ℕ) (parts : List WholePart) → IsGoodGuest guest → IsProperRun guest number (moments_of parts) → AreCalls guest.shape (opening guest number) (opening_course guest) (moments_of parts) → AreFit guest number [] parts → IsEager guest number parts
+    (guest : IdealGuest) (number : ℕ) (parts : List WholePart) → CanOpen guest → IsProperRun guest number (moments_of parts) → AreCalls guest.shape (opening guest number) (opening_course guest) (moments_of parts) → AreFit guest number [] parts → IsEager guest number parts

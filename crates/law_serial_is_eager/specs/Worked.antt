@@ -1,8 +1,8 @@
 -- The worked run, part by part: what the law asks of it holds.
 use Rattle.std.specs.Prelude.{◌≡◌, ℕ, ◌^◌, false, List, [], ◌∷◌, Option, Some, None}
 use Rattle.law_lone_calls_are_eager.specs.Words.{Eoir1, Iar1, Message}
-use Rattle.law_lone_calls_are_eager.specs.Calls.{Operation, Device, Residence, IsGoodGuest}
-use Rattle.law_lone_calls_are_eager.specs.Histories.{opening_course}
+use Rattle.law_lone_calls_are_eager.specs.Calls.{Operation, Device, Residence}
+use Rattle.law_lone_calls_are_eager.specs.Histories.{opening_course, CanOpen}
 use Rattle.law_lone_accesses_find_all.specs.Core.{Made, CoreStep, Claim, GiveBack, Kick, Look, Mark, Poll, Raise, Release, TakeIndex, Irq, Vcpu, opening, IsProperRun, worked_guest, worked_run, spi, opened_word, pending_word, held_word, reads_iar, writes_eoir}
 use Rattle.law_lone_accesses_find_all.specs.LawCoreIsHistory.Laws.{AreCalls}
 use Rattle.law_serial_is_eager.specs.Serial.{AreFit, IsEager, WholePart, moments_of}
@@ -28,7 +28,7 @@ worked_parts =
     ∷ []
 
 pub record WorkedPartsAreFit : Type 0 where
-  pub good : IsGoodGuest worked_guest
+  pub good : CanOpen worked_guest
   pub same : moments_of worked_parts ≡ worked_run
   pub proper : IsProperRun worked_guest 0 (moments_of worked_parts)
   pub calls : AreCalls worked_guest.shape (opening worked_guest 0) (opening_course worked_guest) (moments_of worked_parts)

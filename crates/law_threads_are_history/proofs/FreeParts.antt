@@ -5,9 +5,9 @@ use Rattle.std.specs.Option.{option_map_or, option_to_list}
 use Rattle.std.proofs.lemmas.Bool.{and_parts}
 use Rattle.std.proofs.lemmas.List.{append-nil, append_assoc}
 use Rattle.law_ends_agree.specs.Words.{Lpi, GuestShape, target_in, irq_of}
-use Rattle.law_ends_agree.specs.Calls.{Event, ItsBegin, Operation, Beside, Happened, IsCall, GuestSpec}
+use Rattle.law_ends_agree.specs.Calls.{Event, ItsBegin, Operation, Beside, Happened, IsCall}
 use Rattle.law_ends_agree.specs.GicCall.declared.event.Found.TheVariants.{Nothing}
-use Rattle.law_ends_agree.specs.Histories.{Ideal, happened, Call, IsEnded, begun, is_passed, seeing, targets_in, vcpu_of}
+use Rattle.law_ends_agree.specs.Histories.{Ideal, happened, Call, IsEnded, begun, is_passed, seeing, targets_in, vcpu_of, IdealGuest}
 use Rattle.law_found_parts_are_calls.proofs.LawHistories.CourseLemmas.{noted_piece}
 use Rattle.law_ends_agree.specs.Registers.{Maps}
 use Rattle.law_runs_are_fresh.proofs.LawEagerIsHistory.WindowLemmas.{is_no_turn}
@@ -75,7 +75,7 @@ pub record IsGoing (shape : GuestShape) (actor : ℕ) (seat : Seat) (part : Part
   pub steady : IsTrue (list_all is_steady (lone_events (events_from shape actor seat part.steps)))
   pub once : is_message part.operation ≡ true → IsTrue (take_once (lone_events (events_from shape actor seat part.steps)))
 
-pub going_of : (guest : GuestSpec) (actor : ℕ) (base : Seen) (seat : Seat) (part : Part) → takes_its_by guest.shape part.operation ≡ false → IsCallFound (told_by guest actor base seat) part → IsGoing guest.shape actor seat part
+pub going_of : (guest : IdealGuest) (actor : ℕ) (base : Seen) (seat : Seat) (part : Part) → takes_its_by guest.shape part.operation ≡ false → IsCallFound (told_by guest actor base seat) part → IsGoing guest.shape actor seat part
 going_of guest actor base seat part free told = of told.found.finding (told.found.kind ∙ free) told.found.is_finding told.found.call
   where
     beside : Beside
@@ -138,7 +138,7 @@ abbrev pub IsTakingOnce : Part → List Maps → List Event → Call → Type 0
 IsTakingOnce part tables events call = IsUntaken part tables events call ⊎ IsTaken part tables events call
 
 -- an actor is in such a part
-pub record IsFree (guest : GuestSpec) (actor : ℕ) (ideal : Ideal) (now : Seat) (call : Call) (acts : List Act) : Type 0 where
+pub record IsFree (guest : IdealGuest) (actor : ℕ) (ideal : Ideal) (now : Seat) (call : Call) (acts : List Act) : Type 0 where
   pub seat : Seat
   pub part : Part
   pub todo : List Made
@@ -152,7 +152,7 @@ pub record IsFree (guest : GuestSpec) (actor : ℕ) (ideal : Ideal) (now : Seat)
   pub placing : (id : ℕ) → going.goes_by id ≡ true → IsPlacing guest.shape actor id (going.targets id) now todo call
 
 -- it begins
-pub free_begins : (guest : GuestSpec) (actor : ℕ) (ideal : Ideal) (now : Seat) (operation : Operation) (acts : List Act) (begins : Begins guest actor now operation acts) → takes_its_by guest.shape begins.part.operation ≡ false → IsFree guest actor ideal now (begun ideal operation) acts
+pub free_begins : (guest : IdealGuest) (actor : ℕ) (ideal : Ideal) (now : Seat) (operation : Operation) (acts : List Act) (begins : Begins guest actor now operation acts) → takes_its_by guest.shape begins.part.operation ≡ false → IsFree guest actor ideal now (begun ideal operation) acts
 free_begins guest actor ideal now operation acts begins free =
     let part = begins.part in
     let going = going_of guest actor begins.base now part free begins.told in
@@ -171,7 +171,7 @@ free_begins guest actor ideal now operation acts begins free =
     }
 
 -- another actor makes an event
-pub free_seen : (guest : GuestSpec) (actor : ℕ) (before after : Ideal) (now : Seat) (call : Call) (acts : List Act) → IsFree guest actor before now call acts → IsFree guest actor after now (seeing after call) acts
+pub free_seen : (guest : IdealGuest) (actor : ℕ) (before after : Ideal) (now : Seat) (call : Call) (acts : List Act) → IsFree guest actor before now call acts → IsFree guest actor after now (seeing after call) acts
 free_seen guest actor before after now call acts is =
     record {
       seat = is.seat;
@@ -198,7 +198,7 @@ free_seen guest actor before after now call acts is =
 -- it makes a step
 
 -- what a step makes of it
-abbrev pub FreeSteps : GuestSpec → ℕ → Ideal → Seat → Call → List Act → Option Happened → Type 0
+abbrev pub FreeSteps : IdealGuest → ℕ → Ideal → Seat → Call → List Act → Option Happened → Type 0
 FreeSteps guest actor ideal next call acts None = IsFree guest actor ideal next call acts
 FreeSteps guest actor ideal next call acts (Some one) =
     IsTrue (is_steady one.event) × IsFree guest actor (happened actor one.event ideal) next (call_next ideal (happened actor one.event ideal) one.event one.found call) acts
@@ -213,7 +213,7 @@ look_quiet shape actor id seat made is = ap (λ step. stands_for shape actor sea
     of true = refl
     of false = refl
 
-module _ (guest : GuestSpec) (actor : ℕ) (ideal : Ideal) (now : Seat) (call : Call) (made : Made) (acts : List Act) (is : IsFree guest actor ideal now call (makes made ∷ acts))
+module _ (guest : IdealGuest) (actor : ℕ) (ideal : Ideal) (now : Seat) (call : Call) (made : Made) (acts : List Act) (is : IsFree guest actor ideal now call (makes made ∷ acts))
     (turn : TakesTurn ideal.guest.tables made.tables (stands guest.shape actor now made) ⊎ TakesNone made.tables (stands guest.shape actor now made))
     (finds : (id : ℕ) → made.step ≡ Look (Irq (Lpi id)) → targets_in ideal id ≡ target_in (irq_of made.found).route guest.shape) where
   abbrev shape : GuestShape
@@ -363,11 +363,11 @@ module _ (guest : GuestSpec) (actor : ℕ) (ideal : Ideal) (now : Seat) (call : 
 
 -- It ends.
 
-pub record FreeEnds (guest : GuestSpec) (actor : ℕ) (now : Seat) (call : Call) (answer : Option ℕ) (acts : List Act) : Type 0 where
+pub record FreeEnds (guest : IdealGuest) (actor : ℕ) (now : Seat) (call : Call) (answer : Option ℕ) (acts : List Act) : Type 0 where
   pub ended : IsEnded guest.shape actor call answer
   pub idle : IsIdle guest actor now acts
 
-module _ (guest : GuestSpec) (actor : ℕ) (ideal : Ideal) (now : Seat) (call : Call) (answer : Option ℕ) (acts : List Act) (is : IsFree guest actor ideal now call (ends answer ∷ acts)) where
+module _ (guest : IdealGuest) (actor : ℕ) (ideal : Ideal) (now : Seat) (call : Call) (answer : Option ℕ) (acts : List Act) (is : IsFree guest actor ideal now call (ends answer ∷ acts)) where
   over : Ends guest actor now is.seat is.part answer acts is.todo
   over = partly_ends guest actor now is.seat is.part answer acts is.todo is.partly
 

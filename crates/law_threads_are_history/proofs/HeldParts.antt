@@ -4,18 +4,18 @@ use Rattle.std.specs.List.{list_all}
 use Rattle.std.specs.Option.{option_to_list}
 use Rattle.std.proofs.lemmas.Bool.{and_parts}
 use Rattle.std.proofs.lemmas.List.{append-nil, append_assoc}
+use Rattle.law_found_parts_are_calls.specs.Histories.{AreForNone}
 use Rattle.law_ends_agree.specs.Words.{GuestShape}
-use Rattle.law_ends_agree.specs.Calls.{Event, ItsBegin, Happened, Beside, IsCall, is_beside, GuestSpec}
+use Rattle.law_ends_agree.specs.Calls.{Event, ItsBegin, Happened, Beside, IsCall, is_beside}
 use Rattle.law_ends_agree.specs.GicCall.declared.event.Event.TheVariants.{ItsEnd}
 use Rattle.law_ends_agree.specs.Registers.{IsValid, has_target}
 use Rattle.law_ends_agree.proofs.IdealGuests.KeyLemmas.{IsWhole}
-use Rattle.law_ends_agree.specs.Histories.{Ideal, happened, Call, IsEnded, targets_in, vcpu_of}
+use Rattle.law_ends_agree.specs.Histories.{Ideal, happened, Call, IsEnded, targets_in, vcpu_of, IdealGuest}
 use Rattle.law_found_parts_are_calls.proofs.LawHistories.CourseLemmas.{noted_piece}
 use Rattle.law_found_parts_are_calls.proofs.LawHistories.TurnSteps.{tables_after, tables_are}
 use Rattle.law_runs_are_fresh.proofs.LawEagerIsHistory.CourseLemmas.{state_after}
 use Rattle.law_runs_are_fresh.proofs.LawEagerIsHistory.WindowLemmas.{Targets, is_no_turn}
 use Rattle.law_runs_are_fresh.proofs.LawLoneCallsAreEager.RunLemmas.{events_of as lone_events}
-use Rattle.law_found_parts_are_calls.specs.LawUnmappedLpis.Mapped.{AreForNone}
 use Rattle.law_ends_agree.specs.Core.{Made, Seat, Act, ends, makes}
 use Rattle.law_found_parts_are_calls.specs.LawCoreIsHistory.Laws.{followed_by}
 use Rattle.law_found_parts_are_calls.proofs.BegunRuns.{beside_endless, is_endless}
@@ -76,13 +76,13 @@ not_ending false h = refl
 -- In the turn.
 
 -- what a step makes of it
-abbrev pub HoldingSteps : GuestSpec → ℕ → Ideal → Seat → Call → List Act → Option Happened → Type 0
+abbrev pub HoldingSteps : IdealGuest → ℕ → Ideal → Seat → Call → List Act → Option Happened → Type 0
 HoldingSteps guest actor ideal next call acts None = IsHolding guest actor ideal next call acts
 HoldingSteps guest actor ideal next call acts (Some one) =
     IsHolding guest actor (happened actor one.event ideal) next (call_next ideal (happened actor one.event ideal) one.event one.found call) acts
     ⊎ ((AreForNone (happened actor one.event ideal).guest) × IsReleased guest actor next (call_next ideal (happened actor one.event ideal) one.event one.found call) acts)
 
-module _ (guest : GuestSpec) (actor : ℕ) (ideal : Ideal) (now : Seat) (call : Call) (made : Made) (acts : List Act) (is : IsHolding guest actor ideal now call (makes made ∷ acts)) (here : IsStepHere guest.shape actor now ideal made) where
+module _ (guest : IdealGuest) (actor : ℕ) (ideal : Ideal) (now : Seat) (call : Call) (made : Made) (acts : List Act) (is : IsHolding guest actor ideal now call (makes made ∷ acts)) (here : IsStepHere guest.shape actor now ideal made) where
   abbrev shape : GuestShape
   shape = guest.shape
 
@@ -313,11 +313,11 @@ module _ (guest : GuestSpec) (actor : ℕ) (ideal : Ideal) (now : Seat) (call : 
 
 -- After the turn.
 
-abbrev pub ReleasedSteps : GuestSpec → ℕ → Ideal → Seat → Call → List Act → Option Happened → Type 0
+abbrev pub ReleasedSteps : IdealGuest → ℕ → Ideal → Seat → Call → List Act → Option Happened → Type 0
 ReleasedSteps guest actor ideal next call acts None = IsReleased guest actor next call acts
 ReleasedSteps guest actor ideal next call acts (Some one) = IsTrue (is_steady one.event) × IsReleased guest actor next (call_next ideal (happened actor one.event ideal) one.event one.found call) acts
 
-pub released_makes : (guest : GuestSpec) (actor : ℕ) (ideal : Ideal) (now : Seat) (call : Call) (made : Made) (acts : List Act) → IsReleased guest actor now call (makes made ∷ acts)
+pub released_makes : (guest : IdealGuest) (actor : ℕ) (ideal : Ideal) (now : Seat) (call : Call) (made : Made) (acts : List Act) → IsReleased guest actor now call (makes made ∷ acts)
     → ReleasedSteps guest actor ideal (next_seat guest.shape actor now made) call acts (stands guest.shape actor now made)
 released_makes guest actor ideal now call made acts is = of (stands guest.shape actor now made) piece_so beside_so
   where
@@ -368,22 +368,22 @@ nothing_before [] y ys e = cc
 nothing_before (x ∷ xs) y ys e = cc
 
 -- no part ends before its turn, or in it
-pub before_ends_none : (guest : GuestSpec) (actor : ℕ) (ideal : Ideal) (now : Seat) (call : Call) (answer : Option ℕ) (acts : List Act) → IsBefore guest actor ideal now call (ends answer ∷ acts) → ⊥
+pub before_ends_none : (guest : IdealGuest) (actor : ℕ) (ideal : Ideal) (now : Seat) (call : Call) (answer : Option ℕ) (acts : List Act) → IsBefore guest actor ideal now call (ends answer ∷ acts) → ⊥
 before_ends_none guest actor ideal now call answer acts is =
     let over = partly_ends guest actor now is.seat is.part answer acts is.todo is.partly in
     nothing_before is.ahead.early ItsBegin (is.ahead.inner ++ (ItsEnd ∷ is.ahead.late)) (sym (ap (λ todo. lone_events (events_from guest.shape actor now todo)) over.todo_is) ∙ is.ahead.split)
 
-pub holding_ends_none : (guest : GuestSpec) (actor : ℕ) (ideal : Ideal) (now : Seat) (call : Call) (answer : Option ℕ) (acts : List Act) → IsHolding guest actor ideal now call (ends answer ∷ acts) → ⊥
+pub holding_ends_none : (guest : IdealGuest) (actor : ℕ) (ideal : Ideal) (now : Seat) (call : Call) (answer : Option ℕ) (acts : List Act) → IsHolding guest actor ideal now call (ends answer ∷ acts) → ⊥
 holding_ends_none guest actor ideal now call answer acts is =
     let over = partly_ends guest actor now is.seat is.part answer acts is.todo is.partly in
     nothing_before is.turn.inner ItsEnd is.turn.late (sym (ap (λ todo. lone_events (events_from guest.shape actor now todo)) over.todo_is) ∙ is.turn.split)
 
 -- and after its turn it is its call
-pub record ReleasedEnds (guest : GuestSpec) (actor : ℕ) (now : Seat) (call : Call) (answer : Option ℕ) (acts : List Act) : Type 0 where
+pub record ReleasedEnds (guest : IdealGuest) (actor : ℕ) (now : Seat) (call : Call) (answer : Option ℕ) (acts : List Act) : Type 0 where
   pub ended : IsEnded guest.shape actor call answer
   pub idle : IsIdle guest actor now acts
 
-pub released_ends : (guest : GuestSpec) (actor : ℕ) (now : Seat) (call : Call) (answer : Option ℕ) (acts : List Act) → IsReleased guest actor now call (ends answer ∷ acts) → ReleasedEnds guest actor now call answer acts
+pub released_ends : (guest : IdealGuest) (actor : ℕ) (now : Seat) (call : Call) (answer : Option ℕ) (acts : List Act) → IsReleased guest actor now call (ends answer ∷ acts) → ReleasedEnds guest actor now call answer acts
 released_ends guest actor now call answer acts is =
     let over = partly_ends guest actor now is.seat is.part answer acts is.todo is.partly in
     let beside : Beside = record { maps = call.maps; targets = λ id. (is.noted.some id).0; commands = call.commands } in

@@ -2,7 +2,8 @@
 use Rattle.std.proofs.Common.{◌≡◌, ℕ, ◌<◌, ◌≤◌, ◌==◌, Bool, true, false, cond, if◌then◌else◌, All, List, [], ◌∷◌, ◌++◌, filter, fold, map, Option, Some, None, refl, sym, ap, ◌∙◌, subst, arith}
 use Rattle.std.proofs.lemmas.List.Elements.{All-head, All-tail}
 use Rattle.law_ends_agree.specs.Words.{GuestShape}
-use Rattle.law_ends_agree.specs.Calls.{Moment, Operation, Residence, Happened, GuestSpec}
+use Rattle.law_ends_agree.specs.Calls.{Moment, Operation, Residence, Happened}
+use Rattle.law_ends_agree.specs.Histories.{IdealGuest}
 use Rattle.law_found_parts_are_calls.specs.LawEagerIsHistory.Calls.{Made as MadeCall, calls_by, made_of}
 use Rattle.law_ends_agree.specs.Core.{Local, Made, actor_count, Seen, CoreState, end_of, opening, opening_local_of, seat_at, stands_for, after_moment, event_moments, ideal_of, Act, CoreMoment, begins, ends, makes, own_acts}
 use Rattle.law_ends_agree.proofs.PortCore.OpeningLemmas.{seat_opens}
@@ -91,13 +92,13 @@ parts_over (part ∷ parts) = part_over part.steps part.answer (acts_in parts) �
 
 -- As the guest opens.
 
-module _ (guest : GuestSpec) (number actor : ℕ) (there : actor < actor_count guest.shape) (own : List Made) (parts : List Part) (done : ActorHasDone guest number actor own parts) where
+module _ (guest : IdealGuest) (number actor : ℕ) (there : actor < actor_count guest.shape) (own : List Made) (parts : List Part) (done : ActorHasDone guest number actor own parts) where
   abbrev from : Seen
   from = done.from
 
   told_is : done.from ≡ told_by guest actor done.from (seat_at (opening guest number) actor)
   told_is =
-      ap (λ (g : GuestSpec). told_by g from.actor from (record { local = from.local; own = from.own })) done.guest_is
+      ap (λ (g : IdealGuest). told_by g from.actor from (record { local = from.local; own = from.own })) done.guest_is
       ∙ ap (λ a. told_by guest a from (record { local = from.local; own = from.own })) done.actor_is
       ∙ ap (λ (l : Local). told_by guest actor from (record { local = l; own = from.own })) done.local_is
       ∙ ap (λ (o : List Made). told_by guest actor from (record { local = opening_local_of guest number actor; own = o })) done.own_is

@@ -4,20 +4,20 @@ use Rattle.std.specs.List.{cons_option, list_all}
 use Rattle.std.specs.Option.{option_to_list}
 use Rattle.std.proofs.lemmas.Bool.{and_from, and_parts}
 use Rattle.std.proofs.lemmas.List.{append_assoc}
+use Rattle.law_found_parts_are_calls.specs.Histories.{AreForNone}
 use Rattle.law_ends_agree.specs.Words.{Lpi, GuestShape, has_interrupt, target_in, irq_of}
-use Rattle.law_ends_agree.specs.Calls.{Event, Enable, ItsBegin, Touch, Operation, Happened, IsCall, is_beside, GuestSpec}
+use Rattle.law_ends_agree.specs.Calls.{Event, Enable, ItsBegin, Touch, Operation, Happened, IsCall, is_beside}
 use Rattle.law_ends_agree.specs.GicCall.declared.event.Event.TheVariants.{ItsEnd, Queue}
 use Rattle.law_ends_agree.specs.GicCall.declared.event.Found.TheVariants.{Nothing}
 use Rattle.law_ends_agree.specs.Registers.{IsValid}
 use Rattle.law_ends_agree.proofs.IdealGuests.KeyLemmas.{IsWhole}
-use Rattle.law_ends_agree.specs.Histories.{Ideal, happened, Call, begun, made as call_made, noted, seeing, targets_in, vcpu_of}
+use Rattle.law_ends_agree.specs.Histories.{Ideal, happened, Call, begun, made as call_made, noted, seeing, targets_in, vcpu_of, IdealGuest}
 use Rattle.law_found_parts_are_calls.proofs.LawHistories.CourseLemmas.{noted_piece}
 use Rattle.law_found_parts_are_calls.proofs.LawHistories.TurnSteps.{tables_are}
 use Rattle.law_runs_are_fresh.proofs.LawEagerIsHistory.CourseLemmas.{state_after}
 use Rattle.law_runs_are_fresh.proofs.LawEagerIsHistory.WindowLemmas.{Targets, is_no_turn}
 use Rattle.law_runs_are_fresh.proofs.LawLoneCallsAreEager.MapsLemmas.{tables_kept}
 use Rattle.law_runs_are_fresh.proofs.LawLoneCallsAreEager.RunLemmas.{events_of as lone_events}
-use Rattle.law_found_parts_are_calls.specs.LawUnmappedLpis.Mapped.{AreForNone}
 use Rattle.law_ends_agree.specs.Core.{Made, Irq, is_on, known_maps, no_maps, Seen, Seat, Act, makes}
 use Rattle.law_found_parts_are_calls.specs.LawCoreIsHistory.Laws.{followed_by}
 use Rattle.law_found_parts_are_calls.specs.PeMem.Found.{takes_its_by}
@@ -56,7 +56,7 @@ pub record IsTurnAhead (who : Option ℕ) (events : List Event) : Type 0 where
   pub within : IsTrue (list_all is_inner inner)
   pub after : IsTrue (list_all (is_beside who) late)
 
-pub record IsBefore (guest : GuestSpec) (actor : ℕ) (ideal : Ideal) (now : Seat) (call : Call) (acts : List Act) : Type 0 where
+pub record IsBefore (guest : IdealGuest) (actor : ℕ) (ideal : Ideal) (now : Seat) (call : Call) (acts : List Act) : Type 0 where
   pub base : Seen
   pub seat : Seat
   pub part : Part
@@ -76,7 +76,7 @@ pub record IsBefore (guest : GuestSpec) (actor : ℕ) (ideal : Ideal) (now : Sea
   pub untaken : tables_in part.steps ≡ tables_in todo
   pub windowed : IsWindowed ideal call
 
-pub its_begins : (guest : GuestSpec) (actor : ℕ) (ideal : Ideal) (now : Seat) (operation : Operation) (acts : List Act) (begins : Begins guest actor now operation acts) → takes_its_by guest.shape begins.part.operation ≡ true → IsBefore guest actor ideal now (begun ideal operation) acts
+pub its_begins : (guest : IdealGuest) (actor : ℕ) (ideal : Ideal) (now : Seat) (operation : Operation) (acts : List Act) (begins : Begins guest actor now operation acts) → takes_its_by guest.shape begins.part.operation ≡ true → IsBefore guest actor ideal now (begun ideal operation) acts
 its_begins guest actor ideal now operation acts begins takes =
     let part = begins.part in
     let turn = its_turn guest.shape begins.told.made.beside (vcpu_of guest.shape actor) part.operation (events_from guest.shape actor now part.steps) part.answer takes begins.told.made.call in
@@ -101,7 +101,7 @@ its_begins guest actor ideal now operation acts begins takes =
       windowed = windowed_begun ideal operation;
     }
 
-pub before_seen : (guest : GuestSpec) (actor : ℕ) (before after : Ideal) (now : Seat) (call : Call) (acts : List Act) → IsBefore guest actor before now call acts → IsBefore guest actor after now (seeing after call) acts
+pub before_seen : (guest : IdealGuest) (actor : ℕ) (before after : Ideal) (now : Seat) (call : Call) (acts : List Act) → IsBefore guest actor before now call acts → IsBefore guest actor after now (seeing after call) acts
 before_seen guest actor before after now call acts is = record {
   base = is.base;
   seat = is.seat;
@@ -134,7 +134,7 @@ pub record IsTurnOn (who : Option ℕ) (events : List Event) : Type 0 where
   pub after : IsTrue (list_all (is_beside who) late)
 
 -- beside the ideal controller as if nobody else acted since it took the ITS
-pub record IsHolding (guest : GuestSpec) (actor : ℕ) (ideal : Ideal) (now : Seat) (call : Call) (acts : List Act) : Type 0 where
+pub record IsHolding (guest : IdealGuest) (actor : ℕ) (ideal : Ideal) (now : Seat) (call : Call) (acts : List Act) : Type 0 where
   pub seat : Seat
   pub part : Part
   pub todo : List Made
@@ -159,7 +159,7 @@ pub record IsHolding (guest : GuestSpec) (actor : ℕ) (ideal : Ideal) (now : Se
 
 -- another actor makes an event that moves no LPI, and leaves it the turn
 pub holding_seen :
-    (guest : GuestSpec) (actor other : ℕ) (before : Ideal) (event : Event) (now : Seat) (call : Call) (acts : List Act) → is_steady event ≡ true → (happened other event before).has_its ≡ Some actor → IsHolding guest actor before now call acts
+    (guest : IdealGuest) (actor other : ℕ) (before : Ideal) (event : Event) (now : Seat) (call : Call) (acts : List Act) → is_steady event ≡ true → (happened other event before).has_its ≡ Some actor → IsHolding guest actor before now call acts
     → IsHolding guest actor (happened other event before) now (seeing (happened other event before) call) acts
 holding_seen guest actor other before event now call acts steady holds is = record {
   seat = is.seat;
@@ -187,7 +187,7 @@ holding_seen guest actor other before event now call acts steady holds is = reco
 
 -- After its turn.
 
-pub record IsReleased (guest : GuestSpec) (actor : ℕ) (now : Seat) (call : Call) (acts : List Act) : Type 0 where
+pub record IsReleased (guest : IdealGuest) (actor : ℕ) (now : Seat) (call : Call) (acts : List Act) : Type 0 where
   pub seat : Seat
   pub part : Part
   pub todo : List Made
@@ -201,7 +201,7 @@ pub record IsReleased (guest : GuestSpec) (actor : ℕ) (now : Seat) (call : Cal
   pub beside : IsTrue (list_all (is_beside (vcpu_of guest.shape actor)) (lone_events (events_from guest.shape actor now todo)))
   pub noted : HasNoted call firsts
 
-pub released_seen : (guest : GuestSpec) (actor : ℕ) (after : Ideal) (now : Seat) (call : Call) (acts : List Act) → IsReleased guest actor now call acts → IsReleased guest actor now (seeing after call) acts
+pub released_seen : (guest : IdealGuest) (actor : ℕ) (after : Ideal) (now : Seat) (call : Call) (acts : List Act) → IsReleased guest actor now call acts → IsReleased guest actor now (seeing after call) acts
 released_seen guest actor after now call acts is = record {
   seat = is.seat;
   part = is.part;
@@ -275,13 +275,13 @@ turn_closes who (event ∷ inner) late within after =
     no_end event h = refl
 
 -- what a step before the turn makes of it
-abbrev pub BeforeSteps : GuestSpec → ℕ → Ideal → Seat → Call → List Act → Option Happened → Type 0
+abbrev pub BeforeSteps : IdealGuest → ℕ → Ideal → Seat → Call → List Act → Option Happened → Type 0
 BeforeSteps guest actor ideal next call acts None = IsBefore guest actor ideal next call acts
 BeforeSteps guest actor ideal next call acts (Some one) =
     (IsTrue (is_steady one.event) × IsBefore guest actor (happened actor one.event ideal) next (call_next ideal (happened actor one.event ideal) one.event one.found call) acts)
     ⊎ ((one.event ≡ ItsBegin) × (AreForNone ideal.guest → IsHolding guest actor (happened actor one.event ideal) next (call_next ideal (happened actor one.event ideal) one.event one.found call) acts))
 
-module _ (guest : GuestSpec) (actor : ℕ) (ideal : Ideal) (now : Seat) (call : Call) (made : Made) (acts : List Act) (is : IsBefore guest actor ideal now call (makes made ∷ acts)) (here : IsStepHere guest.shape actor now ideal made) where
+module _ (guest : IdealGuest) (actor : ℕ) (ideal : Ideal) (now : Seat) (call : Call) (made : Made) (acts : List Act) (is : IsBefore guest actor ideal now call (makes made ∷ acts)) (here : IsStepHere guest.shape actor now ideal made) where
   abbrev shape : GuestShape
   shape = guest.shape
 

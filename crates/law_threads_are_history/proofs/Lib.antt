@@ -1,4 +1,5 @@
 pub use Rattle.law_ends_agree.proofs.GicFrame
+pub use Rattle.law_ends_agree.proofs.IdealGuests
 pub use Rattle.law_ends_agree.proofs.GuestEnd
 pub use Rattle.law_ends_agree.proofs.PortCore
 pub use Rattle.law_ends_agree.proofs.PortOps

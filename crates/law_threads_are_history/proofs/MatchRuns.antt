@@ -5,6 +5,7 @@ use Rattle.std.specs.Option.{option_map_or, option_or, option_to_list}
 use Rattle.std.proofs.lemmas.Bool.{and_from, and_parts}
 use Rattle.std.proofs.lemmas.List.{append-nil, append_assoc, length-append}
 use Rattle.std.proofs.Math.Seq.{get_or-append_seam}
+use Rattle.law_found_parts_are_calls.specs.Histories.{AreForNone}
 use Rattle.law_ends_agree.specs.Words.{Lpi, GuestShape, has_interrupt, target_in, irq_of}
 use Rattle.law_ends_agree.specs.Calls.{Event, Happened, is_beside, command_targets}
 use Rattle.law_ends_agree.specs.GicCall.declared.event.Event.TheVariants.{ItsEnd}
@@ -17,7 +18,6 @@ use Rattle.law_runs_are_fresh.proofs.LawEagerIsHistory.WindowLemmas.{Targets, be
 use Rattle.law_runs_are_fresh.proofs.LawLoneCallsAreEager.CommandLemmas.{events_both}
 use Rattle.law_runs_are_fresh.proofs.LawLoneCallsAreEager.MapsLemmas.{beside_maps, tables_kept}
 use Rattle.law_runs_are_fresh.proofs.LawLoneCallsAreEager.RunLemmas.{events_of as lone_events}
-use Rattle.law_found_parts_are_calls.specs.LawUnmappedLpis.Mapped.{AreForNone}
 use Rattle.law_ends_agree.specs.Core.{Made, Irq, local_after, ends_command, is_on, known_maps, Adds, Seen, local_by, part_events, seen_after, shape_of, Seat}
 use Rattle.law_found_parts_are_calls.specs.LawCoreIsHistory.Laws.{followed_by}
 use Rattle.law_found_parts_are_calls.specs.ItsExec.Known.{AgreeFound, AgreeWith, are_within, first_step, is_within}

@@ -3,15 +3,14 @@ use Rattle.std.proofs.Common.{◌≡◌, ◌≢◌, ℕ, ◌<◌, ◌⊎◌, inl
 use Rattle.std.proofs.lemmas.Bool.{and_from, cases_eq, eq-eqb, eqb-true, ne_eqb}
 use Rattle.std.proofs.lemmas.List.{get_or-set_other, get_or-set_same, length-map, length-replicate, length-set}
 use Rattle.std.proofs.lemmas.List.Elements.{All-head, All-tail}
+use Rattle.law_found_parts_are_calls.specs.Histories.{AreForNone}
 use Rattle.law_ends_agree.specs.Words.{Lpi, GuestShape, has_interrupt, IsShape, is_number, target_in, irq_of}
-use Rattle.law_ends_agree.specs.Calls.{Event, ItsBegin, Begin, Happens, Operation, Happened, GuestSpec, IsGoodGuest}
+use Rattle.law_ends_agree.specs.Calls.{Event, ItsBegin, Begin, Happens, Operation, Happened}
 use Rattle.law_ends_agree.specs.GicCall.declared.event.Moment.TheVariants.{End}
-use Rattle.law_ends_agree.specs.Histories.{irq_at, Ideal, happened, is_allowed, Call, Course, IsCallEnded, begun, call_of, course_of, gone_on, made as made_by, opening_course, seeing, targets_in}
+use Rattle.law_ends_agree.specs.Histories.{irq_at, Ideal, happened, is_allowed, Call, Course, IsCallEnded, begun, call_of, course_of, gone_on, made as made_by, opening_course, seeing, targets_in, IdealGuest, CanOpen}
 use Rattle.law_ends_agree.proofs.IdealGuests.KeyLemmas.{IsWhole}
 use Rattle.law_found_parts_are_calls.proofs.LawHistories.CourseLemmas.{begun_here, begun_other, ended_other, made_here, made_other, mark_is}
 use Rattle.law_ends_agree.specs.Registers.{IsValid}
-use Rattle.law_found_parts_are_calls.specs.LawUnmappedLpis.Mapped.{AreForNone}
-use Rattle.law_found_parts_are_calls.proofs.LawUnmappedLpis.OpeningLemmas.{open_for_none}
 use Rattle.law_ends_agree.specs.Core.{Entry, Made, Look, Irq as IrqWord, Queue, actor_count, is_on, place_of_word, CoreState, IsRun, IsSound, Seat, Takes, after, no_seat, opening, seat_at, word_in, CanStep, word_of, event_moments, Act, CoreMoment, begins, ends, entries_of, entry_by, makes, own_acts}
 use Rattle.law_ends_agree.proofs.PortCore.OpeningLemmas.{opens_sound}
 use Rattle.law_ends_agree.proofs.PortCore.StepLemmas.{steps_sound}
@@ -37,21 +36,21 @@ use Rattle.law_threads_are_history.proofs.WindowLemmas.{call_next}
 
 -- Where an actor is: in no part, or in one, with a call that it began; where it holds the ITS, in one that took it to change it.
 
-abbrev pub IsOpen : GuestSpec → ℕ → Bool → Ideal → Seat → Call → List Act → Type 0
+abbrev pub IsOpen : IdealGuest → ℕ → Bool → Ideal → Seat → Call → List Act → Type 0
 IsOpen guest actor true ideal now call acts = IsHolding guest actor ideal now call acts
 IsOpen guest actor false ideal now call acts = IsFree guest actor ideal now call acts ⊎ (IsBefore guest actor ideal now call acts ⊎ IsReleased guest actor now call acts)
 
-pub record IsWithin (guest : GuestSpec) (actor : ℕ) (holds : Bool) (now : Seat) (ideal : Ideal) (o : Option Call) (acts : List Act) : Type 0 where
+pub record IsWithin (guest : IdealGuest) (actor : ℕ) (holds : Bool) (now : Seat) (ideal : Ideal) (o : Option Call) (acts : List Act) : Type 0 where
   pub call : Call
   pub call_is : o ≡ Some call
   pub is : IsOpen guest actor holds ideal now call acts
 
-abbrev pub Stands : GuestSpec → ℕ → Bool → Seat → Ideal → Option Call → List Act → Type 0
+abbrev pub Stands : IdealGuest → ℕ → Bool → Seat → Ideal → Option Call → List Act → Type 0
 Stands guest actor true now ideal o acts = IsWithin guest actor true now ideal o acts
 Stands guest actor false now ideal o acts = IsIdle guest actor now acts ⊎ IsWithin guest actor false now ideal o acts
 
 -- a part of it begins
-module _ (guest : GuestSpec) (actor : ℕ) (now : Seat) (ideal : Ideal) (operation : Operation) (lrs : ℕ) (acts : List Act) where
+module _ (guest : IdealGuest) (actor : ℕ) (now : Seat) (ideal : Ideal) (operation : Operation) (lrs : ℕ) (acts : List Act) where
   opens : Begins guest actor now operation acts → IsOpen guest actor false ideal now (begun ideal operation) acts
   opens begin = of (takes_its_by guest.shape begin.part.operation) refl
     where
@@ -71,11 +70,11 @@ module _ (guest : GuestSpec) (actor : ℕ) (now : Seat) (ideal : Ideal) (operati
   begins_mine false o (inr is) = absurd (none_open false is.call is.is)
 
 -- one ends, and is its call
-record EndsCall (guest : GuestSpec) (actor : ℕ) (holds : Bool) (now : Seat) (ideal : Ideal) (o : Option Call) (answer : Option ℕ) (acts : List Act) : Type 0 where
+record EndsCall (guest : IdealGuest) (actor : ℕ) (holds : Bool) (now : Seat) (ideal : Ideal) (o : Option Call) (answer : Option ℕ) (acts : List Act) : Type 0 where
   ended : IsCallEnded guest.shape actor o answer
   stand : (other : Option Call) → Stands guest actor holds now ideal other acts
 
-module _ (guest : GuestSpec) (actor : ℕ) (now : Seat) (ideal : Ideal) (answer : Option ℕ) (acts : List Act) where
+module _ (guest : IdealGuest) (actor : ℕ) (now : Seat) (ideal : Ideal) (answer : Option ℕ) (acts : List Act) where
   ends_open : (call : Call) → IsOpen guest actor false ideal now call (ends answer ∷ acts) → FreeEnds guest actor now call answer acts
   ends_open call (inl is) = free_ends guest actor ideal now call answer acts is
   ends_open call (inr (inl is)) = absurd (before_ends_none guest actor ideal now call answer acts is)
@@ -89,18 +88,18 @@ module _ (guest : GuestSpec) (actor : ℕ) (now : Seat) (ideal : Ideal) (answer 
 -- it makes a step
 
 -- what that makes of a part while its actor does not hold the ITS: the step moves no LPI, or takes it
-abbrev OpenSteps : GuestSpec → ℕ → Ideal → Seat → Call → List Act → Option Happened → Type 0
+abbrev OpenSteps : IdealGuest → ℕ → Ideal → Seat → Call → List Act → Option Happened → Type 0
 OpenSteps guest actor ideal next call acts None = IsOpen guest actor false ideal next call acts
 OpenSteps guest actor ideal next call acts (Some one) =
     (IsTrue (is_steady one.event) × IsOpen guest actor false (happened actor one.event ideal) next (call_next ideal (happened actor one.event ideal) one.event one.found call) acts)
     ⊎ ((one.event ≡ ItsBegin) × (AreForNone ideal.guest → IsHolding guest actor (happened actor one.event ideal) next (call_next ideal (happened actor one.event ideal) one.event one.found call) acts))
 
-record MakesStep (guest : GuestSpec) (actor : ℕ) (ideal : Ideal) (next : Seat) (o : Option Call) (acts : List Act) (Steps : GuestSpec → ℕ → Ideal → Seat → Call → List Act → Option Happened → Type 0) (happens : Option Happened) : Type 0 where
+record MakesStep (guest : IdealGuest) (actor : ℕ) (ideal : Ideal) (next : Seat) (o : Option Call) (acts : List Act) (Steps : IdealGuest → ℕ → Ideal → Seat → Call → List Act → Option Happened → Type 0) (happens : Option Happened) : Type 0 where
   call : Call
   call_is : o ≡ Some call
   steps : Steps guest actor ideal next call acts happens
 
-module _ (guest : GuestSpec) (actor : ℕ) (now : Seat) (ideal : Ideal) (made : Made) (acts : List Act) (here : IsStepHere guest.shape actor now ideal made)
+module _ (guest : IdealGuest) (actor : ℕ) (now : Seat) (ideal : Ideal) (made : Made) (acts : List Act) (here : IsStepHere guest.shape actor now ideal made)
     (finds : (id : ℕ) → made.step ≡ Look (IrqWord (Lpi id)) → targets_in ideal id ≡ target_in (irq_of made.found).route guest.shape) where
   abbrev then : Seat
   then = next_seat guest.shape actor now made
@@ -131,7 +130,7 @@ module _ (guest : GuestSpec) (actor : ℕ) (now : Seat) (ideal : Ideal) (made : 
   held_mine o is = record { call = is.call; call_is = is.call_is; steps = holding_makes guest actor ideal now is.call made acts is.is here }
 
 -- another actor makes an event: where this one holds the ITS, one that moves no LPI
-module _ (guest : GuestSpec) (actor other : ℕ) (now : Seat) (before : Ideal) (event : Event) (acts : List Act) (differ : actor ≢ other) (allowed : IsTrue (is_allowed before other event)) where
+module _ (guest : IdealGuest) (actor other : ℕ) (now : Seat) (before : Ideal) (event : Event) (acts : List Act) (differ : actor ≢ other) (allowed : IsTrue (is_allowed before other event)) where
   abbrev after_other : Ideal
   after_other = happened other event before
 
@@ -201,7 +200,7 @@ module _ (shape : GuestShape) (good : IsShape shape) (actor : ℕ) (state : Core
 number_other : (actor n : ℕ) (o : Option ℕ) → o ≡ Some actor → n ≢ actor → is_number n o ≡ false
 number_other actor n o is differ = ap (is_number n) is ∙ ne_eqb actor n (λ e. differ (sym e))
 
-module _ (guest : GuestSpec) (good : IsShape guest.shape) where
+module _ (guest : IdealGuest) (good : IsShape guest.shape) where
   abbrev shape : GuestShape
   shape = guest.shape
 
@@ -413,11 +412,11 @@ module _ (guest : GuestSpec) (good : IsShape guest.shape) where
 
 -- From where a guest opens.
 
-pub opens_at : (guest : GuestSpec) (number : ℕ) → IsGoodGuest guest → IsAt guest.shape (opening guest number) (opening_course guest)
+pub opens_at : (guest : IdealGuest) (number : ℕ) → CanOpen guest → IsAt guest.shape (opening guest number) (opening_course guest)
 opens_at guest number good = record { sound = opens_sound guest number good; related = related_opens guest number good; known = known_opens guest number good; each = length-replicate (actor_count guest.shape) None }
 
 pub calls_open :
-    (guest : GuestSpec) (number : ℕ) (moments : List CoreMoment) → (good : IsGoodGuest guest) → All (λ (moment : CoreMoment). moment.actor < actor_count guest.shape) moments → IsRun guest.shape (opening guest number) (entries_of moments)
+    (guest : IdealGuest) (number : ℕ) (moments : List CoreMoment) → (good : CanOpen guest) → All (λ (moment : CoreMoment). moment.actor < actor_count guest.shape) moments → IsRun guest.shape (opening guest number) (entries_of moments)
     → ((n : ℕ) → n < actor_count guest.shape → IsIdle guest n (seat_at (opening guest number) n) (own_acts n moments)) → AreCalls guest.shape (opening guest number) (opening_course guest) moments
 calls_open guest number moments good actors run idle =
-    calls_from guest good.shape moments None (opening guest number) (opening_course guest) actors (opens_at guest number good) run (open_for_none guest good) (λ n among. inl (idle n among))
+    calls_from guest good.sound.shape moments None (opening guest number) (opening_course guest) actors (opens_at guest number good) run good.none (λ n among. inl (idle n among))

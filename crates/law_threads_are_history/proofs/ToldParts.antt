@@ -2,12 +2,13 @@
 use Rattle.std.proofs.Common.{◌≡◌, ℕ, List, [], ◌∷◌, ◌++◌, map, Option, refl, sym, ap, ◌∙◌, subst}
 use Rattle.std.proofs.lemmas.List.{append-nil, append_assoc}
 use Rattle.law_ends_agree.specs.Words.{GuestShape}
-use Rattle.law_ends_agree.specs.Calls.{Operation, GuestSpec}
+use Rattle.law_ends_agree.specs.Calls.{Operation}
+use Rattle.law_ends_agree.specs.Histories.{IdealGuest}
 use Rattle.law_ends_agree.specs.Core.{Made, local_after, Seen, local_by, seen_after, Seat, Act, begins, makes, ends}
 use Rattle.pe_place.specs.Parts.{AreCalls, IsCallFound, Part, acts_in}
 
 -- what a port tells of an actor with this for itself
-abbrev pub told_by : GuestSpec → ℕ → Seen → Seat → Seen
+abbrev pub told_by : IdealGuest → ℕ → Seen → Seat → Seen
 told_by guest actor base seat = record base { guest = guest; actor = actor; local = seat.local; own = seat.own }
 
 -- an actor after a step, and after some
@@ -18,14 +19,14 @@ abbrev pub seat_after : GuestShape → ℕ → Seat → List Made → Seat
 seat_after shape actor seat steps = record { local = local_by shape actor seat.local steps; own = seat.own ++ steps }
 
 -- the actor is in no part, and these acts are all that is left of it
-pub record IsIdle (guest : GuestSpec) (actor : ℕ) (now : Seat) (acts : List Act) : Type 0 where
+pub record IsIdle (guest : IdealGuest) (actor : ℕ) (now : Seat) (acts : List Act) : Type 0 where
   pub base : Seen
   pub parts : List Part
   pub acts_are : acts ≡ acts_in parts
   pub told : AreCalls (told_by guest actor base now) parts
 
 -- it is in a part, with these steps still to come, and these parts after it
-pub record IsPartly (guest : GuestSpec) (actor : ℕ) (now : Seat) (acts : List Act) (seat : Seat) (part : Part) (todo : List Made) : Type 0 where
+pub record IsPartly (guest : IdealGuest) (actor : ℕ) (now : Seat) (acts : List Act) (seat : Seat) (part : Part) (todo : List Made) : Type 0 where
   pub base : Seen
   pub rest : List Part
   pub acts_are : acts ≡ map makes todo ++ ends part.answer ∷ acts_in rest
@@ -41,7 +42,7 @@ same_tail one two first next e = cc
 
 -- Where a part begins.
 
-pub record Begins (guest : GuestSpec) (actor : ℕ) (now : Seat) (operation : Operation) (acts : List Act) : Type 0 where
+pub record Begins (guest : IdealGuest) (actor : ℕ) (now : Seat) (operation : Operation) (acts : List Act) : Type 0 where
   pub base : Seen
   pub part : Part
   pub operation_is : part.operation ≡ operation
@@ -51,7 +52,7 @@ pub record Begins (guest : GuestSpec) (actor : ℕ) (now : Seat) (operation : Op
 begun_operation : (one two : Operation) (m n : ℕ) → begins one m ≡ begins two n → two ≡ one
 begun_operation one two m n e = cc
 
-pub idle_begins : (guest : GuestSpec) (actor : ℕ) (now : Seat) (operation : Operation) (lrs : ℕ) (acts : List Act) → IsIdle guest actor now (begins operation lrs ∷ acts) → Begins guest actor now operation acts
+pub idle_begins : (guest : IdealGuest) (actor : ℕ) (now : Seat) (operation : Operation) (lrs : ℕ) (acts : List Act) → IsIdle guest actor now (begins operation lrs ∷ acts) → Begins guest actor now operation acts
 idle_begins guest actor now operation lrs acts idle = of idle.parts idle.acts_are idle.told
   where
     of : (parts : List Part) → begins operation lrs ∷ acts ≡ acts_in parts → AreCalls (told_by guest actor idle.base now) parts → Begins guest actor now operation acts
@@ -72,14 +73,14 @@ idle_begins guest actor now operation lrs acts idle = of idle.parts idle.acts_ar
     }
 
 -- an actor in no part makes no step and ends none
-pub idle_makes_none : (guest : GuestSpec) (actor : ℕ) (now : Seat) (made : Made) (acts : List Act) → IsIdle guest actor now (makes made ∷ acts) → ⊥
+pub idle_makes_none : (guest : IdealGuest) (actor : ℕ) (now : Seat) (made : Made) (acts : List Act) → IsIdle guest actor now (makes made ∷ acts) → ⊥
 idle_makes_none guest actor now made acts idle = of idle.parts idle.acts_are
   where
     of : (parts : List Part) → makes made ∷ acts ≡ acts_in parts → ⊥
     of [] e = cc
     of (part ∷ parts) e = let head = same_head (makes made) (begins part.operation part.lrs) acts _ e in cc
 
-pub idle_ends_none : (guest : GuestSpec) (actor : ℕ) (now : Seat) (answer : Option ℕ) (acts : List Act) → IsIdle guest actor now (ends answer ∷ acts) → ⊥
+pub idle_ends_none : (guest : IdealGuest) (actor : ℕ) (now : Seat) (answer : Option ℕ) (acts : List Act) → IsIdle guest actor now (ends answer ∷ acts) → ⊥
 idle_ends_none guest actor now answer acts idle = of idle.parts idle.acts_are
   where
     of : (parts : List Part) → ends answer ∷ acts ≡ acts_in parts → ⊥
@@ -88,7 +89,7 @@ idle_ends_none guest actor now answer acts idle = of idle.parts idle.acts_are
 
 -- Where a part goes on.
 
-module _ (guest : GuestSpec) (actor : ℕ) (now : Seat) (seat : Seat) (part : Part) where
+module _ (guest : IdealGuest) (actor : ℕ) (now : Seat) (seat : Seat) (part : Part) where
   -- it begins no other
   pub partly_begins_none : (operation : Operation) (lrs : ℕ) (acts : List Act) (todo : List Made) → IsPartly guest actor now (begins operation lrs ∷ acts) seat part todo → ⊥
   partly_begins_none operation lrs acts [] is = let head = same_head (begins operation lrs) (ends part.answer) acts (acts_in is.rest) is.acts_are in cc

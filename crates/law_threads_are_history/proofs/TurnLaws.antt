@@ -4,19 +4,19 @@ use Rattle.std.specs.List.{list_all}
 use Rattle.std.specs.Option.{option_to_list}
 use Rattle.std.proofs.lemmas.Bool.{and_from, and_parts}
 use Rattle.std.proofs.lemmas.List.{append-nil, append_assoc}
+use Rattle.law_found_parts_are_calls.specs.Histories.{AreForNone}
 use Rattle.law_ends_agree.specs.Words.{Its, Mem, GuestShape}
 use Rattle.law_ends_agree.specs.GicImap.Map.{decoded as its_decoded}
-use Rattle.law_ends_agree.specs.Calls.{Event, ItsBegin, Touch, Operation, Access, Device, Residence, Done, Runs, Stalls, Beside, Happened, IsCall, IsItsCall, IsItsWrite, is_beside, GuestSpec}
+use Rattle.law_ends_agree.specs.Calls.{Event, ItsBegin, Touch, Operation, Access, Device, Residence, Done, Runs, Stalls, Beside, Happened, IsCall, IsItsCall, IsItsWrite, is_beside}
 use Rattle.law_ends_agree.specs.GicCall.declared.event.Event.TheVariants.{Queue}
 use Rattle.law_ends_agree.specs.GicCall.declared.event.Found.TheVariants.{Nothing}
 use Rattle.law_ends_agree.specs.Registers.{IsValid, Maps}
 use Rattle.law_ends_agree.proofs.IdealGuests.KeyLemmas.{IsWhole}
-use Rattle.law_ends_agree.specs.Histories.{Ideal, targets_in, vcpu_of}
+use Rattle.law_ends_agree.specs.Histories.{Ideal, targets_in, vcpu_of, IdealGuest}
 use Rattle.law_runs_are_fresh.proofs.LawEagerIsHistory.CourseLemmas.{state_after}
 use Rattle.law_runs_are_fresh.proofs.LawEagerIsHistory.WindowLemmas.{Targets, beside_of, no_target}
 use Rattle.law_runs_are_fresh.proofs.LawLoneCallsAreEager.CommandLemmas.{events_both}
 use Rattle.law_runs_are_fresh.proofs.LawLoneCallsAreEager.RunLemmas.{events_of as lone_events}
-use Rattle.law_found_parts_are_calls.specs.LawUnmappedLpis.Mapped.{AreForNone}
 use Rattle.law_ends_agree.specs.Core.{Made, ends_command, Seen, local_by, shape_of, Seat, maps_taken}
 use Rattle.law_found_parts_are_calls.specs.ItsExec.Known.{are_within, is_within}
 use Rattle.law_found_parts_are_calls.specs.ItsExec.Queue.{Taken}
@@ -133,7 +133,7 @@ before_later [] other h = h
 before_later (x ∷ one) other h = before_later one other (and_parts (is_before x.event) (are_before (one ++ other)) h).1
 
 -- Where a part took the ITS: before that it only read and moved interrupts.
-pub record IsTurned (guest : GuestSpec) (actor : ℕ) (seat : Seat) (part : Part) (now : Seat) (start : Ideal) (more : List Made) : Type 0 where
+pub record IsTurned (guest : IdealGuest) (actor : ℕ) (seat : Seat) (part : Part) (now : Seat) (start : Ideal) (more : List Made) : Type 0 where
   pub base : Seen
   pub told : IsCallFound (told_by guest actor base seat) part
   pub takes : takes_its_by guest.shape part.operation ≡ true
@@ -155,13 +155,13 @@ abbrev pub firsts_from : GuestShape → ℕ → Seat → Ideal → List Made →
 firsts_from shape actor now start more = targets_in start ∷ begun_after actor (lone_events (events_from shape actor now more)) start
 
 -- what follows
-pub record IsTurnedCall (guest : GuestSpec) (actor : ℕ) (seat : Seat) (part : Part) (now : Seat) (start : Ideal) (more : List Made) : Type 0 where
+pub record IsTurnedCall (guest : IdealGuest) (actor : ℕ) (seat : Seat) (part : Part) (now : Seat) (start : Ideal) (more : List Made) : Type 0 where
   pub call :
       (targets : Targets) (commands : List Targets) → AreSame (firsts_from guest.shape actor now start more) commands
       → IsCall guest.shape (record { maps = start.guest.tables; targets = targets; commands = commands }) (vcpu_of guest.shape actor) part.operation (events_from guest.shape actor seat part.steps) part.answer
   pub none : AreForNone (state_after actor (lone_events (events_from guest.shape actor now more)) start).guest
 
-module _ (guest : GuestSpec) (actor : ℕ) (seat : Seat) (part : Part) (now : Seat) (start : Ideal) (more : List Made) (is : IsTurned guest actor seat part now start more) (matches : Matches guest.shape actor true now start more) where
+module _ (guest : IdealGuest) (actor : ℕ) (seat : Seat) (part : Part) (now : Seat) (start : Ideal) (more : List Made) (is : IsTurned guest actor seat part now start more) (matches : Matches guest.shape actor true now start more) where
   abbrev shape : GuestShape
   shape = guest.shape
 
@@ -310,7 +310,7 @@ module _ (guest : GuestSpec) (actor : ℕ) (seat : Seat) (part : Part) (now : Se
         agree_all who maps firsts (one ∷ commands) among.from among.to (held_on shape actor true now middle) 0 ghost1 (targets_in start) among.late among.are
         (subst (λ (s : Seat). IsCome (shape_of among.from) among.from.actor who (held_on shape actor true now middle) s rest ghost1 0 firsts (targets_in start)) (sym from_is)
         (subst (λ a. IsCome (shape_of among.from) a who (held_on shape actor true now middle) seat1 rest ghost1 0 firsts (targets_in start)) (sym among.actor)
-        (subst (λ (g : GuestSpec). IsCome g.shape actor who (held_on shape actor true now middle) seat1 rest ghost1 0 firsts (targets_in start)) (sym among.guest) come)))
+        (subst (λ (g : IdealGuest). IsCome g.shape actor who (held_on shape actor true now middle) seat1 rest ghost1 0 firsts (targets_in start)) (sym among.guest) come)))
 
   agrees : (finding : Finding) → is_by_commands finding ≡ true → IsFinding (told_by guest actor is.base seat) part.steps finding → Agrees finding (beside_of maps firsts)
   agrees (by_looks goes_by targets) kind found = absurd (cc)

@@ -4,6 +4,7 @@ use Rattle.std.specs.List.{list_all}
 use Rattle.std.proofs.lemmas.Bool.{and_from, and_parts}
 use Rattle.std.proofs.lemmas.List.{append_assoc, length-append}
 use Rattle.std.proofs.Math.Seq.{get_or-append_seam}
+use Rattle.law_found_parts_are_calls.specs.Histories.{AreForNone}
 use Rattle.law_ends_agree.specs.Words.{GuestShape}
 use Rattle.law_ends_agree.specs.GicImap.Map.{decoded as its_decoded}
 use Rattle.law_ends_agree.specs.Calls.{Part, Clear, Map, Event, Enable, ItsBegin, Put, Done, Runs, Stalls, its_events, its_starts, command_parts, lpi_event, queue_event, AreCommands, AreStarted, ArePartsThen, Beside, Happened, IsCommand, IsItsCall, Makes, is_beside, its_written_by, left_by, named_of, View, words_read}
@@ -23,7 +24,6 @@ use Rattle.law_runs_are_fresh.proofs.LawLoneCallsAreEager.PassLemmas.{PassesBesi
 use Rattle.law_runs_are_fresh.proofs.LawLoneCallsAreEager.ReadLemmas.{beside_passes}
 use Rattle.law_runs_are_fresh.proofs.LawLoneCallsAreEager.RunLemmas.{events_of}
 use Rattle.law_runs_are_fresh.proofs.LawLoneCallsAreEager.TurnLemmas.{its_all}
-use Rattle.law_found_parts_are_calls.specs.LawUnmappedLpis.Mapped.{AreForNone}
 use Rattle.law_found_parts_are_calls.proofs.BegunRuns.{beside_endless, begun_command, is_endless, same_head, same_tail, whole_events}
 use Rattle.law_found_parts_are_calls.proofs.NoneRuns.{command_none}
 use Rattle.law_found_parts_are_calls.proofs.SteadyLemmas.{beside_steady, is_steady, maps_steady, targets_steady}

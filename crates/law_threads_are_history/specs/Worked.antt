@@ -1,7 +1,8 @@
 -- A worked run of two actors side by side: a device makes SPI 40 pending while a vCPU enters, step by step between its own.
 use Rattle.std.specs.Prelude.{ℕ, ◌^◌, zero, suc, false, List, [], ◌∷◌, Option, Some, None}
 use Rattle.law_ends_agree.specs.Words.{Eoir1, Iar1, Message}
-use Rattle.law_ends_agree.specs.Calls.{Operation, Device, IsGoodGuest}
+use Rattle.law_ends_agree.specs.Calls.{Operation, Device}
+use Rattle.law_ends_agree.specs.Histories.{CanOpen}
 use Rattle.law_ends_agree.specs.Core.{Entry, Made, CoreStep, Claim, GiveBack, Kick, Look, Mark, Poll, Raise, Release, TakeIndex, Irq, Vcpu, IsRun, opening, entry_by, held_word, opened_word, pending_word, reads_iar, spi, worked_guest, writes_eoir}
 use Rattle.pe_place.specs.Parts.{Part, residence}
 use Rattle.law_threads_are_history.specs.History.{HasHistory}
@@ -79,7 +80,7 @@ worked_world =
 
 -- it meets what the law asks, so that is no law of nothing
 pub record WorkedThreadsAreAHistory : Type 0 where
-  pub good : IsGoodGuest worked_guest
+  pub good : CanOpen worked_guest
   pub run : IsRun worked_guest.shape (opening worked_guest 0) worked_world
   pub done : HaveDone worked_guest 0 worked_world worked_parts
   pub history : HasHistory worked_guest 0 worked_world worked_parts

@@ -8,11 +8,10 @@ use Rattle.law_lone_calls_are_eager.specs.Registers.{BadCommand, Command, maps_a
 use Rattle.law_lone_calls_are_eager.proofs.ItsTab.TableLemmas.{unmapped}
 use Rattle.law_lone_calls_are_eager.specs.Calls.{Part, Event, Done, Stalls, parts, lpi_event, command_words, next_offset, decoded_parts, command_parts, queue_event, maps_by, maps_done}
 use Rattle.law_lone_calls_are_eager.specs.GicCall.declared.event.Event.TheVariants.{Queue}
-use Rattle.law_lone_calls_are_eager.specs.Histories.{IdealGuest, view_of, after_event, after_events, after_command, IsSound}
+use Rattle.law_lone_calls_are_eager.specs.Histories.{IdealGuest, view_of, after_event, after_events, after_command, IsSound, AreForNone}
 use Rattle.law_lone_calls_are_eager.proofs.IdealGuests.SoundLemmas.{whole_of}
 use Rattle.law_lone_calls_are_eager.proofs.IdealGuests.QueueLemmas.{kept_parts, bad_command}
 use Rattle.law_unmapped_lpis.specs.Laws.{CommandsLeaveNone}
-use Rattle.law_unmapped_lpis.specs.Mapped.{AreForNone}
 use Rattle.law_unmapped_lpis.proofs.CommandLemmas.{command_loses}
 use Rattle.law_unmapped_lpis.proofs.PartLemmas.{parts_none}
 

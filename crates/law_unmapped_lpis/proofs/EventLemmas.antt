@@ -7,12 +7,11 @@ use Rattle.law_lone_calls_are_eager.specs.Words.{IccReg, Key, Private, Spi, Lpi,
 use Rattle.law_lone_calls_are_eager.specs.Registers.{taken_by, deactivated_by, Candidate, has_target}
 use Rattle.law_lone_calls_are_eager.specs.Calls.{Event, Up, Down, Enable, Touch, Cpu, Put, CtlrBegin, Runs, Done, Stalls, Register, Enables, touched}
 use Rattle.law_lone_calls_are_eager.specs.GicCall.declared.event.Event.TheVariants.{Raise, Queue}
-use Rattle.law_lone_calls_are_eager.specs.Histories.{IdealGuest, cpu_at, candidates, changed_irq, after_acknowledge, after_deactivation, after_event, after_events}
+use Rattle.law_lone_calls_are_eager.specs.Histories.{IdealGuest, cpu_at, candidates, changed_irq, after_acknowledge, after_deactivation, after_event, after_events, AreForNone}
 use Rattle.law_lone_calls_are_eager.specs.IdealGuests.Ideal.{after_access}
 use Rattle.law_lone_calls_are_eager.proofs.IdealGuests.KeyLemmas.{IsWhole, whole_changed_at, tables_access}
 use Rattle.law_lone_calls_are_eager.proofs.MomentLemmas.{target_at, guest_whole}
 use Rattle.law_lone_calls_are_eager.proofs.PassLemmas.{is_plain_touch}
-use Rattle.law_unmapped_lpis.specs.Mapped.{AreForNone}
 use Rattle.law_unmapped_lpis.proofs.PartLemmas.{changed_none}
 
 abbrev pub is_calm : Event → Bool

@@ -8,7 +8,6 @@ pub mod MapsLemmas
 pub mod ListLemmas
 pub mod CommandLemmas
 pub mod CommandLaws
-pub mod OpeningLemmas
 pub mod EventLemmas
 pub mod CalmLemmas
 pub mod OperationLaws

@@ -4,13 +4,12 @@ use Rattle.law_lone_calls_are_eager.specs.Words.{Frame, Dist, Redist, Its, Ram a
 use Rattle.law_lone_calls_are_eager.specs.GicImap.Map.{decoded as its_decoded}
 use Rattle.law_lone_calls_are_eager.specs.Calls.{Cbaser, icc_events, its_events, its_starts, access_events, device_events, takes_command, command_events, queue_places}
 use Rattle.law_lone_calls_are_eager.proofs.GicCall.CallLemmas.{its_valid}
-use Rattle.law_lone_calls_are_eager.specs.Histories.{IdealGuest, word_at, view_of, after_events, after_command, after_commands, after_queued, IsSound}
+use Rattle.law_lone_calls_are_eager.specs.Histories.{IdealGuest, word_at, view_of, after_events, after_command, after_commands, after_queued, IsSound, AreForNone}
 use Rattle.law_lone_calls_are_eager.proofs.IdealGuests.SoundLemmas.{whole_of}
 use Rattle.law_lone_calls_are_eager.specs.GicIdeal.Deeds.{op_events}
 use Rattle.law_lone_calls_are_eager.proofs.GicIdeal.SoundEvents.{sound_events}
 use Rattle.law_lone_calls_are_eager.proofs.GicIdeal.StepLemmas.{free_follow, command_follows, op_is_events}
 use Rattle.law_unmapped_lpis.specs.Laws.{AccessesLeaveNone, DevicesLeaveNone}
-use Rattle.law_unmapped_lpis.specs.Mapped.{AreForNone}
 use Rattle.law_unmapped_lpis.proofs.CalmLemmas.{access_calm, icc_calm, device_calm}
 use Rattle.law_unmapped_lpis.proofs.CommandLaws.{commands_leave_none}
 use Rattle.law_unmapped_lpis.proofs.EventLemmas.{events_none}

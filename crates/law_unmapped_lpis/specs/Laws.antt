@@ -1,17 +1,11 @@
 -- Laws of the LPIs that the maps of an ITS give no vCPU, under the eager controller.
 use Rattle.std.specs.Prelude.{ℕ}
 use Rattle.law_lone_calls_are_eager.specs.Words.{DeviceOp, GuestOp}
-use Rattle.law_lone_calls_are_eager.specs.Calls.{device_events, command_events, GuestSpec, IsGoodGuest}
-use Rattle.law_lone_calls_are_eager.specs.Histories.{IdealGuest, view_of, after_events, IsSound}
-use Rattle.law_lone_calls_are_eager.specs.IdealGuests.Opening.{opening}
+use Rattle.law_lone_calls_are_eager.specs.Calls.{device_events, command_events}
+use Rattle.law_lone_calls_are_eager.specs.Histories.{IdealGuest, view_of, after_events, IsSound, AreForNone}
 use Rattle.law_lone_calls_are_eager.specs.GicIdeal.Deeds.{op_events}
-use Rattle.law_unmapped_lpis.specs.Mapped.{AreForNone}
 
--- they are for none as a good guest opens
-abbrev pub OpenForNone : Type 0
-OpenForNone = (guest : GuestSpec) → IsGoodGuest guest → AreForNone (opening guest)
-
--- after the next command of the queue again, with the event with which the queue goes on or stalls
+-- they stay for none after the next command of the queue, with the event with which the queue goes on or stalls
 abbrev pub CommandsLeaveNone : Type 0
 CommandsLeaveNone = (guest : IdealGuest) → IsSound guest → AreForNone guest → AreForNone (after_events (command_events guest.shape (view_of guest)) guest)
 

@@ -12,6 +12,5 @@ pub use Rattle.law_lone_calls_are_eager.specs.IdealGuests
 pub use Rattle.law_lone_calls_are_eager.specs.ItsCmd
 pub use Rattle.law_lone_calls_are_eager.specs.LawEagerIsHistory
 pub use Rattle.law_lone_calls_are_eager.specs as LawLoneCallsAreEager
-pub mod Mapped
 pub mod Laws
 pub mod Worked

@@ -1,16 +1,19 @@
 -- A worked guest: an LPI is mapped to a collection of vCPU 0, and then the collection is unmapped.
 use Rattle.std.specs.Prelude.{◌≡◌, ℕ, ◌+◌, ◌*◌, ◌^◌, true, false, List, [], ◌∷◌, ◌++◌, fold, flat_map, Some, None}
+use Rattle.law_lone_calls_are_eager.specs.Calls.{GuestSpec}
 use Rattle.law_lone_calls_are_eager.specs.Words.{Its, Ram as Memory, GuestOp, Mem}
 use Rattle.law_lone_calls_are_eager.specs.Registers.{Command, Mapd, Mapc, Mapti, encoded, pair_of, has_target}
-use Rattle.law_lone_calls_are_eager.specs.Histories.{IdealGuest, view_of, after_events}
+use Rattle.law_lone_calls_are_eager.specs.Histories.{IdealGuest, view_of, after_events, CanOpen, AreForNone}
 use Rattle.law_lone_calls_are_eager.specs.IdealGuests.Opening.{opening}
 use Rattle.law_lone_calls_are_eager.specs.GicIdeal.Deeds.{op_events}
-use Rattle.law_lone_calls_are_eager.specs.Calls.{GuestSpec, IsGoodGuest}
-use Rattle.law_unmapped_lpis.specs.Mapped.{AreForNone}
 
 -- a vCPU, an LPI, and memory for four commands
-abbrev pub worked_guest : GuestSpec
-worked_guest = record { shape = record { vcpus = 1; spis = 0; espis = 0; devices = 0; lpis = 1; ram = 128 }; on = true; presets = [] }
+abbrev pub worked_spec : GuestSpec
+worked_spec = record { shape = record { vcpus = 1; spis = 0; espis = 0; devices = 0; lpis = 1; ram = 128 }; on = true; presets = [] }
+
+-- as it opens
+abbrev pub worked_guest : IdealGuest
+worked_guest = opening worked_spec
 
 -- device 0 and collection 0 are mapped, then event 0 of the device to LPI 8192 and the collection; then the collection is unmapped
 abbrev pub commands : List Command
@@ -35,14 +38,14 @@ after_ops guest ops = fold (λ guest op. after_events (op_events op guest 0) gue
 
 -- after three commands, and after all four
 abbrev pub mapped : IdealGuest
-mapped = after_ops (opening worked_guest) (prepares ++ starts 96 ∷ [])
+mapped = after_ops worked_guest (prepares ++ starts 96 ∷ [])
 
 abbrev pub unmapped : IdealGuest
 unmapped = after_ops mapped (starts 128 ∷ [])
 
 -- the LPI is for vCPU 0, and after the last command for none, though its event still has it
 pub record UnmappedIsForNone : Type 0 where
-  pub good : IsGoodGuest worked_guest
+  pub good : CanOpen worked_guest
   pub first : AreForNone mapped
   pub has : has_target mapped.tables 8192 ≡ true
   pub for_vcpu : (view_of mapped).targets 8192 ≡ Some 0

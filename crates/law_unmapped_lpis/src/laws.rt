@@ -1,11 +1,6 @@
 //! Laws of the LPIs that the maps of an ITS give no vCPU, under the eager controller.
-ghost use Rattle.law_unmapped_lpis.specs.Laws.{OpenForNone, CommandsLeaveNone, AccessesLeaveNone, DevicesLeaveNone};
+ghost use Rattle.law_unmapped_lpis.specs.Laws.{CommandsLeaveNone, AccessesLeaveNone, DevicesLeaveNone};
 ghost use Rattle.law_unmapped_lpis.specs.Worked.{UnmappedIsForNone};
-
-/// A law of every good guest as it opens: each LPI that the maps give no vCPU is for no vCPU.
-pub fn open_for_none()
-    ensures { OpenForNone }
-{}
 
 /// A law of the next command of the queue of a sound guest: where each LPI that the maps give no vCPU is for no vCPU, it is so
 /// again after the command, whether that is done or has a fault.

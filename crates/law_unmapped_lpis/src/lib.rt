@@ -4,6 +4,5 @@
 mod laws;
 
 pub use laws::{
-    accesses_leave_none, commands_leave_none, devices_leave_none, open_for_none,
-    unmapped_is_for_none,
+    accesses_leave_none, commands_leave_none, devices_leave_none, unmapped_is_for_none,
 };

@@ -18,6 +18,8 @@ use std::alloc::{AllocError, Global};
 use std::sync::Wait;
 use std::test::Fail;
 
+mod image;
+
 /// Two vCPUs, SPIs 32 to 991, LPIs 8192 to 8207, 64 KiB of memory, and a device.
 const SHAPE: GuestShape = GuestShape {
     vcpus: 2,

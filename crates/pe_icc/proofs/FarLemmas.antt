@@ -187,7 +187,7 @@ far_done old new before after key irq choice port can claims choice_is after_is 
     let set = can.set in
     let cpu = old.local.cpu in
     let n = before.regs.n in
-    let tried = tries old new key irq true port.good.shape can.there claims in
+    let tried = tries old new key irq true port.good.sound.shape can.there claims in
     let one = far_choice key irq in
     let local = far_local old new key irq can.empty (no_cands old.local set.on.settled) can.active tried.local in
     let chosen : (choice : Choice) → Loaded = λ choice. with_place 0 (packed_entry choice.entry) (Some (held_as choice)) (emptied before) in
@@ -196,7 +196,7 @@ far_done old new before after key irq choice port can claims choice_is after_is 
     let with_word : IchRegs → IchRegs = λ regs. record regs { lr = packed_entry one.entry ∷ replicate 15 0 } in
     let regs : after.regs ≡ alone (Some one) cpu n = ap (λ (vcpu : Loaded). vcpu.regs) is ∙ ap with_word (emptied_alone before cpu set.on.stands.holds) in
     let held : after.held ≡ Some (held_as one) ∷ replicate 15 None = ap (λ (vcpu : Loaded). vcpu.held) is in
-    let fits : FitsRegister (offer_of one) = far_fits old before key irq port.good.shape can in
+    let fits : FitsRegister (offer_of one) = far_fits old before key irq port.good.sound.shape can in
     let stands : StandFor after.regs after.held (interface_of new.local)
     = subst (StandFor after.regs after.held) (sym (ap interface_of local)) (subst (λ held. StandFor after.regs held (record { cpu = cpu; at = entry_of one ∷ [] })) (sym held) (subst (λ regs. StandFor regs (Some (held_as one) ∷ replicate 15 None) (record { cpu = cpu; at = entry_of one ∷ [] })) (sym regs)
     (single_stands n cpu one set.lrs.0 fits refl))) in
@@ -294,7 +294,7 @@ far_missed old mid new before after key irq vcpu found port can claims vcpu_is k
     let set = can.set in
     let cpu = old.local.cpu in
     let n = before.regs.n in
-    let tried = tries old mid key irq false port.good.shape can.there claims in
+    let tried = tries old mid key irq false port.good.sound.shape can.there claims in
     let add : AddsStep mid new (Kick mid.actor) found = subst (λ vcpu. AddsStep mid new (Kick vcpu) found) vcpu_is kicked in
     let made = made_by old (Claim key (packed irq)) claims.found claims.adds.tables in
     let kick = made_by mid (Kick mid.actor) found add.tables in
@@ -378,7 +378,7 @@ far_missed old mid new before after key irq vcpu found port can claims vcpu_is k
 
 pub can_kick : (old mid : Seen) (before : Loaded) (key : Key) (irq : IrqRecord) (vcpu : ℕ) → IsPort old → CanClaimFar old before key irq → Claims old mid key irq false → vcpu ≡ mid.actor → CanMake mid (Kick vcpu)
 can_kick old mid before key irq vcpu port can claims is =
-    let tried = tries old mid key irq false port.good.shape can.there claims in
+    let tried = tries old mid key irq false port.good.sound.shape can.there claims in
     let one : is_vcpu (shape_of mid) mid.actor ≡ true = ap (λ seen. is_vcpu (shape_of seen) seen.actor) claims.adds.adds.new_is ∙ can.set.on.actor.is_one in
     record {
       can = subst (λ vcpu. vcpu < (shape_of mid).vcpus) (sym is) (ltb-true mid.actor (shape_of mid).vcpus one);

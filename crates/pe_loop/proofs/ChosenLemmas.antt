@@ -203,7 +203,7 @@ pub takeable : (old mid : Seen) (choice : Choice) → IsPort old → IsClaimable
 takeable old mid choice port can both claims =
     let shape = shape_of old in
     let key = choice.key in
-    let came = came_active old mid choice port.good.shape can both claims in
+    let came = came_active old mid choice port.good.sound.shape can both claims in
     let is = came.tried.adds.new_is in
     let active = active_of choice old.actor old.local.cpu shape both can.right in
     let held : IrqRecord = held_irq old.actor choice in
@@ -212,7 +212,7 @@ takeable old mid choice port can both claims =
     ∙ ap (λ irq. packed (claimed_irq old.actor old.local key irq)) (claims.found_is refl)
     ∙ ap packed (reached_irq old.actor old.local key choice.irq can.free active) in
     let fits : IsIrq choice.irq = subst IsIrq can.found.record_is (irq_fits (packed choice.irq) can.found.word.word_is) in
-    let few : old.actor < 32 = below shape old.actor port.good.shape can.vcpu in
+    let few : old.actor < 32 = below shape old.actor port.good.sound.shape can.vcpu in
     let By : Seen → Type 0 = λ seen. IsTakeable (record seen { local = mid.local; own = mid.own }) choice in
     let whole : By (seen_after old (came.tried.made ∷ []))
     = record {
@@ -326,12 +326,12 @@ chosen_both old mid new choice claimed port can both claims takes =
     let actor = old.actor in
     let key = choice.key in
     let done = takes.done in
-    let came = came_active old mid choice port.good.shape can both claims in
+    let came = came_active old mid choice port.good.sound.shape can both claims in
     let first = came.tried in
     let is = first.adds.new_is in
     let shape_is : shape_of mid ≡ shape = ap shape_of is in
     let actor_is : mid.actor ≡ actor = ap (λ seen. seen.actor) is in
-    let good_mid : IsShape (shape_of mid) = subst IsShape (sym shape_is) port.good.shape in
+    let good_mid : IsShape (shape_of mid) = subst IsShape (sym shape_is) port.good.sound.shape in
     let there_mid : IsTrue (has_interrupt (shape_of mid) key) = ap (λ shape. has_interrupt shape key) shape_is ∙ can.found.there in
     let second = tries mid new key (held_irq mid.actor choice) done good_mid there_mid takes.claims in
     let knows : known (shape_of mid) mid.actor mid.own (Irq key) ≡ Some (packed (held_irq mid.actor choice))

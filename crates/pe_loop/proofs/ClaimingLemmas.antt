@@ -70,7 +70,7 @@ blank_stands seen n fill plan = record { holds = record { enabled = plan.enabled
 
 pub nothing_claimed : (seen : Seen) (fill : Fill) (vcpu : Loaded) → IsPort seen → IsPlanOf seen vcpu.regs.n fill → IsBlank seen fill vcpu → IsClaiming seen seen fill vcpu vcpu 0 false
 nothing_claimed seen fill vcpu port plan_is blank =
-    let plan = planned_so seen vcpu.regs.n fill port.good.shape plan_is in
+    let plan = planned_so seen vcpu.regs.n fill port.good.sound.shape plan_is in
     let words : List ℕ = map word_of fill.choice in
     let each = plan.each in
     let regs = regs_of fill seen.local.cpu vcpu.regs.n in
@@ -159,7 +159,7 @@ can_claim old now fill before loaded place failed port plan_is few so = of (slic
   where
     of : (o : Option Choice) → slice_index_or fill.choice place None ≡ o → CanClaimAt now o
     of None e = tt
-    of (Some choice) e = claimable old now fill before loaded place failed choice port.good.shape plan_is few e so
+    of (Some choice) e = claimable old now fill before loaded place failed choice port.good.sound.shape plan_is few e so
 
 -- the choices from a place on
 from_place : (old : Seen) (n : ℕ) (fill : Fill) (place : ℕ) → IsPlanned old n fill → place < 16 → drop place fill.choice ≡ slice_index_or fill.choice place None ∷ drop (suc place) fill.choice
@@ -292,8 +292,8 @@ place_claimed old now new fill before loaded after place failed more port plan_i
     of None e none =
         subst (λ seen. IsClaiming old seen fill before after (suc place) (failed || more)) (sym none.seen)
         (subst (λ vcpu. IsClaiming old now fill before vcpu (suc place) (failed || more)) (sym none.loaded)
-        (subst (λ more. IsClaiming old now fill before loaded (suc place) (failed || more)) (sym none.failed_is) (none_claimed old now fill before loaded place failed port.good.shape plan_is few e so)))
-    of (Some choice) e some = some_claimed old now new fill before loaded after place failed more choice port.good.shape plan_is few e so some
+        (subst (λ more. IsClaiming old now fill before loaded (suc place) (failed || more)) (sym none.failed_is) (none_claimed old now fill before loaded place failed port.good.sound.shape plan_is few e so)))
+    of (Some choice) e some = some_claimed old now new fill before loaded after place failed more choice port.good.sound.shape plan_is few e so some
 
 -- All places.
 
@@ -308,7 +308,7 @@ same_regs regs other same words = let back : IchRegs → IchRegs = λ r. record 
 
 pub all_claimed : (old now : Seen) (fill : Fill) (before loaded : Loaded) (failed : Bool) → IsPort old → IsPlanOf old before.regs.n fill → IsClaiming old now fill before loaded 16 failed → ClaimsAll old now fill before loaded failed
 all_claimed old now fill before loaded failed port plan_is so =
-    let plan = planned_so old before.regs.n fill port.good.shape plan_is in
+    let plan = planned_so old before.regs.n fill port.good.sound.shape plan_is in
     let each = plan.each in
     let is = so.loaded_is in
     let at = so.regs_are in

@@ -100,7 +100,7 @@ rounds_so old mid new lrs before after cpu port takes cpu_is lrs_is vcpu_is fres
       silent = two_silent old mid takes.part walk.part takes.adds takes.silent walk.silent;
       looks = λ none.
           let counted : count_from (is_cand mid.local.cands) 0 (index_bits (shape_of mid)) ≡ bits_taken takes.part
-          = all_cands (shape_of mid) mid.local.cands (bits_taken takes.part) port.good.shape port.local.cands (subst (λ shape. AreTaken mid.local.cands (index_words shape) (bits_taken takes.part)) shape_is (takes.taken none)) in
+          = all_cands (shape_of mid) mid.local.cands (bits_taken takes.part) port.good.sound.shape port.local.cands (subst (λ shape. AreTaken mid.local.cands (index_words shape) (bits_taken takes.part)) shape_is (takes.taken none)) in
           let walked = walk.looks in
           let still = walk.none_left in
           let none_takes = no_looks_taking takes.part (range_with_len 0 (index_words shape)) takes.steps_are in

@@ -1,6 +1,6 @@
 -- Where a vCPU is, by another port that tells the same of it.
 use Rattle.std.proofs.Common.{◌≡◌, sym, ap, subst, ◌∙◌}
-use Rattle.dev_port.specs.Calls.{GuestSpec}
+use Rattle.law_serial_is_eager.specs.Histories.{IdealGuest}
 use Rattle.pe_op.specs.VcpuState.declared.shelved.Shelved.{Shelved}
 use Rattle.pe_op.specs.VcpuState.declared.loaded.Loaded.{Loaded}
 use Rattle.law_serial_is_eager.specs.Lists.{StandFor}
@@ -25,7 +25,7 @@ actor_same one other vcpu same is =
     record {
       guest = same.number ∙ is.guest;
       number = same.actor ∙ is.number;
-      is_one = ap (λ (guest : GuestSpec). is_vcpu guest.shape other.actor) same.guest ∙ ap (is_vcpu one.guest.shape) same.actor ∙ is.is_one;
+      is_one = ap (λ (guest : IdealGuest). is_vcpu guest.shape other.actor) same.guest ∙ ap (is_vcpu one.guest.shape) same.actor ∙ is.is_one;
     }
 
 pub off_same : (one other : Seen) (vcpu : Shelved) → IsSame one other → IsOff one vcpu → IsOff other vcpu

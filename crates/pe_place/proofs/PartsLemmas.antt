@@ -4,7 +4,8 @@ use Rattle.std.proofs.lemmas.Bool.{eq-eqb, ne_eqb}
 use Rattle.std.proofs.lemmas.Grind.{flat_map-append}
 use Rattle.std.proofs.lemmas.List.{map-append}
 use Rattle.std.proofs.lemmas.List.Elements.{filter-append}
-use Rattle.dev_port.specs.Calls.{GuestSpec, Event, Beside, IsCall}
+use Rattle.law_serial_is_eager.specs.Histories.{IdealGuest}
+use Rattle.dev_port.specs.Calls.{Event, Beside, IsCall}
 use Rattle.dev_port.specs.Words.{target_in, irq_of}
 use Rattle.dev_port.specs.Core.{Local, Made, Seen, seen_after, local_by, events_of, part_events, MakesCall, vcpu_of_actor, entry_by}
 use Rattle.pe_op.specs.PeMem.Found.{are_before, Finding, by_looks, by_commands, IsFinding, takes_its_by, IsCallAsFound}
@@ -57,7 +58,7 @@ pub record TellsSame (one other : Seen) : Type 0 where
 
 call_same : (one other : Seen) (part : Part) → TellsSame one other → MakesCall one part.steps part.operation part.answer → MakesCall other part.steps part.operation part.answer
 call_same one other part same makes =
-    let Call : GuestSpec → ℕ → Local → List Made → Type 0
+    let Call : IdealGuest → ℕ → Local → List Made → Type 0
     = λ guest actor local own. IsCall guest.shape makes.beside (vcpu_of_actor guest.shape actor) part.operation (events_of guest.shape actor local own part.steps) part.answer in
     record {
       beside = makes.beside;
@@ -73,7 +74,7 @@ call_same one other part same makes =
 -- all events of some steps, after others
 all_same : (test : Event → Bool) (one other : Seen) (early late : List Made) → TellsSame one other → all_events test (part_events (seen_after other early) late) ≡ all_events test (part_events (seen_after one early) late)
 all_same test one other early late same =
-    let Of : GuestSpec → ℕ → Local → List Made → Bool
+    let Of : IdealGuest → ℕ → Local → List Made → Bool
     = λ guest actor local own. all_events test (events_of guest.shape actor (local_by guest.shape actor local early) (own ++ early) late) in
     ap (λ guest. Of guest other.actor other.local other.own) same.guest
     ∙ ap (λ actor. Of one.guest actor other.local other.own) same.actor
@@ -82,7 +83,7 @@ all_same test one other early late same =
 
 first_same : (test : Event → Bool) (one other : Seen) (early : List Made) → TellsSame one other → all_events test (part_events other early) ≡ all_events test (part_events one early)
 first_same test one other early same =
-    let Of : GuestSpec → ℕ → Local → List Made → Bool = λ guest actor local own. all_events test (events_of guest.shape actor local own early) in
+    let Of : IdealGuest → ℕ → Local → List Made → Bool = λ guest actor local own. all_events test (events_of guest.shape actor local own early) in
     ap (λ guest. Of guest other.actor other.local other.own) same.guest
     ∙ ap (λ actor. Of one.guest actor other.local other.own) same.actor
     ∙ ap (λ local. Of one.guest one.actor local other.own) same.local
@@ -96,7 +97,7 @@ looked_same one other steps id target same is =
       late = is.late;
       split = is.split;
       step_is = is.step_is;
-      target_is = is.target_is ∙ ap (λ (guest : GuestSpec). target_in (irq_of is.look.found).route guest.shape) (sym same.guest);
+      target_is = is.target_is ∙ ap (λ (guest : IdealGuest). target_in (irq_of is.look.found).route guest.shape) (sym same.guest);
       before = first_same (comes_before id) one other is.early same ∙ is.before;
       after = all_same (comes_after id) one other (is.early ++ is.look ∷ []) is.late same ∙ is.after;
     }
@@ -119,23 +120,23 @@ finding_same one other steps (by_commands commands) same is =
       local =
           is.local
           ∙ sym
-          (ap (λ (guest : GuestSpec). local_by guest.shape other.actor other.local is.early) same.guest
+          (ap (λ (guest : IdealGuest). local_by guest.shape other.actor other.local is.early) same.guest
           ∙ ap (λ actor. local_by one.guest.shape actor other.local is.early) same.actor
           ∙ ap (λ local. local_by one.guest.shape one.actor local is.early) same.local);
       begins = is.begins ∙ ap (λ own. own ++ is.early) (sym same.own);
       ends = ap (λ own. own ++ steps) same.own ∙ is.ends;
     }
   where
-    Before : GuestSpec → ℕ → Local → List Made → Type 0
+    Before : IdealGuest → ℕ → Local → List Made → Type 0
     Before guest actor local own = IsTrue (are_before (events_of guest.shape actor local own is.early))
 
 found_same : (one other : Seen) (part : Part) → TellsSame one other → IsCallAsFound one part.steps part.operation part.answer → IsCallAsFound other part.steps part.operation part.answer
 found_same one other part same found =
-    let Call : Beside → GuestSpec → ℕ → Local → List Made → Type 0
+    let Call : Beside → IdealGuest → ℕ → Local → List Made → Type 0
     = λ beside guest actor local own. IsCall guest.shape beside (vcpu_of_actor guest.shape actor) part.operation (events_of guest.shape actor local own part.steps) part.answer in
     record {
       finding = found.finding;
-      kind = found.kind ∙ ap (λ (guest : GuestSpec). takes_its_by guest.shape part.operation) (sym same.guest);
+      kind = found.kind ∙ ap (λ (guest : IdealGuest). takes_its_by guest.shape part.operation) (sym same.guest);
       is_finding = finding_same one other part.steps found.finding same found.is_finding;
       call = λ beside maps agrees.
           subst (λ guest. Call beside guest other.actor other.local other.own) (sym same.guest)
@@ -151,7 +152,7 @@ after_same one other steps same =
       guest = same.guest;
       actor = same.actor;
       local =
-          ap (λ (guest : GuestSpec). local_by guest.shape other.actor other.local steps) same.guest
+          ap (λ (guest : IdealGuest). local_by guest.shape other.actor other.local steps) same.guest
           ∙ ap (λ actor. local_by one.guest.shape actor other.local steps) same.actor
           ∙ ap (λ local. local_by one.guest.shape one.actor local steps) same.local;
       own = ap (λ own. own ++ steps) same.own;

@@ -225,7 +225,7 @@ pub mark_more : (old now next : Seen) (local : Local) (key : Key) (v found : ℕ
 mark_more old now next local key v found is same next_is add so =
     let mine : IsNextMark now.local key v = subst (λ l. IsNextMark l key v) same next_is in
     let made = mark_made now next key v found add in
-    let fits = set_fits (shape_of now) now.local.marks.vcpus.0 is.good.shape is.local.marks_are in
+    let fits = set_fits (shape_of now) now.local.marks.vcpus.0 is.good.sound.shape is.local.marks_are in
     let SentBy : GuestShape → ℕ → Type 0 = λ shape actor. marks_sent shape actor next.local ≡ marks_sent shape actor now.local in
     let sent : SentBy (shape_of now) now.actor = ap (marks_sent (shape_of now) now.actor) made ∙ mark_sent (shape_of now) now.actor key v now.local fits mine in
     sending_more marks_owed (marks_sent (shape_of old) old.actor) old now next (Mark key v) found refl

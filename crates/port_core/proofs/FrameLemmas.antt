@@ -2,8 +2,8 @@
 use Rattle.std.proofs.Common.{◌≡◌, ◌≢◌, ℕ, ◌<◌, IsTrue, List, length, get_or, set, inl, inr, sym, ap, subst, ◌∙◌}
 use Rattle.std.proofs.lemmas.List.{get_or-set_same, get_or-set_other, length-set}
 use Rattle.std.proofs.lemmas.Bool.{cases_eq}
-use Rattle.floor_calls.specs.Words.{GuestShape, IsShape}
-use Rattle.floor_calls.specs.Registers.{IsValid as IsValidMaps, Maps}
+use Rattle.ideal_guest.specs.Words.{GuestShape, IsShape}
+use Rattle.ideal_guest.specs.Registers.{IsValid as IsValidMaps, Maps}
 use Rattle.port_core.specs.declared.local.Local.{Local}
 use Rattle.port_core.specs.declared.word_id.WordId.{WordId}
 use Rattle.port_core.specs.Known.{known_maps}

@@ -1,7 +1,8 @@
-pub use Rattle.floor_calls.proofs.GicBase
-pub use Rattle.floor_calls.proofs.GicCall
-pub use Rattle.floor_calls.proofs.GicFrame
-pub use Rattle.floor_calls.proofs.GicOpen
+pub use Rattle.ideal_guest.proofs.GicBase
+pub use Rattle.ideal_guest.proofs.GicCall
+pub use Rattle.ideal_guest.proofs.GicFrame
+pub use Rattle.ideal_guest.proofs.GicOpen
+pub use Rattle.ideal_guest.proofs as IdealGuests
 pub mod AccessLemmas
 pub mod SeatLemmas
 pub mod AdvanceLemmas
@@ -20,6 +21,7 @@ pub mod StepShared
 pub mod StepMaps
 pub mod StepLemmas
 pub mod RunLemmas
+pub mod IndexLemmas
 pub mod OpeningLemmas
 pub mod PortLemmas
 pub mod SameLemmas

@@ -6,9 +6,9 @@ use Rattle.std.proofs.Math.Nat.{div-lt_iff_lt-mul}
 use Rattle.std.proofs.lemmas.Nat.{div-mul-add, mod-mul-add, mul-add-lt}
 use Rattle.std.proofs.Math.Nat.{add-zero, mul_comm}
 use Rattle.std.proofs.lemmas.Bool.{lt-ltb, le-ltb, ne_eqb, le-leb, cond-true, cond-false, and_parts, ltb-true}
-use Rattle.floor_calls.specs.Words.{GuestShape, IsShape, interrupt_count, place_of}
-use Rattle.floor_calls.specs.Calls.{plain_count}
-use Rattle.floor_calls.proofs.GicOpen.KeyLemmas.{place_within, key_at_place}
+use Rattle.ideal_guest.specs.Words.{GuestShape, IsShape, interrupt_count, place_of}
+use Rattle.ideal_guest.specs.Calls.{plain_count}
+use Rattle.ideal_guest.proofs.GicOpen.KeyLemmas.{place_within, key_at_place}
 use Rattle.port_core.specs.declared.word_id.WordId.{WordId}
 use Rattle.port_core.specs.declared.word_id.WordId.TheVariants.{Irq, Vcpu, Index, Queue, Ctlr, Plain}
 use Rattle.port_core.specs.Place.{index_words, whole_lines, plain_from, blocks_from, block_words, block_of, word_count, has_word, place_of_word, word_in_block, word_in_blocks, word_at}

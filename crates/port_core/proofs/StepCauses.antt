@@ -1,8 +1,8 @@
 -- Steps on an interrupt's word that leave who holds it: looks, causes, touches and what an access waits for.
 use Rattle.std.proofs.Common.{◌≡◌, ℕ, ◌==◌, ◌&&◌, Bool, true, false, cond, IsTrue, is_none, List, Option, None, refl}
 use Rattle.std.proofs.lemmas.Bool.{and_parts}
-use Rattle.floor_calls.specs.Words.{GuestShape, Key, has_interrupt, Irq as IrqRecord, raised, wire_up, wire_down, packed, irq_of}
-use Rattle.floor_calls.specs.Calls.{Touching, touched, has_wire}
+use Rattle.ideal_guest.specs.Words.{GuestShape, Key, has_interrupt, Irq as IrqRecord, raised, wire_up, wire_down, packed, irq_of}
+use Rattle.ideal_guest.specs.Calls.{Touching, touched, has_wire}
 use Rattle.port_core.specs.declared.local.Local.{Local}
 use Rattle.port_core.specs.declared.run.Made.{Made}
 use Rattle.port_core.specs.declared.step.CoreStep.TheVariants.{Look, Raise, Touch, Want, WireUp, WireDown}

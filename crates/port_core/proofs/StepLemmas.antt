@@ -1,9 +1,9 @@
 -- Each step keeps words and actors valid, and so does each run.
 use Rattle.std.proofs.Common.{◌≡◌, is_some, IfSome, ap, ◌∙◌, ◌&&◌, ◌∙◌, ℕ, nat_lt, Bool, true, false, cond, Option, Some, None, IsTrue, List, [], ◌∷◌, ◌++◌, ◌/◌, refl, sym, subst, arith}
 use Rattle.std.proofs.lemmas.Bool.{and_parts, and_from, lt-ltb}
-use Rattle.floor_calls.specs.Words.{GuestShape, IsShape, has_interrupt, is_of_vcpu}
-use Rattle.floor_calls.specs.Calls.{plain_count, has_wire}
-use Rattle.floor_calls.specs.Registers.{IsValid as IsValidMaps, Maps}
+use Rattle.ideal_guest.specs.Words.{GuestShape, IsShape, has_interrupt, is_of_vcpu}
+use Rattle.ideal_guest.specs.Calls.{plain_count, has_wire}
+use Rattle.ideal_guest.specs.Registers.{IsValid as IsValidMaps, Maps}
 use Rattle.port_core.specs.declared.local.Local.{Local}
 use Rattle.port_core.specs.declared.run.Entry.{Entry}
 use Rattle.port_core.specs.declared.run.Made.{Made}

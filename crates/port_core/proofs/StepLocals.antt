@@ -8,8 +8,8 @@ use Rattle.std.proofs.lemmas.Grind.{common_steps}
 use Rattle.std.proofs.lemmas.List.{get_or-set_same, get_or-set_other, length-set}
 use Rattle.std.proofs.lemmas.Nat.{and_le_l, or_lt, pow_pos, pow_below}
 use Rattle.std.proofs.lemmas.Nat.Bits.{bit_at_and, bit_at_or, bit_at-lt, bit_at-pow_other, bit_at-zero}
-use Rattle.floor_calls.specs.Words.{has_bit, GuestShape, Key, Private, Spi, Lpi, IsShape, has_interrupt, is_of_vcpu, is_same_key}
-use Rattle.floor_calls.specs.Registers.{Targets}
+use Rattle.ideal_guest.specs.Words.{has_bit, GuestShape, Key, Private, Spi, Lpi, IsShape, has_interrupt, is_of_vcpu, is_same_key}
+use Rattle.ideal_guest.specs.Registers.{Targets}
 use Rattle.port_core.specs.declared.owed.Cands.{Cands}
 use Rattle.port_core.specs.declared.local.Local.{Local}
 use Rattle.port_core.specs.declared.owed.MarkSet.{MarkSet}

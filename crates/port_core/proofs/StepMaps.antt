@@ -3,12 +3,12 @@ use Rattle.std.proofs.Common.{◌≡◌, ◌≢◌, ℕ, ◌<◌, Bool, true, fa
 use Rattle.std.specs.Option.{option_map_or}
 use Rattle.std.proofs.lemmas.Grind.{fold-append}
 use Rattle.std.proofs.lemmas.Option.{same_Some}
-use Rattle.floor_calls.specs.Words.{GuestShape, irq_of}
-use Rattle.floor_calls.specs.Registers.{Command, BadCommand, queue_of, CmdFault, IsValid as IsValidMaps, number_of, fault_of, fault_number, Maps}
-use Rattle.floor_calls.specs.ItsCmd.Command.{decoded}
-use Rattle.floor_calls.proofs.ItsTab.AfterLemmas.{kept_valid}
-use Rattle.floor_calls.specs.GicCall.declared.event.Event.TheVariants.{Queue as QueueEvent}
-use Rattle.floor_calls.specs.Calls.{Done, Stalls, maps_by, maps_done, command_words, next_offset, queue_event, View}
+use Rattle.ideal_guest.specs.Words.{GuestShape, irq_of}
+use Rattle.ideal_guest.specs.Registers.{Command, BadCommand, queue_of, CmdFault, IsValid as IsValidMaps, number_of, fault_of, fault_number, Maps}
+use Rattle.ideal_guest.specs.ItsCmd.Command.{decoded}
+use Rattle.ideal_guest.proofs.ItsTab.AfterLemmas.{kept_valid}
+use Rattle.ideal_guest.specs.GicCall.declared.event.Event.TheVariants.{Queue as QueueEvent}
+use Rattle.ideal_guest.specs.Calls.{Done, Stalls, maps_by, maps_done, command_words, next_offset, queue_event, View}
 use Rattle.port_core.specs.declared.local.Local.{Local}
 use Rattle.port_core.specs.declared.local.Phase.TheVariants.{Folding}
 use Rattle.port_core.specs.declared.run.Entry.{Entry}

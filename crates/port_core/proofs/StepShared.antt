@@ -3,9 +3,9 @@ use Rattle.std.proofs.Common.{◌≡◌, ℕ, ◌/◌, ◌%◌, ◌^◌, ◌<◌
 use Rattle.std.proofs.Math.Bool.{not-or_self}
 use Rattle.std.proofs.lemmas.Bool.{and_parts}
 use Rattle.std.specs.Int.{bit_not, w32}
-use Rattle.floor_calls.specs.Words.{GuestShape, IccReg, Key, IsShape, has_interrupt, intid_of, is_of_vcpu, has_active_state, is_number}
-use Rattle.floor_calls.specs.Registers.{enables_in, taken_by, deactivated_by, candidates_at, IsQueue, queue_of}
-use Rattle.floor_calls.proofs.GicPrio.AccessLemmas.{points_after, levels_after}
+use Rattle.ideal_guest.specs.Words.{GuestShape, IccReg, Key, IsShape, has_interrupt, intid_of, is_of_vcpu, has_active_state, is_number}
+use Rattle.ideal_guest.specs.Registers.{enables_in, taken_by, deactivated_by, candidates_at, IsQueue, queue_of}
+use Rattle.ideal_guest.proofs.GicPrio.AccessLemmas.{points_after, levels_after}
 use Rattle.port_core.specs.declared.at_list.AtIrq.{AtIrq}
 use Rattle.port_core.specs.declared.local.Local.{Local}
 use Rattle.port_core.specs.declared.local.Phase.TheVariants.{Folding}

@@ -2,8 +2,8 @@
 use Rattle.std.proofs.Common.{◌≡◌, ◌≢◌, ℕ, ◌<◌, Bool, true, false, is_none, Option, Some, None, refl, sym, ap, ◌∙◌, arith}
 use Rattle.std.specs.Option.{ForSome}
 use Rattle.std.proofs.lemmas.Bool.{eqb-true, eq-eqb, ne_eqb}
-use Rattle.floor_calls.specs.Words.{GuestShape, Key, IsShape, Irq as IrqRecord, is_number, packed, irq_of}
-use Rattle.floor_calls.specs.Registers.{QueueWord, IsQueue, queue_of, packed as packed_queue}
+use Rattle.ideal_guest.specs.Words.{GuestShape, Key, IsShape, Irq as IrqRecord, is_number, packed, irq_of}
+use Rattle.ideal_guest.specs.Registers.{QueueWord, IsQueue, queue_of, packed as packed_queue}
 use Rattle.port_core.specs.declared.local.Local.{Local}
 use Rattle.port_core.specs.declared.words.VcpuWord.{VcpuWord}
 use Rattle.port_core.specs.declared.words.CtlrWord.{CtlrWord}

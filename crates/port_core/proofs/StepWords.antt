@@ -2,15 +2,16 @@
 use Rattle.std.proofs.Common.{◌≡◌, ℕ, ◌+◌, ◌*◌, ◌/◌, ◌%◌, ◌<◌, ◌&&◌, Bool, true, false, cond, if◌then◌else◌, nat_lt, nat_eq, IsTrue, Option, Some, None, refl, sym, ap, subst, ◌∙◌, arith}
 use Rattle.std.specs.Option.{ForSome}
 use Rattle.std.proofs.lemmas.Bool.{and_from, eq-eqb, lt-ltb}
-use Rattle.floor_calls.specs.Words.{bit_of, field_at, GuestShape, Key, G0, G1, Irq, group_number, IsIrq, HasFlags, flags_number, packed, irq_of, IsRecordOf}
-use Rattle.floor_calls.proofs.GicBits.BitLemmas.{flag_back, flag_small}
-use Rattle.floor_calls.specs.GicWord.declared.record.Group.{Group}
-use Rattle.floor_calls.proofs.GicWord.WordLemmas.{is_one, word_back, word_fits}
-use Rattle.floor_calls.specs.Registers.{QueueWord, IsQueue, is_queue_word, queue_of, packed as packed_queue}
+use Rattle.ideal_guest.specs.Words.{bit_of, field_at, GuestShape, Key, G0, G1, Irq, group_number, IsIrq, HasFlags, flags_number, packed, irq_of, IsRecordOf}
+use Rattle.ideal_guest.proofs.GicBits.BitLemmas.{flag_back, flag_small}
+use Rattle.ideal_guest.specs.GicWord.declared.record.Group.{Group}
+use Rattle.ideal_guest.proofs.GicWord.WordLemmas.{is_one, word_back, word_fits}
+use Rattle.ideal_guest.specs.Registers.{QueueWord, IsQueue, is_queue_word, queue_of, packed as packed_queue}
+use Rattle.ideal_guest.specs.CanOpen.{is_own}
 use Rattle.port_core.specs.declared.words.VcpuWord.{VcpuWord}
 use Rattle.port_core.specs.declared.words.CtlrWord.{CtlrWord}
 use Rattle.port_core.specs.Forms.{packed_vcpu, is_vcpu_word, packed_ctlr, ctlr_of, is_ctlr_word, IsCtlr}
-use Rattle.port_core.specs.Valid.{is_own, is_active_by_holder, IsIrqWord}
+use Rattle.port_core.specs.Valid.{is_active_by_holder, IsIrqWord}
 
 -- The word of an interrupt.
 

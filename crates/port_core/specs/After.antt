@@ -1,9 +1,9 @@
 -- What a step leaves of its actor's own state.
 use Rattle.std.specs.Prelude.{ℕ, ◌+◌, ◌==◌, ◌&&◌, ◌||◌, not, Bool, true, false, List, [], ◌∷◌, ◌++◌, map, if◌then◌else◌, Option, Some, None, is_none}
 use Rattle.std.specs.Option.{option_map_or}
-use Rattle.floor_calls.specs.Words.{IccReg, Key, GuestShape, intid_of, Irq, has_active_state, is_ripe, is_number, target_in, irq_of}
-use Rattle.floor_calls.specs.Registers.{Candidate, taken_by, deactivated_by, cpu_after, AtInterface, InterfaceState, candidates_at}
-use Rattle.floor_calls.specs.Calls.{touched}
+use Rattle.ideal_guest.specs.Words.{IccReg, Key, GuestShape, intid_of, Irq, has_active_state, is_ripe, is_number, target_in, irq_of}
+use Rattle.ideal_guest.specs.Registers.{Candidate, taken_by, deactivated_by, cpu_after, AtInterface, InterfaceState, candidates_at}
+use Rattle.ideal_guest.specs.Calls.{touched}
 use Rattle.port_core.specs.declared.at_list.AtIrq.{AtIrq}
 use Rattle.port_core.specs.declared.local.Local.{Local}
 use Rattle.port_core.specs.declared.local.Phase.{Phase}

@@ -1,7 +1,7 @@
 -- The one atomic operation on a word that makes a step.
 use Rattle.std.specs.Prelude.{◌≡◌, ℕ, ◌+◌, ◌-◌, ◌*◌, ◌^◌, ◌==◌, Bool, true, false, IsTrue, if◌then◌else◌, bit_and, bit_or}
-use Rattle.floor_calls.specs.Words.{GuestShape, Back, cause_bits_of, active_bits_of}
-use Rattle.floor_calls.specs.Registers.{is_queue_word}
+use Rattle.ideal_guest.specs.Words.{GuestShape, Back, cause_bits_of, active_bits_of}
+use Rattle.ideal_guest.specs.Registers.{is_queue_word}
 use Rattle.port_core.specs.declared.atomic.Atomic.{Atomic}
 use Rattle.port_core.specs.declared.atomic.Atomic.TheVariants.{Load, And, Or, Swap, Exchange}
 use Rattle.port_core.specs.declared.local.Local.{Local}

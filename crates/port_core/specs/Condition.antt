@@ -1,11 +1,11 @@
 -- What a step asks of its actor: of what the actor has for itself, and of what its steps before handed out.
 use Rattle.std.specs.Prelude.{All, ◌≡◌, ℕ, ◌==◌, ◌&&◌, not, Bool, true, false, IsTrue, List, [], length, nat_lt, Option, Some, None, ◌∷◌}
 use Rattle.std.specs.Option.{option_map_or}
-use Rattle.floor_calls.specs.Words.{Key, GuestShape, Back}
-use Rattle.floor_calls.specs.Calls.{Fault, Cbaser, place_of_plain, QueueChange, Runs, Done, Stalls, queue_event, command_places}
-use Rattle.floor_calls.specs.Registers.{queue_of}
-use Rattle.floor_calls.specs.GicCall.declared.event.Event.TheVariants.{Queue as QueueEvent}
-use Rattle.floor_calls.specs.GicCall.declared.event.Place.TheVariants.{Word, Queue as QueuePlace}
+use Rattle.ideal_guest.specs.Words.{Key, GuestShape, Back}
+use Rattle.ideal_guest.specs.Calls.{Fault, Cbaser, place_of_plain, QueueChange, Runs, Done, Stalls, queue_event, command_places}
+use Rattle.ideal_guest.specs.Registers.{queue_of}
+use Rattle.ideal_guest.specs.GicCall.declared.event.Event.TheVariants.{Queue as QueueEvent}
+use Rattle.ideal_guest.specs.GicCall.declared.event.Place.TheVariants.{Word, Queue as QueuePlace}
 use Rattle.port_core.specs.declared.at_list.AtIrq.{AtIrq}
 use Rattle.port_core.specs.declared.local.Local.{Local}
 use Rattle.port_core.specs.declared.local.Phase.{Phase}

@@ -1,9 +1,9 @@
 -- What a step leaves of the word that it found.
 use Rattle.std.specs.Prelude.{ℕ, ◌%◌, ◌^◌, ◌==◌, ◌&&◌, ◌||◌, not, Bool, true, false, if◌then◌else◌, Some, None, is_none, bit_or}
 use Rattle.std.specs.Option.{option_map_or}
-use Rattle.floor_calls.specs.Words.{Key, GuestShape, Back, Irq, raised, wire_up, wire_down, is_number, irq_of, packed}
-use Rattle.floor_calls.specs.Registers.{enables_in, queue_of, packed as packed_queue}
-use Rattle.floor_calls.specs.Calls.{Moved, Touching, may_reach, reached, may_take, taken, touched}
+use Rattle.ideal_guest.specs.Words.{Key, GuestShape, Back, Irq, raised, wire_up, wire_down, is_number, irq_of, packed}
+use Rattle.ideal_guest.specs.Registers.{enables_in, queue_of, packed as packed_queue}
+use Rattle.ideal_guest.specs.Calls.{Moved, Touching, may_reach, reached, may_take, taken, touched}
 use Rattle.port_core.specs.declared.at_list.AtIrq.{AtIrq}
 use Rattle.port_core.specs.declared.local.Local.{Local}
 use Rattle.port_core.specs.declared.step.CoreStep.{CoreStep}

@@ -1,7 +1,7 @@
 -- The forms of the words of vCPUs and of GICD_CTLR (own choice of the bits).
 use Rattle.std.specs.Prelude.{ℕ, ◌+◌, ◌*◌, ◌^◌, ◌<◌, Bool, nat_lt, if◌then◌else◌, Option, Some, None}
 use Rattle.std.specs.Option.{ForSome}
-use Rattle.floor_calls.specs.Words.{bit_of, has_bit, field_at}
+use Rattle.ideal_guest.specs.Words.{bit_of, has_bit, field_at}
 use Rattle.port_core.specs.declared.words.VcpuWord.{VcpuWord}
 use Rattle.port_core.specs.declared.words.CtlrWord.{CtlrWord}
 

@@ -1,10 +1,10 @@
 -- What an actor knows of the guest's words by its own steps: each word as its last step on it left it.
 use Rattle.std.specs.Prelude.{is_some, ℕ, ◌==◌, ◌||◌, Bool, false, List, [], fold, find, if◌then◌else◌, Option, Some, None, unwrap_or, ◌∷◌, ◌++◌}
 use Rattle.std.specs.Option.{option_map_or}
-use Rattle.floor_calls.specs.Words.{Lpi, GuestShape, target_in, irq_of}
-use Rattle.floor_calls.specs.Calls.{place_of_plain, maps_done, Place, View}
-use Rattle.floor_calls.specs.GicCall.declared.event.Place.TheVariants.{Word, Queue as QueuePlace, Ctlr as CtlrPlace, Lpis}
-use Rattle.floor_calls.specs.Registers.{queue_of, Maps}
+use Rattle.ideal_guest.specs.Words.{Lpi, GuestShape, target_in, irq_of}
+use Rattle.ideal_guest.specs.Calls.{place_of_plain, maps_done, Place, View}
+use Rattle.ideal_guest.specs.GicCall.declared.event.Place.TheVariants.{Word, Queue as QueuePlace, Ctlr as CtlrPlace, Lpis}
+use Rattle.ideal_guest.specs.Registers.{queue_of, Maps}
 use Rattle.port_core.specs.declared.run.Made.{Made}
 use Rattle.port_core.specs.declared.step.CoreStep.{CoreStep}
 use Rattle.port_core.specs.declared.step.CoreStep.TheVariants.{CommandDone}

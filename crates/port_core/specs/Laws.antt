@@ -1,13 +1,14 @@
 -- Laws of every run.
 use Rattle.std.specs.Prelude.{◌≡◌, ℕ, ◌++◌, List}
-use Rattle.floor_calls.specs.Words.{GuestShape, IsShape}
-use Rattle.floor_calls.specs.Calls.{GuestSpec, IsGoodGuest}
+use Rattle.ideal_guest.specs.Words.{GuestShape, IsShape}
+use Rattle.ideal_guest.specs.CanOpen.{CanOpen}
+use Rattle.ideal_guest.specs.declared.guest.IdealGuest.{IdealGuest}
 use Rattle.port_core.specs.declared.run.Entry.{Entry}
 use Rattle.port_core.specs.Run.{CoreState, opening, after, Takes, IsRun, end_of, IsSound}
 
--- a guest opens with valid words and actors
+-- a guest that can open opens with valid words and actors
 abbrev pub OpeningIsSound : Type 0
-OpeningIsSound = (guest : GuestSpec) (number : ℕ) → IsGoodGuest guest → IsSound guest.shape (opening guest number)
+OpeningIsSound = (guest : IdealGuest) (number : ℕ) → CanOpen guest → IsSound guest.shape (opening guest number)
 
 -- every step keeps them
 abbrev pub StepsKeepSound : Type 0
@@ -15,7 +16,7 @@ StepsKeepSound = (shape : GuestShape) (state : CoreState) (entry : Entry) → Is
 
 -- so every run from the opening does
 abbrev pub RunsAreSound : Type 0
-RunsAreSound = (guest : GuestSpec) (number : ℕ) (entries : List Entry) → IsGoodGuest guest → IsRun guest.shape (opening guest number) entries → IsSound guest.shape (end_of guest.shape (opening guest number) entries)
+RunsAreSound = (guest : IdealGuest) (number : ℕ) (entries : List Entry) → CanOpen guest → IsRun guest.shape (opening guest number) entries → IsSound guest.shape (end_of guest.shape (opening guest number) entries)
 
 -- a run and another one from where it ends are one run
 pub record RunsJoin : Type 0 where

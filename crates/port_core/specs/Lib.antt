@@ -1,12 +1,13 @@
-pub use Rattle.floor_calls.specs.Calls
-pub use Rattle.floor_calls.specs.Registers
-pub use Rattle.floor_calls.specs.Words
-pub use Rattle.floor_calls.specs.GicBase
-pub use Rattle.floor_calls.specs.GicCall
-pub use Rattle.floor_calls.specs.GicDmap
-pub use Rattle.floor_calls.specs.GicGuest
-pub use Rattle.floor_calls.specs.GicImap
-pub use Rattle.floor_calls.specs.GicRmap
+pub use Rattle.ideal_guest.specs.Calls
+pub use Rattle.ideal_guest.specs.Registers
+pub use Rattle.ideal_guest.specs.Words
+pub use Rattle.ideal_guest.specs.GicBase
+pub use Rattle.ideal_guest.specs.GicCall
+pub use Rattle.ideal_guest.specs.GicDmap
+pub use Rattle.ideal_guest.specs.GicGuest
+pub use Rattle.ideal_guest.specs.GicImap
+pub use Rattle.ideal_guest.specs.GicRmap
+pub use Rattle.ideal_guest.specs as IdealGuests
 pub mod Actor
 pub mod Place
 pub mod Forms

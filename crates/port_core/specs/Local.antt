@@ -3,9 +3,9 @@ use Rattle.std.specs.Prelude.{ℕ, ◌/◌, ◌%◌, ◌^◌, ◌&&◌, ◌==◌
 use Rattle.std.specs.Int.{bit_not, w32, w64}
 use Rattle.std.specs.List.{list_all}
 use Rattle.std.specs.Option.{option_map_or}
-use Rattle.floor_calls.specs.Words.{has_bit, Key, GuestShape, Back, Actor, is_of_vcpu, is_same_key, Irq}
-use Rattle.floor_calls.specs.Registers.{Targets, CpuRec}
-use Rattle.floor_calls.specs.Calls.{Entry}
+use Rattle.ideal_guest.specs.Words.{has_bit, Key, GuestShape, Back, Actor, is_of_vcpu, is_same_key, Irq}
+use Rattle.ideal_guest.specs.Registers.{Targets, CpuRec}
+use Rattle.ideal_guest.specs.Calls.{Entry}
 use Rattle.port_core.specs.declared.local.Phase.TheVariants.{Off}
 use Rattle.port_core.specs.declared.at_list.AtIrq.{AtIrq}
 use Rattle.port_core.specs.declared.owed.MarkSet.{MarkSet}

@@ -1,8 +1,8 @@
 -- The words that the actors of a guest share, and their numbering (own choice): first the word of each interrupt in key order, then the queue's,
 -- GICD_CTLR's and the plain words; then a block for each vCPU, of whole cache lines, so that no two vCPUs write one line.
 use Rattle.std.specs.Prelude.{ℕ, ◌+◌, ◌-◌, ◌*◌, ◌/◌, ◌%◌, ◌&&◌, ◌==◌, Bool, true, nat_lt, nat_le, if◌then◌else◌, Option, Some, None}
-use Rattle.floor_calls.specs.Words.{Key, Private, Spi, Lpi, GuestShape, has_interrupt, interrupt_count, place_of, key_at}
-use Rattle.floor_calls.specs.Calls.{plain_count}
+use Rattle.ideal_guest.specs.Words.{Key, Private, Spi, Lpi, GuestShape, has_interrupt, interrupt_count, place_of, key_at}
+use Rattle.ideal_guest.specs.Calls.{plain_count}
 use Rattle.port_core.specs.declared.word_id.WordId.{WordId}
 use Rattle.port_core.specs.declared.word_id.WordId.TheVariants.{Irq, Vcpu, Index, Queue, Ctlr, Plain}
 

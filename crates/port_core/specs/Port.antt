@@ -1,10 +1,12 @@
 -- What an actor's port tells of it.
 use Rattle.std.specs.Prelude.{◌≡◌, ℕ, ◌<◌, ◌||◌, not, Bool, true, IsTrue, List, [], ◌∷◌, ◌&&◌, ◌++◌, map, Option, option_map, IfSome, is_some, is_none}
 use Rattle.std.specs.Option.{option_to_list}
-use Rattle.floor_calls.specs.Words.{GuestShape}
+use Rattle.ideal_guest.specs.Words.{GuestShape}
 use Rattle.atomic_table.specs.Seated.{TableId}
-use Rattle.floor_calls.specs.Calls.{GuestSpec, Happened, IsGoodGuest}
-use Rattle.floor_calls.specs.Registers.{Maps, IsValid as IsValidMaps}
+use Rattle.ideal_guest.specs.Calls.{Happened}
+use Rattle.ideal_guest.specs.CanOpen.{CanOpen}
+use Rattle.ideal_guest.specs.declared.guest.IdealGuest.{IdealGuest}
+use Rattle.ideal_guest.specs.Registers.{Maps, IsValid as IsValidMaps}
 use Rattle.port_core.specs.declared.local.Local.{Local}
 use Rattle.port_core.specs.declared.run.Made.{Made}
 use Rattle.port_core.specs.declared.run.Entry.{Entry}
@@ -25,7 +27,7 @@ use Rattle.port_core.specs.Valid.{IsLocal}
 -- made, oldest first, and whether it has taken the tables of the ITS; and, where the port tells it, the list of all actors' steps
 pub record Seen : Type 0 where
   pub home : TableId
-  pub guest : GuestSpec
+  pub guest : IdealGuest
   pub number : ℕ
   pub actor : ℕ
   pub local : Local
@@ -101,10 +103,10 @@ pub record AddsStep (old new : Seen) (step : CoreStep) (found : ℕ) : Type 0 wh
   pub handed : AreHanded old step found tables
   pub adds : Adds old new (made_by old step found tables ∷ [])
 
--- what is true of all that a port tells: it is one of a good guest, and of one of the guest's actors, whose own state is valid, and is what the actor's
+-- what is true of all that a port tells: it is one of a guest that could open, and of one of the guest's actors, whose own state is valid, and is what the actor's
 -- steps made of the one with which it opened; and who has taken the tables has the ITS
 pub record IsPort (seen : Seen) : Type 0 where
-  pub good : IsGoodGuest seen.guest
+  pub good : CanOpen seen.guest
   pub actor : seen.actor < actor_count (shape_of seen)
   pub local : IsLocal (shape_of seen) seen.actor seen.local
   pub made : seen.local ≡ local_by (shape_of seen) seen.actor (opening_local_of seen.guest seen.number seen.actor) seen.own

@@ -1,25 +1,27 @@
--- Runs of the core: steps of actors, one after the other, from the words with which a guest opens.
-use Rattle.std.specs.Prelude.{◌≡◌, ℕ, ◌<◌, ◌==◌, Bool, true, false, IsTrue, List, [], ◌∷◌, ◌++◌, map, filter, fold, length, if◌then◌else◌, Option, Some, None, slice_index_or, slice_set}
+-- Runs of the core: steps of actors, one after the other, from the words with which a guest opens, which are those of any guest that can open.
+use Rattle.std.specs.Prelude.{◌≡◌, ℕ, ◌+◌, ◌*◌, ◌^◌, ◌<◌, ◌==◌, ◌&&◌, ◌||◌, Bool, true, false, IsTrue, List, [], ◌∷◌, ◌++◌, map, filter, fold, length, nat_lt, if◌then◌else◌, Option, Some, None, bit_or, slice_index_or, slice_set}
 use Rattle.std.specs.Option.{option_map_or}
 use Rattle.std.specs.List.{range_with_len}
-use Rattle.floor_calls.specs.Words.{Vcpu as VcpuActor, GuestShape, packed}
-use Rattle.floor_calls.specs.Registers.{enables_in, IsValid as IsValidMaps, Maps}
-use Rattle.floor_calls.specs.Calls.{irqs_of, irq_in, opening_cpu, opening_enables, GuestSpec}
+use Rattle.ideal_guest.specs.Words.{Vcpu as VcpuActor, GuestShape, Irq as IrqRecord, is_number, is_ripe, packed}
+use Rattle.ideal_guest.specs.Registers.{IsValid as IsValidMaps, Maps, packed as packed_queue}
+use Rattle.ideal_guest.specs.Calls.{opening_cpu}
+use Rattle.ideal_guest.specs.Ideal.{irq_at, cpu_at}
+use Rattle.ideal_guest.specs.declared.guest.IdealGuest.{IdealGuest}
 use Rattle.port_core.specs.declared.local.Local.{Local}
 use Rattle.port_core.specs.declared.run.Entry.{Entry}
 use Rattle.port_core.specs.declared.run.Made.{Made}
 use Rattle.port_core.specs.declared.step.CoreStep.{CoreStep}
 use Rattle.port_core.specs.declared.step.CoreStep.TheVariants.{TurnTake}
 use Rattle.port_core.specs.declared.word_id.WordId.{WordId}
-use Rattle.port_core.specs.declared.word_id.WordId.TheVariants.{Irq, Ctlr}
+use Rattle.port_core.specs.declared.word_id.WordId.TheVariants.{Irq, Vcpu, Index, Queue, Ctlr, Plain}
 use Rattle.port_core.specs.Actor.{actor_at, actor_count}
 use Rattle.port_core.specs.After.{local_after}
 use Rattle.port_core.specs.Condition.{Meets}
 use Rattle.port_core.specs.Effect.{succeeds, word_after}
-use Rattle.port_core.specs.Forms.{packed_ctlr}
-use Rattle.port_core.specs.Known.{no_maps, maps_by_step, known_maps}
+use Rattle.port_core.specs.Forms.{packed_vcpu, packed_ctlr}
+use Rattle.port_core.specs.Known.{maps_by_step, known_maps}
 use Rattle.port_core.specs.Local.{opening_local}
-use Rattle.port_core.specs.Place.{has_word, word_count, word_at, place_of_word}
+use Rattle.port_core.specs.Place.{has_word, index_bits, key_of_bit, word_count, word_at, place_of_word}
 use Rattle.port_core.specs.Step.{word_of, CanStep}
 use Rattle.port_core.specs.Valid.{IsValid, IsLocal, Ties}
 
@@ -36,30 +38,45 @@ pub record CoreState : Type 0 where
 
 -- The opening.
 
--- a word as a guest opens
-abbrev pub opening_word_of : GuestSpec → WordId → ℕ
-opening_word_of guest (Irq key) = packed (irq_in guest.shape (irqs_of guest) key)
-opening_word_of guest Ctlr = packed_ctlr (record { enables = enables_in (opening_enables guest.on); mark = None })
-opening_word_of guest word = 0
+-- an interrupt concerns a vCPU: it is ripe for it, or active by it
+abbrev pub concerns : GuestShape → ℕ → IrqRecord → Bool
+concerns shape vcpu irq = is_ripe irq vcpu shape || is_number vcpu irq.act_by
+
+-- the bit of a vCPU's candidate index is that of an interrupt that concerns the vCPU
+abbrev pub is_asked : IdealGuest → ℕ → ℕ → Bool
+is_asked guest vcpu bit = nat_lt bit (index_bits guest.shape) && concerns guest.shape vcpu (irq_at guest (key_of_bit guest.shape vcpu bit))
+
+-- a word of a vCPU's candidate index: exactly such bits
+abbrev pub opening_index : IdealGuest → ℕ → ℕ → ℕ
+opening_index guest vcpu number = fold (λ word bit. if is_asked guest vcpu (64 * number + bit) then bit_or word (2 ^ bit) else word) 0 (range_with_len 0 64)
+
+-- a word as a guest opens: what the guest has, no vCPU is kicked, and nobody holds an interrupt, has the ITS or the mark of GICD_CTLR
+abbrev pub opening_word_of : IdealGuest → WordId → ℕ
+opening_word_of guest (Irq key) = packed (irq_at guest key)
+opening_word_of guest (Vcpu vcpu) = packed_vcpu (record { lpis = (cpu_at guest vcpu).lpis; kick = false })
+opening_word_of guest (Index vcpu number) = opening_index guest vcpu number
+opening_word_of guest Queue = packed_queue (record { offset = guest.offset; stalled = guest.is_stalled; turn = None })
+opening_word_of guest Ctlr = packed_ctlr (record { enables = guest.enables; mark = None })
+opening_word_of guest (Plain index) = slice_index_or guest.words index 0
 
 -- the word at a place; 0 where it only fills a line
-abbrev pub opening_word : GuestSpec → ℕ → ℕ
+abbrev pub opening_word : IdealGuest → ℕ → ℕ
 opening_word guest place = option_map_or (opening_word_of guest) (word_at guest.shape place) 0
 
--- what an actor has for itself as its guest opens
-abbrev pub opening_local_of : GuestSpec → ℕ → ℕ → Local
-opening_local_of guest number actor = opening_local (actor_at guest.shape number actor) (opening_cpu guest.on)
+-- what an actor has for itself as its guest opens: a vCPU its CPU interface's record, EnableLPIs among it
+abbrev pub opening_local_of : IdealGuest → ℕ → ℕ → Local
+opening_local_of guest number actor = opening_local (actor_at guest.shape number actor) (cpu_at guest actor)
 
 -- a guest of a number as it opens
-abbrev pub opening_seat : GuestSpec → ℕ → ℕ → Seat
+abbrev pub opening_seat : IdealGuest → ℕ → ℕ → Seat
 opening_seat guest number actor = record { local = opening_local_of guest number actor; own = [] }
 
-abbrev pub opening : GuestSpec → ℕ → CoreState
+abbrev pub opening : IdealGuest → ℕ → CoreState
 opening guest number =
     record {
       words = map (opening_word guest) (range_with_len 0 (word_count guest.shape));
       seats = map (opening_seat guest number) (range_with_len 0 (actor_count guest.shape));
-      maps = no_maps;
+      maps = guest.tables;
     }
 
 -- Steps.

@@ -1,11 +1,11 @@
 -- Which event of the ideal controller a step stands for, with what that hands out.
 use Rattle.std.specs.Prelude.{ℕ, ◌==◌, false, List, if◌then◌else◌, Option, Some, None, is_some}
-use Rattle.floor_calls.specs.Words.{IccReg, GuestShape, Key, irq_of}
-use Rattle.floor_calls.specs.Registers.{interface_answer, enables_in, queue_of}
-use Rattle.floor_calls.specs.Calls.{plain_at, Event, Up, Down, Enable, Touch as TouchEvent, Reach, Take, Leave, Cpu, Put, CtlrBegin, CtlrEnd as CtlrEndEvent, ItsBegin, Found, Record, Happened}
-use Rattle.floor_calls.specs.GicCall.declared.event.Event.TheVariants.{Raise as RaiseEvent, Read, ItsEnd, Queue as QueueEvent}
-use Rattle.floor_calls.specs.GicCall.declared.event.Place.TheVariants.{Word, Queue as QueuePlace, Ctlr as CtlrPlace, Lpis}
-use Rattle.floor_calls.specs.GicCall.declared.event.Found.TheVariants.{Nothing, Answer, Word as FoundWord, Queue as FoundQueue, Ctlr as FoundCtlr, Lpis as FoundLpis}
+use Rattle.ideal_guest.specs.Words.{IccReg, GuestShape, Key, irq_of}
+use Rattle.ideal_guest.specs.Registers.{interface_answer, enables_in, queue_of}
+use Rattle.ideal_guest.specs.Calls.{plain_at, Event, Up, Down, Enable, Touch as TouchEvent, Reach, Take, Leave, Cpu, Put, CtlrBegin, CtlrEnd as CtlrEndEvent, ItsBegin, Found, Record, Happened}
+use Rattle.ideal_guest.specs.GicCall.declared.event.Event.TheVariants.{Raise as RaiseEvent, Read, ItsEnd, Queue as QueueEvent}
+use Rattle.ideal_guest.specs.GicCall.declared.event.Place.TheVariants.{Word, Queue as QueuePlace, Ctlr as CtlrPlace, Lpis}
+use Rattle.ideal_guest.specs.GicCall.declared.event.Found.TheVariants.{Nothing, Answer, Word as FoundWord, Queue as FoundQueue, Ctlr as FoundCtlr, Lpis as FoundLpis}
 use Rattle.port_core.specs.declared.local.Local.{Local}
 use Rattle.port_core.specs.declared.run.Made.{Made}
 use Rattle.port_core.specs.declared.step.CoreStep.{CoreStep}

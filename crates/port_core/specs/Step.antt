@@ -1,7 +1,7 @@
 -- What a step names: its word, and what of the guest has to be there.
 use Rattle.std.specs.Prelude.{◌≡◌, ℕ, ◌/◌, ◌^◌, ◌<◌, ◌&&◌, Bool, false, IsTrue, List, nat_lt, Option, Some, None, is_none, length}
-use Rattle.floor_calls.specs.Words.{GuestShape, IccReg, has_interrupt, is_of_vcpu}
-use Rattle.floor_calls.specs.Calls.{plain_count, CanTouch, IsOffset, has_wire, is_usable}
+use Rattle.ideal_guest.specs.Words.{GuestShape, IccReg, has_interrupt, is_of_vcpu}
+use Rattle.ideal_guest.specs.Calls.{plain_count, CanTouch, IsOffset, has_wire, is_usable}
 use Rattle.port_core.specs.declared.word_id.WordId.{WordId}
 use Rattle.port_core.specs.declared.word_id.WordId.TheVariants.{Irq, Vcpu, Index, Queue, Ctlr, Plain}
 use Rattle.port_core.specs.declared.step.CoreStep.{CoreStep}

@@ -1,9 +1,10 @@
 -- What is kept of every word and of every actor's own state, by every step of every run.
 use Rattle.std.specs.Prelude.{◌≡◌, ℕ, ◌+◌, ◌*◌, ◌^◌, ◌<◌, ◌≤◌, ◌||◌, Bool, true, false, IsTrue, List, [], length, filter, All, Option, Some, None, is_none, slice_index_or}
 use Rattle.std.specs.Option.{option_map_or, ForSome}
-use Rattle.floor_calls.specs.Words.{Key, GuestShape, has_interrupt, is_of_vcpu, is_same_key, has_bit, Irq as IrqRecord, is_number, IsWord, irq_of, IsRecordOf}
-use Rattle.floor_calls.specs.Registers.{HasBinaryPoints, HasLevels, is_queue_word, queue_of}
-use Rattle.floor_calls.specs.Calls.{IsEntryOf}
+use Rattle.ideal_guest.specs.Words.{Key, GuestShape, has_interrupt, is_of_vcpu, is_same_key, has_bit, Irq as IrqRecord, is_number, IsWord, irq_of, IsRecordOf}
+use Rattle.ideal_guest.specs.Registers.{HasBinaryPoints, HasLevels, is_queue_word, queue_of}
+use Rattle.ideal_guest.specs.Calls.{IsEntryOf}
+use Rattle.ideal_guest.specs.CanOpen.{is_own}
 use Rattle.port_core.specs.declared.at_list.AtIrq.{AtIrq}
 use Rattle.port_core.specs.declared.local.Local.{Local}
 use Rattle.port_core.specs.declared.word_id.WordId.{WordId}
@@ -14,10 +15,6 @@ use Rattle.port_core.specs.Place.{index_bits}
 use Rattle.port_core.specs.Actor.{actor_count}
 
 -- Words.
-
--- the vCPU, if there is one, is one that the interrupt can get to
-abbrev pub is_own : Key → Option ℕ → Bool
-is_own key vcpu = option_map_or (λ vcpu. is_of_vcpu vcpu key) vcpu true
 
 -- while a vCPU holds an interrupt, it is active by that one or by none
 abbrev pub is_active_by_holder : IrqRecord → Bool

@@ -1,8 +1,8 @@
 //! What a step leaves of its actor's own state.
 ghost use Rattle.std.specs.Prelude.{ℕ as Number, ◌≡◌, ◌<◌, ◌≤◌, ◌/◌, ◌+◌, ◌==◌, [], ◌∷◌, IsTrue, IfSome, All, Option, Some, None};
-ghost use Rattle.floor_calls.specs.Words.{IsShape, max_vcpus, has_interrupt, irq_of, IsIrq, IsSeat, IsWord};
-ghost use Rattle.floor_calls.specs.Calls.{CanTouch};
-ghost use Rattle.floor_calls.specs.Registers.{IsQueue, is_queue_word, queue_of, HasBinaryPoints};
+ghost use Rattle.ideal_guest.specs.Words.{IsShape, max_vcpus, has_interrupt, irq_of, IsIrq, IsSeat, IsWord};
+ghost use Rattle.ideal_guest.specs.Calls.{CanTouch};
+ghost use Rattle.ideal_guest.specs.Registers.{IsQueue, is_queue_word, queue_of, HasBinaryPoints};
 ghost use Rattle.port_core.specs.declared.step.CoreStep.TheVariants.{Claim, Touch};
 ghost use Rattle.port_core.specs.After.{concerned as concerned_of, concerned_by as concerned_of_touch, looked_at, claimed_at, given_at, release_at, polled_at, index_taken, marked, local_after};
 ghost use Rattle.port_core.specs.Condition.{may_claim as may_claim_at, has_room};
@@ -18,7 +18,7 @@ use crate::owed::{MarkSet, NO_VCPUS, with_all, without_vcpu};
 use crate::step::CoreStep;
 use crate::word_id::{WordId, index_words};
 use crate::words::{CtlrWord, VcpuWord};
-use floor_calls::{
+use ideal_guest::{
     GuestShape, IccReg, Irq, Key, QueueWord, Touching, irq_unpack as unpack, ripe, target_in,
 };
 
@@ -262,5 +262,5 @@ pub(crate) fn queue_in(word: u64) -> QueueWord
     ensures value { result ≡ queue_of word }
     ensures queue { IsQueue result }
 {
-    floor_calls::queue_unpack(word).unwrap()
+    ideal_guest::queue_unpack(word).unwrap()
 }

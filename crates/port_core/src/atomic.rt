@@ -1,8 +1,8 @@
 //! The one atomic operation on a word that makes a step.
 ghost use Rattle.std.specs.Prelude.{◌≡◌, ℕ, ◌<◌, ◌^◌, ◌/◌, ◌%◌, List, IsTrue, Some, is_none};
-ghost use Rattle.floor_calls.specs.Words.{IsShape, max_vcpus, has_interrupt, irq_of};
-ghost use Rattle.floor_calls.specs.Calls.{CanTouch, IsOffset};
-ghost use Rattle.floor_calls.specs.Registers.{is_queue_word, queue_of, packed as packed_queue, enables_in as enables_of};
+ghost use Rattle.ideal_guest.specs.Words.{IsShape, max_vcpus, has_interrupt, irq_of};
+ghost use Rattle.ideal_guest.specs.Calls.{CanTouch, IsOffset};
+ghost use Rattle.ideal_guest.specs.Registers.{is_queue_word, queue_of, packed as packed_queue, enables_in as enables_of};
 ghost use Rattle.port_core.specs.declared.run.Made.{Made};
 ghost use Rattle.port_core.specs.Effect.{may_move as can_move, claimed_irq, touched_irq, changed};
 ghost use Rattle.port_core.specs.Forms.{ctlr_of, packed_ctlr};
@@ -18,7 +18,7 @@ use crate::local::Local;
 use crate::step::CoreStep;
 use crate::word_id::{WORD_BITS, index_bit};
 use crate::words::{CtlrWord, VcpuWord};
-use floor_calls::{
+use ideal_guest::{
     Back, GuestShape, HELD_BY_NONE, Irq, Key, QueueWord, RAISE, Touching, WIRE_DOWN, WIRE_UP,
     active_mask, cause_mask, enables_in, irq_pack as pack,
 };
@@ -116,7 +116,7 @@ fn turn_take_by(seen: u64, actor: u32) -> Atomic
         turn: Some(actor),
         ..queue
     };
-    exchange_if(queue.turn.is_none(), seen, floor_calls::queue_pack(&taken))
+    exchange_if(queue.turn.is_none(), seen, ideal_guest::queue_pack(&taken))
 }
 
 /// The word of a queue that an actor has.
@@ -125,7 +125,7 @@ fn queue_word(offset: u32, stalled: bool, actor: u32) -> u64
     requires offset { IsOffset offset }
     ensures { result ≡ packed_queue (record { turn = Some actor; offset = offset; stalled = stalled }) }
 {
-    floor_calls::queue_pack(&QueueWord {
+    ideal_guest::queue_pack(&QueueWord {
         turn: Some(actor),
         offset,
         stalled,

@@ -2,7 +2,7 @@
 ghost use Rattle.port_core.specs.Port.{PartsJoin};
 ghost use Rattle.port_core.specs.Laws.{OpeningIsSound, StepsKeepSound, RunsAreSound, RunsJoin};
 
-/// A law of every good guest: it opens with valid words, and with actors that agree with them.
+/// A law of every guest that can open: it opens with valid words, and with actors that agree with them.
 pub fn opening_is_sound()
     ensures { OpeningIsSound }
 {}

@@ -23,12 +23,13 @@ pub use actor::{actor_at, actor_count, guest_of, number_of};
 pub use at_list::{AtIrq, AtList};
 pub use atomic::Atomic;
 pub use end::{EndWords, GuestWords, WordList};
-pub use floor_calls::{
+pub use ideal_guest::{
     Actor as GuestActor, Answer, Answers, COMMAND_BYTES, Command, CpuRec, DeviceOp, Enables,
-    End as GuestEnd, Ends, GuestOp, GuestShape, GuestSpec, Guests, Irq, ItsReg as Reg,
-    ItsRegRef as RegRef, ItsTables, ListOf, LrList, NoMemory, PeOp, PlainWord, RunOut, Touching,
-    enables_in, encode, interrupt_count, irq_pack as pack, irq_unpack, irqs, its_decode as decode,
-    key_at, opening_cpu, opening_enables, place_of_plain, plain_count, queue_unpack,
+    End as GuestEnd, Ends, GuestOp, GuestShape, GuestSpec, Guests, IdealGuest, Irq, ItsReg as Reg,
+    ItsRegRef as RegRef, ItsTables, ListOf, LrList, NoMemory, PeOp, PlainWord, QueueWord, RunOut,
+    Touching, enables_in, encode, interrupt_count, irq_pack as pack, irq_unpack, irqs,
+    its_decode as decode, key_at, opening_cpu, opening_enables, pending, place_of_plain,
+    plain_count, queue_pack, queue_unpack, ripe,
 };
 pub use laws::{opening_is_sound, parts_join, runs_are_sound, runs_join, steps_keep_sound};
 pub use local::{Local, Phase};

@@ -4,7 +4,7 @@ ghost use Rattle.port_core.specs.Local.{opening_local};
 
 use crate::at_list::AtList;
 use crate::owed::{Cands, MarkSet, NO_VCPUS};
-use floor_calls::{Actor, CpuRec, Targets};
+use ideal_guest::{Actor, CpuRec, Targets};
 
 /// How far a vCPU is with its CPU interface.
 #[derive(Clone, Copy, Debug, PartialEq, Eq, Hash)]

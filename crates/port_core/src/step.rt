@@ -1,10 +1,10 @@
 //! The kinds of atomic steps.
 ghost use Rattle.std.specs.Prelude.{◌≡◌};
-ghost use Rattle.floor_calls.specs.Words.{IsShape};
+ghost use Rattle.ideal_guest.specs.Words.{IsShape};
 ghost use Rattle.port_core.specs.Step.{CanStep, word_of};
 
 use crate::word_id::{WORD_BITS, WordId, index_bit};
-use floor_calls::{Back, GuestShape, IccReg, Key, Touching};
+use ideal_guest::{Back, GuestShape, IccReg, Key, Touching};
 
 /// One atomic step of an actor on one word.
 #[derive(Clone, Copy, Debug, PartialEq, Eq, Hash)]

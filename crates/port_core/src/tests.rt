@@ -1,7 +1,7 @@
 //! Sets, and the list of what is at an interface.
 use crate::at_list::{Change, Which};
 use crate::{AtIrq, AtList, Cands, NO_VCPUS, with_all, with_vcpu, without_vcpu};
-use floor_calls::{Key, Targets};
+use ideal_guest::{Key, Targets};
 
 #[test]
 fn sets_and_lists(rt: HostRuntime) {

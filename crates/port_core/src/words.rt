@@ -2,7 +2,7 @@
 ghost use Rattle.std.specs.Prelude.{◌≡◌, ◌<◌, ◌^◌, IsTrue, IfSome};
 ghost use Rattle.port_core.specs.Forms.{vcpu_of, ctlr_of, packed_vcpu, packed_ctlr, IsCtlr, is_vcpu_word, is_ctlr_word};
 
-use floor_calls::{Enables, Field, has_bit, put_bit};
+use ideal_guest::{Enables, Field, has_bit, put_bit};
 
 /// EnableLPIs.
 const LPIS: u32 = 0;

@@ -1,33 +1,38 @@
--- The words of a guest as it opens.
-use Rattle.std.proofs.Common.{◌≡◌, ◌<◌, ℕ, false, IsTrue, List, length, get_or, Some, sym, ap, subst, ◌∙◌}
-use Rattle.std.specs.Option.{option_map_or}
-use Rattle.std.proofs.lemmas.List.{get_or_default}
-use Rattle.port_core.specs.Words.{Key, has_interrupt, interrupt_count, place_of, Irq, IsIrq, packed}
-use Rattle.port_core.specs.Calls.{irqs_of, irq_in, opening_irq, GuestSpec, IsGoodGuest}
-use Rattle.port_core.proofs.GicOpen.KeyLemmas.{irq_in_there, place_within}
-use Rattle.port_core.proofs.GicOpen.OpeningLemmas.{opening_valid}
-use Rattle.port_core.specs.declared.word_id.WordId.TheVariants.{Irq as IrqWord}
-use Rattle.port_core.specs.Place.{word_at}
-use Rattle.port_core.specs.Run.{opening_word, opening_word_of}
+-- A word of a candidate index, bit by bit.
+use Rattle.std.proofs.Common.{◌≡◌, ℕ, zero, suc, ◌+◌, ◌*◌, ◌^◌, ◌%◌, ◌<◌, Bool, true, false, fold, bit_or, if◌then◌else◌, sym, ap, ◌∙◌, arith}
+use Rattle.std.specs.List.{range_with_len}
+use Rattle.std.proofs.Math.Nat.{mod-eq_of_lt}
+use Rattle.std.proofs.lemmas.Nat.{pow_below}
+use Rattle.port_core.specs.IdealGuests.declared.guest.IdealGuest.{IdealGuest}
+use Rattle.port_core.specs.Run.{is_asked, opening_index}
 
--- the record at an interrupt's place is the one with which it opens
-pub record_at_place :
-    (guest : GuestSpec) (irqs : List Irq) (key : Key) (place : ℕ) (d : Irq) → IsGoodGuest guest → irqs ≡ irqs_of guest → length irqs ≡ interrupt_count guest.shape → IsTrue (has_interrupt guest.shape key) → place_of guest.shape key ≡ place
-    → get_or irqs place d ≡ irq_in guest.shape (irqs_of guest) key
-record_at_place guest irqs key place d good are each there at =
-    ap (λ n. get_or irqs n d) (sym at)
-    ∙ get_or_default irqs (place_of guest.shape key) d (opening_irq false key) (subst (λ n. place_of guest.shape key < n) (sym each) (place_within guest.shape key good.shape there))
-    ∙ sym (irq_in_there guest.shape irqs key there)
-    ∙ ap (λ rs. irq_in guest.shape rs key) are
+-- what a range leaves, with one number more
+pub fold_one_more : {B : Type 0} (f : B → ℕ → B) (n from : ℕ) (b : B) → fold f b (range_with_len from (suc n)) ≡ f (fold f b (range_with_len from n)) (from + n)
+fold_one_more f zero from b = let same : from ≡ from + 0 = omega arith in ap (f b) same
+fold_one_more f (suc n) from b =
+    let same : from + 1 + n ≡ from + suc n = omega arith in
+    fold_one_more f n (from + 1) (f b from) ∙ ap (f (fold f (f b from) (range_with_len (from + 1) n))) same
 
--- it can be packed
-pub can_pack :
-    (guest : GuestSpec) (irqs : List Irq) (key : Key) (place : ℕ) (d : Irq) → IsGoodGuest guest → irqs ≡ irqs_of guest → length irqs ≡ interrupt_count guest.shape → IsTrue (has_interrupt guest.shape key) → place_of guest.shape key ≡ place → IsIrq (get_or irqs place d)
-can_pack guest irqs key place d good are each there at = subst IsIrq (sym (record_at_place guest irqs key place d good are each there at)) (opening_valid guest key good there).record_of.packable
+-- a bit that is asked for is put into a word
+abbrev pub put : (ℕ → Bool) → ℕ → ℕ → ℕ
+put asks word bit = if asks bit then bit_or word (2 ^ bit) else word
 
--- and packed it is the interrupt's word
-pub packed_opens :
-    (guest : GuestSpec) (irqs : List Irq) (key : Key) (place : ℕ) (d : Irq) → IsGoodGuest guest → irqs ≡ irqs_of guest → length irqs ≡ interrupt_count guest.shape → IsTrue (has_interrupt guest.shape key) → place_of guest.shape key ≡ place
-    → word_at guest.shape place ≡ Some (IrqWord key) → packed (get_or irqs place d) ≡ opening_word guest place
-packed_opens guest irqs key place d good are each there at word =
-    ap packed (record_at_place guest irqs key place d good are each there at) ∙ sym (ap (λ w. option_map_or (opening_word_of guest) w 0) word)
+pub put_asked : (asks : ℕ → Bool) (word bit next : ℕ) → bit < 64 → asks bit ≡ true → next ≡ bit_or word (1 * 2 ^ bit % 18446744073709551616) → next ≡ put asks word bit
+put_asked asks word bit next few asked is =
+    let one : 1 * 2 ^ bit ≡ 2 ^ bit = omega arith in
+    is ∙ ap (λ n. bit_or word (n % 18446744073709551616)) one ∙ ap (bit_or word) (mod-eq_of_lt (pow_below bit 64 few)) ∙ sym (ap (λ b. if b then bit_or word (2 ^ bit) else word) asked)
+
+pub put_unasked : (asks : ℕ → Bool) (word bit next : ℕ) → asks bit ≡ false → next ≡ word → next ≡ put asks word bit
+put_unasked asks word bit next unasked is = is ∙ sym (ap (λ b. if b then bit_or word (2 ^ bit) else word) unasked)
+
+-- the bits so far, with one more
+pub put_one_more : (asks : ℕ → Bool) (bit word next : ℕ) → word ≡ fold (put asks) 0 (range_with_len 0 bit) → next ≡ put asks word bit → next ≡ fold (put asks) 0 (range_with_len 0 (bit + 1))
+put_one_more asks bit word next so_far is =
+    let same : bit + 1 ≡ suc bit = omega arith in
+    let at : 0 + bit ≡ bit = omega arith in
+    is ∙ ap (λ w. put asks w bit) so_far ∙ ap (put asks (fold (put asks) 0 (range_with_len 0 bit))) (sym at) ∙ sym (fold_one_more (put asks) bit 0 0)
+    ∙ ap (λ n. fold (put asks) 0 (range_with_len 0 n)) (sym same)
+
+-- all bits are the word of the index
+pub all_put : (guest : IdealGuest) (vcpu number bit word : ℕ) → bit ≡ 64 → word ≡ fold (put (λ bit. is_asked guest vcpu (64 * number + bit))) 0 (range_with_len 0 bit) → word ≡ opening_index guest vcpu number
+all_put guest vcpu number bit word last so_far = so_far ∙ ap (λ n. fold (put (λ bit. is_asked guest vcpu (64 * number + bit))) 0 (range_with_len 0 n)) last

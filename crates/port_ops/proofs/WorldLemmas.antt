@@ -7,7 +7,8 @@ use mathlib.Core.Option.{some, some-injective, some-ne-none}
 use lib.ListN.{get_elem?}
 use Rattle.port_core.specs.Words.{GuestShape, IsShape}
 use Rattle.port_core.specs.Registers.{Maps}
-use Rattle.port_core.specs.Calls.{GuestSpec, IsGoodGuest}
+use Rattle.port_core.specs.IdealGuests.CanOpen.{CanOpen}
+use Rattle.port_core.specs.IdealGuests.declared.guest.IdealGuest.{IdealGuest}
 use Rattle.port_core.specs.declared.atomic.Atomic.{Atomic}
 use Rattle.port_core.specs.declared.local.Local.{Local}
 use Rattle.port_core.specs.declared.run.Entry.{Entry}
@@ -31,8 +32,8 @@ use Rattle.port_ops.specs.declared.opened.Opened.{Opened}
 use Rattle.port_ops.specs.World.{state_after, entry_in, locals_in, HasTurn}
 
 -- the state of a guest after a run is sound
-pub sound_after : (opened : Opened) (world : List Entry) → IsGoodGuest opened.guest → IsRun opened.guest.shape (opening opened.guest opened.number) world → IsSound opened.guest.shape (state_after opened.guest opened.number world)
-sound_after opened world good run = run_sound opened.guest.shape (opening opened.guest opened.number) world good.shape (opens_sound opened.guest opened.number good) run
+pub sound_after : (opened : Opened) (world : List Entry) → CanOpen opened.guest → IsRun opened.guest.shape (opening opened.guest opened.number) world → IsSound opened.guest.shape (state_after opened.guest opened.number world)
+sound_after opened world good run = run_sound opened.guest.shape (opening opened.guest opened.number) world good.sound.shape (opens_sound opened.guest opened.number good) run
 
 -- the state after one more step
 pub one_more : (opened : Opened) (world : List Entry) (entry : Entry) → state_after opened.guest opened.number (world ++ entry ∷ []) ≡ after opened.guest.shape (state_after opened.guest opened.number world) entry
@@ -61,15 +62,15 @@ seats_kept shape state [] = refl
 seats_kept shape state (entry ∷ entries) = seats_kept shape (after shape state entry) entries ∙ length-set state.seats entry.actor _
 
 -- each actor has a seat
-pub each_seat : (guest : GuestSpec) (number : ℕ) (world : List Entry) → length (state_after guest number world).seats ≡ actor_count guest.shape
+pub each_seat : (guest : IdealGuest) (number : ℕ) (world : List Entry) → length (state_after guest number world).seats ≡ actor_count guest.shape
 each_seat guest number world = seats_kept guest.shape (opening guest number) world ∙ length-map-range_with_len (opening_seat guest number) 0 (actor_count guest.shape)
 
-pub each_local : (guest : GuestSpec) (number : ℕ) (world : List Entry) (locals : List Local) → locals ≡ locals_in (state_after guest number world) → length locals ≡ actor_count guest.shape
+pub each_local : (guest : IdealGuest) (number : ℕ) (world : List Entry) (locals : List Local) → locals ≡ locals_in (state_after guest number world) → length locals ≡ actor_count guest.shape
 each_local guest number world locals are = ap length are ∙ length-map (state_after guest number world).seats (λ (seat : Seat). seat.local) ∙ each_seat guest number world
 
 -- the one at an actor's number is the actor's
 pub local_at :
-    (guest : GuestSpec) (number : ℕ) (world : List Entry) (locals : List Local) (actor : ℕ) (d : Local) → locals ≡ locals_in (state_after guest number world) → actor < actor_count guest.shape → get_or locals actor d ≡ (seat_at (state_after guest number world) actor).local
+    (guest : IdealGuest) (number : ℕ) (world : List Entry) (locals : List Local) (actor : ℕ) (d : Local) → locals ≡ locals_in (state_after guest number world) → actor < actor_count guest.shape → get_or locals actor d ≡ (seat_at (state_after guest number world) actor).local
 local_at guest number world locals actor d are there =
     ap (λ l. get_or l actor d) are ∙ get_or-map (λ (seat : Seat). seat.local) (state_after guest number world).seats actor no_seat d (subst (λ n. actor < n) (sym (each_seat guest number world)) there)
 

@@ -10,6 +10,7 @@ pub use Rattle.port_core.specs.GicRmap
 pub use Rattle.port_core.specs as PortCore
 pub mod Ready
 pub mod GuestWords
+pub mod Quiet
 pub mod World
 pub mod Opened
 pub mod Props

@@ -1,7 +1,7 @@
 -- The world of a guest: its state after the steps of all its actors so far, and after one more.
 use Rattle.std.specs.Prelude.{ℕ, ◌<◌, IsTrue, List, map}
 use Rattle.port_core.specs.Words.{GuestShape}
-use Rattle.port_core.specs.Calls.{GuestSpec}
+use Rattle.port_core.specs.IdealGuests.declared.guest.IdealGuest.{IdealGuest}
 use Rattle.port_core.specs.declared.local.Local.{Local}
 use Rattle.port_core.specs.declared.run.Entry.{Entry}
 use Rattle.port_core.specs.declared.step.CoreStep.{CoreStep}
@@ -10,7 +10,7 @@ use Rattle.port_core.specs.Effect.{word_after}
 use Rattle.port_core.specs.Run.{CoreState, opening, end_of, seat_at, handed_maps}
 
 -- the state after the steps so far
-abbrev pub state_after : GuestSpec → ℕ → List Entry → CoreState
+abbrev pub state_after : IdealGuest → ℕ → List Entry → CoreState
 state_after guest number world = end_of guest.shape (opening guest number) world
 
 -- what each actor has for itself

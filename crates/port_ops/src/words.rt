@@ -1,47 +1,120 @@
 //! The words of a guest as it opens, and as they are told of at its end.
-ghost use Rattle.std.specs.Prelude.{◌≡◌, ℕ, ◌<◌, IsTrue, IfOk, length};
-ghost use Rattle.port_core.specs.Words.{IsShape, interrupt_count as count_of_irqs, key_at as key_in};
-ghost use Rattle.port_core.specs.Calls.{irqs_of, plain_count as count_of_plain, IsGoodGuest};
+ghost use Rattle.std.specs.Prelude.{◌≡◌, ◌↔◌, ℕ, ◌<◌, All, IsTrue, IfOk, length};
+ghost use Rattle.port_core.specs.Words.{GuestShape, IsShape, interrupt_count as count_of_irqs, key_at as key_in};
+ghost use Rattle.port_core.specs.Calls.{plain_count as count_of_plain};
+ghost use Rattle.port_core.specs.IdealGuests.CanOpen.{CanOpen};
 ghost use Rattle.port_core.specs.declared.word_id.WordId.TheVariants.{Irq as IrqWord, Vcpu, Plain};
 ghost use Rattle.port_core.specs.Place.{has_word, word_count as count_of};
-ghost use Rattle.port_core.specs.Run.{opening, opening_word as word_at_opening};
+ghost use Rattle.port_core.specs.Run.{concerns as does_concern, is_asked, opening, opening_index as index_at_opening, opening_word as word_at_opening, opening_word_of};
+ghost use Rattle.port_ops.specs.Quiet.{is_quiet};
 ghost use Rattle.port_ops.specs.GuestWords.{word_among, words_among, words_at_end};
 
 use port_core::{
-    CtlrWord, GuestShape, GuestSpec, GuestWords, Irq, ItsTables, ListOf, WordId, WordList,
-    enables_in, interrupt_count, irqs, key_at, opening_enables, pack, place_of_word, plain_count,
-    word_at, word_count,
+    CtlrWord, GuestShape, GuestWords, IdealGuest, Irq, ItsTables, ListOf, QueueWord, VcpuWord,
+    WordId, WordList, index_bits, interrupt_count, key_at, key_of_bit, pack, pending,
+    place_of_word, plain_count, queue_pack, ripe, word_at, word_count,
 };
 use std::alloc::{AllocError, Global};
 
-/// The word at a place as a guest opens, whose interrupts open with these records, in key order.
-fn opening_word(place: usize, guest: &GuestSpec, irqs: &[Irq]) -> u64
-    requires good { IsGoodGuest guest.now }
-    requires irqs { irqs.now ≡ irqs_of guest.now }
-    requires each { length irqs.now ≡ count_of_irqs guest.now.shape }
+/// The bits of a word.
+const WORD_BITS: u32 = 64;
+
+/// Whether an interrupt concerns a vCPU of its guest: it is ripe for it, or active by it.
+fn concerns(irq: &Irq, vcpu: u32) -> bool
+    ensures { (shape : GuestShape) → vcpu < shape.vcpus → result ≡ does_concern shape vcpu irq.now }
+{
+    ripe(irq, vcpu) || irq.act_by == Some(vcpu)
+}
+
+/// Whether a bit of a vCPU's candidate index is one of an interrupt that concerns the vCPU.
+fn asks(guest: &IdealGuest, vcpu: u32, bit: u32) -> bool
+    requires good { CanOpen guest.now }
+    requires there { vcpu < guest.now.shape.vcpus }
+    ensures { result ≡ is_asked guest.now vcpu bit }
+{
+    bit < index_bits(&guest.shape)
+        && concerns(&guest.irq(key_of_bit(bit, vcpu, &guest.shape)), vcpu)
+}
+
+/// A word of a vCPU's candidate index as the guest opens, where the guest may be told to have no interrupt that is pending or
+/// active.
+fn index_word(guest: &IdealGuest, are_quiet: bool, vcpu: u32, number: u32) -> u64
+    requires good { CanOpen guest.now }
+    requires quiet { IsTrue are_quiet → All (λ irq. IsTrue (is_quiet irq)) guest.now.irqs }
+    requires there { vcpu < guest.now.shape.vcpus }
+    requires few { number < 96 }
+    ensures { result ≡ index_at_opening guest.now vcpu number }
+{
+    if are_quiet {
+        return 0;
+    }
+    let mut word = 0u64;
+    for bit in 0..WORD_BITS {
+        if asks(guest, vcpu, WORD_BITS * number + bit) {
+            word |= 1 << bit;
+        }
+    }
+    word
+}
+
+/// Whether no interrupt is pending or active.
+fn are_quiet(irqs: &[Irq]) -> bool
+    ensures { IsTrue result ↔ All (λ irq. IsTrue (is_quiet irq)) irqs.now }
+{
+    irqs.iter().all(|irq| !pending(irq) && irq.act_by.is_none())
+}
+
+/// A word as a guest opens, where the guest may be told to have no interrupt that is pending or active.
+fn word_of_guest(guest: &IdealGuest, are_quiet: bool, word: WordId) -> u64
+    requires good { CanOpen guest.now }
+    requires quiet { IsTrue are_quiet → All (λ irq. IsTrue (is_quiet irq)) guest.now.irqs }
+    requires there { IsTrue (has_word guest.now.shape word) }
+    ensures { result ≡ opening_word_of guest.now word }
+{
+    match word {
+        WordId::Irq(key) => pack(&guest.irq(key)),
+        WordId::Vcpu(vcpu) => VcpuWord {
+            lpis: guest.cpu(vcpu).lpis,
+            kick: false,
+        }
+        .pack(),
+        WordId::Index { vcpu, word } => index_word(guest, are_quiet, vcpu, word),
+        WordId::Queue => queue_pack(&QueueWord {
+            offset: guest.offset,
+            stalled: guest.is_stalled,
+            turn: None,
+        }),
+        WordId::Ctlr => CtlrWord {
+            enables: guest.enables,
+            mark: None,
+        }
+        .pack(),
+        WordId::Plain(index) => guest.words.as_slice()[index as usize],
+    }
+}
+
+/// The word at a place as a guest opens.
+fn opening_word(place: usize, guest: &IdealGuest, are_quiet: bool) -> u64
+    requires good { CanOpen guest.now }
+    requires quiet { IsTrue are_quiet → All (λ irq. IsTrue (is_quiet irq)) guest.now.irqs }
     requires within { place < count_of guest.now.shape }
     ensures { result ≡ word_at_opening guest.now place }
 {
     match word_at(place, &guest.shape) {
-        Some(WordId::Irq(_)) => pack(&irqs[place]),
-        Some(WordId::Ctlr) => CtlrWord {
-            enables: enables_in(opening_enables(guest.on)),
-            mark: None,
-        }
-        .pack(),
-        _ => 0,
+        Some(word) => word_of_guest(guest, are_quiet, word),
+        None => 0,
     }
 }
 
 /// All words of a guest as it opens, each at its place. An error where memory for them is refused.
-pub fn opening_words(alloc: Global, guest: &GuestSpec) -> Result<WordList, AllocError>
-    requires { IsGoodGuest guest.now }
+pub fn opening_words(alloc: Global, guest: &IdealGuest) -> Result<WordList, AllocError>
+    requires { CanOpen guest.now }
     ensures { IfOk result (λ words. (number : ℕ) → words ≡ (opening guest.now number).words) }
 {
-    let irqs = irqs(alloc, guest)?;
+    let quiet = are_quiet(guest.irqs.as_slice());
     let mut words = ListOf::new(alloc);
     for place in 0..word_count(&guest.shape) {
-        words.push(opening_word(place, guest, irqs.as_slice()))?;
+        words.push(opening_word(place, guest, quiet))?;
     }
     Ok(words)
 }

@@ -1,4 +1,6 @@
 //! Messages, wires and messages to the ITS by hand, in the second of two guests.
+ghost use Rattle.std.specs.Prelude.{map};
+ghost use Rattle.port_seq.specs.IdealGuests.Opening.{opening};
 ghost use Rattle.port_seq.specs.Told.{IsOpening};
 ghost use Rattle.port_seq.specs.Ports.{told_all};
 
@@ -106,7 +108,7 @@ fn send_event<P: Port, R: Wait>(rt: &R, port: &mut P) -> Option<()> {
 
 /// Tells the device of the second of two guests that just opened. False where there is none.
 fn tell_device(port: &mut SeqPort, guests: &[GuestSpec]) -> bool
-    requires { IsOpening guests.now (told_all port.old) }
+    requires { IsOpening (map opening guests.now) (told_all port.old) }
 {
     if guests.len() != 2 || guests[1].shape != SHAPE {
         return false;

@@ -1,12 +1,23 @@
 -- What all guests tell, where one of them changes, comes or goes.
 use Rattle.std.proofs.Common.{◌≡◌, ℕ, suc, ◌+◌, ◌<◌, All, List, [], ◌∷◌, ◌++◌, map, length, set, get_or, arith, sym, ap, subst, ◌∙◌}
-use Rattle.std.proofs.lemmas.List.{map-set, length-map, get_or-set_same}
+use Rattle.std.proofs.lemmas.List.{map-set, length-map, get_or-map, get_or-set_same}
+use Rattle.port_ops.specs.Calls.{GuestSpec, IsGoodGuest}
+use Rattle.port_ops.specs.Opened.{no_guest}
+use Rattle.port_ops.specs.PortCore.IdealGuests.CanOpen.{CanOpen}
+use Rattle.port_ops.specs.PortCore.IdealGuests.Opening.{opening}
+use Rattle.port_ops.proofs.PortCore.IdealGuests.CanOpenLemmas.{openings_can_open}
 use Rattle.port_ops.proofs.MapLemmas.{mapped_at, mapped_push}
 use Rattle.port_seq.specs.declared.guest.GuestPort.{GuestPort}
 use Rattle.port_seq.specs.declared.port.SeqPort.{SeqPort}
 use Rattle.port_seq.specs.Lending.{with_guest}
 use Rattle.port_seq.specs.Ports.{told, told_all}
 use Rattle.port_seq.specs.Told.{GuestTold, SeqTold, no_told, with_current}
+
+-- good guests open in states in which a guest can open
+pub opens_good : (guests : List GuestSpec) → All IsGoodGuest guests → All CanOpen (map opening guests)
+opens_good guests good = λ k d h.
+    let here : k < length guests = subst (λ n. k < n) (length-map guests opening) h in
+    subst CanOpen (sym (get_or-map opening guests k no_guest d here)) (openings_can_open (get_or guests k no_guest) (good k no_guest here))
 
 -- what the port at a number tells
 pub told_at : (ports : List GuestPort) (number : ℕ) (port : GuestPort) → number < length ports → port ≡ get_or ports number port → get_or (map told ports) number no_told ≡ told port

@@ -7,7 +7,7 @@ use mathlib.Core.Option.{some}
 use lib.ListN.{get_elem?}
 use Rattle.atomic_table.specs.Table.{State, Me, Allows, keeps}
 use Rattle.port_ops.specs.Words.{is_number}
-use Rattle.port_ops.specs.Calls.{IsGoodGuest}
+use Rattle.port_ops.specs.PortCore.IdealGuests.CanOpen.{CanOpen}
 use Rattle.port_ops.specs.PortCore.declared.atomic.Atomic.{Atomic}
 use Rattle.port_ops.specs.PortCore.declared.local.Local.{Local}
 use Rattle.port_ops.specs.PortCore.declared.run.Entry.{Entry}
@@ -30,7 +30,7 @@ use Rattle.port_ops.proofs.WorldLemmas.{only_view, left_by_operation, maps_same,
 
 -- An operation that makes a step keeps the rule, and the seat knows the step.
 pub may_make :
-    (opened : Opened) (actor : ℕ) (step : CoreStep) (atomic : Atomic) (slots id place : ℕ) (me : Me (Unit {0}) (List Entry)) → IsGoodGuest opened.guest → actor < actor_count opened.guest.shape → CanStep opened.guest.shape actor step
+    (opened : Opened) (actor : ℕ) (step : CoreStep) (atomic : Atomic) (slots id place : ℕ) (me : Me (Unit {0}) (List Entry)) → CanOpen opened.guest → actor < actor_count opened.guest.shape → CanStep opened.guest.shape actor step
     → Meets opened.guest.shape actor (seat_at (state_after opened.guest opened.number me.0) actor).local (seat_at (state_after opened.guest opened.number me.0) actor).own step
     → place ≡ place_of_word opened.guest.shape (word_of opened.guest.shape actor step) → Makes opened.guest.shape actor (seat_at (state_after opened.guest opened.number me.0) actor).local step atomic
     → Allows (IsAfter opened) slots id me place (applied atomic) (IsMade opened actor step me)
@@ -43,7 +43,7 @@ may_make opened actor step atomic slots id place me good there can meets at make
     let run : IsRun shape (opening opened.guest opened.number) me.0 = subst (IsRun shape (opening opened.guest opened.number)) only.1 holds.run in
     let words : s.words ≡ state.words = holds.words ∙ ap (λ world. (state_after opened.guest opened.number world).words) only.1 in
     let takes = takes_it shape state actor step found there can meets (ap (λ ws. get_or ws place 0) words ∙ ap (λ p. get_or state.words p 0) at) in
-    let left = left_by_operation shape state actor step atomic found good.shape (sound_after opened me.0 good run) takes makes in (
+    let left = left_by_operation shape state actor step atomic found good.sound.shape (sound_after opened me.0 good run) takes makes in (
       me.0 ++ entry ∷ [],
       keeps,
       tt,

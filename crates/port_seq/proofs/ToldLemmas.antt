@@ -1,7 +1,7 @@
 -- What a step adds to what is told.
 use Rattle.std.proofs.Common.{◌≡◌, ℕ, ◌<◌, [], ◌∷◌, ◌++◌, Some, sym, ap, subst, ◌∙◌}
 use Rattle.std.proofs.lemmas.List.{get_or-set_same}
-use Rattle.port_ops.specs.Calls.{IsGoodGuest}
+use Rattle.port_ops.specs.PortCore.IdealGuests.CanOpen.{CanOpen}
 use Rattle.port_ops.specs.PortCore.declared.step.CoreStep.{CoreStep}
 use Rattle.port_ops.specs.PortCore.Actor.{actor_count}
 use Rattle.port_ops.specs.PortCore.After.{local_after}
@@ -29,17 +29,17 @@ seat_now told step found there =
     ∙ get_or-set_same (state_of told).seats told.actor (seat_after told step found) no_seat (subst (λ n. told.actor < n) (sym (each_seat told.guest told.number told.world)) there)
 
 module _
-    (told new : GuestTold) (step : CoreStep) (found : ℕ) (good : IsGoodGuest told.guest) (run : IsRun told.guest.shape (opening told.guest told.number) told.world)
+    (told new : GuestTold) (step : CoreStep) (found : ℕ) (good : CanOpen told.guest) (run : IsRun told.guest.shape (opening told.guest told.number) told.world)
     (takes : Takes told.guest.shape (state_of told) (entry_of told step found)) (is : new ≡ with_step told step found) where
   -- it finds a valid word that agrees with its actor
   pub told_found : CanFind told.guest.shape told.actor (seen_of told).local (word_by (seen_of told) step) found
-  told_found = found_valid told.guest.shape (state_of told) (entry_of told step found) good.shape (told_sound told good run) takes
+  told_found = found_valid told.guest.shape (state_of told) (entry_of told step found) good.sound.shape (told_sound told good run) takes
 
   -- it leaves one
   pub told_left : CanFind told.guest.shape told.actor (seen_of new).local (word_by (seen_of told) step) (left_by (seen_of told) step found)
   unfolding seat_after
   told_left =
-      let kept = entry_keeps told.guest.shape (state_of told) (entry_of told step found) good.shape (told_sound told good run) takes in
+      let kept = entry_keeps told.guest.shape (state_of told) (entry_of told step found) good.sound.shape (told_sound told good run) takes in
       let local = ap (λ t. (seen_of t).local) is ∙ ap (λ s. s.local) (seat_now told step found takes.actor) in
       subst (λ l. CanFind told.guest.shape told.actor l (word_by (seen_of told) step) (left_by (seen_of told) step found)) (sym local) (record { valid = kept.valid; ties = kept.here })
 

@@ -5,7 +5,7 @@ use Rattle.std.proofs.Common.{subst, refl}
 use Rattle.std.proofs.Math.Logic.{∥∥₁_elim}
 use Rattle.port_ops.specs.Words.{is_number}
 use Rattle.std.proofs.lemmas.Bool.{eqb-true}
-use Rattle.port_ops.specs.Calls.{IsGoodGuest}
+use Rattle.port_ops.specs.PortCore.IdealGuests.CanOpen.{CanOpen}
 use Rattle.port_ops.specs.PortCore.Actor.{actor_count}
 use Rattle.port_ops.specs.PortCore.Port.{IsPort}
 use Rattle.port_ops.specs.PortCore.Run.{IsRun, IsSound, opening, seat_at}
@@ -13,9 +13,9 @@ use Rattle.port_ops.specs.Props.{port_prop}
 use Rattle.port_seq.specs.Told.{AreMade, GuestTold, seen_of, state_of}
 use Rattle.port_ops.specs.World.{HasTurn}
 
--- of a guest is told what a port of it keeps: the guest is good and has the actor, the steps so far are a run, and the actor that has taken the tables has the ITS
+-- of a guest is told what a port of it keeps: the guest could open and has the actor, the steps so far are a run, and the actor that has taken the tables has the ITS
 pub record IsTold (told : GuestTold) : Type 0 where
-  pub good : IsGoodGuest told.guest
+  pub good : CanOpen told.guest
   pub there : told.actor < actor_count told.guest.shape
   pub run : ∥ IsRun told.guest.shape (opening told.guest told.number) told.world ∥₁
   pub turn : ForSome told.taken (HasTurn told.guest.shape (state_of told))
@@ -42,7 +42,7 @@ turn_of_taker told turn = of told.taken refl
 
 -- then all that the port tells of its actor is so
 pub told_is_port :
-    (told : GuestTold) → IsGoodGuest told.guest → told.actor < actor_count told.guest.shape → ∥ IsSound told.guest.shape (state_of told) ∥₁ → AreMade told.guest told.number told.world → ForSome told.taken (HasTurn told.guest.shape (state_of told)) → IsPort (seen_of told)
+    (told : GuestTold) → CanOpen told.guest → told.actor < actor_count told.guest.shape → ∥ IsSound told.guest.shape (state_of told) ∥₁ → AreMade told.guest told.number told.world → ForSome told.taken (HasTurn told.guest.shape (state_of told)) → IsPort (seen_of told)
 told_is_port told good there sound made turn =
     ∥∥₁_elim sound (port_prop (seen_of told))
     (λ is. record { good = good; actor = there; local = is.locals told.actor there; made = made told.actor there; turn = turn_of_taker told turn })

@@ -3,6 +3,7 @@ pub use Rattle.port_ops.specs.Registers
 pub use Rattle.scn_base.specs.Words
 pub use Rattle.port_ops.specs.GicCall
 pub use Rattle.port_ops.specs.GicImap
+pub use Rattle.port_ops.specs.PortCore.IdealGuests
 pub mod Home
 pub mod Rule
 pub mod Told

@@ -10,8 +10,8 @@ abbrev pub told : GuestPort → GuestTold
 told port =
     record {
       home = port.seat.table_id;
-      guest = port.opened.guest;
-      number = port.opened.number;
+      guest = port.table.shared.key.guest;
+      number = port.table.shared.key.number;
       world = port.seat.me.0;
       taken = taker_of port.its;
       actor = port.actor;

@@ -3,7 +3,8 @@ use Rattle.std.specs.Prelude.{◌≡◌, ℕ, ◌<◌, IsTrue, List, [], ◌∷�
 use Rattle.port_ops.specs.Words.{Actor, is_number}
 use Rattle.port_ops.specs.GuestWords.{words_at_end}
 use Rattle.atomic_table.specs.Seated.{TableId}
-use Rattle.port_ops.specs.Calls.{GuestSpec}
+use Rattle.port_ops.specs.PortCore.IdealGuests.declared.guest.IdealGuest.{IdealGuest}
+use Rattle.port_ops.specs.PortCore.IdealGuests.Opening.{opening}
 use Rattle.port_ops.specs.PortCore.declared.end.GuestWords.{GuestWords}
 use Rattle.port_ops.specs.PortCore.declared.run.Entry.{Entry}
 use Rattle.port_ops.specs.PortCore.declared.step.CoreStep.{CoreStep}
@@ -17,7 +18,7 @@ use Rattle.port_ops.specs.World.{state_after, entry_in}
 -- one has; and the actor that is told
 pub record GuestTold : Type 0 where
   pub home : TableId
-  pub guest : GuestSpec
+  pub guest : IdealGuest
   pub number : ℕ
   pub world : List Entry
   pub taken : Option ℕ
@@ -28,7 +29,7 @@ abbrev pub state_of : GuestTold → CoreState
 state_of told = state_after told.guest told.number told.world
 
 -- after these steps what each actor of a guest has for itself is what its own steps made of what it opened with
-abbrev pub AreMade : GuestSpec → ℕ → List Entry → Type 0
+abbrev pub AreMade : IdealGuest → ℕ → List Entry → Type 0
 AreMade guest number world =
     (actor : ℕ) → actor < actor_count guest.shape
     → (seat_at (state_after guest number world) actor).local ≡ local_by guest.shape actor (opening_local_of guest number actor) (seat_at (state_after guest number world) actor).own
@@ -59,7 +60,7 @@ abbrev pub words_of_end : GuestTold → GuestWords
 words_of_end told = words_at_end told.guest.shape (state_of told).words (state_of told).maps
 
 -- a guest as it opens: nothing was done, and its first actor is told
-abbrev pub opening_told : TableId → GuestSpec → ℕ → GuestTold
+abbrev pub opening_told : TableId → IdealGuest → ℕ → GuestTold
 opening_told home guest number = record { home = home; guest = guest; number = number; world = []; taken = None; actor = 0 }
 
 -- All guests of a scenario, and the number of the one whose actor is told
@@ -69,7 +70,7 @@ pub record SeqTold : Type 0 where
 
 -- no guest
 abbrev pub no_told : GuestTold
-no_told = opening_told (record { words = 0; slots = 0; views_name = 0; atom = 0; block = 0; offset = 0; slot_names = [] }) no_guest 0
+no_told = opening_told (record { words = 0; slots = 0; views_name = 0; atom = 0; block = 0; offset = 0; slot_names = [] }) (opening no_guest) 0
 
 -- the guest of a number, and the one whose actor is told
 abbrev pub guest_at : SeqTold → ℕ → GuestTold
@@ -99,7 +100,7 @@ telling actor told =
     record { guests = slice_set told.guests number (record guest { actor = number_of guest.guest.shape actor }); guest = number }
 
 -- the guests as they open, in their order; vCPU 0 of the first is told
-pub record IsOpening (guests : List GuestSpec) (told : SeqTold) : Type 0 where
+pub record IsOpening (guests : List IdealGuest) (told : SeqTold) : Type 0 where
   pub each : length told.guests ≡ length guests
-  pub opened : (number : ℕ) → number < length guests → guest_at told number ≡ opening_told (guest_at told number).home (slice_index_or guests number no_guest) number
+  pub opened : (number : ℕ) → number < length guests → guest_at told number ≡ opening_told (guest_at told number).home (slice_index_or guests number (opening no_guest)) number
   pub first : told.guest ≡ 0

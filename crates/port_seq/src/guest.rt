@@ -1,10 +1,11 @@
 //! A guest that is run in one thread: its words, what its actors have for themselves, and the tables of its ITS.
 ghost use Rattle.std.specs.Prelude.{◌≡◌, ℕ, ◌<◌, IfOk};
 ghost use Rattle.std.specs.Option.{ForSome};
-ghost use Rattle.port_ops.specs.Calls.{IsGoodGuest};
+ghost use Rattle.port_ops.specs.PortCore.IdealGuests.CanOpen.{CanOpen};
 ghost use Rattle.port_ops.specs.PortCore.Actor.{actor_count as count_of};
 ghost use Rattle.port_ops.specs.PortCore.Place.{word_count as count_of_words};
 ghost use Rattle.port_ops.specs.PortCore.Run.{IsRun, IsSound, opening};
+ghost use Rattle.port_ops.specs.Props.{can_open_prop};
 ghost use Rattle.port_seq.specs.Home.{maps_here, taker_of};
 ghost use Rattle.port_seq.specs.Told.{AreMade};
 ghost use Rattle.port_ops.specs.World.{state_after, locals_in, HasTurn};
@@ -14,10 +15,10 @@ use crate::its_home::ItsHome;
 use crate::rule::{OneThread, make};
 use atomic_table::{Seat, Table};
 use port_ops::{
-    CoreStep, Entry, GuestWords, ItsTables, Local, Opened, guest_words, opening_words,
+    CoreStep, Entry, GuestWords, IdealGuest, ItsTables, Local, Opened, guest_words, opening_words,
     place_of_word,
 };
-use scn_base::{GuestSpec, ListOf};
+use scn_base::{GuestShape, ListOf};
 use std::alloc::{AllocError, Global};
 use std::mem;
 
@@ -25,24 +26,24 @@ use std::mem;
 /// time, and makes its steps through it.
 #[derive(Drop)]
 pub struct GuestPort {
-    pub(crate) opened: Opened,
+    pub(crate) shape: GuestShape,
     pub(crate) table: Table<(), ListOf<Entry>, Opened, OneThread, Global>,
     pub(crate) seat: Seat<(), ListOf<Entry>>,
     pub(crate) locals: Vec<Local>,
     pub(crate) its: ItsHome,
     pub(crate) actor: u32,
-    ghost good: { IsGoodGuest opened.guest },
-    ghost there: { actor < count_of opened.guest.shape },
-    ghost key: { table.shared.key ≡ opened },
+    ghost good: { CanOpen table.shared.key.guest } by { can_open_prop table.shared.key.guest },
+    ghost there: { actor < count_of table.shared.key.guest.shape },
+    ghost same: { shape ≡ table.shared.key.guest.shape },
     ghost home: { seat.table_id ≡ table.shared.table_id },
-    ghost words: { table.shared.table_id.words ≡ count_of_words opened.guest.shape },
+    ghost words: { table.shared.table_id.words ≡ count_of_words table.shared.key.guest.shape },
     ghost slots: { table.shared.table_id.slots ≡ 0 },
-    ghost run: { ∥ IsRun opened.guest.shape (opening opened.guest opened.number) seat.me.0 ∥₁ },
-    ghost sound: { ∥ IsSound opened.guest.shape (state_after opened.guest opened.number seat.me.0) ∥₁ },
-    ghost made: { AreMade opened.guest opened.number seat.me.0 },
-    ghost own: { locals.items ≡ locals_in (state_after opened.guest opened.number seat.me.0) },
-    ghost maps: { ForSome (maps_here its) (λ maps. maps ≡ (state_after opened.guest opened.number seat.me.0).maps) },
-    ghost turn: { ForSome (taker_of its) (HasTurn opened.guest.shape (state_after opened.guest opened.number seat.me.0)) },
+    ghost run: { ∥ IsRun table.shared.key.guest.shape (opening table.shared.key.guest table.shared.key.number) seat.me.0 ∥₁ },
+    ghost sound: { ∥ IsSound table.shared.key.guest.shape (state_after table.shared.key.guest table.shared.key.number seat.me.0) ∥₁ },
+    ghost made: { AreMade table.shared.key.guest table.shared.key.number seat.me.0 },
+    ghost own: { locals.items ≡ locals_in (state_after table.shared.key.guest table.shared.key.number seat.me.0) },
+    ghost maps: { ForSome (maps_here its) (λ maps. maps ≡ (state_after table.shared.key.guest table.shared.key.number seat.me.0).maps) },
+    ghost turn: { ForSome (taker_of its) (HasTurn table.shared.key.guest.shape (state_after table.shared.key.guest table.shared.key.number seat.me.0)) },
 }
 
 impl GuestPort {
@@ -54,23 +55,17 @@ impl GuestPort {
     ghost use Rattle.port_seq.specs.Ports.{told};
 
     /// A guest as it opens: nothing was done, and its first actor, vCPU 0, is told. An error where memory is refused.
-    pub(crate) fn start(
-        alloc: Global,
-        number: u32,
-        guest: &GuestSpec,
-    ) -> Result<GuestPort, AllocError>
-        requires { IsGoodGuest guest.now }
-        ensures { IfOk result (λ port. told port ≡ opening_told (told port).home guest.now number) }
+    pub(crate) fn start(alloc: Global, opened: Opened) -> Result<GuestPort, AllocError>
+        requires { CanOpen opened.guest }
+        ensures { IfOk result (λ port. told port ≡ opening_told (told port).home opened.guest opened.number) }
     {
-        let opened = Opened::of(alloc, number, guest)?;
         let words = opening_words(alloc, &opened.guest)?;
         let locals = opened.locals(alloc)?;
         let (table, seat) = Table::of_words(alloc, words.as_slice(), &opened)?;
-        let Ok(tables) = ItsTables::of(alloc) else {
-            return Err(AllocError);
-        };
+        let Opened { guest, .. } = opened;
+        let IdealGuest { shape, tables, .. } = guest;
         Ok(GuestPort {
-            opened,
+            shape,
             table,
             seat,
             locals,
@@ -101,7 +96,7 @@ impl GuestPort {
         ensures takes { Takes (told self.old).guest.shape (state_of (told self.old)) (entry_of (told self.old) step result) }
         ensures told { told self.new ≡ with_step (told self.old) step result }
     {
-        let shape = self.opened.guest.shape;
+        let shape = self.shape;
         let actor = self.actor;
         let place = place_of_word(step.word(actor, &shape), &shape);
         let atomic = self.locals[actor as usize].operation(&step, actor, &shape);
@@ -145,7 +140,7 @@ impl GuestPort {
         ensures { IfOk result (λ words. words ≡ words_of_end (told self)) }
     {
         let GuestPort {
-            opened,
+            shape,
             table,
             seat,
             its,
@@ -154,9 +149,7 @@ impl GuestPort {
         let count = table.word_count();
         let words = drain(alloc, table.close_with(seat), count)?;
         match its {
-            ItsHome::Here(tables) => {
-                guest_words(alloc, words.as_slice(), tables, &opened.guest.shape)
-            }
+            ItsHome::Here(tables) => { guest_words(alloc, words.as_slice(), tables, &shape) }
             ItsHome::TakenBy(_) => unreachable!(),
         }
     }

@@ -17,7 +17,7 @@ impl Port for GuestPort {
     }
 
     fn shape(&self) -> GuestShape {
-        self.opened.guest.shape
+        self.shape
     }
 
     fn local(&self) -> Local {

@@ -14,9 +14,9 @@ mod tests;
 pub use guest::GuestPort;
 pub use port::SeqPort;
 pub use port_ops::{
-    COMMAND_BYTES, Command, CoreStep, CtlrWord, Enables, EndWords, ItsTables, Local, PlainWord,
-    Port as CorePort, Reg, RegRef, Touching, VcpuWord, WordId, decode, index_bit, index_bits,
-    index_words, key_of_bit, place_of_plain, place_of_word, word_at, word_count,
+    Answer, COMMAND_BYTES, Command, CoreStep, CtlrWord, Enables, EndWords, IdealGuest, ItsTables,
+    Local, PlainWord, Port as CorePort, Reg, RegRef, Touching, VcpuWord, WordId, decode, index_bit,
+    index_bits, index_words, key_of_bit, place_of_plain, place_of_word, word_at, word_count,
 };
 pub use scn_base::{
     Actor, DeviceOp, Frame, GuestOp, GuestShape, GuestSpec, IccReg, Key, Kind, ListOf, LrList,

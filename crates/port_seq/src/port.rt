@@ -1,9 +1,11 @@
 //! The port of all actors of a scenario, in one thread.
 ghost use Rattle.std.specs.Prelude.{◌≡◌, ◌<◌, ◌≤◌, All, IfOk, length};
 ghost use Rattle.port_ops.specs.Calls.{IsGoodGuest};
+ghost use Rattle.port_ops.specs.PortCore.IdealGuests.CanOpen.{CanOpen};
+ghost use Rattle.port_ops.specs.PortCore.IdealGuests.Opening.{opening};
 
 use crate::guest::GuestPort;
-use port_ops::{EndWords, guest_of, number_of};
+use port_ops::{EndWords, IdealGuest, Opened, guest_of, number_of};
 use scn_base::{Actor, ListOf, Scenario};
 use std::alloc::{AllocError, Global};
 
@@ -28,14 +30,32 @@ impl SeqPort {
         requires good { All IsGoodGuest scenario.now.guests }
         requires some { 1 ≤ length scenario.now.guests }
         requires few { length scenario.now.guests ≤ 4 }
-        ensures { IfOk result (λ port. IsOpening scenario.now.guests (told_all port)) }
+        ensures { IfOk result (λ port. IsOpening (map opening scenario.now.guests) (told_all port)) }
     {
-        let specs = scenario.guests.as_slice();
         let mut guests = Vec::new(alloc);
-        for number in 0..specs.len() {
-            guests.push(GuestPort::start(alloc, number as u32, &specs[number])?)?;
+        for guest in scenario.guests.as_slice() {
+            guests.push(IdealGuest::open(alloc, guest)?)?;
         }
-        Ok(SeqPort { guests, guest: 0 })
+        SeqPort::start_from(alloc, guests)
+    }
+
+    /// The same of 1 to 4 guests that open in these states, in each of which a guest can open. An error where memory is
+    /// refused.
+    pub fn start_from(alloc: Global, guests: Vec<IdealGuest>) -> Result<SeqPort, AllocError>
+        requires good { All CanOpen guests.items }
+        requires some { 1 ≤ length guests.items }
+        requires few { length guests.items ≤ 4 }
+        ensures { IfOk result (λ port. IsOpening guests.items (told_all port)) }
+    {
+        let mut ports = Vec::new(alloc);
+        for guest in guests {
+            let number = ports.len() as u32;
+            ports.push(GuestPort::start(alloc, Opened { number, guest })?)?;
+        }
+        Ok(SeqPort {
+            guests: ports,
+            guest: 0,
+        })
     }
 
     /// The guest whose actor is told.
@@ -60,7 +80,7 @@ impl SeqPort {
         ensures { told_all self.new ≡ telling actor (told_all self.old) }
     {
         self.guest = guest_of(actor);
-        let shape = self.current().opened.guest.shape;
+        let shape = self.current().shape;
         self.guests[self.guest as usize].set_actor(number_of(actor, &shape));
     }
 

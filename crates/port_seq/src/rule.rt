@@ -1,6 +1,6 @@
 //! The rule of the words of a guest that is run in one thread, and one step under it.
 ghost use Rattle.std.specs.Prelude.{◌≡◌, ℕ, ◌<◌, []};
-ghost use Rattle.port_ops.specs.Calls.{IsGoodGuest};
+ghost use Rattle.port_ops.specs.PortCore.IdealGuests.CanOpen.{CanOpen};
 ghost use Rattle.port_ops.specs.PortCore.Actor.{actor_count};
 ghost use Rattle.port_ops.specs.PortCore.Atomic.{Makes};
 ghost use Rattle.port_ops.specs.PortCore.Condition.{Meets};
@@ -44,7 +44,7 @@ fn make_as<D: Doing>(
 ) -> u64
     requires home { seat.old.table_id ≡ table.now.table_id }
     requires opened { D.opened ≡ table.now.key }
-    requires good { IsGoodGuest D.opened.guest }
+    requires good { CanOpen D.opened.guest }
     requires words { table.now.table_id.words ≡ word_count D.opened.guest.shape }
     requires actor { D.actor < actor_count D.opened.guest.shape }
     requires can { CanStep D.opened.guest.shape D.actor D.step }
@@ -67,7 +67,7 @@ pub(crate) fn make(
     step: &CoreStep,
 ) -> u64
     requires home { seat.old.table_id ≡ table.now.table_id }
-    requires good { IsGoodGuest table.now.key.guest }
+    requires good { CanOpen table.now.key.guest }
     requires words { table.now.table_id.words ≡ word_count table.now.key.guest.shape }
     requires actor { actor < actor_count table.now.key.guest.shape }
     requires can { CanStep table.now.key.guest.shape actor step.now }

@@ -1,4 +1,6 @@
 //! Steps by hand on one guest and on two.
+ghost use Rattle.std.specs.Prelude.{map};
+ghost use Rattle.port_ops.specs.PortCore.IdealGuests.Opening.{opening};
 ghost use Rattle.port_seq.specs.Told.{IsOpening};
 ghost use Rattle.port_seq.specs.Ports.{told_all};
 
@@ -134,7 +136,7 @@ fn steps_by_hand(rt: HostRuntime) -> Result<(), Fail> {
 
 /// Tells the device of the second guest of those that just opened. False where there is none.
 fn tell_device(port: &mut SeqPort, guests: &[GuestSpec]) -> bool
-    requires { IsOpening guests.now (told_all port.old) }
+    requires { IsOpening (map opening guests.now) (told_all port.old) }
 {
     if guests.len() != 2 || guests[1].shape != SHAPE {
         return false;

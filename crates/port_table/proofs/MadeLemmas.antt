@@ -3,7 +3,7 @@ use Rattle.std.proofs.Common.{◌≡◌, ℕ, ◌<◌, ◌&&◌, IsTrue, IfSome,
 use mathlib.Core.Option.{some}
 use Rattle.atomic_table.specs.Table.{Me}
 use Rattle.port_ops.specs.Registers.{IsValid as IsValidMaps, Maps}
-use Rattle.port_ops.specs.Calls.{IsGoodGuest}
+use Rattle.port_ops.specs.PortCore.IdealGuests.CanOpen.{CanOpen}
 use Rattle.port_ops.specs.PortCore.declared.local.Local.{Local}
 use Rattle.port_ops.specs.PortCore.declared.run.Entry.{Entry}
 use Rattle.port_ops.specs.PortCore.declared.run.Made.{Made}
@@ -30,7 +30,7 @@ use Rattle.port_table.proofs.RuleLemmas.{seat_of, seat_of_run}
 use Rattle.port_table.proofs.SlotLemmas.{slot_held, slot_taken}
 
 module _
-    (opened : Opened) (actor : ℕ) (step : CoreStep) (local : Local) (before : Me (Option Maps) View) (found : ℕ) (later : Me (Option Maps) View) (good : IsGoodGuest opened.guest) (there : actor < actor_count opened.guest.shape)
+    (opened : Opened) (actor : ℕ) (step : CoreStep) (local : Local) (before : Me (Option Maps) View) (found : ℕ) (later : Me (Option Maps) View) (good : CanOpen opened.guest) (there : actor < actor_count opened.guest.shape)
     (made : local ≡ local_of opened actor (own_of before.0)) (holds : before.1 ≡ held local.turn (has_taken before.1) (known_maps (own_of before.0))) (may : IsTrue (keeps_tables (has_taken before.1) step))
     (is : IsMade opened actor step before found later) where
   abbrev state : CoreState
@@ -53,7 +53,7 @@ module _
   local_is = ap (λ (s : Seat). s.local) seat_is ∙ sym made
 
   here : CanFind opened.guest.shape actor (seat_at state actor).local (word_of opened.guest.shape actor step) found
-  here = found_valid opened.guest.shape state entry good.shape sound is.takes
+  here = found_valid opened.guest.shape state entry good.sound.shape sound is.takes
 
   -- it found a valid word that agrees with its actor, and left one
   pub made_found : CanFind opened.guest.shape actor local (word_of opened.guest.shape actor step) found
@@ -61,12 +61,12 @@ module _
 
   pub made_left : CanFind opened.guest.shape actor (local_after opened.guest.shape actor local step found) (word_of opened.guest.shape actor step) (word_after opened.guest.shape actor local step found)
   made_left =
-      let kept = entry_keeps opened.guest.shape state entry good.shape sound is.takes in
+      let kept = entry_keeps opened.guest.shape state entry good.sound.shape sound is.takes in
       subst (λ l. CanFind opened.guest.shape actor (local_after opened.guest.shape actor l step found) (word_of opened.guest.shape actor step) (word_after opened.guest.shape actor l step found)) local_is (record { valid = kept.valid; ties = kept.here })
 
   -- what the actor has for itself is valid, and as its steps made it
   pub made_valid : IsLocal opened.guest.shape actor (local_after opened.guest.shape actor local step found)
-  made_valid = subst (λ l. IsLocal opened.guest.shape actor (local_after opened.guest.shape actor l step found)) local_is (local_kept opened.guest.shape state entry good.shape sound is.takes)
+  made_valid = subst (λ l. IsLocal opened.guest.shape actor (local_after opened.guest.shape actor l step found)) local_is (local_kept opened.guest.shape state entry good.sound.shape sound is.takes)
 
   -- the step in the actor's list
   abbrev made_of : Local → Made
@@ -95,13 +95,13 @@ module _
       let shape = opened.guest.shape in
       let own : (seat_at state actor).own ++ entry.made ∷ [] ≡ own_of later.0 = ap (λ (s : Seat). s.own ++ entry.made ∷ []) seat_is ∙ ap (λ o. o ++ entry.made ∷ []) own_is ∙ sym (ap own_of is.knows) in
       subst (λ slots. slots ≡ held (local_after shape actor local step found).turn (has_taken slots) (known_maps (own_of later.0))) (sym is.holds)
-      (slot_held shape state actor step found good.shape sound is.takes (some (Some state.maps) ∷ []) before.1 refl (λ free. refl) holds_now may
+      (slot_held shape state actor step found good.sound.shape sound is.takes (some (Some state.maps) ∷ []) before.1 refl (λ free. refl) holds_now may
       ∙ ap (λ l. held (local_after shape actor l step found).turn (has_taken (slots_after step entry.made.tables before.1)) (known_maps ((seat_at state actor).own ++ entry.made ∷ []))) local_is
       ∙ ap (λ o. held (local_after shape actor local step found).turn (has_taken (slots_after step entry.made.tables before.1)) (known_maps o)) own)
 
   -- and whether the tables are taken out of it stays
   pub made_taken : has_taken later.1 ≡ has_taken before.1
-  made_taken = ap has_taken is.holds ∙ slot_taken opened.guest.shape state actor step found good.shape sound is.takes (some (Some state.maps) ∷ []) before.1 refl (λ free. refl) holds_now may
+  made_taken = ap has_taken is.holds ∙ slot_taken opened.guest.shape state actor step found good.sound.shape sound is.takes (some (Some state.maps) ∷ []) before.1 refl (λ free. refl) holds_now may
 
   -- what the step handed out
   pub made_handed : is_some entry.made.tables ≡ (is_taking step && succeeds opened.guest.shape actor local step found)

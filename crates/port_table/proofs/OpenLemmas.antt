@@ -4,9 +4,8 @@ use mathlib.Core.Option.{some}
 use lib.ListN.{get_elem?}
 use Rattle.atomic_table.specs.Table.{opening as opening_table}
 use Rattle.port_ops.specs.Registers.{Maps}
-use Rattle.port_ops.specs.Calls.{IsGoodGuest}
+use Rattle.port_ops.specs.PortCore.IdealGuests.CanOpen.{CanOpen}
 use Rattle.port_ops.specs.PortCore.Actor.{actor_count}
-use Rattle.port_ops.specs.PortCore.Known.{no_maps}
 use Rattle.port_ops.specs.PortCore.Run.{opening, opening_local_of}
 use Rattle.port_ops.specs.PortCore.Valid.{IsLocal}
 use Rattle.port_ops.proofs.PortCore.OpeningLemmas.{opens_sound, seat_opens}
@@ -34,8 +33,8 @@ opening_views =
           subst (λ v. IsRoot [] (Root [] [] ∷ []) (Rattle.port_table.specs.View.split_of v) (Rattle.port_table.specs.View.joined_of v)) only.1 opening_root;
     }
 
--- the rule holds of the words as they open, with empty tables in the slot
-pub opens_shared : (opened : Opened) (words : List ℕ) (slots : List (Option Maps)) → words ≡ (opening opened.guest opened.number).words → slots ≡ Some no_maps ∷ [] → IsShared opened (opening_table words slots (Root [] []))
+-- the rule holds of the words as they open, with the maps in the slot
+pub opens_shared : (opened : Opened) (words : List ℕ) (slots : List (Option Maps)) → words ≡ (opening opened.guest opened.number).words → slots ≡ Some opened.guest.tables ∷ [] → IsShared opened (opening_table words slots (Root [] []))
 opens_shared opened words slots are empty =
     record {
       world = [];
@@ -46,5 +45,5 @@ opens_shared opened words slots are empty =
     }
 
 -- what an actor has for itself is valid as its guest opens
-pub opening_valid : (opened : Opened) (actor : ℕ) → IsGoodGuest opened.guest → actor < actor_count opened.guest.shape → IsLocal opened.guest.shape actor (opening_local_of opened.guest opened.number actor)
+pub opening_valid : (opened : Opened) (actor : ℕ) → CanOpen opened.guest → actor < actor_count opened.guest.shape → IsLocal opened.guest.shape actor (opening_local_of opened.guest opened.number actor)
 opening_valid opened actor good there = subst (λ s. IsLocal opened.guest.shape actor s.local) (seat_opens opened.guest opened.number actor there) ((opens_sound opened.guest opened.number good).locals actor there)

@@ -5,7 +5,7 @@ use lib.ListN.{get_elem?}
 use Rattle.atomic_table.proofs.Lists.{set_again}
 use Rattle.atomic_table.specs.Table.{Me, Allows, Splits, Joins, Final, Seen, gives, homes_after}
 use Rattle.port_ops.specs.Registers.{Maps}
-use Rattle.port_ops.specs.Calls.{IsGoodGuest}
+use Rattle.port_ops.specs.PortCore.IdealGuests.CanOpen.{CanOpen}
 use Rattle.port_ops.specs.PortCore.declared.atomic.Atomic.{Atomic}
 use Rattle.port_ops.specs.PortCore.declared.atomic.Atomic.TheVariants.{Load}
 use Rattle.port_ops.specs.PortCore.declared.local.Local.{Local}
@@ -38,7 +38,7 @@ use Rattle.port_table.proofs.ViewLemmas.{views_step, views_split, views_join}
 abbrev pub seat_of : Opened → ℕ → List Made → Seat
 seat_of opened actor own = record { local = local_of opened actor own; own = own }
 
-pub seat_of_run : (opened : Opened) (world : List Entry) (actor : ℕ) → IsGoodGuest opened.guest → actor < actor_count opened.guest.shape → IsRun opened.guest.shape (opening opened.guest opened.number) world
+pub seat_of_run : (opened : Opened) (world : List Entry) (actor : ℕ) → CanOpen opened.guest → actor < actor_count opened.guest.shape → IsRun opened.guest.shape (opening opened.guest opened.number) world
     → seat_at (state_after opened.guest opened.number world) actor ≡ seat_of opened actor (own_steps actor world)
 seat_of_run opened world actor good there run =
     let shape = opened.guest.shape in
@@ -54,7 +54,7 @@ seat_of_run opened world actor good there run =
 
 -- An operation that makes a step of an actor keeps the rule, and the actor's seat knows the step.
 pub may_make :
-    (opened : Opened) (actor : ℕ) (step : CoreStep) (atomic : Atomic) (slots id place : ℕ) (me : Me (Option Maps) View) → IsGoodGuest opened.guest → actor < actor_count opened.guest.shape → slots ≡ 1 → CanStep opened.guest.shape actor step
+    (opened : Opened) (actor : ℕ) (step : CoreStep) (atomic : Atomic) (slots id place : ℕ) (me : Me (Option Maps) View) → CanOpen opened.guest → actor < actor_count opened.guest.shape → slots ≡ 1 → CanStep opened.guest.shape actor step
     → Meets opened.guest.shape actor (local_of opened actor (own_of me.0)) (own_of me.0) step → IsTrue (keeps_tables (has_taken me.1) step) → me.0 ≡ Out actor (own_of me.0)
     → me.1 ≡ held (local_of opened actor (own_of me.0)).turn (has_taken me.1) (known_maps (own_of me.0)) → place ≡ place_of_word opened.guest.shape (word_of opened.guest.shape actor step)
     → Makes opened.guest.shape actor (local_of opened actor (own_of me.0)) step atomic → Allows (IsShared opened) slots id me place (applied atomic) (IsMade opened actor step me)
@@ -71,13 +71,13 @@ may_make opened actor step atomic slots id place me good there one can meets tab
     let takes =
     takes_it shape state actor step found there can (subst (λ (z : Seat). Meets shape actor z.local z.own step) seat meets)
     (ap (λ ws. get_or ws place 0) rule.words ∙ ap (λ p. get_or state.words p 0) at) in
-    let left = left_by_operation shape state actor step atomic found good.shape sound takes (subst (λ (z : Seat). Makes shape actor z.local step atomic) seat makes) in
+    let left = left_by_operation shape state actor step atomic found good.sound.shape sound takes (subst (λ (z : Seat). Makes shape actor z.local step atomic) seat makes) in
     let held_now = subst (λ (z : Seat). me.1 ≡ held z.local.turn (has_taken me.1) (known_maps z.own)) seat holds in
-    let home = slot_home shape state actor step found good.shape sound takes s.homes me.1 (each ∙ one) rule.home held_now tables in
+    let home = slot_home shape state actor step found good.sound.shape sound takes s.homes me.1 (each ∙ one) rule.home held_now tables in
     let next : Out actor (own_of me.0 ++ entry.made ∷ []) ≡ Out actor (own_steps actor world ++ entry.made ∷ []) = ap (λ o. Out actor (o ++ entry.made ∷ [])) own in (
       Out actor (own_of me.0 ++ entry.made ∷ []),
       act_by (is_release step) entry.made.tables,
-      slot_valid shape state actor step found good.shape sound takes s.homes me.1 (each ∙ one) rule.home held_now tables,
+      slot_valid shape state actor step found good.sound.shape sound takes s.homes me.1 (each ∙ one) rule.home held_now tables,
       record {
         world = world ++ entry ∷ [];
         run = run_more opened world entry rule.run takes;
@@ -134,7 +134,7 @@ set_same (word ∷ words) zero = refl
 set_same (word ∷ words) (suc place) = ap (λ ws. word ∷ ws) (set_same words place)
 
 pub may_return :
-    (opened : Opened) (actor slots id : ℕ) (me : Me (Option Maps) View) → IsGoodGuest opened.guest → actor < actor_count opened.guest.shape → me.0 ≡ Out actor (own_of me.0) → IsTrue (local_of opened actor (own_of me.0)).turn
+    (opened : Opened) (actor slots id : ℕ) (me : Me (Option Maps) View) → CanOpen opened.guest → actor < actor_count opened.guest.shape → me.0 ≡ Out actor (own_of me.0) → IsTrue (local_of opened actor (own_of me.0)).turn
     → Allows (IsShared opened) slots id me 0 (applied Load) (IsReturned me)
 may_return opened actor slots id me good there view turn s rule each seen small =
     let shape = opened.guest.shape in
@@ -173,7 +173,7 @@ all_in split joined back actor = of (is_among actor split) refl
     of true e = ap not (back actor e)
 
 pub closes :
-    (opened : Opened) (id : ℕ) (v : View) (words : List ℕ) (slots : List (Option Maps)) → IsGoodGuest opened.guest → v ≡ Root (split_of v) (joined_of v) → ((actor : ℕ) → IsTrue (is_among actor (split_of v)) → IsTrue (is_back actor (joined_of v)))
+    (opened : Opened) (id : ℕ) (v : View) (words : List ℕ) (slots : List (Option Maps)) → CanOpen opened.guest → v ≡ Root (split_of v) (joined_of v) → ((actor : ℕ) → IsTrue (is_among actor (split_of v)) → IsTrue (is_back actor (joined_of v)))
     → ((actor : ℕ) → actor < actor_count opened.guest.shape → (local_of opened actor (steps_of actor (joined_of v))).turn ≡ false) → Final (Seen (IsShared opened) id v) words slots → Closes opened (joined_of v) words slots
 closes opened id v words slots good root back idle final =
     let shape = opened.guest.shape in

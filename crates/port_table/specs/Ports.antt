@@ -9,7 +9,7 @@ use Rattle.port_table.specs.Told.{WordsTold, RootTold}
 use Rattle.port_table.specs.View.{own_of, split_of, joined_of}
 
 abbrev pub words_told : GuestTable → WordsTold
-words_told words = record { home = words.table.shared.table_id; guest = words.opened.guest; number = words.opened.number }
+words_told words = record { home = words.table.shared.table_id; guest = words.table.shared.key.guest; number = words.table.shared.key.number }
 
 abbrev pub root_told : GuestRoot → RootTold
 root_told root = record { home = root.seat.table_id; split = split_of root.seat.me.0; joined = joined_of root.seat.me.0 }

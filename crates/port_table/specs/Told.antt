@@ -1,7 +1,8 @@
 -- What is told of the shared words of guests, of their roots and of the actors' ports, and what a run leaves of all.
 use Rattle.std.specs.Prelude.{All, ◌≡◌, ℕ, ◌<◌, false, IsTrue, List, [], ◌∷◌, ◌++◌, None, length, map, slice_index_or, slice_set}
 use Rattle.atomic_table.specs.Seated.{TableId}
-use Rattle.port_ops.specs.Calls.{GuestSpec}
+use Rattle.port_ops.specs.PortCore.IdealGuests.declared.guest.IdealGuest.{IdealGuest}
+use Rattle.port_ops.specs.PortCore.IdealGuests.Opening.{opening as opening_guest}
 use Rattle.port_ops.specs.PortCore.declared.end.GuestWords.{GuestWords}
 use Rattle.port_ops.specs.PortCore.declared.run.Entry.{Entry}
 use Rattle.port_ops.specs.PortCore.declared.run.Made.{Made}
@@ -18,7 +19,7 @@ use Rattle.port_table.specs.View.{is_among, is_back, steps_of, with_account}
 -- the words of a guest: where they are, how the guest opened, and its number
 pub record WordsTold : Type 0 where
   pub home : TableId
-  pub guest : GuestSpec
+  pub guest : IdealGuest
   pub number : ℕ
 
 -- the root of a guest: which words it is of; the actors that were split off, and the steps of each that was joined again
@@ -72,7 +73,7 @@ pub record EndsRun (words : WordsTold) (root : RootTold) (left : GuestWords) : T
 
 -- no words, and no root
 abbrev pub no_words : WordsTold
-no_words = record { home = record { words = 0; slots = 0; views_name = 0; atom = 0; block = 0; offset = 0; slot_names = [] }; guest = no_guest; number = 0 }
+no_words = record { home = record { words = 0; slots = 0; views_name = 0; atom = 0; block = 0; offset = 0; slot_names = [] }; guest = opening_guest no_guest; number = 0 }
 
 -- those of the guest of a number
 abbrev pub words_at : List WordsTold → ℕ → WordsTold
@@ -82,9 +83,9 @@ abbrev pub root_at : List RootTold → ℕ → RootTold
 root_at root number = slice_index_or root number (opening_root no_words)
 
 -- the words and the roots of guests as they open, in their order
-pub record IsOpening (guests : List GuestSpec) (words : List WordsTold) (root : List RootTold) : Type 0 where
+pub record IsOpening (guests : List IdealGuest) (words : List WordsTold) (root : List RootTold) : Type 0 where
   pub each : length words ≡ length guests
-  pub opened : (number : ℕ) → number < length guests → words_at words number ≡ record { home = (words_at words number).home; guest = slice_index_or guests number no_guest; number = number }
+  pub opened : (number : ℕ) → number < length guests → words_at words number ≡ record { home = (words_at words number).home; guest = slice_index_or guests number (opening_guest no_guest); number = number }
   pub roots : root ≡ map opening_root words
 
 -- the roots are of these words

@@ -3,7 +3,7 @@ ghost use Rattle.std.specs.Prelude.{◌≡◌, ◌<◌, false, IfOk};
 ghost use Rattle.std.specs.Slots.{slots_items, slots_len, IsFull};
 ghost use mathlib.Core.Option.{some};
 ghost use lib.ListN.{get_elem?};
-ghost use Rattle.port_ops.specs.Calls.{IsGoodGuest};
+ghost use Rattle.port_ops.specs.PortCore.IdealGuests.CanOpen.{CanOpen};
 ghost use Rattle.port_ops.specs.PortCore.Actor.{actor_count as count_of};
 ghost use Rattle.port_table.specs.Ports.{words_told, root_told, seen_of};
 ghost use Rattle.port_table.specs.Told.{opening_root, with_split, with_joined, opening_seen, IsDone, EndsRun};
@@ -14,10 +14,9 @@ use crate::port::TablePort;
 use crate::rule::{give_back, join_in, split_off};
 use atomic_table::{Closed, Table};
 use port_ops::{
-    GuestWords, ItsTables, Local, Opened, WordList, actor_at, closed_words, guest_words,
-    opening_cpu, opening_words,
+    GuestWords, IdealGuest, ItsTables, Opened, WordList, closed_words, guest_words,
+    local_at_opening, opening_words,
 };
-use scn_base::GuestSpec;
 use std::alloc::{AllocError, Global};
 
 /// The words of a table, of which there are so many, and what lies in its slot; its memory is given back.
@@ -40,27 +39,32 @@ fn drain(
 }
 
 impl GuestTable {
-    /// A guest as it opens, and its root. An error where memory is refused.
+    /// A guest as it opens, with the tables of its ITS, and its root. An error where memory is refused.
     pub(crate) fn start(
         alloc: Global,
-        number: u32,
-        guest: &GuestSpec,
+        opened: Opened,
+        tables: ItsTables,
     ) -> Result<(GuestTable, GuestRoot), AllocError>
-        requires { IsGoodGuest guest.now }
-        ensures words { IfOk result (λ both. words_told both.0 ≡ record { home = (words_told both.0).home; guest = guest.now; number = number }) }
+        requires good { CanOpen opened.guest }
+        requires tables { tables ≡ opened.guest.tables }
+        ensures words { IfOk result (λ both. words_told both.0 ≡ record { home = (words_told both.0).home; guest = opened.guest; number = opened.number }) }
         ensures root { IfOk result (λ both. root_told both.1 ≡ opening_root (words_told both.0)) }
     {
-        let opened = Opened::of(alloc, number, guest)?;
         let words = opening_words(alloc, &opened.guest)?;
         let mut slots = Vec::new(alloc);
-        let Ok(tables) = ItsTables::of(alloc) else {
+        slots.push(Some(tables))?;
+        let Ok((table, seat)) = Table::new(alloc, words.as_slice(), slots, &opened) else {
             return Err(AllocError);
         };
-        slots.push(Some(tables))?;
-        match Table::new(alloc, words.as_slice(), slots, &opened) {
-            Ok((table, seat)) => Ok((GuestTable { opened, table }, GuestRoot { seat })),
-            Err(_) => Err(AllocError),
-        }
+        let Opened { number, guest } = opened;
+        let IdealGuest { shape, cpus, .. } = guest;
+        let words = GuestTable {
+            shape,
+            number,
+            cpus,
+            table,
+        };
+        Ok((words, GuestRoot { seat }))
     }
 
     /// The port of an actor, by its number, which had none before. It takes no memory.
@@ -72,17 +76,14 @@ impl GuestTable {
         ensures root { root_told root.new ≡ with_split actor (root_told root.old) }
     {
         let table = &self.table;
-        let shape = self.opened.guest.shape;
+        let shape = self.shape;
         let seat = split_off(&table.shared, &mut root.seat, actor);
         TablePort {
             table: &table.shared,
             seat,
-            local: Local::opening(
-                actor_at(actor, self.opened.number, &shape),
-                opening_cpu(self.opened.guest.on),
-            ),
+            local: local_at_opening(actor, self.number, &shape, self.cpus.as_slice()),
             shape,
-            guest: self.opened.number,
+            guest: self.number,
             actor,
         }
     }
@@ -114,12 +115,12 @@ impl GuestTable {
         requires done { IsDone (words_told self) (root_told root) }
         ensures { IfOk result (λ left. EndsRun (words_told self) (root_told root) left) }
     {
-        let GuestTable { opened, table } = self;
+        let GuestTable { shape, table, .. } = self;
         let GuestRoot { seat } = root;
         let count = table.word_count();
         let (words, tables) = drain(alloc, table.close_with(seat), count)?;
         match tables {
-            Some(tables) => guest_words(alloc, words.as_slice(), tables, &opened.guest.shape),
+            Some(tables) => guest_words(alloc, words.as_slice(), tables, &shape),
             None => unreachable!(),
         }
     }

@@ -1,6 +1,7 @@
 //! The port of one actor over words that all actors of its guest share.
 ghost use Rattle.std.specs.Prelude.{◌≡◌, ◌<◌};
-ghost use Rattle.port_ops.specs.Calls.{IsGoodGuest};
+ghost use Rattle.port_ops.specs.PortCore.IdealGuests.CanOpen.{CanOpen};
+ghost use Rattle.port_ops.specs.Props.{can_open_prop};
 ghost use Rattle.port_ops.specs.PortCore.Actor.{actor_count as count_of};
 ghost use Rattle.port_ops.specs.PortCore.Known.{known_maps};
 ghost use Rattle.port_ops.specs.PortCore.Place.{word_count as count_of_words};
@@ -25,7 +26,7 @@ pub struct TablePort<'a> {
     pub(crate) shape: GuestShape,
     pub(crate) guest: u32,
     pub(crate) actor: u32,
-    ghost good: { IsGoodGuest table.now.key.guest },
+    ghost good: { CanOpen table.now.key.guest } by { can_open_prop table.now.key.guest },
     ghost there: { actor < count_of table.now.key.guest.shape },
     ghost home: { seat.table_id ≡ table.now.table_id },
     ghost words: { table.now.table_id.words ≡ count_of_words table.now.key.guest.shape },

@@ -1,6 +1,6 @@
 //! The rule of the words that the actors of a guest share, and what is done under it.
 ghost use Rattle.std.specs.Prelude.{◌≡◌, ℕ, ◌<◌, [], ◌++◌, ◌∷◌, IsTrue, false};
-ghost use Rattle.port_ops.specs.Calls.{IsGoodGuest};
+ghost use Rattle.port_ops.specs.PortCore.IdealGuests.CanOpen.{CanOpen};
 ghost use Rattle.port_ops.specs.PortCore.Actor.{actor_count};
 ghost use Rattle.port_ops.specs.PortCore.Atomic.{Makes};
 ghost use Rattle.port_ops.specs.PortCore.Condition.{Meets};
@@ -53,7 +53,7 @@ fn make_as<D: Doing>(
 ) -> u64
     requires home { seat.old.table_id ≡ table.now.table_id }
     requires opened { D.opened ≡ table.now.key }
-    requires good { IsGoodGuest D.opened.guest }
+    requires good { CanOpen D.opened.guest }
     requires words { table.now.table_id.words ≡ word_count D.opened.guest.shape }
     requires slots { table.now.table_id.slots ≡ 1 }
     requires actor { D.actor < actor_count D.opened.guest.shape }
@@ -80,7 +80,7 @@ pub(crate) fn make(
     step: &CoreStep,
 ) -> u64
     requires home { seat.old.table_id ≡ table.now.table_id }
-    requires good { IsGoodGuest table.now.key.guest }
+    requires good { CanOpen table.now.key.guest }
     requires words { table.now.table_id.words ≡ word_count table.now.key.guest.shape }
     requires slots { table.now.table_id.slots ≡ 1 }
     requires actor { actor < actor_count table.now.key.guest.shape }
@@ -107,7 +107,7 @@ impl Tells<Option<ItsTables>, View> for Returning {
 /// The seat of an actor that has the ITS gives back the slot, with whatever lies in it. The word that is loaded tells nothing.
 pub(crate) fn give_back(table: &Words, seat: &mut Place, _actor: u32)
     requires home { seat.old.table_id ≡ table.now.table_id }
-    requires good { IsGoodGuest table.now.key.guest }
+    requires good { CanOpen table.now.key.guest }
     requires words { 0 < table.now.table_id.words }
     requires actor { _actor < actor_count table.now.key.guest.shape }
     requires view { seat.old.me.0 ≡ Out _actor (own_of seat.old.me.0) }

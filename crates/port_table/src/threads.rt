@@ -1,6 +1,7 @@
 //! The ports of a scenario's actors: they are split off from the root, used by any threads, and joined again.
-ghost use Rattle.std.specs.Prelude.{◌≡◌, ◌≤◌, false, All, IfOk, length};
+ghost use Rattle.std.specs.Prelude.{◌≡◌, ◌≤◌, false, All, IfOk, length, map};
 ghost use Rattle.port_ops.specs.Calls.{IsGoodGuest};
+ghost use Rattle.port_ops.specs.PortCore.IdealGuests.Opening.{opening as opening_guest};
 ghost use Rattle.port_ops.specs.PortCore.Actor.{guest_of as guest_in};
 ghost use Rattle.port_table.specs.All.{told_words, told_root};
 ghost use Rattle.port_table.specs.Ports.{seen_of};
@@ -9,7 +10,7 @@ ghost use Rattle.port_table.specs.Told.{words_at, number_in, opening_seen, IsOpe
 use crate::guest::GuestTable;
 use crate::port::TablePort;
 use crate::shared::{RootSeat, SharedWords};
-use port_ops::{EndWords, guest_of, number_of};
+use port_ops::{EndWords, ItsTables, Opened, guest_of, number_of};
 use scn_base::{Actor, ListOf, Scenario};
 use std::alloc::{AllocError, Global};
 
@@ -18,14 +19,18 @@ use std::alloc::{AllocError, Global};
 pub fn start(alloc: Global, scenario: &Scenario) -> Result<(SharedWords, RootSeat), AllocError>
     requires good { All IsGoodGuest scenario.now.guests }
     requires few { length scenario.now.guests ≤ 4 }
-    ensures opens { IfOk result (λ both. IsOpening scenario.now.guests (told_words both.0) (told_root both.1)) }
+    ensures opens { IfOk result (λ both. IsOpening (map opening_guest scenario.now.guests) (told_words both.0) (told_root both.1)) }
     ensures roots { IfOk result (λ both. AreRoots (told_words both.0) (told_root both.1)) }
 {
     let specs = scenario.guests.as_slice();
     let mut guests = Vec::new(alloc);
     let mut roots = Vec::new(alloc);
     for number in 0..specs.len() {
-        let (table, root) = GuestTable::start(alloc, number as u32, &specs[number])?;
+        let opened = Opened::of(alloc, number as u32, &specs[number])?;
+        let Ok(tables) = ItsTables::of(alloc) else {
+            return Err(AllocError);
+        };
+        let (table, root) = GuestTable::start(alloc, opened, tables)?;
         guests.push(table)?;
         roots.push(root)?;
     }
@@ -44,7 +49,7 @@ pub fn split<'a>(words: &'a SharedWords, root: &mut RootSeat, actor: Actor) -> T
 {
     let guest = guest_of(actor) as usize;
     let table = &words.guests[guest];
-    let number = number_of(actor, &table.opened.guest.shape);
+    let number = number_of(actor, &table.shape);
     table.split(&mut root.guests[guest], number)
 }
 

@@ -6,6 +6,7 @@ use Rattle.std.proofs.lemmas.List.{append-nil}
 use Rattle.std.proofs.lemmas.List.Elements.{All-get_or, All-set}
 use Rattle.std.proofs.lemmas.Option.{get_or_from_slice_get, slice_get-map, slice_get_within}
 use Rattle.std.specs.Option.{option_map, option_map_or, option_to_list}
+use Rattle.law_ends_agree.specs.IdealGuests.Opening.{opening as opening_guest}
 use Rattle.law_ends_agree.specs.Words.{DeviceOp, GuestOp, Enter, Exit, Lrs, GuestShape}
 use Rattle.law_ends_agree.specs.Calls.{Access, Device as DeviceCall, GuestSpec, Regs, is_good_event, is_good_op, shapes_of, passes}
 use Rattle.law_ends_agree.specs.Histories.{IdealGuest}
@@ -102,7 +103,7 @@ module _ (specs : List GuestSpec) (lrs : ℕ) (machine next : Machine) (told lat
 
   -- nothing was done
   idle : (step : Step) (answer : Answer) → next ≡ machine → later ≡ told → pes_after step machine.pes ≡ machine.pes → after_step step ideals ≡ ideals → ((n : ℕ) (guest : GuestSpec) → step_call n guest.shape step answer ≡ None)
-      → ((n : ℕ) (guest : GuestSpec) → IsOfPe guest n lrs machine.pes step answer (parts n) []) → answer ≡ step_answer lrs machine.pes step ideals → Done step answer
+      → ((n : ℕ) (guest : GuestSpec) → IsOfPe (opening_guest guest) n lrs machine.pes step answer (parts n) []) → answer ≡ step_answer lrs machine.pes step ideals → Done step answer
   idle step answer same told_same pes_same still uncalls of_pe answer_is = record {
     more = λ n. [];
     calls = λ n guest is. ap option_to_list (sym (uncalls n guest));
@@ -125,7 +126,7 @@ module _ (specs : List GuestSpec) (lrs : ℕ) (machine next : Machine) (told lat
         ideals_each = at.ideals_each;
         residents = at.residents;
         once = at.once;
-        each = λ n guest vcpus ideal a b d. subst (λ ps. IsGuestAt machine.pes lrs guest n (guest_at told n) vcpus ps ideal) (sym (append-nil (parts n))) (at.each n guest vcpus ideal a b d);
+        each = λ n guest vcpus ideal a b d. subst (λ ps. IsGuestAt machine.pes lrs (opening_guest guest) n (guest_at told n) vcpus ps ideal) (sym (append-nil (parts n))) (at.each n guest vcpus ideal a b d);
       }
 
   shows : (pe : ℕ) (answer : Answer) → CanDo specs machine (Pe pe Lrs) → ShowsPe machine next told later (resident_of machine.pes pe) answer → Done (Pe pe Lrs) answer

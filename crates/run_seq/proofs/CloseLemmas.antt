@@ -5,6 +5,7 @@ use Rattle.std.proofs.lemmas.Bool.{and_from, lt-ltb}
 use Rattle.std.proofs.lemmas.List.{append-nil, append_assoc, length-set}
 use Rattle.std.proofs.lemmas.List.Elements.{All-from_get_or}
 use Rattle.std.proofs.lemmas.Option.{slice_get-get_or, slice_get_within}
+use Rattle.law_ends_agree.specs.IdealGuests.Opening.{opening as opening_guest}
 use Rattle.law_ends_agree.specs.Words.{Exit}
 use Rattle.law_ends_agree.specs.Histories.{IdealGuest}
 use Rattle.law_ends_agree.specs.Calls.{GuestSpec, shapes_of}
@@ -43,7 +44,7 @@ same_parts specs lrs machine told parts other ideals same at = record {
   ideals_each = at.ideals_each;
   residents = at.residents;
   once = at.once;
-  each = λ n guest vcpus ideal a b d. subst (λ ps. IsGuestAt machine.pes lrs guest n (guest_at told n) vcpus ps ideal) (same n) (at.each n guest vcpus ideal a b d);
+  each = λ n guest vcpus ideal a b d. subst (λ ps. IsGuestAt machine.pes lrs (opening_guest guest) n (guest_at told n) vcpus ps ideal) (same n) (at.each n guest vcpus ideal a b d);
 }
 
 pub closes_none : (machine : Machine) (told : SeqTold) → ClosesSoFar machine machine told told 0

@@ -9,12 +9,13 @@ use Rattle.std.proofs.Props.{props}
 use Rattle.std.proofs.lemmas.List.{length-map, length-set}
 use Rattle.std.proofs.lemmas.Option.{get_or_from_slice_get, slice_get_within}
 use Rattle.std.proofs.lemmas.List.FromFn.{length-range_with_len}
+use Rattle.law_ends_agree.proofs.IdealGuests.CanOpenLemmas.{openings_can_open}
 use Rattle.law_ends_agree.specs.Registers.{CpuRec}
-use Rattle.law_ends_agree.specs.Histories.{IdealGuest, after_device, after_op}
+use Rattle.law_ends_agree.specs.Histories.{IdealGuest, after_device, after_op, CanOpen}
 use Rattle.law_ends_agree.specs.IdealGuests.Opening.{opening}
 use Rattle.law_ends_agree.specs.GicIdeal.Ends.{end_of, ends_of}
 use Rattle.law_ends_agree.specs.GicIdeal.Eager.{after_step, after_steps, at_guest, eager}
-use Rattle.law_ends_agree.specs.GuestEnd.Home.{IsAtEnd}
+use Rattle.law_ends_agree.specs.GuestEnd.Home.{IsAtEnd, guest_of}
 use Rattle.law_ends_agree.specs.Calls.{GuestSpec, RunOut, IsGoodGuest, shapes_of}
 use Rattle.law_ends_agree.specs.GicGuest.declared.outcome.End.{End}
 use Rattle.law_ends_agree.specs.Core.{GuestWords, CoreState}
@@ -44,8 +45,14 @@ use Rattle.run_seq.proofs.StepLemmas.{there_in}
 -- A guest that has run.
 
 module _ (told : GuestTold) (lrs : ℕ) (pes : List (Option VcpuName)) (steps : List Step) (answers : List Answer) (ideal : IdealGuest) where
-  abbrev pub Ends : GuestSpec → ℕ → Type 0
-  Ends guest number = IsGoodGuest guest → GuestHasRun guest number lrs pes steps answers ideal told → EndsAt guest (words_of_end told) (cpus_of told) ideal
+  -- an end can be told, with the lines of the ideal controller's guest, whatever state they are compared with
+  pub record IsToldAs (guest : IdealGuest) : Type 0 where
+    pub ended : IsAtEnd guest.shape (words_of_end told) (cpus_of told)
+    pub vcpus : length (words_of_end told).vcpus ≡ guest.shape.vcpus
+    pub lines : (opened : IdealGuest) → end_of opened (guest_of guest.shape (words_of_end told) (cpus_of told)) ≡ end_of opened ideal
+
+  abbrev Ends : IdealGuest → ℕ → Type 0
+  Ends guest number = CanOpen guest → GuestHasRun guest number lrs pes steps answers ideal told → IsToldAs guest
 
   ends_here : Ends told.guest told.number
   ends_here good run =
@@ -56,17 +63,24 @@ module _ (told : GuestTold) (lrs : ℕ) (pes : List (Option VcpuName)) (steps : 
       let empty : AreEmpty guest.shape (state_after guest number moments) = subst (AreEmpty guest.shape) (sym state) run.left.empty in
       let home : ∥ EndsAtHome guest number moments ∥₁ = ∥∥₁_map run.serial (λ serial. runs_end guest number moments good serial.proper.parted (fitted guest number lrs run.parts serial).calls empty) in
       record {
-        good = good;
-        ended = ∥∥₁_elim home (end_prop guest (words_of_end told) (cpus_of told)) (λ home. subst (λ (s : CoreState). IsAtEnd guest (words_in guest.shape s) (cpus_in guest.shape s)) state home.told);
+        ended = ∥∥₁_elim home (end_prop guest.shape (words_of_end told) (cpus_of told)) (λ home. subst (λ (s : CoreState). IsAtEnd guest.shape (words_in guest.shape s) (cpus_in guest.shape s)) state home.told);
         vcpus = length-map (range_with_len 0 guest.shape.vcpus) _ ∙ length-range_with_len 0 guest.shape.vcpus;
-        lines =
+        lines = λ opened.
             ∥∥₁_elim home (Prim.hlevel props)
-            (λ home. subst (λ (s : CoreState). end_of (opening guest) (told_in guest s) ≡ end_of (opening guest) (home_after guest number run.parts)) state home.lines)
-            ∙ ap (end_of (opening guest)) (sym run.home_is);
+            (λ home. subst (λ (s : CoreState). end_of opened (told_in guest s) ≡ end_of opened (home_after guest number run.parts)) state (home.lines opened))
+            ∙ ap (end_of opened) (sym run.home_is);
       }
 
-  pub guest_ends : (guest : GuestSpec) (number : ℕ) → told.guest ≡ guest → told.number ≡ number → Ends guest number
-  guest_ends guest number guest_is number_is = subst (λ g. Ends g number) guest_is (subst (Ends told.guest) number_is ends_here)
+  told_ends : (guest : IdealGuest) (number : ℕ) → told.guest ≡ guest → told.number ≡ number → Ends guest number
+  told_ends guest number guest_is number_is = subst (λ g. Ends g number) guest_is (subst (Ends told.guest) number_is ends_here)
+
+  -- so it is of a scenario's guest
+  pub guest_ends :
+      (guest : GuestSpec) (number : ℕ) → told.guest ≡ opening guest → told.number ≡ number → IsGoodGuest guest → GuestHasRun (opening guest) number lrs pes steps answers ideal told
+      → EndsAt guest (words_of_end told) (cpus_of told) ideal
+  guest_ends guest number guest_is number_is good run =
+      let is = told_ends (opening guest) number guest_is number_is (openings_can_open guest good) run in
+      record { good = good; ended = is.ended; vcpus = is.vcpus; lines = is.lines (opening guest) }
 
 -- All guests of a scenario that has run.
 

@@ -2,7 +2,7 @@
 use Rattle.std.proofs.Common.{◌≡◌, ℕ, ◌<◌, true, List, [], ◌∷◌, ◌++◌, take, Option, refl, sym, ap, ◌∙◌, subst}
 use Rattle.std.proofs.Props.{props}
 use Rattle.std.proofs.Math.Logic.{∥∥₁_elim, ∥∥₁_map, ∥∥₁_prop}
-use Rattle.law_ends_agree.specs.Calls.{Operation, GuestSpec, Regs}
+use Rattle.law_ends_agree.specs.Calls.{Operation, Regs}
 use Rattle.law_ends_agree.specs.GicIdeal.Shown.{registers_of}
 use Rattle.law_ends_agree.specs.Histories.{after_events, IdealGuest}
 use Rattle.law_ends_agree.specs.ScnBase.declared.pes.VcpuName.{VcpuName}
@@ -24,7 +24,7 @@ use Rattle.law_one_thread_is_eager.proofs.ProperLemmas.{progress_both}
 use Rattle.run_seq.specs.Machine.{IsGuestAt, place_by}
 use Rattle.run_seq.specs.Steps.{ShowsOwn}
 
-module _ (pes : List (Option VcpuName)) (lrs : ℕ) (guest : GuestSpec) (number : ℕ) (old new : GuestTold) (before after : Vcpus) (early : List WholePart) (ideal : IdealGuest) (at : IsGuestAt pes lrs guest number old before early ideal)
+module _ (pes : List (Option VcpuName)) (lrs : ℕ) (guest : IdealGuest) (number : ℕ) (old new : GuestTold) (before after : Vcpus) (early : List WholePart) (ideal : IdealGuest) (at : IsGuestAt pes lrs guest number old before early ideal)
     (run : ∥ IsRun new.guest.shape (opening new.guest new.number) new.world ∥₁) (later : List (Option VcpuName)) (spots : (vcpu : ℕ) → spot_at after vcpu ≡ place_by (is_resident later number vcpu)) (quiet : NoneKicked new after) where
   -- vCPUs entered and left
   module _ (goes : GoesOn AreResidences old new before after) where
@@ -99,7 +99,7 @@ module _ (pes : List (Option VcpuName)) (lrs : ℕ) (guest : GuestSpec) (number 
         let followed = shows.shows.goes_on.goes_on progress done.followed in
         ap (λ parts. (progress_in guest number (moments_of (early ++ parts)) vcpu).regs) (sym shows.shows.alone)
         ∙ ap (λ (p : Progress). p.regs) (progress_both guest number early parts vcpu)
-        ∙ ap (λ (g : GuestSpec). (progress_after g.shape parts progress vcpu).regs) (sym at.guest_is)
+        ∙ ap (λ (g : IdealGuest). (progress_after g.shape parts progress vcpu).regs) (sym at.guest_is)
         ∙ (followed.places vcpu (Pe shows.shows.loaded) shows.shows.place).regs
 
     own_list : list ≡ (progress_in guest number (moments_of (early ++ shows.shows.part ∷ [])) vcpu).regs.hcr ∷ take lrs (progress_in guest number (moments_of (early ++ shows.shows.part ∷ [])) vcpu).regs.lr

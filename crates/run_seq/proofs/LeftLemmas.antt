@@ -70,7 +70,7 @@ left_still one other e left = subst IsLeft (sym e) (record { empty = left.empty;
 
 module _ (scenario : Scenario) (machine next : Machine) (told later last : SeqTold) (answers : List Answer) (so : RunsSoFar scenario machine told answers scenario.steps []) (closed : HasClosed scenario.guests scenario.lrs next later so.parts so.ideals) (same : SamePorts later last) where
   guest_run : (number : ℕ) (guest : GuestSpec) (ideal : IdealGuest) → slice_get scenario.guests number ≡ Some guest → slice_get (after_steps scenario.steps (map opening_guest scenario.guests)) number ≡ Some ideal
-      → GuestHasRun guest number scenario.lrs (opening_pes scenario.pes (shapes_of scenario.guests)) scenario.steps answers ideal (guest_at last number)
+      → GuestHasRun (opening_guest guest) number scenario.lrs (opening_pes scenario.pes (shapes_of scenario.guests)) scenario.steps answers ideal (guest_at last number)
   guest_run number guest ideal spec ideal_is =
       let there : number < length scenario.guests = slice_get_within scenario.guests number guest spec in
       let vcpus = there_in next.guests.items number (subst (λ n. number < n) (sym closed.at.guests) there) in
@@ -80,9 +80,9 @@ module _ (scenario : Scenario) (machine next : Machine) (told later last : SeqTo
       record {
         parts = parts;
         guest_is = ap (λ (t : GuestTold). t.guest) e ∙ at.guest_is;
-        number_is = ap (λ (t : GuestTold). t.number) e ∙ ∥∥₁_elim at.done (Prim.hlevel props) (λ (done : HasDone guest number (guest_at later number) vcpus.one parts). done.number_is);
-        world = ap (λ (t : GuestTold). t.world) e ∙ ∥∥₁_elim at.done (Prim.hlevel props) (λ (done : HasDone guest number (guest_at later number) vcpus.one parts). done.world);
-        serial = ∥∥₁_map at.done (λ (done : HasDone guest number (guest_at later number) vcpus.one parts). subst (λ n. AreSerial guest number n parts) at.lrs_is done.serial);
+        number_is = ap (λ (t : GuestTold). t.number) e ∙ ∥∥₁_elim at.done (Prim.hlevel props) (λ (done : HasDone (opening_guest guest) number (guest_at later number) vcpus.one parts). done.number_is);
+        world = ap (λ (t : GuestTold). t.world) e ∙ ∥∥₁_elim at.done (Prim.hlevel props) (λ (done : HasDone (opening_guest guest) number (guest_at later number) vcpus.one parts). done.world);
+        serial = ∥∥₁_map at.done (λ (done : HasDone (opening_guest guest) number (guest_at later number) vcpus.one parts). subst (λ n. AreSerial (opening_guest guest) number n parts) at.lrs_is done.serial);
         by_steps =
             record {
               first = so.first number;

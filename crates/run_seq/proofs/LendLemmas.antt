@@ -27,7 +27,7 @@ use Rattle.run_seq.specs.Machine.{GuestActs, HasGuest}
 pub first_there : (port : SeqPort) (number : ℕ) (actor : Actor) → actor ≡ VcpuActor number 0 → number < length (told_all port).guests → HasActor (told_all port) actor
 first_there port number actor is there =
     subst (HasActor (told_all port)) (sym is)
-    (record { guest = there; there = let some = (each_is_told port number there).good.shape.some_vcpu in lt-ltb 0 (guest_at (told_all port) number).guest.shape.vcpus (omega (arith, some)) })
+    (record { guest = there; there = let some = (each_is_told port number there).good.sound.shape.some_vcpu in lt-ltb 0 (guest_at (told_all port) number).guest.shape.vcpus (omega (arith, some)) })
 
 pub record IsLent (machine : Machine) (port again : SeqPort) (lent : GuestPort) (vcpus : Vcpus) (number : ℕ) : Type 0 where
   pub has : HasGuest machine (told_all port) number

@@ -6,6 +6,7 @@ use Rattle.std.proofs.lemmas.Bool.{and_from, lt-ltb}
 use Rattle.std.proofs.lemmas.List.{length-map}
 use Rattle.std.proofs.lemmas.List.Elements.{All-nil, All-cons, All-get_or}
 use Rattle.std.proofs.lemmas.Option.{get_or_from_slice_get, slice_get-get_or, slice_get-map, slice_get_within}
+use Rattle.law_ends_agree.proofs.IdealGuests.CanOpenLemmas.{openings_can_open}
 use Rattle.law_ends_agree.specs.Words.{Enter, GuestShape}
 use Rattle.law_ends_agree.specs.Histories.{IdealGuest}
 use Rattle.law_ends_agree.specs.IdealGuests.Opening.{opening as opening_guest}
@@ -110,10 +111,10 @@ none_exist shapes [] = All-nil (λ (resident : Option VcpuName). IsTrue (option_
 none_exist shapes (resident ∷ residents) =
     All-cons (λ (resident : Option VcpuName). IsTrue (option_map_or (λ name. has_vcpu shapes name.guest name.vcpu) resident true)) None (opened_to 0 residents) refl (none_exist shapes residents)
 
-opened_guest : (pes : List (Option VcpuName)) (lrs : ℕ) (guest : GuestSpec) (number : ℕ) (told : SeqTold) (vcpus : Vcpus) → ((vcpu : ℕ) → is_resident pes number vcpu ≡ false) → IsGoodGuest guest → IsOpened guest number lrs (guest_at told number) vcpus
-    → IsGuestAt pes lrs guest number (guest_at told number) vcpus [] (opening_guest guest)
+opened_guest : (pes : List (Option VcpuName)) (lrs : ℕ) (guest : GuestSpec) (number : ℕ) (told : SeqTold) (vcpus : Vcpus) → ((vcpu : ℕ) → is_resident pes number vcpu ≡ false) → IsGoodGuest guest → IsOpened (opening_guest guest) number lrs (guest_at told number) vcpus
+    → IsGuestAt pes lrs (opening_guest guest) number (guest_at told number) vcpus [] (opening_guest guest)
 opened_guest pes lrs guest number told vcpus none good opened =
-    let home = guests_open_at_home guest number (guest_at told number) vcpus good opened.opened.is opened.at opened.spots in
+    let home = guests_open_at_home (opening_guest guest) number (guest_at told number) vcpus (openings_can_open guest good) opened.opened.is opened.at opened.spots in
     record {
       done = ∣ home.done ∣₁;
       at = opened.at;
@@ -144,7 +145,7 @@ opens_none scenario machine told residents good lrs few pes opened = record {
         once = subst StandsOnce (sym pes) (record { same = λ one other name a b. absurd (none_before residents one name a) });
         each = λ number guest vcpus ideal spec vcpus_are ideal_is.
             let is : ideal ≡ opening_guest guest = same_some ideal (opening_guest guest) (sym ideal_is ∙ slice_get-map opening_guest scenario.guests number ∙ ap (option_map opening_guest) spec) in
-            subst (IsGuestAt machine.pes scenario.lrs guest number (guest_at told number) vcpus []) (sym is)
+            subst (IsGuestAt machine.pes scenario.lrs (opening_guest guest) number (guest_at told number) vcpus []) (sym is)
             (opened_guest machine.pes scenario.lrs guest number told vcpus (λ vcpu. ap (λ pes. is_resident pes number vcpu) pes ∙ nobody residents number vcpu) (good_at guest number spec) (opened.ones number guest vcpus spec vcpus_are));
       };
   pes = pes;

@@ -5,6 +5,7 @@ use Rattle.std.proofs.lemmas.Bool.{and_parts, ltb-true}
 use Rattle.std.proofs.lemmas.List.{length-map}
 use Rattle.std.proofs.lemmas.List.Elements.{All-get_or}
 use Rattle.std.proofs.lemmas.Option.{get_or_from_slice_get, slice_get_within}
+use Rattle.law_ends_agree.specs.IdealGuests.Opening.{opening as opening_guest}
 use Rattle.law_ends_agree.specs.Words.{DeviceOp, GuestOp, Enter, GuestShape}
 use Rattle.law_ends_agree.specs.Histories.{IdealGuest}
 use Rattle.law_ends_agree.specs.Calls.{GuestSpec, is_good_event, is_good_op, shapes_of, passes}
@@ -47,7 +48,7 @@ module _ (specs : List GuestSpec) (lrs : ℕ) (machine : Machine) (told : SeqTol
     ideal : IsThereIn ideals number
     ideal = there_in ideals number (subst (λ n. number < n) (sym at.ideals_each) there)
 
-    here : IsGuestAt machine.pes lrs spec.one number (guest_at told number) vcpus.one (parts number) ideal.one
+    here : IsGuestAt machine.pes lrs (opening_guest spec.one) number (guest_at told number) vcpus.one (parts number) ideal.one
     here = at.each number spec.one vcpus.one ideal.one spec.is vcpus.is ideal.is
 
     abbrev has_guest : HasGuest machine told number
@@ -55,7 +56,7 @@ module _ (specs : List GuestSpec) (lrs : ℕ) (machine : Machine) (told : SeqTol
 
     -- what is asked of the guest's shape is true of what the port tells of it
     of_told : (test : GuestShape → Bool) → IsTrue (passes test (slice_get (shapes_of specs) number)) → test (guest_at told number).guest.shape ≡ true
-    of_told test h = ap (λ (g : GuestSpec). test g.shape) here.guest_is ∙ of_shape specs number spec.one test spec.is h
+    of_told test h = ap (λ (g : IdealGuest). test g.shape) here.guest_is ∙ of_shape specs number spec.one test spec.is h
 
     loaded : (vcpu : ℕ) → is_resident machine.pes number vcpu ≡ true → spot_at vcpus.one vcpu ≡ pe
     loaded vcpu on = here.spots vcpu ∙ ap place_by on

@@ -57,7 +57,7 @@ all_parts each = flat_map (λ more. more) each
 parts_more : (each : List (List WholePart)) (more : List WholePart) → all_parts (each ++ more ∷ []) ≡ all_parts each ++ more
 parts_more each more = flat_map-append (λ (more : List WholePart). more) each (more ∷ []) ∙ ap (λ last. all_parts each ++ last) (append-nil more)
 
-module _ (guest : GuestSpec) (number lrs : ℕ) (step : Step) (answer : Answer) (more : List WholePart) where
+module _ (guest : IdealGuest) (number lrs : ℕ) (step : Step) (answer : Answer) (more : List WholePart) where
   abbrev Last : List (Option VcpuName) → List WholePart → Type 0
   Last pes early = AreOfStep guest number lrs pes step answer early more
 
@@ -76,7 +76,7 @@ module _ (guest : GuestSpec) (number lrs : ℕ) (step : Step) (answer : Answer) 
 -- So far.
 
 -- as a guest opened nothing was called, and its vCPUs are on their PEs
-pub record Opened (scenario : Scenario) (guest : GuestSpec) (number : ℕ) (first : List WholePart) : Type 0 where
+pub record Opened (scenario : Scenario) (guest : IdealGuest) (number : ℕ) (first : List WholePart) : Type 0 where
   pub calls : calls_among first ≡ []
   pub stand : ∥ StandSo guest number scenario.lrs (opening_pes scenario.pes (shapes_of scenario.guests)) first ∥₁
 
@@ -98,8 +98,8 @@ pub record RunsSoFar (scenario : Scenario) (machine : Machine) (told : SeqTold) 
   pub ends_are : after_steps rest ideals ≡ after_steps scenario.steps (map opening_guest scenario.guests)
   pub split : (number : ℕ) → parts number ≡ first number ++ all_parts (by_step number)
   pub pes_are : machine.pes ≡ pes_then done (opening_pes scenario.pes (shapes_of scenario.guests))
-  pub opened : (number : ℕ) (guest : GuestSpec) → slice_get scenario.guests number ≡ Some guest → Opened scenario guest number (first number)
-  pub of_steps : (number : ℕ) (guest : GuestSpec) → slice_get scenario.guests number ≡ Some guest → AreOfSteps guest number scenario.lrs (opening_pes scenario.pes (shapes_of scenario.guests)) (first number) done answers (by_step number)
+  pub opened : (number : ℕ) (guest : GuestSpec) → slice_get scenario.guests number ≡ Some guest → Opened scenario (opening_guest guest) number (first number)
+  pub of_steps : (number : ℕ) (guest : GuestSpec) → slice_get scenario.guests number ≡ Some guest → AreOfSteps (opening_guest guest) number scenario.lrs (opening_pes scenario.pes (shapes_of scenario.guests)) (first number) done answers (by_step number)
 
 pub runs_open : (scenario : Scenario) (machine : Machine) (told : SeqTold) → IsGood Schedule scenario → OpensMachine scenario machine told → length machine.pes ≡ scenario.pes → RunsSoFar scenario machine told [] [] scenario.steps
 runs_open scenario machine told good opens count = record {
@@ -122,7 +122,7 @@ runs_open scenario machine told good opens count = record {
   opened = λ number guest is.
       record {
         calls = opens.calls number guest is;
-        stand = subst (λ pes. ∥ StandSo guest number scenario.lrs pes (opens.parts number) ∥₁) opens.pes (all_stand scenario.guests scenario.lrs machine told opens.parts (map opening_guest scenario.guests) opens.at number guest is);
+        stand = subst (λ pes. ∥ StandSo (opening_guest guest) number scenario.lrs pes (opens.parts number) ∥₁) opens.pes (all_stand scenario.guests scenario.lrs machine told opens.parts (map opening_guest scenario.guests) opens.at number guest is);
       };
   of_steps = λ number guest is. tt;
 }
@@ -143,13 +143,13 @@ module _ (scenario : Scenario) (machine : Machine) (told : SeqTold) (answers : L
   is_ready = record { of = record { specs = scenario.guests; lrs = scenario.lrs; parts = so.parts; ideals = so.ideals; at = so.at }; can = can_do }
 
   of_step : (next : Machine) (later : SeqTold) (answer : Answer) (does : HasDoneStep scenario.guests scenario.lrs machine next later so.parts so.ideals step answer) (number : ℕ) (guest : GuestSpec) → slice_get scenario.guests number ≡ Some guest
-      → AreOfStep guest number scenario.lrs machine.pes step answer (so.parts number) (does.more number)
+      → AreOfStep (opening_guest guest) number scenario.lrs machine.pes step answer (so.parts number) (does.more number)
   of_step next later answer does number guest is =
       let parts : ℕ → List WholePart = λ number. so.parts number ++ does.more number in
       record {
         calls = does.calls number guest is;
         of_pe = does.of_pe number guest is;
-        stand = subst (λ pes. ∥ StandSo guest number scenario.lrs pes (parts number) ∥₁) does.pes (all_stand scenario.guests scenario.lrs next later parts (after_step step so.ideals) does.at number guest is);
+        stand = subst (λ pes. ∥ StandSo (opening_guest guest) number scenario.lrs pes (parts number) ∥₁) does.pes (all_stand scenario.guests scenario.lrs next later parts (after_step step so.ideals) does.at number guest is);
       }
 
   pub runs_more : (next : Machine) (later : SeqTold) (answer : Answer) → HasDoneStep scenario.guests scenario.lrs machine next later so.parts so.ideals step answer → RunsSoFar scenario next later (answers ++ answer ∷ []) (done ++ step ∷ []) rest
@@ -179,9 +179,9 @@ module _ (scenario : Scenario) (machine : Machine) (told : SeqTold) (answers : L
     pes_are = does.pes ∙ ap (pes_after step) so.pes_are ∙ sym (pes_more done step (opening_pes scenario.pes (shapes_of scenario.guests)));
     opened = so.opened;
     of_steps = λ number guest is.
-        steps_more guest number scenario.lrs step answer (does.more number) (opening_pes scenario.pes (shapes_of scenario.guests)) (so.first number) done answers (so.by_step number) (so.of_steps number guest is)
-        (subst (λ pes. AreOfStep guest number scenario.lrs pes step answer (so.first number ++ all_parts (so.by_step number)) (does.more number)) so.pes_are
-        (subst (λ early. AreOfStep guest number scenario.lrs machine.pes step answer early (does.more number)) (so.split number) (of_step next later answer does number guest is)));
+        steps_more (opening_guest guest) number scenario.lrs step answer (does.more number) (opening_pes scenario.pes (shapes_of scenario.guests)) (so.first number) done answers (so.by_step number) (so.of_steps number guest is)
+        (subst (λ pes. AreOfStep (opening_guest guest) number scenario.lrs pes step answer (so.first number ++ all_parts (so.by_step number)) (does.more number)) so.pes_are
+        (subst (λ early. AreOfStep (opening_guest guest) number scenario.lrs machine.pes step answer early (does.more number)) (so.split number) (of_step next later answer does number guest is)));
   }
 
 -- The steps of a list, by a number.

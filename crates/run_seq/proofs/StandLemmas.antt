@@ -4,6 +4,7 @@ use Rattle.std.proofs.Math.Logic.{∥∥₁_map}
 use Rattle.std.specs.Prelude.{slice_get}
 use Rattle.std.specs.Option.{option_map_or}
 use Rattle.std.proofs.lemmas.Option.{slice_get_within}
+use Rattle.law_ends_agree.specs.IdealGuests.Opening.{opening as opening_guest}
 use Rattle.law_ends_agree.specs.Calls.{GuestSpec}
 use Rattle.law_ends_agree.specs.Histories.{IdealGuest}
 use Rattle.law_ends_agree.specs.Core.{CoreState, Local, opening, end_of_moments, is_paid, is_ready}
@@ -63,8 +64,8 @@ module _ (told : GuestTold) (vcpus : Vcpus) (lrs : ℕ) (parts : List WholePart)
 
 -- A guest of a machine.
 
-module _ (pes : List (Option VcpuName)) (lrs : ℕ) (guest : GuestSpec) (number : ℕ) (told : GuestTold) (vcpus : Vcpus) (parts : List WholePart) (ideal : IdealGuest) (at : IsGuestAt pes lrs guest number told vcpus parts ideal) where
-  abbrev Stand : GuestSpec → ℕ → Type 0
+module _ (pes : List (Option VcpuName)) (lrs : ℕ) (guest : IdealGuest) (number : ℕ) (told : GuestTold) (vcpus : Vcpus) (parts : List WholePart) (ideal : IdealGuest) (at : IsGuestAt pes lrs guest number told vcpus parts ideal) where
+  abbrev Stand : IdealGuest → ℕ → Type 0
   Stand g n = HasDone g n told vcpus parts → ((vcpu : ℕ) → spot_at vcpus vcpu ≡ place_by (is_resident pes n vcpu)) → StandSo g n lrs pes parts
 
   here : Stand told.guest told.number
@@ -78,9 +79,9 @@ module _ (pes : List (Option VcpuName)) (lrs : ℕ) (guest : GuestSpec) (number 
 
 -- Each of them.
 pub all_stand : (specs : List GuestSpec) (lrs : ℕ) (machine : Machine) (told : SeqTold) (parts : ℕ → List WholePart) (ideals : List IdealGuest) → IsMachineAt specs lrs machine told parts ideals → (number : ℕ) (guest : GuestSpec) → slice_get specs number ≡ Some guest
-    → ∥ StandSo guest number lrs machine.pes (parts number) ∥₁
+    → ∥ StandSo (opening_guest guest) number lrs machine.pes (parts number) ∥₁
 all_stand specs lrs machine told parts ideals at number guest spec =
     let there = slice_get_within specs number guest spec in
     let vcpus = there_in machine.guests.items number (subst (λ n. number < n) (sym at.guests) there) in
     let ideal = there_in ideals number (subst (λ n. number < n) (sym at.ideals_each) there) in
-    guest_stands machine.pes lrs guest number (guest_at told number) vcpus.one (parts number) ideal.one (at.each number guest vcpus.one ideal.one spec vcpus.is ideal.is)
+    guest_stands machine.pes lrs (opening_guest guest) number (guest_at told number) vcpus.one (parts number) ideal.one (at.each number guest vcpus.one ideal.one spec vcpus.is ideal.is)

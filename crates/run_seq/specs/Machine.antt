@@ -33,7 +33,7 @@ place_by false = shelf
 
 -- a guest of a port, with its vCPUs as they stand on these PEs, each of which has so many list registers: these parts were done to it, none of its vCPUs that is
 -- on a PE is kicked, and with all that stands at interfaces taken back it is this guest of the ideal controller
-pub record IsGuestAt (pes : List (Option VcpuName)) (lrs : ℕ) (guest : GuestSpec) (number : ℕ) (told : GuestTold) (vcpus : Vcpus) (parts : List WholePart) (ideal : IdealGuest) : Type 0 where
+pub record IsGuestAt (pes : List (Option VcpuName)) (lrs : ℕ) (guest : IdealGuest) (number : ℕ) (told : GuestTold) (vcpus : Vcpus) (parts : List WholePart) (ideal : IdealGuest) : Type 0 where
   pub done : ∥ HasDone guest number told vcpus parts ∥₁
   pub at : AreAt told vcpus
   pub guest_is : told.guest ≡ guest
@@ -60,7 +60,7 @@ pub record IsMachineAt (specs : List GuestSpec) (lrs : ℕ) (machine : Machine) 
   pub once : StandsOnce machine.pes
   pub each :
       (number : ℕ) (guest : GuestSpec) (vcpus : Vcpus) (ideal : IdealGuest) → slice_get specs number ≡ Some guest → slice_get machine.guests.items number ≡ Some vcpus → slice_get ideals number ≡ Some ideal
-      → IsGuestAt machine.pes lrs guest number (guest_at told number) vcpus (parts number) ideal
+      → IsGuestAt machine.pes lrs (opening_guest guest) number (guest_at told number) vcpus (parts number) ideal
 
 -- One guest acts.
 
@@ -111,7 +111,7 @@ pub record IsReady (machine : Machine) (told : SeqTold) (step : Step) : Type 0 w
 pub record HasDoneStep (specs : List GuestSpec) (lrs : ℕ) (machine next : Machine) (later : SeqTold) (parts : ℕ → List WholePart) (ideals : List IdealGuest) (step : Step) (answer : Answer) : Type 0 where
   pub more : ℕ → List WholePart
   pub calls : (number : ℕ) (guest : GuestSpec) → slice_get specs number ≡ Some guest → calls_among (more number) ≡ option_to_list (step_call number guest.shape step answer)
-  pub of_pe : (number : ℕ) (guest : GuestSpec) → slice_get specs number ≡ Some guest → IsOfPe guest number lrs machine.pes step answer (parts number) (more number)
+  pub of_pe : (number : ℕ) (guest : GuestSpec) → slice_get specs number ≡ Some guest → IsOfPe (opening_guest guest) number lrs machine.pes step answer (parts number) (more number)
   pub pes : next.pes ≡ pes_after step machine.pes
   pub answer_is : answer ≡ step_answer lrs machine.pes step ideals
   pub at : IsMachineAt specs lrs next later (λ number. parts number ++ more number) (after_step step ideals)

@@ -1,5 +1,7 @@
 -- The vCPUs of guests that just opened (own choice).
 use Rattle.std.specs.Prelude.{◌≡◌, ℕ, List, length, Some, slice_get}
+use Rattle.law_ends_agree.specs.IdealGuests.Opening.{opening as opening_guest}
+use Rattle.law_ends_agree.specs.Histories.{IdealGuest}
 use Rattle.law_ends_agree.specs.Calls.{GuestSpec}
 use Rattle.law_one_thread_is_eager.specs.PortSeq.Told.{GuestTold, SeqTold, guest_at, opening_told}
 use Rattle.law_one_thread_is_eager.specs.SeqGuest.declared.vcpus.Vcpus.{Vcpus}
@@ -7,11 +9,11 @@ use Rattle.law_one_thread_is_eager.specs.PePlace.Place.{shelf}
 use Rattle.law_one_thread_is_eager.specs.SeqGuest.Guest.{AreAt, spot_at}
 
 -- a guest of a port as it opened, whichever of its actors is told
-pub record JustOpened (guest : GuestSpec) (number : ℕ) (told : GuestTold) : Type 0 where
+pub record JustOpened (guest : IdealGuest) (number : ℕ) (told : GuestTold) : Type 0 where
   pub is : told ≡ record (opening_told told.home guest number) { actor = told.actor }
 
 -- with its vCPUs, each of which is on no PE
-pub record IsOpened (guest : GuestSpec) (number lrs : ℕ) (told : GuestTold) (vcpus : Vcpus) : Type 0 where
+pub record IsOpened (guest : IdealGuest) (number lrs : ℕ) (told : GuestTold) (vcpus : Vcpus) : Type 0 where
   pub opened : JustOpened guest number told
   pub at : AreAt told vcpus
   pub lrs_is : vcpus.lrs ≡ lrs
@@ -21,4 +23,4 @@ pub record IsOpened (guest : GuestSpec) (number lrs : ℕ) (told : GuestTold) (v
 pub record AreOpened (specs : List GuestSpec) (lrs : ℕ) (told : SeqTold) (guests : List Vcpus) (count : ℕ) : Type 0 where
   pub ports : length told.guests ≡ length specs
   pub each : length guests ≡ count
-  pub ones : (number : ℕ) (guest : GuestSpec) (vcpus : Vcpus) → slice_get specs number ≡ Some guest → slice_get guests number ≡ Some vcpus → IsOpened guest number lrs (guest_at told number) vcpus
+  pub ones : (number : ℕ) (guest : GuestSpec) (vcpus : Vcpus) → slice_get specs number ≡ Some guest → slice_get guests number ≡ Some vcpus → IsOpened (opening_guest guest) number lrs (guest_at told number) vcpus

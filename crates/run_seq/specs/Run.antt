@@ -26,7 +26,7 @@ pub record IsLeft (told : GuestTold) : Type 0 where
 
 -- to a guest this was done since it opened, where at first these vCPUs stand on the PEs: parts of its actors, each while nobody else acts, and each of a vCPU on a PE with so many list
 -- registers; they are those of the steps, one after the other; so with all that stands at interfaces taken back it is this guest of the ideal controller
-pub record GuestHasRun (guest : GuestSpec) (number lrs : ℕ) (pes : List (Option VcpuName)) (steps : List Step) (answers : List Answer) (ideal : IdealGuest) (told : GuestTold) : Type 0 where
+pub record GuestHasRun (guest : IdealGuest) (number lrs : ℕ) (pes : List (Option VcpuName)) (steps : List Step) (answers : List Answer) (ideal : IdealGuest) (told : GuestTold) : Type 0 where
   pub parts : List WholePart
   pub guest_is : told.guest ≡ guest
   pub number_is : told.number ≡ number
@@ -42,7 +42,7 @@ pub record HasRun (scenario : Scenario) (done : Done) (told : SeqTold) : Type 0 
   pub ports : length told.guests ≡ length scenario.guests
   pub each :
       (number : ℕ) (guest : GuestSpec) (ideal : IdealGuest) → slice_get scenario.guests number ≡ Some guest → slice_get (after_steps scenario.steps (map opening_guest scenario.guests)) number ≡ Some ideal
-      → GuestHasRun guest number scenario.lrs (opening_pes scenario.pes (shapes_of scenario.guests)) scenario.steps done.answers ideal (guest_at told number)
+      → GuestHasRun (opening_guest guest) number scenario.lrs (opening_pes scenario.pes (shapes_of scenario.guests)) scenario.steps done.answers ideal (guest_at told number)
   pub answers : done.answers ≡ (eager scenario).answers
   pub cpus : done.cpus ≡ flat_map cpus_of told.guests
 

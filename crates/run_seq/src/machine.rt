@@ -1,7 +1,8 @@
 //! All PEs and vCPUs of a scenario, over its port.
-ghost use Rattle.std.specs.Prelude.{◌≡◌, ◌+◌, ◌≤◌, All, IfOk, None, length};
+ghost use Rattle.std.specs.Prelude.{◌≡◌, ◌+◌, ◌≤◌, All, IfOk, None, length, map};
 ghost use Rattle.law_ends_agree.specs.Words.{MAX_LIST_REGISTERS, Vcpu as VcpuActor};
 ghost use Rattle.law_ends_agree.specs.Calls.{IsGoodGuest};
+ghost use Rattle.law_ends_agree.specs.IdealGuests.Opening.{opening as opening_guest};
 ghost use Rattle.law_one_thread_is_eager.specs.PortSeq.Ports.{told_all};
 ghost use Rattle.law_one_thread_is_eager.specs.PortSeq.Told.{IsOpening};
 ghost use Rattle.run_seq.specs.Opened.{AreOpened};
@@ -39,7 +40,7 @@ fn open_all(
     port: &mut SeqPort,
     scenario: &Scenario,
 ) -> Result<Vec<Vcpus>, AllocError>
-    requires opening { IsOpening scenario.now.guests (told_all port.old) }
+    requires opening { IsOpening (map opening_guest scenario.now.guests) (told_all port.old) }
     requires good { All IsGoodGuest scenario.now.guests }
     requires few { length scenario.now.guests ≤ 4 }
     requires lrs { 1 ≤ scenario.now.lrs × scenario.now.lrs ≤ MAX_LIST_REGISTERS }
@@ -74,7 +75,7 @@ impl Machine {
         scenario: &Scenario,
     ) -> Result<Machine, NoMemory>
         requires good { IsGood Schedule scenario.now }
-        requires opening { IsOpening scenario.now.guests (told_all port.old) }
+        requires opening { IsOpening (map opening_guest scenario.now.guests) (told_all port.old) }
         ensures { IfOk result (λ machine. OpensMachine scenario.now machine (told_all port.new)) }
     {
         let mut machine = Machine {

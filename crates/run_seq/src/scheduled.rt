@@ -1,9 +1,10 @@
 //! The scheduled run of a scenario.
-ghost use Rattle.std.specs.Prelude.{◌≡◌, ◌+◌, ◌<◌, ◌≤◌, IfOk, IfSome, OnOk, length};
+ghost use Rattle.std.specs.Prelude.{◌≡◌, ◌+◌, ◌<◌, ◌≤◌, IfOk, IfSome, OnOk, length, map};
 ghost use Rattle.std.specs.List.{flat_map};
 ghost use Rattle.law_ends_agree.specs.ScnBase.declared.step.Mode.TheVariants.{Schedule};
 ghost use Rattle.law_ends_agree.specs.ScnBase.Good.{IsGood};
 ghost use Rattle.law_ends_agree.specs.GicIdeal.Eager.{eager};
+ghost use Rattle.law_ends_agree.specs.IdealGuests.Opening.{opening as opening_guest};
 ghost use Rattle.law_one_thread_is_eager.specs.PortSeq.Ports.{told_all};
 ghost use Rattle.law_one_thread_is_eager.specs.PortSeq.Told.{IsOpening, words_of_end};
 ghost use Rattle.law_one_thread_is_eager.specs.SeqGuest.Guest.{cpus_of};
@@ -42,7 +43,7 @@ pub fn run_on<R: Wait>(
     scenario: &Scenario,
 ) -> Result<Done, NoMemory>
     requires good { IsGood Schedule scenario.now }
-    requires opening { IsOpening scenario.now.guests (told_all port.old) }
+    requires opening { IsOpening (map opening_guest scenario.now.guests) (told_all port.old) }
     ensures { IfOk result (λ done. HasRun scenario.now done (told_all port.new)) }
 {
     let mut machine = Machine::opening(rt, alloc, port, scenario)?;

@@ -6,6 +6,7 @@ use Rattle.std.proofs.Props.{props}
 use Rattle.std.proofs.lemmas.Bool.{cases_lt, eqb-true, le-ltb, lt-ltb}
 use Rattle.std.proofs.lemmas.List.{length-map}
 use Rattle.std.proofs.lemmas.Option.{get_or_from_slice_get, slice_get_within}
+use Rattle.law_threads_are_history.specs.IdealGuests.Opening.{opening as opening_guest}
 use Rattle.law_threads_are_history.specs.Core.{Progress, is_settled, Local, Made, actor_count, owes_nothing, is_vcpu, Seen, local_by, opening_local_of}
 use Rattle.law_threads_are_history.specs.LawEagerIsHistory.Calls.{Made as MadeCall, own_steps}
 use Rattle.law_threads_are_history.specs.Registers.{CpuRec}
@@ -296,10 +297,10 @@ module _ (scenario : Scenario) (words : List WordsTold) (devices : List DeviceTo
         mapped (cpu_of words root) (all_vcpus words) p (record { guest = from.one.vcpu.guest; vcpu = from.one.vcpu.vcpu }) (trip_named scenario words devices trips roll p from.one from.there)
         ∙ ap Some (cpu_is p from.one from.there ∙ from.is))
 
-    guest_ran : (number : ℕ) (guest : GuestSpec) → slice_get scenario.guests number ≡ Some guest → GuestHasRun guest number scenario.lrs scenario.steps answers (words_at words number) (root_at root number)
+    guest_ran : (number : ℕ) (guest : GuestSpec) → slice_get scenario.guests number ≡ Some guest → GuestHasRun (opening_guest guest) number scenario.lrs scenario.steps answers (words_at words number) (root_at root number)
     guest_ran number guest e =
         let here : number < length words = subst (λ n. number < n) (sym roll.set.each) (slice_get_within scenario.guests number guest e) in
-        let guest_is : (words_at words number).guest ≡ guest = roll.set.guest number here ∙ get_or_from_slice_get scenario.guests number guest no_guest e in
+        let guest_is : (words_at words number).guest ≡ opening_guest guest = roll.set.guest number here ∙ ap opening_guest (get_or_from_slice_get scenario.guests number guest no_guest e) in
         let done : IsDone (words_at words number) (root_at root number) = record { back = λ actor among. back number actor here among; idle = idle number } in
         subst (λ g. GuestHasRun g number scenario.lrs scenario.steps answers (words_at words number) (root_at root number)) guest_is
         (record { guest_is = refl; number_is = roll.set.number number here; done = done; each = λ actor few. (found number actor here few).ran })

@@ -1,5 +1,5 @@
 -- What a guest did in a run on threads is one history of it.
-use Rattle.std.proofs.Common.{◌≡◌, ℕ, ◌+◌, ◌<◌, ◌≤◌, ◌⊎◌, zero, suc, inl, inr, IsTrue, All, List, [], ◌∷◌, map, Some, refl, sym, ap, subst, ◌∙◌, arith}
+use Rattle.std.proofs.Common.{◌≡◌, ℕ, ◌+◌, ◌<◌, ◌≤◌, ◌⊎◌, zero, suc, inl, inr, IsTrue, All, List, [], ◌∷◌, length, map, Some, refl, sym, ap, subst, ◌∙◌, arith}
 use Rattle.std.specs.Prelude.{slice_get}
 use Rattle.std.specs.List.{range_with_len}
 use Rattle.std.proofs.Math.Logic.{∥∥₁_elim, ∥∥₁_map}
@@ -11,15 +11,13 @@ use Rattle.law_threads_are_history.specs.Core.{ideal_of, GuestWords, Local, Made
 use Rattle.law_threads_are_history.specs.LawEagerIsHistory.Calls.{Made as MadeCall, calls_of, own_steps as steps_for}
 use Rattle.law_threads_are_history.specs.LawEndsAgree.End.{AreEmpty, cpus_in, told_in, words_in}
 use Rattle.law_threads_are_history.specs.Words.{GuestShape}
-use Rattle.law_threads_are_history.specs.Calls.{Moment, GuestSpec, IsGoodGuest}
+use Rattle.law_threads_are_history.specs.Calls.{Moment}
 use Rattle.law_threads_are_history.proofs.GicFrame.TestLemmas.{is_under}
-use Rattle.law_threads_are_history.specs.Histories.{IsFresh, IsHistory, IsWhole, last_of, home, IdealGuest}
+use Rattle.law_threads_are_history.specs.Histories.{IsFresh, IsHistory, IsWhole, last_of, home, IdealGuest, CanOpen}
 use Rattle.law_threads_are_history.specs.GicIdeal.Ends.{end_of as end_between}
 use Rattle.law_threads_are_history.specs.Registers.{CpuRec}
-use Rattle.law_threads_are_history.specs.GuestEnd.Ends.{EndsAt}
 use Rattle.law_threads_are_history.specs.GuestEnd.Home.{IsAtEnd, guest_of}
 use Rattle.law_threads_are_history.proofs.GuestEnd.PropLemmas.{end_prop}
-use Rattle.law_threads_are_history.specs.IdealGuests.Opening.{opening as opening_guest}
 use Rattle.law_threads_are_history.specs.PePlace.Calls.{calls_in}
 use Rattle.law_threads_are_history.specs.PePlace.Parts.{Part}
 use Rattle.law_threads_are_history.proofs.PortCore.OpeningLemmas.{seat_opens}
@@ -44,26 +42,27 @@ row_same {X = X} f g (suc count) from same =
     ap (λ (x : X). x ∷ map f (range_with_len (from + 1) count)) (same from (omega arith))
     ∙ ap (λ (xs : List X). g from ∷ xs) (row_same f g count (from + 1) (λ n few. same n (omega (arith, few))))
 
--- a fresh history of a guest, in which all calls ended and each actor made its calls of these steps, which ends as this guest does
-pub record HasHistoryOf (guest : GuestSpec) (number : ℕ) (steps : List Step) (answers : List Answer) (ideal : IdealGuest) : Type 0 where
+-- a fresh history of a guest, in which all calls ended and each actor made its calls of these steps, which ends as this guest does, whatever state that is compared with
+pub record HasHistoryOf (guest : IdealGuest) (number : ℕ) (steps : List Step) (answers : List Answer) (ideal : IdealGuest) : Type 0 where
   pub moments : List Moment
   pub history : IsHistory guest moments
   pub fresh : IsFresh guest moments
   pub whole : IsWhole guest moments
   pub calls : (actor : ℕ) → calls_of actor moments ≡ steps_for guest.shape number actor steps answers
-  pub lines : end_between (opening_guest guest) ideal ≡ end_between (opening_guest guest) (home (last_of guest moments))
+  pub lines : (opened : IdealGuest) → end_between opened ideal ≡ end_between opened (home (last_of guest moments))
 
 -- the CPU records of a guest's vCPUs
 abbrev pub cpus_by : GuestShape → WordsTold → RootTold → List CpuRec
 cpus_by shape words root = map (λ vcpu. (local_of words root vcpu).cpu) (range_with_len 0 shape.vcpus)
 
 -- what is told of the end of a guest, and of what there was before
-pub record TellsHistory (guest : GuestSpec) (number : ℕ) (steps : List Step) (answers : List Answer) (left : GuestWords) (cpus : List CpuRec) : Type 0 where
-  pub ends : EndsAt guest left cpus (guest_of guest left cpus)
-  pub history : ∥ HasHistoryOf guest number steps answers (guest_of guest left cpus) ∥₁
+pub record TellsHistory (guest : IdealGuest) (number : ℕ) (steps : List Step) (answers : List Answer) (left : GuestWords) (cpus : List CpuRec) : Type 0 where
+  pub ended : IsAtEnd guest.shape left cpus
+  pub vcpus : length left.vcpus ≡ guest.shape.vcpus
+  pub history : ∥ HasHistoryOf guest number steps answers (guest_of guest.shape left cpus) ∥₁
 
 module _ (words : WordsTold) (root : RootTold) (left : GuestWords) (ended : EndsRun words root left) (pes lrs : ℕ) (shapes : List GuestShape) (steps : List Step) (answers : List Answer) (formed : All (λ step. IsTrue (is_formed Threads pes shapes step)) steps) where
-  module _ (here : slice_get shapes words.number ≡ Some words.guest.shape) (good : IsGoodGuest words.guest) (run : GuestHasRun words.guest words.number lrs steps answers words root) where
+  module _ (here : slice_get shapes words.number ≡ Some words.guest.shape) (good : CanOpen words.guest) (run : GuestHasRun words.guest words.number lrs steps answers words root) where
     abbrev shape : GuestShape
     shape = words.guest.shape
 
@@ -124,29 +123,25 @@ module _ (words : WordsTold) (root : RootTold) (left : GuestWords) (ended : Ends
       fresh = has.fresh;
       whole = has.whole;
       calls = λ actor. of actor (cases_lt actor (actor_count shape));
-      lines = subst (λ (s : CoreState). end_between (opening_guest words.guest) (told_in words.guest s) ≡ end_between (opening_guest words.guest) (home (last_of words.guest (ideal_of shape opens has.moments)))) has.state (has.end empty).lines;
+      lines = λ opened. subst (λ (s : CoreState). end_between opened (told_in words.guest s) ≡ end_between opened (home (last_of words.guest (ideal_of shape opens has.moments)))) has.state ((has.end empty).lines opened);
     }
       where
         of : (actor : ℕ) → (actor < actor_count shape) ⊎ (actor_count shape ≤ actor) → calls_of actor (ideal_of shape opens has.moments) ≡ calls_for actor
         of actor (inl there) = has.calls.each actor there ∙ own actor there
         of actor (inr past) = has.calls.others actor past ∙ sym (no_steps Threads pes shapes words.number actor shape here past steps answers formed)
 
-    ends : EndsAt words.guest (words_in shape state) (cpus_in shape state) (told_in words.guest state)
-    ends = record {
-      good = good;
-      ended = ∥∥₁_elim history (end_prop words.guest (words_in shape state) (cpus_in shape state)) (λ one. subst (λ (s : CoreState). IsAtEnd words.guest (words_in shape s) (cpus_in shape s)) one.is.0.state (one.is.0.end empty).told);
-      vcpus = length-map (range_with_len 0 shape.vcpus) _ ∙ length-range_with_len 0 shape.vcpus;
-      lines = refl;
-    }
+    ended_here : IsAtEnd shape (words_in shape state) (cpus_in shape state)
+    ended_here =
+        ∥∥₁_elim history (end_prop shape (words_in shape state) (cpus_in shape state)) (λ one. subst (λ (s : CoreState). IsAtEnd shape (words_in shape s) (cpus_in shape s)) one.is.0.state (one.is.0.end empty).told)
 
     tells : TellsHistory words.guest words.number steps answers left (cpus_by shape words root)
     tells =
         subst (TellsHistory words.guest words.number steps answers left) cpus_are
         (subst (λ (w : GuestWords). TellsHistory words.guest words.number steps answers w (cpus_in shape state)) (sym ended.left_is)
-        (record { ends = ends; history = ∥∥₁_map history (λ one. history_of one.one one.is.0 one.is.1) }))
+        (record { ended = ended_here; vcpus = length-map (range_with_len 0 shape.vcpus) _ ∙ length-range_with_len 0 shape.vcpus; history = ∥∥₁_map history (λ one. history_of one.one one.is.0 one.is.1) }))
 
-  abbrev Tells : GuestSpec → ℕ → Type 0
-  Tells guest number = slice_get shapes number ≡ Some guest.shape → IsGoodGuest guest → GuestHasRun guest number lrs steps answers words root → TellsHistory guest number steps answers left (cpus_by guest.shape words root)
+  abbrev Tells : IdealGuest → ℕ → Type 0
+  Tells guest number = slice_get shapes number ≡ Some guest.shape → CanOpen guest → GuestHasRun guest number lrs steps answers words root → TellsHistory guest number steps answers left (cpus_by guest.shape words root)
 
-  pub guest_tells : (guest : GuestSpec) (number : ℕ) → Tells guest number
+  pub guest_tells : (guest : IdealGuest) (number : ℕ) → Tells guest number
   guest_tells guest number here good run = subst (λ g. Tells g number) run.guest_is (subst (Tells words.guest) run.number_is tells) here good run

@@ -6,6 +6,7 @@ use Rattle.std.proofs.Math.Logic.{∥∥₁_map}
 use Rattle.std.proofs.lemmas.List.{length-map, map-append}
 use Rattle.std.proofs.lemmas.List.Elements.{All-get_or}
 use Rattle.std.proofs.lemmas.Option.{get_or_from_slice_get, slice_get-get_or, slice_get_cases, slice_get_within}
+use Rattle.law_threads_are_history.proofs.IdealGuests.CanOpenLemmas.{openings_can_open}
 use Rattle.law_threads_are_history.specs.LawEagerIsHistory.Possible.{IsPossible}
 use Rattle.law_threads_are_history.specs.GicIdeal.Ends.{end_of, ends_of}
 use Rattle.law_threads_are_history.specs.Registers.{CpuRec}
@@ -121,7 +122,7 @@ module _ (scenario : Scenario) (done : Done) (words : List WordsTold) (root : Li
     cpus_told told = map (cpu_of words root) (vcpus_of told.0)
 
     abbrev pub ideal_told : Told → IdealGuest
-    ideal_told told = guest_of told.0.guest told.1 (cpus_told told)
+    ideal_told told = guest_of told.0.guest.shape told.1 (cpus_told told)
 
     abbrev pub ideals : List IdealGuest
     ideals = map ideal_told tolds
@@ -144,13 +145,13 @@ module _ (scenario : Scenario) (done : Done) (words : List WordsTold) (root : Li
     -- One guest.
 
     module _ (n : ℕ) (guest : GuestSpec) (told : Told) (here : slice_get scenario.guests n ≡ Some guest) (there : slice_get tolds n ≡ Some told) where
-      has : GuestHasRun guest n scenario.lrs scenario.steps done.answers (words_at words n) (root_at root n)
+      has : GuestHasRun (opening guest) n scenario.lrs scenario.steps done.answers (words_at words n) (root_at root n)
       has = run.each n guest here
 
       words_are : words_at words n ≡ told.0
       words_are = get_or_from_slice_get words n told.0 no_words (pair_at words left n told there).0
 
-      guest_is : told.0.guest ≡ guest
+      guest_is : told.0.guest ≡ opening guest
       guest_is = ap (λ (one : WordsTold). one.guest) (sym words_are) ∙ has.guest_is
 
       number_is : told.0.number ≡ n
@@ -159,23 +160,23 @@ module _ (scenario : Scenario) (done : Done) (words : List WordsTold) (root : Li
       told_cpus : cpus_told told ≡ cpus_by guest.shape (words_at words n) (root_at root n)
       told_cpus =
           sym (map_twice (λ vcpu. record { guest = told.0.number; vcpu = vcpu }) (cpu_of words root) (range_with_len 0 told.0.guest.shape.vcpus))
-          ∙ ap (λ (g : GuestSpec). map (λ vcpu. (local_of (words_at words told.0.number) (root_at root told.0.number) vcpu).cpu) (range_with_len 0 g.shape.vcpus)) guest_is
+          ∙ ap (λ (g : IdealGuest). map (λ vcpu. (local_of (words_at words told.0.number) (root_at root told.0.number) vcpu).cpu) (range_with_len 0 g.shape.vcpus)) guest_is
           ∙ ap (λ number. map (λ vcpu. (local_of (words_at words number) (root_at root number) vcpu).cpu) (range_with_len 0 guest.shape.vcpus)) number_is
 
-      ideal_is : ideal_told told ≡ guest_of guest told.1 (cpus_told told)
-      ideal_is = ap (λ (g : GuestSpec). guest_of g told.1 (cpus_told told)) guest_is
+      ideal_is : ideal_told told ≡ guest_of guest.shape told.1 (cpus_told told)
+      ideal_is = ap (λ (g : IdealGuest). guest_of g.shape told.1 (cpus_told told)) guest_is
 
-      tells : TellsHistory guest n scenario.steps done.answers told.1 (cpus_told told)
+      tells : TellsHistory (opening guest) n scenario.steps done.answers told.1 (cpus_told told)
       tells =
-          subst (TellsHistory guest n scenario.steps done.answers told.1) (sym told_cpus)
-          (guest_tells (words_at words n) (root_at root n) told.1 (run_at words root left n told.1 runs (pair_at words left n told there).1) scenario.pes scenario.lrs (shapes_of scenario.guests) scenario.steps done.answers good.each_step guest n
-          (get_of_map (λ (g : GuestSpec). g.shape) scenario.guests n guest here) (good_at n guest here) has)
+          subst (TellsHistory (opening guest) n scenario.steps done.answers told.1) (sym told_cpus)
+          (guest_tells (words_at words n) (root_at root n) told.1 (run_at words root left n told.1 runs (pair_at words left n told there).1) scenario.pes scenario.lrs (shapes_of scenario.guests) scenario.steps done.answers good.each_step (opening guest) n
+          (get_of_map (λ (g : GuestSpec). g.shape) scenario.guests n guest here) (openings_can_open guest (good_at n guest here)) has)
 
       ends_told : EndsAt guest told.1 (cpus_told told) (ideal_told told)
-      ends_told = subst (EndsAt guest told.1 (cpus_told told)) (sym ideal_is) tells.ends
+      ends_told = subst (EndsAt guest told.1 (cpus_told told)) (sym ideal_is) (record { good = good_at n guest here; ended = tells.ended; vcpus = tells.vcpus; lines = refl })
 
-      history_told : ∥ HasHistoryOf guest n scenario.steps done.answers (ideal_told told) ∥₁
-      history_told = subst (λ ideal. ∥ HasHistoryOf guest n scenario.steps done.answers ideal ∥₁) (sym ideal_is) tells.history
+      history_told : ∥ HasHistoryOf (opening guest) n scenario.steps done.answers (ideal_told told) ∥₁
+      history_told = subst (λ ideal. ∥ HasHistoryOf (opening guest) n scenario.steps done.answers ideal ∥₁) (sym ideal_is) tells.history
 
     -- How they ended.
 
@@ -203,11 +204,11 @@ module _ (scenario : Scenario) (done : Done) (words : List WordsTold) (root : Li
           let within = subst (λ k. n < k) (sym tolds_each) (slice_get_within scenario.guests n guest here) in
           let told = told_at n within in
           let ended = end_at scenario.guests ideals n guest (ideal_told told.0) here (get_of_map ideal_told tolds n told.0 told.1) in
-          ∥∥₁_map (history_told n guest told.0 here told.1) (λ (has : HasHistoryOf guest n scenario.steps done.answers (ideal_told told.0)). record {
+          ∥∥₁_map (history_told n guest told.0 here told.1) (λ (has : HasHistoryOf (opening guest) n scenario.steps done.answers (ideal_told told.0)). record {
             moments = has.moments;
             is = record { history = has.history; fresh = has.fresh; whole = has.whole };
             calls = has.calls;
-            ends = ap (λ (es : List End). slice_get es n) ends_are ∙ ended ∙ ap Some has.lines;
+            ends = ap (λ (es : List End). slice_get es n) ends_are ∙ ended ∙ ap Some (has.lines (opening guest));
           });
     }
       where

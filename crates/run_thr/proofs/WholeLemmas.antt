@@ -3,9 +3,11 @@ use Rattle.std.proofs.Common.{◌≡◌, ℕ, ◌<◌, All, List, [], ◌∷◌,
 use Rattle.std.specs.Prelude.{◌^◌}
 use Rattle.std.proofs.Math.Seq.{take-length}
 use Rattle.std.proofs.lemmas.List.Elements.{All-get_or}
+use Rattle.law_threads_are_history.specs.IdealGuests.Opening.{opening as opening_guest}
+use Rattle.law_threads_are_history.specs.Histories.{IdealGuest}
 use Rattle.law_threads_are_history.specs.PortOps.Opened.{no_guest}
 use Rattle.thr_cast.specs.PortTable.Told.{RootTold, WordsTold, words_at}
-use Rattle.law_threads_are_history.specs.Calls.{GuestSpec, IsGoodGuest}
+use Rattle.law_threads_are_history.specs.Calls.{IsGoodGuest}
 use Rattle.law_threads_are_history.specs.ScnBase.declared.scenario.Scenario.{Scenario}
 use Rattle.law_threads_are_history.specs.ScnBase.declared.step.Step.{Step}
 use Rattle.thr_cast.specs.declared.cast.Cast.{Cast}
@@ -36,11 +38,11 @@ some_vcpu scenario words set = of words set.each (λ there. set.guest 0 there)
     good : IsGoodGuest (get_or scenario.guests 0 no_guest)
     good = All-get_or IsGoodGuest scenario.guests 0 no_guest (let some = set.good.some_guest in omega (arith, some)) set.good.each_guest
 
-    of : (words : List WordsTold) → length words ≡ length scenario.guests → (0 < length words → (words_at words 0).guest ≡ get_or scenario.guests 0 no_guest) → 0 < length (all_vcpus words)
+    of : (words : List WordsTold) → length words ≡ length scenario.guests → (0 < length words → (words_at words 0).guest ≡ opening_guest (get_or scenario.guests 0 no_guest)) → 0 < length (all_vcpus words)
     of [] each guest = let some = set.good.some_guest in absurd (omega (arith, some, each))
     of (one ∷ words) each guest =
         let some = good.shape.some_vcpu in
-        let vcpus : one.guest.shape.vcpus ≡ (get_or scenario.guests 0 no_guest).shape.vcpus = ap (λ (g : GuestSpec). g.shape.vcpus) (guest (omega arith)) in
+        let vcpus : one.guest.shape.vcpus ≡ (get_or scenario.guests 0 no_guest).shape.vcpus = ap (λ (g : IdealGuest). g.shape.vcpus) (guest (omega arith)) in
         omega (arith, length-append (vcpus_of one) (all_vcpus words), length-vcpus_of one, vcpus, some)
 
 -- all actors of a run

@@ -1,5 +1,7 @@
 -- A run on threads, over the words that its actors share (own choice).
 use Rattle.std.specs.Prelude.{◌≡◌, ℕ, ◌<◌, true, IsTrue, List, [], length, map, if◌then◌else◌, Some, slice_get}
+use Rattle.law_threads_are_history.specs.IdealGuests.Opening.{opening as opening_guest}
+use Rattle.law_threads_are_history.specs.Histories.{IdealGuest}
 use Rattle.law_threads_are_history.specs.Core.{Progress, is_settled, Local, Made, actor_count, is_vcpu, Seen, local_by, opening_local_of}
 use Rattle.law_threads_are_history.specs.LawEagerIsHistory.Calls.{Made as MadeCall, own_steps}
 use Rattle.law_threads_are_history.specs.Registers.{CpuRec}
@@ -24,7 +26,7 @@ pub record ActorHasRun (words : WordsTold) (lrs actor : ℕ) (own : List Made) (
   pub settled : IsTrue (is_settled seen.local)
 
 -- so did each actor of a guest: those calls that the steps give it, in their order, each once and with its answer; the root has the steps of each
-pub record GuestHasRun (guest : GuestSpec) (number lrs : ℕ) (steps : List Step) (answers : List Answer) (words : WordsTold) (root : RootTold) : Type 0 where
+pub record GuestHasRun (guest : IdealGuest) (number lrs : ℕ) (steps : List Step) (answers : List Answer) (words : WordsTold) (root : RootTold) : Type 0 where
   pub guest_is : words.guest ≡ guest
   pub number_is : words.number ≡ number
   pub done : IsDone words root
@@ -40,6 +42,6 @@ cpu_of words root name = (local_of (words_at words name.guest) (root_at root nam
 -- all steps of a scenario were done on these words, by their own actors; each has an answer; and these are the records of the CPU interfaces, by guest and vCPU
 pub record HasRun (scenario : Scenario) (done : Done) (words : List WordsTold) (root : List RootTold) : Type 0 where
   pub guests : length words ≡ length scenario.guests
-  pub each : (number : ℕ) (guest : GuestSpec) → slice_get scenario.guests number ≡ Some guest → GuestHasRun guest number scenario.lrs scenario.steps done.answers (words_at words number) (root_at root number)
+  pub each : (number : ℕ) (guest : GuestSpec) → slice_get scenario.guests number ≡ Some guest → GuestHasRun (opening_guest guest) number scenario.lrs scenario.steps done.answers (words_at words number) (root_at root number)
   pub answers : length done.answers ≡ length scenario.steps
   pub cpus : done.cpus ≡ map (cpu_of words root) (all_vcpus words)

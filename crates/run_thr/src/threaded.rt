@@ -3,6 +3,7 @@ ghost use Rattle.std.specs.Prelude.{◌≡◌, ◌≤◌, IfOk, OnOk, map};
 ghost use Rattle.thr_cast.specs.PortTable.All.{told_words, told_root};
 ghost use Rattle.thr_cast.specs.PortTable.Told.{AreRoots, IsOpening, opening_root};
 ghost use Rattle.law_threads_are_history.specs.ScnBase.declared.step.Mode.TheVariants.{Threads as OnThreads};
+ghost use Rattle.law_threads_are_history.specs.IdealGuests.Opening.{opening as opening_guest};
 ghost use Rattle.law_threads_are_history.specs.ScnBase.Good.{IsGood};
 ghost use Rattle.thr_cast.specs.Set.{IsSet};
 ghost use Rattle.run_thr.specs.Run.{HasRun};
@@ -69,7 +70,7 @@ pub fn run_on<R: Threads + Wait + Sync, G: Gate + Sync>(
     gate: &G,
 ) -> Result<Done, NoMemory>
     requires good { IsGood OnThreads scenario.now }
-    requires opening { IsOpening scenario.now.guests (told_words words.now) (told_root root.old) }
+    requires opening { IsOpening (map opening_guest scenario.now.guests) (told_words words.now) (told_root root.old) }
     requires pes { 1 ≤ pes × pes ≤ 8 }
     requires per_turn { 1 ≤ per_turn × per_turn ≤ 1000 }
     ensures ran { IfOk result (λ done. HasRun scenario.now done (told_words words.now) (told_root root.new)) }

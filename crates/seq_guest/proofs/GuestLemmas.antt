@@ -8,7 +8,8 @@ use Rattle.std.proofs.lemmas.List.Sums.{fold-append}
 use Rattle.std.proofs.lemmas.Grind.{flat_map-append}
 use Rattle.std.proofs.lemmas.Option.{slice_get_within, slice_get_read}
 use Rattle.guest_end.specs.Words.{DeviceOp, GuestShape}
-use Rattle.guest_end.specs.Calls.{Operation, Device, GuestSpec}
+use Rattle.guest_end.specs.Calls.{Operation, Device}
+use Rattle.guest_end.specs.IdealGuests.declared.guest.IdealGuest.{IdealGuest}
 use Rattle.pe_place.specs.Core.{Made, actor_count, Seen, Adds, seen_after, local_by, Seat, IsAtRest, MakesCall, entry_by, Progress, progressed, progress_of, IsProper, is_settled}
 use Rattle.port_seq.proofs.PortCore.PortLemmas.{local_joins}
 use Rattle.pe_place.proofs.CoreProper.PartLemmas.{proper_append}
@@ -111,7 +112,7 @@ one_goes Are told new before next vcpu place after lrs is there has at moves reg
     let steps = steps_in moves.parts in
     let later = is_later old new steps moves.adds in
     let items = before.places.items in
-    let shape = ap (λ (guest : GuestSpec). guest.shape) later.same.guest in
+    let shape = ap (λ (guest : IdealGuest). guest.shape) later.same.guest in
     let all = map (by_actor vcpu) moves.parts in
     let low : (actor : ℕ) → new.guest.shape.vcpus ≤ actor → told.guest.shape.vcpus ≤ actor = λ actor low. subst (λ (shape : GuestShape). shape.vcpus ≤ actor) shape low in
     let high : (actor : ℕ) → actor < actor_count new.guest.shape → actor < actor_count told.guest.shape = λ actor high. subst (λ (shape : GuestShape). actor < actor_count shape) shape high in
@@ -181,7 +182,7 @@ seats_then one two three actor early late same first second =
     record {
       local =
           second.local
-          ∙ ap (λ (guest : GuestSpec). local_by guest.shape actor (seen_by two actor).local (steps_in late)) same.guest
+          ∙ ap (λ (guest : IdealGuest). local_by guest.shape actor (seen_by two actor).local (steps_in late)) same.guest
           ∙ ap (λ local. local_by shape actor local (steps_in late)) first.local
           ∙ sym (local_joins shape actor start (steps_in early) (steps_in late))
           ∙ ap (local_by shape actor start) (sym (steps_append early late));
@@ -204,7 +205,7 @@ after_both : (one two : GuestTold) (early late : List WholePart) (progress : ℕ
 after_both one two early late progress same actor =
     let shape = one.guest.shape in
     let mid = progress_after shape early progress in
-    ap (λ (guest : GuestSpec). progress_of guest.shape actor (mid actor) (acts_in (parts_by actor late))) same.guest
+    ap (λ (guest : IdealGuest). progress_of guest.shape actor (mid actor) (acts_in (parts_by actor late))) same.guest
     ∙ sym (fold-append (progressed shape actor) (progress actor) (acts_in (parts_by actor early)) (acts_in (parts_by actor late)))
     ∙ ap (progress_of shape actor (progress actor)) (sym (flat_map-append acts_of (parts_by actor early) (parts_by actor late)))
     ∙ ap (λ parts. progress_of shape actor (progress actor) (acts_in parts)) (sym (parts_append actor early late))
@@ -223,7 +224,7 @@ goes_both Early Late Both join one two three a b d first second =
       are = join early late first.are second.are;
       formed =
           All-append (IsOfGuest shape a.lrs) early late first.formed
-          (subst (λ n. All (IsOfGuest shape n) late) first.lrs (subst (λ (guest : GuestSpec). All (IsOfGuest guest.shape b.lrs) late) first.same.guest second.formed));
+          (subst (λ n. All (IsOfGuest shape n) late) first.lrs (subst (λ (guest : IdealGuest). All (IsOfGuest guest.shape b.lrs) late) first.same.guest second.formed));
       world =
           second.world
           ∙ ap (λ world. world ++ entries_in late) first.world
@@ -238,11 +239,11 @@ goes_both Early Late Both join one two three a b d first second =
           (calls_same (seen_by two actor) (seen_after (seen_by one actor) (steps_in (parts_by actor early))) (parts_by actor late) (later_same one two actor (parts_by actor early) first.same (first.seats actor)) (second.calls actor)));
       proper = λ progress so actor there.
           let mid = progress_after shape early progress in
-          let rest = second.proper mid (first.goes_on progress so) actor (subst (λ (guest : GuestSpec). actor < actor_count guest.shape) (sym first.same.guest) there) in
+          let rest = second.proper mid (first.goes_on progress so) actor (subst (λ (guest : IdealGuest). actor < actor_count guest.shape) (sym first.same.guest) there) in
           subst (λ parts. IsProper shape actor (progress actor) (acts_in parts)) (sym (parts_append actor early late))
           (subst (IsProper shape actor (progress actor)) (sym (flat_map-append acts_of (parts_by actor early) (parts_by actor late)))
           ((proper_append shape actor (progress actor) (acts_in (parts_by actor early)) (acts_in (parts_by actor late))).1
-          (first.proper progress so actor there, subst (λ (guest : GuestSpec). IsProper guest.shape actor (mid actor) (acts_in (parts_by actor late))) first.same.guest rest)));
+          (first.proper progress so actor there, subst (λ (guest : IdealGuest). IsProper guest.shape actor (mid actor) (acts_in (parts_by actor late))) first.same.guest rest)));
       goes_on = λ progress so.
           followed_as three d (progress_after two.guest.shape late (progress_after shape early progress)) (progress_after shape (early ++ late) progress) (after_both one two early late progress first.same)
           (second.goes_on (progress_after shape early progress) (first.goes_on progress so));
@@ -287,7 +288,7 @@ unfolding device_part
 device_goes told new vcpus actor op part past there at does =
     let old : GuestTold = record told { actor = actor } in
     let later = is_later old new part does.adds in
-    let shape = ap (λ (guest : GuestSpec). guest.shape) later.same.guest in
+    let shape = ap (λ (guest : IdealGuest). guest.shape) later.same.guest in
     let parts : List Part = device_part op part ∷ [] in
     let all = map (by_actor actor) parts in
     let low : (other : ℕ) → new.guest.shape.vcpus ≤ other → told.guest.shape.vcpus ≤ other = λ other low. subst (λ (shape : GuestShape). shape.vcpus ≤ other) shape low in

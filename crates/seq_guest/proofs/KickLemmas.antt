@@ -4,7 +4,7 @@ use Rattle.std.proofs.Math.Logic.{∥∥₁_elim}
 use Rattle.std.proofs.Props.{props}
 use Rattle.std.proofs.lemmas.Bool.{cases_eq, cases_lt}
 use Rattle.std.proofs.lemmas.List.{set-get_or}
-use Rattle.guest_end.specs.Calls.{GuestSpec}
+use Rattle.guest_end.specs.IdealGuests.declared.guest.IdealGuest.{IdealGuest}
 use Rattle.pe_place.specs.Core.{Made, Look, Vcpu, word_after, vcpu_of, place_of_word, Seen, Adds, CoreState, IsRun, Takes, after, opening, seat_at, word_in, word_of, entry_by}
 use Rattle.port_seq.proofs.PortCore.RunLemmas.{run_splits}
 use Rattle.law_entries_are_plans.specs.LawRegistersStand.Asks.{IsUnkicked}
@@ -27,7 +27,7 @@ record LooksRight (old new : GuestTold) (made : Made) : Type 0 where
 last_taken : (old new : GuestTold) (made : Made) → IsLater old new (made ∷ []) → IsRun new.guest.shape (opening new.guest new.number) new.world → Takes old.guest.shape (state_of old) (entry_by old.actor made)
 last_taken old new made later run =
     let at : IsRun old.guest.shape (opening old.guest old.number) (old.world ++ entry_by old.actor made ∷ [])
-    = subst (λ (guest : GuestSpec). IsRun guest.shape (opening guest old.number) (old.world ++ entry_by old.actor made ∷ [])) later.same.guest
+    = subst (λ (guest : IdealGuest). IsRun guest.shape (opening guest old.number) (old.world ++ entry_by old.actor made ∷ [])) later.same.guest
     (subst (λ number. IsRun new.guest.shape (opening new.guest number) (old.world ++ entry_by old.actor made ∷ [])) later.same.number
     (subst (IsRun new.guest.shape (opening new.guest new.number)) later.world run)) in
     (run_splits old.guest.shape (opening old.guest old.number) old.world (entry_by old.actor made ∷ []) at).1.0
@@ -52,7 +52,7 @@ looks_right old new made is adds run =
       found =
           found
           ∙ ap (λ (words : List ℕ). get_or words place 0) (sym words)
-          ∙ ap (λ (guest : GuestSpec). word_in guest.shape (state_of new) (Vcpu old.actor)) (sym later.same.guest);
+          ∙ ap (λ (guest : IdealGuest). word_in guest.shape (state_of new) (Vcpu old.actor)) (sym later.same.guest);
     }
 
 -- a vCPU that was not kicked: no word changed, and where it is on a PE, it is not kicked
@@ -63,7 +63,7 @@ pub record IsQuiet (old new : GuestTold) (after : Place) : Type 0 where
 same_state : (old new : GuestTold) → seen_of new ≡ seen_of old → state_of new ≡ state_of old
 same_state old new is =
     let world = some_is new.world old.world (ap (λ (seen : Seen). seen.world) is) in
-    ap (λ (guest : GuestSpec). state_of (record new { guest = guest })) (ap (λ (seen : Seen). seen.guest) is)
+    ap (λ (guest : IdealGuest). state_of (record new { guest = guest })) (ap (λ (seen : Seen). seen.guest) is)
     ∙ ap (λ number. state_of (record new { guest = old.guest; number = number })) (ap (λ (seen : Seen). seen.number) is)
     ∙ ap (λ world. state_of (record new { guest = old.guest; number = old.number; world = world })) world
 
@@ -105,7 +105,7 @@ none_first told vcpus = record { each = λ vcpu below on. absurd (omega (arith, 
 still_unkicked :
     (old new : GuestTold) (vcpu : ℕ) → IsSameGuest old new → (state_of new).words ≡ (state_of old).words → IsUnkicked old.guest.shape (state_of old) vcpu → IsUnkicked new.guest.shape (state_of new) vcpu
 still_unkicked old new vcpu same words unkicked =
-    ap (λ (guest : GuestSpec). (vcpu_of (word_in guest.shape (state_of new) (Vcpu vcpu))).kick) same.guest
+    ap (λ (guest : IdealGuest). (vcpu_of (word_in guest.shape (state_of new) (Vcpu vcpu))).kick) same.guest
     ∙ ap (λ words. (vcpu_of (get_or words (place_of_word old.guest.shape (Vcpu vcpu)) 0)).kick) words
     ∙ unkicked
 

@@ -5,7 +5,7 @@ use Rattle.std.proofs.lemmas.Bool.{cases_eq}
 use Rattle.std.proofs.lemmas.List.{get_or-set_same, get_or-set_other, length-set}
 use Rattle.std.proofs.lemmas.Option.{slice_get_within, slice_get-get_or, get_or_from_slice_get}
 use Rattle.guest_end.specs.Words.{GuestShape}
-use Rattle.guest_end.specs.Calls.{GuestSpec}
+use Rattle.guest_end.specs.IdealGuests.declared.guest.IdealGuest.{IdealGuest}
 use Rattle.pe_place.specs.Core.{Made, Seen, Adds, CoreState, Seat, no_seat, seat_at, after, end_of, opening, entry_by}
 use Rattle.port_seq.proofs.PortCore.RunLemmas.{runs_joined}
 use Rattle.port_seq.specs.Told.{GuestTold, seen_of, state_of}
@@ -39,7 +39,7 @@ is_later old new steps adds =
 
 pub later_state : (old new : GuestTold) (steps : List Made) → IsLater old new steps → state_of new ≡ end_of old.guest.shape (state_of old) (map (entry_by old.actor) steps)
 later_state old new steps later =
-    ap (λ (guest : GuestSpec). end_of guest.shape (opening guest new.number) new.world) later.same.guest
+    ap (λ (guest : IdealGuest). end_of guest.shape (opening guest new.number) new.world) later.same.guest
     ∙ ap (λ number. end_of old.guest.shape (opening old.guest number) new.world) later.same.number
     ∙ ap (end_of old.guest.shape (opening old.guest old.number)) later.world
     ∙ runs_joined.end old.guest.shape (opening old.guest old.number) old.world (map (entry_by old.actor) steps)

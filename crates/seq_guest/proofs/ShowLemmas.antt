@@ -7,7 +7,9 @@ use Rattle.std.proofs.Props.{props}
 use Rattle.std.proofs.lemmas.Bool.{and_parts}
 use Rattle.std.proofs.lemmas.List.Folds.{list_all-append}
 use Rattle.std.proofs.lemmas.Option.{slice_get_within}
-use Rattle.guest_end.specs.Calls.{Residence, GuestSpec, IsGoodGuest}
+use Rattle.guest_end.specs.Calls.{Residence}
+use Rattle.guest_end.specs.IdealGuests.CanOpen.{CanOpen}
+use Rattle.guest_end.specs.IdealGuests.declared.guest.IdealGuest.{IdealGuest}
 use Rattle.pe_place.specs.VcpuState.declared.loaded.Loaded.{Loaded}
 use Rattle.pe_place.specs.Core.{Made, CoreStep, Kick, Poll, Adds, IsRun, IsSound, opening, entry_by, part_of, Progress, IsProper}
 use Rattle.port_seq.proofs.PortCore.RunLemmas.{run_splits}
@@ -87,17 +89,17 @@ record HasRun (old : GuestTold) (steps : List Made) : Type 0 where
   sound : IsSound old.guest.shape (state_of old)
   run : IsRun old.guest.shape (state_of old) (map (entry_by old.actor) steps)
 
-has_run : (old new : GuestTold) (steps : List Made) → IsLater old new steps → IsGoodGuest old.guest → IsRun new.guest.shape (opening new.guest new.number) new.world → HasRun old steps
+has_run : (old new : GuestTold) (steps : List Made) → IsLater old new steps → CanOpen old.guest → IsRun new.guest.shape (opening new.guest new.number) new.world → HasRun old steps
 has_run old new steps later good run =
     let entries = map (entry_by old.actor) steps in
     let at : IsRun old.guest.shape (opening old.guest old.number) (old.world ++ entries)
-    = subst (λ (guest : GuestSpec). IsRun guest.shape (opening guest old.number) (old.world ++ entries)) later.same.guest
+    = subst (λ (guest : IdealGuest). IsRun guest.shape (opening guest old.number) (old.world ++ entries)) later.same.guest
     (subst (λ number. IsRun new.guest.shape (opening new.guest number) (old.world ++ entries)) later.same.number (subst (IsRun new.guest.shape (opening new.guest new.number)) later.world run)) in
     let runs = run_splits old.guest.shape (opening old.guest old.number) old.world entries at in
     record { sound = told_sound old good runs.0; run = runs.1 }
 
 reentered_unkicked :
-    (old new : GuestTold) (before after : Loaded) (re : Reenters (seen_of old) (seen_of new) before after) (p : Progress) → IsGoodGuest old.guest → old.actor < old.guest.shape.vcpus → IsRunning (seen_of old) before p → IsRun new.guest.shape (opening new.guest new.number) new.world
+    (old new : GuestTold) (before after : Loaded) (re : Reenters (seen_of old) (seen_of new) before after) (p : Progress) → CanOpen old.guest → old.actor < old.guest.shape.vcpus → IsRunning (seen_of old) before p → IsRun new.guest.shape (opening new.guest new.number) new.world
     → IsUnkicked old.guest.shape (state_of new) old.actor
 reentered_unkicked old new before after re p good within running run =
     let shape = old.guest.shape in
@@ -108,11 +110,11 @@ reentered_unkicked old new before after re p good within running run =
     let proper : IsProper shape old.actor p (part_of Residence before.regs.n steps None)
     = subst (IsProper shape old.actor p) (ap acts_in re.alone ∙ append-nil (acts_of (residence before.regs.n steps))) (re.moves.proper p running) in
     subst (λ state. IsUnkicked shape state old.actor) (sym (later_state old new steps later))
-    (part_unkicked shape old.actor (state_of old) p before.regs.n re.exit re.entry good.shape within re.entry_is has.sound has.run proper)
+    (part_unkicked shape old.actor (state_of old) p before.regs.n re.exit re.entry good.sound.shape within re.entry_is has.sound has.run proper)
 
 pub one_shows :
     (told new : GuestTold) (before next : Vcpus) (vcpu : ℕ) (place after : Place) → next.lrs ≡ before.lrs → next.places.items ≡ set before.places.items vcpu after → vcpu < told.guest.shape.vcpus → slice_get before.places.items vcpu ≡ Some place → AreAt told before
-    → ReentersAt (seen_by told vcpu) (seen_of new) place after → HasRegisters before.lrs after → IsGoodGuest told.guest → ∥ IsRun new.guest.shape (opening new.guest new.number) new.world ∥₁ → Shows told new before next vcpu
+    → ReentersAt (seen_by told vcpu) (seen_of new) place after → HasRegisters before.lrs after → CanOpen told.guest → ∥ IsRun new.guest.shape (opening new.guest new.number) new.world ∥₁ → Shows told new before next vcpu
 one_shows told new before next vcpu (Shelf shelved) (Shelf other) lrs is there has at re registers good run = absurd re
 one_shows told new before next vcpu (Shelf shelved) (Aside other) lrs is there has at re registers good run = absurd re
 one_shows told new before next vcpu (Shelf shelved) (Pe other) lrs is there has at re registers good run = absurd re

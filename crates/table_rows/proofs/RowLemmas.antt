@@ -2,7 +2,7 @@
 use Rattle.std.proofs.Common.{◌≡◌, ℕ, zero, suc, ◌+◌, ◌<◌, false, IsTrue, List, [], ◌∷◌, ◌++◌, length, map, set, refl, sym, ap, subst, ◌∙◌, arith}
 use Rattle.std.proofs.lemmas.List.{get_or-map, get_or-set_same}
 use Rattle.dev_port.specs.Words.{Actor, Device}
-use Rattle.port_table.specs.Calls.{GuestSpec}
+use Rattle.dev_port.specs.PortCall.Histories.{IdealGuest}
 use Rattle.dev_port.specs.Core.{Local, Made, CoreStep, guest_of, has_actor, Seen, AddsStep, IsPort, IsSameActor, local_by, opening_local_of}
 use Rattle.port_table.proofs.PortCore.SameLemmas.{same_after}
 use Rattle.port_table.specs.Out.{AreOut}
@@ -61,7 +61,7 @@ module _ (words : List WordsTold) (alone : IsAlone words) where
   idle_port : (seen : Seen) → IsPort seen → seen.guest ≡ (words_at words 0).guest → seen.number ≡ (words_at words 0).number → seen.local.turn ≡ false → HasNoTurn (words_at words 0) (record { actor = seen.actor; own = seen.own })
   idle_port seen port guest number idle =
       subst (λ n. (local_by (words_at words 0).guest.shape seen.actor (opening_local_of (words_at words 0).guest n seen.actor) seen.own).turn ≡ false) number
-      (subst (λ (g : GuestSpec). (local_by g.shape seen.actor (opening_local_of g seen.number seen.actor) seen.own).turn ≡ false) guest (ap (λ (l : Local). l.turn) (sym port.made) ∙ idle))
+      (subst (λ (g : IdealGuest). (local_by g.shape seen.actor (opening_local_of g seen.number seen.actor) seen.own).turn ≡ false) guest (ap (λ (l : Local). l.turn) (sym port.made) ∙ idle))
 
   pub row_join :
       (root new : List RootTold) (split out : List ℕ) (number : ℕ) (seen : Seen) → IsPort seen → seen.guest ≡ (words_at words 0).guest → seen.number ≡ 0 → seen.actor ≡ number → seen.local.turn ≡ false → IsRow words root split (number ∷ out)

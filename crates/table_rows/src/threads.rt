@@ -3,14 +3,13 @@ ghost use Rattle.std.specs.Prelude.{◌≡◌, ◌<◌, IfSome, map};
 ghost use Rattle.std.specs.Thread.{IsSync};
 ghost use Rattle.dev_port.specs.Words.{Device as DeviceActor};
 ghost use Rattle.port_table.specs.All.{told_words, told_root};
-ghost use Rattle.port_table.specs.Ports.{seen_of};
 ghost use Rattle.port_table.specs.Told.{AreRoots, AllDone, opening_root};
 ghost use Rattle.table_rows.specs.Rows.{IsAlone, Goes};
 
 use crate::rows::{SHAPE, is_idle, open, scenario, send};
 use port_table::{
-    Actor, CorePort as Port, CoreStep, GuestWords, RootSeat, SharedWords, TablePort, WordId,
-    finish, join, split,
+    Actor, CorePort as Port, CoreStep, GuestWords, RootSeat, SharedWords, WordId, finish, join,
+    split,
 };
 use std::alloc::{AllocError, Global};
 use std::test::Fail;
@@ -43,15 +42,15 @@ fn raise_all<P: Port>(port: &mut P, own: u32) -> Option<()>
 }
 
 /// Two devices do, each in a thread of its own.
-fn raise_two<R: Threads + Sync>(
+fn raise_two<P: Port + Send, Q: Port, R: Threads + Sync>(
     rt: &R,
-    one: &mut TablePort<'_>,
-    two: &mut TablePort<'_>,
+    one: &mut P,
+    two: &mut Q,
     own: u32,
 ) -> Option<()>
     requires { own < 500 }
-    ensures one { IfSome result (λ done. Goes (seen_of one.old) (seen_of one.new)) }
-    ensures two { IfSome result (λ done. Goes (seen_of two.old) (seen_of two.new)) }
+    ensures one { IfSome result (λ done. Goes (P.seen one.old) (P.seen one.new)) }
+    ensures two { IfSome result (λ done. Goes (Q.seen two.old) (Q.seen two.new)) }
 {
     let (first, second) = join_mut(
         rt,
@@ -64,27 +63,27 @@ fn raise_two<R: Threads + Sync>(
 }
 
 /// Four devices do.
-fn raise_four<R: Threads + Sync>(
+fn raise_four<P: Port + Send, R: Threads + Sync>(
     rt: &R,
-    one: &mut TablePort<'_>,
-    two: &mut TablePort<'_>,
-    three: &mut TablePort<'_>,
-    four: &mut TablePort<'_>,
+    one: &mut P,
+    two: &mut P,
+    three: &mut P,
+    four: &mut P,
 ) -> Option<()>
-    ensures one { IfSome result (λ done. Goes (seen_of one.old) (seen_of one.new)) }
-    ensures two { IfSome result (λ done. Goes (seen_of two.old) (seen_of two.new)) }
-    ensures three { IfSome result (λ done. Goes (seen_of three.old) (seen_of three.new)) }
-    ensures four { IfSome result (λ done. Goes (seen_of four.old) (seen_of four.new)) }
+    ensures one { IfSome result (λ done. Goes (P.seen one.old) (P.seen one.new)) }
+    ensures two { IfSome result (λ done. Goes (P.seen two.old) (P.seen two.new)) }
+    ensures three { IfSome result (λ done. Goes (P.seen three.old) (P.seen three.new)) }
+    ensures four { IfSome result (λ done. Goes (P.seen four.old) (P.seen four.new)) }
 {
     let (first, second) = join_mut(
         rt,
         &mut || -> Option<()>
             requires { IsSync R.row }
-            ensures { IfSome result (λ done. Goes (seen_of one.entry.now) (seen_of one.exit.now) × Goes (seen_of two.entry.now) (seen_of two.exit.now)) }
+            ensures { IfSome result (λ done. Goes (P.seen one.entry.now) (P.seen one.exit.now) × Goes (P.seen two.entry.now) (P.seen two.exit.now)) }
         { raise_two(rt, one, two, 32) },
         &mut || -> Option<()>
             requires { IsSync R.row }
-            ensures { IfSome result (λ done. Goes (seen_of three.entry.now) (seen_of three.exit.now) × Goes (seen_of four.entry.now) (seen_of four.exit.now)) }
+            ensures { IfSome result (λ done. Goes (P.seen three.entry.now) (P.seen three.exit.now) × Goes (P.seen four.entry.now) (P.seen four.exit.now)) }
         { raise_two(rt, three, four, 32 + 2 * OWN) },
     );
     first?;

@@ -11,6 +11,8 @@ use Rattle.guest_end.specs.Words.{DeviceOp, GuestOp, PeOp, GuestShape}
 use Rattle.guest_end.specs.Calls.{Access, Device, GuestSpec, is_good_op, passes, shapes_of}
 use Rattle.guest_end.specs.Outcome.{answer_by}
 use Rattle.thr_trip.specs.PortOps.Opened.{no_guest}
+use Rattle.thr_trip.specs.PortOps.PortCore.IdealGuests.declared.guest.IdealGuest.{IdealGuest}
+use Rattle.thr_trip.specs.PortOps.PortCore.IdealGuests.Opening.{opening as opening_guest}
 use Rattle.thr_trip.specs.PortTable.Told.{WordsTold, words_at}
 use Rattle.guest_end.specs.GicGuest.declared.outcome.Answer.{Answer}
 use Rattle.guest_end.specs.GicGuest.declared.outcome.Answer.TheVariants.{Nothing}
@@ -430,7 +432,7 @@ guests_have (guest ∷ guests) (suc g) v e = let rest = guests_have guests g v e
 
 -- so in a run, whose entries are its vCPUs', each heard what its operations answered
 pub heard_in_run :
-    (mode : Mode) (pes : ℕ) (guests : List GuestSpec) (words : List WordsTold) (steps : List Step) (heard : List Heard) → length words ≡ length guests → ((number : ℕ) → number < length words → (words_at words number).guest ≡ get_or guests number no_guest) → AreNumbered words
+    (mode : Mode) (pes : ℕ) (guests : List GuestSpec) (words : List WordsTold) (steps : List Step) (heard : List Heard) → length words ≡ length guests → ((number : ℕ) → number < length words → (words_at words number).guest ≡ opening_guest (get_or guests number no_guest)) → AreNumbered words
     → All (λ step. IsTrue (is_formed mode pes (shapes_of guests) step)) steps → names_in heard ≡ all_vcpus words → EachHeard steps heard
     → AllHeard steps heard
 heard_in_run mode pes guests words steps heard count guest numbered formed named each =
@@ -439,7 +441,7 @@ heard_in_run mode pes guests words steps heard count guest numbered formed named
       | inl holds ↦
           (let has = guests_have guests g v holds in
           let there : g < length words = omega (arith, has.0, count) in
-          let few : v < (words_at words g).guest.shape.vcpus = subst (λ (spec : GuestSpec). v < spec.shape.vcpus) (sym (guest g there)) has.1 in
+          let few : v < (words_at words g).guest.shape.vcpus = subst (λ (opened : IdealGuest). v < opened.shape.vcpus) (sym (guest g there)) has.1 in
           let place = length (all_vcpus (take g words)) + v in
           absurd (none place (ap (λ (names : List VcpuName). slice_get names place) named ∙ vcpu_place words g v numbered there few)))
       | inr fails ↦ fails

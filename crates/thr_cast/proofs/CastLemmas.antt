@@ -2,6 +2,7 @@
 use Rattle.std.proofs.Common.{◌≡◌, ℕ, ◌+◌, ◌*◌, ◌<◌, ◌≤◌, ◌==◌, ◌&&◌, zero, suc, All, Bool, true, false, IsTrue, nat_le, nat_lt, List, [], ◌∷◌, length, length-append, take, get_or, if◌then◌else◌, Some, refl, sym, ap, subst, ◌∙◌, arith}
 use Rattle.std.specs.Prelude.{slice_get}
 use Rattle.std.proofs.lemmas.Bool.{and_parts, eqb-true, le-ltb, lt-ltb}
+use Rattle.std.proofs.lemmas.List.{get_or-replicate}
 use Rattle.std.proofs.lemmas.List.Elements.{All-nil, All-cons, All-get_or}
 use Rattle.guest_end.specs.Words.{DeviceOp, GuestOp, GuestShape}
 use Rattle.guest_end.specs.Calls.{opening_cpu, GuestSpec, IsGoodGuest, is_good_event, is_good_op, passes, shapes_of}
@@ -9,6 +10,9 @@ use Rattle.guest_end.specs.Registers.{CpuRec}
 use Rattle.thr_trip.specs.PeLoop.Enter.{IsBetween}
 use Rattle.thr_trip.specs.Core.{has_registers, is_vcpu, Seen, shape_of, IsAtRest, is_settled}
 use Rattle.thr_trip.specs.PortOps.Opened.{no_guest}
+use Rattle.thr_trip.specs.PortOps.PortCore.IdealGuests.declared.guest.IdealGuest.{IdealGuest}
+use Rattle.thr_trip.specs.PortOps.PortCore.IdealGuests.Ideal.{cpu_at}
+use Rattle.thr_trip.specs.PortOps.PortCore.IdealGuests.Opening.{opening as opening_guest}
 use Rattle.thr_trip.specs.PortTable.Told.{WordsTold, PortIsOf, opening_seen, words_at}
 use Rattle.guest_end.specs.ScnBase.declared.scenario.Scenario.{Scenario}
 use Rattle.guest_end.specs.ScnBase.declared.step.Mode.TheVariants.{Threads}
@@ -86,6 +90,11 @@ few_ops number actor (PeStep pe op ∷ steps) = let fewer = few_ops number actor
 within_16 : (n : ℕ) → 1 ≤ n → n ≤ 16 → IsTrue (nat_le 1 n && nat_le n 16)
 within_16 n few most = grind arith
 
+-- The record of a vCPU's CPU interface as its guest opens.
+
+opens_cpu : (guest : GuestSpec) (vcpu : ℕ) → vcpu < guest.shape.vcpus → cpu_at (opening_guest guest) vcpu ≡ opening_cpu guest.on
+opens_cpu guest vcpu few = get_or-replicate guest.shape.vcpus vcpu (opening_cpu guest.on) (opening_cpu false) few
+
 -- The shape of a guest.
 
 shape_there : (guests : List GuestSpec) (number : ℕ) → number < length guests → slice_get (shapes_of guests) number ≡ Some (get_or guests number no_guest).shape
@@ -98,7 +107,7 @@ module _ (scenario : Scenario) (words : List WordsTold) (set : IsSet scenario wo
   within = subst (λ n. guest < n) set.each there
 
   pub guest_shape : slice_get (shapes_of scenario.guests) guest ≡ Some (words_at words guest).guest.shape
-  guest_shape = shape_there scenario.guests guest within ∙ ap (λ (g : GuestSpec). Some g.shape) (sym (set.guest guest there))
+  guest_shape = shape_there scenario.guests guest within ∙ ap (λ (g : IdealGuest). Some g.shape) (sym (set.guest guest there))
 
   -- a vCPU that has done nothing
   pub opens_trip :
@@ -122,7 +131,7 @@ module _ (scenario : Scenario) (words : List WordsTold) (set : IsSet scenario wo
                     number = ap (λ (s : Seen). s.actor) seen_is;
                     is_one = ap (λ (s : Seen). is_vcpu (shape_of s) s.actor) seen_is ∙ is_one;
                   };
-              cpu = ap (λ (s : Seen). s.local.cpu) seen_is ∙ ap (λ (g : GuestSpec). opening_cpu g.on) (set.guest guest there) ∙ sym cpu_is;
+              cpu = ap (λ (s : Seen). s.local.cpu) seen_is ∙ ap (λ (g : IdealGuest). cpu_at g vcpu) (set.guest guest there) ∙ opens_cpu (get_or scenario.guests guest no_guest) vcpu (subst (λ (g : IdealGuest). vcpu < g.shape.vcpus) (set.guest guest there) few) ∙ sym cpu_is;
               empty = ap (λ (s : Seen). s.local.at) seen_is;
               settled = ap (λ (s : Seen). is_settled s.local) seen_is;
             };
@@ -185,7 +194,7 @@ few_at scenario words set number there =
     let within : number < length scenario.guests = subst (λ n. number < n) set.each there in
     let good = All-get_or IsGoodGuest scenario.guests number no_guest within set.good.each_guest in
     let most = good.shape.vcpus in
-    subst (λ (g : GuestSpec). g.shape.vcpus ≤ 32) (sym (set.guest number there)) most
+    subst (λ (g : IdealGuest). g.shape.vcpus ≤ 32) (sym (set.guest number there)) most
 
 pub few_places : (scenario : Scenario) (words : List WordsTold) → IsSet scenario words → (count : ℕ) → length (all_vcpus (take count words)) ≤ 128
 few_places scenario words set count =

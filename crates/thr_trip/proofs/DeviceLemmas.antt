@@ -5,7 +5,8 @@ use Rattle.std.proofs.Math.Logic.{∥∥₁_map}
 use Rattle.pe_place.specs.Core.{IsAtRest, Seen}
 use Rattle.pe_place.proofs.CoreProper.RestLemmas.{rests_again}
 use Rattle.gic_io.specs.Words.{DeviceOp}
-use Rattle.port_table.specs.Calls.{Device, GuestSpec, is_good_event}
+use Rattle.port_table.specs.Calls.{Device, is_good_event}
+use Rattle.port_table.specs.PortOps.PortCore.IdealGuests.declared.guest.IdealGuest.{IdealGuest}
 use Rattle.pe_place.specs.Device.{DoesEvent}
 use Rattle.pe_place.specs.Parts.{Part}
 use Rattle.pe_place.proofs.FoundLemmas.{device_call}
@@ -49,6 +50,6 @@ device_done words steps device new is none receives =
       number = same.number ∙ is.number;
       ready = receives.ready;
       script = is.script;
-      good = subst (λ (guest : GuestSpec). All (λ op. IsTrue (is_good_event guest.shape op)) device.script) (sym same.guest) is.good;
+      good = subst (λ (guest : IdealGuest). All (λ op. IsTrue (is_good_event guest.shape op)) device.script) (sym same.guest) is.good;
       gone = ∥∥₁_map is.gone (λ gone. receives.goes_on from (subst (HasGone 0 from device.seen (IsAtRest device.seen)) (ap (λ done. calls_done done device.script) none) gone));
     }

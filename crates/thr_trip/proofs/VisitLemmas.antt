@@ -4,7 +4,8 @@ use Rattle.std.specs.Prelude.{slice_get}
 use Rattle.std.proofs.Math.Logic.{∥∥₁_map}
 use Rattle.std.proofs.lemmas.Option.{slice_get_within}
 use Rattle.gic_io.specs.Words.{GuestOp}
-use Rattle.port_table.specs.Calls.{Access, GuestSpec, is_good_op}
+use Rattle.port_table.specs.Calls.{Access, is_good_op}
+use Rattle.port_table.specs.PortOps.PortCore.IdealGuests.declared.guest.IdealGuest.{IdealGuest}
 use Rattle.pe_place.specs.Core.{Seen, IsSameActor}
 use Rattle.pe_place.specs.LawEagerIsHistory.Calls.{Made}
 use Rattle.pe_place.specs.PeIcc.Amid.{IsRunning, IsSame}
@@ -121,7 +122,7 @@ module _ (words : List WordsTold) (lrs : ℕ) (steps : List Step) (trip : TripTo
         off = record { actor = record { guest = off.actor.guest; number = off.actor.number; is_one = off.actor.is_one }; cpu = off.cpu; empty = off.empty; settled = off.settled };
         place = by_name (λ guest vcpu. slice_get (all_vcpus words) trip.place ≡ Some (name guest vcpu)) is.place;
         script = by_name (λ guest vcpu. trip.script ≡ vcpu_ops guest vcpu steps) is.script;
-        good = subst (λ (guest : GuestSpec). All (λ op. IsTrue (is_good_op guest.shape op)) trip.script) (sym same_actor.guest) is.good;
+        good = subst (λ (guest : IdealGuest). All (λ op. IsTrue (is_good_op guest.shape op)) trip.script) (sym same_actor.guest) is.good;
         next = next_is;
         most = operates.most;
         gone =

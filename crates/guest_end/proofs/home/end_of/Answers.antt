@@ -6,10 +6,10 @@ use Rattle.guest_end.proofs.home.end_of.Goals as goal
 
 pub end_of-requires-clause-closed : goal.end_of-requires-clause-closed
 end_of-requires-clause-closed c =
-    sound_unmapped c.in_ok-closed.closed (guest_of c.args.spec.now c.args.words.now c.args.cpus.now) c.args.words.now.tables c.in_ok-closed.ensures.unmapped c.in_ok-closed.ensures.value c.requires.ended.sound
+    sound_unmapped c.in_ok-closed.closed (guest_of c.args.spec.now.shape c.args.words.now c.args.cpus.now) c.args.words.now.tables c.in_ok-closed.ensures.unmapped c.in_ok-closed.ensures.value c.requires.ended.sound
 
 pub returns : goal.returns
 returns c =
     c.in_ok-end_of.ensures
     ∙ ap (λ closed. end_between c.in_ok-opened.opened closed) c.in_ok-closed.ensures.value
-    ∙ ap (λ opened. end_between opened (guest_of c.args.spec.now c.args.words.now c.args.cpus.now)) c.in_ok-opened.ensures.value
+    ∙ ap (λ opened. end_between opened (guest_of c.args.spec.now.shape c.args.words.now c.args.cpus.now)) c.in_ok-opened.ensures.value

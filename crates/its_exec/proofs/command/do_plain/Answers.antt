@@ -33,6 +33,6 @@ returns-else-several-clause-does g c =
     let mid = g.P.Port.seen c.do_some.new.port in
     let new = g.P.Port.seen c.do_some-2.new.port in
     let address = c.args.fetched.now.address in
-    does_single old mid new address c.args.shape.now c.args.tables.now c.args.command.now (g.P.Port.is_port c.args.port.now).good.shape.ram_words c.requires.shape c.requires.valid c.requires.good c.requires.plain
+    does_single old mid new address c.args.shape.now c.args.tables.now c.args.command.now (g.P.Port.is_port c.args.port.now).good.sound.shape.ram_words c.requires.shape c.requires.valid c.requires.good c.requires.plain
     (sym c.is_about_several-several.ensures ∙ c.if-several.false) c.requires.ease c.requires.fresh (as_some old mid address c.first_part-first.result _ c.first_part-first.ensures c.do_some.ensures)
     (as_some mid new address c.second_part-second.result _ c.second_part-second.ensures c.do_some-2.ensures)

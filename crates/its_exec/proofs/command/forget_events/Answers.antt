@@ -12,7 +12,7 @@ loop-event-smaller g c = fewer c.loop-event.tables c.forget_event.new.tables (c.
 pub loop-event-preserved : goal.loop-event-preserved
 loop-event-preserved g c =
     let old = g.P.Port.seen c.args.port.now in
-    forgetting_more old (g.P.Port.seen c.loop-event.port) (g.P.Port.seen c.forget_event.new.port) c.args.fetched.now c.args.tables.now c.loop-event.tables c.forget_event.new.tables c.args.device c.in-Some.event (g.P.Port.is_port c.args.port.now).good.shape.ram_words
+    forgetting_more old (g.P.Port.seen c.loop-event.port) (g.P.Port.seen c.forget_event.new.port) c.args.fetched.now c.args.tables.now c.loop-event.tables c.forget_event.new.tables c.args.device c.in-Some.event (g.P.Port.is_port c.args.port.now).good.sound.shape.ram_words
     (sym c.first_event.ensures.value ∙ c.in-Some.is) c.forget_event.ensures.tables c.forget_event.ensures.does c.loop-event.invariant
 
 pub returns-clause-does : goal.returns-clause-does

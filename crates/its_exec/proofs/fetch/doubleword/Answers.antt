@@ -23,5 +23,5 @@ returns-in-None-clause-reads g c =
 
 pub returns-in-None-clause-knows : goal.returns-in-None-clause-knows
 returns-in-None-clause-knows g c =
-    doubleword_out (g.P.Port.seen c.args.port.now) c.args.address c.args.number c.shape-ram.result.ram c.requires.aligned (ap (λ shape. shape.ram % 8) c.shape-ram.ensures ∙ (g.P.Port.is_port c.args.port.now).good.shape.ram_words)
+    doubleword_out (g.P.Port.seen c.args.port.now) c.args.address c.args.number c.shape-ram.result.ram c.requires.aligned (ap (λ shape. shape.ram % 8) c.shape-ram.ensures ∙ (g.P.Port.is_port c.args.port.now).good.sound.shape.ram_words)
     (sym (sym c.in-None.is ∙ c.split.ensures.value ∙ ap (λ n. part_of (c.args.address + n) 8 c.shape-ram.result.ram) c.from.ensures)) (ap (λ shape. shape.ram) c.shape-ram.ensures)

@@ -17,12 +17,12 @@ doubleword-requires-4-clause-aligned g c = address_even c.args.queue.now.cbaser 
 pub returns-clause-fetches : goal.returns-clause-fetches
 returns-clause-fetches g c =
     fetches (g.P.Port.seen c.args.port.now) (g.P.Port.seen c.doubleword.new.port) (g.P.Port.seen c.doubleword-2.new.port) (g.P.Port.seen c.doubleword-3.new.port) (g.P.Port.seen c.doubleword-4.new.port) c.args.queue.now c.address-address.result
-    c.doubleword.result c.doubleword-2.result c.doubleword-3.result c.doubleword-4.result (g.P.Port.is_port c.args.port.now).good.shape.ram_words c.requires c.address-address.ensures.value c.doubleword.ensures.reads c.doubleword-2.ensures.reads
+    c.doubleword.result c.doubleword-2.result c.doubleword-3.result c.doubleword-4.result (g.P.Port.is_port c.args.port.now).good.sound.shape.ram_words c.requires c.address-address.ensures.value c.doubleword.ensures.reads c.doubleword-2.ensures.reads
     c.doubleword-3.ensures.reads c.doubleword-4.ensures.reads
 
 pub returns-clause-holds : goal.returns-clause-holds
 returns-clause-holds g c =
     fetched_holds (g.P.Port.seen c.args.port.now) (g.P.Port.seen c.doubleword.new.port) (g.P.Port.seen c.doubleword-2.new.port) (g.P.Port.seen c.doubleword-3.new.port) (g.P.Port.seen c.doubleword-4.new.port) c.address-address.result
-    c.doubleword.result c.doubleword-2.result c.doubleword-3.result c.doubleword-4.result (g.P.Port.is_port c.args.port.now).good.shape.ram_words
+    c.doubleword.result c.doubleword-2.result c.doubleword-3.result c.doubleword-4.result (g.P.Port.is_port c.args.port.now).good.sound.shape.ram_words
     (address_even c.args.queue.now.cbaser c.args.queue.now.offset c.address-address.result c.requires.in_range.place c.address-address.ensures.value) c.doubleword.ensures.reads c.doubleword-2.ensures.reads c.doubleword-3.ensures.reads c.doubleword-4.ensures.reads
     c.doubleword.ensures.knows c.doubleword-2.ensures.knows c.doubleword-3.ensures.knows c.doubleword-4.ensures.knows

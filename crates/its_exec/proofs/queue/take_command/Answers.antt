@@ -47,7 +47,7 @@ pub finish-requires-clause-next : goal.finish-requires-clause-next
 finish-requires-clause-next g c =
     let old = g.P.Port.seen c.args.port.now in
     let mid = g.P.Port.seen c.fetch-fetched.new.port in
-    done_next mid (g.P.Port.seen c.do_command.new.port) c.args.queue.now c.fetch-fetched.result c.args.tables.now c.in-Ok.command (g.P.Port.is_port c.fetch-fetched.new.port).good.shape.ram_words
+    done_next mid (g.P.Port.seen c.do_command.new.port) c.args.queue.now c.fetch-fetched.result c.args.tables.now c.in-Ok.command (g.P.Port.is_port c.fetch-fetched.new.port).good.sound.shape.ram_words
     (holds_next old mid c.args.queue.now c.fetch-fetched.result c.fetch-fetched.ensures.fetches c.fetch-fetched.ensures.holds) c.do_command.ensures.does
 
 pub finish-requires-clause-good : goal.finish-requires-clause-good
@@ -68,21 +68,21 @@ returns-clause-ready g c =
     let moved : KnownQueue → KnownQueue = λ q. record queue { offset = q.offset } in
     subst To (ap moved c.finish.ensures.queue ∙ sym c.finish.ensures.queue)
     (finished_ready mid (g.P.Port.seen c.do_command.new.port) new c.args.shape.now c.args.tables.now c.do_command.new.tables queue c.finish.new.queue.offset c.fetch-fetched.result c.in-Ok.command c.decode.result
-    (g.P.Port.is_port c.fetch-fetched.new.port).good.shape.ram_words now (holds_next old mid queue c.fetch-fetched.result c.fetch-fetched.ensures.fetches c.fetch-fetched.ensures.holds) (takes_runs queue c.requires.takes) c.do_command.ensures.does
+    (g.P.Port.is_port c.fetch-fetched.new.port).good.sound.shape.ram_words now (holds_next old mid queue c.fetch-fetched.result c.fetch-fetched.ensures.fetches c.fetch-fetched.ensures.holds) (takes_runs queue c.requires.takes) c.do_command.ensures.does
     c.do_command.ensures.tables c.decode.ensures.value c.in-Ok.is (sym c.fault_in.ensures ∙ c.in_default-fault_in.is) c.finish.ensures.place c.finish.ensures.ends)
 
 pub returns-in_default-clause-takes : goal.returns-in_default-clause-takes
 returns-in_default-clause-takes g c =
     let old = g.P.Port.seen c.args.port.now in
     let mid = g.P.Port.seen c.fetch-fetched.new.port in
-    took_bad old mid (g.P.Port.seen c.stall.new.port) c.args.shape.now c.args.tables.now c.args.queue.now c.fetch-fetched.result c.decode.result _ (g.P.Port.is_port c.fetch-fetched.new.port).good.shape.ram_words c.requires.ready c.requires.takes
+    took_bad old mid (g.P.Port.seen c.stall.new.port) c.args.shape.now c.args.tables.now c.args.queue.now c.fetch-fetched.result c.decode.result _ (g.P.Port.is_port c.fetch-fetched.new.port).good.sound.shape.ram_words c.requires.ready c.requires.takes
     c.fetch-fetched.ensures.fetches c.fetch-fetched.ensures.holds c.decode.ensures.value (ap (fault_number c.args.shape.now c.args.tables.now) c.in_default.is) c.stall.ensures.stalls c.stall.new.queue (returns-in_default-clause-ready g c) c.stall.ensures.queue
 
 pub returns-in-Some-clause-takes : goal.returns-in-Some-clause-takes
 returns-in-Some-clause-takes g c =
     let old = g.P.Port.seen c.args.port.now in
     let mid = g.P.Port.seen c.fetch-fetched.new.port in
-    took_bad old mid (g.P.Port.seen c.stall-in-Some.new.port) c.args.shape.now c.args.tables.now c.args.queue.now c.fetch-fetched.result c.decode.result c.number-number.result (g.P.Port.is_port c.fetch-fetched.new.port).good.shape.ram_words c.requires.ready
+    took_bad old mid (g.P.Port.seen c.stall-in-Some.new.port) c.args.shape.now c.args.tables.now c.args.queue.now c.fetch-fetched.result c.decode.result c.number-number.result (g.P.Port.is_port c.fetch-fetched.new.port).good.sound.shape.ram_words c.requires.ready
     c.requires.takes c.fetch-fetched.ensures.fetches c.fetch-fetched.ensures.holds c.decode.ensures.value
     (ap (fault_number c.args.shape.now c.args.tables.now) c.in-Ok.is ∙ ap (option_map number_of) (sym c.fault_in.ensures ∙ c.in-Some.is) ∙ ap Some (sym c.number-number.ensures)) c.stall-in-Some.ensures.stalls c.stall-in-Some.new.queue (returns-in-Some-clause-ready g c) c.stall-in-Some.ensures.queue
 
@@ -93,6 +93,6 @@ returns-clause-takes g c =
     let queue = c.args.queue.now in
     let moved : KnownQueue → KnownQueue = λ q. record queue { offset = q.offset } in
     took_good old mid (g.P.Port.seen c.do_command.new.port) (g.P.Port.seen c.finish.new.port) c.args.shape.now c.args.tables.now queue c.finish.new.queue.offset c.fetch-fetched.result c.in-Ok.command c.decode.result
-    (g.P.Port.is_port c.fetch-fetched.new.port).good.shape.ram_words c.requires.ready c.requires.takes c.fetch-fetched.ensures.fetches c.fetch-fetched.ensures.holds c.do_command.ensures.does c.decode.ensures.value c.in-Ok.is
+    (g.P.Port.is_port c.fetch-fetched.new.port).good.sound.shape.ram_words c.requires.ready c.requires.takes c.fetch-fetched.ensures.fetches c.fetch-fetched.ensures.holds c.do_command.ensures.does c.decode.ensures.value c.in-Ok.is
     (sym c.fault_in.ensures ∙ c.in_default-fault_in.is) (ap (λ queue. queue.offset) c.finish.ensures.queue) c.finish.ensures.ends c.do_command.new.tables c.finish.new.queue (returns-clause-ready g c)
     (c.finish.ensures.queue ∙ sym (ap moved c.finish.ensures.queue)) (takes_runs queue c.requires.takes) c.do_command.ensures.tables

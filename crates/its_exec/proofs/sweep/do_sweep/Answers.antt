@@ -17,7 +17,7 @@ sweep_lpi-requires-clause-untouched g c =
 
 pub overflow_add-from : goal.overflow_add-from
 overflow_add-from g c =
-    let fits = sweeping_fits (shape_of (g.P.Port.seen c.args.port.now)) c.args.tables.now c.in-Some.lpi (g.P.Port.is_port c.args.port.now).good.shape.lpis c.requires.sound c.requires.valid c.in-Some.ensures.found in
+    let fits = sweeping_fits (shape_of (g.P.Port.seen c.args.port.now)) c.args.tables.now c.in-Some.lpi (g.P.Port.is_port c.args.port.now).good.sound.shape.lpis c.requires.sound c.requires.valid c.in-Some.ensures.found in
     omega (arith, fits)
 
 pub loop-lpi-smaller : goal.loop-lpi-smaller
@@ -27,7 +27,7 @@ loop-lpi-smaller g c =
 pub loop-lpi-preserved : goal.loop-lpi-preserved
 loop-lpi-preserved g c =
     sweeping_more (g.P.Port.seen c.args.port.now) (g.P.Port.seen c.loop-lpi.port) (g.P.Port.seen c.sweep_lpi.new.port) c.args.fetched.now c.args.tables.now c.args.command.now c.loop-lpi.from c.in-Some.lpi
-    (g.P.Port.is_port c.args.port.now).good.shape.ram_words (owned_there (shape_of (g.P.Port.seen c.args.port.now)) c.args.tables.now c.in-Some.lpi c.requires.sound c.requires.valid c.in-Some.ensures.found) c.in-Some.ensures.least.0
+    (g.P.Port.is_port c.args.port.now).good.sound.shape.ram_words (owned_there (shape_of (g.P.Port.seen c.args.port.now)) c.args.tables.now c.in-Some.lpi c.requires.sound c.requires.valid c.in-Some.ensures.found) c.in-Some.ensures.least.0
     c.in-Some.ensures.least.1 c.sweep_lpi.ensures c.loop-lpi.invariant
 
 pub returns : goal.returns

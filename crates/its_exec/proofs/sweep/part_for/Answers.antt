@@ -6,7 +6,7 @@ use Rattle.its_exec.proofs.sweep.part_for.Goals as goal
 
 pub mapc_target-target-requires : goal.mapc_target-target-requires
 mapc_target-target-requires g c =
-    mapc_fits (shape_of (g.P.Port.seen c.args.port.now)) c.args.command.now c.in-Mapc.icid c.in-Mapc.rdbase c.in-Mapc.valid (g.P.Port.is_port c.args.port.now).good.shape.vcpus c.in-Mapc.is c.requires.vcpus
+    mapc_fits (shape_of (g.P.Port.seen c.args.port.now)) c.args.command.now c.in-Mapc.icid c.in-Mapc.rdbase c.in-Mapc.valid (g.P.Port.is_port c.args.port.now).good.sound.shape.vcpus c.in-Mapc.is c.requires.vcpus
 
 pub returns-in-Mapc : goal.returns-in-Mapc
 returns-in-Mapc g c =

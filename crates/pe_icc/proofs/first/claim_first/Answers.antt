@@ -17,7 +17,7 @@ returns-in-Some g c =
     let before = c.args.vcpu.now in
     let after = c.claim_into.new.vcpu in
     subst (λ first. ClaimsFirst old new before after first c.claim_into.result) (sym c.in-Some.is)
-    (some_claimed old new before after c.in-Some.offer c.claim_into.result (g.P.Port.is_port c.args.port.now).good.shape (subst (CanClaimFirst old before) c.in-Some.is c.requires)
+    (some_claimed old new before after c.in-Some.offer c.claim_into.result (g.P.Port.is_port c.args.port.now).good.sound.shape (subst (CanClaimFirst old before) c.in-Some.is c.requires)
     (subst (λ choice. ClaimsSome old new 0 choice before after c.claim_into.result) c.chosen_as-choice.ensures.value c.claim_into.ensures))
 
 pub returns-in-None : goal.returns-in-None

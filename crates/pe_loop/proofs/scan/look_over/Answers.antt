@@ -41,7 +41,7 @@ loop-bit-preserved g c =
       end = c.index_bits-end.ensures.value;
       from = (let below = range.1 in omega (arith, below));
       looking =
-          one_look old now (g.P.Port.seen c.look_at.new.port) c.args.chooser.now c.loop-bit.chooser c.look_at.new.chooser c.args.cpu.now c.loop-bit.from c.in-Some.bit c.key_of_bit.result (g.P.Port.is_port c.args.port.now).good.shape found
+          one_look old now (g.P.Port.seen c.look_at.new.port) c.args.chooser.now c.loop-bit.chooser c.look_at.new.chooser c.args.cpu.now c.loop-bit.from c.in-Some.bit c.key_of_bit.result (g.P.Port.is_port c.args.port.now).good.sound.shape found
           (c.key_of_bit.ensures.value ∙ ap (λ shape. key_of_bit shape c.actor-vcpu.result c.in-Some.bit) c.shape-shape.ensures ∙ ap (λ vcpu. key_of_bit (shape_of old) vcpu c.in-Some.bit) c.actor-vcpu.ensures)
           (ap (λ shape. index_bit shape c.key_of_bit.result) (sym c.shape-shape.ensures) ∙ c.key_of_bit.ensures.inverse)
           (let each = (g.P.Port.is_port c.loop-bit.port).local.cands.each in let less = range.1 in omega (arith, each, less))

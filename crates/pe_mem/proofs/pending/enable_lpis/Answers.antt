@@ -39,7 +39,7 @@ loop-number-preserved g c =
       end = c.loop-number.invariant.end;
       so =
           table_more start (g.P.Port.seen c.loop-number.port) (g.P.Port.seen c.pend_number-last.new.port) c.args.vcpu c.read_plain-pendbaser.result c.loop-number.number c.loop-number.last c.pend_number-last.result
-          (g.P.Port.is_port c.read_plain-pendbaser.new.port).good.shape.ram_words there below (sym c.has_bit.ensures ∙ c.if-has_bit.false) c.pend_number-last.ensures c.loop-number.invariant.so;
+          (g.P.Port.is_port c.read_plain-pendbaser.new.port).good.sound.shape.ram_words there below (sym c.has_bit.ensures ∙ c.if-has_bit.false) c.pend_number-last.ensures c.loop-number.invariant.so;
     }
 
 pub returns : goal.returns

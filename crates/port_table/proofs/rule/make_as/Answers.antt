@@ -17,7 +17,7 @@ operate-requires g c =
     let shape = opened.guest.shape in
     let table = c.args.table.now.table_id in
     let seat = c.args.seat.now in
-    let within = place_of_word_within shape (word_of shape actor step) c.requires.good.shape (word_there shape actor step c.requires.good.shape c.requires.can) in
+    let within = place_of_word_within shape (word_of shape actor step) c.requires.good.sound.shape (word_there shape actor step c.requires.good.sound.shape c.requires.can) in
     record {
       home = c.requires.home;
       there = subst (λ p. p < table.words) (sym c.requires.place) (subst (λ n. place_of_word shape (word_of shape actor step) < n) (sym c.requires.words) within);

@@ -1,10 +1,23 @@
-use Rattle.std.proofs.Common.{◌<◌, length, refl, sym, subst, ◌∙◌}
+use Rattle.std.proofs.Common.{◌<◌, length, get_or, refl, sym, ap, subst, ◌∙◌}
 use Rattle.std.proofs.lemmas.List.{length-map}
 use Rattle.port_table.specs.All.{told_words, told_root}
-use Rattle.port_table.specs.Ports.{root_told, seen_of}
-use Rattle.port_table.specs.Told.{AreRoots, root_at, with_joined}
+use Rattle.port_ops.proofs.MapLemmas.{mapped_at}
+use Rattle.port_table.specs.Ports.{words_told, root_told, seen_of}
+use Rattle.port_table.specs.Told.{AreRoots, RootTold, WordsTold, no_words, opening_root, root_at, with_joined}
 use Rattle.port_table.proofs.GuestsLemmas.{root_set, roots_stay}
 use Rattle.port_table.proofs.threads.join.Goals as goal
+
+pub join-requires-clause-root : goal.join-requires-clause-root
+join-requires-clause-root c =
+    let words = told_words c.args.words.now in
+    let items = c.args.words.now.guests.items in
+    let roots = c.args.root.now.guests.items in
+    let seen = seen_of c.args.port in
+    let here : seen.number < length items = subst (λ n. seen.number < n) (length-map items words_told) c.requires.port.guest in
+    let there : seen.number < length roots = subst (λ n. seen.number < n) (sym c.requires.roots.each ∙ length-map roots root_told) c.requires.port.guest in
+    let root = mapped_at root_told (opening_root no_words) roots seen.number c.index_mut.result.now there (c.index_mut.ensures.value ∙ ap (λ n. get_or roots n c.index_mut.result.now) c.args.port.number) in
+    let table = mapped_at words_told no_words items seen.number c.index-table.result.now here (c.index-table.ensures ∙ ap (λ n. get_or items n c.index-table.result.now) c.args.port.number) in
+    sym (ap (λ (r : RootTold). r.home) root) ∙ c.requires.roots.home seen.number c.requires.port.guest ∙ ap (λ (w : WordsTold). w.home) table
 
 pub returns-clause-root : goal.returns-clause-root
 returns-clause-root c =

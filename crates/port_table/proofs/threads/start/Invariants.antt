@@ -1,5 +1,6 @@
 use Rattle.std.proofs.Common.{◌≡◌, ℕ, ◌<◌, length, map, get_or}
 use Rattle.port_ops.specs.Opened.{no_guest}
+use Rattle.port_ops.specs.PortCore.IdealGuests.Opening.{opening as opening_guest}
 use Rattle.port_table.specs.Ports.{words_told, root_told}
 use Rattle.port_table.specs.Told.{opening_root, words_at}
 use Rattle.port_table.proofs.threads.start.Given as goal
@@ -12,6 +13,6 @@ invariant-loop-number l =
       end : l.number-end ≡ length l.scenario.guests;
       each : length l.guests.items ≡ l.number;
       opened :
-          (n : ℕ) → n < l.number → words_at (map words_told l.guests.items) n ≡ record { home = (words_at (map words_told l.guests.items) n).home; guest = get_or l.scenario.guests n no_guest; number = n };
+          (n : ℕ) → n < l.number → words_at (map words_told l.guests.items) n ≡ record { home = (words_at (map words_told l.guests.items) n).home; guest = opening_guest (get_or l.scenario.guests n no_guest); number = n };
       roots : map root_told l.roots.items ≡ map opening_root (map words_told l.guests.items);
     }

@@ -1,10 +1,16 @@
 -- One more guest has its vCPUs.
-use Rattle.std.proofs.Common.{ap, ◌∙◌, arith}
+use Rattle.std.proofs.Common.{ap, sym, subst, ◌∙◌, arith}
 use Rattle.law_one_thread_is_eager.specs.PortSeq.Ports.{told, told_all}
-use Rattle.law_one_thread_is_eager.specs.PortSeq.Told.{telling}
+use Rattle.law_one_thread_is_eager.specs.PortSeq.Told.{HasActor, telling}
 use Rattle.law_one_thread_is_eager.specs.PortSeq.Lending.{with_guest}
-use Rattle.run_seq.proofs.PortLemmas.{IsOut, comes_back, goes_back, opened_more}
+use Rattle.run_seq.proofs.PortLemmas.{IsOut, comes_back, first_there, goes_back, opened_more}
 use Rattle.run_seq.proofs.machine.open_all.Goals as goal
+
+pub set_actor-requires : goal.set_actor-requires
+set_actor-requires c =
+    let so = c.loop-guest.invariant in
+    subst (HasActor (told_all c.loop-guest.port)) (sym c.first_of.ensures)
+    (first_there c.args.scenario.now.guests (told_all c.args.port.now) (told_all c.loop-guest.port) c.loop-guest.guest c.requires.opening so.0 c.requires.good (omega (arith, c.loop-guest-test.true, so.2)))
 
 pub loop-guest-preserved : goal.loop-guest-preserved
 loop-guest-preserved c =

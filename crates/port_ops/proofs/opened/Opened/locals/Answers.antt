@@ -1,10 +1,10 @@
-use Rattle.std.proofs.Common.{◌≡◌, arith, map, ap, ◌∙◌}
+use Rattle.std.proofs.Common.{◌≡◌, false, arith, map, slice_index_or, ap, ◌∙◌}
 use Rattle.std.specs.List.{range_with_len}
 use Rattle.port_core.proofs.GicOpen.RangeLemmas.{map_pushed}
-use Rattle.port_core.specs.Actor.{actor_count}
+use Rattle.port_core.specs.Actor.{actor_at, actor_count}
+use Rattle.port_core.specs.Calls.{opening_cpu}
 use Rattle.port_core.specs.Local.{opening_local}
 use Rattle.port_core.specs.Run.{Seat, opening_local_of, opening_seat}
-use Rattle.port_core.specs.Calls.{opening_cpu}
 use Rattle.port_ops.proofs.WorldLemmas.{map_twice}
 use Rattle.port_ops.proofs.opened.Opened.locals.Goals as goal
 
@@ -15,8 +15,8 @@ loop-actor-preserved c =
       end = c.loop-actor.invariant.end;
       same = c.loop-actor.invariant.same;
       so_far =
-          map_pushed (opening_local_of opened.guest opened.number) c.loop-actor.actor c.loop-actor.locals.items _ c.opening.result c.loop-actor.invariant.so_far c.in_ok-push.ensures.items
-          (c.opening.ensures ∙ ap (λ cpu. opening_local c.actor_at.result cpu) c.opening_cpu.ensures ∙ ap (λ actor. opening_local actor (opening_cpu opened.guest.on)) c.actor_at.ensures.value);
+          map_pushed (opening_local_of opened.guest opened.number) c.loop-actor.actor c.loop-actor.locals.items _ c.local_at_opening.result c.loop-actor.invariant.so_far c.in_ok-push.ensures.items
+          (c.local_at_opening.ensures ∙ ap (λ cpus. opening_local (actor_at opened.guest.shape opened.number c.loop-actor.actor) (slice_index_or cpus c.loop-actor.actor (opening_cpu false))) c.as_slice.ensures);
     }
 
 pub returns : goal.returns

@@ -12,7 +12,7 @@ invariant_of-self c =
     record {
       good = port.good;
       there = port.there;
-      key = port.key;
+      same = port.same;
       home = port.home;
       words = port.words;
       slots = port.slots;

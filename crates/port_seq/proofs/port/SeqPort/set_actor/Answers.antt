@@ -1,5 +1,6 @@
 use Rattle.std.proofs.Common.{◌≡◌, ℕ, ◌<◌, List, length, map, set, sym, ap, subst, ◌∙◌}
 use Rattle.std.proofs.lemmas.List.{length-map}
+use Rattle.port_ops.specs.Words.{GuestShape}
 use Rattle.port_ops.specs.PortCore.Actor.{guest_of, number_of}
 use Rattle.port_seq.specs.Ports.{told, told_all}
 use Rattle.port_seq.specs.Told.{GuestTold, SeqTold, guest_at}
@@ -18,7 +19,7 @@ returns c =
     let guest = guest_at (told_all c.args.self.now) number in
     let tells : ℕ → GuestTold → GuestTold = λ n t. record t { actor = n } in
     let next : told c.set_actor.new.self ≡ tells (number_of guest.guest.shape c.args.actor) guest =
-    c.set_actor.ensures ∙ ap (tells c.number_of.result) before ∙ ap (λ n. tells n guest) (c.number_of.ensures.value ∙ ap (λ s. number_of s c.args.actor) shape) in
+    c.set_actor.ensures ∙ ap (tells c.number_of.result) before ∙ ap (λ n. tells n guest) (c.number_of.ensures.value ∙ ap (λ (s : GuestShape). number_of s c.args.actor) (c.current.result.now.same ∙ shape)) in
     let at : ℕ → SeqTold = λ n. record { guests = map told (set items n c.set_actor.new.self); guest = n } in
     let with : List GuestTold → SeqTold = λ ts. record { guests = ts; guest = number } in
     ap at same ∙ ap with (told_set items number c.set_actor.new.self _ next)

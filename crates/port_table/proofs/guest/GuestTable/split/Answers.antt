@@ -1,15 +1,12 @@
-use Rattle.std.proofs.Common.{◌≡◌, ◌<◌, [], sym, ap, subst, ◌∙◌}
-use Rattle.port_ops.specs.Words.{Actor}
-use Rattle.port_ops.specs.Registers.{CpuRec}
+use Rattle.std.proofs.Common.{◌≡◌, false, [], slice_index_or, sym, ap, subst, ◌∙◌}
+use Rattle.port_ops.specs.Words.{GuestShape}
 use Rattle.port_ops.specs.PortCore.declared.local.Local.{Local}
 use Rattle.port_ops.specs.PortCore.Known.{known_maps}
 use Rattle.port_ops.specs.PortCore.Local.{opening_local}
 use Rattle.port_ops.specs.PortCore.Run.{opening_local_of}
-use Rattle.port_ops.specs.Calls.{opening_cpu, IsGoodGuest}
-use Rattle.port_ops.specs.PortCore.Actor.{actor_count}
-use Rattle.port_ops.specs.PortCore.Place.{word_count}
+use Rattle.port_ops.specs.Calls.{opening_cpu}
+use Rattle.port_ops.specs.PortCore.Actor.{actor_at}
 use Rattle.port_ops.specs.PortCore.Valid.{IsLocal}
-use Rattle.port_ops.specs.declared.opened.Opened.{Opened}
 use Rattle.port_table.specs.declared.view.View.TheVariants.{Out}
 use Rattle.port_table.specs.Rule.{local_of}
 use Rattle.port_table.specs.Slot.{held, has_taken}
@@ -20,22 +17,25 @@ use Rattle.port_table.proofs.guest.GuestTable.split.Goals as goal
 pub invariant_of-result : goal.invariant_of-result
 invariant_of-result c =
     let words = c.args.self.now in
-    let opened = words.opened in
+    let key = words.table.shared.key in
     let actor = c.args.actor in
     let seat = c.split_off-seat.result in
     let view : seat.me.0 ≡ Out actor [] = ap (λ m. m.0) c.split_off-seat.ensures.out.1 in
-    let opens : c.opening.result ≡ opening_local_of opened.guest opened.number actor =
-    c.opening.ensures ∙ ap (λ (cpu : CpuRec). opening_local c.actor_at.result cpu) c.opening_cpu.ensures ∙ ap (λ (a : Actor). opening_local a (opening_cpu opened.guest.on)) c.actor_at.ensures.value in
+    let cpus = c.as_slice.ensures ∙ words.interfaces in
+    let opens : c.local_at_opening.result ≡ opening_local_of key.guest key.number actor =
+    c.local_at_opening.ensures ∙ ap (λ (s : GuestShape). opening_local (actor_at s words.number actor) (slice_index_or c.as_slice.result.now actor (opening_cpu false))) words.same
+    ∙ ap (λ n. opening_local (actor_at key.guest.shape n actor) (slice_index_or c.as_slice.result.now actor (opening_cpu false))) words.numbered
+    ∙ ap (λ cpus. opening_local (actor_at key.guest.shape key.number actor) (slice_index_or cpus actor (opening_cpu false))) cpus in
     record {
-      good = subst (λ (o : Opened). IsGoodGuest o.guest) (sym words.key) words.good;
-      there = subst (λ (o : Opened). actor < actor_count o.guest.shape) (sym words.key) c.requires.there;
+      good = words.good;
+      there = c.requires.there;
       home = c.split_off-seat.ensures.out.0 ∙ c.requires.home;
-      words = words.words ∙ ap (λ (o : Opened). word_count o.guest.shape) (sym words.key);
+      words = words.words;
       slots = words.slots;
-      same = ap (λ (o : Opened). o.guest.shape) (sym words.key);
-      number = ap (λ (o : Opened). o.number) (sym words.key);
+      same = words.same;
+      number = words.numbered;
       view = view ∙ ap (Out actor) (sym (ap own_of view));
-      made = opens ∙ ap (local_of opened actor) (sym (ap own_of view)) ∙ ap (λ (o : Opened). local_of o actor (own_of seat.me.0)) (sym words.key);
-      valid = ∣ subst (λ (o : Opened). IsLocal o.guest.shape actor c.opening.result) (sym words.key) (subst (IsLocal opened.guest.shape actor) (sym opens) (opening_valid opened actor words.good c.requires.there)) ∣₁;
+      made = opens ∙ ap (local_of key actor) (sym (ap own_of view));
+      valid = ∣ subst (IsLocal key.guest.shape actor) (sym opens) (opening_valid key actor words.good c.requires.there) ∣₁;
       held = ap (λ m. m.1) c.split_off-seat.ensures.out.1 ∙ sym (ap (λ (l : Local). held l.turn (has_taken seat.me.1) (known_maps (own_of seat.me.0))) opens);
     }

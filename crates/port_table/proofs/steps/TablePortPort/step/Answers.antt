@@ -1,14 +1,18 @@
-use Rattle.std.proofs.Common.{Bool, List, sym, ap, subst, ◌∙◌}
+use Rattle.std.proofs.Common.{Bool, IsTrue, List, sym, ap, subst, ◌∙◌}
 use Rattle.atomic_table.specs.Seated.{TableId}
 use Rattle.port_ops.specs.Words.{GuestShape}
 use Rattle.port_ops.specs.PortCore.declared.local.Local.{Local}
 use Rattle.port_ops.specs.PortCore.declared.run.Made.{Made}
 use Rattle.port_ops.specs.PortCore.After.{local_after}
+use Rattle.port_ops.specs.PortCore.Atomic.{Makes}
 use Rattle.port_ops.specs.PortCore.Condition.{Meets}
+use Rattle.port_ops.specs.PortCore.Place.{has_word}
 use Rattle.port_ops.specs.PortCore.Port.{Seen}
 use Rattle.port_ops.specs.PortCore.Step.{word_of}
 use Rattle.port_ops.specs.PortCore.Valid.{IsLocal, CanFind}
 use Rattle.port_ops.specs.PortCore.Effect.{word_after}
+use Rattle.port_ops.proofs.PortCore.StepLemmas.{word_there}
+use Rattle.port_ops.proofs.WorldLemmas.{room_of}
 use Rattle.port_ops.specs.World.{state_after, entry_in}
 use Rattle.port_table.specs.Kept.{table_is_port}
 use Rattle.port_table.specs.Ports.{seen_of}
@@ -16,6 +20,21 @@ use Rattle.port_table.specs.Slot.{held, has_taken}
 use Rattle.port_table.specs.View.{own_of}
 use Rattle.port_table.proofs.MadeLemmas.{made_found, made_left, made_valid, made_own, made_view, made_local, made_held, made_taken, made_handed, made_maps}
 use Rattle.port_table.proofs.steps.TablePortPort.step.Goals as goal
+
+pub place_of_word-place-requires-clause-there : goal.place_of_word-place-requires-clause-there
+place_of_word-place-requires-clause-there c =
+    let port = c.args.self.now in
+    subst (λ word. IsTrue (has_word port.shape word)) (sym c.word.ensures)
+    (subst (λ (s : GuestShape). IsTrue (has_word s (word_of s port.actor c.args.step))) (sym port.same) (word_there port.table.now.key.guest.shape port.actor c.args.step port.good.sound.shape c.requires.can))
+
+pub make-found-requires-clause-makes : goal.make-found-requires-clause-makes
+make-found-requires-clause-makes c =
+    let port = c.args.self.now in
+    subst (λ (l : Local). Makes port.table.now.key.guest.shape port.actor l c.args.step c.operation-atomic.result) port.made
+    (subst (λ (s : GuestShape). Makes s port.actor port.local c.args.step c.operation-atomic.result) port.same c.operation-atomic.ensures)
+
+pub advance-requires-clause-room : goal.advance-requires-clause-room
+advance-requires-clause-room c = let port = c.args.self.now in room_of port.table.now.key.guest.shape port.actor port.local (own_of port.seat.me.0) c.args.step c.requires.meets
 
 pub operation-atomic-requires-clause-local : goal.operation-atomic-requires-clause-local
 operation-atomic-requires-clause-local c = let port = c.args.self.now in subst (λ (s : GuestShape). IsLocal s port.actor port.local) (sym port.same) (table_is_port port).local

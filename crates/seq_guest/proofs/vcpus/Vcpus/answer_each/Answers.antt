@@ -1,7 +1,7 @@
 -- Each answers its kick.
 use Rattle.std.proofs.Common.{sym, ap, subst, ◌∙◌, rules}
 use Rattle.guest_end.specs.Words.{GuestShape}
-use Rattle.guest_end.specs.Calls.{GuestSpec}
+use Rattle.guest_end.specs.IdealGuests.declared.guest.IdealGuest.{IdealGuest}
 use Rattle.port_seq.specs.Ports.{told}
 use Rattle.seq_guest.specs.Guest.{for_none}
 use Rattle.seq_guest.proofs.GuestLemmas.{goes_none, goes_then}
@@ -28,4 +28,4 @@ pub returns-clause-quiet : goal.returns-clause-quiet
 returns-clause-quiet c = λ none.
     let so = c.loop-vcpu.invariant in
     let last = told c.loop-vcpu.port in
-    none_all last c.loop-vcpu.self so.0.at (subst (λ n. NoneBelow n last c.loop-vcpu.self) (search rules ∙ ap (λ (guest : GuestSpec). guest.shape.vcpus) (sym so.0.same.guest)) (so.2 none))
+    none_all last c.loop-vcpu.self so.0.at (subst (λ n. NoneBelow n last c.loop-vcpu.self) (search rules ∙ ap (λ (guest : IdealGuest). guest.shape.vcpus) (sym so.0.same.guest)) (so.2 none))
