@@ -1,0 +1,6 @@
+pub mod ListLemmas
+pub mod LineLemmas
+pub mod LayoutLemmas
+pub mod KeptLemmas
+pub mod DoneLemmas
+pub mod ResetLemmas

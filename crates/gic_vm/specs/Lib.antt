@@ -1,0 +1,8 @@
+pub use Rattle.ideal_guest.specs as IdealGuest
+pub mod Layout
+pub mod Encoding
+pub mod Lines
+pub mod State
+pub mod Kept
+pub mod Calls
+pub mod Reset

@@ -1,0 +1,19 @@
+//! An interrupt controller for a VMM with one thread, or one lock: the ideal controller as a machine with addresses, system registers, devices' wires and
+//! the interrupt lines of its vCPUs. Every call takes any numbers; none waits, and none but the opening asks for memory.
+#![tactic(auto)]
+
+mod access;
+mod device;
+mod done;
+mod encoding;
+mod layout;
+mod lines;
+mod machine;
+mod reset;
+
+pub use done::{Done, NotDone, NotMine, Refused};
+pub use encoding::Encoding;
+pub use ideal_guest::IccReg;
+pub use layout::{Layout, MachineSpec};
+pub use lines::Lines;
+pub use machine::Machine;

@@ -1,0 +1,7 @@
+//! Tests of a machine.
+#![tactic(auto)]
+
+#[cfg(test)]
+mod board;
+#[cfg(test)]
+mod tests;

@@ -1,0 +1,386 @@
+//! The calls of a machine, by the addresses and the encodings that a guest uses.
+
+use crate::board::{
+    BOARD, CTLR, Call, DIR, DOWN, EOIR0, EOIR1, FIQ, HPPIR1, IAR0, IAR1, IGRPEN0, IGRPEN1, IRQ,
+    LAYOUT, NONE, Name, ONE, PMR, RPR, Row, SGI0R, SGI1R, encoding, make, play,
+};
+use gic_vm::{Done, Layout, Machine, MachineSpec, NotDone, NotMine, Refused};
+
+const GICD: u64 = 0x0800_0000;
+
+const GICD_CTLR: u64 = GICD;
+
+const GICD_IGROUPR1: u64 = GICD + 0x84;
+
+const GICD_ISENABLER1: u64 = GICD + 0x104;
+
+const GICD_ISACTIVER1: u64 = GICD + 0x304;
+
+const GICD_IPRIORITYR: u64 = GICD + 0x400;
+
+const GICD_ICFGR2: u64 = GICD + 0xC08;
+
+const GICD_IROUTER: u64 = GICD + 0x6000;
+/// The redistributor of vCPU 1.
+const GICR: u64 = 0x080C_0000;
+
+const GICR_PROPBASER: u64 = GICR + 0x70;
+
+const GICR_PENDBASER: u64 = GICR + 0x78;
+
+const GITS: u64 = 0x0808_0000;
+
+const GITS_CBASER: u64 = GITS + 0x80;
+
+const GITS_CWRITER: u64 = GITS + 0x88;
+
+const GITS_CREADR: u64 = GITS + 0x90;
+
+const GITS_TRANSLATER: u64 = GITS + 0x1_0040;
+
+/// vCPU 1 listens to both groups, with all masked. The SPIs 40, 42, 43 and 44 are of group 1, 41 of group 0; 40 and 44 have priority 0xA0, 42 and 43
+/// priority 0x80, and 41 priority 0. All are enabled, level-sensitive, and for vCPU 1.
+const SET_UP: [Row; 14] = [
+    (Call::Load(GICD_CTLR, 4), 0x50, NONE, DOWN),
+    (Call::Store(GICD_CTLR, 4, 3), 0, NONE, DOWN),
+    (Call::Store(GICD_IGROUPR1, 4, 0x1D00), 0, NONE, DOWN),
+    (
+        Call::Store(GICD_IPRIORITYR + 40, 4, 0x8080_00A0),
+        0,
+        NONE,
+        DOWN,
+    ),
+    (Call::Store(GICD_IPRIORITYR + 44, 1, 0xA0), 0, NONE, DOWN),
+    (Call::Store(GICD_ISENABLER1, 4, 0x1F00), 0, NONE, DOWN),
+    (Call::Store(GICD_IROUTER + 8 * 40, 8, 1), 0, NONE, DOWN),
+    (Call::Store(GICD_IROUTER + 8 * 41, 8, 1), 0, NONE, DOWN),
+    (Call::Store(GICD_IROUTER + 8 * 42, 8, 1), 0, NONE, DOWN),
+    (Call::Store(GICD_IROUTER + 8 * 43, 8, 1), 0, NONE, DOWN),
+    (Call::Store(GICD_IROUTER + 8 * 44, 8, 1), 0, NONE, DOWN),
+    (Call::Write(IGRPEN0, 1), 0, NONE, DOWN),
+    (Call::Write(IGRPEN1, 1), 0, NONE, DOWN),
+    (Call::Read(IAR1), 1023, NONE, DOWN),
+];
+
+/// Nothing is masked.
+const UNMASK: Row = (Call::Write(PMR, 0xF0), 0, NONE, DOWN);
+
+/// An SPI is raised, acknowledged and ended.
+const FIRST_PATH: [Row; 10] = [
+    UNMASK,
+    (Call::Wire(40, true), 0, ONE, IRQ),
+    (Call::Read(HPPIR1), 40, NONE, IRQ),
+    (Call::Read(IAR1), 40, ONE, DOWN),
+    (Call::Read(RPR), 0xA0, NONE, DOWN),
+    (Call::Load(GICD_ISACTIVER1, 4), 0x100, NONE, DOWN),
+    (Call::Wire(40, false), 0, NONE, DOWN),
+    (Call::Write(EOIR1, 40), 0, NONE, DOWN),
+    (Call::Load(GICD_ISACTIVER1, 4), 0, NONE, DOWN),
+    (Call::Read(IAR1), 1023, NONE, DOWN),
+];
+
+/// HPPIR looks at no mask, and a line does.
+const MASKED: [Row; 5] = [
+    (Call::Wire(40, true), 0, NONE, DOWN),
+    (Call::Read(HPPIR1), 40, NONE, DOWN),
+    (Call::Read(IAR1), 1023, NONE, DOWN),
+    (Call::Write(PMR, 0xF0), 0, ONE, IRQ),
+    (Call::Write(PMR, 0xA0), 0, ONE, DOWN),
+];
+
+/// A higher priority preempts, an equal one does not; a level that stays up asserts the line again.
+const PREEMPTED: [Row; 13] = [
+    UNMASK,
+    (Call::Wire(40, true), 0, ONE, IRQ),
+    (Call::Read(IAR1), 40, ONE, DOWN),
+    (Call::Wire(42, true), 0, ONE, IRQ),
+    (Call::Read(IAR1), 42, ONE, DOWN),
+    (Call::Wire(43, true), 0, NONE, DOWN),
+    (Call::Write(EOIR1, 42), 0, ONE, IRQ),
+    (Call::Read(IAR1), 42, ONE, DOWN),
+    (Call::Wire(42, false), 0, NONE, DOWN),
+    (Call::Wire(43, false), 0, NONE, DOWN),
+    (Call::Write(EOIR1, 42), 0, NONE, DOWN),
+    (Call::Write(EOIR1, 40), 0, ONE, IRQ),
+    (Call::Wire(40, false), 0, ONE, DOWN),
+];
+
+/// With EOImode an end of interrupt drops the priority alone, and DIR deactivates.
+const SPLIT: [Row; 9] = [
+    UNMASK,
+    (Call::Write(CTLR, 2), 0, NONE, DOWN),
+    (Call::Wire(40, true), 0, ONE, IRQ),
+    (Call::Read(IAR1), 40, ONE, DOWN),
+    (Call::Wire(44, true), 0, NONE, DOWN),
+    (Call::Write(EOIR1, 40), 0, ONE, IRQ),
+    (Call::Load(GICD_ISACTIVER1, 4), 0x100, NONE, IRQ),
+    (Call::Wire(44, false), 0, ONE, DOWN),
+    (Call::Write(DIR, 40), 0, ONE, IRQ),
+];
+
+/// Group 0 asserts FIQ.
+const GROUP_0: [Row; 7] = [
+    UNMASK,
+    (Call::Wire(41, true), 0, ONE, FIQ),
+    (Call::Read(IAR1), 1023, NONE, FIQ),
+    (Call::Read(IAR0), 41, ONE, DOWN),
+    (Call::Wire(40, true), 0, NONE, DOWN),
+    (Call::Wire(41, false), 0, NONE, DOWN),
+    (Call::Write(EOIR0, 41), 0, ONE, IRQ),
+];
+
+/// The level that a wire has is no second edge.
+const SAME_LEVEL: [Row; 8] = [
+    UNMASK,
+    (Call::Store(GICD_ICFGR2, 4, 0x2_0000), 0, NONE, DOWN),
+    (Call::Wire(40, true), 0, ONE, IRQ),
+    (Call::Read(IAR1), 40, ONE, DOWN),
+    (Call::Wire(40, true), 0, NONE, DOWN),
+    (Call::Write(EOIR1, 40), 0, NONE, DOWN),
+    (Call::Wire(40, false), 0, NONE, DOWN),
+    (Call::Wire(40, true), 0, ONE, IRQ),
+];
+
+/// A message, and an access of a size or at an address that no register takes.
+const ODD: [Row; 8] = [
+    UNMASK,
+    (Call::Message(40), 0, ONE, IRQ),
+    (Call::Load(GICD_CTLR, 3), 0, NONE, IRQ),
+    (Call::Load(GICD_CTLR + 2, 4), 0, NONE, IRQ),
+    (Call::Store(GICD_CTLR, 3, 0), 0, NONE, IRQ),
+    (Call::Store(GICD_CTLR, 0, 0), 0, NONE, IRQ),
+    (Call::Load(GICD_CTLR, 4), 0x53, NONE, IRQ),
+    (Call::Store(GICD_CTLR, 4, 0xFF_0000_0000), 0, ONE, DOWN),
+];
+
+/// The ITS maps event 3 of device 8 to the LPI 8195, of vCPU 1; the queue is at 0x1000, the configuration table at 0x2000.
+const MAP: [Row; 16] = [
+    (Call::Memory(0x2000, 0xA100_0000), 0, NONE, DOWN),
+    (Call::Memory(0x1000, 0x8_0000_0008), 0, NONE, DOWN),
+    (Call::Memory(0x1008, 4), 0, NONE, DOWN),
+    (Call::Memory(0x1010, 1 << 63), 0, NONE, DOWN),
+    (Call::Memory(0x1020, 0x9), 0, NONE, DOWN),
+    (Call::Memory(0x1030, 0x8000_0000_0001_0001), 0, NONE, DOWN),
+    (Call::Memory(0x1040, 0x8_0000_000A), 0, NONE, DOWN),
+    (Call::Memory(0x1048, 0x2003_0000_0003), 0, NONE, DOWN),
+    (Call::Memory(0x1050, 1), 0, NONE, DOWN),
+    (Call::Store(GICR_PROPBASER, 8, 0x200D), 0, NONE, DOWN),
+    (Call::Store(GICR_PENDBASER, 8, 1 << 62), 0, NONE, DOWN),
+    (Call::Store(GICR, 4, 1), 0, NONE, DOWN),
+    (
+        Call::Store(GITS_CBASER, 8, 0x8000_0000_0000_1000),
+        0,
+        NONE,
+        DOWN,
+    ),
+    (Call::Store(GITS, 4, 1), 0, NONE, DOWN),
+    (Call::Store(GITS_CWRITER, 8, 0x60), 0, NONE, DOWN),
+    (Call::Load(GITS_CREADR, 8), 0x60, NONE, DOWN),
+];
+
+/// A vCPU is reset while it handles an LPI: its LPIs stay enabled.
+const RESET_VCPU: [Row; 11] = [
+    UNMASK,
+    (Call::Store(GITS_TRANSLATER, 4, 3), 0, NONE, DOWN),
+    (Call::Msi(8, 3), 0, ONE, IRQ),
+    (Call::Read(IAR1), 8195, ONE, DOWN),
+    (Call::Read(RPR), 0xA0, NONE, DOWN),
+    (Call::ResetVcpu, 0, NONE, DOWN),
+    (Call::Load(GICR, 4), 1, NONE, DOWN),
+    (Call::Msi(8, 3), 0, NONE, DOWN),
+    (Call::Write(PMR, 0xF0), 0, NONE, DOWN),
+    (Call::Write(IGRPEN1, 1), 0, ONE, IRQ),
+    (Call::Read(IAR1), 8195, ONE, DOWN),
+];
+
+/// Plays rows on a machine that was set up.
+fn play_all(rt: &HostRuntime, rows: &[Row]) -> Result<(), Refused> {
+    let mut machine = Machine::open(rt.alloc(), &BOARD)?;
+    play(rt, &mut machine, &SET_UP);
+    play(rt, &mut machine, rows);
+    Ok(())
+}
+
+#[test]
+fn interrupts(rt: HostRuntime) -> Result<(), Refused> {
+    play_all(&rt, &FIRST_PATH)?;
+    play_all(&rt, &MASKED)?;
+    play_all(&rt, &PREEMPTED)?;
+    play_all(&rt, &SPLIT)?;
+    play_all(&rt, &GROUP_0)?;
+    play_all(&rt, &SAME_LEVEL)?;
+    play_all(&rt, &ODD)?;
+    Ok(())
+}
+
+#[test]
+fn vcpu_is_reset(rt: HostRuntime) -> Result<(), Refused> {
+    let mut machine = Machine::open(rt.alloc(), &BOARD)?;
+    play(&rt, &mut machine, &SET_UP);
+    play(&rt, &mut machine, &MAP);
+    play(&rt, &mut machine, &RESET_VCPU);
+    Ok(())
+}
+
+/// A route that changes takes the line of the one vCPU down, and asserts that of the other.
+#[test]
+fn route_changes(rt: HostRuntime) -> Result<(), Refused> {
+    let mut machine = Machine::open(rt.alloc(), &BOARD)?;
+    play(&rt, &mut machine, &SET_UP);
+    play(
+        &rt,
+        &mut machine,
+        &[UNMASK, (Call::Wire(40, true), 0, ONE, IRQ)],
+    );
+    for (name, value) in [(PMR, 0xF0), (IGRPEN1, 1)] {
+        let done = machine.sysreg(0, encoding(name), Some(value));
+        assert_eq!(rt;
+            done,
+            Ok(Done {
+                value: 0,
+                changed: NONE
+            })
+        );
+    }
+    let both = (Call::Store(GICD_IROUTER + 8 * 40, 8, 0), 0, 0b11, DOWN);
+    play(&rt, &mut machine, &[both]);
+    assert_eq!(rt; machine.lines(0), IRQ);
+    assert_eq!(rt; machine.lines(2), DOWN);
+    Ok(())
+}
+
+/// Addresses, and whether they are in a frame.
+const ADDRESSES: [(u64, bool); 9] = [
+    (0x07FF_FFFF, false),
+    (0x0800_FFFF, true),
+    (0x0801_0000, false),
+    (0x0807_FFFF, false),
+    (0x0809_FFFF, true),
+    (0x080D_FFFF, true),
+    (0x080E_0000, false),
+    (0x1_0800_0000, false),
+    (u64::MAX, false),
+];
+
+/// Accesses of system registers that are not done.
+const NOT_DONE: [(u32, Name, Option<u64>, NotDone); 6] = [
+    (0, SGI0R, Some(0), NotDone::NoRegister),
+    (0, (2, 0, 12, 12, 0), None, NotDone::NoRegister),
+    (2, IAR1, None, NotDone::NoRegister),
+    (0, IAR1, Some(0), NotDone::Undefined),
+    (0, EOIR1, None, NotDone::Undefined),
+    (0, SGI1R, None, NotDone::Undefined),
+];
+
+#[test]
+fn accesses_of_others(rt: HostRuntime) -> Result<(), Refused> {
+    let mut machine = Machine::open(rt.alloc(), &BOARD)?;
+    for (address, is_mine) in ADDRESSES {
+        let done = machine.mmio(0, address, 1, None);
+        assert_eq!(rt; done.is_ok(), is_mine, "at {address}");
+    }
+    assert_eq!(rt; machine.mmio(2, GICD_CTLR, 4, None), Err(NotMine));
+    assert_eq!(rt; machine.store(0x1_0000, 0), Err(NotMine));
+    assert_eq!(rt; machine.store(4, 0), Err(NotMine));
+    for (vcpu, name, write, refusal) in NOT_DONE {
+        assert_eq!(rt; machine.sysreg(vcpu, encoding(name), write), Err(refusal));
+    }
+    Ok(())
+}
+
+/// What devices cannot do: wires of an SGI, of an LPI and of what is not there, a message of a PPI.
+const NOT_THERE: [Call; 5] = [
+    Call::Wire(15, true),
+    Call::Wire(8195, true),
+    Call::Wire(64, true),
+    Call::Message(20),
+    Call::Message(64),
+];
+
+#[test]
+fn devices_that_are_not_there(rt: HostRuntime) -> Result<(), Refused> {
+    let mut machine = Machine::open(rt.alloc(), &BOARD)?;
+    for call in NOT_THERE {
+        assert_eq!(rt; make(&mut machine, call), None, "{call:?}");
+    }
+    assert_eq!(rt; machine.wire(16, 2, true), Err(Refused::NotThere));
+    assert_eq!(rt; machine.wire(16, 1, true).is_ok(), true);
+    assert_eq!(rt; machine.reset_vcpu(2), Err(Refused::NotThere));
+    let without_lpis = MachineSpec { lpis: 0, ..BOARD };
+    let mut machine = Machine::open(rt.alloc(), &without_lpis)?;
+    assert_eq!(rt; machine.msi(8, 3), Err(Refused::NotThere));
+    Ok(())
+}
+
+/// Layouts, and whether they are good.
+const LAYOUTS: [(Layout, bool); 8] = [
+    (LAYOUT, true),
+    (
+        Layout {
+            its: 0x080E_0000,
+            ..LAYOUT
+        },
+        true,
+    ),
+    (
+        Layout {
+            its: 0x080D_0000,
+            ..LAYOUT
+        },
+        false,
+    ),
+    (
+        Layout {
+            redist: 0x0807_0000,
+            ..LAYOUT
+        },
+        false,
+    ),
+    (
+        Layout {
+            dist: 0x0800_8000,
+            ..LAYOUT
+        },
+        false,
+    ),
+    (
+        Layout {
+            dist: 0xF_FFFF_FFFF_0000,
+            ..LAYOUT
+        },
+        true,
+    ),
+    (
+        Layout {
+            dist: 0x10_0000_0000_0000,
+            ..LAYOUT
+        },
+        false,
+    ),
+    (
+        Layout {
+            dist: 0xFFFF_FFFF_FFFF_0000,
+            ..LAYOUT
+        },
+        false,
+    ),
+];
+
+#[test]
+fn openings(rt: HostRuntime) -> Result<(), Refused> {
+    for (layout, is_good) in LAYOUTS {
+        let opened = Machine::open(rt.alloc(), &MachineSpec { layout, ..BOARD });
+        match opened {
+            Ok(_) => assert!(rt; is_good, "{layout:?}"),
+            Err(refusal) => {
+                assert!(rt; !is_good, "{layout:?}");
+                assert_eq!(rt; refusal, Refused::Layout);
+            }
+        }
+    }
+    for vcpus in [0, 33] {
+        let opened = Machine::open(rt.alloc(), &MachineSpec { vcpus, ..BOARD });
+        assert_eq!(rt; opened.err(), Some(Refused::Shape));
+    }
+    Ok(())
+}
