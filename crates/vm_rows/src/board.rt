@@ -1,6 +1,7 @@
 //! A board, and calls of it with what they answer.
 
 use gic_vm::{Done, Encoding, Layout, Lines, Machine, MachineSpec};
+use std::process::Abort;
 
 /// Where the frames of the board are.
 pub(crate) const LAYOUT: Layout = Layout {
@@ -123,7 +124,7 @@ pub(crate) fn make(machine: &mut Machine, call: Call) -> Option<Done> {
 }
 
 /// Makes the calls of rows, and compares what they answer.
-pub(crate) fn play(rt: &HostRuntime, machine: &mut Machine, rows: &[Row]) {
+pub(crate) fn play(rt: &impl Abort, machine: &mut Machine, rows: &[Row]) {
     for row in rows {
         let (call, value, changed, lines) = *row;
         assert_eq!(rt;

@@ -5,6 +5,8 @@ use crate::board::{
     LAYOUT, NONE, Name, ONE, PMR, RPR, Row, SGI0R, SGI1R, encoding, make, play,
 };
 use gic_vm::{Done, Layout, Machine, MachineSpec, NotDone, NotMine, Refused};
+use std::alloc::Global;
+use std::process::Abort;
 
 const GICD: u64 = 0x0800_0000;
 
@@ -194,8 +196,8 @@ const RESET_VCPU: [Row; 11] = [
 ];
 
 /// Plays rows on a machine that was set up.
-fn play_all(rt: &HostRuntime, rows: &[Row]) -> Result<(), Refused> {
-    let mut machine = Machine::open(rt.alloc(), &BOARD)?;
+fn play_all(rt: &impl Abort, alloc: Global, rows: &[Row]) -> Result<(), Refused> {
+    let mut machine = Machine::open(alloc, &BOARD)?;
     play(rt, &mut machine, &SET_UP);
     play(rt, &mut machine, rows);
     Ok(())
@@ -203,13 +205,13 @@ fn play_all(rt: &HostRuntime, rows: &[Row]) -> Result<(), Refused> {
 
 #[test]
 fn interrupts(rt: HostRuntime) -> Result<(), Refused> {
-    play_all(&rt, &FIRST_PATH)?;
-    play_all(&rt, &MASKED)?;
-    play_all(&rt, &PREEMPTED)?;
-    play_all(&rt, &SPLIT)?;
-    play_all(&rt, &GROUP_0)?;
-    play_all(&rt, &SAME_LEVEL)?;
-    play_all(&rt, &ODD)?;
+    play_all(&rt, rt.alloc(), &FIRST_PATH)?;
+    play_all(&rt, rt.alloc(), &MASKED)?;
+    play_all(&rt, rt.alloc(), &PREEMPTED)?;
+    play_all(&rt, rt.alloc(), &SPLIT)?;
+    play_all(&rt, rt.alloc(), &GROUP_0)?;
+    play_all(&rt, rt.alloc(), &SAME_LEVEL)?;
+    play_all(&rt, rt.alloc(), &ODD)?;
     Ok(())
 }
 
