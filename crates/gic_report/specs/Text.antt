@@ -2,10 +2,10 @@
 use Rattle.std.specs.Prelude.{ℕ, ◌+◌, ◌-◌, List, [], ◌∷◌, ◌++◌, length, count_by, replicate, Bool, true, false, Option, Some, None, codes, decimal}
 use Rattle.std.specs.List.{flat_map}
 use Rattle.std.specs.Fmt.{digits}
-use Rattle.gic_io.specs.Words.{Key, Private, Spi, Lpi, Icc, Mem}
 use Rattle.gic_soak.specs.ScnBase.declared.scenario.Scenario.{Scenario}
 use Rattle.gic_soak.specs.ScnBase.declared.step.Step.{Step}
-use Rattle.gic_soak.specs.ScnBase.declared.step.Step.TheVariants.{Vcpu, Device, Pe}
+pub use Rattle.scn_saved.specs.Name.{name_text}
+pub use Rattle.scn_saved.specs.Read.{is_read}
 use Rattle.gic_soak.specs.GicGuest.declared.outcome.RunOut.{RunOut}
 use Rattle.gic_soak.specs.GicGuest.declared.outcome.Answer.{Answer}
 use Rattle.gic_soak.specs.GicGuest.declared.outcome.Answer.TheVariants.{Nothing, Value, Regs}
@@ -40,12 +40,6 @@ vcpu_text (Some vcpu) = decimal vcpu
 abbrev pub trigger : Bool → List ℕ
 trigger false = codes "level"
 trigger true = codes "edge"
-
--- the name of an interrupt: the INTID, of a private one after its vCPU
-abbrev pub name_text : Key → List ℕ
-name_text (Private vcpu id) = codes "v" ++ decimal vcpu ++ codes ":" ++ decimal id
-name_text (Spi id) = decimal id
-name_text (Lpi id) = decimal id
 
 -- one of several registers in a line
 abbrev pub register_value : ℕ → List ℕ
@@ -121,15 +115,6 @@ guest_lines guest end =
 abbrev pub end_lines : ℕ → List End → List ℕ
 end_lines guest [] = []
 end_lines guest (end ∷ ends) = guest_lines guest end ++ end_lines (guest + 1) ends
-
--- the step is a vCPU's and reads
-abbrev pub is_read : Step → Bool
-is_read (Vcpu guest vcpu (Icc reg None)) = true
-is_read (Vcpu guest vcpu (Icc reg (Some value))) = false
-is_read (Vcpu guest vcpu (Mem frame offset size None)) = true
-is_read (Vcpu guest vcpu (Mem frame offset size (Some value))) = false
-is_read (Device guest device op) = false
-is_read (Pe pe op) = false
 
 -- the last line: how many steps there are, and how many of them read
 abbrev pub counts_line : List Step → List ℕ

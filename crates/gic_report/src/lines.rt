@@ -4,8 +4,9 @@ ghost use Rattle.std.specs.Prelude.{◌≡◌, ◌++◌, ℕ, OnOk, decimal, str
 ghost use Rattle.std.specs.List.{flat_map};
 ghost use Rattle.gic_report.specs.Text.{answer_line, register_value, hex, flag, vcpu_text, gicd_line, cpu_line, irq_setting, irq_line, queue_part, its_line, dev_line, evt_line, col_line};
 
-use crate::show::{Flag, Hex, Name, Trigger, Vcpu};
+use crate::show::{Flag, Hex, Trigger, Vcpu};
 use gic_soak::{Answer, ColEnd, CpuEnd, DevEnd, EvtEnd, IrqEnd, ItsEnd, LrList};
+use scn_saved::Name;
 use std::alloc::AllocError;
 use std::fmt::Write;
 

@@ -1,6 +1,5 @@
 //! How the parts of a line are written.
 
-use gic_io::Key;
 use std::fmt;
 
 /// A number in lower-case hexadecimal digits, with zeros before them up to a number of digits.
@@ -63,24 +62,6 @@ impl fmt::Display for Vcpu {
         match self.0 {
             None => write!(f, "-"),
             Some(vcpu) => write!(f, "{vcpu}"),
-        }
-    }
-}
-
-/// The name of an interrupt.
-#[derive(Clone, Copy)]
-pub(crate) struct Name(pub Key);
-
-impl fmt::Display for Name {
-    ghost use Rattle.std.specs.Prelude.{Some};
-    ghost use Rattle.gic_report.specs.Text.{name_text};
-
-    ghost output = { λ shown. Some (name_text shown.0) };
-
-    fn fmt<W: fmt::Write>(&self, f: &mut fmt::Formatter<W>) -> fmt::Result {
-        match self.0 {
-            Key::Private { vcpu, id } => write!(f, "v{vcpu}:{id}"),
-            Key::Spi(id) | Key::Lpi(id) => write!(f, "{id}"),
         }
     }
 }

@@ -1,0 +1,2 @@
+pub mod GuestLemmas
+pub mod PlainLemmas

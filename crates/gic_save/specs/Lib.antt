@@ -1,0 +1,4 @@
+pub use Rattle.scn_saved.specs as ScnSaved
+pub mod Cell
+pub mod Step
+pub mod Image
