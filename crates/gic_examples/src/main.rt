@@ -1,6 +1,9 @@
-//! Runs each scenario of a folder, and compares what is written with the text beside it.
+//! Runs each scenario of a folder, and compares what is written with the text beside it, and its picture with the SVG, where there is one.
 #![tactic(auto)]
 
+mod pictures;
+
+use crate::pictures::is_picture;
 use gic_top::{NOTHING_SHOWN, OpenGate, SureSink, SureSource, run_tool};
 use std::alloc::{AllocError, Global};
 use std::process::ExitCode;
@@ -8,10 +11,12 @@ use std::sync::Wait;
 use std::thread::Threads;
 use std::{env, fs};
 
-/// How the name of a scenario ends, and that of its text.
+/// How the name of a scenario ends, and that of its text and of its picture.
 const SCENARIO: &str = ".json";
 
 const TEXT: &str = ".txt";
+
+const PICTURE: &str = ".svg";
 
 /// How the name of a scenario begins that is run on threads. Its text is the same in every schedule.
 const ON_THREADS: &str = "threads-";
@@ -42,12 +47,12 @@ fn words_for(alloc: Global, name: &str) -> Result<Vec<String>, AllocError> {
     Ok(all)
 }
 
-/// The names of the scenarios of a folder, without their ending, in order.
-fn names_in(rt: &HostRuntime, folder: &str) -> anyhow::Result<Vec<String>> {
+/// The names in a folder that end so, without their ending, in order.
+fn names_in(rt: &HostRuntime, folder: &str, ending: &str) -> anyhow::Result<Vec<String>> {
     let mut names = Vec::new(rt.alloc());
     for entry in fs::read_dir(rt, folder)? {
         let entry = entry?;
-        if let Some(name) = entry.file_name().strip_suffix(SCENARIO) {
+        if let Some(name) = entry.file_name().strip_suffix(ending) {
             names.push(String::from_str(rt.alloc(), name)?)?;
         }
     }
@@ -85,6 +90,20 @@ fn run<R: Threads + Wait + Sync>(
     Ok((status, sink.taken() == Some(text)))
 }
 
+/// Compares each picture of a folder with its SVG: whether all are so.
+fn compare_pictures(rt: &HostRuntime, folder: &str) -> anyhow::Result<bool> {
+    let mut all = true;
+    for name in &names_in(rt, folder, PICTURE)? {
+        let input = bytes_of(rt, folder, name.as_str(), SCENARIO)?;
+        let svg = bytes_of(rt, folder, name.as_str(), PICTURE)?;
+        let is_so = is_picture(rt.alloc(), input.as_slice(), svg.as_slice())?;
+        let what = if is_so { "as drawn" } else { "otherwise" };
+        println!(rt; "{name}: picture {what}")?;
+        all &= is_so;
+    }
+    Ok(all)
+}
+
 fn main(rt: HostRuntime) -> anyhow::Result<ExitCode> {
     let words: Vec<String> = env::args(&rt)?.skip(1).collect(rt.alloc())?;
     let [folder] = words.as_slice() else {
@@ -92,7 +111,7 @@ fn main(rt: HostRuntime) -> anyhow::Result<ExitCode> {
         return Ok(ExitCode::from(2));
     };
     let mut all = true;
-    for name in &names_in(&rt, folder.as_str())? {
+    for name in &names_in(&rt, folder.as_str(), SCENARIO)? {
         let input = bytes_of(&rt, folder.as_str(), name.as_str(), SCENARIO)?;
         let text = bytes_of(&rt, folder.as_str(), name.as_str(), TEXT)?;
         let (status, is_so) = run(&rt, rt.alloc(), name.as_str(), input, text.as_slice())?;
@@ -100,6 +119,7 @@ fn main(rt: HostRuntime) -> anyhow::Result<ExitCode> {
         println!(rt; "{name}: status {status}, {what}")?;
         all &= is_so;
     }
+    all &= compare_pictures(&rt, folder.as_str())?;
     Ok(if all {
         ExitCode::SUCCESS
     } else {

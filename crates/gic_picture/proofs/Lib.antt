@@ -1,0 +1,4 @@
+pub mod ListLemmas
+pub mod NameLemmas
+pub mod TallyLemmas
+pub mod PictureLemmas
