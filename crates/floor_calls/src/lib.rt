@@ -57,6 +57,7 @@ pub use gic_call::QueueWord;
 pub use gic_call::RAISE;
 pub use gic_call::RedistReg;
 pub use gic_call::RedistRegRef;
+pub use gic_call::Route;
 pub use gic_call::RunOut;
 pub use gic_call::SGI_COUNT;
 pub use gic_call::SPURIOUS;

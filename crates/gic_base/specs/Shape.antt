@@ -16,5 +16,5 @@ pub record IsShape (shape : GuestShape) : Type 0 where
   pub espi_blocks : shape.espis % 32 ≡ 0
   pub devices : shape.devices ≤ 4
   pub lpis : shape.lpis ≤ 4096
-  pub ram : shape.ram ≤ 262144
+  pub ram : shape.ram ≤ 16777216
   pub ram_words : shape.ram % 8 ≡ 0

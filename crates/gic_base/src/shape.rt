@@ -13,8 +13,8 @@ pub const MAX_ESPIS: u32 = 1024;
 pub const MAX_DEVICES: u32 = 4;
 /// The most LPIs that a guest has.
 pub const MAX_LPIS: u32 = 4096;
-/// The most bytes of memory that a guest has.
-pub const MAX_RAM: u32 = 262144;
+/// The most bytes of memory that a guest has: room for the largest command queue, the tables of LPIs and more.
+pub const MAX_RAM: u32 = 16_777_216;
 /// A guest's memory is a multiple of this many bytes.
 pub const RAM_STEP: u32 = 8;
 
@@ -31,7 +31,7 @@ pub struct GuestShape {
     pub devices: u32,
     /// LPIs, 0 to 4096: the INTIDs 8192 to 8191 + lpis.
     pub lpis: u32,
-    /// Bytes of memory, 0 to 262144, a multiple of 8.
+    /// Bytes of memory, 0 to 16,777,216, a multiple of 8.
     pub ram: u32,
 }
 

@@ -59,6 +59,7 @@ pub use floor_registers::QueueWord;
 pub use floor_registers::RAISE;
 pub use floor_registers::RedistReg;
 pub use floor_registers::RedistRegRef;
+pub use floor_registers::Route;
 pub use floor_registers::SGI_COUNT;
 pub use floor_registers::SPURIOUS;
 pub use floor_registers::Table;

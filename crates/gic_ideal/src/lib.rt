@@ -10,7 +10,7 @@ mod shown;
 mod tests;
 
 pub use ends::end_of;
-pub use ideal_guest::IdealGuest;
+pub use ideal_guest::{IdealGuest, IrqRecords};
 pub use laws::{
     acknowledge_answers, acknowledge_runs, acknowledge_takes_cause, answer_acknowledges,
     caused_between, caused_between_reads, deactivated_between, edge_pending_exactly,

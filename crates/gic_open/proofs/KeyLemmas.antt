@@ -21,6 +21,10 @@ key_at_place shape (Lpi id) is h = grind (arith, common_steps)
 pub key_at_there : (shape : GuestShape) (place : ℕ) → IsShape shape → place < interrupt_count shape → IsTrue (has_interrupt shape (key_at shape place))
 key_at_there shape place is h = grind (arith, common_steps)
 
+-- the interrupt at a place has that place
+pub place_at : (shape : GuestShape) (place : ℕ) → IsShape shape → place < interrupt_count shape → place_of shape (key_at shape place) ≡ place
+place_at shape place is h = grind (arith, common_steps)
+
 -- two interrupts at one place are one
 pub place_same : (shape : GuestShape) (j k : Key) → IsShape shape → IsTrue (has_interrupt shape j) → IsTrue (has_interrupt shape k) → place_of shape j ≡ place_of shape k → j ≡ k
 place_same shape j k is h i e = sym (key_at_place shape j is h) ∙ ap (key_at shape) e ∙ key_at_place shape k is i

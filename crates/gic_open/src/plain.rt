@@ -41,7 +41,7 @@ pub enum PlainWord {
 pub fn plain_count(shape: &GuestShape) -> usize
     requires { IsShape shape.now }
     ensures value { result ≡ count_of shape.now }
-    ensures small { result < 2 ^ 16 }
+    ensures small { result < 2 ^ 22 }
 {
     (shape.ram / WORD_BYTES + VCPU_WORDS * shape.vcpus + ITS_WORDS) as usize
 }

@@ -6,7 +6,7 @@ ghost use Rattle.port_core.specs.Calls.{plain_count, IsGoodGuest};
 ghost use Rattle.gic_ideal.specs.IdealGuests.Opening.{opening};
 ghost use Rattle.guest_end.specs.Home.{home_irq as home_irq_of, cpus_at_home, plain_at_home, IsAtEnd, guest_of};
 
-use gic_ideal::IdealGuest;
+use gic_ideal::{IdealGuest, IrqRecords};
 use port_core::{
     CpuRec, CtlrWord, GuestEnd as End, GuestShape, GuestSpec, GuestWords, Irq, ItsTables, ListOf,
     NoMemory, PlainWord, VcpuWord, irq_unpack as unpack, place_of_plain,
@@ -87,7 +87,7 @@ fn without_tables(
     };
     Ok(IdealGuest {
         shape: spec.shape,
-        irqs: home_irqs(alloc, words.irqs.as_slice())?,
+        irqs: IrqRecords::of(alloc, home_irqs(alloc, words.irqs.as_slice())?)?,
         cpus: home_cpus(alloc, words.vcpus.as_slice(), cpus)?,
         enables: CtlrWord::of(words.ctlr).enables,
         words: home_plain(alloc, &spec.shape, queue.stalled, words.plain.as_slice())?,

@@ -8,6 +8,7 @@ pub use Rattle.floor_calls.proofs.GicWord
 pub use Rattle.floor_calls.proofs.ItsTab
 pub mod KeyLemmas
 pub mod CandidateLemmas
+pub mod PendingLemmas
 pub mod OpeningLemmas
 pub mod CanOpenLemmas
 pub mod SoundLemmas

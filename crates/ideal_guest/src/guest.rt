@@ -1,12 +1,13 @@
 //! The state of one guest.
-use floor_calls::{CpuRec, Enables, GuestShape, Irq, ItsTables, ListOf};
+use floor_calls::{CpuRec, Enables, GuestShape, ItsTables, ListOf};
+use irq_records::IrqRecords;
 
 /// The state of one guest under the ideal controller.
 #[derive(Drop)]
 pub struct IdealGuest {
     pub shape: GuestShape,
     /// The record of each interrupt, in key order.
-    pub irqs: ListOf<Irq>,
+    pub irqs: IrqRecords,
     /// The record of each vCPU's CPU interface.
     pub cpus: ListOf<CpuRec>,
     /// The group enables of GICD_CTLR.

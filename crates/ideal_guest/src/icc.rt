@@ -8,8 +8,7 @@ ghost use Rattle.ideal_guest.specs.Sound.{IsSound};
 use crate::guest::IdealGuest;
 use floor_calls::{
     Candidate, Group, IccReg, SPURIOUS, acknowledged, cpu_written, deliverable, earlier,
-    highest_pending, interrupt_count, intid_deactivated, key_at, key_of, level_activated,
-    read_plain,
+    highest_pending, intid_deactivated, key_at, key_of, level_activated, read_plain,
 };
 
 impl IdealGuest {
@@ -30,23 +29,26 @@ impl IdealGuest {
         })
     }
 
-    /// The first of all interrupts that are deliverable to the vCPU.
-    fn first(&self, vcpu: u32) -> Option<Candidate>
+    /// The first of all interrupts that are deliverable to a vCPU: the one with the highest priority, and of these the lowest INTID. It looks at those
+    /// that are pending alone. vCPUs are numbered from 0, below the shape's.
+    #[tactic(auto, using(crate::proofs::PendingLemmas::pending_within))]
+    pub fn first(&self, vcpu: u32) -> Option<Candidate>
         requires sound { IsSound self.now }
         requires there { vcpu < self.now.shape.vcpus }
         ensures { result ≡ first_of (candidates self.now vcpu) }
     {
         let mut first = None;
-        for place in 0..interrupt_count(&self.shape) {
-            if let Some(next) = self.candidate(vcpu, place) {
+        for index in 0..self.irqs.pending_count() {
+            if let Some(next) = self.candidate(vcpu, self.irqs.pending_at(index)) {
                 first = Some(earlier(first, next));
             }
         }
         first
     }
 
-    /// The candidate that a read of IAR of a group acknowledges.
-    fn answered(&self, group: Group, vcpu: u32) -> Option<Candidate>
+    /// The interrupt that a read of IAR of a group by a vCPU would acknowledge: none exactly where the read would answer 1023. vCPUs are numbered from 0,
+    /// below the shape's.
+    pub fn answered(&self, group: Group, vcpu: u32) -> Option<Candidate>
         requires sound { IsSound self.now }
         requires there { vcpu < self.now.shape.vcpus }
         ensures { result ≡ acknowledged_among group (cpu_at self.now vcpu) (candidates self.now vcpu) }

@@ -7,6 +7,7 @@ ghost use Rattle.ideal_guest.specs.Sound.{IsSound};
 
 use crate::guest::IdealGuest;
 use floor_calls::{GuestSpec, ItsTables, cpus, enables_in, irqs, opening_enables, plains};
+use irq_records::IrqRecords;
 use std::alloc::{AllocError, Global};
 
 impl IdealGuest {
@@ -24,7 +25,7 @@ impl IdealGuest {
         };
         Ok(IdealGuest {
             shape: guest.shape,
-            irqs: irqs(alloc, guest)?,
+            irqs: IrqRecords::of(alloc, irqs(alloc, guest)?)?,
             cpus: cpus(alloc, guest)?,
             enables: enables_in(opening_enables(guest.on)),
             words: plains(alloc, &guest.shape)?,

@@ -1,5 +1,5 @@
 -- The index by INTID stays the inverse of the events as they change.
-use Rattle.std.proofs.Common.{◌≡◌, ◌≢◌, ℕ, Bool, true, false, cond, Some, None, Option, IsSome, IfSome, List, ◌⊎◌, inl, inr, refl, sym, ap, ◌∙◌, subst, true≢false}
+use Rattle.std.proofs.Common.{◌≡◌, ◌≢◌, ℕ, Bool, true, false, cond, Some, None, Option, IsSome, IfSome, List, [], ◌⊎◌, inl, inr, refl, sym, ap, ◌∙◌, subst, true≢false}
 use Rattle.std.specs.Option.{option_map}
 use Rattle.std.specs.Ordering.{nat_cmp, is_eq}
 use Rattle.std.specs.Cmp.{tied_itself, nat_cmp_total}
@@ -229,3 +229,12 @@ module _ {maps seen : Maps} {owners : List (ℕ × (ℕ × ℕ))} {events : List
 pub owner_facts_of : {maps seen : Maps} (owners : List (ℕ × (ℕ × ℕ))) (id : ℕ) (owner : Option (ℕ × ℕ)) → maps ≡ seen → IsIndexed owners maps → owner ≡ lookup (is_at (nat_cmp id)) owners → OwnerFacts seen id owner
 owner_facts_of {maps} {seen} owners id owner view indexed is =
     subst (λ m. OwnerFacts m id owner) view (subst (OwnerFacts maps id) (sym (is ∙ indexed.index.inverse id)) (owner_facts maps id indexed.sound))
+
+-- where nothing is mapped, no INTID is had by an event
+pub empty_indexed : IsIndexed [] (record { devices = []; events = []; collections = [] })
+unfolding IsStrictlySortedBy
+empty_indexed =
+    record {
+      sound = record { devices = tt; events = tt; collections = tt; one_each = λ x y id a b h g. absurd (cc); of_mapped = λ event pair h. absurd (cc) };
+      index = record { ordered = tt; inverse = λ id. refl };
+    }

@@ -59,6 +59,16 @@ impl ItsTables {
         })
     }
 
+    /// Unmaps all; the room stays.
+    pub fn clear(&mut self)
+        ensures { self.new ≡ record { devices = []; events = []; collections = [] } }
+    {
+        self.devices.clear();
+        self.events.clear();
+        self.collections.clear();
+        self.owners.clear();
+    }
+
     /// Maps a device with this number of EventID bits, which replace an older number.
     pub fn map_device(&mut self, device: u32, bits: u32)
         requires range { device < 65536 }

@@ -7,6 +7,7 @@ use Rattle.std.proofs.lemmas.Bool.{ne_eqb}
 use Rattle.std.proofs.lemmas.List.Elements.{All-nil, All-cons, All-head, All-tail}
 use Rattle.floor_histories.specs.Words.{Key, Private, Spi, Lpi, Frame, Dist, Redist, Its, Ram as Memory, Kind, SetPending, ClearPending, Routing, GuestShape, IsShape, has_interrupt, interrupt_count, is_same_key, key_at, place_of, is_number}
 use Rattle.floor_histories.proofs.GicBase.KeyLemmas.{same_key}
+use Rattle.floor_histories.proofs.GicOpen.KeyLemmas.{place_at}
 use Rattle.floor_histories.specs.Registers.{has_part, Half, Enables, SetSpi, ClrSpi, Router, enables_in, message_intid, Propbaser as PropbaserReg, Pendbaser as PendbaserReg, enable_lpis_after, propbaser_bits, pendbaser_bits, half_written, Part, part_of, inserted}
 use Rattle.floor_histories.specs.GicDmap.declared.map.Reg.{Reg as DistReg}
 use Rattle.floor_histories.specs.GicDmap.declared.map.Reg.TheVariants.{Ctlr as DistCtlr, Typer as DistTyper, Iidr as DistIidr, Pidr2 as DistPidr2}
@@ -53,16 +54,13 @@ parts_apart shape (Redist vcpu) kind first write i j less key named =
 parts_apart shape Its kind first write i j less key named = refl
 parts_apart shape Memory kind first write i j less key named = refl
 
-place_again : (shape : GuestShape) (place : ℕ) → IsShape shape → place < interrupt_count shape → place_of shape (key_at shape place) ≡ place
-place_again shape place is h = grind (arith, common_steps)
-
 copies_apart : (shape : GuestShape) → IsShape shape → (i j : ℕ) → i < j → j < interrupt_count shape → (key : Key) → is_same_key key (key_at shape i) ≡ true → is_same_key key (key_at shape j) ≡ false
 copies_apart shape is i j less below key named = of (is_same_key key (key_at shape j)) refl
   where
     of : (b : Bool) → is_same_key key (key_at shape j) ≡ b → b ≡ false
     of true e =
         let same : key_at shape i ≡ key_at shape j = sym (same_key key (key_at shape i) named) ∙ same_key key (key_at shape j) e in
-        let numbers : i ≡ j = sym (place_again shape i is (omega (arith, less, below))) ∙ ap (place_of shape) same ∙ place_again shape j is below in
+        let numbers : i ≡ j = sym (place_at shape i is (omega (arith, less, below))) ∙ ap (place_of shape) same ∙ place_at shape j is below in
         absurd (omega (arith, numbers, less))
     of false e = refl
 

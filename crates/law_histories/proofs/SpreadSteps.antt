@@ -7,6 +7,7 @@ use Rattle.std.proofs.lemmas.Option.{none-some}
 use Rattle.floor_histories.specs.Words.{Key, GuestShape, has_interrupt, interrupt_count, place_of, key_at, IsShape, is_number}
 use Rattle.floor_histories.proofs.GicBase.KeyLemmas.{same_itself, other_key}
 use Rattle.floor_histories.proofs.GicOpen.KeyLemmas.{place_within, key_at_place}
+pub use Rattle.floor_histories.proofs.GicOpen.KeyLemmas.{place_at}
 use Rattle.floor_histories.specs.Registers.{Enables}
 use Rattle.floor_histories.specs.Calls.{Event, Up, Down, Touch, Reach, Take, Leave, Enable, Cpu, Put, CtlrBegin, CtlrEnd, ItsBegin, Found, Moment, Begin, Happens, Touching, Register, Enables as CopyEnables, MapLpi, copy_at}
 use Rattle.floor_histories.specs.GicCall.declared.event.Event.TheVariants.{Raise, Read, ItsEnd, Queue}
@@ -31,10 +32,6 @@ apart m n e l = omega (arith, e, l)
 
 less_not : (m n : ℕ) → m ≡ n → m < n → ⊥
 less_not m n e l = omega (arith, e, l)
-
--- the interrupt at a place has that place
-pub place_at : (shape : GuestShape) (place : ℕ) → IsShape shape → place < interrupt_count shape → place_of shape (key_at shape place) ≡ place
-place_at shape place is h = grind (arith, common_steps)
 
 -- the copies from a place on, and the end
 abbrev pub copies_from : GuestShape → Enables → ℕ → ℕ → List Event

@@ -113,7 +113,7 @@ fn plain_from(shape: &GuestShape) -> usize
 fn blocks_from(shape: &GuestShape) -> usize
     requires { IsShape shape.now }
     ensures value { result ≡ blocks_at shape.now }
-    ensures bound { result < 2 ^ 18 }
+    ensures bound { result < 2 ^ 23 }
 {
     whole_lines(plain_from(shape) + plain_count(shape))
 }
@@ -132,7 +132,7 @@ fn block_words(shape: &GuestShape) -> usize
 pub fn word_count(shape: &GuestShape) -> usize
     requires { IsShape shape.now }
     ensures value { result ≡ count_of shape.now }
-    ensures bound { result < 2 ^ 19 }
+    ensures bound { result < 2 ^ 24 }
 {
     blocks_from(shape) + shape.vcpus as usize * block_words(shape)
 }

@@ -13,6 +13,8 @@ use std::alloc::{AllocError, Global};
 pub const MAX_PES: u32 = 8;
 /// The most guests of a scenario, which has at least one.
 pub const MAX_GUESTS: usize = 4;
+/// The most bytes of memory that a guest of a written scenario has. A guest may have more.
+pub const MAX_SCENARIO_RAM: u32 = 262_144;
 /// The most steps of a scenario.
 pub const MAX_STEPS: usize = 100_000;
 
@@ -20,6 +22,7 @@ pub const MAX_STEPS: usize = 100_000;
 pub fn limits_are_fixed()
     ensures pes { MAX_PES ≡ 8 }
     ensures guests { MAX_GUESTS ≡ 4 }
+    ensures memory { MAX_SCENARIO_RAM ≡ 262144 }
     ensures steps { MAX_STEPS ≡ 100000 }
 {}
 

@@ -8,8 +8,8 @@ ghost use Rattle.scn_hint.specs.Limit.{number_of, fits as fits_in, limit_amiss a
 use crate::field::{Amiss, What};
 use gic_host::scenarios::{
     DEFAULT_TARGET, MAX_DEVICES, MAX_ESPIS, MAX_GROUP, MAX_GUESTS, MAX_LIST_REGISTERS, MAX_LPIS,
-    MAX_PES, MAX_PRIORITY, MAX_RAM, MAX_SPIS, MAX_STEPS, MAX_VCPUS, PRIVATE_COUNT, SGI_COUNT,
-    counts, flag_or, list_at, number_at, number_or,
+    MAX_PES, MAX_PRIORITY, MAX_SCENARIO_RAM, MAX_SPIS, MAX_STEPS, MAX_VCPUS, PRIVATE_COUNT,
+    SGI_COUNT, counts, flag_or, list_at, number_at, number_or,
 };
 use serde_json::Value;
 
@@ -80,7 +80,7 @@ const GUEST_LIMITS: [(&str, Limit); 6] = [
     ("espis", range!(0, MAX_ESPIS, ThirtyTwo)),
     ("devices", range!(0, MAX_DEVICES, One)),
     ("lpis", range!(0, MAX_LPIS, One)),
-    ("ram", range!(0, MAX_RAM, Eight)),
+    ("ram", range!(0, MAX_SCENARIO_RAM, Eight)),
 ];
 
 /// The ranges of a preset's numbers.

@@ -10,8 +10,8 @@ use crate::defaults::{
 use crate::preset::{Counts, presets};
 use json_field::{elements_at, flag_or, has_only, list_or_empty, number_or};
 use scn_base::{
-    GuestShape, GuestSpec, Guests, LIMIT, MAX_DEVICES, MAX_ESPIS, MAX_LPIS, MAX_RAM, MAX_SPIS,
-    MAX_VCPUS, RAM_STEP, SHAPE, SPI_STEP, both, first_code,
+    GuestShape, GuestSpec, Guests, LIMIT, MAX_DEVICES, MAX_ESPIS, MAX_LPIS, MAX_SCENARIO_RAM,
+    MAX_SPIS, MAX_VCPUS, RAM_STEP, SHAPE, SPI_STEP, both, first_code,
 };
 use serde_json::Value;
 use std::alloc::{AllocError, Global};
@@ -58,7 +58,7 @@ impl Numbers {
             && self.espis % u64::from(SPI_STEP) == 0
             && self.devices <= u64::from(MAX_DEVICES)
             && self.lpis <= u64::from(MAX_LPIS)
-            && self.ram <= u64::from(MAX_RAM)
+            && self.ram <= u64::from(MAX_SCENARIO_RAM)
             && self.ram % u64::from(RAM_STEP) == 0;
         if !is_in_range {
             return None;

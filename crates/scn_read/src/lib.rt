@@ -18,14 +18,14 @@ pub use json_field::{
     text_at,
 };
 pub use preset::{Counts, PRIVATE_FIELDS, SHARED_FIELDS};
-pub use reading::{SCENARIO_FIELDS, read};
+pub use reading::{SCENARIO_FIELDS, read, steps};
 pub use refusal::ReadRefusal;
 pub use scn_base::{
     ADDRESS, Answer, Answers, ColEnd, ColEnds, CpuEnd, CpuEnds, DevEnd, DevEnds, DeviceOp, End,
     Ends, EvtEnd, EvtEnds, Fault, Frame, GuestOp, GuestShape, GuestSpec, Guests, IccReg, IrqEnd,
     IrqEnds, ItsEnd, Key, LIMIT, ListOf, LrList, MAX_DEVICES, MAX_ESPIS, MAX_GROUP, MAX_GUESTS,
-    MAX_LIST_REGISTERS, MAX_LPIS, MAX_PES, MAX_PRIORITY, MAX_RAM, MAX_SPIS, MAX_STEPS, MAX_VCPUS,
-    Mode, NOT_LOADED, NoMemory, PE_BUSY, PE_STEP, PRIVATE_COUNT, PeOp, Preset, PresetList, RunOut,
-    SGI_COUNT, SHAPE, Scenario, Standing, Step, Steps, UNKNOWN_ACTOR, UNKNOWN_REGISTER, WIRE_LEVEL,
-    both, first_code, is_list_register_count,
+    MAX_LIST_REGISTERS, MAX_LPIS, MAX_PES, MAX_PRIORITY, MAX_SCENARIO_RAM, MAX_SPIS, MAX_STEPS,
+    MAX_VCPUS, Mode, NOT_LOADED, NoMemory, PE_BUSY, PE_STEP, PRIVATE_COUNT, PeOp, Preset,
+    PresetList, RunOut, SGI_COUNT, SHAPE, Scenario, Standing, Step, Steps, UNKNOWN_ACTOR,
+    UNKNOWN_REGISTER, WIRE_LEVEL, both, first_code, is_list_register_count,
 };

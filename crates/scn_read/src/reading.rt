@@ -1,5 +1,5 @@
 //! The reading of a scenario.
-ghost use Rattle.std.specs.Prelude.{◌≡◌, ◌≤◌, MatchResult, IfOk, IfErr, Ok, Some, length, map};
+ghost use Rattle.std.specs.Prelude.{◌≡◌, ◌≤◌, ◌+◌, MatchResult, IfOk, IfErr, Ok, Some, length, map};
 ghost use Rattle.serde_json.specs.View.{view};
 ghost use Rattle.scn_base.specs.Standing.{IsStanding};
 ghost use Rattle.scn_read.specs.Reading.{scenario_fault, steps_of, reading, Refuses, IsOpening};
@@ -66,17 +66,19 @@ fn opening(value: &Value) -> Result<Parts<'_>, u8>
     })
 }
 
-/// The steps, or the first fault of them; each is judged by the standing before it.
-fn steps(
+/// The steps that JSON values are, from a standing on; the first has the number `first`, from 1, and the last one at most 100,000. `Bad` is the first fault
+/// of them, each judged by the standing before it; where memory is refused, the answer is `NoMemory`.
+pub fn steps(
     alloc: Global,
     values: &[Value],
     mode: Mode,
     mut standing: Standing,
+    first: u32,
 ) -> Result<Steps, ReadRefusal>
     requires standing { IsStanding standing }
-    requires few { length values.now ≤ 100000 }
-    ensures ok { IfOk result (λ steps. steps_of mode standing 1 (map view values.now) ≡ Ok steps) }
-    ensures bad { IfErr result (Refuses (steps_of mode standing 1 (map view values.now))) }
+    requires few { first + length values.now ≤ 100001 }
+    ensures ok { IfOk result (λ steps. steps_of mode standing first (map view values.now) ≡ Ok steps) }
+    ensures bad { IfErr result (Refuses (steps_of mode standing first (map view values.now))) }
 {
     let mut steps = Steps::new(alloc);
     for (index, value) in values.iter().enumerate() {
@@ -88,7 +90,7 @@ fn steps(
             Err(code) => {
                 return Err(ReadRefusal::Bad(Fault {
                     code,
-                    step: FIRST_STEP + index as u32,
+                    step: first + index as u32,
                 }));
             }
         }
@@ -118,7 +120,7 @@ pub fn read(alloc: Global, value: &Value, mode: Mode) -> Result<Scenario, ReadRe
         }
     };
     let standing = Standing::opening(alloc, opening.pes, guests.as_slice())?;
-    let steps = steps(alloc, opening.steps, mode, standing)?;
+    let steps = steps(alloc, opening.steps, mode, standing, FIRST_STEP)?;
     Ok(Scenario {
         pes: opening.pes,
         lrs: opening.lrs,

@@ -1,4 +1,4 @@
-use Rattle.std.proofs.Common.{◌≡◌, ◌∙◌, ◌≤◌, ap, sym, subst, map, length, List}
+use Rattle.std.proofs.Common.{◌≡◌, ◌∙◌, ◌≤◌, ap, sym, subst, map, length, List, arith}
 use Rattle.std.specs.List.{All}
 use Rattle.std.proofs.lemmas.List.{length-map}
 use Rattle.std.proofs.lemmas.Result.{err_from_is_err_and}
@@ -18,7 +18,8 @@ pub steps-requires-clause-few : goal.steps-requires-clause-few
 steps-requires-clause-few c =
     let outside = outside_of (view c.args.value.now) (map view c.elements_at.result.now) c.opening.result c.in_ok-guests.guests c.in-Ok.parts c.opening.ensures c.elements_at.ensures c.in_ok-guests.ensures c.in-Ok.ensures in
     let few : length (map view c.in-Ok.parts.0.steps.now) ≤ 100000 = outside.opening.few in
-    simp length-map at few
+    let short : length c.in-Ok.parts.0.steps.now ≤ 100000 = simp length-map at few in
+    omega (arith, short)
 
 pub returns-in_err-steps-clause-bad : goal.returns-in_err-steps-clause-bad
 returns-in_err-steps-clause-bad c =

@@ -13,6 +13,6 @@ loop-index-preserved c =
     record {
       fine = c.follow.ensures.fine;
       steps = rw (c.in_ok-push-in-Ok.ensures.ok, c.follow.ensures.value)
-          (steps_more view c.args.mode c.loop-index.standing c.args.values.now c.loop-index.steps c.loop-index.index c.index-values-index.result (omega arith) c.index-values-index.is _ c.loop-index.invariant.steps
+          (steps_more view c.args.mode c.loop-index.standing c.args.values.now c.loop-index.steps c.args.first c.loop-index.index c.index-values-index.result (omega arith) c.index-values-index.is _ c.loop-index.invariant.steps
           c.in-Ok.step (sym c.in-Ok.ensures));
     }

@@ -10,5 +10,5 @@ abbrev pub invariant-loop-index : goal.invariant-loop-index
 invariant-loop-index l =
     record {
       fine : IsStanding l.standing;
-      steps : all_steps l.steps (steps_of l.mode l.standing (l.index + 1) (map view (drop l.index l.values))) ≡ steps_of l.mode l.fn.standing 1 (map view l.values);
+      steps : all_steps l.steps (steps_of l.mode l.standing (l.first + l.index) (map view (drop l.index l.values))) ≡ steps_of l.mode l.fn.standing l.first (map view l.values);
     }

@@ -1,14 +1,14 @@
-use Rattle.std.proofs.Common.{◌≡◌}
-use Rattle.std.specs.List.{range_with_len, filter_map}
-use Rattle.floor_calls.specs.Words.{interrupt_count}
+use Rattle.std.proofs.Common.{◌≡◌, length, take}
+use Rattle.std.specs.List.{filter_map}
 use Rattle.floor_calls.specs.Registers.{first_of}
+use Rattle.irq_records.specs.Pending.{pending_places}
 use Rattle.ideal_guest.specs.Ideal.{candidate_at}
 use Rattle.ideal_guest.proofs.guest.IdealGuest.first.Given as goal
 
--- the first of those at the places so far
-abbrev pub invariant-loop-place : goal.invariant-loop-place
-invariant-loop-place l =
+-- the first of those of the pending ones so far
+abbrev pub invariant-loop-index : goal.invariant-loop-index
+invariant-loop-index l =
     record {
-      end : l.place-end ≡ interrupt_count l.self.shape;
-      found : l.first ≡ first_of (filter_map (candidate_at l.self l.vcpu) (range_with_len 0 l.place));
+      end : l.index-end ≡ length (pending_places l.self.irqs);
+      found : l.first ≡ first_of (filter_map (candidate_at l.self l.vcpu) (take l.index (pending_places l.self.irqs)));
     }
