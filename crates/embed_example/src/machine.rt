@@ -1,5 +1,5 @@
 //! The machine: what its guest has, and where the frames of the GIC are among the guest physical addresses.
-ghost use Rattle.std.specs.Prelude.{◌<◌, IsTrue, IfSome};
+ghost use Rattle.std.specs.Prelude.{IsTrue, IfSome};
 ghost use Rattle.port_table.specs.Calls.{is_good_op as is_good_op_of};
 
 use crate::exit::Exit;
@@ -30,37 +30,32 @@ pub const GICR: u64 = 0x080A_0000;
 
 pub const DOORBELL: u64 = 0x0A00_0000;
 
-/// The bytes of their frames.
-const GICD_BYTES: u32 = 0x1_0000;
+/// Where their frames end, and the memory, which begins at 0.
+const GICD_LAST: u64 = GICD + 0xFFFF;
 
-const GITS_BYTES: u32 = 0x2_0000;
+const GITS_LAST: u64 = GITS + 0x1_FFFF;
 
-const GICR_BYTES: u32 = 0x2_0000;
+const GICR_LAST: u64 = GICR + 0x3_FFFF;
 
-/// The offset of an address in a region of so many bytes. None outside.
-fn offset_in(address: u64, base: u64, bytes: u32) -> Option<u32>
-    ensures { IfSome result (λ offset. offset < bytes) }
-{
-    let offset = address.checked_sub(base)?;
-    if offset < u64::from(bytes) {
-        return Some(offset as u32);
-    }
-    None
-}
+const RAM_LAST: u64 = 0xFFFF;
 
-/// The frame at a guest physical address, and the offset in it. None where no frame is there. Memory begins at 0.
+/// The bytes of a redistributor's frames.
+const GICR_BYTES: u64 = 0x2_0000;
+
+/// The frame at a guest physical address, and the offset in it. None where no frame is there.
 fn frame_at(address: u64) -> Option<(Frame, u32)> {
-    if let Some(offset) = offset_in(address, GICD, GICD_BYTES) {
-        return Some((Frame::Dist, offset));
-    }
-    if let Some(offset) = offset_in(address, GITS, GITS_BYTES) {
-        return Some((Frame::Its, offset));
-    }
-    if let Some(offset) = offset_in(address, GICR, SHAPE.vcpus * GICR_BYTES) {
-        let vcpu = offset / GICR_BYTES;
-        return Some((Frame::Redist { vcpu }, offset % GICR_BYTES));
-    }
-    Some((Frame::Ram, offset_in(address, 0, SHAPE.ram)?))
+    let (frame, offset) = match address {
+        0..=RAM_LAST => (Frame::Ram, address),
+        GICD..=GICD_LAST => (Frame::Dist, address - GICD),
+        GITS..=GITS_LAST => (Frame::Its, address - GITS),
+        GICR..=GICR_LAST => {
+            let offset = address - GICR;
+            let vcpu = (offset / GICR_BYTES) as u32;
+            (Frame::Redist { vcpu }, offset % GICR_BYTES)
+        }
+        _ => return None,
+    };
+    Some((frame, u32::try_from(offset).ok()?))
 }
 
 /// The operation that an exit is. None where it is none that the guest can do.

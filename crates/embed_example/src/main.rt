@@ -1,17 +1,15 @@
-//! A small VMM over the libraries of this repository: the same machine in one thread and on threads, and what its guest reads.
+//! A small VMM over the libraries of this repository: a machine whose vCPUs and device have a thread each, and what its guest reads.
 #![tactic(auto)]
 
 mod device;
 mod exit;
 mod fault;
 mod machine;
-mod one_thread;
 mod program;
 mod signals;
 mod threads;
 mod turns;
 mod vcpu;
-mod waking;
 
 use port_seq::{pending, unpack};
 use port_table::GuestWords;
@@ -40,13 +38,6 @@ fn are_idle(guest: &GuestWords) -> bool {
 
 fn main(rt: HostRuntime) -> anyhow::Result<()> {
     let (boot, other) = (program::first(), program::second());
-    println!(rt; "one thread")?;
-    let mut first = Vcpu::new(rt.alloc(), &boot)?;
-    let mut second = Vcpu::new(rt.alloc(), &other)?;
-    one_thread::run(&rt, rt.alloc(), &mut first, &mut second)?;
-    print_reads(&rt, 0, &first)?;
-    print_reads(&rt, 1, &second)?;
-    println!(rt; "threads")?;
     let mut first = Vcpu::new(rt.alloc(), &boot)?;
     let mut second = Vcpu::new(rt.alloc(), &other)?;
     let ends = threads::run(&rt, rt.alloc(), &mut first, &mut second)?;

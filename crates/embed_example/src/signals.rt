@@ -6,6 +6,7 @@ use crate::machine::DEVICE;
 use std::sync::Wait;
 use std::sync::atomic::{AtomicBool, Ordering};
 use std::thread::Parker;
+use vm_threads::Wake;
 
 /// What the threads of the machine tell one another beside the interrupts.
 #[derive(Drop)]
@@ -22,13 +23,6 @@ impl Signals {
             doorbell: AtomicBool::new(false),
             stop: AtomicBool::new(false),
             beds: [Parker::new(), Parker::new(), Parker::new()],
-        }
-    }
-
-    /// Wakes the thread of an actor, or lets it not fall asleep the next time: as an IPI to a PE does.
-    pub fn wake(&self, actor: u32) {
-        if let Some(bed) = self.beds.get(actor as usize) {
-            bed.unpark();
         }
     }
 
@@ -64,5 +58,14 @@ impl Signals {
     /// Whether all are to stop.
     pub fn is_stopped(&self) -> bool {
         self.stop.load(Ordering::SeqCst)
+    }
+}
+
+impl Wake for Signals {
+    /// Wakes the thread of an actor, or lets it not fall asleep the next time: as an IPI to a PE does.
+    fn wake(&self, actor: u32) {
+        if let Some(bed) = self.beds.get(actor as usize) {
+            bed.unpark();
+        }
     }
 }

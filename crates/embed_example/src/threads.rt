@@ -12,13 +12,13 @@ use crate::machine::SHAPE;
 use crate::signals::Signals;
 use crate::turns::TakesTurns;
 use crate::vcpu::Vcpu;
-use crate::waking::Waking;
 use port_rest::one_guest;
 use port_seq::{Actor, CorePort as Port, EndWords, Mode};
 use port_table::{RootSeat, SharedWords, finish, join, split, start};
-use std::alloc::Global;
+use std::alloc::{AllocError, Global};
 use std::sync::Wait;
 use std::thread::{Threads, join_mut};
+use vm_threads::Waking;
 
 /// A thread: one turn after the other, until all is done.
 #[tactic(auto, using(crate::proofs::SameLemmas::same_twice, crate::proofs::SameLemmas::same_here))]
@@ -114,11 +114,11 @@ fn run_all<R: Threads + Wait + Sync>(
     let mut root = root;
     let mut one = Waking {
         port: split(words, &mut root, Actor::Vcpu { guest: 0, vcpu: 0 }),
-        signals: &signals,
+        wake: &signals,
     };
     let mut two = Waking {
         port: split(words, &mut root, Actor::Vcpu { guest: 0, vcpu: 1 }),
-        signals: &signals,
+        wake: &signals,
     };
     let device = Actor::Device {
         guest: 0,
@@ -126,7 +126,7 @@ fn run_all<R: Threads + Wait + Sync>(
     };
     let mut three = Waking {
         port: split(words, &mut root, device),
-        signals: &signals,
+        wake: &signals,
     };
     run_three(rt, &mut one, &mut two, &mut three, first, second, &signals)?;
     join(words, &mut root, three.port);
@@ -157,5 +157,5 @@ pub fn run<R: Threads + Wait + Sync>(
 ) -> Result<EndWords, Fault> {
     let (words, root) = open(alloc)?;
     let root = run_all(rt, &words, root, first, second)?;
-    Ok(finish(alloc, words, root)?)
+    finish(alloc, words, root).map_err(|_| Fault::NoMemory(AllocError))
 }

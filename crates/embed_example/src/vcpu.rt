@@ -1,6 +1,6 @@
 //! The loop of a vCPU.
-ghost use Rattle.std.specs.Prelude.{◌≡◌, IfSome, OnOk};
-ghost use Rattle.pe_op.specs.PeLoop.Stay.{IsOff, IsUp};
+ghost use Rattle.std.specs.Prelude.{◌≡◌, OnOk};
+ghost use Rattle.pe_op.specs.PeLoop.Stay.{IsUp};
 ghost use Rattle.dev_port.specs.Core.{IsSameActor};
 
 use crate::exit::Exit;
@@ -8,11 +8,11 @@ use crate::fault::Fault;
 use crate::machine::{DOORBELL, LIST_REGISTERS, operation_of};
 use crate::signals::Signals;
 use crate::turns::TakesTurns;
-use pe_op::{Loaded, Shelved, enter, guest_op, icc_op, leave};
-use port_rest::is_off;
+use pe_op::{Loaded, enter, guest_op, icc_op, leave};
 use port_seq::{CorePort as Port, IccReg};
 use std::alloc::{AllocError, Global};
 use std::sync::Wait;
+use vm_threads::rest;
 
 /// What HPPIR1 reads where no interrupt of group 1 is pending.
 const NO_INTERRUPT: u64 = 1023;
@@ -38,23 +38,6 @@ enum After {
     GoesOn(Option<u64>),
     /// It waits, since no interrupt is there.
     Waits,
-}
-
-/// The vCPU of a port, which is on no PE. None where the port is no vCPU's, or it is in the middle of a call.
-fn shelved<P: Port>(port: &P) -> Option<Shelved>
-    requires { (P.seen port.now).number ≡ 0 }
-    ensures { IfSome result (λ vcpu. IsOff (P.seen port.now) vcpu) }
-{
-    let vcpu = port.actor();
-    if vcpu >= port.shape().vcpus || !is_off(port.local_ref()) {
-        return None;
-    }
-    Some(Shelved {
-        guest: 0,
-        vcpu,
-        cpu: port.local_ref().cpu,
-        next: 0,
-    })
 }
 
 /// Handles an exit of a vCPU that is on a PE.
@@ -138,9 +121,7 @@ impl TakesTurns for Vcpu {
         port: &mut P,
         signals: &Signals,
     ) -> Result<(), Fault> {
-        let Some(vcpu) = shelved(port) else {
-            return Err(Fault::NotAtRest);
-        };
+        let vcpu = rest(port, 0).ok_or(Fault::NotAtRest)?;
         let mut loaded = enter(port, vcpu, LIST_REGISTERS);
         self.run(rt, port, &mut loaded, signals)?;
         leave(port, loaded);

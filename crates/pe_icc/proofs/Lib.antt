@@ -14,3 +14,4 @@ pub mod BareLemmas
 pub mod FirstLemmas
 pub mod ReadyLemmas
 pub mod LawLemmas
+pub mod LineLemmas

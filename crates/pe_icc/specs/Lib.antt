@@ -17,3 +17,4 @@ pub mod Bare
 pub mod Ready
 pub mod First
 pub mod Laws
+pub mod Lines

@@ -41,7 +41,7 @@ fn read_by(outcome: Outcome) -> Option<u64>
 }
 
 /// Does an access on the registers of the PE. In trap mode it is done while ICH_HCR is En alone.
-fn operate(vcpu: &mut Loaded, reg: IccReg, write: Option<u64>) -> Option<u64>
+pub(crate) fn operate(vcpu: &mut Loaded, reg: IccReg, write: Option<u64>) -> Option<u64>
     requires lrs { 1 ≤ vcpu.old.regs.n × vcpu.old.regs.n ≤ 16 }
     requires direction { HasDirection reg write }
     requires enabled { has_bit vcpu.old.regs.hcr hcr_en ≡ true }

@@ -13,8 +13,9 @@ pub use claims::{Claimed, claim, claim_into};
 pub use entry::{end_scan, enter};
 pub use exit::leave;
 pub use port_call::{
-    Choice, CoreStep, Frame, Irq, Key, NoMemory, Offer, Outcome, Port, Targets, VcpuWord, WordId,
-    access, has_bit, irq_unpack as unpack, raise, sgi_intid, sgi_targets,
+    CAND_WORDS, Choice, CoreStep, Frame, Irq, Key, NoMemory, Offer, Outcome, Port, Targets,
+    VcpuWord, WordId, access, has_bit, index_bits, index_words, irq_unpack as unpack, key_of_bit,
+    raise, sgi_intid, sgi_targets,
 };
 pub use scan::look_round;
 pub use vcpu_state::{

@@ -1,0 +1,3 @@
+pub mod Rest
+pub mod Timer
+pub mod Waking
