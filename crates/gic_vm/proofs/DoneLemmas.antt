@@ -1,21 +1,19 @@
 -- What calls answer.
-use Rattle.std.proofs.Common.{◌≡◌, ℕ, ◌<◌, Bool, true, false, if◌then◌else◌, nat_lt, Option, Some, None, Result, Ok, Err, List, refl, sym, ap, ◌∙◌, lt-ltb, arith}
-use Rattle.std.specs.Option.{option_map_or}
+use Rattle.std.proofs.Common.{◌≡◌, ℕ, ◌<◌, Bool, true, false, if◌then◌else◌, nat_lt, Some, None, Result, Ok, List, sym, ap, ◌∙◌, arith}
 use Rattle.std.specs.Bool.{beq}
 use Rattle.std.proofs.lemmas.Grind.{common_steps}
-use Rattle.ideal_guest.specs.Words.{Frame, GuestOp, Key, Irq, Wire}
+use Rattle.ideal_guest.specs.Words.{Key, Wire}
 use Rattle.ideal_guest.specs.declared.guest.IdealGuest.{IdealGuest}
 use Rattle.ideal_guest.specs.Ideal.{irq_at}
 use Rattle.ideal_guest.specs.Call.{after_device}
 use Rattle.gic_vm.specs.declared.done.Done.{Done}
-use Rattle.gic_vm.specs.declared.done.NotMine.{NotMine}
 use Rattle.gic_vm.specs.declared.done.Refused.{Refused}
 use Rattle.gic_vm.specs.declared.layout.Layout.{Layout}
 use Rattle.gic_vm.specs.declared.lines.Lines.{Lines}
 use Rattle.gic_vm.specs.Lines.{lines_of, lines_in, changed_of, changed_between}
 use Rattle.gic_vm.specs.State.{MachineState}
 use Rattle.gic_vm.specs.Kept.{IsKept}
-use Rattle.gic_vm.specs.Calls.{done_by, done_in, levelled, told, op_at, place_at, mmio_answer}
+use Rattle.gic_vm.specs.Calls.{done_by, levelled, told}
 use Rattle.gic_vm.specs.Reset.{with_cpu_reset, reset_cpu_of}
 use Rattle.gic_vm.proofs.KeptLemmas.{changed_is, unchanged}
 
@@ -49,10 +47,3 @@ level_kept guest key up same = done_none guest ∙ ap (λ (b : Bool). done_by 0 
 
 pub level_moved : (guest : IdealGuest) (key : Key) (up : Bool) → beq (irq_at guest key).line up ≡ false → done_by 0 guest (after_device (Wire key up) guest) ≡ done_by 0 guest (levelled key up guest)
 level_moved guest key up other = ap (λ (b : Bool). done_by 0 guest (if b then guest else after_device (Wire key up) guest)) (sym other)
-
--- an access that is no operation
-pub mmio_none : (machine : MachineState) (vcpu address size : ℕ) (write : Option ℕ) (place : Frame × ℕ) → place_at machine vcpu address ≡ Some place → op_at place size write ≡ None → ◌≡◌ {A = Result Done NotMine} (Ok (as_done 0 0)) (mmio_answer machine vcpu address size write)
-mmio_none machine vcpu address size write place found none =
-    ap (λ (d : Done). Ok d) (done_none machine.guest)
-    ∙ ap (λ (op : Option GuestOp). Ok (done_in op machine.guest vcpu)) (sym none)
-    ∙ ap (λ (at : Option (Frame × ℕ)). option_map_or (λ place. Ok (done_in (op_at place size write) machine.guest vcpu)) at (Err (record {}))) (sym found)

@@ -1,5 +1,5 @@
 -- What a machine keeps, from one state of its guest to the next.
-use Rattle.std.proofs.Common.{◌≡◌, ◌≢◌, ℕ, ◌<◌, ◌≤◌, ◌&&◌, if◌then◌else◌, Bool, true, false, nat_lt, not, zero, suc, ◌+◌, ◌^◌, IsTrue, List, Option, option_and_then, Some, None, is_some, sym, ap, subst, ◌∙◌, refl, true≢false, arith}
+use Rattle.std.proofs.Common.{◌≡◌, ℕ, ◌≤◌, ◌&&◌, if◌then◌else◌, Bool, true, false, nat_lt, not, zero, suc, ◌+◌, ◌^◌, IsTrue, List, Option, option_and_then, Some, None, is_some, sym, ap, subst, ◌∙◌, refl, true≢false, arith}
 use Rattle.std.specs.Bool.{beq}
 use Rattle.std.proofs.lemmas.Grind.{common_steps}
 use Rattle.std.proofs.lemmas.List.{get_or_past}

@@ -1,12 +1,14 @@
 -- Places in frames are those of operations that a guest can do.
-use Rattle.std.proofs.Common.{◌≡◌, ℕ, ◌+◌, ◌-◌, ◌*◌, ◌/◌, ◌%◌, ◌<◌, ◌^◌, ◌==◌, ◌&&◌, zero, suc, if◌then◌else◌, Bool, true, false, nat_lt, IsTrue, IfSome, Option, option_map, Some, None, refl, arith}
+use Rattle.std.proofs.Common.{◌≡◌, ℕ, ◌-◌, ◌*◌, ◌/◌, ◌%◌, ◌<◌, ◌^◌, ◌==◌, ◌&&◌, zero, suc, if◌then◌else◌, Bool, true, false, nat_lt, IsTrue, IfSome, Option, option_map, Some, None, refl, arith}
 use Rattle.std.proofs.lemmas.Grind.{common_steps}
-use Rattle.ideal_guest.specs.Words.{GuestShape, Frame, Dist, Redist, Its, Ram, GuestOp, Mem, is_within}
+use Rattle.ideal_guest.specs.Words.{GuestShape, Frame, Dist, Its, is_within}
 use Rattle.ideal_guest.specs.Registers.{is_size}
 use Rattle.ideal_guest.specs.Calls.{has_frame, is_inside, fits, is_good_op}
 use Rattle.gic_vm.specs.declared.layout.Layout.{Layout}
 use Rattle.gic_vm.specs.Layout.{dist_bytes, redist_bytes, its_bytes, redist_at, frame_at, IsPlace}
-use Rattle.gic_vm.specs.Calls.{low_bytes, op_at}
+use Rattle.gic_vm.specs.declared.own.Access.{Access}
+use Rattle.gic_vm.specs.Own.{op_of}
+use Rattle.gic_vm.specs.Mmio.{low_bytes, access_of}
 
 -- the offset of what is within
 below : (first count n : ℕ) → is_within first count n ≡ true → n - first < count
@@ -45,8 +47,8 @@ low_fits size (Some value) = less (value % 2 ^ (8 * size)) (2 ^ (8 * size)) (ome
     pow_some (suc n) = omega (arith, pow_some n)
 
 -- the operation that an access of a place is can be done
-pub op_there : (shape : GuestShape) (place : Frame × ℕ) (size : ℕ) (write : Option ℕ) → IsPlace shape place → IfSome (op_at place size write) (λ op. IsTrue (is_good_op shape op))
-op_there shape place size write is = of (is_size size) refl (place.1 % size == 0)
+pub access_there : (shape : GuestShape) (place : Frame × ℕ) (size : ℕ) (write : Option ℕ) → IsPlace shape place → IfSome (access_of place size write) (λ access. IsTrue (is_good_op shape (op_of access)))
+access_there shape place size write is = of (is_size size) refl (place.1 % size == 0)
   where
     good : (a c d e : Bool) → IsTrue a → IsTrue c → IsTrue d → IsTrue e → IsTrue (a && c && d && e)
     good true true true e h i j k = k
@@ -54,7 +56,10 @@ op_there shape place size write is = of (is_size size) refl (place.1 % size == 0
     good true false d e h i j k = i
     good false c d e h i j k = h
 
-    of : (a : Bool) → is_size size ≡ a → (b : Bool) → IfSome (if a && b then Some (Mem place.0 place.1 size (option_map (low_bytes size) write)) else None) (λ op. IsTrue (is_good_op shape op))
+    access : Access
+    access = record { frame = place.0; offset = place.1; size = size; write = option_map (low_bytes size) write }
+
+    of : (a : Bool) → is_size size ≡ a → (b : Bool) → IfSome (if a && b then Some access else None) (λ access. IsTrue (is_good_op shape (op_of access)))
     of true e true = good (is_size size) (fits size (option_map (low_bytes size) write)) (has_frame shape place.0) (is_inside shape place.0 place.1 size) e (low_fits size write) is.there (is.inside size)
     of true e false = tt
     of false e b = tt

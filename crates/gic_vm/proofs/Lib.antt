@@ -4,3 +4,6 @@ pub mod LayoutLemmas
 pub mod KeptLemmas
 pub mod DoneLemmas
 pub mod ResetLemmas
+pub mod SignalLemmas
+pub mod MemoryLemmas
+pub mod MadeLemmas

@@ -1,5 +1,5 @@
 -- The lines of vCPUs, one after the other.
-use Rattle.std.proofs.Common.{◌≡◌, ◌≢◌, ℕ, ◌+◌, ◌*◌, ◌%◌, ◌^◌, ◌<◌, ◌≤◌, zero, suc, if◌then◌else◌, Bool, true, false, not, List, length, get_or, slice_set, refl, sym, ap, ◌∙◌, arith}
+use Rattle.std.proofs.Common.{◌≡◌, ℕ, ◌+◌, ◌*◌, ◌%◌, ◌^◌, ◌<◌, ◌≤◌, zero, suc, if◌then◌else◌, Bool, true, false, not, List, length, slice_set, refl, sym, ap, ◌∙◌, arith}
 use Rattle.std.proofs.Math.Pow.{pow_mono}
 use Rattle.std.proofs.lemmas.List.{get_or-set_other}
 use Rattle.ideal_guest.proofs.GicBits.SetLemmas.{set_of-below}

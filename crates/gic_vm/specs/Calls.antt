@@ -1,23 +1,20 @@
 -- What the calls of a machine make of its guest, and what they answer: each is a step of the ideal controller, or is refused.
-use Rattle.std.specs.Prelude.{ℕ, ◌%◌, ◌*◌, ◌^◌, ◌==◌, ◌&&◌, Bool, nat_lt, if◌then◌else◌, Option, Some, None, unwrap_or, option_and_then, Result, Ok, Err}
-use Rattle.std.specs.Option.{option_map, option_map_or}
+use Rattle.std.specs.Prelude.{ℕ, Bool, nat_lt, if◌then◌else◌, Option, Some, None, unwrap_or, option_and_then, Result, Ok, Err}
+use Rattle.std.specs.Option.{option_map_or}
 use Rattle.std.specs.Bool.{beq}
-use Rattle.ideal_guest.specs.Words.{Key, key_of, Frame, Ram, GuestOp, Icc, Mem, DeviceOp, Wire, IccReg}
-use Rattle.ideal_guest.specs.Registers.{is_size}
-use Rattle.ideal_guest.specs.Calls.{Value, is_good_event, has_wire, is_usable, is_inside}
+use Rattle.ideal_guest.specs.Words.{Key, key_of, GuestOp, Icc, DeviceOp, Wire, IccReg}
+use Rattle.ideal_guest.specs.Calls.{Value, is_good_event, has_wire, is_usable}
 use Rattle.ideal_guest.specs.GicGuest.declared.outcome.Answer.{Answer}
 use Rattle.ideal_guest.specs.declared.guest.IdealGuest.{IdealGuest}
 use Rattle.ideal_guest.specs.Ideal.{irq_at}
 use Rattle.ideal_guest.specs.Call.{after_op, op_answer, after_device}
 use Rattle.gic_vm.specs.declared.done.Done.{Done}
-use Rattle.gic_vm.specs.declared.done.NotMine.{NotMine}
 use Rattle.gic_vm.specs.declared.done.NotDone.{NotDone}
 use Rattle.gic_vm.specs.declared.done.NotDone.TheVariants.{NoRegister, Undefined}
 use Rattle.gic_vm.specs.declared.done.Refused.{Refused}
 use Rattle.gic_vm.specs.declared.done.Refused.TheVariants.{NotThere}
 use Rattle.gic_vm.specs.declared.encoding.Encoding.{Encoding}
 use Rattle.gic_vm.specs.Encoding.{register_at}
-use Rattle.gic_vm.specs.Layout.{frame_at}
 use Rattle.gic_vm.specs.Lines.{changed_between}
 use Rattle.gic_vm.specs.State.{MachineState, with_guest}
 
@@ -52,41 +49,11 @@ told after guest = option_map_or (λ after. Ok (done_by 0 guest after)) after (E
 abbrev pub left_by : Option IdealGuest → MachineState → MachineState
 left_by after machine = with_guest machine (unwrap_or after machine.guest)
 
--- Accesses of the frames.
-
--- the low bytes of a value, so many
-abbrev pub low_bytes : ℕ → ℕ → ℕ
-low_bytes size value = value % 2 ^ (8 * size)
-
--- the operation that an access of a place in a frame is; none where it has another size than 1, 2, 4 or 8, or is not aligned to it (own choice: such an
--- access reads 0 and writes nothing)
-abbrev pub op_at : Frame × ℕ → ℕ → Option ℕ → Option GuestOp
-op_at place size write =
-    if is_size size && place.1 % size == 0 then Some (Mem place.0 place.1 size (option_map (low_bytes size) write)) else None
-
--- the place that a vCPU of the machine accesses at an address
-abbrev pub place_at : MachineState → ℕ → ℕ → Option (Frame × ℕ)
-place_at machine vcpu address = if nat_lt vcpu machine.guest.shape.vcpus then frame_at machine.guest.shape machine.layout address else None
-
--- the guest after an operation of a vCPU, or after none
-abbrev pub after_some : Option GuestOp → IdealGuest → ℕ → IdealGuest
-after_some op guest vcpu = option_map_or (λ op. after_op op guest vcpu) op guest
-
--- what a call answers in which a vCPU does an operation, or none, which reads 0
-abbrev pub done_in : Option GuestOp → IdealGuest → ℕ → Done
-done_in op guest vcpu = done_by (option_map_or (λ op. value_in (op_answer op guest vcpu)) op 0) guest (after_some op guest vcpu)
-
--- what an access of memory-mapped registers answers: it is not the machine's outside of its frames
-abbrev pub mmio_answer : MachineState → ℕ → ℕ → ℕ → Option ℕ → Result Done NotMine
-mmio_answer machine vcpu address size write =
-    option_map_or (λ place. Ok (done_in (op_at place size write) machine.guest vcpu)) (place_at machine vcpu address) (Err (record {}))
-
--- the machine after it
-abbrev pub after_mmio : MachineState → ℕ → ℕ → ℕ → Option ℕ → MachineState
-after_mmio machine vcpu address size write =
-    option_map_or (λ place. with_guest machine (after_some (op_at place size write) machine.guest vcpu)) (place_at machine vcpu address) machine
-
 -- Accesses of the CPU interface.
+
+-- what a call answers in which a vCPU does an operation
+abbrev pub done_in : GuestOp → IdealGuest → ℕ → Done
+done_in op guest vcpu = done_by (value_in (op_answer op guest vcpu)) guest (after_op op guest vcpu)
 
 -- the operation that an access of a register is: it is undefined where the register has no such access
 abbrev pub register_op : IdealGuest → ℕ → IccReg → Option ℕ → Result GuestOp NotDone
@@ -99,16 +66,10 @@ encoded_op guest vcpu encoding write = option_map_or (λ reg. register_op guest 
 
 -- what such an access answers
 abbrev pub sysreg_answer : Result GuestOp NotDone → IdealGuest → ℕ → Result Done NotDone
-sysreg_answer (Ok op) guest vcpu = Ok (done_in (Some op) guest vcpu)
+sysreg_answer (Ok op) guest vcpu = Ok (done_in op guest vcpu)
 sysreg_answer (Err refusal) guest vcpu = Err refusal
 
 -- the machine after it
 abbrev pub after_sysreg : Result GuestOp NotDone → MachineState → ℕ → MachineState
 after_sysreg (Ok op) machine vcpu = with_guest machine (after_op op machine.guest vcpu)
 after_sysreg (Err refusal) machine vcpu = machine
-
--- The memory that the GIC reads.
-
--- the guest after a store of a doubleword of its memory, if it has that (own choice: memory is from address 0 on)
-abbrev pub stored : ℕ → ℕ → IdealGuest → Option IdealGuest
-stored address value guest = if is_inside guest.shape Ram address 8 then Some (after_op (Mem Ram address 8 (Some value)) guest 0) else None

@@ -4,6 +4,7 @@ ghost use Rattle.ideal_guest.specs.Words.{IsShape};
 ghost use Rattle.gic_vm.specs.Layout.{is_placed as is_placed_at, are_apart, is_layout, dist_region, redist_region, its_region, offset_in, redist_at as redist_found, frame_at as frame_found, IsPlace};
 ghost use Rattle.gic_vm.specs.State.{shape_of};
 
+use crate::base::MEMORY_BYTES;
 use ideal_guest::{Frame, GuestShape};
 
 /// The bytes of the distributor's frame.
@@ -37,10 +38,8 @@ pub struct MachineSpec {
     pub spis: u32,
     /// Extended SPIs, 0 to 1024, a multiple of 32: the INTIDs 4096 to 4095 + espis.
     pub espis: u32,
-    /// LPIs, 0 to 4096: the INTIDs 8192 to 8191 + lpis.
+    /// LPIs: none, or a power of two from 4 to 4096, as GICD_TYPER.num_LPIs tells it: the INTIDs 8192 to 8191 + lpis.
     pub lpis: u32,
-    /// Bytes of the memory from address 0 on in which the command queue and the tables of LPIs stand, 0 to 262144, a multiple of 8.
-    pub ram: u32,
     /// Where the frames are.
     pub layout: Layout,
 }
@@ -56,7 +55,7 @@ impl MachineSpec {
             espis: self.espis,
             devices: 0,
             lpis: self.lpis,
-            ram: self.ram,
+            ram: if self.lpis == 0 { 0 } else { MEMORY_BYTES },
         }
     }
 }

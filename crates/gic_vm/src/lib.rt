@@ -3,17 +3,26 @@
 #![tactic(auto)]
 
 mod access;
+mod base;
 mod device;
 mod done;
 mod encoding;
+mod identity;
 mod layout;
 mod lines;
 mod machine;
+mod memory;
+mod mmio;
+mod own;
 mod reset;
+mod spans;
+mod wants;
 
 pub use done::{Done, NotDone, NotMine, Refused};
 pub use encoding::Encoding;
 pub use ideal_guest::IccReg;
 pub use layout::{Layout, MachineSpec};
-pub use lines::Lines;
+pub use lines::{Lines, lines_tell_answers};
 pub use machine::Machine;
+pub use memory::GuestMemory;
+pub use spans::{Span, Wants};

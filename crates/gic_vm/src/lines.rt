@@ -1,15 +1,11 @@
 //! The interrupt lines of vCPUs.
 ghost use Rattle.std.specs.Prelude.{◌≡◌, ◌<◌};
-ghost use Rattle.ideal_guest.specs.Words.{interrupt_count as count_of};
-ghost use Rattle.ideal_guest.specs.Registers.{first_of};
-ghost use Rattle.ideal_guest.specs.Ideal.{candidate_at, candidates};
 ghost use Rattle.ideal_guest.specs.Sound.{IsSound};
 ghost use Rattle.gic_vm.specs.Lines.{lines_of as lines_at, lines_in, changed_of};
 ghost use Rattle.gic_vm.specs.Kept.{AreLinesOf};
+ghost use Rattle.gic_vm.specs.Signals.{LinesTellAnswers};
 
-use ideal_guest::{
-    Candidate, Group, IdealGuest, acknowledged, deliverable, earlier, interrupt_count, key_at,
-};
+use ideal_guest::{Group, IdealGuest, acknowledged};
 
 /// The most vCPUs that a machine has.
 pub(crate) const VCPUS: usize = 32;
@@ -29,45 +25,13 @@ pub(crate) const DOWN: Lines = Lines {
     fiq: false,
 };
 
-/// The interrupt at a place in key order, if it is deliverable to the vCPU.
-fn candidate(guest: &IdealGuest, vcpu: u32, place: usize) -> Option<Candidate>
-    requires sound { IsSound guest.now }
-    requires there { vcpu < guest.now.shape.vcpus }
-    requires within { place < count_of guest.now.shape }
-    ensures { result ≡ candidate_at guest.now vcpu place }
-{
-    let key = key_at(place, &guest.shape);
-    let irq = guest.irq(key);
-    let cpu = guest.cpu(vcpu);
-    deliverable(key, &irq, vcpu, &cpu).then_some(Candidate {
-        id: key.intid(),
-        prio: irq.prio,
-        group: irq.group,
-    })
-}
-
-/// The first of all interrupts that are deliverable to the vCPU.
-fn first(guest: &IdealGuest, vcpu: u32) -> Option<Candidate>
-    requires sound { IsSound guest.now }
-    requires there { vcpu < guest.now.shape.vcpus }
-    ensures { result ≡ first_of (candidates guest.now vcpu) }
-{
-    let mut first = None;
-    for place in 0..interrupt_count(&guest.shape) {
-        if let Some(next) = candidate(guest, vcpu, place) {
-            first = Some(earlier(first, next));
-        }
-    }
-    first
-}
-
 /// The lines of a vCPU: one look at the interrupts serves both.
 fn lines_of(guest: &IdealGuest, vcpu: u32) -> Lines
     requires sound { IsSound guest.now }
     requires there { vcpu < guest.now.shape.vcpus }
     ensures { result ≡ lines_at guest.now vcpu }
 {
-    let first = first(guest, vcpu);
+    let first = guest.first(vcpu);
     let cpu = guest.cpu(vcpu);
     Lines {
         irq: acknowledged(first, Group::G1, &cpu).is_some(),
@@ -91,3 +55,9 @@ pub(crate) fn look(guest: &IdealGuest, lines: &mut [Lines; VCPUS]) -> u32
     }
     changed
 }
+
+/// A law of every guest that the ideal controller reaches: IRQ is asserted at a vCPU exactly where its read of IAR1 would answer the INTID of an
+/// interrupt, none of the special ones, and FIQ exactly where its read of IAR0 would.
+pub fn lines_tell_answers()
+    ensures { LinesTellAnswers }
+{}

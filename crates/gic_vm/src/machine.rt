@@ -1,13 +1,15 @@
 //! A machine: its guest, its layout, and the lines of its vCPUs.
 ghost use Rattle.std.specs.Prelude.{◌≡◌, ◌<◌, IsTrue, IfOk, Err};
-ghost use Rattle.ideal_guest.specs.Words.{IsShape};
 ghost use Rattle.ideal_guest.specs.Calls.{is_good_op};
 ghost use Rattle.ideal_guest.specs.Call.{after_op};
+ghost use Rattle.gic_vm.specs.Identity.{IsMachineShape};
 ghost use Rattle.gic_vm.specs.Layout.{is_layout};
 ghost use Rattle.gic_vm.specs.Lines.{lines_of};
 ghost use Rattle.gic_vm.specs.State.{shape_of, opening_of};
 
+use crate::base::Bases;
 use crate::done::Refused;
+use crate::identity::is_lpi_count;
 use crate::layout::{Layout, MachineSpec};
 use crate::lines::{DOWN, Lines, VCPUS, look};
 use ideal_guest::{GuestSpec, IdealGuest, ListOf};
@@ -21,6 +23,7 @@ pub struct Machine {
     pub(crate) layout: Layout,
     pub(crate) guest: IdealGuest,
     pub(crate) lines: [Lines; VCPUS],
+    pub(crate) bases: Bases,
 }
 
 impl Model for Machine {
@@ -29,7 +32,7 @@ impl Model for Machine {
 
     ghost Value = { MachineState };
 
-    ghost view = { λ m. record { layout = m.layout; guest = m.guest } };
+    ghost view = { λ m. record { layout = m.layout; guest = m.guest; bases = m.bases } };
 
     ghost invariant = { λ m. IsKept m.layout m.guest m.lines };
 }
@@ -42,14 +45,14 @@ impl Machine {
     #[tactic(auto, using(crate::proofs::ResetLemmas::good_reset))]
     pub fn open(alloc: Global, spec: &MachineSpec) -> Result<Machine, Refused>
         ensures opened { IfOk result (λ machine. machine ≡ opening_of spec.now) }
-        ensures good { IfOk result (λ machine. IsShape (shape_of spec.now) × IsTrue (is_layout (shape_of spec.now) spec.now.layout)) }
-        ensures shape { result ≡ Err Refused.Shape → ¬ IsShape (shape_of spec.now) }
-        ensures layout { result ≡ Err Refused.Layout → IsShape (shape_of spec.now) × ¬ IsTrue (is_layout (shape_of spec.now) spec.now.layout) }
-        ensures memory { result ≡ Err Refused.NoMemory → IsShape (shape_of spec.now) × IsTrue (is_layout (shape_of spec.now) spec.now.layout) }
+        ensures good { IfOk result (λ machine. IsMachineShape (shape_of spec.now) × IsTrue (is_layout (shape_of spec.now) spec.now.layout)) }
+        ensures shape { result ≡ Err Refused.Shape → ¬ IsMachineShape (shape_of spec.now) }
+        ensures layout { result ≡ Err Refused.Layout → IsMachineShape (shape_of spec.now) × ¬ IsTrue (is_layout (shape_of spec.now) spec.now.layout) }
+        ensures memory { result ≡ Err Refused.NoMemory → IsMachineShape (shape_of spec.now) × IsTrue (is_layout (shape_of spec.now) spec.now.layout) }
         ensures there { ¬ (result ≡ Err Refused.NotThere) }
     {
         let shape = spec.shape();
-        if !shape.is_in_range() {
+        if !shape.is_in_range() || !is_lpi_count(shape.lpis) {
             return Err(Refused::Shape);
         }
         if !spec.layout.is_good(&shape) {
@@ -69,6 +72,7 @@ impl Machine {
             layout: spec.layout,
             guest,
             lines,
+            bases: Bases::new(),
         })
     }
 

@@ -3,9 +3,11 @@
 #![tactic(auto)]
 
 mod compare;
+mod machine;
 mod register;
 
 use crate::compare::{Outcome, Read, count, reads_of};
+use crate::machine::text_of_machine;
 use gic_top::{NOTHING_SHOWN, OpenGate, SureSink, SureSource, run_tool};
 use serde_json::Value;
 use std::alloc::Global;
@@ -86,6 +88,10 @@ fn main(rt: HostRuntime) -> anyhow::Result<ExitCode> {
     let reads = reads_of(alloc, steps.as_slice(), answers.as_slice(), text.as_str())?;
     let mut all = tell(&rt, "run, reads of IAR1", reads.as_slice(), true)?;
     all &= tell(&rt, "run, other reads", reads.as_slice(), false)?;
+    let text = text_of_machine(alloc, steps.as_slice())?;
+    let reads = reads_of(alloc, steps.as_slice(), answers.as_slice(), text.as_str())?;
+    all &= tell(&rt, "machine, reads of IAR1", reads.as_slice(), true)?;
+    all &= tell(&rt, "machine, other reads", reads.as_slice(), false)?;
     let text = text_of(&rt, alloc, &ON_THREADS, boot.as_slice())?;
     let reads = reads_of(alloc, steps.as_slice(), answers.as_slice(), text.as_str())?;
     all &= tell(&rt, "threads, other reads", reads.as_slice(), false)?;

@@ -1,6 +1,8 @@
 //! A board, and calls of it with what they answer.
 
-use gic_vm::{Done, Encoding, Layout, Lines, Machine, MachineSpec};
+ghost use Rattle.std.specs.Prelude.{⊤};
+
+use gic_vm::{Done, Encoding, GuestMemory, Layout, Lines, Machine, MachineSpec};
 use std::process::Abort;
 
 /// Where the frames of the board are.
@@ -10,13 +12,12 @@ pub(crate) const LAYOUT: Layout = Layout {
     its: 0x0808_0000,
 };
 
-/// Two vCPUs, SPIs 32 to 63, LPIs 8192 to 8207, 64 KiB of memory.
+/// Two vCPUs, SPIs 32 to 63, LPIs 8192 to 8207.
 pub(crate) const BOARD: MachineSpec = MachineSpec {
     vcpus: 2,
     spis: 32,
     espis: 0,
     lpis: 16,
-    ram: 0x1_0000,
     layout: LAYOUT,
 };
 
@@ -99,36 +100,99 @@ pub(crate) enum Call {
     Message(u32),
     /// A device sends an MSI, by its DeviceID and an EventID.
     Msi(u32, u32),
-    /// The memory has a doubleword.
+    /// The guest stores a doubleword in its memory.
     Memory(u64, u64),
     /// vCPU 1 is reset.
     ResetVcpu,
+    /// The machine is reset.
+    Reset,
+}
+
+/// Where the command queue is in the guest's memory, of one page.
+pub(crate) const QUEUE: u64 = 0x4_0000_0000;
+
+/// The bytes of a page.
+const PAGE: u64 = 0x1000;
+/// The bytes of a command.
+const COMMAND: u64 = 32;
+/// The first doubleword of SYNC, whose others may be 0.
+const SYNC: u64 = 5;
+
+/// The guest's memory: doublewords that were stored, the last one of an address last. The queue has SYNC where nothing was stored; anything else is not there.
+#[derive(Drop)]
+pub(crate) struct Memory {
+    stored: [(u64, u64); 32],
+    count: usize,
+}
+
+impl Memory {
+    /// Nothing was stored.
+    pub(crate) fn new() -> Memory {
+        Memory {
+            stored: [(0, 0); 32],
+            count: 0,
+        }
+    }
+
+    /// Stores a doubleword. There is room for 32.
+    fn store(&mut self, address: u64, value: u64) {
+        if self.count < 32 {
+            self.stored[self.count] = (address, value);
+            self.count += 1;
+        }
+    }
+}
+
+impl GuestMemory for Memory {
+    ghost may_read = { λ _ _ _. ⊤ };
+
+    fn read(&self, address: u64) -> Option<u64> {
+        let mut found = match address.checked_sub(QUEUE) {
+            Some(offset) if offset < PAGE => Some(if offset % COMMAND == 0 { SYNC } else { 0 }),
+            _ => None,
+        };
+        for (at, value) in &self.stored {
+            if *at == address && *at != 0 {
+                found = Some(*value);
+            }
+        }
+        found
+    }
 }
 
 /// A call, the value that it reads, the vCPUs whose lines it changes, and the lines of vCPU 1 after it.
 pub(crate) type Row = (Call, u64, u32, Lines);
 
 /// Makes a call. None where it is refused.
-pub(crate) fn make(machine: &mut Machine, call: Call) -> Option<Done> {
+pub(crate) fn make(machine: &mut Machine, memory: &mut Memory, call: Call) -> Option<Done> {
     match call {
-        Call::Load(address, size) => machine.mmio(1, address, size, None).ok(),
-        Call::Store(address, size, value) => machine.mmio(1, address, size, Some(value)).ok(),
+        Call::Load(address, size) => machine.mmio(1, address, size, None, memory).ok(),
+        Call::Store(address, size, value) => {
+            machine.mmio(1, address, size, Some(value), memory).ok()
+        }
         Call::Read(name) => machine.sysreg(1, encoding(name), None).ok(),
         Call::Write(name, value) => machine.sysreg(1, encoding(name), Some(value)).ok(),
         Call::Wire(intid, up) => machine.wire(intid, 1, up).ok(),
         Call::Message(spi) => machine.message(spi).ok(),
         Call::Msi(device, event) => machine.msi(device, event).ok(),
-        Call::Memory(address, value) => machine.store(address, value).ok(),
+        Call::Memory(address, value) => {
+            memory.store(address, value);
+            Some(Done {
+                value: 0,
+                changed: NONE,
+            })
+        }
         Call::ResetVcpu => machine.reset_vcpu(1).ok(),
+        Call::Reset => Some(machine.reset()),
     }
 }
 
 /// Makes the calls of rows, and compares what they answer.
-pub(crate) fn play(rt: &impl Abort, machine: &mut Machine, rows: &[Row]) {
+pub(crate) fn play(rt: &impl Abort, machine: &mut Machine, memory: &mut Memory, rows: &[Row]) {
     for row in rows {
         let (call, value, changed, lines) = *row;
         assert_eq!(rt;
-            make(machine, call),
+            make(machine, memory, call),
             Some(Done { value, changed }),
             "{call:?}"
         );

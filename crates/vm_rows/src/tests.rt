@@ -2,7 +2,7 @@
 
 use crate::board::{
     BOARD, CTLR, Call, DIR, DOWN, EOIR0, EOIR1, FIQ, HPPIR1, IAR0, IAR1, IGRPEN0, IGRPEN1, IRQ,
-    LAYOUT, NONE, Name, ONE, PMR, RPR, Row, SGI0R, SGI1R, encoding, make, play,
+    LAYOUT, Memory, NONE, Name, ONE, PMR, QUEUE, RPR, Row, SGI0R, SGI1R, encoding, make, play,
 };
 use gic_vm::{Done, Layout, Machine, MachineSpec, NotDone, NotMine, Refused};
 use std::alloc::Global;
@@ -11,6 +11,8 @@ use std::process::Abort;
 const GICD: u64 = 0x0800_0000;
 
 const GICD_CTLR: u64 = GICD;
+
+const GICD_TYPER: u64 = GICD + 4;
 
 const GICD_IGROUPR1: u64 = GICD + 0x84;
 
@@ -155,23 +157,55 @@ const ODD: [Row; 8] = [
     (Call::Store(GICD_CTLR, 4, 0xFF_0000_0000), 0, ONE, DOWN),
 ];
 
-/// The ITS maps event 3 of device 8 to the LPI 8195, of vCPU 1; the queue is at 0x1000, the configuration table at 0x2000.
-const MAP: [Row; 16] = [
-    (Call::Memory(0x2000, 0xA100_0000), 0, NONE, DOWN),
-    (Call::Memory(0x1000, 0x8_0000_0008), 0, NONE, DOWN),
-    (Call::Memory(0x1008, 4), 0, NONE, DOWN),
-    (Call::Memory(0x1010, 1 << 63), 0, NONE, DOWN),
-    (Call::Memory(0x1020, 0x9), 0, NONE, DOWN),
-    (Call::Memory(0x1030, 0x8000_0000_0001_0001), 0, NONE, DOWN),
-    (Call::Memory(0x1040, 0x8_0000_000A), 0, NONE, DOWN),
-    (Call::Memory(0x1048, 0x2003_0000_0003), 0, NONE, DOWN),
-    (Call::Memory(0x1050, 1), 0, NONE, DOWN),
-    (Call::Store(GICR_PROPBASER, 8, 0x200D), 0, NONE, DOWN),
-    (Call::Store(GICR_PENDBASER, 8, 1 << 62), 0, NONE, DOWN),
+/// The configuration table of LPIs, and the pending table of vCPU 1, in the guest's memory.
+const PROPERTIES: u64 = 0x4_0001_0000;
+
+const PENDING: u64 = 0x4_0002_0000;
+
+/// The attributes of memory in the registers that name the tables, and in that which names the queue: cacheable, inner shareable.
+const CACHED: u64 = 0x780;
+
+const QUEUE_CACHED: u64 = 0x3800_0000_0000_0400;
+
+/// The ITS maps event 3 of device 8 to the LPI 8195, of vCPU 1.
+const MAP: [Row; 18] = [
+    (Call::Memory(PROPERTIES, 0xA100_0000), 0, NONE, DOWN),
+    (Call::Memory(QUEUE, 0x8_0000_0008), 0, NONE, DOWN),
+    (Call::Memory(QUEUE + 0x8, 4), 0, NONE, DOWN),
+    (Call::Memory(QUEUE + 0x10, 1 << 63), 0, NONE, DOWN),
+    (Call::Memory(QUEUE + 0x20, 0x9), 0, NONE, DOWN),
+    (
+        Call::Memory(QUEUE + 0x30, 0x8000_0000_0001_0001),
+        0,
+        NONE,
+        DOWN,
+    ),
+    (Call::Memory(QUEUE + 0x40, 0x8_0000_000A), 0, NONE, DOWN),
+    (Call::Memory(QUEUE + 0x48, 0x2003_0000_0003), 0, NONE, DOWN),
+    (Call::Memory(QUEUE + 0x50, 1), 0, NONE, DOWN),
+    (
+        Call::Store(GICR_PROPBASER, 8, PROPERTIES + CACHED + 0xD),
+        0,
+        NONE,
+        DOWN,
+    ),
+    (
+        Call::Store(GICR_PENDBASER, 8, (1 << 62) + PENDING + CACHED),
+        0,
+        NONE,
+        DOWN,
+    ),
     (Call::Store(GICR, 4, 1), 0, NONE, DOWN),
     (
-        Call::Store(GITS_CBASER, 8, 0x8000_0000_0000_1000),
+        Call::Store(GITS_CBASER, 4, QUEUE_CACHED % (1 << 32)),
         0,
+        NONE,
+        DOWN,
+    ),
+    (Call::Store(GITS_CBASER + 4, 4, 0xB800_0004), 0, NONE, DOWN),
+    (
+        Call::Load(GITS_CBASER, 8),
+        (1 << 63) + QUEUE_CACHED + QUEUE,
         NONE,
         DOWN,
     ),
@@ -195,11 +229,80 @@ const RESET_VCPU: [Row; 11] = [
     (Call::Read(IAR1), 8195, ONE, DOWN),
 ];
 
+/// The machine is reset while one interrupt is active and the line of another is up.
+const RESET: [Row; 9] = [
+    UNMASK,
+    (Call::Wire(40, true), 0, ONE, IRQ),
+    (Call::Read(IAR1), 40, ONE, DOWN),
+    (Call::Wire(42, true), 0, ONE, IRQ),
+    (Call::Reset, 0, ONE, DOWN),
+    (Call::Load(GICD_ISACTIVER1, 4), 0, NONE, DOWN),
+    (Call::Load(GICR, 4), 0, NONE, DOWN),
+    (Call::Read(RPR), 0xFF, NONE, DOWN),
+    (Call::Msi(8, 3), 0, NONE, DOWN),
+];
+
+/// Once LPIs are enabled the tables stay where they are, and GITS_CBASER while the ITS is; INV reads the table that stays.
+const IGNORED: [Row; 14] = [
+    UNMASK,
+    (Call::Store(GICR_PROPBASER, 8, 0x9_0000_0000), 0, NONE, DOWN),
+    (Call::Store(GICR_PENDBASER + 4, 4, 9), 0, NONE, DOWN),
+    (Call::Store(GITS_CBASER, 8, 0), 0, NONE, DOWN),
+    (
+        Call::Load(GICR_PROPBASER, 8),
+        PROPERTIES + CACHED + 0xD,
+        NONE,
+        DOWN,
+    ),
+    (Call::Load(GICR_PENDBASER, 8), PENDING + CACHED, NONE, DOWN),
+    (
+        Call::Load(GITS_CBASER, 8),
+        (1 << 63) + QUEUE_CACHED + QUEUE,
+        NONE,
+        DOWN,
+    ),
+    (Call::Load(GITS_CREADR, 8), 0x60, NONE, DOWN),
+    (Call::Memory(PROPERTIES, 0x4100_0000), 0, NONE, DOWN),
+    (Call::Memory(0x9_0000_0000, 0x8100_0000), 0, NONE, DOWN),
+    (Call::Memory(QUEUE + 0x60, 0x8_0000_000C), 0, NONE, DOWN),
+    (Call::Memory(QUEUE + 0x68, 3), 0, NONE, DOWN),
+    (Call::Store(GITS_CWRITER, 4, 0x80), 0, NONE, DOWN),
+    (Call::Msi(8, 3), 0, ONE, IRQ),
+];
+
+/// The queue goes round its end: INT is its last command, and INV its first.
+const ROUND: [Row; 11] = [
+    UNMASK,
+    (Call::Store(GITS_CWRITER, 8, 0xFE0), 0, NONE, DOWN),
+    (Call::Load(GITS_CREADR, 8), 0xFE0, NONE, DOWN),
+    (Call::Memory(QUEUE + 0xFE0, 0x8_0000_0003), 0, NONE, DOWN),
+    (Call::Memory(QUEUE + 0xFE8, 3), 0, NONE, DOWN),
+    (Call::Memory(QUEUE, 0x8_0000_000C), 0, NONE, DOWN),
+    (Call::Memory(QUEUE + 8, 3), 0, NONE, DOWN),
+    (Call::Memory(PROPERTIES, 0x4100_0000), 0, NONE, DOWN),
+    (Call::Store(GITS_CWRITER, 8, 0x20), 0, ONE, IRQ),
+    (Call::Read(IAR1), 8195, ONE, DOWN),
+    (Call::Read(RPR), 0x40, NONE, DOWN),
+];
+
+/// The pending table is read as EnableLPIs rises, with PTZ 0.
+const PENDED: [Row; 5] = [
+    UNMASK,
+    (Call::Store(GICR_PENDBASER, 8, PENDING), 0, NONE, DOWN),
+    (Call::Memory(PENDING + 0x400, 8), 0, NONE, DOWN),
+    (Call::Store(GICR, 4, 1), 0, ONE, IRQ),
+    (Call::Read(IAR1), 8195, ONE, DOWN),
+];
+
+/// After it a level that is given again rises.
+const AFTER_RESET: [Row; 2] = [UNMASK, (Call::Wire(42, true), 0, ONE, IRQ)];
+
 /// Plays rows on a machine that was set up.
 fn play_all(rt: &impl Abort, alloc: Global, rows: &[Row]) -> Result<(), Refused> {
     let mut machine = Machine::open(alloc, &BOARD)?;
-    play(rt, &mut machine, &SET_UP);
-    play(rt, &mut machine, rows);
+    let mut memory = Memory::new();
+    play(rt, &mut machine, &mut memory, &SET_UP);
+    play(rt, &mut machine, &mut memory, rows);
     Ok(())
 }
 
@@ -218,9 +321,70 @@ fn interrupts(rt: HostRuntime) -> Result<(), Refused> {
 #[test]
 fn vcpu_is_reset(rt: HostRuntime) -> Result<(), Refused> {
     let mut machine = Machine::open(rt.alloc(), &BOARD)?;
-    play(&rt, &mut machine, &SET_UP);
-    play(&rt, &mut machine, &MAP);
-    play(&rt, &mut machine, &RESET_VCPU);
+    let mut memory = Memory::new();
+    play(&rt, &mut machine, &mut memory, &SET_UP);
+    play(&rt, &mut machine, &mut memory, &MAP);
+    play(&rt, &mut machine, &mut memory, &RESET_VCPU);
+    Ok(())
+}
+
+#[test]
+fn machine_is_reset(rt: HostRuntime) -> Result<(), Refused> {
+    let mut machine = Machine::open(rt.alloc(), &BOARD)?;
+    let mut memory = Memory::new();
+    play(&rt, &mut machine, &mut memory, &SET_UP);
+    play(&rt, &mut machine, &mut memory, &MAP);
+    play(&rt, &mut machine, &mut memory, &RESET);
+    play(&rt, &mut machine, &mut memory, &SET_UP);
+    play(&rt, &mut machine, &mut memory, &AFTER_RESET);
+    Ok(())
+}
+
+#[test]
+fn queue_in_the_guests_memory(rt: HostRuntime) -> Result<(), Refused> {
+    for rows in [&IGNORED[..], &ROUND] {
+        let mut machine = Machine::open(rt.alloc(), &BOARD)?;
+        let mut memory = Memory::new();
+        play(&rt, &mut machine, &mut memory, &SET_UP);
+        play(&rt, &mut machine, &mut memory, &MAP);
+        play(&rt, &mut machine, &mut memory, rows);
+    }
+    Ok(())
+}
+
+/// LPIs are enabled after their events are mapped.
+#[test]
+fn pending_table(rt: HostRuntime) -> Result<(), Refused> {
+    let mut machine = Machine::open(rt.alloc(), &BOARD)?;
+    let mut memory = Memory::new();
+    play(&rt, &mut machine, &mut memory, &SET_UP);
+    for row in MAP {
+        if !matches!(row.0, Call::Store(GICR, _, _)) {
+            play(&rt, &mut machine, &mut memory, &[row]);
+        }
+    }
+    play(&rt, &mut machine, &mut memory, &PENDED);
+    Ok(())
+}
+
+/// GICD_TYPER tells the LPIs: 2^(num_LPIs + 1).
+#[test]
+fn numbers_of_lpis(rt: HostRuntime) -> Result<(), Refused> {
+    for (lpis, is_good, number) in LPIS {
+        let opened = Machine::open(rt.alloc(), &MachineSpec { lpis, ..BOARD });
+        match opened {
+            Ok(mut machine) => {
+                assert!(rt; is_good, "{lpis}");
+                let done = machine.mmio(0, GICD_TYPER, 4, None, &Memory::new());
+                let told = done.map_or(0, |done| done.value >> 11 & 0x1F);
+                assert_eq!(rt; told, number, "{lpis}");
+            }
+            Err(refusal) => {
+                assert!(rt; !is_good, "{lpis}");
+                assert_eq!(rt; refusal, Refused::Shape);
+            }
+        }
+    }
     Ok(())
 }
 
@@ -228,10 +392,12 @@ fn vcpu_is_reset(rt: HostRuntime) -> Result<(), Refused> {
 #[test]
 fn route_changes(rt: HostRuntime) -> Result<(), Refused> {
     let mut machine = Machine::open(rt.alloc(), &BOARD)?;
-    play(&rt, &mut machine, &SET_UP);
+    let mut memory = Memory::new();
+    play(&rt, &mut machine, &mut memory, &SET_UP);
     play(
         &rt,
         &mut machine,
+        &mut memory,
         &[UNMASK, (Call::Wire(40, true), 0, ONE, IRQ)],
     );
     for (name, value) in [(PMR, 0xF0), (IGRPEN1, 1)] {
@@ -245,7 +411,7 @@ fn route_changes(rt: HostRuntime) -> Result<(), Refused> {
         );
     }
     let both = (Call::Store(GICD_IROUTER + 8 * 40, 8, 0), 0, 0b11, DOWN);
-    play(&rt, &mut machine, &[both]);
+    play(&rt, &mut machine, &mut memory, &[both]);
     assert_eq!(rt; machine.lines(0), IRQ);
     assert_eq!(rt; machine.lines(2), DOWN);
     Ok(())
@@ -277,13 +443,12 @@ const NOT_DONE: [(u32, Name, Option<u64>, NotDone); 6] = [
 #[test]
 fn accesses_of_others(rt: HostRuntime) -> Result<(), Refused> {
     let mut machine = Machine::open(rt.alloc(), &BOARD)?;
+    let mut memory = Memory::new();
     for (address, is_mine) in ADDRESSES {
-        let done = machine.mmio(0, address, 1, None);
+        let done = machine.mmio(0, address, 1, None, &memory);
         assert_eq!(rt; done.is_ok(), is_mine, "at {address}");
     }
-    assert_eq!(rt; machine.mmio(2, GICD_CTLR, 4, None), Err(NotMine));
-    assert_eq!(rt; machine.store(0x1_0000, 0), Err(NotMine));
-    assert_eq!(rt; machine.store(4, 0), Err(NotMine));
+    assert_eq!(rt; machine.mmio(2, GICD_CTLR, 4, None, &memory), Err(NotMine));
     for (vcpu, name, write, refusal) in NOT_DONE {
         assert_eq!(rt; machine.sysreg(vcpu, encoding(name), write), Err(refusal));
     }
@@ -302,17 +467,31 @@ const NOT_THERE: [Call; 5] = [
 #[test]
 fn devices_that_are_not_there(rt: HostRuntime) -> Result<(), Refused> {
     let mut machine = Machine::open(rt.alloc(), &BOARD)?;
+    let mut memory = Memory::new();
     for call in NOT_THERE {
-        assert_eq!(rt; make(&mut machine, call), None, "{call:?}");
+        assert_eq!(rt; make(&mut machine, &mut memory, call), None, "{call:?}");
     }
     assert_eq!(rt; machine.wire(16, 2, true), Err(Refused::NotThere));
     assert_eq!(rt; machine.wire(16, 1, true).is_ok(), true);
     assert_eq!(rt; machine.reset_vcpu(2), Err(Refused::NotThere));
     let without_lpis = MachineSpec { lpis: 0, ..BOARD };
     let mut machine = Machine::open(rt.alloc(), &without_lpis)?;
+    let mut memory = Memory::new();
     assert_eq!(rt; machine.msi(8, 3), Err(Refused::NotThere));
     Ok(())
 }
+
+/// Numbers of LPIs, whether a machine can have so many, and num_LPIs of it.
+const LPIS: [(u32, bool, u64); 8] = [
+    (0, true, 0),
+    (2, false, 0),
+    (4, true, 1),
+    (12, false, 0),
+    (16, true, 3),
+    (2048, true, 10),
+    (4096, true, 11),
+    (8192, false, 0),
+];
 
 /// Layouts, and whether they are good.
 const LAYOUTS: [(Layout, bool); 8] = [

@@ -1,4 +1,4 @@
-use Rattle.std.proofs.Common.{◌≡◌, ◌<◌, not, ℕ, ◌+◌, ◌*◌, ◌≤◌, ◌%◌, ◌^◌, length, ◌∙◌, arith}
+use Rattle.std.proofs.Common.{◌≡◌, ◌<◌, not, ◌+◌, ◌*◌, ◌%◌, ◌^◌, ◌∙◌, arith}
 use Rattle.std.proofs.lemmas.List.{length-set}
 use Rattle.gic_vm.specs.Lines.{lines_of, is_same_lines, lines_in}
 use Rattle.gic_vm.proofs.LineLemmas.{sum_fits, differ_is, lines_now, lines_before, changed_more, changed_same, changed_below}

@@ -1,4 +1,4 @@
-use Rattle.std.proofs.Common.{◌≡◌, ap, refl}
+use Rattle.std.proofs.Common.{ap, refl}
 use Rattle.ideal_guest.specs.Call.{after_device}
 use Rattle.gic_vm.specs.State.{MachineState}
 use Rattle.gic_vm.proofs.DoneLemmas.{done_is}

@@ -1,4 +1,4 @@
-use Rattle.std.proofs.Common.{◌≡◌, Bool, true, false, sym, ap, ◌∙◌}
+use Rattle.std.proofs.Common.{◌≡◌, sym, ap, ◌∙◌}
 use Rattle.std.specs.Bool.{beq}
 use Rattle.ideal_guest.specs.Words.{Irq}
 use Rattle.ideal_guest.specs.declared.guest.IdealGuest.{IdealGuest}
