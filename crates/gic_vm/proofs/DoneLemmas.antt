@@ -9,7 +9,7 @@ use Rattle.ideal_guest.specs.Call.{after_device}
 use Rattle.gic_vm.specs.declared.done.Done.{Done}
 use Rattle.gic_vm.specs.declared.done.Refused.{Refused}
 use Rattle.gic_vm.specs.declared.layout.Layout.{Layout}
-use Rattle.gic_vm.specs.declared.lines.Lines.{Lines}
+use Rattle.gic_line.specs.declared.lines.Lines.{Lines}
 use Rattle.gic_vm.specs.Lines.{lines_of, lines_in, changed_of, changed_between}
 use Rattle.gic_vm.specs.State.{MachineState}
 use Rattle.gic_vm.specs.Kept.{IsKept}

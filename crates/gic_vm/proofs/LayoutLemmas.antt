@@ -6,8 +6,8 @@ use Rattle.ideal_guest.specs.Registers.{is_size}
 use Rattle.ideal_guest.specs.Calls.{has_frame, is_inside, fits, is_good_op}
 use Rattle.gic_vm.specs.declared.layout.Layout.{Layout}
 use Rattle.gic_vm.specs.Layout.{dist_bytes, redist_bytes, its_bytes, redist_at, frame_at, IsPlace}
-use Rattle.gic_vm.specs.declared.own.Access.{Access}
-use Rattle.gic_vm.specs.Own.{op_of}
+use Rattle.guest_memory.specs.declared.access.Access.{Access}
+use Rattle.guest_memory.specs.Access.{op_of}
 use Rattle.gic_vm.specs.Mmio.{low_bytes, access_of}
 
 -- the offset of what is within

@@ -1,9 +1,7 @@
-pub mod ListLemmas
 pub mod LineLemmas
 pub mod LayoutLemmas
 pub mod KeptLemmas
 pub mod DoneLemmas
 pub mod ResetLemmas
 pub mod SignalLemmas
-pub mod MemoryLemmas
 pub mod MadeLemmas

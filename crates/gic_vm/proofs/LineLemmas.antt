@@ -3,9 +3,9 @@ use Rattle.std.proofs.Common.{◌≡◌, ℕ, ◌+◌, ◌*◌, ◌%◌, ◌^◌
 use Rattle.std.proofs.Math.Pow.{pow_mono}
 use Rattle.std.proofs.lemmas.List.{get_or-set_other}
 use Rattle.ideal_guest.proofs.GicBits.SetLemmas.{set_of-below}
-use Rattle.gic_vm.specs.declared.lines.Lines.{Lines}
+use Rattle.gic_line.specs.declared.lines.Lines.{Lines}
 use Rattle.gic_vm.specs.Lines.{is_same_lines, lines_in, down, changed_of}
-use Rattle.gic_vm.proofs.ListLemmas.{put_next}
+use Rattle.guest_memory.proofs.ListLemmas.{put_next}
 
 -- one more number of a set fits a word
 pub sum_fits : (x n : ℕ) → n < 32 → x < 2 ^ n → x + 1 * 2 ^ n % 2 ^ 32 < 2 ^ 32

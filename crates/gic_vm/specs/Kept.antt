@@ -3,7 +3,7 @@ use Rattle.std.specs.Prelude.{◌≡◌, ◌<◌, ℕ, List, IsTrue}
 use Rattle.ideal_guest.specs.declared.guest.IdealGuest.{IdealGuest}
 use Rattle.ideal_guest.specs.Sound.{IsSound}
 use Rattle.gic_vm.specs.declared.layout.Layout.{Layout}
-use Rattle.gic_vm.specs.declared.lines.Lines.{Lines}
+use Rattle.gic_line.specs.declared.lines.Lines.{Lines}
 use Rattle.gic_vm.specs.Layout.{is_layout}
 use Rattle.gic_vm.specs.Lines.{lines_of, lines_in}
 

@@ -1,4 +1,6 @@
 pub use Rattle.ideal_guest.specs as IdealGuest
+pub use Rattle.gic_line.specs as GicLine
+pub use Rattle.guest_memory.specs as GuestMemory
 pub mod Layout
 pub mod Encoding
 pub mod Lines
@@ -7,9 +9,7 @@ pub mod Kept
 pub mod Calls
 pub mod Signals
 pub mod Identity
-pub mod Bases
 pub mod Own
-pub mod Memory
 pub mod Mmio
 pub mod Wants
 pub mod Reset

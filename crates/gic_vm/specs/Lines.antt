@@ -1,20 +1,16 @@
--- The interrupt lines of vCPUs (IHI 0069, "Interrupt signaling": group 0 signals FIQ, group 1 IRQ).
-use Rattle.std.specs.Prelude.{ℕ, ◌&&◌, Bool, not, false, None, is_some, List}
+-- The interrupt lines of a machine's vCPUs (IHI 0069, "Interrupt signaling").
+use Rattle.std.specs.Prelude.{ℕ, ◌&&◌, Bool, not, false, List}
 use Rattle.std.specs.List.{slice_index_or}
 use Rattle.std.specs.Bool.{beq}
-use Rattle.ideal_guest.specs.Words.{Iar0, Iar1, set_of}
-use Rattle.ideal_guest.specs.Registers.{taken_by}
+use Rattle.ideal_guest.specs.Words.{set_of}
 use Rattle.ideal_guest.specs.declared.guest.IdealGuest.{IdealGuest}
 use Rattle.ideal_guest.specs.Ideal.{cpu_at, candidates}
-use Rattle.gic_vm.specs.declared.lines.Lines.{Lines}
+use Rattle.gic_line.specs.declared.lines.Lines.{Lines}
+use Rattle.gic_line.specs.Lines.{lines_by}
 
--- IRQ is asserted exactly where a read of IAR1 by the vCPU would acknowledge an interrupt now, and FIQ where one of IAR0 would
+-- the lines of a vCPU of a guest, by the interrupts that can be delivered to it
 abbrev pub lines_of : IdealGuest → ℕ → Lines
-lines_of guest vcpu =
-    record {
-      irq = is_some (taken_by Iar1 None (cpu_at guest vcpu) (candidates guest vcpu));
-      fiq = is_some (taken_by Iar0 None (cpu_at guest vcpu) (candidates guest vcpu));
-    }
+lines_of guest vcpu = lines_by (cpu_at guest vcpu) (candidates guest vcpu)
 
 -- the lines are alike
 abbrev pub is_same_lines : Lines → Lines → Bool

@@ -4,12 +4,12 @@ use Rattle.std.specs.Option.{option_map, option_map_or}
 use Rattle.ideal_guest.specs.Words.{Frame}
 use Rattle.ideal_guest.specs.Registers.{is_size}
 use Rattle.gic_vm.specs.declared.done.Done.{Done}
-use Rattle.gic_vm.specs.declared.base.Bases.{Bases}
-use Rattle.gic_vm.specs.declared.own.Access.{Access}
+use Rattle.guest_memory.specs.declared.access.Access.{Access}
 use Rattle.gic_vm.specs.Layout.{frame_at}
 use Rattle.ideal_guest.specs.declared.guest.IdealGuest.{IdealGuest}
 use Rattle.gic_vm.specs.State.{MachineState, with_guest}
-use Rattle.gic_vm.specs.Memory.{IsCopied}
+use Rattle.guest_memory.specs.Memory.{IsCopied}
+use Rattle.guest_memory.specs.Wants.{Wanted, wanted_by}
 use Rattle.gic_vm.specs.Calls.{done_by}
 use Rattle.gic_vm.specs.Own.{after_access, access_read}
 
@@ -39,14 +39,14 @@ after_some access machine vcpu = option_map_or (λ access. after_access access m
 abbrev pub read_some : Option Access → MachineState → ℕ → ℕ
 read_some access machine vcpu = option_map_or (λ access. access_read access machine vcpu) access 0
 
--- before an access, or none, the guest is as it was but for what the GIC may read
-abbrev pub IsReady : (ℕ → Option ℕ → Type 0) → Bases → Option Access → IdealGuest → IdealGuest → Type 0
-IsReady May bases None before after = after ≡ before
-IsReady May bases (Some access) before after = IsCopied May bases access before after
+-- before an access, or none, the guest is as it was but for what the GIC may read, by reads of addresses that the access wants
+abbrev pub IsReady : (ℕ → Option ℕ → Type 0) → Option Access → MachineState → IdealGuest → Type 0
+IsReady May None machine copied = copied ≡ machine.guest
+IsReady May (Some access) machine copied = IsCopied (Wanted (wanted_by machine.guest machine.bases access) May) machine.bases access machine.guest copied
 
 -- an access, or none, is made of a machine, and answered: what the GIC may read was copied first, of answers that reads of the guest's memory may have
 pub record IsMade (May : ℕ → Option ℕ → Type 0) (access : Option Access) (vcpu : ℕ) (before after : MachineState) (done : Done) : Type 0 where
   pub copied : IdealGuest
-  pub ready : IsReady May before.bases access before.guest copied
+  pub ready : IsReady May access before copied
   pub machine : after ≡ after_some access (with_guest before copied) vcpu
   pub answers : done ≡ done_by (read_some access (with_guest before copied) vcpu) before.guest after.guest

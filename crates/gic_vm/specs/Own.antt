@@ -1,6 +1,6 @@
 -- Accesses of the registers that a machine answers itself, and of all others, which are the ideal controller's.
 use Rattle.std.specs.Prelude.{ℕ, not, Bool, if◌then◌else◌, Option, Some, None}
-use Rattle.ideal_guest.specs.Words.{GuestShape, Frame, Dist, Redist, Its, Ram, GuestOp, Mem}
+use Rattle.ideal_guest.specs.Words.{GuestShape, Frame, Dist, Redist, Its, Ram}
 use Rattle.ideal_guest.specs.Registers.{Half, half_read, half_written, has_lpis}
 use Rattle.ideal_guest.specs.GicDmap.declared.map.RegRef.{RegRef as DistRef}
 use Rattle.ideal_guest.specs.GicDmap.declared.map.RegRef.TheVariants.{Plain as DistPlain}
@@ -18,20 +18,17 @@ use Rattle.ideal_guest.specs.Calls.{is_its_enabled}
 use Rattle.ideal_guest.specs.declared.guest.IdealGuest.{IdealGuest}
 use Rattle.ideal_guest.specs.Ideal.{cpu_at, view_of}
 use Rattle.ideal_guest.specs.Call.{after_op, op_answer}
-use Rattle.gic_vm.specs.declared.base.Base.{Base}
-use Rattle.gic_vm.specs.declared.base.Bases.{Bases}
-use Rattle.gic_vm.specs.declared.base.Base.TheVariants.{Queue, Properties, Pending}
+use Rattle.guest_memory.specs.declared.base.Base.{Base}
+use Rattle.guest_memory.specs.declared.base.Bases.{Bases}
+use Rattle.guest_memory.specs.declared.base.Base.TheVariants.{Queue, Properties, Pending}
 use Rattle.gic_vm.specs.declared.own.Own.{Own}
 use Rattle.gic_vm.specs.declared.own.Own.TheVariants.{Typer, Of}
-use Rattle.gic_vm.specs.declared.own.Access.{Access}
+use Rattle.guest_memory.specs.declared.access.Access.{Access}
 use Rattle.gic_vm.specs.Identity.{typer_told}
-use Rattle.gic_vm.specs.Bases.{kept_of, read_of, placed_of, vcpu_of, base_in, with_base}
+use Rattle.guest_memory.specs.Bases.{kept_of, read_of, placed_op, vcpu_of, base_in, with_base}
+use Rattle.guest_memory.specs.Access.{op_of}
 use Rattle.gic_vm.specs.State.{MachineState, with_guest}
 use Rattle.gic_vm.specs.Calls.{value_in}
-
--- the operation of the ideal controller that an access is
-abbrev pub op_of : Access → GuestOp
-op_of access = Mem access.frame access.offset access.size access.write
 
 -- the register that the machine answers itself, by what an access is to in each frame
 abbrev pub own_in_dist : DistRef → Option Own
@@ -75,17 +72,6 @@ takes_base guest Queue = not (is_its_enabled (view_of guest))
 takes_base guest (Properties vcpu) = not (cpu_at guest vcpu).lpis
 takes_base guest (Pending vcpu) = not (cpu_at guest vcpu).lpis
 
--- where the register is, and its offset there
-abbrev pub frame_of : Base → Frame
-frame_of Queue = Its
-frame_of (Properties vcpu) = Redist vcpu
-frame_of (Pending vcpu) = Redist vcpu
-
-abbrev pub offset_of : Base → ℕ
-offset_of Queue = 0x80
-offset_of (Properties vcpu) = 0x70
-offset_of (Pending vcpu) = 0x78
-
 -- what a register keeps after a write of a half
 abbrev pub kept_after : MachineState → Base → Half → ℕ → ℕ
 kept_after machine base half value = kept_of base (half_written half (base_in machine.bases base) value)
@@ -93,10 +79,6 @@ kept_after machine base half value = kept_of base (half_written half (base_in ma
 -- the registers after such a write
 abbrev pub bases_after : MachineState → Base → ℕ → Bases
 bases_after machine base kept = if takes_base machine.guest base then with_base machine.bases base kept else machine.bases
-
--- the operation by which the ideal controller's register is written the place that stands for the guest's address
-abbrev pub placed_op : Base → ℕ → GuestOp
-placed_op base kept = Mem (frame_of base) (offset_of base) 8 (Some (placed_of base kept))
 
 -- the machine after such a write: the ideal controller's register ignores it where it is ignored here
 abbrev pub after_base : Base → Half → ℕ → MachineState → ℕ → MachineState

@@ -4,7 +4,7 @@ use Rattle.ideal_guest.specs.Calls.{opening_cpu}
 use Rattle.ideal_guest.specs.declared.guest.IdealGuest.{IdealGuest}
 use Rattle.ideal_guest.specs.Ideal.{cpu_at, with_cpu}
 use Rattle.ideal_guest.specs.Opening.{opening}
-use Rattle.gic_vm.specs.Bases.{no_bases}
+use Rattle.guest_memory.specs.Bases.{no_bases}
 use Rattle.gic_vm.specs.State.{MachineState, after_reset}
 
 -- the guest after a reset of the machine: as it opened, with every wire down

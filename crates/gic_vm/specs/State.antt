@@ -6,8 +6,8 @@ use Rattle.ideal_guest.specs.declared.guest.IdealGuest.{IdealGuest}
 use Rattle.ideal_guest.specs.Opening.{opening}
 use Rattle.gic_vm.specs.declared.layout.Layout.{Layout}
 use Rattle.gic_vm.specs.declared.layout.MachineSpec.{MachineSpec}
-use Rattle.gic_vm.specs.declared.base.Bases.{Bases}
-use Rattle.gic_vm.specs.Bases.{memory_bytes, no_bases}
+use Rattle.guest_memory.specs.declared.base.Bases.{Bases}
+use Rattle.guest_memory.specs.Bases.{memory_bytes, no_bases}
 
 -- where the frames are, the guest under the ideal controller, and the registers that tell where that has its queue and tables, as they read back
 pub record MachineState : Type 0 where

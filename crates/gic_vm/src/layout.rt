@@ -4,7 +4,7 @@ ghost use Rattle.ideal_guest.specs.Words.{IsShape};
 ghost use Rattle.gic_vm.specs.Layout.{is_placed as is_placed_at, are_apart, is_layout, dist_region, redist_region, its_region, offset_in, redist_at as redist_found, frame_at as frame_found, IsPlace};
 ghost use Rattle.gic_vm.specs.State.{shape_of};
 
-use crate::base::MEMORY_BYTES;
+use guest_memory::MEMORY_BYTES;
 use ideal_guest::{Frame, GuestShape};
 
 /// The bytes of the distributor's frame.

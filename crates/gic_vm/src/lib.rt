@@ -3,7 +3,6 @@
 #![tactic(auto)]
 
 mod access;
-mod base;
 mod device;
 mod done;
 mod encoding;
@@ -11,18 +10,16 @@ mod identity;
 mod layout;
 mod lines;
 mod machine;
-mod memory;
 mod mmio;
 mod own;
 mod reset;
-mod spans;
 mod wants;
 
 pub use done::{Done, NotDone, NotMine, Refused};
 pub use encoding::Encoding;
+pub use gic_line::Lines;
+pub use guest_memory::{GuestMemory, Span, Wants};
 pub use ideal_guest::IccReg;
 pub use layout::{Layout, MachineSpec};
-pub use lines::{Lines, lines_tell_answers};
+pub use lines::lines_tell_answers;
 pub use machine::Machine;
-pub use memory::GuestMemory;
-pub use spans::{Span, Wants};

@@ -5,19 +5,9 @@ ghost use Rattle.gic_vm.specs.Lines.{lines_of as lines_at, lines_in, changed_of}
 ghost use Rattle.gic_vm.specs.Kept.{AreLinesOf};
 ghost use Rattle.gic_vm.specs.Signals.{LinesTellAnswers};
 
-use ideal_guest::{Group, IdealGuest, acknowledged};
-
-/// The most vCPUs that a machine has.
-pub(crate) const VCPUS: usize = 32;
-
-/// Which interrupt lines of a vCPU are asserted (IHI 0069, "Interrupt signaling").
-#[derive(Clone, Copy, Debug, PartialEq, Eq, Hash)]
-pub struct Lines {
-    /// IRQ: a read of IAR1 would answer the INTID of an interrupt.
-    pub irq: bool,
-    /// FIQ: a read of IAR0 would.
-    pub fiq: bool,
-}
+use gic_line::Lines;
+use guest_memory::VCPUS;
+use ideal_guest::IdealGuest;
 
 /// No line is asserted.
 pub(crate) const DOWN: Lines = Lines {
@@ -25,18 +15,13 @@ pub(crate) const DOWN: Lines = Lines {
     fiq: false,
 };
 
-/// The lines of a vCPU: one look at the interrupts serves both.
+/// The lines of a vCPU.
 fn lines_of(guest: &IdealGuest, vcpu: u32) -> Lines
     requires sound { IsSound guest.now }
     requires there { vcpu < guest.now.shape.vcpus }
     ensures { result ≡ lines_at guest.now vcpu }
 {
-    let first = guest.first(vcpu);
-    let cpu = guest.cpu(vcpu);
-    Lines {
-        irq: acknowledged(first, Group::G1, &cpu).is_some(),
-        fiq: acknowledged(first, Group::G0, &cpu).is_some(),
-    }
+    Lines::of(guest.first(vcpu), &guest.cpu(vcpu))
 }
 
 /// Puts the lines of each vCPU as they are now in the place of older ones, and answers which vCPUs' differ, as bits.

@@ -7,11 +7,12 @@ ghost use Rattle.gic_vm.specs.Layout.{is_layout};
 ghost use Rattle.gic_vm.specs.Lines.{lines_of};
 ghost use Rattle.gic_vm.specs.State.{shape_of, opening_of};
 
-use crate::base::Bases;
 use crate::done::Refused;
 use crate::identity::is_lpi_count;
 use crate::layout::{Layout, MachineSpec};
-use crate::lines::{DOWN, Lines, VCPUS, look};
+use crate::lines::{DOWN, look};
+use gic_line::Lines;
+use guest_memory::{Bases, VCPUS};
 use ideal_guest::{GuestSpec, IdealGuest, ListOf};
 use std::alloc::Global;
 use std::marker::Model;

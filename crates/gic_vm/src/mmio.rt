@@ -4,13 +4,12 @@ ghost use Rattle.ideal_guest.specs.Registers.{is_size as is_size_of};
 ghost use Rattle.ideal_guest.specs.Words.{GuestShape};
 ghost use Rattle.ideal_guest.specs.Calls.{is_good_op};
 ghost use Rattle.gic_vm.specs.Layout.{IsPlace};
-ghost use Rattle.gic_vm.specs.Own.{op_of};
+ghost use Rattle.guest_memory.specs.Access.{op_of};
 ghost use Rattle.gic_vm.specs.Mmio.{low_bytes as low_bytes_of, access_of, access_at as access_found, place_at as place_in, IsMade};
 
 use crate::done::{Done, NotMine};
 use crate::machine::Machine;
-use crate::memory::{GuestMemory, copy};
-use crate::own::Access;
+use guest_memory::{Access, GuestMemory, copy};
 use ideal_guest::Frame;
 
 /// Whether an access has one of the sizes.
@@ -97,7 +96,7 @@ impl Machine {
     ///
     /// Before a write that takes commands or sets EnableLPIs with PTZ 0, the GIC's own memory gets what it may read of the guest's, by reads of `memory`:
     /// the commands in the queue, the bytes in the configuration tables that these can read, and the vCPU's pending table. A doubleword that is not
-    /// there reads 0. [`Machine::wants`] tells where that is.
+    /// there reads 0. What is read is within what [`Machine::wants`] tells.
     ///
     /// `NotMine` exactly where the address is outside of the frames, or the machine has no such vCPU; then nothing changes.
     #[tactic(auto, using(crate::proofs::MadeLemmas::made_along, crate::proofs::MadeLemmas::none_made))]

@@ -3,36 +3,19 @@ ghost use Rattle.std.specs.Prelude.{◌≡◌, ◌<◌, IsTrue, IfSome, Some};
 ghost use Rattle.ideal_guest.specs.Words.{IsShape};
 ghost use Rattle.ideal_guest.specs.Registers.{is_size};
 ghost use Rattle.ideal_guest.specs.Calls.{fits, has_frame, FitsHalf, is_good_op};
-ghost use Rattle.gic_vm.specs.Bases.{vcpu_of};
-ghost use Rattle.gic_vm.specs.Own.{own_at as own_found, own_in_redist as own_redist_found, own_vcpu, own_half, own_read as read_by, takes_base as is_taken, frame_of, offset_of, bases_after as bases_left, placed_op as placed_by, after_base, after_write, read_write, op_of, after_access, access_read};
+ghost use Rattle.guest_memory.specs.Access.{op_of};
+ghost use Rattle.guest_memory.specs.Bases.{vcpu_of};
+ghost use Rattle.gic_vm.specs.Own.{own_at as own_found, own_in_redist as own_redist_found, own_vcpu, own_half, own_read as read_by, takes_base as is_taken, bases_after as bases_left, after_base, after_write, read_write, after_access, access_read};
 ghost use Rattle.gic_vm.specs.Calls.{done_by};
 
-use crate::base::{Base, Bases};
 use crate::done::Done;
 use crate::identity::typer;
 use crate::machine::Machine;
+use guest_memory::{Access, Base, Bases};
 use ideal_guest::{
-    DistReg, DistRegRef, Frame, GuestOp, GuestShape, Half, ItsReg, ItsRegRef, RedistReg,
+    DistReg, DistRegRef, Frame, GuestShape, Half, ItsReg, ItsRegRef, RedistReg,
     RedistRegRef, call_its_access, dist_access, redist_access,
 };
-
-/// The bytes of a register that tells where the guest has something.
-const BASE_BYTES: u32 = 8;
-/// The offset of GITS_CBASER.
-const CBASER: u32 = 0x80;
-/// The offset of GICR_PROPBASER.
-const PROPBASER: u32 = 0x70;
-/// The offset of GICR_PENDBASER.
-const PENDBASER: u32 = 0x78;
-
-/// An access of 1, 2, 4 or 8 bytes at an offset in a frame: a read, or a write of a value of as many bytes.
-#[derive(Clone, Copy, Debug, PartialEq, Eq)]
-pub struct Access {
-    pub frame: Frame,
-    pub offset: u32,
-    pub size: u32,
-    pub write: Option<u64>,
-}
 
 /// What an access is to that the machine answers itself.
 #[derive(Clone, Copy, Debug, PartialEq, Eq)]
@@ -90,42 +73,6 @@ fn own_at(shape: &GuestShape, access: &Access) -> Option<Own>
             _ => None,
         },
         Frame::Its | Frame::Ram => None,
-    }
-}
-
-impl Base {
-    /// Where the register is.
-    fn frame(self) -> Frame
-        ensures { result ≡ frame_of self }
-    {
-        match self {
-            Base::Queue => Frame::Its,
-            Base::Properties { vcpu } | Base::Pending { vcpu } => Frame::Redist { vcpu },
-        }
-    }
-
-    /// Its offset there.
-    fn offset(self) -> u32
-        ensures { result ≡ offset_of self }
-    {
-        match self {
-            Base::Queue => CBASER,
-            Base::Properties { .. } => PROPBASER,
-            Base::Pending { .. } => PENDBASER,
-        }
-    }
-
-    /// The operation that writes the ideal controller's register the place that stands for what it keeps.
-    fn placed_op(self, kept: u64) -> GuestOp
-        requires { vcpu_of self < 32 }
-        ensures { result ≡ placed_by self kept }
-    {
-        GuestOp::Mem {
-            frame: self.frame(),
-            offset: self.offset(),
-            size: BASE_BYTES,
-            write: Some(self.placed(kept)),
-        }
     }
 }
 
@@ -218,20 +165,6 @@ impl Machine {
         match own_at(&self.guest.shape, access) {
             Some(own) => self.access_own(vcpu, own, access),
             None => self.operate(vcpu, access.operation()),
-        }
-    }
-}
-
-impl Access {
-    /// The operation that it is.
-    fn operation(&self) -> GuestOp
-        ensures { result ≡ op_of self.now }
-    {
-        GuestOp::Mem {
-            frame: self.frame,
-            offset: self.offset,
-            size: self.size,
-            write: self.write,
         }
     }
 }

@@ -6,10 +6,10 @@ ghost use Rattle.ideal_guest.specs.Sound.{IsSound};
 ghost use Rattle.gic_vm.specs.Calls.{done_by, told, left_by};
 ghost use Rattle.gic_vm.specs.Reset.{reset_of, reset_machine, with_cpu_reset, reset_cpu_of};
 
-use crate::base::Bases;
 use crate::done::{Done, Refused};
 use crate::lines::look;
 use crate::machine::Machine;
+use guest_memory::Bases;
 use ideal_guest::{
     CpuRec, GuestShape, IdealGuest, IrqRecords, ListOf, enables_in, interrupt_count, key_at,
     opening_cpu, opening_enables, opening_irq,

@@ -1,6 +1,6 @@
 use Rattle.std.proofs.Common.{ℕ, refl, ◌∙◌, length, arith}
 use Rattle.std.proofs.lemmas.List.{length-set}
-use Rattle.gic_vm.proofs.ListLemmas.{put_next, full_of}
+use Rattle.guest_memory.proofs.ListLemmas.{put_next, full_of}
 use Rattle.gic_vm.proofs.reset.fill.Goals as goal
 
 pub loop-place-preserved : goal.loop-place-preserved

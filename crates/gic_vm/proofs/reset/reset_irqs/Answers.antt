@@ -2,7 +2,7 @@ use Rattle.std.proofs.Common.{ℕ, ap, ◌∙◌, false, arith}
 use Rattle.std.proofs.lemmas.List.{length-set}
 use Rattle.ideal_guest.specs.Words.{interrupt_count, key_at, Lpi, Irq}
 use Rattle.ideal_guest.specs.Calls.{opening_irq}
-use Rattle.gic_vm.proofs.ListLemmas.{put_next, all_of}
+use Rattle.guest_memory.proofs.ListLemmas.{put_next, all_of}
 use Rattle.gic_vm.proofs.reset.reset_irqs.Goals as goal
 
 pub loop-place-preserved : goal.loop-place-preserved

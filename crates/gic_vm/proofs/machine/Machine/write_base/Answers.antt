@@ -2,8 +2,8 @@ use Rattle.std.proofs.Common.{◌≡◌, ℕ, ap, ◌∙◌}
 use Rattle.ideal_guest.specs.Words.{GuestOp}
 use Rattle.ideal_guest.specs.Registers.{half_written}
 use Rattle.gic_vm.specs.State.{MachineState}
-use Rattle.gic_vm.specs.Bases.{kept_of, base_in}
-use Rattle.gic_vm.specs.Own.{kept_after, placed_op}
+use Rattle.guest_memory.specs.Bases.{kept_of, base_in, placed_op}
+use Rattle.gic_vm.specs.Own.{kept_after}
 use Rattle.gic_vm.specs.Calls.{done_in}
 use Rattle.gic_vm.proofs.machine.Machine.write_base.Goals as goal
 

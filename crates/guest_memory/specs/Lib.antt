@@ -1,0 +1,4 @@
+pub mod Access
+pub mod Bases
+pub mod Memory
+pub mod Wants
