@@ -37,7 +37,7 @@ module _ (shape : GuestShape) (guest : IdealGuest) (vcpu from : ℕ) (good : IsS
   rise_by_place =
       rises_too (IsFound shape guest vcpu from) (bit_in shape) (place_in shape) (λ one other is also less. bits_and_places shape vcpu one.key other.key good few is.there also.there is.own also.own less) 0 offers found.each found.rise
 
-  same_tested : (test : Offer → Bool) → ((key : Key) → IsTrue (test (offer_home guest key)) → Passes shape guest vcpu key) → filter test offers ≡ filter test (offers_in shape guest)
+  pub same_tested : (test : Offer → Bool) → ((key : Key) → IsTrue (test (offer_home guest key)) → Passes shape guest vcpu key) → filter test offers ≡ filter test (offers_in shape guest)
   same_tested test passes =
       same_filtered (place_in shape) test 0 0 offers (offers_in shape guest) rise_by_place (offers_rise shape guest good)
       (λ offer h there. let is = found.each offer there in subst (Contains (offers_in shape guest)) (sym is.is) (has_offer shape guest good offer.key is.there))

@@ -1,1 +1,3 @@
+pub mod RestRuns
 pub mod SignalledRuns
+pub mod LookRuns

@@ -3,4 +3,4 @@
 
 mod laws;
 
-pub use laws::lines_are_signalled;
+pub use laws::{lines_are_signalled, looks_are_signalled};
