@@ -3,7 +3,7 @@ use Rattle.std.proofs.Common.{◌≡◌, ℕ, zero, suc, ◌==◌, Bool, true, f
 use Rattle.std.proofs.lemmas.List.Elements.{All-nil, All-cons}
 use Rattle.dev_port.specs.Core.{Seen, shape_of, local_by, opening_local_of}
 use Rattle.port_table.specs.Told.{WordsTold, RootTold, HasNoTurn, IsDone, AllDone, opening_root, opening_seen, words_at, root_at, joining_in, with_split, with_joined}
-use Rattle.embed_example.specs.Rest.{Rests}
+use Rattle.vm_threads.specs.Rest.{Rests}
 
 -- its port comes back, and has not the ITS
 pub record ComesBack (words : WordsTold) (number : ℕ) (seen : Seen) : Type 0 where

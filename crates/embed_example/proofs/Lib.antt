@@ -1,3 +1,2 @@
-pub mod SameLemmas
-pub mod RestLemmas
+pub mod TurnLemmas
 pub mod DoneLemmas

@@ -2,11 +2,10 @@
 use crate::fault::Fault;
 use crate::program::{DEVICE_ID, EVENT_ID, SPI};
 use crate::signals::Signals;
-use crate::turns::TakesTurns;
 use dev_port::{message, msi};
 use port_seq::{CorePort as Port, Key, key_of};
 use std::sync::Wait;
-use vm_threads::can_call;
+use vm_threads::{TakesTurns, can_call};
 
 /// A device that, once its doorbell is rung, sends a message to the ITS and raises its SPI.
 #[derive(Drop)]
@@ -20,9 +19,9 @@ impl Device {
     }
 }
 
-impl TakesTurns for Device {
+impl TakesTurns<Signals, Fault> for Device {
     /// Once its doorbell is rung it sends its message to the ITS, and raises its SPI.
-    #[tactic(auto, using(crate::proofs::SameLemmas::same_after, crate::proofs::SameLemmas::same_twice, crate::proofs::SameLemmas::same_here, crate::proofs::RestLemmas::rests_device))]
+    #[tactic(auto, using(crate::proofs::TurnLemmas::same_after, crate::proofs::TurnLemmas::same_twice, crate::proofs::TurnLemmas::same_here, crate::proofs::TurnLemmas::rests_device))]
     fn turn<P: Port, R: Wait>(
         &mut self,
         rt: &R,

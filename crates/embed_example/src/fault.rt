@@ -16,6 +16,4 @@ pub enum Fault {
     /// A trap that is no access of the GIC and of no device.
     #[error("an access that nothing answers")]
     UnknownAccess,
-    #[error("another thread stopped")]
-    Stopped,
 }

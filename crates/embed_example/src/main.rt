@@ -2,13 +2,11 @@
 #![tactic(auto)]
 
 mod device;
-mod exit;
 mod fault;
 mod machine;
 mod program;
 mod signals;
 mod threads;
-mod turns;
 mod vcpu;
 
 use port_seq::{pending, unpack};
@@ -18,10 +16,8 @@ use vcpu::Vcpu;
 
 /// Prints what a vCPU read, in order.
 fn print_reads(rt: &impl Print, number: u32, vcpu: &Vcpu) -> io::Result<()> {
-    for read in &vcpu.reads {
-        let exit = read.exit;
-        let value = read.value;
-        println!(rt; "vcpu {number} reads {exit}: 0x{value:x}")?;
+    for value in &vcpu.reads {
+        println!(rt; "vcpu {number} reads 0x{value:x}")?;
     }
     Ok(())
 }

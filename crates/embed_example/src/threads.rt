@@ -4,13 +4,12 @@ ghost use Rattle.std.specs.Thread.{IsSync};
 ghost use Rattle.port_table.specs.All.{told_words, told_root};
 ghost use Rattle.port_table.specs.Told.{AreRoots, AllDone, opening_root};
 ghost use Rattle.embed_example.specs.Alone.{IsAlone};
-ghost use Rattle.embed_example.specs.Rest.{Rests};
+ghost use Rattle.vm_threads.specs.Rest.{Rests};
 
 use crate::device::Device;
 use crate::fault::Fault;
 use crate::machine::SHAPE;
 use crate::signals::Signals;
-use crate::turns::TakesTurns;
 use crate::vcpu::Vcpu;
 use port_rest::one_guest;
 use port_seq::{Actor, CorePort as Port, EndWords, Mode};
@@ -18,54 +17,7 @@ use port_table::{RootSeat, SharedWords, finish, join, split, start};
 use std::alloc::{AllocError, Global};
 use std::sync::Wait;
 use std::thread::{Threads, join_mut};
-use vm_threads::Waking;
-
-/// A thread: one turn after the other, until all is done.
-#[tactic(auto, using(crate::proofs::SameLemmas::same_twice, crate::proofs::SameLemmas::same_here))]
-fn run_one<P: Port, T: TakesTurns, R: Wait>(
-    rt: &R,
-    port: &mut P,
-    who: &mut T,
-    signals: &Signals,
-) -> Result<(), Fault>
-    requires { (P.seen port.old).number ≡ 0 }
-    ensures { OnOk result (Rests (P.seen port.old) (P.seen port.new)) }
-{
-    for _ in rt.forever() {
-        signals.noted(who.turn(rt, port, signals))?;
-        if who.is_through() {
-            return Ok(());
-        }
-        if signals.is_stopped() {
-            return Err(Fault::Stopped);
-        }
-        signals.sleep(rt, port.actor());
-    }
-    unreachable!()
-}
-
-/// The thread of a vCPU and that of the device.
-fn run_two<P: Port + Send, R: Threads + Wait + Sync>(
-    rt: &R,
-    one: &mut P,
-    two: &mut P,
-    vcpu: &mut Vcpu,
-    signals: &Signals,
-) -> Result<(), Fault>
-    requires one { (P.seen one.old).number ≡ 0 }
-    requires two { (P.seen two.old).number ≡ 0 }
-    ensures one { OnOk result (Rests (P.seen one.old) (P.seen one.new)) }
-    ensures two { OnOk result (Rests (P.seen two.old) (P.seen two.new)) }
-{
-    let mut device = Device::new();
-    let (vcpu_went, device_went) = join_mut(
-        rt,
-        &mut || run_one(rt, one, vcpu, signals),
-        &mut || run_one(rt, two, &mut device, signals),
-    );
-    vcpu_went?;
-    device_went
-}
+use vm_threads::{Waking, take_turns, take_turns_of_two};
 
 /// The threads of both vCPUs and of the device.
 fn run_three<P: Port + Send, R: Threads + Wait + Sync>(
@@ -84,13 +36,14 @@ fn run_three<P: Port + Send, R: Threads + Wait + Sync>(
     ensures two { OnOk result (Rests (P.seen two.old) (P.seen two.new)) }
     ensures three { OnOk result (Rests (P.seen three.old) (P.seen three.new)) }
 {
+    let mut device = Device::new();
     let (first_went, others_went) = join_mut(
         rt,
-        &mut || run_one(rt, one, first, signals),
+        &mut || take_turns(rt, one, first, signals, &signals.beds),
         &mut || -> Result<(), Fault>
             requires { IsSync R.row × ((P.seen two.now).number ≡ 0) × ((P.seen three.now).number ≡ 0) }
             ensures { OnOk result (Rests (P.seen two.entry.now) (P.seen two.exit.now) × Rests (P.seen three.entry.now) (P.seen three.exit.now)) }
-        { run_two(rt, two, three, second, signals) },
+        { take_turns_of_two(rt, two, three, second, &mut device, signals, &signals.beds) },
     );
     first_went?;
     others_went
@@ -114,11 +67,11 @@ fn run_all<R: Threads + Wait + Sync>(
     let mut root = root;
     let mut one = Waking {
         port: split(words, &mut root, Actor::Vcpu { guest: 0, vcpu: 0 }),
-        wake: &signals,
+        wake: &signals.beds,
     };
     let mut two = Waking {
         port: split(words, &mut root, Actor::Vcpu { guest: 0, vcpu: 1 }),
-        wake: &signals,
+        wake: &signals.beds,
     };
     let device = Actor::Device {
         guest: 0,
@@ -126,7 +79,7 @@ fn run_all<R: Threads + Wait + Sync>(
     };
     let mut three = Waking {
         port: split(words, &mut root, device),
-        wake: &signals,
+        wake: &signals.beds,
     };
     run_three(rt, &mut one, &mut two, &mut three, first, second, &signals)?;
     join(words, &mut root, three.port);

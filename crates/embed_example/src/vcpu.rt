@@ -3,33 +3,24 @@ ghost use Rattle.std.specs.Prelude.{◌≡◌, OnOk};
 ghost use Rattle.pe_op.specs.PeLoop.Stay.{IsUp};
 ghost use Rattle.dev_port.specs.Core.{IsSameActor};
 
-use crate::exit::Exit;
 use crate::fault::Fault;
-use crate::machine::{DOORBELL, LIST_REGISTERS, operation_of};
+use crate::machine::{DOORBELL, Exit, LIST_REGISTERS, operation_of};
 use crate::signals::Signals;
-use crate::turns::TakesTurns;
 use pe_op::{Loaded, enter, guest_op, icc_op, leave};
 use port_seq::{CorePort as Port, IccReg};
 use std::alloc::{AllocError, Global};
 use std::sync::Wait;
-use vm_threads::rest;
+use vm_threads::{TakesTurns, rest};
 
 /// What HPPIR1 reads where no interrupt of group 1 is pending.
 const NO_INTERRUPT: u64 = 1023;
-
-/// A value that guest code read, and by which exit.
-#[derive(Clone, Copy, Debug, PartialEq, Eq)]
-pub struct Read {
-    pub exit: Exit,
-    pub value: u64,
-}
 
 /// A vCPU as the VMM has it: its code, as the exits that it makes, the next of them, and what it read.
 #[derive(Drop)]
 pub struct Vcpu {
     code: Vec<Exit>,
     next: usize,
-    pub reads: Vec<Read>,
+    pub reads: Vec<u64>,
 }
 
 /// What comes of an exit.
@@ -41,7 +32,7 @@ enum After {
 }
 
 /// Handles an exit of a vCPU that is on a PE.
-#[tactic(auto, using(crate::proofs::SameLemmas::same_after, crate::proofs::SameLemmas::same_here))]
+#[tactic(auto, using(crate::proofs::TurnLemmas::same_after, crate::proofs::TurnLemmas::same_here))]
 fn handle<P: Port, R: Wait>(
     rt: &R,
     port: &mut P,
@@ -85,7 +76,7 @@ impl Vcpu {
     }
 
     /// Runs guest code on a PE, from exit to exit, until it waits for an interrupt or is through.
-    #[tactic(auto, using(crate::proofs::SameLemmas::same_twice, crate::proofs::SameLemmas::same_here))]
+    #[tactic(auto, using(crate::proofs::TurnLemmas::same_twice, crate::proofs::TurnLemmas::same_here))]
     fn run<P: Port, R: Wait>(
         &mut self,
         rt: &R,
@@ -100,7 +91,7 @@ impl Vcpu {
         for (number, exit) in self.code.iter().enumerate().skip(self.next) {
             match handle(rt, port, vcpu, *exit, signals)? {
                 After::GoesOn(None) => {}
-                After::GoesOn(Some(value)) => self.reads.push(Read { exit: *exit, value })?,
+                After::GoesOn(Some(value)) => self.reads.push(value)?,
                 After::Waits => {
                     self.next = number;
                     return Ok(());
@@ -112,9 +103,9 @@ impl Vcpu {
     }
 }
 
-impl TakesTurns for Vcpu {
+impl TakesTurns<Signals, Fault> for Vcpu {
     /// The vCPU enters a PE, runs guest code there, and leaves it.
-    #[tactic(auto, using(crate::proofs::SameLemmas::same_after, crate::proofs::SameLemmas::same_twice, crate::proofs::SameLemmas::same_here, crate::proofs::RestLemmas::rests_off))]
+    #[tactic(auto, using(crate::proofs::TurnLemmas::same_after, crate::proofs::TurnLemmas::same_twice, crate::proofs::TurnLemmas::same_here, crate::proofs::TurnLemmas::rests_off))]
     fn turn<P: Port, R: Wait>(
         &mut self,
         rt: &R,

@@ -151,9 +151,10 @@ impl Layout {
             && redist.is_apart_from(its)
     }
 
-    /// The frame that an address is in, with the offset there. None exactly outside of the frames.
+    /// The frame that a guest physical address is in, with the offset there, for a guest of this shape. None exactly outside of the frames. A VMM on
+    /// threads finds so what a trapped access is of.
     #[tactic(auto, using(crate::proofs::LayoutLemmas::frame_there))]
-    pub(crate) fn frame_at(&self, shape: &GuestShape, address: u64) -> Option<(Frame, u32)>
+    pub fn frame_at(&self, shape: &GuestShape, address: u64) -> Option<(Frame, u32)>
         requires { IsShape shape.now }
         ensures value { result ≡ frame_found shape.now self.now address }
         ensures there { IfSome result (IsPlace shape.now) }

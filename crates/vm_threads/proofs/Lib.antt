@@ -1,1 +1,3 @@
 pub mod TimerLemmas
+pub mod SameLemmas
+pub mod RestLemmas

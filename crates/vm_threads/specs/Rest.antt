@@ -1,6 +1,6 @@
--- A vCPU that is on no PE.
-use Rattle.std.specs.Prelude.{◌≡◌, true, IsTrue, []}
-use Rattle.dev_port.specs.Core.{is_vcpu, Seen, shape_of, is_settled}
+-- Actors between two calls.
+use Rattle.std.specs.Prelude.{◌≡◌, true, false, IsTrue, []}
+use Rattle.dev_port.specs.Core.{is_vcpu, Seen, IsSameActor, shape_of, is_settled}
 use Rattle.pe_icc.specs.VcpuState.declared.shelved.Shelved.{Shelved}
 
 -- the actor of a port is a vCPU that may enter a PE: nothing is at its interface, it owes nothing, and has neither the ITS nor the mark of GICD_CTLR
@@ -12,3 +12,9 @@ pub record MayEnter (seen : Seen) : Type 0 where
 -- as it enters
 abbrev pub shelved_at : Seen → Shelved
 shelved_at seen = record { guest = seen.number; vcpu = seen.actor; cpu = seen.local.cpu; next = 0 }
+
+-- the port is the same actor's, the actor has not the ITS, and a vCPU has nothing at its interface: it is on no PE
+pub record Rests (old new : Seen) : Type 0 where
+  pub same : IsSameActor old new
+  pub idle : new.local.turn ≡ false
+  pub off : is_vcpu (shape_of new) new.actor ≡ true → new.local.at ≡ []

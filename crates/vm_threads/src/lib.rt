@@ -2,11 +2,15 @@
 #![tactic(auto)]
 
 mod at_rest;
+mod beds;
 #[cfg(test)]
 mod tests;
 mod timer;
+mod turns;
 mod waking;
 
 pub use at_rest::{can_call, rest};
+pub use beds::Beds;
 pub use timer::Timer;
+pub use turns::{TakesTurns, take_turns, take_turns_of_two};
 pub use waking::{Wake, Waking};

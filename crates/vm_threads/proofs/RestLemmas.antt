@@ -2,9 +2,9 @@
 use Rattle.std.proofs.Common.{◌≡◌, ◌&&◌, not, Bool, true, false, IsTrue, refl}
 use Rattle.dev_port.specs.Core.{Local, Seen, IsSameActor, is_settled}
 use Rattle.dev_port.specs.Device.{CanCall}
-use Rattle.pe_op.specs.PeLoop.Stay.{IsOff}
-use Rattle.pe_op.specs.VcpuState.declared.shelved.Shelved.{Shelved}
-use Rattle.embed_example.specs.Rest.{Rests}
+use Rattle.pe_icc.specs.PeLoop.Stay.{IsOff}
+use Rattle.pe_icc.specs.VcpuState.declared.shelved.Shelved.{Shelved}
+use Rattle.vm_threads.specs.Rest.{Rests}
 
 -- one that owes nothing and has neither the ITS nor the mark of GICD_CTLR
 settled_idle : (local : Local) → IsTrue (is_settled local) → local.turn ≡ false

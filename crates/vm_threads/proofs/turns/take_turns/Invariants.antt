@@ -1,7 +1,7 @@
 -- The port is the same actor's.
 use Rattle.std.proofs.Common.{◌≡◌}
 use Rattle.dev_port.specs.Core.{IsSameActor}
-use Rattle.embed_example.proofs.threads.run_one.Given as goal
+use Rattle.vm_threads.proofs.turns.take_turns.Given as goal
 
 abbrev pub invariant-loop : goal.invariant-loop
 invariant-loop g l =
