@@ -1,5 +1,5 @@
 -- The interrupt lines of a vCPU.
-use Rattle.std.proofs.Common.{◌≡◌, ◌≢◌, ℕ, zero, suc, ◌+◌, ◌/◌, ◌%◌, ◌<◌, ◌≤◌, ◌==◌, ◌&&◌, ◌||◌, nat_lt, not, Bool, true, false, cond, if◌then◌else◌, IsTrue, List, [], ◌∷◌, ◌++◌, map, filter, find, length, replicate, All, Option, Some, None, is_some, option_and_then, option_to_list, slice_set, slice_index_or, inl, inr, add-one, append-nil, append_assoc, refl, sym, ap, subst, ◌∙◌, arith}
+use Rattle.std.proofs.Common.{◌≡◌, ◌≢◌, ℕ, zero, suc, ◌+◌, ◌/◌, ◌%◌, ◌<◌, ◌≤◌, ◌&&◌, ◌||◌, nat_lt, not, Bool, true, false, cond, if◌then◌else◌, IsTrue, List, [], ◌∷◌, ◌++◌, map, filter, find, length, replicate, All, Option, Some, None, is_some, option_and_then, option_to_list, slice_set, slice_index_or, inl, inr, add-one, append-nil, append_assoc, refl, sym, ap, subst, ◌∙◌, arith}
 use Rattle.std.specs.List.{cons_option, filter_map, list_all, list_any, range_with_len}
 use Rattle.std.proofs.lemmas.Bool.{and_parts, cases_eq, leb-true, ltb-false, ltb-true, ne_eqb}
 use Rattle.std.proofs.lemmas.List.{length-append, length-map, length-set, map-append, get_or-set_other, get_or-set_same, get_or_append_left, get_or_past}
@@ -10,11 +10,11 @@ use Rattle.gic_line.specs.declared.lines.Lines.{Lines}
 use Rattle.gic_line.specs.Lines.{lines_by}
 use Rattle.pe_loop.specs.GicWord.declared.record.Group.{Group}
 use Rattle.pe_loop.specs.Words.{Key, Private, Spi, Lpi, GuestShape, IsShape, has_bit, has_interrupt, intid_of, irq_of, is_number, is_within}
-use Rattle.pe_loop.specs.Calls.{Residence, Happened, Beside, IsCall, named_of}
+use Rattle.pe_loop.specs.Calls.{Residence, Beside, IsCall, named_of}
 use Rattle.pe_loop.specs.Lists.{StandFor}
-use Rattle.pe_loop.specs.Registers.{AtInterface, Candidate, CpuRec, acknowledged, candidate_of, candidates_at, first_of, intid_read, is_before, is_group_enabled, is_same_group, is_signalled}
+use Rattle.pe_loop.specs.Registers.{Candidate, CpuRec, acknowledged, candidate_of, candidates_at, first_of, intid_read, is_before, is_group_enabled, is_same_group, is_signalled}
 use Rattle.pe_loop.specs.VcpuState.declared.loaded.Loaded.{Loaded}
-use Rattle.pe_loop.specs.Core.{AtIrq, Cands, IsAt, Local, Look, Made, CoreStep, Irq, Index, WordId, interface_of, is_ready, is_vcpu, has_no_cand, index_bits, index_words, is_cand, key_of_bit, local_after, shown, Seen, IsPort, Adds, AddsStep, made_by, shape_of, part_events, MakesCall, vcpu_of_actor, maps_taken, IsAtRest, begins, Progress, paid, is_end_of, progressed, scan_on, stepped, IsProperStep, Scan, idle, scan_looked, is_settled}
+use Rattle.pe_loop.specs.Core.{AtIrq, IsAt, Local, Look, Made, CoreStep, Irq, Index, WordId, interface_of, is_ready, is_vcpu, has_no_cand, index_bits, index_words, is_cand, key_of_bit, local_after, shown, Seen, AddsStep, made_by, shape_of, part_events, vcpu_of_actor, maps_taken, IsAtRest, begins, Progress, paid, is_end_of, progressed, scan_on, stepped, IsProperStep, Scan, idle, scan_looked, is_settled}
 use Rattle.pe_loop.proofs.PortCore.PortLemmas.{adds_join}
 use Rattle.pe_loop.proofs.PortCall.PieceLemmas.{idle_is, idle_on, scan_free, seen_nil}
 use Rattle.pe_loop.proofs.PortCall.RestLemmas.{look_kept}
@@ -22,12 +22,11 @@ use Rattle.pe_loop.proofs.PortCall.SettleLemmas.{handed_none}
 use Rattle.pe_loop.proofs.PortCall.TryLemmas.{none_append}
 use Rattle.pe_loop.proofs.GicCall.RangeLemmas.{map_pushed, range_with_len_more}
 use Rattle.pe_loop.proofs.JoinLemmas.{two_silent}
-use Rattle.pe_loop.proofs.CoreProper.InterfaceLemmas.{is_interface}
 use Rattle.pe_loop.proofs.CoreProper.IntidLemmas.{in_range}
 use Rattle.pe_loop.specs.PortCall.Piece.{steps_of}
-use Rattle.pe_loop.specs.Stay.{IsOn, IsUp}
+use Rattle.pe_loop.specs.Stay.{IsUp}
 use Rattle.pe_icc.specs.Amid.{IsRunning, IsAble}
-use Rattle.pe_icc.specs.Lines.{keys_marked, candidate_found, candidates_found, LooksByIndex, LooksWhere, TellsLines, LooksAlone, LooksAtWords, FindsOne, LooksAtBits, LooksRound, is_intid}
+use Rattle.pe_icc.specs.Lines.{candidate_found, candidates_found, LooksWhere, TellsLines, LooksAlone, LooksAtWords, FindsOne, LooksAtBits, LooksRound, is_intid}
 use Rattle.pe_icc.proofs.AmidLemmas.{leads_nil, leads_then}
 use Rattle.pe_icc.proofs.IccLemmas.{part_proper, part_runs}
 

@@ -1,5 +1,5 @@
 -- The interrupt lines of a vCPU on a PE (IHI 0069, "Interrupt signaling").
-use Rattle.std.specs.Prelude.{◌≡◌, ℕ, ◌==◌, ◌&&◌, ◌++◌, not, Bool, true, false, IsTrue, List, [], map, filter, replicate, length, is_none, if◌then◌else◌, Option, Some, None}
+use Rattle.std.specs.Prelude.{◌≡◌, ℕ, ◌==◌, ◌&&◌, ◌++◌, not, Bool, true, false, IsTrue, List, [], map, filter, length, is_none, if◌then◌else◌, Option, Some, None}
 use Rattle.std.specs.List.{filter_map, range_with_len, slice_index_or}
 use Rattle.gic_line.specs.declared.lines.Lines.{Lines}
 use Rattle.gic_line.specs.Lines.{lines_by}
@@ -7,7 +7,7 @@ use Rattle.pe_loop.specs.Words.{Key, GuestShape, intid_of, irq_of}
 use Rattle.pe_loop.specs.Calls.{Residence}
 use Rattle.pe_loop.specs.Registers.{Candidate, candidates_at, first_of, is_deliverable}
 use Rattle.pe_loop.specs.VcpuState.declared.loaded.Loaded.{Loaded}
-use Rattle.pe_loop.specs.Core.{Made, CoreStep, Look, Irq, Index, Cands, is_cand, index_bits, index_words, key_of_bit, interface_of, Seen, Adds, AddsStep, shape_of, part_events, MakesCall, part_of, Progress, paid, progress_of, IsProper}
+use Rattle.pe_loop.specs.Core.{Made, CoreStep, Look, Irq, Index, is_cand, index_bits, index_words, key_of_bit, interface_of, Seen, Adds, AddsStep, shape_of, part_events, MakesCall, part_of, Progress, paid, progress_of, IsProper}
 use Rattle.pe_loop.specs.PortCall.Piece.{steps_of, takes_none}
 use Rattle.pe_loop.specs.Stay.{IsUp}
 use Rattle.pe_icc.specs.Amid.{IsRunning, IsAble, Leads}

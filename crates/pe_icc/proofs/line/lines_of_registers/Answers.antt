@@ -1,5 +1,5 @@
 -- What two reads of IAR would answer.
-use Rattle.std.proofs.Common.{◌≡◌, Bool, ap, ◌∙◌}
+use Rattle.std.proofs.Common.{Bool, ap, ◌∙◌}
 use Rattle.gic_line.specs.declared.lines.Lines.{Lines}
 use Rattle.pe_loop.specs.Words.{G0, G1}
 use Rattle.pe_loop.specs.Registers.{candidates_at}
