@@ -1,0 +1,12 @@
+pub use Rattle.law_histories.proofs.GicBase
+pub use Rattle.law_histories.proofs.GicCall
+pub use Rattle.law_histories.proofs.GicHistory
+pub use Rattle.law_histories.proofs.IdealGuests
+pub mod KeyLemmas
+pub mod EventLemmas
+pub mod MadeLemmas
+pub mod CallLaw
+pub mod PartLaw
+pub mod WholeLaw
+pub mod RowLemmas
+pub mod WorkedLemmas
