@@ -10,3 +10,4 @@ pub mod PartLaw
 pub mod WholeLaw
 pub mod RowLemmas
 pub mod WorkedLemmas
+pub mod OpenLemmas

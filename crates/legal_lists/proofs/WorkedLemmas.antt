@@ -18,10 +18,10 @@ cut_legally : (moments : List Moment) → IsWhole worked_guest moments → IsFre
 cut_legally moments all is count = parts worked_guest (take count moments) (drop count moments) (subst (IsLegal worked_guest) (sym (take-append-drop count moments)) ((whole worked_guest moments all).legal is.history is.fresh))
 
 -- the calls after moments of the worked guest, and that one is none
-abbrev calls_after : List Moment → List (Option Call)
+abbrev pub calls_after : List Moment → List (Option Call)
 calls_after moments = (course_of (opening_course worked_guest) moments).calls
 
-abbrev IsOver : Option Call → Type 0
+abbrev pub IsOver : Option Call → Type 0
 IsOver call = IsTrue (is_none call)
 
 pub cut : WorkedListsAreLegal
@@ -40,10 +40,10 @@ cut = record {
 
 -- Histories that one clause refuses: what comes before is one, and its open calls are begun.
 
-history_before : (moments : List Moment) (count : ℕ) → IsHistory worked_guest moments → IsHistory worked_guest (take count moments)
+pub history_before : (moments : List Moment) (count : ℕ) → IsHistory worked_guest moments → IsHistory worked_guest (take count moments)
 history_before moments count is = (goes_before (opening_course worked_guest) (take count moments) (drop count moments) (subst (IsHistory worked_guest) (sym (take-append-drop count moments)) is)).0
 
-begun_before : (moments : List Moment) (count : ℕ) → IsHistory worked_guest moments → IsWhole worked_guest moments → AreBegun worked_guest.shape (course_of (opening_course worked_guest) (take count moments))
+pub begun_before : (moments : List Moment) (count : ℕ) → IsHistory worked_guest moments → IsWhole worked_guest moments → AreBegun worked_guest.shape (course_of (opening_course worked_guest) (take count moments))
 begun_before moments count is all =
     begun_in worked_guest (take count moments) (drop count moments) (subst (IsHistory worked_guest) (sym (take-append-drop count moments)) is)
     (subst (λ ms. AreBegun worked_guest.shape (course_of (opening_course worked_guest) ms)) (sym (take-append-drop count moments))

@@ -10,8 +10,6 @@ use Rattle.law_histories.specs.GicCall.declared.event.Moment.TheVariants.{End}
 use Rattle.law_histories.specs.GicRmap.Map.{decoded as redist_decoded}
 use Rattle.law_histories.specs.Histories.{IdealGuest, Ideal, Call, Course, actor_count, made, seeing, lpi_in, call_of, course_of, opening_course, IsEnded, IsHistory, key_in, Track, opening_track, doing_of, tracked, after_moment, is_event_of, ends_turn, has_named, takes_commands, asks_first, comes_first, is_last_open, keys_in, of_event, of_end, is_fresh_at_interface, is_fresh_at_end, is_kept}
 
--- Calls that are open.
-
 -- what a call notes further on, whatever the guest is then: an event of its own, with what that hands out, and for which vCPUs the LPIs are after an event
 pub data Note : Type 0 where
   Made : Ideal → Event → Found → Note
@@ -27,8 +25,6 @@ pub record IsBegun (shape : GuestShape) (actor : ℕ) (call : Call) : Type 0 whe
   pub notes : List Note
   pub answer : Option ℕ
   pub ended : IsEnded shape actor (fold noting call notes) answer
-
--- What an open call may yet make.
 
 -- a view of nothing: the interrupts of the calls whose events come in a fixed order do not depend on what these find
 abbrev pub unseen : View
@@ -80,8 +76,6 @@ may_make_after shape actor operation events key =
 -- once the next of them is being read: see has_named)
 abbrev pub may_make : GuestShape → ℕ → Call → Key → Bool
 may_make shape actor call key = may_make_after shape actor call.operation (map (λ happened. happened.event) call.piece) key
-
--- Fresh at an acknowledge, in a list that breaks off.
 
 -- further on in a list an actor makes an event of an interrupt in the call, or the command of one, that it is in; or it is still in that at the end of the list, where this
 -- is its call, and may yet make one

@@ -13,3 +13,4 @@ pub use Rattle.law_histories.specs.ItsCmd
 pub mod Legal
 pub mod Laws
 pub mod Worked
+pub mod Open

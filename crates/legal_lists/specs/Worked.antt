@@ -4,7 +4,7 @@ use Rattle.law_histories.specs.Words.{Key, Private, Spi, Lpi, Sgi1r, Message, Ms
 use Rattle.law_histories.specs.Registers.{encoded, Sync}
 use Rattle.law_histories.specs.Calls.{Event, Cpu, Touch, Enable, Put, Cwriter, ItsBegin, Done, Moment, Operation, Access, Device, Register}
 use Rattle.law_histories.specs.GicCall.declared.event.Event.TheVariants.{Raise, ItsEnd, Queue}
-use Rattle.law_histories.specs.Histories.{worked_guest, lpi_guest, served, preempted, withdrawn, migrated, refilled, repeated, returned, in_flight, awaited, overlooked, outdated, unended, kept}
+use Rattle.law_histories.specs.Histories.{IdealGuest, worked_guest, lpi_guest, served, preempted, withdrawn, migrated, refilled, repeated, returned, in_flight, awaited, overlooked, outdated, unended, kept}
 use Rattle.legal_lists.specs.Legal.{IsLegal, may_make_after}
 
 -- a list of moments of the worked guest, cut after each of them, is legal
@@ -24,17 +24,17 @@ pub record WorkedListsAreLegal : Type 0 where
   pub awaited : IsCutLegally awaited
 
 -- so many first moments of a list are legal, and with the next one they are not
-pub record IsRefusedAfter (moments : List Moment) (count : ℕ) : Type 0 where
-  pub before : IsLegal worked_guest (take count moments)
-  pub refused : IsLegal worked_guest (take (count + 1) moments) → ⊥
+pub record IsRefusedAfter (guest : IdealGuest) (moments : List Moment) (count : ℕ) : Type 0 where
+  pub before : IsLegal guest (take count moments)
+  pub refused : IsLegal guest (take (count + 1) moments) → ⊥
 
 -- each worked history that one clause of fresh refuses is refused at its moment: at the read of IAR that overlooks an interrupt, at the access of an interface
 -- that is out of date, at the write of EOIR of one that has left, and at the end of the call in which one had to leave
 pub record UnfreshOnesAreRefused : Type 0 where
-  pub overlooked : IsRefusedAfter overlooked 4
-  pub outdated : IsRefusedAfter outdated 10
-  pub unended : IsRefusedAfter unended 11
-  pub kept : IsRefusedAfter kept 11
+  pub overlooked : IsRefusedAfter worked_guest overlooked 4
+  pub outdated : IsRefusedAfter worked_guest outdated 10
+  pub unended : IsRefusedAfter worked_guest unended 11
+  pub kept : IsRefusedAfter worked_guest kept 11
 
 -- What an open call may yet make.
 

@@ -1,5 +1,6 @@
 //! Laws of legal lists.
 ghost use Rattle.legal_lists.specs.Laws.{MadeWasToCome, PartsOfLegalAreLegal, WholeLegalIsFresh};
+ghost use Rattle.legal_lists.specs.Open.{OpenCallsAreRefused};
 ghost use Rattle.legal_lists.specs.Worked.{UnfreshOnesAreRefused, WhatMayBeMade, WorkedListsAreLegal};
 
 /// A law of every legal list: its first moments, as many as one likes, are one.
@@ -33,6 +34,14 @@ pub fn worked_lists_are_legal()
 #[tactic(auto, using(crate::proofs::WorkedLemmas::refused))]
 pub fn unfresh_ones_are_refused()
     ensures { UnfreshOnesAreRefused }
+{}
+
+/// A law of five worked lists that break off while calls are open: each is legal up to its last moment, and refused with that. One
+/// is a read that finds nothing once a message has ended; one raises an interrupt that its call does not have, and one ends without
+/// the one that it has; in two an LPI that a read passed over can no longer be made pending by the call that was open there.
+#[tactic(auto, using(crate::proofs::OpenLemmas::open_refused))]
+pub fn open_calls_are_refused()
+    ensures { OpenCallsAreRefused }
 {}
 
 /// A law of worked calls: of which interrupts they may make an event, before and after those that they made.

@@ -4,6 +4,6 @@
 mod laws;
 
 pub use laws::{
-    made_was_to_come, parts_of_legal_are_legal, unfresh_ones_are_refused, what_may_be_made,
-    whole_legal_is_fresh, worked_lists_are_legal,
+    made_was_to_come, open_calls_are_refused, parts_of_legal_are_legal, unfresh_ones_are_refused,
+    what_may_be_made, whole_legal_is_fresh, worked_lists_are_legal,
 };
