@@ -1,0 +1,2 @@
+pub use Rattle.gic_ideal.specs as GicIdeal
+pub mod Split

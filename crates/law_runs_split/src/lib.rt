@@ -1,0 +1,6 @@
+//! Laws of runs of the ideal controller that are broken off and go on.
+#![tactic(auto)]
+
+mod laws;
+
+pub use laws::{eager_is_from_opening, runs_split};

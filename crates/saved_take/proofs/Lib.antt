@@ -1,0 +1,4 @@
+pub mod FillLemmas
+pub mod WordBack
+pub mod RecBack
+pub mod BackLemmas

@@ -1,0 +1,3 @@
+pub use Rattle.saved_guest.specs as SavedGuest
+pub mod Taken
+pub mod Back

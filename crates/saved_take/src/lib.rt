@@ -1,0 +1,15 @@
+//! What is saved of a guest of the ideal controller, between two steps of a run.
+#![tactic(auto)]
+
+mod law;
+mod rec;
+mod registers;
+#[cfg(test)]
+mod tests;
+mod whole;
+
+pub use law::{states_tell_back, wires_tell_back};
+pub use saved_guest::{
+    GuestSpec, GuestState, IdealGuest, ListOf, MovedWire, NoMemory, Saved, StateList,
+};
+pub use whole::taken;
