@@ -1,1 +1,3 @@
 pub mod SplitLemmas
+pub mod FaultLemmas
+pub mod GoOnLemmas

@@ -1,2 +1,3 @@
 pub use Rattle.gic_ideal.specs as GicIdeal
 pub mod Split
+pub mod Faults

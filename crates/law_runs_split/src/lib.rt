@@ -3,4 +3,4 @@
 
 mod laws;
 
-pub use laws::{eager_is_from_opening, runs_split};
+pub use laws::{eager_is_from_opening, past_faults_do_not_matter, runs_split};
