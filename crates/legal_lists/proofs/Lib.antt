@@ -1,6 +1,7 @@
 pub use Rattle.law_histories.proofs.GicBase
 pub use Rattle.law_histories.proofs.GicCall
 pub use Rattle.law_histories.proofs.GicHistory
+pub use Rattle.law_histories.proofs.GicOpen
 pub use Rattle.law_histories.proofs.IdealGuests
 pub mod KeyLemmas
 pub mod EventLemmas
