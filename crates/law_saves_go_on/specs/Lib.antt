@@ -1,0 +1,3 @@
+pub use Rattle.gic_report.specs as GicReport
+pub use Rattle.law_runs_split.specs as RunsSplit
+pub mod GoOn

@@ -1,0 +1,9 @@
+//! A law of the text of a run in two parts.
+ghost use Rattle.law_saves_go_on.specs.GoOn.{SaveThenResume};
+
+/// A law of every scenario and every number of its steps: the lines of so many steps, and then the text of the rest from the states
+/// that were reached, are the text of the whole run. The states may differ from those in the number of a fault by which nothing
+/// is stalled.
+pub fn save_then_resume()
+    ensures { SaveThenResume }
+{}
