@@ -2,3 +2,4 @@ pub mod FillLemmas
 pub mod WordBack
 pub mod RecBack
 pub mod BackLemmas
+pub mod StandingBack

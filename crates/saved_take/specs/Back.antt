@@ -1,5 +1,5 @@
 -- What is saved of a guest tells the guest again (own choice).
-use Rattle.std.specs.Prelude.{◌≡◌, ℕ, ◌<◌, ◌≤◌, List, length, take, slice_set, true, false, if◌then◌else◌, Option, Some, None}
+use Rattle.std.specs.Prelude.{◌+◌, [], ◌∷◌, ◌≡◌, ℕ, ◌<◌, ◌≤◌, List, length, take, slice_set, true, false, if◌then◌else◌, Option, Some, None}
 use Rattle.std.specs.List.{slice_index_or}
 use Rattle.saved_guest.specs.IdealGuests.Words.{Irq, interrupt_count, key_at, bit_of}
 use Rattle.saved_guest.specs.IdealGuests.Registers.{has_lpis, enabled_in, baser_bits}
@@ -9,8 +9,10 @@ use Rattle.saved_guest.specs.IdealGuests.Ideal.{irq_at, word_at}
 use Rattle.saved_guest.specs.IdealGuests.Sound.{IsSound}
 use Rattle.saved_guest.specs.ScnSaved.ScnBase.declared.standing.MovedWire.{MovedWire}
 use Rattle.saved_guest.specs.State.{state_of}
-use Rattle.saved_guest.specs.Standing.{no_device, wires_of}
-use Rattle.saved_take.specs.Taken.{taken_of}
+use Rattle.saved_guest.specs.Standing.{no_device, wires_of, standing_of}
+use Rattle.saved_guest.specs.ScnSaved.ScnBase.declared.scenario.Scenario.{Scenario}
+use Rattle.saved_guest.specs.ScnSaved.ScnBase.declared.standing.Standing.{Standing}
+use Rattle.saved_take.specs.Taken.{taken_of, wires_at, standing_at, saved_of}
 
 -- a guest without an ITS has nothing in its registers, and no queue
 pub record IsWithoutIts (state : IdealGuest) : Type 0 where
@@ -53,3 +55,22 @@ abbrev pub WiresTellBack : Type 0
 WiresTellBack =
     (guest : GuestSpec) (wires : List (Option MovedWire)) (state : IdealGuest) → IsGoodGuest guest → IsSound state → state.shape ≡ guest.shape → interrupt_count state.shape ≤ length wires → AreLevels wires state
     → wires_of guest.shape (taken_of guest wires state).rec ≡ take (interrupt_count state.shape) wires
+
+-- a good guest is in a sound state, whose lines are as its wires, which stand with those of all guests
+pub record IsTaken (standing : Standing) (number : ℕ) (guest : GuestSpec) (state : IdealGuest) : Type 0 where
+  pub good : IsGoodGuest guest
+  pub sound : IsSound state
+  pub shape : state.shape ≡ guest.shape
+  pub levels : AreLevels (wires_at standing number) state
+
+-- so is each guest, the first of which has this number
+abbrev pub AreTaken : Standing → ℕ → List GuestSpec → List IdealGuest → Type 0
+AreTaken standing number [] [] = Unit {0}
+AreTaken standing number [] (state ∷ states) = ⊥
+AreTaken standing number (guest ∷ guests) [] = ⊥
+AreTaken standing number (guest ∷ guests) (state ∷ states) = IsTaken standing number guest state × AreTaken standing (number + 1) guests states
+
+-- law: what is saved of a scenario of which some steps were done tells where its vCPUs stand and how its wires are after them
+abbrev pub StandingTellsBack : Type 0
+StandingTellsBack =
+    (scenario : Scenario) (done : ℕ) (states : List IdealGuest) → AreTaken (standing_at scenario done) 0 scenario.guests states → standing_of (saved_of scenario done states) ≡ standing_at scenario done

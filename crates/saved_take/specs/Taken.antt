@@ -158,15 +158,17 @@ all_taken standing number (guest ∷ guests) (state ∷ states) = taken_of guest
 abbrev pub stands_after : List Step → Standing → Standing
 stands_after steps standing = fold (λ standing step. standing_after step standing) standing steps
 
+-- the standing after so many steps of a scenario
+abbrev pub standing_at : Scenario → ℕ → Standing
+standing_at scenario done = stands_after (take done scenario.steps) (opening_standing scenario.pes (shapes_of scenario.guests))
+
 -- what is saved of a scenario of which so many steps were done, which left the guests so
 abbrev pub saved_of : Scenario → ℕ → List IdealGuest → Saved
 saved_of scenario done states =
-    let gone = take done scenario.steps in
-    let standing = stands_after gone (opening_standing scenario.pes (shapes_of scenario.guests)) in
     record {
       scenario = record scenario { steps = drop done scenario.steps };
       done = done;
-      reads = count_by is_read gone;
-      on_pe = standing.pes;
-      state = all_taken standing 0 scenario.guests states;
+      reads = count_by is_read (take done scenario.steps);
+      on_pe = (standing_at scenario done).pes;
+      state = all_taken (standing_at scenario done) 0 scenario.guests states;
     }

@@ -8,7 +8,7 @@ mod registers;
 mod tests;
 mod whole;
 
-pub use law::{states_tell_back, wires_tell_back};
+pub use law::{standing_tells_back, states_tell_back, wires_tell_back};
 pub use saved_guest::{
     GuestSpec, GuestState, IdealGuest, ListOf, MovedWire, NoMemory, Saved, StateList,
 };
