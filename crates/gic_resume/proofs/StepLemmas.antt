@@ -1,5 +1,7 @@
 -- Steps as they are written read again.
 use Rattle.std.proofs.Common.{◌≡◌, ℕ, ◌+◌, ◌&&◌, not, Bool, true, false, IsTrue, List, [], ◌∷◌, length, map, All, Option, Some, None, Result, Ok, is_some, is_none, unwrap_or, refl, sym, ap, subst, ◌∙◌}
+use Rattle.std.specs.Prelude.{nat_lt}
+use Rattle.std.specs.List.{slice_get}
 use Rattle.std.proofs.lemmas.List.Elements.{All-head, All-tail}
 use Rattle.serde_json.proofs.OnLiterals.{serde_json_on_literals}
 use Rattle.scn_read.specs.ScnBase.Words.{IccReg, Iar0, Iar1, Hppir0, Hppir1, Eoir0, Eoir1, Dir, Rpr, Pmr, Bpr0, Bpr1, Ctlr, Igrpen0, Igrpen1, Ap0r0, Ap1r0, Sgi1r, Sre, name_of, register_named, GuestShape, Private, Spi, Lpi, Dist, Redist, Its, Ram, Icc, Mem, Message, Wire, Msi, Enter, Exit, Lrs}
@@ -46,9 +48,9 @@ by_numbers : ℕ → ℕ → ℕ → ℕ → Bool → Result Step ℕ
 by_numbers guest device number event short = ok_unless (first_met ((false, shape_code) ∷ (not short, limit_code) ∷ [])) (Device guest device (Msi number event))
 
 -- the LPIs have no wires
-no_wire : (guest device id : ℕ) (up : Bool) (found : Option GuestShape) → passes (λ shape. Rattle.std.specs.Prelude.nat_lt device shape.devices && is_good_event shape (Wire (Lpi id) up)) found ≡ true → ⊥
+no_wire : (guest device id : ℕ) (up : Bool) (found : Option GuestShape) → passes (λ shape. nat_lt device shape.devices && is_good_event shape (Wire (Lpi id) up)) found ≡ true → ⊥
 no_wire guest device id up None e = absurd (cc)
-no_wire guest device id up (Some shape) e = of (Rattle.std.specs.Prelude.nat_lt device shape.devices) e
+no_wire guest device id up (Some shape) e = of (nat_lt device shape.devices) e
   where
     of : (b : Bool) → (b && false) ≡ true → ⊥
     of true e = absurd (cc)
@@ -69,7 +71,7 @@ said_back pes shapes (Vcpu guest vcpu (Mem Ram offset size (Some value))) formed
 said_back pes shapes (Device guest device (Message spi)) formed short = refl
 said_back pes shapes (Device guest device (Wire (Private vcpu id) up)) formed short = refl
 said_back pes shapes (Device guest device (Wire (Spi id) up)) formed short = refl
-said_back pes shapes (Device guest device (Wire (Lpi id) up)) formed short = absurd (no_wire guest device id up (Rattle.std.specs.List.slice_get shapes guest) formed)
+said_back pes shapes (Device guest device (Wire (Lpi id) up)) formed short = absurd (no_wire guest device id up (slice_get shapes guest) formed)
 said_back pes shapes (Device guest device (Msi number event)) formed short = ap (by_numbers guest device number event) short
 said_back pes shapes (Pe pe (Enter guest vcpu)) formed short = refl
 said_back pes shapes (Pe pe Exit) formed short = refl

@@ -1,5 +1,5 @@
 -- The plain words that are saved of a guest are its own, but for the number of a past fault.
-use Rattle.std.proofs.Common.{◌≡◌, ℕ, zero, suc, ◌+◌, ◌-◌, ◌*◌, ◌/◌, ◌<◌, ◌≤◌, ◌==◌, ◌++◌, Bool, true, false, if◌then◌else◌, cond, List, [], ◌∷◌, length, replicate, get_or, set, take, drop, map, inl, inr, Some, None, refl, sym, ap, subst, ◌∙◌, arith, append_assoc}
+use Rattle.std.proofs.Common.{◌≡◌, ltb, ℕ, zero, suc, ◌+◌, ◌-◌, ◌*◌, ◌/◌, ◌<◌, ◌≤◌, ◌==◌, ◌++◌, Bool, true, false, if◌then◌else◌, cond, List, [], ◌∷◌, length, replicate, get_or, set, take, drop, map, inl, inr, Some, None, refl, sym, ap, subst, ◌∙◌, arith, append_assoc}
 use Rattle.std.proofs.lemmas.Bool.{lt-ltb}
 use Rattle.std.proofs.lemmas.Bool.Decides.{eqb_tells}
 use Rattle.std.proofs.lemmas.List.{length-replicate, length-take-le, get_or-replicate, get_or-take, take-append-drop, drop_more, drop_all, set-append_right}
@@ -60,7 +60,7 @@ module _ (state : IdealGuest) (long : length state.words ≡ plain_count state.s
 
   -- ---- redistributors
 
-  own_word : (n vcpu : ℕ) → vcpu < state.shape.vcpus → cond (Rattle.std.proofs.Common.ltb vcpu state.shape.vcpus) (get_or state.words n 0) 0 ≡ get_or state.words n 0
+  own_word : (n vcpu : ℕ) → vcpu < state.shape.vcpus → cond (ltb vcpu state.shape.vcpus) (get_or state.words n 0) 0 ≡ get_or state.words n 0
   own_word n vcpu there = ap (λ b. cond b (get_or state.words n 0) 0) (lt-ltb vcpu state.shape.vcpus there)
 
   redists_from : (first count : ℕ) → first + count ≤ state.shape.vcpus
