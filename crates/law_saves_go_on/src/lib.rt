@@ -1,6 +1,6 @@
-//! A law of runs of the ideal controller that are saved and go on: of their text.
+//! Laws of runs of the ideal controller that are saved and go on: of their text.
 #![tactic(auto)]
 
 mod law;
 
-pub use law::save_then_resume;
+pub use law::{save_then_resume, saved_then_resumed};
