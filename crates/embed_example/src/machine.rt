@@ -22,8 +22,11 @@ pub const DEVICE: u32 = 2;
 pub const LIST_REGISTERS: u32 = 4;
 /// The distributor, the ITS, the redistributors one after the other, and the register of the device.
 pub const GICD: u64 = 0x0800_0000;
+
 pub const GITS: u64 = 0x0808_0000;
+
 pub const GICR: u64 = 0x080A_0000;
+
 pub const DOORBELL: u64 = 0x0A00_0000;
 /// Where the frames are.
 const LAYOUT: Layout = Layout {

@@ -6,6 +6,7 @@ use port_seq::IccReg;
 pub const SPI: u32 = 40;
 /// The DeviceID and the EventID of the device's messages.
 pub const DEVICE_ID: u32 = 8;
+
 pub const EVENT_ID: u32 = 3;
 /// The LPI that the guest maps them to.
 const LPI: u64 = 8195;
@@ -13,25 +14,43 @@ const LPI: u64 = 8195;
 const SGI: u64 = 5;
 /// The registers that the guest accesses.
 const GICD_CTLR: u64 = GICD;
+
 const GICD_IGROUPR1: u64 = GICD + 0x84;
+
 const GICD_ISENABLER1: u64 = GICD + 0x104;
+
 const GICD_ISACTIVER1: u64 = GICD + 0x304;
+
 const GICD_IPRIORITYR: u64 = GICD + 0x400;
+
 const GICD_ICFGR2: u64 = GICD + 0xC08;
+
 const GICD_IROUTER: u64 = GICD + 0x6000;
+
 const GICR_CTLR: u64 = GICR;
+
 const GICR_PROPBASER: u64 = GICR + 0x70;
+
 const GICR_PENDBASER: u64 = GICR + 0x78;
+
 const GICR_IGROUPR0: u64 = GICR + 0x1_0080;
+
 const GICR_ISENABLER0: u64 = GICR + 0x1_0100;
+
 const GICR_IPRIORITYR: u64 = GICR + 0x1_0400;
+
 const GITS_CTLR: u64 = GITS;
+
 const GITS_CBASER: u64 = GITS + 0x80;
+
 const GITS_CWRITER: u64 = GITS + 0x88;
+
 const GITS_CREADR: u64 = GITS + 0x90;
 /// In the guest's memory: the queue of the ITS, and the configuration bytes of LPIs, which begin at 8192.
 const QUEUE: u64 = 0x1000;
+
 const CONFIGURATION: u64 = 0x3000;
+
 const FIRST_LPI: u64 = 8192;
 
 fn store(address: u64, size: u32, value: u64) -> Exit {

@@ -13,8 +13,8 @@ use crate::identity::typer;
 use crate::machine::Machine;
 use guest_memory::{Access, Base, Bases};
 use ideal_guest::{
-    DistReg, DistRegRef, Frame, GuestShape, Half, ItsReg, ItsRegRef, RedistReg,
-    RedistRegRef, call_its_access, dist_access, redist_access,
+    DistReg, DistRegRef, Frame, GuestShape, Half, ItsReg, ItsRegRef, RedistReg, RedistRegRef,
+    call_its_access, dist_access, redist_access,
 };
 
 /// What an access is to that the machine answers itself.

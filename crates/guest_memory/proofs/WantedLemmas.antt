@@ -77,24 +77,24 @@ right false b h = h
 
 -- a doubleword of a command is in one of the two spans of the commands, which begin at the queue's first byte
 command_in : (queue : ℕ) (commands : Commands) (number k : ℕ) → AreInQueue commands → number < commands.count → k < 4
-  → IsTrue (list_any (is_in (queue + (command_offset commands number + 8 * k))) (span (queue + commands.offset) (until_end commands) ∷ span queue (32 * commands.count - until_end commands) ∷ []))
+    → IsTrue (list_any (is_in (queue + (command_offset commands number + 8 * k))) (span (queue + commands.offset) (until_end commands) ∷ span queue (32 * commands.count - until_end commands) ∷ []))
 command_in queue commands number k is few small = elim (cases_lt (commands.offset + 32 * number) commands.bytes) [
   | inl before ↦
-    let at : command_offset commands number ≡ commands.offset + 32 * number = mod_small (commands.offset + 32 * number) commands.bytes before in
-    let low : queue + commands.offset ≤ queue + (command_offset commands number + 8 * k) = omega (arith, at) in
-    let high : queue + (command_offset commands number + 8 * k) < queue + commands.offset + until_end commands = omega (arith, at, before, few, small, is.place, is.whole) in
-    left (is_in (queue + (command_offset commands number + 8 * k)) (span (queue + commands.offset) (until_end commands))) _ (inside (queue + (command_offset commands number + 8 * k)) (queue + commands.offset) (until_end commands) low high)
+      let at : command_offset commands number ≡ commands.offset + 32 * number = mod_small (commands.offset + 32 * number) commands.bytes before in
+      let low : queue + commands.offset ≤ queue + (command_offset commands number + 8 * k) = omega (arith, at) in
+      let high : queue + (command_offset commands number + 8 * k) < queue + commands.offset + until_end commands = omega (arith, at, before, few, small, is.place, is.whole) in
+      left (is_in (queue + (command_offset commands number + 8 * k)) (span (queue + commands.offset) (until_end commands))) _ (inside (queue + (command_offset commands number + 8 * k)) (queue + commands.offset) (until_end commands) low high)
   | inr past ↦
-    let at : command_offset commands number ≡ commands.offset + 32 * number - commands.bytes = mod_once (commands.offset + 32 * number) commands.bytes past (omega (arith, few, is.offset, is.few)) in
-    let low : queue ≤ queue + (command_offset commands number + 8 * k) = omega arith in
-    let high : queue + (command_offset commands number + 8 * k) < queue + (32 * commands.count - until_end commands) = omega (arith, at, past, few, small, is.offset) in
-    right (is_in (queue + (command_offset commands number + 8 * k)) (span (queue + commands.offset) (until_end commands))) _
-    (left (is_in (queue + (command_offset commands number + 8 * k)) (span queue (32 * commands.count - until_end commands))) _ (inside (queue + (command_offset commands number + 8 * k)) queue (32 * commands.count - until_end commands) low high))
+      let at : command_offset commands number ≡ commands.offset + 32 * number - commands.bytes = mod_once (commands.offset + 32 * number) commands.bytes past (omega (arith, few, is.offset, is.few)) in
+      let low : queue ≤ queue + (command_offset commands number + 8 * k) = omega arith in
+      let high : queue + (command_offset commands number + 8 * k) < queue + (32 * commands.count - until_end commands) = omega (arith, at, past, few, small, is.offset) in
+      right (is_in (queue + (command_offset commands number + 8 * k)) (span (queue + commands.offset) (until_end commands))) _
+      (left (is_in (queue + (command_offset commands number + 8 * k)) (span queue (32 * commands.count - until_end commands))) _ (inside (queue + (command_offset commands number + 8 * k)) queue (32 * commands.count - until_end commands) low high))
 ]
 
 -- a doubleword of a configuration table is in the span of the first vCPU that has the table
 table_in : (guest : IdealGuest) (bases : Bases) (commands : Commands) (vcpu n : ℕ) → 0 < commands.count → vcpu < guest.shape.vcpus → vcpu < 32 → is_first bases vcpu ≡ true → n < (all_doublewords guest.shape).count
-  → IsTrue (list_any (is_in (table_of bases vcpu + 8 * n)) (map (table_span guest bases commands) (range_with_len 0 32)))
+    → IsTrue (list_any (is_in (table_of bases vcpu + 8 * n)) (map (table_span guest bases commands) (range_with_len 0 32)))
 table_in guest bases commands vcpu n some there few first below =
     let spans = map (table_span guest bases commands) (range_with_len 0 32) in
     let address = table_of bases vcpu + 8 * n in
@@ -153,8 +153,8 @@ words_in_all (Err bad) guest n h = absurd (omega (arith, h))
 
 -- steps one after the other are steps of another kind, where each is and keeps the guest's shape
 in_turn : (Step Other : ℕ → IdealGuest → IdealGuest → Type 0) (shape : GuestShape) (n : ℕ)
-  → ((number : ℕ) (before after : IdealGuest) → number < n → before.shape ≡ shape → Step number before after → Other number before after × (after.shape ≡ shape))
-  → (before after : IdealGuest) → before.shape ≡ shape → InTurn Step n before after → InTurn Other n before after × (after.shape ≡ shape)
+    → ((number : ℕ) (before after : IdealGuest) → number < n → before.shape ≡ shape → Step number before after → Other number before after × (after.shape ≡ shape))
+    → (before after : IdealGuest) → before.shape ≡ shape → InTurn Step n before after → InTurn Other n before after × (after.shape ≡ shape)
 in_turn Step Other shape zero each before after is same = (same, ap (λ (guest : IdealGuest). guest.shape) same ∙ is)
 in_turn Step Other shape (suc n) each before after is (between, first, last) =
     let so_far = in_turn Step Other shape n (λ number b a h. each number b a (omega (arith, h))) before between is first in
@@ -179,14 +179,14 @@ some_shape bases table at value (suc n) guest = one (table_of bases n == table) 
 
 -- a read at an address that is wanted, and the store of its answer
 read_wanted : (wants : Wants) (May : ℕ → Option ℕ → Type 0) (address : ℕ) (put : ℕ → IdealGuest → IdealGuest) (shape : GuestShape)
-  → ((value : ℕ) (guest : IdealGuest) → (put value guest).shape ≡ guest.shape) → IsTrue (is_wanted wants address)
-  → (before after : IdealGuest) → before.shape ≡ shape → IsRead May address put before after → IsRead (Wanted wants May) address put before after × (after.shape ≡ shape)
+    → ((value : ℕ) (guest : IdealGuest) → (put value guest).shape ≡ guest.shape) → IsTrue (is_wanted wants address)
+    → (before after : IdealGuest) → before.shape ≡ shape → IsRead May address put before after → IsRead (Wanted wants May) address put before after × (after.shape ≡ shape)
 read_wanted wants May address put shape keeps is before after was read =
     (record { answer = read.answer; may = (is, read.may); is = read.is }, ap (λ (guest : IdealGuest). guest.shape) read.is ∙ keeps (unwrap_or read.answer 0) before ∙ was)
 
 -- what an access copies is wanted
 pub only_wanted : (May : ℕ → Option ℕ → Type 0) (bases : Bases) (access : Access) (before after : IdealGuest) → IsSound before → AreInQueue (commands_of access access.frame before)
-  → IsCopied May bases access before after → IsCopied (Wanted (wanted_by before bases access) May) bases access before after
+    → IsCopied May bases access before after → IsCopied (Wanted (wanted_by before bases access) May) bases access before after
 only_wanted May bases access before after sound queue copied =
     let taken = in_turn (λ number. IsCommandCopied May bases (command_offset commands number)) (λ number. IsCommandCopied Only bases (command_offset commands number)) before.shape commands.count each_command before copied.queued refl copied.commands in
     record {
@@ -237,7 +237,7 @@ only_wanted May bases access before after sound queue copied =
         (by_commands (address_of Queue bases.queue + at) (command_in (address_of Queue bases.queue) commands number k queue few small)) b a is read
 
     each_table : (number : ℕ) → number < commands.count → (words : Result Command BadCommand) (guest : IdealGuest) → guest.shape ≡ before.shape
-      → (vcpu : ℕ) (b a : IdealGuest) → vcpu < guest.shape.vcpus → b.shape ≡ before.shape → IsTableCopied May bases (read_by_words words guest) vcpu b a → IsTableCopied Only bases (read_by_words words guest) vcpu b a × (a.shape ≡ before.shape)
+        → (vcpu : ℕ) (b a : IdealGuest) → vcpu < guest.shape.vcpus → b.shape ≡ before.shape → IsTableCopied May bases (read_by_words words guest) vcpu b a → IsTableCopied Only bases (read_by_words words guest) vcpu b a × (a.shape ≡ before.shape)
     each_table number few words guest same vcpu b a there is copied = of (is_first bases vcpu) refl copied
       where
         wanted : Doublewords
@@ -253,7 +253,7 @@ only_wanted May bases access before after sound queue copied =
         in_all n h = subst (λ (shape : GuestShape). wanted.first + n < (all_doublewords shape).count) same (words_in_all words guest n h)
 
         one : is_first bases vcpu ≡ true → (n : ℕ) (b a : IdealGuest) → n < wanted.count → b.shape ≡ before.shape
-          → IsRead May (table + 8 * (wanted.first + n)) (put_all bases table (8 * (wanted.first + n))) b a → IsRead Only (table + 8 * (wanted.first + n)) (put_all bases table (8 * (wanted.first + n))) b a × (a.shape ≡ before.shape)
+            → IsRead May (table + 8 * (wanted.first + n)) (put_all bases table (8 * (wanted.first + n))) b a → IsRead Only (table + 8 * (wanted.first + n)) (put_all bases table (8 * (wanted.first + n))) b a × (a.shape ≡ before.shape)
         one first n b a h was read =
             let at = 8 * (wanted.first + n) in
             read_wanted wants May (table + at) (put_all bases table at) before.shape (λ value guest. some_shape bases table at value guest.shape.vcpus guest)

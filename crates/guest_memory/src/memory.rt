@@ -9,8 +9,8 @@ ghost use Rattle.guest_memory.specs.Bases.{address_of, base_in};
 ghost use Rattle.guest_memory.specs.Wants.{Wanted, wanted_by};
 ghost use Rattle.guest_memory.specs.Memory.{AreInQueue, AreInTable, InTurn, IsRead, put_at, IsFetched, word_found, words_at, read_by_words, table_of, is_first as is_first_of, put_one, put_all, AreCopied, for_first as own_doublewords, IsTableCopied, IsCommandCopied, AreCommandsCopied, IsPending, IsCopied, IsKeptBut};
 
-use crate::base::{Base, Bases};
 use crate::access::Access;
+use crate::base::{Base, Bases};
 use crate::reads::{
     Commands, DOUBLEWORD, Doublewords, NO_DOUBLEWORDS, PendingTable, commands_taken,
     doublewords_read, table_read,
@@ -374,12 +374,7 @@ fn copy_pending<M: GuestMemory>(
 }
 
 /// Copies what an access makes the GIC read of the guest's memory.
-pub fn copy<M: GuestMemory>(
-    guest: &mut IdealGuest,
-    memory: &M,
-    bases: &Bases,
-    access: &Access,
-)
+pub fn copy<M: GuestMemory>(guest: &mut IdealGuest, memory: &M, bases: &Bases, access: &Access)
     requires sound { IsSound guest.old }
     requires size { IsTrue (is_size access.now.size) }
     requires fits { IsTrue (fits access.now.size access.now.write) }

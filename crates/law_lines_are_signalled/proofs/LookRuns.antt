@@ -61,7 +61,7 @@ free offer = is_none offer.irq.holder && not offer.irq.want
 
 -- the candidates of a guest are those of its interrupts that are deliverable, in their order
 of_places : (guest : IdealGuest) (vcpu : ℕ) (places : List ℕ)
-  → filter_map (candidate_at guest vcpu) places ≡ map shown (filter (is_deliverable_to vcpu (cpu_at guest vcpu) guest.shape) (map (λ place. offer_home guest (key_at guest.shape place)) places))
+    → filter_map (candidate_at guest vcpu) places ≡ map shown (filter (is_deliverable_to vcpu (cpu_at guest vcpu) guest.shape) (map (λ place. offer_home guest (key_at guest.shape place)) places))
 of_places guest vcpu [] = refl
 of_places guest vcpu (place ∷ places) = of (is_deliverable_to vcpu (cpu_at guest vcpu) guest.shape (offer_home guest (key_at guest.shape place))) (of_places guest vcpu places)
   where

@@ -21,14 +21,7 @@ pub trait TakesTurns<S, E> {
 
 /// The thread of an actor: one turn after the other, asleep between them, until it is through or all are to stop. Where a turn fails, all are.
 #[tactic(auto, using(crate::proofs::SameLemmas::same_twice, crate::proofs::SameLemmas::same_here))]
-pub fn take_turns<
-    P: Port,
-    S,
-    E: Drop,
-    T: TakesTurns<S, E>,
-    R: Wait,
-    const ACTORS: usize,
->(
+pub fn take_turns<P: Port, S, E: Drop, T: TakesTurns<S, E>, R: Wait, const ACTORS: usize>(
     rt: &R,
     port: &mut P,
     who: &mut T,
