@@ -18,7 +18,7 @@ mod wants;
 pub use done::{Done, NotDone, NotMine, Refused};
 pub use encoding::Encoding;
 pub use gic_line::Lines;
-pub use guest_memory::{GuestMemory, Span, Wants};
+pub use guest_memory::{GuestMemory, MOST_WANTED, SPANS, Span, Wants};
 pub use ideal_guest::IccReg;
 pub use layout::{Layout, MachineSpec};
 pub use lines::lines_tell_answers;

@@ -1,3 +1,4 @@
 pub mod ListLemmas
 pub mod MemoryLemmas
 pub mod WantedLemmas
+pub mod FewLemmas

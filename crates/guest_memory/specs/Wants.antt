@@ -1,5 +1,5 @@
 -- Where the guest has what an access may make the GIC read: told before the access, and so before the commands are there.
-use Rattle.std.specs.Prelude.{ℕ, ◌+◌, ◌-◌, ◌*◌, ◌==◌, ◌&&◌, ◌||◌, nat_le, nat_lt, min, Bool, IsTrue, List, [], ◌∷◌, map, if◌then◌else◌, Option}
+use Rattle.std.specs.Prelude.{ℕ, ◌+◌, ◌-◌, ◌*◌, ◌==◌, ◌&&◌, ◌||◌, nat_le, nat_lt, min, Bool, IsTrue, List, [], ◌∷◌, ◌++◌, map, if◌then◌else◌, Option}
 use Rattle.std.specs.List.{range_with_len, list_any}
 use Rattle.ideal_guest.specs.declared.guest.IdealGuest.{IdealGuest}
 use Rattle.guest_memory.specs.declared.base.Base.TheVariants.{Queue, Pending}
@@ -66,3 +66,16 @@ is_wanted wants address = list_any (is_in address) wants.commands || list_any (i
 -- of what reads of memory may answer, that at the addresses that are wanted
 abbrev pub Wanted : Wants → (ℕ → Option ℕ → Type 0) → ℕ → Option ℕ → Type 0
 Wanted wants May address answer = IsTrue (is_wanted wants address) × May address answer
+
+-- all spans, the commands first
+abbrev pub spans_in : Wants → List Span
+spans_in wants = wants.commands ++ wants.tables ++ wants.pending ∷ []
+
+-- the bytes of spans, all together
+abbrev pub bytes_in : List Span → ℕ
+bytes_in [] = 0
+bytes_in (span ∷ spans) = span.bytes + bytes_in spans
+
+-- no access wants more: the largest queue, a configuration table of 4096 LPIs for each of 32 vCPUs, and the bits of as many LPIs in a pending table
+abbrev pub most_wanted : ℕ
+most_wanted = 0x100000 + 32 * 4096 + 512

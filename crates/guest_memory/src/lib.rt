@@ -10,4 +10,4 @@ mod wants;
 pub use access::Access;
 pub use base::{Base, Bases, MEMORY_BYTES, VCPUS};
 pub use memory::{GuestMemory, copy};
-pub use wants::{NO_WANTS, Span, Wants, wanted};
+pub use wants::{MOST_WANTED, NO_WANTS, SPANS, Span, Wants, wanted};

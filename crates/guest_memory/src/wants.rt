@@ -1,11 +1,11 @@
 //! Where the guest has what an access may make the GIC read.
-ghost use Rattle.std.specs.Prelude.{◌≡◌, ◌<◌, ◌≤◌, IsTrue, map};
+ghost use Rattle.std.specs.Prelude.{◌≡◌, ◌*◌, ◌<◌, ◌≤◌, IsTrue, map};
 ghost use Rattle.std.specs.List.{range_with_len};
 ghost use Rattle.ideal_guest.specs.Registers.{is_size};
 ghost use Rattle.ideal_guest.specs.Calls.{fits, has_frame};
 ghost use Rattle.ideal_guest.specs.Sound.{IsSound};
 ghost use Rattle.guest_memory.specs.Memory.{AreInQueue};
-ghost use Rattle.guest_memory.specs.Wants.{command_spans, table_span, pending_span, wanted_by, no_wants};
+ghost use Rattle.guest_memory.specs.Wants.{command_spans, table_span, pending_span, wanted_by, no_wants, spans_in, bytes_in, most_wanted};
 
 use crate::access::Access;
 use crate::base::{Base, Bases, VCPUS};
@@ -46,10 +46,35 @@ pub const NO_WANTS: Wants = Wants {
     pending: NO_SPAN,
 };
 
+/// How many spans the commands have.
+const COMMANDS: usize = 2;
+/// How many spans there are in all.
+pub const SPANS: usize = 35;
+/// The most bytes that all spans of an access have together: the largest queue, a configuration table of 4096 LPIs for each of 32 vCPUs, and their bits
+/// in a pending table.
+pub const MOST_WANTED: usize = 0x10_0000 + 32 * 4096 + 512;
+
+impl Wants {
+    /// All spans: the commands', then the tables', then the pending table's.
+    pub fn spans(self) -> [Span; SPANS]
+        ensures { result ≡ spans_in self }
+    {
+        let mut spans = [self.pending; SPANS];
+        for place in 0..COMMANDS {
+            spans[place] = self.commands[place];
+        }
+        for place in 0..VCPUS {
+            spans[COMMANDS + place] = self.tables[place];
+        }
+        spans
+    }
+}
+
 /// Where the commands are.
 fn spans_of(bases: &Bases, commands: &Commands) -> [Span; 2]
     requires { AreInQueue commands.now }
-    ensures { result ≡ command_spans bases.now commands.now }
+    ensures value { result ≡ command_spans bases.now commands.now }
+    ensures few { bytes_in result ≤ 0x100000 }
 {
     let queue = Base::Queue.address(bases.queue);
     let all = COMMAND_BYTES * commands.count;
@@ -85,7 +110,8 @@ fn span_of_table(guest: &IdealGuest, bases: &Bases, commands: &Commands, vcpu: u
 /// Those of each vCPU.
 fn spans_of_tables(guest: &IdealGuest, bases: &Bases, commands: &Commands) -> [Span; VCPUS]
     requires { IsSound guest.now }
-    ensures { result ≡ map (table_span guest.now bases.now commands.now) (range_with_len 0 32) }
+    ensures value { result ≡ map (table_span guest.now bases.now commands.now) (range_with_len 0 32) }
+    ensures few { bytes_in result ≤ 32 * 4096 }
 {
     let mut spans = [NO_SPAN; VCPUS];
     for vcpu in 0..32 {
@@ -98,7 +124,8 @@ fn spans_of_tables(guest: &IdealGuest, bases: &Bases, commands: &Commands) -> [S
 fn span_of_pending(bases: &Bases, pending: PendingTable) -> Span
     requires there { pending.vcpu < 32 }
     requires few { pending.count ≤ 64 }
-    ensures { result ≡ pending_span bases.now pending }
+    ensures value { result ≡ pending_span bases.now pending }
+    ensures few { result.bytes ≤ 512 }
 {
     if pending.count == 0 {
         return NO_SPAN;
@@ -117,7 +144,8 @@ pub fn wanted(guest: &IdealGuest, bases: &Bases, access: &Access) -> Wants
     requires size { IsTrue (is_size access.now.size) }
     requires fits { IsTrue (fits access.now.size access.now.write) }
     requires frame { IsTrue (has_frame guest.now.shape access.now.frame) }
-    ensures { result ≡ wanted_by guest.now bases.now access.now }
+    ensures value { result ≡ wanted_by guest.now bases.now access.now }
+    ensures few { bytes_in (spans_in result) ≤ most_wanted }
 {
     let commands = commands_taken(guest, access);
     Wants {

@@ -1,6 +1,8 @@
-use Rattle.std.proofs.Common.{◌∙◌, arith}
+use Rattle.std.proofs.Common.{◌*◌, ◌≤◌, List, subst, sym, ◌∙◌, arith}
 use Rattle.std.proofs.lemmas.List.{length-set}
-use Rattle.guest_memory.specs.Wants.{no_span, table_span}
+use Rattle.guest_memory.specs.declared.wants.Span.{Span}
+use Rattle.guest_memory.specs.Wants.{no_span, table_span, bytes_in}
+use Rattle.guest_memory.proofs.FewLemmas.{few_in_tables}
 use Rattle.guest_memory.proofs.ListLemmas.{put_next, all_of}
 use Rattle.guest_memory.proofs.wants.spans_of_tables.Goals as goal
 
@@ -15,7 +17,11 @@ loop-vcpu-preserved c =
           put_next spans n c.span_of_table.result no_span (table_span c.args.guest.now c.args.bases.now c.args.commands.now) (omega (arith, c.loop-vcpu-test.true, is.long)) c.span_of_table.ensures is.each;
     }
 
-pub returns : goal.returns
-returns c =
+pub returns-clause-value : goal.returns-clause-value
+returns-clause-value c =
     let is = c.loop-vcpu.invariant in
     all_of c.loop-vcpu.spans 32 no_span (table_span c.args.guest.now c.args.bases.now c.args.commands.now) is.long (λ i h. is.each i (omega (arith, h, c.loop-vcpu-test.false)))
+
+pub returns-clause-few : goal.returns-clause-few
+returns-clause-few c =
+    subst (λ (spans : List Span). bytes_in spans ≤ 32 * 4096) (sym (returns-clause-value c)) (few_in_tables c.args.guest.now c.args.bases.now c.args.commands.now c.requires)

@@ -1,0 +1,10 @@
+pub mod Owned
+pub mod Mark
+pub mod Feed
+pub mod Board
+pub mod Handle
+pub mod Answer
+pub mod Calls
+pub mod Fetch
+pub mod Mmio
+pub mod Open
