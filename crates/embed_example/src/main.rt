@@ -10,7 +10,6 @@ mod threads;
 mod vcpu;
 
 use port_seq::{pending, unpack};
-use port_table::GuestWords;
 use std::io;
 use vcpu::Vcpu;
 
@@ -27,11 +26,6 @@ fn is_idle(word: &u64) -> bool {
     unpack(*word).is_some_and(|irq| !pending(&irq) && irq.act_by.is_none())
 }
 
-/// So do all words of interrupts that a guest ended with.
-fn are_idle(guest: &GuestWords) -> bool {
-    guest.irqs.iter().all(is_idle)
-}
-
 fn main(rt: HostRuntime) -> anyhow::Result<()> {
     let (boot, other) = (program::first(), program::second());
     let mut first = Vcpu::new(rt.alloc(), &boot)?;
@@ -39,7 +33,7 @@ fn main(rt: HostRuntime) -> anyhow::Result<()> {
     let ends = threads::run(&rt, rt.alloc(), &mut first, &mut second)?;
     print_reads(&rt, 0, &first)?;
     print_reads(&rt, 1, &second)?;
-    let are_all_idle = ends.iter().all(are_idle);
+    let are_all_idle = ends.iter().all(|guest| guest.irqs.iter().all(is_idle));
     println!(rt; "no interrupt is left: {are_all_idle}")?;
     Ok(())
 }

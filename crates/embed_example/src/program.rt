@@ -12,9 +12,7 @@ pub const EVENT_ID: u32 = 3;
 const LPI: u64 = 8195;
 /// The SGI by which vCPU 1 says that it is done.
 const SGI: u64 = 5;
-/// The registers that the guest accesses.
-const GICD_CTLR: u64 = GICD;
-
+/// The registers that the guest accesses; CTLR stands first in each frame.
 const GICD_IGROUPR1: u64 = GICD + 0x84;
 
 const GICD_ISENABLER1: u64 = GICD + 0x104;
@@ -27,8 +25,6 @@ const GICD_ICFGR2: u64 = GICD + 0xC08;
 
 const GICD_IROUTER: u64 = GICD + 0x6000;
 
-const GICR_CTLR: u64 = GICR;
-
 const GICR_PROPBASER: u64 = GICR + 0x70;
 
 const GICR_PENDBASER: u64 = GICR + 0x78;
@@ -38,8 +34,6 @@ const GICR_IGROUPR0: u64 = GICR + 0x1_0080;
 const GICR_ISENABLER0: u64 = GICR + 0x1_0100;
 
 const GICR_IPRIORITYR: u64 = GICR + 0x1_0400;
-
-const GITS_CTLR: u64 = GITS;
 
 const GITS_CBASER: u64 = GITS + 0x80;
 
@@ -84,8 +78,8 @@ fn read(reg: IccReg) -> Exit {
 pub fn first() -> [Exit; 38] {
     [
         // Affinity routing and group 1; SPI 40 in group 1, edge-triggered, at priority 0x80, for vCPU 1.
-        store(GICD_CTLR, 4, 0x12),
-        load(GICD_CTLR, 4),
+        store(GICD, 4, 0x12),
+        load(GICD, 4),
         store(GICD_IGROUPR1, 4, 0x100),
         store(GICD_ICFGR2, 4, 0x2_0000),
         store(GICD_IPRIORITYR + 40, 1, 0x80),
@@ -99,11 +93,11 @@ pub fn first() -> [Exit; 38] {
         store(CONFIGURATION + (LPI - FIRST_LPI), 1, 0x61),
         store(GICR_PROPBASER, 8, CONFIGURATION | 13),
         store(GICR_PENDBASER, 8, 1 << 62),
-        store(GICR_CTLR, 4, 1),
+        store(GICR, 4, 1),
         // The queue of one page, with MAPD of device 8 with 5 bits of EventID, MAPC of collection 1 to vCPU 0, MAPTI of event 3 to
         // the LPI in collection 1, and SYNC of vCPU 0. Doublewords of 0 are there already.
         store(GITS_CBASER, 8, 1 << 63 | QUEUE),
-        store(GITS_CTLR, 4, 1),
+        store(GITS, 4, 1),
         store(QUEUE, 8, 0x0000_0008_0000_0008),
         store(QUEUE + 0x08, 8, 4),
         store(QUEUE + 0x10, 8, 0x8000_0000_0000_2000),

@@ -88,19 +88,6 @@ fn run_all<R: Threads + Wait + Sync>(
     Ok(root)
 }
 
-/// The words of the machine as it opens, and its root.
-fn open(alloc: Global) -> Result<(SharedWords, RootSeat), Fault>
-    ensures alone { IfOk result (λ both. IsAlone (told_words both.0)) }
-    ensures roots { IfOk result (λ both. AreRoots (told_words both.0) (told_root both.1)) }
-    ensures fresh { IfOk result (λ both. told_root both.1 ≡ map opening_root (told_words both.0)) }
-{
-    let scenario = one_guest(alloc, SHAPE, false, &[])?;
-    if !scenario.is_good(alloc, Mode::Threads)? {
-        return Err(Fault::BadGuest);
-    }
-    Ok(start(alloc, &scenario)?)
-}
-
 /// Runs the machine from its opening: the words that its guest ends with.
 pub fn run<R: Threads + Wait + Sync>(
     rt: &R,
@@ -108,7 +95,11 @@ pub fn run<R: Threads + Wait + Sync>(
     first: &mut Vcpu,
     second: &mut Vcpu,
 ) -> Result<EndWords, Fault> {
-    let (words, root) = open(alloc)?;
+    let scenario = one_guest(alloc, SHAPE, false, &[])?;
+    if !scenario.is_good(alloc, Mode::Threads)? {
+        return Err(Fault::BadGuest);
+    }
+    let (words, root) = start(alloc, &scenario)?;
     let root = run_all(rt, &words, root, first, second)?;
     finish(alloc, words, root).map_err(|_| Fault::NoMemory(AllocError))
 }

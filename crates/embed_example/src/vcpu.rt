@@ -46,11 +46,10 @@ fn handle<P: Port, R: Wait>(
 {
     match exit {
         Exit::WaitForInterrupt => {
-            let first = icc_op(rt, port, vcpu, IccReg::Hppir1, None);
-            if first == Some(NO_INTERRUPT) {
-                return Ok(After::Waits);
+            match icc_op(rt, port, vcpu, IccReg::Hppir1, None) {
+                Some(NO_INTERRUPT) => Ok(After::Waits),
+                _ => Ok(After::GoesOn(None)),
             }
-            Ok(After::GoesOn(None))
         }
         Exit::Mmio { address, .. } if address == DOORBELL => {
             signals.ring();
