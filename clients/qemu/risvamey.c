@@ -23,7 +23,6 @@ OBJECT_DECLARE_SIMPLE_TYPE(Risvamey, RISVAMEY)
 enum {
     MAX_CPUS = 16,
     PRIVATE_COUNT = 32,         /* SGIs and PPIs of a CPU               */
-    FIRST_PPI = 16,
     FIRST_SPI = 32,
     LPIS = 4096,                /* LPIs, 8192 to 12287                  */
 };
@@ -307,6 +306,7 @@ static void gic_realize(DeviceState *dev, Error **errp)
     }
     error_setg(&s->blocker, "risvamey has no migration");
     if (migrate_add_blocker(s->blocker, errp) < 0) {
+        rv_destroy(&s->machine);
         return;
     }
     address_space_init(&s->memory, s->sysmem ?: get_system_memory(), "risvamey");

@@ -48,7 +48,8 @@ put_at place value guest = after_op (Mem Ram place 8 (Some value)) guest 0
 abbrev pub no_commands : Commands
 no_commands = record { offset = 0; count = 0; bytes = 4096 }
 
--- the commands from GITS_CREADR to the offset in a value for GITS_CWRITER, round the queue's end
+-- the commands from GITS_CREADR to the offset in a value for GITS_CWRITER, round the queue's end (GITS_CREADR is below the queue's
+-- bytes, since a write of GITS_CBASER makes it 0, so that the remainder is itself; nothing here asks for that)
 abbrev pub commands_to : IdealGuest → ℕ → Commands
 commands_to guest value =
     let bytes = queue_bytes (word_at guest Cbaser) in
