@@ -12,7 +12,7 @@ TOKEN = re.compile(
     |(?P<mark>.)""",
     re.VERBOSE | re.DOTALL,
 )
-ESCAPE = re.compile(rb"\\(?:x([0-9A-Fa-f]{2})|\n\s*|(.))", re.DOTALL)
+ESCAPE = re.compile(rb"\\(?:x([0-9A-Fa-f]{2})|u\{([0-9A-Fa-f_]+)\}|\n\s*|(.))", re.DOTALL)
 ESCAPES = {b"n": b"\n", b"t": b"\t", b"r": b"\r", b"0": b"\0", b"\\": b"\\", b'"': b'"', b"'": b"'"}
 PAIRS = {"(": ")", "[": "]", "{": "}"}
 
@@ -34,7 +34,9 @@ def unescaped(text):
     def byte_of(match):
         if match[1]:
             return bytes([int(match[1], 16)])
-        return ESCAPES[match[2]] if match[2] else b""
+        if match[2]:
+            return chr(int(match[2], 16)).encode()
+        return ESCAPES[match[3]] if match[3] else b""
     return ESCAPE.sub(byte_of, text.encode())
 
 

@@ -248,8 +248,8 @@ def linked_tests(root):
 
 
 def looks_like_part(text):
-    """A text may be a part of a scenario: it is no format of texts, and no line that tells a fault."""
-    return '"guests"' in text and "{{" not in text and not HINT.match(text)
+    """A text may be a part of a scenario: it is no format of texts, no image of a saved run, and no line that tells a fault."""
+    return '"guests"' in text and "{{" not in text and '"done"' not in text and not HINT.match(text)
 
 
 def left_out(root, rows):

@@ -37,25 +37,3 @@ impl Half {
         }
     }
 }
-
-#[cfg(test)]
-mod tests {
-    use crate::bank::Half;
-
-    #[test]
-    fn halves(rt: HostRuntime) {
-        let stored = 0x1122_3344_5566_7788;
-        assert_eq!(rt; Half::Low.of(stored), 0x5566_7788);
-        assert_eq!(rt; Half::High.of(stored), 0x1122_3344);
-        assert_eq!(rt; Half::Whole.of(stored), stored);
-        assert_eq!(rt;
-            Half::Low.written(stored, 0xaabb_ccdd),
-            0x1122_3344_aabb_ccdd
-        );
-        assert_eq!(rt;
-            Half::High.written(stored, 0xaabb_ccdd),
-            0xaabb_ccdd_5566_7788
-        );
-        assert_eq!(rt; Half::Whole.written(stored, 1), 1);
-    }
-}

@@ -47,25 +47,3 @@ pub fn with_part(kind: Kind, value: u64, part: u64, number: u32) -> u64
 pub fn joining_undoes_cutting()
     ensures { JoiningUndoesCutting }
 {}
-
-#[cfg(test)]
-mod tests {
-    use super::{part_in, with_part};
-    use floor_words::Kind;
-
-    #[test]
-    fn parts(rt: HostRuntime) {
-        assert_eq!(rt; part_in(Kind::SetEnable, 0x8000_0001, 31), 1);
-        assert_eq!(rt; part_in(Kind::SetEnable, 0x8000_0001, 30), 0);
-        assert_eq!(rt; part_in(Kind::Priority, 0xa0_b0_c0_d0, 2), 0xb0);
-        assert_eq!(rt; part_in(Kind::Config, 0x2000_0008, 14), 2);
-        assert_eq!(rt; part_in(Kind::Routing, 0x12_0034_5678, 0), 0x12_0034_5678);
-        assert_eq!(rt; with_part(Kind::Group, 1, 1, 31), 0x8000_0001);
-        assert_eq!(rt; with_part(Kind::Priority, 0xc0d0, 0xb0, 2), 0xb0_c0d0);
-        assert_eq!(rt; with_part(Kind::Config, 0, 2, 15), 0x8000_0000);
-        assert_eq!(rt;
-            with_part(Kind::Routing, 0, 0x12_0034_5678, 0),
-            0x12_0034_5678
-        );
-    }
-}

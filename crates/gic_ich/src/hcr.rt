@@ -90,15 +90,3 @@ pub fn masks_are_bits()
     ensures tdir { HCR_TDIR ≡ 2 ^ hcr_tdir }
     ensures eoicount { HCR_EOICOUNT ≡ 2 ^ hcr_eoicount }
 {}
-
-#[cfg(test)]
-mod tests {
-    use super::{HCR_GROUP_1_ALONE, HCR_GROUP_1_CUT, HCR_GROUP_1_TRAPPING};
-
-    #[test]
-    fn what_is_asked_for_group_1(rt: HostRuntime) {
-        assert_eq!(rt; HCR_GROUP_1_ALONE, 0x91);
-        assert_eq!(rt; HCR_GROUP_1_CUT, 0x99);
-        assert_eq!(rt; HCR_GROUP_1_TRAPPING, 0x5C91);
-    }
-}

@@ -60,13 +60,3 @@ pub fn vtr(n: u32) -> u32
     let fields = LIST_REGS.put(u64::from(n - 1)) + PREBITS.put(BITS) + PRIBITS.put(BITS);
     (fields + put_bit(true, TDS) + put_bit(true, NV4)) as u32
 }
-
-#[cfg(test)]
-mod tests {
-    use super::vtr;
-
-    #[test]
-    fn four_list_registers(rt: HostRuntime) {
-        assert_eq!(rt; vtr(4), 0x9018_0003);
-    }
-}

@@ -6,8 +6,6 @@ mod ends;
 mod laws;
 mod run;
 mod shown;
-#[cfg(test)]
-mod tests;
 
 pub use ends::end_of;
 pub use ideal_guest::{IdealGuest, IrqRecords};

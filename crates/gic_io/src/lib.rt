@@ -26,6 +26,3 @@ pub use sources::Source;
 pub use standard::{StdSink, StdSource};
 pub use sure::{SureSink, SureSource};
 pub use writing::write_all;
-
-#[cfg(test)]
-mod tests;

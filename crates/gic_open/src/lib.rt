@@ -4,8 +4,6 @@
 mod cpu;
 mod plain;
 mod records;
-#[cfg(test)]
-mod tests;
 
 pub use cpu::{OPEN_BPR0, OPEN_BPR1, OPEN_PMR, cpus, opening_cpu, opening_enables};
 pub use gic_guest::{

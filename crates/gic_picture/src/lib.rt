@@ -8,8 +8,6 @@ mod picture;
 mod rows;
 mod signal;
 mod steps;
-#[cfg(test)]
-mod tests;
 
 pub use bars::Bar;
 pub use gic_ideal::{IdealGuest, Scenario, Step, VcpuName};

@@ -55,31 +55,3 @@ pub fn pending_address(pendbaser: u64, id: u32) -> (u64, u32)
     let table = PENDBASER_ADDRESS.in_place(pendbaser);
     (table + u64::from(id / BYTE_BITS), id % BYTE_BITS)
 }
-
-#[cfg(test)]
-mod tests {
-    use super::{config_address, config_of, pending_address};
-
-    /// A configuration byte, whether it enables and the priority.
-    const BYTES: [(u8, bool, u8); 6] = [
-        (0xa1, true, 0xa0),
-        (0xa3, true, 0xa0),
-        (0x41, true, 0x40),
-        (0xa2, false, 0xa0),
-        (0xff, true, 0xf8),
-        (0x04, false, 0x00),
-    ];
-
-    #[test]
-    fn configuration_bytes(rt: HostRuntime) {
-        for (byte, enabled, priority) in BYTES {
-            assert_eq!(rt; config_of(byte), (enabled, priority));
-        }
-    }
-
-    #[test]
-    fn addresses_of_lpi_8195(rt: HostRuntime) {
-        assert_eq!(rt; config_address(0x300d, 8195), 0x3003);
-        assert_eq!(rt; pending_address(0x4000_0000_0001_0000, 8195), (0x10400, 3));
-    }
-}

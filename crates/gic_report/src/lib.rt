@@ -4,8 +4,6 @@
 mod lines;
 mod show;
 mod soak;
-#[cfg(test)]
-mod tests;
 mod whole;
 
 pub use gic_io::{

@@ -5,8 +5,6 @@ mod cell;
 mod guest;
 mod rows;
 mod step;
-#[cfg(test)]
-mod tests;
 mod whole;
 
 pub use whole::{Bytes, image};

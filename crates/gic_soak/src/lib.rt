@@ -3,8 +3,6 @@
 
 mod generator;
 mod scenario;
-#[cfg(test)]
-mod tests;
 
 pub use scenario::generate;
 pub use scn_base::{

@@ -1,61 +1,13 @@
 //! Whole states through the plan, the accesses of a guest and the fold, register by register.
 
-use floor_lists::{Group, Irq, Key, Outcome, Route, TrapCause, access, fresh};
+use crate::gic_icv::{LEVEL_A0, checked};
+use crate::vcpu_refill::{ACTIVE, ACTIVE_AGAIN, CPU, IDLE, PENDING, URGENT};
+use floor_lists::{Irq, Key, Outcome, TrapCause, fresh};
 use std::process::Abort;
-use vcpu_state::{CpuRec, GuestBack as Back, HCR_EN, IccReg, IchRegs, MAX_LIST_REGISTERS, fold};
+use vcpu_state::{CpuRec, GuestBack as Back, IccReg, fold};
 
-/// A vCPU with PMR 0xF0 that listens to group 1.
-const CPU: CpuRec = CpuRec {
-    pmr: 0xF0,
-    bpr0: 2,
-    bpr1: 3,
-    cbpr: false,
-    eoimode: false,
-    en0: false,
-    en1: true,
-    lpis: false,
-    ap0: 0,
-    ap1: 0,
-};
-
-/// The level of priority 0xA0 active, and that of 0x20 too.
-const LEVEL_A0: u32 = 0x0010_0000;
-
+/// The levels of priorities 0x20 and 0xA0 active.
 const LEVELS_20_A0: u32 = 0x0010_0010;
-
-/// An edge interrupt of group 1 for vCPU 0, enabled and forwarded.
-const IDLE: Irq = Irq {
-    prio: 0xA0,
-    enabled: true,
-    group: Group::G1,
-    edge: true,
-    line: false,
-    rise: false,
-    soft: false,
-    act_by: None,
-    holder: None,
-    want: false,
-    en0: true,
-    en1: true,
-    route: Route::Affinity(0),
-};
-
-const PENDING: Irq = Irq { soft: true, ..IDLE };
-
-const URGENT: Irq = Irq {
-    prio: 0x20,
-    ..PENDING
-};
-
-const ACTIVE: Irq = Irq {
-    act_by: Some(0),
-    ..IDLE
-};
-
-const ACTIVE_AGAIN: Irq = Irq {
-    act_by: Some(0),
-    ..PENDING
-};
 
 /// What comes back: the cause and the active state, or neither.
 const CAUSE: Back = Back {
@@ -86,19 +38,6 @@ const READ_40: Row = (
     [0x90a0_0000_0000_0028, 0],
     LEVEL_A0,
 );
-
-/// The answer of an access whose conditions are met, or else none.
-fn checked(regs: &mut IchRegs, reg: IccReg, write: Option<u64>) -> Option<Outcome> {
-    let has_direction = match write {
-        None => reg.is_readable(),
-        Some(_) => reg.is_writable(),
-    };
-    let has_registers = 1 <= regs.n && regs.n as usize <= MAX_LIST_REGISTERS;
-    if has_direction && has_registers && regs.hcr / HCR_EN % 2 == 1 {
-        return Some(access(regs, reg, write));
-    }
-    None
-}
 
 /// The list registers, the levels of group 1, the records of 40, 41 and 42, and ICH_HCR and the first two list
 /// registers of their plan; what comes back at once, and after the accesses.

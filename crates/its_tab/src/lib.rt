@@ -3,11 +3,7 @@
 
 mod carry;
 mod fault;
-#[cfg(test)]
-mod full;
 mod message;
-#[cfg(test)]
-mod samples;
 mod tables;
 
 pub use fault::{CmdFault, DEVICES, MAX_SIZE, UNKNOWN_NUMBER, good_commands_keep_maps};

@@ -21,32 +21,3 @@ impl ItsTables {
         self.target_of(icid).map(|_| id)
     }
 }
-
-#[cfg(test)]
-mod tests {
-    use crate::samples::tables;
-    use its_cmd::NoMemory;
-
-    /// A message's DeviceID and EventID, and its LPI.
-    const MESSAGES: [((u32, u32), Option<u32>); 6] = [
-        ((8, 3), Some(8195)),
-        // its collection is not mapped
-        ((8, 4), None),
-        // not mapped, past the device's 5 bits, and past them though it is mapped
-        ((8, 5), None),
-        ((8, 32), None),
-        ((8, 33), None),
-        // the device is not mapped
-        ((9, 3), None),
-    ];
-
-    #[test]
-    fn messages(rt: HostRuntime) -> Result<(), NoMemory> {
-        let tables = tables(rt.alloc())?;
-        for ((device, event), id) in MESSAGES {
-            assert_eq!(rt; tables.translated(true, device, event), id);
-            assert_eq!(rt; tables.translated(false, device, event), None);
-        }
-        Ok(())
-    }
-}

@@ -2,8 +2,6 @@
 #![tactic(auto)]
 
 mod field;
-#[cfg(test)]
-mod tests;
 
 pub use field::{
     elements_at, flag_at, flag_or, has_only, list_at, list_of, list_or_empty, number_at, number_of,

@@ -14,8 +14,6 @@ mod owed;
 mod port;
 mod run;
 mod step;
-#[cfg(test)]
-mod tests;
 mod word_id;
 mod words;
 

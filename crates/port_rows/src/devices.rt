@@ -1,12 +1,9 @@
 //! Messages, wires and messages to the ITS by hand, in the second of two guests.
-ghost use Rattle.std.specs.Prelude.{map};
-ghost use Rattle.port_seq.specs.IdealGuests.Opening.{opening};
-ghost use Rattle.port_seq.specs.Told.{IsOpening};
-ghost use Rattle.port_seq.specs.Ports.{told_all};
 
+use crate::made::{alike, tell_device};
 use dev_port::{AlreadySo, CoreStep, Key, Port, Wire, WordId, message, msi, set_wire};
 use port_rest::{is_settled, spi};
-use port_seq::{Actor, GuestShape, GuestSpec, ListOf, Mode, PresetList, Scenario, SeqPort};
+use port_seq::{GuestShape, Mode, SeqPort};
 use std::alloc::{AllocError, Global};
 use std::sync::Wait;
 use std::test::Fail;
@@ -41,27 +38,6 @@ const ROSE: u64 = 1 << 2;
 
 /// A vCPU's word with a kick.
 const KICK: u64 = 2;
-
-/// Two guests, each with both interrupts.
-fn scenario(alloc: Global) -> Result<Scenario, AllocError> {
-    let mut guests = ListOf::new(alloc);
-    for _ in 0..2 {
-        let mut presets: PresetList = ListOf::new(alloc);
-        presets.push(spi(40, 0xA0, true, 1))?;
-        presets.push(spi(41, 0xA0, false, 0))?;
-        guests.push(GuestSpec {
-            shape: SHAPE,
-            on: true,
-            presets,
-        })?;
-    }
-    Ok(Scenario {
-        pes: 1,
-        lrs: 4,
-        guests,
-        steps: ListOf::new(alloc),
-    })
-}
 
 /// A word of the guest.
 fn look<P: Port>(port: &mut P, word: WordId) -> Option<u64> {
@@ -106,23 +82,10 @@ fn send_event<P: Port, R: Wait>(rt: &R, port: &mut P) -> Option<()> {
     Some(())
 }
 
-/// Tells the device of the second of two guests that just opened. False where there is none.
-fn tell_device(port: &mut SeqPort, guests: &[GuestSpec]) -> bool
-    requires { IsOpening (map opening guests.now) (told_all port.old) }
-{
-    if guests.len() != 2 || guests[1].shape != SHAPE {
-        return false;
-    }
-    port.set_actor(Actor::Device {
-        guest: 1,
-        device: 0,
-    });
-    true
-}
-
-/// The port of two guests that just opened, which is told of the device of the second. None where there is none.
+/// The port of two guests with both interrupts that just opened, which is told of the device of the second. None where there is none.
 fn open_device(alloc: Global) -> Result<Option<SeqPort>, AllocError> {
-    let scenario = scenario(alloc)?;
+    let presets = [spi(40, 0xA0, true, 1), spi(41, 0xA0, false, 0)];
+    let scenario = alike(alloc, 2, SHAPE, &presets)?;
     if !scenario.is_good(alloc, Mode::Threads)? {
         return Ok(None);
     }

@@ -8,8 +8,6 @@ mod its_home;
 mod port;
 mod rule;
 mod seq_port;
-#[cfg(test)]
-mod tests;
 
 pub use guest::GuestPort;
 pub use port::SeqPort;

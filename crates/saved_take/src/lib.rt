@@ -4,8 +4,6 @@
 mod law;
 mod rec;
 mod registers;
-#[cfg(test)]
-mod tests;
 mod whole;
 
 pub use law::{standing_tells_back, states_tell_back, wires_tell_back};

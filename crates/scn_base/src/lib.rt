@@ -7,8 +7,6 @@ mod pes;
 mod scenario;
 mod standing;
 mod step;
-#[cfg(test)]
-mod tests;
 
 pub use fault::{
     ADDRESS, Fault, LIMIT, NOT_LOADED, PE_BUSY, PE_STEP, SHAPE, UNKNOWN_ACTOR, UNKNOWN_REGISTER,

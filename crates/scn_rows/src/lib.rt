@@ -1,10 +1,21 @@
-//! Tests of the reading of scenarios: texts and their faults, worked out by hand.
+//! Tests of scenarios: the reading of texts and their faults, worked out by hand, which are good, those of `soak`, and what is written
+//! of a run and of a saved one.
 #![tactic(auto)]
 
+#[cfg(test)]
+mod gic_report;
+#[cfg(test)]
+mod gic_save;
+#[cfg(test)]
+mod gic_soak;
+#[cfg(test)]
+mod made;
 #[cfg(test)]
 mod outside;
 #[cfg(test)]
 mod scenario;
+#[cfg(test)]
+mod scn_base;
 #[cfg(test)]
 mod standing;
 #[cfg(test)]

@@ -1,4 +1,5 @@
 //! What is read of a scenario, and what is shown of a refusal.
+use crate::made::{by_device, on_frame, on_register};
 use scn_read::{
     DeviceOp, Fault, Frame, GuestOp, GuestShape, IccReg, Key, Mode, PeOp, Preset, ReadRefusal,
     Scenario, Step, read,
@@ -31,38 +32,6 @@ const FORMS: &str = r#"{"pes":2,"guests":[{"vcpus":2,"espis":32,"lpis":16,"ram":
     {"pe":1,"exit":true},
     {"pe":1,"enter":[0,1]},
     {"pe":0,"lrs":true}]}"#;
-
-/// A step of vCPU 0 of guest 0 on a frame.
-fn access(frame: Frame, offset: u32, size: u32, write: Option<u64>) -> Step {
-    Step::Vcpu {
-        guest: 0,
-        vcpu: 0,
-        op: GuestOp::Mem {
-            frame,
-            offset,
-            size,
-            write,
-        },
-    }
-}
-
-/// A step of vCPU 0 of guest 0 on a register.
-fn register(vcpu: u32, reg: IccReg, write: Option<u64>) -> Step {
-    Step::Vcpu {
-        guest: 0,
-        vcpu,
-        op: GuestOp::Icc { reg, write },
-    }
-}
-
-/// A step of device 0 of guest 0.
-fn device(op: DeviceOp) -> Step {
-    Step::Device {
-        guest: 0,
-        device: 0,
-        op,
-    }
-}
 
 #[test]
 fn reads_the_first_guest(rt: HostRuntime) -> Result<(), Fail> {
@@ -101,10 +70,10 @@ fn reads_the_first_steps(rt: HostRuntime) -> Result<(), Fail> {
         let value = Value::from_str(rt.alloc(), text)?;
         let scenario: Scenario = read(rt.alloc(), &value, Mode::Threads)?;
         let steps = [
-            device(DeviceOp::Message { spi: 40 }),
-            register(0, IccReg::Iar1, None),
-            register(0, IccReg::Eoir1, Some(40)),
-            register(0, IccReg::Iar1, None),
+            by_device(0, DeviceOp::Message { spi: 40 }),
+            on_register(0, IccReg::Iar1, None),
+            on_register(0, IccReg::Eoir1, Some(40)),
+            on_register(0, IccReg::Iar1, None),
         ];
         assert_eq!(rt; scenario.steps.as_slice(), steps.as_slice());
     }
@@ -118,21 +87,27 @@ fn reads_each_form(rt: HostRuntime) -> Result<(), Fail> {
     let ppi = Key::Private { vcpu: 1, id: 27 };
     let enter = PeOp::Enter { guest: 0, vcpu: 1 };
     let steps = [
-        register(1, IccReg::Sgi1r, Some(0x0000010005000000)),
-        access(Frame::Dist, 0x6140, 8, Some(1)),
-        access(Frame::Redist { vcpu: 1 }, 0x70, 8, None),
-        access(Frame::Its, 0x88, 4, None),
-        access(Frame::Ram, 3, 1, Some(0xA1)),
-        device(DeviceOp::Message { spi: 4100 }),
-        device(DeviceOp::Wire {
-            key: Key::Spi(40),
-            up: true,
-        }),
-        device(DeviceOp::Wire { key: ppi, up: true }),
-        device(DeviceOp::Msi {
-            device: 8,
-            event: 3,
-        }),
+        on_register(1, IccReg::Sgi1r, Some(0x0000010005000000)),
+        on_frame(0, Frame::Dist, 0x6140, 8, Some(1)),
+        on_frame(0, Frame::Redist { vcpu: 1 }, 0x70, 8, None),
+        on_frame(0, Frame::Its, 0x88, 4, None),
+        on_frame(0, Frame::Ram, 3, 1, Some(0xA1)),
+        by_device(0, DeviceOp::Message { spi: 4100 }),
+        by_device(
+            0,
+            DeviceOp::Wire {
+                key: Key::Spi(40),
+                up: true,
+            },
+        ),
+        by_device(0, DeviceOp::Wire { key: ppi, up: true }),
+        by_device(
+            0,
+            DeviceOp::Msi {
+                device: 8,
+                event: 3,
+            },
+        ),
         Step::Pe {
             pe: 1,
             op: PeOp::Exit,

@@ -4,8 +4,6 @@
 mod laws;
 mod name;
 mod node;
-#[cfg(test)]
-mod tests;
 mod write;
 
 pub use laws::texts_are_content;

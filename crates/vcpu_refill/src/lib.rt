@@ -6,8 +6,6 @@ mod fill;
 mod laws;
 mod offer;
 mod ranking;
-#[cfg(test)]
-mod tests;
 
 pub use chooser::{Chooser, fresh};
 pub use fill::{Choice, Fill};

@@ -11,8 +11,6 @@ mod seats;
 mod shelf;
 mod steps;
 mod taking;
-#[cfg(test)]
-mod tests;
 mod traveller;
 mod view;
 mod word;

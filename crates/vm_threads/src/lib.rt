@@ -3,8 +3,6 @@
 
 mod at_rest;
 mod beds;
-#[cfg(test)]
-mod tests;
 mod timer;
 mod turns;
 mod waking;

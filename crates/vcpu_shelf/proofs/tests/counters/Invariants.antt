@@ -1,7 +1,0 @@
-use Rattle.std.proofs.Common.{◌≡◌, length}
-use Rattle.vcpu_shelf.specs.Answer.{AreInPlace}
-use Rattle.vcpu_shelf.proofs.tests.counters.Given as goal
-
--- the counters so far
-abbrev pub invariant-loop-place : goal.invariant-loop-place
-invariant-loop-place l = record { count : length l.all.items ≡ l.place; end : l.place-end ≡ length l.fn.dues; placed : AreInPlace (λ counter. counter.place) l.all.items }

@@ -1,7 +1,0 @@
--- The guest is the first one.
-use Rattle.std.proofs.Common.{◌≡◌}
-use Rattle.port_seq.specs.Ports.{told}
-use Rattle.vm_threads.proofs.tests.first_other.Given as goal
-
-abbrev pub invariant-loop-number : goal.invariant-loop-number
-invariant-loop-number g l = (told l.guest).number ≡ 0
