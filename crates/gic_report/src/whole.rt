@@ -3,16 +3,17 @@
 ghost use Rattle.std.specs.Prelude.{◌≡◌, [], ◌++◌, OnOk, IfOk, string_bytes};
 ghost use Rattle.std.specs.List.{flat_map};
 ghost use Rattle.std.specs.Option.{option_map_or};
-ghost use Rattle.gic_report.specs.Text.{answer_lines, gicd_line, its_line, cpu_line, irq_line, dev_line, evt_line, col_line, mapped_lines, guest_lines, end_lines, is_read as reads, counts_line, text as text_of};
+ghost use Rattle.gic_report.specs.Text.{answer_lines, gicd_line, its_line, cpu_line, irq_line, dev_line, evt_line, col_line, mapped_lines, guest_lines, end_lines, counts_line, text as text_of};
 
 use crate::lines::{
     write_answer, write_col, write_cpu, write_dev, write_evt, write_gicd, write_irq, write_its,
 };
-use gic_io::{Bytes, GuestOp, NoMemory};
+use gic_io::{Bytes, NoMemory};
 use gic_soak::{
     Answers, ColEnds, CpuEnds, DevEnds, End, Ends, EvtEnds, IrqEnds, ItsEnd, RunOut,
-    ScenarioScenario as Scenario, Step, Steps,
+    ScenarioScenario as Scenario, Steps,
 };
+use scn_saved::is_read;
 use std::alloc::{AllocError, Global};
 use std::fmt::Write;
 
@@ -126,19 +127,6 @@ fn write_ends(text: &mut String, ends: &Ends) -> Result<(), AllocError>
         write_guest(text, guest, end)?;
     }
     Ok(())
-}
-
-/// Whether a step is a vCPU's and reads.
-fn is_read(step: &Step) -> bool
-    ensures { result ≡ reads step.now }
-{
-    matches!(
-        step,
-        Step::Vcpu {
-            op: GuestOp::Icc { write: None, .. } | GuestOp::Mem { write: None, .. },
-            ..
-        }
-    )
 }
 
 /// Writes the last line.

@@ -25,3 +25,9 @@ AllEndAt guests words cpus ideals = ⊥
 pub record HaveEnded (guests : List GuestSpec) (words : List GuestWords) (cpus : List CpuRec) : Type 0 where
   pub ideals : List IdealGuest
   pub all : AllEndAt guests words cpus ideals
+
+-- the guests of the ideal controller that the words and CPU records of some guests say
+abbrev pub guests_of : List GuestSpec → List GuestWords → List CpuRec → List IdealGuest
+guests_of [] words cpus = []
+guests_of (guest ∷ guests) [] cpus = []
+guests_of (guest ∷ guests) (one ∷ words) cpus = guest_of guest.shape one (take guest.shape.vcpus cpus) ∷ guests_of guests words (drop guest.shape.vcpus cpus)

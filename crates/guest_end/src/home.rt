@@ -114,3 +114,19 @@ pub fn end_of(
     let closed = without_tables(alloc, spec, words, cpus)?;
     Ok(gic_ideal::end_of(alloc, &opened, &closed, &words.tables)?)
 }
+
+/// The guest of the ideal controller that its words, its tables and the CPU records of its vCPUs, by number, say. No interrupt is
+/// at a CPU interface. An error where memory is refused.
+pub(crate) fn state_of(
+    alloc: Global,
+    spec: &GuestSpec,
+    words: GuestWords,
+    cpus: &[CpuRec],
+) -> Result<IdealGuest, AllocError>
+    requires { IsAtEnd spec.now.shape words cpus.now }
+    ensures { IfOk result (λ guest. guest ≡ guest_of spec.now.shape words cpus.now) }
+{
+    let mut closed = without_tables(alloc, spec, &words, cpus)?;
+    closed.tables = words.tables;
+    Ok(closed)
+}

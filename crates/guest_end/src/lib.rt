@@ -5,7 +5,7 @@ mod ends;
 mod home;
 mod outcome;
 
-pub use ends::ends_of;
+pub use ends::{ends_of, states_of};
 pub use gic_ideal::{
     Answers as ScenarioAnswers, Pes, Scenario, ScenarioEnds, Step, VcpuName, eager, move_pes,
     opening_pes,

@@ -6,6 +6,7 @@ mod laws;
 
 pub use guest_end::{
     CpuRecs, Done, Pes, Scenario, Step, VcpuName, answer_of, eager, ends_of, move_pes, opening_pes,
+    states_of,
 };
 pub use laws::{runs_end_at_home, worked_runs_end};
 pub use port_ops::{

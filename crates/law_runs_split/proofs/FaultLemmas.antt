@@ -93,7 +93,7 @@ pub record Twins (one other : IdealGuest) : Type 0 where
 pub twins_of : (one other : IdealGuest) → IsAlike one other → Twins one other
 twins_of one other alike = record { base = other; its = one.words; others = other.words; one_is = alike.same; other_is = refl; alike = alike.words }
 
-same_words : (base : IdealGuest) (its others : List ℕ) → AreAlike base.shape base.is_stalled its others → clean (word_at (with_words base its)) ≡ clean (word_at (with_words base others))
+pub same_words : (base : IdealGuest) (its others : List ℕ) → AreAlike base.shape base.is_stalled its others → clean (word_at (with_words base its)) ≡ clean (word_at (with_words base others))
 same_words base its others alike = fun_ext at
   where
     shape : GuestShape

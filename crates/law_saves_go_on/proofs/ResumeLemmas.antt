@@ -27,7 +27,7 @@ words_alike : (shape : GuestShape) (b : Bool) (words : List ℕ) → AreAlike sh
 words_alike shape true words = record { rest = refl; fault = λ e. refl }
 words_alike shape false words = record { rest = set-set words (its_from shape + 5) 0 0; fault = λ e. absurd (cc) }
 
-past_alike : (state : IdealGuest) → IsAlike (without_past_fault state) state
+pub past_alike : (state : IdealGuest) → IsAlike (without_past_fault state) state
 past_alike state = record { words = words_alike state.shape state.is_stalled state.words; same = refl }
 
 told_alike : (standing : Standing) (n : ℕ) (guests : List GuestSpec) (states : List IdealGuest) → AreSavable guests states → AreAllAlike (states_of guests (all_taken standing n guests states)) states

@@ -3,3 +3,4 @@ pub use Rattle.law_runs_split.specs as RunsSplit
 pub use Rattle.saved_take.specs as SavedTake
 pub mod GoOn
 pub mod Resume
+pub mod Alike

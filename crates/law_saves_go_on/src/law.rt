@@ -1,4 +1,5 @@
 //! Laws of the text of a run in two parts.
+ghost use Rattle.law_saves_go_on.specs.Alike.{AlikeAreSavedAlike};
 ghost use Rattle.law_saves_go_on.specs.GoOn.{SaveThenResume};
 ghost use Rattle.law_saves_go_on.specs.Resume.{SavedThenResumed};
 
@@ -14,4 +15,10 @@ pub fn save_then_resume()
 /// saved.
 pub fn saved_then_resumed()
     ensures { SavedThenResumed }
+{}
+
+/// A law of every guest: of states that differ in the number of a fault by which nothing is stalled, and in nothing else, the same is
+/// saved.
+pub fn alike_are_saved_alike()
+    ensures { AlikeAreSavedAlike }
 {}

@@ -3,4 +3,4 @@
 
 mod law;
 
-pub use law::{save_then_resume, saved_then_resumed};
+pub use law::{alike_are_saved_alike, save_then_resume, saved_then_resumed};

@@ -15,5 +15,5 @@ pub use scn_saved::{
     MAX_GUESTS, MAX_LIST_REGISTERS, MAX_PES, MAX_PRIORITY, MAX_STEPS, Mode, MovedWire, NoMemory,
     PRIORITY_STEP, PeOp, Pes, Preset, PresetList, RamState, RamStates, RecState, RecStates,
     RedistState, RedistStates, SHAPE, Saved, Scenario, Standing, StateList, Step, Steps, VcpuName,
-    key_of,
+    is_read, key_of,
 };

@@ -3,3 +3,4 @@ pub mod WordBack
 pub mod RecBack
 pub mod BackLemmas
 pub mod StandingBack
+pub mod RunLemmas

@@ -35,12 +35,12 @@ wires_stay (step ∷ steps) standing = wires_stay steps (standing_after step sta
 
 -- ---- the wires of all guests
 
-one_first : (shape : GuestShape) (rest : List GuestShape) → wire_count (shape ∷ rest) ≡ interrupt_count shape + wire_count rest
+pub one_first : (shape : GuestShape) (rest : List GuestShape) → wire_count (shape ∷ rest) ≡ interrupt_count shape + wire_count rest
 one_first shape rest =
     let one : wire_count (shape ∷ []) ≡ interrupt_count shape = omega arith in
     sum_by-append interrupt_count (shape ∷ []) rest ∙ ap (λ k. k + wire_count rest) one
 
-room_for : (wires all at count rest left own : ℕ) → wires ≡ all → all ≡ at + (count + rest) → left ≡ wires - at → own ≡ count → own ≤ left
+pub room_for : (wires all at count rest left own : ℕ) → wires ≡ all → all ≡ at + (count + rest) → left ≡ wires - at → own ≡ count → own ≤ left
 room_for wires all at count rest left own each parts long same = omega arith
 
 module _ (standing : Standing) (each : length standing.wires ≡ wire_count standing.shapes) where
@@ -48,14 +48,14 @@ module _ (standing : Standing) (each : length standing.wires ≡ wire_count stan
   before n = wire_count (take n standing.shapes)
 
   -- those of the first guests, and those of the others
-  parted : (n : ℕ) (rest : List GuestShape) → drop n standing.shapes ≡ rest → wire_count standing.shapes ≡ wire_count (take n standing.shapes) + wire_count rest
+  pub parted : (n : ℕ) (rest : List GuestShape) → drop n standing.shapes ≡ rest → wire_count standing.shapes ≡ wire_count (take n standing.shapes) + wire_count rest
   parted n rest left =
       ap wire_count (sym (take-append-drop n standing.shapes)) ∙ sum_by-append interrupt_count (take n standing.shapes) (drop n standing.shapes) ∙ ap (λ shapes. wire_count (take n standing.shapes) + wire_count shapes) left
 
   next_left : (n : ℕ) (shape : GuestShape) (rest : List GuestShape) → drop n standing.shapes ≡ shape ∷ rest → drop (n + 1) standing.shapes ≡ rest
   next_left n shape rest left = sym (drop-drop 1 n standing.shapes) ∙ ap (drop 1) left
 
-  next_before : (n : ℕ) (shape : GuestShape) (rest : List GuestShape) → drop n standing.shapes ≡ shape ∷ rest → wire_count (take (n + 1) standing.shapes) ≡ wire_count (take n standing.shapes) + interrupt_count shape
+  pub next_before : (n : ℕ) (shape : GuestShape) (rest : List GuestShape) → drop n standing.shapes ≡ shape ∷ rest → wire_count (take (n + 1) standing.shapes) ≡ wire_count (take n standing.shapes) + interrupt_count shape
   next_before n shape rest left =
       let one : take 1 (drop n standing.shapes) ≡ shape ∷ [] = ap (take 1) left in
       let none : wire_count (shape ∷ []) ≡ interrupt_count shape = omega arith in

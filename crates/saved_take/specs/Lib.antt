@@ -1,3 +1,4 @@
 pub use Rattle.saved_guest.specs as SavedGuest
 pub mod Taken
 pub mod Back
+pub mod Run

@@ -4,9 +4,11 @@
 mod law;
 mod rec;
 mod registers;
+mod run;
 mod whole;
 
 pub use law::{standing_tells_back, states_tell_back, wires_tell_back};
+pub use run::saved;
 pub use saved_guest::{
     GuestSpec, GuestState, IdealGuest, ListOf, MovedWire, NoMemory, Saved, StateList,
 };

@@ -2,10 +2,12 @@
 #![tactic(auto)]
 
 mod name;
+mod read;
 mod saved;
 mod state;
 
 pub use name::Name;
+pub use read::is_read;
 pub use saved::{Saved, StateList};
 pub use scn_base::{
     ADDRESS, ColEnd, ColEnds, DevEnd, DevEnds, DeviceOp, EvtEnd, EvtEnds, Fault, Frame, GuestOp,

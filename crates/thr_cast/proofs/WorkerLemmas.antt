@@ -35,10 +35,6 @@ pub yielded_more : {X : Type 0} (all early late rest : List X) (x : X) → early
 yielded_more {X = X} all early late rest x is next = append_assoc early (x ∷ []) late ∙ ap (λ (xs : List X). early ++ xs) (sym next) ∙ is
 
 -- all were
-pub nothing_left : {X : Type 0} (rest : List X) → length rest ≡ 0 → rest ≡ []
-nothing_left [] none = refl
-nothing_left (x ∷ rest) none = absurd (omega arith)
-
 pub yielded_all : {X : Type 0} (all early rest : List X) → early ++ rest ≡ all → rest ≡ [] → early ≡ all
 yielded_all {X = X} all early rest is none = sym (append-nil early) ∙ ap (λ (xs : List X). early ++ xs) (sym none) ∙ is
 

@@ -9,13 +9,13 @@ use Rattle.guest_end.proofs.EndsLemmas.{EndsSoFar, ends_more, next_cpus, next_en
 use Rattle.guest_end.proofs.ends.ends_of.Goals as goal
 
 pub split_at-requires : goal.split_at-requires
-split_at-requires c = next_cpus c.as_slice-spec-items.result.now c.args.words.now c.args.cpus.now c.loop-guest.rest.now c.loop-guest.ends c.loop-guest.guest c.loop-guest.invariant c.spec-item.result (slice_get-get_or c.as_slice-spec-items.result.now c.loop-guest.guest c.spec-item.result (omega arith) ∙ ap Some (sym c.spec-item.is)) (subst (λ guests. HaveEnded guests c.args.words.now c.args.cpus.now) (sym c.as_slice-spec-items.ensures) c.requires)
+split_at-requires c = next_cpus c.as_slice-spec-items.result.now c.args.words.now c.args.cpus.now c.loop-guest.rest.now c.loop-guest.guest c.loop-guest.invariant.walks c.spec-item.result (slice_get-get_or c.as_slice-spec-items.result.now c.loop-guest.guest c.spec-item.result (omega arith) ∙ ap Some (sym c.spec-item.is)) (subst (λ guests. HaveEnded guests c.args.words.now c.args.cpus.now) (sym c.as_slice-spec-items.ensures) c.requires)
 
 pub end_of-requires-clause-good : goal.end_of-requires-clause-good
-end_of-requires-clause-good c = (next_ends c.as_slice-spec-items.result.now c.args.words.now c.args.cpus.now c.loop-guest.rest.now c.loop-guest.ends c.loop-guest.guest c.loop-guest.invariant c.spec-item.result (slice_get-get_or c.as_slice-spec-items.result.now c.loop-guest.guest c.spec-item.result (omega arith) ∙ ap Some (sym c.spec-item.is)) c.index-as_slice-guest.result (ap (λ words. get_or words c.loop-guest.guest c.index-as_slice-guest.result) (sym c.as_slice.ensures) ∙ sym c.index-as_slice-guest.is) (subst (λ guests. HaveEnded guests c.args.words.now c.args.cpus.now) (sym c.as_slice-spec-items.ensures) c.requires)).good
+end_of-requires-clause-good c = (next_ends c.as_slice-spec-items.result.now c.args.words.now c.args.cpus.now c.loop-guest.rest.now c.loop-guest.guest c.loop-guest.invariant.walks c.spec-item.result (slice_get-get_or c.as_slice-spec-items.result.now c.loop-guest.guest c.spec-item.result (omega arith) ∙ ap Some (sym c.spec-item.is)) c.index-as_slice-guest.result (ap (λ words. get_or words c.loop-guest.guest c.index-as_slice-guest.result) (sym c.as_slice.ensures) ∙ sym c.index-as_slice-guest.is) (subst (λ guests. HaveEnded guests c.args.words.now c.args.cpus.now) (sym c.as_slice-spec-items.ensures) c.requires)).good
 
 pub end_of-requires-clause-ended : goal.end_of-requires-clause-ended
-end_of-requires-clause-ended c = subst (IsAtEnd c.spec-item.result.shape c.index-as_slice-guest.result) (sym c.split_at.ensures.front) (next_ends c.as_slice-spec-items.result.now c.args.words.now c.args.cpus.now c.loop-guest.rest.now c.loop-guest.ends c.loop-guest.guest c.loop-guest.invariant c.spec-item.result (slice_get-get_or c.as_slice-spec-items.result.now c.loop-guest.guest c.spec-item.result (omega arith) ∙ ap Some (sym c.spec-item.is)) c.index-as_slice-guest.result (ap (λ words. get_or words c.loop-guest.guest c.index-as_slice-guest.result) (sym c.as_slice.ensures) ∙ sym c.index-as_slice-guest.is) (subst (λ guests. HaveEnded guests c.args.words.now c.args.cpus.now) (sym c.as_slice-spec-items.ensures) c.requires)).ended
+end_of-requires-clause-ended c = subst (IsAtEnd c.spec-item.result.shape c.index-as_slice-guest.result) (sym c.split_at.ensures.front) (next_ends c.as_slice-spec-items.result.now c.args.words.now c.args.cpus.now c.loop-guest.rest.now c.loop-guest.guest c.loop-guest.invariant.walks c.spec-item.result (slice_get-get_or c.as_slice-spec-items.result.now c.loop-guest.guest c.spec-item.result (omega arith) ∙ ap Some (sym c.spec-item.is)) c.index-as_slice-guest.result (ap (λ words. get_or words c.loop-guest.guest c.index-as_slice-guest.result) (sym c.as_slice.ensures) ∙ sym c.index-as_slice-guest.is) (subst (λ guests. HaveEnded guests c.args.words.now c.args.cpus.now) (sym c.as_slice-spec-items.ensures) c.requires)).ended
 
 pub loop-guest-preserved : goal.loop-guest-preserved
 loop-guest-preserved c =

@@ -12,7 +12,8 @@ use Rattle.thr_cast.specs.declared.answers.Heard.{Heard}
 use Rattle.thr_cast.specs.Back.{heard_of, trips_in}
 use Rattle.thr_cast.specs.Crew.{joined_all}
 use Rattle.thr_cast.proofs.BackLemmas.{each_with, root_with, trips_with}
-use Rattle.thr_cast.proofs.WorkerLemmas.{all_more, nothing_left, yielded_all, yielded_more}
+use Rattle.guest_end.proofs.EndsLemmas.{nothing_left}
+use Rattle.thr_cast.proofs.WorkerLemmas.{all_more, yielded_all, yielded_more}
 use Rattle.thr_cast.proofs.back.take_apart.Goals as goal
 
 pub join-requires-clause-roots : goal.join-requires-clause-roots

@@ -6,7 +6,8 @@ use Rattle.thr_trip.specs.declared.device.DeviceRun.{DeviceRun}
 use Rattle.thr_trip.specs.Device.{DeviceTold}
 use Rattle.thr_trip.specs.Told.{device_told}
 use Rattle.thr_cast.specs.Crew.{HaveWorkers, pe_numbers}
-use Rattle.thr_cast.proofs.WorkerLemmas.{device_came, nothing_left, numbers_stay, one_of, yielded_all, yielded_more}
+use Rattle.guest_end.proofs.EndsLemmas.{nothing_left}
+use Rattle.thr_cast.proofs.WorkerLemmas.{device_came, numbers_stay, one_of, yielded_all, yielded_more}
 use Rattle.thr_cast.proofs.crew.add_devices.Goals as goal
 
 pub loop-device-preserved : goal.loop-device-preserved
