@@ -3,12 +3,12 @@
 #![tactic(auto)]
 
 #[cfg(test)]
-mod gic_ich;
+mod gic_ich_rows;
 #[cfg(test)]
-mod gic_icv;
+mod gic_icv_rows;
 #[cfg(test)]
 mod tests;
 #[cfg(test)]
-mod vcpu_refill;
+mod vcpu_refill_rows;
 #[cfg(test)]
-mod vcpu_state;
+mod vcpu_state_rows;

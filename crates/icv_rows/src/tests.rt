@@ -1,7 +1,7 @@
 //! Whole states through the plan, the accesses of a guest and the fold, register by register.
 
-use crate::gic_icv::{LEVEL_A0, checked};
-use crate::vcpu_refill::{ACTIVE, ACTIVE_AGAIN, CPU, IDLE, PENDING, URGENT};
+use crate::gic_icv_rows::{LEVEL_A0, checked};
+use crate::vcpu_refill_rows::{ACTIVE, ACTIVE_AGAIN, CPU, IDLE, PENDING, URGENT};
 use floor_lists::{Irq, Key, Outcome, TrapCause, fresh};
 use std::process::Abort;
 use vcpu_state::{CpuRec, GuestBack as Back, IccReg, fold};

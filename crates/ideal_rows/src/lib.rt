@@ -2,10 +2,10 @@
 #![tactic(auto)]
 
 #[cfg(test)]
-mod gic_ideal;
+mod gic_ideal_rows;
 #[cfg(test)]
-mod gic_picture;
+mod gic_picture_rows;
 #[cfg(test)]
 mod made;
 #[cfg(test)]
-mod saved_take;
+mod saved_take_rows;

@@ -7,10 +7,10 @@ mod devices;
 #[cfg(test)]
 mod made;
 #[cfg(test)]
-mod port_core;
+mod port_core_rows;
 #[cfg(test)]
-mod port_seq;
+mod port_seq_rows;
 #[cfg(test)]
-mod vm_threads;
+mod vm_threads_rows;
 #[cfg(test)]
 mod words;

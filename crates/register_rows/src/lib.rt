@@ -3,18 +3,18 @@
 #![tactic(auto)]
 
 #[cfg(test)]
-mod gic_call;
+mod gic_call_rows;
 #[cfg(test)]
-mod gic_dmap;
+mod gic_dmap_rows;
 #[cfg(test)]
-mod gic_imap;
+mod gic_imap_rows;
 #[cfg(test)]
-mod gic_line;
+mod gic_line_rows;
 #[cfg(test)]
-mod gic_open;
+mod gic_open_rows;
 #[cfg(test)]
-mod gic_reg;
+mod gic_reg_rows;
 #[cfg(test)]
-mod gic_rmap;
+mod gic_rmap_rows;
 #[cfg(test)]
-mod its_tab;
+mod its_tab_rows;

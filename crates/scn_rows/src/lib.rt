@@ -3,11 +3,11 @@
 #![tactic(auto)]
 
 #[cfg(test)]
-mod gic_report;
+mod gic_report_rows;
 #[cfg(test)]
-mod gic_save;
+mod gic_save_rows;
 #[cfg(test)]
-mod gic_soak;
+mod gic_soak_rows;
 #[cfg(test)]
 mod made;
 #[cfg(test)]
@@ -15,7 +15,7 @@ mod outside;
 #[cfg(test)]
 mod scenario;
 #[cfg(test)]
-mod scn_base;
+mod scn_base_rows;
 #[cfg(test)]
 mod standing;
 #[cfg(test)]

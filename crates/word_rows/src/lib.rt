@@ -3,26 +3,26 @@
 #![tactic(auto)]
 
 #[cfg(test)]
-mod gic_aff;
+mod gic_aff_rows;
 #[cfg(test)]
-mod gic_bits;
+mod gic_bits_rows;
 #[cfg(test)]
-mod gic_frame;
+mod gic_frame_rows;
 #[cfg(test)]
-mod gic_io;
+mod gic_io_rows;
 #[cfg(test)]
-mod gic_list;
+mod gic_list_rows;
 #[cfg(test)]
-mod gic_lr;
+mod gic_lr_rows;
 #[cfg(test)]
-mod gic_prio;
+mod gic_prio_rows;
 #[cfg(test)]
-mod gic_ram;
+mod gic_ram_rows;
 #[cfg(test)]
-mod its_cmd;
+mod its_cmd_rows;
 #[cfg(test)]
-mod json_field;
+mod json_field_rows;
 #[cfg(test)]
-mod svg_text;
+mod svg_text_rows;
 #[cfg(test)]
-mod vcpu_shelf;
+mod vcpu_shelf_rows;

@@ -1,6 +1,6 @@
 use Rattle.std.proofs.Common.{◌≡◌, length}
 use Rattle.vcpu_shelf.specs.Answer.{AreInPlace}
-use Rattle.word_rows.proofs.vcpu_shelf.counters.Given as goal
+use Rattle.word_rows.proofs.vcpu_shelf_rows.counters.Given as goal
 
 -- the counters so far
 abbrev pub invariant-loop-place : goal.invariant-loop-place

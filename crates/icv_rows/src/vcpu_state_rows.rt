@@ -1,5 +1,5 @@
 //! What comes back from list registers, and a vCPU on a PE and off it.
-use crate::gic_ich::{ACTIVE_40, ENDED_40, PENDING_40};
+use crate::gic_ich_rows::{ACTIVE_40, ENDED_40, PENDING_40};
 use floor_lists::{Group, Key};
 use vcpu_state::{
     CpuRec, GuestBack as Back, HeldIrq, IchRegs, LrEntry, LrState, MAX_LIST_REGISTERS, Shelved,

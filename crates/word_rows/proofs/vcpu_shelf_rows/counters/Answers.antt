@@ -1,9 +1,9 @@
 use Rattle.std.proofs.Common.{◌+◌, ℕ, List, length, refl, sym, ap, subst, ◌∙◌}
 use Rattle.std.proofs.lemmas.List.{length_push}
-use Rattle.word_rows.specs.declared.vcpu_shelf.Counter.{Counter}
+use Rattle.word_rows.specs.declared.vcpu_shelf_rows.Counter.{Counter}
 use Rattle.vcpu_shelf.specs.Answer.{AreInPlace}
 use Rattle.vcpu_shelf.proofs.PlaceLemmas.{in_place_push}
-use Rattle.word_rows.proofs.vcpu_shelf.counters.Goals as goal
+use Rattle.word_rows.proofs.vcpu_shelf_rows.counters.Goals as goal
 
 pub loop-place-preserved : goal.loop-place-preserved
 loop-place-preserved c =

@@ -1,7 +1,7 @@
 use Rattle.std.proofs.Common.{◌≡◌, None}
 use Rattle.vcpu_shelf.specs.Shelf.{shelf_told, seat_told}
 use Rattle.vcpu_shelf.specs.Told.{IsOf}
-use Rattle.word_rows.proofs.vcpu_shelf.work.Given as goal
+use Rattle.word_rows.proofs.vcpu_shelf_rows.work.Given as goal
 
 -- the seat is of the shelf, and has nothing out
 abbrev pub invariant-loop : goal.invariant-loop
