@@ -5,10 +5,8 @@ use Rattle.std.proofs.lemmas.Bool.{and_from, lt-ltb}
 use Rattle.std.proofs.lemmas.List.{append-nil, append_assoc, length-set}
 use Rattle.std.proofs.lemmas.List.Elements.{All-from_get_or}
 use Rattle.std.proofs.lemmas.Option.{slice_get-get_or, slice_get_within}
-use Rattle.law_ends_agree.specs.IdealGuests.Opening.{opening as opening_guest}
 use Rattle.law_ends_agree.specs.Words.{Exit}
 use Rattle.law_ends_agree.specs.Histories.{IdealGuest}
-use Rattle.law_ends_agree.specs.Calls.{GuestSpec, shapes_of}
 use Rattle.law_ends_agree.specs.GicGuest.declared.outcome.Answer.{Answer}
 use Rattle.law_ends_agree.specs.ScnBase.declared.pes.VcpuName.{VcpuName}
 use Rattle.law_ends_agree.specs.ScnBase.declared.step.Step.TheVariants.{Pe}
@@ -21,22 +19,23 @@ use Rattle.run_seq.specs.declared.machine.Machine.{Machine}
 use Rattle.run_seq.specs.StepCalls.{calls_among}
 use Rattle.run_seq.specs.Machine.{CanDo, Closes, DoesStep, IsGuestAt, IsMachine, IsMachineAt, IsReady}
 use Rattle.run_seq.proofs.CallLemmas.{calls_append}
+use Rattle.law_ends_agree.specs.GicIdeal.Eager.{state_shapes}
 
 -- more was done, but nothing was called
-pub record StillAt (specs : List GuestSpec) (lrs : ℕ) (machine : Machine) (told : SeqTold) (parts : ℕ → List WholePart) (ideals : List IdealGuest) : Type 0 where
+pub record StillAt (states : List IdealGuest) (lrs : ℕ) (machine : Machine) (told : SeqTold) (parts : ℕ → List WholePart) (ideals : List IdealGuest) : Type 0 where
   pub more : ℕ → List WholePart
-  pub calls : (number : ℕ) (guest : GuestSpec) → slice_get specs number ≡ Some guest → calls_among (more number) ≡ []
-  pub at : IsMachineAt specs lrs machine told (λ number. parts number ++ more number) ideals
+  pub calls : (number : ℕ) (guest : IdealGuest) → slice_get states number ≡ Some guest → calls_among (more number) ≡ []
+  pub at : IsMachineAt states lrs machine told (λ number. parts number ++ more number) ideals
 
 -- so far the first PEs are empty
 pub record ClosesSoFar (first machine : Machine) (before told : SeqTold) (count : ℕ) : Type 0 where
-  pub going : (specs : List GuestSpec) (lrs : ℕ) (parts : ℕ → List WholePart) (ideals : List IdealGuest) → IsMachineAt specs lrs first before parts ideals → StillAt specs lrs machine told parts ideals
+  pub going : (states : List IdealGuest) (lrs : ℕ) (parts : ℕ → List WholePart) (ideals : List IdealGuest) → IsMachineAt states lrs first before parts ideals → StillAt states lrs machine told parts ideals
   pub empty : (pe : ℕ) (name : VcpuName) → slice_get machine.pes pe ≡ Some (Some name) → count ≤ pe
   pub each : length machine.pes ≡ length first.pes
 
 -- the parts may be told otherwise
-same_parts : (specs : List GuestSpec) (lrs : ℕ) (machine : Machine) (told : SeqTold) (parts other : ℕ → List WholePart) (ideals : List IdealGuest) → ((number : ℕ) → parts number ≡ other number) → IsMachineAt specs lrs machine told parts ideals → IsMachineAt specs lrs machine told other ideals
-same_parts specs lrs machine told parts other ideals same at = record {
+same_parts : (states : List IdealGuest) (lrs : ℕ) (machine : Machine) (told : SeqTold) (parts other : ℕ → List WholePart) (ideals : List IdealGuest) → ((number : ℕ) → parts number ≡ other number) → IsMachineAt states lrs machine told parts ideals → IsMachineAt states lrs machine told other ideals
+same_parts states lrs machine told parts other ideals same at = record {
   lrs_is = at.lrs_is;
   few_lrs = at.few_lrs;
   guests = at.guests;
@@ -44,12 +43,12 @@ same_parts specs lrs machine told parts other ideals same at = record {
   ideals_each = at.ideals_each;
   residents = at.residents;
   once = at.once;
-  each = λ n guest vcpus ideal a b d. subst (λ ps. IsGuestAt machine.pes lrs (opening_guest guest) n (guest_at told n) vcpus ps ideal) (same n) (at.each n guest vcpus ideal a b d);
+  each = λ n guest vcpus ideal a b d. subst (λ ps. IsGuestAt machine.pes lrs guest n (guest_at told n) vcpus ps ideal) (same n) (at.each n guest vcpus ideal a b d);
 }
 
 pub closes_none : (machine : Machine) (told : SeqTold) → ClosesSoFar machine machine told told 0
 closes_none machine told = record {
-  going = λ specs lrs parts ideals at. record { more = λ n. []; calls = λ n guest is. refl; at = same_parts specs lrs machine told parts (λ n. parts n ++ []) ideals (λ n. sym (append-nil (parts n))) at };
+  going = λ states lrs parts ideals at. record { more = λ n. []; calls = λ n guest is. refl; at = same_parts states lrs machine told parts (λ n. parts n ++ []) ideals (λ n. sym (append-nil (parts n))) at };
   empty = λ pe name e. omega arith;
   each = refl;
 }
@@ -81,9 +80,9 @@ set_none (x ∷ pes) (suc pe) zero name e = (λ same. absurd (omega (arith, same
 set_none (x ∷ pes) (suc pe) (suc other) name e = let rest = set_none pes pe other name e in (λ same. rest.0 (omega (arith, same)), rest.1)
 
 module _ (first machine : Machine) (before told : SeqTold) (count : ℕ) (so : ClosesSoFar first machine before told count) where
-  can_leave : (specs : List GuestSpec) (name : VcpuName) → slice_get machine.pes count ≡ Some (Some name) → CanDo specs machine (Pe count Exit)
-  can_leave specs name here = record {
-    standing = record { shapes = shapes_of specs; pes = machine.pes; wires = [] };
+  can_leave : (states : List IdealGuest) (name : VcpuName) → slice_get machine.pes count ≡ Some (Some name) → CanDo states machine (Pe count Exit)
+  can_leave states name here = record {
+    standing = record { shapes = state_shapes states; pes = machine.pes; wires = [] };
     pes = refl;
     formed = and_from (nat_lt count (length machine.pes)) true (lt-ltb count (length machine.pes) (slice_get_within machine.pes count (Some name) here)) refl;
     stands = ap is_some (slice_on machine.pes count name here);
@@ -91,20 +90,20 @@ module _ (first machine : Machine) (before told : SeqTold) (count : ℕ) (so : C
 
   pub leaves_ready : (name : VcpuName) → slice_get machine.pes count ≡ Some (Some name) → IsMachine first before → IsReady machine told (Pe count Exit)
   leaves_ready name here of =
-      let still = so.going of.specs of.lrs of.parts of.ideals of.at in
-      record { of = record { specs = of.specs; lrs = of.lrs; parts = λ number. of.parts number ++ still.more number; ideals = of.ideals; at = still.at }; can = can_leave of.specs name here }
+      let still = so.going of.states of.lrs of.parts of.ideals of.at in
+      record { of = record { states = of.states; lrs = of.lrs; parts = λ number. of.parts number ++ still.more number; ideals = of.ideals; at = still.at }; can = can_leave of.states name here }
 
   pub closes_more : (next : Machine) (later : SeqTold) (answer : Answer) (name : VcpuName) → slice_get machine.pes count ≡ Some (Some name) → length next.pes ≡ length machine.pes → IsMachine first before → DoesStep machine next told later (Pe count Exit) answer
       → next.pes ≡ set machine.pes count None → ClosesSoFar first next before later (suc count)
   closes_more next later answer name here each of steps pes = record {
-    going = λ specs lrs parts ideals at.
-        let still = so.going specs lrs parts ideals at in
-        let does = steps specs lrs (λ number. parts number ++ still.more number) ideals still.at (can_leave specs name here) in
+    going = λ states lrs parts ideals at.
+        let still = so.going states lrs parts ideals at in
+        let does = steps states lrs (λ number. parts number ++ still.more number) ideals still.at (can_leave states name here) in
         record {
           more = λ number. still.more number ++ does.more number;
           calls = λ number guest is. calls_append (still.more number) (does.more number) ∙ ap (λ calls. calls ++ calls_among (does.more number)) (still.calls number guest is) ∙ does.calls number guest is;
           at =
-              same_parts specs lrs next later (λ number. (parts number ++ still.more number) ++ does.more number) (λ number. parts number ++ (still.more number ++ does.more number)) ideals
+              same_parts states lrs next later (λ number. (parts number ++ still.more number) ++ does.more number) (λ number. parts number ++ (still.more number ++ does.more number)) ideals
               (λ number. append_assoc (parts number) (still.more number) (does.more number)) does.at;
         };
     empty = λ other one e. let there = set_none machine.pes count other one (ap (λ pes. slice_get pes other) (sym pes) ∙ e) in above other (so.empty other one there.1) there.0;
@@ -173,8 +172,8 @@ module _ (first machine : Machine) (before told : SeqTold) (count : ℕ) (so : C
   pub next_leaves : b ≡ true → IsMachine first before → (next last : Machine) (port final : SeqPort) (answer : Answer) → last ≡ next → final ≡ port → DoesStep machine next told (told_all port) (Pe count Exit) answer → ClosesSoFar first last before (told_all final) (count + 1)
   next_leaves on of next last port final answer last_is final_is steps =
       let one = someone on in
-      let still = so.going of.specs of.lrs of.parts of.ideals of.at in
-      let does = steps of.specs of.lrs (λ number. of.parts number ++ still.more number) of.ideals still.at (can_leave first machine before told count so of.specs one.name one.is) in
+      let still = so.going of.states of.lrs of.parts of.ideals of.at in
+      let does = steps of.states of.lrs (λ number. of.parts number ++ still.more number) of.ideals still.at (can_leave first machine before told count so of.states one.name one.is) in
       let closes : ClosesSoFar first next before (told_all port) (suc count)
       = closes_more first machine before told count so next (told_all port) answer one.name one.is (ap length does.pes ∙ length-set machine.pes count _) of steps does.pes in
       let at : ℕ → Type 0 = λ n. ClosesSoFar first last before (told_all final) n in
@@ -199,8 +198,8 @@ empty_all pes none = All-from_get_or (λ (resident : Option VcpuName). resident 
     of pe there (Some name) e = let past = none pe name (slice_get-get_or pes pe None there ∙ ap Some e) in absurd (omega (arith, there, past))
 
 pub all_closed : (first machine : Machine) (before told : SeqTold) → ClosesSoFar first machine before told (length first.pes) → Closes first machine before told
-all_closed first machine before told so specs lrs parts ideals at =
-    let still = so.going specs lrs parts ideals at in
+all_closed first machine before told so states lrs parts ideals at =
+    let still = so.going states lrs parts ideals at in
     record {
       more = still.more;
       calls = still.calls;

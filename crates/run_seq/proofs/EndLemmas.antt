@@ -9,12 +9,13 @@ use Rattle.std.proofs.Props.{props}
 use Rattle.std.proofs.lemmas.List.{length-map, length-set}
 use Rattle.std.proofs.lemmas.Option.{get_or_from_slice_get, slice_get_within}
 use Rattle.std.proofs.lemmas.List.FromFn.{length-range_with_len}
-use Rattle.law_ends_agree.proofs.IdealGuests.CanOpenLemmas.{openings_can_open}
 use Rattle.law_ends_agree.specs.Registers.{CpuRec}
 use Rattle.law_ends_agree.specs.Histories.{IdealGuest, after_device, after_op, CanOpen}
 use Rattle.law_ends_agree.specs.IdealGuests.Opening.{opening}
 use Rattle.law_ends_agree.specs.GicIdeal.Ends.{end_of, ends_of}
-use Rattle.law_ends_agree.specs.GicIdeal.Eager.{after_step, after_steps, at_guest, eager}
+use Rattle.law_ends_agree.specs.GicIdeal.Eager.{after_step, after_steps, at_guest, state_shapes}
+use Rattle.law_ends_agree.proofs.GicIdeal.StateLemmas.{same_shape}
+use Rattle.law_ends_agree.specs.Words.{GuestShape}
 use Rattle.law_ends_agree.specs.GuestEnd.Home.{IsAtEnd, guest_of}
 use Rattle.law_ends_agree.specs.Calls.{GuestSpec, RunOut, IsGoodGuest, shapes_of}
 use Rattle.law_ends_agree.specs.GicGuest.declared.outcome.End.{End}
@@ -23,23 +24,22 @@ use Rattle.law_one_thread_is_eager.specs.PortSeq.Told.{GuestTold, SeqTold, guest
 use Rattle.law_one_thread_is_eager.specs.SeqGuest.Guest.{cpus_of, seen_by}
 use Rattle.law_ends_agree.specs.GicGuest.declared.outcome.Answer.{Answer}
 use Rattle.law_ends_agree.specs.ScnBase.declared.pes.VcpuName.{VcpuName}
-use Rattle.law_ends_agree.specs.ScnBase.declared.scenario.Scenario.{Scenario}
 use Rattle.law_ends_agree.specs.ScnBase.declared.step.Step.{Step}
 use Rattle.law_ends_agree.specs.ScnBase.declared.step.Step.TheVariants.{Vcpu as StepVcpu, Device as StepDevice, Pe as StepPe}
-use Rattle.law_ends_agree.specs.ScnBase.Standing.{opening_pes}
 use Rattle.law_one_thread_is_eager.specs.PortSeq.Kept.{IsFree}
 use Rattle.law_one_thread_is_eager.specs.LawSerialIsEager.Serial.{moments_of}
 use Rattle.law_one_thread_is_eager.specs.Done.{home_after}
 use Rattle.law_one_thread_is_eager.proofs.DoneLemmas.{fitted}
 use Rattle.law_one_thread_is_eager.proofs.FollowLemmas.{state_is}
 use Rattle.law_one_thread_is_eager.proofs.MomentLemmas.{entries_parts}
-use Rattle.law_ends_agree.specs.End.{AreEmpty, EndsAtHome, cpus_in, state_after, told_in, words_in}
+use Rattle.law_ends_agree.specs.End.{AreEmpty, EndsAtHome, cpus_in, state_after, told_in, without_past_fault, words_in}
 use Rattle.law_ends_agree.proofs.EndRuns.{runs_end}
 use Rattle.law_ends_agree.specs.GuestEnd.declared.outcome.Done.{Done}
-use Rattle.law_ends_agree.specs.GuestEnd.Ends.{AllEndAt, EndsAt, HaveEnded}
-use Rattle.law_ends_agree.proofs.GuestEnd.EndsLemmas.{all_end}
+use Rattle.law_ends_agree.specs.GuestEnd.Ends.{AllEndAt, EndsAt, HaveEnded, guests_of}
+use Rattle.law_ends_agree.proofs.GuestEnd.EndsLemmas.{all_end, all_states}
 use Rattle.law_ends_agree.proofs.GuestEnd.PropLemmas.{end_prop}
-use Rattle.run_seq.specs.Run.{GuestHasRun, HasRun}
+use Rattle.run_seq.specs.Agenda.{Agenda, answers_by}
+use Rattle.run_seq.specs.Run.{GuestHasRun, IsDone}
 use Rattle.run_seq.proofs.StepLemmas.{there_in}
 
 -- A guest that has run.
@@ -49,6 +49,7 @@ module _ (told : GuestTold) (lrs : ℕ) (pes : List (Option VcpuName)) (steps : 
   pub record IsToldAs (guest : IdealGuest) : Type 0 where
     pub ended : IsAtEnd guest.shape (words_of_end told) (cpus_of told)
     pub vcpus : length (words_of_end told).vcpus ≡ guest.shape.vcpus
+    pub guest_is : guest_of guest.shape (words_of_end told) (cpus_of told) ≡ without_past_fault ideal
     pub lines : (opened : IdealGuest) → end_of opened (guest_of guest.shape (words_of_end told) (cpus_of told)) ≡ end_of opened ideal
 
   abbrev Ends : IdealGuest → ℕ → Type 0
@@ -65,6 +66,9 @@ module _ (told : GuestTold) (lrs : ℕ) (pes : List (Option VcpuName)) (steps : 
       record {
         ended = ∥∥₁_elim home (end_prop guest.shape (words_of_end told) (cpus_of told)) (λ home. subst (λ (s : CoreState). IsAtEnd guest.shape (words_in guest.shape s) (cpus_in guest.shape s)) state home.told);
         vcpus = length-map (range_with_len 0 guest.shape.vcpus) _ ∙ length-range_with_len 0 guest.shape.vcpus;
+        guest_is =
+            ∥∥₁_elim home (Prim.hlevel props) (λ home. subst (λ (s : CoreState). told_in guest s ≡ without_past_fault (home_after guest number run.parts)) state home.guest_is)
+            ∙ ap without_past_fault (sym run.home_is);
         lines = λ opened.
             ∥∥₁_elim home (Prim.hlevel props)
             (λ home. subst (λ (s : CoreState). end_of opened (told_in guest s) ≡ end_of opened (home_after guest number run.parts)) state (home.lines opened))
@@ -74,15 +78,27 @@ module _ (told : GuestTold) (lrs : ℕ) (pes : List (Option VcpuName)) (steps : 
   told_ends : (guest : IdealGuest) (number : ℕ) → told.guest ≡ guest → told.number ≡ number → Ends guest number
   told_ends guest number guest_is number_is = subst (λ g. Ends g number) guest_is (subst (Ends told.guest) number_is ends_here)
 
-  -- so it is of a scenario's guest
-  pub guest_ends :
-      (guest : GuestSpec) (number : ℕ) → told.guest ≡ opening guest → told.number ≡ number → IsGoodGuest guest → GuestHasRun (opening guest) number lrs pes steps answers ideal told
-      → EndsAt guest (words_of_end told) (cpus_of told) ideal
-  guest_ends guest number guest_is number_is good run =
-      let is = told_ends (opening guest) number guest_is number_is (openings_can_open guest good) run in
-      record { good = good; ended = is.ended; vcpus = is.vcpus; lines = is.lines (opening guest) }
+  -- so it is of the guest: its lines are told beside those of any guest of its shape, and it is the ideal controller's, but for the number of a past fault
+  pub record GuestEnds (guest : GuestSpec) : Type 0 where
+    pub ends : EndsAt guest (words_of_end told) (cpus_of told) ideal
+    pub is : guest_of guest.shape (words_of_end told) (cpus_of told) ≡ without_past_fault ideal
 
--- All guests of a scenario that has run.
+  pub guest_ends :
+      (guest : GuestSpec) (state : IdealGuest) (number : ℕ) → told.guest ≡ state → told.number ≡ number → IsGoodGuest guest → state.shape ≡ guest.shape → CanOpen state → GuestHasRun state number lrs pes steps answers ideal told → GuestEnds guest
+  guest_ends guest state number guest_is number_is good shape can run =
+      let is = told_ends state number guest_is number_is can run in
+      record {
+        ends =
+            record {
+              good = good;
+              ended = subst (λ s. IsAtEnd s (words_of_end told) (cpus_of told)) shape is.ended;
+              vcpus = is.vcpus ∙ ap (λ (s : GuestShape). s.vcpus) shape;
+              lines = subst (λ s. end_of (opening guest) (guest_of s (words_of_end told) (cpus_of told)) ≡ end_of (opening guest) ideal) shape (is.lines (opening guest));
+            };
+        is = subst (λ s. guest_of s (words_of_end told) (cpus_of told) ≡ without_past_fault ideal) shape is.guest_is;
+      }
+
+-- All guests of a run.
 
 turn_off : (a t c : Bool) → IsTrue (a && not t && not c) → t ≡ false
 turn_off a false c h = refl
@@ -105,44 +121,64 @@ steps_each : (steps : List Step) (ideals : List IdealGuest) → length (after_st
 steps_each [] ideals = refl
 steps_each (step ∷ steps) ideals = steps_each steps (after_step step ideals) ∙ step_each step ideals
 
-module _ (scenario : Scenario) (done : Done) (told : SeqTold) (run : HasRun scenario done told) where
+module _ (agenda : Agenda) (done : Done) (told : SeqTold) (run : IsDone agenda done told) where
   abbrev last_ideals : List IdealGuest
-  last_ideals = after_steps scenario.steps (map opening scenario.guests)
+  last_ideals = after_steps agenda.steps agenda.states
 
-  ideals_each : length last_ideals ≡ length scenario.guests
-  ideals_each = steps_each scenario.steps (map opening scenario.guests) ∙ length-map scenario.guests opening
+  ideals_each : length last_ideals ≡ length agenda.states
+  ideals_each = steps_each agenda.steps agenda.states
 
   -- then none has an ITS
   pub all_free : (number : ℕ) → number < length told.guests → IsFree (guest_at told number)
   all_free number there actor few =
-      let spec = there_in scenario.guests number (subst (λ n. number < n) run.ports there) in
+      let state = there_in agenda.states number (subst (λ n. number < n) run.ports there) in
       let ideal = there_in last_ideals number (subst (λ n. number < n) (run.ports ∙ sym ideals_each) there) in
-      let has = run.each number spec.one ideal.one spec.is ideal.is in
+      let has = run.each number state.one ideal.one state.is ideal.is in
       let local = (seen_by (guest_at told number) actor).local in
       turn_off _ local.turn local.ctlr (has.left.settled actor few)
 
-  -- and these words and records tell how each ended
-  all_ended : (words : List GuestWords) → All IsGoodGuest scenario.guests → words ≡ map words_of_end told.guests → AllEndAt scenario.guests words done.cpus last_ideals
-  all_ended words good words_are =
-      subst (λ (ws : List GuestWords). AllEndAt scenario.guests ws done.cpus last_ideals) (sym words_are)
-      (subst (λ cpus. AllEndAt scenario.guests (map words_of_end told.guests) cpus last_ideals) (sym run.cpus)
-      (all_end words_of_end cpus_of scenario.guests told.guests last_ideals run.ports ideals_each
-      (λ n guest one ideal a t b.
-      let has = run.each n guest ideal a b in
-      subst (λ (g : GuestTold). EndsAt guest (words_of_end g) (cpus_of g) ideal) (get_or_from_slice_get told.guests n one no_told t)
-      (guest_ends (guest_at told n) scenario.lrs (opening_pes scenario.pes (shapes_of scenario.guests)) scenario.steps done.answers ideal guest n has.guest_is has.number_is (good_at guest n a) has))))
-    where
-      good_at : (guest : GuestSpec) (number : ℕ) → slice_get scenario.guests number ≡ Some guest → IsGoodGuest guest
-      good_at guest number is = subst IsGoodGuest (get_or_from_slice_get scenario.guests number guest guest is) (All-get_or IsGoodGuest scenario.guests number guest (slice_get_within scenario.guests number guest is) good)
-
-  pub ended_by : (words : List GuestWords) (cpus : List CpuRec) → All IsGoodGuest scenario.guests → words ≡ map words_of_end told.guests → cpus ≡ done.cpus → AllEndAt scenario.guests words cpus last_ideals
-  ended_by words cpus good words_are same = subst (λ cpus. AllEndAt scenario.guests words cpus last_ideals) (sym same) (all_ended words good words_are)
-
-  pub have_ended : (words : List GuestWords) (cpus : List CpuRec) → All IsGoodGuest scenario.guests → words ≡ map words_of_end told.guests → cpus ≡ done.cpus → HaveEnded scenario.guests words cpus
-  have_ended words cpus good words_are same = record { ideals = last_ideals; all = ended_by words cpus good words_are same }
-
-  -- so what comes out is what the ideal controller's run is
-  pub out_is : (ends : List End) → ends ≡ ends_of (map opening scenario.guests) last_ideals → (let out : RunOut = record { answers = done.answers; ends = ends } in out) ≡ eager scenario
-  out_is ends ends_are =
+  -- what comes out is what the ideal controller's steps give
+  pub out_is : (guests : List GuestSpec) (ends : List End) → ends ≡ ends_of (map opening guests) last_ideals → (let out : RunOut = record { answers = done.answers; ends = ends } in out) ≡ record { answers = answers_by agenda; ends = ends_of (map opening guests) last_ideals }
+  out_is guests ends ends_are =
       let out : List Answer → List End → RunOut = λ answers ends. record { answers = answers; ends = ends } in
-      ap (λ answers. out answers ends) run.answers ∙ ap (out (eager scenario).answers) ends_are
+      ap (λ answers. out answers ends) run.answers ∙ ap (out (answers_by agenda)) ends_are
+
+  -- good guests that can open, with the shapes of these states
+  module _ (guests : List GuestSpec) (good : All IsGoodGuest guests) (shapes : state_shapes agenda.states ≡ shapes_of guests) (can : (number : ℕ) → number < length told.guests → CanOpen (guest_at told number).guest) where
+    guests_each : length agenda.states ≡ length guests
+    guests_each = sym (length-map agenda.states (λ (g : IdealGuest). g.shape)) ∙ ap length shapes ∙ length-map guests (λ (g : GuestSpec). g.shape)
+
+    good_at : (guest : GuestSpec) (number : ℕ) → slice_get guests number ≡ Some guest → IsGoodGuest guest
+    good_at guest number is = subst IsGoodGuest (get_or_from_slice_get guests number guest guest is) (All-get_or IsGoodGuest guests number guest (slice_get_within guests number guest is) good)
+
+    one_ends : (n : ℕ) (guest : GuestSpec) (one : GuestTold) (ideal : IdealGuest) → slice_get guests n ≡ Some guest → slice_get told.guests n ≡ Some one → slice_get last_ideals n ≡ Some ideal → GuestEnds one agenda.lrs agenda.pes agenda.steps done.answers ideal guest
+    one_ends n guest one ideal a t b =
+        let within = slice_get_within guests n guest a in
+        let state = there_in agenda.states n (subst (λ m. n < m) (sym guests_each) within) in
+        let has = run.each n state.one ideal state.is b in
+        let shape : state.one.shape ≡ guest.shape
+        = same_shape agenda.states guests n state.one guest shapes within (sym (get_or_from_slice_get agenda.states n state.one state.one state.is)) (sym (get_or_from_slice_get guests n guest guest a)) in
+        subst (λ (g : GuestTold). GuestEnds g agenda.lrs agenda.pes agenda.steps done.answers ideal guest) (get_or_from_slice_get told.guests n one no_told t)
+        (guest_ends (guest_at told n) agenda.lrs agenda.pes agenda.steps done.answers ideal guest state.one n has.guest_is has.number_is (good_at guest n a) shape
+        (subst CanOpen has.guest_is (can n (slice_get_within told.guests n one t))) has)
+
+    -- these words and records tell how each ended
+    all_ended : (words : List GuestWords) → words ≡ map words_of_end told.guests → AllEndAt guests words done.cpus last_ideals
+    all_ended words words_are =
+        subst (λ (ws : List GuestWords). AllEndAt guests ws done.cpus last_ideals) (sym words_are)
+        (subst (λ cpus. AllEndAt guests (map words_of_end told.guests) cpus last_ideals) (sym run.cpus)
+        (all_end words_of_end cpus_of guests told.guests last_ideals (run.ports ∙ guests_each) (ideals_each ∙ guests_each) (λ n guest one ideal a t b. (one_ends n guest one ideal a t b).ends)))
+
+    pub ended_by : (words : List GuestWords) (cpus : List CpuRec) → words ≡ map words_of_end told.guests → cpus ≡ done.cpus → AllEndAt guests words cpus last_ideals
+    ended_by words cpus words_are same = subst (λ cpus. AllEndAt guests words cpus last_ideals) (sym same) (all_ended words words_are)
+
+    pub have_ended : (words : List GuestWords) (cpus : List CpuRec) → words ≡ map words_of_end told.guests → cpus ≡ done.cpus → HaveEnded guests words cpus
+    have_ended words cpus words_are same = record { ideals = last_ideals; all = ended_by words cpus words_are same }
+
+    -- the guests that they say are the ideal controller's, but for the numbers of past faults
+    pub states_are : (words : List GuestWords) (cpus : List CpuRec) → words ≡ map words_of_end told.guests → cpus ≡ done.cpus → guests_of guests words cpus ≡ map without_past_fault last_ideals
+    states_are words cpus words_are same =
+        ap (λ words. guests_of guests words cpus) words_are
+        ∙ ap (guests_of guests (map words_of_end told.guests)) (same ∙ run.cpus)
+        ∙ all_states words_of_end cpus_of without_past_fault guests told.guests last_ideals (run.ports ∙ guests_each) (ideals_each ∙ guests_each)
+        (λ n guest one ideal a t b. let ends = one_ends n guest one ideal a t b in (ends.ends.ended.each ∙ ends.ends.vcpus, ends.is))

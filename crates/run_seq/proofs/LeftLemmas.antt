@@ -11,12 +11,10 @@ use Rattle.std.proofs.lemmas.List.Elements.{All-head, All-tail}
 use Rattle.std.proofs.lemmas.Option.{slice_get_within}
 use Rattle.law_ends_agree.specs.Registers.{CpuRec}
 use Rattle.law_ends_agree.specs.Histories.{IdealGuest}
-use Rattle.law_ends_agree.specs.IdealGuests.Opening.{opening as opening_guest}
 use Rattle.law_ends_agree.specs.GicIdeal.Eager.{after_steps}
-use Rattle.law_ends_agree.specs.Calls.{GuestSpec, passes, shapes_of}
+use Rattle.law_ends_agree.specs.Calls.{passes}
 use Rattle.law_ends_agree.specs.GicGuest.declared.outcome.Answer.{Answer}
 use Rattle.law_ends_agree.specs.ScnBase.declared.pes.VcpuName.{VcpuName}
-use Rattle.law_ends_agree.specs.ScnBase.declared.scenario.Scenario.{Scenario}
 use Rattle.law_ends_agree.specs.ScnBase.Standing.{is_resident, opening_pes}
 use Rattle.law_ends_agree.specs.Core.{is_settled}
 use Rattle.law_one_thread_is_eager.specs.PortSeq.Told.{GuestTold, SeqTold, guest_at, no_told}
@@ -29,9 +27,10 @@ use Rattle.law_one_thread_is_eager.specs.Done.{AreSerial, HasDone}
 use Rattle.law_one_thread_is_eager.proofs.EaseLemmas.{placed}
 use Rattle.run_seq.specs.declared.machine.Machine.{Machine}
 use Rattle.run_seq.specs.Machine.{HasClosed, place_by}
-use Rattle.run_seq.specs.Run.{GuestHasRun, HasRun, IsLeft, SamePorts}
+use Rattle.run_seq.specs.Run.{GuestHasRun, IsDone, IsLeft, SamePorts}
 use Rattle.run_seq.proofs.RunLemmas.{RunsSoFar}
 use Rattle.run_seq.proofs.StepLemmas.{there_in}
+use Rattle.run_seq.specs.Agenda.{Agenda}
 
 -- Nobody stands on a PE.
 
@@ -68,31 +67,31 @@ left_still one other e left = subst IsLeft (sym e) (record { empty = left.empty;
 
 -- A guest has run.
 
-module _ (scenario : Scenario) (machine next : Machine) (told later last : SeqTold) (answers : List Answer) (so : RunsSoFar scenario machine told answers scenario.steps []) (closed : HasClosed scenario.guests scenario.lrs next later so.parts so.ideals) (same : SamePorts later last) where
-  guest_run : (number : ℕ) (guest : GuestSpec) (ideal : IdealGuest) → slice_get scenario.guests number ≡ Some guest → slice_get (after_steps scenario.steps (map opening_guest scenario.guests)) number ≡ Some ideal
-      → GuestHasRun (opening_guest guest) number scenario.lrs (opening_pes scenario.pes (shapes_of scenario.guests)) scenario.steps answers ideal (guest_at last number)
-  guest_run number guest ideal spec ideal_is =
-      let there : number < length scenario.guests = slice_get_within scenario.guests number guest spec in
+module _ (agenda : Agenda) (machine next : Machine) (told later last : SeqTold) (answers : List Answer) (so : RunsSoFar agenda machine told answers agenda.steps []) (closed : HasClosed agenda.states agenda.lrs next later so.parts so.ideals) (same : SamePorts later last) where
+  guest_run : (number : ℕ) (guest ideal : IdealGuest) → slice_get agenda.states number ≡ Some guest → slice_get (after_steps agenda.steps agenda.states) number ≡ Some ideal
+      → GuestHasRun guest number agenda.lrs agenda.pes agenda.steps answers ideal (guest_at last number)
+  guest_run number guest ideal state ideal_is =
+      let there : number < length agenda.states = slice_get_within agenda.states number guest state in
       let vcpus = there_in next.guests.items number (subst (λ n. number < n) (sym closed.at.guests) there) in
-      let at = closed.at.each number guest vcpus.one ideal spec vcpus.is (ap (λ ideals. slice_get ideals number) so.ends_are ∙ ideal_is) in
+      let at = closed.at.each number guest vcpus.one ideal state vcpus.is (ap (λ ideals. slice_get ideals number) so.ends_are ∙ ideal_is) in
       let parts = so.parts number ++ closed.more number in
       let e : guest_at last number ≡ record (guest_at later number) { actor = (guest_at last number).actor } = same.same number in
       record {
         parts = parts;
         guest_is = ap (λ (t : GuestTold). t.guest) e ∙ at.guest_is;
-        number_is = ap (λ (t : GuestTold). t.number) e ∙ ∥∥₁_elim at.done (Prim.hlevel props) (λ (done : HasDone (opening_guest guest) number (guest_at later number) vcpus.one parts). done.number_is);
-        world = ap (λ (t : GuestTold). t.world) e ∙ ∥∥₁_elim at.done (Prim.hlevel props) (λ (done : HasDone (opening_guest guest) number (guest_at later number) vcpus.one parts). done.world);
-        serial = ∥∥₁_map at.done (λ (done : HasDone (opening_guest guest) number (guest_at later number) vcpus.one parts). subst (λ n. AreSerial (opening_guest guest) number n parts) at.lrs_is done.serial);
+        number_is = ap (λ (t : GuestTold). t.number) e ∙ ∥∥₁_elim at.done (Prim.hlevel props) (λ (done : HasDone guest number (guest_at later number) vcpus.one parts). done.number_is);
+        world = ap (λ (t : GuestTold). t.world) e ∙ ∥∥₁_elim at.done (Prim.hlevel props) (λ (done : HasDone guest number (guest_at later number) vcpus.one parts). done.world);
+        serial = ∥∥₁_map at.done (λ (done : HasDone guest number (guest_at later number) vcpus.one parts). subst (λ n. AreSerial guest number n parts) at.lrs_is done.serial);
         by_steps =
             record {
               first = so.first number;
               each = so.by_step number;
               last = closed.more number;
               split = ap (λ parts. parts ++ closed.more number) (so.split number);
-              enters = (so.opened number guest spec).calls;
-              stand = (so.opened number guest spec).stand;
-              of_steps = so.of_steps number guest spec;
-              leaves = closed.calls number guest spec;
+              enters = (so.opened number guest state).calls;
+              stand = (so.opened number guest state).stand;
+              of_steps = so.of_steps number guest state;
+              leaves = closed.calls number guest state;
             };
         left =
             left_still (guest_at later number) (guest_at last number) e
@@ -100,7 +99,7 @@ module _ (scenario : Scenario) (machine next : Machine) (told later last : SeqTo
         home_is = at.home_is;
       }
 
-  pub has_run : (cpus : List CpuRec) → cpus ≡ flat_map cpus_of later.guests → HasRun scenario (record { answers = answers; cpus = cpus }) last
+  pub has_run : (cpus : List CpuRec) → cpus ≡ flat_map cpus_of later.guests → IsDone agenda (record { answers = answers; cpus = cpus }) last
   has_run cpus cpus_are = record {
     ports = same.ports ∙ closed.at.ports;
     each = guest_run;

@@ -1,5 +1,6 @@
 pub mod ResidentLemmas
 pub mod OnceLemmas
+pub mod AgendaLemmas
 pub mod MachineLemmas
 pub mod CallLemmas
 pub mod GuestLemmas

@@ -4,9 +4,7 @@ use Rattle.std.specs.Prelude.{slice_get}
 use Rattle.std.proofs.lemmas.Bool.{eq-eqb, ne_eqb}
 use Rattle.std.proofs.lemmas.List.{append-nil, length-set, get_or-set_same, get_or-set_other}
 use Rattle.std.proofs.lemmas.Option.{slice_get_within}
-use Rattle.law_ends_agree.specs.IdealGuests.Opening.{opening as opening_guest}
 use Rattle.law_ends_agree.specs.Histories.{IdealGuest}
-use Rattle.law_ends_agree.specs.Calls.{GuestSpec, shapes_of}
 use Rattle.law_ends_agree.specs.ScnBase.declared.pes.VcpuName.{VcpuName}
 use Rattle.law_ends_agree.specs.ScnBase.Standing.{ResidentsExist, is_resident}
 use Rattle.law_one_thread_is_eager.specs.PortSeq.Told.{GuestTold, SeqTold, guest_at, no_told}
@@ -14,7 +12,9 @@ use Rattle.law_one_thread_is_eager.specs.LawSerialIsEager.Serial.{WholePart}
 use Rattle.law_one_thread_is_eager.specs.SeqGuest.declared.vcpus.Vcpus.{Vcpus}
 use Rattle.law_one_thread_is_eager.proofs.SeqGuest.SeatLemmas.{set_get}
 use Rattle.run_seq.specs.declared.machine.Machine.{Machine}
-use Rattle.run_seq.specs.Machine.{GuestActs, IsGuestAt, IsMachineAt, StandsOnce, place_by}
+use Rattle.run_seq.specs.Machine.{GuestActs, IsGuestAt, IsMachineAt, place_by}
+use Rattle.run_seq.specs.Agenda.{StandsOnce}
+use Rattle.law_ends_agree.specs.GicIdeal.Eager.{state_shapes}
 
 -- more was done to one guest alone
 abbrev pub more_of : ℕ → List WholePart → ℕ → List WholePart
@@ -64,7 +64,7 @@ stands_alike pes other lrs guest number told vcpus parts ideal alike at = record
   home_is = at.home_is;
 }
 
-module _ (specs : List GuestSpec) (lrs number : ℕ) (Does : GuestTold → GuestTold → Vcpus → Vcpus → Type 0) (machine next : Machine) (told later : SeqTold) (parts : ℕ → List WholePart) (ideals after : List IdealGuest) (at : IsMachineAt specs lrs machine told parts ideals)
+module _ (states : List IdealGuest) (lrs number : ℕ) (Does : GuestTold → GuestTold → Vcpus → Vcpus → Type 0) (machine next : Machine) (told later : SeqTold) (parts : ℕ → List WholePart) (ideals after : List IdealGuest) (at : IsMachineAt states lrs machine told parts ideals)
     (acts : GuestActs number Does machine next told later) where
   there : number < length told.guests
   there = subst (λ n. number < n) (at.guests ∙ sym at.ports) (slice_get_within machine.guests.items number acts.before acts.before_is)
@@ -75,32 +75,32 @@ module _ (specs : List GuestSpec) (lrs number : ℕ) (Does : GuestTold → Guest
   told_other : (n : ℕ) → n ≢ number → guest_at later n ≡ guest_at told n
   told_other n apart = ap (λ guests. get_or guests n no_told) acts.told_is ∙ get_or-set_other told.guests number n acts.guest no_told apart
 
-  module _ (pes : List (Option VcpuName)) (ideal : IdealGuest) (more : List WholePart) (residents : ResidentsExist (shapes_of specs) pes) (once : StandsOnce pes) (but : IsButFor number ideal ideals after)
+  module _ (pes : List (Option VcpuName)) (ideal : IdealGuest) (more : List WholePart) (residents : ResidentsExist (state_shapes states) pes) (once : StandsOnce pes) (but : IsButFor number ideal ideals after)
       (alike : (n vcpu : ℕ) → n ≢ number → is_resident pes n vcpu ≡ is_resident machine.pes n vcpu)
-      (mine : (guest : GuestSpec) → slice_get specs number ≡ Some guest → IsGuestAt pes lrs (opening_guest guest) number acts.guest acts.after (parts number ++ more) ideal) where
+      (mine : (guest : IdealGuest) → slice_get states number ≡ Some guest → IsGuestAt pes lrs guest number acts.guest acts.after (parts number ++ more) ideal) where
     all_parts : ℕ → List WholePart
     all_parts n = parts n ++ more_of number more n
 
-    other_is : (n : ℕ) (guest : GuestSpec) (vcpus : Vcpus) (one : IdealGuest) → n ≢ number → slice_get specs n ≡ Some guest → slice_get machine.guests.items n ≡ Some vcpus → slice_get ideals n ≡ Some one
-        → IsGuestAt pes lrs (opening_guest guest) n (guest_at later n) vcpus (parts n ++ more_of number more n) one
+    other_is : (n : ℕ) (guest : IdealGuest) (vcpus : Vcpus) (one : IdealGuest) → n ≢ number → slice_get states n ≡ Some guest → slice_get machine.guests.items n ≡ Some vcpus → slice_get ideals n ≡ Some one
+        → IsGuestAt pes lrs guest n (guest_at later n) vcpus (parts n ++ more_of number more n) one
     other_is n guest vcpus one apart spec vcpus_are ideal_is =
         let nothing : parts n ++ more_of number more n ≡ parts n = ap (λ xs. parts n ++ xs) (more_other number n more apart) ∙ append-nil (parts n) in
-        subst (λ t. IsGuestAt pes lrs (opening_guest guest) n t vcpus (parts n ++ more_of number more n) one) (sym (told_other n apart))
-        (subst (λ ps. IsGuestAt pes lrs (opening_guest guest) n (guest_at told n) vcpus ps one) (sym nothing)
-        (stands_alike machine.pes pes lrs (opening_guest guest) n (guest_at told n) vcpus (parts n) one (λ vcpu. alike n vcpu apart) (at.each n guest vcpus one spec vcpus_are ideal_is)))
+        subst (λ t. IsGuestAt pes lrs guest n t vcpus (parts n ++ more_of number more n) one) (sym (told_other n apart))
+        (subst (λ ps. IsGuestAt pes lrs guest n (guest_at told n) vcpus ps one) (sym nothing)
+        (stands_alike machine.pes pes lrs guest n (guest_at told n) vcpus (parts n) one (λ vcpu. alike n vcpu apart) (at.each n guest vcpus one spec vcpus_are ideal_is)))
 
-    mine_is : (n : ℕ) (guest : GuestSpec) (vcpus : Vcpus) (one : IdealGuest) → n ≡ number → slice_get specs n ≡ Some guest → vcpus ≡ acts.after → slice_get after n ≡ Some one → IsGuestAt pes lrs (opening_guest guest) n (guest_at later n) vcpus (parts n ++ more_of number more n) one
+    mine_is : (n : ℕ) (guest : IdealGuest) (vcpus : Vcpus) (one : IdealGuest) → n ≡ number → slice_get states n ≡ Some guest → vcpus ≡ acts.after → slice_get after n ≡ Some one → IsGuestAt pes lrs guest n (guest_at later n) vcpus (parts n ++ more_of number more n) one
     mine_is n guest vcpus one same spec vcpus_are ideal_is =
         let all : parts number ++ more ≡ parts number ++ more_of number more number = ap (λ xs. parts number ++ xs) (sym (more_same number number more refl)) in
-        let here : IsGuestAt pes lrs (opening_guest guest) number (guest_at later number) vcpus (parts number ++ more_of number more number) one
-        = subst (λ t. IsGuestAt pes lrs (opening_guest guest) number t vcpus (parts number ++ more_of number more number) one) (sym told_mine)
-        (subst (λ v. IsGuestAt pes lrs (opening_guest guest) number acts.guest v (parts number ++ more_of number more number) one) (sym vcpus_are)
-        (subst (λ ps. IsGuestAt pes lrs (opening_guest guest) number acts.guest acts.after ps one) all
-        (subst (IsGuestAt pes lrs (opening_guest guest) number acts.guest acts.after (parts number ++ more)) (sym (but.mine one (subst (λ m. slice_get after m ≡ Some one) same ideal_is)))
-        (mine guest (subst (λ m. slice_get specs m ≡ Some guest) same spec))))) in
-        subst (λ m. IsGuestAt pes lrs (opening_guest guest) m (guest_at later m) vcpus (parts m ++ more_of number more m) one) (sym same) here
+        let here : IsGuestAt pes lrs guest number (guest_at later number) vcpus (parts number ++ more_of number more number) one
+        = subst (λ t. IsGuestAt pes lrs guest number t vcpus (parts number ++ more_of number more number) one) (sym told_mine)
+        (subst (λ v. IsGuestAt pes lrs guest number acts.guest v (parts number ++ more_of number more number) one) (sym vcpus_are)
+        (subst (λ ps. IsGuestAt pes lrs guest number acts.guest acts.after ps one) all
+        (subst (IsGuestAt pes lrs guest number acts.guest acts.after (parts number ++ more)) (sym (but.mine one (subst (λ m. slice_get after m ≡ Some one) same ideal_is)))
+        (mine guest (subst (λ m. slice_get states m ≡ Some guest) same spec))))) in
+        subst (λ m. IsGuestAt pes lrs guest m (guest_at later m) vcpus (parts m ++ more_of number more m) one) (sym same) here
 
-    pub machine_acts : IsMachineAt specs lrs (record next { pes = pes }) later (λ n. parts n ++ more_of number more n) after
+    pub machine_acts : IsMachineAt states lrs (record next { pes = pes }) later (λ n. parts n ++ more_of number more n) after
     machine_acts = record {
       lrs_is = acts.lrs ∙ at.lrs_is;
       few_lrs = at.few_lrs;

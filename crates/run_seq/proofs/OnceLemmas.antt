@@ -5,7 +5,7 @@ use Rattle.std.specs.List.{range_with_len}
 use Rattle.law_ends_agree.specs.Words.{GuestShape}
 use Rattle.law_ends_agree.specs.ScnBase.declared.pes.VcpuName.{VcpuName}
 use Rattle.law_ends_agree.specs.ScnBase.Standing.{opening_pes, vcpu_name, vcpus_from}
-use Rattle.run_seq.specs.Machine.{StandsOnce}
+use Rattle.run_seq.specs.Agenda.{StandsOnce}
 
 -- where something stands in a list is a mapped range
 

@@ -6,14 +6,11 @@ use Rattle.std.proofs.lemmas.Bool.{and_from, lt-ltb}
 use Rattle.std.proofs.lemmas.List.{length-map}
 use Rattle.std.proofs.lemmas.List.Elements.{All-nil, All-cons, All-get_or}
 use Rattle.std.proofs.lemmas.Option.{get_or_from_slice_get, slice_get-get_or, slice_get-map, slice_get_within}
-use Rattle.law_ends_agree.proofs.IdealGuests.CanOpenLemmas.{openings_can_open}
 use Rattle.law_ends_agree.specs.Words.{Enter, GuestShape}
 use Rattle.law_ends_agree.specs.Histories.{IdealGuest}
-use Rattle.law_ends_agree.specs.IdealGuests.Opening.{opening as opening_guest}
-use Rattle.law_ends_agree.specs.Calls.{GuestSpec, IsGoodGuest, shapes_of}
+use Rattle.law_ends_agree.specs.IdealGuests.CanOpen.{CanOpen}
 use Rattle.law_ends_agree.specs.GicGuest.declared.outcome.Answer.{Answer}
 use Rattle.law_ends_agree.specs.ScnBase.declared.pes.VcpuName.{VcpuName}
-use Rattle.law_ends_agree.specs.ScnBase.declared.scenario.Scenario.{Scenario}
 use Rattle.law_ends_agree.specs.ScnBase.declared.step.Step.TheVariants.{Pe}
 use Rattle.law_ends_agree.specs.ScnBase.Standing.{ResidentsExist, has_vcpu, is_resident, opening_pes, resident_of, vcpu_name}
 use Rattle.law_one_thread_is_eager.specs.PortSeq.declared.port.SeqPort.{SeqPort}
@@ -26,11 +23,12 @@ use Rattle.law_one_thread_is_eager.specs.SeqGuest.Guest.{spot_at}
 use Rattle.law_one_thread_is_eager.proofs.DoneLaws.{guests_open_at_home}
 use Rattle.run_seq.specs.declared.machine.Machine.{Machine}
 use Rattle.run_seq.specs.StepCalls.{calls_among}
-use Rattle.run_seq.specs.Machine.{CanDo, DoesStep, IsGuestAt, IsMachineAt, IsReady, OpensMachine, StandsOnce, place_by}
+use Rattle.run_seq.specs.Machine.{CanDo, DoesStep, IsGuestAt, IsMachineAt, IsReady, OpensMachine, place_by}
 use Rattle.run_seq.specs.Opened.{AreOpened, IsOpened}
 use Rattle.run_seq.proofs.CallLemmas.{calls_append}
-use Rattle.run_seq.proofs.OnceLemmas.{opens_once}
 use Rattle.run_seq.proofs.ResidentLemmas.{resident_stands}
+use Rattle.run_seq.specs.Agenda.{Agenda, CanStart, StandsOnce}
+use Rattle.law_ends_agree.specs.GicIdeal.Eager.{state_shapes}
 
 -- Some of the PEs.
 
@@ -88,10 +86,10 @@ opened_at (suc count) (resident ∷ residents) (suc number) name e = let rest = 
 
 -- So far.
 
-pub record OpensSoFar (scenario : Scenario) (machine : Machine) (told : SeqTold) (residents : List (Option VcpuName)) (count : ℕ) : Type 0 where
+pub record OpensSoFar (agenda : Agenda) (machine : Machine) (told : SeqTold) (residents : List (Option VcpuName)) (count : ℕ) : Type 0 where
   pub parts : ℕ → List WholePart
-  pub calls : (number : ℕ) (guest : GuestSpec) → slice_get scenario.guests number ≡ Some guest → calls_among (parts number) ≡ []
-  pub at : IsMachineAt scenario.guests scenario.lrs machine told parts (map opening_guest scenario.guests)
+  pub calls : (number : ℕ) (guest : IdealGuest) → slice_get agenda.states number ≡ Some guest → calls_among (parts number) ≡ []
+  pub at : IsMachineAt agenda.states agenda.lrs machine told parts agenda.states
   pub pes : machine.pes ≡ opened_to count residents
 
 -- Nobody stands on a PE, and nothing was done.
@@ -111,10 +109,10 @@ none_exist shapes [] = All-nil (λ (resident : Option VcpuName). IsTrue (option_
 none_exist shapes (resident ∷ residents) =
     All-cons (λ (resident : Option VcpuName). IsTrue (option_map_or (λ name. has_vcpu shapes name.guest name.vcpu) resident true)) None (opened_to 0 residents) refl (none_exist shapes residents)
 
-opened_guest : (pes : List (Option VcpuName)) (lrs : ℕ) (guest : GuestSpec) (number : ℕ) (told : SeqTold) (vcpus : Vcpus) → ((vcpu : ℕ) → is_resident pes number vcpu ≡ false) → IsGoodGuest guest → IsOpened (opening_guest guest) number lrs (guest_at told number) vcpus
-    → IsGuestAt pes lrs (opening_guest guest) number (guest_at told number) vcpus [] (opening_guest guest)
+opened_guest : (pes : List (Option VcpuName)) (lrs : ℕ) (guest : IdealGuest) (number : ℕ) (told : SeqTold) (vcpus : Vcpus) → ((vcpu : ℕ) → is_resident pes number vcpu ≡ false) → CanOpen guest → IsOpened guest number lrs (guest_at told number) vcpus
+    → IsGuestAt pes lrs guest number (guest_at told number) vcpus [] guest
 opened_guest pes lrs guest number told vcpus none good opened =
-    let home = guests_open_at_home (opening_guest guest) number (guest_at told number) vcpus (openings_can_open guest good) opened.opened.is opened.at opened.spots in
+    let home = guests_open_at_home guest number (guest_at told number) vcpus good opened.opened.is opened.at opened.spots in
     record {
       done = ∣ home.done ∣₁;
       at = opened.at;
@@ -129,9 +127,9 @@ same_some : (a b : IdealGuest) → Some a ≡ Some b → a ≡ b
 same_some a b e = cc
 
 pub opens_none :
-    (scenario : Scenario) (machine : Machine) (told : SeqTold) (residents : List (Option VcpuName)) → All IsGoodGuest scenario.guests → machine.lrs ≡ scenario.lrs → scenario.lrs ≤ 16 → machine.pes ≡ opened_to 0 residents
-    → AreOpened scenario.guests scenario.lrs told machine.guests.items (length scenario.guests) → OpensSoFar scenario machine told residents 0
-opens_none scenario machine told residents good lrs few pes opened = record {
+    (agenda : Agenda) (machine : Machine) (told : SeqTold) (residents : List (Option VcpuName)) → ((number : ℕ) → number < length told.guests → CanOpen (guest_at told number).guest) → machine.lrs ≡ agenda.lrs → agenda.lrs ≤ 16 → machine.pes ≡ opened_to 0 residents
+    → AreOpened agenda.states agenda.lrs told machine.guests.items (length agenda.states) → OpensSoFar agenda machine told residents 0
+opens_none agenda machine told residents good lrs few pes opened = record {
   parts = λ number. [];
   calls = λ number guest is. refl;
   at =
@@ -140,23 +138,23 @@ opens_none scenario machine told residents good lrs few pes opened = record {
         few_lrs = few;
         guests = opened.each;
         ports = opened.ports;
-        ideals_each = length-map scenario.guests opening_guest;
-        residents = subst (ResidentsExist (shapes_of scenario.guests)) (sym pes) (none_exist (shapes_of scenario.guests) residents);
+        ideals_each = refl;
+        residents = subst (ResidentsExist (state_shapes agenda.states)) (sym pes) (none_exist (state_shapes agenda.states) residents);
         once = subst StandsOnce (sym pes) (record { same = λ one other name a b. absurd (none_before residents one name a) });
-        each = λ number guest vcpus ideal spec vcpus_are ideal_is.
-            let is : ideal ≡ opening_guest guest = same_some ideal (opening_guest guest) (sym ideal_is ∙ slice_get-map opening_guest scenario.guests number ∙ ap (option_map opening_guest) spec) in
-            subst (IsGuestAt machine.pes scenario.lrs (opening_guest guest) number (guest_at told number) vcpus []) (sym is)
-            (opened_guest machine.pes scenario.lrs guest number told vcpus (λ vcpu. ap (λ pes. is_resident pes number vcpu) pes ∙ nobody residents number vcpu) (good_at guest number spec) (opened.ones number guest vcpus spec vcpus_are));
+        each = λ number guest vcpus ideal state vcpus_are ideal_is.
+            let is : ideal ≡ guest = same_some ideal guest (sym ideal_is ∙ state) in
+            let first = opened.ones number guest vcpus state vcpus_are in
+            let there = subst (λ n. number < n) (sym opened.ports) (slice_get_within agenda.states number guest state) in
+            let can : CanOpen guest = subst CanOpen (ap (λ (t : GuestTold). t.guest) first.opened.is) (good number there) in
+            subst (IsGuestAt machine.pes agenda.lrs guest number (guest_at told number) vcpus []) (sym is)
+            (opened_guest machine.pes agenda.lrs guest number told vcpus (λ vcpu. ap (λ pes. is_resident pes number vcpu) pes ∙ nobody residents number vcpu) can first);
       };
   pes = pes;
 }
-  where
-    good_at : (guest : GuestSpec) (number : ℕ) → slice_get scenario.guests number ≡ Some guest → IsGoodGuest guest
-    good_at guest number is = subst IsGoodGuest (get_or_from_slice_get scenario.guests number guest guest is) (All-get_or IsGoodGuest scenario.guests number guest (slice_get_within scenario.guests number guest is) good)
 
 -- One more enters.
 
-module _ (scenario : Scenario) (machine : Machine) (told : SeqTold) (residents : List (Option VcpuName)) (count : ℕ) (so : OpensSoFar scenario machine told residents count) (exist : ResidentsExist (shapes_of scenario.guests) residents) (once : StandsOnce residents) where
+module _ (agenda : Agenda) (machine : Machine) (told : SeqTold) (residents : List (Option VcpuName)) (count : ℕ) (so : OpensSoFar agenda machine told residents count) (exist : ResidentsExist (state_shapes agenda.states) residents) (once : StandsOnce residents) where
   not_resident : (guest vcpu : ℕ) → slice_get residents count ≡ Some (Some (vcpu_name guest vcpu)) → is_resident machine.pes guest vcpu ≡ false
   not_resident guest vcpu here = of (is_resident machine.pes guest vcpu) refl
     where
@@ -168,25 +166,25 @@ module _ (scenario : Scenario) (machine : Machine) (told : SeqTold) (residents :
           let same = once.same on.pe count (vcpu_name guest vcpu) before.1 here in
           absurd (omega (arith, before.0, same))
 
-  can_enter : (guest vcpu : ℕ) → slice_get residents count ≡ Some (Some (vcpu_name guest vcpu)) → CanDo scenario.guests machine (Pe count (Enter guest vcpu))
+  can_enter : (guest vcpu : ℕ) → slice_get residents count ≡ Some (Some (vcpu_name guest vcpu)) → CanDo agenda.states machine (Pe count (Enter guest vcpu))
   can_enter guest vcpu here = record {
-    standing = record { shapes = shapes_of scenario.guests; pes = machine.pes; wires = [] };
+    standing = record { shapes = state_shapes agenda.states; pes = machine.pes; wires = [] };
     pes = refl;
     formed =
-        and_from (nat_lt count (length machine.pes)) (has_vcpu (shapes_of scenario.guests) guest vcpu)
+        and_from (nat_lt count (length machine.pes)) (has_vcpu (state_shapes agenda.states) guest vcpu)
         (lt-ltb count (length machine.pes) (subst (λ n. count < n) (sym (ap length so.pes ∙ opened_each count residents)) (slice_get_within residents count (Some (vcpu_name guest vcpu)) here)))
-        (subst (λ (resident : Option VcpuName). IsTrue (option_map_or (λ name. has_vcpu (shapes_of scenario.guests) name.guest name.vcpu) resident true)) (get_or_from_slice_get residents count (Some (vcpu_name guest vcpu)) None here)
-        (All-get_or (λ (resident : Option VcpuName). IsTrue (option_map_or (λ name. has_vcpu (shapes_of scenario.guests) name.guest name.vcpu) resident true)) residents count None (slice_get_within residents count (Some (vcpu_name guest vcpu)) here) exist));
+        (subst (λ (resident : Option VcpuName). IsTrue (option_map_or (λ name. has_vcpu (state_shapes agenda.states) name.guest name.vcpu) resident true)) (get_or_from_slice_get residents count (Some (vcpu_name guest vcpu)) None here)
+        (All-get_or (λ (resident : Option VcpuName). IsTrue (option_map_or (λ name. has_vcpu (state_shapes agenda.states) name.guest name.vcpu) resident true)) residents count None (slice_get_within residents count (Some (vcpu_name guest vcpu)) here) exist));
     stands =
         and_from (is_none (resident_of machine.pes count)) (not (is_resident machine.pes guest vcpu)) (ap is_none (ap (λ pes. resident_of pes count) so.pes ∙ free_after count residents)) (ap not (not_resident guest vcpu here));
   }
 
   pub enters_ready : (guest vcpu : ℕ) → slice_get residents count ≡ Some (Some (vcpu_name guest vcpu)) → IsReady machine told (Pe count (Enter guest vcpu))
-  enters_ready guest vcpu here = record { of = record { specs = scenario.guests; lrs = scenario.lrs; parts = so.parts; ideals = map opening_guest scenario.guests; at = so.at }; can = can_enter guest vcpu here }
+  enters_ready guest vcpu here = record { of = record { states = agenda.states; lrs = agenda.lrs; parts = so.parts; ideals = agenda.states; at = so.at }; can = can_enter guest vcpu here }
 
-  pub opens_more : (next : Machine) (later : SeqTold) (answer : Answer) (guest vcpu : ℕ) → slice_get residents count ≡ Some (Some (vcpu_name guest vcpu)) → DoesStep machine next told later (Pe count (Enter guest vcpu)) answer → OpensSoFar scenario next later residents (suc count)
+  pub opens_more : (next : Machine) (later : SeqTold) (answer : Answer) (guest vcpu : ℕ) → slice_get residents count ≡ Some (Some (vcpu_name guest vcpu)) → DoesStep machine next told later (Pe count (Enter guest vcpu)) answer → OpensSoFar agenda next later residents (suc count)
   opens_more next later answer guest vcpu here steps =
-      let does = steps scenario.guests scenario.lrs so.parts (map opening_guest scenario.guests) so.at (can_enter guest vcpu here) in
+      let does = steps agenda.states agenda.lrs so.parts agenda.states so.at (can_enter guest vcpu here) in
       record {
         parts = λ number. so.parts number ++ does.more number;
         calls = λ number guest is.
@@ -197,7 +195,7 @@ module _ (scenario : Scenario) (machine : Machine) (told : SeqTold) (residents :
         pes = does.pes ∙ ap (λ pes. set pes count (Some (vcpu_name guest vcpu))) so.pes ∙ opened_next count residents (Some (vcpu_name guest vcpu)) here;
       }
 
-  pub opens_still : slice_get residents count ≡ Some None → OpensSoFar scenario machine told residents (suc count)
+  pub opens_still : slice_get residents count ≡ Some None → OpensSoFar agenda machine told residents (suc count)
   opens_still here = record { parts = so.parts; calls = so.calls; at = so.at; pes = so.pes ∙ sym (opened_still count residents here) }
 
 -- All.
@@ -209,44 +207,36 @@ none_yet [] (suc count) e = absurd (omega (arith, e))
 none_yet (resident ∷ residents) zero e = absurd (omega (arith, e))
 none_yet (resident ∷ residents) (suc count) e = ap (λ (rest : List (Option VcpuName)). None ∷ rest) (none_yet residents count (omega (arith, e)))
 
-pub opens_last : (scenario : Scenario) (machine : Machine) (told : SeqTold) (residents : List (Option VcpuName)) (count : ℕ) → OpensSoFar scenario machine told residents count → length residents ≤ count → residents ≡ opening_pes scenario.pes (shapes_of scenario.guests)
-    → OpensMachine scenario machine told
-opens_last scenario machine told residents count so all is = record { parts = so.parts; calls = so.calls; pes = so.pes ∙ opened_all count residents all ∙ is; at = so.at }
+pub opens_last : (agenda : Agenda) (machine : Machine) (told : SeqTold) (residents : List (Option VcpuName)) (count : ℕ) → OpensSoFar agenda machine told residents count → length residents ≤ count → residents ≡ agenda.pes → OpensMachine agenda.lrs agenda.states agenda.pes machine told
+opens_last agenda machine told residents count so all is = record { parts = so.parts; calls = so.calls; pes_are = so.pes ∙ opened_all count residents all ∙ is; at = so.at }
 
 -- what is known of the PEs as they are to be
-pub record AreToOpen (scenario : Scenario) (residents : List (Option VcpuName)) : Type 0 where
-  pub is : residents ≡ opening_pes scenario.pes (shapes_of scenario.guests)
-  pub exist : ResidentsExist (shapes_of scenario.guests) residents
+pub record AreToOpen (agenda : Agenda) (residents : List (Option VcpuName)) : Type 0 where
+  pub is : residents ≡ agenda.pes
+  pub exist : ResidentsExist (state_shapes agenda.states) residents
   pub once : StandsOnce residents
 
-pub to_open :
-    (scenario : Scenario) (items residents : List (Option VcpuName)) (guests : List GuestSpec) → items ≡ residents → residents ≡ opening_pes scenario.pes (shapes_of guests) → guests ≡ scenario.guests → ResidentsExist (shapes_of guests) residents → AreToOpen scenario items
-to_open scenario items residents guests items_are are same exist =
-    let is : items ≡ opening_pes scenario.pes (shapes_of scenario.guests) = items_are ∙ are ∙ ap (λ guests. opening_pes scenario.pes (shapes_of guests)) same in
-    record {
-      is = is;
-      exist = subst (λ guests. ResidentsExist (shapes_of guests) items) same (subst (ResidentsExist (shapes_of guests)) (sym items_are) exist);
-      once = subst StandsOnce (sym is) (opens_once scenario.pes (shapes_of scenario.guests));
-    }
+pub to_open : (agenda : Agenda) (residents : List (Option VcpuName)) → residents ≡ agenda.pes → CanStart agenda.lrs agenda.states agenda.pes → AreToOpen agenda residents
+to_open agenda residents is can = record { is = is; exist = subst (ResidentsExist (state_shapes agenda.states)) (sym is) can.residents; once = subst StandsOnce (sym is) can.once }
 
-module _ (scenario : Scenario) (machine : Machine) (told : SeqTold) (residents : List (Option VcpuName)) (count : ℕ) (so : OpensSoFar scenario machine told residents count) (to : AreToOpen scenario residents) (there : count < length residents) where
+module _ (agenda : Agenda) (machine : Machine) (told : SeqTold) (residents : List (Option VcpuName)) (count : ℕ) (so : OpensSoFar agenda machine told residents count) (to : AreToOpen agenda residents) (there : count < length residents) where
   stands_here : (one : Option VcpuName) → get_or residents count None ≡ one → slice_get residents count ≡ Some one
   stands_here one is = slice_get-get_or residents count None there ∙ ap Some is
 
   pub next_enters : (name : VcpuName) → get_or residents count None ≡ Some name → IsReady machine told (Pe count (Enter name.guest name.vcpu))
-  next_enters name is = enters_ready scenario machine told residents count so to.exist to.once name.guest name.vcpu (stands_here (Some name) is)
+  next_enters name is = enters_ready agenda machine told residents count so to.exist to.once name.guest name.vcpu (stands_here (Some name) is)
 
   pub next_opens :
       (name : VcpuName) → get_or residents count None ≡ Some name → (next last : Machine) (port final : SeqPort) (answer : Answer) → last ≡ next → final ≡ port → DoesStep machine next told (told_all port) (Pe count (Enter name.guest name.vcpu)) answer
-      → OpensSoFar scenario last (told_all final) residents (count + 1)
+      → OpensSoFar agenda last (told_all final) residents (count + 1)
   next_opens name is next last port final answer last_is final_is steps =
-      let opens : OpensSoFar scenario next (told_all port) residents (suc count)
-      = opens_more scenario machine told residents count so to.exist to.once next (told_all port) answer name.guest name.vcpu (stands_here (Some name) is) steps in
-      subst (OpensSoFar scenario last (told_all final) residents) (omega arith)
-      (subst (λ (p : SeqPort). OpensSoFar scenario last (told_all p) residents (suc count)) (sym final_is) (subst (λ (m : Machine). OpensSoFar scenario m (told_all port) residents (suc count)) (sym last_is) opens))
+      let opens : OpensSoFar agenda next (told_all port) residents (suc count)
+      = opens_more agenda machine told residents count so to.exist to.once next (told_all port) answer name.guest name.vcpu (stands_here (Some name) is) steps in
+      subst (OpensSoFar agenda last (told_all final) residents) (omega arith)
+      (subst (λ (p : SeqPort). OpensSoFar agenda last (told_all p) residents (suc count)) (sym final_is) (subst (λ (m : Machine). OpensSoFar agenda m (told_all port) residents (suc count)) (sym last_is) opens))
 
-  pub next_free : get_or residents count None ≡ None → (last : Machine) (port final : SeqPort) → last ≡ machine → final ≡ port → told_all port ≡ told → OpensSoFar scenario last (told_all final) residents (count + 1)
+  pub next_free : get_or residents count None ≡ None → (last : Machine) (port final : SeqPort) → last ≡ machine → final ≡ port → told_all port ≡ told → OpensSoFar agenda last (told_all final) residents (count + 1)
   next_free is last port final last_is final_is told_is =
-      let opens : OpensSoFar scenario machine told residents (suc count) = opens_still scenario machine told residents count so to.exist to.once (stands_here None is) in
-      subst (OpensSoFar scenario last (told_all final) residents) (omega arith)
-      (subst (λ (t : SeqTold). OpensSoFar scenario last t residents (suc count)) (sym (ap told_all final_is ∙ told_is)) (subst (λ (m : Machine). OpensSoFar scenario m told residents (suc count)) (sym last_is) opens))
+      let opens : OpensSoFar agenda machine told residents (suc count) = opens_still agenda machine told residents count so to.exist to.once (stands_here None is) in
+      subst (OpensSoFar agenda last (told_all final) residents) (omega arith)
+      (subst (λ (t : SeqTold). OpensSoFar agenda last t residents (suc count)) (sym (ap told_all final_is ∙ told_is)) (subst (λ (m : Machine). OpensSoFar agenda m told residents (suc count)) (sym last_is) opens))

@@ -22,7 +22,7 @@ module _ (machine : Machine) (told : SeqTold) (pe : ℕ) (op : PeOp) where
   who_enters guest vcpu is ready = can_enter machine told pe guest vcpu (subst (λ op. IsReady machine told (Pe pe op)) is ready)
 
   pub who_stands : (name : VcpuName) → resident_of machine.pes pe ≡ Some name → IsReady machine told (Pe pe op) → HasLoaded machine told name
-  who_stands name on ready = let of = ready.of in stands_loaded of.specs of.lrs machine told of.parts of.ideals of.at pe name on
+  who_stands name on ready = let of = ready.of in stands_loaded of.states of.lrs machine told of.parts of.ideals of.at pe name on
 
   module _ (next : Machine) (later : SeqTold) where
     abbrev Acts : Answer → PeOp → Type 0
@@ -67,6 +67,6 @@ module _ (machine next : Machine) (told later : SeqTold) where
   acts_keep (Pe pe Lrs) answer does = shows_keep (resident_of machine.pes pe) answer does
 
   pub does_step : (step : Step) (answer : Answer) (pes : List (Option VcpuName)) → ActsAs machine next told later step answer → pes ≡ pes_after step next.pes → DoesStep machine (record next { pes = pes }) told later step answer
-  does_step step answer pes acts pes_are specs lrs parts ideals at can =
-      subst (λ pes. HasDoneStep specs lrs machine (record next { pes = pes }) later parts ideals step answer) (sym (pes_are ∙ ap (pes_after step) (acts_keep step answer acts)))
-      (acts_step specs lrs machine next told later parts ideals at step answer can acts)
+  does_step step answer pes acts pes_are states lrs parts ideals at can =
+      subst (λ pes. HasDoneStep states lrs machine (record next { pes = pes }) later parts ideals step answer) (sym (pes_are ∙ ap (pes_after step) (acts_keep step answer acts)))
+      (acts_step states lrs machine next told later parts ideals at step answer can acts)

@@ -8,10 +8,8 @@ use Rattle.std.proofs.lemmas.List.{append-nil, append_assoc, get_or-set_same, ge
 use Rattle.std.proofs.lemmas.List.Elements.{All-get_or}
 use Rattle.std.proofs.lemmas.Option.{get_or_from_slice_get, slice_get-get_or, slice_get-map, slice_get_within}
 use Rattle.law_ends_agree.specs.Histories.{IdealGuest}
-use Rattle.law_ends_agree.specs.IdealGuests.Opening.{opening as opening_guest}
 use Rattle.law_ends_agree.specs.Words.{Vcpu as VcpuActor}
 use Rattle.law_ends_agree.specs.Registers.{CpuRec}
-use Rattle.law_ends_agree.specs.Calls.{GuestSpec, IsGoodGuest}
 use Rattle.law_one_thread_is_eager.specs.PortSeq.declared.guest.GuestPort.{GuestPort}
 use Rattle.law_one_thread_is_eager.specs.PortSeq.declared.port.SeqPort.{SeqPort}
 use Rattle.law_one_thread_is_eager.specs.PortSeq.Lending.{with_guest}
@@ -89,26 +87,14 @@ module _ (port again : SeqPort) (lent : GuestPort) (number : ℕ) (out : IsOut p
 -- The guests that opened.
 
 -- a guest that opened, whichever actor is told
-pub still_opening : (specs : List GuestSpec) (first last : SeqTold) (number : ℕ) (spec : GuestSpec) → IsOpening (map opening_guest specs) first → SamePorts first last → slice_get specs number ≡ Some spec → guest_at last number ≡ record (opening_told (guest_at last number).home (opening_guest spec) number) { actor = (guest_at last number).actor }
-still_opening specs first last number spec opening same is =
+pub still_opening : (states : List IdealGuest) (first last : SeqTold) (number : ℕ) (guest : IdealGuest) → IsOpening states first → SamePorts first last → slice_get states number ≡ Some guest
+    → guest_at last number ≡ record (opening_told (guest_at last number).home guest number) { actor = (guest_at last number).actor }
+still_opening states first last number guest opening same is =
     let home : (guest_at last number).home ≡ (guest_at first number).home = ap (λ (t : GuestTold). t.home) (same.same number) in
     same.same number
-    ∙ ap (λ (t : GuestTold). record t { actor = (guest_at last number).actor }) (opening.opened number (subst (λ n. number < n) (sym (length-map specs opening_guest)) (slice_get_within specs number spec is)))
-    ∙ ap (λ (g : IdealGuest). record (opening_told (guest_at first number).home g number) { actor = (guest_at last number).actor }) (get_or_from_slice_get (map opening_guest specs) number (opening_guest spec) _ (slice_get-map opening_guest specs number ∙ ap (option_map opening_guest) is))
-    ∙ ap (λ home. record (opening_told home (opening_guest spec) number) { actor = (guest_at last number).actor }) (sym home)
-
--- its first vCPU can be told
-pub first_there : (specs : List GuestSpec) (first last : SeqTold) (number : ℕ) → IsOpening (map opening_guest specs) first → SamePorts first last → All IsGoodGuest specs → number < length specs → HasActor last (VcpuActor number 0)
-first_there specs first last number opening same good there =
-    let none : GuestSpec = record { shape = record { vcpus = 0; spis = 0; espis = 0; devices = 0; lpis = 0; ram = 0 }; on = false; presets = [] } in
-    let spec : GuestSpec = get_or specs number none in
-    let told_is = still_opening specs first last number spec opening same (slice_get-get_or specs number none there) in
-    let some = (All-get_or IsGoodGuest specs number none there good).shape.some_vcpu in
-    let here : 0 < (guest_at last number).guest.shape.vcpus = subst (λ (t : GuestTold). 0 < t.guest.shape.vcpus) (sym told_is) (omega (arith, some)) in
-    record {
-      guest = subst (λ n. number < n) (sym (same.ports ∙ opening.each ∙ length-map specs opening_guest)) there;
-      there = lt-ltb 0 _ here;
-    }
+    ∙ ap (λ (t : GuestTold). record t { actor = (guest_at last number).actor }) (opening.opened number (slice_get_within states number guest is))
+    ∙ ap (λ (g : IdealGuest). record (opening_told (guest_at first number).home g number) { actor = (guest_at last number).actor }) (get_or_from_slice_get states number guest _ is)
+    ∙ ap (λ home. record (opening_told home guest number) { actor = (guest_at last number).actor }) (sym home)
 
 push_get : {A : Type 0} (xs : List A) (x : A) (i : ℕ) (y : A) → slice_get (xs ++ x ∷ []) i ≡ Some y → (slice_get xs i ≡ Some y) ⊎ ((i ≡ length xs) × (y ≡ x))
 push_get [] x zero y e = inr (refl, cc)
@@ -124,28 +110,28 @@ same_actor guest number lrs told vcpus is at lrs_is spots = record { opened = re
 
 -- one more has
 pub opened_more :
-    (specs : List GuestSpec) (lrs : ℕ) (opened first last : SeqTold) (number : ℕ) (guest : GuestTold) (guests all : List Vcpus) (vcpus : Vcpus) → IsOpening (map opening_guest specs) opened → SamePorts opened first → number < length specs → IsBack first number guest last → AreOpened specs lrs first guests number
-    → all ≡ guests ++ vcpus ∷ [] → AreAt guest vcpus → vcpus.lrs ≡ lrs → ((vcpu : ℕ) → spot_at vcpus vcpu ≡ shelf) → AreOpened specs lrs last all (number + 1)
-opened_more specs lrs opened first last number guest guests all vcpus opening same there back so pushed at lrs_is spots = record {
+    (states : List IdealGuest) (lrs : ℕ) (opened first last : SeqTold) (number : ℕ) (guest : GuestTold) (guests all : List Vcpus) (vcpus : Vcpus) → IsOpening states opened → SamePorts opened first → number < length states → IsBack first number guest last → AreOpened states lrs first guests number
+    → all ≡ guests ++ vcpus ∷ [] → AreAt guest vcpus → vcpus.lrs ≡ lrs → ((vcpu : ℕ) → spot_at vcpus vcpu ≡ shelf) → AreOpened states lrs last all (number + 1)
+opened_more states lrs opened first last number guest guests all vcpus opening same there back so pushed at lrs_is spots = record {
   ports = (same_back first number guest last back).ports ∙ so.ports;
   each = ap length pushed ∙ length_push guests vcpus ∙ ap (λ n. n + 1) so.each;
-  ones = λ n spec one spec_is one_is.
+  ones = λ n state one state_is one_is.
       elim (push_get guests vcpus n one (ap (λ items. slice_get items n) (sym pushed) ∙ one_is)) [
-        | inl before ↦ early n spec one spec_is before
-        | inr after ↦ late n spec one (after.0 ∙ so.each) spec_is after.1
+        | inl before ↦ early n state one state_is before
+        | inr after ↦ late n state one (after.0 ∙ so.each) state_is after.1
       ];
 }
   where
-    early : (n : ℕ) (spec : GuestSpec) (one : Vcpus) → slice_get specs n ≡ Some spec → slice_get guests n ≡ Some one → IsOpened (opening_guest spec) n lrs (guest_at last n) one
-    early n spec one spec_is before =
+    early : (n : ℕ) (state : IdealGuest) (one : Vcpus) → slice_get states n ≡ Some state → slice_get guests n ≡ Some one → IsOpened state n lrs (guest_at last n) one
+    early n state one state_is before =
         let few : n < number = subst (λ m. n < m) so.each (slice_get_within guests n one before) in
-        subst (λ (t : GuestTold). IsOpened (opening_guest spec) n lrs t one) (sym (back_other first number guest last back n (λ e. absurd (omega (arith, few, e))))) (so.ones n spec one spec_is before)
+        subst (λ (t : GuestTold). IsOpened state n lrs t one) (sym (back_other first number guest last back n (λ e. absurd (omega (arith, few, e))))) (so.ones n state one state_is before)
 
-    late : (n : ℕ) (spec : GuestSpec) (one : Vcpus) → n ≡ number → slice_get specs n ≡ Some spec → one ≡ vcpus → IsOpened (opening_guest spec) n lrs (guest_at last n) one
-    late n spec one n_is spec_is one_is =
-        let is = still_opening specs opened last number spec opening (same_then opened first last same (same_back first number guest last back)) (subst (λ m. slice_get specs m ≡ Some spec) n_is spec_is) in
-        let here : IsOpened (opening_guest spec) number lrs (guest_at last number) vcpus = same_actor (opening_guest spec) number lrs (guest_at last number) vcpus is (subst (λ t. AreAt t vcpus) (sym (back_mine first number guest last back)) at) lrs_is spots in
-        subst (λ m. IsOpened (opening_guest spec) m lrs (guest_at last m) one) (sym n_is) (subst (IsOpened (opening_guest spec) number lrs (guest_at last number)) (sym one_is) here)
+    late : (n : ℕ) (state : IdealGuest) (one : Vcpus) → n ≡ number → slice_get states n ≡ Some state → one ≡ vcpus → IsOpened state n lrs (guest_at last n) one
+    late n state one n_is state_is one_is =
+        let is = still_opening states opened last number state opening (same_then opened first last same (same_back first number guest last back)) (subst (λ m. slice_get states m ≡ Some state) n_is state_is) in
+        let here : IsOpened state number lrs (guest_at last number) vcpus = same_actor state number lrs (guest_at last number) vcpus is (subst (λ t. AreAt t vcpus) (sym (back_mine first number guest last back)) at) lrs_is spots in
+        subst (λ m. IsOpened state m lrs (guest_at last m) one) (sym n_is) (subst (IsOpened state number lrs (guest_at last number)) (sym one_is) here)
 
 -- The records of the CPU interfaces so far.
 

@@ -5,7 +5,7 @@ use Rattle.std.proofs.lemmas.Bool.{eq-eqb, eqb-true, and_parts}
 use Rattle.law_ends_agree.specs.ScnBase.declared.pes.VcpuName.{VcpuName}
 use Rattle.law_ends_agree.specs.ScnBase.Standing.{is_resident, resident_of, vcpu_name}
 use Rattle.law_ends_agree.specs.Calls.{passes}
-use Rattle.run_seq.specs.Machine.{StandsOnce}
+use Rattle.run_seq.specs.Agenda.{StandsOnce}
 
 -- a vCPU is the one of this number of the guest of that
 abbrev pub is_named : ℕ → ℕ → VcpuName → Bool

@@ -10,12 +10,9 @@ use Rattle.std.proofs.lemmas.Grind.{flat_map-append}
 use Rattle.std.proofs.lemmas.List.Elements.{All-head, All-tail}
 use Rattle.law_ends_agree.specs.Words.{Enter, Exit, Lrs}
 use Rattle.law_ends_agree.specs.Histories.{IdealGuest}
-use Rattle.law_ends_agree.specs.IdealGuests.Opening.{opening as opening_guest}
-use Rattle.law_ends_agree.specs.GicIdeal.Eager.{after_step, after_steps, answers_of, eager, step_answer}
-use Rattle.law_ends_agree.specs.Calls.{GuestSpec, shapes_of}
+use Rattle.law_ends_agree.specs.GicIdeal.Eager.{after_step, after_steps, answers_of, eager, state_shapes, step_answer}
 use Rattle.law_ends_agree.specs.GicGuest.declared.outcome.Answer.{Answer}
 use Rattle.law_ends_agree.specs.ScnBase.declared.pes.VcpuName.{VcpuName}
-use Rattle.law_ends_agree.specs.ScnBase.declared.scenario.Scenario.{Scenario}
 use Rattle.law_ends_agree.specs.ScnBase.declared.standing.Standing.{Standing}
 use Rattle.law_ends_agree.specs.ScnBase.declared.step.Mode.TheVariants.{Schedule}
 use Rattle.law_ends_agree.specs.ScnBase.declared.step.Step.{Step}
@@ -30,6 +27,7 @@ use Rattle.run_seq.specs.Steps.{AreOfStep, AreOfSteps, StandSo}
 use Rattle.run_seq.specs.Machine.{CanDo, DoesStep, HasDoneStep, IsMachineAt, IsReady, OpensMachine}
 use Rattle.run_seq.proofs.StandLemmas.{all_stand}
 use Rattle.law_ends_agree.proofs.GuestEnd.EndsLemmas.{drop_next}
+use Rattle.run_seq.specs.Agenda.{Agenda, CanBeDone, answers_by}
 
 -- a step leaves as many PEs
 pub pes_each : (step : Step) (pes : List (Option VcpuName)) → length (pes_after step pes) ≡ length pes
@@ -76,83 +74,83 @@ module _ (guest : IdealGuest) (number lrs : ℕ) (step : Step) (answer : Answer)
 -- So far.
 
 -- as a guest opened nothing was called, and its vCPUs are on their PEs
-pub record Opened (scenario : Scenario) (guest : IdealGuest) (number : ℕ) (first : List WholePart) : Type 0 where
+pub record Opened (agenda : Agenda) (guest : IdealGuest) (number : ℕ) (first : List WholePart) : Type 0 where
   pub calls : calls_among first ≡ []
-  pub stand : ∥ StandSo guest number scenario.lrs (opening_pes scenario.pes (shapes_of scenario.guests)) first ∥₁
+  pub stand : ∥ StandSo guest number agenda.lrs agenda.pes first ∥₁
 
 -- some steps are done, and others are left
-pub record RunsSoFar (scenario : Scenario) (machine : Machine) (told : SeqTold) (answers : List Answer) (done rest : List Step) : Type 0 where
+pub record RunsSoFar (agenda : Agenda) (machine : Machine) (told : SeqTold) (answers : List Answer) (done rest : List Step) : Type 0 where
   pub first : ℕ → List WholePart
   pub by_step : ℕ → List (List WholePart)
   pub parts : ℕ → List WholePart
   pub ideals : List IdealGuest
   pub standing : Standing
-  pub all : done ++ rest ≡ scenario.steps
+  pub all : done ++ rest ≡ agenda.steps
   pub each : length answers ≡ length done
-  pub at : IsMachineAt scenario.guests scenario.lrs machine told parts ideals
-  pub count : length machine.pes ≡ scenario.pes
+  pub at : IsMachineAt agenda.states agenda.lrs machine told parts ideals
+  pub count : length machine.pes ≡ length agenda.pes
   pub pes : standing.pes ≡ machine.pes
   pub in_turn : IsTrue (stand_in_turn Schedule standing rest)
-  pub formed : All (λ step. IsTrue (is_formed Schedule scenario.pes (shapes_of scenario.guests) step)) rest
-  pub answers_are : answers ++ answers_of scenario.lrs machine.pes rest ideals ≡ (eager scenario).answers
-  pub ends_are : after_steps rest ideals ≡ after_steps scenario.steps (map opening_guest scenario.guests)
+  pub formed : All (λ step. IsTrue (is_formed Schedule (length agenda.pes) (state_shapes agenda.states) step)) rest
+  pub answers_are : answers ++ answers_of agenda.lrs machine.pes rest ideals ≡ answers_by agenda
+  pub ends_are : after_steps rest ideals ≡ after_steps agenda.steps agenda.states
   pub split : (number : ℕ) → parts number ≡ first number ++ all_parts (by_step number)
-  pub pes_are : machine.pes ≡ pes_then done (opening_pes scenario.pes (shapes_of scenario.guests))
-  pub opened : (number : ℕ) (guest : GuestSpec) → slice_get scenario.guests number ≡ Some guest → Opened scenario (opening_guest guest) number (first number)
-  pub of_steps : (number : ℕ) (guest : GuestSpec) → slice_get scenario.guests number ≡ Some guest → AreOfSteps (opening_guest guest) number scenario.lrs (opening_pes scenario.pes (shapes_of scenario.guests)) (first number) done answers (by_step number)
+  pub pes_are : machine.pes ≡ pes_then done agenda.pes
+  pub opened : (number : ℕ) (guest : IdealGuest) → slice_get agenda.states number ≡ Some guest → Opened agenda guest number (first number)
+  pub of_steps : (number : ℕ) (guest : IdealGuest) → slice_get agenda.states number ≡ Some guest → AreOfSteps guest number agenda.lrs agenda.pes (first number) done answers (by_step number)
 
-pub runs_open : (scenario : Scenario) (machine : Machine) (told : SeqTold) → IsGood Schedule scenario → OpensMachine scenario machine told → length machine.pes ≡ scenario.pes → RunsSoFar scenario machine told [] [] scenario.steps
-runs_open scenario machine told good opens count = record {
+pub runs_open : (agenda : Agenda) (machine : Machine) (told : SeqTold) → CanBeDone agenda → OpensMachine agenda.lrs agenda.states agenda.pes machine told → RunsSoFar agenda machine told [] [] agenda.steps
+runs_open agenda machine told can opens = record {
   first = opens.parts;
   by_step = λ number. [];
   parts = opens.parts;
-  ideals = map opening_guest scenario.guests;
-  standing = opening_standing scenario.pes (shapes_of scenario.guests);
+  ideals = agenda.states;
+  standing = can.standing;
   all = refl;
   each = refl;
   at = opens.at;
-  count = count;
-  pes = sym opens.pes;
-  in_turn = good.in_turn;
-  formed = good.each_step;
-  answers_are = ap (λ pes. answers_of scenario.lrs pes scenario.steps (map opening_guest scenario.guests)) opens.pes;
+  count = ap length opens.pes_are;
+  pes = can.stands ∙ sym opens.pes_are;
+  in_turn = can.in_turn;
+  formed = can.each_step;
+  answers_are = ap (λ pes. answers_of agenda.lrs pes agenda.steps agenda.states) opens.pes_are;
   ends_are = refl;
   split = λ number. sym (append-nil (opens.parts number));
-  pes_are = opens.pes;
+  pes_are = opens.pes_are;
   opened = λ number guest is.
       record {
         calls = opens.calls number guest is;
-        stand = subst (λ pes. ∥ StandSo (opening_guest guest) number scenario.lrs pes (opens.parts number) ∥₁) opens.pes (all_stand scenario.guests scenario.lrs machine told opens.parts (map opening_guest scenario.guests) opens.at number guest is);
+        stand = subst (λ pes. ∥ StandSo guest number agenda.lrs pes (opens.parts number) ∥₁) opens.pes_are (all_stand agenda.states agenda.lrs machine told opens.parts agenda.states opens.at number guest is);
       };
   of_steps = λ number guest is. tt;
 }
 
-module _ (scenario : Scenario) (machine : Machine) (told : SeqTold) (answers : List Answer) (done : List Step) (step : Step) (rest : List Step) (so : RunsSoFar scenario machine told answers done (step ∷ rest)) where
+module _ (agenda : Agenda) (machine : Machine) (told : SeqTold) (answers : List Answer) (done : List Step) (step : Step) (rest : List Step) (so : RunsSoFar agenda machine told answers done (step ∷ rest)) where
   turn : IsTrue (stands Schedule so.standing step) × IsTrue (stand_in_turn Schedule (standing_after step so.standing) rest)
   turn = and_parts (stands Schedule so.standing step) (stand_in_turn Schedule (standing_after step so.standing) rest) so.in_turn
 
-  pub can_do : CanDo scenario.guests machine step
+  pub can_do : CanDo agenda.states machine step
   can_do = record {
     standing = so.standing;
     pes = so.pes;
-    formed = subst (λ n. IsTrue (is_formed Schedule n (shapes_of scenario.guests) step)) (sym so.count) (All-head (λ (step : Step). IsTrue (is_formed Schedule scenario.pes (shapes_of scenario.guests) step)) step rest so.formed);
+    formed = subst (λ n. IsTrue (is_formed Schedule n (state_shapes agenda.states) step)) (sym so.count) (All-head (λ (step : Step). IsTrue (is_formed Schedule (length agenda.pes) (state_shapes agenda.states) step)) step rest so.formed);
     stands = turn.0;
   }
 
   pub is_ready : IsReady machine told step
-  is_ready = record { of = record { specs = scenario.guests; lrs = scenario.lrs; parts = so.parts; ideals = so.ideals; at = so.at }; can = can_do }
+  is_ready = record { of = record { states = agenda.states; lrs = agenda.lrs; parts = so.parts; ideals = so.ideals; at = so.at }; can = can_do }
 
-  of_step : (next : Machine) (later : SeqTold) (answer : Answer) (does : HasDoneStep scenario.guests scenario.lrs machine next later so.parts so.ideals step answer) (number : ℕ) (guest : GuestSpec) → slice_get scenario.guests number ≡ Some guest
-      → AreOfStep (opening_guest guest) number scenario.lrs machine.pes step answer (so.parts number) (does.more number)
+  of_step : (next : Machine) (later : SeqTold) (answer : Answer) (does : HasDoneStep agenda.states agenda.lrs machine next later so.parts so.ideals step answer) (number : ℕ) (guest : IdealGuest) → slice_get agenda.states number ≡ Some guest
+      → AreOfStep guest number agenda.lrs machine.pes step answer (so.parts number) (does.more number)
   of_step next later answer does number guest is =
       let parts : ℕ → List WholePart = λ number. so.parts number ++ does.more number in
       record {
         calls = does.calls number guest is;
         of_pe = does.of_pe number guest is;
-        stand = subst (λ pes. ∥ StandSo (opening_guest guest) number scenario.lrs pes (parts number) ∥₁) does.pes (all_stand scenario.guests scenario.lrs next later parts (after_step step so.ideals) does.at number guest is);
+        stand = subst (λ pes. ∥ StandSo guest number agenda.lrs pes (parts number) ∥₁) does.pes (all_stand agenda.states agenda.lrs next later parts (after_step step so.ideals) does.at number guest is);
       }
 
-  pub runs_more : (next : Machine) (later : SeqTold) (answer : Answer) → HasDoneStep scenario.guests scenario.lrs machine next later so.parts so.ideals step answer → RunsSoFar scenario next later (answers ++ answer ∷ []) (done ++ step ∷ []) rest
+  pub runs_more : (next : Machine) (later : SeqTold) (answer : Answer) → HasDoneStep agenda.states agenda.lrs machine next later so.parts so.ideals step answer → RunsSoFar agenda next later (answers ++ answer ∷ []) (done ++ step ∷ []) rest
   runs_more next later answer does = record {
     first = so.first;
     by_step = λ number. so.by_step number ++ does.more number ∷ [];
@@ -165,58 +163,57 @@ module _ (scenario : Scenario) (machine : Machine) (told : SeqTold) (answers : L
     count = ap length does.pes ∙ pes_each step machine.pes ∙ so.count;
     pes = ap (pes_after step) so.pes ∙ sym does.pes;
     in_turn = turn.1;
-    formed = All-tail (λ (step : Step). IsTrue (is_formed Schedule scenario.pes (shapes_of scenario.guests) step)) step rest so.formed;
+    formed = All-tail (λ (step : Step). IsTrue (is_formed Schedule (length agenda.pes) (state_shapes agenda.states) step)) step rest so.formed;
     answers_are =
-        append_assoc answers (answer ∷ []) (answers_of scenario.lrs next.pes rest (after_step step so.ideals))
-        ∙ ap (λ answer. answers ++ answer ∷ answers_of scenario.lrs next.pes rest (after_step step so.ideals)) does.answer_is
-        ∙ ap (λ pes. answers ++ step_answer scenario.lrs machine.pes step so.ideals ∷ answers_of scenario.lrs pes rest (after_step step so.ideals)) does.pes
+        append_assoc answers (answer ∷ []) (answers_of agenda.lrs next.pes rest (after_step step so.ideals))
+        ∙ ap (λ answer. answers ++ answer ∷ answers_of agenda.lrs next.pes rest (after_step step so.ideals)) does.answer_is
+        ∙ ap (λ pes. answers ++ step_answer agenda.lrs machine.pes step so.ideals ∷ answers_of agenda.lrs pes rest (after_step step so.ideals)) does.pes
         ∙ so.answers_are;
     ends_are = so.ends_are;
     split = λ number.
         ap (λ parts. parts ++ does.more number) (so.split number)
         ∙ append_assoc (so.first number) (all_parts (so.by_step number)) (does.more number)
         ∙ ap (λ parts. so.first number ++ parts) (sym (parts_more (so.by_step number) (does.more number)));
-    pes_are = does.pes ∙ ap (pes_after step) so.pes_are ∙ sym (pes_more done step (opening_pes scenario.pes (shapes_of scenario.guests)));
+    pes_are = does.pes ∙ ap (pes_after step) so.pes_are ∙ sym (pes_more done step agenda.pes);
     opened = so.opened;
     of_steps = λ number guest is.
-        steps_more (opening_guest guest) number scenario.lrs step answer (does.more number) (opening_pes scenario.pes (shapes_of scenario.guests)) (so.first number) done answers (so.by_step number) (so.of_steps number guest is)
-        (subst (λ pes. AreOfStep (opening_guest guest) number scenario.lrs pes step answer (so.first number ++ all_parts (so.by_step number)) (does.more number)) so.pes_are
-        (subst (λ early. AreOfStep (opening_guest guest) number scenario.lrs machine.pes step answer early (does.more number)) (so.split number) (of_step next later answer does number guest is)));
+        steps_more guest number agenda.lrs step answer (does.more number) agenda.pes (so.first number) done answers (so.by_step number) (so.of_steps number guest is)
+        (subst (λ pes. AreOfStep guest number agenda.lrs pes step answer (so.first number ++ all_parts (so.by_step number)) (does.more number)) so.pes_are
+        (subst (λ early. AreOfStep guest number agenda.lrs machine.pes step answer early (does.more number)) (so.split number) (of_step next later answer does number guest is)));
   }
 
 -- The steps of a list, by a number.
 
-pub runs_start : (scenario : Scenario) (machine : Machine) (told : SeqTold) (answers : List Answer) (items : List Step) → IsGood Schedule scenario → OpensMachine scenario machine told → answers ≡ [] → items ≡ scenario.steps → RunsSoFar scenario machine told answers [] items
-runs_start scenario machine told answers items good opens none items_are =
-    let count : length machine.pes ≡ scenario.pes = ap length opens.pes ∙ length-map (range_with_len 0 scenario.pes) _ ∙ length-range_with_len 0 scenario.pes in
-    subst (λ items. RunsSoFar scenario machine told answers [] items) (sym items_are) (subst (λ answers. RunsSoFar scenario machine told answers [] scenario.steps) (sym none) (runs_open scenario machine told good opens count))
+pub runs_start : (agenda : Agenda) (machine : Machine) (told : SeqTold) (answers : List Answer) (items : List Step) → CanBeDone agenda → OpensMachine agenda.lrs agenda.states agenda.pes machine told → answers ≡ [] → items ≡ agenda.steps → RunsSoFar agenda machine told answers [] items
+runs_start agenda machine told answers items can opens none items_are =
+    subst (λ items. RunsSoFar agenda machine told answers [] items) (sym items_are) (subst (λ answers. RunsSoFar agenda machine told answers [] agenda.steps) (sym none) (runs_open agenda machine told can opens))
 
-module _ (scenario : Scenario) (machine : Machine) (told : SeqTold) (answers : List Answer) (items : List Step) (number : ℕ) (so : RunsSoFar scenario machine told answers (take number items) (drop number items)) where
+module _ (agenda : Agenda) (machine : Machine) (told : SeqTold) (answers : List Answer) (items : List Step) (number : ℕ) (so : RunsSoFar agenda machine told answers (take number items) (drop number items)) where
   module _ (first : Step) (there : number < length items) where
     abbrev now : Step
     now = get_or items number first
 
-    so_now : RunsSoFar scenario machine told answers (take number items) (now ∷ drop (suc number) items)
-    so_now = subst (RunsSoFar scenario machine told answers (take number items)) (drop_next items number now (slice_get-get_or items number first there)) so
+    so_now : RunsSoFar agenda machine told answers (take number items) (now ∷ drop (suc number) items)
+    so_now = subst (RunsSoFar agenda machine told answers (take number items)) (drop_next items number now (slice_get-get_or items number first there)) so
 
     pub next_ready : IsReady machine told now
-    next_ready = is_ready scenario machine told answers (take number items) now (drop (suc number) items) so_now
+    next_ready = is_ready agenda machine told answers (take number items) now (drop (suc number) items) so_now
 
-    pub next_runs : (next : Machine) (later : SeqTold) (answer : Answer) (all : List Answer) → all ≡ answers ++ answer ∷ [] → DoesStep machine next told later now answer → RunsSoFar scenario next later all (take (number + 1) items) (drop (number + 1) items)
+    pub next_runs : (next : Machine) (later : SeqTold) (answer : Answer) (all : List Answer) → all ≡ answers ++ answer ∷ [] → DoesStep machine next told later now answer → RunsSoFar agenda next later all (take (number + 1) items) (drop (number + 1) items)
     next_runs next later answer all pushed steps =
-        let does = steps scenario.guests scenario.lrs so_now.parts so_now.ideals so_now.at (can_do scenario machine told answers (take number items) now (drop (suc number) items) so_now) in
-        let more = runs_more scenario machine told answers (take number items) now (drop (suc number) items) so_now next later answer does in
-        subst (λ done. RunsSoFar scenario next later all done (drop (number + 1) items)) (sym (take_more items number first there))
-        (subst (λ n. RunsSoFar scenario next later all (take number items ++ now ∷ []) (drop n items)) one_more
-        (subst (λ answers. RunsSoFar scenario next later answers (take number items ++ now ∷ []) (drop (suc number) items)) (sym pushed) more))
+        let does = steps agenda.states agenda.lrs so_now.parts so_now.ideals so_now.at (can_do agenda machine told answers (take number items) now (drop (suc number) items) so_now) in
+        let more = runs_more agenda machine told answers (take number items) now (drop (suc number) items) so_now next later answer does in
+        subst (λ done. RunsSoFar agenda next later all done (drop (number + 1) items)) (sym (take_more items number first there))
+        (subst (λ n. RunsSoFar agenda next later all (take number items ++ now ∷ []) (drop n items)) one_more
+        (subst (λ answers. RunsSoFar agenda next later answers (take number items ++ now ∷ []) (drop (suc number) items)) (sym pushed) more))
       where
         one_more : suc number ≡ number + 1
         one_more = omega arith
 
-  pub runs_last : length items ≤ number → items ≡ scenario.steps → RunsSoFar scenario machine told answers scenario.steps []
+  pub runs_last : length items ≤ number → items ≡ agenda.steps → RunsSoFar agenda machine told answers agenda.steps []
   runs_last past items_are =
-      subst (λ rest. RunsSoFar scenario machine told answers scenario.steps rest) (dropped_past items number past)
-      (subst (λ done. RunsSoFar scenario machine told answers done (drop number items)) (taken_past items number past ∙ items_are) so)
+      subst (λ rest. RunsSoFar agenda machine told answers agenda.steps rest) (dropped_past items number past)
+      (subst (λ done. RunsSoFar agenda machine told answers done (drop number items)) (taken_past items number past ∙ items_are) so)
     where
       taken_past : (xs : List Step) (n : ℕ) → length xs ≤ n → take n xs ≡ xs
       taken_past [] zero h = refl

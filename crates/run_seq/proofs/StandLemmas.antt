@@ -4,8 +4,6 @@ use Rattle.std.proofs.Math.Logic.{∥∥₁_map}
 use Rattle.std.specs.Prelude.{slice_get}
 use Rattle.std.specs.Option.{option_map_or}
 use Rattle.std.proofs.lemmas.Option.{slice_get_within}
-use Rattle.law_ends_agree.specs.IdealGuests.Opening.{opening as opening_guest}
-use Rattle.law_ends_agree.specs.Calls.{GuestSpec}
 use Rattle.law_ends_agree.specs.Histories.{IdealGuest}
 use Rattle.law_ends_agree.specs.Core.{CoreState, Local, opening, end_of_moments, is_paid, is_ready}
 use Rattle.law_ends_agree.specs.ScnBase.declared.pes.VcpuName.{VcpuName}
@@ -78,10 +76,10 @@ module _ (pes : List (Option VcpuName)) (lrs : ℕ) (guest : IdealGuest) (number
   guest_stands = ∥∥₁_map at.done of_done
 
 -- Each of them.
-pub all_stand : (specs : List GuestSpec) (lrs : ℕ) (machine : Machine) (told : SeqTold) (parts : ℕ → List WholePart) (ideals : List IdealGuest) → IsMachineAt specs lrs machine told parts ideals → (number : ℕ) (guest : GuestSpec) → slice_get specs number ≡ Some guest
-    → ∥ StandSo (opening_guest guest) number lrs machine.pes (parts number) ∥₁
-all_stand specs lrs machine told parts ideals at number guest spec =
-    let there = slice_get_within specs number guest spec in
+pub all_stand : (states : List IdealGuest) (lrs : ℕ) (machine : Machine) (told : SeqTold) (parts : ℕ → List WholePart) (ideals : List IdealGuest) → IsMachineAt states lrs machine told parts ideals → (number : ℕ) (guest : IdealGuest) → slice_get states number ≡ Some guest
+    → ∥ StandSo guest number lrs machine.pes (parts number) ∥₁
+all_stand states lrs machine told parts ideals at number guest spec =
+    let there = slice_get_within states number guest spec in
     let vcpus = there_in machine.guests.items number (subst (λ n. number < n) (sym at.guests) there) in
     let ideal = there_in ideals number (subst (λ n. number < n) (sym at.ideals_each) there) in
-    guest_stands machine.pes lrs (opening_guest guest) number (guest_at told number) vcpus.one (parts number) ideal.one (at.each number guest vcpus.one ideal.one spec vcpus.is ideal.is)
+    guest_stands machine.pes lrs guest number (guest_at told number) vcpus.one (parts number) ideal.one (at.each number guest vcpus.one ideal.one spec vcpus.is ideal.is)

@@ -1,12 +1,9 @@
 -- The PEs and the vCPUs of a schedule, over the port of its guests (own choice).
 use Rattle.std.specs.Prelude.{◌≡◌, ℕ, ◌≤◌, ◌<◌, Bool, true, false, IsTrue, List, [], ◌++◌, length, map, All, Option, Some, None, slice_get, slice_set}
 use Rattle.law_ends_agree.specs.Histories.{IdealGuest}
-use Rattle.law_ends_agree.specs.IdealGuests.Opening.{opening as opening_guest}
-use Rattle.law_ends_agree.specs.GicIdeal.Eager.{after_step, step_answer}
-use Rattle.law_ends_agree.specs.Calls.{GuestSpec, shapes_of}
+use Rattle.law_ends_agree.specs.GicIdeal.Eager.{after_step, state_shapes, step_answer}
 use Rattle.law_ends_agree.specs.GicGuest.declared.outcome.Answer.{Answer}
 use Rattle.law_ends_agree.specs.ScnBase.declared.pes.VcpuName.{VcpuName}
-use Rattle.law_ends_agree.specs.ScnBase.declared.scenario.Scenario.{Scenario}
 use Rattle.law_ends_agree.specs.ScnBase.declared.standing.Standing.{Standing}
 use Rattle.law_ends_agree.specs.ScnBase.declared.step.Mode.TheVariants.{Schedule}
 use Rattle.law_ends_agree.specs.ScnBase.declared.step.Step.{Step}
@@ -23,6 +20,7 @@ use Rattle.run_seq.specs.declared.machine.Machine.{Machine}
 use Rattle.run_seq.specs.StepCalls.{calls_among, step_call}
 use Rattle.run_seq.specs.Steps.{IsOfPe}
 use Rattle.std.specs.Option.{option_to_list}
+use Rattle.run_seq.specs.Agenda.{StandsOnce}
 
 -- One guest.
 
@@ -44,23 +42,19 @@ pub record IsGuestAt (pes : List (Option VcpuName)) (lrs : ℕ) (guest : IdealGu
 
 -- All guests.
 
--- no vCPU stands on two PEs
-pub record StandsOnce (pes : List (Option VcpuName)) : Type 0 where
-  pub same : (one other : ℕ) (name : VcpuName) → slice_get pes one ≡ Some (Some name) → slice_get pes other ≡ Some (Some name) → one ≡ other
-
--- what a machine has of the guests of a scenario whose PEs have so many list registers: by their numbers these parts were done to them, and they are these guests
--- of the ideal controller
-pub record IsMachineAt (specs : List GuestSpec) (lrs : ℕ) (machine : Machine) (told : SeqTold) (parts : ℕ → List WholePart) (ideals : List IdealGuest) : Type 0 where
+-- what a machine has of guests that opened in these states, whose PEs have so many list registers: by their numbers these parts were done to them, and they are these
+-- guests of the ideal controller
+pub record IsMachineAt (states : List IdealGuest) (lrs : ℕ) (machine : Machine) (told : SeqTold) (parts : ℕ → List WholePart) (ideals : List IdealGuest) : Type 0 where
   pub lrs_is : machine.lrs ≡ lrs
   pub few_lrs : lrs ≤ 16
-  pub guests : length machine.guests.items ≡ length specs
-  pub ports : length told.guests ≡ length specs
-  pub ideals_each : length ideals ≡ length specs
-  pub residents : ResidentsExist (shapes_of specs) machine.pes
+  pub guests : length machine.guests.items ≡ length states
+  pub ports : length told.guests ≡ length states
+  pub ideals_each : length ideals ≡ length states
+  pub residents : ResidentsExist (state_shapes states) machine.pes
   pub once : StandsOnce machine.pes
   pub each :
-      (number : ℕ) (guest : GuestSpec) (vcpus : Vcpus) (ideal : IdealGuest) → slice_get specs number ≡ Some guest → slice_get machine.guests.items number ≡ Some vcpus → slice_get ideals number ≡ Some ideal
-      → IsGuestAt machine.pes lrs (opening_guest guest) number (guest_at told number) vcpus (parts number) ideal
+      (number : ℕ) (guest : IdealGuest) (vcpus : Vcpus) (ideal : IdealGuest) → slice_get states number ≡ Some guest → slice_get machine.guests.items number ≡ Some vcpus → slice_get ideals number ≡ Some ideal
+      → IsGuestAt machine.pes lrs guest number (guest_at told number) vcpus (parts number) ideal
 
 -- One guest acts.
 
@@ -87,57 +81,57 @@ pub record GuestActs (number : ℕ) (Does : GuestTold → GuestTold → Vcpus �
 -- A step.
 
 -- a step can be done: it is formed, and may follow the steps before it
-pub record CanDo (specs : List GuestSpec) (machine : Machine) (step : Step) : Type 0 where
+pub record CanDo (states : List IdealGuest) (machine : Machine) (step : Step) : Type 0 where
   pub standing : Standing
   pub pes : standing.pes ≡ machine.pes
-  pub formed : IsTrue (is_formed Schedule (length machine.pes) (shapes_of specs) step)
+  pub formed : IsTrue (is_formed Schedule (length machine.pes) (state_shapes states) step)
   pub stands : IsTrue (stands Schedule standing step)
 
--- of a machine and its port it is said of which scenario's guests they are
+-- of a machine and its port it is said in which states the guests opened
 pub record IsMachine (machine : Machine) (told : SeqTold) : Type 0 where
-  pub specs : List GuestSpec
+  pub states : List IdealGuest
   pub lrs : ℕ
   pub parts : ℕ → List WholePart
   pub ideals : List IdealGuest
-  pub at : IsMachineAt specs lrs machine told parts ideals
+  pub at : IsMachineAt states lrs machine told parts ideals
 
 -- and that the step can be done
 pub record IsReady (machine : Machine) (told : SeqTold) (step : Step) : Type 0 where
   pub of : IsMachine machine told
-  pub can : CanDo of.specs machine step
+  pub can : CanDo of.states machine step
 
 -- after a step each guest had the parts of the step's call done to it, if there is one of this guest, with its answer, and entries, exits and looks for kicks, as a step of a PE asks for
 -- them; the guests of the ideal controller are those after the step, and the answer is what that answers
-pub record HasDoneStep (specs : List GuestSpec) (lrs : ℕ) (machine next : Machine) (later : SeqTold) (parts : ℕ → List WholePart) (ideals : List IdealGuest) (step : Step) (answer : Answer) : Type 0 where
+pub record HasDoneStep (states : List IdealGuest) (lrs : ℕ) (machine next : Machine) (later : SeqTold) (parts : ℕ → List WholePart) (ideals : List IdealGuest) (step : Step) (answer : Answer) : Type 0 where
   pub more : ℕ → List WholePart
-  pub calls : (number : ℕ) (guest : GuestSpec) → slice_get specs number ≡ Some guest → calls_among (more number) ≡ option_to_list (step_call number guest.shape step answer)
-  pub of_pe : (number : ℕ) (guest : GuestSpec) → slice_get specs number ≡ Some guest → IsOfPe (opening_guest guest) number lrs machine.pes step answer (parts number) (more number)
+  pub calls : (number : ℕ) (guest : IdealGuest) → slice_get states number ≡ Some guest → calls_among (more number) ≡ option_to_list (step_call number guest.shape step answer)
+  pub of_pe : (number : ℕ) (guest : IdealGuest) → slice_get states number ≡ Some guest → IsOfPe guest number lrs machine.pes step answer (parts number) (more number)
   pub pes : next.pes ≡ pes_after step machine.pes
   pub answer_is : answer ≡ step_answer lrs machine.pes step ideals
-  pub at : IsMachineAt specs lrs next later (λ number. parts number ++ more number) (after_step step ideals)
+  pub at : IsMachineAt states lrs next later (λ number. parts number ++ more number) (after_step step ideals)
 
--- so it is of whatever scenario they are
+-- so it is of whatever guests they are
 abbrev pub DoesStep : Machine → Machine → SeqTold → SeqTold → Step → Answer → Type 0
 DoesStep machine next told later step answer =
-    (specs : List GuestSpec) (lrs : ℕ) (parts : ℕ → List WholePart) (ideals : List IdealGuest) → IsMachineAt specs lrs machine told parts ideals → CanDo specs machine step
-    → HasDoneStep specs lrs machine next later parts ideals step answer
+    (states : List IdealGuest) (lrs : ℕ) (parts : ℕ → List WholePart) (ideals : List IdealGuest) → IsMachineAt states lrs machine told parts ideals → CanDo states machine step
+    → HasDoneStep states lrs machine next later parts ideals step answer
 
 -- Opening and closing.
 
--- a machine of a scenario as it opens: nothing was called, and the vCPUs stand on the PEs in their order
-pub record OpensMachine (scenario : Scenario) (machine : Machine) (told : SeqTold) : Type 0 where
+-- a machine as it opens: nothing was called, and these vCPUs stand on its PEs
+pub record OpensMachine (lrs : ℕ) (states : List IdealGuest) (pes : List (Option VcpuName)) (machine : Machine) (told : SeqTold) : Type 0 where
   pub parts : ℕ → List WholePart
-  pub calls : (number : ℕ) (guest : GuestSpec) → slice_get scenario.guests number ≡ Some guest → calls_among (parts number) ≡ []
-  pub pes : machine.pes ≡ opening_pes scenario.pes (shapes_of scenario.guests)
-  pub at : IsMachineAt scenario.guests scenario.lrs machine told parts (map opening_guest scenario.guests)
+  pub calls : (number : ℕ) (guest : IdealGuest) → slice_get states number ≡ Some guest → calls_among (parts number) ≡ []
+  pub pes_are : machine.pes ≡ pes
+  pub at : IsMachineAt states lrs machine told parts states
 
 -- after it nobody stands on a PE, and no more was called
-pub record HasClosed (specs : List GuestSpec) (lrs : ℕ) (next : Machine) (later : SeqTold) (parts : ℕ → List WholePart) (ideals : List IdealGuest) : Type 0 where
+pub record HasClosed (states : List IdealGuest) (lrs : ℕ) (next : Machine) (later : SeqTold) (parts : ℕ → List WholePart) (ideals : List IdealGuest) : Type 0 where
   pub more : ℕ → List WholePart
-  pub calls : (number : ℕ) (guest : GuestSpec) → slice_get specs number ≡ Some guest → calls_among (more number) ≡ []
+  pub calls : (number : ℕ) (guest : IdealGuest) → slice_get states number ≡ Some guest → calls_among (more number) ≡ []
   pub pes : All (λ resident. resident ≡ None) next.pes
-  pub at : IsMachineAt specs lrs next later (λ number. parts number ++ more number) ideals
+  pub at : IsMachineAt states lrs next later (λ number. parts number ++ more number) ideals
 
 abbrev pub Closes : Machine → Machine → SeqTold → SeqTold → Type 0
 Closes machine next told later =
-    (specs : List GuestSpec) (lrs : ℕ) (parts : ℕ → List WholePart) (ideals : List IdealGuest) → IsMachineAt specs lrs machine told parts ideals → HasClosed specs lrs next later parts ideals
+    (states : List IdealGuest) (lrs : ℕ) (parts : ℕ → List WholePart) (ideals : List IdealGuest) → IsMachineAt states lrs machine told parts ideals → HasClosed states lrs next later parts ideals

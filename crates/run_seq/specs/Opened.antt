@@ -1,8 +1,6 @@
 -- The vCPUs of guests that just opened (own choice).
 use Rattle.std.specs.Prelude.{◌≡◌, ℕ, List, length, Some, slice_get}
-use Rattle.law_ends_agree.specs.IdealGuests.Opening.{opening as opening_guest}
 use Rattle.law_ends_agree.specs.Histories.{IdealGuest}
-use Rattle.law_ends_agree.specs.Calls.{GuestSpec}
 use Rattle.law_one_thread_is_eager.specs.PortSeq.Told.{GuestTold, SeqTold, guest_at, opening_told}
 use Rattle.law_one_thread_is_eager.specs.SeqGuest.declared.vcpus.Vcpus.{Vcpus}
 use Rattle.law_one_thread_is_eager.specs.PePlace.Place.{shelf}
@@ -20,7 +18,7 @@ pub record IsOpened (guest : IdealGuest) (number lrs : ℕ) (told : GuestTold) (
   pub spots : (vcpu : ℕ) → spot_at vcpus vcpu ≡ shelf
 
 -- so it is of the first of the guests
-pub record AreOpened (specs : List GuestSpec) (lrs : ℕ) (told : SeqTold) (guests : List Vcpus) (count : ℕ) : Type 0 where
-  pub ports : length told.guests ≡ length specs
+pub record AreOpened (states : List IdealGuest) (lrs : ℕ) (told : SeqTold) (guests : List Vcpus) (count : ℕ) : Type 0 where
+  pub ports : length told.guests ≡ length states
   pub each : length guests ≡ count
-  pub ones : (number : ℕ) (guest : GuestSpec) (vcpus : Vcpus) → slice_get specs number ≡ Some guest → slice_get guests number ≡ Some vcpus → IsOpened (opening_guest guest) number lrs (guest_at told number) vcpus
+  pub ones : (number : ℕ) (guest : IdealGuest) (vcpus : Vcpus) → slice_get states number ≡ Some guest → slice_get guests number ≡ Some vcpus → IsOpened guest number lrs (guest_at told number) vcpus

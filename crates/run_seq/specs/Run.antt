@@ -2,9 +2,7 @@
 use Rattle.std.specs.Prelude.{◌≡◌, ℕ, ◌<◌, IsTrue, List, [], length, map, Option, Some, slice_get}
 use Rattle.std.specs.List.{flat_map}
 use Rattle.law_ends_agree.specs.Histories.{IdealGuest}
-use Rattle.law_ends_agree.specs.IdealGuests.Opening.{opening as opening_guest}
 use Rattle.law_ends_agree.specs.GicIdeal.Eager.{after_steps, eager}
-use Rattle.law_ends_agree.specs.Calls.{GuestSpec, shapes_of}
 use Rattle.law_ends_agree.specs.GicGuest.declared.outcome.Answer.{Answer}
 use Rattle.law_ends_agree.specs.ScnBase.declared.pes.VcpuName.{VcpuName}
 use Rattle.law_ends_agree.specs.ScnBase.declared.scenario.Scenario.{Scenario}
@@ -18,6 +16,7 @@ use Rattle.law_one_thread_is_eager.specs.SeqGuest.Guest.{cpus_of, seen_by}
 use Rattle.law_one_thread_is_eager.specs.Done.{AreSerial, home_after}
 use Rattle.law_ends_agree.specs.GuestEnd.declared.outcome.Done.{Done}
 use Rattle.run_seq.specs.Steps.{GoesBySteps}
+use Rattle.run_seq.specs.Agenda.{Agenda, agenda_of, answers_by}
 
 -- a guest whose vCPUs all left: nothing is at their interfaces, and no actor owes anything or has the ITS or the mark of GICD_CTLR
 pub record IsLeft (told : GuestTold) : Type 0 where
@@ -36,15 +35,19 @@ pub record GuestHasRun (guest : IdealGuest) (number lrs : ℕ) (pes : List (Opti
   pub left : IsLeft told
   pub home_is : ideal ≡ home_after guest number parts
 
--- all steps of a scenario were done on a port that opened with it: so it is of each guest, with that which the ideal controller's run ends with; each step answered what the ideal
--- controller answers; and these are the records of the CPU interfaces, by guest and vCPU
-pub record HasRun (scenario : Scenario) (done : Done) (told : SeqTold) : Type 0 where
-  pub ports : length told.guests ≡ length scenario.guests
+-- all steps of an agenda were done on a port whose guests opened so: so it is of each guest, with that which the ideal controller's steps leave of it; each step
+-- answered what the ideal controller answers; and these are the records of the CPU interfaces, by guest and vCPU
+pub record IsDone (agenda : Agenda) (done : Done) (told : SeqTold) : Type 0 where
+  pub ports : length told.guests ≡ length agenda.states
   pub each :
-      (number : ℕ) (guest : GuestSpec) (ideal : IdealGuest) → slice_get scenario.guests number ≡ Some guest → slice_get (after_steps scenario.steps (map opening_guest scenario.guests)) number ≡ Some ideal
-      → GuestHasRun (opening_guest guest) number scenario.lrs (opening_pes scenario.pes (shapes_of scenario.guests)) scenario.steps done.answers ideal (guest_at told number)
-  pub answers : done.answers ≡ (eager scenario).answers
+      (number : ℕ) (guest ideal : IdealGuest) → slice_get agenda.states number ≡ Some guest → slice_get (after_steps agenda.steps agenda.states) number ≡ Some ideal
+      → GuestHasRun guest number agenda.lrs agenda.pes agenda.steps done.answers ideal (guest_at told number)
+  pub answers : done.answers ≡ answers_by agenda
   pub cpus : done.cpus ≡ flat_map cpus_of told.guests
+
+-- all steps of a scenario were done on a port that opened with it
+abbrev pub HasRun : Scenario → Done → SeqTold → Type 0
+HasRun scenario done told = IsDone (agenda_of scenario) done told
 
 -- the same guests, whichever of their actors are told
 pub record SamePorts (old new : SeqTold) : Type 0 where

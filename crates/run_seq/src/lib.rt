@@ -5,9 +5,11 @@
 mod machine;
 mod room;
 mod scheduled;
+mod start;
 mod watch;
 
-pub use law_ends_agree::{Command, Done, eager, encode};
+pub use law_ends_agree::{Command, Done, NoMemory, Scenario, eager, encode, ends_of, states_of};
 pub use law_one_thread_is_eager::SeqPort;
-pub use scheduled::{run, run_on};
+pub use scheduled::{run, run_from, run_on};
+pub use start::Start;
 pub use watch::SeqWatch;

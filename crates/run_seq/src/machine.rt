@@ -1,16 +1,16 @@
 //! All PEs and vCPUs of a scenario, over its port.
-ghost use Rattle.std.specs.Prelude.{◌≡◌, ◌+◌, ◌≤◌, All, IfOk, None, length, map};
+ghost use Rattle.std.specs.Prelude.{◌≡◌, ◌+◌, ◌≤◌, All, IfOk, None, length};
 ghost use Rattle.law_ends_agree.specs.Words.{MAX_LIST_REGISTERS, Vcpu as VcpuActor};
-ghost use Rattle.law_ends_agree.specs.Calls.{IsGoodGuest};
-ghost use Rattle.law_ends_agree.specs.IdealGuests.Opening.{opening as opening_guest};
 ghost use Rattle.law_one_thread_is_eager.specs.PortSeq.Ports.{told_all};
 ghost use Rattle.law_one_thread_is_eager.specs.PortSeq.Told.{IsOpening};
+ghost use Rattle.run_seq.specs.Agenda.{states_in};
 ghost use Rattle.run_seq.specs.Opened.{AreOpened};
 
 use crate::room::zeros;
+use crate::start::Start;
 use law_ends_agree::{
-    Actor, Answer, DeviceOp, GuestOp, LrList, NoMemory, PeOp, Pes, Scenario, Step, VcpuName,
-    answer_of, move_pes, opening_pes,
+    Actor, Answer, DeviceOp, GuestOp, LrList, NoMemory, PeOp, Pes, Step, VcpuName, answer_of,
+    move_pes,
 };
 use law_one_thread_is_eager::{SeqPort, Vcpus};
 use std::alloc::{AllocError, Global};
@@ -34,22 +34,23 @@ pub(crate) fn first_of(guest: u32) -> Actor
     Actor::Vcpu { guest, vcpu: 0 }
 }
 
-/// The vCPUs of all guests that just opened, by guest, each on no PE. An error where memory is refused.
+/// The vCPUs of all guests that just opened, by guest, each on no PE of so many list registers. An error where memory is refused.
 fn open_all(
     alloc: Global,
     port: &mut SeqPort,
-    scenario: &Scenario,
+    count: u32,
+    lrs: u32,
 ) -> Result<Vec<Vcpus>, AllocError>
-    requires opening { IsOpening (map opening_guest scenario.now.guests) (told_all port.old) }
-    requires good { All IsGoodGuest scenario.now.guests }
-    requires few { length scenario.now.guests ≤ 4 }
-    requires lrs { 1 ≤ scenario.now.lrs × scenario.now.lrs ≤ MAX_LIST_REGISTERS }
-    ensures { IfOk result (λ guests. AreOpened scenario.now.guests scenario.now.lrs (told_all port.new) guests.items (length scenario.now.guests)) }
+    requires opening { IsOpening (states_in (told_all port.old)) (told_all port.old) }
+    requires all { count ≡ length (told_all port.old).guests }
+    requires few { count ≤ 4 }
+    requires lrs { 1 ≤ lrs × lrs ≤ MAX_LIST_REGISTERS }
+    ensures { IfOk result (λ guests. AreOpened (states_in (told_all port.old)) lrs (told_all port.new) guests.items count) }
 {
     let mut guests = Vec::new(alloc);
-    for guest in 0..scenario.guests.len() as u32 {
+    for guest in 0..count {
         port.set_actor(first_of(guest));
-        guests.push(Vcpus::opening(alloc, guest, port.current_mut(), scenario.lrs)?)?;
+        guests.push(Vcpus::opening(alloc, guest, port.current_mut(), lrs)?)?;
     }
     Ok(guests)
 }
@@ -60,31 +61,29 @@ impl Machine {
     ghost use Rattle.law_one_thread_is_eager.specs.PortSeq.Told.{guest_at};
     ghost use Rattle.law_one_thread_is_eager.specs.PePlace.Place.{entered, left};
     ghost use Rattle.run_seq.specs.Machine.{HasGuest, GuestActs, IsMachine, IsReady, DoesStep, OpensMachine, Closes};
-    ghost use Rattle.law_ends_agree.specs.ScnBase.declared.step.Mode.TheVariants.{Schedule};
-    ghost use Rattle.law_ends_agree.specs.ScnBase.Good.{IsGood};
+    ghost use Rattle.run_seq.specs.Agenda.{CanStart};
     ghost use Rattle.run_seq.specs.Acts.{HasVcpu, HasLoaded, CanOperate, CanReceive, MovesVcpu, ShowsVcpu, CallsOnce, ActsAs};
     ghost use Rattle.law_one_thread_is_eager.specs.PePlace.Place.{IsRoom};
     ghost use Rattle.run_seq.specs.Room.{HasRoomFor};
 
-    /// The PEs and the vCPUs as a scenario opens: on PE 0, 1, .. the vCPUs in order of guest and number, as far as both last.
-    /// `NoMemory` comes where memory is refused.
+    /// The PEs and the vCPUs as a run begins: whoever is to stand on a PE enters it. `NoMemory` comes where memory is refused.
     pub(crate) fn opening<R: Wait>(
         rt: &R,
         alloc: Global,
         port: &mut SeqPort,
-        scenario: &Scenario,
+        start: &Start,
     ) -> Result<Machine, NoMemory>
-        requires good { IsGood Schedule scenario.now }
-        requires opening { IsOpening (map opening_guest scenario.now.guests) (told_all port.old) }
-        ensures { IfOk result (λ machine. OpensMachine scenario.now machine (told_all port.new)) }
+        requires opening { IsOpening (states_in (told_all port.old)) (told_all port.old) }
+        requires all { start.now.guests ≡ length (told_all port.old).guests }
+        requires can { CanStart start.now.lrs (states_in (told_all port.old)) start.now.pes }
+        ensures { IfOk result (λ machine. OpensMachine start.now.lrs (states_in (told_all port.old)) start.now.pes machine (told_all port.new)) }
     {
         let mut machine = Machine {
-            lrs: scenario.lrs,
-            pes: Pes::from(vec![in alloc; None; scenario.pes as usize]?),
-            guests: open_all(alloc, port, scenario)?,
+            lrs: start.lrs,
+            pes: Pes::from(vec![in alloc; None; start.pes.len()]?),
+            guests: open_all(alloc, port, start.guests, start.lrs)?,
         };
-        let residents = opening_pes(alloc, scenario.pes, scenario.guests.as_slice())?;
-        for (pe, resident) in residents.as_slice().iter().enumerate() {
+        for (pe, resident) in start.pes.as_slice().iter().enumerate() {
             if let Some(name) = *resident {
                 let op = PeOp::Enter {
                     guest: name.guest,

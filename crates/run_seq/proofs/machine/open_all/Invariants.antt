@@ -1,6 +1,6 @@
 -- The first guests have their vCPUs.
-use Rattle.std.proofs.Common.{◌≡◌, length}
 use Rattle.law_one_thread_is_eager.specs.PortSeq.Ports.{told_all}
+use Rattle.run_seq.specs.Agenda.{states_in}
 use Rattle.run_seq.specs.Opened.{AreOpened}
 use Rattle.run_seq.specs.Run.{SamePorts}
 use Rattle.run_seq.proofs.machine.open_all.Given as goal
@@ -8,5 +8,4 @@ use Rattle.run_seq.proofs.machine.open_all.Given as goal
 abbrev pub invariant-loop-guest : goal.invariant-loop-guest
 invariant-loop-guest l =
     SamePorts (told_all l.initial.port) (told_all l.port)
-    × AreOpened l.scenario.guests l.scenario.lrs (told_all l.port) l.guests.items l.guest
-    × (l.guest-end ≡ length l.scenario.guests)
+    × AreOpened (states_in (told_all l.initial.port)) l.lrs (told_all l.port) l.guests.items l.guest

@@ -1,5 +1,5 @@
 -- The records of the first guests.
-use Rattle.std.proofs.Common.{◌≡◌, length, take}
+use Rattle.std.proofs.Common.{◌≡◌, take}
 use Rattle.std.specs.List.{flat_map}
 use Rattle.law_one_thread_is_eager.specs.PortSeq.Ports.{told_all}
 use Rattle.law_one_thread_is_eager.specs.SeqGuest.Guest.{cpus_of}
@@ -10,4 +10,3 @@ abbrev pub invariant-loop-guest : goal.invariant-loop-guest
 invariant-loop-guest l =
     SamePorts (told_all l.initial.port) (told_all l.port)
     × (l.cpus ≡ flat_map cpus_of (take l.guest (told_all l.initial.port).guests))
-    × (l.guest-end ≡ length (told_all l.initial.port).guests)

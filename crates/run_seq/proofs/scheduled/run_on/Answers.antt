@@ -1,52 +1,28 @@
--- One step after the other.
-use Rattle.std.proofs.Common.{◌∷◌, [], length, sym, ap, subst, ◌∙◌, arith}
-use Rattle.std.proofs.lemmas.List.{length-append}
+-- The steps of the scenario are done from where it begins.
+use Rattle.std.proofs.Common.{length, map, sym, ap, subst, ◌∙◌}
+use Rattle.std.specs.Prelude.{IfOk}
+use Rattle.std.proofs.lemmas.List.{length-map}
+use Rattle.law_ends_agree.specs.IdealGuests.Opening.{opening as opening_guest}
+use Rattle.law_ends_agree.specs.Calls.{shapes_of}
+use Rattle.law_ends_agree.specs.ScnBase.Standing.{ResidentsExist}
 use Rattle.law_one_thread_is_eager.specs.PortSeq.Ports.{told_all}
-use Rattle.run_seq.proofs.RunLemmas.{next_ready, next_runs, runs_last, runs_start}
-use Rattle.run_seq.specs.Room.{RoomsFor}
-use Rattle.run_seq.specs.Run.{HasRun}
-use Rattle.run_seq.proofs.RoomLemmas.{rooms_left, some_room}
-use Rattle.run_seq.proofs.LeftLemmas.{has_run}
+use Rattle.run_seq.specs.declared.start.Start.{Start}
+use Rattle.run_seq.specs.Agenda.{Agenda, CanBeDone, agenda_of}
+use Rattle.run_seq.specs.Run.{IsDone}
+use Rattle.run_seq.proofs.AgendaLemmas.{agenda_is, good_can, opens_in}
 use Rattle.run_seq.proofs.scheduled.run_on.Goals as goal
 
-pub loop-step-init : goal.loop-step-init
-loop-step-init g c =
-    record {
-      runs = runs_start c.args.scenario.now c.in_ok-machine.machine (told_all c.opening.new.port) c.in_ok-answers.answers.items c.as_slice-step-items.result.now c.requires.good c.in_ok-machine.ensures c.in_ok-answers.ensures.items c.as_slice-step-items.ensures;
-      rooms = subst (λ steps. RoomsFor steps c.in_ok-rooms.rooms.items) (c.as_slice.ensures ∙ sym c.as_slice-step-items.ensures) c.in_ok-rooms.ensures;
-      answered = ap length c.in_ok-answers.ensures.items;
-      room = omega (arith, c.in_ok-answers.ensures.capacity, c.len.ensures, ap length c.as_slice-step-items.ensures);
-    }
+pub run_from-requires-clause-opening : goal.run_from-requires-clause-opening
+run_from-requires-clause-opening g c = opens_in (map opening_guest c.args.scenario.now.guests) (told_all c.args.port.now) c.requires.opening
 
-pub take_room-room-requires-clause-each : goal.take_room-room-requires-clause-each
-take_room-room-requires-clause-each g c = c.loop-step.invariant.rooms.each
+pub run_from-requires-clause-all : goal.run_from-requires-clause-all
+run_from-requires-clause-all g c = ap (λ (start : Start). start.guests) c.in_ok-start.ensures.value ∙ sym (c.requires.opening.each ∙ length-map c.args.scenario.now.guests opening_guest)
 
-pub take_room-room-requires-clause-some : goal.take_room-room-requires-clause-some
-take_room-room-requires-clause-some g c = some_room c.as_slice-step-items.result.now c.loop-step.step-index _ (omega arith) c.loop-step.rooms.items c.loop-step.invariant.rooms
-
-pub step-requires-clause-ready : goal.step-requires-clause-ready
-step-requires-clause-ready g c = next_ready c.args.scenario.now c.loop-step.machine (told_all c.loop-step.port) c.loop-step.answers.items c.as_slice-step-items.result.now c.loop-step.step-index c.loop-step.invariant.runs _ (omega arith)
-
-pub push_reserved-requires : goal.push_reserved-requires
-push_reserved-requires g c = omega (arith, c.loop-step.answers.ok.0, c.loop-step.invariant.answered, c.loop-step.invariant.room)
-
-pub loop-step-preserved : goal.loop-step-preserved
-loop-step-preserved g c =
-    record {
-      runs = next_runs c.args.scenario.now c.loop-step.machine (told_all c.loop-step.port) c.loop-step.answers.items c.as_slice-step-items.result.now c.loop-step.step-index c.loop-step.invariant.runs _ (omega arith) c.step.new.self (told_all c.step.new.port) c.step.result c.push_reserved.new.self.items c.push_reserved.ensures.items c.step.ensures;
-      rooms = rooms_left c.as_slice-step-items.result.now c.loop-step.step-index _ (omega arith) c.loop-step.rooms.items c.loop-step.invariant.rooms c.take_room-room.new.rooms.items c.take_room-room.ensures.each c.take_room-room.ensures.count;
-      answered = omega (arith, ap length c.push_reserved.ensures.items, length-append c.loop-step.answers.items (c.step.result ∷ []), c.loop-step.invariant.answered);
-      room = omega (arith, c.push_reserved.ensures.capacity, c.loop-step.invariant.room);
-    }
-
-pub all_cpus-requires-clause-each : goal.all_cpus-requires-clause-each
-all_cpus-requires-clause-each g c =
-    let so = runs_last c.args.scenario.now c.loop-step.machine (told_all c.loop-step.port) c.loop-step.answers.items c.as_slice-step-items.result.now c.loop-step.step-index c.loop-step.invariant.runs (omega arith) c.as_slice-step-items.ensures in
-    (c.close.ensures c.args.scenario.now.guests c.args.scenario.now.lrs so.parts so.ideals so.at).at.ports
+pub run_from-requires-clause-can : goal.run_from-requires-clause-can
+run_from-requires-clause-can g c =
+    subst CanBeDone
+    (sym (agenda_is c.args.scenario.now (told_all c.args.port.now) c.in_ok-start.start c.as_slice.result.now c.requires.opening c.in_ok-start.ensures.value ∙ ap (λ steps. record (agenda_of c.args.scenario.now) { steps = steps }) c.as_slice.ensures))
+    (good_can c.args.scenario.now c.requires.good (subst (ResidentsExist (shapes_of c.args.scenario.now.guests)) (ap (λ (start : Start). start.pes) c.in_ok-start.ensures.value) c.in_ok-start.ensures.exist))
 
 pub returns : goal.returns
-returns g c =
-    let so = runs_last c.args.scenario.now c.loop-step.machine (told_all c.loop-step.port) c.loop-step.answers.items c.as_slice-step-items.result.now c.loop-step.step-index c.loop-step.invariant.runs (omega arith) c.as_slice-step-items.ensures in
-    let closed = c.close.ensures c.args.scenario.now.guests c.args.scenario.now.lrs so.parts so.ideals so.at in
-    subst (λ answers. HasRun c.args.scenario.now (record { answers = answers; cpus = c.in_ok-cpus.cpus }) (told_all c.all_cpus.new.port)) (sym c.from.ensures)
-    (has_run c.args.scenario.now c.loop-step.machine c.close.new.self (told_all c.loop-step.port) (told_all c.close.new.port) (told_all c.all_cpus.new.port) c.loop-step.answers.items so closed c.all_cpus.ensures.same c.in_ok-cpus.cpus c.in_ok-cpus.ensures.cpus)
+returns g c = subst (λ (agenda : Agenda). IfOk c.run_from.result (λ done. IsDone agenda done (told_all c.run_from.new.port))) (agenda_is c.args.scenario.now (told_all c.args.port.now) c.in_ok-start.start c.as_slice.result.now c.requires.opening c.in_ok-start.ensures.value ∙ ap (λ steps. record (agenda_of c.args.scenario.now) { steps = steps }) c.as_slice.ensures) c.run_from.ensures
