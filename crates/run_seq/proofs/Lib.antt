@@ -1,3 +1,4 @@
+pub use Rattle.law_ends_agree.proofs.GicIdeal
 pub mod ResidentLemmas
 pub mod OnceLemmas
 pub mod AgendaLemmas
