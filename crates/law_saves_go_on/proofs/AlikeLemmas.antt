@@ -1,5 +1,5 @@
 -- What is saved does not look at the number of a past fault.
-use Rattle.std.proofs.Common.{◌≡◌, ℕ, ◌*◌, ◌/◌, ◌==◌, Bool, true, false, if◌then◌else◌, List, map, Option, Some, None, refl, sym, ap, ◌∙◌}
+use Rattle.std.proofs.Common.{◌≡◌, ℕ, ◌/◌, ◌==◌, Bool, true, false, if◌then◌else◌, List, map, Option, Some, None, refl, sym, ap, ◌∙◌}
 use Rattle.std.specs.List.{range_with_len, filter_map}
 use Rattle.law_runs_split.specs.GicIdeal.IdealGuests.Words.{interrupt_count}
 use Rattle.law_runs_split.specs.GicIdeal.IdealGuests.Registers.{has_lpis, enabled_in, baser_of, Devices, Collections}

@@ -1,5 +1,5 @@
 -- A schedule whose steps are done, and whose vCPUs all left.
-use Rattle.std.proofs.Common.{◌≡◌, ℕ, suc, ◌<◌, ◌==◌, ◌&&◌, ◌||◌, inl, inr, false, IsTrue, All, List, [], ◌∷◌, ◌++◌, length, map, get_or, Option, Some, None, refl, sym, ap, ◌∙◌, subst, arith}
+use Rattle.std.proofs.Common.{◌≡◌, ℕ, suc, ◌<◌, ◌==◌, ◌&&◌, ◌||◌, inl, inr, false, IsTrue, All, List, [], ◌∷◌, ◌++◌, length, get_or, Option, Some, None, refl, sym, ap, ◌∙◌, subst, arith}
 use Rattle.std.specs.Prelude.{slice_get}
 use Rattle.std.specs.Option.{option_map_or}
 use Rattle.std.specs.List.{flat_map}
@@ -15,7 +15,7 @@ use Rattle.law_ends_agree.specs.GicIdeal.Eager.{after_steps}
 use Rattle.law_ends_agree.specs.Calls.{passes}
 use Rattle.law_ends_agree.specs.GicGuest.declared.outcome.Answer.{Answer}
 use Rattle.law_ends_agree.specs.ScnBase.declared.pes.VcpuName.{VcpuName}
-use Rattle.law_ends_agree.specs.ScnBase.Standing.{is_resident, opening_pes}
+use Rattle.law_ends_agree.specs.ScnBase.Standing.{is_resident}
 use Rattle.law_ends_agree.specs.Core.{is_settled}
 use Rattle.law_one_thread_is_eager.specs.PortSeq.Told.{GuestTold, SeqTold, guest_at, no_told}
 use Rattle.law_one_thread_is_eager.specs.PePlace.declared.place.Place.{Place}

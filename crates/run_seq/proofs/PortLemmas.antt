@@ -1,12 +1,10 @@
 -- The guests of a port while one after the other is lent.
-use Rattle.std.proofs.Common.{◌≡◌, ◌≢◌, ◌⊎◌, ℕ, zero, suc, false, ◌+◌, ◌<◌, All, inl, inr, List, [], ◌∷◌, ◌++◌, length, map, set, take, get_or, Some, refl, sym, ap, ◌∙◌, subst, arith}
+use Rattle.std.proofs.Common.{◌≡◌, ◌≢◌, ◌⊎◌, ℕ, zero, suc, ◌+◌, ◌<◌, inl, inr, List, [], ◌∷◌, ◌++◌, length, set, take, get_or, Some, refl, sym, ap, ◌∙◌, subst, arith}
 use Rattle.std.specs.Prelude.{slice_get}
 use Rattle.std.specs.List.{flat_map}
-use Rattle.std.specs.Option.{option_map}
-use Rattle.std.proofs.lemmas.Bool.{cases_eq, lt-ltb}
-use Rattle.std.proofs.lemmas.List.{append-nil, append_assoc, get_or-set_same, get_or-set_other, length-map, length-set, length_push, set-set}
-use Rattle.std.proofs.lemmas.List.Elements.{All-get_or}
-use Rattle.std.proofs.lemmas.Option.{get_or_from_slice_get, slice_get-get_or, slice_get-map, slice_get_within}
+use Rattle.std.proofs.lemmas.Bool.{cases_eq}
+use Rattle.std.proofs.lemmas.List.{append-nil, append_assoc, get_or-set_same, get_or-set_other, length-set, length_push, set-set}
+use Rattle.std.proofs.lemmas.Option.{get_or_from_slice_get, slice_get_within}
 use Rattle.law_ends_agree.specs.Histories.{IdealGuest}
 use Rattle.law_ends_agree.specs.Words.{Vcpu as VcpuActor}
 use Rattle.law_ends_agree.specs.Registers.{CpuRec}
@@ -14,7 +12,7 @@ use Rattle.law_one_thread_is_eager.specs.PortSeq.declared.guest.GuestPort.{Guest
 use Rattle.law_one_thread_is_eager.specs.PortSeq.declared.port.SeqPort.{SeqPort}
 use Rattle.law_one_thread_is_eager.specs.PortSeq.Lending.{with_guest}
 use Rattle.law_one_thread_is_eager.specs.PortSeq.Ports.{told, told_all}
-use Rattle.law_one_thread_is_eager.specs.PortSeq.Told.{GuestTold, HasActor, IsOpening, SeqTold, current, guest_at, no_told, opening_told, telling}
+use Rattle.law_one_thread_is_eager.specs.PortSeq.Told.{GuestTold, IsOpening, SeqTold, current, guest_at, no_told, opening_told, telling}
 use Rattle.law_one_thread_is_eager.proofs.PortSeq.GuestsLemmas.{told_lent}
 use Rattle.law_one_thread_is_eager.specs.SeqGuest.declared.vcpus.Vcpus.{Vcpus}
 use Rattle.law_one_thread_is_eager.specs.PePlace.Place.{shelf}

@@ -1,24 +1,23 @@
 -- The steps of a schedule, one after the other.
-use Rattle.std.proofs.Common.{◌≡◌, ℕ, zero, suc, ◌+◌, ◌<◌, ◌≤◌, IsTrue, All, List, [], ◌∷◌, ◌++◌, length, map, take, drop, get_or, Option, Some, refl, sym, ap, ◌∙◌, subst, arith}
+use Rattle.std.proofs.Common.{◌≡◌, ℕ, zero, suc, ◌+◌, ◌<◌, ◌≤◌, IsTrue, All, List, [], ◌∷◌, ◌++◌, length, take, drop, get_or, Option, Some, refl, sym, ap, ◌∙◌, subst, arith}
 use Rattle.std.specs.Prelude.{slice_get}
 use Rattle.std.proofs.lemmas.Bool.{and_parts}
-use Rattle.std.proofs.lemmas.List.{append_assoc, append-nil, length-append, length-map, length-set, take_more}
-use Rattle.std.proofs.lemmas.List.FromFn.{length-range_with_len}
+use Rattle.std.proofs.lemmas.List.{append_assoc, append-nil, length-append, length-set, take_more}
 use Rattle.std.proofs.lemmas.Option.{slice_get-get_or}
-use Rattle.std.specs.List.{flat_map, range_with_len}
+use Rattle.std.specs.List.{flat_map}
 use Rattle.std.proofs.lemmas.Grind.{flat_map-append}
 use Rattle.std.proofs.lemmas.List.Elements.{All-head, All-tail}
 use Rattle.law_ends_agree.specs.Words.{Enter, Exit, Lrs}
 use Rattle.law_ends_agree.specs.Histories.{IdealGuest}
-use Rattle.law_ends_agree.specs.GicIdeal.Eager.{after_step, after_steps, answers_of, eager, state_shapes, step_answer}
+use Rattle.law_ends_agree.specs.GicIdeal.Eager.{after_step, after_steps, answers_of, state_shapes, step_answer}
 use Rattle.law_ends_agree.specs.GicGuest.declared.outcome.Answer.{Answer}
 use Rattle.law_ends_agree.specs.ScnBase.declared.pes.VcpuName.{VcpuName}
 use Rattle.law_ends_agree.specs.ScnBase.declared.standing.Standing.{Standing}
 use Rattle.law_ends_agree.specs.ScnBase.declared.step.Mode.TheVariants.{Schedule}
 use Rattle.law_ends_agree.specs.ScnBase.declared.step.Step.{Step}
 use Rattle.law_ends_agree.specs.ScnBase.declared.step.Step.TheVariants.{Vcpu, Device, Pe}
-use Rattle.law_ends_agree.specs.ScnBase.Good.{IsGood, is_formed, stand_in_turn, stands}
-use Rattle.law_ends_agree.specs.ScnBase.Standing.{opening_pes, opening_standing, pes_after, standing_after}
+use Rattle.law_ends_agree.specs.ScnBase.Good.{is_formed, stand_in_turn, stands}
+use Rattle.law_ends_agree.specs.ScnBase.Standing.{pes_after, standing_after}
 use Rattle.law_one_thread_is_eager.specs.PortSeq.Told.{SeqTold}
 use Rattle.law_one_thread_is_eager.specs.LawSerialIsEager.Serial.{WholePart}
 use Rattle.run_seq.specs.declared.machine.Machine.{Machine}

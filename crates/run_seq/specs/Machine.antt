@@ -1,5 +1,5 @@
 -- The PEs and the vCPUs of a schedule, over the port of its guests (own choice).
-use Rattle.std.specs.Prelude.{◌≡◌, ℕ, ◌≤◌, ◌<◌, Bool, true, false, IsTrue, List, [], ◌++◌, length, map, All, Option, Some, None, slice_get, slice_set}
+use Rattle.std.specs.Prelude.{◌≡◌, ℕ, ◌≤◌, ◌<◌, Bool, true, false, IsTrue, List, [], ◌++◌, length, All, Option, Some, None, slice_get, slice_set}
 use Rattle.law_ends_agree.specs.Histories.{IdealGuest}
 use Rattle.law_ends_agree.specs.GicIdeal.Eager.{after_step, state_shapes, step_answer}
 use Rattle.law_ends_agree.specs.GicGuest.declared.outcome.Answer.{Answer}
@@ -8,7 +8,7 @@ use Rattle.law_ends_agree.specs.ScnBase.declared.standing.Standing.{Standing}
 use Rattle.law_ends_agree.specs.ScnBase.declared.step.Mode.TheVariants.{Schedule}
 use Rattle.law_ends_agree.specs.ScnBase.declared.step.Step.{Step}
 use Rattle.law_ends_agree.specs.ScnBase.Good.{is_formed, stands}
-use Rattle.law_ends_agree.specs.ScnBase.Standing.{ResidentsExist, is_resident, opening_pes, pes_after}
+use Rattle.law_ends_agree.specs.ScnBase.Standing.{ResidentsExist, is_resident, pes_after}
 use Rattle.law_ends_agree.specs.Core.{IsRun, opening}
 use Rattle.law_one_thread_is_eager.specs.PortSeq.Told.{GuestTold, SeqTold, guest_at}
 use Rattle.law_one_thread_is_eager.specs.LawSerialIsEager.Serial.{WholePart}

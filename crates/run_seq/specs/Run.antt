@@ -1,13 +1,12 @@
 -- The run of a schedule over its port (own choice).
-use Rattle.std.specs.Prelude.{◌≡◌, ℕ, ◌<◌, IsTrue, List, [], length, map, Option, Some, slice_get}
+use Rattle.std.specs.Prelude.{◌≡◌, ℕ, ◌<◌, IsTrue, List, [], length, Option, Some, slice_get}
 use Rattle.std.specs.List.{flat_map}
 use Rattle.law_ends_agree.specs.Histories.{IdealGuest}
-use Rattle.law_ends_agree.specs.GicIdeal.Eager.{after_steps, eager}
+use Rattle.law_ends_agree.specs.GicIdeal.Eager.{after_steps}
 use Rattle.law_ends_agree.specs.GicGuest.declared.outcome.Answer.{Answer}
 use Rattle.law_ends_agree.specs.ScnBase.declared.pes.VcpuName.{VcpuName}
 use Rattle.law_ends_agree.specs.ScnBase.declared.scenario.Scenario.{Scenario}
 use Rattle.law_ends_agree.specs.ScnBase.declared.step.Step.{Step}
-use Rattle.law_ends_agree.specs.ScnBase.Standing.{opening_pes}
 use Rattle.law_ends_agree.specs.Core.{actor_count, is_settled}
 use Rattle.law_one_thread_is_eager.specs.PortSeq.Told.{GuestTold, SeqTold, guest_at}
 use Rattle.law_one_thread_is_eager.specs.LawSerialIsEager.Serial.{WholePart}

@@ -1,9 +1,9 @@
 -- One more guest.
-use Rattle.std.proofs.Common.{◌≡◌, ◌+◌, ◌++◌, ◌∷◌, [], ℕ, suc, length, get_or, sym, ap, subst, ◌∙◌, arith, rules}
+use Rattle.std.proofs.Common.{◌≡◌, ◌+◌, ◌++◌, ◌∷◌, [], ℕ, suc, length, get_or, sym, ap, subst, ◌∙◌, arith}
 use Rattle.std.specs.Vec.Iter.{into_iter_items}
 use Rattle.std.proofs.lemmas.List.{append_assoc, append-nil, length_push}
 use Rattle.guest_end.specs.Home.{IsAtEnd, guest_of}
-use Rattle.guest_end.proofs.EndsLemmas.{StatesSoFar, guest_next, next_cpus, next_ends, next_one, nothing_left, states_all, states_more}
+use Rattle.guest_end.proofs.EndsLemmas.{StatesSoFar, next_cpus, next_ends, next_one, nothing_left, states_all, states_more}
 use Rattle.guest_end.proofs.ends.states_of.Goals as goal
 
 pub split_at-requires : goal.split_at-requires

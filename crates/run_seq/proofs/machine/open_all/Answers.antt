@@ -1,5 +1,5 @@
 -- One more guest has its vCPUs.
-use Rattle.std.proofs.Common.{ap, sym, subst, ◌∙◌, arith}
+use Rattle.std.proofs.Common.{ap, ◌∙◌, arith}
 use Rattle.law_one_thread_is_eager.specs.PortSeq.Ports.{told, told_all}
 use Rattle.std.proofs.lemmas.List.{length-map}
 use Rattle.law_one_thread_is_eager.specs.PortSeq.Told.{GuestTold, telling}

@@ -1,5 +1,5 @@
 -- The steps of the scenario are done from where it begins.
-use Rattle.std.proofs.Common.{length, map, sym, ap, subst, ◌∙◌}
+use Rattle.std.proofs.Common.{map, sym, ap, subst, ◌∙◌}
 use Rattle.std.specs.Prelude.{IfOk}
 use Rattle.std.proofs.lemmas.List.{length-map}
 use Rattle.law_ends_agree.specs.IdealGuests.Opening.{opening as opening_guest}

@@ -4,7 +4,7 @@ use Rattle.std.proofs.lemmas.Option.{slice_get-get_or}
 use Rattle.std.proofs.lemmas.List.Elements.{All-get_or}
 use Rattle.saved_guest.specs.IdealGuests.Calls.{IsGoodGuest}
 use Rattle.saved_guest.specs.IdealGuests.Words.{interrupt_count}
-use Rattle.saved_take.proofs.RunLemmas.{next_fine, takes_all, takes_more, takes_none, wires_last}
+use Rattle.saved_take.proofs.RunLemmas.{next_fine, takes_more, wires_last}
 use Rattle.saved_take.proofs.run.all_taken.Goals as goal
 
 pub taken-requires-clause-good : goal.taken-requires-clause-good
