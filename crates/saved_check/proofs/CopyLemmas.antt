@@ -1,5 +1,5 @@
 -- What holds of each record holds of the record of each interrupt.
-use Rattle.std.proofs.Common.{◌≡◌, ℕ, ◌<◌, ◌↔◌, List, length, get_or, All, IsTrue, sym, ap, subst, ◌∙◌, arith}
+use Rattle.std.proofs.Common.{◌≡◌, ◌<◌, ◌↔◌, List, length, get_or, All, IsTrue, sym, ap, subst, ◌∙◌, arith}
 use Rattle.std.proofs.lemmas.List.{get_or_default}
 use Rattle.saved_guest.specs.IdealGuests.Words.{GuestShape, Key, IsShape, has_interrupt, interrupt_count, place_of, key_at, Irq}
 use Rattle.saved_guest.specs.IdealGuests.Calls.{irq_in, opening_irq}

@@ -1,15 +1,26 @@
 -- Lists that are in order: by neighbours, as maps, and as one grows by its next element.
-use Rattle.std.proofs.Common.{◌≡◌, ℕ, zero, suc, ◌+◌, ◌<◌, ◌≤◌, ◌↔◌, Bool, true, false, cond, Option, Some, None, List, [], ◌∷◌, length, get_or, map, take, refl, sym, ap, subst, ◌∙◌, arith}
+use Rattle.std.proofs.Common.{◌≡◌, ℕ, zero, suc, ◌+◌, ◌<◌, ◌↔◌, Bool, true, false, cond, Option, Some, None, List, [], ◌∷◌, length, get_or, map, take, refl, sym, ap, subst, ◌∙◌, arith}
 use Rattle.std.specs.declared.cmp.Ordering.{Ordering}
 use Rattle.std.specs.declared.cmp.Ordering.TheVariants.{Less, Equal, Greater}
-use Rattle.std.specs.Ordering.{is_eq, is_lt, nat_cmp, ordering_reverse, match_ordering}
-use Rattle.std.specs.Cmp.{IsTotalOrder, tied_itself}
+use Rattle.std.specs.Ordering.{MatchOrdering, is_eq, is_lt, nat_cmp, ordering_reverse, match_ordering}
+use Rattle.std.specs.Cmp.{IsTotalOrder, ranked, tied_itself}
+use Rattle.std.specs.Prelude.{nat_lt}
+use Rattle.std.proofs.lemmas.Bool.{le-ltb, lt-ltb}
 use Rattle.std.specs.Bool.{IsTrue}
 use Rattle.std.specs.List.{AllByRecursion, AllAdjacentBelow, IsAllAdjacentAnswer}
 use Rattle.std.specs.List.Sorted.{IsStrictlySortedBy}
 use Rattle.std.specs.Map.{lookup, keys_of}
 use Rattle.std.specs.BTreeMap.{is_at, insert_entry}
 use Rattle.std.proofs.lemmas.Option.{none-some, same_Some}
+
+-- which of two numbers comes first
+pub nat_cmp-ltb : (x y : ℕ) → is_lt (nat_cmp x y) ≡ nat_lt x y
+nat_cmp-ltb x y = of (nat_cmp x y) (ranked x y (nat_cmp x y) refl)
+  where
+    of : (order : Ordering) → MatchOrdering order (x < y) (x ≡ y) (y < x) → is_lt order ≡ nat_lt x y
+    of Less h = sym (lt-ltb x y h)
+    of Equal h = sym (le-ltb x y (omega (arith, h)))
+    of Greater h = sym (le-ltb x y (omega (arith, h)))
 
 module _ {X K : Type 0} {R : K → K → Ordering} (o : IsTotalOrder R) (key : X → K) where
   -- ---- by neighbours

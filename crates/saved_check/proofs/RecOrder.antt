@@ -5,13 +5,12 @@ use Rattle.std.specs.Cmp.{nat_cmp_total}
 use Rattle.std.specs.List.Sorted.{IsStrictlySortedBy}
 use Rattle.std.specs.declared.cmp.Ordering.TheVariants.{Less}
 use Rattle.std.proofs.lemmas.Grind.{common_steps}
-use Rattle.core.proofs.slice.Orders.{nat_cmp-ltb}
 use Rattle.std.proofs.Common.{ap, sym, ◌∙◌, nat_lt, true}
 use Rattle.std.specs.Ordering.{is_lt}
 use Rattle.saved_guest.specs.IdealGuests.Words.{GuestShape}
 use Rattle.saved_guest.specs.ScnSaved.declared.state.RecState.{RecState}
 use Rattle.saved_check.specs.Rows.{rec_place}
-use Rattle.saved_check.proofs.OrderLemmas.{rising_if_sorted}
+use Rattle.saved_check.proofs.OrderLemmas.{nat_cmp-ltb, rising_if_sorted}
 
 pub below_if_less : (x y : ℕ) → nat_cmp x y ≡ Less → x < y
 below_if_less x y less = let test : nat_lt x y ≡ true = sym (nat_cmp-ltb x y) ∙ ap is_lt less in grind (arith, common_steps)

@@ -1,5 +1,5 @@
 -- States of guests, one for each, and their wires.
-use Rattle.std.proofs.Common.{◌≡◌, ℕ, suc, ◌+◌, ◌++◌, ◌≤◌, List, [], ◌∷◌, All, length, map, fold, replicate, Option, None, refl, sym, ap, subst, ◌∙◌, arith}
+use Rattle.std.proofs.Common.{◌≡◌, ℕ, List, [], ◌∷◌, length, fold, replicate, Option, None, refl, ◌∙◌, arith}
 use Rattle.std.proofs.lemmas.List.{length-set, length-replicate, length-append, length-map}
 use Rattle.std.proofs.lemmas.List.Sums.{sum_by-cons}
 use Rattle.std.proofs.lemmas.List.Elements.{All-map, All-weaker}

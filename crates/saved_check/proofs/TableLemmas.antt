@@ -1,20 +1,20 @@
 -- Which tables are valid, event by event.
-use Rattle.std.proofs.Common.{◌≡◌, ℕ, suc, ◌<◌, ◌≤◌, ◌^◌, ◌&&◌, not, nat_lt, Bool, true, false, IsTrue, cond, Option, Some, None, IsSome, IfSome, ◌⊎◌, inl, inr, is_some, is_none, unwrap_or, List, [], ◌∷◌, length, get_or, map, take, refl, sym, ap, subst, ◌∙◌, arith}
+use Rattle.std.proofs.Common.{◌≡◌, ℕ, ◌<◌, ◌≤◌, ◌^◌, ◌&&◌, not, nat_lt, Bool, true, false, IsTrue, Option, Some, None, IfSome, inl, inr, is_some, is_none, unwrap_or, List, [], length, get_or, map, take, refl, sym, ap, subst, ◌∙◌, arith}
 use Rattle.std.specs.Ordering.{nat_cmp}
 use Rattle.std.specs.Cmp.{nat_cmp_total}
 use Rattle.std.specs.List.{All}
 use Rattle.std.specs.List.Sorted.{IsStrictlySortedBy}
 use Rattle.std.specs.Map.{keys_of}
 use Rattle.std.specs.BTreeMap.{is_at}
-use Rattle.std.proofs.lemmas.Option.{none-some, same_Some}
+use Rattle.std.proofs.lemmas.Option.{none-some}
 use Rattle.std.proofs.lemmas.Grind.{common_steps}
 use Rattle.std.proofs.lemmas.List.Elements.{recursion_from_All}
 use Rattle.std.proofs.lemmas.Map.Lookups.{exact_unsigned}
 use Rattle.saved_guest.specs.IdealGuests.Words.{GuestShape, Lpi, has_interrupt}
-use Rattle.saved_guest.specs.IdealGuests.Registers.{Maps, event_cmp, at_number, pair_of, owner_of, target_of, with_event, is_past_device, IsSound, IsValid}
+use Rattle.saved_guest.specs.IdealGuests.Registers.{Maps, event_cmp, at_number, pair_of, owner_of, with_event, is_past_device, IsSound, IsValid}
 use Rattle.saved_guest.specs.IdealGuests.Calls.{DevEnd, EvtEnd, ColEnd}
 use Rattle.saved_guest.proofs.IdealGuests.ItsTab.MapLemmas.{equal_from_test}
-use Rattle.saved_guest.proofs.IdealGuests.ItsTab.TableLemmas.{event_order, same_event, pair_of-with_event, sound-with_event}
+use Rattle.saved_guest.proofs.IdealGuests.ItsTab.TableLemmas.{event_order, pair_of-with_event, sound-with_event}
 use Rattle.saved_guest.proofs.IdealGuests.ItsTab.SearchLemmas.{OwnerFacts, owner_facts, pair_from_id}
 use Rattle.saved_check.specs.Tables.{dev_entry, evt_entry, col_entry, with_events, IsValidDev, IsValidCol, can_map}
 use Rattle.saved_check.proofs.OrderLemmas.{found_at, not_before, found_further, holds_of_found}

@@ -1,5 +1,5 @@
 -- By what the records and the words of a saved state are in order, and what is right of it but for its records' copies and its maps.
-use Rattle.std.specs.Prelude.{◌≡◌, ℕ, ◌<◌, ◌≤◌, List, [], length, map, All, IfSome, None, is_some}
+use Rattle.std.specs.Prelude.{◌≡◌, ℕ, ◌<◌, ◌≤◌, [], length, map, All, IfSome, None, is_some}
 use Rattle.std.specs.Ordering.{nat_cmp}
 use Rattle.std.specs.List.Sorted.{IsStrictlySortedBy}
 use Rattle.saved_guest.specs.IdealGuests.Words.{GuestShape, place_of}

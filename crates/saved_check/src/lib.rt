@@ -1,6 +1,7 @@
-//! Whether a saved run is one that can have been saved.
+//! Whether a saved run is one that can have been saved, and the standing and the guests that it tells.
 #![tactic(auto)]
 
+mod guest;
 mod order;
 mod records;
 mod rows;
@@ -9,6 +10,7 @@ mod stand;
 mod state;
 mod tables;
 
+pub use guest::told;
 pub use run::is_valid_run;
 pub use saved_guest::{
     ColEnd, ColEnds, CpuState, CpuStates, DevEnd, DevEnds, EvtEnd, EvtEnds, Fault, GuestShape,

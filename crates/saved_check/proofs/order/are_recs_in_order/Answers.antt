@@ -1,4 +1,4 @@
-use Rattle.std.proofs.Common.{refl, ◌≡◌, ◌<◌, ◌+◌, ap, arith}
+use Rattle.std.proofs.Common.{refl, arith}
 use Rattle.std.specs.Cmp.{nat_cmp_total}
 use Rattle.saved_check.specs.Rows.{rec_place}
 use Rattle.saved_check.proofs.OrderLemmas.{sorted_if_rising}

@@ -1,9 +1,8 @@
 use Rattle.std.proofs.Common.{sym, rules, nat_lt}
 use Rattle.std.specs.Cmp.{nat_cmp_total}
 use Rattle.std.proofs.lemmas.List.Sorted.{answers_always}
-use Rattle.core.proofs.slice.Orders.{nat_cmp-ltb}
 use Rattle.saved_check.specs.Rows.{ram_index}
-use Rattle.saved_check.proofs.OrderLemmas.{tells_order}
+use Rattle.saved_check.proofs.OrderLemmas.{nat_cmp-ltb, tells_order}
 use Rattle.saved_check.proofs.order.are_words_in_order.Goals as goal
 
 pub returns : goal.returns

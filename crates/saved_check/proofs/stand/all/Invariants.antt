@@ -1,4 +1,4 @@
-use Rattle.std.proofs.Common.{◌≡◌, ◌++◌, take, drop, length}
+use Rattle.std.proofs.Common.{◌≡◌, ◌++◌, drop, length}
 use Rattle.saved_guest.specs.Standing.{all_wires}
 use Rattle.saved_guest.specs.Whole.{AreValidStates}
 use Rattle.saved_check.proofs.stand.all.Given as goal

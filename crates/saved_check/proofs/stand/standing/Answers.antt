@@ -1,6 +1,5 @@
 use Rattle.std.proofs.Common.{sym, subst, rules}
 use Rattle.saved_guest.specs.ScnSaved.ScnBase.Standing.{IsStanding}
-use Rattle.saved_guest.specs.Standing.{standing_of}
 use Rattle.saved_check.proofs.RunLemmas.{stands}
 use Rattle.saved_check.proofs.stand.standing.Goals as goal
 

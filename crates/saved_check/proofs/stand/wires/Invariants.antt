@@ -1,7 +1,6 @@
-use Rattle.std.proofs.Common.{◌≡◌, fold, replicate, take, length, None}
-use Rattle.std.specs.List.{slice_set}
-use Rattle.saved_guest.specs.IdealGuests.Words.{interrupt_count, place_of}
-use Rattle.saved_guest.specs.Standing.{moved_wire, wires_of}
+use Rattle.std.proofs.Common.{◌≡◌, take, length}
+use Rattle.saved_guest.specs.IdealGuests.Words.{interrupt_count}
+use Rattle.saved_guest.specs.Standing.{wires_of}
 use Rattle.saved_check.proofs.stand.wires.Given as goal
 
 -- the wires with those so far

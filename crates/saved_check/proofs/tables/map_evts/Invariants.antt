@@ -1,4 +1,4 @@
-use Rattle.std.proofs.Common.{◌≡◌, map, take}
+use Rattle.std.proofs.Common.{◌≡◌, take}
 use Rattle.saved_guest.specs.IdealGuests.Registers.{IsValid}
 use Rattle.saved_check.specs.Tables.{with_events}
 use Rattle.saved_check.proofs.tables.map_evts.Given as goal

@@ -1,4 +1,4 @@
-use Rattle.std.proofs.Common.{◌≡◌, [], IsTrue, All, map, sym, refl, ap, subst, ◌∙◌, rules}
+use Rattle.std.proofs.Common.{◌≡◌, IsTrue, All, map, sym, refl, ap, subst, ◌∙◌, rules}
 use Rattle.saved_guest.specs.IdealGuests.Registers.{Maps, IsValid}
 use Rattle.saved_guest.specs.State.{maps_of}
 use Rattle.saved_check.specs.Tables.{dev_entry, col_entry, IsValidDev, IsValidCol}
