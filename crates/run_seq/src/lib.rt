@@ -8,7 +8,9 @@ mod scheduled;
 mod start;
 mod watch;
 
-pub use law_ends_agree::{Command, Done, NoMemory, Scenario, eager, encode, ends_of, states_of};
+pub use law_ends_agree::{
+    Command, Done, NoMemory, RunOut, Scenario, eager, encode, ends_of, states_of,
+};
 pub use law_one_thread_is_eager::SeqPort;
 pub use scheduled::{run, run_from, run_on};
 pub use start::Start;
