@@ -1,2 +1,3 @@
 pub mod HomeLemmas
 pub mod FirstLemmas
+pub mod SavedLemmas

@@ -1,7 +1,9 @@
-//! A scenario of which the first steps are done, through the words of its guests and the list registers of its PEs, and what is saved
-//! then.
+//! A scenario of which the first steps are done and what is saved then, and a saved run that goes on: each step through the words of its guest and
+//! the list registers of a PE.
 #![tactic(auto)]
 
+mod resumed;
 mod until;
 
+pub use resumed::run_saved;
 pub use until::run_until;
