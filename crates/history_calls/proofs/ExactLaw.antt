@@ -1,170 +1,196 @@
--- Calls whose events come in a fixed order, and hand out nothing but what an access reads.
-use Rattle.std.proofs.Common.{◌≡◌, ℕ, nat_lt, not, Bool, true, false, cond, List, [], ◌∷◌, ◌++◌, map, filter, fold, filter_map, All, Contains, Option, Some, None, refl, sym, ap, ◌∙◌, subst, arith, append_assoc, append-nil, ap₂, inl, inr}
-use Rattle.std.specs.List.{list_all, range_with_len, cons_option}
-use Rattle.std.proofs.lemmas.Bool.{and_parts}
+-- Calls that neither take the ITS nor set EnableLPIs: what they found is a view by which they are made.
+use Rattle.std.proofs.Common.{◌≡◌, ℕ, nat_lt, ◌||◌, not, Bool, true, false, cond, List, [], ◌∷◌, ◌++◌, map, filter, fold, All, Contains, Option, Some, None, refl, sym, ap, ap₂, ◌∙◌, subst, arith, append_assoc, append-nil, inl, inr, get_or}
+use Rattle.std.specs.List.{list_all, list_any}
+use Rattle.std.proofs.lemmas.Bool.{and_parts, and_from, or_left, or_right}
 use Rattle.std.proofs.lemmas.List.{map-append}
 use Rattle.std.proofs.lemmas.List.Elements.{All-nil, All-cons, All-head, All-tail, All-append, All-same, Contains-append_left, Contains-append_right, Contains-append_cases, filter-append}
 use Rattle.std.proofs.lemmas.List.Folds.{list_all-append}
-use Rattle.std.proofs.lemmas.Option.{same_Some, none-some}
-use Rattle.history_calls.specs.Words.{Key, Private, Spi, Icc, Mem, Message, Wire, Msi, GuestShape, IccReg, Sgi1r}
-use Rattle.history_calls.specs.Registers.{intid_of, is_target}
-use Rattle.history_calls.specs.Calls.{Event, Up, Down, Cpu, Found, Operation, Access, Device, Residence, Happened, Beside, View, HandsOut, Makes, IsCall, is_beside, named_of, icc_events, icc_raises, sgi_at}
-use Rattle.legal_lists.specs.GicCall.declared.event.Event.TheVariants.{Raise}
-use Rattle.legal_lists.specs.GicCall.declared.event.Found.TheVariants.{Nothing, Answer}
-use Rattle.history_calls.specs.Histories.{Ideal, Call, opening_course, worked_guest, made, vcpu_of, IsEnded}
+use Rattle.std.proofs.lemmas.List.Sums.{fold-append}
+use Rattle.history_calls.specs.Words.{Key, Dist, Redist, Its, Ram as Memory, Icc, Mem, Message, Wire, Msi, GuestShape, IccReg}
+use Rattle.legal_lists.specs.GicImap.Map.{decoded as its_decoded}
+use Rattle.legal_lists.specs.GicRmap.Map.{decoded as redist_decoded}
+use Rattle.history_calls.specs.Calls.{Event, Up, Down, Cpu, Enable, Touch, Put, CtlrBegin, CtlrEnd, Found, Record, Operation, Access, Device, Residence, Happened, Beside, View, Place, PlainWord, HandsOut, IsLastRead, Makes, MakesPlain, IsCall, IsItsWrite, held_at, is_beside, named_of, icc_raises, sets_lpis, takes_turn, read_answer, access_value}
+use Rattle.legal_lists.specs.GicCall.declared.event.Event.TheVariants.{Raise, Read}
+use Rattle.legal_lists.specs.GicCall.declared.event.Place.TheVariants.{Word, Queue as QueuePlace, Ctlr, Lpis}
+use Rattle.legal_lists.specs.GicCall.declared.event.Found.TheVariants.{Nothing, Answer, Word as FoundWord, Queue as FoundQueue, Ctlr as FoundCtlr, Lpis as FoundLpis}
+use Rattle.history_calls.specs.Histories.{Ideal, Call, opening_course, worked_guest, is_ahead, come_to, made, vcpu_of, IsEnded}
 use Rattle.history_calls.specs.LegalLists.Legal.{Note, Made, noting, IsBegun, unseen}
+use Rattle.legal_lists.proofs.KeyLemmas.{own_key}
 use Rattle.legal_lists.proofs.MadeLemmas.{GoesOnAs, notes_as}
-use Rattle.history_calls.specs.Exact.{simple_events, is_doer, Fits, Answers, AreMade, AreFirst, IsSeen, SimpleCallsAreExact}
+use Rattle.history_calls.specs.Found.{touches, stores, reads, telling, lpis_in, enables_in, spreads_in, offset_in, stalled_in, found_by, open_by}
+use Rattle.history_calls.specs.Exact.{is_plain, is_told, is_doer, events_by, places_by, Answers, IsFirst, is_enable, IsOpen, PlainCallsAreExact}
+use Rattle.history_calls.proofs.FoundLemmas.{own_word, own_place, same_place, any_at, none_named, last_same, read_found, found_read, touch_found, store_found, word_found}
+use Rattle.history_calls.proofs.PlainLemmas.{Holds, Agrees, alike, AgreesFirst, alike_first, not_from, events_told}
 
--- Events that such calls have: no touch, no store, no turn, and none beside.
+abbrev events_in : List Happened → List Event
+events_in piece = map (λ (h : Happened). h.event) piece
 
-abbrev is_simple : Event → Bool
-is_simple (Raise key) = true
-is_simple (Up key) = true
-is_simple (Down key) = true
-is_simple (Cpu vcpu reg write) = true
-is_simple event = false
+abbrev Hands : View → Happened → Type 0
+Hands view happened = HandsOut view happened.event happened.found
 
-simple_named : (actor : Option ℕ) (event : Event) → is_simple event ≡ true → is_beside actor event ≡ false
-simple_named actor (Raise key) h = refl
-simple_named actor (Up key) h = refl
-simple_named actor (Down key) h = refl
-simple_named actor (Cpu vcpu reg write) h = refl
-simple_named actor event h = absurd (cc)
+-- By another view that agrees.
 
-simple_fits : (view : View) (event : Event) (found : Found) → is_simple event ≡ true → HandsOut view event found → Fits event found
-simple_fits view (Raise key) found h is = is
-simple_fits view (Up key) found h is = is
-simple_fits view (Down key) found h is = is
-simple_fits view (Cpu vcpu reg write) found h is = is
-simple_fits view event found h is = absurd (cc)
+held_same : (view other : View) (place : Place) → Holds view other place → held_at other place ≡ held_at view place
+held_same view other (Word word) h = ap FoundWord h
+held_same view other QueuePlace h = ap₂ FoundQueue h.0 h.1
+held_same view other Ctlr h = ap₂ FoundCtlr h.0 h.1
+held_same view other (Lpis vcpu) h = ap FoundLpis h
 
-simple_hands : (view : View) (event : Event) (found : Found) → is_simple event ≡ true → Fits event found → HandsOut view event found
-simple_hands view (Raise key) found h is = is
-simple_hands view (Up key) found h is = is
-simple_hands view (Down key) found h is = is
-simple_hands view (Cpu vcpu reg write) found h is = is
-simple_hands view event found h is = absurd (cc)
+hands_same : (view other : View) (event : Event) (found : Found) → is_told event ≡ true → ((key : Key) → touches key event ≡ true → other.irqs key ≡ view.irqs key) → ((word : PlainWord) → stores word event ≡ true → other.words word ≡ view.words word) → HandsOut view event found
+    → HandsOut other event found
+hands_same view other (Raise key) found h irqs words is = is
+hands_same view other (Up key) found h irqs words is = is
+hands_same view other (Down key) found h irqs words is = is
+hands_same view other (Cpu vcpu reg write) found h irqs words is = is
+hands_same view other (Touch key touching) found h irqs words is = is ∙ ap Record (sym (irqs key (own_key key)))
+hands_same view other (Put word value) found h irqs words is = is ∙ ap FoundWord (sym (words word (own_word word)))
+hands_same view other (CtlrBegin enables) found h irqs words is = is
+hands_same view other CtlrEnd found h irqs words is = is
+hands_same view other event found h irqs words is = absurd (cc)
 
-sgis_simple : (value sender : ℕ) (places : List ℕ) → list_all is_simple (filter_map (sgi_at value sender) places) ≡ true
-sgis_simple value sender [] = refl
-sgis_simple value sender (vcpu ∷ places) = of (is_target value sender vcpu) (sgis_simple value sender places)
-  where
-    of : (b : Bool) → list_all is_simple (filter_map (sgi_at value sender) places) ≡ true → list_all is_simple (cons_option (cond b (Some (Raise (Private vcpu (intid_of value)))) None) (filter_map (sgi_at value sender) places)) ≡ true
-    of true h = h
-    of false h = h
+hands_all : (view other : View) (named : List Happened) → list_all is_told (events_in named) ≡ true → ((key : Key) → list_any (touches key) (events_in named) ≡ true → other.irqs key ≡ view.irqs key) → ((word : PlainWord) → list_any (stores word) (events_in named) ≡ true → other.words word ≡ view.words word)
+    → All (Hands view) named → All (Hands other) named
+hands_all view other [] h irqs words all = All-nil (Hands other)
+hands_all view other (one ∷ named) h irqs words all =
+    let both = and_parts (is_told one.event) (list_all is_told (events_in named)) h in
+    All-cons (Hands other) one named
+    (hands_same view other one.event one.found both.0 (λ key k. irqs key (or_left (touches key one.event) (list_any (touches key) (events_in named)) k)) (λ word k. words word (or_left (stores word one.event) (list_any (stores word) (events_in named)) k))
+    (All-head (Hands view) one named all))
+    (hands_all view other named both.1 (λ key k. irqs key (or_right (touches key one.event) (list_any (touches key) (events_in named)) k)) (λ word k. words word (or_right (stores word one.event) (list_any (stores word) (events_in named)) k)) (All-tail (Hands view) one named all))
 
-raises_simple : (shape : GuestShape) (vcpu : ℕ) (reg : IccReg) (write : Option ℕ) → list_all is_simple (icc_raises shape vcpu reg write) ≡ true
-raises_simple shape vcpu Sgi1r (Some value) = sgis_simple value vcpu (range_with_len 0 shape.vcpus)
-raises_simple shape vcpu reg write = refl
+-- made so, by an actor that is this vCPU or a device
+abbrev MadeBy : GuestShape → ℕ → Option ℕ → View → Operation → List Happened → Option ℕ → Type 0
+MadeBy shape actor who view operation piece answer = Makes who view (events_by shape actor view operation) (places_by shape view operation) [] piece × Answers shape actor view operation piece answer
 
-wire_simple : (key : Key) (up : Bool) → list_all is_simple ((cond up (Up key) (Down key)) ∷ []) ≡ true
-wire_simple key true = refl
-wire_simple key false = refl
+module _ (shape : GuestShape) (actor : ℕ) (who : Option ℕ) (operation : Operation) (plain : is_plain shape operation ≡ true) where
+  by_other : (view other : View) (piece : List Happened) (answer : Option ℕ) → Agrees view other (events_by shape actor view operation) (places_by shape view operation) → MadeBy shape actor who view operation piece answer → MadeBy shape actor who other operation piece answer
+  by_other view other piece answer agrees is =
+      let same = alike shape actor view other operation plain agrees in
+      let events = events_by shape actor view operation in (
+        record {
+          events_are = is.0.events_are ∙ sym same.events;
+          found =
+              hands_all view other (named_of who piece) (ap (list_all is_told) is.0.events_are ∙ events_told shape actor view operation plain) (λ key h. agrees.irqs key (ap (list_any (touches key)) (sym is.0.events_are) ∙ h))
+              (λ word h. agrees.words word (ap (list_any (stores word)) (sym is.0.events_are) ∙ h)) is.0.found;
+          reads =
+              subst (All (λ (place : Place). IsLastRead place (held_at other place) piece)) (sym same.places)
+              (λ k d lt. subst (λ f. IsLastRead (get_or (places_by shape view operation) k d) f piece) (sym (held_same view other (get_or (places_by shape view operation) k d) (agrees.held k d lt))) (is.0.reads k d lt));
+        },
+        same.answers piece answer is.1,
+      )
 
--- In a piece.
+  -- what it found agrees
+  found_agrees : (view : View) (piece : List Happened) (answer : Option ℕ) → MadeBy shape actor who view operation piece answer → Agrees view (found_by piece) (events_by shape actor view operation) (places_by shape view operation)
+  found_agrees view piece answer is = record {
+    irqs = λ key h. touch_found who view piece is.0.found key (ap (list_any (touches key)) is.0.events_are ∙ h);
+    words = λ word h. store_found who view piece is.0.found word (ap (list_any (stores word)) is.0.events_are ∙ h);
+    held = λ k d lt. held (get_or (places_by shape view operation) k d) (is.0.reads k d lt);
+  }
+    where
+      of_word : (word : PlainWord) (b : Bool) → list_any (stores word) (events_in (named_of who piece)) ≡ b → IsLastRead (Word word) (FoundWord (view.words word)) piece → (found_by piece).words word ≡ view.words word
+      of_word word true e read = store_found who view piece is.0.found word e
+      of_word word false e read = word_found who view piece word e read
 
-all_fit : (view : View) (named : List Happened) → list_all is_simple (map (λ (h : Happened). h.event) named) ≡ true → All (λ (h : Happened). HandsOut view h.event h.found) named → All (λ (h : Happened). Fits h.event h.found) named
-all_fit view [] simple all = All-nil (λ (h : Happened). Fits h.event h.found)
-all_fit view (one ∷ named) simple all =
-    let Was : Happened → Type 0 = λ h. HandsOut view h.event h.found in
-    let Is : Happened → Type 0 = λ h. Fits h.event h.found in
-    let both = and_parts (is_simple one.event) (list_all is_simple (map (λ (h : Happened). h.event) named)) simple in
-    All-cons Is one named (simple_fits view one.event one.found both.0 (All-head Was one named all)) (all_fit view named both.1 (All-tail Was one named all))
+      held : (place : Place) → IsLastRead place (held_at view place) piece → Holds view (found_by piece) place
+      held (Word word) read = of_word word (list_any (stores word) (events_in (named_of who piece))) refl read
+      held QueuePlace read = let last = read_found QueuePlace (held_at view QueuePlace) piece read in (ap offset_in last, ap stalled_in last)
+      held Ctlr read = let last = read_found Ctlr (held_at view Ctlr) piece read in (ap enables_in last, ap spreads_in last)
+      held (Lpis vcpu) read = ap lpis_in (read_found (Lpis vcpu) (held_at view (Lpis vcpu)) piece read)
 
-all_hand : (view : View) (named : List Happened) → list_all is_simple (map (λ (h : Happened). h.event) named) ≡ true → All (λ (h : Happened). Fits h.event h.found) named → All (λ (h : Happened). HandsOut view h.event h.found) named
-all_hand view [] simple all = All-nil (λ (h : Happened). HandsOut view h.event h.found)
-all_hand view (one ∷ named) simple all =
-    let Was : Happened → Type 0 = λ h. Fits h.event h.found in
-    let Is : Happened → Type 0 = λ h. HandsOut view h.event h.found in
-    let both = and_parts (is_simple one.event) (list_all is_simple (map (λ (h : Happened). h.event) named)) simple in
-    All-cons Is one named (simple_hands view one.event one.found both.0 (All-head Was one named all)) (all_hand view named both.1 (All-tail Was one named all))
+  found_made : (view : View) (piece : List Happened) (answer : Option ℕ) → MadeBy shape actor who view operation piece answer → MadeBy shape actor who (found_by piece) operation piece answer
+  found_made view piece answer is = by_other view (found_by piece) piece answer (found_agrees view piece answer is) is
 
-module _ (actor : Option ℕ) (events : List Event) (simple : list_all is_simple events ≡ true) where
-  made_of : (view : View) (before piece : List Happened) → Makes actor view events [] before piece → AreMade actor events piece
-  made_of view before piece is = record { events_are = is.events_are; found = all_fit view (named_of actor piece) (ap (list_all is_simple) is.events_are ∙ simple) is.found }
+-- a view that differs in what such calls do not find
+apart : (view other : View) (events : List Event) (places : List Place) → ((key : Key) → other.irqs key ≡ view.irqs key) → ((word : PlainWord) → other.words word ≡ view.words word) → ((place : Place) → Holds view other place) → Agrees view other events places
+apart view other events places irqs words held = record { irqs = λ key h. irqs key; words = λ word h. words word; held = λ k d lt. held (get_or places k d) }
 
-  makes_of : (view : View) (piece : List Happened) → AreMade actor events piece → Makes actor view events [] [] piece
-  makes_of view piece is = record { events_are = is.events_are; found = all_hand view (named_of actor piece) (ap (list_all is_simple) is.events_are ∙ simple) is.found; reads = All-nil _ }
+with_targets : View → (ℕ → Option ℕ) → View
+with_targets view targets = record view { targets = targets }
 
--- Calls that are over.
+-- Calls as they are defined.
 
-simple_of : (actor : ℕ) (shape : GuestShape) (operation : Operation) (events : List Event) → simple_events actor shape operation ≡ Some events → list_all is_simple events ≡ true
-simple_of actor shape (Access (Icc reg write)) events e = ap (list_all is_simple) (sym (same_Some (icc_events shape actor reg write) events e)) ∙ raises_simple shape actor reg write
-simple_of actor shape (Access (Mem frame offset size write)) events e = absurd (none-some events e)
-simple_of actor shape (Device (Message spi)) events e = ap (list_all is_simple) (sym (same_Some (Raise (Spi spi) ∷ []) events e))
-simple_of actor shape (Device (Wire key up)) events e = ap (list_all is_simple) (sym (same_Some ((cond up (Up key) (Down key)) ∷ []) events e)) ∙ wire_simple key up
-simple_of actor shape (Device (Msi device event)) events e = absurd (none-some events e)
-simple_of actor shape Residence events e = ap (list_all is_simple) (sym (same_Some [] events e))
+plain_makes : (shape : GuestShape) (view : View) (actor vcpu offset size : ℕ) (write : Option ℕ) (piece : List Happened) → sets_lpis shape (redist_decoded offset size) write ≡ false
+    → MakesPlain (cond (sets_lpis shape (redist_decoded offset size) write) (Some vcpu) None) shape view actor (Redist vcpu) offset size write piece ≡ MakesPlain None shape view actor (Redist vcpu) offset size write piece
+plain_makes shape view actor vcpu offset size write piece h = ap (λ b. MakesPlain (cond b (Some vcpu) None) shape view actor (Redist vcpu) offset size write piece) h
 
--- what it is as a call
-abbrev IsSo : GuestShape → ℕ → Option ℕ → Operation → List Event → List Happened → Option ℕ → Type 0
-IsSo shape actor vcpu operation events piece answer = AreMade vcpu events piece × Answers actor operation piece answer
-
-call_so : (shape : GuestShape) (actor : ℕ) (b : Bool) (beside : Beside) (operation : Operation) (events : List Event) (piece : List Happened) (answer : Option ℕ) → list_all is_simple events ≡ true → simple_events actor shape operation ≡ Some events
-    → IsCall shape beside (cond b (Some actor) None) operation piece answer → IsSo shape actor (cond b (Some actor) None) operation events piece answer
-call_so shape actor true beside (Access (Icc reg write)) events piece answer simple e is =
-    (made_of (Some actor) events simple is.view [] piece (subst (λ es. Makes (Some actor) is.view es [] [] piece) (same_Some (icc_events shape actor reg write) events e) is.made), is.answers)
-call_so shape actor true beside (Access (Mem frame offset size write)) events piece answer simple e is = absurd (none-some events e)
-call_so shape actor true beside Residence events piece answer simple e is =
-    (record { events_are = ap (map (λ (h : Happened). h.event)) is.0 ∙ same_Some [] events e; found = All-same (λ (h : Happened). Fits h.event h.found) (named_of (Some actor) piece) [] is.0 (All-nil (λ (h : Happened). Fits h.event h.found)) }, is.1)
-call_so shape actor true beside (Device op) events piece answer simple e is = absurd is
-call_so shape actor false beside (Device (Message spi)) events piece answer simple e is =
-    (made_of None events simple is.view [] piece (subst (λ es. Makes None is.view es [] [] piece) (same_Some (Raise (Spi spi) ∷ []) events e) is.made), is.answers)
-call_so shape actor false beside (Device (Wire key up)) events piece answer simple e is =
-    (made_of None events simple is.view [] piece (subst (λ es. Makes None is.view es [] [] piece) (same_Some ((cond up (Up key) (Down key)) ∷ []) events e) is.made), is.answers)
-call_so shape actor false beside (Device (Msi device event)) events piece answer simple e is = absurd (none-some events e)
-call_so shape actor false beside (Access op) events piece answer simple e is = absurd is
-call_so shape actor false beside Residence events piece answer simple e is = absurd is
+call_made : (shape : GuestShape) (actor : ℕ) (b : Bool) (beside : Beside) (operation : Operation) (piece : List Happened) (answer : Option ℕ) → is_plain shape operation ≡ true → IsCall shape beside (cond b (Some actor) None) operation piece answer
+    → (view : View) × MadeBy shape actor (cond b (Some actor) None) view operation piece answer
+call_made shape actor true beside (Access (Icc reg write)) piece answer h is = (is.view, (is.made, is.answers))
+call_made shape actor true beside (Access (Mem Dist offset size write)) piece answer h is = (is.view, (is.made, is.answers))
+call_made shape actor true beside (Access (Mem (Redist vcpu) offset size write)) piece answer h is =
+    (is.view, (subst (λ o. MakesPlain o shape is.view actor (Redist vcpu) offset size write piece) (ap (λ b. cond b (Some vcpu) None) (not_from (sets_lpis shape (redist_decoded offset size) write) h)) is.made, is.answers))
+call_made shape actor true beside (Access (Mem Its offset size None)) piece answer h is = (is.view, (is.made, is.answers))
+call_made shape actor true beside (Access (Mem Its offset size (Some value))) piece answer h is =
+    let plain = subst (λ b. IsItsWrite b shape beside actor offset size value piece answer) (not_from (takes_turn shape (its_decoded offset size) (Some value)) h) is in
+    (plain.view, (plain.made, plain.answers))
+call_made shape actor true beside (Access (Mem Memory offset size write)) piece answer h is = (is.view, (is.made, is.answers))
+call_made shape actor true beside (Device op) piece answer h is = absurd is
+call_made shape actor true beside Residence piece answer h is =
+    (unseen, (record { events_are = ap events_in is.0; found = All-same (Hands unseen) (named_of (Some actor) piece) [] is.0 (All-nil (Hands unseen)); reads = All-nil (λ (place : Place). IsLastRead place (held_at unseen place) piece) }, is.1))
+call_made shape actor false beside (Access op) piece answer h is = absurd is
+call_made shape actor false beside (Device (Message spi)) piece answer h is = (is.view, (is.made, is.answers))
+call_made shape actor false beside (Device (Wire key up)) piece answer h is = (is.view, (is.made, is.answers))
+call_made shape actor false beside (Device (Msi device event)) piece answer h is = absurd (cc)
+call_made shape actor false beside Residence piece answer h is = absurd is
 
 -- the actor does so, whether it is a vCPU or a device
 abbrev does : Bool → Operation → Bool
 does vcpu (Device op) = not vcpu
 does vcpu operation = vcpu
 
-unmapped : Beside → View
-unmapped beside = record unseen { maps = beside.maps }
-
-so_call : (shape : GuestShape) (actor : ℕ) (b : Bool) (beside : Beside) (operation : Operation) (events : List Event) (piece : List Happened) (answer : Option ℕ) → list_all is_simple events ≡ true → simple_events actor shape operation ≡ Some events
-    → does b operation ≡ true → IsSo shape actor (cond b (Some actor) None) operation events piece answer → IsCall shape beside (cond b (Some actor) None) operation piece answer
-so_call shape actor true beside (Access (Icc reg write)) events piece answer simple e d is =
-    record { view = unseen; made = subst (λ es. Makes (Some actor) unseen es [] [] piece) (sym (same_Some (icc_events shape actor reg write) events e)) (makes_of (Some actor) events simple unseen piece is.0); answers = is.1 }
-so_call shape actor true beside (Access (Mem frame offset size write)) events piece answer simple e d is = absurd (none-some events e)
-so_call shape actor true beside Residence events piece answer simple e d is = (no_events (named_of (Some actor) piece) (is.0.events_are ∙ sym (same_Some [] events e)), is.1)
+-- by a view that has these targets and maps
+beside_made : (shape : GuestShape) (actor : ℕ) (who : Option ℕ) (beside : Beside) (view : View) (operation : Operation) (piece : List Happened) (answer : Option ℕ) → is_plain shape operation ≡ true → MadeBy shape actor who view operation piece answer
+    → MadeBy shape actor who (record view { targets = beside.targets; maps = beside.maps }) operation piece answer
+beside_made shape actor who beside view operation piece answer h is =
+    by_other shape actor who operation h view (record view { targets = beside.targets; maps = beside.maps }) piece answer
+    (apart view (record view { targets = beside.targets; maps = beside.maps }) _ _ (λ key. refl) (λ word. refl) held) is
   where
-    no_events : (named : List Happened) → map (λ (h : Happened). h.event) named ≡ [] → named ≡ []
-    no_events [] h = refl
-    no_events (one ∷ named) h = absurd (cc)
-so_call shape actor true beside (Device op) events piece answer simple e d is = absurd (cc)
-so_call shape actor false beside (Device (Message spi)) events piece answer simple e d is =
-    let view : View = record unseen { maps = beside.maps } in
-    record { view = view; maps = refl; made = subst (λ es. Makes None view es [] [] piece) (sym (same_Some (Raise (Spi spi) ∷ []) events e)) (makes_of None events simple view piece is.0); answers = is.1 }
-so_call shape actor false beside (Device (Wire key up)) events piece answer simple e d is =
-    let view : View = record unseen { maps = beside.maps } in
-    record { view = view; maps = refl; made = subst (λ es. Makes None view es [] [] piece) (sym (same_Some ((cond up (Up key) (Down key)) ∷ []) events e)) (makes_of None events simple view piece is.0); answers = is.1 }
-so_call shape actor false beside (Device (Msi device event)) events piece answer simple e d is = absurd (none-some events e)
-so_call shape actor false beside (Access op) events piece answer simple e d is = absurd (cc)
-so_call shape actor false beside Residence events piece answer simple e d is = absurd (cc)
+    held : (place : Place) → Holds view (record view { targets = beside.targets; maps = beside.maps }) place
+    held (Word word) = refl
+    held QueuePlace = (refl, refl)
+    held Ctlr = (refl, refl)
+    held (Lpis vcpu) = refl
+
+made_call : (shape : GuestShape) (actor : ℕ) (b : Bool) (beside : Beside) (view : View) (operation : Operation) (piece : List Happened) (answer : Option ℕ) → is_plain shape operation ≡ true → does b operation ≡ true → view.targets ≡ beside.targets → view.maps ≡ beside.maps
+    → MadeBy shape actor (cond b (Some actor) None) view operation piece answer → IsCall shape beside (cond b (Some actor) None) operation piece answer
+made_call shape actor true beside view (Access (Icc reg write)) piece answer h d t m is = record { view = view; made = is.0; answers = is.1 }
+made_call shape actor true beside view (Access (Mem Dist offset size write)) piece answer h d t m is = record { view = view; targets = t; made = is.0; answers = is.1 }
+made_call shape actor true beside view (Access (Mem (Redist vcpu) offset size write)) piece answer h d t m is = record {
+  view = view;
+  targets = t;
+  made = subst (λ o. MakesPlain o shape view actor (Redist vcpu) offset size write piece) (sym (ap (λ b. cond b (Some vcpu) None) (not_from (sets_lpis shape (redist_decoded offset size) write) h))) is.0;
+  answers = is.1;
+}
+made_call shape actor true beside view (Access (Mem Its offset size None)) piece answer h d t m is = record { view = view; targets = t; made = is.0; answers = is.1 }
+made_call shape actor true beside view (Access (Mem Its offset size (Some value))) piece answer h d t m is =
+    subst (λ b. IsItsWrite b shape beside actor offset size value piece answer) (sym (not_from (takes_turn shape (its_decoded offset size) (Some value)) h)) (record { view = view; targets = t; made = is.0; answers = is.1 })
+made_call shape actor true beside view (Access (Mem Memory offset size write)) piece answer h d t m is = record { view = view; targets = t; made = is.0; answers = is.1 }
+made_call shape actor true beside view (Device op) piece answer h d t m is = absurd (cc)
+made_call shape actor true beside view Residence piece answer h d t m is = (no_events (named_of (Some actor) piece) is.0.events_are, is.1)
+  where
+    no_events : (named : List Happened) → events_in named ≡ [] → named ≡ []
+    no_events [] k = refl
+    no_events (one ∷ named) k = absurd (cc)
+made_call shape actor false beside view (Access op) piece answer h d t m is = absurd (cc)
+made_call shape actor false beside view (Device (Message spi)) piece answer h d t m is = record { view = view; maps = m; made = is.0; answers = is.1 }
+made_call shape actor false beside view (Device (Wire key up)) piece answer h d t m is = record { view = view; maps = m; made = is.0; answers = is.1 }
+made_call shape actor false beside view (Device (Msi device event)) piece answer h d t m is = absurd (cc)
+made_call shape actor false beside view Residence piece answer h d t m is = absurd (cc)
 
 does_so : (shape : GuestShape) (actor : ℕ) (operation : Operation) → is_doer shape actor operation ≡ true → does (nat_lt actor shape.vcpus) operation ≡ true
 does_so shape actor (Access op) h = h
 does_so shape actor (Device op) h = h
 does_so shape actor Residence h = h
 
-pub first_of : (one other : List Happened) → All (λ (h : Happened). Fits h.event h.found) (one ++ other) → All (λ (h : Happened). Fits h.event h.found) one
-first_of [] other all = All-nil (λ (h : Happened). Fits h.event h.found)
-first_of (x ∷ one) other all =
-    let Is : Happened → Type 0 = λ h. Fits h.event h.found in
-    All-cons Is x one (All-head Is x (one ++ other) all) (first_of one other (All-tail Is x (one ++ other) all))
+-- Calls that are over.
 
-module _ (shape : GuestShape) (actor : ℕ) (operation : Operation) (events : List Event) (e : simple_events actor shape operation ≡ Some events) (doer : is_doer shape actor operation ≡ true) where
-  ended_so : (call : Call) (answer : Option ℕ) → call.operation ≡ operation → IsEnded shape actor call answer → AreMade (vcpu_of shape actor) events call.piece × Answers actor call.operation call.piece answer
-  ended_so call answer same is =
-      let so = call_so shape actor (nat_lt actor shape.vcpus) is.beside operation events call.piece answer (simple_of actor shape operation events e) e (subst (λ o. IsCall shape is.beside (vcpu_of shape actor) o call.piece answer) same is.is_call) in
-      (so.0, subst (λ o. Answers actor o call.piece answer) (sym same) so.1)
+module _ (shape : GuestShape) (actor : ℕ) (operation : Operation) (plain : is_plain shape operation ≡ true) where
+  pub ended_made : (call : Call) (answer : Option ℕ) → call.operation ≡ operation → IsEnded shape actor call answer → (view : View) × MadeBy shape actor (vcpu_of shape actor) view operation call.piece answer
+  ended_made call answer same is = call_made shape actor (nat_lt actor shape.vcpus) is.beside operation call.piece answer plain (subst (λ o. IsCall shape is.beside (vcpu_of shape actor) o call.piece answer) same is.is_call)
 
-  so_ended : (call : Call) (answer : Option ℕ) → call.operation ≡ operation → IsSeen call → AreMade (vcpu_of shape actor) events call.piece → Answers actor operation call.piece answer → IsEnded shape actor call answer
-  so_ended call answer same seen made answers =
+  made_ended : (doer : is_doer shape actor operation ≡ true) (call : Call) (answer : Option ℕ) → call.operation ≡ operation → ((id : ℕ) → (other : Option ℕ) × Contains (call.targets id) other) → (view : View) → MadeBy shape actor (vcpu_of shape actor) view operation call.piece answer
+      → IsEnded shape actor call answer
+  made_ended doer call answer same seen view is =
       let beside : Beside = record { maps = call.maps; targets = λ id. (seen id).0; commands = call.commands } in
       record {
         beside = beside;
@@ -172,99 +198,197 @@ module _ (shape : GuestShape) (actor : ℕ) (operation : Operation) (events : Li
         commands = refl;
         targets = λ id. (seen id).1;
         is_call = subst (λ o. IsCall shape beside (vcpu_of shape actor) o call.piece answer) (sym same)
-            (so_call shape actor (nat_lt actor shape.vcpus) beside operation events call.piece answer (simple_of actor shape operation events e) e (does_so shape actor operation doer) (made, answers));
+            (made_call shape actor (nat_lt actor shape.vcpus) beside (record view { targets = beside.targets; maps = beside.maps }) operation call.piece answer plain (does_so shape actor operation doer) refl refl
+            (beside_made shape actor (vcpu_of shape actor) beside view operation call.piece answer plain is));
       }
 
-  -- Calls that go on.
+-- Calls that go on: what they have made so far.
 
-  begun_first : (call : Call) → call.operation ≡ operation → IsBegun shape actor call → AreFirst (vcpu_of shape actor) events call.piece
+first_of : (view : View) (one other : List Happened) → All (Hands view) (one ++ other) → All (Hands view) one
+first_of view [] other all = All-nil (Hands view)
+first_of view (x ∷ one) other all = All-cons (Hands view) x one (All-head (Hands view) x (one ++ other) all) (first_of view one other (All-tail (Hands view) x (one ++ other) all))
+
+module _ (shape : GuestShape) (actor : ℕ) (operation : Operation) (plain : is_plain shape operation ≡ true) where
+  first_by : (view : View) (piece : List Happened) (rest : List Event) → events_in (named_of (vcpu_of shape actor) piece) ++ rest ≡ events_by shape actor view operation → All (Hands view) (named_of (vcpu_of shape actor) piece) → IsFirst shape actor (open_by piece) operation piece
+  first_by view piece rest are all = of (named_of (vcpu_of shape actor) piece) refl
+    where
+      who : Option ℕ
+      who = vcpu_of shape actor
+
+      told : list_all is_told (events_in (named_of (vcpu_of shape actor) piece)) ≡ true
+      told = (and_parts (list_all is_told (events_in (named_of who piece))) (list_all is_told rest) (sym (list_all-append is_told (events_in (named_of who piece)) rest) ∙ ap (list_all is_told) are ∙ events_told shape actor view operation plain)).0
+
+      of : (named : List Happened) → named_of (vcpu_of shape actor) piece ≡ named → IsFirst shape actor (open_by piece) operation piece
+      of [] e = record { rest = events_by shape actor (open_by piece) operation; events_are = ap (λ ns. events_in ns ++ events_by shape actor (open_by piece) operation) e; found = All-same (Hands (open_by piece)) (named_of who piece) [] e (All-nil (Hands (open_by piece))) }
+      of (one ∷ others) e =
+          let agrees : AgreesFirst view (open_by piece) one.event = record {
+            irqs = λ key h. touch_found who view piece all key (ap (λ ns. list_any (touches key) (events_in ns)) e ∙ or_left (touches key one.event) (list_any (touches key) (events_in others)) h);
+            words = λ word h. store_found who view piece all word (ap (λ ns. list_any (stores word) (events_in ns)) e ∙ or_left (stores word one.event) (list_any (stores word) (events_in others)) h);
+            lpis = λ vcpu. refl;
+          } in
+          record {
+            rest = rest;
+            events_are = are ∙ sym (alike_first shape actor view (open_by piece) operation one.event (events_in others ++ rest) plain agrees (sym are ∙ ap (λ ns. events_in ns ++ rest) e));
+            found = hands_all view (open_by piece) (named_of who piece) told (λ key h. touch_found who view piece all key h) (λ word h. store_found who view piece all word h) all;
+          }
+
+  begun_first : (call : Call) → call.operation ≡ operation → IsBegun shape actor call → IsFirst shape actor (open_by call.piece) operation call.piece
   begun_first call same is =
+      let who = vcpu_of shape actor in
       let last : Call = fold noting call is.notes in
       let goes : GoesOnAs call last = notes_as call is.notes in
-      let so = (ended_so last is.answer (goes.operation ∙ same) is.ended).0 in
-      let named : named_of (vcpu_of shape actor) last.piece ≡ named_of (vcpu_of shape actor) call.piece ++ named_of (vcpu_of shape actor) goes.more =
-      ap (named_of (vcpu_of shape actor)) goes.piece ∙ filter-append (λ (h : Happened). not (is_beside (vcpu_of shape actor) h.event)) call.piece goes.more in
-      record {
-        rest = map (λ (h : Happened). h.event) (named_of (vcpu_of shape actor) goes.more);
-        events_are = sym (map-append (λ (h : Happened). h.event) (named_of (vcpu_of shape actor) call.piece) (named_of (vcpu_of shape actor) goes.more)) ∙ ap (map (λ (h : Happened). h.event)) (sym named) ∙ so.events_are;
-        found = first_of (named_of (vcpu_of shape actor) call.piece) (named_of (vcpu_of shape actor) goes.more) (subst (All (λ (h : Happened). Fits h.event h.found)) named so.found);
-      }
+      let so = ended_made shape actor operation plain last is.answer (goes.operation ∙ same) is.ended in
+      let named : named_of who last.piece ≡ named_of who call.piece ++ named_of who goes.more =
+      ap (named_of who) goes.piece ∙ filter-append (λ (h : Happened). not (is_beside who h.event)) call.piece goes.more in
+      first_by so.0 call.piece (events_in (named_of who goes.more))
+      (sym (map-append (λ (h : Happened). h.event) (named_of who call.piece) (named_of who goes.more)) ∙ ap events_in (sym named) ∙ so.1.0.events_are)
+      (first_of so.0 (named_of who call.piece) (named_of who goes.more) (subst (All (Hands so.0)) named so.1.0.found))
 
--- An open call goes on.
+-- Calls that go on: what they may still make.
 
 -- what an event hands out that is still to come
-abbrev hands : Event → Found
-hands (Cpu vcpu reg write) = Answer None
-hands event = Nothing
+abbrev hands : View → Event → Found
+hands view (Cpu vcpu reg write) = Answer None
+hands view (Touch key touching) = Record (view.irqs key)
+hands view (Put word value) = FoundWord (view.words word)
+hands view event = Nothing
 
-abbrev coming : Event → Happened
-coming event = record { event = event; found = hands event }
+abbrev coming : View → Event → Happened
+coming view event = record { event = event; found = hands view event }
 
-hands_fit : (event : Event) → is_simple event ≡ true → Fits event (hands event)
-hands_fit (Raise key) h = refl
-hands_fit (Up key) h = refl
-hands_fit (Down key) h = refl
-hands_fit (Cpu vcpu reg write) h = (None, refl)
-hands_fit event h = absurd (cc)
+abbrev reading : View → Place → Happened
+reading view place = record { event = Read place; found = held_at view place }
+
+hands_out : (view : View) (event : Event) → is_told event ≡ true → HandsOut view event (hands view event)
+hands_out view (Raise key) h = refl
+hands_out view (Up key) h = refl
+hands_out view (Down key) h = refl
+hands_out view (Cpu vcpu reg write) h = (None, refl)
+hands_out view (Touch key touching) h = refl
+hands_out view (Put word value) h = refl
+hands_out view (CtlrBegin enables) h = refl
+hands_out view CtlrEnd h = refl
+hands_out view event h = absurd (cc)
+
+abbrev is_quiet : Event → Bool
+is_quiet (Read place) = true
+is_quiet event = is_told event
+
+told_quiet : (event : Event) → is_told event ≡ true → is_quiet event ≡ true
+told_quiet (Read place) h = refl
+told_quiet event h = h
+
+told_named : (actor : Option ℕ) (event : Event) → is_told event ≡ true → is_beside actor event ≡ false
+told_named actor (Raise key) h = refl
+told_named actor (Up key) h = refl
+told_named actor (Down key) h = refl
+told_named actor (Cpu vcpu reg write) h = refl
+told_named actor (Touch key touching) h = refl
+told_named actor (Put word value) h = refl
+told_named actor (CtlrBegin enables) h = refl
+told_named actor CtlrEnd h = refl
+told_named actor event h = absurd (cc)
 
 -- whatever the guest is then
 here : Ideal
 here = (opening_course worked_guest).ideal
 
--- a call with more events, which notes nothing else
+-- a call with more events, which has come to no LPI of a pending table
 record IsLonger (call later : Call) (more : List Happened) : Type 0 where
   operation : later.operation ≡ call.operation
   piece : later.piece ≡ call.piece ++ more
-  targets : later.targets ≡ call.targets
+  targets : (id : ℕ) → later.targets id ≡ call.targets id
+  place : later.place ≡ None
 
-longer_one : (call : Call) (event : Event) → is_simple event ≡ true → IsLonger call (made here event (hands event) call) (coming event ∷ [])
-longer_one call (Raise key) h = record { operation = refl; piece = refl; targets = refl }
-longer_one call (Up key) h = record { operation = refl; piece = refl; targets = refl }
-longer_one call (Down key) h = record { operation = refl; piece = refl; targets = refl }
-longer_one call (Cpu vcpu reg write) h = record { operation = refl; piece = refl; targets = refl }
-longer_one call event h = absurd (cc)
+longer_one : (call : Call) (event : Event) (found : Found) → is_quiet event ≡ true → call.place ≡ None → IsLonger call (made here event found call) ((record { event = event; found = found }) ∷ [])
+longer_one call (Raise key) found h none = record { operation = refl; piece = refl; targets = λ id. refl; place = none }
+longer_one call (Up key) found h none = record { operation = refl; piece = refl; targets = λ id. refl; place = none }
+longer_one call (Down key) found h none = record { operation = refl; piece = refl; targets = λ id. refl; place = none }
+longer_one call (Cpu vcpu reg write) found h none = record { operation = refl; piece = refl; targets = λ id. refl; place = none }
+longer_one call (Put word value) found h none = record { operation = refl; piece = refl; targets = λ id. refl; place = none }
+longer_one call (Read place) found h none = record { operation = refl; piece = refl; targets = λ id. refl; place = none }
+longer_one call (CtlrBegin enables) found h none = record { operation = refl; piece = refl; targets = λ id. refl; place = none }
+longer_one call CtlrEnd found h none = record { operation = refl; piece = refl; targets = λ id. refl; place = none }
+longer_one call (Touch key touching) found h none = record {
+  operation = refl;
+  piece = refl;
+  targets = λ id. ap (λ o. cond (is_ahead o key id) [] (call.targets id)) none;
+  place = ap (λ o. come_to o key) none;
+}
+longer_one call event found h none = absurd (cc)
 
-abbrev notes_of : List Event → List Note
-notes_of rest = map (λ event. Made here event (hands event)) rest
+abbrev notes_of : List Happened → List Note
+notes_of more = map (λ (h : Happened). Made here h.event h.found) more
 
-longer : (call : Call) (rest : List Event) → list_all is_simple rest ≡ true → IsLonger call (fold noting call (notes_of rest)) (map coming rest)
-longer call [] h = record { operation = refl; piece = sym (append-nil call.piece); targets = refl }
-longer call (event ∷ rest) h =
-    let both = and_parts (is_simple event) (list_all is_simple rest) h in
-    let first = longer_one call event both.0 in
-    let later = longer (made here event (hands event) call) rest both.1 in
+longer : (call : Call) (more : List Happened) → list_all is_quiet (events_in more) ≡ true → call.place ≡ None → IsLonger call (fold noting call (notes_of more)) more
+longer call [] h none = record { operation = refl; piece = sym (append-nil call.piece); targets = λ id. refl; place = none }
+longer call (one ∷ more) h none =
+    let both = and_parts (is_quiet one.event) (list_all is_quiet (events_in more)) h in
+    let first = longer_one call one.event one.found both.0 none in
+    let later = longer (made here one.event one.found call) more both.1 first.place in
     record {
       operation = later.operation ∙ first.operation;
-      piece = later.piece ∙ ap (λ p. p ++ map coming rest) first.piece ∙ append_assoc call.piece (coming event ∷ []) (map coming rest);
-      targets = later.targets ∙ first.targets;
+      piece = later.piece ∙ ap (λ p. p ++ more) first.piece ∙ append_assoc call.piece (one ∷ []) more;
+      targets = λ id. later.targets id ∙ first.targets id;
+      place = later.place;
     }
 
--- what is to come is named, of these events, and hands out what it does
-coming_named : (actor : Option ℕ) (rest : List Event) → list_all is_simple rest ≡ true → named_of actor (map coming rest) ≡ map coming rest
-coming_named actor [] h = refl
-coming_named actor (event ∷ rest) h =
-    let both = and_parts (is_simple event) (list_all is_simple rest) h in
-    ap (λ b. cond (not b) (coming event ∷ named_of actor (map coming rest)) (named_of actor (map coming rest))) (simple_named actor event both.0) ∙ ap (λ xs. coming event ∷ xs) (coming_named actor rest both.1)
+coming_named : (view : View) (actor : Option ℕ) (rest : List Event) → list_all is_told rest ≡ true → named_of actor (map (coming view) rest) ≡ map (coming view) rest
+coming_named view actor [] h = refl
+coming_named view actor (event ∷ rest) h =
+    let both = and_parts (is_told event) (list_all is_told rest) h in
+    ap (λ b. cond (not b) (coming view event ∷ named_of actor (map (coming view) rest)) (named_of actor (map (coming view) rest))) (told_named actor event both.0) ∙ ap (λ xs. coming view event ∷ xs) (coming_named view actor rest both.1)
 
-coming_events : (rest : List Event) → map (λ (h : Happened). h.event) (map coming rest) ≡ rest
-coming_events [] = refl
-coming_events (event ∷ rest) = ap (λ xs. event ∷ xs) (coming_events rest)
+reading_named : (view : View) (actor : Option ℕ) (places : List Place) → named_of actor (map (reading view) places) ≡ []
+reading_named view actor [] = refl
+reading_named view actor (place ∷ places) = reading_named view actor places
 
-coming_fit : (rest : List Event) → list_all is_simple rest ≡ true → All (λ (h : Happened). Fits h.event h.found) (map coming rest)
-coming_fit [] h = All-nil (λ (h : Happened). Fits h.event h.found)
-coming_fit (event ∷ rest) h =
-    let both = and_parts (is_simple event) (list_all is_simple rest) h in
-    All-cons (λ (h : Happened). Fits h.event h.found) (coming event) (map coming rest) (hands_fit event both.0) (coming_fit rest both.1)
+coming_events : (view : View) (rest : List Event) → events_in (map (coming view) rest) ≡ rest
+coming_events view [] = refl
+coming_events view (event ∷ rest) = ap (λ xs. event ∷ xs) (coming_events view rest)
+
+coming_hands : (view : View) (rest : List Event) → list_all is_told rest ≡ true → All (Hands view) (map (coming view) rest)
+coming_hands view [] h = All-nil (Hands view)
+coming_hands view (event ∷ rest) h =
+    let both = and_parts (is_told event) (list_all is_told rest) h in
+    All-cons (Hands view) (coming view event) (map (coming view) rest) (hands_out view event both.0) (coming_hands view rest both.1)
+
+reading_quiet : (view : View) (places : List Place) → list_all is_quiet (events_in (map (reading view) places)) ≡ true
+reading_quiet view [] = refl
+reading_quiet view (place ∷ places) = reading_quiet view places
+
+more_quiet : (view : View) (rest : List Event) (places : List Place) → list_all is_told rest ≡ true → list_all is_quiet (events_in (map (coming view) rest ++ map (reading view) places)) ≡ true
+more_quiet view [] places h = reading_quiet view places
+more_quiet view (event ∷ rest) places h =
+    let both = and_parts (is_told event) (list_all is_told rest) h in
+    and_from (is_quiet event) (list_all is_quiet (events_in (map (coming view) rest ++ map (reading view) places))) (told_quiet event both.0) (more_quiet view rest places both.1)
+
+-- places that are read one after the other are read the last time so
+all_read : (view : View) (place : Place) (places : List Place) → All (λ (h : Happened). reads place h.event ≡ true → h.found ≡ held_at view place) (map (reading view) places)
+all_read view place [] = All-nil (λ (h : Happened). reads place h.event ≡ true → h.found ≡ held_at view place)
+all_read view place (other ∷ places) = All-cons (λ (h : Happened). reads place h.event ≡ true → h.found ≡ held_at view place) (reading view other) (map (reading view) places) (λ h. ap (held_at view) (same_place other place h)) (all_read view place places)
+
+any_read : (view : View) (place : Place) (places : List Place) → list_any (λ (h : Happened). reads place h.event) (map (reading view) places) ≡ list_any (λ other. reads place (Read other)) places
+any_read view place [] = refl
+any_read view place (other ∷ places) = ap (λ b. reads place (Read other) || b) (any_read view place places)
+
+reads_last : (view : View) (places : List Place) (before : List Happened) → All (λ (place : Place). IsLastRead place (held_at view place) (before ++ map (reading view) places)) places
+reads_last view places before k d lt = of (get_or places k d) (any_at (λ other. reads (get_or places k d) (Read other)) places k d lt (own_place (get_or places k d)))
+  where
+    of : (place : Place) → list_any (λ other. reads place (Read other)) places ≡ true → IsLastRead place (held_at view place) (before ++ map (reading view) places)
+    of place h =
+        found_read place (held_at view place) (before ++ map (reading view) places)
+        (fold-append (telling (reads place)) None before (map (reading view) places)
+        ∙ last_same (reads place) (held_at view place) (fold (telling (reads place)) None before) (map (reading view) places) (all_read view place places) (inr (any_read view place places ∙ h)))
 
 -- What it answers.
 
-first_read : (vcpu : ℕ) (reg : IccReg) (write : Option ℕ) (events : List Event) (named : List Happened) → map (λ (h : Happened). h.event) named ≡ Cpu vcpu reg write ∷ events → All (λ (h : Happened). Fits h.event h.found) named
-    → (value : Option ℕ) × Contains named (record { event = Cpu vcpu reg write; found = Answer value })
-first_read vcpu reg write events [] h all = absurd (cc)
-first_read vcpu reg write events (one ∷ named) h all =
-    let is : one.event ≡ Cpu vcpu reg write = same_head one.event (Cpu vcpu reg write) (map (λ (h : Happened). h.event) named) events h in
-    let fits : Fits (Cpu vcpu reg write) one.found = subst (λ e. Fits e one.found) is (All-head (λ (h : Happened). Fits h.event h.found) one named all) in
-    (fits.0, (0, omega arith, ap₂ (λ (e : Event) (f : Found). let x : Happened = record { event = e; found = f } in x) is fits.1))
+first_read : (view : View) (vcpu : ℕ) (reg : IccReg) (write : Option ℕ) (events : List Event) (named : List Happened) → events_in named ≡ Cpu vcpu reg write ∷ events → All (Hands view) named → (value : Option ℕ) × Contains named (record { event = Cpu vcpu reg write; found = Answer value })
+first_read view vcpu reg write events [] h all = absurd (cc)
+first_read view vcpu reg write events (one ∷ named) h all =
+    let is : one.event ≡ Cpu vcpu reg write = same_head one.event (Cpu vcpu reg write) (events_in named) events h in
+    let hands : HandsOut view (Cpu vcpu reg write) one.found = subst (λ e. HandsOut view e one.found) is (All-head (Hands view) one named all) in
+    (hands.0, (0, omega arith, ap₂ (λ (e : Event) (f : Found). let x : Happened = record { event = e; found = f } in x) is hands.1))
   where
     same_head : (x y : Event) (xs ys : List Event) → x ∷ xs ≡ y ∷ ys → x ≡ y
     same_head x y xs ys h = cc
@@ -280,36 +404,63 @@ kept_there {X} p (y ∷ xs) x h = of (p y) h (kept_there p xs x)
     ]
     of false h rest = Contains-append_right (y ∷ []) xs x (rest h)
 
-answer_of : (shape : GuestShape) (actor : ℕ) (vcpu : Option ℕ) (operation : Operation) (events : List Event) (piece : List Happened) → simple_events actor shape operation ≡ Some events → AreMade vcpu events piece
-    → (answer : Option ℕ) × Answers actor operation piece answer
-answer_of shape actor vcpu (Access (Icc reg write)) events piece e is =
-    let found = first_read actor reg write (icc_raises shape actor reg write) (named_of vcpu piece) (is.events_are ∙ sym (same_Some (icc_events shape actor reg write) events e)) is.found in
-    (found.0, kept_there (λ (h : Happened). not (is_beside vcpu h.event)) piece (record { event = Cpu actor reg write; found = Answer found.0 }) found.1)
-answer_of shape actor vcpu (Access (Mem frame offset size write)) events piece e is = (None, refl)
-answer_of shape actor vcpu (Device op) events piece e is = (None, refl)
-answer_of shape actor vcpu Residence events piece e is = (None, refl)
+answer_of : (shape : GuestShape) (actor : ℕ) (who : Option ℕ) (view : View) (operation : Operation) (places : List Place) (piece : List Happened) → Makes who view (events_by shape actor view operation) places [] piece → (answer : Option ℕ) × Answers shape actor view operation piece answer
+answer_of shape actor who view (Access (Icc reg write)) places piece is =
+    let read = first_read view actor reg write (icc_raises shape actor reg write) (named_of who piece) is.events_are is.found in
+    (read.0, kept_there (λ (h : Happened). not (is_beside who h.event)) piece (record { event = Cpu actor reg write; found = Answer read.0 }) read.1)
+answer_of shape actor who view (Access (Mem frame offset size write)) places piece is = (read_answer write (access_value shape view frame offset size), refl)
+answer_of shape actor who view (Device op) places piece is = (None, refl)
+answer_of shape actor who view Residence places piece is = (None, refl)
 
-module _ (shape : GuestShape) (actor : ℕ) (operation : Operation) (events : List Event) (e : simple_events actor shape operation ≡ Some events) (doer : is_doer shape actor operation ≡ true) where
-  first_begun : (call : Call) → call.operation ≡ operation → IsSeen call → AreFirst (vcpu_of shape actor) events call.piece → IsBegun shape actor call
-  first_begun call same seen is =
+-- no event that is told sets EnableLPIs
+told_enables : (events : List Event) → list_all is_told events ≡ true → list_any is_enable events ≡ false
+told_enables [] h = refl
+told_enables (event ∷ events) h =
+    let both = and_parts (is_told event) (list_all is_told events) h in
+    ap (λ b. b || list_any is_enable events) (of event both.0) ∙ told_enables events both.1
+  where
+    of : (event : Event) → is_told event ≡ true → is_enable event ≡ false
+    of (Enable vcpu) h = absurd (cc)
+    of event h = refl
+
+enable_named : (actor : Option ℕ) (event : Event) → is_enable event ≡ true → is_beside actor event ≡ false
+enable_named actor (Enable vcpu) h = refl
+enable_named actor event h = absurd (cc)
+
+module _ (shape : GuestShape) (actor : ℕ) (operation : Operation) (plain : is_plain shape operation ≡ true) (doer : is_doer shape actor operation ≡ true) where
+  first_begun : (call : Call) → call.operation ≡ operation → IsOpen call → (view : View) → IsFirst shape actor view operation call.piece → IsBegun shape actor call
+  first_begun call same opened view is =
       let who = vcpu_of shape actor in
       let own = named_of who call.piece in
-      let events_of = map (λ (h : Happened). h.event) own in
-      let simple : list_all is_simple is.rest ≡ true = (and_parts (list_all is_simple events_of) (list_all is_simple is.rest) (sym (list_all-append is_simple events_of is.rest) ∙ ap (list_all is_simple) is.events_are ∙ simple_of actor shape operation events e)).1 in
-      let after = longer call is.rest simple in
-      let last : Call = fold noting call (notes_of is.rest) in
-      let named : named_of who last.piece ≡ own ++ map coming is.rest =
-      ap (named_of who) after.piece ∙ filter-append (λ (h : Happened). not (is_beside who h.event)) call.piece (map coming is.rest) ∙ ap (λ xs. own ++ xs) (coming_named who is.rest simple) in
-      let made : AreMade who events last.piece = record {
-        events_are = ap (map (λ (h : Happened). h.event)) named ∙ map-append (λ (h : Happened). h.event) own (map coming is.rest) ∙ ap (λ xs. events_of ++ xs) (coming_events is.rest) ∙ is.events_are;
-        found = All-same (λ (h : Happened). Fits h.event h.found) (named_of who last.piece) (own ++ map coming is.rest) named (All-append (λ (h : Happened). Fits h.event h.found) own (map coming is.rest) is.found (coming_fit is.rest simple));
+      let places = places_by shape view operation in
+      let reads_on = map (reading view) places in
+      let makes_on = map (coming view) is.rest in
+      let told = and_parts (list_all is_told (events_in own)) (list_all is_told is.rest) (sym (list_all-append is_told (events_in own) is.rest) ∙ ap (list_all is_told) is.events_are ∙ events_told shape actor view operation plain) in
+      let after = longer call (makes_on ++ reads_on) (more_quiet view is.rest places told.1) (opened.place (none_named who is_enable (enable_named who) call.piece (told_enables (events_in own) told.0))) in
+      let last : Call = fold noting call (notes_of (makes_on ++ reads_on)) in
+      let filters : Happened → Bool = λ h. not (is_beside who h.event) in
+      let on : named_of who (makes_on ++ reads_on) ≡ makes_on =
+      filter-append filters makes_on reads_on ∙ ap₂ (λ xs ys. xs ++ ys) (coming_named view who is.rest told.1) (reading_named view who places) ∙ append-nil makes_on in
+      let named : named_of who last.piece ≡ own ++ makes_on = ap (named_of who) after.piece ∙ filter-append filters call.piece (makes_on ++ reads_on) ∙ ap (λ xs. own ++ xs) on in
+      let makes : Makes who view (events_by shape actor view operation) places [] last.piece = record {
+        events_are = ap events_in named ∙ map-append (λ (h : Happened). h.event) own makes_on ∙ ap (λ xs. events_in own ++ xs) (coming_events view is.rest) ∙ is.events_are;
+        found = All-same (Hands view) (named_of who last.piece) (own ++ makes_on) named (All-append (Hands view) own makes_on is.found (coming_hands view is.rest told.1));
+        reads = subst (λ p. All (λ (place : Place). IsLastRead place (held_at view place) p) places) (sym (after.piece ∙ sym (append_assoc call.piece makes_on reads_on))) (reads_last view places (call.piece ++ makes_on));
       } in
-      let answered = answer_of shape actor who operation events last.piece e made in
-      let seen_last : IsSeen last = λ id. ((seen id).0, subst (λ t. Contains (t id) (seen id).0) (sym after.targets) (seen id).1) in
-      record { notes = notes_of is.rest; answer = answered.0; ended = so_ended shape actor operation events e doer last answered.0 (after.operation ∙ same) seen_last made answered.1 }
+      let answered = answer_of shape actor who view operation places last.piece makes in
+      record {
+        notes = notes_of (makes_on ++ reads_on);
+        answer = answered.0;
+        ended = made_ended shape actor operation plain doer last answered.0 (after.operation ∙ same) (λ id. ((opened.seen id).0, subst (λ t. Contains t (opened.seen id).0) (sym (after.targets id)) (opened.seen id).1)) view (makes, answered.1);
+      }
 
-pub exact : SimpleCallsAreExact
-exact shape actor call events e doer seen = record {
-  ended = λ answer. (ended_so shape actor call.operation events e doer call answer refl, λ both. so_ended shape actor call.operation events e doer call answer refl seen both.0 both.1);
-  begun = (begun_first shape actor call.operation events e doer call refl, first_begun shape actor call.operation events e doer call refl seen);
+pub exact : PlainCallsAreExact
+exact shape actor call plain doer opened = record {
+  ended = λ answer. (
+    λ over.
+        let some = ended_made shape actor call.operation plain call answer refl over in
+        let own = found_made shape actor (vcpu_of shape actor) call.operation plain some.0 call.piece answer some.1 in record { made = own.0; answers = own.1 },
+    λ is. made_ended shape actor call.operation plain doer call answer refl opened.seen (found_by call.piece) (is.made, is.answers),
+  );
+  begun = (begun_first shape actor call.operation plain call refl, first_begun shape actor call.operation plain doer call refl opened (open_by call.piece));
 }

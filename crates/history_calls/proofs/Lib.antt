@@ -1,4 +1,9 @@
 pub use Rattle.legal_lists.proofs.GicBase
 pub use Rattle.legal_lists.proofs.GicCall
+pub mod FoundLemmas
+pub mod PlainLemmas
 pub mod ExactLaw
-pub mod WriteLaw
+pub mod OpenLaw
+pub mod CountLemmas
+pub mod CallLemmas
+pub mod RecordLemmas

@@ -1,16 +1,16 @@
 //! Laws of calls in progress.
-ghost use Rattle.history_calls.specs.Exact.{SimpleCallsAreExact, WritesAreExact};
+ghost use Rattle.history_calls.specs.Exact.{CallsAreOpen, PlainCallsAreExact};
 
-/// A law of accesses of the CPU interface, messages, wires, and of a vCPU that enters or leaves a PE: what such a call made is
-/// the call exactly where its named events are the operation's, each hands out what it does, and the answer is what the
-/// access read; and it can still become the call exactly where they are the first ones of those.
-pub fn simple_calls_are_exact()
-    ensures { SimpleCallsAreExact }
+/// A law of calls that neither take the ITS nor set EnableLPIs: what such a call made is the call exactly where its named
+/// events are the operation's by the view that they found, each handed out what that has, its places were read so, and the
+/// answer is what the access reads; and it can still become the call exactly where its named events are the first
+/// ones of those.
+pub fn plain_calls_are_exact()
+    ensures { PlainCallsAreExact }
 {}
 
-/// A law of writes of the distributor that do not go by what they find: of registers over interrupts, GICD_CTLR, SETSPI_NSR
-/// and CLRSPI_NSR. What such a call made is the call exactly where its named events are the operation's and each hands
-/// out what it does; and it can still become the call exactly where they are the first ones of those.
-pub fn writes_are_exact()
-    ensures { WritesAreExact }
+/// A law of each open call after moments of a guest: of each LPI it noted a vCPU, or that it is for none, and it has come to no
+/// LPI of a pending table unless it stored EnableLPIs.
+pub fn calls_are_open()
+    ensures { CallsAreOpen }
 {}

@@ -6,7 +6,6 @@ mod after;
 mod can;
 mod changes;
 mod doings;
-mod found;
 mod laws;
 mod leaving;
 mod track;

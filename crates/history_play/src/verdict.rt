@@ -8,7 +8,7 @@ ghost use Rattle.history_play.specs.Coming.{is_unknown, IsCause, IsFine, IsEvent
 ghost use Rattle.history_play.specs.Kept.{IsFollowed};
 
 use crate::can::can_happen;
-use crate::found::is_same;
+use history_calls::is_same_found;
 use history_check::{
     Doing, Event, Found, IccReg, Moment, Operation, QueueChange, State, Track,
     is_fresh_at_acknowledge,
@@ -91,7 +91,7 @@ fn may_happen(state: &State, track: &Track, actor: u32, event: &Event, found: &F
         return false;
     }
     let there = state.handed_out(event);
-    state.is_allowed(actor, event) && is_same(found, &there)
+    state.is_allowed(actor, event) && is_same_found(found, &there)
 }
 
 /// Whether an event is the end of a command that has a fault.

@@ -1,3 +1,4 @@
+pub use Rattle.law_histories.proofs.CourseLemmas
 pub use Rattle.law_histories.proofs.GicBase
 pub use Rattle.law_histories.proofs.GicCall
 pub use Rattle.law_histories.proofs.GicHistory

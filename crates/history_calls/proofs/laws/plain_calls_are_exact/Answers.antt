@@ -1,6 +1,5 @@
-use Rattle.history_calls.proofs.laws.simple_calls_are_exact.Goals as goal
 use Rattle.history_calls.proofs.ExactLaw.{exact}
+use Rattle.history_calls.proofs.laws.plain_calls_are_exact.Goals as goal
 
--- src/laws.rt:7:1
 pub returns : goal.returns
 returns c = exact

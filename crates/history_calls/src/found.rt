@@ -1,7 +1,7 @@
 //! Whether what an event handed out is what is there.
 ghost use Rattle.std.specs.Prelude.{◌≡◌, ◌↔◌, IsTrue};
 
-use history_check::{Enables, Found, Irq};
+use floor_calls::{Enables, Found, Irq};
 
 /// Whether two records have the same priority, enable and group.
 fn are_set_so(a: &Irq, b: &Irq) -> bool
@@ -45,8 +45,8 @@ fn are_same_enables(a: Enables, b: Enables) -> bool
     a.group0 == b.group0 && a.group1 == b.group1
 }
 
-/// Whether an event handed out this.
-pub(crate) fn is_same(one: &Found, other: &Found) -> bool
+/// Whether two things that events hand out are the same.
+pub fn is_same_found(one: &Found, other: &Found) -> bool
     ensures { IsTrue result ↔ (one.now ≡ other.now) }
 {
     match (*one, *other) {
