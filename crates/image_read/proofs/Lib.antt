@@ -1,0 +1,7 @@
+pub mod RowLemmas
+pub mod RecLemmas
+pub mod ListLemmas
+pub mod GuestLemmas
+pub mod HeadLemmas
+pub mod TurnLemmas
+pub mod ReadLemmas

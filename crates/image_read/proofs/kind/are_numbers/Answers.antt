@@ -1,0 +1,8 @@
+use Rattle.std.proofs.Common.{◌∙◌, sym}
+use Rattle.std.proofs.lemmas.List.Folds.{list_all-map}
+use Rattle.serde_json.specs.View.{view}
+use Rattle.gic_resume.specs.Kind.{is_number}
+use Rattle.image_read.proofs.kind.are_numbers.Goals as goal
+
+pub returns : goal.returns
+returns c = c.all_numbers.ensures ∙ sym (list_all-map is_number view c.args.values.now)

@@ -1,0 +1,4 @@
+pub mod Left
+pub mod Fits
+pub mod Tells
+pub mod Read
