@@ -1,0 +1,5 @@
+//! Worked calls: whether what was made can still become the call, and whether it is the call.
+#![tactic(auto)]
+
+#[cfg(test)]
+mod tests;
