@@ -1,5 +1,5 @@
 -- What a call over a port says of the part that it adds to its actor's list (own choice).
-use Rattle.std.specs.Prelude.{◌≡◌, ℕ, IsTrue, List, [], filter_map, Option, Some, None, if◌then◌else◌, slice_index_or}
+use Rattle.std.specs.Prelude.{◌≡◌, ℕ, IsTrue, List, [], filter_map, Option, Some, None, if◌then◌else◌, slice_index_or, false}
 use Rattle.floor_histories.specs.Words.{GuestShape}
 use Rattle.floor_histories.specs.Calls.{Operation, Beside, IsCall}
 use Rattle.floor_histories.specs.Registers.{Maps}
@@ -20,10 +20,11 @@ vcpu_of_actor shape actor = if is_vcpu shape actor then Some actor else None
 abbrev pub maps_taken : List Made → Maps
 maps_taken part = slice_index_or (filter_map (λ made. made.tables) part) 0 no_maps
 
--- the part makes the events of the call, with its answer
+-- the part makes the events of the call, with its answer; a message-signalled interrupt takes the ITS
 pub record MakesCall (seen : Seen) (part : List Made) (operation : Operation) (answer : Option ℕ) : Type 0 where
   pub beside : Beside
   pub maps : beside.maps ≡ maps_taken part
+  pub signals : beside.signals ≡ false
   pub call : IsCall (shape_of seen) beside (vcpu_of_actor (shape_of seen) seen.actor) operation (part_events seen part) answer
 
 -- the actor's protocol so far is that of what its port tells, and nothing of it is in progress

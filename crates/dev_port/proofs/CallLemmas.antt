@@ -58,16 +58,16 @@ not_taken seen is none = of seen.taken is.turn
 
 -- a device makes one event, which no read tells
 pub record HasOneEvent (op : DeviceOp) (event : Event) : Type 0 where
-  pub makes : (view : View) (piece : List Happened) → Makes None view (event ∷ []) [] [] piece → MakesDevice view op piece
+  pub makes : (view : View) (piece : List Happened) → Makes None view (event ∷ []) [] [] piece → MakesDevice false view op piece
   pub named : is_beside None event ≡ false
   pub hands : (view : View) → HandsOut view event Nothing
 
-pub device_call : (seen : Seen) (part : List Made) (op : DeviceOp) (answer : Option ℕ) → is_vcpu (shape_of seen) seen.actor ≡ false → (beside : Beside) → beside.maps ≡ maps_taken part → IsDeviceCall beside op (part_events seen part) answer
+pub device_call : (seen : Seen) (part : List Made) (op : DeviceOp) (answer : Option ℕ) → is_vcpu (shape_of seen) seen.actor ≡ false → (beside : Beside) → beside.maps ≡ maps_taken part → beside.signals ≡ false → IsDeviceCall beside op (part_events seen part) answer
     → MakesCall seen part (Device op) answer
-device_call seen part op answer device beside maps call =
+device_call seen part op answer device beside maps signals call =
     let none : vcpu_of_actor (shape_of seen) seen.actor ≡ None = ap (λ b. cond b (Some seen.actor) None) device in
     let P : Option ℕ → Type 0 = λ actor. IsCall (shape_of seen) beside actor (Device op) (part_events seen part) answer in
-    record { beside = beside; maps = maps; call = subst P (sym none) call }
+    record { beside = beside; maps = maps; signals = signals; call = subst P (sym none) call }
 
 pub one_made : (view : View) (event : Event) → is_beside None event ≡ false → HandsOut view event Nothing → Makes None view (event ∷ []) [] [] (record { event = event; found = Nothing } ∷ [])
 one_made view event named hands =
@@ -85,10 +85,10 @@ one_made view event named hands =
 one_call : (seen : Seen) (part : List Made) (op : DeviceOp) (event : Event) → is_vcpu (shape_of seen) seen.actor ≡ false → part_events seen part ≡ (record { event = event; found = Nothing }) ∷ [] → HasOneEvent op event → MakesCall seen part (Device op) None
 one_call seen part op event device events one =
     let view : View = record (known_view (shape_of seen) seen.actor []) { maps = maps_taken part } in
-    let beside : Beside = record { maps = maps_taken part; targets = view.targets; commands = [] } in
+    let beside : Beside = record { maps = maps_taken part; targets = view.targets; commands = []; signals = false } in
     let happened : List Happened = record { event = event; found = Nothing } ∷ [] in
-    let made : MakesDevice view op happened = one.makes view happened (one_made view event one.named (one.hands view)) in
-    device_call seen part op None device beside refl (record { view = view; maps = refl; made = subst (MakesDevice view op) (sym events) made; answers = refl })
+    let made : MakesDevice false view op happened = one.makes view happened (one_made view event one.named (one.hands view)) in
+    device_call seen part op None device beside refl refl (record { view = view; maps = refl; made = subst (MakesDevice false view op) (sym events) made; answers = refl })
 
 -- a device that owes nothing any more, and has neither the ITS nor the mark of GICD_CTLR
 pub settled_of : (local : Local) → local.owes ≡ no_vcpus → IsTrue (owes_no_mark local) → IsTrue (has_no_cand local) → local.turn ≡ false → local.ctlr ≡ false → IsTrue (is_settled local)

@@ -1,5 +1,5 @@
 -- A message to the ITS: the turn, a look at GITS_CTLR, an LPI, and the turn given back.
-use Rattle.std.proofs.Common.{◌≡◌, ℕ, ◌&&◌, true, false, IsTrue, List, [], ◌∷◌, ◌++◌, map, All, slice_index_or, Option, Some, None, is_none, refl, sym, ap, subst, ◌∙◌}
+use Rattle.std.proofs.Common.{◌≡◌, ℕ, ◌&&◌, true, false, IsTrue, List, [], ◌∷◌, ◌++◌, map, All, slice_index_or, Option, Some, None, is_none, refl, sym, ap, subst, ◌∙◌, inl}
 use Rattle.std.specs.Option.{option_map_or}
 use Rattle.std.specs.List.{list_all, filter_map, cons_option}
 use Rattle.std.proofs.lemmas.Bool.{and_parts}
@@ -222,10 +222,10 @@ msi_made old a b c new device event id is_old is_new can takes translates tells 
     = subst RaisedBy (is ∙ ap (λ n. translated takes.maps (enabled_in n) device event) (sym found)) (subst ShapedBy shape raise.form) in
     let looked : reads.look.step ≡ RamLook (place_of_plain (shape_of old) ItsCtlr) = reads.step_is ∙ ap (λ seen. RamLook (place_of_plain (shape_of seen) ItsCtlr)) takes.adds.new_is in
     let view : View = record (known_view (shape_of old) old.actor []) { maps = takes.maps; words = λ word. translates.ctlr } in
-    let beside : Beside = record { maps = takes.maps; targets = view.targets; commands = [] } in
+    let beside : Beside = record { maps = takes.maps; targets = view.targets; commands = []; signals = false } in
     let makes = subst (MakesMsi view device event) (sym whole.events_are) (msi_makes takes.events.reads id view device event takes.events.are_reads (sym is)) in
     let call : MakesCall old part (Device (Msi device event)) None
-    = device_call old part (Msi device event) None can.device beside (sym (maps_of_part takes.misses takes.last reads.look raise.part gives.last takes.maps takes.missed takes.handed)) (record { view = view; maps = refl; made = makes; answers = refl }) in
+    = device_call old part (Msi device event) None can.device beside (sym (maps_of_part takes.misses takes.last reads.look raise.part gives.last takes.maps takes.missed takes.handed)) refl (record { view = view; maps = refl; made = inl makes; answers = refl }) in
     let home = home_told b c id (home_read a b device event id takes.tables translates) tells in
     record {
       part = part;

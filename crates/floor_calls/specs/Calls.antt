@@ -20,7 +20,7 @@ pub use Rattle.gic_call.specs.Fit.{FitParts, FitsDist, FitsHalf, FitsIts, FitsRe
 pub use Rattle.gic_call.specs.Laws.{AccessesKeepEntries, DeliveredIsCandidate, LeaveUndoesReach, LeaveUndoesTake, ReadsAreShown, TakeLosesNothing}
 pub use Rattle.gic_call.specs.Move.{IsEntryOf, IsMovedOf, at_interface, entry_of, left, may_reach, may_take, reached, taken}
 pub use Rattle.gic_call.specs.Touch.{CanTouch, has_shown_part, is_lpi, is_priority, is_shown, is_touch_of, touch_answer, touched}
-pub use Rattle.gic_call.specs.Trace.{AreCommands, ArePartsThen, AreStarted, Beside, EndsWith, HandsOut, Happened, HaveSameIts, IsAccessCall, IsCall, IsCommand, IsCommandThen, IsDeviceCall, IsIccCall, IsItsCall, IsItsWrite, IsLastRead, IsPartThen, IsPlainCall, Makes, MakesAfter, MakesDevice, MakesMsi, MakesPlain, access_places, begins_named, byte_places, command_places, command_targets, device_places, dist_places, enabled_by, held_at, is_actor, is_beside, its_places, its_read_places, its_write_places, its_written_by, left_by, memory_places, named_of, read_answer, redist_places, table_places, words_read}
+pub use Rattle.gic_call.specs.Trace.{AreCommands, ArePartsThen, AreStarted, Beside, EndsWith, HandsOut, Happened, HaveSameIts, IsAccessCall, IsCall, IsCommand, IsCommandThen, IsDeviceCall, IsIccCall, IsItsCall, IsItsWrite, IsLastRead, IsPartThen, IsPlainCall, Makes, MakesAfter, MakesDevice, MakesMsi, RaisesAlone, MakesPlain, access_places, begins_named, byte_places, command_places, command_targets, device_places, dist_places, enabled_by, held_at, is_actor, is_beside, its_places, its_read_places, its_write_places, its_written_by, left_by, memory_places, named_of, read_answer, redist_places, table_places, words_read}
 pub use Rattle.gic_call.specs.Valid.{CanHappen, HappensFreely, IsOffset, has_place, is_stored}
 pub use Rattle.gic_call.specs.View.{View, is_its_enabled, memory_at}
 pub use Rattle.gic_call.specs.declared.command.Part.{Part}

@@ -7,7 +7,7 @@ pub use Rattle.gic_history.specs.IdealGuests.Queue.{BadCommandsStall, IsQueueInO
 pub use Rattle.gic_history.specs.IdealGuests.Sound.{IsIdealCpu, IsIdealRecord, IsSound}
 pub use Rattle.gic_history.specs.IdealGuests.declared.guest.IdealGuest.{IdealGuest}
 pub use Rattle.gic_history.specs.Fresh.{Changes, Doing, IsFresh, Track, Turn, after_changes, after_doing, after_leaving, after_moment, asks_first, changed_by, changes_of, comes_first, doing_of, ended_by, ends_turn, has_left_all, has_named, is_acknowledged, is_acknowledged_from, is_awaited, is_event_of, is_excused, is_far_active, is_fetch, is_fresh_at_acknowledge, is_fresh_at_end, is_fresh_at_interface, is_kept, is_kept_from, is_last_open, is_late, is_memory_at, is_open, is_to_come, keys_in, last_since, left_behind, of_end, of_event, opening_track, starts_queue, takes_commands, tracked, turn_of, with_changes, with_doing}
-pub use Rattle.gic_history.specs.History.{Call, Course, GoesOn, IsCallEnded, IsEnded, IsHappening, IsHistory, IsNext, IsWhole, actor_count, begun, call_of, come_to, course_of, gone_on, is_ahead, is_passed, last_of, lpi_in, made, noted, opening_course, seeing, targets_in, vcpu_of}
+pub use Rattle.gic_history.specs.History.{Call, Course, GoesOn, IsCallEnded, IsEnded, IsHappening, IsHistory, IsNext, IsWhole, actor_count, begun, call_of, come_to, course_of, gone_on, is_ahead, is_passed, last_of, lpi_in, made, noted, opening_course, seeing, targets_in, vcpu_of, IsEndedAs, with_signal, signals_after, is_signal, signalled_by, has_midway}
 pub use Rattle.gic_history.specs.Laws.{CommandsExcuseOnceRead, EachClauseRefuses, EachLpiHasItsPlace, IsFreshHistory, IsHistoryThatKeeps, WhatIsNotAllowed, WorkedHistoriesAreFresh, kept_clauses}
 pub use Rattle.gic_history.specs.Moves.{after_leave, after_reach, after_take, all_left, emptied, handed_out, happened, home, is_allowed, standing_of, with_entry, without}
 pub use Rattle.gic_history.specs.Named.{before_enabling, key_in, named_by, named_by_access, names}

@@ -1,5 +1,5 @@
 -- What a call makes, where its reads count from an event of its own on, as one piece.
-use Rattle.std.proofs.Common.{◌≡◌, ℕ, not, Bool, true, false, cond, List, [], ◌∷◌, ◌++◌, map, All, Option, Some, None, refl, sym, ap, subst, ◌∙◌}
+use Rattle.std.proofs.Common.{◌≡◌, ◌⊎◌, inl, inr, ℕ, not, Bool, true, false, cond, List, [], ◌∷◌, ◌++◌, map, All, Option, Some, None, refl, sym, ap, subst, ◌∙◌}
 use Rattle.std.proofs.lemmas.List.{append_assoc, map-append}
 use Rattle.std.proofs.lemmas.List.Elements.{All-nil, All-cons, All-head, All-tail, All-append, filter-append}
 use Rattle.floor_registers.specs.Words.{GuestShape, Frame, Dist, Redist, Its, Ram as Memory, DeviceOp, Message, Wire, Msi}
@@ -15,7 +15,7 @@ use Rattle.gic_call.specs.declared.event.Found.{Found}
 use Rattle.gic_call.specs.View.{View}
 use Rattle.gic_call.specs.Access.{redist_events, enable_events, pended_events, sets_lpis}
 use Rattle.gic_call.specs.Call.{access_events, msi_raises, device_events}
-use Rattle.gic_call.specs.Trace.{Happened, HandsOut, held_at, named_of, is_beside, IsLastRead, Makes, MakesAfter, access_places, device_places, enabled_by, MakesPlain, MakesDevice, Beside, IsItsCall, IsPlainCall, IsDeviceCall}
+use Rattle.gic_call.specs.Trace.{Happened, HandsOut, held_at, named_of, is_beside, IsLastRead, Makes, MakesAfter, access_places, device_places, enabled_by, MakesPlain, MakesMsi, RaisesAlone, MakesDevice, Beside, IsItsCall, IsPlainCall, IsDeviceCall}
 
 -- Pieces one after the other.
 
@@ -90,14 +90,19 @@ plain_made shape view actor (Redist vcpu) offset size write piece is = of (sets_
         (after_made (Some actor) view (Enable vcpu) (pended_events shape view vcpu) places piece is)
     of false h is = is
 
--- what a device does, without its reads
-pub device_made : (view : View) (op : DeviceOp) (piece : List Happened) → MakesDevice view op piece → Makes None view (device_events view op) [] [] piece
-device_made view (Message spi) piece is = is
-device_made view (Wire key up) piece is = is
-device_made view (Msi device event) piece is =
+-- a message that takes the ITS, without its reads
+pub msi_made : (view : View) (device event : ℕ) (piece : List Happened) → MakesMsi view device event piece → Makes None view (device_events view (Msi device event)) [] [] piece
+msi_made view device event piece is =
     let raising = after_made None view ItsBegin (msi_raises view device event) (device_places (Msi device event)) is.raising is.raised in
     subst (Makes None view (device_events view (Msi device event)) [] []) (sym is.split)
     (makes_then None view (ItsBegin ∷ msi_raises view device event) (ItsEnd ∷ []) [] is.raising is.last (unread raising) is.ended)
+
+-- what a device does, without its reads, or the LPI that it raises alone
+pub device_made : (signals : Bool) (view : View) (op : DeviceOp) (piece : List Happened) → MakesDevice signals view op piece → Makes None view (device_events view op) [] [] piece ⊎ RaisesAlone signals view piece
+device_made signals view (Message spi) piece is = inl is
+device_made signals view (Wire key up) piece is = inl is
+device_made signals view (Msi device event) piece (inl is) = inl (msi_made view device event piece is)
+device_made signals view (Msi device event) piece (inr is) = inr is
 
 -- the same of the calls as they are defined
 pub its_made : {shape : GuestShape} {beside : Beside} {vcpu offset size value : ℕ} {piece : List Happened} {answer : Option ℕ} (is : IsItsCall shape beside vcpu offset size value piece answer)
@@ -109,5 +114,5 @@ pub access_made : {shape : GuestShape} {beside : Beside} {vcpu : ℕ} {frame : F
     → Makes (Some vcpu) is.view (access_events shape is.view frame offset size write) (access_places shape is.view frame offset size write) [] piece
 access_made {shape} {beside} {vcpu} {frame} {offset} {size} {write} {piece} is = plain_made shape is.view vcpu frame offset size write piece is.made
 
-pub op_made : {beside : Beside} {op : DeviceOp} {piece : List Happened} {answer : Option ℕ} (is : IsDeviceCall beside op piece answer) → Makes None is.view (device_events is.view op) [] [] piece
-op_made {beside} {op} {piece} is = device_made is.view op piece is.made
+pub op_made : {beside : Beside} {op : DeviceOp} {piece : List Happened} {answer : Option ℕ} (is : IsDeviceCall beside op piece answer) → Makes None is.view (device_events is.view op) [] [] piece ⊎ RaisesAlone beside.signals is.view piece
+op_made {beside} {op} {piece} is = device_made beside.signals is.view op piece is.made

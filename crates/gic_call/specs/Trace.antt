@@ -1,10 +1,10 @@
 -- What an actor's own events have to be for each call, in order, with what each handed out. Beside those that its definition names, a call may
 -- read more, and the interrupts may move to and from the actor's own CPU interface; of the reads of one place the last one counts. A call that takes
 -- the ITS goes by what it read while it had it, and one that sets EnableLPIs by what it read after that.
-use Rattle.std.specs.Prelude.{◌≡◌, ℕ, ◌+◌, ◌==◌, not, fold, List, [], ◌∷◌, ◌++◌, map, filter, All, Contains, Bool, true, false, IsTrue, is_none, if◌then◌else◌, Option, Some, None, slice_index_or}
+use Rattle.std.specs.Prelude.{◌≡◌, ◌⊎◌, ℕ, ◌+◌, ◌==◌, not, fold, List, [], ◌∷◌, ◌++◌, map, filter, All, Contains, Bool, true, false, IsTrue, is_none, if◌then◌else◌, Option, Some, None, slice_index_or}
 use Rattle.std.specs.Option.{option_map_or}
 use Rattle.std.specs.List.{flat_map}
-use Rattle.floor_registers.specs.Words.{GuestShape, IccReg, Frame, Dist, Redist, Its, Ram as Memory, GuestOp, Icc, Mem, DeviceOp, Message, Wire, Msi, is_number}
+use Rattle.floor_registers.specs.Words.{GuestShape, IccReg, Frame, Dist, Redist, Its, Ram as Memory, GuestOp, Icc, Mem, DeviceOp, Message, Wire, Msi, Lpi, is_number}
 use Rattle.floor_registers.specs.Registers.{has_lpis, Propbaser as PropbaserReg, Pendbaser as PendbaserReg, enable_lpis_after, Cbaser as CbaserReg, Cwriter as CwriterReg, Creadr, Baser0 as Baser0Reg, Baser1 as Baser1Reg, config_address, pending_address, part_of, Maps}
 use Rattle.floor_registers.specs.GicDmap.declared.map.RegRef.{RegRef as DistRef}
 use Rattle.floor_registers.specs.GicDmap.declared.map.RegRef.TheVariants.{Plain as DistPlain}
@@ -22,7 +22,7 @@ use Rattle.floor_registers.specs.GicImap.Map.{decoded as its_decoded}
 use Rattle.gic_open.specs.Plain.{place_of_plain}
 use Rattle.gic_open.specs.declared.plain.PlainWord.TheVariants.{Ram, Propbaser, Pendbaser, ItsCtlr, Cbaser, Cwriter, Baser0, Baser1}
 use Rattle.gic_call.specs.declared.event.Event.{Event}
-use Rattle.gic_call.specs.declared.event.Event.TheVariants.{Enable, Touch, Reach, Take, Leave, Cpu, Read, Put, ItsBegin, ItsEnd, Queue}
+use Rattle.gic_call.specs.declared.event.Event.TheVariants.{Raise, Enable, Touch, Reach, Take, Leave, Cpu, Read, Put, ItsBegin, ItsEnd, Queue}
 use Rattle.gic_call.specs.declared.event.Place.{Place}
 use Rattle.gic_call.specs.declared.event.Place.TheVariants.{Word, Queue as QueuePlace, Ctlr, Lpis}
 use Rattle.gic_call.specs.declared.event.Found.{Found}
@@ -68,11 +68,13 @@ held_at view Ctlr = FoundCtlr view.enables view.is_spreading
 held_at view (Lpis vcpu) = FoundLpis (view.lpis vcpu)
 
 -- what the actor's events do not tell: the maps that the ITS has as the call takes it; the vCPUs that the LPIs are for as an access comes to them;
--- and those that they are for as each of its commands begins
+-- those that they are for as each of its commands begins; and whether an LPI that a message raises without taking the ITS is the one that the message
+-- signals there
 pub record Beside : Type 0 where
   pub maps : Maps
   pub targets : ℕ → Option ℕ
   pub commands : List (ℕ → Option ℕ)
+  pub signals : Bool
 
 -- the vCPUs that the LPIs are for as the command of a number from 0 begins
 abbrev pub command_targets : Beside → ℕ → ℕ → Option ℕ
@@ -343,16 +345,23 @@ pub record MakesMsi (view : View) (device event : ℕ) (piece : List Happened) :
   pub raised : MakesAfter None view ItsBegin (msi_raises view device event) (device_places (Msi device event)) raising
   pub ended : Makes None view (ItsEnd ∷ []) [] [] last
 
--- the events of what a device does
-abbrev pub MakesDevice : View → DeviceOp → List Happened → Type 0
-MakesDevice view (Msi device event) piece = MakesMsi view device event piece
-MakesDevice view op piece = Makes None view (device_events view op) (device_places op) [] piece
+-- those of one whose translation was found before: its LPI alone, at a moment at which the message signals that (own choice; IHI 0069 lets an ITS keep
+-- translations that it has found)
+pub record RaisesAlone (signals : Bool) (view : View) (piece : List Happened) : Type 0 where
+  pub id : ℕ
+  pub raised : Makes None view (Raise (Lpi id) ∷ []) [] [] piece
+  pub right : IsTrue signals
+
+-- the events of what a device does: a message-signalled interrupt takes the ITS, or raises its LPI alone
+abbrev pub MakesDevice : Bool → View → DeviceOp → List Happened → Type 0
+MakesDevice signals view (Msi device event) piece = MakesMsi view device event piece ⊎ RaisesAlone signals view piece
+MakesDevice signals view op piece = Makes None view (device_events view op) (device_places op) [] piece
 
 -- what a device does
 pub record IsDeviceCall (beside : Beside) (op : DeviceOp) (piece : List Happened) (answer : Option ℕ) : Type 0 where
   pub view : View
   pub maps : view.maps ≡ beside.maps
-  pub made : MakesDevice view op piece
+  pub made : MakesDevice beside.signals view op piece
   pub answers : answer ≡ None
 
 -- a piece of an actor's events is a call with this answer; a vCPU that enters or leaves a PE, or looks whether it was kicked, makes no event

@@ -1,16 +1,17 @@
 -- The worked histories: each of their conditions computes.
-use Rattle.std.proofs.Common.{◌++◌, refl, arith, Some, None}
+use Rattle.std.proofs.Common.{◌≡◌, ◌⊎◌, inl, inr, ℕ, false, IsTrue, List, [], ◌∷◌, ◌++◌, refl, arith, Option, Some, None}
 use Rattle.std.proofs.lemmas.List.Elements.{All-nil}
 use Rattle.ideal_guest.specs.Registers.{least_in, with_level, without_level}
-use Rattle.ideal_guest.specs.Words.{Iar1, Eoir1, Rpr, ClearPending, Routing, Spi}
-use Rattle.ideal_guest.specs.Calls.{Ram, Up, Touch, Cpu, Put, Record, Register, View, IsOffset}
-use Rattle.ideal_guest.specs.GicCall.declared.event.Event.TheVariants.{Raise}
+use Rattle.ideal_guest.specs.Words.{Iar1, Eoir1, Rpr, ClearPending, Routing, Spi, Lpi, Msi}
+use Rattle.ideal_guest.specs.Calls.{Ram, Up, Touch, Cpu, Put, ItsBegin, Found, Record, Register, Happened, Beside, Makes, RaisesAlone, IsDeviceCall, device_events, msi_raises, View, IsOffset}
+use Rattle.ideal_guest.proofs.GicCall.TraceLemmas.{op_made}
+use Rattle.ideal_guest.specs.GicCall.declared.event.Event.TheVariants.{Raise, ItsEnd}
 use Rattle.ideal_guest.specs.GicCall.declared.event.Found.TheVariants.{Nothing, Answer, Word as FoundWord}
 use Rattle.gic_history.specs.State.{opening, view_at}
-use Rattle.gic_history.specs.History.{Course, GoesOn, IsHistory, opening_course, last_of}
-use Rattle.gic_history.specs.Laws.{IsFreshHistory, WorkedHistoriesAreFresh, EachClauseRefuses, WhatIsNotAllowed, EachLpiHasItsPlace, CommandsExcuseOnceRead}
-use Rattle.gic_history.specs.Worked.{worked_guest, message, wire_up, reach, leave, reads, ends, writes, takes_over, ends_and_leaves, leaves_and_ends, served, preempted, withdrawn, migrated, refilled, take, begins_message, ends_message, repeated, returned, in_flight, begins_clear, clears, awaited, overlooked, outdated, unended, kept, pending_irq, queue_guest, pends_lpi, begins_write, gets_its, fetches, clears_lpi, stores_clear, unbegun, unread, fetched}
-use Rattle.gic_history.proofs.CallLemmas.{call_ended, hands_one, goes_on}
+use Rattle.gic_history.specs.History.{Course, GoesOn, IsHistory, opening_course, course_of, last_of}
+use Rattle.gic_history.specs.Laws.{IsFreshHistory, WorkedHistoriesAreFresh, EachClauseRefuses, WhatIsNotAllowed, EachLpiHasItsPlace, CommandsExcuseOnceRead, IsRefusedAtEnd, LoneRaisesAreRight}
+use Rattle.gic_history.specs.Worked.{worked_guest, message, wire_up, reach, leave, reads, ends, writes, takes_over, ends_and_leaves, leaves_and_ends, served, preempted, withdrawn, migrated, refilled, take, begins_message, ends_message, repeated, returned, in_flight, begins_clear, clears, awaited, overlooked, outdated, unended, kept, pending_irq, queue_guest, pends_lpi, begins_write, gets_its, fetches, clears_lpi, stores_clear, unbegun, unread, fetched, signal_guest, maps_event, forgets_other, raises_alone, ends_alone}
+use Rattle.gic_history.proofs.CallLemmas.{call_ended, call_signalled, hands_one, goes_on}
 
 -- where the worked histories begin
 abbrev from : Course
@@ -261,3 +262,84 @@ once_read = record {
   unread = record { history = unread_is; keeps = refl };
   fetched = record { history = fetched_is; keeps = refl };
 }
+
+-- Lone raises.
+
+abbrev signal_from : Course
+signal_from = opening_course signal_guest
+
+fourth_offset : IsOffset 128
+fourth_offset = record { place = refl; within = omega arith }
+
+-- a moment of an event whose conditions all compute
+maps_is : GoesOn signal_from maps_event
+maps_is = (
+  (omega arith, refl),
+  (
+    record { within = refl; can = tt; allowed = refl; hands = refl },
+    (
+      record { within = refl; can = (refl, refl); allowed = refl; hands = refl },
+      (
+        record { within = refl; can = first_offset; allowed = refl; hands = refl },
+        (
+          record { within = refl; can = second_offset; allowed = refl; hands = refl },
+          (
+            record { within = refl; can = record { there = refl; fits = refl }; allowed = refl; hands = refl },
+            (
+              record { within = refl; can = third_offset; allowed = refl; hands = refl },
+              (record { within = refl; can = record { there = refl; fits = refl }; allowed = refl; hands = refl }, (record { within = refl; can = fourth_offset; allowed = refl; hands = refl }, tt)),
+            ),
+          ),
+        ),
+      ),
+    ),
+  ),
+)
+
+-- the call of a message whose only event is a raise that was no signal does not end
+never_alone : (beside : Beside) (device event id : ℕ) (found : Found) (answer : Option ℕ) → (IsTrue beside.signals → IsTrue false) → IsDeviceCall beside (Msi device event) (record { event = Raise (Lpi id); found = found } ∷ []) answer → ⊥
+never_alone beside device event id found answer wrong is = of (op_made is)
+  where
+    piece : List Happened
+    piece = record { event = Raise (Lpi id); found = found } ∷ []
+
+    of : Makes None is.view (device_events is.view (Msi device event)) [] [] piece ⊎ RaisesAlone beside.signals is.view piece → ⊥
+    of (inl made) = let same : Raise (Lpi id) ∷ [] ≡ ItsBegin ∷ (msi_raises is.view device event ++ ItsEnd ∷ []) = made.events_are in absurd (cc)
+    of (inr alone) = let no = wrong alone.right in absurd (cc)
+
+right_is : IsHistory signal_guest (maps_event ++ raises_alone 0 ++ ends_alone)
+right_is =
+    goes_on signal_from maps_event (raises_alone 0 ++ ends_alone) maps_is (
+      (omega arith, refl),
+      (
+        record { within = refl; can = refl; allowed = refl; hands = refl },
+        (
+          call_signalled signal_guest.shape 2 _ None (λ id. refl)
+              (record { view = signal_opened; maps = refl; made = inr (record { id = 8192; raised = record { events_are = refl; found = hands_one signal_opened (Raise (Lpi 8192)) Nothing refl; reads = All-nil _ }; right = refl }); answers = refl }),
+          tt,
+        ),
+      ),
+    )
+  where
+    signal_opened : View
+    signal_opened = record (view_at (last_of signal_guest maps_event)) { maps = record { devices = []; events = []; collections = [] } }
+
+alone_is : (event : ℕ) → GoesOn (course_of signal_from maps_event) (raises_alone event)
+alone_is event = ((omega arith, refl), (record { within = refl; can = refl; allowed = refl; hands = refl }, tt))
+
+midway_is : IsRefusedAtEnd (maps_event ++ forgets_other ++ raises_alone 0)
+midway_is = record {
+  history =
+      goes_on signal_from maps_event (forgets_other ++ raises_alone 0) maps_is
+      (record { within = refl; can = record { there = refl; fits = refl }; allowed = refl; hands = refl }, ((omega arith, refl), (record { within = refl; can = refl; allowed = refl; hands = refl }, tt)));
+  refused = λ is. never_alone is.beside 0 0 8192 Nothing None is.right is.is_call;
+}
+
+other_is : IsRefusedAtEnd (maps_event ++ raises_alone 1)
+other_is = record { history = goes_on signal_from maps_event (raises_alone 1) maps_is (alone_is 1); refused = λ is. never_alone is.beside 0 1 8192 Nothing None is.right is.is_call }
+
+unmapped_is : IsRefusedAtEnd (maps_event ++ raises_alone 3)
+unmapped_is = record { history = goes_on signal_from maps_event (raises_alone 3) maps_is (alone_is 3); refused = λ is. never_alone is.beside 0 3 8192 Nothing None is.right is.is_call }
+
+pub lone_right : LoneRaisesAreRight
+lone_right = record { right = right_is; midway = midway_is; other = other_is; unmapped = unmapped_is }

@@ -5,10 +5,11 @@ use Rattle.ideal_guest.specs.declared.guest.IdealGuest.{IdealGuest}
 use Rattle.gic_history.specs.Fresh.{IsFresh, is_acknowledged, is_kept, of_event, of_end, is_fresh_at_interface, is_fresh_at_end}
 use Rattle.ideal_guest.specs.Words.{Spi, ClearPending}
 use Rattle.ideal_guest.specs.GicCall.declared.event.Event.TheVariants.{Queue, ItsEnd}
-use Rattle.gic_history.specs.History.{IsHistory, last_of, call_of, course_of, opening_course}
+use Rattle.ideal_guest.specs.GicCall.declared.event.Moment.TheVariants.{End}
+use Rattle.gic_history.specs.History.{IsHistory, IsNext, last_of, call_of, course_of, opening_course}
 use Rattle.gic_history.specs.Moves.{is_allowed, happened}
 use Rattle.gic_history.specs.State.{opening}
-use Rattle.gic_history.specs.Worked.{worked_guest, served, preempted, withdrawn, message, wire_up, reach, migrated, refilled, repeated, returned, in_flight, awaited, overlooked, outdated, unended, kept, lpi_guest, passed_by, queue_guest, unbegun, unread, fetched}
+use Rattle.gic_history.specs.Worked.{worked_guest, served, preempted, withdrawn, message, wire_up, reach, migrated, refilled, repeated, returned, in_flight, awaited, overlooked, outdated, unended, kept, lpi_guest, passed_by, queue_guest, unbegun, unread, fetched, signal_guest, maps_event, forgets_other, raises_alone, ends_alone}
 
 -- moments are a fresh history of the worked guest
 pub record IsFreshHistory (moments : List Moment) : Type 0 where
@@ -78,3 +79,16 @@ pub record EachLpiHasItsPlace : Type 0 where
   pub passed : option_map (λ call. call.targets 8192) (call_of (course_of (opening_course lpi_guest) passed_by) 0) ≡ Some (Some 0 ∷ [])
   pub reached : option_map (λ call. call.targets 8193) (call_of (course_of (opening_course lpi_guest) passed_by) 0) ≡ Some (Some 0 ∷ Some 0 ∷ Some 0 ∷ [])
   pub ahead : option_map (λ call. call.targets 8194) (call_of (course_of (opening_course lpi_guest) passed_by) 0) ≡ Some (None ∷ None ∷ [])
+
+-- moments are a history of a guest in which the device's call cannot end
+pub record IsRefusedAtEnd (moments : List Moment) : Type 0 where
+  pub history : IsHistory signal_guest moments
+  pub refused : IsNext (course_of (opening_course signal_guest) moments) (End 2 None) → ⊥
+
+-- a lone raise of an LPI is the call of a message that signals this LPI; it is none while a command that has forgotten another LPI goes on, none of a message that
+-- signals another LPI, and none of one whose event is not mapped
+pub record LoneRaisesAreRight : Type 0 where
+  pub right : IsHistory signal_guest (maps_event ++ raises_alone 0 ++ ends_alone)
+  pub midway : IsRefusedAtEnd (maps_event ++ forgets_other ++ raises_alone 0)
+  pub other : IsRefusedAtEnd (maps_event ++ raises_alone 1)
+  pub unmapped : IsRefusedAtEnd (maps_event ++ raises_alone 3)

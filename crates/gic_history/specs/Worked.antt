@@ -1,15 +1,15 @@
 -- Worked histories of a guest with two vCPUs and a device: fresh ones, and for each clause of fresh one that this clause alone refuses.
 use Rattle.std.specs.Prelude.{ℕ, Bool, true, false, List, [], ◌∷◌, ◌++◌, Option, Some, None}
 use Rattle.ideal_guest.specs.Opening.{opening as opening_guest}
-use Rattle.ideal_guest.specs.Words.{IccReg, Iar1, Eoir1, Rpr, Spi, Lpi, Message, Wire, Dist, Redist, Its, Ram as Memory, Icc, Mem, SetPending, ClearPending, Routing, G1, Irq, Affinity, Target}
-use Rattle.ideal_guest.specs.Registers.{Mapti, Int, Clear, encoded}
-use Rattle.ideal_guest.specs.Calls.{Ram, Event, Up, Touch, Reach, Take, Leave, Cpu, Enable, Put, ItsBegin, Done, Found, Record, Moment, Begin, Happens, Operation, Access, Device, Residence, Touching, Register, MapLpi, opening_irq, Preset, GuestSpec}
+use Rattle.ideal_guest.specs.Words.{IccReg, Iar1, Eoir1, Rpr, Spi, Lpi, Message, Wire, Msi, Dist, Redist, Its, Ram as Memory, Icc, Mem, SetPending, ClearPending, Routing, G1, Irq, Affinity, Target}
+use Rattle.ideal_guest.specs.Registers.{Mapd, Mapc, Mapti, Int, Clear, encoded}
+use Rattle.ideal_guest.specs.Calls.{Ram, ItsCtlr, Event, Up, Touch, Reach, Take, Leave, Cpu, Enable, Put, ItsBegin, Done, Found, Record, Moment, Begin, Happens, Operation, Access, Device, Residence, Touching, Register, MapLpi, opening_irq, Preset, GuestSpec}
 use Rattle.ideal_guest.specs.declared.guest.IdealGuest.{IdealGuest}
 use Rattle.ideal_guest.specs.GicCall.declared.event.Event.TheVariants.{Raise, Read, ItsEnd, Queue}
 use Rattle.ideal_guest.specs.GicCall.declared.event.Found.TheVariants.{Nothing, Answer, Word as FoundWord, Lpis as FoundLpis}
 use Rattle.ideal_guest.specs.GicCall.declared.event.Moment.TheVariants.{End}
 use Rattle.ideal_guest.specs.GicCall.declared.event.Place.TheVariants.{Word}
-use Rattle.ideal_guest.specs.GicCall.declared.touch.Touching.TheVariants.{Retarget}
+use Rattle.ideal_guest.specs.GicCall.declared.touch.Touching.TheVariants.{Retarget, Forget}
 
 -- two vCPUs and a device, the actor 2; SPIs 40 and 42 are edge and 41 is level, all for vCPU 0, and 42 comes before the others
 abbrev preset : ℕ → ℕ → Bool → Preset
@@ -264,3 +264,38 @@ unread = pends_lpi ++ begins_write ++ gets_its ++ reads 0 Iar1 1023 ++ stores_cl
 
 abbrev pub fetched : List Moment
 fetched = pends_lpi ++ begins_write ++ stores_clear ++ gets_its ++ fetches ++ reads 0 Iar1 1023 ++ clears_lpi
+
+-- The lone raise of a message-signalled interrupt.
+
+-- two vCPUs, a device, the actor 2, and two LPIs
+abbrev pub signal_spec : GuestSpec
+signal_spec = record { shape = record { vcpus = 2; spis = 0; espis = 0; devices = 1; lpis = 2; ram = 0 }; on = true; presets = [] }
+
+-- as it opens
+abbrev pub signal_guest : IdealGuest
+signal_guest = opening_guest signal_spec
+
+-- vCPU 0 has the ITS, which it enables, and maps the events 0 and 1 of device 0 to 8192 and 8193, for itself; it goes on with commands
+abbrev pub maps_event : List Moment
+maps_event =
+    Begin 0 (Access (Mem Its 0x88 8 (Some 160)))
+    ∷ Happens 0 ItsBegin Nothing
+    ∷ Happens 0 (Put ItsCtlr 1) (FoundWord 0)
+    ∷ Happens 0 (Queue 32 (Done (encoded (Mapd 0 1 0 true)))) Nothing
+    ∷ Happens 0 (Queue 64 (Done (encoded (Mapc 0 0 true)))) Nothing
+    ∷ Happens 0 (Touch (Lpi 8192) (MapLpi 0 true 0)) (Record (opening_irq true (Lpi 8192)))
+    ∷ Happens 0 (Queue 96 (Done (encoded (Mapti 0 0 8192 0)))) Nothing
+    ∷ Happens 0 (Touch (Lpi 8193) (MapLpi 0 true 0)) (Record (opening_irq true (Lpi 8193)))
+    ∷ Happens 0 (Queue 128 (Done (encoded (Mapti 0 1 8193 0)))) Nothing
+    ∷ []
+
+-- it forgets 8193, as a DISCARD of event 1 does before the queue goes on
+abbrev pub forgets_other : List Moment
+forgets_other = Happens 0 (Touch (Lpi 8193) Forget) (Record (record (opening_irq true (Lpi 8193)) { route = Target (Some 0); enabled = true })) ∷ []
+
+-- a message of this event raises 8192 and nothing else, and its call ends
+abbrev pub raises_alone : ℕ → List Moment
+raises_alone event = Begin 2 (Device (Msi 0 event)) ∷ Happens 2 (Raise (Lpi 8192)) Nothing ∷ []
+
+abbrev pub ends_alone : List Moment
+ends_alone = End 2 None ∷ []

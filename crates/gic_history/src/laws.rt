@@ -1,5 +1,5 @@
 //! Laws of worked histories.
-ghost use Rattle.gic_history.specs.Laws.{WorkedHistoriesAreFresh, EachClauseRefuses, WhatIsNotAllowed, EachLpiHasItsPlace, CommandsExcuseOnceRead};
+ghost use Rattle.gic_history.specs.Laws.{WorkedHistoriesAreFresh, EachClauseRefuses, WhatIsNotAllowed, EachLpiHasItsPlace, CommandsExcuseOnceRead, LoneRaisesAreRight};
 
 /// A law of nine worked histories of a guest with two vCPUs: they are histories, and fresh.
 #[tactic(auto, using(crate::proofs::WorkedLemmas::worked))]
@@ -32,4 +32,11 @@ pub fn each_lpi_has_its_place()
 #[tactic(auto, using(crate::proofs::WorkedLemmas::once_read))]
 pub fn commands_excuse_once_read()
     ensures { CommandsExcuseOnceRead }
+{}
+
+/// A law of a message-signalled interrupt that raises its LPI without taking the ITS: it does so only where the maps and
+/// GITS_CTLR translate its event to that LPI, and no command that has changed an LPI is midway.
+#[tactic(auto, using(crate::proofs::WorkedLemmas::lone_right))]
+pub fn lone_raises_are_right()
+    ensures { LoneRaisesAreRight }
 {}

@@ -111,5 +111,6 @@ pub use ideal_guest::with_part;
 pub use laws::commands_excuse_once_read;
 pub use laws::each_clause_refuses;
 pub use laws::each_lpi_has_its_place;
+pub use laws::lone_raises_are_right;
 pub use laws::what_is_not_allowed;
 pub use laws::worked_histories_are_fresh;

@@ -58,10 +58,13 @@ abbrev pub answers_of : ℕ → List (Option VcpuName) → List Step → List Id
 answers_of n pes [] guests = []
 answers_of n pes (step ∷ steps) guests = step_answer n pes step guests ∷ answers_of n (pes_after step pes) steps (after_step step guests)
 
--- the run of a scenario by the ideal controller
+-- the run of some steps by the ideal controller from states on, with the vCPUs so on the PEs, of guests that opened so
+abbrev pub eager_from : ℕ → List (Option VcpuName) → List Step → List IdealGuest → List IdealGuest → RunOut
+eager_from lrs pes steps opened states =
+    record { answers = answers_of lrs pes steps states; ends = ends_of opened (after_steps steps states) }
+
+-- the run of a scenario: from the states in which its guests open
 abbrev pub eager : Scenario → RunOut
-eager scenario = let guests = map opening scenario.guests in
-    record {
-      answers = answers_of scenario.lrs (opening_pes scenario.pes (shapes_of scenario.guests)) scenario.steps guests;
-      ends = ends_of guests (after_steps scenario.steps guests);
-    }
+eager scenario =
+    let guests = map opening scenario.guests in
+    eager_from scenario.lrs (opening_pes scenario.pes (shapes_of scenario.guests)) scenario.steps guests guests

@@ -15,7 +15,7 @@ pub use laws::{
     events_keep_sound, latched_exactly, runs_are_sound, spurious_read_exactly, steps_are_events,
     steps_can_follow,
 };
-pub use run::eager;
+pub use run::{eager, eager_from};
 pub use scn_base::{
     Answers, Ends as ScenarioEnds, Pes, Scenario, Step, VcpuName, move_pes, opening_pes,
 };

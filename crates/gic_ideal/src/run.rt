@@ -1,4 +1,4 @@
-//! The run of a scenario.
+//! The run of a scenario, and of steps from any states on.
 ghost use Rattle.std.specs.Prelude.{◌≡◌, ◌≤◌, [], IfOk, IfSome, OnOk, IsTrue, All, map, length, None};
 ghost use Rattle.scn_base.specs.declared.step.Mode.{Mode};
 ghost use Rattle.scn_base.specs.Standing.{has_vcpu, ResidentsExist};
@@ -6,26 +6,26 @@ ghost use Rattle.scn_base.specs.Good.{IsGood, is_formed};
 ghost use Rattle.ideal_guest.specs.Calls.{IsGoodGuest, shapes_of};
 ghost use Rattle.ideal_guest.specs.Opening.{opening};
 ghost use Rattle.gic_ideal.specs.Ends.{ends_of};
-ghost use Rattle.gic_ideal.specs.Eager.{shown, step_answer, after_step, answers_of, after_steps, eager as eager_run, state_shapes};
+ghost use Rattle.gic_ideal.specs.Eager.{shown, step_answer, after_step, answers_of, after_steps, eager_from as run_from, eager as eager_run, state_shapes};
 ghost use Rattle.ideal_guest.specs.Sound.{IsSound};
 
 use crate::ends::end_of;
 use crate::shown::registers;
 use ideal_guest::IdealGuest;
 use scn_base::{
-    Answer, Answers, Ends, Guests, ListOf, LrList, MAX_LIST_REGISTERS, NoMemory, PeOp, Pes, RunOut,
-    Scenario, Step, Steps, VcpuName, move_pes, opening_pes,
+    Answer, Answers, Ends, GuestSpec, ListOf, LrList, MAX_LIST_REGISTERS, NoMemory, PeOp, Pes,
+    RunOut, Scenario, Step, VcpuName, move_pes, opening_pes,
 };
 use std::alloc::{AllocError, Global};
 
 /// The states in which the guests open.
-fn open_all(alloc: Global, guests: &Guests) -> Result<Vec<IdealGuest>, AllocError>
+fn open_all(alloc: Global, guests: &[GuestSpec]) -> Result<Vec<IdealGuest>, AllocError>
     requires { All IsGoodGuest guests.now }
     ensures value { IfOk result (λ states. states.items ≡ map opening guests.now) }
     ensures sound { IfOk result (λ states. All IsSound states.items) }
 {
     let mut states = Vec::new(alloc);
-    for guest in guests.as_slice() {
+    for guest in guests {
         states.push(IdealGuest::open(alloc, guest)?)?;
     }
     Ok(states)
@@ -93,7 +93,7 @@ fn do_steps(
     states: &mut Vec<IdealGuest>,
     mut pes: Pes,
     lrs: u32,
-    steps: &Steps,
+    steps: &[Step],
 ) -> Result<Answers, AllocError>
     requires sound { All IsSound states.old.items }
     requires lrs { 1 ≤ lrs × lrs ≤ MAX_LIST_REGISTERS }
@@ -105,7 +105,7 @@ fn do_steps(
     ensures shapes { OnOk result (state_shapes states.new.items ≡ state_shapes states.old.items) }
 {
     let mut answers = ListOf::new(alloc);
-    for step in steps.as_slice() {
+    for step in steps {
         answers.push(do_step(alloc, states, &pes, lrs, step)?)?;
         move_pes(step, &mut pes);
     }
@@ -113,14 +113,14 @@ fn do_steps(
 }
 
 /// How each guest ended that opened as the scenario says.
-fn end_all(alloc: Global, guests: &Guests, closed: &[IdealGuest]) -> Result<Ends, AllocError>
+fn end_all(alloc: Global, guests: &[GuestSpec], closed: &[IdealGuest]) -> Result<Ends, AllocError>
     requires good { All IsGoodGuest guests.now }
     requires sound { All IsSound closed.now }
     requires shapes { state_shapes closed.now ≡ shapes_of guests.now }
     ensures { IfOk result (λ ends. ends ≡ ends_of (map opening guests.now) closed.now) }
 {
     let mut ends = ListOf::new(alloc);
-    for (number, guest) in guests.as_slice().iter().enumerate() {
+    for (number, guest) in guests.iter().enumerate() {
         let opened = IdealGuest::open(alloc, guest)?;
         let last = &closed[number];
         ends.push(end_of(alloc, &opened, last, &last.tables)?)?;
@@ -128,14 +128,43 @@ fn end_all(alloc: Global, guests: &Guests, closed: &[IdealGuest]) -> Result<Ends
     Ok(ends)
 }
 
-/// The run of a scenario by the ideal controller.
+/// The run of steps by the ideal controller from sound states on, one of each guest, with these vCPUs on the PEs and `lrs` list registers shown: what
+/// each step answers, and how each guest ended, which opened as it is specified. `NoMemory` where memory is refused.
+pub fn eager_from(
+    alloc: Global,
+    guests: &[GuestSpec],
+    mut states: Vec<IdealGuest>,
+    pes: Pes,
+    lrs: u32,
+    steps: &[Step],
+) -> Result<RunOut, NoMemory>
+    requires good { All IsGoodGuest guests.now }
+    requires sound { All IsSound states.items }
+    requires shapes { state_shapes states.items ≡ shapes_of guests.now }
+    requires lrs { 1 ≤ lrs × lrs ≤ MAX_LIST_REGISTERS }
+    requires formed { All (λ step. IsTrue (is_formed Mode.Schedule (length pes) (shapes_of guests.now) step)) steps.now }
+    requires residents { ResidentsExist (shapes_of guests.now) pes }
+    ensures { IfOk result (λ out. out ≡ run_from lrs pes steps.now (map opening guests.now) states.items) }
+{
+    let answers = do_steps(alloc, &mut states, pes, lrs, steps)?;
+    let ends = end_all(alloc, guests, states.as_slice())?;
+    Ok(RunOut { answers, ends })
+}
+
+/// The run of a scenario by the ideal controller. `NoMemory` where memory is refused.
 pub fn eager(alloc: Global, scenario: &Scenario) -> Result<RunOut, NoMemory>
     requires { IsGood Mode.Schedule scenario.now }
     ensures { IfOk result (λ out. out ≡ eager_run scenario.now) }
 {
-    let mut states = open_all(alloc, &scenario.guests)?;
-    let pes = opening_pes(alloc, scenario.pes, scenario.guests.as_slice())?;
-    let answers = do_steps(alloc, &mut states, pes, scenario.lrs, &scenario.steps)?;
-    let ends = end_all(alloc, &scenario.guests, states.as_slice())?;
-    Ok(RunOut { answers, ends })
+    let guests = scenario.guests.as_slice();
+    let states = open_all(alloc, guests)?;
+    let pes = opening_pes(alloc, scenario.pes, guests)?;
+    eager_from(
+        alloc,
+        guests,
+        states,
+        pes,
+        scenario.lrs,
+        scenario.steps.as_slice(),
+    )
 }

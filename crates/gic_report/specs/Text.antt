@@ -117,8 +117,12 @@ end_lines guest [] = []
 end_lines guest (end ∷ ends) = guest_lines guest end ++ end_lines (guest + 1) ends
 
 -- the last line: how many steps there are, and how many of them read
+abbrev pub counts_of : ℕ → ℕ → List ℕ
+counts_of steps reads = codes "end " ++ decimal steps ++ codes " " ++ decimal reads ++ newline
+
+-- that of a scenario with these steps
 abbrev pub counts_line : List Step → List ℕ
-counts_line steps = codes "end " ++ decimal (length steps) ++ codes " " ++ decimal (count_by is_read steps) ++ newline
+counts_line steps = counts_of (length steps) (count_by is_read steps)
 
 -- the text of a scenario and its run
 abbrev pub text : Scenario → RunOut → List ℕ

@@ -1,4 +1,4 @@
-//! The text of a run, and the line of one of a generated scenario.
+//! The text of a run and of the rest of a saved one, and the line of one of a generated scenario.
 #![tactic(auto)]
 
 mod lines;
@@ -12,4 +12,4 @@ pub use gic_io::{
 };
 pub use gic_soak::generate;
 pub use soak::soak_line;
-pub use whole::text;
+pub use whole::{text, text_saved};

@@ -1,9 +1,11 @@
 //! The lines of a run in their order: the answers, the end of each guest, the counts.
 
-ghost use Rattle.std.specs.Prelude.{◌≡◌, [], ◌++◌, OnOk, IfOk, string_bytes};
+ghost use Rattle.std.specs.Prelude.{◌≡◌, ◌+◌, ◌≤◌, [], ◌++◌, OnOk, IfOk, length, count_by, string_bytes};
 ghost use Rattle.std.specs.List.{flat_map};
 ghost use Rattle.std.specs.Option.{option_map_or};
-ghost use Rattle.gic_report.specs.Text.{answer_lines, gicd_line, its_line, cpu_line, irq_line, dev_line, evt_line, col_line, mapped_lines, guest_lines, end_lines, counts_line, text as text_of};
+ghost use Rattle.gic_report.specs.Text.{answer_lines, gicd_line, its_line, cpu_line, irq_line, dev_line, evt_line, col_line, mapped_lines, guest_lines, end_lines, counts_of, text as text_of};
+ghost use Rattle.gic_report.specs.Rest.{text_saved as rest_of};
+ghost use Rattle.scn_saved.specs.Read.{is_read as reads};
 
 use crate::lines::{
     write_answer, write_col, write_cpu, write_dev, write_evt, write_gicd, write_irq, write_its,
@@ -11,17 +13,17 @@ use crate::lines::{
 use gic_io::{Bytes, NoMemory};
 use gic_soak::{
     Answers, ColEnds, CpuEnds, DevEnds, End, Ends, EvtEnds, IrqEnds, ItsEnd, RunOut,
-    ScenarioScenario as Scenario, Steps,
+    ScenarioScenario as Scenario, Step,
 };
-use scn_saved::is_read;
+use scn_saved::{Saved, is_read};
 use std::alloc::{AllocError, Global};
 use std::fmt::Write;
 
-/// Writes the lines of the steps.
-fn write_answers(text: &mut String, answers: &Answers) -> Result<(), AllocError>
-    ensures { OnOk result (string_bytes text.new ≡ string_bytes text.old ++ answer_lines 1 answers.now) }
+/// Writes the lines of steps before which so many were done.
+fn write_answers(text: &mut String, done: u32, answers: &Answers) -> Result<(), AllocError>
+    ensures { OnOk result (string_bytes text.new ≡ string_bytes text.old ++ answer_lines (done + 1) answers.now) }
 {
-    let mut step = 0;
+    let mut step = done as usize;
     for answer in answers.as_slice() {
         step += 1;
         write_answer(text, step, answer)?;
@@ -129,13 +131,19 @@ fn write_ends(text: &mut String, ends: &Ends) -> Result<(), AllocError>
     Ok(())
 }
 
-/// Writes the last line.
-fn write_counts(text: &mut String, steps: &Steps) -> Result<(), AllocError>
-    ensures { OnOk result (string_bytes text.new ≡ string_bytes text.old ++ counts_line steps.now) }
+/// How many steps read.
+fn reads_in(steps: &[Step]) -> usize
+    ensures counted { result ≡ count_by reads steps.now }
+    ensures few { result ≤ length steps.now }
 {
-    let all = steps.len();
-    let reads = steps.as_slice().iter().filter(|step| is_read(step)).count();
-    writeln!(text, "end {all} {reads}")
+    steps.iter().filter(|step| is_read(step)).count()
+}
+
+/// Writes the last line, of so many steps, so many of which read.
+fn write_counts(text: &mut String, steps: usize, reads: usize) -> Result<(), AllocError>
+    ensures { OnOk result (string_bytes text.new ≡ string_bytes text.old ++ counts_of steps reads) }
+{
+    writeln!(text, "end {steps} {reads}")
 }
 
 /// The text of a scenario and its run.
@@ -143,8 +151,24 @@ pub fn text(alloc: Global, scenario: &Scenario, out: &RunOut) -> Result<Bytes, N
     ensures { IfOk result (λ bytes. bytes ≡ text_of scenario.now out.now) }
 {
     let mut text = String::new(alloc);
-    write_answers(&mut text, &out.answers)?;
+    write_answers(&mut text, 0, &out.answers)?;
     write_ends(&mut text, &out.ends)?;
-    write_counts(&mut text, &scenario.steps)?;
+    let steps = scenario.steps.as_slice();
+    write_counts(&mut text, steps.len(), reads_in(steps))?;
+    Ok(Bytes::from(text.into_bytes()))
+}
+
+/// The text of what is left of a saved run: its steps have the numbers after those that were done, and the last line counts the steps of the
+/// whole run. `NoMemory` where memory is refused.
+pub fn text_saved(alloc: Global, saved: &Saved, out: &RunOut) -> Result<Bytes, NoMemory>
+    ensures { IfOk result (λ bytes. bytes ≡ rest_of saved.now out.now) }
+{
+    let mut text = String::new(alloc);
+    write_answers(&mut text, saved.done, &out.answers)?;
+    write_ends(&mut text, &out.ends)?;
+    let rest = saved.scenario.steps.as_slice();
+    let all = saved.done as usize + rest.len();
+    let reads = saved.reads as usize + reads_in(rest);
+    write_counts(&mut text, all, reads)?;
     Ok(Bytes::from(text.into_bytes()))
 }

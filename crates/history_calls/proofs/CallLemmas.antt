@@ -4,8 +4,8 @@ use Rattle.std.proofs.lemmas.List.{take_all, length-take-le}
 use Rattle.std.proofs.lemmas.List.Elements.{All-nil, All-cons, All-head}
 use Rattle.history_calls.specs.Words.{GuestShape}
 use Rattle.history_calls.specs.Calls.{Event, Operation, Access, Device, Residence, Happened, Beside, View, Place, IsCall, IsLastRead, held_at, named_of}
-use Rattle.history_calls.specs.Histories.{Call, vcpu_of, IsEnded}
-use Rattle.history_calls.specs.LegalLists.Legal.{noting, IsBegun}
+use Rattle.history_calls.specs.Histories.{Call, vcpu_of, IsEndedAs}
+use Rattle.history_calls.specs.LegalLists.Legal.{noting, IsBegun, signalling}
 use Rattle.legal_lists.proofs.MadeLemmas.{GoesOnAs, notes_as}
 use Rattle.history_calls.specs.Counted.{IsCounted, IsUncounted}
 use Rattle.history_calls.specs.Exact.{is_plain, is_doer, events_by, Answers, AreReadBy, IsCallOf, IsExact, IsFirst, IsMade, IsWholeBy}
@@ -86,39 +86,39 @@ so_does shape actor (Access op) h = h
 so_does shape actor (Device op) h = h
 so_does shape actor Residence h = h
 
-ended_doer : (shape : GuestShape) (actor : ℕ) (call : Call) (answer : Option ℕ) → IsEnded shape actor call answer → is_doer shape actor call.operation ≡ true
-ended_doer shape actor call answer is = so_does shape actor call.operation (call_does shape actor (nat_lt actor shape.vcpus) is.beside call.operation call.piece answer is.is_call)
+ended_doer : (signals : Bool) (shape : GuestShape) (actor : ℕ) (call : Call) (answer : Option ℕ) → IsEndedAs signals shape actor call answer → is_doer shape actor call.operation ≡ true
+ended_doer signals shape actor call answer is = so_does shape actor call.operation (call_does shape actor (nat_lt actor shape.vcpus) is.beside call.operation call.piece answer is.is_call)
 
-begun_doer : (shape : GuestShape) (actor : ℕ) (call : Call) → IsBegun shape actor call → is_doer shape actor call.operation ≡ true
-begun_doer shape actor call is =
+begun_doer : (signals : Bool) (shape : GuestShape) (actor : ℕ) (call : Call) → IsBegun signals shape actor call → is_doer shape actor call.operation ≡ true
+begun_doer signals shape actor call is =
     let last : Call = fold noting call is.notes in
-    let goes : GoesOnAs call last = notes_as call is.notes in ap (is_doer shape actor) (sym goes.operation) ∙ ended_doer shape actor last is.answer is.ended
+    let goes : GoesOnAs call last = notes_as call is.notes in ap (is_doer shape actor) (sym goes.operation) ∙ ended_doer (fold signalling signals is.notes) shape actor last is.answer is.ended
 
 -- The call.
 
 module _ (shape : GuestShape) (actor : ℕ) (operation : Operation) (piece : List Happened) (b : Bool) where
-  pub begun_by_other : is_doer shape actor operation ≡ false → (call : Call) → IsCallOf operation piece call → IsTrue false ↔ IsBegun shape actor call
-  begun_by_other other call of = (λ h. absurd (cc), λ is. let doer = ap (is_doer shape actor) (sym of.operation_is) ∙ begun_doer shape actor call is in absurd (cc))
+  pub begun_by_other : is_doer shape actor operation ≡ false → (call : Call) (signals : Bool) → IsCallOf operation piece call → IsTrue false ↔ IsBegun signals shape actor call
+  begun_by_other other call signals of = (λ h. absurd (cc), λ is. let doer = ap (is_doer shape actor) (sym of.operation_is) ∙ begun_doer signals shape actor call is in absurd (cc))
 
-  pub ended_by_other : (answer : Option ℕ) → is_doer shape actor operation ≡ false → (call : Call) → IsCallOf operation piece call → IsTrue false ↔ IsEnded shape actor call answer
-  ended_by_other answer other call of = (λ h. absurd (cc), λ is. let doer = ap (is_doer shape actor) (sym of.operation_is) ∙ ended_doer shape actor call answer is in absurd (cc))
+  pub ended_by_other : (answer : Option ℕ) → is_doer shape actor operation ≡ false → (call : Call) (signals : Bool) → IsCallOf operation piece call → IsTrue false ↔ IsEndedAs signals shape actor call answer
+  ended_by_other answer other call signals of = (λ h. absurd (cc), λ is. let doer = ap (is_doer shape actor) (sym of.operation_is) ∙ ended_doer signals shape actor call answer is in absurd (cc))
 
   module _ (plain : is_plain shape operation ≡ true) (doer : is_doer shape actor operation ≡ true) where
     law : (call : Call) → IsCallOf operation piece call → IsExact shape actor call
     law call of = exact shape actor call (ap (is_plain shape) of.operation_is ∙ plain) (ap (is_doer shape actor) of.operation_is ∙ doer) of.opened
 
-    pub begun_decided : IsTrue b ↔ IsFirst shape actor (open_by piece) operation piece → (call : Call) → IsCallOf operation piece call → IsTrue b ↔ IsBegun shape actor call
-    begun_decided so call of =
+    pub begun_decided : IsTrue b ↔ IsFirst shape actor (open_by piece) operation piece → (call : Call) (signals : Bool) → IsCallOf operation piece call → IsTrue b ↔ IsBegun signals shape actor call
+    begun_decided so call signals of =
         let is = law call of in
         let First : Operation → List Happened → Type 0 = λ o p. IsFirst shape actor (open_by p) o p in (
-          λ h. is.begun.1 (subst (First call.operation) (sym of.piece_is) (subst (λ o. First o piece) (sym of.operation_is) (so.0 h))),
-          λ begun. so.1 (subst (λ o. First o piece) of.operation_is (subst (First call.operation) of.piece_is (is.begun.0 begun))),
+          λ h. (is.begun signals).1 (subst (First call.operation) (sym of.piece_is) (subst (λ o. First o piece) (sym of.operation_is) (so.0 h))),
+          λ begun. so.1 (subst (λ o. First o piece) of.operation_is (subst (First call.operation) of.piece_is ((is.begun signals).0 begun))),
         )
 
-    pub ended_decided : (answer : Option ℕ) → IsTrue b ↔ IsMade shape actor (found_by piece) operation piece answer → (call : Call) → IsCallOf operation piece call → IsTrue b ↔ IsEnded shape actor call answer
-    ended_decided answer so call of =
+    pub ended_decided : (answer : Option ℕ) → IsTrue b ↔ IsMade shape actor (found_by piece) operation piece answer → (call : Call) (signals : Bool) → IsCallOf operation piece call → IsTrue b ↔ IsEndedAs signals shape actor call answer
+    ended_decided answer so call signals of =
         let is = law call of in
         let Made : Operation → List Happened → Type 0 = λ o p. IsMade shape actor (found_by p) o p answer in (
-          λ h. (is.ended answer).1 (subst (Made call.operation) (sym of.piece_is) (subst (λ o. Made o piece) (sym of.operation_is) (so.0 h))),
-          λ ended. so.1 (subst (λ o. Made o piece) of.operation_is (subst (Made call.operation) of.piece_is ((is.ended answer).0 ended))),
+          λ h. (is.ended signals answer).1 (subst (Made call.operation) (sym of.piece_is) (subst (λ o. Made o piece) (sym of.operation_is) (so.0 h))),
+          λ ended. so.1 (subst (λ o. Made o piece) of.operation_is (subst (Made call.operation) of.piece_is ((is.ended signals answer).0 ended))),
         )

@@ -13,8 +13,8 @@ use Rattle.history_calls.specs.Calls.{Event, Up, Down, Cpu, Enable, Touch, Put, 
 use Rattle.legal_lists.specs.GicCall.declared.event.Event.TheVariants.{Raise, Read}
 use Rattle.legal_lists.specs.GicCall.declared.event.Place.TheVariants.{Word, Queue as QueuePlace, Ctlr, Lpis}
 use Rattle.legal_lists.specs.GicCall.declared.event.Found.TheVariants.{Nothing, Answer, Word as FoundWord, Queue as FoundQueue, Ctlr as FoundCtlr, Lpis as FoundLpis}
-use Rattle.history_calls.specs.Histories.{Ideal, Call, opening_course, worked_guest, is_ahead, come_to, made, vcpu_of, IsEnded}
-use Rattle.history_calls.specs.LegalLists.Legal.{Note, Made, noting, IsBegun, unseen}
+use Rattle.history_calls.specs.Histories.{Ideal, Call, opening_course, worked_guest, is_ahead, come_to, made, vcpu_of, IsEndedAs}
+use Rattle.history_calls.specs.LegalLists.Legal.{Note, Made, noting, IsBegun, unseen, signalling}
 use Rattle.legal_lists.proofs.KeyLemmas.{own_key}
 use Rattle.legal_lists.proofs.MadeLemmas.{GoesOnAs, notes_as}
 use Rattle.history_calls.specs.Found.{touches, stores, reads, telling, lpis_in, enables_in, spreads_in, offset_in, stalled_in, found_by, open_by}
@@ -185,18 +185,19 @@ does_so shape actor Residence h = h
 -- Calls that are over.
 
 module _ (shape : GuestShape) (actor : ℕ) (operation : Operation) (plain : is_plain shape operation ≡ true) where
-  pub ended_made : (call : Call) (answer : Option ℕ) → call.operation ≡ operation → IsEnded shape actor call answer → (view : View) × MadeBy shape actor (vcpu_of shape actor) view operation call.piece answer
-  ended_made call answer same is = call_made shape actor (nat_lt actor shape.vcpus) is.beside operation call.piece answer plain (subst (λ o. IsCall shape is.beside (vcpu_of shape actor) o call.piece answer) same is.is_call)
+  pub ended_made : (call : Call) (answer : Option ℕ) (signals : Bool) → call.operation ≡ operation → IsEndedAs signals shape actor call answer → (view : View) × MadeBy shape actor (vcpu_of shape actor) view operation call.piece answer
+  ended_made call answer signals same is = call_made shape actor (nat_lt actor shape.vcpus) is.beside operation call.piece answer plain (subst (λ o. IsCall shape is.beside (vcpu_of shape actor) o call.piece answer) same is.is_call)
 
-  made_ended : (doer : is_doer shape actor operation ≡ true) (call : Call) (answer : Option ℕ) → call.operation ≡ operation → ((id : ℕ) → (other : Option ℕ) × Contains (call.targets id) other) → (view : View) → MadeBy shape actor (vcpu_of shape actor) view operation call.piece answer
-      → IsEnded shape actor call answer
-  made_ended doer call answer same seen view is =
-      let beside : Beside = record { maps = call.maps; targets = λ id. (seen id).0; commands = call.commands } in
+  made_ended : (doer : is_doer shape actor operation ≡ true) (call : Call) (answer : Option ℕ) (signals : Bool) → call.operation ≡ operation → ((id : ℕ) → (other : Option ℕ) × Contains (call.targets id) other) → (view : View) → MadeBy shape actor (vcpu_of shape actor) view operation call.piece answer
+      → IsEndedAs signals shape actor call answer
+  made_ended doer call answer signals same seen view is =
+      let beside : Beside = record { maps = call.maps; targets = λ id. (seen id).0; commands = call.commands; signals = false } in
       record {
         beside = beside;
         maps = refl;
         commands = refl;
         targets = λ id. (seen id).1;
+        right = λ h. absurd (cc);
         is_call = subst (λ o. IsCall shape beside (vcpu_of shape actor) o call.piece answer) (sym same)
             (made_call shape actor (nat_lt actor shape.vcpus) beside (record view { targets = beside.targets; maps = beside.maps }) operation call.piece answer plain (does_so shape actor operation doer) refl refl
             (beside_made shape actor (vcpu_of shape actor) beside view operation call.piece answer plain is));
@@ -232,12 +233,12 @@ module _ (shape : GuestShape) (actor : ℕ) (operation : Operation) (plain : is_
             found = hands_all view (open_by piece) (named_of who piece) told (λ key h. touch_found who view piece all key h) (λ word h. store_found who view piece all word h) all;
           }
 
-  begun_first : (call : Call) → call.operation ≡ operation → IsBegun shape actor call → IsFirst shape actor (open_by call.piece) operation call.piece
-  begun_first call same is =
+  begun_first : (call : Call) (signals : Bool) → call.operation ≡ operation → IsBegun signals shape actor call → IsFirst shape actor (open_by call.piece) operation call.piece
+  begun_first call signals same is =
       let who = vcpu_of shape actor in
       let last : Call = fold noting call is.notes in
       let goes : GoesOnAs call last = notes_as call is.notes in
-      let so = ended_made shape actor operation plain last is.answer (goes.operation ∙ same) is.ended in
+      let so = ended_made shape actor operation plain last is.answer (fold signalling signals is.notes) (goes.operation ∙ same) is.ended in
       let named : named_of who last.piece ≡ named_of who call.piece ++ named_of who goes.more =
       ap (named_of who) goes.piece ∙ filter-append (λ (h : Happened). not (is_beside who h.event)) call.piece goes.more in
       first_by so.0 call.piece (events_in (named_of who goes.more))
@@ -318,7 +319,7 @@ longer_one call (Touch key touching) found h none = record {
 longer_one call event found h none = absurd (cc)
 
 abbrev notes_of : List Happened → List Note
-notes_of more = map (λ (h : Happened). Made here h.event h.found) more
+notes_of more = map (λ (h : Happened). Made false here h.event h.found) more
 
 longer : (call : Call) (more : List Happened) → list_all is_quiet (events_in more) ≡ true → call.place ≡ None → IsLonger call (fold noting call (notes_of more)) more
 longer call [] h none = record { operation = refl; piece = sym (append-nil call.piece); targets = λ id. refl; place = none }
@@ -428,8 +429,8 @@ enable_named actor (Enable vcpu) h = refl
 enable_named actor event h = absurd (cc)
 
 module _ (shape : GuestShape) (actor : ℕ) (operation : Operation) (plain : is_plain shape operation ≡ true) (doer : is_doer shape actor operation ≡ true) where
-  first_begun : (call : Call) → call.operation ≡ operation → IsOpen call → (view : View) → IsFirst shape actor view operation call.piece → IsBegun shape actor call
-  first_begun call same opened view is =
+  first_begun : (call : Call) (signals : Bool) → call.operation ≡ operation → IsOpen call → (view : View) → IsFirst shape actor view operation call.piece → IsBegun signals shape actor call
+  first_begun call signals same opened view is =
       let who = vcpu_of shape actor in
       let own = named_of who call.piece in
       let places = places_by shape view operation in
@@ -451,16 +452,16 @@ module _ (shape : GuestShape) (actor : ℕ) (operation : Operation) (plain : is_
       record {
         notes = notes_of (makes_on ++ reads_on);
         answer = answered.0;
-        ended = made_ended shape actor operation plain doer last answered.0 (after.operation ∙ same) (λ id. ((opened.seen id).0, subst (λ t. Contains t (opened.seen id).0) (sym (after.targets id)) (opened.seen id).1)) view (makes, answered.1);
+        ended = made_ended shape actor operation plain doer last answered.0 (fold signalling signals (notes_of (makes_on ++ reads_on))) (after.operation ∙ same) (λ id. ((opened.seen id).0, subst (λ t. Contains t (opened.seen id).0) (sym (after.targets id)) (opened.seen id).1)) view (makes, answered.1);
       }
 
 pub exact : PlainCallsAreExact
 exact shape actor call plain doer opened = record {
-  ended = λ answer. (
+  ended = λ signals answer. (
     λ over.
-        let some = ended_made shape actor call.operation plain call answer refl over in
+        let some = ended_made shape actor call.operation plain call answer signals refl over in
         let own = found_made shape actor (vcpu_of shape actor) call.operation plain some.0 call.piece answer some.1 in record { made = own.0; answers = own.1 },
-    λ is. made_ended shape actor call.operation plain doer call answer refl opened.seen (found_by call.piece) (is.made, is.answers),
+    λ is. made_ended shape actor call.operation plain doer call answer signals refl opened.seen (found_by call.piece) (is.made, is.answers),
   );
-  begun = (begun_first shape actor call.operation plain call refl, first_begun shape actor call.operation plain doer call refl opened (open_by call.piece));
+  begun = λ signals. (begun_first shape actor call.operation plain call signals refl, first_begun shape actor call.operation plain doer call signals refl opened (open_by call.piece));
 }

@@ -7,7 +7,7 @@ use Rattle.legal_lists.specs.GicRmap.Map.{decoded as redist_decoded}
 use Rattle.history_calls.specs.Calls.{Event, Up, Down, Enable, Cpu, Touch, Put, CtlrBegin, CtlrEnd, Found, Record, Operation, Access, Device, Residence, Happened, HandsOut, IsLastRead, Makes, Moment, Place, held_at, View, access_events, access_places, access_value, device_events, is_good_op, icc_events, named_of, read_answer, sets_lpis, takes_turn}
 use Rattle.legal_lists.specs.GicCall.declared.event.Event.TheVariants.{Raise}
 use Rattle.legal_lists.specs.GicCall.declared.event.Found.TheVariants.{Answer}
-use Rattle.history_calls.specs.Histories.{IdealGuest, Call, vcpu_of, IsEnded, call_of, course_of, opening_course}
+use Rattle.history_calls.specs.Histories.{IdealGuest, Call, vcpu_of, call_of, course_of, opening_course, IsEndedAs}
 use Rattle.history_calls.specs.LegalLists.Legal.{IsBegun}
 use Rattle.history_calls.specs.Found.{found_by, open_by}
 
@@ -128,10 +128,10 @@ pub record IsCallOf (operation : Operation) (piece : List Happened) (call : Call
 -- The law.
 
 -- such a call is over exactly where it is made so by the view that its events found; and it can still become the call exactly where its named events are the
--- first ones of those
+-- first ones of those; whatever it signalled, which counts for a message-signalled interrupt alone
 pub record IsExact (shape : GuestShape) (actor : ℕ) (call : Call) : Type 0 where
-  pub ended : (answer : Option ℕ) → IsEnded shape actor call answer ↔ IsMade shape actor (found_by call.piece) call.operation call.piece answer
-  pub begun : IsBegun shape actor call ↔ IsFirst shape actor (open_by call.piece) call.operation call.piece
+  pub ended : (signals : Bool) (answer : Option ℕ) → IsEndedAs signals shape actor call answer ↔ IsMade shape actor (found_by call.piece) call.operation call.piece answer
+  pub begun : (signals : Bool) → IsBegun signals shape actor call ↔ IsFirst shape actor (open_by call.piece) call.operation call.piece
 
 abbrev pub PlainCallsAreExact : Type 0
 PlainCallsAreExact =

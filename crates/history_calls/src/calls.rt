@@ -1,8 +1,8 @@
 //! Calls in progress that neither take the ITS nor set EnableLPIs: whether what they made is the call, and whether it can
 //! still become it.
-ghost use Rattle.std.specs.Prelude.{◌≡◌, ◌↔◌, Option, IsTrue, IfOk};
+ghost use Rattle.std.specs.Prelude.{◌≡◌, ◌↔◌, Option, IsTrue, IfOk, Bool};
 ghost use Rattle.history_calls.specs.Words.{IsShape};
-ghost use Rattle.history_calls.specs.Histories.{Call, vcpu_of as vcpu_that_is, IsEnded};
+ghost use Rattle.history_calls.specs.Histories.{Call, vcpu_of as vcpu_that_is, IsEndedAs};
 ghost use Rattle.history_calls.specs.LegalLists.Legal.{IsBegun};
 ghost use Rattle.history_calls.specs.Exact.{is_plain as is_plain_in, is_doer as is_doer_of, is_good, are_records, HasRecords, Answers, AreReadBy, IsCallOf, IsFirst, IsMade, IsWholeBy};
 ghost use Rattle.history_calls.specs.Found.{found_by, open_by};
@@ -134,7 +134,7 @@ pub fn call_begun(
     requires records { IsTrue (are_records shape.now piece.now) }
     requires good { IsTrue (is_good shape.now operation.now) }
     requires plain { IsTrue (is_plain_in shape.now operation.now) }
-    ensures value { IfOk result (λ begun. (call : Call) → IsCallOf operation.now piece.now call → IsTrue begun ↔ IsBegun shape.now actor call) }
+    ensures value { IfOk result (λ begun. (call : Call) (signals : Bool) → IsCallOf operation.now piece.now call → IsTrue begun ↔ IsBegun signals shape.now actor call) }
 {
     if !is_doer(shape, actor, operation) {
         return Ok(false);
@@ -155,7 +155,7 @@ pub fn call_ended(
     requires records { IsTrue (are_records shape.now piece.now) }
     requires good { IsTrue (is_good shape.now operation.now) }
     requires plain { IsTrue (is_plain_in shape.now operation.now) }
-    ensures value { IfOk result (λ ended. (call : Call) → IsCallOf operation.now piece.now call → IsTrue ended ↔ IsEnded shape.now actor call answer) }
+    ensures value { IfOk result (λ ended. (call : Call) (signals : Bool) → IsCallOf operation.now piece.now call → IsTrue ended ↔ IsEndedAs signals shape.now actor call answer) }
 {
     if !is_doer(shape, actor, operation) {
         return Ok(false);

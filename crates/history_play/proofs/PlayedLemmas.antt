@@ -93,7 +93,7 @@ comes course (Begin actor operation) next = next
 comes course (Happens actor event found) next = next
 comes course (End actor answer) next = of (call_of course actor) next
   where
-    of : (o : Option Call) → IsCallEnded course.ideal.guest.shape actor o answer → IsTrue (is_some o)
+    of : (o : Option Call) → IsCallEnded (course.signals actor) course.ideal.guest.shape actor o answer → IsTrue (is_some o)
     of None ended = absurd ended
     of (Some call) ended = refl
 

@@ -105,7 +105,7 @@ module _ (shape : GuestShape) (good : IsShape shape) where
     is_course = goes shape course (End actor answer) is.is_course;
   }
     where
-      called : (o : Option Call) → call_of course actor ≡ o → IsCallEnded course.ideal.guest.shape actor o answer → actor < length course.calls
+      called : (o : Option Call) → call_of course actor ≡ o → IsCallEnded (course.signals actor) course.ideal.guest.shape actor o answer → actor < length course.calls
       called None e h = absurd h
       called (Some call) e h = some_in_range course.calls actor (ap is_some e)
 

@@ -73,7 +73,7 @@ module _ (shape : GuestShape) (state : CoreState) (course : Course) (actor : ℕ
 
   ends_advance : (answer : Option ℕ) → IsCallAt shape course actor (ends answer) → Advances shape course state actor (ends answer) (End actor answer ∷ [])
   ends_advance answer is = record {
-    goes = (subst (λ s. IsCallEnded s actor (call_of course actor) answer) (sym at.related.shape_is) is, tt);
+    goes = (subst (λ s. IsCallEnded (course.signals actor) s actor (call_of course actor) answer) (sym at.related.shape_is) is, tt);
     at = record { sound = at.sound; related = at.related; known = at.known; each = length-set course.calls actor _ ∙ at.each };
     mine = in_call_here course.calls actor None in_calls;
     others = λ other differ. in_call_other course.calls actor other None differ;

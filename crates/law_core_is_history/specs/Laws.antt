@@ -48,7 +48,7 @@ RunsAreSimulated = (guest : IdealGuest) (number : ℕ) (entries : List Entry) �
 
 -- where a part ends, what it stands for is the call that it was begun for, with this answer
 abbrev pub IsCallAt : GuestShape → Course → ℕ → Act → Type 0
-IsCallAt shape course actor (ends answer) = IsCallEnded shape actor (call_of course actor) answer
+IsCallAt shape course actor (ends answer) = IsCallEnded (course.signals actor) shape actor (call_of course actor) answer
 IsCallAt shape course actor (makes made) = Unit {0}
 IsCallAt shape course actor (begins operation lrs) = Unit {0}
 

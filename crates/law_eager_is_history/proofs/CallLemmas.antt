@@ -1,5 +1,5 @@
 -- Calls of one actor from a guest where nothing stands at an interface: accesses that do not take the ITS, messages and wires.
-use Rattle.std.proofs.Common.{◌≡◌, ℕ, ◌+◌, ◌<◌, Bool, true, false, ◌&&◌, cond, nat_lt, IsTrue, All, List, [], ◌∷◌, ◌++◌, map, Option, Some, None, refl, sym, ap, ◌∙◌, subst, arith}
+use Rattle.std.proofs.Common.{◌≡◌, ℕ, ◌+◌, ◌<◌, Bool, true, false, ◌&&◌, inl, cond, nat_lt, IsTrue, All, List, [], ◌∷◌, ◌++◌, map, Option, Some, None, refl, sym, ap, ◌∙◌, subst, arith}
 use Rattle.std.specs.List.{list_all}
 use Rattle.std.proofs.lemmas.Grind.{common_steps}
 use Rattle.std.proofs.lemmas.Bool.{and_from, eq-eqb}
@@ -336,7 +336,7 @@ module _ (guest : IdealGuest) (sound : IsSound guest) (actor : ℕ) (no_vcpu : v
         };
         ended = piece_makes None actor view [] (ItsEnd ∷ []) (state_after actor raises turn) [] refl (refl, tt);
       } in
-      let is : IsDeviceCall beside op made None = record { view = view; maps = refl; made = makes; answers = refl } in
+      let is : IsDeviceCall beside op made None = record { view = view; maps = refl; made = inl makes; answers = refl } in
       let taken = next_call state actor ItsBegin (begun state (Device op)) in
       let windows : AreWindows taken (targets_in state) firsts = windows_begun state actor (begun state (Device op)) (targets_in state) [] (begun_windows guest (Device op)) in
       let read = call_after actor (reads places) turn taken in

@@ -25,7 +25,7 @@ use Rattle.floor_histories.specs.GicHistory.State.{opening as opening_ideal}
 use Rattle.floor_histories.proofs.GicHistory.CallLemmas.{goes_on}
 use Rattle.law_eager_is_history.specs.Moments.{op_made, op_read, device_made, settled, takes_its, call_moments, step_moments, history_of}
 use Rattle.law_eager_is_history.specs.Possible.{IsFreshWhole}
-use Rattle.law_eager_is_history.proofs.CourseLemmas.{call_after, idle, call_made}
+use Rattle.law_eager_is_history.proofs.CourseLemmas.{call_after, idle, Leaves, call_made}
 use Rattle.law_eager_is_history.proofs.FreshLemmas.{IsFreshFrom, none_fresh, call_then}
 use Rattle.law_eager_is_history.proofs.StandLemmas.{nothing_at}
 use Rattle.law_eager_is_history.proofs.CallLemmas.{IsGoodCall, plain_call, device_call, is_device}
@@ -60,21 +60,24 @@ op_call guest sound order vcpu there (Mem frame offset size write) good = of (ta
 
 -- from a guest where nothing stands and no call is open, moments go on, are fresh, and leave such a guest
 pub record IsRun (count : ℕ) (guest next : IdealGuest) (moments : List Moment) : Type 0 where
-  pub goes : GoesOn (idle count (settled guest)) moments
-  pub leaves : course_of (idle count (settled guest)) moments ≡ idle count (settled next)
+  pub goes : (signals : ℕ → Bool) → GoesOn (idle count signals (settled guest)) moments
+  pub leaves : (signals : ℕ → Bool) → Leaves count (settled next) (course_of (idle count signals (settled guest)) moments)
   pub fresh : (track : Track) (late : List Moment) → track.leaving ≡ [] → ((later : Track) → later.leaving ≡ [] → IsFreshFrom (settled next) later late) → IsFreshFrom (settled guest) track (moments ++ late)
   pub sound : IsSound next
   pub order : IsQueueInOrder next
   pub shape : next.shape ≡ guest.shape
 
 no_run : (count : ℕ) (guest : IdealGuest) → IsSound guest → IsQueueInOrder guest → IsRun count guest guest []
-no_run count guest sound order = record { goes = tt; leaves = refl; fresh = λ track late none rest. rest track none; sound = sound; order = order; shape = refl }
+no_run count guest sound order = record { goes = λ signals. tt; leaves = λ signals. record { signals = signals; is = refl }; fresh = λ track late none rest. rest track none; sound = sound; order = order; shape = refl }
 
 runs_on : (count : ℕ) (guest middle next : IdealGuest) (early late : List Moment) → IsRun count guest middle early → IsRun count middle next late → IsRun count guest next (early ++ late)
 runs_on count guest middle next early late one two =
     record {
-      goes = goes_on (idle count (settled guest)) early late one.goes (subst (λ c. GoesOn c late) (sym one.leaves) two.goes);
-      leaves = fold-append gone_on (idle count (settled guest)) early late ∙ ap (λ c. course_of c late) one.leaves ∙ two.leaves;
+      goes = λ signals. let then = one.leaves signals in goes_on (idle count signals (settled guest)) early late (one.goes signals) (subst (λ c. GoesOn c late) (sym then.is) (two.goes then.signals));
+      leaves = λ signals.
+          let then = one.leaves signals in
+          let last = two.leaves then.signals in
+          record { signals = last.signals; is = fold-append gone_on (idle count signals (settled guest)) early late ∙ ap (λ c. course_of c late) then.is ∙ last.is };
       fresh = λ track last none rest. subst (IsFreshFrom (settled guest) track) (sym (append_assoc early late last)) (one.fresh track (late ++ last) none (λ later left. two.fresh later last left rest));
       sound = two.sound;
       order = two.order;
@@ -88,7 +91,7 @@ call_run count actor operation events answer guest next each within order sound 
     let made = call_made count actor operation events answer guest each within call.fine ended in
     record {
       goes = made.goes;
-      leaves = made.leaves ∙ ap (idle count) call.leaves;
+      leaves = λ signals. let then = made.leaves signals in record { signals = then.signals; is = then.is ∙ ap (idle count then.signals) call.leaves };
       fresh = λ track late none rest. call_then actor operation events answer guest track late none call.fresh (λ later left. subst (λ s. IsFreshFrom s later late) (sym call.leaves) (rest later left));
       sound = sound;
       order = call.order order;
@@ -172,9 +175,9 @@ whole_run mode pes shapes n guest steps good at formed =
     subst (IsFreshFrom (opening_ideal guest) (opening_track guest.shape)) (append-nil moments) (run.fresh (opening_track guest.shape) [] refl (λ later left. none_fresh (settled (after_events (steps_events n steps guest) guest)) later)) in
     record {
       is = record {
-        history = run.goes;
+        history = run.goes (λ actor. false);
         fresh = record { acknowledge = fresh.acknowledge; interface = fresh.interface; end = fresh.end; deactivation = fresh.deactivation };
-        whole = subst (λ (c : Course). All (λ call. IsTrue (is_none call)) c.calls) (sym run.leaves) (none_open (actor_count guest.shape));
+        whole = subst (λ (c : Course). All (λ call. IsTrue (is_none call)) c.calls) (sym (run.leaves (λ actor. false)).is) (none_open (actor_count guest.shape));
       };
-      ends = ap (λ (c : Course). home c.ideal) run.leaves ∙ home_is (after_events (steps_events n steps guest) guest);
+      ends = ap (λ (c : Course). home c.ideal) (run.leaves (λ actor. false)).is ∙ home_is (after_events (steps_events n steps guest) guest);
     }

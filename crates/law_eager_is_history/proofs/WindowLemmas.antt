@@ -242,7 +242,7 @@ maps_after actor (event ∷ events) state call h =
 
 -- a call ends as its definition says, of maps and of vCPUs that it noted
 abbrev pub beside_with : Maps → Targets → List Targets → Beside
-beside_with maps t firsts = record { maps = maps; targets = t; commands = firsts }
+beside_with maps t firsts = record { maps = maps; targets = t; commands = firsts; signals = false }
 
 -- of a call that takes the ITS: of these only those count that its commands begin with
 abbrev pub beside_of : Maps → List Targets → Beside
@@ -257,6 +257,7 @@ call_ends shape actor call operation piece maps t firsts answer o p m are is =
       maps = sym m;
       commands = sym are.commands;
       targets = λ id. head_in (call.targets id) (t id) (are.heads id);
+      right = λ h. h;
       is_call = subst (λ op. IsCall shape (beside_with maps t firsts) (vcpu_of shape actor) op call.piece answer) (sym o) (subst (λ xs. IsCall shape (beside_with maps t firsts) (vcpu_of shape actor) operation xs answer) (sym p) is);
     }
 

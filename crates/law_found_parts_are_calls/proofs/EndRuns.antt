@@ -1,19 +1,19 @@
 -- A part that is told with what it found is its call in the run.
-use Rattle.std.proofs.Common.{◌≡◌, ℕ, inl, ◌<◌, not, ◌||◌, Bool, true, false, cond, IsTrue, All, List, [], ◌∷◌, ◌++◌, length, map, Option, option_map, Some, None, refl, sym, ap, ◌∙◌, subst}
+use Rattle.std.proofs.Common.{◌≡◌, ℕ, inl, ◌<◌, not, ◌||◌, Bool, true, false, cond, IsTrue, All, List, [], ◌∷◌, ◌++◌, length, map, Option, option_map, Some, None, refl, sym, ap, ◌∙◌, subst, inr}
 use Rattle.std.specs.List.{list_all, list_any}
 use Rattle.std.proofs.lemmas.Bool.{and_from, and_parts}
 use Rattle.std.proofs.lemmas.List.{append-nil, append_assoc}
 use Rattle.std.proofs.lemmas.List.Elements.{filter_map-append}
 use Rattle.std.proofs.lemmas.List.Folds.{list_any-append, list_all-append}
 use Rattle.std.proofs.lemmas.List.Sums.{fold-append}
-use Rattle.law_unmapped_lpis.specs.Words.{IsShape, Dist, Redist, Its, Ram, Icc, Mem, GuestShape, target_in, irq_of}
+use Rattle.law_unmapped_lpis.specs.Words.{IsShape, Dist, Redist, Its, Ram, Icc, Mem, GuestShape, target_in, irq_of, Lpi}
 use Rattle.law_unmapped_lpis.specs.GicDmap.Map.{decoded as dist_decoded}
 use Rattle.law_unmapped_lpis.specs.GicRmap.Map.{decoded as redist_decoded}
 use Rattle.law_unmapped_lpis.specs.GicImap.Map.{decoded as its_decoded}
 use Rattle.law_unmapped_lpis.specs.GicImap.declared.map.RegRef.{RegRef as ItsRef}
 use Rattle.law_unmapped_lpis.specs.GicImap.declared.map.RegRef.TheVariants.{Plain as ItsPlain, Reserved as ItsReserved}
 use Rattle.law_unmapped_lpis.specs.Calls.{Event, Touch, Operation, Access, Device, Residence, Begin, Place, Runs, Done, Stalls, icc_events, its_events, Beside, Happened, IsCall, IsItsWrite, Makes, View, ItsBegin}
-use Rattle.law_unmapped_lpis.specs.GicCall.declared.event.Event.TheVariants.{Queue}
+use Rattle.law_unmapped_lpis.specs.GicCall.declared.event.Event.TheVariants.{Queue, Raise}
 use Rattle.law_unmapped_lpis.specs.Registers.{has_target}
 use Rattle.law_unmapped_lpis.proofs.IdealGuests.KeyLemmas.{IsWhole}
 use Rattle.law_unmapped_lpis.specs.Histories.{Ideal, Call, Course, IsEnded, begun, course_of, gone_on, opening_course, targets_in, vcpu_of, happened, IdealGuest, CanOpen, AreForNone}
@@ -68,7 +68,10 @@ call_steady shape beside (Some vcpu) (Access (Mem Its offset size None)) piece a
 call_steady shape beside (Some vcpu) (Access (Mem Its offset size (Some value))) piece answer free is =
     let plain = subst (λ b. IsItsWrite b shape beside vcpu offset size value piece answer) free is in
     made_steady (Some vcpu) plain.view _ _ [] piece (access_made plain) (its_steady shape plain.view (its_decoded offset size) (Some value))
-call_steady shape beside None (Device op) piece answer free is = made_steady None is.view _ [] [] piece (op_made is) (device_all is_steady named_steady is.view op)
+call_steady shape beside None (Device op) piece answer free is = elim (op_made is) [
+  | inl made ↦ made_steady None is.view _ [] [] piece made (device_all is_steady named_steady is.view op)
+  | inr alone ↦ made_steady None is.view (Raise (Lpi alone.id) ∷ []) [] [] piece alone.raised refl
+]
 call_steady shape beside (Some vcpu) Residence piece answer free is = beside_passes is_steady beside_steady (Some vcpu) piece (subst (λ xs. IsTrue (list_all is_steady (events_of xs))) (sym is.0) refl)
 call_steady shape beside actor operation piece answer free is = absurd is
 

@@ -5,6 +5,7 @@ use Rattle.std.proofs.lemmas.List.{append-nil, append_assoc}
 use Rattle.law_unmapped_lpis.specs.Words.{GuestShape, IsShape}
 use Rattle.law_unmapped_lpis.specs.Calls.{Happens, Happened}
 use Rattle.law_unmapped_lpis.specs.Histories.{Ideal, happened, Call, Course, IsCallEnded, IsEnded, call_of, course_of, gone_on, made as made_by, seeing}
+use Rattle.law_unmapped_lpis.proofs.GicHistory.CallLemmas.{ended_as}
 use Rattle.law_unmapped_lpis.proofs.LawHistories.CourseLemmas.{made_here}
 use Rattle.law_unmapped_lpis.specs.LawEagerIsHistory.Moments.{happenings}
 use Rattle.law_serial_is_eager.proofs.LawEagerIsHistory.CourseLemmas.{call_after, state_after}
@@ -79,7 +80,7 @@ handed_out_all shape actor (made ∷ steps) state ideal here = of (stood shape a
 pub calls_along :
     (shape : GuestShape) (actor : ℕ) (answer : Option ℕ) (steps : List Made) (state : CoreState) (course : Course) (call : Call) → AreHere shape actor state course.ideal steps → call_of course actor ≡ Some call
     → IsEnded shape actor (call_after actor (events_of (happened_in shape actor state steps)) course.ideal call) answer → AreCalls shape state course (map (moment_by actor) (map makes steps ++ ends answer ∷ []))
-calls_along shape actor answer [] state course call here is ended = (subst (λ o. IsCallEnded shape actor o answer) (sym is) ended, tt)
+calls_along shape actor answer [] state course call here is ended = (subst (λ o. IsCallEnded (course.signals actor) shape actor o answer) (sym is) (ended_as (course.signals actor) shape actor call answer ended), tt)
 calls_along shape actor answer (made ∷ steps) state course call here is ended = (tt, of (stood shape actor state made) here.0.simulated here.1 ended (calls_along shape actor answer steps (next_state shape actor state made)))
   where
     next : CoreState

@@ -227,7 +227,7 @@ queue_found =
     record {
       seen = seen;
       told = record { guest_is = refl; actor_is = refl; local_is = refl; own_is = refl };
-      made = record { beside = record { maps = no_maps; targets = λ id. None; commands = (λ id. None) ∷ [] }; maps = refl; call = queue_call (record { maps = no_maps; targets = λ id. None; commands = (λ id. None) ∷ [] }) };
+      made = record { beside = record { maps = no_maps; targets = λ id. None; commands = (λ id. None) ∷ []; signals = false }; maps = refl; signals = refl; call = queue_call (record { maps = no_maps; targets = λ id. None; commands = (λ id. None) ∷ []; signals = false }) };
       found =
           record {
             finding = by_commands [];
@@ -243,7 +243,7 @@ add_found =
     record {
       seen = seen;
       told = record { guest_is = refl; actor_is = refl; local_is = refl; own_is = refl };
-      made = record { beside = record { maps = no_maps; targets = λ id. None; commands = (λ id. None) ∷ [] }; maps = refl; call = add_call (record { maps = no_maps; targets = λ id. None; commands = (λ id. None) ∷ [] }) };
+      made = record { beside = record { maps = no_maps; targets = λ id. None; commands = (λ id. None) ∷ []; signals = false }; maps = refl; signals = refl; call = add_call (record { maps = no_maps; targets = λ id. None; commands = (λ id. None) ∷ []; signals = false }) };
       found =
           record {
             finding = by_commands [];
@@ -258,7 +258,7 @@ unfolding least_in with_level without_level in_places
 enable_found = record {
   seen = began;
   told = record { guest_is = refl; actor_is = refl; local_is = refl; own_is = refl };
-  made = record { beside = record { maps = no_maps; targets = λ id. None; commands = (λ id. None) ∷ [] }; maps = refl; call = enable_call (record { maps = no_maps; targets = λ id. None; commands = (λ id. None) ∷ [] }) refl (none_agree, tt) };
+  made = record { beside = record { maps = no_maps; targets = λ id. None; commands = (λ id. None) ∷ []; signals = false }; maps = refl; signals = refl; call = enable_call (record { maps = no_maps; targets = λ id. None; commands = (λ id. None) ∷ []; signals = false }) refl (none_agree, tt) };
   found =
       record {
         finding = by_commands (one ∷ []);

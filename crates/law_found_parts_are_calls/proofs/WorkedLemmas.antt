@@ -52,7 +52,7 @@ found_so : (early : List CoreMoment) (part : WholePart) → takes_its_by worked_
 found_so early part free call = record {
   seen = told_in worked_guest early part.actor;
   told = record { guest_is = refl; actor_is = refl; local_is = refl; own_is = refl };
-  made = record { beside = record { maps = maps_taken part.steps; targets = λ id. None; commands = [] }; maps = refl; call = call (record { maps = maps_taken part.steps; targets = λ id. None; commands = [] }) refl };
+  made = record { beside = record { maps = maps_taken part.steps; targets = λ id. None; commands = []; signals = false }; maps = refl; signals = refl; call = call (record { maps = maps_taken part.steps; targets = λ id. None; commands = []; signals = false }) refl };
   found = found_by_none (told_in worked_guest early part.actor) part.steps part.operation part.answer free call;
 }
 

@@ -69,9 +69,9 @@ module _ (shape : GuestShape) (course : Course) (at : IsCourse shape course) (ac
       let made_now : spread_in actor (Happens actor event found) ≡ spreads_of (one ∷ []) = ap (λ b. cond (b && is_spread event) (event ∷ []) []) (eq-eqb actor actor refl) in
       subst (AreWrites shape) (ap (λ xs. xs ++ ahead) after ∙ append_assoc (spreads_of call.piece) (spreads_of (one ∷ [])) ahead ∙ ap (λ xs. xs ++ (spreads_of (one ∷ []) ++ ahead)) (sym before) ∙ ap (λ xs. spreads_of (piece_in (call_of course actor)) ++ (xs ++ ahead)) (sym made_now)) later
 
-  ends_so : (o : Option Call) (answer : Option ℕ) → IsCallEnded shape actor o answer → AreWrites shape ahead → AreWrites shape (spreads_of (piece_in o) ++ ahead)
-  ends_so None answer is later = absurd is
-  ends_so (Some call) answer is later = of (spreads_of call.piece) (call_spreads shape is.beside (vcpu_of shape actor) call.operation call.piece answer is.is_call)
+  ends_so : (signals : Bool) (o : Option Call) (answer : Option ℕ) → IsCallEnded signals shape actor o answer → AreWrites shape ahead → AreWrites shape (spreads_of (piece_in o) ++ ahead)
+  ends_so signals None answer is later = absurd is
+  ends_so signals (Some call) answer is later = of (spreads_of call.piece) (call_spreads shape is.beside (vcpu_of shape actor) call.operation call.piece answer is.is_call)
     where
       of : (spreads : List Event) → SpreadsAre shape spreads → AreWrites shape (spreads ++ ahead)
       of spreads (inl e) = subst (λ xs. AreWrites shape (xs ++ ahead)) (sym e) later
@@ -79,7 +79,7 @@ module _ (shape : GuestShape) (course : Course) (at : IsCourse shape course) (ac
 
   ends : (answer : Option ℕ) → IsNext course (End actor answer) → AreAhead shape actor (gone_on course (End actor answer)) ahead → AreAhead shape actor course ahead
   ends answer next later =
-      ends_so (call_of course actor) answer (subst (λ s. IsCallEnded s actor (call_of course actor) answer) at.shape_is next)
+      ends_so (course.signals actor) (call_of course actor) answer (subst (λ s. IsCallEnded (course.signals actor) s actor (call_of course actor) answer) at.shape_is next)
       (subst (λ o. AreWrites shape (spreads_of (piece_in o) ++ ahead)) (ended_here course actor answer) later)
 
   -- and of another's

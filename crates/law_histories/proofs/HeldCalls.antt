@@ -1,5 +1,5 @@
 -- Each call stores where the queue is, and changes for which vCPU an LPI is, only while its actor has the ITS.
-use Rattle.std.proofs.Common.{◌≡◌, ℕ, ◌+◌, ◌&&◌, ◌||◌, not, Bool, true, false, cond, IsTrue, List, [], ◌∷◌, ◌++◌, map, fold, Option, Some, None, refl, sym, ap, ◌∙◌, subst, arith}
+use Rattle.std.proofs.Common.{◌≡◌, ℕ, ◌+◌, ◌&&◌, ◌||◌, not, Bool, true, false, cond, IsTrue, List, [], ◌∷◌, ◌++◌, map, fold, Option, Some, None, refl, sym, ap, ◌∙◌, subst, arith, inl, inr}
 use Rattle.std.specs.List.{list_all, range_with_len}
 use Rattle.std.specs.Option.{option_map_or}
 use Rattle.std.proofs.lemmas.Bool.{and_parts, and_from}
@@ -204,10 +204,13 @@ module _ (shape : GuestShape) (beside : Beside) where
   call_held (Some vcpu) (Access (Mem Memory offset size None)) piece answer is = still_so (Some vcpu) is.view [] _ piece (access_made is) refl
   call_held (Some vcpu) (Access (Mem Memory offset size (Some value))) piece answer is =
       still_so (Some vcpu) is.view _ _ piece (access_made is) (quiet_still (memory_written shape is.view offset size value) (memory_quiet shape is.view offset size value))
-  call_held None (Device (Message spi)) piece answer is = still_so None is.view _ [] piece (op_made is) refl
-  call_held None (Device (Wire key true)) piece answer is = still_so None is.view _ [] piece (op_made is) refl
-  call_held None (Device (Wire key false)) piece answer is = still_so None is.view _ [] piece (op_made is) refl
-  call_held None (Device (Msi device event)) piece answer is = makes_held None false is.view (device_events is.view (Msi device event)) [] [] piece (op_made is) (msi_held is.view device event)
+  call_held None (Device (Message spi)) piece answer is = still_so None is.view _ [] piece is.made refl
+  call_held None (Device (Wire key true)) piece answer is = still_so None is.view _ [] piece is.made refl
+  call_held None (Device (Wire key false)) piece answer is = still_so None is.view _ [] piece is.made refl
+  call_held None (Device (Msi device event)) piece answer is = elim (op_made is) [
+    | inl made ↦ makes_held None false is.view (device_events is.view (Msi device event)) [] [] piece made (msi_held is.view device event)
+    | inr alone ↦ still_so None is.view (Raise (Lpi alone.id) ∷ []) [] piece alone.raised refl
+  ]
   call_held (Some vcpu) Residence piece answer is = held_named (Some vcpu) false piece (subst (λ p. IsTrue (are_held false (events_of p))) (sym is.0) refl)
   call_held None (Access op) piece answer is = absurd is
   call_held (Some vcpu) (Device op) piece answer is = absurd is

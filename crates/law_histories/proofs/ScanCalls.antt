@@ -1,5 +1,5 @@
 -- Each call does its commands one after the other: their parts, and then their end.
-use Rattle.std.proofs.Common.{◌≡◌, ℕ, ◌+◌, ◌≤◌, ◌&&◌, not, Bool, true, false, cond, List, [], ◌∷◌, ◌++◌, map, fold, Option, Some, None, is_none, Result, Ok, Err, refl, sym, ap, ◌∙◌, subst, arith}
+use Rattle.std.proofs.Common.{◌≡◌, ℕ, ◌+◌, ◌≤◌, ◌&&◌, not, Bool, true, false, cond, List, [], ◌∷◌, ◌++◌, map, fold, Option, Some, None, is_none, Result, Ok, Err, refl, sym, ap, ◌∙◌, subst, arith, ◌⊎◌, inl, inr}
 use Rattle.std.specs.List.{list_all, range_with_len}
 use Rattle.std.specs.Option.{option_map_or}
 use Rattle.std.proofs.lemmas.Bool.{and_parts}
@@ -15,7 +15,7 @@ use Rattle.floor_histories.specs.GicImap.declared.map.RegRef.TheVariants.{Plain 
 use Rattle.floor_histories.specs.GicImap.Map.{decoded as its_decoded}
 use Rattle.floor_histories.specs.GicRmap.Map.{decoded as redist_decoded}
 use Rattle.floor_histories.specs.ItsCmd.Command.{decoded}
-use Rattle.floor_histories.specs.Calls.{Part, Map, Clear as ClearPart, Event, Up, Down, Touch, Reach, Take, Leave, Enable, Cpu, Put, CtlrBegin, CtlrEnd, ItsBegin, Operation, Access, Device, Residence, Place, Runs, Done, Stalls, copy_at, redist_events, its_written, is_in_queue, takes_its, memory_written, icc_events, its_events, access_events, device_events, takes_turn, lpi_event, queue_event, command_words, command_parts, decoded_parts, next_offset, parts, maps_done, Happened, is_beside, named_of, Beside, Makes, ArePartsThen, IsCommand, AreCommands, IsPlainCall, AreStarted, IsItsCall, IsItsWrite, IsCall, left_by, its_written_by, View, is_its_enabled, Cbaser, Cwriter, PlainWord, command_targets, words_read}
+use Rattle.floor_histories.specs.Calls.{Part, Map, Clear as ClearPart, Event, Up, Down, Touch, Reach, Take, Leave, Enable, Cpu, Put, CtlrBegin, CtlrEnd, ItsBegin, Operation, Access, Device, Residence, Place, Runs, Done, Stalls, copy_at, redist_events, its_written, is_in_queue, takes_its, memory_written, icc_events, its_events, access_events, device_events, takes_turn, lpi_event, queue_event, command_words, command_parts, decoded_parts, next_offset, parts, maps_done, Happened, is_beside, named_of, Beside, Makes, ArePartsThen, IsCommand, AreCommands, IsPlainCall, AreStarted, IsItsCall, IsItsWrite, IsCall, left_by, its_written_by, View, is_its_enabled, Cbaser, Cwriter, PlainWord, command_targets, words_read, RaisesAlone}
 use Rattle.floor_histories.specs.GicCall.declared.command.Part.TheVariants.{Forget, Retarget, Raise as RaisePart, Configure}
 use Rattle.floor_histories.specs.GicCall.declared.event.Event.TheVariants.{Raise, Read, ItsEnd, Queue}
 use Rattle.floor_histories.specs.GicCall.Call.{starts_commands}
@@ -431,14 +431,18 @@ module _ (shape : GuestShape) (beside : Beside) where
   call_turn None (Device (Message spi)) piece answer is = apart_call shape beside None is.view (Raise (Spi spi) ∷ []) _ [] piece is.made refl
   call_turn None (Device (Wire key true)) piece answer is = apart_call shape beside None is.view (Up key ∷ []) _ [] piece is.made refl
   call_turn None (Device (Wire key false)) piece answer is = apart_call shape beside None is.view (Down key ∷ []) _ [] piece is.made refl
-  call_turn None (Device (Msi device event)) piece answer is =
-      let first : Scan = record { maps = beside.maps; made = []; number = 0 } in
-      let turn = msi_turn is.view device event first in
-      record {
-        count = 1;
-        few = omega arith;
-        leads = record { later = turn.later; turn = makes_turn shape (command_targets beside) beside.maps None is.view (device_events is.view (Msi device event)) [] [] piece first turn.later false false 1 (op_made is) turn.turn };
-      }
+  call_turn None (Device (Msi device event)) piece answer is = of (op_made is)
+    where
+      of : Makes None is.view (device_events is.view (Msi device event)) [] [] piece ⊎ RaisesAlone beside.signals is.view piece → IsCallTurn shape beside piece
+      of (inl made) =
+          let first : Scan = record { maps = beside.maps; made = []; number = 0 } in
+          let turn = msi_turn is.view device event first in
+          record {
+            count = 1;
+            few = omega arith;
+            leads = record { later = turn.later; turn = makes_turn shape (command_targets beside) beside.maps None is.view (device_events is.view (Msi device event)) [] [] piece first turn.later false false 1 made turn.turn };
+          }
+      of (inr alone) = apart_call shape beside None is.view (Raise (Lpi alone.id) ∷ []) [] [] piece alone.raised refl
   call_turn (Some vcpu) Residence piece answer is =
       let first : Scan = record { maps = beside.maps; made = []; number = 0 } in
       record {

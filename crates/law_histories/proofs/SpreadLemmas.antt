@@ -211,7 +211,10 @@ call_spreads shape beside (Some vcpu) (Access (Mem Its offset size None)) piece 
 call_spreads shape beside (Some vcpu) (Access (Mem Dist offset size write)) piece answer is = plain_spreads shape beside vcpu Dist offset size write piece answer is
 call_spreads shape beside (Some vcpu) (Access (Mem (Redist other) offset size write)) piece answer is = plain_spreads shape beside vcpu (Redist other) offset size write piece answer is
 call_spreads shape beside (Some vcpu) (Access (Mem Memory offset size write)) piece answer is = plain_spreads shape beside vcpu Memory offset size write piece answer is
-call_spreads shape beside None (Device op) piece answer is = inl (unspread_makes None is.view (device_events is.view op) [] [] piece (device_unspread is.view op) (op_made is))
+call_spreads shape beside None (Device op) piece answer is = elim (op_made is) [
+  | inl made ↦ inl (unspread_makes None is.view (device_events is.view op) [] [] piece (device_unspread is.view op) made)
+  | inr alone ↦ inl (unspread_makes None is.view (Raise (Lpi alone.id) ∷ []) [] [] piece refl alone.raised)
+]
 call_spreads shape beside (Some vcpu) Residence piece answer is = inl (spreads_named (Some vcpu) piece ∙ ap spreads_of is.0)
 call_spreads shape beside None (Access op) piece answer is = absurd is
 call_spreads shape beside (Some vcpu) (Device op) piece answer is = absurd is

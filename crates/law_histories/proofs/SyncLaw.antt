@@ -8,7 +8,7 @@ use Rattle.floor_histories.specs.Registers.{fault_number, Maps}
 use Rattle.floor_histories.specs.Calls.{Event, Up, Down, Touch, Reach, Take, Leave, Enable, Cpu, Put, CtlrBegin, CtlrEnd, ItsBegin, Found, Moment, Begin, Happens, QueueChange, Runs, Done, Stalls, parts, maps_done, Happened, command_targets}
 use Rattle.floor_histories.specs.GicCall.declared.event.Event.TheVariants.{Raise, Read, ItsEnd, Queue}
 use Rattle.floor_histories.specs.GicCall.declared.event.Moment.TheVariants.{End}
-use Rattle.floor_histories.specs.Histories.{Ideal, happened, Call, Course, vcpu_of, call_of, targets_in, noted, made, seeing, gone_on, course_of, opening_course, IsEnded, IsCallEnded, GoesOn, IsHistory, IsWhole, last_of, IdealGuest, CanOpen}
+use Rattle.floor_histories.specs.Histories.{Ideal, happened, Call, Course, vcpu_of, call_of, targets_in, noted, made, seeing, gone_on, course_of, opening_course, IsEndedAs, IsCallEnded, GoesOn, IsHistory, IsWhole, last_of, IdealGuest, CanOpen}
 use Rattle.law_histories.specs.Sync.{parts_in, begun_for, commands_of, IsDone, IsStalled, SyncHolds}
 use Rattle.law_histories.proofs.CourseLemmas.{IsCourse, opens, nobody_opens, nobody, begun_other, ended_other, made_here, made_other, noted_piece, none_is, goes, mark_is, course_both, goes_before}
 use Rattle.law_histories.proofs.ScanCalls.{takes_one, takes_of, takes_both, call_turn}
@@ -21,7 +21,8 @@ use Rattle.law_histories.proofs.TurnSteps.{start, scan_in, made_is, tables_are, 
 pub record Finally (shape : GuestShape) (actor : ℕ) (call : Call) : Type 0 where
   pub last : Call
   pub answer : Option ℕ
-  pub ended : IsEnded shape actor last answer
+  pub signals : Bool
+  pub ended : IsEndedAs signals shape actor last answer
   pub rest : List Happened
   pub piece_is : last.piece ≡ call.piece ++ rest
   pub maps_are : takes_of (events_of rest) ≡ 0 → last.maps ≡ call.maps
@@ -88,6 +89,7 @@ before_own shape actor ideal later event found call is =
     record {
       last = is.last;
       answer = is.answer;
+      signals = is.signals;
       ended = is.ended;
       rest = one ∷ is.rest;
       piece_is = is.piece_is ∙ ap (λ p. (p ++ one ∷ []) ++ is.rest) (noted_piece ideal event call) ∙ append_assoc call.piece (one ∷ []) is.rest;
@@ -98,12 +100,13 @@ before_own shape actor ideal later event found call is =
 
 -- and of another's
 before_other : (shape : GuestShape) (actor : ℕ) (later : Ideal) (call : Call) → Finally shape actor (seeing later call) → Finally shape actor call
-before_other shape actor later call is = record { last = is.last; answer = is.answer; ended = is.ended; rest = is.rest; piece_is = is.piece_is; maps_are = is.maps_are; more = is.more; commands_are = is.commands_are }
+before_other shape actor later call is = record { last = is.last; answer = is.answer; signals = is.signals; ended = is.ended; rest = is.rest; piece_is = is.piece_is; maps_are = is.maps_are; more = is.more; commands_are = is.commands_are }
 
-now_ended : (shape : GuestShape) (actor : ℕ) (call : Call) (answer : Option ℕ) → IsEnded shape actor call answer → Finally shape actor call
-now_ended shape actor call answer is = record {
+now_ended : (signals : Bool) (shape : GuestShape) (actor : ℕ) (call : Call) (answer : Option ℕ) → IsEndedAs signals shape actor call answer → Finally shape actor call
+now_ended signals shape actor call answer is = record {
   last = call;
   answer = answer;
+  signals = signals;
   ended = is;
   rest = [];
   piece_is = sym (none_appended call.piece);
@@ -123,7 +126,7 @@ module _ (shape : GuestShape) (actor : ℕ) where
     | inr differ ↦ finally (gone_on course (Begin other operation)) moments call (goes shape course (Begin other operation) at) going.1 (begun_other course other operation actor (λ e. differ (sym e)) ∙ mine) none
   ]
   finally course (End other answer ∷ moments) call at going mine none = elim (cases_eq other actor) [
-    | inl e ↦ now_ended shape actor call answer (subst (λ o. IsCallEnded shape actor o answer) mine (subst (λ n. IsCallEnded shape n (call_of course n) answer) e (subst (λ s. IsCallEnded s other (call_of course other) answer) at.shape_is going.0)))
+    | inl e ↦ now_ended (course.signals actor) shape actor call answer (subst (λ o. IsCallEnded (course.signals actor) shape actor o answer) mine (subst (λ n. IsCallEnded (course.signals n) shape n (call_of course n) answer) e (subst (λ s. IsCallEnded (course.signals other) s other (call_of course other) answer) at.shape_is going.0)))
     | inr differ ↦ finally (gone_on course (End other answer)) moments call (goes shape course (End other answer) at) going.1 (ended_other course other answer actor (λ e. differ (sym e)) ∙ mine) none
   ]
   finally course (Happens other event found ∷ moments) call at going mine none =

@@ -10,7 +10,7 @@ use Rattle.floor_histories.specs.Registers.{Maps}
 use Rattle.floor_histories.specs.Calls.{Event, Up, Down, Touch, Reach, Take, Leave, Enable, Cpu, Put, CtlrBegin, CtlrEnd, ItsBegin, Found, Moment, Begin, Happens, Runs, Done, Stalls, maps_done, Happened}
 use Rattle.floor_histories.specs.GicCall.declared.event.Event.TheVariants.{Raise, Read, ItsEnd, Queue}
 use Rattle.floor_histories.specs.GicCall.declared.event.Moment.TheVariants.{End}
-use Rattle.floor_histories.specs.Histories.{Ideal, is_allowed, happened, Call, Course, vcpu_of, call_of, begun, noted, made, seeing, gone_on, course_of, IsEnded, IsCallEnded, IsHappening, IsNext, GoesOn, targets_in}
+use Rattle.floor_histories.specs.Histories.{Ideal, is_allowed, happened, Call, Course, vcpu_of, call_of, begun, noted, made, seeing, gone_on, course_of, IsCallEnded, IsHappening, IsNext, GoesOn, targets_in, IsEndedAs}
 use Rattle.law_histories.specs.Sync.{more_parts, parts_in}
 use Rattle.law_histories.proofs.CourseLemmas.{IsCourse, begun_here, begun_other, ended_here, ended_other, made_here, made_other, noted_piece, call_is, none_is, goes, mark_is}
 use Rattle.law_histories.proofs.ScanCalls.{takes_one, takes_of, takes_both, holds, call_turn}
@@ -267,11 +267,11 @@ module _ (shape : GuestShape) (course : Course) (at : IsCourse shape course) (ho
   moment_holds (Happens actor event found) next other has = event_holds actor event found next (kind_of actor event course.ideal) other has
   moment_holds (End actor answer) next other has =
       let h = holder other has in
-      record { call = h.call; its = ended_other course actor answer other (λ e. clash h (subst (λ s. IsCallEnded s actor (call_of course actor) answer) at.shape_is next) e) ∙ h.its; took = h.took; held = h.held; maps = h.maps }
+      record { call = h.call; its = ended_other course actor answer other (λ e. clash h (subst (λ s. IsCallEnded (course.signals actor) s actor (call_of course actor) answer) at.shape_is next) e) ∙ h.its; took = h.took; held = h.held; maps = h.maps }
     where
-      clash : (h : IsHolder course other) → IsCallEnded shape actor (call_of course actor) answer → other ≡ actor → ⊥
+      clash : (h : IsHolder course other) → IsCallEnded (course.signals actor) shape actor (call_of course actor) answer → other ≡ actor → ⊥
       clash h ended e =
-          let is : IsEnded shape actor h.call answer = subst (λ o. IsCallEnded shape actor o answer) (subst (λ n. call_of course n ≡ Some h.call) e h.its) ended in
+          let is : IsEndedAs (course.signals actor) shape actor h.call answer = subst (λ o. IsCallEnded (course.signals actor) shape actor o answer) (subst (λ n. call_of course n ≡ Some h.call) e h.its) ended in
           let turn = call_turn shape is.beside (vcpu_of shape actor) h.call.operation h.call.piece answer is.is_call in
           let over = turn.leads.turn.turns.held in let on = h.held in absurd (cc)
 

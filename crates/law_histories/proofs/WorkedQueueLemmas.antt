@@ -94,7 +94,7 @@ third_end = queue_goes 64 (Stalls 10)
 
 -- an ITS that had no map as a call took it, and an LPI that was for nobody all along
 abbrev steady : Beside
-steady = record { maps = enabled.maps; targets = enabled.targets; commands = enabled.targets ∷ enabled.targets ∷ enabled.targets ∷ enabled.targets ∷ [] }
+steady = record { maps = enabled.maps; targets = enabled.targets; commands = enabled.targets ∷ enabled.targets ∷ enabled.targets ∷ enabled.targets ∷ []; signals = false }
 
 first_is : IsCommand (Some 0) its_guest.shape first (first_words ++ first_end ∷ [])
 first_is = record {
@@ -242,7 +242,7 @@ stored_three = ((omega arith, refl), (record { within = refl; can = (refl, refl)
 
 -- of an ITS that no command found mapped
 abbrev unmapped : View → List (ℕ → Option ℕ) → Beside
-unmapped view commands = record { maps = view.maps; targets = view.targets; commands = commands }
+unmapped view commands = record { maps = view.maps; targets = view.targets; commands = commands; signals = false }
 
 abbrev queue_made_by : List Happened
 queue_made_by = word_read ItsCtlr 0 ∷ puts Cwriter 0 0 ∷ queue_goes 0 Runs ∷ puts Cbaser (2 ^ 63) 0 ∷ []
@@ -285,7 +285,7 @@ queue_made = (
           record { within = refl; can = record { place = refl; within = omega arith }; allowed = refl; hands = refl },
           (
             record { within = refl; can = (refl, refl); allowed = refl; hands = refl },
-            (record { within = refl; can = tt; allowed = refl; hands = refl }, (record { beside = unmapped opened (opened.targets ∷ []); maps = refl; commands = refl; targets = λ id. (0, omega arith, refl); is_call = queue_is }, tt)),
+            (record { within = refl; can = tt; allowed = refl; hands = refl }, (record { beside = unmapped opened (opened.targets ∷ []); maps = refl; commands = refl; targets = λ id. (0, omega arith, refl); right = λ h. h; is_call = queue_is }, tt)),
           ),
         ),
       ),
@@ -337,7 +337,7 @@ its_enabled = (
           record { within = refl; can = refl; allowed = refl; hands = refl },
           (
             record { within = refl; can = (refl, refl); allowed = refl; hands = refl },
-            (record { within = refl; can = tt; allowed = refl; hands = refl }, (record { beside = unmapped queued (queued.targets ∷ []); maps = refl; commands = refl; targets = λ id. (0, omega arith, refl); is_call = enables_is }, tt)),
+            (record { within = refl; can = tt; allowed = refl; hands = refl }, (record { beside = unmapped queued (queued.targets ∷ []); maps = refl; commands = refl; targets = λ id. (0, omega arith, refl); right = λ h. h; is_call = enables_is }, tt)),
           ),
         ),
       ),
@@ -346,7 +346,7 @@ its_enabled = (
 )
 
 queue_run : GoesOn (course_of from before_write) (to_sync ++ to_end)
-queue_run = ((omega arith, refl), (record { within = refl; can = tt; allowed = refl; hands = refl }, (record { within = refl; can = refl; allowed = refl; hands = refl }, (record { within = refl; can = refl; allowed = refl; hands = refl }, (record { within = refl; can = refl; allowed = refl; hands = refl }, (record { within = refl; can = refl; allowed = refl; hands = refl }, (record { within = refl; can = (refl, refl); allowed = refl; hands = refl }, (record { within = refl; can = refl; allowed = refl; hands = refl }, (record { within = refl; can = refl; allowed = refl; hands = refl }, (record { within = refl; can = refl; allowed = refl; hands = refl }, (record { within = refl; can = refl; allowed = refl; hands = refl }, (record { within = refl; can = record { place = refl; within = omega arith }; allowed = refl; hands = refl }, (record { within = refl; can = refl; allowed = refl; hands = refl }, (record { within = refl; can = refl; allowed = refl; hands = refl }, (record { within = refl; can = refl; allowed = refl; hands = refl }, (record { within = refl; can = refl; allowed = refl; hands = refl }, (record { within = refl; can = record { place = refl; within = omega arith }; allowed = refl; hands = refl }, (record { within = refl; can = refl; allowed = refl; hands = refl }, (record { within = refl; can = refl; allowed = refl; hands = refl }, (record { within = refl; can = refl; allowed = refl; hands = refl }, (record { within = refl; can = refl; allowed = refl; hands = refl }, (record { within = refl; can = (record { place = refl; within = omega arith }, omega arith); allowed = refl; hands = refl }, (record { within = refl; can = tt; allowed = refl; hands = refl }, (record { beside = steady; maps = refl; commands = refl; targets = λ id. (0, omega arith, refl); is_call = start_is }, tt))))))))))))))))))))))))
+queue_run = ((omega arith, refl), (record { within = refl; can = tt; allowed = refl; hands = refl }, (record { within = refl; can = refl; allowed = refl; hands = refl }, (record { within = refl; can = refl; allowed = refl; hands = refl }, (record { within = refl; can = refl; allowed = refl; hands = refl }, (record { within = refl; can = refl; allowed = refl; hands = refl }, (record { within = refl; can = (refl, refl); allowed = refl; hands = refl }, (record { within = refl; can = refl; allowed = refl; hands = refl }, (record { within = refl; can = refl; allowed = refl; hands = refl }, (record { within = refl; can = refl; allowed = refl; hands = refl }, (record { within = refl; can = refl; allowed = refl; hands = refl }, (record { within = refl; can = record { place = refl; within = omega arith }; allowed = refl; hands = refl }, (record { within = refl; can = refl; allowed = refl; hands = refl }, (record { within = refl; can = refl; allowed = refl; hands = refl }, (record { within = refl; can = refl; allowed = refl; hands = refl }, (record { within = refl; can = refl; allowed = refl; hands = refl }, (record { within = refl; can = record { place = refl; within = omega arith }; allowed = refl; hands = refl }, (record { within = refl; can = refl; allowed = refl; hands = refl }, (record { within = refl; can = refl; allowed = refl; hands = refl }, (record { within = refl; can = refl; allowed = refl; hands = refl }, (record { within = refl; can = refl; allowed = refl; hands = refl }, (record { within = refl; can = (record { place = refl; within = omega arith }, omega arith); allowed = refl; hands = refl }, (record { within = refl; can = tt; allowed = refl; hands = refl }, (record { beside = steady; maps = refl; commands = refl; targets = λ id. (0, omega arith, refl); right = λ h. h; is_call = start_is }, tt))))))))))))))))))))))))
 
 pub before_goes : GoesOn from before_write
 before_goes =

@@ -1,5 +1,5 @@
 -- The worked calls: what is found of each place, and where a read of it is missing.
-use Rattle.std.proofs.Common.{◌≡◌, ℕ, ◌^◌, not, Bool, true, false, if◌then◌else◌, List, [], ◌∷◌, ◌++◌, All, Option, Some, None, Result, Ok, slice_index_or, refl, sym, ap, subst, ◌∙◌}
+use Rattle.std.proofs.Common.{◌≡◌, ◌⊎◌, inl, inr, ℕ, ◌^◌, not, Bool, true, false, if◌then◌else◌, List, [], ◌∷◌, ◌++◌, All, Option, Some, None, Result, Ok, slice_index_or, refl, sym, ap, subst, ◌∙◌}
 use Rattle.std.proofs.lemmas.List.{append_assoc, append-nil}
 use Rattle.std.proofs.lemmas.List.Elements.{All-nil, All-head, All-tail, All-from_recursion}
 use Rattle.std.specs.List.{flat_map}
@@ -7,8 +7,8 @@ use Rattle.floor_histories.specs.Registers.{pending_address, BadCommand, Command
 use Rattle.floor_histories.specs.GicCall.declared.touch.Touching.TheVariants.{Retarget}
 use Rattle.floor_histories.specs.GicCall.declared.command.Part.TheVariants.{Retarget as RetargetPart}
 use Rattle.floor_histories.specs.Words.{Its, Redist, Lpi, SetPending, is_number}
-use Rattle.floor_histories.specs.Calls.{PlainWord, Pendbaser, ItsCtlr, Cbaser, Cwriter, Put, Enable, ItsBegin, Place, access_places, table_places, pended_events, Happened, Beside, IsCall, IsItsCall, IsLastRead, held_at, takes_command, opening_irq, View, HandsOut, Touch, Register, Record, is_table_zero, memory_places, lpis_of, Ram, Done, IsCommand, command_targets, each, parts}
-use Rattle.floor_histories.specs.GicCall.declared.event.Event.TheVariants.{ItsEnd, Queue}
+use Rattle.floor_histories.specs.Calls.{PlainWord, Pendbaser, ItsCtlr, Cbaser, Cwriter, Put, Enable, ItsBegin, Place, access_places, table_places, pended_events, Happened, Beside, IsCall, IsItsCall, IsLastRead, held_at, takes_command, opening_irq, View, HandsOut, Touch, Register, Record, is_table_zero, memory_places, lpis_of, Ram, Done, IsCommand, command_targets, each, parts, MakesMsi, RaisesAlone}
+use Rattle.floor_histories.specs.GicCall.declared.event.Event.TheVariants.{ItsEnd, Queue, Raise}
 use Rattle.floor_histories.specs.GicCall.declared.event.Found.TheVariants.{Nothing, Word as FoundWord, Lpis as FoundLpis}
 use Rattle.floor_histories.specs.GicCall.declared.event.Place.TheVariants.{Word, Queue as QueuePlace}
 use Rattle.floor_histories.proofs.GicCall.LateLemmas.{late_reads, reads_late}
@@ -44,10 +44,14 @@ no_base beside answer is =
     absurd (cc)
 
 no_message : (beside : Beside) (answer : Option ℕ) → IsCall reads_shape beside None sends message_by_old_enable answer → ⊥
-no_message beside answer is =
-    let Late : List Happened → Place → Type 0 = λ piece place. reads_late None place piece ≡ true in
-    let late = All-head (Late message_by_old_enable) (Word ItsCtlr) [] (subst (λ p. All (Late p) (Word ItsCtlr ∷ [])) (sym is.made.split) (late_reads is.made.last is.made.raised)) in
-    absurd (cc)
+no_message beside answer is = of is.made
+  where
+    of : MakesMsi is.view 0 0 message_by_old_enable ⊎ RaisesAlone beside.signals is.view message_by_old_enable → ⊥
+    of (inl made) =
+        let Late : List Happened → Place → Type 0 = λ piece place. reads_late None place piece ≡ true in
+        let late = All-head (Late message_by_old_enable) (Word ItsCtlr) [] (subst (λ p. All (Late p) (Word ItsCtlr ∷ [])) (sym made.split) (late_reads made.last made.raised)) in
+        absurd (cc)
+    of (inr alone) = let same : ItsBegin ∷ Raise (Lpi 8192) ∷ ItsEnd ∷ [] ≡ Raise (Lpi alone.id) ∷ [] = alone.raised.events_are in absurd (cc)
 
 found_lpis : (a b : Bool) → FoundLpis a ≡ FoundLpis b → a ≡ b
 found_lpis a b e = cc
@@ -160,7 +164,7 @@ message_is =
     record {
       view = view;
       maps = refl;
-      made = record {
+      made = inl (record {
         raising = begins ∷ looks ItsCtlr 0 ∷ [];
         last = ends ∷ [];
         split = refl;
@@ -172,7 +176,7 @@ message_is =
           made = record { events_are = refl; found = All-nil _; reads = All-from_recursion (IsRead view (looks ItsCtlr 0 ∷ [])) (Word ItsCtlr ∷ []) (last_read [] [] refl, tt) };
         };
         ended = record { events_are = refl; found = hands_one view ItsEnd Nothing refl; reads = All-nil _ };
-      };
+      });
       answers = refl;
     }
 

@@ -109,7 +109,7 @@ ends_movall = makes (Queue 64 (Done (encoded (Movall 0 1)))) Nothing ∷ ends �
 
 -- an ITS that has mapped nothing
 abbrev pub unmapped : List (ℕ → Option ℕ) → Beside
-unmapped commands = record { maps = record { devices = []; events = []; collections = [] }; targets = λ id. None; commands = commands }
+unmapped commands = record { maps = record { devices = []; events = []; collections = [] }; targets = λ id. None; commands = commands; signals = false }
 
 -- the calls by what was found are calls, and the others are none, whatever is beside them
 pub record ReadsCount : Type 0 where

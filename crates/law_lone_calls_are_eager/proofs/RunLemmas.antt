@@ -1,12 +1,14 @@
 -- A call while nobody else acts, as a run of the guest with all taken back.
-use Rattle.std.proofs.Common.{◌≡◌, ℕ, ◌<◌, ◌||◌, not, Bool, true, false, IsTrue, List, [], ◌∷◌, ◌++◌, map, length, Option, Some, is_some, refl, sym, ap, ◌∙◌, subst}
+use Rattle.std.proofs.Common.{◌≡◌, ℕ, ◌<◌, ◌||◌, not, Bool, true, false, IsTrue, List, [], ◌∷◌, ◌++◌, map, length, Option, Some, is_some, refl, sym, ap, ◌∙◌, subst, ◌⊎◌, inl, inr, None, cond, ◌==◌}
 use Rattle.std.proofs.lemmas.Grind.{fold-append}
-use Rattle.law_home_commutes.specs.Words.{GuestShape}
-use Rattle.law_home_commutes.specs.Calls.{Event, Up, Down, Touch, Reach, Take, Leave, Enable, Cpu, Put, CtlrBegin, CtlrEnd, ItsBegin, Found, Moment, Begin, Happens, Operation, Happened, HandsOut, IsCall, CanHappen, View}
+use Rattle.std.proofs.lemmas.Bool.{eq-eqb, eqb-true, and_parts}
+use Rattle.std.specs.Option.{option_map_or}
+use Rattle.law_home_commutes.specs.Words.{GuestShape, Lpi, Spi, Private, is_number}
+use Rattle.law_home_commutes.specs.Calls.{Event, Up, Down, Touch, Reach, Take, Leave, Enable, Cpu, Put, CtlrBegin, CtlrEnd, ItsBegin, Found, Moment, Begin, Happens, Operation, Happened, HandsOut, IsCall, CanHappen, View, Runs, Done, Stalls}
 use Rattle.law_home_commutes.specs.GicCall.declared.event.Event.TheVariants.{Raise, Read, ItsEnd, Queue}
 use Rattle.law_home_commutes.specs.GicCall.declared.event.Found.TheVariants.{Answer}
 use Rattle.law_home_commutes.specs.GicCall.declared.event.Moment.TheVariants.{End}
-use Rattle.law_home_commutes.specs.Histories.{IdealGuest, access_answer, view_of, after_event, after_events, Ideal, handed_out, happened, home, targets_in, Call, Course, IsEnded, IsCallEnded, actor_count, vcpu_of, GoesOn, IsHistory, begun, made, seeing, gone_on, course_of, call_of, opening_course, last_of, CanOpen}
+use Rattle.law_home_commutes.specs.Histories.{IdealGuest, access_answer, view_of, after_event, after_events, Ideal, handed_out, happened, home, targets_in, Call, Course, IsCallEnded, actor_count, vcpu_of, GoesOn, IsHistory, begun, made, seeing, gone_on, course_of, call_of, opening_course, last_of, CanOpen, IsEndedAs, signals_after, is_signal, signalled_by, has_midway}
 use Rattle.law_home_commutes.proofs.LawHistories.CourseLemmas.{IsCourse, opens, goes, goes_before, begun_here, made_here}
 use Rattle.law_home_commutes.proofs.LawHistories.EnableLaw.{nobody_spreads}
 use Rattle.law_home_commutes.proofs.LawHistories.StateLemmas.{guest_is, take_cases, leave_cases}
@@ -32,26 +34,123 @@ abbrev pub AreHanded : ℕ → Ideal → List Happened → Type 0
 AreHanded actor state [] = Unit {0}
 AreHanded actor state (one ∷ piece) = (one.found ≡ handed_out state one.event) × AreHanded actor (happened actor one.event state) piece
 
+-- an event raises the LPI that the operation signals there
+pub record IsSignal (ideal : Ideal) (operation : Operation) (event : Event) : Type 0 where
+  pub id : ℕ
+  pub is : event ≡ Raise (Lpi id)
+  pub signals : signalled_by ideal operation ≡ Some id
+
+-- one of the events does
+abbrev pub HasSignal : ℕ → Operation → Ideal → List Event → Type 0
+HasSignal actor operation state [] = ⊥
+HasSignal actor operation state (event ∷ events) = IsSignal state operation event ⊎ HasSignal actor operation (happened actor event state) events
+
+signal_is : (course : Course) (operation : Operation) (event : Event) → is_signal course operation event ≡ true → IsSignal course.ideal operation event
+signal_is course operation (Raise (Lpi id)) h =
+    record { id = id; is = refl; signals = number_is id (signalled_by course.ideal operation) (and_parts (is_number id (signalled_by course.ideal operation)) (not (has_midway course)) h).0 }
+  where
+    number_is : (n : ℕ) (o : Option ℕ) → is_number n o ≡ true → o ≡ Some n
+    number_is n None h = absurd (cc)
+    number_is n (Some m) h = ap Some (eqb-true m n h)
+signal_is course operation (Raise (Private vcpu id)) h = absurd (cc)
+signal_is course operation (Raise (Spi id)) h = absurd (cc)
+signal_is course operation (Up key) h = absurd (cc)
+signal_is course operation (Down key) h = absurd (cc)
+signal_is course operation (Touch key touching) h = absurd (cc)
+signal_is course operation (Reach key vcpu) h = absurd (cc)
+signal_is course operation (Take key vcpu) h = absurd (cc)
+signal_is course operation (Leave key vcpu) h = absurd (cc)
+signal_is course operation (Enable vcpu) h = absurd (cc)
+signal_is course operation (Cpu vcpu reg write) h = absurd (cc)
+signal_is course operation (Read place) h = absurd (cc)
+signal_is course operation (Put word value) h = absurd (cc)
+signal_is course operation (CtlrBegin enables) h = absurd (cc)
+signal_is course operation CtlrEnd h = absurd (cc)
+signal_is course operation ItsBegin h = absurd (cc)
+signal_is course operation ItsEnd h = absurd (cc)
+signal_is course operation (Queue offset change) h = absurd (cc)
+
+either : (a b : Bool) → (a || b) ≡ true → (a ≡ true) ⊎ (b ≡ true)
+either true b h = inl refl
+either false b h = inr h
+
+-- what an actor has raised after an event of its own, it had before, or this event is it
+signal_before : (course : Course) (actor : ℕ) (event : Event) (found : Found) (call : Call) → call_of course actor ≡ Some call → IsTrue ((gone_on course (Happens actor event found)).signals actor) → IsTrue (course.signals actor) ⊎ IsSignal course.ideal call.operation event
+signal_before course actor event found call is h =
+    let own = ap (λ b. cond b (signals_after course actor event) (course.signals actor)) (sym (eq-eqb actor actor refl)) ∙ h in
+    of (either (course.signals actor) (option_map_or (λ call. is_signal course call.operation event) (call_of course actor) false) own)
+  where
+    of : (course.signals actor ≡ true) ⊎ (option_map_or (λ call. is_signal course call.operation event) (call_of course actor) false ≡ true) → IsTrue (course.signals actor) ⊎ IsSignal course.ideal call.operation event
+    of (inl had) = inl had
+    of (inr now) = inr (signal_is course call.operation event (ap (λ o. option_map_or (λ (call : Call). is_signal course call.operation event) o false) (sym is) ∙ now))
+
 pub record LoneEnd (actor : ℕ) (answer : Option ℕ) (course : Course) (call : Call) (piece : List Happened) : Type 0 where
   pub fine : AreFine actor course.ideal (events_of piece)
   pub handed : AreHanded actor course.ideal piece
   pub piece_is : piece ≡ happenings actor (events_of piece) course.ideal
-  pub ended : IsEnded (state_after actor (events_of piece) course.ideal).guest.shape actor (call_after actor (events_of piece) course.ideal call) answer
+  pub signals : Bool
+  pub ended : IsEndedAs signals (state_after actor (events_of piece) course.ideal).guest.shape actor (call_after actor (events_of piece) course.ideal call) answer
+  pub signal : IsTrue signals → IsTrue (course.signals actor) ⊎ HasSignal actor call.operation course.ideal (events_of piece)
   pub ideal_is : (course_of course (map (moment_of actor) piece ++ End actor answer ∷ [])).ideal ≡ state_after actor (events_of piece) course.ideal
 
+-- an event of a call leaves what it is for
+operation_made : (state : Ideal) (event : Event) (found : Found) (call : Call) → (made state event found call).operation ≡ call.operation
+operation_made state (Queue offset Runs) found call = refl
+operation_made state (Queue offset (Done words)) found call = refl
+operation_made state (Queue offset (Stalls fault)) found call = refl
+operation_made state (Raise key) found call = refl
+operation_made state (Up key) found call = refl
+operation_made state (Down key) found call = refl
+operation_made state (Touch key touching) found call = refl
+operation_made state (Reach key vcpu) found call = refl
+operation_made state (Take key vcpu) found call = refl
+operation_made state (Leave key vcpu) found call = refl
+operation_made state (Enable vcpu) found call = refl
+operation_made state (Cpu vcpu reg write) found call = refl
+operation_made state (Read place) found call = refl
+operation_made state (Put word value) found call = refl
+operation_made state (CtlrBegin enables) found call = refl
+operation_made state CtlrEnd found call = refl
+operation_made state ItsBegin found call = refl
+operation_made state ItsEnd found call = refl
+
 ends_on : (actor : ℕ) (answer : Option ℕ) (piece : List Happened) (course : Course) (call : Call) → call_of course actor ≡ Some call → GoesOn course (map (moment_of actor) piece ++ End actor answer ∷ []) → LoneEnd actor answer course call piece
-ends_on actor answer [] course call is going = record { fine = tt; handed = tt; piece_is = refl; ended = subst (λ o. IsCallEnded course.ideal.guest.shape actor o answer) is going.0; ideal_is = refl }
+ends_on actor answer [] course call is going = record {
+  fine = tt;
+  handed = tt;
+  piece_is = refl;
+  signals = course.signals actor;
+  ended = subst (λ o. IsCallEnded (course.signals actor) course.ideal.guest.shape actor o answer) is going.0;
+  signal = λ h. inl h;
+  ideal_is = refl;
+}
 ends_on actor answer (one ∷ piece) course call is going =
     let here = going.0 in
-    let state = happened actor one.event course.ideal in
     let later = ends_on actor answer piece (gone_on course (Happens actor one.event one.found)) (seeing state (made course.ideal one.event one.found call)) (made_here course actor one.event one.found call is) going.1 in
     record {
       fine = (record { can = here.can; allowed = here.allowed }, later.fine);
       handed = (here.hands, later.handed);
       piece_is = ap (λ f. (let h : Happened = record { event = one.event; found = f } in h) ∷ piece) here.hands ∙ ap (λ xs. (let h : Happened = record { event = one.event; found = handed_out course.ideal one.event } in h) ∷ xs) later.piece_is;
-      ended = subst (λ f. IsEnded (state_after actor (events_of piece) state).guest.shape actor (call_after actor (events_of piece) state (seeing state (made course.ideal one.event f call))) answer) here.hands later.ended;
+      signals = later.signals;
+      ended = subst (λ f. IsEndedAs later.signals (state_after actor (events_of piece) state).guest.shape actor (call_after actor (events_of piece) state (seeing state (made course.ideal one.event f call))) answer) here.hands later.ended;
+      signal = λ h. signal_on (later.signal h);
       ideal_is = later.ideal_is;
     }
+  where
+    state : Ideal
+    state = happened actor one.event course.ideal
+
+    next : Call
+    next = seeing state (made course.ideal one.event one.found call)
+
+    signal_on : IsTrue ((gone_on course (Happens actor one.event one.found)).signals actor) ⊎ HasSignal actor next.operation state (events_of piece)
+        → IsTrue (course.signals actor) ⊎ HasSignal actor call.operation course.ideal (one.event ∷ events_of piece)
+    signal_on (inl had) = of (signal_before course actor one.event one.found call is had)
+      where
+        of : IsTrue (course.signals actor) ⊎ IsSignal course.ideal call.operation one.event → IsTrue (course.signals actor) ⊎ HasSignal actor call.operation course.ideal (one.event ∷ events_of piece)
+        of (inl before) = inl before
+        of (inr now) = inr (inl now)
+    signal_on (inr later) = inr (inr (subst (λ operation. HasSignal actor operation state (events_of piece)) (operation_made course.ideal one.event one.found call) later))
 
 -- A run of a guest at which nothing stands: each event hands out what is there, and an access answers what it answers there; GICD_CTLR is being copied or not.
 
@@ -194,7 +293,9 @@ pub record LoneRun (guest : IdealGuest) (moments : List Moment) (actor : ℕ) (o
   pub goes : home (last_of guest (moments ++ lone_call actor operation piece answer)) ≡ after_events (events_of piece) (home (last_of guest moments))
   pub follows : Follows actor (last_of guest moments) (home (last_of guest moments)) (events_of piece)
   pub piece_is : piece ≡ happenings actor (events_of piece) (last_of guest moments)
-  pub ended : IsEnded guest.shape actor (call_after actor (events_of piece) (last_of guest moments) (begun (last_of guest moments) operation)) answer
+  pub signals : Bool
+  pub ended : IsEndedAs signals guest.shape actor (call_after actor (events_of piece) (last_of guest moments) (begun (last_of guest moments) operation)) answer
+  pub signal : IsTrue signals → HasSignal actor operation (last_of guest moments) (events_of piece)
   pub is_call : IsCall guest.shape ended.beside (vcpu_of guest.shape actor) operation piece answer
 
 goes_all : (shape : GuestShape) (course : Course) (moments : List Moment) → IsCourse shape course → IsCourse shape (course_of course moments)
@@ -209,7 +310,9 @@ shape_after actor (event ∷ events) state = shape_after actor events (happened 
 pub record IsLoneEnded (guest : IdealGuest) (moments : List Moment) (actor : ℕ) (operation : Operation) (piece : List Happened) (answer : Option ℕ) : Type 0 where
   pub there : actor < length (course_of (opening_course guest) moments).calls
   pub end : LoneEnd actor answer (gone_on (course_of (opening_course guest) moments) (Begin actor operation)) (begun (last_of guest moments) operation) piece
-  pub ended : IsEnded guest.shape actor (call_after actor (events_of piece) (last_of guest moments) (begun (last_of guest moments) operation)) answer
+  pub signals : Bool
+  pub ended : IsEndedAs signals guest.shape actor (call_after actor (events_of piece) (last_of guest moments) (begun (last_of guest moments) operation)) answer
+  pub signal : IsTrue signals → HasSignal actor operation (last_of guest moments) (events_of piece)
   pub is_call : IsCall guest.shape ended.beside (vcpu_of guest.shape actor) operation piece answer
 
 pub lone_ended : (guest : IdealGuest) (moments : List Moment) (actor : ℕ) (operation : Operation) (piece : List Happened) (answer : Option ℕ) → CanOpen guest → IsHistory guest (moments ++ lone_call actor operation piece answer) → IsLoneEnded guest moments actor operation piece answer
@@ -222,15 +325,28 @@ lone_ended guest moments actor operation piece answer good history =
     let there = subst (λ n. actor < n) (sym at.each) (subst (λ s. actor < actor_count s) at.shape_is going.0.0) in
     let end = ends_on actor answer piece (gone_on course (Begin actor operation)) open_call (begun_here course actor operation there) going.1 in
     let last = call_after actor (events_of piece) course.ideal open_call in
-    let ended = subst (λ s. IsEnded s actor last answer) (shape_after actor (events_of piece) course.ideal ∙ at.shape_is) end.ended in
+    let ended = subst (λ s. IsEndedAs end.signals s actor last answer) (shape_after actor (events_of piece) course.ideal ∙ at.shape_is) end.ended in
     record {
       there = there;
       end = end;
+      signals = end.signals;
       ended = ended;
+      signal = λ h. since_begun (end.signal h);
       is_call =
           subst (λ op. IsCall guest.shape ended.beside (vcpu_of guest.shape actor) op piece answer) (operation_after actor (events_of piece) course.ideal open_call)
           (subst (λ xs. IsCall guest.shape ended.beside (vcpu_of guest.shape actor) last.operation xs answer) (piece_after actor (events_of piece) course.ideal open_call ∙ sym end.piece_is) ended.is_call);
     }
+  where
+    course : Course
+    course = course_of (opening_course guest) moments
+
+    -- as the call began nothing was raised in it
+    none_raised : IsTrue ((gone_on course (Begin actor operation)).signals actor) → ⊥
+    none_raised h = let no : false ≡ true = ap (λ b. cond b false (course.signals actor)) (sym (eq-eqb actor actor refl)) ∙ h in absurd (cc)
+
+    since_begun : IsTrue ((gone_on course (Begin actor operation)).signals actor) ⊎ HasSignal actor operation (last_of guest moments) (events_of piece) → HasSignal actor operation (last_of guest moments) (events_of piece)
+    since_begun (inl h) = absurd (none_raised h)
+    since_begun (inr has) = has
 
 pub lone_run : (guest : IdealGuest) (moments : List Moment) (actor : ℕ) (operation : Operation) (piece : List Happened) (answer : Option ℕ) → IsLoneCall guest moments actor operation piece answer → LoneRun guest moments actor operation piece answer
 lone_run guest moments actor operation piece answer is =
@@ -248,6 +364,8 @@ lone_run guest moments actor operation piece answer is =
       goes = ap (λ (c : Course). home c.ideal) (fold-append gone_on (opening_course guest) moments call) ∙ ap home so.end.ideal_is ∙ steps.goes;
       follows = steps.follows;
       piece_is = so.end.piece_is;
+      signals = so.signals;
       ended = so.ended;
+      signal = so.signal;
       is_call = so.is_call;
     }

@@ -5,7 +5,7 @@ use Rattle.gic_ideal.specs.ScnBase.declared.pes.VcpuName.{VcpuName}
 use Rattle.gic_ideal.specs.IdealGuests.Words.{GuestShape}
 use Rattle.gic_ideal.specs.IdealGuests.declared.guest.IdealGuest.{IdealGuest}
 use Rattle.gic_ideal.specs.IdealGuests.Calls.{Fault, place_of_plain}
-use Rattle.law_runs_split.specs.Split.{eager_from}
+use Rattle.gic_ideal.specs.Eager.{eager_from}
 
 -- the plain words are the same but for the number of a fault, and that is the same too where the queue is stalled by it
 pub record AreAlike (shape : GuestShape) (is_stalled : Bool) (one other : List ℕ) : Type 0 where

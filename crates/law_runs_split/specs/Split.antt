@@ -7,13 +7,7 @@ use Rattle.gic_ideal.specs.ScnBase.Standing.{opening_pes, pes_after}
 use Rattle.gic_ideal.specs.IdealGuests.declared.guest.IdealGuest.{IdealGuest}
 use Rattle.gic_ideal.specs.IdealGuests.Calls.{RunOut, shapes_of}
 use Rattle.gic_ideal.specs.IdealGuests.Opening.{opening}
-use Rattle.gic_ideal.specs.Eager.{answers_of, after_steps, eager}
-use Rattle.gic_ideal.specs.Ends.{ends_of}
-
--- the run of some steps from states on, with the vCPUs so on the PEs, of guests that opened so
-abbrev pub eager_from : ℕ → List (Option VcpuName) → List Step → List IdealGuest → List IdealGuest → RunOut
-eager_from lrs pes steps opened states =
-    record { answers = answers_of lrs pes steps states; ends = ends_of opened (after_steps steps states) }
+use Rattle.gic_ideal.specs.Eager.{answers_of, after_steps, eager_from, eager}
 
 -- which vCPU stands on each PE after some steps
 abbrev pub pes_after_steps : List Step → List (Option VcpuName) → List (Option VcpuName)

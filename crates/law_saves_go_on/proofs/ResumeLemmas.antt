@@ -11,14 +11,16 @@ use Rattle.law_runs_split.specs.GicIdeal.IdealGuests.declared.guest.IdealGuest.{
 use Rattle.law_runs_split.specs.GicIdeal.IdealGuests.Words.{GuestShape}
 use Rattle.law_runs_split.specs.GicIdeal.IdealGuests.Calls.{GuestSpec, shapes_of, its_from}
 use Rattle.law_runs_split.specs.GicIdeal.IdealGuests.Opening.{opening}
-use Rattle.law_runs_split.specs.Split.{eager_from, pes_after_steps}
+use Rattle.law_runs_split.specs.GicIdeal.Eager.{eager_from}
+use Rattle.law_runs_split.specs.Split.{pes_after_steps}
 use Rattle.law_runs_split.specs.Faults.{AreAlike, IsAlike, AreAllAlike}
 use Rattle.gic_report.specs.Text.{is_read}
+use Rattle.gic_report.specs.Rest.{text_after}
 use Rattle.saved_take.specs.SavedGuest.State.{state_of}
 use Rattle.saved_take.specs.Taken.{taken_of, wires_at, all_taken, stands_after, standing_at}
 use Rattle.saved_take.specs.Back.{without_past_fault}
 use Rattle.saved_take.proofs.BackLemmas.{states_tell_back}
-use Rattle.law_saves_go_on.specs.GoOn.{text_after, first_lines}
+use Rattle.law_saves_go_on.specs.GoOn.{first_lines}
 use Rattle.law_saves_go_on.specs.Resume.{states_of, AreSavable, reached, SavedThenResumed}
 use Rattle.law_saves_go_on.proofs.TextLemmas.{save_then_resume}
 

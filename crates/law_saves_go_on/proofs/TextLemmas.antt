@@ -10,12 +10,12 @@ use Rattle.law_runs_split.specs.GicIdeal.IdealGuests.declared.guest.IdealGuest.{
 use Rattle.law_runs_split.specs.GicIdeal.IdealGuests.GicGuest.declared.outcome.Answer.{Answer}
 use Rattle.law_runs_split.specs.GicIdeal.IdealGuests.Calls.{RunOut, shapes_of}
 use Rattle.law_runs_split.specs.GicIdeal.IdealGuests.Opening.{opening}
-use Rattle.law_runs_split.specs.GicIdeal.Eager.{answers_of, after_step, after_steps}
-use Rattle.law_runs_split.specs.Split.{eager_from, pes_after_steps}
+use Rattle.law_runs_split.specs.GicIdeal.Eager.{answers_of, after_step, after_steps, eager_from}
+use Rattle.law_runs_split.specs.Split.{pes_after_steps}
 use Rattle.law_runs_split.proofs.SplitLemmas.{runs_split}
 use Rattle.law_runs_split.proofs.GoOnLemmas.{past_faults_do_not_matter}
-use Rattle.gic_report.specs.Text.{is_read, answer_line, answer_lines, end_lines}
-use Rattle.law_saves_go_on.specs.GoOn.{counts_of, SaveThenResume}
+use Rattle.gic_report.specs.Text.{is_read, answer_line, answer_lines, end_lines, counts_of}
+use Rattle.law_saves_go_on.specs.GoOn.{SaveThenResume}
 
 lines_split : (n : ℕ) (first rest : List Answer) → answer_lines n (first ++ rest) ≡ answer_lines n first ++ answer_lines (n + length first) rest
 lines_split n [] rest = ap (λ m. answer_lines m rest) (omega arith)

@@ -1,24 +1,16 @@
 -- The text of a run that was saved in its middle and goes on (own choice).
-use Rattle.std.specs.Prelude.{◌≡◌, ℕ, ◌+◌, ◌≤◌, List, ◌++◌, length, map, take, drop, count_by, codes, decimal}
+use Rattle.std.specs.Prelude.{◌≡◌, ℕ, ◌≤◌, List, ◌++◌, length, map, take, drop, count_by}
 use Rattle.law_runs_split.specs.GicIdeal.ScnBase.declared.scenario.Scenario.{Scenario}
 use Rattle.law_runs_split.specs.GicIdeal.ScnBase.declared.step.Step.{Step}
 use Rattle.law_runs_split.specs.GicIdeal.ScnBase.Standing.{opening_pes}
 use Rattle.law_runs_split.specs.GicIdeal.IdealGuests.declared.guest.IdealGuest.{IdealGuest}
 use Rattle.law_runs_split.specs.GicIdeal.IdealGuests.Calls.{RunOut, shapes_of}
 use Rattle.law_runs_split.specs.GicIdeal.IdealGuests.Opening.{opening}
-use Rattle.law_runs_split.specs.GicIdeal.Eager.{answers_of, after_steps, eager}
-use Rattle.law_runs_split.specs.Split.{eager_from, pes_after_steps}
+use Rattle.law_runs_split.specs.GicIdeal.Eager.{answers_of, after_steps, eager, eager_from}
+use Rattle.law_runs_split.specs.Split.{pes_after_steps}
 use Rattle.law_runs_split.specs.Faults.{AreAllAlike}
-use Rattle.gic_report.specs.Text.{newline, is_read, answer_lines, end_lines, text}
-
--- the last line: how many steps there are, and how many of them read
-abbrev pub counts_of : ℕ → ℕ → List ℕ
-counts_of steps reads = codes "end " ++ decimal steps ++ codes " " ++ decimal reads ++ newline
-
--- the text of the rest of a run after so many steps, so many of which read: the lines of its steps, with numbers after theirs, those of its ends, and
--- the last line of the whole run
-abbrev pub text_after : ℕ → ℕ → List Step → RunOut → List ℕ
-text_after done reads rest out = answer_lines (done + 1) out.answers ++ end_lines 0 out.ends ++ counts_of (done + length rest) (reads + count_by is_read rest)
+use Rattle.gic_report.specs.Text.{is_read, answer_lines, text}
+use Rattle.gic_report.specs.Rest.{text_after}
 
 -- the lines of the first so many steps of a scenario
 abbrev pub first_lines : Scenario → ℕ → List ℕ

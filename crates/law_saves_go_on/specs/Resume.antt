@@ -5,15 +5,15 @@ use Rattle.law_runs_split.specs.GicIdeal.IdealGuests.declared.guest.IdealGuest.{
 use Rattle.law_runs_split.specs.GicIdeal.IdealGuests.Calls.{RunOut, GuestSpec, IsGoodGuest}
 use Rattle.law_runs_split.specs.GicIdeal.IdealGuests.Opening.{opening}
 use Rattle.law_runs_split.specs.GicIdeal.IdealGuests.Sound.{IsSound}
-use Rattle.law_runs_split.specs.GicIdeal.Eager.{after_steps, eager}
-use Rattle.law_runs_split.specs.Split.{eager_from}
+use Rattle.law_runs_split.specs.GicIdeal.Eager.{after_steps, eager, eager_from}
 use Rattle.gic_report.specs.Text.{text}
+use Rattle.gic_report.specs.Rest.{text_saved}
 use Rattle.saved_take.specs.SavedGuest.ScnSaved.declared.saved.Saved.{Saved}
 use Rattle.saved_take.specs.SavedGuest.ScnSaved.declared.state.GuestState.{GuestState}
 use Rattle.saved_take.specs.SavedGuest.State.{state_of}
 use Rattle.saved_take.specs.Taken.{saved_of}
 use Rattle.saved_take.specs.Back.{IsStored}
-use Rattle.law_saves_go_on.specs.GoOn.{text_after, first_lines}
+use Rattle.law_saves_go_on.specs.GoOn.{first_lines}
 
 -- the states that a saved run tells
 abbrev pub states_of : List GuestSpec → List GuestState → List IdealGuest
@@ -21,12 +21,9 @@ states_of [] states = []
 states_of (guest ∷ guests) [] = []
 states_of (guest ∷ guests) (state ∷ states) = state_of guest state ∷ states_of guests states
 
--- what is left of a saved run, from what it tells on, and the text of it
+-- what is left of a saved run, from what it tells on
 abbrev pub resumed : Saved → RunOut
 resumed saved = eager_from saved.scenario.lrs saved.on_pe saved.scenario.steps (map opening saved.scenario.guests) (states_of saved.scenario.guests saved.state)
-
-abbrev pub text_saved : Saved → RunOut → List ℕ
-text_saved saved out = text_after saved.done saved.reads saved.scenario.steps out
 
 -- a good guest is in a sound state, the registers of whose ITS hold what writes store
 pub record IsSavable (guest : GuestSpec) (state : IdealGuest) : Type 0 where

@@ -151,7 +151,7 @@ module _ (shape : GuestShape) (good : IsShape shape) where
           (subst (TiedTo (vcpu_of shape actor) (call_of course actor)) (sym (doing_other other actor _ at.track differ)) (tied actor))
     ]
       where
-        within : (o : Option Call) → call_of course other ≡ o → IsCallEnded course.ideal.guest.shape other o answer → other < length course.calls
+        within : (o : Option Call) → call_of course other ≡ o → IsCallEnded (course.signals other) course.ideal.guest.shape other o answer → other < length course.calls
         within None e h = absurd h
         within (Some call) e h = some_in_range course.calls other (ap is_some e)
     tied_next (Happens other event found) next actor = elim (cases_eq actor other) [

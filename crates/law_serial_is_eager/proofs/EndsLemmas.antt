@@ -1,5 +1,5 @@
 -- What a call that is open is once it ends, where all calls end.
-use Rattle.std.proofs.Common.{◌≡◌, ℕ, inl, inr, List, [], ◌∷◌, ◌++◌, Option, option_map, Some, None, refl, sym, subst}
+use Rattle.std.proofs.Common.{◌≡◌, ℕ, inl, inr, List, [], ◌∷◌, ◌++◌, Option, option_map, Some, None, refl, sym, subst, Bool}
 use Rattle.std.proofs.lemmas.Bool.{cases_eq}
 use Rattle.std.proofs.lemmas.List.{append-nil, append_assoc}
 use Rattle.law_lone_calls_are_eager.specs.Words.{GuestShape}
@@ -47,9 +47,9 @@ module _ (shape : GuestShape) (actor : ℕ) where
   seen_ends ideal None will = tt
   seen_ends ideal (Some call) will = will
 
-  ended_so : (o : Option Call) (answer : Option ℕ) → IsCallEnded shape actor o answer → WillEnd shape actor o
-  ended_so None answer is = tt
-  ended_so (Some call) answer is = record {
+  ended_so : (signals : Bool) (o : Option Call) (answer : Option ℕ) → IsCallEnded signals shape actor o answer → WillEnd shape actor o
+  ended_so signals None answer is = tt
+  ended_so signals (Some call) answer is = record {
     beside = is.beside;
     more = [];
     answer = answer;
@@ -75,7 +75,7 @@ module _ (shape : GuestShape) (actor : ℕ) where
     | inr differ ↦ subst (WillEnd shape actor) (begun_other course other operation actor (λ e. differ (sym e))) later
   ]
   step course at (End other answer) next later = elim (cases_eq other actor) [
-    | inl e ↦ ended_so (call_of course actor) answer (subst (λ s. IsCallEnded s actor (call_of course actor) answer) at.shape_is (subst (λ n. IsNext course (End n answer)) e next))
+    | inl e ↦ ended_so (course.signals actor) (call_of course actor) answer (subst (λ s. IsCallEnded (course.signals actor) s actor (call_of course actor) answer) at.shape_is (subst (λ n. IsNext course (End n answer)) e next))
     | inr differ ↦ subst (WillEnd shape actor) (ended_other course other answer actor (λ e. differ (sym e))) later
   ]
   step course at (Happens other event found) next later = elim (cases_eq other actor) [

@@ -1,14 +1,14 @@
 -- Calls that are no access of a CPU interface have none among their events.
-use Rattle.std.proofs.Common.{◌≡◌, ℕ, Bool, true, false, IsTrue, List, [], ◌∷◌, ◌++◌, Option, Some, None, refl, sym, subst}
+use Rattle.std.proofs.Common.{◌≡◌, ℕ, Bool, true, false, IsTrue, List, [], ◌∷◌, ◌++◌, Option, Some, None, refl, sym, subst, inl, inr}
 use Rattle.std.specs.List.{list_all}
-use Rattle.law_lone_calls_are_eager.specs.Words.{Dist, Redist, Its, Ram, Icc, Mem, GuestShape}
+use Rattle.law_lone_calls_are_eager.specs.Words.{Dist, Redist, Its, Ram, Icc, Mem, GuestShape, Lpi}
 use Rattle.law_lone_calls_are_eager.specs.GicDmap.Map.{decoded as dist_decoded}
 use Rattle.law_lone_calls_are_eager.specs.GicRmap.Map.{decoded as redist_decoded}
 use Rattle.law_lone_calls_are_eager.specs.GicImap.Map.{decoded as its_decoded}
 use Rattle.law_lone_calls_are_eager.specs.GicImap.declared.map.RegRef.{RegRef as ItsRef}
 use Rattle.law_lone_calls_are_eager.specs.GicImap.declared.map.RegRef.TheVariants.{Plain as ItsPlain, Reserved as ItsReserved}
 use Rattle.law_lone_calls_are_eager.specs.Calls.{Event, Cpu, ItsBegin, Operation, Access, Device, Residence, access_events, its_events, takes_turn, Happened, Beside, IsCall, IsItsCall, IsItsWrite, is_beside, its_written_by, View}
-use Rattle.law_lone_calls_are_eager.specs.GicCall.declared.event.Event.TheVariants.{ItsEnd}
+use Rattle.law_lone_calls_are_eager.specs.GicCall.declared.event.Event.TheVariants.{ItsEnd, Raise}
 use Rattle.law_lone_calls_are_eager.specs.GicCall.Call.{starts_commands}
 use Rattle.law_lone_calls_are_eager.proofs.GicCall.TraceLemmas.{its_made, access_made, op_made}
 use Rattle.law_lone_calls_are_eager.proofs.LawEagerIsHistory.FreshLemmas.{is_no_access}
@@ -71,6 +71,9 @@ call_quiet shape beside (Some vcpu) (Access (Mem Its offset size (Some value))) 
     of : (b : Bool) → IsItsWrite b shape beside vcpu offset size value piece answer → IsTrue (list_all is_no_access (events_of piece))
     of true is = its_call shape beside vcpu offset size value piece answer is
     of false is = makes_all is_no_access beside_so (Some vcpu) is.view _ _ [] piece (access_made is) (its_some shape is.view (its_decoded offset size) value)
-call_quiet shape beside None (Device op) piece answer other is = makes_all is_no_access beside_so None is.view _ [] [] piece (op_made is) (device_all is_no_access named_so is.view op)
+call_quiet shape beside None (Device op) piece answer other is = elim (op_made is) [
+  | inl made ↦ makes_all is_no_access beside_so None is.view _ [] [] piece made (device_all is_no_access named_so is.view op)
+  | inr alone ↦ makes_all is_no_access beside_so None is.view (Raise (Lpi alone.id) ∷ []) [] [] piece alone.raised refl
+]
 call_quiet shape beside (Some vcpu) Residence piece answer other is = beside_passes is_no_access beside_no_access (Some vcpu) piece (subst (λ xs. IsTrue (list_all is_no_access (events_of xs))) (sym is.0) refl)
 call_quiet shape beside actor operation piece answer other is = absurd is

@@ -37,7 +37,7 @@ is_message operation = false
 
 module _ (shape : GuestShape) (maps other : Maps) (targets : ℕ → Option ℕ) (commands : List (ℕ → Option ℕ)) where
   abbrev beside : Maps → Beside
-  beside of_its = record { maps = of_its; targets = targets; commands = commands }
+  beside of_its = record { maps = of_its; targets = targets; commands = commands; signals = false }
 
   plain_again : (vcpu : ℕ) (frame : Frame) (offset size : ℕ) (write : Option ℕ) (piece : List Happened) (answer : Option ℕ) → IsPlainCall shape (beside maps) vcpu frame offset size write piece answer → IsPlainCall shape (beside other) vcpu frame offset size write piece answer
   plain_again vcpu frame offset size write piece answer is = record { view = is.view; targets = is.targets; made = is.made; answers = is.answers }

@@ -1,5 +1,5 @@
 -- The events of a call that does not take the ITS to change it.
-use Rattle.std.proofs.Common.{◌≡◌, ℕ, not, Bool, true, false, cond, IsTrue, List, [], ◌∷◌, ◌++◌, Option, Some, None, refl, sym, ap, ◌∙◌, subst}
+use Rattle.std.proofs.Common.{◌≡◌, ℕ, not, Bool, true, false, cond, IsTrue, List, [], ◌∷◌, ◌++◌, Option, Some, None, refl, sym, ap, ◌∙◌, subst, inl, inr}
 use Rattle.std.specs.List.{list_all}
 use Rattle.std.specs.Option.{option_map_or}
 use Rattle.law_ends_agree.specs.Words.{Message, Msi, Wire, Dist, Redist, Its, Ram, Icc, Mem, GuestShape, Lpi}
@@ -42,7 +42,10 @@ call_steady shape beside (Some vcpu) (Access (Mem Its offset size None)) piece a
 call_steady shape beside (Some vcpu) (Access (Mem Its offset size (Some value))) piece answer free is =
     let plain = subst (λ b. IsItsWrite b shape beside vcpu offset size value piece answer) free is in
     made_steady (Some vcpu) plain.view _ _ [] piece plain.made (its_steady shape plain.view (its_decoded offset size) (Some value))
-call_steady shape beside None (Device op) piece answer free is = made_steady None is.view _ _ [] piece (op_made is) (device_all is_steady named_steady is.view op)
+call_steady shape beside None (Device op) piece answer free is = elim (op_made is) [
+  | inl made ↦ made_steady None is.view _ _ [] piece made (device_all is_steady named_steady is.view op)
+  | inr alone ↦ made_steady None is.view (Raise (Lpi alone.id) ∷ []) [] [] piece alone.raised refl
+]
 call_steady shape beside (Some vcpu) Residence piece answer free is = beside_passes is_steady beside_steady (Some vcpu) piece (subst (λ xs. IsTrue (list_all is_steady (events_of xs))) (sym is.0) refl)
 call_steady shape beside actor operation piece answer free is = absurd is
 
@@ -75,7 +78,10 @@ message_once view device event = of (translated view.maps (is_its_enabled view) 
     of (Some id) = refl
 
 pub call_once : (shape : GuestShape) (beside : Beside) (actor : Option ℕ) (operation : Operation) (piece : List Happened) (answer : Option ℕ) → is_message operation ≡ true → IsCall shape beside actor operation piece answer → IsTrue (take_once (events_of piece))
-call_once shape beside None (Device (Msi device event)) piece answer message is = once_named None piece (subst (λ es. IsTrue (take_once es)) (sym (op_made is).events_are) (message_once is.view device event))
+call_once shape beside None (Device (Msi device event)) piece answer message is = elim (op_made is) [
+  | inl made ↦ once_named None piece (subst (λ es. IsTrue (take_once es)) (sym made.events_are) (message_once is.view device event))
+  | inr alone ↦ once_named None piece (subst (λ es. IsTrue (take_once es)) (sym alone.raised.events_are) refl)
+]
 call_once shape beside (Some vcpu) (Device (Msi device event)) piece answer message is = absurd is
 call_once shape beside actor (Device (Message spi)) piece answer message is = absurd (cc)
 call_once shape beside actor (Device (Wire key up)) piece answer message is = absurd (cc)

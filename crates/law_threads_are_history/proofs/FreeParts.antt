@@ -71,7 +71,7 @@ pub record IsGoing (shape : GuestShape) (actor : ℕ) (seat : Seat) (part : Part
   pub comes : (id : ℕ) → goes_by id ≡ true → Comes shape actor id (targets id) seat part.steps
   pub call :
       (maps : Maps) (t : ℕ → Option ℕ) (commands : List (ℕ → Option ℕ)) → (is_message part.operation ≡ true → maps ≡ maps_taken part.steps) → ((id : ℕ) → goes_by id ≡ true → t id ≡ targets id)
-      → IsCall shape (record { maps = maps; targets = t; commands = commands }) (vcpu_of shape actor) part.operation (events_from shape actor seat part.steps) part.answer
+      → IsCall shape (record { maps = maps; targets = t; commands = commands; signals = false }) (vcpu_of shape actor) part.operation (events_from shape actor seat part.steps) part.answer
   pub steady : IsTrue (list_all is_steady (lone_events (events_from shape actor seat part.steps)))
   pub once : is_message part.operation ≡ true → IsTrue (take_once (lone_events (events_from shape actor seat part.steps)))
 
@@ -101,7 +101,7 @@ going_of guest actor base seat part free told = of told.found.finding (told.foun
           (comes_by guest.shape actor id (targets id) is.look is.late is.early seat is.step_is is.target_is is.before is.after);
       call = λ maps t commands message agree.
           call_again guest.shape (maps_taken part.steps) maps t commands (vcpu_of guest.shape actor) part.operation (events_from guest.shape actor seat part.steps) part.answer free message
-          (call (record { maps = maps_taken part.steps; targets = t; commands = commands }) refl agree);
+          (call (record { maps = maps_taken part.steps; targets = t; commands = commands; signals = false }) refl agree);
       steady = steady_so;
       once = once_so;
     }
@@ -409,7 +409,7 @@ module _ (guest : IdealGuest) (actor : ℕ) (ideal : Ideal) (now : Seat) (call :
   piece_is = is.piece ∙ ap (λ todo. call.piece ++ events_from guest.shape actor now todo) over.todo_is ∙ append-nil call.piece
 
   abbrev beside : Beside
-  beside = record { maps = call.maps; targets = chosen; commands = call.commands }
+  beside = record { maps = call.maps; targets = chosen; commands = call.commands; signals = false }
 
   pub free_ends : FreeEnds guest actor now call answer acts
   free_ends = record {
@@ -418,6 +418,7 @@ module _ (guest : IdealGuest) (actor : ℕ) (ideal : Ideal) (now : Seat) (call :
       maps = refl;
       commands = refl;
       targets = chosen_there;
+      right = λ h. h;
       is_call =
           subst (λ op. IsCall guest.shape beside (vcpu_of guest.shape actor) op call.piece answer) (sym is.operation)
           (subst (λ xs. IsCall guest.shape beside (vcpu_of guest.shape actor) is.part.operation xs answer) piece_is

@@ -279,7 +279,7 @@ module _ (guest : IdealGuest) (actor : ℕ) (ideal : Ideal) (now : Seat) (call :
         piece = piece_one;
         firsts = firsts_from guest.shape actor is.first is.start is.more;
         is_call = λ targets commands same.
-            subst (λ m. IsCall guest.shape (record { maps = m; targets = targets; commands = commands }) who is.part.operation (events_from guest.shape actor is.seat is.part.steps) is.part.answer) (sym maps_so)
+            subst (λ m. IsCall guest.shape (record { maps = m; targets = targets; commands = commands; signals = false }) who is.part.operation (events_from guest.shape actor is.seat is.part.steps) is.part.answer) (sym maps_so)
             (turned.call targets commands same);
         beside = over;
         noted = subst (HasNoted call_after) (sym firsts_end) noted_so;
@@ -354,7 +354,7 @@ released_makes guest actor ideal now call made acts is = of (stands guest.shape 
             piece = piece ∙ sym (append_assoc call.piece (one ∷ []) more) ∙ ap (λ p. (p ++ one ∷ []) ++ more) (sym (noted_piece ideal one.event call));
             firsts = is.firsts;
             is_call = λ targets commands same.
-                subst (λ m. IsCall guest.shape (record { maps = m; targets = targets; commands = commands }) who is.part.operation (events_from guest.shape actor is.seat is.part.steps) is.part.answer) (sym maps)
+                subst (λ m. IsCall guest.shape (record { maps = m; targets = targets; commands = commands; signals = false }) who is.part.operation (events_from guest.shape actor is.seat is.part.steps) is.part.answer) (sym maps)
                 (is.is_call targets commands same);
             beside = parts.1;
             noted = noted_on ideal after one.event one.found call is.firsts inner (not_ending (is_ending one.event) (beside_endless who one.event parts.0)) is.noted;
@@ -386,7 +386,7 @@ pub record ReleasedEnds (guest : IdealGuest) (actor : ℕ) (now : Seat) (call : 
 pub released_ends : (guest : IdealGuest) (actor : ℕ) (now : Seat) (call : Call) (answer : Option ℕ) (acts : List Act) → IsReleased guest actor now call (ends answer ∷ acts) → ReleasedEnds guest actor now call answer acts
 released_ends guest actor now call answer acts is =
     let over = partly_ends guest actor now is.seat is.part answer acts is.todo is.partly in
-    let beside : Beside = record { maps = call.maps; targets = λ id. (is.noted.some id).0; commands = call.commands } in
+    let beside : Beside = record { maps = call.maps; targets = λ id. (is.noted.some id).0; commands = call.commands; signals = false } in
     let who = vcpu_of guest.shape actor in
     record {
       ended = record {
@@ -394,6 +394,7 @@ released_ends guest actor now call answer acts is =
         maps = refl;
         commands = refl;
         targets = λ id. (is.noted.some id).1;
+        right = λ h. h;
         is_call =
             subst (λ op. IsCall guest.shape beside who op call.piece answer) (sym is.operation)
             (subst (λ xs. IsCall guest.shape beside who is.part.operation xs answer) (is.piece ∙ ap (λ todo. call.piece ++ events_from guest.shape actor now todo) over.todo_is ∙ append-nil call.piece)

@@ -197,7 +197,7 @@ pub record IsReleased (guest : IdealGuest) (actor : ℕ) (now : Seat) (call : Ca
   pub firsts : List Targets
   pub is_call :
       (targets : Targets) (commands : List Targets) → AreSame firsts commands
-      → IsCall guest.shape (record { maps = call.maps; targets = targets; commands = commands }) (vcpu_of guest.shape actor) part.operation (events_from guest.shape actor seat part.steps) part.answer
+      → IsCall guest.shape (record { maps = call.maps; targets = targets; commands = commands; signals = false }) (vcpu_of guest.shape actor) part.operation (events_from guest.shape actor seat part.steps) part.answer
   pub beside : IsTrue (list_all (is_beside (vcpu_of guest.shape actor)) (lone_events (events_from guest.shape actor now todo)))
   pub noted : HasNoted call firsts
 

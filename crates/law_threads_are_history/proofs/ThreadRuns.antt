@@ -8,6 +8,7 @@ use Rattle.law_ends_agree.specs.Words.{Lpi, GuestShape, has_interrupt, IsShape, 
 use Rattle.law_ends_agree.specs.Calls.{Event, ItsBegin, Begin, Happens, Operation, Happened}
 use Rattle.law_ends_agree.specs.GicCall.declared.event.Moment.TheVariants.{End}
 use Rattle.law_ends_agree.specs.Histories.{irq_at, Ideal, happened, is_allowed, Call, Course, IsCallEnded, begun, call_of, course_of, gone_on, made as made_by, opening_course, seeing, targets_in, IdealGuest, CanOpen}
+use Rattle.law_ends_agree.proofs.GicHistory.CallLemmas.{ended_as}
 use Rattle.law_ends_agree.proofs.IdealGuests.KeyLemmas.{IsWhole}
 use Rattle.law_found_parts_are_calls.proofs.LawHistories.CourseLemmas.{begun_here, begun_other, ended_other, made_here, made_other, mark_is}
 use Rattle.law_ends_agree.specs.Registers.{IsValid}
@@ -69,9 +70,14 @@ module _ (guest : IdealGuest) (actor : ℕ) (now : Seat) (ideal : Ideal) (operat
   begins_mine false o (inl idle) = inr (record { call = begun ideal operation; call_is = refl; is = opens (idle_begins guest actor now operation lrs acts idle) })
   begins_mine false o (inr is) = absurd (none_open false is.call is.is)
 
+-- what is a call without a lone raise is one whatever was raised
+any_signals : (signals : Bool) (shape : GuestShape) (actor : ℕ) (o : Option Call) (answer : Option ℕ) → IsCallEnded false shape actor o answer → IsCallEnded signals shape actor o answer
+any_signals signals shape actor None answer is = absurd is
+any_signals signals shape actor (Some call) answer is = ended_as signals shape actor call answer is
+
 -- one ends, and is its call
 record EndsCall (guest : IdealGuest) (actor : ℕ) (holds : Bool) (now : Seat) (ideal : Ideal) (o : Option Call) (answer : Option ℕ) (acts : List Act) : Type 0 where
-  ended : IsCallEnded guest.shape actor o answer
+  ended : IsCallEnded false guest.shape actor o answer
   stand : (other : Option Call) → Stands guest actor holds now ideal other acts
 
 module _ (guest : IdealGuest) (actor : ℕ) (now : Seat) (ideal : Ideal) (answer : Option ℕ) (acts : List Act) where
@@ -83,7 +89,7 @@ module _ (guest : IdealGuest) (actor : ℕ) (now : Seat) (ideal : Ideal) (answer
   ends_mine : (holds : Bool) (o : Option Call) → Stands guest actor holds now ideal o (ends answer ∷ acts) → EndsCall guest actor holds now ideal o answer acts
   ends_mine true o is = absurd (holding_ends_none guest actor ideal now is.call answer acts is.is)
   ends_mine false o (inl idle) = absurd (idle_ends_none guest actor now answer acts idle)
-  ends_mine false o (inr is) = let over = ends_open is.call is.is in record { ended = subst (λ o. IsCallEnded guest.shape actor o answer) (sym is.call_is) over.ended; stand = λ other. inl over.idle }
+  ends_mine false o (inr is) = let over = ends_open is.call is.is in record { ended = subst (λ o. IsCallEnded false guest.shape actor o answer) (sym is.call_is) over.ended; stand = λ other. inl over.idle }
 
 -- it makes a step
 
@@ -252,11 +258,11 @@ module _ (guest : IdealGuest) (good : IsShape guest.shape) where
         subst (λ o. Stands guest n (is_number n holder) (seat_at state n) course.ideal o (own_acts n moments)) (sym (begun_other course actor operation n differ)) (other_before (begins operation lrs) n among differ all)))
 
     ends_step : (answer : Option ℕ) → IsRun guest.shape state (entries_of moments) → AllStand holder state course (record { actor = actor; act = ends answer } ∷ moments)
-        → IsCallEnded guest.shape actor (call_of course actor) answer × AreCalls guest.shape state (gone_on course (End actor answer)) moments
+        → IsCallEnded (course.signals actor) guest.shape actor (call_of course actor) answer × AreCalls guest.shape state (gone_on course (End actor answer)) moments
     ends_step answer run all =
         let over = ends_mine guest actor (seat_at state actor) course.ideal answer (own_acts actor moments) (is_number actor holder) (call_of course actor) (mine_before (ends answer) all) in
         let next = gone_on course (End actor answer) in (
-          over.ended,
+          any_signals (course.signals actor) guest.shape actor (call_of course actor) answer over.ended,
           later holder state next (record { sound = at.sound; related = at.related; known = at.known; each = length-set course.calls actor _ ∙ at.each }) run calm
               (all_from holder state next (over.stand (call_of next actor))
               (λ n among differ.

@@ -1,5 +1,5 @@
 -- A part that takes the ITS to change it is its call by what its actor found from there on, and leaves each LPI that the maps give no vCPU for none.
-use Rattle.std.proofs.Common.{◌≡◌, ℕ, ◌⊎◌, inl, inr, not, true, IsTrue, List, [], ◌∷◌, ◌++◌, Option, Some, None, is_none, slice_index_or, refl, sym, ap, ◌∙◌, subst}
+use Rattle.std.proofs.Common.{◌≡◌, ℕ, ◌⊎◌, inl, inr, not, true, false, IsTrue, List, [], ◌∷◌, ◌++◌, Option, Some, None, is_none, slice_index_or, refl, sym, ap, ◌∙◌, subst}
 use Rattle.std.specs.List.{list_all}
 use Rattle.std.specs.Option.{option_to_list}
 use Rattle.std.proofs.lemmas.Bool.{and_from, and_parts}
@@ -158,7 +158,7 @@ firsts_from shape actor now start more = targets_in start ∷ begun_after actor 
 pub record IsTurnedCall (guest : IdealGuest) (actor : ℕ) (seat : Seat) (part : Part) (now : Seat) (start : Ideal) (more : List Made) : Type 0 where
   pub call :
       (targets : Targets) (commands : List Targets) → AreSame (firsts_from guest.shape actor now start more) commands
-      → IsCall guest.shape (record { maps = start.guest.tables; targets = targets; commands = commands }) (vcpu_of guest.shape actor) part.operation (events_from guest.shape actor seat part.steps) part.answer
+      → IsCall guest.shape (record { maps = start.guest.tables; targets = targets; commands = commands; signals = false }) (vcpu_of guest.shape actor) part.operation (events_from guest.shape actor seat part.steps) part.answer
   pub none : AreForNone (state_after actor (lone_events (events_from guest.shape actor now more)) start).guest
 
 module _ (guest : IdealGuest) (actor : ℕ) (seat : Seat) (part : Part) (now : Seat) (start : Ideal) (more : List Made) (is : IsTurned guest actor seat part now start more) (matches : Matches guest.shape actor true now start more) where
@@ -318,11 +318,11 @@ module _ (guest : IdealGuest) (actor : ℕ) (seat : Seat) (part : Part) (now : S
   agrees (by_commands (one ∷ commands)) kind found = agree_among one commands found
 
   call_with : (targets : Targets) (commands : List Targets) → AreSame firsts commands
-      → IsCall guest.shape (record { maps = maps; targets = targets; commands = commands }) who part.operation (events_from guest.shape actor seat part.steps) part.answer
+      → IsCall guest.shape (record { maps = maps; targets = targets; commands = commands; signals = false }) who part.operation (events_from guest.shape actor seat part.steps) part.answer
   call_with targets commands same =
       let found = is.told.found in
       let kind = found.kind ∙ is.takes in
-      let other : Beside = record { maps = maps; targets = targets; commands = commands } in
+      let other : Beside = record { maps = maps; targets = targets; commands = commands; signals = false } in
       found.call other (sym is.maps_is) (agrees_same found.finding (beside_of maps firsts) other same kind (agrees found.finding kind found.is_finding))
 
   call_is : IsCall guest.shape (beside_of maps firsts) who part.operation (events_from guest.shape actor seat part.steps) part.answer

@@ -101,7 +101,7 @@ told_at actor =
 found_so : (seen : Seen) (part : Part) → takes_its_by (shape_of seen) part.operation ≡ false
     → ((beside : Beside) → beside.maps ≡ maps_taken part.steps → IsCall (shape_of seen) beside (vcpu_of_actor (shape_of seen) seen.actor) part.operation (part_events seen part.steps) part.answer) → IsCallFound seen part
 found_so seen part free call = record {
-  made = record { beside = record { maps = maps_taken part.steps; targets = λ id. None; commands = [] }; maps = refl; call = call (record { maps = maps_taken part.steps; targets = λ id. None; commands = [] }) refl };
+  made = record { beside = record { maps = maps_taken part.steps; targets = λ id. None; commands = []; signals = false }; maps = refl; signals = refl; call = call (record { maps = maps_taken part.steps; targets = λ id. None; commands = []; signals = false }) refl };
   found = found_by_none seen part.steps part.operation part.answer free call;
 }
 

@@ -1,18 +1,19 @@
 -- Along moments that go on: what is open can still become a call, and what it may make only shrinks.
 use Rattle.std.proofs.Common.{◌≡◌, ◌≢◌, ℕ, ◌&&◌, ◌||◌, ◌==◌, not, Bool, true, false, cond, List, [], ◌∷◌, ◌++◌, fold, Option, option_map, Some, None, refl, sym, ap, ◌∙◌, subst, inl, inr, append_assoc, eqb-true}
 use Rattle.std.specs.Option.{option_map_or}
-use Rattle.std.proofs.lemmas.Bool.{and_parts, and_from, or_cases, not-true, cases_eq, eqb-false}
+use Rattle.std.proofs.lemmas.Bool.{and_parts, and_from, or_cases, not-true, cases_eq, eqb-false, false_from_ne_true, eq-eqb}
 use Rattle.std.proofs.lemmas.List.{map-append}
 use Rattle.std.proofs.lemmas.Option.{none-some}
-use Rattle.law_histories.specs.Words.{Key, GuestShape, is_same_key}
-use Rattle.law_histories.specs.Calls.{Event, Found, Moment, Begin, Happens, Happened}
+use Rattle.law_histories.specs.Words.{Key, GuestShape, is_same_key, Private, Spi, Lpi}
+use Rattle.law_histories.specs.Calls.{Event, Found, Moment, Begin, Happens, Happened, Up, Down, Touch, Reach, Take, Leave, Enable, Cpu, Put, CtlrBegin, CtlrEnd, ItsBegin, Operation}
+use Rattle.law_histories.specs.GicCall.declared.event.Event.TheVariants.{Raise, Read, ItsEnd, Queue}
 use Rattle.law_histories.specs.GicCall.declared.event.Moment.TheVariants.{End}
-use Rattle.law_histories.specs.Histories.{IdealGuest, Ideal, happened, Call, Course, opening_course, call_of, made, seeing, gone_on, course_of, IsEnded, IsCallEnded, IsNext, GoesOn, key_in, is_event_of, ends_turn, is_to_come}
+use Rattle.law_histories.specs.Histories.{IdealGuest, Ideal, happened, Call, Course, opening_course, call_of, made, seeing, gone_on, course_of, IsCallEnded, IsNext, GoesOn, key_in, is_event_of, ends_turn, is_to_come, IsEndedAs, is_signal, signals_after, with_signal}
 use Rattle.law_histories.proofs.GicBase.KeyLemmas.{same_key}
 use Rattle.law_histories.proofs.StateLemmas.{guest_is}
 use Rattle.law_histories.proofs.CourseLemmas.{begun_other, ended_other, made_here, made_other, call_is, none_is, course_both, goes_before, noted_piece}
 use Rattle.law_histories.proofs.SpreadLemmas.{events_of}
-use Rattle.legal_lists.specs.Legal.{Note, Made, Sees, noting, IsBegun, IsLegal, may_make, may_make_after, may_come}
+use Rattle.legal_lists.specs.Legal.{Note, Made, Sees, noting, IsBegun, IsLegal, may_make, may_make_after, may_come, raises_lpi, signalling}
 use Rattle.legal_lists.specs.Laws.{MadeWasToCome}
 use Rattle.legal_lists.proofs.MadeLemmas.{was_possible, GoesOnAs, made_as, notes_as, makes_less_as}
 
@@ -44,38 +45,81 @@ shape_after course (moment ∷ moments) = shape_after (gone_on course moment) mo
 
 -- all calls that are open can still become calls
 abbrev pub AreBegun : GuestShape → Course → Type 0
-AreBegun shape course = (actor : ℕ) (call : Call) → call_of course actor ≡ Some call → IsBegun shape actor call
+AreBegun shape course = (actor : ℕ) (call : Call) → call_of course actor ≡ Some call → IsBegun (course.signals actor) shape actor call
 
 -- before what it notes further on
-before_note : (shape : GuestShape) (actor : ℕ) (call : Call) (note : Note) → IsBegun shape actor (noting call note) → IsBegun shape actor call
-before_note shape actor call note is = record { notes = note ∷ is.notes; answer = is.answer; ended = is.ended }
+before_note : (signals : Bool) (shape : GuestShape) (actor : ℕ) (call : Call) (note : Note) → IsBegun (signalling signals note) shape actor (noting call note) → IsBegun signals shape actor call
+before_note signals shape actor call note is = record { notes = note ∷ is.notes; answer = is.answer; ended = is.ended }
 
 -- an event of its own
-before_event : (shape : GuestShape) (actor : ℕ) (call : Call) (ideal after : Ideal) (event : Event) (found : Found) → IsBegun shape actor (seeing after (made ideal event found call)) → IsBegun shape actor call
-before_event shape actor call ideal after event found is = before_note shape actor call (Made ideal event found) (before_note shape actor (made ideal event found call) (Sees after) is)
+before_event : (signals now : Bool) (shape : GuestShape) (actor : ℕ) (call : Call) (ideal after : Ideal) (event : Event) (found : Found) → IsBegun (signals || (now && raises_lpi event)) shape actor (seeing after (made ideal event found call)) → IsBegun signals shape actor call
+before_event signals now shape actor call ideal after event found is =
+    before_note signals shape actor call (Made now ideal event found) (before_note (signals || (now && raises_lpi event)) shape actor (made ideal event found call) (Sees after) is)
+
+-- whether it raised what it signals, after the event
+signal_raises : (course : Course) (operation : Operation) (event : Event) → is_signal course operation event ≡ (is_signal course operation event && raises_lpi event)
+signal_raises course operation event = of event
+  where
+    of : (event : Event) → is_signal course operation event ≡ (is_signal course operation event && raises_lpi event)
+    of (Raise (Lpi id)) = both (is_signal course operation (Raise (Lpi id)))
+      where
+        both : (b : Bool) → b ≡ (b && true)
+        both true = refl
+        both false = refl
+    of (Raise (Private vcpu id)) = refl
+    of (Raise (Spi id)) = refl
+    of (Up key) = refl
+    of (Down key) = refl
+    of (Touch key touching) = refl
+    of (Reach key vcpu) = refl
+    of (Take key vcpu) = refl
+    of (Leave key vcpu) = refl
+    of (Enable vcpu) = refl
+    of (Cpu vcpu reg write) = refl
+    of (Read place) = refl
+    of (Put word value) = refl
+    of (CtlrBegin enables) = refl
+    of CtlrEnd = refl
+    of ItsBegin = refl
+    of ItsEnd = refl
+    of (Queue offset change) = refl
+
+signals_own : (course : Course) (actor : ℕ) (event : Event) (found : Found) (call : Call) → call_of course actor ≡ Some call
+    → (gone_on course (Happens actor event found)).signals actor ≡ (course.signals actor || (is_signal course call.operation event && raises_lpi event))
+signals_own course actor event found call is =
+    ap (λ b. cond b (signals_after course actor event) (course.signals actor)) (eq-eqb actor actor refl)
+    ∙ ap (λ o. course.signals actor || option_map_or (λ (one : Call). is_signal course one.operation event) o false) is
+    ∙ ap (λ b. course.signals actor || b) (signal_raises course call.operation event)
+
+-- and where it is another's
+signals_other : (course : Course) (actor other : ℕ) (signals : Bool) → other ≢ actor → with_signal course actor signals other ≡ course.signals other
+signals_other course actor other signals differ = ap (λ b. cond b signals (course.signals other)) (false_from_ne_true (other == actor) (λ t. differ (eqb-true other actor t)))
 
 -- its end
-before_end : (shape : GuestShape) (actor : ℕ) (call : Call) (answer : Option ℕ) → IsEnded shape actor call answer → IsBegun shape actor call
-before_end shape actor call answer is = record { notes = []; answer = answer; ended = is }
+before_end : (signals : Bool) (shape : GuestShape) (actor : ℕ) (call : Call) (answer : Option ℕ) → IsEndedAs signals shape actor call answer → IsBegun signals shape actor call
+before_end signals shape actor call answer is = record { notes = []; answer = answer; ended = is }
 
-ended_is : (shape other : GuestShape) (actor : ℕ) (o : Option Call) (call : Call) (answer : Option ℕ) → shape ≡ other → o ≡ Some call → IsCallEnded shape actor o answer → IsEnded other actor call answer
-ended_is shape other actor o call answer same e is = subst (λ s. IsEnded s actor call answer) same (subst (λ o. IsCallEnded shape actor o answer) e is)
+ended_is : (signals : Bool) (shape other : GuestShape) (actor : ℕ) (o : Option Call) (call : Call) (answer : Option ℕ) → shape ≡ other → o ≡ Some call → IsCallEnded signals shape actor o answer → IsEndedAs signals other actor call answer
+ended_is signals shape other actor o call answer same e is = subst (λ s. IsEndedAs signals s actor call answer) same (subst (λ o. IsCallEnded signals shape actor o answer) e is)
 
 begun_before : (shape : GuestShape) (course : Course) (moment : Moment) → course.ideal.guest.shape ≡ shape → IsNext course moment → AreBegun shape (gone_on course moment) → AreBegun shape course
 begun_before shape course (Begin actor operation) same next are other call e = elim (cases_eq other actor) [
   | inl is ↦ absurd (none-some call (sym (none_is (call_of course actor) next.1) ∙ ap (call_of course) (sym is) ∙ e))
-  | inr differ ↦ are other call (begun_other course actor operation other differ ∙ e)
+  | inr differ ↦ subst (λ signals. IsBegun signals shape other call) (signals_other course actor other false differ) (are other call (begun_other course actor operation other differ ∙ e))
 ]
 begun_before shape course (Happens actor event found) same next are other call e = elim (cases_eq other actor) [
-  | inl is ↦ before_event shape other call course.ideal (happened actor event course.ideal) event found
+  | inl is ↦ before_event (course.signals other) (is_signal course call.operation event) shape other call course.ideal (happened actor event course.ideal) event found
+      (subst (λ signals. IsBegun signals shape other (seeing (happened actor event course.ideal) (made course.ideal event found call)))
+      (ap (gone_on course (Happens actor event found)).signals is ∙ signals_own course actor event found call (ap (call_of course) (sym is) ∙ e) ∙ ap (λ n. course.signals n || (is_signal course call.operation event && raises_lpi event)) (sym is))
       (are other (seeing (happened actor event course.ideal) (made course.ideal event found call))
-      (ap (call_of (gone_on course (Happens actor event found))) is ∙ made_here course actor event found call (ap (call_of course) (sym is) ∙ e)))
-  | inr differ ↦ before_note shape other call (Sees (happened actor event course.ideal))
-      (are other (seeing (happened actor event course.ideal) call) (made_other course actor event found other differ ∙ ap (option_map (seeing (happened actor event course.ideal))) e))
+      (ap (call_of (gone_on course (Happens actor event found))) is ∙ made_here course actor event found call (ap (call_of course) (sym is) ∙ e))))
+  | inr differ ↦ before_note (course.signals other) shape other call (Sees (happened actor event course.ideal))
+      (subst (λ signals. IsBegun signals shape other (seeing (happened actor event course.ideal) call)) (signals_other course actor other (signals_after course actor event) differ)
+      (are other (seeing (happened actor event course.ideal) call) (made_other course actor event found other differ ∙ ap (option_map (seeing (happened actor event course.ideal))) e)))
 ]
 begun_before shape course (End actor answer) same next are other call e = elim (cases_eq other actor) [
-  | inl is ↦ before_end shape other call answer (subst (λ a. IsEnded shape a call answer) (sym is) (ended_is course.ideal.guest.shape shape actor (call_of course actor) call answer same (ap (call_of course) (sym is) ∙ e) next))
-  | inr differ ↦ are other call (ended_other course actor answer other differ ∙ e)
+  | inl is ↦ before_end (course.signals other) shape other call answer (subst (λ a. IsEndedAs (course.signals a) shape a call answer) (sym is) (ended_is (course.signals actor) course.ideal.guest.shape shape actor (call_of course actor) call answer same (ap (call_of course) (sym is) ∙ e) next))
+  | inr differ ↦ subst (λ signals. IsBegun signals shape other call) (signals_other course actor other false differ) (are other call (ended_other course actor answer other differ ∙ e))
 ]
 
 pub begun_from : (shape : GuestShape) (course : Course) (moments : List Moment) → course.ideal.guest.shape ≡ shape → GoesOn course moments → AreBegun shape (course_of course moments) → AreBegun shape course

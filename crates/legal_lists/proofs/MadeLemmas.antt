@@ -120,19 +120,25 @@ module _ (shape : GuestShape) (actor : ℕ) (early : List Event) (event : Event)
     write_possible false offset size value is = its_plain_possible offset size (Some value) is
 
     msi_possible : (device number : ℕ) → IsDeviceCall beside (Msi device number) piece answer → may_make_after shape actor (Device (Msi device number)) early key ≡ true
-    msi_possible device number is = of (translated is.view.maps (is_its_enabled is.view) device number) (op_made is).events_are
+    msi_possible device number is = elim (op_made is) [
+      | inl made ↦ of (translated is.view.maps (is_its_enabled is.view) device number) made.events_are
+      | inr alone ↦ once alone.id (Raise (Lpi alone.id) ∷ []) alone.raised.events_are refl refl
+    ]
       where
-        of : (o : Option ℕ) → events_of (named_of None piece) ≡ (ItsBegin ∷ option_map_or (λ id. Raise (Lpi id) ∷ []) o [] ++ ItsEnd ∷ []) → may_make_after shape actor (Device (Msi device number)) early key ≡ true
-        of None e = absurd (none_made (ap keys_of (sym are) ∙ keys_named None piece ∙ ap keys_of e))
-        of (Some id) e =
-            let at : IsInTurn early key = turn_at early event late key is_of (ap is_turn (sym are) ∙ turn_named None piece (ap is_turn e)) in
-            let none : keys_of early ≡ [] = first_key early event late key (Lpi id) is_of (ap keys_of (sym are) ∙ keys_named None piece ∙ ap keys_of e) in
+        once : (id : ℕ) (named : List Event) → events_of (named_of None piece) ≡ named → keys_of named ≡ Lpi id ∷ [] → is_turn named ≡ true → may_make_after shape actor (Device (Msi device number)) early key ≡ true
+        once id named e keys turn =
+            let at : IsInTurn early key = turn_at early event late key is_of (ap is_turn (sym are) ∙ turn_named None piece (ap is_turn e ∙ turn)) in
+            let none : keys_of early ≡ [] = first_key early event late key (Lpi id) is_of (ap keys_of (sym are) ∙ keys_named None piece ∙ ap keys_of e ∙ keys) in
             of_lpi (Device (Msi device number)) at.id at.is
             (and_from (not (list_any (λ one. true) (keys_of early))) (not (list_any gives_back early)) (ap (λ ks. not (list_any (λ one. true) ks)) none) (not_from_false (list_any gives_back early) at.held))
 
+        of : (o : Option ℕ) → events_of (named_of None piece) ≡ (ItsBegin ∷ option_map_or (λ id. Raise (Lpi id) ∷ []) o [] ++ ItsEnd ∷ []) → may_make_after shape actor (Device (Msi device number)) early key ≡ true
+        of None e = absurd (none_made (ap keys_of (sym are) ∙ keys_named None piece ∙ ap keys_of e))
+        of (Some id) e = once id (ItsBegin ∷ Raise (Lpi id) ∷ ItsEnd ∷ []) e refl refl
+
     device_possible : (op : DeviceOp) → IsDeviceCall beside op piece answer → may_make_after shape actor (Device op) early key ≡ true
-    device_possible (Message spi) is = ordered (Device (Message spi)) (ap keys_of (sym are) ∙ made_keys None is.view (device_events is.view (Message spi)) [] [] piece (op_made is))
-    device_possible (Wire wired up) is = ordered (Device (Wire wired up)) (ap keys_of (sym are) ∙ made_keys None is.view (device_events is.view (Wire wired up)) [] [] piece (op_made is))
+    device_possible (Message spi) is = ordered (Device (Message spi)) (ap keys_of (sym are) ∙ made_keys None is.view (device_events is.view (Message spi)) [] [] piece is.made)
+    device_possible (Wire wired up) is = ordered (Device (Wire wired up)) (ap keys_of (sym are) ∙ made_keys None is.view (device_events is.view (Wire wired up)) [] [] piece is.made)
     device_possible (Msi device number) is = msi_possible device number is
 
     call_possible : (b : Bool) (operation : Operation) → IsCall shape beside (cond b (Some actor) None) operation piece answer → may_make_after shape actor operation early key ≡ true
@@ -237,7 +243,7 @@ pub made_as : (ideal : Ideal) (event : Event) (found : Found) (call : Call) → 
 made_as ideal event found call = record { operation = noted_operation ideal event call; more = (record { event = event; found = found }) ∷ []; piece = ap (λ p. p ++ (record { event = event; found = found }) ∷ []) (noted_piece ideal event call) }
 
 noting_as : (call : Call) (note : Note) → GoesOnAs call (noting call note)
-noting_as call (Made ideal event found) = made_as ideal event found call
+noting_as call (Made signals ideal event found) = made_as ideal event found call
 noting_as call (Sees ideal) = record { operation = refl; more = []; piece = sym (append-nil call.piece) }
 
 pub notes_as : (call : Call) (notes : List Note) → GoesOnAs call (fold noting call notes)

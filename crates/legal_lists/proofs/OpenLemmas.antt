@@ -1,5 +1,5 @@
 -- The worked lists that break off while calls are open.
-use Rattle.std.proofs.Common.{◌≡◌, ℕ, zero, suc, ◌^◌, nat_lt, true, false, cond, IsTrue, List, [], ◌∷◌, ◌++◌, take, Option, Some, None, refl, sym, ap, ◌∙◌, subst, arith, true≢false, le-ltb}
+use Rattle.std.proofs.Common.{◌≡◌, inl, ℕ, zero, suc, ◌^◌, nat_lt, true, false, cond, IsTrue, List, [], ◌∷◌, ◌++◌, take, Option, Some, None, refl, sym, ap, ◌∙◌, subst, arith, true≢false, le-ltb}
 use Rattle.std.proofs.lemmas.List.Elements.{All-nil, All-from_recursion}
 use Rattle.std.proofs.lemmas.Option.{none-some, same_Some}
 use Rattle.law_histories.specs.Registers.{least_in, with_level, without_level}
@@ -19,7 +19,7 @@ use Rattle.legal_lists.proofs.WorkedLemmas.{cut, history_before, begun_before, I
 
 -- what a call made is the call, with the maps and the vCPUs of LPIs that it noted first
 ended_by : (shape : GuestShape) (actor : ℕ) (call : Call) (answer : Option ℕ) → ((id : ℕ) → IsTrue (is_some_window (call.targets id))) → IsCall shape (beside_of call) (vcpu_of shape actor) call.operation call.piece answer → IsEnded shape actor call answer
-ended_by shape actor call answer window is = record { beside = beside_of call; maps = refl; commands = refl; targets = λ id. head_in (call.targets id) (window id); is_call = is }
+ended_by shape actor call answer window is = record { beside = beside_of call; maps = refl; commands = refl; targets = λ id. head_in (call.targets id) (window id); right = λ h. h; is_call = is }
 
 -- a read of IAR1 by vCPU 0 that finds nothing
 read_is : (shape : GuestShape) → IsIccCall shape 0 Iar1 None ((record { event = Cpu 0 Iar1 None; found = Answer (Some 1023) }) ∷ []) (Some 1023)
@@ -117,11 +117,11 @@ enables_is beside =
 
 passed_begun : AreBegun waiting_guest.shape (course_of (opening_course waiting_guest) (take 4 passes_by))
 unfolding least_in with_level without_level
-passed_begun zero call e = subst (IsBegun waiting_guest.shape 0) (same_Some _ call e) (record { notes = []; answer = Some 1023; ended = ended_by waiting_guest.shape 0 _ (Some 1023) (λ id. refl) (read_is waiting_guest.shape) })
+passed_begun zero call e = subst (IsBegun false waiting_guest.shape 0) (same_Some _ call e) (record { notes = []; answer = Some 1023; ended = ended_by waiting_guest.shape 0 _ (Some 1023) (λ id. refl) (read_is waiting_guest.shape) })
 passed_begun (suc zero) call e =
-    subst (IsBegun waiting_guest.shape 1) (same_Some _ call e)
+    subst (IsBegun false waiting_guest.shape 1) (same_Some _ call e)
     (record {
-      notes = Made (opening_course waiting_guest).ideal (Read (Word (Pendbaser 1))) (FoundWord (2 ^ 62)) ∷ [];
+      notes = Made false (opening_course waiting_guest).ideal (Read (Word (Pendbaser 1))) (FoundWord (2 ^ 62)) ∷ [];
       answer = None;
       ended = ended_by waiting_guest.shape 1 _ None (λ id. seen id _ _) (enables_is _);
     })
@@ -158,7 +158,7 @@ signals_is beside =
     record {
       view = view;
       maps = refl;
-      made = record {
+      made = inl (record {
         raising = takes ∷ reads_ctlr ∷ [];
         last = gives ∷ [];
         split = refl;
@@ -170,18 +170,18 @@ signals_is beside =
           made = record { events_are = refl; found = All-nil _; reads = All-from_recursion (λ place. IsLastRead place (held_at view place) (reads_ctlr ∷ [])) (Word ItsCtlr ∷ []) (last_read [] [] refl, tt) };
         };
         ended = record { events_are = refl; found = hands_one view ItsEnd Nothing refl; reads = All-nil _ };
-      };
+      });
       answers = refl;
     }
 
 signals_begun : AreBegun waiting_guest.shape (course_of (opening_course waiting_guest) (take 4 signals_none))
 unfolding least_in with_level without_level
-signals_begun zero call e = subst (IsBegun waiting_guest.shape 0) (same_Some _ call e) (record { notes = []; answer = Some 1023; ended = ended_by waiting_guest.shape 0 _ (Some 1023) (λ id. refl) (read_is waiting_guest.shape) })
+signals_begun zero call e = subst (IsBegun false waiting_guest.shape 0) (same_Some _ call e) (record { notes = []; answer = Some 1023; ended = ended_by waiting_guest.shape 0 _ (Some 1023) (λ id. refl) (read_is waiting_guest.shape) })
 signals_begun (suc zero) call e = absurd (none-some call e)
 signals_begun (suc (suc zero)) call e =
-    subst (IsBegun waiting_guest.shape 2) (same_Some _ call e)
+    subst (IsBegun false waiting_guest.shape 2) (same_Some _ call e)
     (record {
-      notes = Made (opening_course waiting_guest).ideal (Read (Word ItsCtlr)) (FoundWord 0) ∷ Made (opening_course waiting_guest).ideal ItsEnd Nothing ∷ [];
+      notes = Made false (opening_course waiting_guest).ideal (Read (Word ItsCtlr)) (FoundWord 0) ∷ Made false (opening_course waiting_guest).ideal ItsEnd Nothing ∷ [];
       answer = None;
       ended = ended_by waiting_guest.shape 2 _ None (λ id. refl) (signals_is _);
     })

@@ -3,28 +3,38 @@
 use Rattle.std.specs.Prelude.{◌≡◌, ℕ, ◌&&◌, ◌||◌, ◌==◌, not, nat_lt, Bool, true, false, IsTrue, List, [], ◌∷◌, map, length, drop, fold, filter_map, Option, Some, None, if◌then◌else◌}
 use Rattle.std.specs.List.{list_all, list_any, range_with_len}
 use Rattle.std.specs.Option.{option_map_or}
-use Rattle.law_histories.specs.Words.{Key, Redist, Icc, Mem, Msi, GuestShape, is_same_key, intid_of}
+use Rattle.law_histories.specs.Words.{Key, Redist, Icc, Mem, Msi, GuestShape, is_same_key, intid_of, Lpi}
 use Rattle.law_histories.specs.Calls.{Event, Cpu, Found, Moment, Begin, Happens, Operation, Access, Device, Residence, View, opening_irq, icc_events, access_events, device_events, sets_lpis}
-use Rattle.law_histories.specs.GicCall.declared.event.Event.TheVariants.{ItsEnd}
+use Rattle.law_histories.specs.GicCall.declared.event.Event.TheVariants.{Raise, ItsEnd}
 use Rattle.law_histories.specs.GicCall.declared.event.Moment.TheVariants.{End}
 use Rattle.law_histories.specs.GicRmap.Map.{decoded as redist_decoded}
-use Rattle.law_histories.specs.Histories.{IdealGuest, Ideal, Call, Course, actor_count, made, seeing, lpi_in, call_of, course_of, opening_course, IsEnded, IsHistory, key_in, Track, opening_track, doing_of, tracked, after_moment, is_event_of, ends_turn, has_named, takes_commands, asks_first, comes_first, is_last_open, keys_in, of_event, of_end, is_fresh_at_interface, is_fresh_at_end, is_kept}
+use Rattle.law_histories.specs.Histories.{IdealGuest, Ideal, Call, Course, actor_count, made, seeing, lpi_in, call_of, course_of, opening_course, IsHistory, key_in, Track, opening_track, doing_of, tracked, after_moment, is_event_of, ends_turn, has_named, takes_commands, asks_first, comes_first, is_last_open, keys_in, of_event, of_end, is_fresh_at_interface, is_fresh_at_end, is_kept, IsEndedAs}
 
--- what a call notes further on, whatever the guest is then: an event of its own, with what that hands out, and for which vCPUs the LPIs are after an event
+-- what a call notes further on, whatever the guest is then: an event of its own, with what that hands out, and whether that is what its operation signals there;
+-- and for which vCPUs the LPIs are after an event
 pub data Note : Type 0 where
-  Made : Ideal → Event → Found → Note
+  Made : Bool → Ideal → Event → Found → Note
   Sees : Ideal → Note
 
 abbrev pub noting : Call → Note → Call
-noting call (Made ideal event found) = made ideal event found call
+noting call (Made signals ideal event found) = made ideal event found call
 noting call (Sees ideal) = seeing ideal call
+
+abbrev pub raises_lpi : Event → Bool
+raises_lpi (Raise (Lpi id)) = true
+raises_lpi event = false
+
+-- it has raised what it signals, once it noted this
+abbrev pub signalling : Bool → Note → Bool
+signalling before (Made signals ideal event found) = before || (signals && raises_lpi event)
+signalling before (Sees ideal) = before
 
 -- what an open call has made can still become its call: after further notes it is one, with some answer. What it noted so far stays: the maps as it took the
 -- ITS, and for which vCPUs the LPIs were as its commands began, and as a write of EnableLPIs came past them
-pub record IsBegun (shape : GuestShape) (actor : ℕ) (call : Call) : Type 0 where
+pub record IsBegun (signals : Bool) (shape : GuestShape) (actor : ℕ) (call : Call) : Type 0 where
   pub notes : List Note
   pub answer : Option ℕ
-  pub ended : IsEnded shape actor (fold noting call notes) answer
+  pub ended : IsEndedAs (fold signalling signals notes) shape actor (fold noting call notes) answer
 
 -- a view of nothing: the interrupts of the calls whose events come in a fixed order do not depend on what these find
 abbrev pub unseen : View
@@ -109,7 +119,7 @@ may_be_acknowledged guest moments = may_be_acknowledged_from (course_of (opening
 -- a list of moments is legal: it goes on as a history does, its open calls can still become calls, and the clauses of fresh hold
 pub record IsLegal (guest : IdealGuest) (moments : List Moment) : Type 0 where
   pub history : IsHistory guest moments
-  pub begun : (actor : ℕ) (call : Call) → call_of (course_of (opening_course guest) moments) actor ≡ Some call → IsBegun guest.shape actor call
+  pub begun : (actor : ℕ) (call : Call) → call_of (course_of (opening_course guest) moments) actor ≡ Some call → IsBegun ((course_of (opening_course guest) moments).signals actor) guest.shape actor call
   pub acknowledge : IsTrue (may_be_acknowledged guest moments)
   pub interface : IsTrue (is_kept (of_event is_fresh_at_interface) guest moments)
   pub end : IsTrue (is_kept (of_event is_fresh_at_end) guest moments)

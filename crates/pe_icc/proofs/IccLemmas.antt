@@ -116,12 +116,13 @@ icc_call seen part reg write answer is_one events =
     let raises = icc_raises shape actor reg write in
     let cpu : Happened = record { event = Cpu actor reg write; found = Answer answer } in
     let Hands : Happened → Type 0 = λ happened. HandsOut view happened.event happened.found in
-    let beside : Beside = record { maps = maps_taken part; targets = λ id. None; commands = [] } in
+    let beside : Beside = record { maps = maps_taken part; targets = λ id. None; commands = []; signals = false } in
     let is_vcpu_so : vcpu_of_actor shape actor ≡ Some actor = ap (λ b. if b then Some actor else None) is_one in
     let Call : Option ℕ → Type 0 = λ actor. IsCall shape beside actor (call_of reg write) piece answer in
     record {
       beside = beside;
       maps = refl;
+      signals = refl;
       call =
           subst Call (sym is_vcpu_so)
           (record {

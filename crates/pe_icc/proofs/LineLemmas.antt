@@ -386,7 +386,7 @@ tells_so old new part vcpu lines up looks where_so value =
     let actor = old.actor in
     let lrs = vcpu.regs.n in
     let up_new = looks_up old new part vcpu looks up in
-    let beside : Beside = record { maps = maps_taken part; targets = λ id. None; commands = [] } in
+    let beside : Beside = record { maps = maps_taken part; targets = λ id. None; commands = []; signals = false } in
     let is_vcpu_so : vcpu_of_actor shape actor ≡ Some actor = ap (λ b. if b then Some actor else None) up.on.actor.is_one in
     let Call : Option ℕ → Type 0 = λ actor. IsCall shape beside actor Residence (part_events old part) None in
     let at : (p : Progress) → IsRunning old vcpu p → IsAble old vcpu Residence paid (progressed shape actor p (begins Residence lrs))
@@ -403,7 +403,7 @@ tells_so old new part vcpu lines up looks where_so value =
       value = value;
       same = looks.same;
       up = up_new;
-      call = record { beside = beside; maps = refl; call = subst Call (sym is_vcpu_so) (ap (named_of (Some actor)) looks.silent, refl) };
+      call = record { beside = beside; maps = refl; signals = refl; call = subst Call (sym is_vcpu_so) (ap (named_of (Some actor)) looks.silent, refl) };
       proper = λ p run. part_proper old new vcpu Residence lrs None part (IsAble old vcpu Residence paid) p up_new (looks.leads vcpu) (at p run);
       goes_on = λ p run. part_runs old new vcpu Residence lrs None part (IsAble old vcpu Residence paid) p (looks.leads vcpu) (at p run);
     }

@@ -459,13 +459,13 @@ makes_write old a b c d new offset size value reg half is_new can is takes_so ta
     (subst RunsBy actor_b (subst RunsIn shape_b (made.started beside agrees))) ended in
     let whole : By (Some actor) = subst Write (sym takes_so) (subst Of (sym events_are) call) in
     subst By (sym is_actor) whole) in
-    let own : Beside = record { maps = maps_taken part; targets = λ id. None; commands = map (λ (one : Taken). found_targets one.takes.last) made.took } in
+    let own : Beside = record { maps = maps_taken part; targets = λ id. None; commands = map (λ (one : Taken). found_targets one.takes.last) made.took; signals = false } in
     let among : TookAmong old part made.took
     = among_after old a turn (inside.part ++ give) made.took takes.adds (turn_before (part_events old turn) takes.events) (among_before a inside.part give made.took (among_home a b inside.part made.took b_is made.among)) in
     record {
       part = part;
       adds = all.adds;
-      call = record { beside = own; maps = refl; call = call_of own refl (agree_all own 0 made.took (λ m. (let same : 0 + m ≡ m = omega arith in ap (command_targets own) same ∙ listed_targets made.took m))) };
+      call = record { beside = own; maps = refl; signals = refl; call = call_of own refl (agree_all own 0 made.took (λ m. (let same : 0 + m ≡ m = omega arith in ap (command_targets own) same ∙ listed_targets made.took m))) };
       found = record { finding = by_commands made.took; kind = sym takes_so; is_finding = among; call = call_of };
       piece = all.piece;
       proper = proper_of old new part operation None all.adds all.after all.piece;

@@ -400,7 +400,7 @@ enters_so old mid mid2 new vcpu lrs cpu fill ready loaded failed some few off sc
     } in
     let as_before : CpuRec → CpuRec = λ cpu. record cpu { lpis = old.local.cpu.lpis } in
     let answer : Option ℕ = None in
-    let beside : Beside = record { maps = maps_taken part; targets = λ id. None; commands = [] } in
+    let beside : Beside = record { maps = maps_taken part; targets = λ id. None; commands = []; signals = false } in
     let Call : Option ℕ → Type 0 = λ actor. IsCall shape beside actor Residence (part_events old part) answer in
     let is_vcpu_so : vcpu_of_actor shape actor ≡ Some actor = ap (λ b. if b then Some actor else None) off.actor.is_one in
     let begin : Progress → Progress = λ p. record p { operation = Some Residence; lrs = lrs; far = None } in
@@ -425,7 +425,7 @@ enters_so old mid mid2 new vcpu lrs cpu fill ready loaded failed some few off sc
           let d = over_none.1 in
           omega (arith, first, looks_all, looks_late, bits_all, bits_late, a, b, c, d));
       moves = moves;
-      call = record { beside = beside; maps = refl; call = subst Call (sym is_vcpu_so) (moves_unnamed actor (part_events old part) moves, refl) };
+      call = record { beside = beside; maps = refl; signals = refl; call = subst Call (sym is_vcpu_so) (moves_unnamed actor (part_events old part) moves, refl) };
       proper = proper;
       goes_on = goes_on;
       whole_part = λ p between.

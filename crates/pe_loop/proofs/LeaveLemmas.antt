@@ -303,7 +303,7 @@ leaves old new vcpu shelved each on is so =
     let none : named_of (Some old.actor) (part_events old so.part) ≡ [] = moves_unnamed old.actor (part_events old so.part) (ap (are_moves old.actor) events ∙ only_leave old.actor (held_keys vcpu)) in
     let is_vcpu_so : vcpu_of_actor shape old.actor ≡ Some old.actor = ap (λ b. if b then Some old.actor else None) on.actor.is_one in
     let answer : Option ℕ = None in
-    let beside : Beside = record { maps = maps_taken so.part; targets = λ id. None; commands = [] } in
+    let beside : Beside = record { maps = maps_taken so.part; targets = λ id. None; commands = []; signals = false } in
     let Call : Option ℕ → Type 0 = λ actor. IsCall shape beside actor Residence (part_events old so.part) answer in
     let after = so.adds.new_is in
     record {
@@ -312,7 +312,7 @@ leaves old new vcpu shelved each on is so =
       none_taken = so.none_taken;
       events = events;
       piece = so.piece;
-      call = record { beside = beside; maps = refl; call = subst Call (sym is_vcpu_so) (none, refl) };
+      call = record { beside = beside; maps = refl; signals = refl; call = subst Call (sym is_vcpu_so) (none, refl) };
       proper = λ lrs. piece_is_part old so.part Residence lrs None so.piece (ap (λ seen. seen.local.at) (sym after) ∙ empty) (ap (λ seen. is_settled seen.local) (sym after) ∙ settled);
       off =
           record {

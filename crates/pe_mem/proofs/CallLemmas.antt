@@ -157,12 +157,12 @@ makes_access old new frame offset size write value answer is_new can plain answe
     = λ beside agree.
     (let Of : Option ℕ → Type 0 = λ actor. IsCall (shape_of old) beside actor operation (part_events old part) answer in
     subst Of (sym actor) (plain_call old beside frame offset size write answer (part_events old part) plain (call_with old new frame offset size write value answer beside answers made agree))) in
-    let own : Beside = record { maps = maps_taken part; targets = serves.view.targets; commands = [] } in
+    let own : Beside = record { maps = maps_taken part; targets = serves.view.targets; commands = []; signals = false } in
     let goes : ℕ → Bool = λ id. has_interrupt (shape_of old) (Lpi id) && goes_by_target (shape_of old) serves.view frame offset size write id in
     record {
       part = part;
       adds = serves.adds;
-      call = record { beside = own; maps = refl; call = call own (λ id there bit. refl) };
+      call = record { beside = own; maps = refl; signals = refl; call = call own (λ id there bit. refl) };
       found =
           record {
             finding = by_looks goes serves.view.targets;

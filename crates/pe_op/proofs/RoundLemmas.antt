@@ -123,6 +123,7 @@ round_call old new before after access frame offset size write answer round is_o
     record {
       beside = made.beside;
       maps = made.maps ∙ sym (round_maps old new before after access round);
+      signals = made.signals;
       call = call_between old new before after access frame offset size write answer round made.beside is_one made.call;
     }
 

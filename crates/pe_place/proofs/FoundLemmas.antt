@@ -1,7 +1,7 @@
 -- A call that is no access goes by no vCPU that an LPI is for.
-use Rattle.std.proofs.Common.{◌≡◌, ℕ, List, Option, Some, None, refl, sym, ◌∙◌}
-use Rattle.dev_port.specs.Words.{DeviceOp, GuestShape}
-use Rattle.dev_port.specs.Calls.{Device, Residence, Beside, Happened, IsCall}
+use Rattle.std.proofs.Common.{◌≡◌, ℕ, List, Option, Some, None, refl, sym, ◌∙◌, ◌⊎◌, inl, inr, true, false}
+use Rattle.dev_port.specs.Words.{DeviceOp, GuestShape, Message, Wire, Msi}
+use Rattle.dev_port.specs.Calls.{Device, Residence, Beside, Happened, IsCall, MakesMsi, RaisesAlone}
 use Rattle.dev_port.specs.Core.{Made, Seen, shape_of, part_events, MakesCall, vcpu_of_actor}
 use Rattle.pe_op.specs.PeMem.Found.{IsCallAsFound}
 use Rattle.pe_op.proofs.PeMem.FoundLemmas.{found_by_none}
@@ -16,11 +16,17 @@ residence_call seen steps answer makes =
     found_by_none seen steps Residence answer refl (λ beside maps. any_residence (shape_of seen) makes.beside beside (vcpu_of_actor (shape_of seen) seen.actor) (part_events seen steps) answer makes.call)
 
 same_device :
-    (shape : GuestShape) (one other : Beside) (actor : Option ℕ) (op : DeviceOp) (piece : List Happened) (answer : Option ℕ) → one.maps ≡ other.maps → IsCall shape one actor (Device op) piece answer → IsCall shape other actor (Device op) piece answer
-same_device shape one other (Some vcpu) op piece answer same is = absurd is
-same_device shape one other None op piece answer same is = record { view = is.view; maps = is.maps ∙ same; made = is.made; answers = is.answers }
+    (shape : GuestShape) (one other : Beside) (actor : Option ℕ) (op : DeviceOp) (piece : List Happened) (answer : Option ℕ) → one.maps ≡ other.maps → one.signals ≡ false → IsCall shape one actor (Device op) piece answer → IsCall shape other actor (Device op) piece answer
+same_device shape one other (Some vcpu) op piece answer same none is = absurd is
+same_device shape one other None (Message spi) piece answer same none is = record { view = is.view; maps = is.maps ∙ same; made = is.made; answers = is.answers }
+same_device shape one other None (Wire key up) piece answer same none is = record { view = is.view; maps = is.maps ∙ same; made = is.made; answers = is.answers }
+same_device shape one other None (Msi device event) piece answer same none is = of is.made
+  where
+    of : MakesMsi is.view device event piece ⊎ RaisesAlone one.signals is.view piece → IsCall shape other None (Device (Msi device event)) piece answer
+    of (inl made) = record { view = is.view; maps = is.maps ∙ same; made = inl made; answers = is.answers }
+    of (inr alone) = let no : true ≡ false = sym alone.right ∙ none in absurd (cc)
 
 pub device_call : (seen : Seen) (op : DeviceOp) (steps : List Made) (answer : Option ℕ) → MakesCall seen steps (Device op) answer → IsCallAsFound seen steps (Device op) answer
 device_call seen op steps answer makes =
     found_by_none seen steps (Device op) answer refl
-    (λ beside maps. same_device (shape_of seen) makes.beside beside (vcpu_of_actor (shape_of seen) seen.actor) op (part_events seen steps) answer (makes.maps ∙ sym maps) makes.call)
+    (λ beside maps. same_device (shape_of seen) makes.beside beside (vcpu_of_actor (shape_of seen) seen.actor) op (part_events seen steps) answer (makes.maps ∙ sym maps) makes.signals makes.call)

@@ -42,11 +42,12 @@ look_call : (old : Seen) (vcpu : Loaded) (made : Made) → made.step ≡ Look (V
 look_call old vcpu made is up =
     let shape = shape_of old in
     let none : Option ℕ = None in
-    let beside : Beside = record { maps = maps_taken (made ∷ []); targets = λ id. None; commands = [] } in
+    let beside : Beside = record { maps = maps_taken (made ∷ []); targets = λ id. None; commands = []; signals = false } in
     let one : vcpu_of_actor shape old.actor ≡ Some old.actor = ap (λ b. if b then Some old.actor else None) up.on.actor.is_one in
     record {
       beside = beside;
       maps = refl;
+      signals = refl;
       call = subst (λ actor. IsCall shape beside actor Residence (part_events old (made ∷ [])) none) (sym one) (unnamed old made is, refl);
     }
 

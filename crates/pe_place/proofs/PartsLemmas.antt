@@ -63,6 +63,7 @@ call_same one other part same makes =
     record {
       beside = makes.beside;
       maps = makes.maps;
+      signals = makes.signals;
       call =
           subst (λ guest. Call guest other.actor other.local other.own) (sym same.guest)
           (subst (λ actor. Call one.guest actor other.local other.own) (sym same.actor)

@@ -87,13 +87,14 @@ again_call old mid new vcpu loaded shelved up leaves enters =
     let part = leaves.part ++ enters.part in
     let shape = shape_of old in
     let none : Option ℕ = None in
-    let beside : Beside = record { maps = maps_taken part; targets = λ id. None; commands = [] } in
+    let beside : Beside = record { maps = maps_taken part; targets = λ id. None; commands = []; signals = false } in
     let moves : IsTrue (are_moves old.actor (part_events old part))
     = moves_join old mid leaves.part enters.part leaves.adds (ap (are_moves old.actor) leaves.events ∙ only_leave old.actor _) enters.moves in
     let one : vcpu_of_actor shape old.actor ≡ Some old.actor = ap (λ b. if b then Some old.actor else None) up.on.actor.is_one in
     record {
       beside = beside;
       maps = refl;
+      signals = refl;
       call = subst (λ actor. IsCall shape beside actor Residence (part_events old part) none) (sym one) (moves_unnamed old.actor (part_events old part) moves, refl);
     }
 

@@ -12,6 +12,6 @@ invariant-loop-step l =
       shapes : state_shapes l.states.items ≡ state_shapes l.fn.states.items;
       count : length l.pes ≡ length l.fn.pes;
       residents : ResidentsExist (state_shapes l.fn.states.items) l.pes;
-      told : l.answers ++ answers_of l.lrs l.pes (drop l.step-index l.step-items) l.states.items ≡ answers_of l.lrs l.fn.pes l.step-items l.fn.states.items;
-      left : after_steps (drop l.step-index l.step-items) l.states.items ≡ after_steps l.step-items l.fn.states.items;
+      told : l.answers ++ answers_of l.lrs l.pes (drop l.step-index l.steps) l.states.items ≡ answers_of l.lrs l.fn.pes l.steps l.fn.states.items;
+      left : after_steps (drop l.step-index l.steps) l.states.items ≡ after_steps l.steps l.fn.states.items;
     }

@@ -7,6 +7,6 @@ use Rattle.gic_ideal.proofs.run.end_all.Given as goal
 abbrev pub invariant-loop-number : goal.invariant-loop-number
 invariant-loop-number l =
     record {
-      each : length l.closed ≡ length l.guest-items;
-      told : l.ends ++ ends_of (map opening (drop l.number l.guest-items)) (drop l.number l.closed) ≡ ends_of (map opening l.guest-items) l.closed;
+      each : length l.closed ≡ length l.guests;
+      told : l.ends ++ ends_of (map opening (drop l.number l.guests)) (drop l.number l.closed) ≡ ends_of (map opening l.guests) l.closed;
     }

@@ -5,4 +5,4 @@ use Rattle.gic_ideal.proofs.run.open_all.Given as goal
 
 -- the states of the guests so far
 abbrev pub invariant-loop-guest : goal.invariant-loop-guest
-invariant-loop-guest l = record { value : l.states.items ≡ map opening (take l.guest-index l.guest-items); sound : All IsSound l.states.items }
+invariant-loop-guest l = record { value : l.states.items ≡ map opening (take l.guest-index l.guests); sound : All IsSound l.states.items }

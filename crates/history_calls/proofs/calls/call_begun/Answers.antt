@@ -1,4 +1,4 @@
-use Rattle.std.proofs.Common.{◌↔◌, IsTrue, sym, ◌∙◌}
+use Rattle.std.proofs.Common.{◌↔◌, Bool, IsTrue, sym, ◌∙◌}
 use Rattle.std.proofs.lemmas.Result.{IfOk-weaker}
 use Rattle.history_calls.specs.Histories.{Call}
 use Rattle.history_calls.specs.LegalLists.Legal.{IsBegun}
@@ -18,7 +18,7 @@ returns c =
     let piece = c.args.piece.now in
     record {
       value =
-          IfOk-weaker c.is_first.result (λ first. IsTrue first ↔ IsFirst shape c.args.actor (open_by piece) operation piece) (λ begun. (call : Call) → IsCallOf operation piece call → IsTrue begun ↔ IsBegun shape c.args.actor call)
+          IfOk-weaker c.is_first.result (λ first. IsTrue first ↔ IsFirst shape c.args.actor (open_by piece) operation piece) (λ begun. (call : Call) (signals : Bool) → IsCallOf operation piece call → IsTrue begun ↔ IsBegun signals shape c.args.actor call)
           (λ first so. begun_decided shape c.args.actor operation piece first c.requires.plain (sym c.is_doer.ensures ∙ c.if-not-is_doer.false) so) c.is_first.ensures;
     }
 

@@ -1,6 +1,6 @@
-use Rattle.std.proofs.Common.{◌↔◌, IsTrue, sym, ◌∙◌}
+use Rattle.std.proofs.Common.{◌↔◌, Bool, IsTrue, sym, ◌∙◌}
 use Rattle.std.proofs.lemmas.Result.{IfOk-weaker}
-use Rattle.history_calls.specs.Histories.{Call, IsEnded}
+use Rattle.history_calls.specs.Histories.{Call, IsEndedAs}
 use Rattle.history_calls.specs.Exact.{IsCallOf, IsMade}
 use Rattle.history_calls.specs.Found.{found_by}
 use Rattle.history_calls.proofs.RecordLemmas.{records_found}
@@ -17,7 +17,7 @@ returns c =
     let piece = c.args.piece.now in
     record {
       value =
-          IfOk-weaker c.is_made.result (λ made. IsTrue made ↔ IsMade shape c.args.actor (found_by piece) operation piece c.args.answer) (λ ended. (call : Call) → IsCallOf operation piece call → IsTrue ended ↔ IsEnded shape c.args.actor call c.args.answer)
+          IfOk-weaker c.is_made.result (λ made. IsTrue made ↔ IsMade shape c.args.actor (found_by piece) operation piece c.args.answer) (λ ended. (call : Call) (signals : Bool) → IsCallOf operation piece call → IsTrue ended ↔ IsEndedAs signals shape c.args.actor call c.args.answer)
           (λ made so. ended_decided shape c.args.actor operation piece made c.requires.plain (sym c.is_doer.ensures ∙ c.if-not-is_doer.false) c.args.answer so) c.is_made.ensures;
     }
 
