@@ -3,16 +3,20 @@
  * A machine answers what a vCPU reads and writes, takes what devices raise, and says which interrupt lines of which vCPUs are asserted. What its functions do is
  * proved; what is trusted is this:
  *   - a struct rv_machine is zeros before its rv_create, and nobody but these functions reads, copies or changes it from then on;
- *   - each pointer is to room of its type, and is not NULL, and no two of a call overlap; that of rv_feed is to length bytes, which nobody changes meanwhile;
+ *   - each pointer is to room of its type, and is not NULL, and no two of a call overlap; that of rv_feed is to length bytes, which nobody changes meanwhile, and so
+ *     are those of rv_save and rv_restore;
  *   - a machine has one call at a time: from several threads, behind one lock of yours. Two machines share nothing.
  *
- * Each function tests all other arguments, and changes nothing where it refuses. None aborts, prints, waits, or calls back. Only rv_create asks for memory.
+ * Each function tests all other arguments, and changes nothing where it refuses. None aborts, prints, waits, or calls back. Only rv_create, rv_save and rv_restore
+ * ask for memory.
  *
  * A function returns 0, RV_FETCH (rv_mmio alone, see there), or a negative error number:
  *   -EINVAL  an argument is none: there is no such vCPU or size, a flag is neither 0 nor 1, the machine is not open (of rv_create: is open)
  *   -ENOENT  what is named is not the GIC's: an address outside of its frames, another system register, an interrupt without a wire
  *   -EACCES  the access of a system register takes an exception (UNDEFINED)
- *   -ENOMEM  rv_create alone: there is no memory */
+ *   -ENOMEM  rv_create, rv_save and rv_restore alone: there is no memory
+ *   -ERANGE  rv_save alone: the image has more bytes than there is room
+ *   -EDOM    rv_save alone: the state of the machine is none that an image tells; no call is known that leaves it so */
 #ifndef RISVAMEY_H
 #define RISVAMEY_H
 
@@ -101,6 +105,15 @@ int32_t rv_lines(struct rv_machine *machine, uint32_t vcpu) RV_NOT_NULL;
 /* Resets the machine, with every wire down: say again which are up; or the CPU interface of a vCPU alone. */
 int32_t rv_reset(struct rv_machine *machine, struct rv_done *done) RV_NOT_NULL;
 int32_t rv_reset_vcpu(struct rv_machine *machine, uint32_t vcpu, struct rv_done *done) RV_NOT_NULL;
+
+/* Writes the image of the machine, one line of JSON without an end, into the length bytes of room, and how many bytes it has into needed; nothing into room where
+ * there is less of it (-ERANGE). The image has the interrupts, the CPU interfaces, the ITS with its maps, the levels of wires, and what the guest wrote; not the
+ * addresses of the frames, not what was fed, and not the memory of the guest, which is yours to save.
+ *
+ * The machine is what it was where rv_save wrote these bytes, of it or of another machine with the same vcpus, spis, espis and lpis: -EINVAL, and nothing
+ * changes, where they are no such image. The wires have the levels that they had then: say again those that moved since. */
+int32_t rv_save(struct rv_machine *machine, uint8_t *room, size_t length, uint64_t *needed) RV_NOT_NULL;
+int32_t rv_restore(struct rv_machine *machine, const uint8_t *bytes, size_t length, struct rv_done *done) RV_NOT_NULL;
 
 #ifdef __cplusplus
 }

@@ -13,7 +13,7 @@
 #include <string.h>
 
 enum { DIST = 0x08000000, ITS = 0x08080000, REDIST = 0x080A0000, REDIST_BYTES = 0x20000, SGI_FRAME = 0x10000 };
-enum { VCPUS = 3, SPIS = 64, ESPIS = 32, LPIS = 16, RAM = 0x3FFF8, CALLS = 10000 };
+enum { VCPUS = 3, SPIS = 64, ESPIS = 32, LPIS = 16, RAM = 0x3FFF8, CALLS = 10000, SAVED_CALLS = 200 };
 /* where the guest has the commands of the ITS, its LPIs' configuration, and the pending tables, one a vCPU */
 enum { QUEUE = 0x1000, QUEUE_BYTES = 0x1000, CONFIGURATION = 0x3000, PENDING = 0x10000, PENDING_BITS = 0x400 };
 /* registers of the ITS, and of a redistributor */
@@ -75,6 +75,9 @@ static void each_function_refuses(struct rv_machine *machine)
     CHECK(rv_feed(machine, ram, 32) == -EINVAL);
     REFUSED(EINVAL, rv_reset(machine, &done));
     REFUSED(EINVAL, rv_reset_vcpu(machine, 0, &done));
+    uint64_t needed = 1;
+    CHECK(rv_save(machine, ram, RAM, &needed) == -EINVAL && needed == 0);
+    REFUSED(EINVAL, rv_restore(machine, (const uint8_t *)"{}", 2, &done));
 }
 
 #define NOT_OPENED(field, number)                          \
@@ -137,7 +140,7 @@ static void refused_memory(void)
     }
     printf("%u requests for memory, each refused once\n", number - 1);
     CHECK(number > 1);
-    /* none after the opening */
+    /* none after the opening, but where a machine is saved or restored */
     struct rv_done done;
     refused_at = 1;
     CHECK(rv_mmio(&machine, 0, DIST, 4, RV_WRITE, 3, &done) == 0);
@@ -329,11 +332,78 @@ static void most_memory(void)
     CHECK(rv_destroy(&machine) == 0);
 }
 
+/* An image of a machine, and one more of it. */
+enum { IMAGE = 1 << 20 };
+static uint8_t image[IMAGE], again[IMAGE];
+
+static uint64_t save(struct rv_machine *machine, uint8_t *bytes)
+{
+    uint64_t needed = 0;
+    CHECK(rv_save(machine, bytes, IMAGE, &needed) == 0);
+    CHECK(needed > 0 && needed <= IMAGE);
+    return needed;
+}
+
+/* What is no image of this machine is refused, as is each request for memory, and all stays as it was. */
+static void images(void)
+{
+    static const char *const NONE[] = {"", "{", "{}", "[]", "{\"bases\":[0],\"image\":{}}"};
+    struct rv_spec small = {.size = sizeof small, .vcpus = 1, .dist = DIST, .redist = REDIST, .its = ITS};
+    struct rv_machine machine = {0}, other = {0};
+    struct rv_done done;
+    CHECK(rv_create(&SPEC, &machine) == 0);
+    CHECK(rv_create(&small, &other) == 0);
+    CHECK(rv_mmio(&machine, 0, DIST, 4, RV_WRITE, 2, &done) == 0);
+    CHECK(rv_mmio(&machine, 0, DIST + 0x84, 4, RV_WRITE, 0x100, &done) == 0);
+    CHECK(rv_mmio(&machine, 0, DIST + 0x104, 4, RV_WRITE, 0x100, &done) == 0);
+    CHECK(rv_sysreg(&machine, 0, RV_SYSREG(3, 0, 4, 6, 0), RV_WRITE, 0xF0, &done) == 0);
+    CHECK(rv_sysreg(&machine, 0, RV_SYSREG(3, 0, 12, 12, 7), RV_WRITE, 1, &done) == 0);
+    CHECK(rv_wire(&machine, 40, 0, 1, &done) == 0 && done.changed == 1);
+    uint64_t bytes = save(&machine, image), needed;
+    /* it is written whole or not at all */
+    memset(again, 0xA5, sizeof again);
+    CHECK(rv_save(&machine, again, 0, &needed) == -ERANGE && needed == bytes && again[0] == 0xA5);
+    CHECK(rv_save(&machine, again, bytes - 1, &needed) == -ERANGE && needed == bytes && again[0] == 0xA5);
+    CHECK(rv_save(&machine, again, bytes, &needed) == 0 && needed == bytes && again[bytes] == 0xA5);
+    CHECK(memcmp(image, again, bytes) == 0);
+    for (unsigned at = 0; at < sizeof NONE / sizeof *NONE; at++)
+        REFUSED(EINVAL, rv_restore(&machine, (const uint8_t *)NONE[at], strlen(NONE[at]), &done));
+    REFUSED(EINVAL, rv_restore(&machine, image, bytes - 1, &done));
+    REFUSED(EINVAL, rv_restore(&other, image, bytes, &done));
+    uint64_t others = save(&other, again);
+    REFUSED(EINVAL, rv_restore(&machine, again, others, &done));
+    /* memory */
+    for (int is_restore = 0; is_restore < 2; is_restore++) {
+        for (unsigned number = 1;; number++) {
+            refused_at = number;
+            memset(&done, 0xA5, sizeof done);
+            int32_t status = is_restore ? rv_restore(&machine, image, bytes, &done) : rv_save(&machine, again, IMAGE, &needed);
+            bool was_asked = refused_at == 0;
+            refused_at = 0;
+            if (!was_asked) {
+                CHECK(status == 0 && number > 1);
+                break;
+            }
+            CHECK(status == -ENOMEM);
+            CHECK(rv_lines(&machine, 0) == RV_IRQ);
+        }
+    }
+    CHECK(done.changed == 0 && done.value == 0);
+    /* it goes back, and the line falls */
+    CHECK(rv_reset(&machine, &done) == 0 && done.changed == 1);
+    CHECK(rv_restore(&machine, image, bytes, &done) == 0 && done.changed == 1 && rv_lines(&machine, 0) == RV_IRQ);
+    CHECK(rv_sysreg(&machine, 0, RV_SYSREG(3, 0, 12, 12, 0), RV_READ, 0, &done) == 0 && done.value == 40);
+    CHECK(rv_restore(&machine, image, bytes, &done) == 0 && done.changed == 1);
+    CHECK(rv_sysreg(&machine, 0, RV_SYSREG(3, 0, 12, 12, 0), RV_READ, 0, &done) == 0 && done.value == 40);
+    CHECK(rv_destroy(&machine) == 0 && rv_destroy(&other) == 0);
+}
+
 /* The calls that are drawn, as a machine does them and as a scenario says them. */
 struct run {
-    struct rv_machine machine;
+    struct rv_machine machines[2];
+    struct rv_machine *machine;
     FILE *scenario, *reads;
-    unsigned steps, calls, feeds;
+    unsigned steps, calls, feeds, saves;
     uint64_t drawn;
     uint32_t queue_end;
     bool is_up[4096 + ESPIS], is_private_up[VCPUS][32];
@@ -358,7 +428,7 @@ static void answered(struct run *run, const int32_t *lines, int32_t status, cons
     CHECK(status == 0);
     run->calls++;
     for (uint32_t vcpu = 0; vcpu < VCPUS; vcpu++)
-        if (rv_lines(&run->machine, vcpu) != lines[vcpu])
+        if (rv_lines(run->machine, vcpu) != lines[vcpu])
             changed |= 1u << vcpu;
     CHECK(done->changed == changed);
     if (is_read)
@@ -368,7 +438,7 @@ static void answered(struct run *run, const int32_t *lines, int32_t status, cons
 static void lines_now(struct run *run, int32_t *lines)
 {
     for (uint32_t vcpu = 0; vcpu < VCPUS; vcpu++)
-        lines[vcpu] = rv_lines(&run->machine, vcpu);
+        lines[vcpu] = rv_lines(run->machine, vcpu);
 }
 
 static void access_frame(struct run *run, uint32_t vcpu, const char *frame, uint32_t of, uint32_t offset, uint32_t size, bool is_write, uint64_t value)
@@ -388,8 +458,8 @@ static void access_frame(struct run *run, uint32_t vcpu, const char *frame, uint
     fputs("}", run->scenario);
     lines_now(run, lines);
     int32_t status;
-    while ((status = rv_mmio(&run->machine, vcpu, base + of * REDIST_BYTES + offset, size, is_write, value, &done)) == RV_FETCH) {
-        CHECK(feed(&run->machine, &done) == 0);
+    while ((status = rv_mmio(run->machine, vcpu, base + of * REDIST_BYTES + offset, size, is_write, value, &done)) == RV_FETCH) {
+        CHECK(feed(run->machine, &done) == 0);
         run->feeds++;
     }
     answered(run, lines, status, &done, !is_write);
@@ -427,7 +497,7 @@ static void access_register(struct run *run, uint32_t vcpu, uint32_t at, bool is
         fprintf(run->scenario, ",\"write\":%" PRIu64, value);
     fputs("}", run->scenario);
     lines_now(run, lines);
-    int32_t status = rv_sysreg(&run->machine, vcpu, REGISTERS[at].reg, is_write, value, &done);
+    int32_t status = rv_sysreg(run->machine, vcpu, REGISTERS[at].reg, is_write, value, &done);
     answered(run, lines, status, &done, !is_write);
     if (at == IAR1 || at == IAR0) {
         /* a line is asserted exactly where the read takes an interrupt */
@@ -452,10 +522,10 @@ static void move_wire(struct run *run, uint32_t intid, uint32_t vcpu)
         fprintf(run->scenario, ",\"vcpu\":%u", vcpu);
     fputs("}", run->scenario);
     lines_now(run, lines);
-    int32_t status = rv_wire(&run->machine, intid, vcpu, *is_up, &done);
+    int32_t status = rv_wire(run->machine, intid, vcpu, *is_up, &done);
     answered(run, lines, status, &done, false);
     /* the same again is nothing */
-    CHECK(rv_wire(&run->machine, intid, vcpu, *is_up, &done) == 0 && is_zero(&done));
+    CHECK(rv_wire(run->machine, intid, vcpu, *is_up, &done) == 0 && is_zero(&done));
 }
 
 static void send(struct run *run, bool is_msi, uint32_t first, uint32_t second)
@@ -468,7 +538,7 @@ static void send(struct run *run, bool is_msi, uint32_t first, uint32_t second)
     else
         fprintf(run->scenario, "{\"dev\":[0,0],\"message\":%u}", first);
     lines_now(run, lines);
-    int32_t status = is_msi ? rv_msi(&run->machine, first, second, &done) : rv_message(&run->machine, first, &done);
+    int32_t status = is_msi ? rv_msi(run->machine, first, second, &done) : rv_message(run->machine, first, &done);
     answered(run, lines, status, &done, false);
 }
 
@@ -598,9 +668,31 @@ static void drawn_call(struct run *run)
     }
 }
 
+/* The machine is saved, and goes on as another one, which tells that it is the same. */
+static void go_on_elsewhere(struct run *run)
+{
+    struct rv_machine *other = &run->machines[run->machine == run->machines];
+    struct rv_done done;
+    uint32_t asserted = 0;
+    uint64_t bytes = save(run->machine, image);
+    CHECK(rv_create(&SPEC, other) == 0);
+    CHECK(rv_restore(other, image, bytes, &done) == 0);
+    for (uint32_t vcpu = 0; vcpu < VCPUS; vcpu++) {
+        int32_t lines = rv_lines(run->machine, vcpu);
+        CHECK(rv_lines(other, vcpu) == lines);
+        asserted |= lines ? 1u << vcpu : 0;
+    }
+    CHECK(done.changed == asserted && done.value == 0);
+    CHECK(save(other, again) == bytes && memcmp(image, again, bytes) == 0);
+    CHECK(rv_destroy(run->machine) == 0);
+    run->machine = other;
+    run->saves++;
+}
+
 static void drawn_calls(const char *scenario, const char *reads)
 {
     static struct run run = {.drawn = 51};
+    run.machine = run.machines;
     run.scenario = fopen(scenario, "w");
     run.reads = fopen(reads, "w");
     if (!run.scenario || !run.reads) {
@@ -609,16 +701,20 @@ static void drawn_calls(const char *scenario, const char *reads)
     }
     fprintf(run.scenario, "{\"pes\":%u,\"lrs\":16,\"guests\":[{\"vcpus\":%u,\"spis\":%u,\"espis\":%u,\"lpis\":%u,\"ram\":%u}],\"steps\":[", VCPUS, VCPUS, SPIS, ESPIS,
             LPIS, RAM);
-    CHECK(rv_create(&SPEC, &run.machine) == 0);
+    CHECK(rv_create(&SPEC, run.machine) == 0);
     start_its(&run);
     start_guest(&run);
-    while (run.calls < CALLS)
+    while (run.calls < CALLS) {
         drawn_call(&run);
-    CHECK(rv_destroy(&run.machine) == 0);
+        if (run.calls > CALLS - SAVED_CALLS)
+            go_on_elsewhere(&run);
+    }
+    CHECK(rv_destroy(run.machine) == 0);
     fputs("\n]}\n", run.scenario);
     fclose(run.scenario);
     fclose(run.reads);
-    printf("%u calls drawn, in which %u interrupts were taken, and memory was asked for %u times\n", run.calls, run.takes, run.feeds);
+    printf("%u calls drawn, in which %u interrupts were taken, and memory was asked for %u times; the machine went on elsewhere %u times\n", run.calls, run.takes, run.feeds,
+           run.saves);
     CHECK(run.takes > CALLS / 50);
     CHECK(run.feeds > CALLS / 50);
 }
@@ -630,6 +726,7 @@ int main(int count, char **words)
     arguments();
     memory();
     most_memory();
+    images();
     if (count == 3)
         drawn_calls(words[1], words[2]);
     printf(failures ? "%d failures\n" : "all as it should be\n", failures);

@@ -1,8 +1,11 @@
 /* A small VMM: AArch64 guest code on Unicorn, with the machine of risvamey.h as its interrupt controller.
  *
  *   vmm GUEST VCPUS [INPUT]
+ *   vmm GUEST VCPUS INPUT save FILE TURN
+ *   vmm GUEST VCPUS INPUT resume FILE
  *
  * loads the file GUEST at address 0, lets its vCPUs run in turn, and prints what they write to the UART; INPUT is what the UART receives. Its status is what the guest ends with.
+ * With save it stops before the turn of that number, counted from 0, and writes all that the guest needs to go on into FILE, if the guest has not ended before; with resume it goes on from there.
  *
  * Unicorn tells of an MRS or MSR, and of an access that is not mapped, by hooks; a stop that is asked for in a hook of an instruction alone comes late, so each instruction is
  * looked at before it is done. It takes no interrupt by itself: the VMM sets ELR_EL1, SPSR_EL1, PSTATE and PC, as the architecture has it, and ERET returns. */
@@ -240,23 +243,96 @@ static void start(struct vcpu *vcpu, uint32_t number)
     set(vcpu, UC_ARM64_REG_X0, number);
 }
 
+/* ---- a guest in the middle ---- */
+
+enum { IMAGE = 1 << 20, GENERAL = 31 };
+
+/* the registers of a vCPU that the guests use: X0 to X30, then these, and system registers by CRn, CRm and op2: ELR_EL1, SPSR_EL1, VBAR_EL1 */
+static const int PLAIN[] = {UC_ARM64_REG_PSTATE, UC_ARM64_REG_SP, UC_ARM64_REG_PC};
+static const uint32_t SYSTEM[][3] = {{4, 0, 1}, {4, 0, 0}, {12, 0, 0}};
+enum { PLAINS = sizeof PLAIN / sizeof *PLAIN, SYSTEMS = sizeof SYSTEM / sizeof *SYSTEM };
+
+/* All but the memory and the image of the machine, which follow it in the file. */
+struct middle {
+    uint64_t turn, used, image_bytes;
+    uint32_t uart_interrupts;
+    struct {
+        uint64_t timer, general[GENERAL], plain[PLAINS], system[SYSTEMS];
+    } vcpus[VCPUS];
+};
+
+static void save(const char *name, const char *all_input, unsigned turn, uint32_t running)
+{
+    static uint8_t image[IMAGE];
+    struct middle middle = {.turn = turn, .used = (uint64_t)(input - all_input), .uart_interrupts = uart_interrupts};
+    if (rv_save(&gic, image, sizeof image, &middle.image_bytes) != 0)
+        fail("rv_save");
+    for (uint32_t number = 0; number < running; number++) {
+        struct vcpu *vcpu = &vcpus[number];
+        middle.vcpus[number].timer = vcpu->timer;
+        for (uint32_t at = 0; at < GENERAL; at++)
+            middle.vcpus[number].general[at] = value_of(vcpu, at);
+        for (unsigned at = 0; at < PLAINS; at++)
+            middle.vcpus[number].plain[at] = get(vcpu, PLAIN[at]);
+        for (unsigned at = 0; at < SYSTEMS; at++)
+            middle.vcpus[number].system[at] = get_system(vcpu, SYSTEM[at][0], SYSTEM[at][1], SYSTEM[at][2]);
+    }
+    FILE *file = fopen(name, "wb");
+    if (!file || fwrite(&middle, sizeof middle, 1, file) != 1 || fwrite(ram, RAM, 1, file) != 1 || fwrite(image, middle.image_bytes, 1, file) != 1 || fclose(file) != 0)
+        fail("the file of what is saved");
+}
+
+static unsigned resume(const char *name, const char *all_input, uint32_t running)
+{
+    static uint8_t image[IMAGE];
+    struct middle middle;
+    struct rv_done done;
+    FILE *file = fopen(name, "rb");
+    if (!file || fread(&middle, sizeof middle, 1, file) != 1 || fread(ram, RAM, 1, file) != 1 || middle.image_bytes > IMAGE || fread(image, middle.image_bytes, 1, file) != 1)
+        fail("the file of what was saved");
+    fclose(file);
+    if (rv_restore(&gic, image, middle.image_bytes, &done) != 0)
+        fail("rv_restore");
+    if (middle.used > strlen(all_input))
+        fail("the input is another one");
+    input = all_input + middle.used;
+    uart_interrupts = middle.uart_interrupts != 0;
+    for (uint32_t number = 0; number < running; number++) {
+        struct vcpu *vcpu = &vcpus[number];
+        vcpu->timer = (unsigned)middle.vcpus[number].timer;
+        for (uint32_t at = 0; at < GENERAL; at++)
+            set(vcpu, general(at), middle.vcpus[number].general[at]);
+        for (unsigned at = 0; at < PLAINS; at++)
+            set(vcpu, PLAIN[at], middle.vcpus[number].plain[at]);
+        for (unsigned at = 0; at < SYSTEMS; at++)
+            set_system(vcpu, SYSTEM[at][0], SYSTEM[at][1], SYSTEM[at][2], middle.vcpus[number].system[at]);
+    }
+    return (unsigned)middle.turn;
+}
+
 int main(int count, char **words)
 {
     FILE *file = count > 2 ? fopen(words[1], "rb") : NULL;
     uint32_t running = count > 2 ? (uint32_t)atoi(words[2]) : 0;
     if (!file || running < 1 || running > VCPUS || fread(ram, 1, RAM, file) == 0)
-        fail("usage: vmm GUEST VCPUS [INPUT]");
+        fail("usage: vmm GUEST VCPUS [INPUT [save FILE TURN | resume FILE]]");
     fclose(file);
     if (count > 3)
         input = words[3];
+    bool saves = count == 7 && strcmp(words[4], "save") == 0, resumes = count == 6 && strcmp(words[4], "resume") == 0;
+    unsigned last = saves ? (unsigned)atoi(words[6]) : TURNS;
     struct rv_spec spec = {.size = sizeof spec, .vcpus = running, .spis = 32, .lpis = 16, .dist = DIST, .redist = REDIST, .its = ITS};
     if (rv_abi() != RV_ABI || rv_create(&spec, &gic) != 0)
         fail("rv_create");
     for (uint32_t number = 0; number < running; number++)
         start(&vcpus[number], number);
-    for (unsigned turn = 0; turn < TURNS && ended < 0; turn++)
+    for (unsigned turn = resumes ? resume(words[5], words[3], running) : 0; turn < last && ended < 0; turn++)
         for (uint32_t number = 0; number < running && ended < 0; number++)
             run(&vcpus[number]);
+    if (saves && ended < 0) {
+        save(words[5], words[3], last, running);
+        ended = 0;
+    }
     for (uint32_t number = 0; number < running; number++)
         uc_close(vcpus[number].uc);
     if (rv_destroy(&gic) != 0)

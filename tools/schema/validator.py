@@ -1,10 +1,10 @@
-"""The part of JSON Schema, draft 2020-12, that docs/scenario.schema.json uses. A keyword that is not here is refused."""
+"""The part of JSON Schema, draft 2020-12, that the schemas of docs/ use. A keyword that is not here is refused."""
 import json
 import re
 
 # Keywords that say nothing of what is valid.
 NOTES = {"$schema", "$comment", "title", "description", "default", "examples"}
-KINDS = {"object": dict, "array": list, "string": str, "integer": int, "number": (int, float), "boolean": bool}
+KINDS = {"object": dict, "array": list, "string": str, "integer": int, "number": (int, float), "boolean": bool, "null": type(None)}
 DEFINITION = "#/$defs/"
 
 
@@ -22,10 +22,11 @@ def _no_constant(name):
 
 
 class Schema:
-    """A schema with the definitions that it refers to."""
+    """A schema with the definitions that it refers to: its own, and those of the schemas beside it, by the names of their files."""
 
-    def __init__(self, whole):
+    def __init__(self, whole, beside=None):
         self.whole = whole
+        self.beside = beside or {}
         self.definitions = whole.get("$defs", {})
         used = set()
         for part in [whole, *self.definitions.values()]:
@@ -43,7 +44,11 @@ class Schema:
             return
         for keyword, wanted in schema.items():
             if keyword == "$ref":
-                used.add(definition_name(wanted))
+                file, name = place_of(wanted)
+                if not file:
+                    used.add(name)
+                elif file not in self.beside or name not in self.beside[file].definitions:
+                    raise SchemaError(f"a reference to {wanted}")
             elif keyword not in NOTES and keyword not in RULES and not (is_whole and keyword == "$defs"):
                 raise SchemaError(f"unknown keyword {keyword}")
             for part in parts_of(keyword, wanted):
@@ -58,22 +63,25 @@ class Schema:
 
     def _rule(self, keyword, wanted, schema, value):
         if keyword == "$ref":
-            return self._holds(self.definitions[definition_name(wanted)], value)
+            file, name = place_of(wanted)
+            schema = self.beside[file] if file else self
+            return schema._holds(schema.definitions[name], value)
         return keyword not in RULES or RULES[keyword](self._holds, wanted, schema, value)
 
 
-def definition_name(reference):
-    """The name of the definition that a reference is to."""
-    if not reference.startswith(DEFINITION):
+def place_of(reference):
+    """The file, empty for the schema's own, and the name of the definition that a reference is to."""
+    file, mark, name = reference.partition(DEFINITION)
+    if not mark:
         raise SchemaError(f"a reference to {reference}")
-    return reference[len(DEFINITION):]
+    return file, name
 
 
 def parts_of(keyword, wanted):
     """The schemas in the value of a keyword."""
     if keyword == "properties":
         return list(wanted.values())
-    if keyword in ("allOf", "anyOf", "oneOf"):
+    if keyword in ("allOf", "anyOf", "oneOf", "prefixItems"):
         return wanted
     if keyword in ("items", "additionalProperties", "if", "then", "else"):
         return [wanted]
@@ -134,6 +142,7 @@ RULES = {
     "pattern": on("string", lambda holds, wanted, schema, value: is_matched(wanted, value)),
     "minItems": on("array", lambda holds, wanted, schema, value: wanted <= len(value)),
     "maxItems": on("array", lambda holds, wanted, schema, value: len(value) <= wanted),
+    "prefixItems": on("array", lambda holds, wanted, schema, value: all(holds(part, item) for part, item in zip(wanted, value))),
     "items": on("array", lambda holds, wanted, schema, value: all(holds(wanted, item) for item in distinct(value))),
     "required": on("object", lambda holds, wanted, schema, value: all(name in value for name in wanted)),
     "properties": on("object", lambda holds, wanted, schema, value: all(holds(part, value[name]) for name, part in wanted.items() if name in value)),

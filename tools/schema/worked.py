@@ -1,4 +1,4 @@
-"""The worked scenarios of the repository, and the worked inputs of `host`, each with what the reader says of it."""
+"""The worked scenarios of the repository, the worked inputs of `host`, and the worked images, each with what the reader says of it."""
 import json
 import re
 from typing import NamedTuple
@@ -15,6 +15,12 @@ MAX_STEPS = 100_000
 # How the name of an example of `host` begins, and the crate whose tests have inputs of `host`.
 LINKED = "host-"
 LINKED_ROWS = "host_rows"
+# How the name of an example of `save` begins, whose text is an image, and that of one of `resume`, which is one; and the crate whose tests have images.
+SAVED = "save-"
+RESUMED = "resume-"
+IMAGE_ROWS = "image_rows"
+# The crates whose tests have other inputs than scenarios.
+OTHER_ROWS = (LINKED_ROWS, IMAGE_ROWS)
 
 
 class Row(NamedTuple):
@@ -44,12 +50,19 @@ def all_examples(root):
 
 def examples(root):
     """The scenarios of examples/."""
-    return (row for name, row in all_examples(root) if not name.startswith(LINKED))
+    return (row for name, row in all_examples(root) if not name.startswith((LINKED, RESUMED)))
 
 
 def linked_examples(root):
     """The inputs of `host` of examples/."""
     return (row for name, row in all_examples(root) if name.startswith(LINKED))
+
+
+def image_examples(root):
+    """The images of examples/: those that `resume` reads, and those that `save` writes."""
+    yield from (row for name, row in all_examples(root) if name.startswith(RESUMED))
+    for path in sorted(root.glob(f"examples/{SAVED}*.txt")):
+        yield Row(f"examples/{path.name}", path.read_text(), None)
 
 
 def all_documented(root):
@@ -85,7 +98,7 @@ def sources(root):
 def tests(root):
     """The scenarios of all tests, of whatever form."""
     for crate, module, source in sources(root):
-        if crate == LINKED_ROWS:
+        if crate in OTHER_ROWS:
             continue
         own = MADE.get((crate, module))
         rows = [*of_tables(source), *of_calls(source, is_made=own is not None), *(own(source) if own else [])]
@@ -247,6 +260,20 @@ def linked_tests(root):
     return (Row(f"crates/{LINKED_ROWS}: {name}", text, fault) for name, text, fault in rows)
 
 
+def image_tests(root):
+    """The images of their tests: one with each change of a table, and one with each of its numbers changed, each with the code and the step of its fault."""
+    files = {module: source for crate, module, source in sources(root) if crate == IMAGE_ROWS}
+    for module, image, tables in (("active", "ACTIVE", ("WRONG", "RECORDS")), ("mapped", "MAPPED", ("CHANGES",))):
+        for name in tables:
+            whole = files[module].constant(image)
+            yield from (Row(f"crates/{IMAGE_ROWS}: {name}", whole.replace(old, new, 1), fault) for old, new, fault in files[module].constant(name))
+    numbers = files["sweep"].constant("NUMBERS")
+    for at, (_, stands, more, most) in enumerate(numbers):
+        for number, fault in ((stands + 1, more), (2**64 - 1, most)):
+            text = "".join(f"{before}{number if place == at else stands}" for place, (before, stands, _, _) in enumerate(numbers))
+            yield Row(f"crates/{IMAGE_ROWS}: NUMBERS", text + "}", fault)
+
+
 def looks_like_part(text):
     """A text may be a part of a scenario: it is no format of texts, no image of a saved run, and no line that tells a fault."""
     return '"guests"' in text and "{{" not in text and '"done"' not in text and not HINT.match(text)
@@ -256,7 +283,7 @@ def left_out(root, rows):
     """The texts in sources that look like a part of a scenario and are in no row."""
     whole = "\n".join(row.text for row in rows if len(row.text) < MAX_STEPS)
     for crate, module, source in sources(root):
-        if crate == LINKED_ROWS:
+        if crate in OTHER_ROWS:
             continue
         for kind, text in source.tokens:
             if kind == "text" and looks_like_part(as_text(text)) and as_text(text) not in whole:

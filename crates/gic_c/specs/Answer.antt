@@ -1,20 +1,22 @@
 -- What C is answered: 0, 1 where bytes of the guest's memory are wanted first (own choice), or an error number of POSIX as a negative number.
 use Rattle.std.specs.Prelude.{ℤ, pos, negsuc, Result, Ok, Err}
-use Rattle.gic_vm.specs.declared.done.Done.{Done}
-use Rattle.gic_vm.specs.declared.done.NotDone.{NotDone}
-use Rattle.gic_vm.specs.declared.done.NotDone.TheVariants.{NoRegister, Undefined}
+use Rattle.vm_saved.specs.GicVm.declared.done.Done.{Done}
+use Rattle.vm_saved.specs.GicVm.declared.done.NotDone.{NotDone}
+use Rattle.vm_saved.specs.GicVm.declared.done.NotDone.TheVariants.{NoRegister, Undefined}
 use Rattle.gic_c.specs.declared.answer.Refusal.{Refusal}
-use Rattle.gic_c.specs.declared.answer.Refusal.TheVariants.{NotFound, NoMemory, NoAccess, Invalid}
+use Rattle.gic_c.specs.declared.answer.Refusal.TheVariants.{NotFound, NoMemory, NoAccess, Invalid, Untold, TooSmall}
 use Rattle.gic_c.specs.declared.answer.Reply.{Reply}
 use Rattle.gic_c.specs.declared.answer.Reply.TheVariants.{Done as Finished, Fetch}
 use Rattle.gic_c.specs.declared.answer.RvDone.{RvDone}
 
--- the error number of a refusal: -ENOENT, -ENOMEM, -EACCES, -EINVAL
+-- the error number of a refusal: -ENOENT, -ENOMEM, -EACCES, -EINVAL, -EDOM, -ERANGE
 abbrev pub errno_of : Refusal → ℤ
 errno_of NotFound = negsuc 1
 errno_of NoMemory = negsuc 11
 errno_of NoAccess = negsuc 12
 errno_of Invalid = negsuc 21
+errno_of Untold = negsuc 32
+errno_of TooSmall = negsuc 33
 
 -- what a call returns
 abbrev pub status_of : Result Reply Refusal → ℤ

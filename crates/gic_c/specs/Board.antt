@@ -1,6 +1,6 @@
 -- A machine with what was fed for a call of it.
 use Rattle.std.specs.Prelude.{ℕ}
-use Rattle.gic_vm.specs.State.{MachineState}
+use Rattle.vm_saved.specs.GicVm.State.{MachineState}
 use Rattle.gic_c.specs.declared.board.Board.{Board}
 use Rattle.gic_c.specs.Feed.{no_feed}
 

@@ -1,13 +1,13 @@
 -- What the calls answer that C makes of an open machine, but those by which it hands memory in, and what they make of it: what the machine's own call does, where
 -- the arguments are good; else they are refused, and the machine stays. Each drops what was fed.
-use Rattle.std.specs.Prelude.{ℕ, ◌+◌, ◌/◌, ◌%◌, ◌^◌, ◌==◌, ◌&&◌, Bool, true, nat_lt, if◌then◌else◌, Option, Some, None, Result, Ok, Err, ℤ, pos}
-use Rattle.gic_vm.specs.IdealGuest.Words.{Message, Msi}
-use Rattle.gic_vm.specs.IdealGuest.declared.guest.IdealGuest.{IdealGuest}
-use Rattle.gic_vm.specs.Calls.{done_by, told, left_by, received, wired, encoded_op, sysreg_answer, after_sysreg}
-use Rattle.gic_vm.specs.Lines.{lines_of}
-use Rattle.gic_vm.specs.Reset.{reset_of, reset_machine, reset_cpu_of}
-use Rattle.gic_vm.specs.declared.encoding.Encoding.{Encoding}
-use Rattle.gic_vm.specs.GicLine.declared.lines.Lines.{Lines}
+use Rattle.std.specs.Prelude.{ℕ, ◌+◌, ◌/◌, ◌%◌, ◌^◌, ◌==◌, ◌&&◌, Bool, nat_lt, if◌then◌else◌, Option, Some, None, Result, Ok, Err, ℤ, pos}
+use Rattle.vm_saved.specs.GicVm.IdealGuest.Words.{Message, Msi}
+use Rattle.vm_saved.specs.GicVm.IdealGuest.declared.guest.IdealGuest.{IdealGuest}
+use Rattle.vm_saved.specs.GicVm.Calls.{done_by, told, left_by, received, wired, encoded_op, sysreg_answer, after_sysreg}
+use Rattle.vm_saved.specs.GicVm.Lines.{lines_of}
+use Rattle.vm_saved.specs.GicVm.Reset.{reset_of, reset_machine, reset_cpu_of}
+use Rattle.vm_saved.specs.GicVm.declared.encoding.Encoding.{Encoding}
+use Rattle.vm_saved.specs.GicVm.GicLine.declared.lines.Lines.{Lines}
 use Rattle.gic_c.specs.declared.answer.Refusal.{Refusal}
 use Rattle.gic_c.specs.declared.answer.Refusal.TheVariants.{NotFound, Invalid}
 use Rattle.gic_c.specs.declared.answer.Reply.{Reply}

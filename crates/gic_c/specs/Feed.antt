@@ -2,7 +2,7 @@
 use Rattle.std.specs.Prelude.{ℕ, ◌+◌, ◌-◌, ◌==◌, ◌&&◌, nat_le, nat_lt, Bool, true, false, List, [], ◌∷◌, ◌++◌, take, drop, length, if◌then◌else◌, Option, Some, None}
 use Rattle.std.specs.Option.{option_map_or}
 use Rattle.std.specs.Int.{w64, from_le_bytes}
-use Rattle.gic_vm.specs.GuestMemory.declared.wants.Span.{Span}
+use Rattle.vm_saved.specs.GicVm.GuestMemory.declared.wants.Span.{Span}
 use Rattle.gic_c.specs.declared.feed.Call.{Call}
 use Rattle.gic_c.specs.declared.feed.Feed.{Feed}
 

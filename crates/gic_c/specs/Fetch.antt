@@ -1,12 +1,12 @@
 -- What a call wants of the guest's memory, and how it is handed in.
 use Rattle.std.specs.Prelude.{ℕ, ◌==◌, Bool, false, List, length, if◌then◌else◌, Option, option_and_then, ℤ, pos}
 use Rattle.std.specs.Option.{option_map_or}
-use Rattle.gic_vm.specs.Mmio.{access_at}
-use Rattle.gic_vm.specs.State.{MachineState}
-use Rattle.gic_vm.specs.Wants.{wants_of}
-use Rattle.gic_vm.specs.GuestMemory.Wants.{spans_in}
-use Rattle.gic_vm.specs.GuestMemory.declared.access.Access.{Access}
-use Rattle.gic_vm.specs.GuestMemory.declared.wants.Span.{Span}
+use Rattle.vm_saved.specs.GicVm.Mmio.{access_at}
+use Rattle.vm_saved.specs.GicVm.State.{MachineState}
+use Rattle.vm_saved.specs.GicVm.Wants.{wants_of}
+use Rattle.vm_saved.specs.GicVm.GuestMemory.Wants.{spans_in}
+use Rattle.vm_saved.specs.GicVm.GuestMemory.declared.access.Access.{Access}
+use Rattle.vm_saved.specs.GicVm.GuestMemory.declared.wants.Span.{Span}
 use Rattle.gic_c.specs.declared.answer.Refusal.TheVariants.{Invalid}
 use Rattle.gic_c.specs.declared.board.Board.{Board}
 use Rattle.gic_c.specs.declared.feed.Call.{Call}

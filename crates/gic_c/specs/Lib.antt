@@ -8,3 +8,4 @@ pub mod Calls
 pub mod Fetch
 pub mod Mmio
 pub mod Open
+pub mod Save

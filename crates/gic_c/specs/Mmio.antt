@@ -1,10 +1,10 @@
 -- An access of the frames: it is refused, or asks for a range of the guest's memory, or is made of the memory that was fed.
-use Rattle.std.specs.Prelude.{ℕ, ◌≡◌, ◌&&◌, Bool, nat_lt, if◌then◌else◌, List, Option, Some, None, Result, Ok, Err, ℤ}
-use Rattle.gic_vm.specs.IdealGuest.Words.{Frame}
-use Rattle.gic_vm.specs.IdealGuest.Registers.{is_size}
-use Rattle.gic_vm.specs.Mmio.{place_at, IsMade}
-use Rattle.gic_vm.specs.declared.done.Done.{Done}
-use Rattle.gic_vm.specs.GuestMemory.declared.wants.Span.{Span}
+use Rattle.std.specs.Prelude.{ℕ, ◌≡◌, ◌&&◌, nat_lt, if◌then◌else◌, List, Option, Some, None, Result, Ok, Err, ℤ}
+use Rattle.vm_saved.specs.GicVm.IdealGuest.Words.{Frame}
+use Rattle.vm_saved.specs.GicVm.IdealGuest.Registers.{is_size}
+use Rattle.vm_saved.specs.GicVm.Mmio.{place_at, IsMade}
+use Rattle.vm_saved.specs.GicVm.declared.done.Done.{Done}
+use Rattle.vm_saved.specs.GicVm.GuestMemory.declared.wants.Span.{Span}
 use Rattle.gic_c.specs.declared.answer.Refusal.{Refusal}
 use Rattle.gic_c.specs.declared.answer.Refusal.TheVariants.{NotFound, Invalid}
 use Rattle.gic_c.specs.declared.answer.Reply.{Reply}

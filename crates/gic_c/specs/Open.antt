@@ -1,9 +1,9 @@
 -- How a handle gets a machine.
 use Rattle.std.specs.Prelude.{◌≡◌, ◌==◌, ◌&&◌, ℕ, Bool, IsTrue, Some, None}
-use Rattle.gic_vm.specs.Identity.{IsMachineShape}
-use Rattle.gic_vm.specs.Layout.{is_layout}
-use Rattle.gic_vm.specs.State.{shape_of, opening_of}
-use Rattle.gic_vm.specs.declared.layout.MachineSpec.{MachineSpec}
+use Rattle.vm_saved.specs.GicVm.Identity.{IsMachineShape}
+use Rattle.vm_saved.specs.GicVm.Layout.{is_layout}
+use Rattle.vm_saved.specs.GicVm.State.{shape_of, opening_of}
+use Rattle.vm_saved.specs.GicVm.declared.layout.MachineSpec.{MachineSpec}
 use Rattle.gic_c.specs.declared.handle.RvMachine.{RvMachine}
 use Rattle.gic_c.specs.declared.open.RvSpec.{RvSpec}
 use Rattle.gic_c.specs.Board.{opened_with}

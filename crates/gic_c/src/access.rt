@@ -1,13 +1,25 @@
 //! What a vCPU's accesses of system registers do, and how its lines are told.
 ghost use Rattle.std.specs.Prelude.{◌≡◌, ◌==◌, if◌then◌else◌};
-ghost use Rattle.gic_vm.specs.IdealGuest.Registers.{is_size as is_size_of};
 ghost use Rattle.gic_c.specs.Board.{forgotten};
 ghost use Rattle.gic_c.specs.Calls.{is_flag, written as written_of, encoding_of as encoding_in, sysreg_reply, after_register, lines_status};
 ghost use Rattle.gic_c.specs.declared.answer.Refusal.TheVariants.{Invalid};
 
 use crate::answer::{Refusal, Reply, accessed};
 use crate::board::Board;
-use gic_vm::Encoding;
+use vm_saved::Encoding;
+
+/// What op0 is worth in the number of a register; op2 is worth 1.
+const OP0: u16 = 1 << 14;
+/// What op1 is worth there.
+const OP1: u16 = 1 << 11;
+/// What CRn is worth there.
+const CRN: u16 = 1 << 7;
+/// What CRm is worth there.
+const CRM: u16 = 1 << 3;
+/// How many values op1 and op2 have.
+const OP_VALUES: u16 = 8;
+/// How many values CRn and CRm have.
+const REGISTERS: u16 = 16;
 
 /// Yes or no, as C says it.
 pub(crate) fn flag(number: u32) -> Result<bool, Refusal>
@@ -31,23 +43,16 @@ pub(crate) fn written(is_write: u32, value: u64) -> Result<Option<u64>, Refusal>
     }
 }
 
-/// Whether an access has one of the sizes.
-pub(crate) fn is_size(size: u32) -> bool
-    ensures { result ≡ is_size_of size }
-{
-    matches!(size, 1 | 2 | 4 | 8)
-}
-
 /// The register that a number names.
 fn encoding_of(number: u16) -> Encoding
     ensures { result ≡ encoding_in number }
 {
     Encoding {
-        op0: (number / (1 << 14)) as u8,
-        op1: (number / (1 << 11) % 8) as u8,
-        crn: (number / (1 << 7) % 16) as u8,
-        crm: (number / (1 << 3) % 16) as u8,
-        op2: (number % 8) as u8,
+        op0: (number / OP0) as u8,
+        op1: (number / OP1 % OP_VALUES) as u8,
+        crn: (number / CRN % REGISTERS) as u8,
+        crm: (number / CRM % REGISTERS) as u8,
+        op2: (number % OP_VALUES) as u8,
     }
 }
 

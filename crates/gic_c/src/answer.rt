@@ -2,7 +2,7 @@
 ghost use Rattle.std.specs.Prelude.{◌≡◌};
 ghost use Rattle.gic_c.specs.Answer.{errno_of, status_of, shown, found as found_of, accessed as accessed_of};
 
-use gic_vm::{Done, NotDone, Refused, Span};
+use vm_saved::{Done, NotDone, Refused, Span};
 
 /// Why a call is refused, which then changes nothing.
 #[derive(Clone, Copy, Debug, PartialEq, Eq, Hash)]
@@ -15,6 +15,10 @@ pub(crate) enum Refusal {
     NoAccess,
     /// EINVAL: an argument is none, or the handle is closed, or, of a call that opens, open.
     Invalid,
+    /// EDOM: the state of the machine is none that an image tells.
+    Untold,
+    /// ERANGE: there is less room than an image needs.
+    TooSmall,
 }
 
 impl Refusal {
@@ -27,6 +31,8 @@ impl Refusal {
             Refusal::NoMemory => -12,
             Refusal::NoAccess => -13,
             Refusal::Invalid => -22,
+            Refusal::Untold => -33,
+            Refusal::TooSmall => -34,
         }
     }
 }

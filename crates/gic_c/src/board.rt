@@ -1,12 +1,12 @@
 //! A machine with what C fed for a call of it: its calls take any numbers.
 ghost use Rattle.std.specs.Prelude.{◌≡◌, ◌<◌, IfOk};
-ghost use Rattle.gic_vm.specs.State.{MachineState};
+ghost use Rattle.vm_saved.specs.GicVm.State.{MachineState};
 ghost use Rattle.gic_c.specs.Feed.{no_feed};
 ghost use Rattle.gic_c.specs.Board.{forgotten, opened_with};
 
 use crate::feed::Feed;
-use gic_vm::Machine;
 use std::alloc::{AllocError, Global};
+use vm_saved::Machine;
 
 /// A machine, how many vCPUs it has, and what was fed.
 #[derive(Drop)]

@@ -1,10 +1,10 @@
 //! Bytes in memory that was taken before.
 ghost use Rattle.std.specs.Prelude.{◌≡◌, ◌≤◌, ◌+◌, [], ◌++◌, length, IfOk};
-ghost use Rattle.gic_vm.specs.GuestMemory.Wants.{most_wanted};
+ghost use Rattle.vm_saved.specs.GicVm.GuestMemory.Wants.{most_wanted};
 
-use gic_vm::MOST_WANTED;
 use std::alloc::{AllocError, Global};
 use std::marker::Model;
+use vm_saved::MOST_WANTED;
 
 /// As many bytes as an access can want.
 #[derive(Drop)]
@@ -14,7 +14,7 @@ pub(crate) struct Bytes {
 
 impl Model for Bytes {
     ghost use Rattle.std.specs.Prelude.{List, ℕ, ◌≤◌, vec_capacity};
-    ghost use Rattle.gic_vm.specs.GuestMemory.Wants.{most_wanted};
+    ghost use Rattle.vm_saved.specs.GicVm.GuestMemory.Wants.{most_wanted};
 
     ghost Value = { List ℕ };
 

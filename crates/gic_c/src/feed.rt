@@ -1,11 +1,11 @@
 //! What C fed of the guest's memory for a call.
 ghost use Rattle.std.specs.Prelude.{◌≡◌, ◌+◌, ◌≤◌, IfSome, IfOk, length};
-ghost use Rattle.gic_vm.specs.GuestMemory.Wants.{bytes_in, most_wanted};
+ghost use Rattle.vm_saved.specs.GicVm.GuestMemory.Wants.{bytes_in, most_wanted};
 ghost use Rattle.gic_c.specs.Feed.{no_feed, begun, fed_with, next_of, has_doubleword as has_doubleword_in, doubleword_at, read_at};
 
 use crate::bytes::Bytes;
-use gic_vm::{GuestMemory, Span};
 use std::alloc::{AllocError, Global};
+use vm_saved::{GuestMemory, Span};
 
 /// The bytes of a doubleword.
 const DOUBLEWORD: u64 = 8;

@@ -1,4 +1,4 @@
-//! The machine of `gic_vm` for C: a static library whose functions take any numbers, and a handle that C holds.
+//! The machine of `gic_vm` for C, and its images of `vm_saved`: a static library whose functions take any numbers, and a handle that C holds.
 #![tactic(auto)]
 
 ghost use Rattle.std.specs.Prelude.{◌≡◌, ◌≢◌, ◌⊎◌, true, is_some, pos, None, if◌then◌else◌};
@@ -9,6 +9,7 @@ ghost use Rattle.gic_c.specs.Board.{forgotten};
 ghost use Rattle.gic_c.specs.Calls.{is_flag, sysreg_reply, after_register, guest_reply, after_guest, wire_step, message_step, msi_step, reset_reply, after_reset, vcpu_reply, after_vcpu, lines_status};
 ghost use Rattle.gic_c.specs.Mmio.{IsMmio};
 ghost use Rattle.gic_c.specs.Fetch.{feed_status, after_feed};
+ghost use Rattle.gic_c.specs.Save.{IsSave, IsRestore};
 ghost use Rattle.gic_c.specs.declared.answer.Refusal.TheVariants.{Invalid, NoMemory};
 
 mod access;
@@ -21,6 +22,7 @@ mod handle;
 mod loose;
 mod mmio;
 mod open;
+mod save;
 mod slot;
 #[cfg(test)]
 mod tests;
@@ -28,6 +30,7 @@ mod tests;
 use answer::{Refusal, RvDone};
 use handle::RvMachine;
 use open::RvSpec;
+use save::deliver;
 use std::alloc::Global;
 
 /// The version of what C sees: a library of another one has other structs.
@@ -41,7 +44,8 @@ pub extern "C" fn rv_abi() -> u32
     ABI
 }
 
-/// Opens a machine in a closed handle. 0; -EINVAL where the handle is open, or the machine is none; -ENOMEM. No other call asks for memory.
+/// Opens a machine in a closed handle. 0; -EINVAL where the handle is open, or the machine is none; -ENOMEM. Of the other calls `rv_save` and `rv_restore` alone
+/// ask for memory.
 #[unsafe(no_mangle)]
 pub extern "C" fn rv_create(alloc: Global, spec: &RvSpec, machine: &mut RvMachine) -> i32
     ensures opened { result ≡ pos 0 → CanOpen machine.old spec.now × IsOpened machine.new spec.now }
@@ -231,6 +235,46 @@ pub extern "C" fn rv_reset_vcpu(
         return done.show(Err(Refusal::Invalid));
     };
     let reply = board.reset_vcpu(vcpu);
+    machine.put(board);
+    done.show(reply)
+}
+
+/// Writes the machine's image, one line of JSON, into `room`, and how many bytes it has into `needed`, which is 0 where there is none. 0; -ERANGE where it has more
+/// bytes than there is room, which stays as it was; -EINVAL where the handle is closed; -EDOM where the state of the machine is none that an image tells; -ENOMEM.
+#[unsafe(no_mangle)]
+pub extern "C" fn rv_save(
+    alloc: Global,
+    machine: &mut RvMachine,
+    room: &mut [u8],
+    needed: &mut u64,
+) -> i32
+    ensures saved { IsSave (board_of machine.old) room.old room.new needed.new result }
+    ensures machine { board_of machine.new ≡ left forgotten machine.old }
+{
+    let Some(mut board) = machine.take(alloc) else {
+        return deliver(Err(Refusal::Invalid), room, needed);
+    };
+    board.forget();
+    let image = board.image(alloc);
+    machine.put(board);
+    deliver(image, room, needed)
+}
+
+/// The machine is what it was where `rv_save` wrote these bytes of it, or of another one with the same numbers. 0; -EINVAL where the bytes are no such image, or the
+/// handle is closed; -ENOMEM. Where it is refused the machine stays as it was.
+#[unsafe(no_mangle)]
+pub extern "C" fn rv_restore(
+    alloc: Global,
+    machine: &mut RvMachine,
+    bytes: &[u8],
+    done: &mut RvDone,
+) -> i32
+    ensures { IsRestore bytes.now (board_of machine.old) (board_of machine.new) result done.new }
+{
+    let Some(mut board) = machine.take(alloc) else {
+        return done.show(Err(Refusal::Invalid));
+    };
+    let reply = board.restore(alloc, bytes);
     machine.put(board);
     done.show(reply)
 }

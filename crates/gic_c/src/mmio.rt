@@ -1,14 +1,14 @@
 //! What a vCPU's accesses of the frames do, and how they get what they want of the guest's memory.
 ghost use Rattle.std.specs.Prelude.{◌≡◌, ◌≢◌, None};
-ghost use Rattle.gic_vm.specs.Mmio.{place_at};
+ghost use Rattle.vm_saved.specs.GicVm.Mmio.{place_at};
 ghost use Rattle.gic_c.specs.Mmio.{call_in, IsDone, Accesses, Answers};
 ghost use Rattle.gic_c.specs.Fetch.{feed_status, after_feed};
 
-use crate::access::{is_size, written};
+use crate::access::written;
 use crate::answer::{Refusal, Reply};
 use crate::board::Board;
 use crate::feed::{Call, Fed, next};
-use gic_vm::Span;
+use vm_saved::{Span, is_size};
 
 impl Board {
     /// The call that arguments are, where they are good.

@@ -1,6 +1,6 @@
 //! How a handle gets its machine, and how it loses it.
 ghost use Rattle.std.specs.Prelude.{◌≡◌, ◌≢◌, ◌⊎◌, IfOk, IfErr, Err, is_some, pos, None, if◌then◌else◌};
-ghost use Rattle.gic_vm.specs.State.{opening_of};
+ghost use Rattle.vm_saved.specs.GicVm.State.{opening_of};
 ghost use Rattle.gic_c.specs.Answer.{errno_of};
 ghost use Rattle.gic_c.specs.Handle.{board_of};
 ghost use Rattle.gic_c.specs.Board.{opened_with};
@@ -10,8 +10,8 @@ ghost use Rattle.gic_c.specs.declared.answer.Refusal.TheVariants.{Invalid, NoMem
 use crate::answer::Refusal;
 use crate::board::Board;
 use crate::handle::RvMachine;
-use gic_vm::{Layout, Machine, MachineSpec, Refused};
 use std::alloc::Global;
+use vm_saved::{Layout, Machine, MachineSpec, Refused};
 
 /// The bytes of an `RvSpec`.
 const SPEC_BYTES: u32 = 64;

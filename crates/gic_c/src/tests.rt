@@ -5,7 +5,7 @@ use crate::handle::RvMachine;
 use crate::open::RvSpec;
 use crate::{
     rv_abi, rv_create, rv_destroy, rv_feed, rv_lines, rv_message, rv_mmio, rv_msi, rv_reset,
-    rv_reset_vcpu, rv_sysreg, rv_wire,
+    rv_reset_vcpu, rv_restore, rv_save, rv_sysreg, rv_wire,
 };
 use std::alloc::Global;
 use std::process::Abort;
@@ -16,6 +16,8 @@ const EINVAL: i32 = -22;
 const ENOENT: i32 = -2;
 
 const EACCES: i32 = -13;
+
+const ERANGE: i32 = -34;
 
 const READ: u32 = 0;
 
@@ -270,5 +272,49 @@ fn arguments_are_tested(rt: HostRuntime) -> Result<(), Fail> {
     assert_eq!(rt; rv_feed(alloc, &mut machine, &[0; 32]), EINVAL);
     assert_eq!(rt; done, ZEROS);
     assert_eq!(rt; rv_destroy(alloc, &mut machine), 0);
+    Ok(())
+}
+
+/// Room that is enough for the image of a machine with two vCPUs of which little is not as it opened.
+const ROOM: usize = 8192;
+
+#[test]
+fn a_machine_goes_on_as_another(rt: HostRuntime) -> Result<(), Fail> {
+    let alloc = rt.alloc();
+    let mut machine = started(&rt, alloc);
+    let mut other = RvMachine::closed(alloc);
+    let mut done = ZEROS;
+    assert_eq!(rt; rv_wire(alloc, &mut machine, 40, 0, 1, &mut done), 0);
+    let mut room = [0; ROOM];
+    let mut needed = 0;
+    assert_eq!(rt; rv_save(alloc, &mut other, &mut room, &mut needed), EINVAL);
+    assert_eq!(rt;
+        rv_save(alloc, &mut machine, &mut room[..100], &mut needed),
+        ERANGE
+    );
+    assert!(rt; needed > 100 && needed <= ROOM as u64);
+    assert_eq!(rt; room[0], 0);
+    assert_eq!(rt; rv_save(alloc, &mut machine, &mut room, &mut needed), 0);
+    let bytes = room.get(..needed as usize).unwrap_or(&[]);
+    assert_eq!(rt; rv_restore(alloc, &mut other, bytes, &mut done), EINVAL);
+    assert_eq!(rt; rv_create(alloc, &SPEC, &mut other), 0);
+    assert_eq!(rt; rv_restore(alloc, &mut other, b"{}", &mut done), EINVAL);
+    assert_eq!(rt; done, ZEROS);
+    assert_eq!(rt; rv_restore(alloc, &mut other, bytes, &mut done), 0);
+    assert_eq!(rt;
+        done,
+        RvDone {
+            changed: 1,
+            ..ZEROS
+        }
+    );
+    assert_eq!(rt; rv_lines(alloc, &mut other, 0), 1);
+    assert_eq!(rt;
+        rv_sysreg(alloc, &mut other, 0, IAR1, READ, 0, &mut done),
+        0
+    );
+    assert_eq!(rt; done.value, 40);
+    assert_eq!(rt; rv_destroy(alloc, &mut machine), 0);
+    assert_eq!(rt; rv_destroy(alloc, &mut other), 0);
     Ok(())
 }

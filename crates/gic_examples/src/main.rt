@@ -1,10 +1,13 @@
-//! Runs each scenario of a folder, and compares what is written with the text beside it, and its picture with the SVG, where there is one.
+//! Runs each scenario of a folder, and compares what is written with the text beside it; saves and resumes each that is run in order after each number of its
+//! steps; and compares its picture with the SVG, where there is one.
 #![tactic(auto)]
 
 mod pictures;
+mod saves;
 
 use crate::pictures::is_picture;
-use gic_top::{NOTHING_SHOWN, OpenGate, SureSink, SureSource, run_tool};
+use crate::saves::{rest_of, steps_in};
+use gic_top::{NOTHING_SHOWN, OK, OpenGate, SureSink, SureSource, run_tool};
 use std::alloc::{AllocError, Global};
 use std::process::ExitCode;
 use std::sync::Wait;
@@ -24,22 +27,40 @@ const ON_THREADS: &str = "threads-";
 /// How the name begins of what has links of physical interrupts.
 const WITH_LINKS: &str = "host-";
 
+/// How the name begins of a scenario of which the image after its first step is written.
+const SAVED: &str = "save-";
+
+/// How the name of an image begins.
+const RESUMED: &str = "resume-";
+
 /// The words for these, and those for every other one.
 const THREADS: [&str; 3] = ["threads", "3", "2"];
 
 const HOST: [&str; 1] = ["host"];
 
+const SAVE: [&str; 2] = ["save", "1"];
+
+const RESUME: [&str; 1] = ["resume"];
+
 const IN_ORDER: [&str; 1] = ["run"];
 
-/// The words with which a scenario of this name is run.
-fn words_for(alloc: Global, name: &str) -> Result<Vec<String>, AllocError> {
-    let words: &[&str] = if name.starts_with(ON_THREADS) {
+/// The words for an input of this name.
+fn words_for(name: &str) -> &'static [&'static str] {
+    if name.starts_with(ON_THREADS) {
         &THREADS
     } else if name.starts_with(WITH_LINKS) {
         &HOST
+    } else if name.starts_with(SAVED) {
+        &SAVE
+    } else if name.starts_with(RESUMED) {
+        &RESUME
     } else {
         &IN_ORDER
-    };
+    }
+}
+
+/// Words as a list of their own.
+fn words_of(alloc: Global, words: &[&str]) -> Result<Vec<String>, AllocError> {
     let mut all = Vec::new(alloc);
     for word in words {
         all.push(String::from_str(alloc, word)?)?;
@@ -66,16 +87,15 @@ fn bytes_of(rt: &HostRuntime, folder: &str, name: &str, ending: &str) -> anyhow:
     Ok(fs::read(rt, path)?)
 }
 
-/// Runs a scenario: its status, and whether what was written is its text.
+/// What the tool writes for these words and this input, and its status.
 fn run<R: Threads + Wait + Sync>(
     rt: &R,
     alloc: Global,
-    name: &str,
-    input: Vec<u8>,
-    text: &[u8],
-) -> anyhow::Result<(u8, bool)> {
-    let words = words_for(alloc, name)?;
-    let mut source = SureSource::of(input);
+    words: &[&str],
+    input: &[u8],
+) -> anyhow::Result<(u8, Vec<u8>)> {
+    let words = words_of(alloc, words)?;
+    let mut source = SureSource::of(input.to_vec(alloc)?);
     let mut sink = SureSink::new(alloc);
     let mut shown = NOTHING_SHOWN;
     let status = run_tool(
@@ -87,7 +107,41 @@ fn run<R: Threads + Wait + Sync>(
         &OpenGate,
         &mut shown,
     );
-    Ok((status, sink.taken() == Some(text)))
+    let written = match sink.taken() {
+        Some(bytes) => bytes.to_vec(alloc)?,
+        None => Vec::new(alloc),
+    };
+    Ok((status, written))
+}
+
+/// Whether what is written of a scenario that is saved after so many steps, and resumed, is the rest of its text.
+fn goes_on<R: Threads + Wait + Sync>(
+    rt: &R,
+    alloc: Global,
+    input: &[u8],
+    text: &str,
+    done: usize,
+) -> anyhow::Result<bool> {
+    let steps = format!(in alloc; "{done}")?;
+    let (saved, image) = run(rt, alloc, &["save", steps.as_str()], input)?;
+    let (resumed, written) = run(rt, alloc, &RESUME, image.as_slice())?;
+    let rest = rest_of(alloc, text, done)?;
+    Ok(saved == OK && resumed == OK && written.as_slice() == rest.as_bytes())
+}
+
+/// The same after each number of its steps, so many.
+fn always_goes_on<R: Threads + Wait + Sync>(
+    rt: &R,
+    alloc: Global,
+    input: &[u8],
+    text: &str,
+    steps: usize,
+) -> anyhow::Result<bool> {
+    let mut all = true;
+    for done in 0..=steps {
+        all &= goes_on(rt, alloc, input, text, done)?;
+    }
+    Ok(all)
 }
 
 /// Compares each picture of a folder with its SVG: whether all are so.
@@ -114,10 +168,20 @@ fn main(rt: HostRuntime) -> anyhow::Result<ExitCode> {
     for name in &names_in(&rt, folder.as_str(), SCENARIO)? {
         let input = bytes_of(&rt, folder.as_str(), name.as_str(), SCENARIO)?;
         let text = bytes_of(&rt, folder.as_str(), name.as_str(), TEXT)?;
-        let (status, is_so) = run(&rt, rt.alloc(), name.as_str(), input, text.as_slice())?;
+        let words = words_for(name.as_str());
+        let (status, written) = run(&rt, rt.alloc(), words, input.as_slice())?;
+        let is_so = written == text;
         let what = if is_so { "as written" } else { "otherwise" };
         println!(rt; "{name}: status {status}, {what}")?;
         all &= is_so;
+        if status == OK && words == IN_ORDER.as_slice() {
+            let text = str::from_utf8(text.as_slice())?;
+            let steps = steps_in(text);
+            let is_so = always_goes_on(&rt, rt.alloc(), input.as_slice(), text, steps)?;
+            let what = if is_so { "as written" } else { "otherwise" };
+            println!(rt; "{name}: saved after each of {steps} steps, resumed {what}")?;
+            all &= is_so;
+        }
     }
     all &= compare_pictures(&rt, folder.as_str())?;
     Ok(if all {

@@ -16,7 +16,7 @@ use Rattle.gic_resume.specs.Back.{ImagesReadBack}
 use Rattle.gic_resume.proofs.KindLemmas.{images_have_shape}
 use Rattle.gic_resume.proofs.StepLemmas.{steps_read_back}
 
-elements_back : (ds : List Data) → elements (items_of ds) ≡ ds
+pub elements_back : (ds : List Data) → elements (items_of ds) ≡ ds
 elements_back [] = refl
 elements_back (d ∷ ds) = ap (λ rest. d ∷ rest) (elements_back ds)
 

@@ -3,4 +3,5 @@
 
 mod laws;
 
+pub use gic_save::{Bytes, image, image_value};
 pub use laws::{images_have_shape, images_read_back, steps_read_back};

@@ -10,7 +10,7 @@ use gic_top::OK;
 use std::test::Fail;
 
 #[rattlefmt::skip]
-const FAULTS: [Row; 7] = [
+pub(crate) const FAULTS: [Row; 7] = [
     Row {
         shows: "a device past the last", before: GUEST,
         steps: &[

@@ -17,11 +17,11 @@ pub(crate) const TWO_LRS: &str =
     r#""lrs":2,"guests":[{"on":true,"irqs":[{"id":40},{"id":41},{"id":42,"prio":32}]}]"#;
 
 /// The guest of `BASE` with 40 level-sensitive.
-const LEVEL: &str =
+pub(crate) const LEVEL: &str =
     r#""guests":[{"on":true,"irqs":[{"id":40,"edge":false},{"id":41},{"id":42,"prio":32}]}]"#;
 
 /// A guest with interrupt 40 alone, each number written out.
-const FIRST: &str =
+pub(crate) const FIRST: &str =
     r#""pes":1,"lrs":4,"guests":[{"vcpus":1,"spis":32,"on":true,"irqs":[{"id":40}]}]"#;
 
 /// The vCPU with the level of priority 0xA0 active.
@@ -35,7 +35,7 @@ pub(crate) const ACTIVE_40: &str =
 const PENDING_41: &str = "irq 0 41 en=1 grp=1 prio=0xa0 cfg=edge line=0 rise=0 soft=1 act=- to=0";
 
 #[rattlefmt::skip]
-const ACKNOWLEDGES: [Row; 9] = [
+pub(crate) const ACKNOWLEDGES: [Row; 9] = [
     Row {
         shows: "an interrupt is acknowledged and ended, once", before: FIRST,
         steps: &[&[message!(40), icc!(0, "IAR1"), icc!(0, "EOIR1", 40), icc!(0, "IAR1")]],
@@ -110,7 +110,7 @@ const ACKNOWLEDGES: [Row; 9] = [
 ];
 
 #[rattlefmt::skip]
-const PRIORITIES: [Row; 6] = [
+pub(crate) const PRIORITIES: [Row; 6] = [
     Row {
         shows: "a mask at the priority holds an interrupt back, and HPPIR tells it all the same", before: BASE,
         steps: &[
@@ -189,7 +189,7 @@ const PRIORITIES: [Row; 6] = [
 ];
 
 #[rattlefmt::skip]
-const LIST_REGISTERS: [Row; 7] = [
+pub(crate) const LIST_REGISTERS: [Row; 7] = [
     Row {
         shows: "sixteen list registers", before: r#""lrs":16,"guests":[{}]"#,
         steps: &[],
@@ -252,7 +252,7 @@ const LIST_REGISTERS: [Row; 7] = [
 ];
 
 #[rattlefmt::skip]
-const WIRES: [Row; 2] = [
+pub(crate) const WIRES: [Row; 2] = [
     Row {
         shows: "a level that stays up is pending again after each end of interrupt", before: LEVEL,
         steps: &[

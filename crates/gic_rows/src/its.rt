@@ -71,7 +71,7 @@ pub(crate) const SYNC: &[&str] = command!(0x1060 5, 0x1070 0x10000);
 pub(crate) const DONE: &[&str] = &[mem!(0, "gits", 0x88, 8, 0x80), mem!(0, "gits", 0x90, 8)];
 
 /// A command of an unknown number in the place of the second.
-const UNKNOWN: &[&str] = command!(0x1020 0x7F, 0x1030 0x8000000000010001);
+pub(crate) const UNKNOWN: &[&str] = command!(0x1020 0x7F, 0x1030 0x8000000000010001);
 
 const CPU_0: &str = "cpu 0 0 vmcr=0xf04c000a ap0=0x00000000 ap1=0x00000000 lpis=1";
 
@@ -83,7 +83,7 @@ const CPU_1_A0: &str = "cpu 0 1 vmcr=0xf04c000a ap0=0x00000000 ap1=0x00100000 lp
 pub(crate) const LPI_8195: &str =
     "irq 0 8195 en=1 grp=1 prio=0xa0 cfg=edge line=0 rise=0 soft=0 act=- to=1";
 
-const ITS_80: &str =
+pub(crate) const ITS_80: &str =
     "its 0 ctlr=0x00000001 cbaser=0x8000000000001000 cwriter=0x0000000000000080 creadr=0x0000000000000080 fault=0";
 
 const ITS_A0: &str =
@@ -107,7 +107,7 @@ const TAKEN: &[&str] = &[
 ];
 
 #[rattlefmt::skip]
-const LPIS: [Row; 7] = [
+pub(crate) const LPIS: [Row; 7] = [
     Row {
         shows: "an LPI from its tables to the interrupt", before: GUEST,
         steps: &[
@@ -207,7 +207,7 @@ const LPIS: [Row; 7] = [
 ];
 
 #[rattlefmt::skip]
-const STALLS: [Row; 7] = [
+pub(crate) const STALLS: [Row; 7] = [
     Row {
         shows: "a command of an unknown number stalls the queue", before: GUEST,
         steps: &[
@@ -284,7 +284,7 @@ const STALLS: [Row; 7] = [
 ];
 
 #[rattlefmt::skip]
-const COMMANDS: [Row; 8] = [
+pub(crate) const COMMANDS: [Row; 8] = [
     Row {
         shows: "MOVI moves a pending LPI to the vCPU of another collection", before: GUEST,
         steps: &[

@@ -1,4 +1,4 @@
-//! Worked scenarios through the whole tool: of each its input, and the status and all that is written.
+//! Worked scenarios through the whole tool: of each its input, and the status and all that is written; and runs that are saved and resumed.
 //!
 //! What is written was worked out by hand, from the architecture and the rules of `docs/`, and never taken from a
 //! run.
@@ -19,6 +19,10 @@ mod refused;
 #[cfg(test)]
 mod row;
 #[cfg(test)]
+mod saves;
+#[cfg(test)]
 mod steps;
+#[cfg(test)]
+mod sweep;
 #[cfg(test)]
 mod vcpus;

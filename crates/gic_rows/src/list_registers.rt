@@ -7,7 +7,7 @@ use gic_top::OK;
 use std::test::Fail;
 
 #[rattlefmt::skip]
-const STEP_BY_STEP: [Row; 4] = [
+pub(crate) const STEP_BY_STEP: [Row; 4] = [
     Row {
         shows: "two interrupts and one list register", before: ONE_LR,
         steps: &[

@@ -36,7 +36,7 @@ macro_rules! grouped_at_a0 {
 }
 
 #[rattlefmt::skip]
-const PARTS: [Row; 14] = [
+pub(crate) const PARTS: [Row; 14] = [
     Row {
         shows: "another vCPU clears what is pending", before: TWO_VCPUS,
         steps: &[&[message!(40), mem!(1, "gicd", 0x284, 4, 0x100), icc!(0, "IAR1")]],
@@ -199,7 +199,7 @@ const PARTS: [Row; 14] = [
 ];
 
 #[rattlefmt::skip]
-const VALUES: [Row; 4] = [
+pub(crate) const VALUES: [Row; 4] = [
     Row {
         shows: "an access that no register takes reads 0", before: BASE,
         steps: &[&[mem!(0, "gicd", 0x2, 4), mem!(0, "gicd", 0x428, 8), mem!(0, "gicd", 0x100, 1)]],
@@ -224,7 +224,7 @@ const VALUES: [Row; 4] = [
 ];
 
 #[rattlefmt::skip]
-const EXTENDED_SPIS: [Row; 2] = [
+pub(crate) const EXTENDED_SPIS: [Row; 2] = [
     Row {
         shows: "an SPI comes before an extended one",
         before: r#""guests":[{"espis":32,"on":true,"irqs":[{"id":40},{"id":4100}]}]"#,
@@ -253,7 +253,7 @@ const EXTENDED_SPIS: [Row; 2] = [
 
 /// A driver's start, and its first interrupt.
 #[rattlefmt::skip]
-const START: [Row; 1] = [
+pub(crate) const START: [Row; 1] = [
     Row {
         shows: "a driver starts a controller that opens off", before: r#""guests":[{}]"#,
         steps: &[

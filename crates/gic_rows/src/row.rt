@@ -34,10 +34,13 @@ fn push_steps(input: &mut String, steps: &[&str]) -> Result<(), AllocError> {
 }
 
 /// The scenario as JSON.
-fn input_of(alloc: Global, row: &Row) -> Result<String, AllocError> {
-    let before = row.before;
+pub(crate) fn input_of(
+    alloc: Global,
+    before: &str,
+    steps: &[&[&str]],
+) -> Result<String, AllocError> {
     let mut input = format!(in alloc; "{{{before},\"steps\":[")?;
-    for part in row.steps {
+    for part in steps {
         push_steps(&mut input, part)?;
     }
     input.push_str("]}")?;
@@ -45,7 +48,7 @@ fn input_of(alloc: Global, row: &Row) -> Result<String, AllocError> {
 }
 
 /// The lines, each with its newline.
-fn text_of(alloc: Global, lines: &[&str]) -> Result<String, AllocError> {
+pub(crate) fn text_of(alloc: Global, lines: &[&str]) -> Result<String, AllocError> {
     let mut text = String::new(alloc);
     for line in lines {
         text.push_str(line)?;
@@ -63,6 +66,33 @@ fn ideal_text(alloc: Global, input: &str) -> Result<Bytes, Fail> {
     }
 }
 
+/// Hands words and an input to the tool: the status that it answers, and all that it writes.
+pub(crate) fn answer_to(
+    rt: &(impl Abort + Threads + Wait + Sync),
+    alloc: Global,
+    words: &[&str],
+    input: String,
+) -> Result<(u8, String), Fail> {
+    let mut owned = Vec::new(alloc);
+    for word in words {
+        owned.push(String::from_str(alloc, word)?)?;
+    }
+    let mut source = SureSource::of(input.into_bytes());
+    let mut sink = SureSink::new(alloc);
+    let mut shown = NOTHING_SHOWN;
+    let status = run_tool(
+        rt,
+        alloc,
+        owned.as_slice(),
+        &mut source,
+        &mut sink,
+        &OpenGate,
+        &mut shown,
+    );
+    let taken = str::from_utf8(sink.taken().ok_or("not told")?)?;
+    Ok((status, String::from_str(alloc, taken)?))
+}
+
 /// Runs each row, and compares the status and all that is written, and the text of a run by the ideal controller.
 pub(crate) fn check(
     rt: &(impl Abort + Threads + Wait + Sync),
@@ -70,9 +100,8 @@ pub(crate) fn check(
     status: u8,
     rows: &[Row],
 ) -> Result<(), Fail> {
-    let words = [String::from_str(alloc, "run")?];
     for row in rows {
-        let input = input_of(alloc, row)?;
+        let input = input_of(alloc, row.before, row.steps)?;
         let text = text_of(alloc, row.lines)?;
         if status == OK {
             let ideal = ideal_text(alloc, input.as_str())?;
@@ -83,20 +112,8 @@ pub(crate) fn check(
                 row.shows
             );
         }
-        let mut source = SureSource::of(input.into_bytes());
-        let mut sink = SureSink::new(alloc);
-        let mut shown = NOTHING_SHOWN;
-        let answered = run_tool(
-            rt,
-            alloc,
-            &words,
-            &mut source,
-            &mut sink,
-            &OpenGate,
-            &mut shown,
-        );
-        let taken = str::from_utf8(sink.taken().ok_or("not told")?)?;
-        assert_eq!(rt; taken, text.as_str(), "{}", row.shows);
+        let (answered, taken) = answer_to(rt, alloc, &["run"], input)?;
+        assert_eq!(rt; taken.as_str(), text.as_str(), "{}", row.shows);
         assert_eq!(rt; answered, status, "{}", row.shows);
     }
     Ok(())

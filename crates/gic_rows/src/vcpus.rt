@@ -7,7 +7,7 @@ use gic_top::OK;
 use std::test::Fail;
 
 /// One vCPU and two PEs, with 40 and 41 at priority 0xA0 and 42 at 0x20.
-const TWO_PES: &str =
+pub(crate) const TWO_PES: &str =
     r#""pes":2,"guests":[{"on":true,"irqs":[{"id":40},{"id":41},{"id":42,"prio":32}]}]"#;
 
 /// Two vCPUs, each on a PE, that listen to SGI 5.
@@ -18,7 +18,7 @@ const TALKING: &str =
 const CPU_1_A0: &str = "cpu 0 1 vmcr=0xf04c000a ap0=0x00000000 ap1=0x00100000 lpis=0";
 
 #[rattlefmt::skip]
-const SGIS: [Row; 4] = [
+pub(crate) const SGIS: [Row; 4] = [
     Row {
         shows: "an SGI to the other vCPU", before: TALKING,
         steps: &[&[icc!(0, "SGI1R", 0x05000002), icc!(1, "IAR1"), icc!(0, "IAR1")]],
@@ -55,7 +55,7 @@ const SGIS: [Row; 4] = [
 ];
 
 #[rattlefmt::skip]
-const MOVES: [Row; 5] = [
+pub(crate) const MOVES: [Row; 5] = [
     Row {
         shows: "a pending interrupt goes with its vCPU to another PE", before: TWO_PES,
         steps: &[&[message!(40), exit!(0), enter!(1, 0), icc!(0, "IAR1")]],

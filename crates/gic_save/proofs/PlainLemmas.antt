@@ -42,7 +42,7 @@ neither : (a b : Bool) → a ≡ false → b ≡ false → (a || b) ≡ false
 neither false b e f = f
 neither true b e f = absurd (cc)
 
-deeper : (n m : ℕ) (d : Data) → IsPlain n d → n ≤ m → IsPlain m d
+pub deeper : (n m : ℕ) (d : Data) → IsPlain n d → n ≤ m → IsPlain m d
 deeper n m d is fewer = record { whole = is.whole; shallow = omega (arith, is.shallow) }
 
 -- ---- lists
@@ -61,10 +61,10 @@ each_plain : {X : Type 0} (n : ℕ) (written : X → Data) → ((x : X) → IsPl
 each_plain n written plain [] = none_yet n
 each_plain n written plain (x ∷ xs) = one_more n (written x) (map written xs) (plain x) (each_plain n written plain xs)
 
-list_plain : {X : Type 0} (n : ℕ) (written : X → Data) → ((x : X) → IsPlain n (written x)) → (xs : List X) → IsPlain (suc n) (list_data written xs)
+pub list_plain : {X : Type 0} (n : ℕ) (written : X → Data) → ((x : X) → IsPlain n (written x)) → (xs : List X) → IsPlain (suc n) (list_data written xs)
 list_plain n written plain xs = let are = each_plain n written plain xs in record { whole = are.whole; shallow = omega (arith, are.shallow) }
 
-number_plain : (n k : ℕ) → IsPlain k (number_data n)
+pub number_plain : (n k : ℕ) → IsPlain k (number_data n)
 number_plain n k = record { whole = refl; shallow = omega arith }
 
 cell_plain : (k : ℕ) (cell : Option ℕ) → IsPlain k (cell_data cell)
@@ -117,7 +117,7 @@ put_plain n k d no_members is are = before_plain n k d no_members is are
 put_plain n k d (json_member l e ms) is are = put_case n k l d e ms (slice_cmp nat_cmp k l) is are (put_plain n k d ms is (tail_plain n l e ms are))
 
 -- what each member holds is plain
-ArePlain : ℕ → List Member → Type 0
+unfoldable pub ArePlain : ℕ → List Member → Type 0
 ArePlain n [] = Unit {0}
 ArePlain n (m ∷ ms) = IsPlain n m.holds × ArePlain n ms
 
@@ -126,7 +126,7 @@ unfolding ArePlain
 all_put n [] members plain are = are
 all_put n (m ∷ ms) members plain are = all_put n ms (with_member members m) plain.1 (put_plain n m.name m.holds members plain.0 are)
 
-object_plain : (n : ℕ) (ms : List Member) → ArePlain n ms → IsPlain (suc n) (object_data ms)
+pub object_plain : (n : ℕ) (ms : List Member) → ArePlain n ms → IsPlain (suc n) (object_data ms)
 object_plain n ms plain =
     let are = all_put n ms no_members plain (record { whole = refl; shallow = omega arith }) in
     record { whole = are.whole; shallow = omega (arith, are.shallow) }

@@ -7,4 +7,4 @@ mod rows;
 mod step;
 mod whole;
 
-pub use whole::{Bytes, image};
+pub use whole::{Bytes, image, image_value};

@@ -17,8 +17,8 @@ pub type Bytes = ListOf<u8>;
 /// The version of the form of images.
 const VERSION: u32 = 1;
 
-/// The image as a JSON value.
-fn value(alloc: Global, saved: &Saved) -> Result<Value, AllocError>
+/// The image of a saved run, which has a state for each guest, as a JSON value. An error where memory is refused.
+pub fn image_value(alloc: Global, saved: &Saved) -> Result<Value, AllocError>
     requires { length saved.now.state ≡ length saved.now.scenario.guests }
     ensures { IfOk result (λ value. view value ≡ image_of saved.now) }
 {
@@ -46,6 +46,6 @@ pub fn image(alloc: Global, saved: &Saved) -> Result<Bytes, NoMemory>
     ensures text { IfOk result (λ bytes. bytes ≡ compact_text (image_of saved.now)) }
     ensures reads_back { IfOk result (λ bytes. read bytes ≡ Some (image_of saved.now)) }
 {
-    let text = value(alloc, saved)?.to_string(alloc)?;
+    let text = image_value(alloc, saved)?.to_string(alloc)?;
     Ok(Bytes::from(text.into_bytes()))
 }

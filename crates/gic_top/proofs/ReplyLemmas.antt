@@ -8,21 +8,32 @@ use Rattle.gic_host.specs.GicReport.GicIo.Source.{HasReadCount, HasReadAtMost}
 use Rattle.serde_json.specs.Data.{Data}
 use Rattle.gic_host.specs.ScnRead.ScnBase.declared.scenario.Scenario.{Scenario}
 use Rattle.gic_host.specs.ScnRead.ScnBase.declared.fault.Fault.{Fault}
+use Rattle.gic_host.specs.ScnRead.Reading.{reading as scenario_in}
+use Rattle.gic_host.specs.Reading.{reading as links_in}
 use Rattle.gic_host.specs.ScnRead.ScnBase.declared.step.Mode.{Mode}
 use Rattle.gic_host.specs.ScnRead.ScnBase.declared.step.Mode.TheVariants.{Schedule, Threads as OnThreads}
 use Rattle.gic_host.specs.declared.scenario.HostScenario.{HostScenario}
+use Rattle.image_read.specs.GicResume.GicSave.ScnSaved.declared.saved.Saved.{Saved}
 use Rattle.gic_top.specs.declared.command.Command.{Command}
-use Rattle.gic_top.specs.declared.command.Command.TheVariants.{Run, Threads, Soak, Host}
+use Rattle.gic_top.specs.declared.command.Command.TheVariants.{Run, Threads, Soak, Host, Save, Resume}
 use Rattle.gic_top.specs.declared.tool.Reply.{Reply}
 use Rattle.gic_top.specs.declared.tool.Reply.TheVariants.{Ran, Usage, BadJson, BadScenario, ReadFault, TooLong, NoMemory}
-use Rattle.gic_top.specs.Tool.{max_input, statuses, Reading, scenarios, links, Said, said, input_reading, line, HasInput, IsNoJson, Spells, SpellsSaid, SpellsFault, IsRun, IsHosted, IsOk, IsUsage, IsBadJson, IsBadScenario, IsReadFault, IsWriteFault, IsTooLong, IsNoMemory, IsRow, IsOutcome, IsWritten, IsRefusal, HasItsAnswer, WasShown}
-use Rattle.gic_top.specs.Reply.{status_of, text_of, IsTextOf, IsValueReply, IsReplyTo, IsReplyOf, IsSoakReply, IsReplyFor, IsUnrun}
+use Rattle.gic_top.specs.Tool.{max_input, statuses, Reading, scenarios, first_steps, links, images, Said, Says, Lacks, first_steps_in, input_reading, line, HasInput, IsNoJson, Spells, SpellsSaid, SpellsFault, IsRun, IsHosted, IsSave, IsResumed, IsOk, IsUsage, IsBadJson, IsBadScenario, IsReadFault, IsWriteFault, IsTooLong, IsNoMemory, IsRow, IsOutcome, IsWritten, IsRefusal, HasItsAnswer, WasShown}
+use Rattle.gic_top.specs.Reply.{status_of, text_of, AreApart, SpellsOnly, SpellsNothing, IsTextOf, IsValueReply, IsReplyTo, IsReplyOf, IsSoakReply, IsReplyFor, IsUnrun}
 
 -- one more run was shown, and where the watch tells of which scenario, it tells this
 pub shown_once : {A E : Type 0} (result : Result A E) (before after : ℕ) (last : Option Scenario) (scenario : Scenario) → OnOk result (after ≡ before + 1) → OnOk result (IfSome last (λ shown. shown ≡ scenario))
     → OnOk result (WasShown before after last scenario)
 shown_once (Ok value) before after last scenario counted told = record { counted = counted; told = told }
 shown_once (Err error) before after last scenario counted told = tt
+
+-- an input of which P holds, where each of its bytes' readings gives Q
+as_input : (before after : Option (List ℕ)) (P Q : List ℕ → Type 0) → ((bytes : List ℕ) → P bytes → Q bytes) → HasInput before after P → HasInput before after Q
+as_input before after P Q gives read = record { input = each before read.input; within = read.within; to_end = read.to_end }
+  where
+    each : (told : Option (List ℕ)) → IfSome told P → IfSome told Q
+    each None holds = tt
+    each (Some bytes) holds = gives bytes holds
 
 -- a reply to an input is the row of its status, where the command reads it so, and what it does with what was read is that
 read_row : (reading : Reading) (command : Option Command) (before after : Option (List ℕ)) (faults_before faults_after : ℕ) (wrote : List ℕ → Type 0) (showed : Mode → Scenario → Type 0) (reply : Reply) → input_reading command ≡ Some reading
@@ -34,10 +45,12 @@ read_row reading command before after fb fa wrote showed reply asked ok is writt
     reads = subst IsSome (sym asked) refl
 
     row : (reply : Reply) → IsReplyOf reading showed before after fb fa reply → wrote (text_of reply) → IsRow command before after fb fa wrote showed (status_of reply)
-    row (Ran text) is written = inl (refl, ok is.0 text is.1 is.2 written)
+    row (Ran text) is written = inl (refl, ok is.0 text (as_input before after (λ bytes. SpellsOnly reading bytes is.0) (λ bytes. SpellsSaid reading bytes is.0) (λ bytes only. only.spelled) is.1) is.2 written)
     row Usage is written = absurd is
     row BadJson is written = inr (inr (inl (refl, record { asked = reads; read = is; written = written })))
-    row (BadScenario text) is written = inr (inr (inr (inl (refl, record { reading = reading; fault = is.0; asked = asked; read = is.1; written = subst wrote is.2 written }))))
+    row (BadScenario text) is written =
+        let read = as_input before after (λ bytes. SpellsNothing reading bytes is.0) (λ bytes. SpellsFault reading bytes is.0) (λ bytes only. only.spelled) is.1 in
+        inr (inr (inr (inl (refl, record { reading = reading; fault = is.0; asked = asked; read = read; written = subst wrote is.2 written }))))
     row ReadFault is written = inr (inr (inr (inr (inl (refl, record { asked = reads; risen = is; written = written })))))
     row TooLong is written = inr (inr (inr (inr (inr (inl (refl, record { asked = reads; taken = is; written = written }))))))
     row NoMemory is written = inr (inr (inr (inr (inr (inr (refl, record { asked = some command asked; taken = is; written = written }))))))
@@ -46,7 +59,7 @@ read_row reading command before after fb fa wrote showed reply asked ok is writt
         some None is = let none : ◌≡◌ {A = Option Reading} None (Some reading) = is in absurd cc
         some (Some command) is = refl
 
--- what was read was run in a mode, or with links
+-- what was read was run: in a mode, with links, its first steps, or the rest of it
 mode_run : (mode : Mode) (before after : Option (List ℕ)) (wrote : List ℕ → Type 0) (showed : Mode → Scenario → Type 0) (scenario : Scenario) (text : List ℕ) → HasInput before after (λ bytes. SpellsSaid (scenarios mode) bytes scenario)
     → IsTextOf (scenarios mode) showed scenario text → wrote text → IsRun mode before after wrote showed
 mode_run mode before after wrote showed scenario text read run written =
@@ -55,6 +68,14 @@ mode_run mode before after wrote showed scenario text read run written =
 links_run : (before after : Option (List ℕ)) (wrote : List ℕ → Type 0) (showed : Mode → Scenario → Type 0) (scenario : HostScenario) (text : List ℕ) → HasInput before after (λ bytes. SpellsSaid links bytes scenario)
     → IsTextOf links showed scenario text → wrote text → IsHosted before after wrote
 links_run before after wrote showed scenario text read is written = record { scenario = scenario; read = read; written = subst wrote is written }
+
+save_run : (steps : ℕ) (before after : Option (List ℕ)) (wrote : List ℕ → Type 0) (showed : Mode → Scenario → Type 0) (scenario : Scenario) (text : List ℕ) → HasInput before after (λ bytes. SpellsSaid (first_steps steps) bytes scenario)
+    → IsTextOf (first_steps steps) showed scenario text → wrote text → IsSave steps before after wrote
+save_run steps before after wrote showed scenario text read is written = record { scenario = scenario; read = read; written = subst wrote is written }
+
+rest_run : (before after : Option (List ℕ)) (wrote : List ℕ → Type 0) (showed : Mode → Scenario → Type 0) (saved : Saved) (text : List ℕ) → HasInput before after (λ bytes. SpellsSaid images bytes saved)
+    → IsTextOf images showed saved text → wrote text → IsResumed before after wrote
+rest_run before after wrote showed saved text read is written = record { saved = saved; read = read; written = subst wrote is written }
 
 -- where a source tells what it told before, nothing was read
 none_told : (before : Option (List ℕ)) → IfSome before (λ all. IsSomeAnd before (λ rest. all ≡ [] ++ rest))
@@ -88,6 +109,9 @@ row_of (Some Run) before after fb fa wrote showed reply is written =
 row_of (Some (Threads pes per_turn)) before after fb fa wrote showed reply is written =
     read_row (scenarios OnThreads) (Some (Threads pes per_turn)) before after fb fa wrote showed reply refl (mode_run OnThreads before after wrote showed) is written
 row_of (Some Host) before after fb fa wrote showed reply is written = read_row links (Some Host) before after fb fa wrote showed reply refl (links_run before after wrote showed) is written
+row_of (Some (Save steps)) before after fb fa wrote showed reply is written =
+    read_row (first_steps steps) (Some (Save steps)) before after fb fa wrote showed reply refl (save_run steps before after wrote showed) is written
+row_of (Some Resume) before after fb fa wrote showed reply is written = read_row images (Some Resume) before after fb fa wrote showed reply refl (rest_run before after wrote showed) is written
 row_of (Some (Soak number steps)) before after fb fa wrote showed reply is written = soak_row number steps before after fb fa wrote showed reply is.0 is.1 written
 row_of None before after fb fa wrote showed reply is written = inr (inl (ap status_of is, record { asked = refl; written = subst (λ r. wrote (text_of r)) is written }))
 
@@ -171,12 +195,18 @@ soak_status status o number steps asked sure = let row = o.row in grind arith
 one_value : (bytes : List ℕ) (a b : Data) → Spells bytes a → Spells bytes b → a ≡ b
 one_value bytes a b x y = same_Some a b (sym x.reads ∙ y.reads)
 
--- no bytes spell something that is read so and a fault of it
-no_both : (reading : Reading) (bytes : List ℕ) (what : Said reading) (fault : Fault) → SpellsSaid reading bytes what → SpellsFault reading bytes fault → ⊥
-no_both reading bytes what fault s f =
-    let same : s.value ≡ f.value = one_value bytes s.value f.value s.spelled f.spelled in
-    let clash : ◌≡◌ {A = Result (Said reading) Fault} (Ok what) (Err fault) = sym s.said_is ∙ ap (said reading) same ∙ f.fault_is in
-    cc
+-- what is read by a function has no fault beside what it says
+is_apart : (W : Type 0) (answer : Result W Fault) (what : W) (fault : Fault) → answer ≡ Ok what → answer ≡ Err fault → ⊥
+is_apart W answer what fault s f = let clash : ◌≡◌ {A = Result W Fault} (Ok what) (Err fault) = sym s ∙ f in absurd cc
+
+pub scenarios_apart : (mode : Mode) (value : Data) → AreApart (scenarios mode) value
+scenarios_apart mode value what fault s f = is_apart Scenario (scenario_in mode value) what fault s f
+
+pub first_steps_apart : (steps : ℕ) (value : Data) → AreApart (first_steps steps) value
+first_steps_apart steps value what fault s f = is_apart Scenario (first_steps_in steps value) what fault s f
+
+pub links_apart : (value : Data) → AreApart links value
+links_apart value what fault s f = is_apart HostScenario (links_in value) what fault s f
 
 -- more bytes than the limit were taken, so there were more
 taken_past : (bytes : List ℕ) (after : Option (List ℕ)) → HasReadCount (Some bytes) after (max_input + 1) → max_input < length bytes
@@ -190,8 +220,8 @@ told_answer reading showed bytes after fb fa (Ran text) sure is =
     let input = is.1 in
     record {
       accepted = λ what other within. inl refl;
-      no_json = λ none within. absurd (none input.input.value input.input.spelled);
-      faulty = λ fault other within. absurd (no_both reading bytes is.0 fault input.input other);
+      no_json = λ none within. absurd (none input.input.spelled.value input.input.spelled.spelled);
+      faulty = λ fault other within. absurd (input.input.alone fault other);
       too_long = λ past. absurd (omega (arith, past, input.within));
     }
 told_answer reading showed bytes after fb fa Usage sure is = absurd is
@@ -205,8 +235,8 @@ told_answer reading showed bytes after fb fa BadJson sure is =
 told_answer reading showed bytes after fb fa (BadScenario text) sure is =
     let input = is.1 in
     record {
-      accepted = λ what other within. absurd (no_both reading bytes what is.0 other input.input);
-      no_json = λ none within. absurd (none input.input.value input.input.spelled);
+      accepted = λ what other within. absurd (input.input.alone what other);
+      no_json = λ none within. absurd (none input.input.spelled.value input.input.spelled.spelled);
       faulty = λ fault other within. inl refl;
       too_long = λ past. absurd (omega (arith, past, input.within));
     }
@@ -239,6 +269,8 @@ for_its_answer showed (Some Run) before after fb fa reply sure is = for_reading 
 for_its_answer showed (Some (Threads pes per_turn)) before after fb fa reply sure is = for_reading (scenarios OnThreads) showed before after fb fa reply sure is
 for_its_answer showed (Some (Soak number steps)) before after fb fa reply sure is = tt
 for_its_answer showed (Some Host) before after fb fa reply sure is = for_reading links showed before after fb fa reply sure is
+for_its_answer showed (Some (Save steps)) before after fb fa reply sure is = for_reading (first_steps steps) showed before after fb fa reply sure is
+for_its_answer showed (Some Resume) before after fb fa reply sure is = for_reading images showed before after fb fa reply sure is
 for_its_answer showed None before after fb fa reply sure is = tt
 
 -- the status where neither the source nor the sink had a fault
@@ -298,10 +330,10 @@ module _ (reading : Reading) (showed : Mode → Scenario → Type 0) (before aft
   at_most = record { part = bytes; within = within; read = record { told = rest_of before whole ended } }
 
   reply_is : (reply : Reply) → IsReplyTo reading showed bytes reply → IsReplyOf reading showed before after faults_before faults_after reply
-  reply_is (Ran text) is = (is.0, input (λ all. SpellsSaid reading all is.0) is.1, is.2)
+  reply_is (Ran text) is = (is.0, input (λ all. SpellsOnly reading all is.0) is.1, is.2)
   reply_is Usage is = absurd is
   reply_is BadJson is = input IsNoJson is
-  reply_is (BadScenario text) is = (is.0, input (λ all. SpellsFault reading all is.0) is.1, is.2)
+  reply_is (BadScenario text) is = (is.0, input (λ all. SpellsNothing reading all is.0) is.1, is.2)
   reply_is ReadFault is = absurd is
   reply_is TooLong is = absurd is
   reply_is NoMemory is = at_most
@@ -312,12 +344,25 @@ module _ (reading : Reading) (showed : Mode → Scenario → Type 0) (before aft
 
 -- The reply to a value that some bytes spell is the reply to these.
 
-module _ (reading : Reading) (showed : Mode → Scenario → Type 0) (bytes : List ℕ) (value : Data) (spelled : Spells bytes value) where
+module _ (reading : Reading) (showed : Mode → Scenario → Type 0) (bytes : List ℕ) (value : Data) (spelled : Spells bytes value) (apart : AreApart reading value) where
+  -- it has no fault where it says something
+  only_said : (what : Said reading) → Says reading value what → SpellsOnly reading bytes what
+  only_said what says = record {
+    spelled = record { value = value; spelled = spelled; said_is = says };
+    alone = λ fault other. apart what fault says (subst (λ d. Lacks reading d fault) (one_value bytes other.value value other.spelled spelled) other.fault_is);
+  }
+
+  only_fault : (fault : Fault) → Lacks reading value fault → SpellsNothing reading bytes fault
+  only_fault fault lacks = record {
+    spelled = record { value = value; spelled = spelled; fault_is = lacks };
+    alone = λ what other. apart what fault (subst (λ d. Says reading d what) (one_value bytes other.value value other.spelled spelled) other.said_is) lacks;
+  }
+
   spelled_is : (reply : Reply) → IsValueReply reading (IsTextOf reading showed) value reply → IsReplyTo reading showed bytes reply
-  spelled_is (Ran text) is = (is.0, record { value = value; spelled = spelled; said_is = is.1 }, is.2)
+  spelled_is (Ran text) is = (is.0, only_said is.0 is.1, is.2)
   spelled_is Usage is = absurd is
   spelled_is BadJson is = absurd is
-  spelled_is (BadScenario text) is = (is.0, record { value = value; spelled = spelled; fault_is = is.1 }, is.2)
+  spelled_is (BadScenario text) is = (is.0, only_fault is.0 is.1, is.2)
   spelled_is ReadFault is = absurd is
   spelled_is TooLong is = absurd is
   spelled_is NoMemory is = absurd is
@@ -325,3 +370,9 @@ module _ (reading : Reading) (showed : Mode → Scenario → Type 0) (bytes : Li
   pub spelled_reply : {E : Type 0} (result : Result Reply E) → IfOk result (IsValueReply reading (IsTextOf reading showed) value) → IfOk result (IsReplyTo reading showed bytes)
   spelled_reply (Ok reply) is = spelled_is reply is
   spelled_reply (Err error) is = tt
+
+-- the same, where they stand apart once there is a reply
+pub apart_reply : (reading : Reading) (showed : Mode → Scenario → Type 0) (bytes : List ℕ) (value : Data) → Spells bytes value → {E : Type 0} (result : Result Reply E) → OnOk result (AreApart reading value)
+    → IfOk result (IsValueReply reading (IsTextOf reading showed) value) → IfOk result (IsReplyTo reading showed bytes)
+apart_reply reading showed bytes value spelled (Ok reply) apart is = spelled_is reading showed bytes value spelled apart reply is
+apart_reply reading showed bytes value spelled (Err error) apart is = tt

@@ -3,7 +3,7 @@ use Rattle.std.specs.Prelude.{◌≡◌, ℕ, ◌-◌, ◌^◌, ◌<◌, ◌≤�
 use Rattle.std.specs.Str.Parse.{digits_value}
 use Rattle.std.specs.declared.alloc.Global.{Global}
 use Rattle.gic_top.specs.declared.command.Command.{Command}
-use Rattle.gic_top.specs.declared.command.Command.TheVariants.{Run, Threads, Soak, Host}
+use Rattle.gic_top.specs.declared.command.Command.TheVariants.{Run, Threads, Soak, Host, Save, Resume}
 
 -- the number, of at most so much, whose decimal digits a word is: without a sign, and without zeros before them
 abbrev pub number_in : ℕ → List ℕ → Option ℕ
@@ -27,10 +27,10 @@ IsCount most count = 1 ≤ count × count ≤ most
 abbrev pub IsPadded : List ℕ → Type 0
 IsPadded word = (slice_index word 0 ≡ 43) ⊎ ((slice_index word 0 ≡ 48) × (1 < length word))
 
--- `run` stands alone
-abbrev pub run_with : List (List ℕ) → Option Command
-run_with [] = Some Run
-run_with (argument ∷ arguments) = None
+-- a command that stands alone, as `run`, `host` and `resume` do
+abbrev pub alone : Command → List (List ℕ) → Option Command
+alone command [] = Some command
+alone command (argument ∷ arguments) = None
 
 -- both counts of `threads`
 abbrev pub threads_of : Option ℕ → Option ℕ → Option Command
@@ -58,28 +58,38 @@ soak_with (number ∷ []) = None
 soak_with (number ∷ steps ∷ []) = soak_of (number_in (2 ^ 64 - 1) number) (number_in 100000 steps)
 soak_with (number ∷ steps ∷ argument ∷ arguments) = None
 
--- `host` stands alone
-abbrev pub host_with : List (List ℕ) → Option Command
-host_with [] = Some Host
-host_with (argument ∷ arguments) = None
+-- the number of `save`
+abbrev pub save_of : Option ℕ → Option Command
+save_of None = None
+save_of (Some steps) = Some (Save steps)
+
+-- `save` has a count of at most 100000 steps
+abbrev pub save_with : List (List ℕ) → Option Command
+save_with [] = None
+save_with (steps ∷ []) = save_of (number_in 100000 steps)
+save_with (steps ∷ argument ∷ arguments) = None
 
 -- the command that words are: the first names it, and the others are its arguments
 abbrev pub command_of : List (List ℕ) → Option Command
 command_of [] = None
 command_of (name ∷ arguments) =
-    if bytes_eq name (codes "run") then run_with arguments
+    if bytes_eq name (codes "run") then alone Run arguments
     else (if bytes_eq name (codes "threads") then threads_with arguments
     else (if bytes_eq name (codes "soak") then soak_with arguments
-    else (if bytes_eq name (codes "host") then host_with arguments
-    else None)))
+    else (if bytes_eq name (codes "host") then alone Host arguments
+    else (if bytes_eq name (codes "save") then save_with arguments
+    else (if bytes_eq name (codes "resume") then alone Resume arguments
+    else None)))))
 
 -- the command that the words of a command line are
 abbrev pub command_in : List (String Global) → Option Command
 command_in words = command_of (map string_bytes words)
 
--- a scenario that is to be made has at most 100000 steps, and a run on threads 1 to 8 PEs and 1 to 1000 operations of a vCPU while it is on one
+-- at most 100000 steps are to be made or done, and a run on threads has 1 to 8 PEs and 1 to 1000 operations of a vCPU while it is on one
 abbrev pub IsInBounds : Command → Type 0
 IsInBounds Run = ⊤
 IsInBounds (Threads pes per_turn) = IsCount 8 pes × IsCount 1000 per_turn
 IsInBounds (Soak number steps) = steps ≤ 100000
 IsInBounds Host = ⊤
+IsInBounds (Save steps) = steps ≤ 100000
+IsInBounds Resume = ⊤

@@ -1,27 +1,28 @@
 -- What the tool has to write, inside the crate.
-use Rattle.std.specs.Prelude.{◌≡◌, ℕ, ◌+◌, List, Option, Some, None, Ok, Err, codes, ⊤}
+use Rattle.std.specs.Prelude.{◌≡◌, ℕ, ◌+◌, List, Option, Some, None, Bool, true, false, codes, ⊤}
 use Rattle.serde_json.specs.Data.{Data}
 use Rattle.gic_host.specs.GicReport.GicIo.Faults.{HasRisen}
 use Rattle.gic_host.specs.GicReport.GicIo.Source.{HasReadCount, HasReadAtMost}
 use Rattle.gic_host.specs.GicReport.GicSoak.Generated.{generated}
 use Rattle.gic_host.specs.ScnRead.ScnBase.declared.scenario.Scenario.{Scenario}
 use Rattle.gic_host.specs.ScnRead.ScnBase.declared.fault.Fault.{Fault}
-use Rattle.run_seq.specs.Calls.{RunOut}
+use Rattle.run_saved.specs.RunSeq.Calls.{RunOut}
 use Rattle.gic_host.specs.ScnRead.ScnBase.declared.step.Mode.{Mode}
 use Rattle.gic_host.specs.ScnRead.ScnBase.declared.step.Mode.TheVariants.{Schedule, Threads as OnThreads}
 use Rattle.gic_host.specs.GicReport.Text.{text as text_in}
 use Rattle.gic_host.specs.Text.{text as host_text}
 use Rattle.gic_host.specs.declared.scenario.HostScenario.{HostScenario}
+use Rattle.image_read.specs.GicResume.GicSave.ScnSaved.declared.saved.Saved.{Saved}
 use Rattle.gic_top.specs.declared.command.Command.{Command}
-use Rattle.gic_top.specs.declared.command.Command.TheVariants.{Run, Threads, Soak, Host}
+use Rattle.gic_top.specs.declared.command.Command.TheVariants.{Run, Threads, Soak, Host, Save, Resume}
 use Rattle.gic_top.specs.Command.{IsCount}
 use Rattle.gic_top.specs.declared.tool.Way.{Way}
 use Rattle.gic_top.specs.declared.tool.Way.TheVariants.{InOrder, OnPes}
 use Rattle.gic_top.specs.declared.tool.Asked.{Asked}
-use Rattle.gic_top.specs.declared.tool.Asked.TheVariants.{ScenarioRun, LinksRun}
+use Rattle.gic_top.specs.declared.tool.Asked.TheVariants.{ScenarioRun, FirstSteps, LinksRun, ImageRun}
 use Rattle.gic_top.specs.declared.tool.Reply.{Reply}
 use Rattle.gic_top.specs.declared.tool.Reply.TheVariants.{Ran, Usage, BadJson, BadScenario, ReadFault, TooLong, NoMemory}
-use Rattle.gic_top.specs.Tool.{Reading, scenarios, links, Said, said, SpellsSaid, SpellsFault, IsNoJson, HasInput, MayAnswer, max_input, soak_text, fault_line, line}
+use Rattle.gic_top.specs.Tool.{Reading, scenarios, first_steps, links, images, Said, Says, Lacks, SpellsSaid, SpellsFault, IsNoJson, HasInput, MayAnswer, max_input, soak_text, save_text, resume_text, fault_line, line}
 
 -- the mode of a way to run
 abbrev pub mode_of : Way → Mode
@@ -36,12 +37,23 @@ IsWay (OnPes pes per_turn) = IsCount 8 pes × IsCount 1000 per_turn
 -- what the input is read as
 abbrev pub reading_of : Asked → Reading
 reading_of (ScenarioRun way) = scenarios (mode_of way)
+reading_of (FirstSteps steps) = first_steps steps
 reading_of LinksRun = links
+reading_of ImageRun = images
 
 -- so it is asked for
 abbrev pub IsAsked : Asked → Type 0
 IsAsked (ScenarioRun way) = IsWay way
+IsAsked (FirstSteps steps) = ⊤
 IsAsked LinksRun = ⊤
+IsAsked ImageRun = ⊤
+
+-- whether a run of it is shown to the watch
+abbrev pub is_watched : Asked → Bool
+is_watched (ScenarioRun way) = true
+is_watched (FirstSteps steps) = false
+is_watched LinksRun = false
+is_watched ImageRun = false
 
 -- the text is that of what a run of the scenario in this mode, which was shown, may answer
 pub record IsRunText (mode : Mode) (showed : Mode → Scenario → Type 0) (scenario : Scenario) (text : List ℕ) : Type 0 where
@@ -54,10 +66,20 @@ pub record IsRunText (mode : Mode) (showed : Mode → Scenario → Type 0) (scen
 abbrev pub IsHostText : HostScenario → List ℕ → Type 0
 IsHostText scenario text = text ≡ host_text scenario
 
+-- the text is the image of what is saved after so many steps
+abbrev pub IsSaveText : ℕ → Scenario → List ℕ → Type 0
+IsSaveText steps scenario text = text ≡ save_text steps scenario
+
+-- the text is that of what is left of a saved run
+abbrev pub IsResumeText : Saved → List ℕ → Type 0
+IsResumeText saved text = text ≡ resume_text saved
+
 -- the text is one that a run of what was read may give
 abbrev pub IsTextOf : (reading : Reading) → (Mode → Scenario → Type 0) → Said reading → List ℕ → Type 0
 IsTextOf (scenarios mode) showed = IsRunText mode showed
+IsTextOf (first_steps steps) showed = IsSaveText steps
 IsTextOf links showed = IsHostText
+IsTextOf images showed = IsResumeText
 
 -- the status of a reply
 abbrev pub status_of : Reply → ℕ
@@ -89,22 +111,36 @@ IsUnrun ReadFault = ⊤
 IsUnrun TooLong = ⊤
 IsUnrun NoMemory = ⊥
 
+-- nothing that a value says, read so, stands beside a fault of it
+abbrev pub AreApart : Reading → Data → Type 0
+AreApart reading value = (what : Said reading) (fault : Fault) → Says reading value what → Lacks reading value fault → ⊥
+
+-- the bytes spell this, read so, and no fault
+pub record SpellsOnly (reading : Reading) (bytes : List ℕ) (what : Said reading) : Type 0 where
+  pub spelled : SpellsSaid reading bytes what
+  pub alone : (fault : Fault) → SpellsFault reading bytes fault → ⊥
+
+-- the bytes spell this fault, read so, and nothing else
+pub record SpellsNothing (reading : Reading) (bytes : List ℕ) (fault : Fault) : Type 0 where
+  pub spelled : SpellsFault reading bytes fault
+  pub alone : (what : Said reading) → SpellsSaid reading bytes what → ⊥
+
 -- the reply is the one to a value that is read so; `Gives` says which texts a run of what was read may give
 abbrev pub IsValueReply : (reading : Reading) → (Said reading → List ℕ → Type 0) → Data → Reply → Type 0
-IsValueReply reading Gives value (Ran text) = (what : Said reading) × (said reading value ≡ Ok what) × Gives what text
+IsValueReply reading Gives value (Ran text) = (what : Said reading) × Says reading value what × Gives what text
 IsValueReply reading Gives value Usage = ⊥
 IsValueReply reading Gives value BadJson = ⊥
-IsValueReply reading Gives value (BadScenario text) = (fault : Fault) × (said reading value ≡ Err fault) × (text ≡ fault_line fault)
+IsValueReply reading Gives value (BadScenario text) = (fault : Fault) × Lacks reading value fault × (text ≡ fault_line fault)
 IsValueReply reading Gives value ReadFault = ⊥
 IsValueReply reading Gives value TooLong = ⊥
 IsValueReply reading Gives value NoMemory = ⊥
 
 -- the reply is the one to these bytes, read so; `showed` says the run of which scenario the watch was shown, in which mode
 abbrev pub IsReplyTo : (reading : Reading) → (Mode → Scenario → Type 0) → List ℕ → Reply → Type 0
-IsReplyTo reading showed bytes (Ran text) = (what : Said reading) × SpellsSaid reading bytes what × IsTextOf reading showed what text
+IsReplyTo reading showed bytes (Ran text) = (what : Said reading) × SpellsOnly reading bytes what × IsTextOf reading showed what text
 IsReplyTo reading showed bytes Usage = ⊥
 IsReplyTo reading showed bytes BadJson = IsNoJson bytes
-IsReplyTo reading showed bytes (BadScenario text) = (fault : Fault) × SpellsFault reading bytes fault × (text ≡ fault_line fault)
+IsReplyTo reading showed bytes (BadScenario text) = (fault : Fault) × SpellsNothing reading bytes fault × (text ≡ fault_line fault)
 IsReplyTo reading showed bytes ReadFault = ⊥
 IsReplyTo reading showed bytes TooLong = ⊥
 IsReplyTo reading showed bytes NoMemory = ⊤
@@ -112,11 +148,11 @@ IsReplyTo reading showed bytes NoMemory = ⊤
 -- the reply is the one to what a source gave
 abbrev pub IsReplyOf : (reading : Reading) → (Mode → Scenario → Type 0) → Option (List ℕ) → Option (List ℕ) → ℕ → ℕ → Reply → Type 0
 IsReplyOf reading showed before after faults_before faults_after (Ran text) =
-    (what : Said reading) × HasInput before after (λ bytes. SpellsSaid reading bytes what) × IsTextOf reading showed what text
+    (what : Said reading) × HasInput before after (λ bytes. SpellsOnly reading bytes what) × IsTextOf reading showed what text
 IsReplyOf reading showed before after faults_before faults_after Usage = ⊥
 IsReplyOf reading showed before after faults_before faults_after BadJson = HasInput before after IsNoJson
 IsReplyOf reading showed before after faults_before faults_after (BadScenario text) =
-    (fault : Fault) × HasInput before after (λ bytes. SpellsFault reading bytes fault) × (text ≡ fault_line fault)
+    (fault : Fault) × HasInput before after (λ bytes. SpellsNothing reading bytes fault) × (text ≡ fault_line fault)
 IsReplyOf reading showed before after faults_before faults_after ReadFault = HasRisen faults_before faults_after
 IsReplyOf reading showed before after faults_before faults_after TooLong = HasReadCount before after (max_input + 1)
 IsReplyOf reading showed before after faults_before faults_after NoMemory = HasReadAtMost before after max_input
@@ -138,4 +174,6 @@ IsReplyFor showed (Some (Threads pes per_turn)) before after faults_before fault
     IsReplyOf (scenarios OnThreads) showed before after faults_before faults_after reply
 IsReplyFor showed (Some (Soak number steps)) before after faults_before faults_after reply = (after ≡ before) × IsSoakReply (showed Schedule) number steps reply
 IsReplyFor showed (Some Host) before after faults_before faults_after reply = IsReplyOf links showed before after faults_before faults_after reply
+IsReplyFor showed (Some (Save steps)) before after faults_before faults_after reply = IsReplyOf (first_steps steps) showed before after faults_before faults_after reply
+IsReplyFor showed (Some Resume) before after faults_before faults_after reply = IsReplyOf images showed before after faults_before faults_after reply
 IsReplyFor showed None before after faults_before faults_after reply = reply ≡ Usage

@@ -1,27 +1,34 @@
 -- What the top call answers to words and an input (own choice).
-use Rattle.std.specs.Prelude.{◌≡◌, ℕ, ◌+◌, ◌-◌, ◌^◌, ◌<◌, ◌≤◌, ◌⊎◌, List, [], ◌∷◌, ◌++◌, length, codes, IsUtf8, Option, Some, None, IfSome, OnSome, IsSome, Result, Ok, Err}
+use Rattle.std.specs.Prelude.{◌≡◌, ℕ, ◌+◌, ◌-◌, ◌^◌, ◌<◌, ◌≤◌, ◌⊎◌, nat_le, List, [], ◌∷◌, ◌++◌, length, codes, IsUtf8, Bool, true, false, if◌then◌else◌, Option, Some, None, IfSome, OnSome, IsSome, Result, Ok, Err}
 use Rattle.serde_json.specs.Data.{Data}
 use Rattle.serde_json.specs.Read.{read}
-use Rattle.run_seq.specs.LawEagerIsHistory.Possible.{IsPossible}
+use Rattle.serde_json.specs.Written.{compact_text}
+use Rattle.run_saved.specs.RunSeq.LawEagerIsHistory.Possible.{IsPossible}
 use Rattle.gic_host.specs.GicReport.GicIo.Faults.{HasRisen}
 use Rattle.gic_host.specs.GicReport.GicIo.Sink.{Grew, GrewByPrefix}
 use Rattle.gic_host.specs.GicReport.GicIo.Source.{HasReadCount, HasReadAtMost}
 use Rattle.gic_host.specs.ScnRead.ScnBase.declared.scenario.Scenario.{Scenario}
-use Rattle.run_seq.specs.Calls.{RunOut}
+use Rattle.run_saved.specs.RunSeq.Calls.{RunOut}
 use Rattle.gic_host.specs.ScnRead.ScnBase.declared.step.Mode.{Mode}
 use Rattle.gic_host.specs.ScnRead.ScnBase.declared.step.Mode.TheVariants.{Schedule, Threads as OnThreads}
 use Rattle.gic_host.specs.ScnRead.ScnBase.declared.fault.Fault.{Fault}
 use Rattle.gic_host.specs.ScnRead.Reading.{reading as scenario_in}
 use Rattle.gic_host.specs.ScnRead.ScnBase.Shown.{fault_text}
-use Rattle.run_seq.specs.GicIdeal.Eager.{eager}
+use Rattle.run_saved.specs.RunSeq.GicIdeal.Eager.{eager}
 use Rattle.gic_host.specs.GicReport.GicSoak.Generated.{generated}
 use Rattle.gic_host.specs.GicReport.Text.{text, newline}
+use Rattle.gic_host.specs.GicReport.Rest.{text_saved}
 use Rattle.gic_host.specs.GicReport.Soak.{soak_line}
 use Rattle.gic_host.specs.declared.scenario.HostScenario.{HostScenario}
 use Rattle.gic_host.specs.Reading.{reading as links_in}
 use Rattle.gic_host.specs.Text.{text as host_text}
+use Rattle.image_read.specs.GicResume.GicSave.ScnSaved.declared.saved.Saved.{Saved}
+use Rattle.image_read.specs.GicResume.GicSave.Image.{image_of}
+use Rattle.image_read.specs.GicResume.Reading.{IsImage, IsNoImage}
+use Rattle.run_saved.specs.SavedTake.Taken.{saved_of}
+use Rattle.run_saved.specs.SavesGoOn.Resume.{reached, resumed}
 use Rattle.gic_top.specs.declared.command.Command.{Command}
-use Rattle.gic_top.specs.declared.command.Command.TheVariants.{Run, Threads, Soak, Host}
+use Rattle.gic_top.specs.declared.command.Command.TheVariants.{Run, Threads, Soak, Host, Save, Resume}
 
 -- the bytes are UTF-8, and JSON that reads as this value
 pub record Spells (bytes : List ℕ) (value : Data) : Type 0 where
@@ -32,32 +39,57 @@ pub record Spells (bytes : List ℕ) (value : Data) : Type 0 where
 abbrev pub IsNoJson : List ℕ → Type 0
 IsNoJson bytes = (value : Data) → Spells bytes value → ⊥
 
--- what an input is read as: a scenario, to be run in a mode, or links of physical interrupts
+-- what an input is read as: a scenario, to be run in a mode or of which so many steps are to be done, links of physical interrupts, or an image
 pub data Reading : Type 0 where
   scenarios : Mode → Reading
+  first_steps : ℕ → Reading
   links : Reading
+  images : Reading
 
 -- what is read so
 abbrev pub Said : Reading → Type 0
 Said (scenarios mode) = Scenario
+Said (first_steps steps) = Scenario
 Said links = HostScenario
+Said images = Saved
 
--- what a value says, read so, or its fault
-abbrev pub said : (reading : Reading) → Data → Result (Said reading) Fault
-said (scenarios mode) value = scenario_in mode value
-said links value = links_in value
+-- the fault of a scenario that has fewer steps than are to be done
+abbrev pub step_range : Fault
+step_range = record { code = 13; step = 0 }
+
+-- a scenario of which so many steps are to be done, or its fault
+abbrev pub long_enough : ℕ → Result Scenario Fault → Result Scenario Fault
+long_enough steps (Ok scenario) = if nat_le steps (length scenario.steps) then Ok scenario else Err step_range
+long_enough steps (Err fault) = Err fault
+
+abbrev pub first_steps_in : ℕ → Data → Result Scenario Fault
+first_steps_in steps value = long_enough steps (scenario_in Schedule value)
+
+-- a value says this, read so
+abbrev pub Says : (reading : Reading) → Data → Said reading → Type 0
+Says (scenarios mode) value scenario = scenario_in mode value ≡ Ok scenario
+Says (first_steps steps) value scenario = first_steps_in steps value ≡ Ok scenario
+Says links value scenario = links_in value ≡ Ok scenario
+Says images value saved = IsImage value saved
+
+-- a value has this fault, read so
+abbrev pub Lacks : Reading → Data → Fault → Type 0
+Lacks (scenarios mode) value fault = scenario_in mode value ≡ Err fault
+Lacks (first_steps steps) value fault = first_steps_in steps value ≡ Err fault
+Lacks links value fault = links_in value ≡ Err fault
+Lacks images value fault = IsNoImage value fault
 
 -- the bytes spell a value that says this, read so
 pub record SpellsSaid (reading : Reading) (bytes : List ℕ) (what : Said reading) : Type 0 where
   pub value : Data
   pub spelled : Spells bytes value
-  pub said_is : said reading value ≡ Ok what
+  pub said_is : Says reading value what
 
 -- the bytes spell a value that has this fault, read so
 pub record SpellsFault (reading : Reading) (bytes : List ℕ) (fault : Fault) : Type 0 where
   pub value : Data
   pub spelled : Spells bytes value
-  pub fault_is : said reading value ≡ Err fault
+  pub fault_is : Lacks reading value fault
 
 -- the bytes spell this scenario, to be run in this mode
 abbrev pub SpellsScenario : Mode → List ℕ → Scenario → Type 0
@@ -66,6 +98,14 @@ SpellsScenario mode bytes scenario = SpellsSaid (scenarios mode) bytes scenario
 -- the bytes spell these links and the steps of a run with them
 abbrev pub SpellsLinks : List ℕ → HostScenario → Type 0
 SpellsLinks bytes scenario = SpellsSaid links bytes scenario
+
+-- the bytes spell this scenario, of which so many steps are to be done
+abbrev pub SpellsFirst : ℕ → List ℕ → Scenario → Type 0
+SpellsFirst steps bytes scenario = SpellsSaid (first_steps steps) bytes scenario
+
+-- the bytes spell an image of this saved run
+abbrev pub SpellsImage : List ℕ → Saved → Type 0
+SpellsImage bytes saved = SpellsSaid images bytes saved
 
 -- what a run may answer: where steps are done in order, what the ideal controller answers; on threads, what it answers in a fresh history that holds each actor's steps in order
 abbrev pub MayAnswer : Mode → Scenario → RunOut → Type 0
@@ -79,6 +119,14 @@ soak_text number steps = soak_line number (eager (generated number steps)).answe
 -- the line of a message
 abbrev pub line : List ℕ → List ℕ
 line message = message ++ newline
+
+-- the line of the image of a scenario after so many of its steps: of the ideal controller's state then
+unfoldable pub save_text : ℕ → Scenario → List ℕ
+save_text steps scenario = line (compact_text (image_of (saved_of scenario steps (reached scenario steps))))
+
+-- the text of what is left of a saved run, by the ideal controller from the state that was saved
+unfoldable pub resume_text : Saved → List ℕ
+resume_text saved = text_saved saved (resumed saved)
 
 -- the message of a fault
 abbrev pub fault_line : Fault → List ℕ
@@ -117,7 +165,19 @@ input_reading (Some Run) = Some (scenarios Schedule)
 input_reading (Some (Threads pes per_turn)) = Some (scenarios OnThreads)
 input_reading (Some (Soak number steps)) = None
 input_reading (Some Host) = Some links
+input_reading (Some (Save steps)) = Some (first_steps steps)
+input_reading (Some Resume) = Some images
 input_reading None = None
+
+-- whether the run that a command makes is shown to the watch
+abbrev pub is_shown : Option Command → Bool
+is_shown (Some Run) = true
+is_shown (Some (Threads pes per_turn)) = true
+is_shown (Some (Soak number steps)) = true
+is_shown (Some Host) = false
+is_shown (Some (Save steps)) = false
+is_shown (Some Resume) = false
+is_shown None = false
 
 -- The rows of the table of answers to a command, or to words that are none. Where the source told the bytes that it had left before the call, they are `before`, and
 -- `after` those that it then has left; `wrote` says what the sink took, and `showed` the run of which scenario the watch was shown, in which mode.
@@ -149,12 +209,26 @@ pub record IsHosted (before after : Option (List ℕ)) (wrote : List ℕ → Typ
   pub read : HasInput before after (λ bytes. SpellsLinks bytes scenario)
   pub written : wrote (host_text scenario)
 
+-- a scenario was read, and the image of what is saved after so many of its steps written
+pub record IsSave (steps : ℕ) (before after : Option (List ℕ)) (wrote : List ℕ → Type 0) : Type 0 where
+  pub scenario : Scenario
+  pub read : HasInput before after (λ bytes. SpellsFirst steps bytes scenario)
+  pub written : wrote (save_text steps scenario)
+
+-- an image was read, and the text of what is left of its run written
+pub record IsResumed (before after : Option (List ℕ)) (wrote : List ℕ → Type 0) : Type 0 where
+  pub saved : Saved
+  pub read : HasInput before after (λ bytes. SpellsImage bytes saved)
+  pub written : wrote (resume_text saved)
+
 -- what a command asks for was done
 abbrev pub IsOk : Option Command → Option (List ℕ) → Option (List ℕ) → (List ℕ → Type 0) → (Mode → Scenario → Type 0) → Type 0
 IsOk (Some Run) before after wrote showed = IsRun Schedule before after wrote showed
 IsOk (Some (Threads pes per_turn)) before after wrote showed = IsRun OnThreads before after wrote showed
 IsOk (Some (Soak number steps)) before after wrote showed = IsSoak number steps before after wrote showed
 IsOk (Some Host) before after wrote showed = IsHosted before after wrote
+IsOk (Some (Save steps)) before after wrote showed = IsSave steps before after wrote
+IsOk (Some Resume) before after wrote showed = IsResumed before after wrote
 IsOk None before after wrote showed = ⊥
 
 -- the words are no command

@@ -1,7 +1,7 @@
 //! The commands, and their reading from words.
 
 ghost use Rattle.std.specs.Prelude.{◌≡◌, ◌≤◌, ◌↔◌, IsTrue, IfSome, map, string_bytes};
-ghost use Rattle.gic_top.specs.Command.{command_in, number_in, count_in, IsPadded, IsCount, run_with as command_with, threads_with as threads_command_with, soak_with as soak_command_with, host_with as host_command_with, IsInBounds};
+ghost use Rattle.gic_top.specs.Command.{command_in, number_in, count_in, IsPadded, IsCount, alone as command_alone, threads_with as threads_command_with, soak_with as soak_command_with, save_with as save_command_with, IsInBounds};
 
 use gic_host::scenarios::{MAX_PES, MAX_STEPS};
 
@@ -28,6 +28,13 @@ pub enum Command {
     },
     /// `host`: reads physical interrupts that are linked to virtual ones, does the steps with them, and writes the text.
     Host,
+    /// `save STEP`: reads a scenario, does its first steps in order, and writes the image of what is saved then.
+    Save {
+        /// How many steps are done, at most 100000.
+        steps: u32,
+    },
+    /// `resume`: reads an image, does the steps that are left, and writes the rest of the text.
+    Resume,
 }
 
 /// Whether a word begins with a plus, or with a zero before another character.
@@ -60,11 +67,11 @@ fn count_of(word: &str, most: u32) -> Option<u32>
     (count != 0).then_some(count)
 }
 
-/// `run` and its arguments, of which there are none.
-fn run_with(arguments: &[String]) -> Option<Command>
-    ensures { result ≡ command_with (map string_bytes arguments.now) }
+/// A command and its arguments, of which there are none.
+fn alone(command: Command, arguments: &[String]) -> Option<Command>
+    ensures { result ≡ command_alone command (map string_bytes arguments.now) }
 {
-    arguments.is_empty().then_some(Command::Run)
+    arguments.is_empty().then_some(command)
 }
 
 /// `threads` and its arguments, which are two counts.
@@ -93,11 +100,16 @@ fn soak_with(arguments: &[String]) -> Option<Command>
     Some(Command::Soak { number, steps })
 }
 
-/// `host` and its arguments, of which there are none.
-fn host_with(arguments: &[String]) -> Option<Command>
-    ensures { result ≡ host_command_with (map string_bytes arguments.now) }
+/// `save` and its arguments, which are one number.
+fn save_with(arguments: &[String]) -> Option<Command>
+    ensures value { result ≡ save_command_with (map string_bytes arguments.now) }
+    ensures bounded { IfSome result IsInBounds }
 {
-    arguments.is_empty().then_some(Command::Host)
+    let [steps] = arguments else {
+        return None;
+    };
+    let steps = number_of(steps.as_str(), MAX_STEPS as u64)? as u32;
+    Some(Command::Save { steps })
 }
 
 impl Command {
@@ -109,10 +121,12 @@ impl Command {
     {
         let (name, arguments) = words.split_first()?;
         match name.as_str() {
-            "run" => run_with(arguments),
+            "run" => alone(Command::Run, arguments),
             "threads" => threads_with(arguments),
             "soak" => soak_with(arguments),
-            "host" => host_with(arguments),
+            "host" => alone(Command::Host, arguments),
+            "save" => save_with(arguments),
+            "resume" => alone(Command::Resume, arguments),
             _ => None,
         }
     }

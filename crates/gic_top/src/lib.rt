@@ -2,6 +2,7 @@
 #![tactic(auto)]
 
 mod command;
+mod save;
 mod shown;
 mod tool;
 
@@ -15,8 +16,10 @@ pub use gic_host::scenarios::{
     Answer, DeviceOp, Frame, GuestOp, GuestShape, GuestSpec, Guests, IccReg, Key, ListOf, MAX_PES,
     Mode, NoMemory, PeOp, Preset, PresetList, RunOut, Scenario, Standing, Step, Steps, read,
 };
-pub use run_seq::{Command as QueueCommand, SeqWatch, eager, encode, run as run_seq_run};
+pub use image_read::{BAD_IMAGE, read_image};
+pub use run_saved::{Command as QueueCommand, SeqWatch, eager, encode, run as run_seq_run};
 pub use run_thr::{ThrWatch, run as run_thr_run};
+pub use save::STEP_RANGE;
 pub use shown::{NOTHING_SHOWN, Shown};
 pub use tool::{
     BAD_JSON, BAD_SCENARIO, MAX_INPUT, NO_MEMORY, OK, READ_FAULT, TOO_LONG, USAGE, WRITE_FAULT,

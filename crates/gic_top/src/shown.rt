@@ -3,7 +3,7 @@
 ghost use Rattle.std.specs.Prelude.{None};
 
 use gic_host::scenarios::Scenario;
-use run_seq::{Done, SeqPort, SeqWatch};
+use run_saved::{Done, SeqPort, SeqWatch};
 use run_thr::{RootSeat, SharedWords, ThrWatch};
 
 /// How many runs were shown, of each kind. It keeps nothing else of them.

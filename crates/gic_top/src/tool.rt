@@ -1,24 +1,25 @@
 //! From words and an input to a status, and the text or message that is written.
 
-ghost use Rattle.std.specs.Prelude.{◌≡◌, ◌≢◌, ◌<◌, ◌≤◌, ◌⊎◌, ℕ, IfOk, IfErr, IfSome, OnOk, Some, None, Contains};
+ghost use Rattle.std.specs.Prelude.{◌≡◌, ◌≢◌, ◌<◌, ◌≤◌, ◌⊎◌, ℕ, IfOk, IfErr, IfSome, OnOk, Some, None, Contains, false};
 ghost use Rattle.serde_json.specs.View.{view};
 ghost use Rattle.gic_host.specs.GicReport.GicIo.Faults.{HasRisen};
 ghost use Rattle.gic_host.specs.GicReport.GicIo.Sink.{Grew};
 ghost use Rattle.gic_host.specs.ScnRead.ScnBase.Good.{IsGood};
 ghost use Rattle.gic_host.specs.GicReport.GicSoak.Generated.{generated};
 ghost use Rattle.gic_top.specs.declared.command.Command.TheVariants.{Host};
-ghost use Rattle.gic_top.specs.declared.tool.Asked.TheVariants.{LinksRun};
 ghost use Rattle.gic_top.specs.Command.{command_in, IsInBounds};
-ghost use Rattle.gic_top.specs.Tool.{statuses, scenarios, links, input_reading, soak_text, fault_line as line_of, MayAnswer, Showed, most_runs, IsOk, IsUsage, IsBadJson, IsBadScenario, IsReadFault, IsWriteFault, IsTooLong, IsNoMemory, IsOutcome, IsWritten, IsRefusal, HasItsAnswer, WasShown};
-ghost use Rattle.gic_top.specs.Reply.{mode_of, reading_of, status_of, text_of, IsWay, IsAsked, IsRunText, IsHostText, IsValueReply, IsReplyTo, IsReplyOf, IsSoakReply, IsReplyFor, IsUnrun};
+ghost use Rattle.gic_top.specs.Tool.{statuses, scenarios, first_steps, links, images, input_reading, is_shown, soak_text, fault_line as line_of, MayAnswer, Showed, most_runs, IsOk, IsUsage, IsBadJson, IsBadScenario, IsReadFault, IsWriteFault, IsTooLong, IsNoMemory, IsOutcome, IsWritten, IsRefusal, HasItsAnswer, WasShown};
+ghost use Rattle.gic_top.specs.Reply.{mode_of, reading_of, is_watched, status_of, text_of, IsWay, IsAsked, IsRunText, IsSaveText, IsHostText, IsResumeText, AreApart, IsValueReply, IsReplyTo, IsReplyOf, IsSoakReply, IsReplyFor, IsUnrun};
 
 use crate::command::Command;
+use crate::save::{read_first, resumed_text, saved_line};
 use gic_host::report::{
     Bytes, Gate, ReadError, Sink, Source, generate, read_all, soak_line, text, write_all,
 };
 use gic_host::scenarios::{Fault, MAX_STEPS, Mode, NoMemory, ReadRefusal, RunOut, Scenario, read};
 use gic_host::{read_host, run_host};
-use run_seq::SeqWatch;
+use image_read::read_image;
+use run_saved::SeqWatch;
 use run_thr::ThrWatch;
 use serde_json::Value;
 use std::alloc::{AllocError, Global};
@@ -34,7 +35,7 @@ pub const OK: u8 = 0;
 pub const USAGE: u8 = 2;
 /// The status where the input is no JSON.
 pub const BAD_JSON: u8 = 3;
-/// The status where the input is no scenario, or one with a fault.
+/// The status where the input is not what the command reads, or has a fault.
 pub const BAD_SCENARIO: u8 = 4;
 /// The status where the input could not be read.
 pub const READ_FAULT: u8 = 5;
@@ -48,7 +49,7 @@ pub const NO_MEMORY: u8 = 9;
 /// What the tool has to write.
 #[derive(Drop)]
 enum Reply {
-    /// The text of a run, or the line of a generated scenario's.
+    /// The text of a run or of the rest of one, the line of a generated scenario's, or an image.
     Ran(Bytes),
     Usage,
     BadJson,
@@ -139,7 +140,7 @@ fn make_run<R: Threads + Wait + Sync, G: Gate + Sync, W: SeqWatch + ThrWatch>(
     ensures shown { OnOk result (Showed W.scheduled W.last_schedule W.threaded W.last_threads watch.old watch.new (mode_of way) scenario.now) }
 {
     match way {
-        Way::InOrder => run_seq::run(rt, alloc, scenario, watch),
+        Way::InOrder => run_saved::run(rt, alloc, scenario, watch),
         Way::OnPes { pes, per_turn } => {
             run_thr::run(rt, alloc, scenario, pes, per_turn, gate, watch)
         }
@@ -179,7 +180,7 @@ fn soak<R: Wait, W: SeqWatch>(
     ensures shown { OnOk result (WasShown (W.scheduled watch.old) (W.scheduled watch.new) (W.last_schedule watch.new) (generated number steps)) }
 {
     let scenario = generate(alloc, number, steps)?;
-    let out = run_seq::run(rt, alloc, &scenario, watch)?;
+    let out = run_saved::run(rt, alloc, &scenario, watch)?;
     soak_line(alloc, number, &out)
 }
 
@@ -207,8 +208,12 @@ fn reply_to_soak<R: Wait, W: SeqWatch>(
 enum Asked {
     /// A scenario, to be run so.
     ScenarioRun(Way),
+    /// A scenario, of which so many steps are done and the rest is saved.
+    FirstSteps(u32),
     /// Links of physical interrupts.
     LinksRun,
+    /// An image, of which the rest is done.
+    ImageRun,
 }
 
 /// The reply to a value that is read as a scenario. A run is shown to the watch.
@@ -245,7 +250,30 @@ fn links_reply(alloc: Global, value: &Value) -> Result<Reply, NoMemory>
     }
 }
 
-/// The reply to the bytes of an input. A run of a scenario is shown to the watch, and no other.
+/// The reply to a value that is read as a scenario of which so many steps are done.
+fn save_reply<R: Wait>(rt: &R, alloc: Global, steps: u32, value: &Value) -> Result<Reply, NoMemory>
+    ensures { IfOk result (IsValueReply (first_steps steps) (IsSaveText steps) (view value.now)) }
+{
+    match read_first(alloc, value, steps) {
+        Ok(scenario) => Ok(Reply::Ran(saved_line(rt, alloc, &scenario, steps)?)),
+        Err(ReadRefusal::Bad(fault)) => Ok(Reply::BadScenario(fault_line(alloc, fault)?)),
+        Err(ReadRefusal::NoMemory) => Err(NoMemory),
+    }
+}
+
+/// The reply to a value that is read as an image.
+fn resume_reply<R: Wait>(rt: &R, alloc: Global, value: &Value) -> Result<Reply, NoMemory>
+    ensures reply { IfOk result (IsValueReply images IsResumeText (view value.now)) }
+    ensures apart { OnOk result (AreApart images (view value.now)) }
+{
+    match read_image(alloc, value) {
+        Ok(saved) => Ok(Reply::Ran(resumed_text(rt, alloc, &saved)?)),
+        Err(ReadRefusal::Bad(fault)) => Ok(Reply::BadScenario(fault_line(alloc, fault)?)),
+        Err(ReadRefusal::NoMemory) => Err(NoMemory),
+    }
+}
+
+/// The reply to the bytes of an input. A run of a whole scenario is shown to the watch, and no other.
 fn reply_to<R: Threads + Wait + Sync, G: Gate + Sync, W: SeqWatch + ThrWatch>(
     rt: &R,
     alloc: Global,
@@ -259,7 +287,7 @@ fn reply_to<R: Threads + Wait + Sync, G: Gate + Sync, W: SeqWatch + ThrWatch>(
     requires threads_room { W.threaded watch.old < most_runs }
     ensures reply { IfOk result (IsReplyTo (reading_of asked) (Showed W.scheduled W.last_schedule W.threaded W.last_threads watch.old watch.new) bytes.now) }
     ensures unwatched { IfOk result (λ reply. IsUnrun reply → watch.new ≡ watch.old) }
-    ensures links_unwatched { asked ≡ LinksRun → watch.new ≡ watch.old }
+    ensures unshown { is_watched asked ≡ false → watch.new ≡ watch.old }
 {
     let value = match Value::from_slice(alloc, bytes) {
         Ok(value) => value,
@@ -268,11 +296,13 @@ fn reply_to<R: Threads + Wait + Sync, G: Gate + Sync, W: SeqWatch + ThrWatch>(
     };
     match asked {
         Asked::ScenarioRun(way) => scenario_reply(rt, alloc, way, &value, gate, watch),
+        Asked::FirstSteps(steps) => save_reply(rt, alloc, steps, &value),
         Asked::LinksRun => links_reply(alloc, &value),
+        Asked::ImageRun => resume_reply(rt, alloc, &value),
     }
 }
 
-/// The reply to what a source has left. A run of a scenario is shown to the watch, and no other.
+/// The reply to what a source has left. A run of a whole scenario is shown to the watch, and no other.
 fn reply_of<R: Threads + Wait + Sync, S: Source, G: Gate + Sync, W: SeqWatch + ThrWatch>(
     rt: &R,
     alloc: Global,
@@ -287,7 +317,7 @@ fn reply_of<R: Threads + Wait + Sync, S: Source, G: Gate + Sync, W: SeqWatch + T
     ensures reply { IsReplyOf (reading_of asked) (Showed W.scheduled W.last_schedule W.threaded W.last_threads watch.old watch.new)
         (S.left source.old) (S.left source.new) (S.faults source.old) (S.faults source.new) result }
     ensures unwatched { IsUnrun result → watch.new ≡ watch.old }
-    ensures links_unwatched { asked ≡ LinksRun → watch.new ≡ watch.old }
+    ensures unshown { is_watched asked ≡ false → watch.new ≡ watch.old }
 {
     match read_all(alloc, source, MAX_INPUT) {
         Ok(bytes) => {
@@ -299,7 +329,7 @@ fn reply_of<R: Threads + Wait + Sync, S: Source, G: Gate + Sync, W: SeqWatch + T
     }
 }
 
-/// The reply to a command, or to words that are none, and to what a source has left. A run of a scenario is shown to the watch, and no other.
+/// The reply to a command, or to words that are none, and to what a source has left. A run of a whole scenario is shown to the watch, and no other.
 fn reply_for<R: Threads + Wait + Sync, S: Source, G: Gate + Sync, W: SeqWatch + ThrWatch>(
     rt: &R,
     alloc: Global,
@@ -315,7 +345,7 @@ fn reply_for<R: Threads + Wait + Sync, S: Source, G: Gate + Sync, W: SeqWatch + 
         command (S.left source.old) (S.left source.new) (S.faults source.old) (S.faults source.new) result }
     ensures unread { input_reading command ≡ None → source.new ≡ source.old }
     ensures unwatched { IsUnrun result → watch.new ≡ watch.old }
-    ensures host_unwatched { command ≡ Some Host → watch.new ≡ watch.old }
+    ensures unshown { is_shown command ≡ false → watch.new ≡ watch.old }
 {
     match command {
         Some(Command::Run) => {
@@ -328,6 +358,10 @@ fn reply_for<R: Threads + Wait + Sync, S: Source, G: Gate + Sync, W: SeqWatch + 
         }
         Some(Command::Soak { number, steps }) => reply_to_soak(rt, alloc, number, steps, watch),
         Some(Command::Host) => reply_of(rt, alloc, Asked::LinksRun, source, gate, watch),
+        Some(Command::Save { steps }) => {
+            reply_of(rt, alloc, Asked::FirstSteps(steps), source, gate, watch)
+        }
+        Some(Command::Resume) => reply_of(rt, alloc, Asked::ImageRun, source, gate, watch),
         None => Reply::Usage,
     }
 }
@@ -358,7 +392,9 @@ pub fn refuse_words<K: Sink>(sink: &mut K) -> u8
 /// line of its run. Each such run goes through the interrupt words of its guests and vCPUs that enter and leave PEs with the scenario's
 /// list registers, and is shown to the watch, which was shown less than 2^64 - 1 of either kind before. `host` reads physical interrupts
 /// with their links to virtual ones from the source, does the steps with them on list registers, and writes their text; it is shown to no
-/// watch. A text or a message is built whole before its first byte is written. The words are those after the program's name. The status is [`OK`] or another of this module's.
+/// watch. `save STEP` reads a scenario, does its first steps as `run` does, and writes one line, the image of what is saved then; where it has
+/// fewer steps, that is its fault, with the code [`STEP_RANGE`](crate::STEP_RANGE). `resume` reads an image, and writes what `run` would have
+/// written after those steps. Both are shown to no watch. A text or a message is built whole before its first byte is written. The words are those after the program's name. The status is [`OK`] or another of this module's.
 pub fn run_tool<
     R: Threads + Wait + Sync,
     S: Source,
@@ -410,6 +446,7 @@ pub fn run_tool<
     // The watch is as it was, but where a run was made, or may have been.
     ensures unwatched { result ≢ 0 → result ≢ 6 → result ≢ 9 → watch.new ≡ watch.old }
     ensures host_unwatched { command_in words.now ≡ Some Command.Host → watch.new ≡ watch.old }
+    ensures unshown { is_shown (command_in words.now) ≡ false → watch.new ≡ watch.old }
 
     // Where no fault comes from outside, each input has its answer.
     ensures complete { IfSome (input_reading (command_in words.now)) (λ reading.

@@ -13,3 +13,4 @@ pub mod Own
 pub mod Mmio
 pub mod Wants
 pub mod Reset
+pub mod Keep

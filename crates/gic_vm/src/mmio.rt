@@ -12,8 +12,8 @@ use crate::machine::Machine;
 use guest_memory::{Access, GuestMemory, copy};
 use ideal_guest::Frame;
 
-/// Whether an access has one of the sizes.
-fn is_size(size: u32) -> bool
+/// Whether an access has one of the sizes: 1, 2, 4 or 8 bytes.
+pub fn is_size(size: u32) -> bool
     ensures { result ≡ is_size_of size }
 {
     matches!(size, 1 | 2 | 4 | 8)

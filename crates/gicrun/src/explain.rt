@@ -1,12 +1,12 @@
 //! What is told to people, on the standard error, beside what the sink takes.
-use gic_top::{BAD_JSON, BAD_SCENARIO, Command, USAGE};
-use scn_hint::{Cause, Mode, ReadRefusal, hint_of, host_hint_of, read, read_host};
+use gic_top::{BAD_IMAGE, BAD_JSON, BAD_SCENARIO, Command, USAGE, read_image};
+use scn_hint::{Cause, Mode, ReadRefusal, code_name, hint_of, host_hint_of, read, read_host};
 use serde_json::Value;
 use std::alloc::Global;
 use std::io::{Eprint, Result};
 
 const HOW: &str =
-    "usage: gicrun run | gicrun threads P Q | gicrun soak N STEPS | gicrun host (decimal numbers: P PEs, 1 to 8, with up to Q operations of a vCPU while it is on one, 1 to 1000; N from 0 to 2^64 - 1, STEPS from 0 to 100000; run and threads read a scenario from the standard input, host links of physical interrupts and their steps)";
+    "usage: gicrun run | gicrun threads P Q | gicrun soak N STEPS | gicrun host | gicrun save STEP | gicrun resume (decimal numbers: P PEs, 1 to 8, with up to Q operations of a vCPU while it is on one, 1 to 1000; N from 0 to 2^64 - 1, STEPS and STEP from 0 to 100000; run, threads and save read a scenario from the standard input, host links of physical interrupts and their steps, resume what save wrote)";
 
 /// Tells why a value is no scenario in this mode.
 fn explain_scenario(rt: &impl Eprint, alloc: Global, mode: Mode, value: &Value) -> Result<()> {
@@ -21,6 +21,35 @@ fn explain_links(rt: &impl Eprint, alloc: Global, value: &Value) -> Result<()> {
     match read_host(alloc, value) {
         Err(ReadRefusal::Bad(fault)) => eprintln!(rt; "gicrun: {}", host_hint_of(value, fault)),
         _ => Ok(()),
+    }
+}
+
+/// Tells why a value is no scenario of which so many steps can be done.
+fn explain_first(rt: &impl Eprint, alloc: Global, steps: u32, value: &Value) -> Result<()> {
+    match read(alloc, value, Mode::Schedule) {
+        Ok(scenario) => {
+            let all = scenario.steps.len();
+            eprintln!(rt;
+                "gicrun: StepRange: {steps} steps are to be done, and the scenario has {all}"
+            )
+        }
+        Err(ReadRefusal::Bad(fault)) => eprintln!(rt; "gicrun: {}", hint_of(value, fault)),
+        Err(ReadRefusal::NoMemory) => Ok(()),
+    }
+}
+
+/// Tells why a value is no image.
+fn explain_image(rt: &impl Eprint, alloc: Global, value: &Value) -> Result<()> {
+    let Err(ReadRefusal::Bad(fault)) = read_image(alloc, value) else {
+        return Ok(());
+    };
+    let name = match fault.code {
+        BAD_IMAGE => "BadImage, no run that can have been saved",
+        code => code_name(code),
+    };
+    match fault.step {
+        0 => eprintln!(rt; "gicrun: the image: {name}"),
+        step => eprintln!(rt; "gicrun: step {step}: {name}"),
     }
 }
 
@@ -39,6 +68,8 @@ fn explain_input(rt: &impl Eprint, alloc: Global, command: Command, bytes: &[u8]
         Command::Run => explain_scenario(rt, alloc, Mode::Schedule, &value),
         Command::Threads { .. } => explain_scenario(rt, alloc, Mode::Threads, &value),
         Command::Host => explain_links(rt, alloc, &value),
+        Command::Save { steps } => explain_first(rt, alloc, steps, &value),
+        Command::Resume => explain_image(rt, alloc, &value),
         Command::Soak { .. } => Ok(()),
     }
 }

@@ -1,3 +1,4 @@
+pub use Rattle.gic_resume.proofs as GicResume
 pub mod RowLemmas
 pub mod RecLemmas
 pub mod ListLemmas

@@ -1,5 +1,5 @@
 -- An image is read, or refused.
-use Rattle.std.proofs.Common.{◌≡◌, ℕ, ◌+◌, List, length, Result, Ok, Err, refl, sym, ap, subst, ◌∙◌}
+use Rattle.std.proofs.Common.{◌≡◌, ℕ, ◌+◌, Bool, true, false, List, length, Result, Ok, Err, refl, sym, ap, subst, ◌∙◌}
 use Rattle.std.proofs.lemmas.Option.{none-some}
 use Rattle.std.specs.Result.{result_ok}
 use Rattle.serde_json.specs.Data.{Data}
@@ -14,7 +14,7 @@ use Rattle.scn_base.proofs.StepLemmas.{no_fault_good}
 use Rattle.saved_check.specs.SavedGuest.ScnSaved.declared.saved.Saved.{Saved}
 use Rattle.saved_check.specs.SavedGuest.Standing.{standing_of}
 use Rattle.saved_check.specs.SavedGuest.Whole.{IsValidRun}
-use Rattle.gic_resume.specs.Reading.{IsImage, of_steps, steps_at}
+use Rattle.gic_resume.specs.Reading.{IsImage, IsNoImage, of_no_shape, not_valid, of_steps, steps_at}
 use Rattle.image_read.specs.Tells.{TellsHead, without_steps}
 use Rattle.image_read.specs.Read.{Refuses, IsTold}
 use Rattle.image_read.proofs.HeadLemmas.{told_head_of, head_told, valid_without}
@@ -91,3 +91,17 @@ only_memory d saved found standing ds NoMemory image same stands are e = refl
 pub only_run : (d : Data) (saved found : Saved) (standing : Standing) (ds : List Data) (steps : List Step) → IsImage d saved → found ≡ without_steps saved → standing ≡ standing_of found → ds ≡ steps_at d → steps_of Schedule standing (found.done + 1) ds ≡ Ok steps → with_steps found steps ≡ saved
 only_run d saved found standing ds steps image same stands are e =
     ap (λ r. with_steps r steps) same ∙ ap (with_steps saved) (same_Ok steps saved.scenario.steps (steps_of Schedule standing (found.done + 1) ds) e (steps_are d saved found standing ds image same stands are))
+
+-- ---- an image has no fault
+
+pub no_fault : (d : Data) (found : Saved) (standing : Standing) (ds : List Data) (steps : List Step) (fault : Fault) → IsTold d found → ((saved : Saved) → IsTold d saved → found ≡ without_steps saved) → standing ≡ standing_of found → ds ≡ steps_at d
+    → steps_of Schedule standing (found.done + 1) ds ≡ Ok steps → IsNoImage d fault → ⊥
+no_fault d found standing ds steps fault told only stands are e (of_no_shape none) = none-shaped told.shape none
+  where
+    none-shaped : {b : Bool} → b ≡ true → b ≡ false → ⊥
+    none-shaped is is-not = absurd (cc)
+no_fault d found standing ds steps fault told only stands are e (not_valid shape none) = none found told.head told.valid
+no_fault d found standing ds steps fault told only stands are e (of_steps saved wrong shape head valid refused) =
+    let same = only saved (record { shape = shape; head = head; valid = valid }) in
+    let read : steps_of Schedule (standing_of saved) (saved.done + 1) (steps_at d) ≡ Ok steps = sym (ap (λ s. steps_of Schedule s (found.done + 1) ds) (stands ∙ ap standing_of same) ∙ ap (λ (r : Saved). steps_of Schedule (standing_of saved) (r.done + 1) ds) same ∙ ap (λ xs. steps_of Schedule (standing_of saved) (saved.done + 1) xs) are) ∙ e in
+    not_ok steps wrong (steps_of Schedule (standing_of saved) (saved.done + 1) (steps_at d)) read refused

@@ -1,8 +1,9 @@
 //! The reading of an image.
-ghost use Rattle.std.specs.Prelude.{◌≡◌, IfOk, IfErr};
+ghost use Rattle.std.specs.Prelude.{◌≡◌, IfOk, IfErr, OnOk};
 ghost use Rattle.serde_json.specs.View.{view};
 ghost use Rattle.saved_check.specs.SavedGuest.ScnSaved.declared.saved.Saved.{Saved as Run};
-ghost use Rattle.gic_resume.specs.Reading.{IsImage};
+ghost use Rattle.saved_check.specs.SavedGuest.ScnSaved.ScnBase.declared.fault.Fault.{Fault as Wrong};
+ghost use Rattle.gic_resume.specs.Reading.{IsImage, IsNoImage};
 ghost use Rattle.image_read.specs.Tells.{without_steps};
 ghost use Rattle.image_read.specs.Read.{Refuses, IsOnly, IsTold};
 
@@ -91,6 +92,7 @@ pub fn read_image(alloc: Global, value: &Value) -> Result<Saved, ReadRefusal>
     ensures ok { IfOk result (IsImage (view value.now)) }
     ensures bad { IfErr result (Refuses (view value.now)) }
     ensures only { (saved : Run) → IsImage (view value.now) saved → IsOnly saved result }
+    ensures sure { OnOk result ((fault : Wrong) → ¬ IsNoImage (view value.now) fault) }
 {
     let saved = told_run(alloc, value)?;
     let standing = standing(alloc, &saved)?;

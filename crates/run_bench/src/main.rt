@@ -1,7 +1,9 @@
 //! Runs one schedule, through the words of its guest or by the ideal controller, or one of vCPUs that have nothing to do with each other,
-//! in order or on threads, and prints how many values were read. It reads no clock: the script `tools/bench` times it from outside.
+//! in order or on threads, and prints how many values were read; or reads an image and writes it again. It reads no clock: the script `tools/bench` times it
+//! from outside.
 #![tactic(auto)]
 
+mod again;
 mod apart;
 mod schedule;
 
@@ -125,11 +127,32 @@ fn run<R: Threads + Wait + Sync>(
     }))
 }
 
+/// Prints whether the image that is read is the same as it is written again.
+fn show_again(rt: &HostRuntime) -> anyhow::Result<ExitCode> {
+    let is_same = again::is_same(rt)?;
+    let what = if is_same {
+        "the same image"
+    } else {
+        "another image"
+    };
+    println!(rt; "{what}")?;
+    Ok(if is_same {
+        ExitCode::SUCCESS
+    } else {
+        ExitCode::FAILURE
+    })
+}
+
 fn main(rt: HostRuntime) -> anyhow::Result<ExitCode> {
     let words: Vec<String> = env::args(&rt)?.skip(1).collect(rt.alloc())?;
+    if let [word] = words.as_slice() {
+        if word.as_str() == "image" {
+            return show_again(&rt);
+        }
+    }
     let Some(job) = job_in(words.as_slice()) else {
         println!(rt;
-            "usage: run_bench words|ideal SPIS LPIS STEPS, or run_bench apart words|ideal|PES STEPS"
+            "usage: run_bench words|ideal SPIS LPIS STEPS, run_bench apart words|ideal|PES STEPS, or run_bench image < IMAGE"
         )?;
         return Ok(ExitCode::from(2));
     };

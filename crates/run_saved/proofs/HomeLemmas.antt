@@ -10,8 +10,8 @@ use Rattle.run_seq.specs.GicIdeal.ScnBase.declared.scenario.Scenario.{Scenario}
 use Rattle.run_seq.specs.GicIdeal.ScnBase.declared.standing.Standing.{Standing}
 use Rattle.saved_take.specs.Run.{AreStatesOf}
 use Rattle.saved_take.specs.Taken.{all_taken, saved_of, standing_at, taken_of, wires_at}
-use Rattle.law_saves_go_on.proofs.AlikeLemmas.{alike_are_saved_alike}
-use Rattle.law_saves_go_on.proofs.ResumeLemmas.{past_alike}
+use Rattle.eager_rest.proofs.LawSavesGoOn.AlikeLemmas.{alike_are_saved_alike}
+use Rattle.eager_rest.proofs.LawSavesGoOn.ResumeLemmas.{past_alike}
 
 -- each is sound, and of its guest's shape
 pub ended_states : (guests : List GuestSpec) (words : List GuestWords) (cpus : List CpuRec) (ideals : List IdealGuest) → AllEndAt guests words cpus ideals → AreStatesOf guests (guests_of guests words cpus)

@@ -1,3 +1,4 @@
+pub mod CountLemmas
 pub mod HomeLemmas
 pub mod FirstLemmas
 pub mod SavedLemmas

@@ -1,11 +1,9 @@
 -- A saved run that is valid can go on.
-use Rattle.std.proofs.Common.{◌≡◌, ℕ, zero, suc, ◌==◌, ◌&&◌, ◌||◌, not, Bool, true, false, IsTrue, All, List, [], ◌∷◌, ◌++◌, length, take, Option, Some, None, refl, sym, ap, ◌∙◌, subst, arith}
+use Rattle.std.proofs.Common.{◌≡◌, ℕ, zero, suc, ◌==◌, ◌&&◌, ◌||◌, not, Bool, true, false, IsTrue, All, List, [], ◌∷◌, ◌++◌, Option, Some, None, refl, sym, ap, ◌∙◌, subst, arith}
 use Rattle.std.specs.Prelude.{slice_get}
 use Rattle.std.proofs.lemmas.Bool.{and_parts, eq-eqb}
-use Rattle.std.proofs.lemmas.List.Elements.{All-nil, All-cons, All-head, All-tail}
-use Rattle.run_seq.specs.Calls.{GuestSpec, IsGoodGuest, passes, shapes_of}
+use Rattle.run_seq.specs.Calls.{passes}
 use Rattle.run_seq.specs.GicIdeal.Eager.{state_shapes}
-use Rattle.run_seq.specs.GicIdeal.IdealGuests.CanOpen.{CanOpen}
 use Rattle.run_seq.specs.GicIdeal.IdealGuests.Words.{GuestShape}
 use Rattle.run_seq.specs.GicIdeal.IdealGuests.declared.guest.IdealGuest.{IdealGuest}
 use Rattle.run_seq.specs.GicIdeal.ScnBase.declared.pes.VcpuName.{VcpuName}
@@ -16,54 +14,10 @@ use Rattle.run_seq.specs.Agenda.{Agenda, CanBeDone, agenda_on, states_in}
 use Rattle.run_seq.specs.PortSeq.Told.{SeqTold}
 use Rattle.run_seq.specs.GicIdeal.ScnBase.declared.step.Step.{Step}
 use Rattle.saved_take.specs.SavedGuest.ScnSaved.declared.saved.Saved.{Saved}
-use Rattle.saved_take.specs.SavedGuest.ScnSaved.declared.state.GuestState.{GuestState}
 use Rattle.saved_take.specs.SavedGuest.Standing.{standing_of}
-use Rattle.saved_take.specs.SavedGuest.State.{state_of}
-use Rattle.saved_take.specs.SavedGuest.Valid.{IsValidState}
-use Rattle.saved_take.specs.SavedGuest.Whole.{AreValidStates, IsValidSaved, ValidStatesCanOpen, stand_once}
-use Rattle.law_saves_go_on.specs.Resume.{states_of}
-
--- The states.
-
-pub as_many : (guests : List GuestSpec) (states : List GuestState) → AreValidStates guests states → length (states_of guests states) ≡ length guests
-as_many [] [] valid = refl
-as_many [] (state ∷ states) valid = absurd valid
-as_many (guest ∷ guests) [] valid = absurd valid
-as_many (guest ∷ guests) (state ∷ states) valid = ap suc (as_many guests states valid.1)
-
-pub same_shapes : (guests : List GuestSpec) (states : List GuestState) → AreValidStates guests states → state_shapes (states_of guests states) ≡ shapes_of guests
-same_shapes [] [] valid = refl
-same_shapes [] (state ∷ states) valid = absurd valid
-same_shapes (guest ∷ guests) [] valid = absurd valid
-same_shapes (guest ∷ guests) (state ∷ states) valid = ap (λ shapes. guest.shape ∷ shapes) (same_shapes guests states valid.1)
-
-pub all_can_open : ValidStatesCanOpen → (guests : List GuestSpec) (states : List GuestState) → All IsGoodGuest guests → AreValidStates guests states → All CanOpen (states_of guests states)
-all_can_open law [] [] good valid = All-nil CanOpen
-all_can_open law [] (state ∷ states) good valid = absurd valid
-all_can_open law (guest ∷ guests) [] good valid = absurd valid
-all_can_open law (guest ∷ guests) (state ∷ states) good valid =
-    All-cons CanOpen (state_of guest state) (states_of guests states) (law guest state (All-head IsGoodGuest guest guests good) valid.0) (all_can_open law guests states (All-tail IsGoodGuest guest guests good) valid.1)
-
-pub same_count : (guests : List GuestSpec) (states : List GuestState) → AreValidStates guests states → length states ≡ length guests
-same_count [] [] valid = refl
-same_count [] (state ∷ states) valid = absurd valid
-same_count (guest ∷ guests) [] valid = absurd valid
-same_count (guest ∷ guests) (state ∷ states) valid = ap suc (same_count guests states valid.1)
-
--- one after the other
-
-pub valid_at : (guests : List GuestSpec) (states : List GuestState) (number : ℕ) (guest : GuestSpec) (state : GuestState) → AreValidStates guests states → slice_get guests number ≡ Some guest → slice_get states number ≡ Some state → IsValidState guest state
-valid_at [] states number guest state valid a b = absurd (cc)
-valid_at (one ∷ guests) [] number guest state valid a b = absurd (cc)
-valid_at (one ∷ guests) (first ∷ states) zero guest state valid a b = let same : one ≡ guest = cc in let told : first ≡ state = cc in subst (λ one. IsValidState one state) same (subst (IsValidState one) told valid.0)
-valid_at (one ∷ guests) (first ∷ states) (suc number) guest state valid a b = valid_at guests states number guest state valid.1 a b
-
-pub told_more : (guests : List GuestSpec) (states : List GuestState) (number : ℕ) (guest : GuestSpec) (state : GuestState) → slice_get guests number ≡ Some guest → slice_get states number ≡ Some state
-    → states_of (take (suc number) guests) (take (suc number) states) ≡ states_of (take number guests) (take number states) ++ state_of guest state ∷ []
-told_more [] states number guest state a b = absurd (cc)
-told_more (one ∷ guests) [] number guest state a b = absurd (cc)
-told_more (one ∷ guests) (first ∷ states) zero guest state a b = let same : one ≡ guest = cc in let told : first ≡ state = cc in ap (λ one. state_of one first ∷ []) same ∙ ap (λ first. state_of guest first ∷ []) told
-told_more (one ∷ guests) (first ∷ states) (suc number) guest state a b = ap (λ rest. state_of one first ∷ rest) (told_more guests states number guest state a b)
+use Rattle.saved_take.specs.SavedGuest.Whole.{IsValidSaved, stand_once}
+use Rattle.eager_rest.specs.LawSavesGoOn.Resume.{states_of}
+use Rattle.eager_rest.proofs.ToldLemmas.{as_many, same_shapes}
 
 -- The PEs.
 

@@ -6,4 +6,7 @@ mod resumed;
 mod until;
 
 pub use resumed::run_saved;
+pub use run_seq::{
+    Command, Done, NoMemory, RunOut, Scenario, SeqPort, SeqWatch, eager, encode, run,
+};
 pub use until::run_until;

@@ -1,31 +1,13 @@
 //! A run that goes on from what was saved.
-ghost use Rattle.std.specs.Prelude.{◌≡◌, All, IfOk};
-ghost use Rattle.run_seq.specs.Calls.{IsGoodGuest};
-ghost use Rattle.saved_take.specs.SavedGuest.Whole.{AreValidStates, IsValidSaved};
-ghost use Rattle.law_saves_go_on.specs.Resume.{resumed, states_of as states_told};
+ghost use Rattle.std.specs.Prelude.{◌≡◌, IfOk};
+ghost use Rattle.saved_take.specs.SavedGuest.Whole.{IsValidSaved};
+ghost use Rattle.eager_rest.specs.LawSavesGoOn.Resume.{resumed};
 
+use eager_rest::all_told;
+use eager_rest::check::{Pes, Saved};
 use run_seq::{NoMemory, RunOut, SeqPort, Start, ends_of, run_from};
-use saved_check::{GuestSpec, GuestState, Pes, Saved, told};
-use saved_take::IdealGuest;
 use std::alloc::Global;
 use std::sync::Wait;
-
-/// The guests of a saved run as its states tell them. `NoMemory` where memory is refused.
-fn all_told(
-    alloc: Global,
-    guests: &[GuestSpec],
-    states: &[GuestState],
-) -> Result<Vec<IdealGuest>, NoMemory>
-    requires good { All IsGoodGuest guests.now }
-    requires valid { AreValidStates guests.now states.now }
-    ensures { IfOk result (λ all. all.items ≡ states_told guests.now states.now) }
-{
-    let mut all = Vec::with_capacity(alloc, guests.len())?;
-    for (number, guest) in guests.iter().enumerate() {
-        all.push_reserved(told(alloc, guest, &states[number])?);
-    }
-    Ok(all)
-}
 
 /// Does the steps that are left of a saved run, as `run` does them, on words that open in the states that were saved, and on PEs on which the
 /// vCPUs stand that stood there: the answers of these steps, and how each guest ended. An error where memory is refused, before the

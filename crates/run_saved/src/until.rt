@@ -3,7 +3,7 @@ ghost use Rattle.std.specs.Prelude.{◌≡◌, ◌≤◌, IfOk, length};
 ghost use Rattle.run_seq.specs.GicIdeal.ScnBase.declared.step.Mode.TheVariants.{Schedule};
 ghost use Rattle.run_seq.specs.GicIdeal.ScnBase.Good.{IsGood};
 ghost use Rattle.saved_take.specs.Taken.{saved_of};
-ghost use Rattle.law_saves_go_on.specs.Resume.{reached};
+ghost use Rattle.eager_rest.specs.LawSavesGoOn.Resume.{reached};
 
 use run_seq::{NoMemory, Scenario, SeqPort, Start, run_from, states_of};
 use saved_take::{Saved, saved};

@@ -1,3 +1,4 @@
+pub use Rattle.saved_guest.proofs as SavedGuest
 pub mod FillLemmas
 pub mod WordBack
 pub mod RecBack

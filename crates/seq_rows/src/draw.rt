@@ -11,13 +11,13 @@ use gic_top::{DeviceOp, Frame, GuestOp, GuestShape, Key, ListOf, PeOp, Scenario,
 use std::alloc::{AllocError, Global};
 
 /// Where a queue of one page begins, and the table of the LPIs' configurations.
-const QUEUE: u32 = 0x1000;
+pub(crate) const QUEUE: u32 = 0x1000;
 
-const CONFIGURATIONS: u32 = 0x3000;
+pub(crate) const CONFIGURATIONS: u32 = 0x3000;
 
-const QUEUE_BYTES: u32 = 4096;
+pub(crate) const QUEUE_BYTES: u32 = 4096;
 
-const COMMAND_BYTES: u32 = 32;
+pub(crate) const COMMAND_BYTES: u32 = 32;
 
 /// Offsets of registers of the ITS and of a redistributor.
 const CBASER: u32 = 0x80;
@@ -29,10 +29,10 @@ const PROPBASER: u32 = 0x70;
 const PENDBASER: u32 = 0x78;
 
 /// CBASER: the queue is valid, and has one page.
-const ONE_PAGE: u64 = 0x8000_0000_0000_1000;
+pub(crate) const ONE_PAGE: u64 = 0x8000_0000_0000_1000;
 
 /// PROPBASER: the table at 0x3000, for INTIDs of 14 bits.
-const TABLE: u64 = 0x300D;
+pub(crate) const TABLE: u64 = 0x300D;
 
 /// PENDBASER: a table of zeros.
 const ZEROS: u64 = 0x4000_0000_0001_0000;
@@ -46,6 +46,14 @@ struct Drawing {
 }
 
 impl Drawing {
+    /// No steps yet, and empty queues.
+    fn new(alloc: Global) -> Drawing {
+        Drawing {
+            steps: ListOf::new(alloc),
+            offsets: [0; 4],
+        }
+    }
+
     fn add(&mut self, step: Step) -> Result<(), AllocError> {
         self.steps.push(step)?;
         Ok(())
@@ -228,6 +236,20 @@ impl Drawing {
             _ => self.hand_over(dice, guest),
         }
     }
+
+    /// So many steps, or a few more, each of one of the guests.
+    fn tries(&mut self, dice: &mut Dice, guests: usize, tries: u32) -> Result<(), AllocError> {
+        let guests: u32 = match guests {
+            0 | 1 => 1,
+            2 => 2,
+            _ => 3,
+        };
+        for _ in 0..tries {
+            let guest = dice.roll_small(guests);
+            self.step(dice, guest)?;
+        }
+        Ok(())
+    }
 }
 
 /// The PEs, the list registers and the guests of a scenario, which has no steps yet.
@@ -247,10 +269,7 @@ pub(crate) fn steps(
     scenario: &Scenario,
     tries: u32,
 ) -> Result<Steps, AllocError> {
-    let mut drawing = Drawing {
-        steps: ListOf::new(alloc),
-        offsets: [0; 4],
-    };
+    let mut drawing = Drawing::new(alloc);
     let mut guest: u32 = 0;
     for spec in scenario.guests.iter() {
         if spec.shape.lpis > 0 {
@@ -258,14 +277,18 @@ pub(crate) fn steps(
         }
         guest = guest.wrapping_add(1);
     }
-    let guests: u32 = match scenario.guests.len() {
-        0 | 1 => 1,
-        2 => 2,
-        _ => 3,
-    };
-    for _ in 0..tries {
-        let guest = dice.roll_small(guests);
-        drawing.step(dice, guest)?;
-    }
+    drawing.tries(dice, scenario.guests.len(), tries)?;
+    Ok(drawing.steps)
+}
+
+/// The same for guests, so many, of which no ITS is set up.
+pub(crate) fn later_steps(
+    alloc: Global,
+    dice: &mut Dice,
+    guests: usize,
+    tries: u32,
+) -> Result<Steps, AllocError> {
+    let mut drawing = Drawing::new(alloc);
+    drawing.tries(dice, guests, tries)?;
     Ok(drawing.steps)
 }

@@ -39,7 +39,11 @@ fn able(standing: &Standing, step: &Step) -> Option<Step>
 }
 
 /// The steps that can be done, one after the other.
-fn able_steps(alloc: Global, standing: Standing, drawn: &[Step]) -> Result<Steps, AllocError>
+pub(crate) fn able_steps(
+    alloc: Global,
+    standing: Standing,
+    drawn: &[Step],
+) -> Result<Steps, AllocError>
     requires { IsStanding standing }
 {
     let mut standing = standing;

@@ -1,4 +1,4 @@
-//! The scheduled run beside the ideal controller: worked, generated and drawn scenarios, the texts of both, and the lines of `soak`.
+//! The scheduled run beside the ideal controller: worked, generated and drawn scenarios and drawn images, the texts of both, and the lines of `soak`.
 #![tactic(auto)]
 
 #[cfg(test)]
@@ -18,8 +18,14 @@ mod generated;
 #[cfg(test)]
 mod guests;
 #[cfg(test)]
+mod images;
+#[cfg(test)]
 mod keep;
 #[cfg(test)]
 mod rows;
 #[cfg(test)]
 mod soak;
+#[cfg(test)]
+mod states;
+#[cfg(test)]
+mod tables;

@@ -2,8 +2,8 @@
 
 ghost use Rattle.std.specs.Prelude.{⊤};
 
-use gic_vm::{Done, Encoding, GuestMemory, Layout, Lines, Machine, MachineSpec};
 use std::process::Abort;
+use vm_saved::{Done, Encoding, GuestMemory, Layout, Lines, Machine, MachineSpec};
 
 /// Where the frames of the board are.
 pub(crate) const LAYOUT: Layout = Layout {

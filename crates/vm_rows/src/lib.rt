@@ -4,4 +4,6 @@
 #[cfg(test)]
 mod board;
 #[cfg(test)]
+mod saved;
+#[cfg(test)]
 mod tests;

@@ -4,9 +4,9 @@ use crate::board::{
     BOARD, CTLR, Call, DIR, DOWN, EOIR0, EOIR1, FIQ, HPPIR1, IAR0, IAR1, IGRPEN0, IGRPEN1, IRQ,
     LAYOUT, Memory, NONE, Name, ONE, PMR, QUEUE, RPR, Row, SGI0R, SGI1R, encoding, make, play,
 };
-use gic_vm::{Done, Layout, Machine, MachineSpec, NotDone, NotMine, Refused};
 use std::alloc::Global;
 use std::process::Abort;
+use vm_saved::{Done, Layout, Machine, MachineSpec, NotDone, NotMine, Refused};
 
 const GICD: u64 = 0x0800_0000;
 
@@ -18,7 +18,7 @@ const GICD_IGROUPR1: u64 = GICD + 0x84;
 
 const GICD_ISENABLER1: u64 = GICD + 0x104;
 
-const GICD_ISACTIVER1: u64 = GICD + 0x304;
+pub(crate) const GICD_ISACTIVER1: u64 = GICD + 0x304;
 
 const GICD_IPRIORITYR: u64 = GICD + 0x400;
 
@@ -28,13 +28,13 @@ const GICD_IROUTER: u64 = GICD + 0x6000;
 /// The redistributor of vCPU 1.
 const GICR: u64 = 0x080C_0000;
 
-const GICR_PROPBASER: u64 = GICR + 0x70;
+pub(crate) const GICR_PROPBASER: u64 = GICR + 0x70;
 
 const GICR_PENDBASER: u64 = GICR + 0x78;
 
 const GITS: u64 = 0x0808_0000;
 
-const GITS_CBASER: u64 = GITS + 0x80;
+pub(crate) const GITS_CBASER: u64 = GITS + 0x80;
 
 const GITS_CWRITER: u64 = GITS + 0x88;
 
@@ -44,7 +44,7 @@ const GITS_TRANSLATER: u64 = GITS + 0x1_0040;
 
 /// vCPU 1 listens to both groups, with all masked. The SPIs 40, 42, 43 and 44 are of group 1, 41 of group 0; 40 and 44 have priority 0xA0, 42 and 43
 /// priority 0x80, and 41 priority 0. All are enabled, level-sensitive, and for vCPU 1.
-const SET_UP: [Row; 14] = [
+pub(crate) const SET_UP: [Row; 14] = [
     (Call::Load(GICD_CTLR, 4), 0x50, NONE, DOWN),
     (Call::Store(GICD_CTLR, 4, 3), 0, NONE, DOWN),
     (Call::Store(GICD_IGROUPR1, 4, 0x1D00), 0, NONE, DOWN),
@@ -67,7 +67,7 @@ const SET_UP: [Row; 14] = [
 ];
 
 /// Nothing is masked.
-const UNMASK: Row = (Call::Write(PMR, 0xF0), 0, NONE, DOWN);
+pub(crate) const UNMASK: Row = (Call::Write(PMR, 0xF0), 0, NONE, DOWN);
 
 /// An SPI is raised, acknowledged and ended.
 const FIRST_PATH: [Row; 10] = [
@@ -158,17 +158,17 @@ const ODD: [Row; 8] = [
 ];
 
 /// The configuration table of LPIs, and the pending table of vCPU 1, in the guest's memory.
-const PROPERTIES: u64 = 0x4_0001_0000;
+pub(crate) const PROPERTIES: u64 = 0x4_0001_0000;
 
 const PENDING: u64 = 0x4_0002_0000;
 
 /// The attributes of memory in the registers that name the tables, and in that which names the queue: cacheable, inner shareable.
-const CACHED: u64 = 0x780;
+pub(crate) const CACHED: u64 = 0x780;
 
-const QUEUE_CACHED: u64 = 0x3800_0000_0000_0400;
+pub(crate) const QUEUE_CACHED: u64 = 0x3800_0000_0000_0400;
 
 /// The ITS maps event 3 of device 8 to the LPI 8195, of vCPU 1.
-const MAP: [Row; 18] = [
+pub(crate) const MAP: [Row; 18] = [
     (Call::Memory(PROPERTIES, 0xA100_0000), 0, NONE, DOWN),
     (Call::Memory(QUEUE, 0x8_0000_0008), 0, NONE, DOWN),
     (Call::Memory(QUEUE + 0x8, 4), 0, NONE, DOWN),

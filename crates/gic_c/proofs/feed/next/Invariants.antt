@@ -1,5 +1,5 @@
-use Rattle.std.proofs.Common.{◌≡◌, ◌+◌, ◌≤◌, drop}
-use Rattle.gic_vm.specs.GuestMemory.Wants.{bytes_in}
+use Rattle.std.proofs.Common.{◌≡◌, ◌+◌, drop}
+use Rattle.vm_saved.specs.GicVm.GuestMemory.Wants.{bytes_in}
 use Rattle.gic_c.specs.Feed.{next_of}
 use Rattle.gic_c.proofs.feed.next.Given as goal
 

@@ -1,8 +1,7 @@
-use Rattle.std.proofs.Common.{◌≡◌, Some, None, subst}
+use Rattle.std.proofs.Common.{◌≡◌, Some, None, false, ap, subst}
 use Rattle.gic_top.specs.Command.{command_in}
-use Rattle.gic_top.specs.declared.command.Command.TheVariants.{Host}
 use Rattle.gic_top.specs.Reply.{IsReplyFor}
-use Rattle.gic_top.specs.Tool.{input_reading, Showed}
+use Rattle.gic_top.specs.Tool.{input_reading, is_shown, Showed}
 use Rattle.gic_top.proofs.ReplyLemmas.{outcome, closed, ok_row, usage_row, bad_json_row, bad_scenario_row, read_fault_row, write_fault_row, too_long_row, no_memory_row, no_command_status, soak_status, its_answer, unrun}
 use Rattle.gic_top.proofs.tool.run_tool.Goals as goal
 
@@ -18,6 +17,7 @@ returns g c =
     (sink.taken c.args.sink.now) (sink.taken wrote) (sink.faults c.args.sink.now) (sink.faults wrote) showed c.reply_for-reply.result c.tell.result
     reply c.tell.ensures in
     let status = c.tell.result in
+    let unshown = subst (λ asked. is_shown asked ≡ false → seen ≡ watch) c.of.ensures.value c.reply_for-reply.ensures.unshown in
     record {
       closed = closed status o;
       outcome = o;
@@ -33,7 +33,8 @@ returns g c =
       unread_unless_asked = subst (λ asked. input_reading asked ≡ None → read ≡ c.args.source.now) c.of.ensures.value c.reply_for-reply.ensures.unread;
       unwatched = λ ok cut refused. c.reply_for-reply.ensures.unwatched
           (unrun (sink.taken c.args.sink.now) (sink.taken wrote) (sink.faults c.args.sink.now) (sink.faults wrote) c.reply_for-reply.result c.tell.result c.tell.ensures ok cut refused);
-      host_unwatched = subst (λ asked. asked ≡ Some Host → seen ≡ watch) c.of.ensures.value c.reply_for-reply.ensures.host_unwatched;
+      host_unwatched = λ host. unshown (ap is_shown host);
+      unshown = unshown;
       complete = its_answer showed command (source.left c.args.source.now) (source.left read) (source.faults c.args.source.now) (source.faults read)
           (sink.taken c.args.sink.now) (sink.taken wrote) (sink.faults c.args.sink.now) (sink.faults wrote) c.reply_for-reply.result c.tell.result
           reply c.tell.ensures;

@@ -1,6 +1,6 @@
 -- The rest of the run is that from the states that are told.
 use Rattle.std.proofs.Common.{All, length, sym, ap, subst, ◌∙◌, arith, rules}
-use Rattle.law_saves_go_on.specs.Resume.{states_of}
+use Rattle.eager_rest.specs.LawSavesGoOn.Resume.{states_of}
 use Rattle.run_seq.specs.GicIdeal.IdealGuests.CanOpen.{CanOpen}
 use Rattle.run_seq.specs.Agenda.{Agenda, CanBeDone}
 use Rattle.run_seq.specs.Run.{IsDone}
@@ -8,12 +8,12 @@ use Rattle.run_seq.specs.PortSeq.Every.{all_untaken, each_is_told}
 use Rattle.run_seq.specs.PortSeq.Ports.{told_all}
 use Rattle.run_seq.proofs.AgendaLemmas.{opens_in, states_are}
 use Rattle.run_seq.proofs.EndLemmas.{all_free, ended_by, have_ended, out_is}
-use Rattle.saved_check.proofs.SavedGuest.LawLemmas.{valid_states_can_open}
-use Rattle.run_saved.proofs.SavedLemmas.{agenda_is, agenda_of, all_can_open, as_many, saved_can, same_shapes}
+use Rattle.eager_rest.proofs.ToldLemmas.{all_can_open, as_many, same_shapes}
+use Rattle.run_saved.proofs.SavedLemmas.{agenda_is, agenda_of, saved_can}
 use Rattle.run_saved.proofs.resumed.run_saved.Goals as goal
 
 pub start_from-requires-clause-good : goal.start_from-requires-clause-good
-start_from-requires-clause-good g c = subst (All CanOpen) (sym (c.in_ok-states.ensures ∙ ap (λ guests. states_of guests c.as_slice-3.result.now) c.as_slice-2.ensures ∙ ap (states_of c.args.saved.now.scenario.guests) c.as_slice-3.ensures)) (all_can_open valid_states_can_open c.args.saved.now.scenario.guests c.args.saved.now.state c.requires.valid.run.each_guest c.requires.valid.run.states)
+start_from-requires-clause-good g c = subst (All CanOpen) (sym (c.in_ok-states.ensures ∙ ap (λ guests. states_of guests c.as_slice-3.result.now) c.as_slice-2.ensures ∙ ap (states_of c.args.saved.now.scenario.guests) c.as_slice-3.ensures)) (all_can_open c.args.saved.now.scenario.guests c.args.saved.now.state c.requires.valid.run.each_guest c.requires.valid.run.states)
 
 pub start_from-requires-clause-some : goal.start_from-requires-clause-some
 start_from-requires-clause-some g c = let count = (ap length (c.in_ok-states.ensures ∙ ap (λ guests. states_of guests c.as_slice-3.result.now) c.as_slice-2.ensures ∙ ap (states_of c.args.saved.now.scenario.guests) c.as_slice-3.ensures) ∙ as_many c.args.saved.now.scenario.guests c.args.saved.now.state c.requires.valid.run.states) in omega (arith, count, c.requires.valid.run.some_guest)

@@ -2,7 +2,7 @@
 use Rattle.std.specs.Prelude.{IfOk}
 use Rattle.std.proofs.Common.{◌≡◌, map, take, sym, ap, subst, ◌∙◌}
 use Rattle.std.proofs.lemmas.List.{length-map}
-use Rattle.law_saves_go_on.specs.Resume.{reached}
+use Rattle.eager_rest.specs.LawSavesGoOn.Resume.{reached}
 use Rattle.saved_take.specs.Run.{AreStatesOf}
 use Rattle.saved_take.specs.Taken.{saved_of}
 use Rattle.run_seq.specs.Calls.{shapes_of}

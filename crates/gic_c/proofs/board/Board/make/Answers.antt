@@ -1,7 +1,7 @@
 -- The machine makes the access of the memory that was fed, which is then dropped.
 use Rattle.std.proofs.Common.{◌≡◌, ℕ, List, refl, sym, subst, ap, ◌∙◌}
-use Rattle.gic_vm.specs.Mmio.{IsMade}
-use Rattle.gic_vm.specs.State.{MachineState}
+use Rattle.vm_saved.specs.GicVm.Mmio.{IsMade}
+use Rattle.vm_saved.specs.GicVm.State.{MachineState}
 use Rattle.gic_c.specs.declared.board.Board.{Board}
 use Rattle.gic_c.specs.Board.{with_machine}
 use Rattle.gic_c.specs.Fetch.{access_of}

@@ -1,9 +1,9 @@
 -- What was fed is dropped, and the machine is reset.
 use Rattle.std.proofs.Common.{Ok, ap, ◌∙◌}
-use Rattle.gic_vm.specs.Calls.{done_by}
-use Rattle.gic_vm.specs.Reset.{reset_of, reset_machine}
-use Rattle.gic_vm.specs.State.{MachineState}
-use Rattle.gic_vm.specs.declared.done.Done.{Done}
+use Rattle.vm_saved.specs.GicVm.Calls.{done_by}
+use Rattle.vm_saved.specs.GicVm.Reset.{reset_of, reset_machine}
+use Rattle.vm_saved.specs.GicVm.State.{MachineState}
+use Rattle.vm_saved.specs.GicVm.declared.done.Done.{Done}
 use Rattle.gic_c.specs.declared.answer.Refusal.{Refusal}
 use Rattle.gic_c.specs.declared.answer.Reply.{Reply}
 use Rattle.gic_c.specs.declared.answer.Reply.TheVariants.{Done as Finished}

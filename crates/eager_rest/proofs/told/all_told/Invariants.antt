@@ -1,7 +1,7 @@
 -- The first guests are told, and there is room for the others.
 use Rattle.std.proofs.Common.{◌≡◌, ◌≤◌, length, take, vec_capacity}
 use Rattle.law_saves_go_on.specs.Resume.{states_of}
-use Rattle.run_saved.proofs.resumed.all_told.Given as goal
+use Rattle.eager_rest.proofs.told.all_told.Given as goal
 
 abbrev pub invariant-loop-number : goal.invariant-loop-number
 invariant-loop-number l =

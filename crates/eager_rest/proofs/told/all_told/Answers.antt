@@ -4,9 +4,9 @@ use Rattle.std.proofs.lemmas.List.{length_push, take_all}
 use Rattle.std.proofs.lemmas.List.Elements.{All-get_or}
 use Rattle.std.proofs.lemmas.Option.{slice_get-get_or}
 use Rattle.law_saves_go_on.specs.Resume.{states_of}
-use Rattle.run_seq.specs.Calls.{IsGoodGuest}
-use Rattle.run_saved.proofs.SavedLemmas.{same_count, told_more, valid_at}
-use Rattle.run_saved.proofs.resumed.all_told.Goals as goal
+use Rattle.gic_ideal.specs.IdealGuests.Calls.{IsGoodGuest}
+use Rattle.eager_rest.proofs.ToldLemmas.{same_count, told_more, valid_at}
+use Rattle.eager_rest.proofs.told.all_told.Goals as goal
 
 pub bounds-states-number : goal.bounds-states-number
 bounds-states-number c = let count = same_count c.args.guests.now c.args.states.now c.requires.valid in omega (arith, count)
