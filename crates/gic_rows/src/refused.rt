@@ -1,9 +1,9 @@
 //! Inputs that are refused, each with its message.
 
-use crate::row::{Row, check};
-use crate::steps::{enter, icc, mem, message, wire};
+use crate::row::check;
 use gic_top::BAD_SCENARIO;
 use std::test::Fail;
+use worked_rows::{Row, enter, icc, mem, message, wire};
 
 /// A guest of one vCPU.
 const GUEST: &str = r#""guests":[{"on":true,"irqs":[{"id":40}]}]"#;

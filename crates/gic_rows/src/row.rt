@@ -1,4 +1,4 @@
-//! A worked scenario, and its runs: by the tool, and by the ideal controller.
+//! Runs of a worked scenario: by the tool, and by the ideal controller.
 
 use gic_top::{
     Bytes, Mode, NOTHING_SHOWN, OK, OpenGate, SureSink, SureSource, eager, read, run_tool, text,
@@ -9,18 +9,7 @@ use std::process::Abort;
 use std::sync::Wait;
 use std::test::Fail;
 use std::thread::Threads;
-
-/// A scenario, and what `run` writes of it.
-pub(crate) struct Row {
-    /// What the row shows.
-    pub shows: &'static str,
-    /// The fields of the scenario but for `steps`, as JSON.
-    pub before: &'static str,
-    /// The steps, in parts that rows share.
-    pub steps: &'static [&'static [&'static str]],
-    /// The lines that are written.
-    pub lines: &'static [&'static str],
-}
+use worked_rows::Row;
 
 /// Adds steps to a list of them that is open.
 fn push_steps(input: &mut String, steps: &[&str]) -> Result<(), AllocError> {

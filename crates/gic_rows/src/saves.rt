@@ -1,15 +1,16 @@
 //! Runs that are saved after some of their steps, and resumed: images in their own bytes, what stands in them, and what is refused.
 
-use crate::interface::{ACTIVE_40, CPU_A0, FIRST, LEVEL};
-use crate::its::{
+use crate::row::{answer_to, input_of, text_of};
+use gic_top::{BAD_JSON, BAD_SCENARIO, OK, USAGE};
+use std::test::Fail;
+use worked_rows::interface::{ACTIVE_40, BASE, CPU_A0, FIRST, LEVEL};
+use worked_rows::its::{
     CONFIGURED, CPU_1, DONE, ENABLED, GUEST, ITS_80, LPI_8195, LPIS_OF_1, MAPC, MAPD, MAPTI, SYNC,
     UNKNOWN,
 };
-use crate::row::{answer_to, input_of, text_of};
-use crate::steps::{MSI, enter, exit, icc, mem, message, wire};
-use crate::vcpus::TWO_PES;
-use gic_top::{BAD_JSON, BAD_SCENARIO, OK, USAGE};
-use std::test::Fail;
+use worked_rows::steps::MSI;
+use worked_rows::vcpus::TWO_PES;
+use worked_rows::{enter, exit, icc, mem, message, wire};
 
 /// A scenario that is saved, and what is written where the image is resumed.
 struct Save {
@@ -307,7 +308,7 @@ fn writes_one_line(rt: HostRuntime) -> Result<(), Fail> {
 fn goes_on_in_the_middle_of_interrupts(rt: HostRuntime) -> Result<(), Fail> {
     let alloc = rt.alloc();
     for (step, rest) in NESTED_FROM {
-        let input = input_of(alloc, crate::interface::BASE, &[NESTED])?;
+        let input = input_of(alloc, BASE, &[NESTED])?;
         let (saved, image) = answer_to(&rt, alloc, &["save", step], input)?;
         assert_eq!(rt; saved, OK, "{step}");
         let (status, text) = answer_to(&rt, alloc, &["resume"], image)?;

@@ -1,19 +1,20 @@
 //! Each worked scenario, saved after each number of its steps: what was written of these, and then what is written of the image, is the text of its run.
 //! And an image with each of its numbers changed, one at a time, which is resumed or refused.
 
-use crate::faults::FAULTS;
-use crate::interface::{ACKNOWLEDGES, LIST_REGISTERS, PRIORITIES, WIRES};
-use crate::its::{COMMANDS, LPIS, STALLS};
-use crate::list_registers::STEP_BY_STEP;
-use crate::memory_mapped::{EXTENDED_SPIS, PARTS, START, VALUES};
-use crate::row::{Row, answer_to, input_of, text_of};
-use crate::vcpus::{MOVES, SGIS};
+use crate::row::{answer_to, input_of, text_of};
 use gic_top::{BAD_SCENARIO, OK};
 use std::alloc::{AllocError, Global};
 use std::process::Abort;
 use std::sync::Wait;
 use std::test::Fail;
 use std::thread::Threads;
+use worked_rows::Row;
+use worked_rows::faults::FAULTS;
+use worked_rows::interface::{ACKNOWLEDGES, LIST_REGISTERS, PRIORITIES, WIRES};
+use worked_rows::its::{COMMANDS, LPIS, STALLS};
+use worked_rows::list_registers::STEP_BY_STEP;
+use worked_rows::memory_mapped::{EXTENDED_SPIS, PARTS, START, VALUES};
+use worked_rows::vcpus::{MOVES, SGIS};
 
 /// Whether a line is of a step past the first ones, so many, or of no step.
 fn is_after(line: &str, done: usize) -> bool {

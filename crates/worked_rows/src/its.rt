@@ -1,34 +1,33 @@
 //! The ITS: an LPI from its tables to the interrupt, commands, a stall and its end.
 
-use crate::row::{Row, check};
-use crate::steps::{MSI, gicr, icc, mem};
-use gic_top::OK;
-use std::test::Fail;
+use crate::steps::MSI;
+use crate::{Row, gicr, icc, mem};
 
 /// Two vCPUs, each on a PE, 16 LPIs, and memory for tables and commands.
-pub(crate) const GUEST: &str = r#""pes":2,"guests":[{"vcpus":2,"lpis":16,"ram":65536,"on":true}]"#;
+pub const GUEST: &str = r#""pes":2,"guests":[{"vcpus":2,"lpis":16,"ram":65536,"on":true}]"#;
 
 /// The guest of `GUEST` with as many LPIs as there can be.
 const ALL_LPIS: &str = r#""pes":2,"guests":[{"vcpus":2,"lpis":4096,"ram":65536,"on":true}]"#;
 
 /// LPI 8195 is enabled at priority 0xA0 in the configuration table at 0x3000.
-pub(crate) const CONFIGURED: &[&str] = &[mem!(0, "ram", 0x3003, 1, 0xA1)];
+pub const CONFIGURED: &[&str] = &[mem!(0, "ram", 0x3003, 1, 0xA1)];
 
-/// The redistributor of a vCPU gets its LPI tables, and listens to LPIs.
+/// The redistributor of vCPU 0 gets its LPI tables, and listens to LPIs.
 const LPIS_OF_0: &[&str] = &[
     gicr!(0, 0x70, 8, 0x300D),
     gicr!(0, 0x78, 8, 0x4000000000010000),
     gicr!(0, 0x0, 4, 1),
 ];
 
-pub(crate) const LPIS_OF_1: &[&str] = &[
+/// The same of vCPU 1.
+pub const LPIS_OF_1: &[&str] = &[
     gicr!(1, 0x70, 8, 0x300D),
     gicr!(1, 0x78, 8, 0x4000000000010000),
     gicr!(1, 0x0, 4, 1),
 ];
 
 /// The queue is one page at 0x1000, and the ITS is enabled.
-pub(crate) const ENABLED: &[&str] = &[
+pub const ENABLED: &[&str] = &[
     mem!(0, "gits", 0x80, 8, 0x8000000000001000),
     mem!(0, "gits", 0x0, 4, 1),
 ];
@@ -55,35 +54,38 @@ macro_rules! stalled {
 pub(crate) use command;
 pub(crate) use stalled;
 
-/// The first four commands: device 8 gets 5 bits of events; collection 1 goes to vCPU 1; event 3 is LPI 8195 of
-/// collection 1; and vCPU 1 waits for all of it.
-pub(crate) const MAPD: &[&str] =
-    command!(0x1000 0x0000000800000008, 0x1008 4, 0x1010 0x8000000000002000);
+/// The first of four commands: device 8 gets 5 bits of events.
+pub const MAPD: &[&str] = command!(0x1000 0x0000000800000008, 0x1008 4, 0x1010 0x8000000000002000);
 
-pub(crate) const MAPC: &[&str] = command!(0x1020 9, 0x1030 0x8000000000010001);
+/// Collection 1 goes to vCPU 1.
+pub const MAPC: &[&str] = command!(0x1020 9, 0x1030 0x8000000000010001);
 
-pub(crate) const MAPTI: &[&str] =
-    command!(0x1040 0x000000080000000A, 0x1048 0x0000200300000003, 0x1050 1);
+/// Event 3 of device 8 is LPI 8195 of collection 1.
+pub const MAPTI: &[&str] = command!(0x1040 0x000000080000000A, 0x1048 0x0000200300000003, 0x1050 1);
 
-pub(crate) const SYNC: &[&str] = command!(0x1060 5, 0x1070 0x10000);
+/// vCPU 1 waits for all of it.
+pub const SYNC: &[&str] = command!(0x1060 5, 0x1070 0x10000);
 
 /// The four commands are run, and CREADR is read.
-pub(crate) const DONE: &[&str] = &[mem!(0, "gits", 0x88, 8, 0x80), mem!(0, "gits", 0x90, 8)];
+pub const DONE: &[&str] = &[mem!(0, "gits", 0x88, 8, 0x80), mem!(0, "gits", 0x90, 8)];
 
 /// A command of an unknown number in the place of the second.
-pub(crate) const UNKNOWN: &[&str] = command!(0x1020 0x7F, 0x1030 0x8000000000010001);
+pub const UNKNOWN: &[&str] = command!(0x1020 0x7F, 0x1030 0x8000000000010001);
 
 const CPU_0: &str = "cpu 0 0 vmcr=0xf04c000a ap0=0x00000000 ap1=0x00000000 lpis=1";
 
-pub(crate) const CPU_1: &str = "cpu 0 1 vmcr=0xf04c000a ap0=0x00000000 ap1=0x00000000 lpis=1";
+/// vCPU 1 with nothing active.
+pub const CPU_1: &str = "cpu 0 1 vmcr=0xf04c000a ap0=0x00000000 ap1=0x00000000 lpis=1";
 
 /// vCPU 1 with the level of priority 0xA0 active.
 const CPU_1_A0: &str = "cpu 0 1 vmcr=0xf04c000a ap0=0x00000000 ap1=0x00100000 lpis=1";
 
-pub(crate) const LPI_8195: &str =
+/// LPI 8195 at vCPU 1, neither pending nor active.
+pub const LPI_8195: &str =
     "irq 0 8195 en=1 grp=1 prio=0xa0 cfg=edge line=0 rise=0 soft=0 act=- to=1";
 
-pub(crate) const ITS_80: &str =
+/// The ITS with its four commands done.
+pub const ITS_80: &str =
     "its 0 ctlr=0x00000001 cbaser=0x8000000000001000 cwriter=0x0000000000000080 creadr=0x0000000000000080 fault=0";
 
 const ITS_A0: &str =
@@ -106,8 +108,9 @@ const TAKEN: &[&str] = &[
     "end 22 3",
 ];
 
+/// LPIs that reach a vCPU.
 #[rattlefmt::skip]
-pub(crate) const LPIS: [Row; 7] = [
+pub const LPIS: [Row; 7] = [
     Row {
         shows: "an LPI from its tables to the interrupt", before: GUEST,
         steps: &[
@@ -206,8 +209,9 @@ pub(crate) const LPIS: [Row; 7] = [
     },
 ];
 
+/// Commands that stall the queue.
 #[rattlefmt::skip]
-pub(crate) const STALLS: [Row; 7] = [
+pub const STALLS: [Row; 7] = [
     Row {
         shows: "a command of an unknown number stalls the queue", before: GUEST,
         steps: &[
@@ -283,8 +287,9 @@ pub(crate) const STALLS: [Row; 7] = [
     },
 ];
 
+/// What commands do to LPIs.
 #[rattlefmt::skip]
-pub(crate) const COMMANDS: [Row; 8] = [
+pub const COMMANDS: [Row; 8] = [
     Row {
         shows: "MOVI moves a pending LPI to the vCPU of another collection", before: GUEST,
         steps: &[
@@ -406,18 +411,3 @@ pub(crate) const COMMANDS: [Row; 8] = [
         ],
     },
 ];
-
-#[test]
-fn delivers_lpis(rt: HostRuntime) -> Result<(), Fail> {
-    check(&rt, rt.alloc(), OK, &LPIS)
-}
-
-#[test]
-fn stalls_at_bad_commands(rt: HostRuntime) -> Result<(), Fail> {
-    check(&rt, rt.alloc(), OK, &STALLS)
-}
-
-#[test]
-fn does_commands(rt: HostRuntime) -> Result<(), Fail> {
-    check(&rt, rt.alloc(), OK, &COMMANDS)
-}

@@ -1,6 +1,7 @@
 //! Steps of a scenario as JSON. Those of a vCPU and of a device are of guest 0.
 
 /// A vCPU, its register of the CPU interface, and the value where it writes.
+#[macro_export]
 macro_rules! icc {
     ($vcpu:literal, $name:literal) => {
         concat!(r#"{"vcpu":[0,"#, $vcpu, r#"],"icc":""#, $name, r#""}"#)
@@ -19,6 +20,7 @@ macro_rules! icc {
 }
 
 /// A vCPU, its frame (`gicd`, `gits`, `ram`), an offset and a size, and the value where it writes.
+#[macro_export]
 macro_rules! mem {
     ($vcpu:literal, $frame:literal, $offset:literal, $size:literal) => {
         concat!(
@@ -51,6 +53,7 @@ macro_rules! mem {
 }
 
 /// vCPU 0 at the redistributor of a vCPU: an offset and a size, and the value where it writes.
+#[macro_export]
 macro_rules! gicr {
     ($of:literal, $offset:literal, $size:literal) => {
         concat!(
@@ -79,6 +82,7 @@ macro_rules! gicr {
 }
 
 /// Device 0 writes SETSPI for an interrupt.
+#[macro_export]
 macro_rules! message {
     ($id:literal) => {
         concat!(r#"{"dev":[0,0],"message":"#, $id, "}")
@@ -86,6 +90,7 @@ macro_rules! message {
 }
 
 /// Device 0 moves the wire of an SPI, or that of a vCPU's PPI.
+#[macro_export]
 macro_rules! wire {
     ($id:literal, $up:literal) => {
         concat!(r#"{"dev":[0,0],"wire":"#, $id, r#","up":"#, $up, "}")
@@ -104,6 +109,7 @@ macro_rules! wire {
 }
 
 /// A vCPU of guest 0 enters a PE.
+#[macro_export]
 macro_rules! enter {
     ($pe:literal, $vcpu:literal) => {
         concat!(r#"{"pe":"#, $pe, r#","enter":[0,"#, $vcpu, "]}")
@@ -111,22 +117,15 @@ macro_rules! enter {
 }
 
 /// The vCPU on a PE leaves it.
+#[macro_export]
 macro_rules! exit {
     ($pe:literal) => {
         concat!(r#"{"pe":"#, $pe, r#","exit":true}"#)
     };
 }
 
-pub(crate) use enter;
-pub(crate) use exit;
-pub(crate) use gicr;
-pub(crate) use icc;
-pub(crate) use mem;
-pub(crate) use message;
-pub(crate) use wire;
-
 /// PE 0 shows its list registers.
-pub(crate) const LRS: &str = r#"{"pe":0,"lrs":true}"#;
+pub const LRS: &str = r#"{"pe":0,"lrs":true}"#;
 
 /// Device 0 sends event 3 of DeviceID 8 to the ITS.
-pub(crate) const MSI: &str = r#"{"dev":[0,0],"msi":[8,3]}"#;
+pub const MSI: &str = r#"{"dev":[0,0],"msi":[8,3]}"#;

@@ -1,13 +1,12 @@
 //! What the list registers of a PE hold after each step.
 
 use crate::interface::{ACTIVE_40, CPU_A0, ONE_LR, TWO_LRS};
-use crate::row::{Row, check};
-use crate::steps::{LRS, icc, message};
-use gic_top::OK;
-use std::test::Fail;
+use crate::steps::LRS;
+use crate::{Row, icc, message};
 
+/// List registers after each step.
 #[rattlefmt::skip]
-pub(crate) const STEP_BY_STEP: [Row; 4] = [
+pub const STEP_BY_STEP: [Row; 4] = [
     Row {
         shows: "two interrupts and one list register", before: ONE_LR,
         steps: &[
@@ -83,8 +82,3 @@ pub(crate) const STEP_BY_STEP: [Row; 4] = [
         ],
     },
 ];
-
-#[test]
-fn shows_each_step(rt: HostRuntime) -> Result<(), Fail> {
-    check(&rt, rt.alloc(), OK, &STEP_BY_STEP)
-}

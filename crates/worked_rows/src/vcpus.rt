@@ -1,13 +1,10 @@
 //! Several vCPUs, PEs and guests: SGIs, entries and exits, ends of interrupts by another vCPU.
 
 use crate::interface::{ACTIVE_40, CPU_A0};
-use crate::row::{Row, check};
-use crate::steps::{enter, exit, icc, message};
-use gic_top::OK;
-use std::test::Fail;
+use crate::{Row, enter, exit, icc, message};
 
 /// One vCPU and two PEs, with 40 and 41 at priority 0xA0 and 42 at 0x20.
-pub(crate) const TWO_PES: &str =
+pub const TWO_PES: &str =
     r#""pes":2,"guests":[{"on":true,"irqs":[{"id":40},{"id":41},{"id":42,"prio":32}]}]"#;
 
 /// Two vCPUs, each on a PE, that listen to SGI 5.
@@ -17,8 +14,9 @@ const TALKING: &str =
 /// vCPU 1 with the level of priority 0xA0 active.
 const CPU_1_A0: &str = "cpu 0 1 vmcr=0xf04c000a ap0=0x00000000 ap1=0x00100000 lpis=0";
 
+/// SGIs.
 #[rattlefmt::skip]
-pub(crate) const SGIS: [Row; 4] = [
+pub const SGIS: [Row; 4] = [
     Row {
         shows: "an SGI to the other vCPU", before: TALKING,
         steps: &[&[icc!(0, "SGI1R", 0x05000002), icc!(1, "IAR1"), icc!(0, "IAR1")]],
@@ -54,8 +52,9 @@ pub(crate) const SGIS: [Row; 4] = [
     },
 ];
 
+/// vCPUs that enter and leave PEs.
 #[rattlefmt::skip]
-pub(crate) const MOVES: [Row; 5] = [
+pub const MOVES: [Row; 5] = [
     Row {
         shows: "a pending interrupt goes with its vCPU to another PE", before: TWO_PES,
         steps: &[&[message!(40), exit!(0), enter!(1, 0), icc!(0, "IAR1")]],
@@ -99,13 +98,3 @@ pub(crate) const MOVES: [Row; 5] = [
         ],
     },
 ];
-
-#[test]
-fn sends_sgis(rt: HostRuntime) -> Result<(), Fail> {
-    check(&rt, rt.alloc(), OK, &SGIS)
-}
-
-#[test]
-fn moves_vcpus(rt: HostRuntime) -> Result<(), Fail> {
-    check(&rt, rt.alloc(), OK, &MOVES)
-}

@@ -1,41 +1,41 @@
 //! One vCPU on one PE: acknowledge and end, priorities, groups, wires, list registers.
 
-use crate::row::{Row, check};
-use crate::steps::{LRS, icc, message, wire};
-use gic_top::OK;
-use std::test::Fail;
+use crate::steps::LRS;
+use crate::{Row, icc, message, wire};
 
 /// A guest of one vCPU with 40 and 41 at priority 0xA0 and 42 at 0x20.
-pub(crate) const BASE: &str =
-    r#""guests":[{"on":true,"irqs":[{"id":40},{"id":41},{"id":42,"prio":32}]}]"#;
+pub const BASE: &str = r#""guests":[{"on":true,"irqs":[{"id":40},{"id":41},{"id":42,"prio":32}]}]"#;
 
-/// The guest of `BASE` on a PE with one list register, and with two.
-pub(crate) const ONE_LR: &str =
+/// The guest of `BASE` on a PE with one list register.
+pub const ONE_LR: &str =
     r#""lrs":1,"guests":[{"on":true,"irqs":[{"id":40},{"id":41},{"id":42,"prio":32}]}]"#;
 
-pub(crate) const TWO_LRS: &str =
+/// The guest of `BASE` on a PE with two list registers.
+pub const TWO_LRS: &str =
     r#""lrs":2,"guests":[{"on":true,"irqs":[{"id":40},{"id":41},{"id":42,"prio":32}]}]"#;
 
 /// The guest of `BASE` with 40 level-sensitive.
-pub(crate) const LEVEL: &str =
+pub const LEVEL: &str =
     r#""guests":[{"on":true,"irqs":[{"id":40,"edge":false},{"id":41},{"id":42,"prio":32}]}]"#;
 
 /// A guest with interrupt 40 alone, each number written out.
-pub(crate) const FIRST: &str =
+pub const FIRST: &str =
     r#""pes":1,"lrs":4,"guests":[{"vcpus":1,"spis":32,"on":true,"irqs":[{"id":40}]}]"#;
 
 /// The vCPU with the level of priority 0xA0 active.
-pub(crate) const CPU_A0: &str = "cpu 0 0 vmcr=0xf04c000a ap0=0x00000000 ap1=0x00100000 lpis=0";
+pub const CPU_A0: &str = "cpu 0 0 vmcr=0xf04c000a ap0=0x00000000 ap1=0x00100000 lpis=0";
 
 const PENDING_40: &str = "irq 0 40 en=1 grp=1 prio=0xa0 cfg=edge line=0 rise=0 soft=1 act=- to=0";
 
-pub(crate) const ACTIVE_40: &str =
+/// Interrupt 40 active by vCPU 0.
+pub const ACTIVE_40: &str =
     "irq 0 40 en=1 grp=1 prio=0xa0 cfg=edge line=0 rise=0 soft=0 act=0 to=0";
 
 const PENDING_41: &str = "irq 0 41 en=1 grp=1 prio=0xa0 cfg=edge line=0 rise=0 soft=1 act=- to=0";
 
+/// Acknowledges and ends of interrupts.
 #[rattlefmt::skip]
-pub(crate) const ACKNOWLEDGES: [Row; 9] = [
+pub const ACKNOWLEDGES: [Row; 9] = [
     Row {
         shows: "an interrupt is acknowledged and ended, once", before: FIRST,
         steps: &[&[message!(40), icc!(0, "IAR1"), icc!(0, "EOIR1", 40), icc!(0, "IAR1")]],
@@ -109,8 +109,9 @@ pub(crate) const ACKNOWLEDGES: [Row; 9] = [
     },
 ];
 
+/// Priorities, binary points and groups.
 #[rattlefmt::skip]
-pub(crate) const PRIORITIES: [Row; 6] = [
+pub const PRIORITIES: [Row; 6] = [
     Row {
         shows: "a mask at the priority holds an interrupt back, and HPPIR tells it all the same", before: BASE,
         steps: &[
@@ -188,8 +189,9 @@ pub(crate) const PRIORITIES: [Row; 6] = [
     },
 ];
 
+/// What the list registers of a PE show, where all fits and where not.
 #[rattlefmt::skip]
-pub(crate) const LIST_REGISTERS: [Row; 7] = [
+pub const LIST_REGISTERS: [Row; 7] = [
     Row {
         shows: "sixteen list registers", before: r#""lrs":16,"guests":[{}]"#,
         steps: &[],
@@ -251,8 +253,9 @@ pub(crate) const LIST_REGISTERS: [Row; 7] = [
     },
 ];
 
+/// Wires of level-sensitive interrupts.
 #[rattlefmt::skip]
-pub(crate) const WIRES: [Row; 2] = [
+pub const WIRES: [Row; 2] = [
     Row {
         shows: "a level that stays up is pending again after each end of interrupt", before: LEVEL,
         steps: &[
@@ -272,23 +275,3 @@ pub(crate) const WIRES: [Row; 2] = [
         ],
     },
 ];
-
-#[test]
-fn acknowledges_and_ends(rt: HostRuntime) -> Result<(), Fail> {
-    check(&rt, rt.alloc(), OK, &ACKNOWLEDGES)
-}
-
-#[test]
-fn goes_by_priority(rt: HostRuntime) -> Result<(), Fail> {
-    check(&rt, rt.alloc(), OK, &PRIORITIES)
-}
-
-#[test]
-fn shows_list_registers(rt: HostRuntime) -> Result<(), Fail> {
-    check(&rt, rt.alloc(), OK, &LIST_REGISTERS)
-}
-
-#[test]
-fn follows_wires(rt: HostRuntime) -> Result<(), Fail> {
-    check(&rt, rt.alloc(), OK, &WIRES)
-}

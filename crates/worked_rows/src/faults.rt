@@ -4,13 +4,11 @@ use crate::its::{
     CONFIGURED, CPU_1, DONE, ENABLED, GUEST, LPI_8195, LPIS_OF_1, MAPC, MAPD, MAPTI, SYNC, command,
     stalled,
 };
-use crate::row::{Row, check};
-use crate::steps::mem;
-use gic_top::OK;
-use std::test::Fail;
+use crate::{Row, mem};
 
+/// A command with each fault.
 #[rattlefmt::skip]
-pub(crate) const FAULTS: [Row; 7] = [
+pub const FAULTS: [Row; 7] = [
     Row {
         shows: "a device past the last", before: GUEST,
         steps: &[
@@ -73,8 +71,3 @@ pub(crate) const FAULTS: [Row; 7] = [
         ],
     },
 ];
-
-#[test]
-fn stalls_at_each_fault(rt: HostRuntime) -> Result<(), Fail> {
-    check(&rt, rt.alloc(), OK, &FAULTS)
-}

@@ -1,10 +1,7 @@
 //! The distributor and the redistributors, by their registers.
 
 use crate::interface::{ACTIVE_40, BASE, CPU_A0};
-use crate::row::{Row, check};
-use crate::steps::{gicr, icc, mem, message, wire};
-use gic_top::OK;
-use std::test::Fail;
+use crate::{Row, gicr, icc, mem, message, wire};
 
 /// Two vCPUs, each on a PE, with 40 and 41 at priority 0xA0 and 42 at 0x20.
 const TWO_VCPUS: &str =
@@ -35,8 +32,9 @@ macro_rules! grouped_at_a0 {
     };
 }
 
+/// Registers that change interrupts.
 #[rattlefmt::skip]
-pub(crate) const PARTS: [Row; 14] = [
+pub const PARTS: [Row; 14] = [
     Row {
         shows: "another vCPU clears what is pending", before: TWO_VCPUS,
         steps: &[&[message!(40), mem!(1, "gicd", 0x284, 4, 0x100), icc!(0, "IAR1")]],
@@ -198,8 +196,9 @@ pub(crate) const PARTS: [Row; 14] = [
     },
 ];
 
+/// Registers that tell what the controller is.
 #[rattlefmt::skip]
-pub(crate) const VALUES: [Row; 4] = [
+pub const VALUES: [Row; 4] = [
     Row {
         shows: "an access that no register takes reads 0", before: BASE,
         steps: &[&[mem!(0, "gicd", 0x2, 4), mem!(0, "gicd", 0x428, 8), mem!(0, "gicd", 0x100, 1)]],
@@ -223,8 +222,9 @@ pub(crate) const VALUES: [Row; 4] = [
     },
 ];
 
+/// Extended SPIs.
 #[rattlefmt::skip]
-pub(crate) const EXTENDED_SPIS: [Row; 2] = [
+pub const EXTENDED_SPIS: [Row; 2] = [
     Row {
         shows: "an SPI comes before an extended one",
         before: r#""guests":[{"espis":32,"on":true,"irqs":[{"id":40},{"id":4100}]}]"#,
@@ -252,8 +252,9 @@ pub(crate) const EXTENDED_SPIS: [Row; 2] = [
 ];
 
 /// A driver's start, and its first interrupt.
+/// A guest that starts with everything off.
 #[rattlefmt::skip]
-pub(crate) const START: [Row; 1] = [
+pub const START: [Row; 1] = [
     Row {
         shows: "a driver starts a controller that opens off", before: r#""guests":[{}]"#,
         steps: &[
@@ -283,23 +284,3 @@ pub(crate) const START: [Row; 1] = [
         ],
     },
 ];
-
-#[test]
-fn changes_parts_of_interrupts(rt: HostRuntime) -> Result<(), Fail> {
-    check(&rt, rt.alloc(), OK, &PARTS)
-}
-
-#[test]
-fn tells_what_it_is(rt: HostRuntime) -> Result<(), Fail> {
-    check(&rt, rt.alloc(), OK, &VALUES)
-}
-
-#[test]
-fn has_extended_spis(rt: HostRuntime) -> Result<(), Fail> {
-    check(&rt, rt.alloc(), OK, &EXTENDED_SPIS)
-}
-
-#[test]
-fn starts(rt: HostRuntime) -> Result<(), Fail> {
-    check(&rt, rt.alloc(), OK, &START)
-}
