@@ -1,10 +1,9 @@
 -- The text of a run that was saved in its middle and goes on (own choice).
 use Rattle.std.specs.Prelude.{◌≡◌, ℕ, ◌≤◌, List, ◌++◌, length, map, take, drop, count_by}
 use Rattle.law_runs_split.specs.GicIdeal.ScnBase.declared.scenario.Scenario.{Scenario}
-use Rattle.law_runs_split.specs.GicIdeal.ScnBase.declared.step.Step.{Step}
 use Rattle.law_runs_split.specs.GicIdeal.ScnBase.Standing.{opening_pes}
 use Rattle.law_runs_split.specs.GicIdeal.IdealGuests.declared.guest.IdealGuest.{IdealGuest}
-use Rattle.law_runs_split.specs.GicIdeal.IdealGuests.Calls.{RunOut, shapes_of}
+use Rattle.law_runs_split.specs.GicIdeal.IdealGuests.Calls.{shapes_of}
 use Rattle.law_runs_split.specs.GicIdeal.IdealGuests.Opening.{opening}
 use Rattle.law_runs_split.specs.GicIdeal.Eager.{answers_of, after_steps, eager, eager_from}
 use Rattle.law_runs_split.specs.Split.{pes_after_steps}

@@ -4,17 +4,13 @@ use Rattle.std.proofs.lemmas.List.{length-map}
 use Rattle.run_seq.specs.Calls.{GuestSpec}
 use Rattle.run_seq.specs.GicIdeal.IdealGuests.declared.guest.IdealGuest.{IdealGuest}
 use Rattle.run_seq.specs.GicIdeal.IdealGuests.Opening.{opening}
-use Rattle.run_seq.specs.GicIdeal.Eager.{after_step, after_steps, state_shapes}
+use Rattle.run_seq.specs.GicIdeal.Eager.{after_steps}
 use Rattle.run_seq.specs.GicIdeal.ScnBase.declared.scenario.Scenario.{Scenario}
 use Rattle.run_seq.specs.GicIdeal.ScnBase.declared.standing.Standing.{Standing}
 use Rattle.run_seq.specs.GicIdeal.ScnBase.declared.step.Step.{Step}
-use Rattle.run_seq.proofs.GicIdeal.StepLemmas.{shapes_step}
 use Rattle.saved_take.specs.Taken.{all_taken, saved_of, standing_at}
 use Rattle.eager_rest.specs.LawSavesGoOn.Resume.{reached}
-
-shapes_steps : (steps : List Step) (states : List IdealGuest) → state_shapes (after_steps steps states) ≡ state_shapes states
-shapes_steps [] states = refl
-shapes_steps (step ∷ steps) states = shapes_steps steps (after_step step states) ∙ shapes_step step states
+use Rattle.eager_rest.proofs.LawSavesGoOn.ShapeLemmas.{shapes_steps}
 
 many_after : (steps : List Step) (states : List IdealGuest) → length (after_steps steps states) ≡ length states
 many_after steps states =

@@ -1,7 +1,7 @@
 -- The first steps of a scenario without a fault have none.
-use Rattle.std.proofs.Common.{ℕ, zero, suc, ◌≤◌, IsTrue, All, List, [], ◌∷◌, length, take, refl, arith}
+use Rattle.std.proofs.Common.{ℕ, zero, suc, ◌≤◌, IsTrue, List, [], ◌∷◌, length, take, refl, arith}
 use Rattle.std.proofs.lemmas.Bool.{and_from, and_parts}
-use Rattle.std.proofs.lemmas.List.Elements.{All-nil, All-cons, All-head, All-tail}
+use Rattle.std.proofs.lemmas.List.Elements.{All-take}
 use Rattle.run_seq.specs.Calls.{shapes_of}
 use Rattle.run_seq.specs.GicIdeal.ScnBase.declared.scenario.Scenario.{Scenario}
 use Rattle.run_seq.specs.GicIdeal.ScnBase.declared.standing.Standing.{Standing}
@@ -9,11 +9,6 @@ use Rattle.run_seq.specs.GicIdeal.ScnBase.declared.step.Mode.TheVariants.{Schedu
 use Rattle.run_seq.specs.GicIdeal.ScnBase.declared.step.Step.{Step}
 use Rattle.run_seq.specs.GicIdeal.ScnBase.Good.{IsGood, is_formed, stand_in_turn, stands}
 use Rattle.run_seq.specs.GicIdeal.ScnBase.Standing.{opening_standing, standing_after}
-
-first_all : (P : Step → Type 0) (steps : List Step) (count : ℕ) → All P steps → All P (take count steps)
-first_all P steps zero all = All-nil P
-first_all P [] (suc count) all = All-nil P
-first_all P (step ∷ steps) (suc count) all = All-cons P step (take count steps) (All-head P step steps all) (first_all P steps count (All-tail P step steps all))
 
 first_in_turn : (standing : Standing) (steps : List Step) (count : ℕ) → IsTrue (stand_in_turn Schedule standing steps) → IsTrue (stand_in_turn Schedule standing (take count steps))
 first_in_turn standing steps zero turn = refl
@@ -40,6 +35,6 @@ first_good scenario count good = record {
   guests = good.guests;
   each_guest = good.each_guest;
   steps = let few = fewer scenario.steps count in omega (arith, few, good.steps);
-  each_step = first_all (λ step. IsTrue (is_formed Schedule scenario.pes (shapes_of scenario.guests) step)) scenario.steps count good.each_step;
+  each_step = All-take (λ step. IsTrue (is_formed Schedule scenario.pes (shapes_of scenario.guests) step)) count scenario.steps good.each_step;
   in_turn = first_in_turn (opening_standing scenario.pes (shapes_of scenario.guests)) scenario.steps count good.in_turn;
 }

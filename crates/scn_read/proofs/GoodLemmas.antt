@@ -88,7 +88,7 @@ good_shape d e =
 all_of : (n m : ℕ) → n ≤ m → min n m ≡ n
 all_of n m within = omega arith
 
-good_guest : (d : Data) → guest_fault d ≡ None → IsGoodGuest (guest_of d)
+pub good_guest : (d : Data) → guest_fault d ≡ None → IsGoodGuest (guest_of d)
 good_guest d e =
     let both = first_code_none (own_fault d) (first_of (map (preset_fault (vcpus_of d) (spis_of d) (espis_of d)) (elements_at (codes "irqs") d))) e in
     let is = good_shape d both.0 in

@@ -119,8 +119,9 @@ pub fn counts(value: &Value) -> Counts
     }
 }
 
-/// A guest, or the first fault of it and its presets.
-fn guest(alloc: Global, value: &Value) -> Result<Result<GuestSpec, u8>, AllocError>
+/// The guest that a JSON value is, as a scenario has it, or the least code of its faults and those of its presets: 1 where a field is unknown or of the wrong
+/// kind, 2 where a number is outside of its range, 4 where a preset's interrupt, vCPU or target is not there. The outer error says that memory was refused.
+pub fn read_guest(alloc: Global, value: &Value) -> Result<Result<GuestSpec, u8>, AllocError>
     ensures { let d = view value.now in
         IfOk result (λ found. found ≡ ok_unless (guest_fault d) (guest_of d)) }
 {
@@ -139,7 +140,7 @@ pub(crate) fn guests(alloc: Global, values: &[Value]) -> Result<Result<Guests, u
     let mut guests = Guests::new(alloc);
     let mut fault = None;
     for value in values {
-        match guest(alloc, value)? {
+        match read_guest(alloc, value)? {
             Ok(guest) => guests.push(guest)?,
             Err(code) => fault = first_code(fault, Some(code)),
         }

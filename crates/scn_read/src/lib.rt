@@ -12,7 +12,7 @@ mod step;
 
 pub use defaults::{DEFAULT_DEVICES, DEFAULT_SIZE, DEFAULT_TARGET, DEFAULT_VCPUS};
 pub use form::{Form, Row};
-pub use guest::{GUEST_FIELDS, counts};
+pub use guest::{GUEST_FIELDS, counts, read_guest};
 pub use json_field::{
     elements_at, flag_at, flag_or, has_only, list_at, number_at, number_or, other_field, pair_at,
     text_at,

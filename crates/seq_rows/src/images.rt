@@ -19,7 +19,7 @@ use std::test::Fail;
 /// The seeds: the first, and how many.
 const FIRST_SEED: u64 = 1;
 
-const SEEDS: u64 = 4;
+const SEEDS: u64 = 100;
 
 /// How many tries of a step an image has, and how many steps it may have.
 const TRIES: u32 = 40;

@@ -1,0 +1,3 @@
+pub use Rattle.eager_rest.specs as EagerRest
+pub use Rattle.gic_resume.specs as GicResume
+pub mod Valid
