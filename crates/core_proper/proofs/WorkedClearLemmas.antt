@@ -82,7 +82,7 @@ clear_is_run = (
                           (
                             record { actor = second_there; can = refl; meets = tt; found = refl; left = refl; tables = refl },
                             (
-                              record { actor = second_there; can = record { there = refl; fits = refl }; meets = record { empty = refl; marks = refl }; found = refl; left = refl; tables = refl },
+                              record { actor = second_there; can = record { there = refl; fits = refl }; meets = record { empty = refl; marks = refl; lines = λ e. absurd (cc) }; found = refl; left = refl; tables = refl },
                               (
                                 record { actor = second_there; can = refl; meets = tt; found = refl; left = refl; tables = refl },
                                 (

@@ -1,5 +1,5 @@
 -- Proper runs (own choice): what the protocol asks of each step and of each end of a part, so that changes reach the CPU interfaces in time.
-use Rattle.std.specs.Prelude.{ℕ, ◌<◌, ◌==◌, ◌&&◌, ◌||◌, not, Bool, true, false, IsTrue, List, [], ◌∷◌, ◌++◌, fold, if◌then◌else◌, Option, Some, None, unwrap_or, is_some}
+use Rattle.std.specs.Prelude.{ℕ, ◌<◌, ◌==◌, ◌&&◌, ◌||◌, not, Bool, true, false, IsTrue, List, [], ◌∷◌, ◌++◌, fold, if◌then◌else◌, Option, Some, None, unwrap_or, is_none, is_some}
 use Rattle.std.specs.List.{list_any}
 use Rattle.std.specs.Option.{option_map_or}
 use Rattle.floor_histories.specs.Words.{IccReg, Iar0, Iar1, Hppir0, Hppir1, Key, GuestShape, is_number}
@@ -11,7 +11,7 @@ use Rattle.port_core.specs.declared.local.Phase.{Phase}
 use Rattle.port_core.specs.declared.local.Phase.TheVariants.{Folding}
 use Rattle.port_core.specs.declared.run.Made.{Made}
 use Rattle.port_core.specs.declared.step.CoreStep.{CoreStep}
-use Rattle.port_core.specs.declared.step.CoreStep.TheVariants.{Claim, CommandDone, Poll, Touch, Want, RamLook, RamPut, CtlrTake, TurnTake, TurnRelease, TakeIndex}
+use Rattle.port_core.specs.declared.step.CoreStep.TheVariants.{Claim, CommandDone, Poll, Touch, Want, RamLook, RamPut, CtlrTake, TurnTake, TurnRelease, TakeIndex, LineEnter}
 use Rattle.port_core.specs.Known.{known, known_view, is_known}
 use Rattle.port_core.specs.Local.{is_at, owes_nothing}
 use Rattle.port_core.specs.Actor.{actor_count}
@@ -118,9 +118,10 @@ keeps_want shape actor p (Want key) = option_map_or (λ operation. may_name shap
 keeps_want shape actor p (CommandDone offset stalled ending) = wants_nothing p.wants
 keeps_want shape actor p step = true
 
--- The settled end: at the end of a part the actor owes no kick and no mark, has no candidate, and has neither the ITS nor the mark of GICD_CTLR
+-- The settled end: at the end of a part the actor owes no kick and no mark, has no candidate, has neither the ITS nor the mark of GICD_CTLR, and is
+-- in no translation line
 abbrev pub is_settled : Local → Bool
-is_settled local = owes_nothing local && not local.turn && not local.ctlr
+is_settled local = owes_nothing local && not local.turn && not local.ctlr && is_none local.line
 
 -- The seen word: a step that goes by a word that was seen goes by the word as the actor's last step on it left it
 abbrev pub seen_by : CoreStep → Option ℕ
@@ -129,6 +130,7 @@ seen_by (Touch key seen kind) = Some seen
 seen_by (RamPut index seen value) = Some seen
 seen_by (CtlrTake seen value) = Some seen
 seen_by (TurnTake seen) = Some seen
+seen_by (LineEnter line seen) = Some seen
 seen_by step = None
 
 abbrev pub keeps_seen : GuestShape → ℕ → Progress → CoreStep → Bool

@@ -1,5 +1,5 @@
 -- A step that changes a cause, with the marks and kicks after it, is a call of a device.
-use Rattle.std.proofs.Common.{◌≡◌, ℕ, ◌==◌, ◌&&◌, not, Bool, true, false, cond, if◌then◌else◌, IsTrue, List, [], ◌∷◌, map, All, Option, Some, None, refl, sym, ap, subst, ◌∙◌, arith}
+use Rattle.std.proofs.Common.{◌≡◌, ℕ, ◌==◌, ◌&&◌, not, Bool, true, false, cond, if◌then◌else◌, IsTrue, List, [], ◌∷◌, map, All, Option, Some, None, is_none, refl, sym, ap, subst, ◌∙◌, arith}
 use Rattle.std.proofs.lemmas.List.Elements.{All-cons, All-nil}
 use Rattle.std.proofs.lemmas.Bool.{and_parts, eqb-true, both_ways}
 use Rattle.port_call.specs.Registers.{Targets}
@@ -20,13 +20,14 @@ use Rattle.dev_port.specs.Device.{CanCall, IsDevicePart, Changes, has_level, wir
 
 -- What an actor that can make a call has.
 
--- it owes no kick and no mark, and has not the ITS
+-- it owes no kick and no mark, has not the ITS, and is in no line
 pub record IsClear (local : Local) : Type 0 where
   pub kicks : local.owes ≡ no_vcpus
   pub marks : IsTrue (owes_no_mark local)
   pub turn : local.turn ≡ false
   pub ctlr : local.ctlr ≡ false
   pub cands : IsTrue (has_no_cand local)
+  pub line : IsTrue (is_none local.line)
 
 not_is : (b : Bool) → IsTrue (not b) → b ≡ false
 not_is true h = absurd (cc)
@@ -34,7 +35,8 @@ not_is false h = refl
 
 pub clear : (local : Local) → IsTrue (is_settled local) → IsClear local
 clear local h =
-    let ctlr = and_parts (owes_nothing local && not local.turn) (not local.ctlr) h in
+    let line = and_parts (owes_nothing local && not local.turn && not local.ctlr) (is_none local.line) h in
+    let ctlr = and_parts (owes_nothing local && not local.turn) (not local.ctlr) line.0 in
     let turn = and_parts (owes_nothing local) (not local.turn) ctlr.0 in
     let cands = and_parts (owes_no_kick local && owes_no_mark local) (has_no_cand local) turn.0 in
     let marks = and_parts (owes_no_kick local) (owes_no_mark local) cands.0 in
@@ -45,6 +47,7 @@ clear local h =
       turn = not_is local.turn turn.1;
       ctlr = not_is local.ctlr ctlr.1;
       cands = cands.1;
+      line = line.1;
     }
 
 pub not_taken : (seen : Seen) → IsPort seen → seen.local.turn ≡ false → seen.taken ≡ false
@@ -90,13 +93,13 @@ one_call seen part op event device events one =
     let made : MakesDevice false view op happened = one.makes view happened (one_made view event one.named (one.hands view)) in
     device_call seen part op None device beside refl refl (record { view = view; maps = refl; made = subst (MakesDevice false view op) (sym events) made; answers = refl })
 
--- a device that owes nothing any more, and has neither the ITS nor the mark of GICD_CTLR
-pub settled_of : (local : Local) → local.owes ≡ no_vcpus → IsTrue (owes_no_mark local) → IsTrue (has_no_cand local) → local.turn ≡ false → local.ctlr ≡ false → IsTrue (is_settled local)
-settled_of local owes marks cands turn ctlr =
-    all (owes_no_kick local) (owes_no_mark local) (has_no_cand local) local.turn local.ctlr (ap (λ set. set.0 == 0) owes) marks cands turn ctlr
+-- a device that owes nothing any more, has neither the ITS nor the mark of GICD_CTLR, and is in no line
+pub settled_of : (local : Local) → local.owes ≡ no_vcpus → IsTrue (owes_no_mark local) → IsTrue (has_no_cand local) → local.turn ≡ false → local.ctlr ≡ false → IsTrue (is_none local.line) → IsTrue (is_settled local)
+settled_of local owes marks cands turn ctlr line =
+    all (owes_no_kick local) (owes_no_mark local) (has_no_cand local) local.turn local.ctlr (is_none local.line) (ap (λ set. set.0 == 0) owes) marks cands turn ctlr line
   where
-    all : (a b c d e : Bool) → a ≡ true → b ≡ true → c ≡ true → d ≡ false → e ≡ false → (a && b && c && not d && not e) ≡ true
-    all a b c d e ha hb hc hd he = rw (ha, hb, hc, hd, he) refl
+    all : (a b c d e f : Bool) → a ≡ true → b ≡ true → c ≡ true → d ≡ false → e ≡ false → f ≡ true → (a && b && c && not d && not e && f) ≡ true
+    all a b c d e f ha hb hc hd he hf = rw (ha, hb, hc, hd, he, hf) refl
 
 -- a part after which the device has settled is its call, if it makes the call's events
 pub part_done : (old new : Seen) (op : DeviceOp) (part : List Made) → IsPort old → IsPort new → CanCall old → Adds old new part → MakesCall old part (Device op) None → IsPiece old part → (IsTrue (has_no_cand new.local) → IsTrue (is_settled new.local)) → new.taken ≡ false
@@ -128,7 +131,7 @@ change_made old new op step key event is_old is_new can one tells =
       form = form_clear (shape_of old) old.local.owes step key tells.part is.kicks tells.form;
       done =
           part_done old new op tells.part is_old is_new can tells.adds (one_call old tells.part op event can.device tells.events one) tells.piece
-          (λ cands. settled_of new.local (ap (λ l. l.owes) tells.local_is) (ap owes_no_mark tells.local_is) cands (ap (λ l. l.turn) tells.local_is ∙ is.turn) (ap (λ l. l.ctlr) tells.local_is ∙ is.ctlr))
+          (λ cands. settled_of new.local (ap (λ l. l.owes) tells.local_is) (ap owes_no_mark tells.local_is) cands (ap (λ l. l.turn) tells.local_is ∙ is.turn) (ap (λ l. l.ctlr) tells.local_is ∙ is.ctlr) (ap (λ l. is_none l.line) tells.local_is ∙ is.line))
           (ap (λ seen. seen.taken) tells.adds.new_is ∙ not_taken old is_old is.turn);
     }
 

@@ -30,6 +30,7 @@ pub record IsBusy (local : Local) : Type 0 where
   pub marks : IsTrue (owes_no_mark local)
   pub turn : local.turn ≡ true
   pub ctlr : local.ctlr ≡ false
+  pub line : IsTrue (is_none local.line)
 
 busy_as : (local other : Local) → other ≡ local → IsBusy local → IsBusy other
 busy_as local other e is = subst IsBusy (sym e) is
@@ -38,7 +39,7 @@ pub busy_taken : (old new : Seen) → CanCall old → TakesTurn old new → IsBu
 busy_taken old new can takes =
     let is = clear old.local can.settled in
     let with_turn : Local = record old.local { turn = true } in
-    busy_as with_turn new.local takes.local_is (record { kicks = is.kicks; marks = is.marks; turn = refl; ctlr = is.ctlr })
+    busy_as with_turn new.local takes.local_is (record { kicks = is.kicks; marks = is.marks; turn = refl; ctlr = is.ctlr; line = is.line })
 
 pub busy_read : (old new : Seen) (device event : ℕ) (id : Option ℕ) → IsBusy old.local → Translates old new device event id → IsBusy new.local
 busy_read old new device event id busy translates = busy_as old.local new.local translates.reads.local_is busy
@@ -46,7 +47,7 @@ busy_read old new device event id busy translates = busy_as old.local new.local 
 pub busy_told : (old new : Seen) (id : Option ℕ) → IsBusy old.local → TellsLpi old new id → IsBusy new.local
 busy_told old new None busy tells = busy_as old.local new.local (ap (λ seen. seen.local) tells) busy
 busy_told old new (Some id) busy tells =
-    record { kicks = ap (λ l. l.owes) tells.local_is; marks = ap owes_no_mark tells.local_is; turn = ap (λ l. l.turn) tells.local_is ∙ busy.turn; ctlr = ap (λ l. l.ctlr) tells.local_is ∙ busy.ctlr }
+    record { kicks = ap (λ l. l.owes) tells.local_is; marks = ap owes_no_mark tells.local_is; turn = ap (λ l. l.turn) tells.local_is ∙ busy.turn; ctlr = ap (λ l. l.ctlr) tells.local_is ∙ busy.ctlr; line = ap (λ l. is_none l.line) tells.local_is ∙ busy.line }
 
 -- The tables are at home.
 
@@ -247,6 +248,6 @@ msi_made old a b c new device event id is_old is_new can takes translates tells 
           };
       done =
           part_done old new (Msi device event) part is_old is_new can whole.adds call whole.piece
-          (λ cands. settled_of new.local (ap (λ l. l.owes) gives.local_is ∙ busy_c.kicks) (ap owes_no_mark gives.local_is ∙ busy_c.marks) cands (ap (λ l. l.turn) gives.local_is) (ap (λ l. l.ctlr) gives.local_is ∙ busy_c.ctlr))
+          (λ cands. settled_of new.local (ap (λ l. l.owes) gives.local_is ∙ busy_c.kicks) (ap owes_no_mark gives.local_is ∙ busy_c.marks) cands (ap (λ l. l.turn) gives.local_is) (ap (λ l. l.ctlr) gives.local_is ∙ busy_c.ctlr) (ap (λ l. is_none l.line) gives.local_is ∙ busy_c.line))
           (ap (λ seen. seen.taken) gives.adds.new_is ∙ home);
     }

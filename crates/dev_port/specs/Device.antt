@@ -11,7 +11,7 @@ use Rattle.port_call.specs.Tell.{TellsOf, Tells}
 use Rattle.port_call.specs.Turn.{is_miss}
 use Rattle.dev_port.specs.declared.wire.Wire.{Wire}
 
--- an actor can make a call of a device: it is one, owes nothing, and has neither the ITS nor the mark of GICD_CTLR
+-- an actor can make a call of a device: it is one, owes nothing, has neither the ITS nor the mark of GICD_CTLR, and is in no translation line
 pub record CanCall (seen : Seen) : Type 0 where
   pub device : is_vcpu (shape_of seen) seen.actor ≡ false
   pub settled : IsTrue (is_settled seen.local)

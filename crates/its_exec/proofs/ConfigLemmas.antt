@@ -10,7 +10,7 @@ use Rattle.port_call.specs.Calls.{place_of_plain, PlainWord, Ram, Propbaser, Pen
 use Rattle.port_call.specs.GicCall.declared.event.Event.TheVariants.{Read}
 use Rattle.port_call.specs.GicCall.declared.event.Found.TheVariants.{Word as FoundWord}
 use Rattle.port_call.specs.GicCall.declared.event.Place.TheVariants.{Word, Queue as QueuePlace, Ctlr as CtlrPlace, Lpis}
-use Rattle.port_call.specs.Core.{Made, Plain, place_of_word, Seen, Adds, shape_of, part_events}
+use Rattle.port_call.specs.Core.{has_all_shut, Made, Plain, place_of_word, Seen, Adds, shape_of, part_events}
 use Rattle.port_call.specs.Memory.{view_by}
 use Rattle.port_call.specs.Plain.{ReadsPlain}
 use Rattle.port_call.proofs.TurnLemmas.{events_then}
@@ -164,8 +164,8 @@ and_kept true false h k = absurd (cc)
 and_kept false b h k = absurd (cc)
 
 -- what the actor holds of the command, and what it has read, stays over a part that keeps it
-pub holds_on : (old new : Seen) (fetched : Fetched) (part : List Made) → Adds old new part → Keeps old new fetched.address part → HoldsCommand old fetched → HoldsCommand new fetched
-holds_on old new fetched part add keeps holds =
+pub holds_on : (old new : Seen) (fetched : Fetched) (part : List Made) → Adds old new part → new.local.shut ≡ old.local.shut → Keeps old new fetched.address part → HoldsCommand old fetched → HoldsCommand new fetched
+holds_on old new fetched part add shut keeps holds =
     let shape : shape_of new ≡ shape_of old = ap shape_of add.new_is in
     record {
       each = λ index at inside.
@@ -173,6 +173,7 @@ holds_on old new fetched part add keeps holds =
           let kept = keeps.each (Word (Ram index)) (and_kept (is_fetched fetched.address index) (nat_lt index ((shape_of old).ram / 8)) at (lt-ltb index ((shape_of old).ram / 8) there)) in
           let was = holds.each index at there in
           record { known = kept.same.known ∙ was.known; held = kept.same.held ∙ was.held });
+      lines = ap (λ set. has_all_shut (record old.local { shut = set })) shut ∙ holds.lines;
     }
 
 pub has_on : (old new : Seen) (address : ℕ) (part : List Made) (before : List Happened) → Adds old new part → Keeps old new address part → HasFetched old address before → HasFetched new address (before ++ part_events old part)
@@ -204,7 +205,7 @@ propbaser_keeps old mid address vcpu value there reads =
     record { each = λ place kept. plain_spares old mid (Propbaser vcpu) value place reads (propbaser_apart (shape_of old) address vcpu place there kept) }
 
 pub propbaser_holds : (old mid : Seen) (fetched : Fetched) (vcpu value : ℕ) → vcpu < (shape_of old).vcpus → ReadsPlain old mid (Propbaser vcpu) value → HoldsCommand old fetched → HoldsCommand mid fetched
-propbaser_holds old mid fetched vcpu value there reads holds = holds_on old mid fetched (reads.look ∷ []) reads.adds (propbaser_keeps old mid fetched.address vcpu value there reads) holds
+propbaser_holds old mid fetched vcpu value there reads holds = holds_on old mid fetched (reads.look ∷ []) reads.adds (ap (λ l. l.shut) reads.local_is) (propbaser_keeps old mid fetched.address vcpu value there reads) holds
 
 -- it was read
 propbaser_read : (old mid : Seen) (vcpu value : ℕ) (before : List Happened) → (reads : ReadsPlain old mid (Propbaser vcpu) value) → HasRead mid (Word (Propbaser vcpu)) (before ++ part_events old (reads.look ∷ []))

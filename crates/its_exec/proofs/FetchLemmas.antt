@@ -11,7 +11,7 @@ use Rattle.port_call.specs.Registers.{Part, part_of, is_within, extracted}
 use Rattle.port_call.specs.GicCall.declared.event.Event.TheVariants.{Read}
 use Rattle.port_call.specs.GicCall.declared.event.Found.TheVariants.{Word as FoundWord}
 use Rattle.port_call.specs.GicCall.declared.event.Place.TheVariants.{Word, Queue as QueuePlace}
-use Rattle.port_call.specs.Core.{Made, CoreStep, RamLook, WordId, Irq, Plain, is_on, ends_command, place_of_word, Seen, Adds, shape_of, part_events, word_of}
+use Rattle.port_call.specs.Core.{has_all_shut, Made, CoreStep, RamLook, WordId, Irq, Plain, is_on, ends_command, place_of_word, Seen, Adds, shape_of, part_events, word_of}
 use Rattle.port_call.specs.Memory.{view_by, read_as, memory_looks, ReadsMemory}
 use Rattle.port_call.specs.Piece.{steps_of, takes_none}
 use Rattle.port_call.specs.Plain.{ReadsPlain}
@@ -446,10 +446,10 @@ holds_at a b c new w k0 k1 k2 k3 n whole one two three z0 z1 z2 z3 small there =
     of (suc (suc (suc (suc n)))) small there wb wc eb ec en = absurd (omega (arith, small))
 
 pub fetched_holds :
-    (s a b c new : Seen) (address k0 k1 k2 k3 : ℕ) → (shape_of s).ram % 8 ≡ 0 → address % 8 ≡ 0 → ReadsMemory s a (address + 8 * 0) 8 k0 → ReadsMemory a b (address + 8 * 1) 8 k1 → ReadsMemory b c (address + 8 * 2) 8 k2
+    (s a b c new : Seen) (address k0 k1 k2 k3 : ℕ) → (shape_of s).ram % 8 ≡ 0 → IsTrue (has_all_shut s.local) → address % 8 ≡ 0 → ReadsMemory s a (address + 8 * 0) 8 k0 → ReadsMemory a b (address + 8 * 1) 8 k1 → ReadsMemory b c (address + 8 * 2) 8 k2
     → ReadsMemory c new (address + 8 * 3) 8 k3 → KnowsDoubleword a address 0 k0 → KnowsDoubleword b address 1 k1 → KnowsDoubleword c address 2 k2 → KnowsDoubleword new address 3 k3
     → HoldsCommand new (record { address = address; words = k0 ∷ k1 ∷ k2 ∷ k3 ∷ [] })
-fetched_holds s a b c new address k0 k1 k2 k3 whole even early one two three z0 z1 z2 z3 =
+fetched_holds s a b c new address k0 k1 k2 k3 whole shut even early one two three z0 z1 z2 z3 =
     let w = address / 8 in
     let same : address ≡ 8 * w = omega (arith, even) in
     let Reads : Seen → Seen → ℕ → ℕ → ℕ → Type 0 = λ x y n value from. ReadsMemory x y (from + 8 * n) 8 value in
@@ -465,6 +465,7 @@ fetched_holds s a b c new address k0 k1 k2 k3 whole even early one two three z0 
           let e : w + (index - w) ≡ index = omega (arith, low) in
           let At : ℕ → Type 0 = λ i. Knows new (Word (Ram i)) (FoundWord (slice_index (k0 ∷ k1 ∷ k2 ∷ k3 ∷ []) (index - w))) in
           subst At e (holds_at a b c new w k0 k1 k2 k3 (index - w) ra r1 r2 r3 z0 z1 z2 z3 (omega (arith, low, high)) (omega (arith, e, inside))));
+      lines = ap has_all_shut three.local_is ∙ ap has_all_shut two.local_is ∙ ap has_all_shut one.local_is ∙ ap has_all_shut early.local_is ∙ shut;
     }
 
 pub address_even : (cbaser offset address : ℕ) → offset % 32 ≡ 0 → address ≡ queue_address cbaser + offset → address % 8 ≡ 0

@@ -89,7 +89,7 @@ forgetting_more old now next fetched was maps new device event whole found is do
       sound = subst Sound (sym is) (sound-without_event maps (device, event) so.sound);
       lpis = subst Lpis (sym is) (subst Shaped (sym same_next) (lpis_without (shape_of now) maps (device, event) so.sound so.lpis));
       ease = ease_after now.local next.local does.does.local_is so.ease;
-      holds = holds_on now next fetched does.does.steps does.does.adds does.does.keeps so.holds;
+      holds = holds_on now next fetched does.does.steps does.does.adds (ap (λ l. l.shut) does.does.local_is.same) does.does.keeps so.holds;
       does = λ known command are.
           (let early = so.does known command are in
           let Ends : GuestShape → Type 0 = λ shape. DoesParts now next fetched.address known command (lpis_end shape) (Forget id ∷ []) in

@@ -16,6 +16,7 @@ pub mod ForgetLemmas
 pub mod SweepLemmas
 pub mod PlanLemmas
 pub mod PlainLemmas
+pub mod ShutLemmas
 pub mod QueueLemmas
 pub mod TakeLemmas
 pub mod RunLemmas

@@ -449,7 +449,7 @@ configuring_by byte enabled prio e p = ap (λ b. ConfigureLpi b prio) e ∙ ap (
 
 -- the command is held over the look
 pub look_holds : (old mid : Seen) (fetched : Fetched) (id : ℕ) (target : Option ℕ) → IsTrue (has_interrupt (shape_of old) (Lpi id)) → LooksAtTarget old mid id target → HoldsCommand old fetched → HoldsCommand mid fetched
-look_holds old mid fetched id target there looks holds = holds_on old mid fetched (looks.look ∷ []) looks.adds (prefix_look old mid fetched.address id target there looks).keeps holds
+look_holds old mid fetched id target there looks holds = holds_on old mid fetched (looks.look ∷ []) looks.adds (ap (λ l. l.shut) looks.local_is) (prefix_look old mid fetched.address id target there looks).keeps holds
 
 -- MAPD, DISCARD, and an event that is mapped again
 pub forgotten : (old new : Seen) (address id found : ℕ) → IsTrue (has_interrupt (shape_of old) (Lpi id)) → Touches old new (Lpi id) ForgetLpi found → DoesPart old new address (Forget id)

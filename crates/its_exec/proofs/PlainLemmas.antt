@@ -93,7 +93,7 @@ some_ease old new address (Some part) does ease = ease_after old.local new.local
 
 pub some_holds : (old new : Seen) (fetched : Fetched) (part : Option Part) → DoesSome old new fetched.address part → HoldsCommand old fetched → HoldsCommand new fetched
 some_holds old new fetched None does holds = let At : Seen → Type 0 = λ seen. HoldsCommand seen fetched in subst At (sym does) holds
-some_holds old new fetched (Some part) does holds = holds_on old new fetched does.steps does.adds does.keeps holds
+some_holds old new fetched (Some part) does holds = holds_on old new fetched does.steps does.adds (ap (λ l. l.shut) does.local_is.same) does.keeps holds
 
 -- the part that goes by the word as the command found it is the only one
 untouched_event : (old : Seen) (maps : Maps) (event : ℕ × ℕ) → IsFresh old → IfSome (option_map Configure (id_of maps event)) (λ part. IsTrue (is_part_of (shape_of old) part)) → IfSome (option_map Configure (id_of maps event)) (GoesFirst old)

@@ -16,7 +16,7 @@ use Rattle.port_call.specs.ItsCmd.Command.{decoded}
 use Rattle.port_call.specs.GicCall.declared.event.Found.TheVariants.{Queue as FoundQueue}
 use Rattle.port_call.proofs.GicCall.ReadLemmas.{all_early, all_late}
 use Rattle.port_call.proofs.ItsTab.CarryLemmas.{kept_now}
-use Rattle.port_call.specs.Core.{Made, Local, CoreStep, RamLook, RamPut, CommandDone, reading_of, WordId, Irq, Plain, Queue, local_after, succeeds, fault_place, known_fault, is_known, is_on, known, known_maps, last_made, no_maps, maps_by_step, maps_after as maps_after_made, since_turn, since_command, ends_command, owes_no_kick, place_of_word, is_taking, word_of, Seen, IsPort, CanMake, made_by, shape_of}
+use Rattle.port_call.specs.Core.{Made, Local, CoreStep, RamLook, RamPut, CommandDone, reading_of, WordId, Irq, Plain, Queue, local_after, succeeds, fault_place, has_all_shut, known_fault, is_known, is_on, known, known_maps, last_made, no_maps, maps_by_step, maps_after as maps_after_made, since_turn, since_command, ends_command, owes_no_kick, place_of_word, is_taking, word_of, Seen, IsPort, CanMake, made_by, shape_of}
 use Rattle.port_call.proofs.PortCore.StepWords.{queue_back}
 use Rattle.port_call.specs.Piece.{takes_none}
 use Rattle.port_call.specs.Store.{MayStore, Stores, is_store_step, is_store_miss, stores_not}
@@ -157,6 +157,7 @@ can_end seen queue fetched offset port taken ease next good is place =
           record {
             turn = port.turn taken;
             kicks = ap (λ set. set.0 == 0) (owes_none seen.local ease.owes).kicks;
+            lines = next.holds.lines;
             queue =
                 record {
                   fetched = all_known seen queue fetched port.good.sound.shape.ram_words next;
@@ -221,13 +222,17 @@ pub can_store : (seen : Seen) (queue : KnownQueue) → IsPort seen → IsTrue se
 can_store seen queue port taken knows runs =
     let word = unwrap_or (known (shape_of seen) seen.actor (since_turn seen.own) Queue) 0 in
     record {
-      turn = port.turn taken;
-      runs =
+      fault =
           record {
-            word = word;
-            known_as = known_in (shape_of seen) seen.actor seen.own Queue word (some_there (known (shape_of seen) seen.actor (since_turn seen.own) Queue) knows.place.known);
-            runs = stalled_held seen queue.offset queue.stalled knows.place ∙ runs;
+            turn = port.turn taken;
+            runs =
+                record {
+                  word = word;
+                  known_as = known_in (shape_of seen) seen.actor seen.own Queue word (some_there (known (shape_of seen) seen.actor (since_turn seen.own) Queue) knows.place.known);
+                  runs = stalled_held seen queue.offset queue.stalled knows.place ∙ runs;
+                };
           };
+      lines = λ e. absurd (cc);
     }
 
 -- The store leaves what is known of the queue and of the command.
@@ -345,6 +350,7 @@ stored_bad old mid queue fault whole stores has =
                   each = λ index at inside.
                       (let there : index < (shape_of old).ram / 8 = omega (arith, inside, ap (λ shape. shape.ram / 8) same) in
                       knows_on old mid (Word (Ram index)) _ (stored_leaves_ram old mid fault index there stores) (has.next.holds.each index at there));
+                  lines = ap has_all_shut stores.local_is ∙ has.next.holds.lines;
                 };
             address_is = has.next.address_is;
             words_are =
@@ -394,6 +400,7 @@ can_stall old mid queue fault opened port taken ease has stores =
           record {
             turn = port.turn taken_now;
             kicks = subst Kick (sym stores.local_is) (ap (λ set. set.0 == 0) (owes_none old.local ease.owes).kicks);
+            lines = now.next.holds.lines;
             queue = (
               record {
                 fetched = all_known mid queue now.fetched port.good.sound.shape.ram_words now.next;
@@ -487,6 +494,15 @@ ended_ease old new offset stalled done ease makes =
     of true = refl
     of false = refl
 
+pub ended_lines : (old new : Seen) (offset : ℕ) (stalled : Bool) (done : Option (List ℕ)) → IsTrue (has_all_shut old.local) → MakesStep old new (CommandDone offset stalled done) → IsTrue (has_all_shut new.local)
+ended_lines old new offset stalled done lines makes =
+    let step = CommandDone offset stalled done in
+    ap has_all_shut (ended_local old new step makes ∙ of (succeeds (shape_of old) old.actor old.local step makes.found)) ∙ lines
+  where
+    of : (b : Bool) → (if b then old.local else old.local) ≡ old.local
+    of true = refl
+    of false = refl
+
 ended_maps : (old new : Seen) (step : CoreStep) → is_taking step ≡ false → (makes : MakesStep old new step) → known_maps new.own ≡ maps_by_step (known_maps old.own) step
 ended_maps old new step untaking makes =
     let made = made_by old step makes.found makes.adds.tables in
@@ -506,6 +522,7 @@ stalled_ready old new shape tables queue fault ready stalls =
       shape_is = ready.shape_is ∙ sym (ap shape_of stalls.ends.adds.adds.new_is ∙ ap shape_of stores.adds.new_is);
       taken = ap (λ seen. seen.taken) stalls.ends.adds.adds.new_is ∙ ap (λ seen. seen.taken) stores.adds.new_is ∙ ready.taken;
       ease = ended_ease mid new queue.offset true None (subst IsAtEase (sym stores.local_is) ready.ease) stalls.ends;
+      lines = ended_lines mid new queue.offset true None (ap has_all_shut stores.local_is ∙ ready.lines) stalls.ends;
       maps = ready.maps ∙ sym (ended_maps mid new step refl stalls.ends ∙ maps_on old mid (stores.misses ++ stores.last ∷ []) stores.adds (stored_within old mid FaultWord fault stores));
       valid = ready.valid;
       fresh = ended_fresh mid new step refl refl (stored_reading old mid FaultWord fault stores ready.fresh.reading) stalls.ends;
@@ -514,12 +531,12 @@ stalled_ready old new shape tables queue fault ready stalls =
 
 -- The queue is moved.
 
-pub can_move : (seen : Seen) (offset : ℕ) → IsPort seen → IsTrue seen.local.turn → IsAtEase seen.local → IsOffset offset → CanMake seen (CommandDone offset false None)
-can_move seen offset port turn ease place =
+pub can_move : (seen : Seen) (offset : ℕ) → IsPort seen → IsTrue seen.local.turn → IsAtEase seen.local → IsTrue (has_all_shut seen.local) → IsOffset offset → CanMake seen (CommandDone offset false None)
+can_move seen offset port turn ease lines place =
     record {
       can = (place, tt);
       seen_is = tt;
-      meets = record { turn = turn; kicks = ap (λ set. set.0 == 0) (owes_none seen.local ease.owes).kicks; queue = tt };
+      meets = record { turn = turn; kicks = ap (λ set. set.0 == 0) (owes_none seen.local ease.owes).kicks; lines = lines; queue = tt };
       tables = either seen.taken;
     }
   where
@@ -557,6 +574,7 @@ moved_ready old new shape tables queue offset place ready makes =
       shape_is = ready.shape_is ∙ sym same;
       taken = ap (λ seen. seen.taken) makes.adds.adds.new_is ∙ ready.taken;
       ease = ended_ease old new offset false None ready.ease makes;
+      lines = ended_lines old new offset false None ready.lines makes;
       maps = ready.maps ∙ sym (maps_on old new (made ∷ []) makes.adds.adds within);
       valid = ready.valid;
       fresh = record { reading = still_reading old new (made ∷ []) makes.adds.adds refl ready.fresh.reading; each = λ id there. (let was = subst (There id) same there in untouched_on old new (made ∷ []) id makes.adds.adds within (off_one (shape_of old) old.actor (Irq (Lpi id)) made step refl (queue_lpi_apart (shape_of old) id was)) (ready.fresh.each id was)) };
@@ -573,6 +591,7 @@ fetched_ready old mid shape tables queue fetched ready fetches =
       shape_is = ready.shape_is ∙ sym same;
       taken = ap (λ seen. seen.taken) reading.adds.new_is ∙ ready.taken;
       ease = subst IsAtEase (sym reading.local) ready.ease;
+      lines = ap has_all_shut reading.local ∙ ready.lines;
       maps = ready.maps ∙ sym (maps_on old mid fetches.part reading.adds reading.within);
       valid = ready.valid;
       fresh = record { reading = going_reading old mid fetches.part reading.adds reading.going ready.fresh.reading; each = λ id there. (let was = subst (There id) same there in reading.untouched id was (ready.fresh.each id was)) };
@@ -619,7 +638,7 @@ done_next mid done queue fetched maps command whole next does =
             cwriter = on (Word Cwriter) _ refl next.knows.cwriter;
             in_range = next.knows.in_range;
           };
-      holds = holds_on mid done fetched all.steps all.adds all.keeps next.holds;
+      holds = holds_on mid done fetched all.steps all.adds (ap (λ l. l.shut) all.local_is.same) all.keeps next.holds;
       address_is = next.address_is;
       words_are =
           next.words_are
@@ -657,6 +676,7 @@ finished_ready mid done new shape tables left queue offset fetched command resul
       shape_is = ready.shape_is ∙ sym (ap shape_of makes.adds.adds.new_is ∙ ap shape_of all.adds.new_is);
       taken = ap (λ seen. seen.taken) makes.adds.adds.new_is ∙ done_taken mid done fetched.address tables command does ready.taken;
       ease = ended_ease done new offset false (Some fetched.words) (done_ease mid done fetched.address tables command does ready.ease) makes;
+      lines = ended_lines done new offset false (Some fetched.words) now.holds.lines makes;
       maps = is ∙ ap (maps_by tables) (sym (sym value ∙ ok)) ∙ sym (ended_maps done new step refl makes ∙ ap (λ maps. maps_by maps (decoded fetched.words)) kept);
       valid = kept_now shape tables left command good is ready.valid;
       fresh = ended_fresh done new step refl refl (going_reading mid done all.steps all.adds all.going ready.fresh.reading) makes;
@@ -667,9 +687,9 @@ pub ready_shape : (seen : Seen) (shape : GuestShape) (tables : Maps) (queue : Kn
 ready_shape seen shape tables queue port ready = subst IsShape (sym ready.shape_is) port.good.sound.shape
 
 -- the looks at the queue only read
-pub looked_ready : (old new : Seen) (shape : GuestShape) (tables : Maps) (queue : KnownQueue) → shape ≡ shape_of old → IsTrue old.taken → IsAtEase old.local → tables ≡ known_maps old.own → IsValid shape tables → IsFresh old → LooksAtQueue old new queue
-    → IsReady new shape tables queue
-looked_ready old new shape tables queue is taken ease maps valid fresh looks =
+pub looked_ready : (old new : Seen) (shape : GuestShape) (tables : Maps) (queue : KnownQueue) → shape ≡ shape_of old → IsTrue old.taken → IsAtEase old.local → IsTrue (has_all_shut old.local) → tables ≡ known_maps old.own → IsValid shape tables → IsFresh old
+    → LooksAtQueue old new queue → IsReady new shape tables queue
+looked_ready old new shape tables queue is taken ease lines maps valid fresh looks =
     let reading = looks.reading in
     let same : shape_of new ≡ shape_of old = ap shape_of reading.adds.new_is in
     let There : ℕ → GuestShape → Type 0 = λ id shape. IsTrue (has_interrupt shape (Lpi id)) in
@@ -677,6 +697,7 @@ looked_ready old new shape tables queue is taken ease maps valid fresh looks =
       shape_is = is ∙ sym same;
       taken = ap (λ seen. seen.taken) reading.adds.new_is ∙ taken;
       ease = subst IsAtEase (sym reading.local) ease;
+      lines = ap has_all_shut reading.local ∙ lines;
       maps = maps ∙ sym (maps_on old new looks.part reading.adds reading.within);
       valid = valid;
       fresh = record { reading = going_reading old new looks.part reading.adds reading.going fresh.reading; each = λ id there. (let was = subst (There id) same there in reading.untouched id was (fresh.each id was)) };

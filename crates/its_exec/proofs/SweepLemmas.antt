@@ -138,7 +138,7 @@ pub picked_ease : (old mid : Seen) (maps : Maps) (command : Command) (id : ℕ) 
 picked_ease old mid maps command id part picks ease = subst IsAtEase (sym (picks.before 0).local) ease
 
 pub picked_holds : (old mid : Seen) (fetched : Fetched) (maps : Maps) (command : Command) (id : ℕ) (part : Option Part) → Picks old mid maps command id part → HoldsCommand old fetched → HoldsCommand mid fetched
-picked_holds old mid fetched maps command id part picks holds = let before = picks.before fetched.address in holds_on old mid fetched picks.steps before.adds before.keeps holds
+picked_holds old mid fetched maps command id part picks holds = let before = picks.before fetched.address in holds_on old mid fetched picks.steps before.adds (ap (λ l. l.shut) before.local) before.keeps holds
 
 pub picks_as : (old mid : Seen) (maps : Maps) (command other : Command) (id : ℕ) (part : Option Part) → command ≡ other → Picks old mid maps other id part → Picks old mid maps command id part
 picks_as old mid maps command other id part e picks = let For : Command → Type 0 = λ command. Picks old mid maps command id part in subst For (sym e) picks
@@ -343,7 +343,7 @@ some_step mid next address id (Some part) ease goes does =
       within = does.within;
       ease = ease_after mid.local next.local does.local_is ease;
       untouched = λ other there differ is. does.untouched other there (λ e. differ (e ∙ goes.1)) is;
-      holds = λ fetched e holds. (let Kept : ℕ → Type 0 = λ a. Keeps mid next a does.steps in holds_on mid next fetched does.steps does.adds (subst Kept (sym e) does.keeps) holds);
+      holds = λ fetched e holds. (let Kept : ℕ → Type 0 = λ a. Keeps mid next a does.steps in holds_on mid next fetched does.steps does.adds (ap (λ l. l.shut) does.local_is.same) (subst Kept (sym e) does.keeps) holds);
     }
 
 goes_as : (now mid : Seen) (id : ℕ) (part : Option Part) → shape_of mid ≡ shape_of now → IfSome part (λ part. IsTrue (is_part_of (shape_of now) part) × (lpi_of part ≡ id) × GoesFirst mid part)

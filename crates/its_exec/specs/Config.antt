@@ -7,7 +7,7 @@ use Rattle.port_call.specs.Calls.{Ram, Propbaser, Pendbaser, Place, config_byte,
 use Rattle.port_call.specs.GicCall.declared.event.Event.TheVariants.{Read}
 use Rattle.port_call.specs.GicCall.declared.event.Found.TheVariants.{Word as FoundWord}
 use Rattle.port_call.specs.GicCall.declared.event.Place.TheVariants.{Word, Queue as QueuePlace, Ctlr as CtlrPlace, Lpis}
-use Rattle.port_call.specs.Core.{Made, Seen, shape_of, part_events}
+use Rattle.port_call.specs.Core.{Made, has_all_shut, Seen, shape_of, part_events}
 use Rattle.port_call.specs.Memory.{view_by}
 use Rattle.its_exec.specs.declared.fetch.Fetched.{Fetched}
 use Rattle.its_exec.specs.Known.{Knows, KnowsSame, HasRead, HasFetched, Reading, is_fetched}
@@ -35,11 +35,12 @@ pub record Spares (old new : Seen) (part : List Made) (place : Place) : Type 0 w
 pub record Keeps (old new : Seen) (address : ℕ) (part : List Made) : Type 0 where
   pub each : (place : Place) → IsTrue (is_kept (shape_of old) address place) → Spares old new part place
 
--- the actor knows the doublewords of the command that are in the memory as it fetched them
+-- the actor knows the doublewords of the command that are in the memory as it fetched them, and all translation lines to be shut
 pub record HoldsCommand (seen : Seen) (fetched : Fetched) : Type 0 where
   pub each :
       (index : ℕ) → IsTrue (is_fetched fetched.address index) → index < (shape_of seen).ram / 8
       → Knows seen (Word (Ram index)) (FoundWord (slice_index fetched.words (index - fetched.address / 8)))
+  pub lines : IsTrue (has_all_shut seen.local)
 
 -- the actor has a word of the memory: as it was fetched with the command, or by a look
 pub record ReadsWord (old new : Seen) (fetched : Fetched) (index word : ℕ) : Type 0 where

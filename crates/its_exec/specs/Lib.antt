@@ -17,4 +17,5 @@ pub mod Command
 pub mod Plan
 pub mod Sweep
 pub mod Queue
+pub mod Shut
 pub mod Run

@@ -6,7 +6,7 @@ use Rattle.port_call.specs.GicCall.declared.event.Event.TheVariants.{Queue as Qu
 use Rattle.port_call.specs.GicCall.declared.event.Found.TheVariants.{Nothing}
 use Rattle.port_call.specs.Registers.{fault_number, IsValid, Maps}
 use Rattle.port_call.specs.ItsCmd.Command.{decoded}
-use Rattle.port_call.specs.Core.{CoreStep, RamLook, CommandDone, fault_place, known_maps, ends_command, Made, Seen, Adds, AddsStep, shape_of, part_events, Progress}
+use Rattle.port_call.specs.Core.{CoreStep, RamLook, CommandDone, fault_place, has_all_shut, known_maps, ends_command, Made, Seen, Adds, AddsStep, shape_of, part_events, Progress}
 use Rattle.port_call.specs.Piece.{IsIdle, IsGoodPiece, IsRestedPiece}
 use Rattle.its_exec.specs.Command.{IsItsWrite}
 use Rattle.port_call.specs.Memory.{view_by}
@@ -20,20 +20,22 @@ use Rattle.its_exec.specs.declared.queue.QueueEnd.TheVariants.{Empty, Stalled}
 use Rattle.its_exec.specs.Known.{KnowsQueue, AgreeWith, are_within, takes_next}
 use Rattle.its_exec.specs.Plan.{IsFresh}
 
--- the actor has the ITS with these tables, and is where a command begins
+-- the actor has the ITS with these tables, knows all translation lines to be shut, and is where a command begins
 pub record IsReady (seen : Seen) (shape : GuestShape) (tables : Maps) (queue : KnownQueue) : Type 0 where
   pub shape_is : shape ≡ shape_of seen
   pub taken : IsTrue seen.taken
   pub ease : IsAtEase seen.local
+  pub lines : IsTrue (has_all_shut seen.local)
   pub maps : tables ≡ known_maps seen.own
   pub valid : IsValid shape tables
   pub fresh : IsFresh seen
   pub knows : KnowsQueue seen queue
 
--- the actor has the ITS with these tables, and owes nothing
+-- the actor has the ITS with these tables, knows all translation lines to be shut, and owes nothing
 pub record HasIts (seen : Seen) (tables : Maps) : Type 0 where
   pub taken : IsTrue seen.taken
   pub ease : IsAtEase seen.local
+  pub lines : IsTrue (has_all_shut seen.local)
   pub maps : tables ≡ known_maps seen.own
   pub valid : IsValid (shape_of seen) tables
 

@@ -1,5 +1,6 @@
 //! A command is fetched from the guest's memory.
-ghost use Rattle.std.specs.Prelude.{◌≡◌, ◌<◌, ◌≤◌, ◌+◌, ◌-◌, ◌*◌, ◌/◌, ◌%◌, ◌^◌, if◌then◌else◌, Some, None, slice_index};
+ghost use Rattle.std.specs.Prelude.{◌≡◌, ◌<◌, ◌≤◌, ◌+◌, ◌-◌, ◌*◌, ◌/◌, ◌%◌, ◌^◌, if◌then◌else◌, IsTrue, Some, None, slice_index};
+ghost use Rattle.port_call.specs.Core.{has_all_shut};
 ghost use Rattle.port_call.specs.Memory.{ReadsMemory};
 ghost use Rattle.its_exec.specs.Config.{HoldsCommand};
 ghost use Rattle.its_exec.specs.Known.{KnowsQueue, KnowsDoubleword, Fetches, is_fetched};
@@ -37,7 +38,8 @@ fn doubleword<P: Port>(port: &mut P, address: u64, number: u32) -> u64
 
 /// Looks at the doublewords of the next command; what is outside of the memory reads 0.
 pub(crate) fn fetch<P: Port>(port: &mut P, queue: &KnownQueue) -> Fetched
-    requires { KnowsQueue (P.seen port.old) queue.now }
+    requires knows { KnowsQueue (P.seen port.old) queue.now }
+    requires lines { IsTrue (has_all_shut (P.seen port.old).local) }
     ensures fetches { Fetches (P.seen port.old) (P.seen port.new) queue.now result }
     ensures holds { HoldsCommand (P.seen port.new) result }
 {

@@ -7,6 +7,7 @@ mod faults;
 mod fetch;
 mod known;
 mod laws;
+mod lines;
 mod part;
 mod queue;
 mod sweep;
@@ -14,6 +15,7 @@ mod sweep;
 pub use faults::check;
 pub use known::{KnownQueue, look_at_queue};
 pub use laws::taken_are_runs;
+pub use lines::shut;
 pub use port_call::{
     CallTouching as Touching, CmdFault, CoreStep, CtlrWord, DistReg, DistRegRef, Enables,
     FIRST_LPI, Frame, GuestShape, Half, IIDR, Irq, ItsReg, ItsRegRef, ItsTables, Key, Kind,

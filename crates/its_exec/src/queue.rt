@@ -3,7 +3,7 @@ ghost use Rattle.std.specs.Prelude.{◌≡◌, IsTrue, None, Some, true, false};
 ghost use Rattle.port_call.specs.Registers.{queue_bytes as bytes_of, advanced, fault_number, IsValid, Maps};
 ghost use Rattle.port_call.specs.Calls.{IsOffset};
 ghost use Rattle.port_call.specs.ItsCmd.Command.{decoded};
-ghost use Rattle.port_call.specs.Core.{CommandDone, known_maps, shape_of};
+ghost use Rattle.port_call.specs.Core.{CommandDone, has_all_shut, known_maps, shape_of};
 ghost use Rattle.port_call.specs.Rest.{IsAtEase};
 ghost use Rattle.its_exec.specs.Queue.{HoldsNext, HasBad, MakesStep, StallsAt, IsReady, HasIts, MovesQueue, LooksAtFault, TellsFault, EndsAt, IsOverWith, TakesCommand};
 ghost use Rattle.its_exec.specs.Run.{RunsQueue};
@@ -128,11 +128,12 @@ fn end_of<P: Port>(port: &mut P, queue: &KnownQueue, fault: Option<u8>) -> Queue
 }
 
 /// Moves the queue to an offset, a multiple of 32 below 1048576, and ends its stall, as a write of GITS_CBASER does, or one of
-/// GITS_CWRITER with Retry. The actor has the ITS, and owes nothing.
+/// GITS_CWRITER with Retry. The actor has the ITS, knows all translation lines to be shut, and owes nothing.
 pub fn move_queue<P: Port>(port: &mut P, queue: &mut KnownQueue, offset: u32)
     requires place { IsOffset offset }
     requires turn { IsTrue (P.seen port.old).local.turn }
     requires ease { IsAtEase (P.seen port.old).local }
+    requires lines { IsTrue (has_all_shut (P.seen port.old).local) }
     ensures queue { queue.new ≡ record queue.old { offset = offset; stalled = false } }
     ensures moves { MovesQueue (P.seen port.old) (P.seen port.new) offset }
     ensures ready { (shape : GuestShape) (tables : Maps) → IsReady (P.seen port.old) shape tables queue.old → IsReady (P.seen port.new) shape tables queue.new }
@@ -147,7 +148,7 @@ pub fn move_queue<P: Port>(port: &mut P, queue: &mut KnownQueue, offset: u32)
 }
 
 /// Takes commands, one after the other, until no further one is taken, from a queue that is known. The actor has the ITS
-/// with these tables, owes nothing, and is where a command begins.
+/// with these tables, knows all translation lines to be shut, owes nothing, and is where a command begins.
 pub fn run_commands<P: Port, R: Wait>(
     rt: &R,
     port: &mut P,
@@ -171,7 +172,8 @@ pub fn run_commands<P: Port, R: Wait>(
 }
 
 /// Looks at the queue of the ITS, and takes commands until no further one is taken. `Empty` comes exactly where the queue is
-/// not stalled then, `Stalled` exactly where it is. The actor has the ITS with these tables, and owes nothing.
+/// not stalled then, `Stalled` exactly where it is. The actor has the ITS with these tables, knows all translation lines to
+/// be shut, and owes nothing.
 pub fn run_queue<P: Port, R: Wait>(
     rt: &R,
     port: &mut P,
@@ -181,6 +183,7 @@ pub fn run_queue<P: Port, R: Wait>(
     requires shape { shape.now ≡ shape_of (P.seen port.old) }
     requires taken { IsTrue (P.seen port.old).taken }
     requires ease { IsAtEase (P.seen port.old).local }
+    requires lines { IsTrue (has_all_shut (P.seen port.old).local) }
     requires known { tables.old ≡ known_maps (P.seen port.old).own }
     requires valid { IsValid shape.now tables.old }
     requires fresh { IsFresh (P.seen port.old) }

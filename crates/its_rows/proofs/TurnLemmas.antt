@@ -8,11 +8,18 @@ use Rattle.dev_port.specs.Core.{Made, Irq, known_maps, is_on, read_after, readin
 use Rattle.dev_port.specs.PortCall.Turn.{TakesTurn}
 use Rattle.dev_port.proofs.PortCall.KnownLemmas.{maps_handed}
 use Rattle.pe_op.specs.ItsExec.Plan.{IsFresh}
+use Rattle.pe_op.specs.ItsExec.Shut.{ShutsAll}
+use Rattle.pe_op.proofs.ItsExec.FrameLemmas.{maps_on}
+use Rattle.pe_op.proofs.ItsExec.ShutLemmas.{shut_fresh, shut_within}
 
 pub turn_valid : (old new : Seen) (shape : GuestShape) (tables : Maps) → shape ≡ shape_of old → TakesTurn old new → tables ≡ known_maps new.own → IsValid shape tables
 turn_valid old new shape tables is takes e =
     let known : known_maps new.own ≡ takes.maps = ap (λ seen. known_maps seen.own) takes.adds.new_is ∙ maps_handed old.own takes.misses takes.last takes.maps takes.handed in
     subst (λ shape. IsValid shape tables) (sym is) (subst (IsValid (shape_of old)) (sym (e ∙ known)) takes.valid)
+
+-- so it is once all lines are shut
+pub shut_valid : (old mid new : Seen) (shape : GuestShape) (tables : Maps) → shape ≡ shape_of old → TakesTurn old mid → ShutsAll mid new → tables ≡ known_maps new.own → IsValid shape tables
+shut_valid old mid new shape tables is takes shuts e = turn_valid old mid shape tables is takes (e ∙ maps_on mid new shuts.on.part shuts.on.adds (shut_within mid new shuts.on))
 
 command_by : List Made → Made → List Made
 command_by kept made = if is_some made.tables || ends_command made.step then [] else kept ++ made ∷ []
@@ -46,3 +53,6 @@ turn_fresh old new takes =
 -- which tables it took is no matter
 pub fresh_same : (one other : Seen) → other ≡ record one { taken = other.taken } → IsFresh one → IsFresh other
 fresh_same one other e fresh = subst IsFresh (sym e) (record { reading = fresh.reading; each = λ id there. record { none = (fresh.each id there).none } })
+
+pub shut_fresh_so : (old mid new other : Seen) → TakesTurn old mid → ShutsAll mid new → other ≡ record new { taken = other.taken } → IsFresh other
+shut_fresh_so old mid new other takes shuts e = fresh_same new other e (shut_fresh mid new shuts.on (turn_fresh old mid takes))

@@ -5,7 +5,7 @@ use crate::guest::{
     SECOND_PLACE, SHAPE, TABLE, address_of_place, lpi_state, map_event, open_guest, queue_state,
 };
 use dev_port::{Port, give_turn, put_plain, take_turn};
-use pe_op::{QueueEnd, look_at_queue, move_queue, run_commands, run_queue};
+use pe_op::{QueueEnd, look_at_queue, move_queue, run_commands, run_queue, shut};
 use port_rest::{
     CLEAR, DEVICE_ID, DISCARD, EVENT_ID, INT, INV, LPI, MAP_LPI, MAPC, MOVI, OTHER_MAPC, SYNC,
     command_words, is_at_ease,
@@ -65,12 +65,22 @@ fn put<P: Port, R: Wait>(rt: &R, port: &mut P, word: PlainWord, value: u64) {
         return;
     }
     match word {
-        PlainWord::Propbaser { vcpu: 0 | 1 }
-        | PlainWord::Cbaser
-        | PlainWord::Cwriter
-        | PlainWord::ItsCtlr => put_plain(rt, port, word, value),
+        PlainWord::Propbaser { vcpu: 0 | 1 } | PlainWord::Cbaser | PlainWord::Cwriter => {
+            put_plain(rt, port, word, value);
+        }
         _ => {}
     }
+}
+
+/// Stores GITS_CTLR, while all translation lines are shut.
+fn put_control<P: Port, R: Wait>(rt: &R, port: &mut P, value: u64) {
+    if port.shape() != SHAPE {
+        return;
+    }
+    take_turn(rt, port);
+    shut(rt, port);
+    put_plain(rt, port, PlainWord::ItsCtlr, value);
+    give_turn(port);
 }
 
 /// Stores eight bytes of memory.
@@ -108,6 +118,7 @@ fn run<P: Port, R: Wait>(rt: &R, port: &mut P) -> Option<QueueEnd> {
         return None;
     }
     take_turn(rt, port);
+    shut(rt, port);
     let mut tables = port.take_tables();
     let end = run_queue(rt, port, &mut tables, &SHAPE);
     port.put_tables(tables);
@@ -121,6 +132,7 @@ fn retry<P: Port, R: Wait>(rt: &R, port: &mut P) -> Option<QueueEnd> {
         return None;
     }
     take_turn(rt, port);
+    shut(rt, port);
     let mut tables = port.take_tables();
     let mut queue = look_at_queue(port);
     let offset = queue.offset;
@@ -136,7 +148,7 @@ fn set_up<P: Port, R: Wait>(rt: &R, port: &mut P) {
     put(rt, port, PlainWord::Propbaser { vcpu: 0 }, PROPBASER);
     put(rt, port, PlainWord::Propbaser { vcpu: 1 }, PROPBASER);
     put(rt, port, PlainWord::Cbaser, CBASER);
-    put(rt, port, PlainWord::ItsCtlr, 1);
+    put_control(rt, port, 1);
     poke(rt, port, TABLE, CONFIG);
     write_commands(rt, port, 0, MAP_LPI.as_slice());
 }

@@ -2,14 +2,14 @@
 use Rattle.std.proofs.Common.{◌≡◌, ℕ, ◌<◌, is_some, List, [], ◌∷◌, map, get_or, All, Some, refl, sym, ap, ◌∙◌, arith}
 use Rattle.std.proofs.lemmas.List.Elements.{All-head, All-tail, All-get_or, All-from_get_or}
 use Rattle.std.proofs.lemmas.Simd.{map-map}
-use Rattle.floor_core.specs.Words.{GuestShape, irq_of}
-use Rattle.floor_core.specs.GicWord.declared.record.Group.{Group}
-use Rattle.floor_core.specs.Registers.{AtInterface}
-use Rattle.floor_core.specs.Histories.{irq_at, Ideal, standing_at, shown_at, standing_of}
-use Rattle.floor_core.specs.Core.{AtIrq, Irq as IrqWord, actor_count, shown, entry_for, CoreState, word_in, IsSound, IsAt}
-use Rattle.floor_core.proofs.PortCore.AccessLemmas.{no_irq}
-use Rattle.floor_core.proofs.CoreProper.OnceLemmas.{found_itself}
-use Rattle.floor_core.proofs.PortCore.StepTies.{number_is}
+use Rattle.law_lines_translate.specs.Words.{GuestShape, irq_of}
+use Rattle.law_lines_translate.specs.GicWord.declared.record.Group.{Group}
+use Rattle.law_lines_translate.specs.Registers.{AtInterface}
+use Rattle.law_lines_translate.specs.Histories.{irq_at, Ideal, standing_at, shown_at, standing_of}
+use Rattle.law_lines_translate.specs.Core.{AtIrq, Irq as IrqWord, actor_count, shown, entry_for, CoreState, word_in, IsSound, IsAt}
+use Rattle.law_lines_translate.proofs.PortCore.AccessLemmas.{no_irq}
+use Rattle.law_lines_translate.proofs.CoreProper.OnceLemmas.{found_itself}
+use Rattle.law_lines_translate.proofs.PortCore.StepTies.{number_is}
 use Rattle.law_core_is_history.specs.Related.{IsHeldRelated, Related, locals_of, stands}
 
 -- Two lists.

@@ -4,16 +4,16 @@ use Rattle.std.specs.List.{list_all}
 use Rattle.std.specs.Option.{ForSome}
 use Rattle.std.proofs.lemmas.Bool.{and_parts, ltb-true}
 use Rattle.std.proofs.lemmas.Simd.{map-map}
-use Rattle.floor_core.specs.Words.{IccReg, Key, GuestShape, is_same_key, intid_of, Irq, is_number, irq_of}
-use Rattle.floor_core.specs.Registers.{CpuRec, taken_by, deactivated_by, candidates_at, interface_answer, interface_after, Maps}
-use Rattle.floor_core.specs.Calls.{Cpu, is_usable}
-use Rattle.floor_core.specs.GicCall.declared.event.Found.TheVariants.{Answer}
-use Rattle.floor_core.specs.Histories.{irq_at, cpu_at, Ideal, standing_at, shown_at, interface_at, with_standing, standing_of}
-use Rattle.floor_core.specs.Core.{AtIrq, Local, Phase, Claiming, Loaded, Folding, Poll, WordId, Irq as IrqWord, Vcpu, Queue, Ctlr, Plain, Index, interface_of, acknowledged_entry, deactivated_entry, id_of, accessed, is_ready, given_back, vcpu_of, is_vcpu, entry_for, back_of, CoreState, Seat, seat_at, with_found}
-use Rattle.floor_core.proofs.PortCore.FrameLemmas.{seat_changed}
+use Rattle.law_lines_translate.specs.Words.{IccReg, Key, GuestShape, is_same_key, intid_of, Irq, is_number, irq_of}
+use Rattle.law_lines_translate.specs.Registers.{CpuRec, taken_by, deactivated_by, candidates_at, interface_answer, interface_after, Maps}
+use Rattle.law_lines_translate.specs.Calls.{Cpu, is_usable}
+use Rattle.law_lines_translate.specs.GicCall.declared.event.Found.TheVariants.{Answer}
+use Rattle.law_lines_translate.specs.Histories.{irq_at, cpu_at, Ideal, standing_at, shown_at, interface_at, with_standing, standing_of}
+use Rattle.law_lines_translate.specs.Core.{AtIrq, Local, Phase, Claiming, Loaded, Folding, Poll, WordId, Irq as IrqWord, Vcpu, Queue, Ctlr, Plain, Index, Line, interface_of, acknowledged_entry, deactivated_entry, id_of, accessed, is_ready, given_back, vcpu_of, is_vcpu, entry_for, back_of, CoreState, Seat, seat_at, with_found}
+use Rattle.law_lines_translate.proofs.PortCore.FrameLemmas.{seat_changed}
 use Rattle.law_core_is_history.specs.Related.{IsCpuRelated, IsHeldRelated, WordSays, locals_of, stands, is_folding}
 use Rattle.law_core_is_history.specs.Simulates.{IsSimulated, IsSimulatedAs}
-use Rattle.floor_core.proofs.CoreProper.InterfaceLemmas.{shown_accessed}
+use Rattle.law_lines_translate.proofs.CoreProper.InterfaceLemmas.{shown_accessed}
 use Rattle.law_core_is_history.proofs.AccessLemmas.{standing_shown, shown_same}
 use Rattle.law_core_is_history.proofs.CpuLemmas.{same_answer, same_at, same_lpis, same_cpu}
 use Rattle.law_core_is_history.proofs.EnableSteps.{with_cpu_at, cpu_here, cpu_other, cpu_elsewhere, places_with_cpu}
@@ -119,6 +119,7 @@ says_changed shape state ideal actor seat within keeps Queue n says = says
 says_changed shape state ideal actor seat within keeps Ctlr n says = says
 says_changed shape state ideal actor seat within keeps (Plain index) n says = says
 says_changed shape state ideal actor seat within keeps (Index vcpu number) n says = says
+says_changed shape state ideal actor seat within keeps (Line number) n says = says
 
 module _ {shape : GuestShape} {state : CoreState} {ideal : Ideal} {actor found left : ℕ} {tables : Option Maps} where
   accesses :

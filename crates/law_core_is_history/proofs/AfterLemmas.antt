@@ -2,11 +2,11 @@
 use Rattle.std.proofs.Common.{◌≡◌, ◌≢◌, ℕ, ◌<◌, ◌⊎◌, inl, inr, IsTrue, [], ◌∷◌, ◌++◌, Option, sym, ap, ◌∙◌, subst}
 use Rattle.std.proofs.lemmas.Bool.{cases_eq}
 use Rattle.std.proofs.lemmas.List.{get_or-set_same}
-use Rattle.floor_core.specs.Words.{GuestShape}
-use Rattle.floor_core.specs.Registers.{Maps}
-use Rattle.floor_core.specs.Core.{CoreStep, WordId, local_after, has_word, place_of_word, CoreState, Seat, no_seat, seat_at, word_in, after, word_of}
-use Rattle.floor_core.proofs.PortCore.PlaceLemmas.{word_same}
-use Rattle.floor_core.specs.Histories.{Ideal}
+use Rattle.law_lines_translate.specs.Words.{GuestShape}
+use Rattle.law_lines_translate.specs.Registers.{Maps}
+use Rattle.law_lines_translate.specs.Core.{CoreStep, WordId, local_after, has_word, place_of_word, CoreState, Seat, no_seat, seat_at, word_in, after, word_of}
+use Rattle.law_lines_translate.proofs.PortCore.PlaceLemmas.{word_same}
+use Rattle.law_lines_translate.specs.Histories.{Ideal}
 use Rattle.law_core_is_history.proofs.KnownSteps.{left_in as known_left, other_in as known_other, seat_other as known_seat}
 use Rattle.law_core_is_history.proofs.StepContext.{one, IsStep, has}
 

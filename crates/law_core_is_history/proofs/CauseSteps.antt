@@ -1,11 +1,11 @@
 -- Steps that change the record of an interrupt wherever it is: a cause comes or goes.
 use Rattle.std.proofs.Common.{◌≡◌, ◌≢◌, ℕ, ◌<◌, Bool, true, false, cond, IsTrue, Option, refl, sym, ap, ◌∙◌, subst, length, slice_set}
-use Rattle.floor_core.specs.Words.{Back, Key, GuestShape, has_interrupt, interrupt_count, IsShape, Irq, raised, wire_up, wire_down, irq_of, IsIrq}
+use Rattle.law_lines_translate.specs.Words.{Back, Key, GuestShape, has_interrupt, interrupt_count, IsShape, Irq, raised, wire_up, wire_down, irq_of, IsIrq}
 use Rattle.law_histories.proofs.GicOpen.KeyLemmas.{irq_same as same_place, irq_other as other_place, length-with_irq_in}
-use Rattle.floor_core.specs.Registers.{Maps}
-use Rattle.floor_core.specs.Histories.{irq_at, changed_irq, Ideal}
-use Rattle.floor_core.specs.Core.{AtIrq, Local, Raise, WireUp, WireDown, WordId, Irq as IrqWord, Vcpu, Queue, Ctlr, Plain, Index, actor_count, local_after, given_back, changed, back_of, place_of_word, CoreState, Seat, IsSound}
-use Rattle.floor_core.proofs.PortCore.StepWords.{packed_is}
+use Rattle.law_lines_translate.specs.Registers.{Maps}
+use Rattle.law_lines_translate.specs.Histories.{irq_at, changed_irq, Ideal}
+use Rattle.law_lines_translate.specs.Core.{AtIrq, Local, Raise, WireUp, WireDown, WordId, Irq as IrqWord, Vcpu, Queue, Ctlr, Plain, Index, Line, actor_count, local_after, given_back, changed, back_of, place_of_word, CoreState, Seat, IsSound}
+use Rattle.law_lines_translate.proofs.PortCore.StepWords.{packed_is}
 use Rattle.law_core_is_history.specs.Related.{bare, IsIrqRelated, WordSays, SeatSays, Related, locals_of}
 use Rattle.law_core_is_history.specs.Simulates.{IsSimulated}
 use Rattle.law_core_is_history.proofs.RelatedLemmas.{locals_after, at_kept, irq_same, frame, HasPlaces, places_of}
@@ -47,6 +47,7 @@ module _ (shape : GuestShape) (key : Key) (change : Irq → Irq) (ideal : Ideal)
   says_elsewhere before after same Ctlr n differ says = record { enables = says.enables; spreads = says.spreads }
   says_elsewhere before after same (Plain index) n differ says = record { stored = says.stored; fault = says.fault }
   says_elsewhere before after same (Index vcpu number) n differ says = tt
+  says_elsewhere before after same (Line number) n differ says = tt
 
   -- each interface is the same
   pub seat_changed_irq : (vcpu : ℕ) (local : Local) → SeatSays ideal vcpu local → SeatSays (with_change key change ideal) vcpu local

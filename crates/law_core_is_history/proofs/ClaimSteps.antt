@@ -5,16 +5,16 @@ use Rattle.std.specs.Option.{option_map_or}
 use Rattle.std.proofs.lemmas.Bool.{and_parts, and_from, ltb-true}
 use Rattle.std.proofs.lemmas.List.{map-append}
 use Rattle.std.proofs.lemmas.List.Folds.{list_all-append}
-use Rattle.floor_core.specs.Words.{Key, Private, Spi, Lpi, GuestShape, has_interrupt, is_of_vcpu, G0, G1, Irq, cleared, is_number, is_ripe, irq_of, packed, IsIrq}
-use Rattle.floor_core.specs.GicWord.declared.record.Group.{Group}
-use Rattle.floor_core.specs.Registers.{CpuRec, is_group_enabled, takes_kind, is_deliverable, Maps}
-use Rattle.floor_core.specs.Calls.{Take, Reach, Entry, Moved, may_reach, may_take, reached, taken}
-use Rattle.floor_core.specs.Histories.{irq_at, cpu_at, Ideal, Standing, standing_at, is_home, with_irq, with_standing, with_entry as with_entry_of}
-use Rattle.floor_core.specs.Core.{AtIrq, Local, Claim, may_hold, may_move, moved_of, given_back, is_vcpu, entry_for, back_of, changed_at, with_entry, arrived, settled, CoreState, Seat, seat_at, silent}
-use Rattle.floor_core.proofs.GicBase.KeyLemmas.{other_key}
-use Rattle.floor_core.proofs.PortCore.StepMade.{all_three}
-use Rattle.floor_core.proofs.PortCore.StepTies.{number_is, none_is}
-use Rattle.floor_core.proofs.PortCore.StepWords.{packed_is}
+use Rattle.law_lines_translate.specs.Words.{Key, Private, Spi, Lpi, GuestShape, has_interrupt, is_of_vcpu, G0, G1, Irq, cleared, is_number, is_ripe, irq_of, packed, IsIrq}
+use Rattle.law_lines_translate.specs.GicWord.declared.record.Group.{Group}
+use Rattle.law_lines_translate.specs.Registers.{CpuRec, is_group_enabled, takes_kind, is_deliverable, Maps}
+use Rattle.law_lines_translate.specs.Calls.{Take, Reach, Entry, Moved, may_reach, may_take, reached, taken}
+use Rattle.law_lines_translate.specs.Histories.{irq_at, cpu_at, Ideal, Standing, standing_at, is_home, with_irq, with_standing, with_entry as with_entry_of}
+use Rattle.law_lines_translate.specs.Core.{AtIrq, Local, Claim, may_hold, may_move, moved_of, given_back, is_vcpu, entry_for, back_of, changed_at, with_entry, arrived, settled, CoreState, Seat, seat_at, silent}
+use Rattle.law_lines_translate.proofs.GicBase.KeyLemmas.{other_key}
+use Rattle.law_lines_translate.proofs.PortCore.StepMade.{all_three}
+use Rattle.law_lines_translate.proofs.PortCore.StepTies.{number_is, none_is}
+use Rattle.law_lines_translate.proofs.PortCore.StepWords.{packed_is}
 use Rattle.law_core_is_history.specs.Related.{bare, IsCpuRelated, IsIrqRelated, Related, locals_of, stands, is_folding}
 use Rattle.law_core_is_history.specs.Simulates.{IsSimulated, IsSimulatedAs}
 use Rattle.law_core_is_history.proofs.MoveLemmas.{held_related, moved}

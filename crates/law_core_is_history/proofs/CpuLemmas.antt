@@ -1,9 +1,9 @@
 -- What an access of a CPU interface register does does not depend on EnableLPIs, and leaves it.
 use Rattle.std.proofs.Common.{◌≡◌, ℕ, ◌==◌, ◌&&◌, ◌||◌, not, Bool, true, false, cond, List, [], ◌∷◌, nat_lt, is_some, Option, Some, None, unwrap_or, option_and_then, filter_map, refl, sym, ap, ◌∙◌, subst}
 use Rattle.std.specs.List.{cons_option}
-use Rattle.floor_core.specs.Words.{IccReg, Iar0, Iar1, Eoir0, Eoir1, Dir, Bpr1, intid_of, G0, G1}
-use Rattle.floor_core.specs.GicWord.declared.record.Group.{Group}
-use Rattle.floor_core.specs.Registers.{Candidate, CpuRec, taken_by, deactivated_by, answer_of, activated_by, written_by, cpu_after, AtInterface, candidate_of, acknowledged_at, deactivated_at, interface_answer, interface_after, level_activated, least_level, running_level, level_dropped, is_signalled, first_of, is_group_enabled, binary_point_written, acknowledged, ended, intid_read, intid_written, is_same_group, is_special}
+use Rattle.law_lines_translate.specs.Words.{IccReg, Iar0, Iar1, Eoir0, Eoir1, Dir, Bpr1, intid_of, G0, G1}
+use Rattle.law_lines_translate.specs.GicWord.declared.record.Group.{Group}
+use Rattle.law_lines_translate.specs.Registers.{Candidate, CpuRec, taken_by, deactivated_by, answer_of, activated_by, written_by, cpu_after, AtInterface, candidate_of, acknowledged_at, deactivated_at, interface_answer, interface_after, level_activated, least_level, running_level, level_dropped, is_signalled, first_of, is_group_enabled, binary_point_written, acknowledged, ended, intid_read, intid_written, is_same_group, is_special}
 use Rattle.law_core_is_history.specs.Related.{but_lpis, IsCpuRelated}
 
 abbrev pub with_lpis : Bool → CpuRec → CpuRec

@@ -1,14 +1,14 @@
 -- What the words say of the copies of GICD_CTLR's enables.
 use Rattle.std.proofs.Common.{◌≡◌, ℕ, ◌<◌, Bool, cond, IsTrue, ◌++◌, Option, Some, None, is_some, true, false, refl, sym, ap, ◌∙◌, subst, arith}
 use Rattle.std.proofs.lemmas.Bool.{ltb-true}
-use Rattle.floor_core.specs.Words.{Key, GuestShape, has_interrupt, Irq, is_number, is_vcpu_or_none, irq_of}
-use Rattle.floor_core.specs.Registers.{Enables}
-use Rattle.floor_core.specs.Histories.{irq_at, Ideal, opening_course, course_of, IsHistory, IsWhole, copy_in}
+use Rattle.law_lines_translate.specs.Words.{Key, GuestShape, has_interrupt, Irq, is_number, is_vcpu_or_none, irq_of}
+use Rattle.law_lines_translate.specs.Registers.{Enables}
+use Rattle.law_lines_translate.specs.Histories.{irq_at, Ideal, opening_course, course_of, IsHistory, IsWhole, copy_in}
 use Rattle.law_histories.specs.Enables.{replaced_in, CopiesAgree, CopiesAgreeIn}
 use Rattle.law_histories.proofs.EnableLaw.{enables_agree as histories_agree}
-use Rattle.floor_core.specs.Core.{AtIrq, Irq as IrqWord, Ctlr, given_back, entry_for, back_of, CoreState, opening, word_in, IsSound, end_of_moments, ideal_of}
-use Rattle.floor_core.proofs.PortCore.StepTies.{number_self}
-use Rattle.floor_core.proofs.CoreProper.PartLemmas.{ideal_append}
+use Rattle.law_lines_translate.specs.Core.{AtIrq, Irq as IrqWord, Ctlr, given_back, entry_for, back_of, CoreState, opening, word_in, IsSound, end_of_moments, ideal_of}
+use Rattle.law_lines_translate.proofs.PortCore.StepTies.{number_self}
+use Rattle.law_lines_translate.proofs.CoreProper.PartLemmas.{ideal_append}
 use Rattle.law_core_is_history.specs.Enables.{WordsAgree, EnablesAgree}
 use Rattle.law_core_is_history.specs.Related.{IsHeldRelated, Related, locals_of}
 use Rattle.law_core_is_history.proofs.HistorySteps.{run_leads}

@@ -2,12 +2,12 @@
 use Rattle.std.proofs.Common.{◌≡◌, ◌≢◌, ℕ, ◌<◌, true, false, IsTrue, Option, refl, sym, ap, ◌∙◌, subst, length, inl, inr}
 use Rattle.std.proofs.lemmas.List.{get_or-set_same, get_or-set_other, length-set}
 use Rattle.std.proofs.lemmas.Bool.{cases_eq}
-use Rattle.floor_core.specs.Words.{GuestShape}
-use Rattle.floor_core.specs.Registers.{CpuRec, Maps}
-use Rattle.floor_core.specs.GicCall.declared.event.Found.TheVariants.{Lpis as FoundLpis}
-use Rattle.floor_core.specs.Calls.{opening_cpu}
-use Rattle.floor_core.specs.Histories.{cpu_at, with_cpu, Ideal}
-use Rattle.floor_core.specs.Core.{Local, EnableLpis, WordId, Irq as IrqWord, Vcpu, Queue, Ctlr, Plain, Index, vcpu_of, CoreState}
+use Rattle.law_lines_translate.specs.Words.{GuestShape}
+use Rattle.law_lines_translate.specs.Registers.{CpuRec, Maps}
+use Rattle.law_lines_translate.specs.GicCall.declared.event.Found.TheVariants.{Lpis as FoundLpis}
+use Rattle.law_lines_translate.specs.Calls.{opening_cpu}
+use Rattle.law_lines_translate.specs.Histories.{cpu_at, with_cpu, Ideal}
+use Rattle.law_lines_translate.specs.Core.{Local, EnableLpis, WordId, Irq as IrqWord, Vcpu, Queue, Ctlr, Plain, Index, Line, vcpu_of, CoreState}
 use Rattle.law_core_is_history.specs.Related.{WordSays, SeatSays, locals_of, but_lpis, IsCpuRelated}
 use Rattle.law_core_is_history.specs.Simulates.{IsSimulated}
 use Rattle.law_core_is_history.proofs.RelatedLemmas.{locals_after, at_kept, says_same, frame, HasPlaces, places_of}
@@ -35,6 +35,7 @@ module _ (shape : GuestShape) (ideal : Ideal) (vcpu : ℕ) (cpu : CpuRec) (place
   cpu_elsewhere locals Ctlr n differ says = record { enables = says.enables; spreads = says.spreads }
   cpu_elsewhere locals (Plain index) n differ says = record { stored = says.stored; fault = says.fault }
   cpu_elsewhere locals (Index other number) n differ says = tt
+  cpu_elsewhere locals (Line number) n differ says = tt
 
   -- each interface says the same, where EnableLPIs is set and the rest of the record stays
   pub seat_with_lpis : but_lpis cpu ≡ but_lpis (cpu_at ideal.guest vcpu) → IsTrue cpu.lpis → (other : ℕ) (local : Local) → SeatSays ideal other local → SeatSays (with_cpu_at vcpu cpu ideal) other local

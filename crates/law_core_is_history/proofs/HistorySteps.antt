@@ -3,15 +3,15 @@ use Rattle.std.proofs.Common.{◌≡◌, ◌≢◌, ℕ, ◌<◌, ◌==◌, ◌&
 use Rattle.std.proofs.lemmas.Bool.{and_parts, cases_eq, eq-eqb, ne_eqb}
 use Rattle.std.proofs.lemmas.List.{get_or-set_same, get_or-set_other, get_or-replicate, length-replicate, length-set, length-map}
 use Rattle.std.proofs.lemmas.Grind.{fold-append}
-use Rattle.floor_core.specs.Words.{GuestShape, IsShape}
-use Rattle.floor_core.specs.Calls.{Moment, Begin, Operation, Happened, CanHappen}
-use Rattle.floor_core.specs.GicCall.declared.event.Moment.TheVariants.{End}
+use Rattle.law_lines_translate.specs.Words.{GuestShape, IsShape}
+use Rattle.law_lines_translate.specs.Calls.{Moment, Begin, Operation, Happened, CanHappen}
+use Rattle.law_lines_translate.specs.GicCall.declared.event.Moment.TheVariants.{End}
 use Rattle.std.proofs.lemmas.List.Elements.{All-head, All-tail}
-use Rattle.floor_core.specs.Histories.{Call, Course, IsCallEnded, actor_count as count_of, call_of, made as made_in, seeing, gone_on, course_of, opening_course, GoesOn, happened, IdealGuest, CanOpen}
-use Rattle.floor_core.proofs.GicHistory.CallLemmas.{goes_on}
-use Rattle.floor_core.specs.Core.{Made, actor_count, CoreState, opening, after, seat_at, IsRun, IsSound, after_moment, end_of_moments, event_moments, ideal_moments, ideal_of, Act, begins, makes, ends, CoreMoment, IsPartedRun, own_acts, entries_of, entry_by, are_parts, has_registers}
-use Rattle.floor_core.proofs.PortCore.OpeningLemmas.{opens_sound}
-use Rattle.floor_core.proofs.PortCore.StepLemmas.{steps_sound}
+use Rattle.law_lines_translate.specs.Histories.{Call, Course, IsCallEnded, actor_count as count_of, call_of, made as made_in, seeing, gone_on, course_of, opening_course, GoesOn, happened, IdealGuest, CanOpen}
+use Rattle.law_lines_translate.proofs.GicHistory.CallLemmas.{goes_on}
+use Rattle.law_lines_translate.specs.Core.{Made, actor_count, CoreState, opening, after, seat_at, IsRun, IsSound, after_moment, end_of_moments, event_moments, ideal_moments, ideal_of, Act, begins, makes, ends, CoreMoment, IsPartedRun, own_acts, entries_of, entry_by, are_parts, has_registers}
+use Rattle.law_lines_translate.proofs.PortCore.OpeningLemmas.{opens_sound}
+use Rattle.law_lines_translate.proofs.PortCore.StepLemmas.{steps_sound}
 use Rattle.law_core_is_history.specs.Known.{IsKnown}
 use Rattle.law_core_is_history.specs.Whole.{within_after}
 use Rattle.law_core_is_history.specs.Laws.{IsCallAt, AreCalls, Simulates}

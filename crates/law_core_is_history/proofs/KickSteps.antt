@@ -1,10 +1,10 @@
 -- Kicks of a vCPU stay until it looks for one.
 use Rattle.std.proofs.Common.{◌≡◌, ◌≢◌, ℕ, ◌<◌, ◌==◌, ◌&&◌, inl, inr, true≢false, Bool, true, false, Option, refl, sym, ap, ◌∙◌}
 use Rattle.std.proofs.lemmas.Bool.{eq-eqb, eqb-true, lt-ltb, false_from_ne_true}
-use Rattle.floor_core.specs.Words.{GuestShape}
-use Rattle.floor_core.specs.Histories.{Ideal}
-use Rattle.floor_core.specs.Registers.{Maps}
-use Rattle.floor_core.specs.Core.{CoreStep, Look, Raise, Claim, GiveBack, Release, Poll, Kick, Touch, Want, WireUp, WireDown, EnableLpis, RamLook, RamPut, CtlrTake, CtlrEnd, TurnTake, CommandDone, TurnRelease, Mark, TakeIndex, Vcpu, packed_vcpu, vcpu_of, CoreState, word_in, word_of}
+use Rattle.law_lines_translate.specs.Words.{GuestShape}
+use Rattle.law_lines_translate.specs.Histories.{Ideal}
+use Rattle.law_lines_translate.specs.Registers.{Maps}
+use Rattle.law_lines_translate.specs.Core.{CoreStep, Look, Raise, Claim, GiveBack, Release, Poll, Kick, Touch, Want, WireUp, WireDown, EnableLpis, RamLook, RamPut, CtlrTake, CtlrEnd, TurnTake, CommandDone, TurnRelease, Mark, TakeIndex, LineEnter, LineLeave, LineFill, LineClose, Vcpu, packed_vcpu, vcpu_of, CoreState, word_in, word_of}
 use Rattle.law_core_is_history.proofs.AfterLemmas.{later, word_cases}
 use Rattle.law_core_is_history.proofs.StepContext.{IsStep}
 
@@ -52,6 +52,10 @@ kick_word shape actor vcpu (CommandDone offset stalled ending) apart = refl
 kick_word shape actor vcpu TurnRelease apart = refl
 kick_word shape actor vcpu (Mark key other) apart = refl
 kick_word shape actor vcpu (TakeIndex word) apart = refl
+kick_word shape actor vcpu (LineEnter line seen) apart = refl
+kick_word shape actor vcpu (LineLeave line) apart = refl
+kick_word shape actor vcpu (LineFill line device event lpi) apart = refl
+kick_word shape actor vcpu (LineClose line) apart = refl
 
 module _ {shape : GuestShape} {state : CoreState} {ideal : Ideal} {actor found left : ℕ} {tables : Option Maps} where
   -- a step on a vCPU's word that is no look of the vCPU's own leaves it unkicked only where it was, and is no kick
@@ -77,6 +81,10 @@ module _ {shape : GuestShape} {state : CoreState} {ideal : Ideal} {actor found l
   on_vcpu TurnRelease is vcpu on own free = absurd (cc)
   on_vcpu (Mark key other) is vcpu on own free = absurd (cc)
   on_vcpu (TakeIndex word) is vcpu on own free = absurd (cc)
+  on_vcpu (LineEnter line seen) is vcpu on own free = absurd (cc)
+  on_vcpu (LineLeave line) is vcpu on own free = absurd (cc)
+  on_vcpu (LineFill line device event lpi) is vcpu on own free = absurd (cc)
+  on_vcpu (LineClose line) is vcpu on own free = absurd (cc)
 
 module _ {shape : GuestShape} {state : CoreState} {ideal : Ideal} {actor : ℕ} {step : CoreStep} {found left : ℕ} {tables : Option Maps} (is : IsStep shape state ideal actor step found left tables) (vcpu : ℕ) (within : vcpu < shape.vcpus) where
   -- the word, and whether the step is a kick of the vCPU

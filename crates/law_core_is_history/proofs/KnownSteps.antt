@@ -2,15 +2,15 @@
 use Rattle.std.proofs.Common.{◌≡◌, ◌≢◌, ℕ, ◌<◌, ◌==◌, ◌&&◌, Bool, true, false, cond, IsTrue, List, [], ◌∷◌, ◌++◌, Some, None, is_none, refl, sym, ap, ◌∙◌, subst, length, inl, inr, ◌⊎◌, arith, if◌then◌else◌}
 use Rattle.std.proofs.lemmas.Bool.{cases_eq, eq-eqb, ne_eqb, lt-ltb}
 use Rattle.std.proofs.lemmas.Option.{same_Some}
-use Rattle.floor_core.specs.Calls.{plain_count}
+use Rattle.law_lines_translate.specs.Calls.{plain_count}
 use Rattle.std.proofs.lemmas.List.{get_or-set_same, get_or-set_other}
 use Rattle.std.proofs.lemmas.Grind.{fold-append}
-use Rattle.floor_core.specs.Words.{GuestShape, IsShape, is_number}
-use Rattle.floor_core.specs.Registers.{queue_of}
-use Rattle.floor_core.specs.Core.{Entry, Made, CoreStep, Look, Raise, Claim, GiveBack, Release, Poll, Kick, Touch, Want, WireUp, WireDown, EnableLpis, RamLook, RamPut, CtlrTake, CtlrEnd, TurnTake, CommandDone, TurnRelease, Mark, TakeIndex, WordId, Queue, Plain, actor_count, fault_place, CanPut, Meets, HasPutFault, word_after, known, is_on, last_made, has_word, place_of_word, CoreState, Seat, no_seat, seat_at, word_in, after, Takes, IsSound, word_of}
-use Rattle.floor_core.proofs.PortCore.PlaceLemmas.{place_of_word_within, word_same}
-use Rattle.floor_core.proofs.PortCore.StepLemmas.{word_there}
-use Rattle.floor_core.proofs.PortCore.StepTies.{number_is}
+use Rattle.law_lines_translate.specs.Words.{GuestShape, IsShape, is_number}
+use Rattle.law_lines_translate.specs.Registers.{queue_of}
+use Rattle.law_lines_translate.specs.Core.{Entry, Made, CoreStep, Look, Raise, Claim, GiveBack, Release, Poll, Kick, Touch, Want, WireUp, WireDown, EnableLpis, RamLook, RamPut, CtlrTake, CtlrEnd, TurnTake, CommandDone, TurnRelease, Mark, TakeIndex, LineEnter, LineLeave, LineFill, LineClose, WordId, Queue, Plain, actor_count, fault_place, CanPut, Meets, HasPutFault, word_after, known, is_on, last_made, has_word, place_of_word, CoreState, Seat, no_seat, seat_at, word_in, after, Takes, IsSound, word_of}
+use Rattle.law_lines_translate.proofs.PortCore.PlaceLemmas.{place_of_word_within, word_same}
+use Rattle.law_lines_translate.proofs.PortCore.StepLemmas.{word_there}
+use Rattle.law_lines_translate.proofs.PortCore.StepTies.{number_is}
 use Rattle.law_core_is_history.specs.Known.{KnowsIts, IsKnown}
 
 and_false : (b : Bool) → (b && false) ≡ false
@@ -82,6 +82,10 @@ module _ (shape : GuestShape) (state : CoreState) (entry : Entry) (good : IsShap
       of CtlrEnd meets on = absurd (cc)
       of (Mark key vcpu) meets on = absurd (cc)
       of (TakeIndex word) meets on = absurd (cc)
+      of (LineEnter line seen) meets on = absurd (cc)
+      of (LineLeave line) meets on = absurd (cc)
+      of (LineFill line device event lpi) meets on = absurd (cc)
+      of (LineClose line) meets on = absurd (cc)
 
   -- and so does one on the word of a fault's number
   fault_left : ((seat_at state entry.actor).local.turn ≡ true → ⊥) → word_of shape entry.actor entry.made.step ≡ Plain (fault_place shape) → entry.made.left ≡ entry.made.found
@@ -92,7 +96,7 @@ module _ (shape : GuestShape) (state : CoreState) (entry : Entry) (good : IsShap
       of (RamLook index) meets on = refl
       of (RamPut index seen value) meets on =
           let same : index ≡ fault_place shape = plain_index index (fault_place shape) on in
-          absurd (none (subst (λ b. CanPut b shape entry.actor (seat_at state entry.actor).local (seat_at state entry.actor).own) (eq-eqb index (fault_place shape) same) meets).turn)
+          absurd (none (subst (λ b. CanPut b shape entry.actor (seat_at state entry.actor).local (seat_at state entry.actor).own) (eq-eqb index (fault_place shape) same) meets.fault).turn)
       of (TurnTake seen) meets on = absurd (cc)
       of (CommandDone offset stalled ending) meets on = absurd (cc)
       of TurnRelease meets on = absurd (cc)
@@ -111,6 +115,10 @@ module _ (shape : GuestShape) (state : CoreState) (entry : Entry) (good : IsShap
       of CtlrEnd meets on = absurd (cc)
       of (Mark key vcpu) meets on = absurd (cc)
       of (TakeIndex word) meets on = absurd (cc)
+      of (LineEnter line seen) meets on = absurd (cc)
+      of (LineLeave line) meets on = absurd (cc)
+      of (LineFill line device event lpi) meets on = absurd (cc)
+      of (LineClose line) meets on = absurd (cc)
 
   -- who has the ITS after the step had it before, unless the step took it
   module _ (next : IsSound shape (after shape state entry)) (known_before : IsKnown shape state) where

@@ -3,12 +3,12 @@ use Rattle.std.proofs.Common.{◌≡◌, ℕ, ◌+◌, ◌<◌, ◌&&◌, ◌||�
 use Rattle.std.specs.List.{list_any, range_with_len}
 use Rattle.std.proofs.lemmas.Bool.{ltb-true}
 use Rattle.law_histories.proofs.IdealGuests.CanOpenLemmas.{openings_can_open}
-use Rattle.floor_core.specs.Words.{Key, GuestShape, has_interrupt, is_same_key, Irq, is_number, is_vcpu_or_none, irq_of}
-use Rattle.floor_core.specs.Histories.{irq_at, Ideal, opening_course, course_of, opening_guest}
+use Rattle.law_lines_translate.specs.Words.{Key, GuestShape, has_interrupt, is_same_key, Irq, is_number, is_vcpu_or_none, irq_of}
+use Rattle.law_lines_translate.specs.Histories.{irq_at, Ideal, opening_course, course_of, opening_guest}
 use Rattle.law_histories.specs.Latches.{has_cause, has_cause_there}
 use Rattle.law_histories.proofs.LatchLaw.{latches as histories_latch}
-use Rattle.floor_core.specs.Core.{AtIrq, Irq as IrqWord, given_back, entry_for, back_of, CoreState, opening, word_in, IsSound, end_of_moments, ideal_of}
-use Rattle.floor_core.proofs.PortCore.StepTies.{number_self}
+use Rattle.law_lines_translate.specs.Core.{AtIrq, Irq as IrqWord, given_back, entry_for, back_of, CoreState, opening, word_in, IsSound, end_of_moments, ideal_of}
+use Rattle.law_lines_translate.proofs.PortCore.StepTies.{number_self}
 use Rattle.law_core_is_history.specs.Latches.{has_cause_at, has_cause_in, Latches}
 use Rattle.law_core_is_history.specs.Related.{IsHeldRelated, Related, locals_of, stands}
 use Rattle.law_core_is_history.proofs.HistorySteps.{run_leads}

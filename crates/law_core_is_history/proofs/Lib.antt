@@ -1,14 +1,15 @@
-pub use Rattle.floor_core.proofs.CoreProper
-pub use Rattle.floor_core.proofs.GicBase
-pub use Rattle.floor_core.proofs.GicHistory
-pub use Rattle.floor_core.proofs.GicIcv
+pub use Rattle.law_lines_translate.proofs.CoreProper
+pub use Rattle.law_lines_translate.proofs.GicBase
+pub use Rattle.law_lines_translate.proofs.GicHistory
+pub use Rattle.law_lines_translate.proofs.GicIcv
 pub use Rattle.law_histories.proofs.GicOpen
 pub use Rattle.law_histories.proofs.GicPrio
-pub use Rattle.floor_core.proofs.GicWord
+pub use Rattle.law_lines_translate.proofs.GicWord
 pub use Rattle.law_histories.proofs.IdealGuests
 pub use Rattle.law_histories.proofs as LawHistories
-pub use Rattle.floor_core.proofs.PortCore
-pub use Rattle.floor_core.proofs.VcpuRefill
+pub use Rattle.law_lines_translate.proofs as LawLinesTranslate
+pub use Rattle.law_lines_translate.proofs.PortCore
+pub use Rattle.law_lines_translate.proofs.VcpuRefill
 pub mod RelatedLemmas
 pub mod StepContext
 pub mod StandingLemmas
@@ -21,6 +22,7 @@ pub mod CpuLemmas
 pub mod AccessLemmas
 pub mod AccessSteps
 pub mod TriedSteps
+pub mod LineSteps
 pub mod ReadSteps
 pub mod MarkSteps
 pub mod EnableSteps
@@ -38,3 +40,7 @@ pub mod LatchRuns
 pub mod AfterLemmas
 pub mod ReachedRuns
 pub mod KickSteps
+pub mod MidwayLemmas
+pub mod MidwayRuns
+pub mod PostRuns
+pub mod PartRuns

@@ -1,12 +1,12 @@
 -- Steps that take and free the mark of GICD_CTLR and the ITS.
 use Rattle.std.proofs.Common.{◌≡◌, ◌≢◌, ℕ, ◌<◌, ◌==◌, Option, Some, None, is_none, unwrap_or, arith, refl, sym, ap, ◌∙◌, subst, length, slice_set}
 use Rattle.std.proofs.lemmas.Bool.{and_parts}
-use Rattle.floor_core.specs.Words.{GuestShape, IsShape, is_number}
-use Rattle.floor_core.specs.Registers.{Enables, enables_in, QueueWord, queue_of, Maps}
-use Rattle.floor_core.specs.Histories.{Ideal}
-use Rattle.floor_core.specs.Core.{Local, CtlrTake, CtlrEnd, TurnTake, TurnRelease, CtlrWord, WordId, Irq as IrqWord, Vcpu, Queue, Ctlr, Plain, Index, actor_count, local_after, local_done, ctlr_of, place_of_word, CoreState, Seat, after, IsSound}
-use Rattle.floor_core.proofs.PortCore.StepTies.{few_actors, none_is}
-use Rattle.floor_core.proofs.PortCore.StepWords.{queue_back, queue_fits, ctlr_back}
+use Rattle.law_lines_translate.specs.Words.{GuestShape, IsShape, is_number}
+use Rattle.law_lines_translate.specs.Registers.{Enables, enables_in, QueueWord, queue_of, Maps}
+use Rattle.law_lines_translate.specs.Histories.{Ideal}
+use Rattle.law_lines_translate.specs.Core.{Local, CtlrTake, CtlrEnd, TurnTake, TurnRelease, CtlrWord, WordId, Irq as IrqWord, Vcpu, Queue, Ctlr, Plain, Index, Line, actor_count, local_after, local_done, ctlr_of, place_of_word, CoreState, Seat, after, IsSound}
+use Rattle.law_lines_translate.proofs.PortCore.StepTies.{few_actors, none_is}
+use Rattle.law_lines_translate.proofs.PortCore.StepWords.{queue_back, queue_fits, ctlr_back}
 use Rattle.law_core_is_history.specs.Related.{WordSays, SeatSays, Related, IsQueueRelated, locals_of}
 use Rattle.law_core_is_history.specs.Simulates.{IsSimulated}
 use Rattle.law_core_is_history.proofs.RelatedLemmas.{locals_after, at_kept, says_same, frame, places_of}
@@ -25,6 +25,7 @@ ctlr_elsewhere shape enables spreads ideal locals Queue n differ says = record {
 ctlr_elsewhere shape enables spreads ideal locals Ctlr n differ says = absurd (differ refl)
 ctlr_elsewhere shape enables spreads ideal locals (Plain index) n differ says = record { stored = says.stored; fault = says.fault }
 ctlr_elsewhere shape enables spreads ideal locals (Index vcpu number) n differ says = tt
+ctlr_elsewhere shape enables spreads ideal locals (Line number) n differ says = tt
 
 -- a step on its word that moves nothing
 ctlr_event :
@@ -57,6 +58,7 @@ its_elsewhere shape turn ideal locals Queue n differ says = absurd (differ refl)
 its_elsewhere shape turn ideal locals Ctlr n differ says = record { enables = says.enables; spreads = says.spreads }
 its_elsewhere shape turn ideal locals (Plain index) n differ says = record { stored = says.stored; fault = says.fault }
 its_elsewhere shape turn ideal locals (Index vcpu number) n differ says = tt
+its_elsewhere shape turn ideal locals (Line number) n differ says = tt
 
 its_event :
     (shape : GuestShape) (state : CoreState) (ideal : Ideal) (actor : ℕ) (seat : Seat) (turn : Option ℕ) (left : ℕ) → IsShape shape → IsSound shape state → Related shape state ideal → actor < actor_count shape

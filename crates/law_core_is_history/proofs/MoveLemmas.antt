@@ -3,10 +3,10 @@ use Rattle.std.proofs.Common.{◌≡◌, ◌≢◌, ℕ, ◌<◌, ◌||◌, not,
 use Rattle.std.specs.List.{list_all}
 use Rattle.std.specs.Option.{ForSome}
 use Rattle.std.proofs.lemmas.List.{get_or-set_same, get_or-set_other, length-set}
-use Rattle.floor_core.specs.Words.{Key, GuestShape, has_interrupt, IsShape, Irq, irq_of}
-use Rattle.floor_core.specs.Histories.{irq_at, cpu_at, Ideal, Standing, standing_at, with_irq, with_standing}
-use Rattle.floor_core.specs.Core.{AtIrq, Local, WordId, Irq as IrqWord, Vcpu, Queue, Ctlr, Plain, Index, actor_count, entry_for, place_of_word, CoreState, Seat, IsSound}
-use Rattle.floor_core.proofs.PortCore.FrameLemmas.{seat_changed}
+use Rattle.law_lines_translate.specs.Words.{Key, GuestShape, has_interrupt, IsShape, Irq, irq_of}
+use Rattle.law_lines_translate.specs.Histories.{irq_at, cpu_at, Ideal, Standing, standing_at, with_irq, with_standing}
+use Rattle.law_lines_translate.specs.Core.{AtIrq, Local, WordId, Irq as IrqWord, Vcpu, Queue, Ctlr, Plain, Index, Line, actor_count, entry_for, place_of_word, CoreState, Seat, IsSound}
+use Rattle.law_lines_translate.proofs.PortCore.FrameLemmas.{seat_changed}
 use Rattle.law_core_is_history.specs.Related.{bare, IsHeldRelated, IsIrqRelated, IsCpuRelated, WordSays, Related, locals_of, stands, is_folding}
 use Rattle.law_core_is_history.proofs.CauseSteps.{irq_here, says_elsewhere, places_changed}
 use Rattle.law_core_is_history.proofs.RelatedLemmas.{locals_after, frame, HasPlaces, places_of}
@@ -42,6 +42,7 @@ says_but shape before after key ideal same Queue n differ says = says
 says_but shape before after key ideal same Ctlr n differ says = says
 says_but shape before after key ideal same (Plain index) n differ says = says
 says_but shape before after key ideal same (Index vcpu number) n differ says = says
+says_but shape before after key ideal same (Line number) n differ says = says
 
 -- what each vCPU has of an interrupt, once one has the same of it
 pub entry_kept : (state : CoreState) (actor : ℕ) (seat : Seat) (key : Key) → actor < length state.seats → entry_for key seat.local.at ≡ entry_for key (locals_of state actor).at → (vcpu : ℕ) → entry_for key (locals_after state actor seat vcpu).at ≡ entry_for key (locals_of state vcpu).at
@@ -67,6 +68,7 @@ module _ (shape : GuestShape) (ideal : Ideal) (vcpu : ℕ) (standing : List Stan
   standing_elsewhere locals Ctlr n says = record { enables = says.enables; spreads = says.spreads }
   standing_elsewhere locals (Plain index) n says = says
   standing_elsewhere locals (Index other number) n says = tt
+  standing_elsewhere locals (Line number) n says = tt
 
 -- and with another record of an interrupt
 abbrev pub with_move : Key → Irq → ℕ → List Standing → Ideal → Ideal

@@ -3,19 +3,19 @@ use Rattle.std.proofs.Common.{◌≡◌, ℕ, ◌<◌, ◌||◌, not, Bool, true
 use Rattle.std.specs.List.{list_all}
 use Rattle.std.specs.Option.{option_map_or}
 use Rattle.std.proofs.lemmas.Bool.{and_parts, ltb-true}
-use Rattle.floor_core.specs.Words.{Back, Key, GuestShape, has_interrupt, Irq, irq_of, IsIrq, IsSeat}
-use Rattle.floor_core.specs.Calls.{Moved, left as left_of}
-use Rattle.floor_core.specs.Registers.{Maps}
-use Rattle.floor_core.specs.Histories.{irq_at, Ideal, standing_at, with_irq, with_standing, without}
-use Rattle.floor_core.specs.Core.{AtIrq, GiveBack, Release, given_at, release_at, given_back, released, is_active_at, is_vcpu, entry_of, back_of, without_at, CoreState, Seat, seat_at, after}
-use Rattle.floor_core.proofs.PortCore.StepTies.{number_is}
-use Rattle.floor_core.proofs.PortCore.StepWords.{packed_is}
+use Rattle.law_lines_translate.specs.Words.{Back, Key, GuestShape, has_interrupt, Irq, irq_of, IsIrq, IsSeat}
+use Rattle.law_lines_translate.specs.Calls.{Moved, left as left_of}
+use Rattle.law_lines_translate.specs.Registers.{Maps}
+use Rattle.law_lines_translate.specs.Histories.{irq_at, Ideal, standing_at, with_irq, with_standing, without}
+use Rattle.law_lines_translate.specs.Core.{AtIrq, GiveBack, Release, given_at, release_at, given_back, released, is_active_at, is_vcpu, entry_of, back_of, without_at, CoreState, Seat, seat_at, after}
+use Rattle.law_lines_translate.proofs.PortCore.StepTies.{number_is}
+use Rattle.law_lines_translate.proofs.PortCore.StepWords.{packed_is}
 use Rattle.law_core_is_history.specs.Related.{bare, IsIrqRelated, Related, locals_of, is_folding}
 use Rattle.law_core_is_history.specs.Simulates.{IsSimulated}
 use Rattle.law_core_is_history.proofs.RelatedLemmas.{locals_after, local_here}
 use Rattle.law_core_is_history.proofs.MoveLemmas.{home_related, held_related, moved, unmoved}
 use Rattle.law_core_is_history.proofs.StandingLemmas.{without_stands, unseen_stands, entry_changed, entry_other, all_without, moved_is}
-use Rattle.floor_core.proofs.CoreProper.OnceLemmas.{entry_without}
+use Rattle.law_lines_translate.proofs.CoreProper.OnceLemmas.{entry_without}
 use Rattle.law_core_is_history.proofs.StepContext.{one, IsStep, finds, says_found}
 
 -- Records that words can have.

@@ -3,10 +3,10 @@ use Rattle.std.proofs.Common.{◌≡◌, ℕ, ◌<◌, ◌==◌, ◌&&◌, not, 
 use Rattle.std.proofs.lemmas.Bool.{and_parts, and_from}
 use Rattle.std.proofs.lemmas.List.{map-append, get_or-replicate}
 use Rattle.std.proofs.lemmas.List.Elements.{All-nil, All-cons, All-head, All-tail, All-from_get_or, filter-append, filter_map-append}
-use Rattle.floor_core.specs.Words.{GuestShape}
-use Rattle.floor_core.specs.Histories.{Call, Course, call_of, course_of, opening_course, IsWhole, IdealGuest, CanOpen}
-use Rattle.floor_core.specs.Core.{actor_count, CoreState, opening, seat_at, IsRun, after_moment, ideal_moments, ideal_of, Act, begins, makes, ends, CoreMoment, own_acts, step_of, entry_by, entries_of, are_parts, has_registers, IsPartedRun}
-use Rattle.floor_core.proofs.PortCore.RunLemmas.{run_splits}
+use Rattle.law_lines_translate.specs.Words.{GuestShape}
+use Rattle.law_lines_translate.specs.Histories.{Call, Course, call_of, course_of, opening_course, IsWhole, IdealGuest, CanOpen}
+use Rattle.law_lines_translate.specs.Core.{actor_count, CoreState, opening, seat_at, IsRun, after_moment, ideal_moments, ideal_of, Act, begins, makes, ends, CoreMoment, own_acts, step_of, entry_by, entries_of, are_parts, has_registers, IsPartedRun}
+use Rattle.law_lines_translate.proofs.PortCore.RunLemmas.{run_splits}
 use Rattle.law_core_is_history.specs.Laws.{AreCalls}
 use Rattle.law_core_is_history.specs.Whole.{within_after, AreEnded}
 use Rattle.law_core_is_history.proofs.HistorySteps.{run_leads}

@@ -3,12 +3,12 @@ use Rattle.std.proofs.Common.{◌≡◌, ◌≢◌, ℕ, ◌<◌, ◌≤◌, ◌
 use Rattle.std.proofs.lemmas.Bool.{ltb-true, ltb-false, eqb-true, eq-eqb}
 use Rattle.std.proofs.lemmas.Option.{same_Some}
 use Rattle.std.proofs.lemmas.List.{get_or-set_same, get_or-set_other, length-set}
-use Rattle.floor_core.specs.Words.{GuestShape}
-use Rattle.floor_core.specs.Calls.{Put, is_stored, PlainWord, Ram, Propbaser, Pendbaser, ItsCtlr, Cbaser, Cwriter, Baser0, Baser1, Fault, has_plain, plain_count, vcpus_from, its_from, its_word_of, vcpu_word_of, plain_at, place_of_plain}
-use Rattle.floor_core.specs.GicCall.declared.event.Found.TheVariants.{Word as FoundWord}
-use Rattle.floor_core.specs.Registers.{queue_of, Maps}
-use Rattle.floor_core.specs.Histories.{word_at, with_word, Ideal}
-use Rattle.floor_core.specs.Core.{Local, RamPut, WordId, Irq as IrqWord, Vcpu, Queue, Ctlr, Plain, Index, fault_place, CanPut, has_word, CoreState, seat_at, word_in, with_found}
+use Rattle.law_lines_translate.specs.Words.{GuestShape}
+use Rattle.law_lines_translate.specs.Calls.{Put, is_stored, PlainWord, Ram, Propbaser, Pendbaser, ItsCtlr, Cbaser, Cwriter, Baser0, Baser1, Fault, has_plain, plain_count, vcpus_from, its_from, its_word_of, vcpu_word_of, plain_at, place_of_plain}
+use Rattle.law_lines_translate.specs.GicCall.declared.event.Found.TheVariants.{Word as FoundWord}
+use Rattle.law_lines_translate.specs.Registers.{queue_of, Maps}
+use Rattle.law_lines_translate.specs.Histories.{word_at, with_word, Ideal}
+use Rattle.law_lines_translate.specs.Core.{Local, RamPut, WordId, Irq as IrqWord, Vcpu, Queue, Ctlr, Plain, Index, Line, fault_place, CanPut, has_word, CoreState, seat_at, word_in, with_found}
 use Rattle.law_core_is_history.specs.Known.{IsKnown}
 use Rattle.law_core_is_history.specs.Related.{WordSays, locals_of}
 use Rattle.law_core_is_history.specs.Simulates.{IsSimulated, IsSimulatedAs}
@@ -101,6 +101,7 @@ module _ (shape : GuestShape) (index value : ℕ) (ideal : Ideal) (places : HasP
     fault = λ e stalled. put_other Fault apart ∙ says.fault e stalled;
   }
   put_elsewhere apart locals (Index vcpu number) n differ h says = tt
+  put_elsewhere apart locals (Line number) n differ h says = tt
 
 module _ {shape : GuestShape} {state : CoreState} {ideal : Ideal} {actor found left : ℕ} {tables : Option Maps} where
   pub simulates_ram_put : (index seen value : ℕ) → IsKnown shape state → IsStep shape state ideal actor (RamPut index seen value) found left tables → IsSimulated shape state ideal (one actor (RamPut index seen value) found left tables)
@@ -120,7 +121,7 @@ module _ {shape : GuestShape} {state : CoreState} {ideal : Ideal} {actor found l
 
       of : (b : Bool) → (index == fault_place shape) ≡ b → left ≡ value → IsSimulatedAs shape core ideal actor (cond b None (with_found (Put (plain_at shape index) value) (FoundWord found)))
       of true e stores =
-          let put = subst (λ b. CanPut b shape actor local (seat_at state actor).own) e is.takes.meets in
+          let put = subst (λ b. CanPut b shape actor local (seat_at state actor).own) e is.takes.meets.fault in
           let knows = known actor is.takes.actor put.turn in
           let queue : put.runs.word ≡ word_in shape state Queue = same_Some put.runs.word (word_in shape state Queue) (sym put.runs.known_as ∙ knows.queue) in
           let runs : ideal.guest.is_stalled ≡ false = (is.related.words Queue refl).stalled ∙ ap (λ n. (queue_of n).stalled) (sym queue) ∙ put.runs.runs in

@@ -1,18 +1,18 @@
 -- The ITS's queue goes on: a command ends, or a register's write moves it.
 use Rattle.std.proofs.Common.{◌≡◌, ◌≢◌, ℕ, ◌<◌, ◌==◌, Bool, true, false, cond, IsTrue, List, [], slice_index_or, Option, Some, None, unwrap_or, arith, true≢false, refl, sym, ap, ◌∙◌, subst, length, inl, inr}
 use Rattle.std.proofs.lemmas.Bool.{ltb-true, eqb-true, eq-eqb}
-use Rattle.floor_core.specs.Words.{GuestShape, is_number, Key, irq_of}
-use Rattle.floor_core.specs.Calls.{PlainWord, Fault, has_plain, plain_count, plain_at, place_of_plain, Runs, Done, Stalls, maps_done, queue_event, next_offset, command_words, View, IsOffset, CanHappen, HappensFreely, irq_in, opening_cpu}
-use Rattle.floor_core.specs.GicCall.declared.event.Event.TheVariants.{Queue as QueueEvent}
+use Rattle.law_lines_translate.specs.Words.{GuestShape, is_number, Key, irq_of}
+use Rattle.law_lines_translate.specs.Calls.{PlainWord, Fault, has_plain, plain_count, plain_at, place_of_plain, Runs, Done, Stalls, maps_done, queue_event, next_offset, command_words, View, IsOffset, CanHappen, HappensFreely, irq_in, opening_cpu}
+use Rattle.law_lines_translate.specs.GicCall.declared.event.Event.TheVariants.{Queue as QueueEvent}
 use Rattle.law_histories.specs.ItsCmd.Command.{decoded}
-use Rattle.floor_core.specs.Registers.{fault_number, QueueWord, queue_of, Maps, CpuRec}
+use Rattle.law_lines_translate.specs.Registers.{fault_number, QueueWord, queue_of, Maps, CpuRec}
 use Rattle.std.specs.Option.{option_map_or}
 use Rattle.std.proofs.lemmas.List.{get_or-set_same, get_or-set_other, length-set}
-use Rattle.floor_core.proofs.GicCall.CommandLemmas.{queue_valid}
-use Rattle.floor_core.specs.Histories.{IdealGuest, irq_at, cpu_at, word_at, with_word, after_queue, Ideal}
-use Rattle.floor_core.specs.Core.{Local, CommandDone, WordId, Irq as IrqWord, Vcpu, Queue, Ctlr, Plain, Index, fault_place, known_fault, known_view, maps_by_step, has_word, CoreState, seat_at, word_in, after}
-use Rattle.floor_core.proofs.PortCore.StepTies.{few_actors}
-use Rattle.floor_core.proofs.PortCore.StepWords.{queue_back, queue_fits}
+use Rattle.law_lines_translate.proofs.GicCall.CommandLemmas.{queue_valid}
+use Rattle.law_lines_translate.specs.Histories.{IdealGuest, irq_at, cpu_at, word_at, with_word, after_queue, Ideal}
+use Rattle.law_lines_translate.specs.Core.{Local, CommandDone, WordId, Irq as IrqWord, Vcpu, Queue, Ctlr, Plain, Index, Line, fault_place, known_fault, known_view, maps_by_step, has_word, CoreState, seat_at, word_in, after}
+use Rattle.law_lines_translate.proofs.PortCore.StepTies.{few_actors}
+use Rattle.law_lines_translate.proofs.PortCore.StepWords.{queue_back, queue_fits}
 use Rattle.law_core_is_history.specs.Known.{IsKnown}
 use Rattle.law_core_is_history.specs.Related.{WordSays, SeatSays, Related, IsIrqRelated, IsCpuRelated, locals_of}
 use Rattle.law_core_is_history.specs.Simulates.{IsSimulated}
@@ -67,6 +67,7 @@ module _ (shape : GuestShape) (before later : Ideal) (same : SameButQueue shape 
     fault = λ e stalled. fault stalled ∙ ap (λ n. word_in shape state (Plain n)) (sym (eqb-true index (fault_place shape) e));
   }
   queue_elsewhere state locals fault (Index vcpu number) differ h says = tt
+  queue_elsewhere state locals fault (Line number) differ h says = tt
 
 -- a stall stores a number that fits a byte
 fault_fits : (shape : GuestShape) (view : View) (offset fault : ℕ) → IsOffset offset → queue_event shape view ≡ QueueEvent offset (Stalls fault) → CanHappen shape (QueueEvent offset (Stalls fault))

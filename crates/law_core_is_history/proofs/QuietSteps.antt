@@ -1,10 +1,10 @@
 -- Steps that stand for nothing, and change nothing of what the ideal controller has.
 use Rattle.std.proofs.Common.{◌≡◌, ℕ, ◌+◌, ◌/◌, ◌==◌, cond, Bool, true, false, Option, refl, sym, ap, ◌∙◌, subst}
-use Rattle.floor_core.specs.Words.{Key, GuestShape, Irq, irq_of, IsIrq}
-use Rattle.floor_core.specs.Registers.{Maps}
-use Rattle.floor_core.specs.Histories.{irq_at, Ideal}
-use Rattle.floor_core.specs.Core.{Kick, Mark, TakeIndex, Want, Irq as IrqWord, Vcpu, Index, Phase, Off, Scanning, Claiming, Loaded, Folding, local_after, phase_after, vcpu_of, index_bit, index_words, CoreState}
-use Rattle.floor_core.proofs.PortCore.StepWords.{packed_is}
+use Rattle.law_lines_translate.specs.Words.{Key, GuestShape, Irq, irq_of, IsIrq}
+use Rattle.law_lines_translate.specs.Registers.{Maps}
+use Rattle.law_lines_translate.specs.Histories.{irq_at, Ideal}
+use Rattle.law_lines_translate.specs.Core.{Kick, Mark, TakeIndex, Want, Irq as IrqWord, Vcpu, Index, Phase, Off, Scanning, Claiming, Loaded, Folding, local_after, phase_after, vcpu_of, index_bit, index_words, CoreState}
+use Rattle.law_lines_translate.proofs.PortCore.StepWords.{packed_is}
 use Rattle.law_core_is_history.specs.Related.{IsIrqRelated, locals_of, is_folding}
 use Rattle.law_core_is_history.specs.Simulates.{IsSimulated}
 use Rattle.law_core_is_history.proofs.RelatedLemmas.{quiet, irq_bare}

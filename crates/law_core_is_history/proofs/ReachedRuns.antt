@@ -1,12 +1,12 @@
 -- The moments that runs come to.
 use Rattle.std.proofs.Common.{ℕ, Option, Some, None}
-use Rattle.floor_core.specs.Words.{GuestShape, IsShape}
-use Rattle.floor_core.specs.Calls.{Happened}
-use Rattle.floor_core.specs.Histories.{happened, Ideal, IdealGuest, CanOpen}
-use Rattle.floor_core.specs.GicHistory.State.{opening as opening_ideal}
-use Rattle.floor_core.specs.Core.{Entry, CoreState, opening, after, Takes, IsSound}
-use Rattle.floor_core.proofs.PortCore.OpeningLemmas.{opens_sound}
-use Rattle.floor_core.proofs.PortCore.StepLemmas.{steps_sound}
+use Rattle.law_lines_translate.specs.Words.{GuestShape, IsShape}
+use Rattle.law_lines_translate.specs.Calls.{Happened}
+use Rattle.law_lines_translate.specs.Histories.{happened, Ideal, IdealGuest, CanOpen}
+use Rattle.law_lines_translate.specs.GicHistory.State.{opening as opening_ideal}
+use Rattle.law_lines_translate.specs.Core.{Entry, CoreState, opening, after, Takes, IsSound}
+use Rattle.law_lines_translate.proofs.PortCore.OpeningLemmas.{opens_sound}
+use Rattle.law_lines_translate.proofs.PortCore.StepLemmas.{steps_sound}
 use Rattle.law_core_is_history.specs.Known.{IsKnown}
 use Rattle.law_core_is_history.specs.Related.{Related}
 use Rattle.law_core_is_history.specs.Simulates.{IsSimulatedAs, event_of}

@@ -1,16 +1,17 @@
 -- Steps that only read.
 use Rattle.std.proofs.Common.{◌≡◌, ℕ, ◌<◌, ◌≤◌, ◌-◌, ◌/◌, ◌%◌, ◌==◌, nat_lt, lt-ltb, arith, Bool, true, false, cond, IsTrue, Option, None, is_some, refl, sym, ap, ◌∙◌, subst}
 use Rattle.std.proofs.lemmas.Bool.{ltb-true, ltb-false}
-use Rattle.floor_core.specs.Words.{Key, GuestShape, irq_of}
-use Rattle.floor_core.specs.GicCall.declared.event.Event.TheVariants.{Read}
-use Rattle.floor_core.specs.GicCall.declared.event.Place.TheVariants.{Word}
-use Rattle.floor_core.specs.Calls.{Ram, Propbaser, Pendbaser, ItsCtlr, Cbaser, Cwriter, Baser0, Baser1, Fault, has_plain, plain_count, vcpus_from, its_from, its_word_of, vcpu_word_of, plain_at}
-use Rattle.floor_core.specs.GicCall.declared.event.Found.TheVariants.{Word as FoundWord, Queue as FoundQueue, Ctlr as FoundCtlr, Lpis as FoundLpis}
-use Rattle.floor_core.specs.Registers.{queue_of, Maps}
-use Rattle.floor_core.specs.Histories.{Ideal}
-use Rattle.floor_core.specs.Core.{Local, Look, RamLook, WordId, Irq as IrqWord, Vcpu, Queue, Ctlr, Plain, Index, local_after, is_settled_by_look, fault_place, ctlr_of, with_found, settled, CoreState, after}
+use Rattle.law_lines_translate.specs.Words.{Key, GuestShape, irq_of}
+use Rattle.law_lines_translate.specs.GicCall.declared.event.Event.TheVariants.{Read}
+use Rattle.law_lines_translate.specs.GicCall.declared.event.Place.TheVariants.{Word}
+use Rattle.law_lines_translate.specs.Calls.{Ram, Propbaser, Pendbaser, ItsCtlr, Cbaser, Cwriter, Baser0, Baser1, Fault, has_plain, plain_count, vcpus_from, its_from, its_word_of, vcpu_word_of, plain_at}
+use Rattle.law_lines_translate.specs.GicCall.declared.event.Found.TheVariants.{Word as FoundWord, Queue as FoundQueue, Ctlr as FoundCtlr, Lpis as FoundLpis}
+use Rattle.law_lines_translate.specs.Registers.{queue_of, Maps}
+use Rattle.law_lines_translate.specs.Histories.{Ideal}
+use Rattle.law_lines_translate.specs.Core.{Local, Look, RamLook, WordId, Irq as IrqWord, Vcpu, Queue, Ctlr, Plain, Index, Line, local_after, is_settled_by_look, fault_place, ctlr_of, with_found, settled, CoreState, after}
 use Rattle.law_core_is_history.specs.Related.{WordSays, Related, locals_of, is_folding}
 use Rattle.law_core_is_history.specs.Simulates.{IsSimulated, IsSimulatedAs}
+use Rattle.law_core_is_history.proofs.LineSteps.{simulates_on_line}
 use Rattle.law_core_is_history.proofs.RelatedLemmas.{quiet, IsQuiet}
 use Rattle.law_core_is_history.proofs.StepContext.{one, IsStep, has, says_found, seat_same}
 
@@ -72,6 +73,7 @@ module _ {shape : GuestShape} {state : CoreState} {ideal : Ideal} {actor found l
   simulates_look (IrqWord key) is = looks_at_irq key is
   simulates_look (Plain index) is = quiet shape state ideal actor _ (Plain index) left is.good is.sound is.related is.takes.actor (has is) (looked_quiet (Plain index) is (locals_of state actor) refl refl refl)
   simulates_look (Index vcpu number) is = quiet shape state ideal actor _ (Index vcpu number) left is.good is.sound is.related is.takes.actor (has is) (looked_quiet (Index vcpu number) is (locals_of state actor) refl refl refl)
+  simulates_look (Line number) is = simulates_on_line (Look (Line number)) number refl refl refl is
   simulates_look (Vcpu vcpu) is = record {
     can = is.takes.can;
     allowed = refl;

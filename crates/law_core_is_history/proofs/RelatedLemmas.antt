@@ -2,12 +2,12 @@
 use Rattle.std.proofs.Common.{◌≡◌, ◌≢◌, ℕ, ◌<◌, IsTrue, refl, sym, ap, ◌∙◌, subst, length, slice_index_or, slice_set}
 use Rattle.std.specs.Option.{ForSome}
 use Rattle.std.proofs.lemmas.List.{get_or-set_same, get_or-set_other}
-use Rattle.floor_core.specs.Words.{Key, GuestShape, interrupt_count, IsShape, Irq}
-use Rattle.floor_core.specs.Calls.{plain_count}
-use Rattle.floor_core.specs.Registers.{Maps}
-use Rattle.floor_core.specs.Histories.{Ideal}
-use Rattle.floor_core.specs.Core.{Local, WordId, Irq as IrqWord, Vcpu, Queue, Ctlr, Plain, Index, actor_count, entry_for, has_word, place_of_word, CoreState, Seat, no_seat, word_in, IsSound}
-use Rattle.floor_core.proofs.PortCore.FrameLemmas.{word_changed, seat_changed}
+use Rattle.law_lines_translate.specs.Words.{Key, GuestShape, interrupt_count, IsShape, Irq}
+use Rattle.law_lines_translate.specs.Calls.{plain_count}
+use Rattle.law_lines_translate.specs.Registers.{Maps}
+use Rattle.law_lines_translate.specs.Histories.{Ideal}
+use Rattle.law_lines_translate.specs.Core.{Local, WordId, Irq as IrqWord, Vcpu, Queue, Ctlr, Plain, Index, Line, actor_count, entry_for, has_word, place_of_word, CoreState, Seat, no_seat, word_in, IsSound}
+use Rattle.law_lines_translate.proofs.PortCore.FrameLemmas.{word_changed, seat_changed}
 use Rattle.law_core_is_history.specs.Related.{bare, IsHeldRelated, IsIrqRelated, WordSays, SeatSays, Related, locals_of}
 
 -- what each actor has for itself once one has another state
@@ -40,6 +40,7 @@ module _ (shape : GuestShape) (before after : ℕ → Local) (same : (actor : �
   says_same ideal Ctlr n says = says
   says_same ideal (Plain index) n says = says
   says_same ideal (Index vcpu number) n says = says
+  says_same ideal (Line number) n says = says
 
 -- a word with the same record but for who waits says the same
 pub irq_bare : (locals : ℕ → Local) (key : Key) (before after ideal : Irq) → bare after ≡ bare before → after.holder ≡ before.holder → IsIrqRelated locals key before ideal → IsIrqRelated locals key after ideal

@@ -3,14 +3,14 @@ use Rattle.std.proofs.Common.{◌≡◌, ℕ, ◌<◌, false, if◌then◌else�
 use Rattle.std.proofs.lemmas.Bool.{ltb-true, eqb-true}
 use Rattle.std.proofs.lemmas.Option.{none-some}
 use Rattle.std.proofs.lemmas.List.{get_or-replicate, length-replicate}
-use Rattle.floor_core.specs.Words.{GuestShape, IsShape, Irq, irq_of, packed}
-use Rattle.floor_core.specs.Registers.{QueueWord, Maps}
-use Rattle.floor_core.specs.Calls.{plain_count, plain_at, place_of_plain, Happened}
-use Rattle.floor_core.specs.Histories.{irq_at, cpu_at, word_at, Ideal, IdealGuest, CanOpen}
-use Rattle.floor_core.specs.GicHistory.State.{opening as opening_ideal}
-use Rattle.floor_core.specs.Core.{Entry, CoreStep, Look, Raise, Claim, GiveBack, Release, Poll, Kick, Touch, Want, WireUp, WireDown, EnableLpis, RamLook, RamPut, CtlrTake, CtlrEnd, TurnTake, CommandDone, TurnRelease, Mark, TakeIndex, CtlrWord, WordId, Irq as IrqWord, Vcpu, Queue, Ctlr, Plain, Index, fault_place, has_word, CoreState, Seat, opening, opening_seat, opening_word_of, after, Takes, IsRun, IsSound, end_of}
-use Rattle.floor_core.proofs.PortCore.OpeningLemmas.{opens_sound, record_back, queue_is, ctlr_is, seat_opens, word_opens}
-use Rattle.floor_core.proofs.PortCore.StepLemmas.{steps_sound}
+use Rattle.law_lines_translate.specs.Words.{GuestShape, IsShape, Irq, irq_of, packed}
+use Rattle.law_lines_translate.specs.Registers.{QueueWord, Maps}
+use Rattle.law_lines_translate.specs.Calls.{plain_count, plain_at, place_of_plain, Happened}
+use Rattle.law_lines_translate.specs.Histories.{irq_at, cpu_at, word_at, Ideal, IdealGuest, CanOpen}
+use Rattle.law_lines_translate.specs.GicHistory.State.{opening as opening_ideal}
+use Rattle.law_lines_translate.specs.Core.{Entry, CoreStep, Look, Raise, Claim, GiveBack, Release, Poll, Kick, Touch, Want, WireUp, WireDown, EnableLpis, RamLook, RamPut, CtlrTake, CtlrEnd, TurnTake, CommandDone, TurnRelease, Mark, TakeIndex, LineEnter, LineLeave, LineFill, LineClose, CtlrWord, WordId, Irq as IrqWord, Vcpu, Queue, Ctlr, Plain, Index, Line, fault_place, has_word, CoreState, Seat, opening, opening_seat, opening_word_of, after, Takes, IsRun, IsSound, end_of}
+use Rattle.law_lines_translate.proofs.PortCore.OpeningLemmas.{opens_sound, record_back, queue_is, ctlr_is, seat_opens, word_opens}
+use Rattle.law_lines_translate.proofs.PortCore.StepLemmas.{steps_sound}
 use Rattle.law_core_is_history.specs.Known.{IsKnown}
 use Rattle.law_core_is_history.specs.Laws.{followed, followed_by, IsFollowedBy, IsFollowed, RunsAreSimulated}
 use Rattle.law_core_is_history.specs.Related.{bare, WordSays, SeatSays, Related, locals_of}
@@ -20,6 +20,7 @@ use Rattle.law_core_is_history.proofs.CauseSteps.{simulates_raise, simulates_wir
 use Rattle.law_core_is_history.proofs.ClaimSteps.{simulates_claim}
 use Rattle.law_core_is_history.proofs.EnableSteps.{simulates_enable}
 use Rattle.law_core_is_history.proofs.KnownSteps.{keeps_known}
+use Rattle.law_core_is_history.proofs.LineSteps.{simulates_on_line}
 use Rattle.law_core_is_history.proofs.MarkSteps.{simulates_ctlr_take, simulates_ctlr_end, simulates_turn_take, simulates_turn_release}
 use Rattle.law_core_is_history.proofs.MoveSteps.{simulates_give_back, simulates_release}
 use Rattle.law_core_is_history.proofs.PutSteps.{plain_back, simulates_ram_put}
@@ -53,6 +54,10 @@ simulates shape state ideal actor (CommandDone offset stalled ending) found left
 simulates shape state ideal actor TurnRelease found left tables known is = simulates_turn_release is
 simulates shape state ideal actor (Mark key vcpu) found left tables known is = simulates_mark key vcpu is
 simulates shape state ideal actor (TakeIndex word) found left tables known is = simulates_take_index word is
+simulates shape state ideal actor (LineEnter line seen) found left tables known is = simulates_on_line (LineEnter line seen) line refl refl refl is
+simulates shape state ideal actor (LineLeave line) found left tables known is = simulates_on_line (LineLeave line) line refl refl refl is
+simulates shape state ideal actor (LineFill line device event lpi) found left tables known is = simulates_on_line (LineFill line device event lpi) line refl refl refl is
+simulates shape state ideal actor (LineClose line) found left tables known is = simulates_on_line (LineClose line) line refl refl refl is
 
 pub entry_simulates : (shape : GuestShape) (state : CoreState) (ideal : Ideal) (entry : Entry) → IsShape shape → IsSound shape state → Related shape state ideal → IsKnown shape state → Takes shape state entry → IsSimulated shape state ideal entry
 entry_simulates shape state ideal entry good sound related known takes =
@@ -99,6 +104,7 @@ module _ (guest : IdealGuest) (number : ℕ) (good : CanOpen guest) where
   says_open Ctlr there = let back = ctlr_is guest in record { enables = sym (ap (λ (c : CtlrWord). c.enables) back); spreads = sym (ap (λ (c : CtlrWord). c.mark) back) }
   says_open (Plain index) there = record { stored = λ e. plain_opens index (ltb-true index (plain_count guest.shape) there); fault = λ e h. ap (slice_index guest.words) (sym (eqb-true index (fault_place guest.shape) e)) }
   says_open (Index vcpu number) there = tt
+  says_open (Line number) there = tt
 
   stands_open : (vcpu : ℕ) → vcpu < guest.shape.vcpus → SeatSays (opening_ideal guest) vcpu (opening_seat guest number vcpu).local
   stands_open vcpu there = record {

@@ -4,11 +4,11 @@ use Rattle.std.specs.List.{list_any, list_all}
 use Rattle.std.proofs.lemmas.Bool.{and_parts, and_from}
 use Rattle.std.proofs.lemmas.List.Elements.{All-from_get_or}
 use Rattle.std.proofs.lemmas.List.Folds.{list_any_none}
-use Rattle.floor_core.specs.Words.{Key, GuestShape, has_interrupt, is_same_key, is_number, irq_of}
-use Rattle.floor_core.specs.Calls.{Entry, Moved}
-use Rattle.floor_core.specs.Histories.{irq_at, Ideal, Standing, standing_at, is_of, moved_at, is_home, with_entry, without}
-use Rattle.floor_core.specs.Core.{AtIrq, Irq as IrqWord, actor_count, entry_for, entry_of, is_at, changed_at, without_at, CoreState, word_in, IsSound}
-use Rattle.floor_core.proofs.GicBase.KeyLemmas.{same_key, same_itself, other_key}
+use Rattle.law_lines_translate.specs.Words.{Key, GuestShape, has_interrupt, is_same_key, is_number, irq_of}
+use Rattle.law_lines_translate.specs.Calls.{Entry, Moved}
+use Rattle.law_lines_translate.specs.Histories.{irq_at, Ideal, Standing, standing_at, is_of, moved_at, is_home, with_entry, without}
+use Rattle.law_lines_translate.specs.Core.{AtIrq, Irq as IrqWord, actor_count, entry_for, entry_of, is_at, changed_at, without_at, CoreState, word_in, IsSound}
+use Rattle.law_lines_translate.proofs.GicBase.KeyLemmas.{same_key, same_itself, other_key}
 use Rattle.law_core_is_history.specs.Related.{Related, locals_of, stands}
 
 -- An interrupt in the list of its vCPU, and in that of the ideal controller.

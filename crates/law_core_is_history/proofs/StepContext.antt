@@ -1,11 +1,11 @@
 -- A step of a run, beside a state of the ideal controller that agrees with the core's.
 use Rattle.std.specs.List.{list_all}
 use Rattle.std.proofs.Common.{◌≡◌, ℕ, ◌||◌, not, map, Bool, true, false, IsTrue, Option, refl, sym, ap, ◌∙◌, subst}
-use Rattle.floor_core.specs.Words.{GuestShape, IsShape}
-use Rattle.floor_core.specs.Registers.{Maps}
-use Rattle.floor_core.specs.Histories.{cpu_at, Ideal}
-use Rattle.floor_core.specs.Core.{Local, Entry, CoreStep, VcpuWord, packed_vcpu, vcpu_of, has_word, CoreState, Takes, IsSound, word_of, CanFind}
-use Rattle.floor_core.proofs.PortCore.StepLemmas.{word_there, found_valid}
+use Rattle.law_lines_translate.specs.Words.{GuestShape, IsShape}
+use Rattle.law_lines_translate.specs.Registers.{Maps}
+use Rattle.law_lines_translate.specs.Histories.{cpu_at, Ideal}
+use Rattle.law_lines_translate.specs.Core.{Local, Entry, CoreStep, VcpuWord, packed_vcpu, vcpu_of, has_word, CoreState, Takes, IsSound, word_of, CanFind}
+use Rattle.law_lines_translate.proofs.PortCore.StepLemmas.{word_there, found_valid}
 use Rattle.law_core_is_history.specs.Related.{WordSays, SeatSays, Related, locals_of, stands, IsCpuRelated, is_folding}
 
 -- an entry of a run

@@ -4,20 +4,20 @@ use Rattle.std.specs.Option.{option_map_or}
 use Rattle.std.proofs.lemmas.Grind.{fold-append}
 use Rattle.std.proofs.lemmas.Option.{none-some}
 use Rattle.std.proofs.lemmas.List.Elements.{All-head, filter_map-append}
-use Rattle.floor_core.specs.Words.{GuestShape, IsShape}
+use Rattle.law_lines_translate.specs.Words.{GuestShape, IsShape}
 use Rattle.law_histories.specs.ItsCmd.Command.{decoded}
-use Rattle.floor_core.specs.Registers.{QueueWord, queue_of, fault_number, Maps}
-use Rattle.floor_core.specs.GicCall.declared.event.Event.TheVariants.{Queue as QueueEvent}
-use Rattle.floor_core.specs.Calls.{Place, Done, Stalls, queue_event, command_words, next_offset, command_places, View, Cbaser}
-use Rattle.floor_core.specs.GicCall.declared.event.Place.TheVariants.{Word, Queue as QueuePlace}
-use Rattle.floor_core.specs.Histories.{opening_course, IsHistory, IsWhole, IdealGuest}
+use Rattle.law_lines_translate.specs.Registers.{QueueWord, queue_of, fault_number, Maps}
+use Rattle.law_lines_translate.specs.GicCall.declared.event.Event.TheVariants.{Queue as QueueEvent}
+use Rattle.law_lines_translate.specs.Calls.{Place, Done, Stalls, queue_event, command_words, next_offset, command_places, View, Cbaser}
+use Rattle.law_lines_translate.specs.GicCall.declared.event.Place.TheVariants.{Word, Queue as QueuePlace}
+use Rattle.law_lines_translate.specs.Histories.{opening_course, IsHistory, IsWhole, IdealGuest}
 use Rattle.law_histories.proofs.SyncLaw.{sync_holds as histories_hold}
-use Rattle.floor_core.specs.Core.{Made, CoreStep, CommandDone, WordId, Queue, known_fault, Meets, word_after, is_on, known, known_word, known_view, is_known, since_turn, owes_no_kick, CoreState, opening, seat_at, word_in, after, Takes, IsRun, IsSound, after_moment, end_of_moments, ideal_of, CoreMoment, entry_by, step_of, entries_of, IsPartedRun}
-use Rattle.floor_core.proofs.PortCore.PlaceLemmas.{word_same}
-use Rattle.floor_core.proofs.PortCore.RunLemmas.{run_splits}
-use Rattle.floor_core.proofs.PortCore.StepTies.{few_actors}
-use Rattle.floor_core.proofs.PortCore.StepWords.{queue_back, queue_fits}
-use Rattle.floor_core.proofs.CoreProper.PartLemmas.{ideal_append, same_end}
+use Rattle.law_lines_translate.specs.Core.{Made, CoreStep, CommandDone, WordId, Queue, known_fault, Meets, word_after, is_on, known, known_word, known_view, is_known, since_turn, owes_no_kick, CoreState, opening, seat_at, word_in, after, Takes, IsRun, IsSound, after_moment, end_of_moments, ideal_of, CoreMoment, entry_by, step_of, entries_of, IsPartedRun}
+use Rattle.law_lines_translate.proofs.PortCore.PlaceLemmas.{word_same}
+use Rattle.law_lines_translate.proofs.PortCore.RunLemmas.{run_splits}
+use Rattle.law_lines_translate.proofs.PortCore.StepTies.{few_actors}
+use Rattle.law_lines_translate.proofs.PortCore.StepWords.{queue_back, queue_fits}
+use Rattle.law_lines_translate.proofs.CoreProper.PartLemmas.{ideal_append, same_end}
 use Rattle.law_core_is_history.specs.Known.{IsKnown}
 use Rattle.law_core_is_history.specs.Laws.{AreCalls}
 use Rattle.law_core_is_history.specs.Sync.{steps, StallsAlone, SyncHolds}
@@ -103,7 +103,7 @@ module _ (shape : GuestShape) (state : CoreState) (actor offset : ℕ) (found le
 entries_both : (early late : List CoreMoment) → entries_of (early ++ late) ≡ entries_of early ++ entries_of late
 entries_both early late = filter_map-append (λ (moment : CoreMoment). option_map (entry_by moment.actor) (step_of moment.act)) early late
 
-taken_at : (guest : IdealGuest) (number : ℕ) (early late : List CoreMoment) (actor : ℕ) (made : Made) → IsPartedRun guest number (early ++ steps actor made ∷ late) → Takes guest.shape (end_of_moments guest.shape (opening guest number) early) (entry_by actor made)
+pub taken_at : (guest : IdealGuest) (number : ℕ) (early late : List CoreMoment) (actor : ℕ) (made : Made) → IsPartedRun guest number (early ++ steps actor made ∷ late) → Takes guest.shape (end_of_moments guest.shape (opening guest number) early) (entry_by actor made)
 taken_at guest number early late actor made parted =
     let shape = guest.shape in
     let split = run_splits shape (opening guest number) (entries_of early) (entries_of (steps actor made ∷ late)) (subst (IsRun shape (opening guest number)) (entries_both early (steps actor made ∷ late)) parted.run) in

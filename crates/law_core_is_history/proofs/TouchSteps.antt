@@ -2,16 +2,16 @@
 use Rattle.std.proofs.Common.{◌≡◌, ℕ, ◌==◌, Bool, true, false, cond, Option, None, is_none, refl, sym, ap, ◌∙◌, subst}
 use Rattle.std.proofs.lemmas.Bool.{and_parts}
 use Rattle.std.proofs.lemmas.Option.{none-some}
-use Rattle.floor_core.specs.Words.{Key, Kind, SetEnable, ClearEnable, SetPending, ClearPending, SetActive, ClearActive, Priority, Config, Routing, GuestShape, is_sgi, Irq, irq_of, has_bit, target_in}
-use Rattle.floor_core.specs.GicBase.declared.operation.Kind.TheVariants.{Group}
-use Rattle.floor_core.specs.Calls.{Record, Touching, Register, Enables, MapLpi, touched}
-use Rattle.floor_core.specs.GicCall.declared.touch.Touching.TheVariants.{Read, Retarget, Configure, Forget}
-use Rattle.floor_core.specs.Registers.{part_written, activated, Maps}
-use Rattle.floor_core.specs.Histories.{irq_at, Ideal}
-use Rattle.floor_core.specs.Core.{Touch, local_done, touched_irq, CoreState}
-use Rattle.floor_core.proofs.PortCore.OwnLemmas.{owned_touched, touched_holder}
-use Rattle.floor_core.proofs.PortCore.StepTies.{none_is}
-use Rattle.floor_core.proofs.PortCore.StepWords.{packed_is, owned_of}
+use Rattle.law_lines_translate.specs.Words.{Key, Kind, SetEnable, ClearEnable, SetPending, ClearPending, SetActive, ClearActive, Priority, Config, Routing, GuestShape, is_sgi, Irq, irq_of, has_bit, target_in}
+use Rattle.law_lines_translate.specs.GicBase.declared.operation.Kind.TheVariants.{Group}
+use Rattle.law_lines_translate.specs.Calls.{Record, Touching, Register, Enables, MapLpi, touched}
+use Rattle.law_lines_translate.specs.GicCall.declared.touch.Touching.TheVariants.{Read, Retarget, Configure, Forget}
+use Rattle.law_lines_translate.specs.Registers.{part_written, activated, Maps}
+use Rattle.law_lines_translate.specs.Histories.{irq_at, Ideal}
+use Rattle.law_lines_translate.specs.Core.{Touch, local_done, touched_irq, CoreState}
+use Rattle.law_lines_translate.proofs.PortCore.OwnLemmas.{owned_touched, touched_holder}
+use Rattle.law_lines_translate.proofs.PortCore.StepTies.{none_is}
+use Rattle.law_lines_translate.proofs.PortCore.StepWords.{packed_is, owned_of}
 use Rattle.law_core_is_history.specs.Related.{bare, IsIrqRelated, locals_of}
 use Rattle.law_core_is_history.specs.Simulates.{IsSimulated}
 use Rattle.law_core_is_history.proofs.CauseSteps.{irq_event}

@@ -1,10 +1,10 @@
 -- Steps that may fail: one that does leaves all as it is, and stands for nothing.
 use Rattle.std.proofs.Common.{◌≡◌, ℕ, Bool, true, false, cond, [], ◌∷◌, ◌++◌, Option, None, refl, sym, subst, slice_set}
-use Rattle.floor_core.specs.Words.{GuestShape}
-use Rattle.floor_core.specs.Calls.{Happened}
-use Rattle.floor_core.specs.Registers.{Maps}
-use Rattle.floor_core.specs.Histories.{Ideal}
-use Rattle.floor_core.specs.Core.{Local, Made, CoreStep, local_done, succeeds, word_done, maps_by_step, place_of_word, CoreState, seat_at, event_done, word_of}
+use Rattle.law_lines_translate.specs.Words.{GuestShape}
+use Rattle.law_lines_translate.specs.Calls.{Happened}
+use Rattle.law_lines_translate.specs.Registers.{Maps}
+use Rattle.law_lines_translate.specs.Histories.{Ideal}
+use Rattle.law_lines_translate.specs.Core.{Local, Made, CoreStep, local_done, succeeds, word_done, maps_by_step, place_of_word, CoreState, seat_at, event_done, word_of}
 use Rattle.law_core_is_history.specs.Related.{WordSays, locals_of}
 use Rattle.law_core_is_history.specs.Simulates.{IsSimulated, IsSimulatedAs}
 use Rattle.law_core_is_history.proofs.RelatedLemmas.{quiet}

@@ -2,17 +2,17 @@
 use Rattle.std.proofs.Common.{[], zero, suc, Some, None, refl, arith}
 use Rattle.std.proofs.lemmas.List.Elements.{All-nil, All-cons}
 use Rattle.law_histories.proofs.IdealGuests.CanOpenLemmas.{openings_can_open}
-use Rattle.floor_core.specs.Words.{Iar1, Eoir1}
-use Rattle.floor_core.specs.Registers.{least_in, with_level, without_level}
-use Rattle.floor_core.specs.Calls.{Cpu, View, IsGoodPreset}
-use Rattle.floor_core.specs.GicCall.declared.event.Event.TheVariants.{Raise}
-use Rattle.floor_core.specs.GicCall.declared.event.Found.TheVariants.{Nothing, Answer}
-use Rattle.floor_core.specs.Histories.{opening_course, view_at, CanOpen}
-use Rattle.floor_core.specs.GicHistory.State.{opening as opening_ideal}
-use Rattle.floor_core.proofs.GicHistory.CallLemmas.{call_ended, hands_one}
-use Rattle.floor_core.specs.Lists.{in_places}
-use Rattle.floor_core.specs.Core.{opening, worked_guest, worked_spec, worked_run, spi, ideal_of}
-use Rattle.floor_core.proofs.CoreProper.WorkedLemmas.{worked_is_proper}
+use Rattle.law_lines_translate.specs.Words.{Iar1, Eoir1}
+use Rattle.law_lines_translate.specs.Registers.{least_in, with_level, without_level}
+use Rattle.law_lines_translate.specs.Calls.{Cpu, View, IsGoodPreset}
+use Rattle.law_lines_translate.specs.GicCall.declared.event.Event.TheVariants.{Raise}
+use Rattle.law_lines_translate.specs.GicCall.declared.event.Found.TheVariants.{Nothing, Answer}
+use Rattle.law_lines_translate.specs.Histories.{opening_course, view_at, CanOpen}
+use Rattle.law_lines_translate.specs.GicHistory.State.{opening as opening_ideal}
+use Rattle.law_lines_translate.proofs.GicHistory.CallLemmas.{call_ended, hands_one}
+use Rattle.law_lines_translate.specs.Lists.{in_places}
+use Rattle.law_lines_translate.specs.Core.{opening, worked_guest, worked_spec, worked_run, spi, ideal_of}
+use Rattle.law_lines_translate.proofs.CoreProper.WorkedLemmas.{worked_is_proper}
 use Rattle.law_histories.specs.Latches.{StaysEdge}
 use Rattle.law_core_is_history.specs.Laws.{AreCalls}
 use Rattle.law_core_is_history.specs.Whole.{AreEnded}

@@ -1,10 +1,10 @@
 -- The copies of the group enables of GICD_CTLR in the words of interrupts.
 use Rattle.std.specs.Prelude.{ℕ, List, ◌++◌}
-use Rattle.floor_core.specs.Words.{GuestShape, irq_of}
-use Rattle.floor_core.specs.Registers.{Enables}
-use Rattle.floor_core.specs.Histories.{opening_course, IdealGuest, CanOpen}
+use Rattle.law_lines_translate.specs.Words.{GuestShape, irq_of}
+use Rattle.law_lines_translate.specs.Registers.{Enables}
+use Rattle.law_lines_translate.specs.Histories.{opening_course, IdealGuest, CanOpen}
 use Rattle.law_histories.specs.Enables.{replaced_in, CopiesAgree}
-use Rattle.floor_core.specs.Core.{Irq, Ctlr, ctlr_of, CoreState, opening, word_in, end_of_moments, ideal_of, CoreMoment, IsPartedRun}
+use Rattle.law_lines_translate.specs.Core.{Irq, Ctlr, ctlr_of, CoreState, opening, word_in, end_of_moments, ideal_of, CoreMoment, IsPartedRun}
 use Rattle.law_core_is_history.specs.Laws.{AreCalls}
 use Rattle.law_core_is_history.specs.Whole.{AreEnded}
 

@@ -1,7 +1,7 @@
 -- What the actor that has the ITS knows by its own steps (own choice): nobody else changes it meanwhile.
 use Rattle.std.specs.Prelude.{◌≡◌, ℕ, ◌<◌, IsTrue, Some}
-use Rattle.floor_core.specs.Words.{GuestShape}
-use Rattle.floor_core.specs.Core.{Queue, Plain, actor_count, fault_place, HasPutFault, known, CoreState, seat_at, word_in}
+use Rattle.law_lines_translate.specs.Words.{GuestShape}
+use Rattle.law_lines_translate.specs.Core.{Queue, Plain, actor_count, fault_place, HasPutFault, known, CoreState, seat_at, word_in}
 
 -- it knows the queue's word, and where its last step stored the number of a fault, that
 pub record KnowsIts (shape : GuestShape) (state : CoreState) (actor : ℕ) : Type 0 where

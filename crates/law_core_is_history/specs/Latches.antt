@@ -1,12 +1,12 @@
 -- Latched causes in runs.
 use Rattle.std.specs.Prelude.{◌≡◌, ℕ, ◌&&◌, ◌||◌, Bool, IsTrue, List, nat_lt}
 use Rattle.std.specs.List.{list_any, range_with_len}
-use Rattle.floor_core.specs.Calls.{GuestSpec, IsGoodGuest}
-use Rattle.floor_core.specs.Words.{Key, GuestShape, has_interrupt, is_same_key, irq_of}
-use Rattle.floor_core.specs.Histories.{opening_course, IdealGuest, opening_guest}
-use Rattle.floor_core.specs.GicHistory.State.{opening as opening_ideal}
+use Rattle.law_lines_translate.specs.Calls.{GuestSpec, IsGoodGuest}
+use Rattle.law_lines_translate.specs.Words.{Key, GuestShape, has_interrupt, is_same_key, irq_of}
+use Rattle.law_lines_translate.specs.Histories.{opening_course, IdealGuest, opening_guest}
+use Rattle.law_lines_translate.specs.GicHistory.State.{opening as opening_ideal}
 use Rattle.law_histories.specs.Latches.{StaysEdge, latch_of, LatchHolds}
-use Rattle.floor_core.specs.Core.{AtIrq, Irq, CoreState, opening, seat_at, word_in, end_of_moments, ideal_of, CoreMoment, IsPartedRun}
+use Rattle.law_lines_translate.specs.Core.{AtIrq, Irq, CoreState, opening, seat_at, word_in, end_of_moments, ideal_of, CoreMoment, IsPartedRun}
 use Rattle.law_core_is_history.specs.Laws.{AreCalls}
 
 -- a vCPU has a cause of it at its interface, also where the interrupt was given back and not released yet

@@ -1,10 +1,10 @@
 -- Laws of every run of the core.
 use Rattle.std.specs.Prelude.{◌≡◌, ℕ, IsTrue, List, [], ◌∷◌, Option, Some, None}
-use Rattle.floor_core.specs.Words.{GuestShape}
-use Rattle.floor_core.specs.Calls.{Happened, CanHappen}
-use Rattle.floor_core.specs.Histories.{Ideal, is_allowed, handed_out, happened, Course, call_of, course_of, opening_course, IsCallEnded, IsHistory, last_of, IdealGuest, CanOpen}
-use Rattle.floor_core.specs.GicHistory.State.{opening as opening_ideal}
-use Rattle.floor_core.specs.Core.{Entry, CoreState, opening, after, seat_at, IsRun, end_of, after_moment, end_of_moments, ideal_moments, ideal_of, Act, begins, makes, ends, CoreMoment, IsPartedRun}
+use Rattle.law_lines_translate.specs.Words.{GuestShape}
+use Rattle.law_lines_translate.specs.Calls.{Happened, CanHappen}
+use Rattle.law_lines_translate.specs.Histories.{Ideal, is_allowed, handed_out, happened, Course, call_of, course_of, opening_course, IsCallEnded, IsHistory, last_of, IdealGuest, CanOpen}
+use Rattle.law_lines_translate.specs.GicHistory.State.{opening as opening_ideal}
+use Rattle.law_lines_translate.specs.Core.{Entry, CoreState, opening, after, seat_at, IsRun, end_of, after_moment, end_of_moments, ideal_moments, ideal_of, Act, begins, makes, ends, CoreMoment, IsPartedRun}
 use Rattle.law_core_is_history.specs.Related.{Related}
 use Rattle.law_core_is_history.specs.Simulates.{event_of}
 

@@ -2,11 +2,11 @@
 use Rattle.std.specs.Prelude.{◌≡◌, ℕ, ◌<◌, ◌==◌, ◌||◌, not, Bool, true, false, IsTrue, map, length, Some, None, if◌then◌else◌}
 use Rattle.std.specs.List.{list_all}
 use Rattle.std.specs.Option.{ForSome}
-use Rattle.floor_core.specs.Words.{Key, GuestShape, interrupt_count, Irq, irq_of}
-use Rattle.floor_core.specs.Registers.{CpuRec, queue_of}
-use Rattle.floor_core.specs.Calls.{plain_at, plain_count, Fault}
-use Rattle.floor_core.specs.Histories.{IdealGuest, irq_at, cpu_at, word_at, Ideal, Standing, standing_at}
-use Rattle.floor_core.specs.Core.{AtIrq, Local, Phase, Folding, WordId, Irq as IrqWord, Vcpu, Queue, Ctlr, Plain, Index, fault_place, given_back, vcpu_of, ctlr_of, entry_for, entry_of, back_of, has_word, CoreState, seat_at, word_in}
+use Rattle.law_lines_translate.specs.Words.{Key, GuestShape, interrupt_count, Irq, irq_of}
+use Rattle.law_lines_translate.specs.Registers.{CpuRec, queue_of}
+use Rattle.law_lines_translate.specs.Calls.{plain_at, plain_count, Fault}
+use Rattle.law_lines_translate.specs.Histories.{IdealGuest, irq_at, cpu_at, word_at, Ideal, Standing, standing_at}
+use Rattle.law_lines_translate.specs.Core.{AtIrq, Local, Phase, Folding, WordId, Irq as IrqWord, Vcpu, Queue, Ctlr, Plain, Index, Line, fault_place, given_back, vcpu_of, ctlr_of, entry_for, entry_of, back_of, has_word, CoreState, seat_at, word_in}
 
 -- Interrupts.
 
@@ -57,6 +57,7 @@ WordSays shape locals ideal Queue word = IsQueueRelated word ideal
 WordSays shape locals ideal Ctlr word = IsCtlrRelated word ideal
 WordSays shape locals ideal (Plain index) word = IsPlainRelated shape index word ideal.guest
 WordSays shape locals ideal (Index vcpu number) word = Unit {0}
+WordSays shape locals ideal (Line number) word = Unit {0}
 
 -- Interfaces.
 

@@ -1,9 +1,9 @@
 -- Each step of the core is what it stands for in the ideal controller.
 use Rattle.std.specs.Prelude.{◌≡◌, ℕ, IsTrue, Option, Some, None}
-use Rattle.floor_core.specs.Words.{GuestShape}
-use Rattle.floor_core.specs.Calls.{Happened, CanHappen}
-use Rattle.floor_core.specs.Histories.{Ideal, is_allowed, handed_out, happened}
-use Rattle.floor_core.specs.Core.{Entry, CoreState, seat_at, after, stands_for}
+use Rattle.law_lines_translate.specs.Words.{GuestShape}
+use Rattle.law_lines_translate.specs.Calls.{Happened, CanHappen}
+use Rattle.law_lines_translate.specs.Histories.{Ideal, is_allowed, handed_out, happened}
+use Rattle.law_lines_translate.specs.Core.{Entry, CoreState, seat_at, after, stands_for}
 use Rattle.law_core_is_history.specs.Related.{Related}
 
 -- an event happens in the ideal controller as it may, hands out what it has to, and leads to a state that the core's state agrees with

@@ -1,10 +1,10 @@
 -- What the ITS has done of its queue in runs.
 use Rattle.std.specs.Prelude.{◌≡◌, ◌≢◌, ℕ, Bool, true, IsTrue, List, [], ◌∷◌, ◌++◌, Option, None}
-use Rattle.floor_core.specs.Words.{GuestShape}
-use Rattle.floor_core.specs.Registers.{queue_of}
-use Rattle.floor_core.specs.Histories.{opening_course, IdealGuest, CanOpen}
+use Rattle.law_lines_translate.specs.Words.{GuestShape}
+use Rattle.law_lines_translate.specs.Registers.{queue_of}
+use Rattle.law_lines_translate.specs.Histories.{opening_course, IdealGuest, CanOpen}
 use Rattle.law_histories.specs.Sync.{commands_of, mapped_by, IsSynced}
-use Rattle.floor_core.specs.Core.{Made, CommandDone, WordId, Queue, owes_no_kick, has_word, CoreState, opening, seat_at, word_in, end_of_moments, ideal_of, makes, CoreMoment, IsPartedRun}
+use Rattle.law_lines_translate.specs.Core.{Made, CommandDone, WordId, Queue, owes_no_kick, has_word, CoreState, opening, seat_at, word_in, end_of_moments, ideal_of, makes, CoreMoment, IsPartedRun}
 use Rattle.law_core_is_history.specs.Laws.{AreCalls}
 use Rattle.law_core_is_history.specs.Whole.{AreEnded}
 

@@ -1,7 +1,7 @@
 -- Runs whose parts have all ended.
 use Rattle.std.specs.Prelude.{◌≡◌, ℕ, ◌<◌, Bool, true, false, List, fold}
-use Rattle.floor_core.specs.Words.{GuestShape}
-use Rattle.floor_core.specs.Core.{actor_count, Act, begins, makes, ends, CoreMoment, own_acts}
+use Rattle.law_lines_translate.specs.Words.{GuestShape}
+use Rattle.law_lines_translate.specs.Core.{actor_count, Act, begins, makes, ends, CoreMoment, own_acts}
 
 -- whether an actor is in a part after what it does
 abbrev pub within_after : Bool → Act → Bool

@@ -1,8 +1,8 @@
 -- The worked run meets what the laws ask.
-use Rattle.floor_core.specs.Histories.{opening_course, CanOpen}
-use Rattle.floor_core.specs.GicHistory.State.{opening as opening_ideal}
+use Rattle.law_lines_translate.specs.Histories.{opening_course, CanOpen}
+use Rattle.law_lines_translate.specs.GicHistory.State.{opening as opening_ideal}
 use Rattle.law_histories.specs.Latches.{StaysEdge}
-use Rattle.floor_core.specs.Core.{opening, ideal_of, IsPartedRun, worked_guest, worked_run, spi}
+use Rattle.law_lines_translate.specs.Core.{opening, ideal_of, IsPartedRun, worked_guest, worked_run, spi}
 use Rattle.law_core_is_history.specs.Laws.{AreCalls, IsHistoryOf}
 use Rattle.law_core_is_history.specs.Whole.{AreEnded}
 

@@ -2,6 +2,7 @@
 ghost use Rattle.law_core_is_history.specs.Enables.{EnablesAgree};
 ghost use Rattle.law_core_is_history.specs.Latches.{Latches};
 ghost use Rattle.law_core_is_history.specs.Laws.{RunsAreSimulated, Simulates};
+ghost use Rattle.law_core_is_history.specs.Posts.{PostsAreSignals, PostsEndAsCalls};
 ghost use Rattle.law_core_is_history.specs.Sync.{SyncHolds};
 ghost use Rattle.law_core_is_history.specs.Worked.{WorkedRunIsHistory};
 
@@ -42,4 +43,16 @@ pub fn latches()
 /// sent; and a bad one stalls the queue where it is, and changes nothing else but the number of the fault.
 pub fn sync_holds()
     ensures { SyncHolds }
+{}
+
+/// A law of every run whose parts so far are calls: where a device is in a translation line with a message, the LPI that it
+/// found there is the one that the message signals, and no command of the ITS is midway.
+pub fn posts_are_signals()
+    ensures { PostsAreSignals }
+{}
+
+/// A law of every run whose parts so far are calls: a part that raises the LPI which the message's device found in a
+/// translation line, while it is in that line, ends as the call of that message, whoever acts meanwhile.
+pub fn posts_end_as_calls()
+    ensures { PostsEndAsCalls }
 {}

@@ -5,5 +5,6 @@
 mod laws;
 
 pub use laws::{
-    enables_agree, latches, runs_are_simulated, simulates, sync_holds, worked_run_is_history,
+    enables_agree, latches, posts_are_signals, posts_end_as_calls, runs_are_simulated, simulates,
+    sync_holds, worked_run_is_history,
 };

@@ -7,7 +7,7 @@ use Rattle.law_serial_is_eager.specs.Words.{Key, GuestShape, has_interrupt, is_o
 use Rattle.law_serial_is_eager.specs.Histories.{IdealGuest}
 use Rattle.law_serial_is_eager.specs.Registers.{Maps}
 use Rattle.law_serial_is_eager.specs.Lists.{Offer}
-use Rattle.law_serial_is_eager.specs.Core.{Local, Phase, Off, Scanning, Claiming, Loaded, Folding, Made, CoreStep, Look, Claim, Poll, Kick, Mark, TakeIndex, Irq, Vcpu, Queue, Ctlr, Plain, Index, is_settled_by_look, local_after, phase_after, succeeds, settled, index_bit, index_bits, index_words, Progress, after_claim, claim_left, is_end_of, IsProperStep, is_empty, planned, Scan, idle, taking, looking, claiming, has_key, is_idle, offered, scan_allows, scan_looked, without_key, word_taken}
+use Rattle.law_serial_is_eager.specs.Core.{Local, Phase, Off, Scanning, Claiming, Loaded, Folding, Made, CoreStep, Look, Claim, Poll, Kick, Mark, TakeIndex, Irq, Vcpu, Queue, Ctlr, Plain, Index, Line, is_settled_by_look, local_after, phase_after, succeeds, settled, index_bit, index_bits, index_words, Progress, after_claim, claim_left, is_end_of, IsProperStep, is_empty, planned, Scan, idle, taking, looking, claiming, has_key, is_idle, offered, scan_allows, scan_looked, without_key, word_taken}
 use Rattle.law_serial_is_eager.proofs.PortCore.StepTies.{none_is}
 use Rattle.law_serial_is_eager.specs.CoreProper.Progress.{changed_by}
 use Rattle.law_serial_is_eager.proofs.CoreProper.ScanLemmas.{IsNext, bit_of_key, next_is, own_of_bit}
@@ -219,6 +219,7 @@ module _ (shape : GuestShape) (good : IsShape shape) (guest : IdealGuest) (vcpu 
   enters_made (Look Ctlr) other proper no_end seen failed untrapped now = enters_quiet (Look Ctlr) proper refl refl refl now
   enters_made (Look (Plain i)) other proper no_end seen failed untrapped now = enters_quiet (Look (Plain i)) proper refl refl refl now
   enters_made (Look (Index v m)) other proper no_end seen failed untrapped now = enters_quiet (Look (Index v m)) proper refl refl refl now
+  enters_made (Look (Line m)) other proper no_end seen failed untrapped now = enters_quiet (Look (Line m)) proper refl refl refl now
   enters_made (Claim k s) other proper no_end seen failed untrapped now = enters_claim k s proper (no_end k) failed now
   enters_made (Kick v) other proper no_end seen failed untrapped now = enters_kick v now
   enters_made (Mark k v) other proper no_end seen failed untrapped now = enters_mark k v proper now

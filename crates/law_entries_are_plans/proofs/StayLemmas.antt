@@ -2,7 +2,7 @@
 use Rattle.std.proofs.Common.{◌≡◌, ℕ, ◌==◌, ◌&&◌, ◌||◌, true≢false, not, Bool, true, false, IsTrue, Some, None, unwrap_or, if◌then◌else◌, refl, sym, ap, ◌∙◌, subst}
 use Rattle.std.proofs.lemmas.Bool.{and_parts}
 use Rattle.law_serial_is_eager.specs.Words.{Key, GuestShape, is_number, irq_of}
-use Rattle.law_serial_is_eager.specs.Core.{CoreStep, Look, Claim, Poll, Kick, TakeIndex, Irq, Vcpu, Queue, Ctlr, Plain, Index, vcpu_of, Progress, after_claim, after_poll, begun, is_end_of, IsProperStep, is_empty, Scan, idle, taking, looking, claiming, is_idle, scan_allows}
+use Rattle.law_serial_is_eager.specs.Core.{CoreStep, Look, Claim, Poll, Kick, TakeIndex, Irq, Vcpu, Queue, Ctlr, Plain, Index, Line, vcpu_of, Progress, after_claim, after_poll, begun, is_end_of, IsProperStep, is_empty, Scan, idle, taking, looking, claiming, is_idle, scan_allows}
 use Rattle.law_serial_is_eager.specs.CoreProper.Progress.{changed_by}
 use Rattle.law_serial_is_eager.proofs.LawCoreIsHistory.KickSteps.{is_kick_of, is_poll}
 
@@ -31,6 +31,7 @@ module _ (shape : GuestShape) (vcpu found : ℕ) (done : Bool) (p : Progress) wh
   failed_before (Look Ctlr) no_poll no_kick h = h
   failed_before (Look (Plain i)) no_poll no_kick h = h
   failed_before (Look (Index v n)) no_poll no_kick h = h
+  failed_before (Look (Line n)) no_poll no_kick h = h
   failed_before (Poll reg write) no_poll no_kick h = absurd (true≢false no_poll)
   failed_before step no_poll no_kick h = h
 
@@ -50,6 +51,7 @@ module _ (shape : GuestShape) (vcpu found : ℕ) (done : Bool) (p : Progress) wh
   untrapped_before (Look Ctlr) no_poll h = h
   untrapped_before (Look (Plain i)) no_poll h = h
   untrapped_before (Look (Index v n)) no_poll h = h
+  untrapped_before (Look (Line n)) no_poll h = h
   untrapped_before (Poll reg write) no_poll h = absurd (true≢false no_poll)
   untrapped_before step no_poll h = h
 
@@ -85,4 +87,5 @@ module _ (shape : GuestShape) (vcpu found : ℕ) (done : Bool) (p : Progress) wh
   far_stays (Look Ctlr) proper no_end none = none
   far_stays (Look (Plain i)) proper no_end none = none
   far_stays (Look (Index v n)) proper no_end none = none
+  far_stays (Look (Line n)) proper no_end none = none
   far_stays step proper no_end none = none

@@ -38,10 +38,11 @@ use Rattle.law_serial_is_eager.proofs.SerialRuns.{IsThere, all_late, part_there}
 use Rattle.pe_mem.specs.ItsExec.Queue.{Taken}
 use Rattle.pe_mem.specs.ItsExec.Run.{AgreeAll}
 use Rattle.pe_mem.specs.Found.{Agrees, Finding, IsFinding, TookAmong, are_before, by_commands, by_looks, is_before, is_by_commands, takes_its_by}
-use Rattle.law_found_parts_are_calls.specs.Found.{FoundPartsAreCalls, IsFoundPart}
+use Rattle.law_found_parts_are_calls.specs.Found.{FoundPartsAreCalls, IsFoundCall}
 use Rattle.law_found_parts_are_calls.proofs.CommandRuns.{IsCome, agree_all, own_taken, steps_taken, whole_so}
 use Rattle.law_found_parts_are_calls.proofs.HereRuns.{AreHere, after_steps, calls_along, handed_out_all, happened_in, happened_is, happened_join, here_all, here_join, ideal_after, ideal_is, local_after_steps, own_after_steps, so_after}
 use Rattle.law_found_parts_are_calls.proofs.LookRuns.{look_agrees}
+use Rattle.law_found_parts_are_calls.proofs.PostCalls.{calls_both, post_part}
 use Rattle.law_found_parts_are_calls.proofs.SteadyLemmas.{beside_steady, is_steady, maps_steady, named_steady, noted_heads, noting_after, steady_maps, targets_steady}
 use Rattle.law_found_parts_are_calls.proofs.TurnCalls.{IsTurnCall, turn_call}
 use Rattle.law_found_parts_are_calls.proofs.TurnRuns.{all_wait, is_ending, maps_along, take_turns, taken_waits, waits}
@@ -80,13 +81,6 @@ call_steady shape beside actor operation piece answer free is = absurd is
 part_entries : (actor : ℕ) (answer : Option ℕ) (steps : List Made) → entries_of (map (moment_by actor) (map makes steps ++ ends answer ∷ [])) ≡ map (entry_by actor) steps
 part_entries actor answer [] = refl
 part_entries actor answer (made ∷ steps) = ap (λ entries. entry_by actor made ∷ entries) (part_entries actor answer steps)
-
-calls_both : (shape : GuestShape) (state : CoreState) (course : Course) (early late : List CoreMoment) → AreCalls shape state course early → AreCalls shape (end_of_moments shape state early) (course_of course (ideal_of shape state early)) late → AreCalls shape state course (early ++ late)
-calls_both shape state course [] late first next = next
-calls_both shape state course (moment ∷ early) late first next =
-    let events = ideal_moments shape (seat_at state moment.actor) moment.actor moment.act in
-    let after = after_moment shape state moment in
-    (first.0, calls_both shape after (course_of course events) early late first.1 (subst (λ c. AreCalls shape (end_of_moments shape after early) c late) (fold-append gone_on course events (ideal_of shape after early)) next))
 
 no_turns : (events : List Event) → list_any (λ event. not (is_no_turn event)) events ≡ false → IsTrue (list_all is_no_turn events)
 no_turns [] h = refl
@@ -140,7 +134,7 @@ cut_same (made ∷ own) one two e = cut_same own one two (same_rest made made (o
 -- The call.
 
 module _ (guest : IdealGuest) (number : ℕ) (early : List CoreMoment) (part : WholePart) (good : CanOpen guest) (proper : IsProperRun guest number (early ++ moments_in part)) (calls : AreCalls guest.shape (opening guest number) (opening_course guest) early)
-    (told : IsFoundPart guest number early part) where
+    (told : IsFoundCall guest number early part) where
   abbrev shape : GuestShape
   shape = guest.shape
 
@@ -418,4 +412,5 @@ module _ (guest : IdealGuest) (number : ℕ) (early : List CoreMoment) (part : W
       (tt, calls_along shape part.actor part.answer part.steps before (gone_on course (Begin part.actor part.operation)) first here (begun_here course part.actor part.operation (subst (λ n. part.actor < n) (sym at.each) there)) (is_ended none))
 
 pub found_parts_are_calls : FoundPartsAreCalls
-found_parts_are_calls guest number early part good proper calls none told = found guest number early part good proper calls told none
+found_parts_are_calls guest number early part good proper calls none (inl told) = found guest number early part good proper calls told none
+found_parts_are_calls guest number early part good proper calls none (inr told) = post_part guest number early part good proper calls told

@@ -15,11 +15,13 @@ pub mod WindowRuns
 pub mod TurnCalls
 pub mod BegunRuns
 pub mod LookRuns
+pub mod PostCalls
 pub mod NoneRuns
 pub mod FirstRuns
 pub mod CommandRuns
 pub mod EndRuns
 pub mod EagerRuns
 pub mod WorkedLemmas
+pub mod WorkedCloses
 pub mod WorkedWrites
 pub mod WorkedCommands

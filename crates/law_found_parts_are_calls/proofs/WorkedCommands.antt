@@ -1,5 +1,5 @@
 -- The worked part that takes a command, and the law of all these parts.
-use Rattle.std.proofs.Common.{◌≡◌, ℕ, ◌<◌, ◌+◌, nat_lt, true, false, IsTrue, List, [], ◌∷◌, ◌++◌, None, Some, IfSome, Err, Bool, take, nat_le, leb-true, ltb-true, append-nil, refl, sym, ◌∙◌, ap, subst, arith}
+use Rattle.std.proofs.Common.{◌≡◌, ℕ, inl, ◌<◌, ◌+◌, nat_lt, true, false, IsTrue, List, [], ◌∷◌, ◌++◌, None, Some, IfSome, Err, Bool, take, nat_le, leb-true, ltb-true, append-nil, refl, sym, ◌∙◌, ap, subst, arith}
 use Rattle.std.proofs.lemmas.Bool.{and_parts}
 use Rattle.std.proofs.lemmas.List.Elements.{All-cons, All-nil}
 use Rattle.law_serial_is_eager.proofs.GicCall.ReadLemmas.{last_read}
@@ -25,7 +25,7 @@ use Rattle.pe_mem.proofs.ItsExec.RunLemmas.{taken_are_run}
 use Rattle.pe_mem.proofs.ItsExec.TakeLemmas.{took_bad}
 use Rattle.pe_mem.proofs.PortCall.PieceLemmas.{piece_joins, piece_one}
 use Rattle.law_serial_is_eager.specs.Serial.{AreFit}
-use Rattle.law_found_parts_are_calls.specs.Found.{AreFoundParts, IsFoundPart}
+use Rattle.law_found_parts_are_calls.specs.Found.{AreFoundParts, IsFoundCall}
 use Rattle.law_found_parts_are_calls.specs.WorkedCommand.{WorkedCommandIsFound, adds_command, enables, its_parts, makes_queue, queue, stalled, taken, step}
 use Rattle.law_found_parts_are_calls.proofs.EagerRuns.{found_runs_are_eager}
 use Rattle.law_found_parts_are_calls.proofs.WorkedLemmas.{told_in}
@@ -38,7 +38,7 @@ abbrev began : Seen
 began = told_in worked_guest before_enables 0
 
 abbrev early : List Made
-early = take 7 enables.steps
+early = take 71 enables.steps
 
 abbrev from : Seen
 from = record (seen_after began early) { taken = true }
@@ -76,6 +76,7 @@ from_ready =
       shape_is = refl;
       taken = refl;
       ease = record { owes = refl; empty = refl };
+      lines = refl;
       maps = refl;
       valid = empty_valid worked_guest.shape;
       fresh = record { reading = refl; each = λ id h. subst At (one_lpi id h) (record { none = refl }) };
@@ -90,6 +91,7 @@ to_ready =
       shape_is = refl;
       taken = refl;
       ease = record { owes = refl; empty = refl };
+      lines = refl;
       maps = refl;
       valid = empty_valid worked_guest.shape;
       fresh = record { reading = refl; each = λ id h. subst At (one_lpi id h) (record { none = refl }) };
@@ -136,7 +138,7 @@ takes_bad =
       looked = λ small. absurd (omega (arith, small));
       knows = from_ready.knows;
     })
-    (record { each = λ index h small. absurd (outside index h small) })
+    (record { each = λ index h small. absurd (outside index h small); lines = refl })
     refl refl stalls (knows true) to_ready refl
 
 abbrev one : Taken
@@ -221,7 +223,7 @@ enable_call beside maps agrees =
 
 -- The parts.
 
-queue_found : IsFoundPart worked_guest 0 [] makes_queue
+queue_found : IsFoundCall worked_guest 0 [] makes_queue
 queue_found =
     let seen = told_in worked_guest [] 0 in
     record {
@@ -237,7 +239,7 @@ queue_found =
           };
     }
 
-add_found : IsFoundPart worked_guest 0 before_adds adds_command
+add_found : IsFoundCall worked_guest 0 before_adds adds_command
 add_found =
     let seen = told_in worked_guest before_adds 0 in
     record {
@@ -253,7 +255,7 @@ add_found =
           };
     }
 
-enable_found : IsFoundPart worked_guest 0 before_enables enables
+enable_found : IsFoundCall worked_guest 0 before_enables enables
 unfolding least_in with_level without_level in_places
 enable_found = record {
   seen = began;
@@ -270,7 +272,7 @@ enable_found = record {
 
 pub worked_command_is_found : WorkedCommandIsFound
 worked_command_is_found =
-    let found : AreFoundParts worked_guest 0 [] its_parts = (queue_found, (add_found, (enable_found, tt))) in
+    let found : AreFoundParts worked_guest 0 [] its_parts = (inl queue_found, (inl add_found, (inl enable_found, tt))) in
     let fits : AreFit worked_guest 0 [] its_parts
     = (record { ease = λ icc. absurd (cc); good = (omega arith, refl) }, (record { ease = λ icc. absurd (cc); good = (omega arith, refl) }, (record { ease = λ icc. absurd (cc); good = (omega arith, refl) }, tt))) in
     record { good = unmapped_is_for_none.good; proper = its_is_proper; found = found; fits = fits; eager = found_runs_are_eager worked_guest 0 its_parts unmapped_is_for_none.good its_is_proper found fits }

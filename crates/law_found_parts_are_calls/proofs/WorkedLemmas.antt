@@ -1,5 +1,5 @@
 -- The worked run, part by part, as a port tells of it.
-use Rattle.std.proofs.Common.{◌≡◌, ℕ, false, List, [], ◌∷◌, ◌++◌, Some, None, refl, slice_index_or, take, arith}
+use Rattle.std.proofs.Common.{◌≡◌, ℕ, inl, false, List, [], ◌∷◌, ◌++◌, Some, None, refl, slice_index_or, take, arith}
 use Rattle.std.proofs.lemmas.List.Elements.{All-nil}
 use Rattle.law_unmapped_lpis.specs.Words.{Eoir1, Iar1}
 use Rattle.law_unmapped_lpis.specs.Registers.{least_in, with_level, without_level}
@@ -49,12 +49,12 @@ before number = moments_of (take number worked_parts)
 -- a part whose events are its call, whichever vCPUs the LPIs are for
 found_so : (early : List CoreMoment) (part : WholePart) → takes_its_by worked_guest.shape part.operation ≡ false
     → ((beside : Beside) → beside.maps ≡ maps_taken part.steps → IsCall worked_guest.shape beside (vcpu_of_actor worked_guest.shape part.actor) part.operation (part_events (told_in worked_guest early part.actor) part.steps) part.answer) → IsFoundPart worked_guest 0 early part
-found_so early part free call = record {
+found_so early part free call = inl (record {
   seen = told_in worked_guest early part.actor;
   told = record { guest_is = refl; actor_is = refl; local_is = refl; own_is = refl };
   made = record { beside = record { maps = maps_taken part.steps; targets = λ id. None; commands = []; signals = false }; maps = refl; signals = refl; call = call (record { maps = maps_taken part.steps; targets = λ id. None; commands = []; signals = false }) refl };
   found = found_by_none (told_in worked_guest early part.actor) part.steps part.operation part.answer free call;
-}
+})
 
 worked_found : AreFoundParts worked_guest 0 [] worked_parts
 unfolding least_in with_level without_level in_places

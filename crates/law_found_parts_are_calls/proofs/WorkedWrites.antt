@@ -1,5 +1,5 @@
 -- The worked parts that take the ITS, as a proper run, and the calls of those that take no command: each of their conditions computes.
-use Rattle.std.proofs.Common.{◌≡◌, ℕ, ◌<◌, nat_lt, zero, suc, true, false, IsTrue, List, [], ◌∷◌, ◌++◌, None, take, refl, slice_index_or, arith}
+use Rattle.std.proofs.Common.{◌≡◌, ℕ, ◌<◌, nat_lt, zero, suc, true, false, IsTrue, List, [], ◌∷◌, ◌++◌, None, drop, map, take, refl, slice_index_or, arith}
 use Rattle.std.proofs.lemmas.List.Elements.{All-cons, All-nil}
 use Rattle.std.proofs.lemmas.List.Sums.{AllPass-from_list_all}
 use Rattle.law_serial_is_eager.proofs.GicCall.ReadLemmas.{last_read}
@@ -10,12 +10,13 @@ use Rattle.law_unmapped_lpis.specs.GicCall.declared.event.Found.TheVariants.{Not
 use Rattle.law_unmapped_lpis.specs.GicCall.declared.event.Place.TheVariants.{Queue as QueuePlace, Word}
 use Rattle.law_unmapped_lpis.specs.Histories.{view_at}
 use Rattle.law_unmapped_lpis.specs.GicHistory.State.{opening as opening_ideal}
-use Rattle.pe_mem.specs.Core.{RamPut, actor_count, is_known, part_events, IsRun, opening, Made, vcpu_of_actor, CoreMoment, are_parts, entries_of, own_acts, opening_progress, IsProper, IsProperRun}
+use Rattle.pe_mem.specs.Core.{CoreState, Entry, RamPut, end_of, entry_by, actor_count, is_known, part_events, IsRun, opening, Made, vcpu_of_actor, CoreMoment, are_parts, entries_of, own_acts, opening_progress, IsProper, IsProperRun}
 use Rattle.pe_mem.specs.Lists.{in_places}
 use Rattle.pe_mem.proofs.CoreProper.WorkedLemmas.{acts_are_proper, is_below}
 use Rattle.law_unmapped_lpis.specs.Worked.{worked_guest}
 use Rattle.law_serial_is_eager.specs.Serial.{moments_of}
-use Rattle.law_found_parts_are_calls.specs.WorkedCommand.{adds_command, enables, its_parts, makes_queue, queue, taken, step}
+use Rattle.law_found_parts_are_calls.specs.WorkedCommand.{adds_command, enables, its_parts, lines, makes_queue, queue, taken, step}
+use Rattle.law_found_parts_are_calls.proofs.WorkedCloses.{closing, close_run}
 use Rattle.law_found_parts_are_calls.proofs.WorkedLemmas.{told_in}
 
 -- The run.
@@ -31,81 +32,93 @@ abbrev pub put : Made
 put = step (RamPut (place_of_plain worked_guest.shape Fault) 0 10) 0 10 None
 
 abbrev own_before : List Made
-own_before = makes_queue.steps ++ adds_command.steps ++ take 9 enables.steps
+own_before = makes_queue.steps ++ adds_command.steps ++ take 73 enables.steps
 
-its_run : IsRun worked_guest.shape (opening worked_guest 0) (entries_of run)
+-- the run, in pieces: up to the lines that the first part closes, from there to those of the last, and the rest
+abbrev first : List Entry
+first = map (entry_by 0) (take 2 makes_queue.steps)
+
+abbrev between : List Entry
+between = map (entry_by 0) (drop 66 makes_queue.steps ++ adds_command.steps ++ take 2 enables.steps)
+
+abbrev rest : List Entry
+rest = map (entry_by 0) (drop 66 enables.steps)
+
+abbrev shuts : List Entry
+shuts = map closing lines
+
+abbrev reached : List Entry → CoreState
+reached early = end_of worked_guest.shape (opening worked_guest 0) early
+
+last_run : IsRun worked_guest.shape (reached (first ++ shuts ++ between ++ shuts)) rest
 unfolding least_in with_level without_level in_places
-its_run =
+last_run =
     let Known : Place → Type 0 = λ place. IsTrue (is_known worked_guest.shape 0 own_before place) in (
       record { actor = there; can = refl; meets = tt; found = refl; left = refl; tables = refl },
       (
-        record { actor = there; can = tt; meets = tt; found = refl; left = refl; tables = refl },
+        record { actor = there; can = omega arith; meets = tt; found = refl; left = refl; tables = refl },
         (
           record { actor = there; can = omega arith; meets = tt; found = refl; left = refl; tables = refl },
           (
             record { actor = there; can = omega arith; meets = tt; found = refl; left = refl; tables = refl },
             (
-              record { actor = there; can = (omega arith, omega arith); meets = tt; found = refl; left = refl; tables = refl },
+              record { actor = there; can = (omega arith, omega arith); meets = record { fault = tt; lines = λ e. refl }; found = refl; left = refl; tables = refl },
               (
-                record { actor = there; can = (record { place = refl; within = omega arith }, tt); meets = record { turn = refl; kicks = refl; queue = tt }; found = refl; left = refl; tables = refl },
+                record { actor = there; can = omega arith; meets = tt; found = refl; left = refl; tables = refl },
                 (
-                  record { actor = there; can = omega arith; meets = tt; found = refl; left = refl; tables = refl },
+                  record { actor = there; can = (omega arith, omega arith); meets = record { fault = record { turn = refl; runs = record { word = taken; known_as = refl; runs = refl } }; lines = λ e. absurd (cc) }; found = refl; left = refl; tables = refl },
                   (
-                    record { actor = there; can = (omega arith, omega arith); meets = tt; found = refl; left = refl; tables = refl },
+                    record { actor = there; can = (record { place = refl; within = omega arith }, tt); meets = record { turn = refl; kicks = refl; lines = refl; queue = (record { fetched = All-cons Known QueuePlace (Word Cbaser ∷ []) refl (All-cons Known (Word Cbaser) [] refl (All-nil Known)); ends = refl }, record { seen = 0; value = 10; last = put; is_last = refl; put = refl; stored = refl }) }; found = refl; left = refl; tables = refl },
                     (
                       record { actor = there; can = tt; meets = refl; found = refl; left = refl; tables = refl },
+                      tt,
+                    ),
+                  ),
+                ),
+              ),
+            ),
+          ),
+        ),
+      ),
+    )
+
+middle_run : IsRun worked_guest.shape (reached (first ++ shuts)) (between ++ shuts ++ rest)
+unfolding least_in with_level without_level in_places
+middle_run = (
+  record { actor = there; can = omega arith; meets = tt; found = refl; left = refl; tables = refl },
+  (
+    record { actor = there; can = omega arith; meets = tt; found = refl; left = refl; tables = refl },
+    (
+      record { actor = there; can = (omega arith, omega arith); meets = record { fault = tt; lines = λ e. absurd (cc) }; found = refl; left = refl; tables = refl },
+      (
+        record { actor = there; can = (record { place = refl; within = omega arith }, tt); meets = record { turn = refl; kicks = refl; lines = refl; queue = tt }; found = refl; left = refl; tables = refl },
+        (
+          record { actor = there; can = omega arith; meets = tt; found = refl; left = refl; tables = refl },
+          (
+            record { actor = there; can = (omega arith, omega arith); meets = record { fault = tt; lines = λ e. absurd (cc) }; found = refl; left = refl; tables = refl },
+            (
+              record { actor = there; can = tt; meets = refl; found = refl; left = refl; tables = refl },
+              (
+                record { actor = there; can = refl; meets = tt; found = refl; left = refl; tables = refl },
+                (
+                  record { actor = there; can = tt; meets = tt; found = refl; left = refl; tables = refl },
+                  (
+                    record { actor = there; can = refl; meets = tt; found = refl; left = refl; tables = refl },
+                    (
+                      record { actor = there; can = omega arith; meets = tt; found = refl; left = refl; tables = refl },
                       (
-                        record { actor = there; can = refl; meets = tt; found = refl; left = refl; tables = refl },
+                        record { actor = there; can = omega arith; meets = tt; found = refl; left = refl; tables = refl },
                         (
-                          record { actor = there; can = tt; meets = tt; found = refl; left = refl; tables = refl },
+                          record { actor = there; can = omega arith; meets = tt; found = refl; left = refl; tables = refl },
                           (
-                            record { actor = there; can = refl; meets = tt; found = refl; left = refl; tables = refl },
+                            record { actor = there; can = (omega arith, omega arith); meets = record { fault = tt; lines = λ e. absurd (cc) }; found = refl; left = refl; tables = refl },
                             (
-                              record { actor = there; can = omega arith; meets = tt; found = refl; left = refl; tables = refl },
+                              record { actor = there; can = tt; meets = refl; found = refl; left = refl; tables = refl },
                               (
-                                record { actor = there; can = omega arith; meets = tt; found = refl; left = refl; tables = refl },
+                                record { actor = there; can = refl; meets = tt; found = refl; left = refl; tables = refl },
                                 (
-                                  record { actor = there; can = omega arith; meets = tt; found = refl; left = refl; tables = refl },
-                                  (
-                                    record { actor = there; can = (omega arith, omega arith); meets = tt; found = refl; left = refl; tables = refl },
-                                    (
-                                      record { actor = there; can = tt; meets = refl; found = refl; left = refl; tables = refl },
-                                      (
-                                        record { actor = there; can = refl; meets = tt; found = refl; left = refl; tables = refl },
-                                        (
-                                          record { actor = there; can = tt; meets = tt; found = refl; left = refl; tables = refl },
-                                          (
-                                            record { actor = there; can = refl; meets = tt; found = refl; left = refl; tables = refl },
-                                            (
-                                              record { actor = there; can = omega arith; meets = tt; found = refl; left = refl; tables = refl },
-                                              (
-                                                record { actor = there; can = omega arith; meets = tt; found = refl; left = refl; tables = refl },
-                                                (
-                                                  record { actor = there; can = omega arith; meets = tt; found = refl; left = refl; tables = refl },
-                                                  (
-                                                    record { actor = there; can = (omega arith, omega arith); meets = tt; found = refl; left = refl; tables = refl },
-                                                    (
-                                                      record { actor = there; can = omega arith; meets = tt; found = refl; left = refl; tables = refl },
-                                                      (
-                                                        record { actor = there; can = (omega arith, omega arith); meets = record { turn = refl; runs = record { word = taken; known_as = refl; runs = refl } }; found = refl; left = refl; tables = refl },
-                                                        (
-                                                          record { actor = there; can = (record { place = refl; within = omega arith }, tt); meets = record { turn = refl; kicks = refl; queue = (record { fetched = All-cons Known QueuePlace (Word Cbaser ∷ []) refl (All-cons Known (Word Cbaser) [] refl (All-nil Known)); ends = refl }, record { seen = 0; value = 10; last = put; is_last = refl; put = refl; stored = refl }) }; found = refl; left = refl; tables = refl },
-                                                          (
-                                                            record { actor = there; can = tt; meets = refl; found = refl; left = refl; tables = refl },
-                                                            tt,
-                                                          ),
-                                                        ),
-                                                      ),
-                                                    ),
-                                                  ),
-                                                ),
-                                              ),
-                                            ),
-                                          ),
-                                        ),
-                                      ),
-                                    ),
-                                  ),
+                                  record { actor = there; can = tt; meets = tt; found = refl; left = refl; tables = refl },
+                                  close_run worked_guest.shape there lines (reached (first ++ shuts ++ between)) rest (record { seats = omega arith; turn = refl; clear = refl }) last_run,
                                 ),
                               ),
                             ),
@@ -120,7 +133,19 @@ its_run =
           ),
         ),
       ),
-    )
+    ),
+  ),
+)
+
+its_run : IsRun worked_guest.shape (opening worked_guest 0) (entries_of run)
+unfolding least_in with_level without_level in_places
+its_run = (
+  record { actor = there; can = refl; meets = tt; found = refl; left = refl; tables = refl },
+  (
+    record { actor = there; can = tt; meets = tt; found = refl; left = refl; tables = refl },
+    close_run worked_guest.shape there lines (reached first) (between ++ shuts ++ rest) (record { seats = omega arith; turn = refl; clear = refl }) middle_run,
+  ),
+)
 
 its_are_parts : (actor : ℕ) → actor < actor_count worked_guest.shape → are_parts worked_guest.shape actor false (own_acts actor run) ≡ true
 its_are_parts zero h = refl

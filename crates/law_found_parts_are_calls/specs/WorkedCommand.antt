@@ -1,10 +1,11 @@
 -- Worked parts that take the ITS, the last of which takes a command.
-use Rattle.std.specs.Prelude.{ℕ, ◌+◌, ◌^◌, true, false, List, [], ◌∷◌, Option, Some, None}
+use Rattle.std.specs.Prelude.{ℕ, ◌+◌, ◌^◌, true, false, List, [], ◌∷◌, ◌++◌, map, Option, Some, None}
+use Rattle.std.specs.List.{range_with_len}
 use Rattle.law_unmapped_lpis.specs.Words.{Its, Mem}
 use Rattle.law_unmapped_lpis.specs.Calls.{Access, place_of_plain, PlainWord, Cbaser, Cwriter, Fault, ItsCtlr}
 use Rattle.law_unmapped_lpis.specs.Histories.{CanOpen}
 use Rattle.law_unmapped_lpis.specs.Registers.{Maps}
-use Rattle.pe_mem.specs.Core.{Made, CoreStep, CommandDone, Look, RamLook, RamPut, TurnRelease, TurnTake, Queue, no_maps, IsProperRun}
+use Rattle.pe_mem.specs.Core.{Made, CoreStep, CommandDone, LineClose, Look, RamLook, RamPut, TurnRelease, TurnTake, Queue, no_maps, IsProperRun}
 use Rattle.law_unmapped_lpis.specs.Worked.{worked_guest}
 use Rattle.law_serial_is_eager.specs.Serial.{AreFit, WholePart, moments_of}
 use Rattle.law_found_parts_are_calls.specs.Found.{AreEagerCalls, AreFoundParts}
@@ -30,6 +31,13 @@ taken = 2 ^ 32
 abbrev pub stalled : ℕ
 stalled = 2 ^ 32 + 1
 
+-- each translation line is closed: it has no message, and nobody is in it
+abbrev pub closes : ℕ → Made
+closes line = step (LineClose line) 0 0 None
+
+abbrev pub lines : List ℕ
+lines = range_with_len 0 64
+
 -- a part of vCPU 0 on a PE with 4 list registers, for a write of a register of the ITS
 abbrev pub writes : ℕ → ℕ → ℕ → List Made → WholePart
 writes offset size value steps = record { actor = 0; operation = Access (Mem Its offset size (Some value)); lrs = 4; steps = steps; answer = None }
@@ -44,7 +52,8 @@ makes_queue =
     writes 0x80 8 queue
     (step (Look Queue) free free None
     ∷ step (TurnTake free) free taken (Some no_maps)
-    ∷ looks_at ItsCtlr 0
+    ∷ map closes lines
+    ++ looks_at ItsCtlr 0
     ∷ looks_at Cwriter 0
     ∷ stores_at Cwriter 0 0
     ∷ step (CommandDone 0 false None) taken taken None
@@ -74,7 +83,8 @@ enables =
     writes 0 4 1
     (step (Look Queue) free free None
     ∷ step (TurnTake free) free taken (Some no_maps)
-    ∷ step (Look Queue) taken taken None
+    ∷ map closes lines
+    ++ step (Look Queue) taken taken None
     ∷ looks_at Cbaser queue
     ∷ looks_at Cwriter 32
     ∷ looks_at ItsCtlr 0

@@ -8,9 +8,10 @@ use Rattle.law_scans_miss_none.specs.GicCall.declared.event.Event.TheVariants.{R
 use Rattle.law_scans_miss_none.specs.GicCall.declared.event.Found.TheVariants.{Answer, Nothing, Word as FoundWord}
 use Rattle.law_scans_miss_none.specs.GicCall.declared.event.Place.TheVariants.{Word}
 use Rattle.law_scans_miss_none.specs.Registers.{deactivated_by, taken_by, candidates_at, interface_answer}
-use Rattle.law_scans_miss_none.specs.Core.{AtIrq, Local, Folding, Made, CoreStep, Look, Raise, Claim, GiveBack, Release, Poll, Kick, Touch, Want, WireUp, WireDown, EnableLpis, RamLook, RamPut, CtlrTake, CtlrEnd, TurnTake, CommandDone, TurnRelease, Mark, TakeIndex, Irq, Vcpu, Queue, Ctlr, Plain, Index, accessed, acknowledged_entry, changed_id, deactivated_entry, id_of, interface_of, is_settled_by_look, local_after, local_done, target_of, fault_place, is_active_at, moved_irq, succeeds, vcpu_of, arrived, changed_at, is_at, settled, with_all, with_entry, event_done, silent, stands_for, with_found, Debt, paid, after_end, before_next, Progress, after_claim, after_poll, is_paid, is_to_scan, owing_after, after_operation, Scan, idle, taking, looking, claiming}
+use Rattle.law_scans_miss_none.specs.Core.{AtIrq, Local, Folding, Made, CoreStep, Look, Raise, Claim, GiveBack, Release, Poll, Kick, Touch, Want, WireUp, WireDown, EnableLpis, RamLook, RamPut, CtlrTake, CtlrEnd, TurnTake, CommandDone, TurnRelease, Mark, TakeIndex, LineEnter, LineLeave, LineFill, LineClose, Irq, Vcpu, Queue, Ctlr, Plain, Index, Line, accessed, acknowledged_entry, changed_id, deactivated_entry, id_of, interface_of, is_settled_by_look, local_after, local_done, target_of, fault_place, is_active_at, moved_irq, succeeds, vcpu_of, arrived, changed_at, is_at, settled, with_all, with_entry, event_done, silent, stands_for, with_found, Debt, paid, after_end, before_next, Progress, after_claim, after_poll, is_paid, is_to_scan, owing_after, after_operation, Scan, idle, taking, looking, claiming}
 use Rattle.law_scans_miss_none.proofs.PortCore.AtLemmas.{is_at_added, is_at_mapped, is_at_without}
 use Rattle.law_scans_miss_none.proofs.PortCore.StepLocals.{and_bit, or_bit, pow_bit}
+use Rattle.law_scans_miss_none.proofs.LawCoreIsHistory.LineSteps.{line_done}
 use Rattle.law_scans_miss_none.specs.CoreProper.Progress.{changed_by}
 use Rattle.law_scans_miss_none.specs.Index.{owes_kick}
 use Rattle.law_scans_miss_none.proofs.IndexSteps.{look_owes, poll_owes}
@@ -68,6 +69,7 @@ stays_at shape actor local own step found pair mine at stays = of (succeeds shap
     done (Look Ctlr) h = at
     done (Look (Plain i)) h = at
     done (Look (Index v n)) h = at
+    done (Look (Line n)) h = ap (is_at pair.1) (line_done shape actor found local (λ l. l.at) (λ l n s. refl) (Look (Line n)) refl) ∙ at
     done (Raise k) h = at
     done (Claim k seen) h = claimed_so k (is_at k local.at) (arrived k (irq_of found) (moved_irq actor local k (irq_of found)).entry) (λ entry. record (with_entry entry (moved_irq actor local k (irq_of found)).entry) { consumed = false }) (λ entry. refl)
     done (GiveBack k back) h = at_changed (λ entry. record entry { given = true }) (λ entry. refl) k pair.1 local.at ∙ at
@@ -89,6 +91,10 @@ stays_at shape actor local own step found pair mine at stays = of (succeeds shap
     done TurnRelease h = at
     done (Mark k v) h = at
     done (TakeIndex word) h = at
+    done (LineEnter line seen) h = at
+    done (LineLeave line) h = at
+    done (LineFill line device event lpi) h = at
+    done (LineClose line) h = ap (is_at pair.1) (line_done shape actor found local (λ l. l.at) (λ l n s. refl) (LineClose line) refl) ∙ at
 
     of : (b : Bool) → stays_in (if b then event_done shape actor local own step found else None) pair ≡ true → is_at pair.1 (if b then local_done shape actor local step found else local).at ≡ true
     of true h = done step h
@@ -104,6 +110,7 @@ owed_on shape actor (Look Queue) found done p begins e = e
 owed_on shape actor (Look Ctlr) found done p begins e = e
 owed_on shape actor (Look (Plain i)) found done p begins e = e
 owed_on shape actor (Look (Index v n)) found done p begins e = e
+owed_on shape actor (Look (Line n)) found done p begins e = e
 owed_on shape actor (Raise k) found done p begins e = e
 owed_on shape actor (Claim k seen) found done p begins e = of p.scan
   where
@@ -152,6 +159,10 @@ owed_on shape actor (CommandDone offset stalled ending) found done p begins e = 
 owed_on shape actor TurnRelease found done p begins e = e
 owed_on shape actor (Mark k v) found done p begins e = e
 owed_on shape actor (TakeIndex word) found done p begins e = e
+owed_on shape actor (LineEnter line seen) found done p begins e = e
+owed_on shape actor (LineLeave line) found done p begins e = e
+owed_on shape actor (LineFill line device event lpi) found done p begins e = e
+owed_on shape actor (LineClose line) found done p begins e = e
 
 -- Kicks.
 
@@ -190,6 +201,10 @@ kick_before shape vcpu local own step found h = of (succeeds shape vcpu local st
     done TurnRelease h = inl h
     done (Mark k v) h = inl h
     done (TakeIndex word) h = inl h
+    done (LineEnter line seen) h = inl h
+    done (LineLeave line) h = inl h
+    done (LineFill line device event lpi) h = inl h
+    done (LineClose line) h = inl (subst (λ o. IsTrue (has_bit o.0 vcpu)) (line_done shape vcpu found local (λ l. l.owes) (λ l n s. refl) (LineClose line) refl) h)
 
     of : (b : Bool) → IsTrue (owes_kick vcpu (if b then local_done shape vcpu local step found else local)) → IsTrue (owes_kick vcpu local) ⊎ (makes_one (if b then event_done shape vcpu local own step found else None) ≡ true)
     of true h = done step h
@@ -239,6 +254,7 @@ access_so shape vcpu local own step found one e = of (succeeds shape vcpu local 
     done (Look Ctlr) s e = other _ _ refl e
     done (Look (Plain i)) s e = never e
     done (Look (Index v n)) s e = never e
+    done (Look (Line n)) s e = never e
     done (Raise k) s e = other _ _ refl e
     done (Claim k seen) s e = claim (is_at k local.at) k e
     done (GiveBack k back) s e = never e
@@ -260,6 +276,10 @@ access_so shape vcpu local own step found one e = of (succeeds shape vcpu local 
     done TurnRelease s e = other _ _ refl e
     done (Mark k v) s e = never e
     done (TakeIndex word) s e = never e
+    done (LineEnter line seen) s e = never e
+    done (LineLeave line) s e = never e
+    done (LineFill line device event lpi) s e = never e
+    done (LineClose line) s e = never e
 
     of : (b : Bool) → (if b then event_done shape vcpu local own step found else None) ≡ Some one → (is_access one.event ≡ false) ⊎ IsAccess vcpu step found one.event
     of true e = done step refl e

@@ -341,7 +341,8 @@ module _ (guest : IdealGuest) (number : ℕ) (moments : List CoreMoment) (vcpu :
       settled : (actor : ℕ) → actor < actor_count shape → Owing (seat_at state actor).local
       settled actor within =
           let local = (seat_at state actor).local in
-          let free = (and_parts (owes_nothing local && not local.turn) (not local.ctlr) (settled_all guest number moments vcpu good proper ease actor within)).0 in
+          let apart = (and_parts (owes_nothing local && not local.turn && not local.ctlr) (is_none local.line) (settled_all guest number moments vcpu good proper ease actor within)).0 in
+          let free = (and_parts (owes_nothing local && not local.turn) (not local.ctlr) apart).0 in
           let owes = (and_parts (owes_nothing local) (not local.turn) free).0 in
           let two = and_parts (owes_no_kick local && owes_no_mark local) (has_no_cand local) owes in
           record { marks = (and_parts (owes_no_kick local) (owes_no_mark local) two.0).1; cands = two.1 }

@@ -1,5 +1,5 @@
 -- A run at the end of which no actor is in a part.
-use Rattle.std.proofs.Common.{◌≡◌, ℕ, true≢false, [], ◌<◌, ◌&&◌, ◌==◌, not, IsTrue, List, None, is_some, false, refl, sym, ap, ◌∙◌}
+use Rattle.std.proofs.Common.{◌≡◌, ℕ, true≢false, [], ◌<◌, ◌&&◌, ◌==◌, not, IsTrue, List, None, is_none, is_some, false, refl, sym, ap, ◌∙◌}
 use Rattle.std.proofs.lemmas.Bool.{and_parts, eqb-true}
 use Rattle.std.proofs.lemmas.Nat.Bits.{bit_at-zero}
 use Rattle.law_serial_is_eager.specs.Words.{GuestShape, has_bit}
@@ -34,7 +34,8 @@ rests_unwanted guest number moments actor good proper none = (runs_keep guest nu
 -- an actor that owes nothing owes nobody a kick
 pub no_kick : (local : Local) (vcpu : ℕ) → IsTrue (is_settled local) → owes_kick vcpu local ≡ false
 no_kick local vcpu settled =
-    let free = (and_parts (owes_nothing local && not local.turn) (not local.ctlr) settled).0 in
+    let marks = (and_parts (owes_nothing local && not local.turn && not local.ctlr) (is_none local.line) settled).0 in
+    let free = (and_parts (owes_nothing local && not local.turn) (not local.ctlr) marks).0 in
     let owes = (and_parts (owes_nothing local) (not local.turn) free).0 in
     let kicks = (and_parts (owes_no_kick local) (owes_no_mark local) (and_parts (owes_no_kick local && owes_no_mark local) (has_no_cand local) owes).0).0 in
     ap (λ set. has_bit set vcpu) (eqb-true local.owes.0 0 kicks) ∙ ap (λ bit. bit == 1) (bit_at-zero vcpu)

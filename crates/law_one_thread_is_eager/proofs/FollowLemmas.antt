@@ -9,8 +9,8 @@ use Rattle.law_found_parts_are_calls.proofs.CoreProper.PartLemmas.{same_end}
 use Rattle.law_found_parts_are_calls.proofs.LawScansMissNone.RunFrame.{proper_before}
 use Rattle.law_found_parts_are_calls.specs.LawSerialIsEager.Serial.{WholePart, moments_in, moments_of}
 use Rattle.law_found_parts_are_calls.proofs.LawSerialIsEager.PartLemmas.{part_entries}
-use Rattle.law_found_parts_are_calls.specs.Found.{AreFoundParts, IsFoundPart}
-use Rattle.seq_guest.specs.PePlace.Parts.{AreCalls as AreFoundCalls, part_in, parts_by}
+use Rattle.law_found_parts_are_calls.specs.Found.{AreFoundParts, IsFoundPart, IsToldOf}
+use Rattle.seq_guest.specs.PePlace.Parts.{AreCalls as AreFoundCalls, IsPartFound, part_in, parts_by}
 use Rattle.seq_guest.specs.Guest.{seen_by}
 use Rattle.seq_guest.proofs.PePlace.PartsLemmas.{calls_same}
 use Rattle.law_one_thread_is_eager.proofs.MomentLemmas.{entries_both, mine_first, others_first}
@@ -33,20 +33,20 @@ module _ (told : GuestTold) (early : List CoreMoment) (same : entries_of early �
       mine : AreFoundCalls (seen_by told part.actor) (part_in part ∷ parts_by part.actor parts)
       mine = subst (AreFoundCalls (seen_by told part.actor)) (mine_first part.actor part parts refl) (are part.actor)
 
+      told_first : IsToldOf told.guest (end_of_moments told.guest.shape (opening told.guest told.number) early) part.actor (seen_by told part.actor)
+      told_first = record {
+        guest_is = refl;
+        actor_is = refl;
+        local_is = ap (λ (state : CoreState). (seat_at state part.actor).local) (sym state_is);
+        own_is = ap (λ (state : CoreState). (seat_at state part.actor).own) (sym state_is);
+      }
+
       pub first_found : IsFoundPart told.guest told.number early part
-      first_found =
-          record {
-            seen = seen_by told part.actor;
-            told =
-                record {
-                  guest_is = refl;
-                  actor_is = refl;
-                  local_is = ap (λ (state : CoreState). (seat_at state part.actor).local) (sym state_is);
-                  own_is = ap (λ (state : CoreState). (seat_at state part.actor).own) (sym state_is);
-                };
-            made = mine.0.made;
-            found = mine.0.found;
-          }
+      first_found = of mine.0
+        where
+          of : IsPartFound (seen_by told part.actor) (part_in part) → IsFoundPart told.guest told.number early part
+          of (inl is) = inl (record { seen = seen_by told part.actor; told = told_first; made = is.made; found = is.found })
+          of (inr post) = inr (record { seen = seen_by told part.actor; told = told_first; post = post })
 
       pub told_then : CanOpen told.guest → IsRun told.guest.shape (opening told.guest told.number) (told_after told part).world → AreTold (told_after told part) parts
       told_then good run actor = elim (cases_eq actor part.actor) [

@@ -6,9 +6,10 @@ use Rattle.law_core_is_history.specs.Histories.{Ideal}
 use Rattle.law_core_is_history.specs.Lists.{IchRegs, misr_of, Active, with_state, Offer}
 use Rattle.law_core_is_history.specs.Registers.{CpuRec, HasBinaryPoints, Maps}
 use Rattle.law_core_is_history.specs.Calls.{touched as touched_of}
-use Rattle.law_core_is_history.specs.Core.{Local, Folding, Made, CoreStep, Look, Raise, Claim, GiveBack, Release, Poll, Kick, Touch, Want, WireUp, WireDown, EnableLpis, RamLook, RamPut, CtlrTake, CtlrEnd, TurnTake, CommandDone, TurnRelease, Mark, TakeIndex, Irq, Vcpu, Queue, Ctlr, Plain, Index, accessed, claimed, concerned_by, local_after, is_ready, succeeds, vcpu_of, owing_both, CoreState, seat_at, IsLocal, IsSeatOf, Progress, Debt, paid, before_next, after_claim, after_icc, after_poll, begun, claim_left, is_paid, is_to_scan, IsProperStep, is_empty, after_operation, without_claim, without_take, Purpose, planned, trapped, bare, Scan, idle, taking, looking, claiming, has_key, is_idle, scan_allows, scan_looked, word_taken}
+use Rattle.law_core_is_history.specs.Core.{Local, Folding, Made, CoreStep, Look, Raise, Claim, GiveBack, Release, Poll, Kick, Touch, Want, WireUp, WireDown, EnableLpis, RamLook, RamPut, CtlrTake, CtlrEnd, TurnTake, CommandDone, TurnRelease, Mark, TakeIndex, LineEnter, LineLeave, LineFill, LineClose, Irq, Vcpu, Queue, Ctlr, Plain, Index, Line, accessed, claimed, concerned_by, local_after, is_ready, succeeds, vcpu_of, owing_both, CoreState, seat_at, IsLocal, IsSeatOf, Progress, Debt, paid, before_next, after_claim, after_icc, after_poll, begun, claim_left, is_paid, is_to_scan, IsProperStep, is_empty, after_operation, without_claim, without_take, Purpose, planned, trapped, bare, Scan, idle, taking, looking, claiming, has_key, is_idle, scan_allows, scan_looked, word_taken}
 use Rattle.law_core_is_history.proofs.AfterLemmas.{later}
 use Rattle.law_core_is_history.proofs.KickSteps.{is_kick_of, is_poll_by, unkicked_before}
+use Rattle.law_core_is_history.proofs.LineSteps.{line_part}
 use Rattle.law_core_is_history.proofs.StepContext.{one, IsStep}
 use Rattle.law_registers_stand.specs.Asks.{IsMirrored, HasAll}
 use Rattle.law_registers_stand.proofs.AskLemmas.{Asking, Asks, IsMeant, asking_as, changed_hcr, mirrors_after}
@@ -100,6 +101,8 @@ module _ (shape : GuestShape) (state : CoreState) (ideal : Ideal) (vcpu found le
   idle_asks (Look Ctlr) is e proper points asks = quiet_idle (Look Ctlr) is e asks refl (λ f k. f) refl refl refl refl (λ h. h) (λ h. h)
   idle_asks (Look (Plain i)) is e proper points asks = quiet_idle (Look (Plain i)) is e asks refl (λ f k. f) refl refl refl refl (λ h. h) (λ h. h)
   idle_asks (Look (Index v n)) is e proper points asks = quiet_idle (Look (Index v n)) is e asks refl (λ f k. f) refl refl refl refl (λ h. h) (λ h. h)
+  idle_asks (Look (Line n)) is e proper points asks =
+      quiet_idle (Look (Line n)) is e asks refl (λ f k. f) refl refl (line_part shape vcpu found p.local (λ l. l.cpu) (λ l n s. refl) (Look (Line n)) refl) refl (λ h. h) (subst (λ phase. IsTrue (is_ready phase)) (line_part shape vcpu found p.local (λ l. l.phase) (λ l n s. refl) (Look (Line n)) refl))
   idle_asks (Raise key) is e proper points asks = quiet_idle (Raise key) is e asks refl (λ f k. f) refl refl refl refl (λ h. h) (λ h. h)
   idle_asks (Claim key seen) is e proper points asks =
       let done = succeeds shape vcpu p.local (Claim key seen) found in
@@ -133,6 +136,14 @@ module _ (shape : GuestShape) (state : CoreState) (ideal : Ideal) (vcpu found le
   idle_asks (CommandDone offset stalled ending) is e proper points asks = quiet_idle (CommandDone offset stalled ending) is e asks refl (λ f k. f) refl refl refl refl (λ h. h) (λ h. h)
   idle_asks TurnRelease is e proper points asks = quiet_idle TurnRelease is e asks refl (λ f k. f) refl refl refl refl (λ h. h) (λ h. h)
   idle_asks (Mark key v) is e proper points asks = quiet_idle (Mark key v) is e asks refl (λ f k. f) refl refl refl refl (λ h. h) (λ h. h)
+  idle_asks (LineEnter line seen) is e proper points asks =
+      quiet_idle (LineEnter line seen) is e asks refl (λ f k. f) refl refl (line_part shape vcpu found p.local (λ l. l.cpu) (λ l n s. refl) (LineEnter line seen) refl) refl (λ h. h) (subst (λ phase. IsTrue (is_ready phase)) (line_part shape vcpu found p.local (λ l. l.phase) (λ l n s. refl) (LineEnter line seen) refl))
+  idle_asks (LineLeave line) is e proper points asks =
+      quiet_idle (LineLeave line) is e asks refl (λ f k. f) refl refl (line_part shape vcpu found p.local (λ l. l.cpu) (λ l n s. refl) (LineLeave line) refl) refl (λ h. h) (subst (λ phase. IsTrue (is_ready phase)) (line_part shape vcpu found p.local (λ l. l.phase) (λ l n s. refl) (LineLeave line) refl))
+  idle_asks (LineFill line device event lpi) is e proper points asks =
+      quiet_idle (LineFill line device event lpi) is e asks refl (λ f k. f) refl refl (line_part shape vcpu found p.local (λ l. l.cpu) (λ l n s. refl) (LineFill line device event lpi) refl) refl (λ h. h) (subst (λ phase. IsTrue (is_ready phase)) (line_part shape vcpu found p.local (λ l. l.phase) (λ l n s. refl) (LineFill line device event lpi) refl))
+  idle_asks (LineClose line) is e proper points asks =
+      quiet_idle (LineClose line) is e asks refl (λ f k. f) refl refl (line_part shape vcpu found p.local (λ l. l.cpu) (λ l n s. refl) (LineClose line) refl) refl (λ h. h) (subst (λ phase. IsTrue (is_ready phase)) (line_part shape vcpu found p.local (λ l. l.phase) (λ l n s. refl) (LineClose line) refl))
   idle_asks (TakeIndex word) is e proper points asks =
       subst (λ s. Asks shape (later is) vcpu (now (TakeIndex word)) (word_taken s)) (sym e)
       (and_parts p.trapping (word == 0) (and_parts (p.trapping && word == 0) (is_empty p.local.at) (subst (λ s. IsTrue (not (is_idle s) || (p.trapping && word == 0 && is_empty p.local.at))) e proper.trap)).0).0
@@ -158,6 +169,7 @@ module _ (shape : GuestShape) (state : CoreState) (ideal : Ideal) (vcpu found le
   looking_asks purpose from offers (Look Ctlr) is e h meant = absurd (true≢false (sym h))
   looking_asks purpose from offers (Look (Plain i)) is e h meant = absurd (true≢false (sym h))
   looking_asks purpose from offers (Look (Index v n)) is e h meant = absurd (true≢false (sym h))
+  looking_asks purpose from offers (Look (Line n)) is e h meant = absurd (true≢false (sym h))
   looking_asks purpose from offers step is e h meant = absurd (true≢false (sym h))
 
   -- While it claims.
@@ -212,6 +224,7 @@ module _ (shape : GuestShape) (state : CoreState) (ideal : Ideal) (vcpu found le
   claiming_asks claims takes (Look Ctlr) is e h asking = absurd (true≢false (sym h))
   claiming_asks claims takes (Look (Plain i)) is e h asking = absurd (true≢false (sym h))
   claiming_asks claims takes (Look (Index v n)) is e h asking = absurd (true≢false (sym h))
+  claiming_asks claims takes (Look (Line n)) is e h asking = absurd (true≢false (sym h))
   claiming_asks claims takes step is e h asking = absurd (true≢false (sym h))
 
   -- Any of its own steps.

@@ -11,7 +11,7 @@ use Rattle.law_core_is_history.specs.Histories.{Changes, changes_of, happened, I
 use Rattle.law_core_is_history.proofs.LawHistories.StateLemmas.{record_is}
 use Rattle.law_core_is_history.proofs.IdealGuests.KeyLemmas.{IsWhole}
 use Rattle.law_core_is_history.specs.Registers.{Maps}
-use Rattle.law_core_is_history.specs.Core.{AtIrq, Local, Phase, Off, Scanning, Claiming, Loaded, Folding, Made, CoreStep, Look, Claim, Poll, Touch, RamLook, RamPut, CtlrTake, TurnTake, Irq as IrqWord, Vcpu, Queue, Ctlr, Plain, Index, fault_place, is_ready, given_back, succeeds, vcpu_of, back_of, entry_for, is_at, CoreState, seat_at, word_in, IsSound, stands_for, event_moments}
+use Rattle.law_core_is_history.specs.Core.{AtIrq, Local, Phase, Off, Scanning, Claiming, Loaded, Folding, Made, CoreStep, Look, Claim, Poll, Touch, RamLook, RamPut, CtlrTake, TurnTake, LineEnter, LineFill, Irq as IrqWord, Vcpu, Queue, Ctlr, Plain, Index, Line, fault_place, is_ready, given_back, succeeds, vcpu_of, back_of, entry_for, is_at, CoreState, seat_at, word_in, IsSound, stands_for, event_moments}
 use Rattle.law_core_is_history.proofs.PortCore.StepLemmas.{steps_sound}
 use Rattle.law_core_is_history.proofs.CoreProper.ReachLemmas.{number_is}
 use Rattle.law_core_is_history.specs.Known.{IsKnown}
@@ -49,6 +49,7 @@ still_event shape actor local own (Look Queue) found e = refl
 still_event shape actor local own (Look Ctlr) found e = refl
 still_event shape actor local own (Look (Plain i)) found e = refl
 still_event shape actor local own (Look (Index v n)) found e = refl
+still_event shape actor local own (Look (Line n)) found e = refl
 still_event shape actor local own (Claim key seen) found e = absurd (true≢false e)
 still_event shape actor local own (Poll None write) found e = refl
 still_event shape actor local own (Poll (Some reg) write) found e = none_if (vcpu_of found).kick _ refl
@@ -57,6 +58,8 @@ still_event shape actor local own (RamLook i) found e = none_if (i == fault_plac
 still_event shape actor local own (RamPut i seen value) found e = if_none (succeeds shape actor local (RamPut i seen value) found) _ (none_if (i == fault_place shape) _ refl)
 still_event shape actor local own (CtlrTake seen value) found e = if_none (succeeds shape actor local (CtlrTake seen value) found) _ refl
 still_event shape actor local own (TurnTake seen) found e = if_none (succeeds shape actor local (TurnTake seen) found) _ refl
+still_event shape actor local own (LineEnter line seen) found e = if_none (succeeds shape actor local (LineEnter line seen) found) None refl
+still_event shape actor local own (LineFill line device event lpi) found e = if_none (succeeds shape actor local (LineFill line device event lpi) found) None refl
 still_event shape actor local own step found e = refl
 
 -- a step that is no claim of an interrupt, or one that failed, is no move of it

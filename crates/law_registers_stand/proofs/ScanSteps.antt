@@ -6,7 +6,7 @@ use Rattle.law_core_is_history.specs.Words.{Key, GuestShape, has_interrupt, is_o
 use Rattle.law_core_is_history.specs.Histories.{Ideal}
 use Rattle.law_core_is_history.specs.Registers.{Maps}
 use Rattle.law_core_is_history.specs.Lists.{Offer, Choice}
-use Rattle.law_core_is_history.specs.Core.{AtIrq, Made, CoreStep, Look, Claim, Kick, Mark, TakeIndex, Irq, Vcpu, Queue, Ctlr, Plain, Index, claimed, claimed_at, may_move, succeeds, known, is_vcpu, entry_for, index_bit, CoreState, seat_at, word_of, IsLocal, IsSeatOf, Progress, after_claim, IsProperStep, without_claim, without_take, Purpose, Scan, idle, taking, looking, claiming, has_key, scan_allows, scan_looked, without_key, word_taken}
+use Rattle.law_core_is_history.specs.Core.{AtIrq, Made, CoreStep, Look, Claim, Kick, Mark, TakeIndex, Irq, Vcpu, Queue, Ctlr, Plain, Index, Line, claimed, claimed_at, may_move, succeeds, known, is_vcpu, entry_for, index_bit, CoreState, seat_at, word_of, IsLocal, IsSeatOf, Progress, after_claim, IsProperStep, without_claim, without_take, Purpose, Scan, idle, taking, looking, claiming, has_key, scan_allows, scan_looked, without_key, word_taken}
 use Rattle.law_core_is_history.proofs.CoreProper.ReachLemmas.{number_is}
 use Rattle.law_core_is_history.proofs.CoreProper.ScanLemmas.{bit_of_key, own_of_bit, next_is}
 use Rattle.law_core_is_history.proofs.StepContext.{one, IsStep, has, finds as can_find}
@@ -55,6 +55,7 @@ module _ (finds : Bool) (shape : GuestShape) (state : CoreState) (ideal : Ideal)
   looking_step purpose from offers (Look Ctlr) is e h looking_is = absurd (true≢false (sym h))
   looking_step purpose from offers (Look (Plain i)) is e h looking_is = absurd (true≢false (sym h))
   looking_step purpose from offers (Look (Index v n)) is e h looking_is = absurd (true≢false (sym h))
+  looking_step purpose from offers (Look (Line n)) is e h looking_is = absurd (true≢false (sym h))
   looking_step purpose from offers step is e h looking_is = absurd (true≢false (sym h))
 
   -- While it claims.
@@ -124,6 +125,7 @@ module _ (finds : Bool) (shape : GuestShape) (state : CoreState) (ideal : Ideal)
   claiming_step claims takes (Look Ctlr) is e proper h is_local before = absurd (true≢false (sym h))
   claiming_step claims takes (Look (Plain i)) is e proper h is_local before = absurd (true≢false (sym h))
   claiming_step claims takes (Look (Index v n)) is e proper h is_local before = absurd (true≢false (sym h))
+  claiming_step claims takes (Look (Line n)) is e proper h is_local before = absurd (true≢false (sym h))
   claiming_step claims takes step is e proper h is_local before = absurd (true≢false (sym h))
 
   -- Any of its own steps.

@@ -12,7 +12,7 @@ use Rattle.law_core_is_history.specs.Histories.{changes_of, Ideal}
 use Rattle.law_core_is_history.specs.Lists.{Seen, seen_in, listed_of, is_live, LrState, Invalid, Pending, Active, Both, state_has_active, state_number, unpacked, Choice, Offer, offer_of, sees_end}
 use Rattle.law_core_is_history.proofs.GicIcv.PlaceLemmas.{live_id}
 use Rattle.law_core_is_history.specs.Registers.{Maps}
-use Rattle.law_core_is_history.specs.Core.{AtIrq, Local, Phase, Made, CoreStep, Look, Claim, Kick, Mark, TakeIndex, Irq as IrqWord, Vcpu, Queue, Ctlr, Plain, Index, claimed, is_ready, may_hold, may_move, moved_of, succeeds, known, arrived, changed_at, entry_for, is_at, is_vcpu, with_entry, CoreState, seat_at, word_in, word_of, IsAt, IsLocal, event_moments, IsSeatOf, Progress, after_claim, is_paid, IsProperStep, Purpose, Scan, idle, taking, looking, claiming, has_key, is_both, scan_allows, scan_looked, word_taken, without_key}
+use Rattle.law_core_is_history.specs.Core.{AtIrq, Local, Phase, Made, CoreStep, Look, Claim, Kick, Mark, TakeIndex, Irq as IrqWord, Vcpu, Queue, Ctlr, Plain, Index, Line, claimed, is_ready, may_hold, may_move, moved_of, succeeds, known, arrived, changed_at, entry_for, is_at, is_vcpu, with_entry, CoreState, seat_at, word_in, word_of, IsAt, IsLocal, event_moments, IsSeatOf, Progress, after_claim, is_paid, IsProperStep, Purpose, Scan, idle, taking, looking, claiming, has_key, is_both, scan_allows, scan_looked, word_taken, without_key}
 use Rattle.law_core_is_history.proofs.PortCore.AtLemmas.{is_at_added, is_at_mapped}
 use Rattle.law_core_is_history.proofs.CoreProper.ReachLemmas.{none_is, number_is, reached_local}
 use Rattle.law_core_is_history.specs.Known.{IsKnown}
@@ -338,6 +338,7 @@ module _ (shape : GuestShape) (state : CoreState) (ideal : Ideal) (vcpu found le
   claiming_sees claims takes (Look Ctlr) is mine e proper h claiming_is seeing = absurd (true≢false (sym h))
   claiming_sees claims takes (Look (Plain i)) is mine e proper h claiming_is seeing = absurd (true≢false (sym h))
   claiming_sees claims takes (Look (Index v n)) is mine e proper h claiming_is seeing = absurd (true≢false (sym h))
+  claiming_sees claims takes (Look (Line n)) is mine e proper h claiming_is seeing = absurd (true≢false (sym h))
   claiming_sees claims takes step is mine e proper h claiming_is seeing = absurd (true≢false (sym h))
 
   -- While it takes its index, and looks, nothing is at the interface.
@@ -355,6 +356,7 @@ module _ (shape : GuestShape) (state : CoreState) (ideal : Ideal) (vcpu found le
   looking_sees purpose from offers (Look Ctlr) is e h = absurd (true≢false (sym h))
   looking_sees purpose from offers (Look (Plain i)) is e h = absurd (true≢false (sym h))
   looking_sees purpose from offers (Look (Index v n)) is e h = absurd (true≢false (sym h))
+  looking_sees purpose from offers (Look (Line n)) is e h = absurd (true≢false (sym h))
   looking_sees purpose from offers step is e h = absurd (true≢false (sym h))
 
   -- Any of its own steps.

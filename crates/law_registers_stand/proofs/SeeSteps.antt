@@ -5,13 +5,14 @@ use Rattle.law_core_is_history.specs.Calls.{touched as touched_of}
 use Rattle.law_core_is_history.specs.Histories.{changes_of, Ideal}
 use Rattle.law_core_is_history.specs.Lists.{IchRegs, listed_of}
 use Rattle.law_core_is_history.specs.Registers.{deactivated_by, taken_by, candidates_at, Maps}
-use Rattle.law_core_is_history.specs.Core.{AtIrq, Local, Folding, Made, CoreStep, Look, Raise, Claim, GiveBack, Release, Poll, Kick, Touch, Want, WireUp, WireDown, EnableLpis, RamLook, RamPut, CtlrTake, CtlrEnd, TurnTake, CommandDone, TurnRelease, Mark, TakeIndex, Irq as IrqWord, Vcpu, Queue, Ctlr, Plain, Index, accessed, acknowledged_entry, changed_id, concerned_by, deactivated_entry, id_of, interface_of, local_after, is_ready, succeeds, vcpu_of, known, is_at, owing_both, CoreState, seat_at, word_in, IsLocal, event_moments, IsSeatOf, Progress, after_claim, after_poll, begun, is_paid, IsProperStep, after_operation, Scan, idle, has_key, scan_looked, word_taken}
+use Rattle.law_core_is_history.specs.Core.{AtIrq, Local, Folding, Made, CoreStep, Look, Raise, Claim, GiveBack, Release, Poll, Kick, Touch, Want, WireUp, WireDown, EnableLpis, RamLook, RamPut, CtlrTake, CtlrEnd, TurnTake, CommandDone, TurnRelease, Mark, TakeIndex, LineEnter, LineLeave, LineFill, LineClose, Irq as IrqWord, Vcpu, Queue, Ctlr, Plain, Index, Line, accessed, acknowledged_entry, changed_id, concerned_by, deactivated_entry, id_of, interface_of, local_after, is_ready, succeeds, vcpu_of, known, is_at, owing_both, CoreState, seat_at, word_in, IsLocal, event_moments, IsSeatOf, Progress, after_claim, after_poll, begun, is_paid, IsProperStep, after_operation, Scan, idle, has_key, scan_looked, word_taken}
 use Rattle.law_core_is_history.proofs.PortCore.AtLemmas.{is_at_mapped}
 use Rattle.law_core_is_history.specs.Known.{IsKnown}
 use Rattle.law_core_is_history.specs.Related.{bare as bare_irq}
 use Rattle.law_core_is_history.specs.Simulates.{event_of}
 use Rattle.law_core_is_history.proofs.AfterLemmas.{later}
 use Rattle.law_core_is_history.proofs.KickSteps.{is_kick_of, is_poll_by}
+use Rattle.law_core_is_history.proofs.LineSteps.{line_part}
 use Rattle.law_core_is_history.proofs.StepContext.{one, IsStep}
 use Rattle.law_registers_stand.specs.Asks.{HasAll}
 use Rattle.law_registers_stand.specs.Ends.{SeesEnd}
@@ -119,6 +120,8 @@ module _ (shape : GuestShape) (state : CoreState) (ideal : Ideal) (vcpu found le
   idle_sees (Look Ctlr) is mine e proper sees = quiet_idle (Look Ctlr) is mine e sees refl (λ f k. f) refl refl refl refl refl refl (λ key seen e. absurd (cc))
   idle_sees (Look (Plain i)) is mine e proper sees = quiet_idle (Look (Plain i)) is mine e sees refl (λ f k. f) refl refl refl refl refl refl (λ key seen e. absurd (cc))
   idle_sees (Look (Index v n)) is mine e proper sees = quiet_idle (Look (Index v n)) is mine e sees refl (λ f k. f) refl refl refl refl refl refl (λ key seen e. absurd (cc))
+  idle_sees (Look (Line n)) is mine e proper sees =
+      quiet_idle (Look (Line n)) is mine e sees refl (λ f k. f) refl (line_part shape vcpu found p.local (λ l. l.at) (λ l n s. refl) (Look (Line n)) refl) refl refl refl (line_part shape vcpu found p.local (λ l. l.phase) (λ l n s. refl) (Look (Line n)) refl) (λ key seen e. absurd (cc))
   idle_sees (Raise k) is mine e proper sees = quiet_idle (Raise k) is mine e sees refl (λ f k. f) refl refl refl refl refl refl (λ key seen e. absurd (cc))
   idle_sees (Claim k seen) is mine e proper sees =
       let done = succeeds shape vcpu p.local (Claim k seen) found in
@@ -153,4 +156,12 @@ module _ (shape : GuestShape) (state : CoreState) (ideal : Ideal) (vcpu found le
   idle_sees (CommandDone offset stalled ending) is mine e proper sees = quiet_idle (CommandDone offset stalled ending) is mine e sees refl (λ f k. f) refl refl refl refl refl refl (λ key seen e. absurd (cc))
   idle_sees TurnRelease is mine e proper sees = quiet_idle TurnRelease is mine e sees refl (λ f k. f) refl refl refl refl refl refl (λ key seen e. absurd (cc))
   idle_sees (Mark k v) is mine e proper sees = quiet_idle (Mark k v) is mine e sees refl (λ f k. f) refl refl refl refl refl refl (λ key seen e. absurd (cc))
+  idle_sees (LineEnter line seen) is mine e proper sees =
+      quiet_idle (LineEnter line seen) is mine e sees refl (λ f k. f) refl (line_part shape vcpu found p.local (λ l. l.at) (λ l n s. refl) (LineEnter line seen) refl) refl refl refl (line_part shape vcpu found p.local (λ l. l.phase) (λ l n s. refl) (LineEnter line seen) refl) (λ key seen e. absurd (cc))
+  idle_sees (LineLeave line) is mine e proper sees =
+      quiet_idle (LineLeave line) is mine e sees refl (λ f k. f) refl (line_part shape vcpu found p.local (λ l. l.at) (λ l n s. refl) (LineLeave line) refl) refl refl refl (line_part shape vcpu found p.local (λ l. l.phase) (λ l n s. refl) (LineLeave line) refl) (λ key seen e. absurd (cc))
+  idle_sees (LineFill line device event lpi) is mine e proper sees =
+      quiet_idle (LineFill line device event lpi) is mine e sees refl (λ f k. f) refl (line_part shape vcpu found p.local (λ l. l.at) (λ l n s. refl) (LineFill line device event lpi) refl) refl refl refl (line_part shape vcpu found p.local (λ l. l.phase) (λ l n s. refl) (LineFill line device event lpi) refl) (λ key seen e. absurd (cc))
+  idle_sees (LineClose line) is mine e proper sees =
+      quiet_idle (LineClose line) is mine e sees refl (λ f k. f) refl (line_part shape vcpu found p.local (λ l. l.at) (λ l n s. refl) (LineClose line) refl) refl refl refl (line_part shape vcpu found p.local (λ l. l.phase) (λ l n s. refl) (LineClose line) refl) (λ key seen e. absurd (cc))
   idle_sees (TakeIndex word) is mine e proper sees = subst (λ s. Sees shape (later is) vcpu (told_now (TakeIndex word)) (now (TakeIndex word)) (word_taken s)) (sym e) tt

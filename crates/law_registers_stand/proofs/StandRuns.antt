@@ -5,7 +5,7 @@ use Rattle.std.proofs.lemmas.List.Sums.{fold-append}
 use Rattle.law_core_is_history.specs.Words.{IccReg, Key, Icc, Mem, GuestShape, IsShape, Irq, irq_of}
 use Rattle.law_core_is_history.specs.Calls.{Operation, Access}
 use Rattle.law_core_is_history.specs.Histories.{IdealGuest, CanOpen}
-use Rattle.law_core_is_history.specs.Core.{Made, CoreStep, Look, Claim, Poll, Irq as IrqWord, Vcpu, Queue, Ctlr, Plain, Index, succeeds, vcpu_of, is_vcpu, CoreState, opening, seat_at, after, Takes, IsRun, IsLocal, after_moment, end_of_moments, ideal_moments, ideal_of, IsSeatOf, Act, begins, makes, ends, CoreMoment, own_acts, entries_of, entry_by, has_registers, are_parts, Progress, Debt, paid, after_end, before_next, after_claim, after_poll, begun, is_paid, opening_progress, owed_after_part, owed_by_call, progressed, progress_of, progress_in, stepped, IsProper, IsProperAct, IsProperEnd, IsProperRun, IsProperStep, RegistersAgree, Scan, idle, taking, looking, claiming, is_idle}
+use Rattle.law_core_is_history.specs.Core.{Made, CoreStep, Look, Claim, Poll, Irq as IrqWord, Vcpu, Queue, Ctlr, Plain, Index, Line, succeeds, vcpu_of, is_vcpu, CoreState, opening, seat_at, after, Takes, IsRun, IsLocal, after_moment, end_of_moments, ideal_moments, ideal_of, IsSeatOf, Act, begins, makes, ends, CoreMoment, own_acts, entries_of, entry_by, has_registers, are_parts, Progress, Debt, paid, after_end, before_next, after_claim, after_poll, begun, is_paid, opening_progress, owed_after_part, owed_by_call, progressed, progress_of, progress_in, stepped, IsProper, IsProperAct, IsProperEnd, IsProperRun, IsProperStep, RegistersAgree, Scan, idle, taking, looking, claiming, is_idle}
 use Rattle.law_core_is_history.proofs.PortCore.OpeningLemmas.{seat_opens}
 use Rattle.law_core_is_history.specs.CoreProper.Progress.{changed_by}
 use Rattle.law_core_is_history.proofs.CoreProper.FollowLemmas.{steps_follow}
@@ -76,6 +76,7 @@ lrs_changed shape vcpu (Look Queue) found done p = refl
 lrs_changed shape vcpu (Look Ctlr) found done p = refl
 lrs_changed shape vcpu (Look (Plain i)) found done p = refl
 lrs_changed shape vcpu (Look (Index v n)) found done p = refl
+lrs_changed shape vcpu (Look (Line n)) found done p = refl
 lrs_changed shape vcpu step found done p = refl
 
 pub lrs_made : (shape : GuestShape) (vcpu : ℕ) (made : Made) (p : Progress) → (after_made shape vcpu made p).lrs ≡ p.lrs

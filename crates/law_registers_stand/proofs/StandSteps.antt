@@ -8,11 +8,12 @@ use Rattle.law_core_is_history.specs.Histories.{Ideal}
 use Rattle.law_core_is_history.specs.Lists.{IchRegs, hcr_en, misr_of, Agrees, Active, chosen_as}
 use Rattle.law_core_is_history.proofs.GicIcv.FollowLemmas.{follows}
 use Rattle.law_core_is_history.specs.Registers.{InterfaceState, Maps}
-use Rattle.law_core_is_history.specs.Core.{AtIrq, Local, Phase, Off, Scanning, Claiming, Loaded, Folding, Made, CoreStep, Look, Raise, Claim, GiveBack, Release, Poll, Kick, Touch, Want, WireUp, WireDown, EnableLpis, RamLook, RamPut, CtlrTake, CtlrEnd, TurnTake, CommandDone, TurnRelease, Mark, TakeIndex, Irq, Vcpu, Queue, Ctlr, Plain, Index, Cands, accessed, claimed, concerned_by, interface_of, is_settled_by_look, local_after, shown, is_ready, succeeds, vcpu_of, is_vcpu, settled, entry_for, owing_both, CoreState, seat_at, IsLocal, IsSeatOf, Progress, Debt, paid, after_end, before_next, after_claim, after_poll, begun, is_end_of, is_paid, is_to_scan, owing_after, IsProperStep, is_empty, after_operation, alone, RegistersAgree, Scan, idle, is_idle, scan_looked, word_taken}
+use Rattle.law_core_is_history.specs.Core.{AtIrq, Local, Phase, Off, Scanning, Claiming, Loaded, Folding, Made, CoreStep, Look, Raise, Claim, GiveBack, Release, Poll, Kick, Touch, Want, WireUp, WireDown, EnableLpis, RamLook, RamPut, CtlrTake, CtlrEnd, TurnTake, CommandDone, TurnRelease, Mark, TakeIndex, LineEnter, LineLeave, LineFill, LineClose, Irq, Vcpu, Queue, Ctlr, Plain, Index, Line, Cands, accessed, claimed, concerned_by, interface_of, is_settled_by_look, local_after, shown, is_ready, succeeds, vcpu_of, is_vcpu, settled, entry_for, owing_both, CoreState, seat_at, IsLocal, IsSeatOf, Progress, Debt, paid, after_end, before_next, after_claim, after_poll, begun, is_end_of, is_paid, is_to_scan, owing_after, IsProperStep, is_empty, after_operation, alone, RegistersAgree, Scan, idle, is_idle, scan_looked, word_taken}
 use Rattle.law_core_is_history.specs.Calls.{touched as touched_of}
 use Rattle.law_core_is_history.specs.CoreProper.Progress.{changed_by}
 use Rattle.law_core_is_history.proofs.CoreProper.InterfaceLemmas.{interface_accessed, is_interface}
 use Rattle.law_core_is_history.specs.Related.{is_folding}
+use Rattle.law_core_is_history.proofs.LineSteps.{line_part}
 use Rattle.law_core_is_history.proofs.StepContext.{one, IsStep, finds as can_find}
 use Rattle.law_registers_stand.specs.Stands.{takes_active}
 use Rattle.law_registers_stand.proofs.EndLemmas.{far_agrees, settled_agrees}
@@ -182,6 +183,8 @@ module _ (finds : Bool) (shape : GuestShape) (state : CoreState) (ideal : Ideal)
   idle_step (Look Ctlr) is e proper active is_local after before = quiet finds shape vcpu p (now (Look Ctlr)) e before refl refl refl refl (λ h. h) (λ h. h)
   idle_step (Look (Plain i)) is e proper active is_local after before = quiet finds shape vcpu p (now (Look (Plain i))) e before refl refl refl refl (λ h. h) (λ h. h)
   idle_step (Look (Index v n)) is e proper active is_local after before = quiet finds shape vcpu p (now (Look (Index v n))) e before refl refl refl refl (λ h. h) (λ h. h)
+  idle_step (Look (Line n)) is e proper active is_local after before =
+      quiet finds shape vcpu p (now (Look (Line n))) e before refl refl (line_part shape vcpu found p.local (λ l. l.at) (λ l n s. refl) (Look (Line n)) refl) (line_part shape vcpu found p.local (λ l. l.cpu) (λ l n s. refl) (Look (Line n)) refl) (subst (λ phase. IsTrue (is_ready phase)) (line_part shape vcpu found p.local (λ l. l.phase) (λ l n s. refl) (Look (Line n)) refl)) (λ h. h)
   idle_step (Raise key) is e proper active is_local after before = quiet finds shape vcpu p (now (Raise key)) e before refl refl refl refl (λ h. h) (λ h. h)
   idle_step (Claim key seen) is e proper active is_local after before = far_end key seen is e proper active is_local after
   idle_step (GiveBack key back) is e proper active is_local after before = subst (Standing finds shape vcpu (now (GiveBack key back))) (sym e) (λ ready owed. absurd (cc))
@@ -212,6 +215,14 @@ module _ (finds : Bool) (shape : GuestShape) (state : CoreState) (ideal : Ideal)
   idle_step (CommandDone offset stalled ending) is e proper active is_local after before = quiet finds shape vcpu p (now (CommandDone offset stalled ending)) e before refl refl refl refl (λ h. h) (λ h. h)
   idle_step TurnRelease is e proper active is_local after before = quiet finds shape vcpu p (now TurnRelease) e before refl refl refl refl (λ h. h) (λ h. h)
   idle_step (Mark key v) is e proper active is_local after before = quiet finds shape vcpu p (now (Mark key v)) e before refl refl refl refl (λ h. h) (λ h. h)
+  idle_step (LineEnter line seen) is e proper active is_local after before =
+      quiet finds shape vcpu p (now (LineEnter line seen)) e before refl refl (line_part shape vcpu found p.local (λ l. l.at) (λ l n s. refl) (LineEnter line seen) refl) (line_part shape vcpu found p.local (λ l. l.cpu) (λ l n s. refl) (LineEnter line seen) refl) (subst (λ phase. IsTrue (is_ready phase)) (line_part shape vcpu found p.local (λ l. l.phase) (λ l n s. refl) (LineEnter line seen) refl)) (λ h. h)
+  idle_step (LineLeave line) is e proper active is_local after before =
+      quiet finds shape vcpu p (now (LineLeave line)) e before refl refl (line_part shape vcpu found p.local (λ l. l.at) (λ l n s. refl) (LineLeave line) refl) (line_part shape vcpu found p.local (λ l. l.cpu) (λ l n s. refl) (LineLeave line) refl) (subst (λ phase. IsTrue (is_ready phase)) (line_part shape vcpu found p.local (λ l. l.phase) (λ l n s. refl) (LineLeave line) refl)) (λ h. h)
+  idle_step (LineFill line device event lpi) is e proper active is_local after before =
+      quiet finds shape vcpu p (now (LineFill line device event lpi)) e before refl refl (line_part shape vcpu found p.local (λ l. l.at) (λ l n s. refl) (LineFill line device event lpi) refl) (line_part shape vcpu found p.local (λ l. l.cpu) (λ l n s. refl) (LineFill line device event lpi) refl) (subst (λ phase. IsTrue (is_ready phase)) (line_part shape vcpu found p.local (λ l. l.phase) (λ l n s. refl) (LineFill line device event lpi) refl)) (λ h. h)
+  idle_step (LineClose line) is e proper active is_local after before =
+      quiet finds shape vcpu p (now (LineClose line)) e before refl refl (line_part shape vcpu found p.local (λ l. l.at) (λ l n s. refl) (LineClose line) refl) (line_part shape vcpu found p.local (λ l. l.cpu) (λ l n s. refl) (LineClose line) refl) (subst (λ phase. IsTrue (is_ready phase)) (line_part shape vcpu found p.local (λ l. l.phase) (λ l n s. refl) (LineClose line) refl)) (λ h. h)
   idle_step (TakeIndex word) is e proper active is_local after before =
       subst (λ s. Standing finds shape vcpu (now (TakeIndex word)) (word_taken s)) (sym e)
       (empty_is p.local.at (and_parts (p.trapping && word == 0) (is_empty p.local.at) (subst (λ s. IsTrue (not (is_idle s) || (p.trapping && word == 0 && is_empty p.local.at))) e proper.trap)).1)

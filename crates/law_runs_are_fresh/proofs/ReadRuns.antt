@@ -1,5 +1,5 @@
 -- Whoever asks for an interrupt of a command of the ITS has begun to read that, as the history says it.
-use Rattle.std.proofs.Common.{◌≡◌, ◌≢◌, ℕ, ◌+◌, ◌-◌, ◌/◌, ◌<◌, ◌==◌, ◌&&◌, ◌||◌, ◌⊎◌, inl, inr, not, true≢false, Bool, true, false, IsTrue, List, [], ◌∷◌, ◌++◌, fold, Option, Some, None, is_some, unwrap_or, nat_lt, if◌then◌else◌, refl, sym, ap, ◌∙◌, subst, arith}
+use Rattle.std.proofs.Common.{◌≡◌, ◌≢◌, ℕ, ◌+◌, ◌-◌, ◌/◌, ◌<◌, ◌==◌, ◌&&◌, ◌||◌, ◌⊎◌, inl, inr, not, true≢false, Bool, true, false, IsTrue, List, [], ◌∷◌, ◌++◌, fold, Option, Some, None, is_none, is_some, unwrap_or, nat_lt, if◌then◌else◌, refl, sym, ap, ◌∙◌, subst, arith}
 use Rattle.std.specs.List.{list_any}
 use Rattle.std.specs.Option.{option_map_or}
 use Rattle.std.proofs.lemmas.Bool.{and_parts, and_from, cases_eq, cases_Bool, lt-ltb, le-ltb, ne_eqb}
@@ -214,7 +214,8 @@ module _ (guest : IdealGuest) (number : ℕ) (good : CanOpen guest) (actor : ℕ
 
   no_turn : (local : Local) → IsTrue (is_settled local) → IsTrue local.turn → ⊥
   no_turn local settled turn =
-      let both = and_parts (owes_nothing local && not local.turn) (not local.ctlr) settled in
+      let marks = (and_parts (owes_nothing local && not local.turn && not local.ctlr) (is_none local.line) settled).0 in
+      let both = and_parts (owes_nothing local && not local.turn) (not local.ctlr) marks in
       of local.turn (and_parts (owes_nothing local) (not local.turn) both.0).1 turn
     where
       of : (b : Bool) → IsTrue (not b) → IsTrue b → ⊥

@@ -6,7 +6,7 @@ use Rattle.law_serial_is_eager.specs.GicCall.declared.event.Event.TheVariants.{R
 use Rattle.law_serial_is_eager.specs.GicCall.declared.event.Found.TheVariants.{Nothing, Answer, Word as FoundWord}
 use Rattle.law_serial_is_eager.specs.GicCall.declared.event.Place.TheVariants.{Word}
 use Rattle.law_serial_is_eager.specs.Registers.{interface_answer}
-use Rattle.law_serial_is_eager.specs.Core.{Local, Made, CoreStep, Look, Raise, Claim, GiveBack, Release, Poll, Kick, Touch, Want, WireUp, WireDown, EnableLpis, RamLook, RamPut, CtlrTake, CtlrEnd, TurnTake, CommandDone, TurnRelease, Mark, TakeIndex, Irq, Vcpu, Queue, Ctlr, Plain, Index, interface_of, fault_place, succeeds, vcpu_of, is_at, event_done, silent, stands_for, with_found, Progress, keeps_want}
+use Rattle.law_serial_is_eager.specs.Core.{Local, Made, CoreStep, Look, Raise, Claim, GiveBack, Release, Poll, Kick, Touch, Want, WireUp, WireDown, EnableLpis, RamLook, RamPut, CtlrTake, CtlrEnd, TurnTake, CommandDone, TurnRelease, Mark, TakeIndex, LineEnter, LineLeave, LineFill, LineClose, Irq, Vcpu, Queue, Ctlr, Plain, Index, Line, interface_of, fault_place, succeeds, vcpu_of, is_at, event_done, silent, stands_for, with_found, Progress, keeps_want}
 use Rattle.law_serial_is_eager.proofs.AloneRuns.{none_wanted}
 use Rattle.law_serial_is_eager.specs.Histories.{ends_turn}
 use Rattle.law_runs_are_fresh.proofs.ReadLemmas.{is_done}
@@ -41,6 +41,7 @@ ending shape actor local own step found one e ends = of (succeeds shape actor lo
     done (Look Ctlr) e = other _ _ refl e
     done (Look (Plain i)) e = never e
     done (Look (Index v n)) e = never e
+    done (Look (Line n)) e = never e
     done (Raise k) e = other _ _ refl e
     done (Claim k seen) e = claim (is_at k local.at) k e
     done (GiveBack k back) e = never e
@@ -61,6 +62,10 @@ ending shape actor local own step found one e ends = of (succeeds shape actor lo
     done TurnRelease e = other _ _ refl e
     done (Mark k v) e = never e
     done (TakeIndex w) e = never e
+    done (LineEnter line seen) e = never e
+    done (LineLeave line) e = never e
+    done (LineFill line device event lpi) e = never e
+    done (LineClose line) e = never e
 
     of : (b : Bool) → (if b then event_done shape actor local own step found else None) ≡ Some one → is_done step ≡ true
     of true e = done step e

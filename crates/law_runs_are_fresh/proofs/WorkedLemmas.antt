@@ -58,7 +58,7 @@ given_back = record { key = spi; entry_prio = 0xa0; group = G1; pending = true; 
 
 awaiting_is_run : IsRun clear_guest.shape (opening clear_guest 0) (entries_of awaiting_run)
 unfolding least_in with_level without_level in_places at_end given_back
-awaiting_is_run = (record { actor = third_there; can = refl; meets = refl; found = refl; left = refl; tables = refl }, (record { actor = third_there; can = refl; meets = tt; found = refl; left = refl; tables = refl }, (record { actor = third_there; can = vcpu_is; meets = refl; found = refl; left = refl; tables = refl }, (record { actor = first_there; can = refl; meets = refl; found = refl; left = refl; tables = refl }, (record { actor = first_there; can = refl; meets = refl; found = refl; left = refl; tables = refl }, (record { actor = first_there; can = refl; meets = tt; found = refl; left = refl; tables = refl }, (record { actor = first_there; can = refl; meets = refl; found = refl; left = refl; tables = refl }, (record { actor = second_there; can = refl; meets = tt; found = refl; left = refl; tables = refl }, (record { actor = second_there; can = refl; meets = tt; found = refl; left = refl; tables = refl }, (record { actor = second_there; can = vcpu_is; meets = refl; found = refl; left = refl; tables = refl }, (record { actor = first_there; can = refl; meets = record { entry = at_end; at = refl; here = refl; whole = refl }; found = refl; left = refl; tables = refl }, (record { actor = first_there; can = refl; meets = record { entry = given_back; at = refl; given = refl; marks = refl }; found = refl; left = refl; tables = refl }, (record { actor = first_there; can = refl; meets = tt; found = refl; left = refl; tables = refl }, (record { actor = first_there; can = refl; meets = refl; found = refl; left = refl; tables = refl }, (record { actor = first_there; can = refl; meets = refl; found = refl; left = refl; tables = refl }, (record { actor = first_there; can = refl; meets = tt; found = refl; left = refl; tables = refl }, (record { actor = first_there; can = refl; meets = tt; found = refl; left = refl; tables = refl }, (record { actor = first_there; can = refl; meets = refl; found = refl; left = refl; tables = refl }, (record { actor = second_there; can = refl; meets = tt; found = refl; left = refl; tables = refl }, (record { actor = second_there; can = record { there = refl; fits = refl }; meets = record { empty = refl; marks = refl }; found = refl; left = refl; tables = refl }, (record { actor = second_there; can = refl; meets = tt; found = refl; left = refl; tables = refl }, (record { actor = second_there; can = vcpu_is; meets = refl; found = refl; left = refl; tables = refl }, tt))))))))))))))))))))))
+awaiting_is_run = (record { actor = third_there; can = refl; meets = refl; found = refl; left = refl; tables = refl }, (record { actor = third_there; can = refl; meets = tt; found = refl; left = refl; tables = refl }, (record { actor = third_there; can = vcpu_is; meets = refl; found = refl; left = refl; tables = refl }, (record { actor = first_there; can = refl; meets = refl; found = refl; left = refl; tables = refl }, (record { actor = first_there; can = refl; meets = refl; found = refl; left = refl; tables = refl }, (record { actor = first_there; can = refl; meets = tt; found = refl; left = refl; tables = refl }, (record { actor = first_there; can = refl; meets = refl; found = refl; left = refl; tables = refl }, (record { actor = second_there; can = refl; meets = tt; found = refl; left = refl; tables = refl }, (record { actor = second_there; can = refl; meets = tt; found = refl; left = refl; tables = refl }, (record { actor = second_there; can = vcpu_is; meets = refl; found = refl; left = refl; tables = refl }, (record { actor = first_there; can = refl; meets = record { entry = at_end; at = refl; here = refl; whole = refl }; found = refl; left = refl; tables = refl }, (record { actor = first_there; can = refl; meets = record { entry = given_back; at = refl; given = refl; marks = refl }; found = refl; left = refl; tables = refl }, (record { actor = first_there; can = refl; meets = tt; found = refl; left = refl; tables = refl }, (record { actor = first_there; can = refl; meets = refl; found = refl; left = refl; tables = refl }, (record { actor = first_there; can = refl; meets = refl; found = refl; left = refl; tables = refl }, (record { actor = first_there; can = refl; meets = tt; found = refl; left = refl; tables = refl }, (record { actor = first_there; can = refl; meets = tt; found = refl; left = refl; tables = refl }, (record { actor = first_there; can = refl; meets = refl; found = refl; left = refl; tables = refl }, (record { actor = second_there; can = refl; meets = tt; found = refl; left = refl; tables = refl }, (record { actor = second_there; can = record { there = refl; fits = refl }; meets = record { empty = refl; marks = refl; lines = λ e. absurd (cc) }; found = refl; left = refl; tables = refl }, (record { actor = second_there; can = refl; meets = tt; found = refl; left = refl; tables = refl }, (record { actor = second_there; can = vcpu_is; meets = refl; found = refl; left = refl; tables = refl }, tt))))))))))))))))))))))
 
 -- the guest has three actors
 none_else : {X : Type 0} (n : ℕ) → suc (suc (suc n)) < actor_count clear_guest.shape → X

@@ -20,8 +20,8 @@ use Rattle.law_unmapped_lpis.proofs.ItsTab.TableLemmas.{event_order, same_event}
 use Rattle.law_unmapped_lpis.specs.Calls.{Part, Map, Clear as ClearLpi, lpis_of, lpis_of_device, lpis_of_collection, lpis_for, each, for_one, mapping_parts, parts}
 use Rattle.law_unmapped_lpis.specs.GicCall.declared.command.Part.TheVariants.{Forget, Retarget, Raise, Configure}
 use Rattle.law_unmapped_lpis.proofs.LawHistories.CourseLemmas.{mark_is}
-use Rattle.law_lone_calls_are_eager.proofs.EnableLemmas.{in_range}
-use Rattle.law_lone_calls_are_eager.proofs.NamedLemmas.{IsIn, in_filter}
+use Rattle.law_unmapped_lpis.proofs.LawLoneCallsAreEager.EnableLemmas.{in_range}
+use Rattle.law_unmapped_lpis.proofs.LawLoneCallsAreEager.NamedLemmas.{IsIn, in_filter}
 use Rattle.law_unmapped_lpis.proofs.MapsLemmas.{HasTarget, collected, targeted, target_from}
 use Rattle.law_unmapped_lpis.proofs.PartLemmas.{clash}
 use Rattle.law_saved_runs_are_valid.proofs.PartTargets.{after_part, after_parts, after_append, each_keep, one_keeps, each_gives}

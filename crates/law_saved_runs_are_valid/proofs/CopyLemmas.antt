@@ -8,10 +8,10 @@ use Rattle.law_unmapped_lpis.specs.Words.{GuestShape, Key, IsShape, has_interrup
 use Rattle.law_unmapped_lpis.specs.Calls.{Moved, left}
 use Rattle.law_unmapped_lpis.specs.Histories.{IdealGuest, irq_at, Ideal, Standing, standing_at, is_of, with_irq, with_standing, without, after_leave, emptied, home, last_of, IsHistory, IsWhole as Histories_IsWhole, IsSound, copy_in}
 use Rattle.law_unmapped_lpis.proofs.IdealGuests.KeyLemmas.{IsWhole, irq_changed}
-use Rattle.law_lone_calls_are_eager.proofs.GicBase.KeyLemmas.{same_key}
-use Rattle.law_lone_calls_are_eager.proofs.GicOpen.KeyLemmas.{length-with_irq_in}
-use Rattle.law_lone_calls_are_eager.specs.LawEagerIsHistory.Moments.{history_of}
-use Rattle.law_lone_calls_are_eager.proofs.LawEagerIsHistory.StepLemmas.{whole_run}
+use Rattle.law_unmapped_lpis.proofs.LawLoneCallsAreEager.GicBase.KeyLemmas.{same_key}
+use Rattle.law_unmapped_lpis.proofs.LawLoneCallsAreEager.GicOpen.KeyLemmas.{length-with_irq_in}
+use Rattle.law_unmapped_lpis.specs.LawLoneCallsAreEager.LawEagerIsHistory.Moments.{history_of}
+use Rattle.law_unmapped_lpis.proofs.LawLoneCallsAreEager.LawEagerIsHistory.StepLemmas.{whole_run}
 use Rattle.law_unmapped_lpis.proofs.LawHistories.EnableLaw.{enables_agree, nobody_spreads}
 use Rattle.law_unmapped_lpis.proofs.IdealGuests.SoundLemmas.{whole_of}
 use Rattle.law_unmapped_lpis.proofs.IdealGuests.CanOpenLemmas.{openings_can_open}

@@ -12,7 +12,7 @@ use Rattle.eager_rest.specs.LawSavesGoOn.RunsSplit.GicIdeal.IdealGuests.Ideal.{i
 use Rattle.eager_rest.specs.LawSavesGoOn.RunsSplit.GicIdeal.Deeds.{acknowledges}
 use Rattle.eager_rest.proofs.LawSavesGoOn.RunsSplit.GicIdeal.IdealGuests.KeyLemmas.{IsWhole}
 use Rattle.eager_rest.proofs.LawSavesGoOn.RunsSplit.GicIdeal.EffectLemmas.{is_ended, changed_by, event_effect, shape_event}
-use Rattle.law_lone_calls_are_eager.proofs.MomentLemmas.{guest_whole}
+use Rattle.law_unmapped_lpis.proofs.LawLoneCallsAreEager.MomentLemmas.{guest_whole}
 use Rattle.eager_rest.proofs.LawSavesGoOn.OwnLemmas.{StoresOwn}
 use Rattle.law_saved_runs_are_valid.proofs.RangeLemmas.{IsDoubleword}
 

@@ -8,8 +8,8 @@ use Rattle.law_unmapped_lpis.specs.GicCall.declared.command.Part.TheVariants.{Fo
 use Rattle.law_unmapped_lpis.specs.GicCall.declared.touch.Touching.TheVariants.{Retarget as RetargetLpi, Configure as ConfigureLpi, Forget as ForgetLpi}
 use Rattle.law_unmapped_lpis.specs.Histories.{IdealGuest, irq_at, changed_irq, after_event, after_events}
 use Rattle.law_unmapped_lpis.proofs.IdealGuests.KeyLemmas.{IsWhole, irq_changed}
-use Rattle.law_lone_calls_are_eager.proofs.MomentLemmas.{target_at, guest_whole}
-use Rattle.law_lone_calls_are_eager.proofs.NamedLemmas.{IsIn}
+use Rattle.law_unmapped_lpis.proofs.LawLoneCallsAreEager.MomentLemmas.{target_at, guest_whole}
+use Rattle.law_unmapped_lpis.proofs.LawLoneCallsAreEager.NamedLemmas.{IsIn}
 
 -- whether an LPI is for a vCPU after a part, and after some
 abbrev pub after_part : ℕ → Part → Bool → Bool

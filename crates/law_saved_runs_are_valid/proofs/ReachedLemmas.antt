@@ -15,8 +15,8 @@ use Rattle.eager_rest.proofs.LawSavesGoOn.RunsSplit.GicIdeal.IdealGuests.Opening
 use Rattle.eager_rest.proofs.LawSavesGoOn.RunsSplit.GicIdeal.IdealGuests.CanOpenLemmas.{openings_can_open}
 use Rattle.eager_rest.proofs.LawSavesGoOn.RunsSplit.GicIdeal.IdealGuests.GicCall.CallLemmas.{device_valid}
 use Rattle.eager_rest.proofs.LawSavesGoOn.RunsSplit.GicIdeal.StepLemmas.{free_follow, op_follows, op_is_events}
-use Rattle.law_lone_calls_are_eager.specs.LoneCalls.{IsAtRest}
-use Rattle.law_lone_calls_are_eager.proofs.RestLaws.{rest_stays}
+use Rattle.law_unmapped_lpis.specs.LawLoneCallsAreEager.LoneCalls.{IsAtRest}
+use Rattle.law_unmapped_lpis.proofs.LawLoneCallsAreEager.RestLaws.{rest_stays}
 use Rattle.law_unmapped_lpis.proofs.OperationLaws.{accesses_leave_none, devices_leave_none}
 use Rattle.law_saved_runs_are_valid.proofs.CpuLemmas.{IsInRange, opens_in_range}
 use Rattle.law_saved_runs_are_valid.proofs.RangeLemmas.{IsDoubleword, FitsWord, IsFit, events_fit}

@@ -15,7 +15,7 @@ use Rattle.law_unmapped_lpis.proofs.IdealGuests.QueueLemmas.{bad_command, carrie
 use Rattle.law_unmapped_lpis.proofs.ItsTab.TableLemmas.{unmapped}
 use Rattle.law_unmapped_lpis.proofs.CalmLemmas.{access_calm, icc_calm, device_calm}
 use Rattle.law_unmapped_lpis.proofs.EventLemmas.{is_calm}
-use Rattle.law_lone_calls_are_eager.proofs.MomentLemmas.{target_at, guest_whole}
+use Rattle.law_unmapped_lpis.proofs.LawLoneCallsAreEager.MomentLemmas.{target_at, guest_whole}
 use Rattle.eager_rest.specs.LawSavesGoOn.RunsSplit.GicIdeal.Deeds.{acknowledges}
 use Rattle.eager_rest.specs.LawSavesGoOn.RunsSplit.GicIdeal.IdealGuests.Call.{after_op, after_device}
 use Rattle.eager_rest.specs.LawSavesGoOn.RunsSplit.GicIdeal.IdealGuests.GicCall.Call.{starts_commands}

@@ -4,8 +4,9 @@ use Rattle.std.proofs.lemmas.Bool.{ne_eqb, and_right}
 use Rattle.law_registers_stand.specs.Words.{IccReg, GuestShape, irq_of}
 use Rattle.law_registers_stand.specs.Histories.{Ideal}
 use Rattle.law_registers_stand.specs.Registers.{Maps}
-use Rattle.law_registers_stand.specs.Core.{Local, Phase, Folding, CoreStep, Look, GiveBack, Poll, TakeIndex, Irq, local_after, is_settled_by_look, phase_after, accessed, is_ready, succeeds, vcpu_of, settled, CoreState, seat_at, local_done}
+use Rattle.law_registers_stand.specs.Core.{Local, Phase, Folding, CoreStep, Look, GiveBack, Poll, TakeIndex, LineClose, Irq, Line, local_after, is_settled_by_look, phase_after, accessed, is_ready, succeeds, vcpu_of, settled, CoreState, seat_at, local_done}
 use Rattle.law_registers_stand.specs.LawCoreIsHistory.Related.{is_folding}
+use Rattle.law_registers_stand.proofs.LawCoreIsHistory.LineSteps.{is_on_line, line_done}
 use Rattle.law_registers_stand.proofs.LawCoreIsHistory.StepContext.{IsStep}
 use Rattle.law_registers_stand.specs.Asks.{IsUnkicked}
 use Rattle.law_registers_stand.proofs.LawCoreIsHistory.AfterLemmas.{later}
@@ -31,6 +32,13 @@ phase_kept : (shape : GuestShape) (word : ℕ) (phase : Phase) → is_folding (p
 phase_kept shape word Folding h = h
 phase_kept shape word phase h = refl
 
+line_kept : (shape : GuestShape) (actor : ℕ) (local : Local) (step : CoreStep) (found : ℕ) → is_on_line step ≡ true → IsCpuKept step local (local_done shape actor local step found)
+line_kept shape actor local step found e = record {
+  cpu = line_done shape actor found local (λ l. l.cpu) (λ l n s. refl) step e;
+  stays = λ h. ap is_folding (sym (line_done shape actor found local (λ l. l.phase) (λ l n s. refl) step e)) ∙ h;
+  ready = λ no_take h. subst (λ phase. IsTrue (is_ready phase)) (line_done shape actor found local (λ l. l.phase) (λ l n s. refl) step e) h;
+}
+
 -- one that does what it is for
 done_kept : (shape : GuestShape) (actor : ℕ) (local : Local) (step : CoreStep) (found : ℕ) → is_poll step ≡ false → IsCpuKept step local (local_done shape actor local step found)
 done_kept shape actor local (Poll reg write) found no_poll = absurd (true≢false no_poll)
@@ -38,6 +46,8 @@ done_kept shape actor local (Look (Irq key)) found no_poll =
     either_kept (Look (Irq key)) (is_settled_by_look shape actor (irq_of found)) local (record local { cands = settled shape actor key local.cands }) (record { cpu = refl; stays = λ h. h; ready = λ no_take h. h })
 done_kept shape actor local (GiveBack key back) found no_poll = record { cpu = refl; stays = λ h. absurd (true≢false h); ready = λ no_take h. absurd (true≢false (sym h)) }
 done_kept shape actor local (TakeIndex word) found no_poll = record { cpu = refl; stays = phase_kept shape word local.phase; ready = λ no_take h. absurd (true≢false no_take) }
+done_kept shape actor local (Look (Line line)) found no_poll = line_kept shape actor local (Look (Line line)) found refl
+done_kept shape actor local (LineClose line) found no_poll = line_kept shape actor local (LineClose line) found refl
 done_kept shape actor local step found no_poll = record { cpu = refl; stays = λ h. h; ready = λ no_take h. h }
 
 pub cpu_kept : (shape : GuestShape) (actor : ℕ) (local : Local) (step : CoreStep) (found : ℕ) → is_poll step ≡ false → IsCpuKept step local (local_after shape actor local step found)

@@ -1,5 +1,5 @@
 -- A moment of a proper run: the core beside the ideal controller that it stands for, what the history says, and how far each actor is.
-use Rattle.std.proofs.Common.{◌≡◌, ◌≢◌, ℕ, ◌+◌, ◌<◌, ◌==◌, ◌&&◌, inl, inr, true≢false, not, Bool, true, false, IsTrue, All, List, [], ◌∷◌, map, filter, fold, length, slice_index_or, Option, Some, None, is_some, if◌then◌else◌, refl, sym, ap, ◌∙◌, subst}
+use Rattle.std.proofs.Common.{◌≡◌, ◌≢◌, ℕ, ◌+◌, ◌<◌, ◌==◌, ◌&&◌, inl, inr, true≢false, not, Bool, true, false, IsTrue, All, List, [], ◌∷◌, map, filter, fold, length, slice_index_or, Option, Some, None, is_none, is_some, if◌then◌else◌, refl, sym, ap, ◌∙◌, subst}
 use Rattle.std.specs.Option.{option_map_or}
 use Rattle.std.proofs.lemmas.Bool.{cases_eq, and_parts, eqb-true, eq-eqb, ne_eqb, false_from_ne_true}
 use Rattle.std.proofs.lemmas.List.{length-set, length-replicate, get_or-replicate}
@@ -77,7 +77,8 @@ pub record IsActing (shape : GuestShape) (state : CoreState) (progress : ℕ →
 
 pub settled_owes : (local : Local) (vcpu : ℕ) → IsTrue (is_settled local) → IsTrue (owes_kick vcpu local) → ⊥
 settled_owes local vcpu settled owes =
-    let nothing = (and_parts (owes_no_kick local && owes_no_mark local && has_no_cand local && not local.turn) (not local.ctlr) settled).0 in
+    let marks = (and_parts (owes_no_kick local && owes_no_mark local && has_no_cand local && not local.turn && not local.ctlr) (is_none local.line) settled).0 in
+    let nothing = (and_parts (owes_no_kick local && owes_no_mark local && has_no_cand local && not local.turn) (not local.ctlr) marks).0 in
     let kick = (and_parts (owes_no_kick local && owes_no_mark local) (has_no_cand local) (and_parts (owes_no_kick local && owes_no_mark local && has_no_cand local) (not local.turn) nothing).0).0 in
     no_bit vcpu (subst (λ n. IsTrue (has_bit n vcpu)) (eqb-true local.owes.0 0 (and_parts (owes_no_kick local) (owes_no_mark local) kick).0) owes)
 

@@ -12,11 +12,12 @@ use Rattle.law_registers_stand.specs.Registers.{Targets, Maps, CpuRec}
 use Rattle.law_registers_stand.specs.Words.{Back, Key, IccReg, GuestShape, has_interrupt, is_of_vcpu, is_same_key, IsShape, has_bit, irq_of}
 use Rattle.law_registers_stand.proofs.GicBase.KeyLemmas.{same_key}
 use Rattle.law_registers_stand.specs.Calls.{Touching, touched}
-use Rattle.law_registers_stand.specs.Core.{Local, Cands, CoreStep, Look, Raise, Claim, GiveBack, Release, Poll, Kick, Touch, Want, WireUp, WireDown, Mark, TakeIndex, WordId, Irq, Index, Folding, vcpu_of, local_after, concerned, concerned_by, polled, accessed, claimed, looked, is_settled_by_look, succeeds, is_cand, is_vcpu, settled, without_vcpu, without_cand, with_cand_word, owing_both, owes_no_mark, has_word, index_bit, index_words, CoreState, seat_at, word_in, word_of, IsIrqWord, AtIrq, Phase, Scanning, Loaded, local_done, concerns}
+use Rattle.law_registers_stand.specs.Core.{Local, Cands, CoreStep, Look, Raise, Claim, GiveBack, Release, Poll, Kick, Touch, Want, WireUp, WireDown, Mark, TakeIndex, LineClose, WordId, Irq, Index, Line, Folding, vcpu_of, local_after, concerned, concerned_by, polled, accessed, claimed, looked, is_settled_by_look, succeeds, is_cand, is_vcpu, settled, without_vcpu, without_cand, with_cand_word, owing_both, owes_no_mark, has_word, index_bit, index_words, CoreState, seat_at, word_in, word_of, IsIrqWord, AtIrq, Phase, Scanning, Loaded, local_done, concerns}
 use Rattle.law_registers_stand.proofs.PortCore.StepLocals.{bit_there}
 use Rattle.law_registers_stand.proofs.PortCore.StepLemmas.{steps_sound}
 use Rattle.law_registers_stand.proofs.PortCore.StepMade.{all_three}
 use Rattle.law_registers_stand.specs.Histories.{Ideal}
+use Rattle.law_registers_stand.proofs.LawCoreIsHistory.LineSteps.{line_done}
 use Rattle.law_registers_stand.proofs.LawCoreIsHistory.StepContext.{one, IsStep, has}
 use Rattle.law_scans_miss_none.specs.Index.{is_indexed, owes_mark}
 use Rattle.law_registers_stand.proofs.LawCoreIsHistory.AfterLemmas.{later, left_in, word_cases}
@@ -51,10 +52,12 @@ poll_owes reg write found local = poll_part (λ (l : Local). l.owes) (λ cpu at 
 -- and a look its candidates alone
 look_marks : (shape : GuestShape) (actor : ℕ) (word : WordId) (found : ℕ) (local : Local) → (looked shape actor word found local).marks ≡ local.marks
 look_marks shape actor (Irq k) found local = either_way (λ (l : Local). l.marks) (is_settled_by_look shape actor (irq_of found)) (record local { cands = settled shape actor k local.cands }) local refl
+look_marks shape actor (Line line) found local = line_done shape actor found local (λ l. l.marks) (λ l n s. refl) (Look (Line line)) refl
 look_marks shape actor word found local = refl
 
 pub look_owes : (shape : GuestShape) (actor : ℕ) (word : WordId) (found : ℕ) (local : Local) → (looked shape actor word found local).owes ≡ local.owes
 look_owes shape actor (Irq k) found local = either_way (λ (l : Local). l.owes) (is_settled_by_look shape actor (irq_of found)) (record local { cands = settled shape actor k local.cands }) local refl
+look_owes shape actor (Line line) found local = line_done shape actor found local (λ l. l.owes) (λ l n s. refl) (Look (Line line)) refl
 look_owes shape actor word found local = refl
 
 -- candidates without one interrupt have every other one
@@ -131,6 +134,7 @@ module _ {shape : GuestShape} {state : CoreState} {ideal : Ideal} {actor found l
               settled_keeps shape actor key k local.cands is.good there (subst (λ w. IsTrue (has_word shape w)) on (has is)) (is.sound.locals actor is.takes.actor).cands.each
               (concerns_own shape key actor (word_in shape (later is) (Irq key)) there (subst (IsIrqWord shape key) (sym (stays (Irq key) there)) (is.sound.words (Irq key) there)) asks)
               (λ same. not_both (concerns shape actor (irq_of found)) (told same) (and_parts (is_vcpu shape actor) (not (concerns shape actor (irq_of found))) e).1) h
+      of (Line line) on key there asks h = subst (λ c. IsTrue (is_cand c (index_bit shape key))) (sym (line_done shape actor found local (λ l. l.cands) (λ l n s. refl) (Look (Line line)) refl)) h
       of w on key there asks h = h
 
   -- Moves.
@@ -341,4 +345,8 @@ keeps_complete shape state ideal actor (WireUp key) found left tables is lasts =
 keeps_complete shape state ideal actor (WireDown key) found left tables is lasts = cause_carries key (WireDown key) is lasts refl is.takes.meets refl (tells_wire_down key is)
 keeps_complete shape state ideal actor (Mark key vcpu) found left tables is lasts = carries_mark key vcpu is lasts
 keeps_complete shape state ideal actor (TakeIndex word) found left tables is lasts = carries_take_index word is lasts
+keeps_complete shape state ideal actor (LineClose line) found left tables is lasts =
+    let local = (seat_at state actor).local in
+    carries_other (LineClose line) is lasts (λ v n e. absurd (cc)) (λ k e. absurd (cc)) (line_done shape actor found local (λ l. l.cands) (λ l n s. refl) (LineClose line) refl) (line_done shape actor found local (λ l. l.marks) (λ l n s. refl) (LineClose line) refl)
+    (line_done shape actor found local (λ l. l.owes) (λ l n s. refl) (LineClose line) refl)
 keeps_complete shape state ideal actor step found left tables is lasts = carries_other step is lasts (λ v n e. absurd (cc)) (λ k e. absurd (cc)) refl refl refl

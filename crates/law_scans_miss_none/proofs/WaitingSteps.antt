@@ -1,11 +1,12 @@
 -- What a step leaves of the interrupts that are due to a vCPU, while that is not kicked.
-use Rattle.std.proofs.Common.{◌≡◌, ℕ, ◌<◌, inl, inr, true≢false, Bool, true, false, IsTrue, Option, if◌then◌else◌, sym, ap, ◌∙◌, subst, arith}
+use Rattle.std.proofs.Common.{◌≡◌, ℕ, ◌<◌, inl, inr, true≢false, Bool, true, false, IsTrue, Option, if◌then◌else◌, refl, sym, ap, ◌∙◌, subst, arith}
 use Rattle.std.proofs.lemmas.Bool.{cases_eq, eq-eqb}
 use Rattle.law_registers_stand.specs.Words.{Key, GuestShape, has_bit, Irq as IrqRecord, irq_of, IsShape, has_interrupt}
 use Rattle.law_registers_stand.specs.Calls.{touched}
 use Rattle.law_registers_stand.specs.Histories.{Ideal, Track}
 use Rattle.law_registers_stand.specs.Registers.{Maps}
-use Rattle.law_registers_stand.specs.Core.{Local, CoreStep, Look, Raise, Release, Poll, Kick, Touch, WireUp, WireDown, Irq, local_after, concerned, concerned_by, told_of_release, succeeds, is_active_at, CoreState, Seat, seat_at, word_in, word_of, CanStep, local_done}
+use Rattle.law_registers_stand.specs.Core.{Local, CoreStep, Look, Raise, Release, Poll, Kick, Touch, WireUp, WireDown, LineClose, Irq, local_after, concerned, concerned_by, told_of_release, succeeds, is_active_at, CoreState, Seat, seat_at, word_in, word_of, CanStep, local_done}
+use Rattle.law_registers_stand.proofs.LawCoreIsHistory.LineSteps.{line_done}
 use Rattle.law_registers_stand.proofs.LawCoreIsHistory.StepContext.{IsStep}
 use Rattle.law_scans_miss_none.specs.Index.{waits_for, owes_kick}
 use Rattle.law_scans_miss_none.specs.Excuse.{changed_last, IsExcused}
@@ -32,6 +33,7 @@ owes_done shape actor vcpu local (Release key) found good within can e h = all_k
 owes_done shape actor vcpu local (Touch key seen kind) found good within can e h = all_keep local.owes (concerned_by shape (irq_of found) (touched shape key kind (irq_of found))) vcpu h
 owes_done shape actor vcpu local (Kick other) found good within can e h =
     still_in local.owes other vcpu (omega (arith, can, good.vcpus)) (omega (arith, within, good.vcpus)) (λ same. true≢false (sym (eq-eqb other vcpu (sym same)) ∙ e)) h
+owes_done shape actor vcpu local (LineClose line) found good within can e h = subst (λ o. IsTrue (has_bit o.0 vcpu)) (sym (line_done shape actor found local (λ l. l.owes) (λ l n s. refl) (LineClose line) refl)) h
 owes_done shape actor vcpu local step found good within can e h = h
 
 -- and after any other

@@ -4,7 +4,7 @@ use Rattle.std.specs.Option.{option_map_or}
 use Rattle.law_lone_calls_are_eager.specs.Words.{IccReg, Iar0, Iar1, Hppir0, Hppir1, Key, Icc, GuestShape, is_same_key, irq_of}
 use Rattle.law_lone_calls_are_eager.specs.Calls.{Operation, Access, View}
 use Rattle.law_lone_calls_are_eager.specs.Histories.{asks_first, names, takes_commands}
-use Rattle.law_lone_accesses_find_all.specs.Core.{Made, CoreStep, Look, Raise, Claim, GiveBack, Release, Poll, Kick, Touch, Want, WireUp, WireDown, EnableLpis, RamLook, RamPut, CtlrTake, CtlrEnd, TurnTake, CommandDone, TurnRelease, Mark, TakeIndex, WordId, Irq, Vcpu, Queue, Ctlr, Plain, Index, succeeds, vcpu_of, known_view, Progress, after_claim, after_poll, begun, stepped, keeps_want, Scan, idle, taking, looking, claiming, has_begun, may_name}
+use Rattle.law_lone_accesses_find_all.specs.Core.{Made, CoreStep, Look, Raise, Claim, GiveBack, Release, Poll, Kick, Touch, Want, WireUp, WireDown, EnableLpis, RamLook, RamPut, CtlrTake, CtlrEnd, TurnTake, CommandDone, TurnRelease, Mark, TakeIndex, LineEnter, LineLeave, LineFill, LineClose, WordId, Irq, Vcpu, Queue, Ctlr, Plain, Index, Line, succeeds, vcpu_of, known_view, Progress, after_claim, after_poll, begun, stepped, keeps_want, Scan, idle, taking, looking, claiming, has_begun, may_name}
 use Rattle.law_lone_accesses_find_all.specs.CoreProper.Progress.{changed_by}
 use Rattle.law_lone_accesses_find_all.proofs.CoreProper.ScanLemmas.{wants_on}
 use Rattle.law_lone_accesses_find_all.proofs.LawScansMissNone.ScanSteps.{with_made}
@@ -24,6 +24,7 @@ wants_stay shape actor (Look word) found done p other none = of word
     of Ctlr = none
     of (Plain i) = none
     of (Index v n) = none
+    of (Line n) = none
 wants_stay shape actor (Claim k seen) found done p other none = of p.scan
   where
     of : (scan : Scan) → (after_claim k (irq_of found) done scan p).wants ≡ []
@@ -63,6 +64,10 @@ wants_stay shape actor (CommandDone offset stalled ending) found done p other no
 wants_stay shape actor TurnRelease found done p other none = none
 wants_stay shape actor (Mark k v) found done p other none = none
 wants_stay shape actor (TakeIndex w) found done p other none = none
+wants_stay shape actor (LineEnter line seen) found done p other none = none
+wants_stay shape actor (LineLeave line) found done p other none = none
+wants_stay shape actor (LineFill line device event lpi) found done p other none = none
+wants_stay shape actor (LineClose line) found done p other none = none
 
 -- an access that asks for the first interrupt names none
 pub names_none : (shape : GuestShape) (view : View) (actor : ℕ) (reg : IccReg) (write : Option ℕ) (key : Key) → asks_first reg write ≡ true → names shape view actor (Access (Icc reg write)) key ≡ false

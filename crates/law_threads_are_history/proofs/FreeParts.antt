@@ -152,10 +152,10 @@ pub record IsFree (guest : IdealGuest) (actor : ℕ) (ideal : Ideal) (now : Seat
   pub placing : (id : ℕ) → going.goes_by id ≡ true → IsPlacing guest.shape actor id (going.targets id) now todo call
 
 -- it begins
-pub free_begins : (guest : IdealGuest) (actor : ℕ) (ideal : Ideal) (now : Seat) (operation : Operation) (acts : List Act) (begins : Begins guest actor now operation acts) → takes_its_by guest.shape begins.part.operation ≡ false → IsFree guest actor ideal now (begun ideal operation) acts
-free_begins guest actor ideal now operation acts begins free =
+pub free_begins : (guest : IdealGuest) (actor : ℕ) (ideal : Ideal) (now : Seat) (operation : Operation) (acts : List Act) (begins : Begins guest actor now operation acts) → IsCallFound (told_by guest actor begins.base now) begins.part → takes_its_by guest.shape begins.part.operation ≡ false → IsFree guest actor ideal now (begun ideal operation) acts
+free_begins guest actor ideal now operation acts begins told free =
     let part = begins.part in
-    let going = going_of guest actor begins.base now part free begins.told in
+    let going = going_of guest actor begins.base now part free told in
     record {
       seat = now;
       part = part;

@@ -120,7 +120,7 @@ threads_are_a_history guest number world parts good run done =
     let moments = weaves.moments in
     let woven = weaves.woven in
     let parted = weaves.proper.parted in
-    let calls = calls_open guest number moments good parted.actors parted.run (λ n there. opens_idle guest number n there _ (parts n) (done n there) (own_acts n moments) (woven.own n there)) in
+    let calls = calls_open guest number moments good parted (λ n there. opens_idle guest number n there _ (parts n) (done n there) (own_acts n moments) (woven.own n there)) in
     let ended : AreEnded guest.shape moments = λ n there. ap (fold within_after false) (woven.own n there) ∙ parts_over (parts n) in
     let state = same_end guest.shape (opening guest number) moments ∙ ap (end_of guest.shape (opening guest number)) woven.entries in
     record {

@@ -76,17 +76,17 @@ pub record IsBefore (guest : IdealGuest) (actor : ℕ) (ideal : Ideal) (now : Se
   pub untaken : tables_in part.steps ≡ tables_in todo
   pub windowed : IsWindowed ideal call
 
-pub its_begins : (guest : IdealGuest) (actor : ℕ) (ideal : Ideal) (now : Seat) (operation : Operation) (acts : List Act) (begins : Begins guest actor now operation acts) → takes_its_by guest.shape begins.part.operation ≡ true → IsBefore guest actor ideal now (begun ideal operation) acts
-its_begins guest actor ideal now operation acts begins takes =
+pub its_begins : (guest : IdealGuest) (actor : ℕ) (ideal : Ideal) (now : Seat) (operation : Operation) (acts : List Act) (begins : Begins guest actor now operation acts) → IsCallFound (told_by guest actor begins.base now) begins.part → takes_its_by guest.shape begins.part.operation ≡ true → IsBefore guest actor ideal now (begun ideal operation) acts
+its_begins guest actor ideal now operation acts begins told takes =
     let part = begins.part in
-    let turn = its_turn guest.shape begins.told.made.beside (vcpu_of guest.shape actor) part.operation (events_from guest.shape actor now part.steps) part.answer takes begins.told.made.call in
+    let turn = its_turn guest.shape told.made.beside (vcpu_of guest.shape actor) part.operation (events_from guest.shape actor now part.steps) part.answer takes told.made.call in
     record {
       base = begins.base;
       seat = now;
       part = part;
       todo = part.steps;
       partly = begins.partly;
-      told = begins.told;
+      told = told;
       takes = takes;
       operation = sym begins.operation_is;
       piece = refl;

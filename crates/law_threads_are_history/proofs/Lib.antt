@@ -11,6 +11,7 @@ pub mod CallLemmas
 pub mod WindowLemmas
 pub mod ToldParts
 pub mod FreeParts
+pub mod PostParts
 pub mod ThreadRuns
 pub mod HistoryRuns
 pub mod EventTargets

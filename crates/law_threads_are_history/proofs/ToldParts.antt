@@ -5,7 +5,7 @@ use Rattle.law_ends_agree.specs.Words.{GuestShape}
 use Rattle.law_ends_agree.specs.Calls.{Operation}
 use Rattle.law_ends_agree.specs.Histories.{IdealGuest}
 use Rattle.law_ends_agree.specs.Core.{Made, local_after, Seen, local_by, seen_after, Seat, Act, begins, makes, ends}
-use Rattle.pe_place.specs.Parts.{AreCalls, IsCallFound, Part, acts_in}
+use Rattle.pe_place.specs.Parts.{AreCalls, IsPartFound, Part, acts_in}
 
 -- what a port tells of an actor with this for itself
 abbrev pub told_by : IdealGuest → ℕ → Seen → Seat → Seen
@@ -46,7 +46,7 @@ pub record Begins (guest : IdealGuest) (actor : ℕ) (now : Seat) (operation : O
   pub base : Seen
   pub part : Part
   pub operation_is : part.operation ≡ operation
-  pub told : IsCallFound (told_by guest actor base now) part
+  pub told : IsPartFound (told_by guest actor base now) part
   pub partly : IsPartly guest actor now acts now part part.steps
 
 begun_operation : (one two : Operation) (m n : ℕ) → begins one m ≡ begins two n → two ≡ one

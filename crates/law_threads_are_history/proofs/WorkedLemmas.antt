@@ -1,5 +1,5 @@
 -- The worked run of two actors: each of its conditions computes.
-use Rattle.std.proofs.Common.{◌≡◌, ℕ, zero, suc, true, false, IsTrue, All, List, [], ◌∷◌, Some, None, slice_index_or, refl, arith}
+use Rattle.std.proofs.Common.{◌≡◌, ℕ, inl, zero, suc, true, false, IsTrue, All, List, [], ◌∷◌, Some, None, slice_index_or, refl, arith}
 use Rattle.std.specs.List.{list_all}
 use Rattle.std.proofs.lemmas.Bool.{and_parts}
 use Rattle.std.proofs.lemmas.List.Elements.{All-cons, All-nil}
@@ -17,7 +17,7 @@ use Rattle.law_found_parts_are_calls.proofs.CoreProper.WorkedLemmas.{acts_are_pr
 use Rattle.law_found_parts_are_calls.proofs.LawCoreIsHistory.WorkedSteps.{worked_history_is}
 use Rattle.law_found_parts_are_calls.specs.PeMem.Found.{takes_its_by}
 use Rattle.law_found_parts_are_calls.proofs.PeMem.FoundLemmas.{found_by_none}
-use Rattle.pe_place.specs.Parts.{AreCalls, IsCallFound, Part, acts_in, residence}
+use Rattle.pe_place.specs.Parts.{AreCalls, IsPartFound, Part, acts_in, residence}
 use Rattle.law_threads_are_history.specs.Woven.{HaveDone}
 use Rattle.law_threads_are_history.specs.Worked.{WorkedThreadsAreAHistory, worked_parts, worked_world}
 use Rattle.law_threads_are_history.proofs.HistoryRuns.{threads_are_a_history}
@@ -99,11 +99,11 @@ told_at actor =
 
 -- a part whose events are its call, whichever vCPUs the LPIs are for
 found_so : (seen : Seen) (part : Part) → takes_its_by (shape_of seen) part.operation ≡ false
-    → ((beside : Beside) → beside.maps ≡ maps_taken part.steps → IsCall (shape_of seen) beside (vcpu_of_actor (shape_of seen) seen.actor) part.operation (part_events seen part.steps) part.answer) → IsCallFound seen part
-found_so seen part free call = record {
+    → ((beside : Beside) → beside.maps ≡ maps_taken part.steps → IsCall (shape_of seen) beside (vcpu_of_actor (shape_of seen) seen.actor) part.operation (part_events seen part.steps) part.answer) → IsPartFound seen part
+found_so seen part free call = inl (record {
   made = record { beside = record { maps = maps_taken part.steps; targets = λ id. None; commands = []; signals = false }; maps = refl; signals = refl; call = call (record { maps = maps_taken part.steps; targets = λ id. None; commands = []; signals = false }) refl };
   found = found_by_none seen part.steps part.operation part.answer free call;
-}
+})
 
 -- the parts of the vCPU in order, and what is told as each begins
 abbrev part_at : ℕ → Part

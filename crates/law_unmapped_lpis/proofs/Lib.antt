@@ -3,6 +3,7 @@ pub use Rattle.law_lone_calls_are_eager.proofs.IdealGuests
 pub use Rattle.law_lone_calls_are_eager.proofs.ItsTab
 pub use Rattle.law_lone_calls_are_eager.proofs.LawHistories
 pub use Rattle.law_lone_calls_are_eager.proofs.LawHomeCommutes
+pub use Rattle.law_lone_calls_are_eager.proofs as LawLoneCallsAreEager
 pub mod PartLemmas
 pub mod MapsLemmas
 pub mod ListLemmas

@@ -1,5 +1,5 @@
 -- A scan that takes nothing.
-use Rattle.std.proofs.Common.{◌≡◌, ℕ, ◌≤◌, ◌==◌, ◌&&◌, not, Bool, true, false, if◌then◌else◌, IsTrue, List, [], ◌∷◌, ◌++◌, map, replicate, Option, Some, None, unwrap_or, refl, sym, ap, subst, ◌∙◌}
+use Rattle.std.proofs.Common.{◌≡◌, ℕ, ◌≤◌, ◌==◌, ◌&&◌, not, Bool, true, false, if◌then◌else◌, IsTrue, List, [], ◌∷◌, ◌++◌, map, replicate, Option, Some, None, is_none, unwrap_or, refl, sym, ap, subst, ◌∙◌}
 use Rattle.std.specs.List.{list_all}
 use Rattle.std.proofs.lemmas.Bool.{and_parts, eq-eqb}
 use Rattle.pe_loop.specs.Calls.{Operation}
@@ -129,22 +129,24 @@ bare_local old mid mid2 new vcpu lrs found kept off add round over =
     let polled : mid.local ≡ record old.local { phase = Scanning; cpu = record old.local.cpu { lpis = (vcpu_of found).lpis } } = ap (λ (seen : Seen). seen.local) add.adds.new_is in
     let with_marks = and_parts (owes_no_kick old.local && owes_no_mark old.local) (has_no_cand old.local) (settled_owes old.local off.settled) in
     let parts = and_parts (owes_no_kick old.local) (owes_no_mark old.local) with_marks.0 in
-    let ctlr = and_parts (owes_nothing old.local && not old.local.turn) (not old.local.ctlr) off.settled in
+    let line = and_parts (owes_nothing old.local && not old.local.turn && not old.local.ctlr) (is_none old.local.line) off.settled in
+    let ctlr = and_parts (owes_nothing old.local && not old.local.turn) (not old.local.ctlr) line.0 in
     let turn = and_parts (owes_nothing old.local) (not old.local.turn) ctlr.0 in
     let kicks : IsTrue (owes_no_kick new.local) = over.owes (ap owes_no_kick round.same ∙ ap owes_no_kick polled ∙ parts.0) in
     let marks : IsTrue (owes_no_mark new.local) = ap owes_no_mark over.same ∙ ap owes_no_mark round.same ∙ ap owes_no_mark polled ∙ parts.1 in
     let no_turn : IsTrue (not new.local.turn) = ap (λ (local : Local). not local.turn) over.same ∙ ap (λ (local : Local). not local.turn) round.same ∙ ap (λ (local : Local). not local.turn) polled ∙ turn.1 in
     let no_ctlr : IsTrue (not new.local.ctlr) = ap (λ (local : Local). not local.ctlr) over.same ∙ ap (λ (local : Local). not local.ctlr) round.same ∙ ap (λ (local : Local). not local.ctlr) polled ∙ ctlr.1 in
+    let no_line : IsTrue (is_none new.local.line) = ap (λ (local : Local). is_none local.line) over.same ∙ ap (λ (local : Local). is_none local.line) round.same ∙ ap (λ (local : Local). is_none local.line) polled ∙ line.1 in
     record {
       at = ap (λ (local : Local). local.at) over.same ∙ ap (λ (local : Local). local.at) round.same ∙ ap (λ (local : Local). local.at) polled ∙ off.empty;
       phase =
           ap (λ (local : Local). local.phase) over.same ∙ round.phase ∙ ap (phase_taken (shape_of mid) (index_words (shape_of mid))) (ap (λ (local : Local). local.phase) polled)
           ∙ ap (λ b. if b then Claiming else Scanning) (eq-eqb (index_words (shape_of mid)) (index_words (shape_of mid)) refl);
-      settled = all_true (owes_no_kick new.local) (owes_no_mark new.local) (has_no_cand new.local) (not new.local.turn) (not new.local.ctlr) kicks marks over.none no_turn no_ctlr;
+      settled = all_true (owes_no_kick new.local) (owes_no_mark new.local) (has_no_cand new.local) (not new.local.turn) (not new.local.ctlr) (is_none new.local.line) kicks marks over.none no_turn no_ctlr no_line;
     }
   where
-    all_true : (a b c d e : Bool) → IsTrue a → IsTrue b → IsTrue c → IsTrue d → IsTrue e → IsTrue (((a && b) && c) && d && e)
-    all_true a b c d e h i j k l = rw (h, i, j, k, l) refl
+    all_true : (a b c d e f : Bool) → IsTrue a → IsTrue b → IsTrue c → IsTrue d → IsTrue e → IsTrue f → IsTrue (((a && b) && c) && d && e && f)
+    all_true a b c d e f h i j k l m = rw (h, i, j, k, l, m) refl
 
 pub enters_bare_so :
     (old mid mid2 new : Seen) (vcpu : Shelved) (lrs found : ℕ) (kept : Kept) (cpu : CpuRec) (loaded : Loaded) → 1 ≤ lrs → lrs ≤ 16 → IsOff old vcpu → AddsStep old mid (Poll None None) found → Rounds mid mid2 lrs kept → EndsScan mid2 new false → cpu ≡ new.local.cpu

@@ -1,5 +1,5 @@
 -- The scan of trap mode.
-use Rattle.std.proofs.Common.{◌≡◌, ℕ, ◌<◌, ◌≤◌, ◌==◌, ◌&&◌, ◌||◌, not, Bool, true, false, IsTrue, List, [], ◌∷◌, ◌++◌, map, length, replicate, Option, Some, None, option_to_list, slice_get, slice_set, IfSome, Contains, inl, refl, sym, ap, subst, ◌∙◌, arith}
+use Rattle.std.proofs.Common.{◌≡◌, ℕ, ◌<◌, ◌≤◌, ◌==◌, ◌&&◌, ◌||◌, not, Bool, true, false, IsTrue, List, [], ◌∷◌, ◌++◌, map, length, replicate, Option, Some, None, is_none, option_to_list, slice_get, slice_set, IfSome, Contains, inl, refl, sym, ap, subst, ◌∙◌, arith}
 use Rattle.std.specs.List.{list_all}
 use Rattle.std.specs.Option.{option_map}
 use Rattle.std.proofs.lemmas.Bool.{and_parts, ltb-true}
@@ -362,16 +362,18 @@ first_settled : (old mid mid2 new : Seen) (vcpu before after : Loaded) (kept : K
 first_settled old mid mid2 new vcpu before after kept first failed on round claims over =
     let with_marks = and_parts (owes_no_kick old.local && owes_no_mark old.local) (has_no_cand old.local) (settled_owes old.local on.settled) in
     let parts = and_parts (owes_no_kick old.local) (owes_no_mark old.local) with_marks.0 in
-    let ctlr = and_parts (owes_nothing old.local && not old.local.turn) (not old.local.ctlr) on.settled in
+    let line = and_parts (owes_nothing old.local && not old.local.turn && not old.local.ctlr) (is_none old.local.line) on.settled in
+    let ctlr = and_parts (owes_nothing old.local && not old.local.turn) (not old.local.ctlr) line.0 in
     let turn = and_parts (owes_nothing old.local) (not old.local.turn) ctlr.0 in
     let kicks : IsTrue (owes_no_kick new.local) = over.owes (ap owes_no_kick claims.local_is ∙ ap owes_no_kick round.same ∙ parts.0) in
     let marks : IsTrue (owes_no_mark new.local) = ap owes_no_mark over.same ∙ ap owes_no_mark claims.local_is ∙ ap owes_no_mark round.same ∙ parts.1 in
     let no_turn : IsTrue (not new.local.turn) = ap (λ (local : Local). not local.turn) over.same ∙ ap (λ (local : Local). not local.turn) claims.local_is ∙ ap (λ (local : Local). not local.turn) round.same ∙ turn.1 in
     let no_ctlr : IsTrue (not new.local.ctlr) = ap (λ (local : Local). not local.ctlr) over.same ∙ ap (λ (local : Local). not local.ctlr) claims.local_is ∙ ap (λ (local : Local). not local.ctlr) round.same ∙ ctlr.1 in
-    all_true (owes_no_kick new.local) (owes_no_mark new.local) (has_no_cand new.local) (not new.local.turn) (not new.local.ctlr) kicks marks over.none no_turn no_ctlr
+    let no_line : IsTrue (is_none new.local.line) = ap (λ (local : Local). is_none local.line) over.same ∙ ap (λ (local : Local). is_none local.line) claims.local_is ∙ ap (λ (local : Local). is_none local.line) round.same ∙ line.1 in
+    all_true (owes_no_kick new.local) (owes_no_mark new.local) (has_no_cand new.local) (not new.local.turn) (not new.local.ctlr) (is_none new.local.line) kicks marks over.none no_turn no_ctlr no_line
   where
-    all_true : (a b c d e : Bool) → IsTrue a → IsTrue b → IsTrue c → IsTrue d → IsTrue e → IsTrue (((a && b) && c) && d && e)
-    all_true a b c d e h i j k l = rw (h, i, j, k, l) refl
+    all_true : (a b c d e f : Bool) → IsTrue a → IsTrue b → IsTrue c → IsTrue d → IsTrue e → IsTrue f → IsTrue (((a && b) && c) && d && e && f)
+    all_true a b c d e f h i j k l m = rw (h, i, j, k, l, m) refl
 
 pub scans_first_so :
     (old mid mid2 new : Seen) (vcpu bare after : Loaded) (kept : Kept) (first : Option Offer) (failed : Bool) → IsUp old vcpu → vcpu.trapping ≡ true → (round : Rounds old mid vcpu.regs.n kept) → bare ≡ emptied vcpu → first ≡ first_among round.offers mid.actor mid.local.cpu (shape_of mid)

@@ -246,18 +246,17 @@ still_on old new part vcpu add stays on =
       cpu = on.cpu ∙ sym (ap (λ (local : Local). local.cpu) same);
       whole = ap (λ (local : Local). list_all (λ at. not at.given) local.at) same ∙ on.whole;
       settled =
-          rest_settled (owes_nothing new.local) new.local.turn new.local.ctlr old.local.turn old.local.ctlr (ease_owes old.local new.local stays (settled_owes old.local on.settled))
-          (ap (λ (local : Local). local.turn) same) (ap (λ (local : Local). local.ctlr) same) (others (owes_nothing old.local) old.local.turn old.local.ctlr on.settled);
+          rest_settled (owes_nothing new.local) new.local.turn new.local.ctlr (is_none new.local.line) old.local.turn old.local.ctlr (is_none old.local.line) (ease_owes old.local new.local stays (settled_owes old.local on.settled))
+          (ap (λ (local : Local). local.turn) same) (ap (λ (local : Local). local.ctlr) same) (ap (λ (local : Local). is_none local.line) same)
+          (others (owes_nothing old.local) old.local.turn old.local.ctlr (is_none old.local.line) on.settled);
     }
   where
-    others : (a b c : Bool) → IsTrue (a && not b && not c) → IsTrue (not b && not c)
-    others true true c h = absurd (cc)
-    others true false true h = absurd (cc)
-    others true false false h = refl
-    others false b c h = absurd (cc)
+    others : (a b c d : Bool) → IsTrue (a && not b && not c && d) → IsTrue (not b && not c && d)
+    others true b c d h = h
+    others false b c d h = absurd (cc)
 
-    rest_settled : (a b c d e : Bool) → IsTrue a → b ≡ d → c ≡ e → IsTrue (not d && not e) → IsTrue (a && not b && not c)
-    rest_settled a b c d e owes turn ctlr so = rw (owes, turn, ctlr) so
+    rest_settled : (a b c d e f g : Bool) → IsTrue a → b ≡ e → c ≡ f → d ≡ g → IsTrue (not e && not f && g) → IsTrue (a && not b && not c && d)
+    rest_settled a b c d e f g owes turn ctlr line so = rw (owes, turn, ctlr, line) so
 
 pub still_owes : (old new : Seen) (vcpu : Loaded) → IsOn new vcpu → IsTrue (owes_nothing new.local)
 still_owes old new vcpu on = settled_owes new.local on.settled

@@ -10,7 +10,7 @@ use Rattle.pe_mem.specs.GicCall.declared.event.Found.TheVariants.{Word as FoundW
 use Rattle.pe_mem.specs.GicCall.declared.event.Place.TheVariants.{Word}
 use Rattle.pe_mem.specs.Core.{RamLook, RamPut, Seen, AddsStep, shape_of, part_events, made_by}
 use Rattle.pe_mem.specs.PortCall.Plain.{is_event_word}
-use Rattle.pe_mem.specs.PortCall.Store.{Stores, MissesStore, TriesStore}
+use Rattle.pe_mem.specs.PortCall.Store.{MissesStore, TriesStore}
 use Rattle.pe_mem.proofs.ItsExec.GicCall.TraceLemmas.{read_later}
 use Rattle.pe_mem.proofs.PortCall.StoreLemmas.{look_misses, look_events, put_events, looked_known, try_stores, misses_join, misses_then_stores, read_of, put_of, if_event, tries}
 use Rattle.pe_mem.proofs.PortCall.TurnLemmas.{events_then}

@@ -1,5 +1,5 @@
 -- Events that make what a call asks for.
-use Rattle.std.proofs.Common.{◌≡◌, ℕ, not, Bool, true, false, IsTrue, List, [], ◌∷◌, ◌++◌, map, All, Option, refl, sym, ap, subst, ◌∙◌}
+use Rattle.std.proofs.Common.{◌≡◌, ℕ, Bool, true, false, IsTrue, List, [], ◌∷◌, ◌++◌, map, All, Option, refl, sym, ap, subst, ◌∙◌}
 use Rattle.std.proofs.lemmas.List.Elements.{All-cons, All-nil, All-head, All-tail, All-append}
 use Rattle.pe_mem.specs.Calls.{PlainWord, ItsCtlr, Cbaser, Cwriter, Ram, Propbaser, Pendbaser, Baser0, Baser1, Fault, Event, Put, Found, Place, Runs, Happened, Makes, HandsOut, IsLastRead, named_of, held_at, View}
 use Rattle.pe_mem.specs.GicCall.declared.event.Event.TheVariants.{Read, Queue as QueueEvent}

@@ -8,7 +8,7 @@ use Rattle.pe_mem.specs.Calls.{PlainWord, ItsCtlr, Cbaser, Cwriter, place_of_pla
 use Rattle.pe_mem.specs.GicCall.declared.event.Found.TheVariants.{Word as FoundWord}
 use Rattle.pe_mem.specs.GicCall.declared.event.Place.TheVariants.{Word, Queue as QueuePlace}
 use Rattle.pe_mem.specs.Registers.{IsValid, Maps}
-use Rattle.pe_mem.specs.Core.{Made, CoreStep, RamLook, RamPut, Irq, Plain, is_on, known, known_maps, since_turn, place_of_word, Seen, Adds, shape_of, word_of}
+use Rattle.pe_mem.specs.Core.{has_all_shut, Made, CoreStep, RamLook, RamPut, Irq, Plain, is_on, known, known_maps, since_turn, place_of_word, Seen, Adds, shape_of, word_of}
 use Rattle.pe_mem.specs.PortCall.Rest.{IsAtEase}
 use Rattle.pe_mem.specs.PortCall.Store.{Stores, MissesStore, is_store_step, is_store_miss, stores_not}
 use Rattle.pe_mem.proofs.PortCall.KnownLemmas.{since_turn_on, are_endless, ends_none, maps_kept}
@@ -63,6 +63,7 @@ has_by old new part adds same maps has =
     record {
       taken = ap (λ seen. seen.taken) adds.new_is ∙ has.taken;
       ease = subst IsAtEase (sym same) has.ease;
+      lines = ap has_all_shut same ∙ has.lines;
       maps = sym maps;
       valid = subst (λ shape. IsValid shape (known_maps old.own)) (sym (ap shape_of adds.new_is)) has.valid;
     }
@@ -95,7 +96,7 @@ has_then one two three first second = subst (HasIts three) (sym first.maps) seco
 -- The actor is ready.
 
 pub ready_has : (seen : Seen) (shape : GuestShape) (maps : Maps) (queue : KnownQueue) → IsReady seen shape maps queue → HasIts seen maps
-ready_has seen shape maps queue ready = record { taken = ready.taken; ease = ready.ease; maps = ready.maps; valid = subst (λ shape. IsValid shape maps) ready.shape_is ready.valid }
+ready_has seen shape maps queue ready = record { taken = ready.taken; ease = ready.ease; lines = ready.lines; maps = ready.maps; valid = subst (λ shape. IsValid shape maps) ready.shape_is ready.valid }
 
 pub ready_now : (seen : Seen) (shape : GuestShape) (maps : Maps) (queue : KnownQueue) → IsReady seen shape maps queue → IsReadyNow seen queue
 ready_now seen shape maps queue ready =
@@ -114,6 +115,7 @@ stored_ready old new word value queue after stores ready knows =
       shape_is = refl;
       taken = ap (λ seen. seen.taken) stores.adds.new_is ∙ ready.taken;
       ease = subst IsAtEase (sym stores.local_is) ready.ease;
+      lines = ap has_all_shut stores.local_is ∙ ready.lines;
       maps = refl;
       valid = subst (λ shape. IsValid shape (known_maps new.own)) (sym same) (subst (IsValid (shape_of old)) (sym maps) ready.valid);
       fresh =

@@ -1,5 +1,5 @@
 -- A write of a register that takes the ITS: what the actor makes while it has the ITS, and the whole call.
-use Rattle.std.proofs.Common.{◌≡◌, ℕ, zero, suc, ◌+◌, ◌&&◌, ◌||◌, Bool, true, false, IsTrue, IfSome, List, [], map, ◌∷◌, ◌++◌, slice_index_or, if◌then◌else◌, Option, Some, None, is_none, is_some, find, cond, append-nil, refl, sym, ap, subst, ◌∙◌, arith}
+use Rattle.std.proofs.Common.{◌≡◌, ℕ, zero, suc, ◌+◌, ◌-◌, ◌^◌, ◌&&◌, ◌||◌, Bool, true, false, IsTrue, IfSome, List, [], map, ◌∷◌, ◌++◌, slice_index_or, if◌then◌else◌, Option, Some, None, is_none, is_some, find, cond, append-nil, refl, sym, ap, subst, ◌∙◌, arith}
 use Rattle.std.specs.List.{list_all, filter_map, cons_option}
 use Rattle.std.specs.Option.{option_and_then}
 use Rattle.std.proofs.lemmas.Bool.{and_parts, eqb-true}
@@ -16,26 +16,28 @@ use Rattle.pe_mem.specs.Calls.{Event, ItsBegin, Place, its_written, takes_its, t
 use Rattle.pe_mem.specs.GicCall.declared.event.Event.TheVariants.{ItsEnd}
 use Rattle.pe_mem.specs.GicCall.declared.event.Found.TheVariants.{Nothing}
 use Rattle.pe_mem.specs.GicCall.Access.{starts_commands as register_starts}
-use Rattle.pe_mem.specs.Core.{Local, Made, Irq, is_on, known_maps, no_maps, since_command, ends_command, Seen, IsPort, Adds, local_by, shape_of, seen_after, part_events, vcpu_of_actor, maps_taken, Progress, reading_of, reading_after, read_after}
+use Rattle.pe_mem.specs.Core.{Local, Made, Irq, is_on, known_maps, no_maps, since_command, ends_command, has_all_shut, Seen, IsPort, Adds, local_by, shape_of, seen_after, part_events, vcpu_of_actor, maps_taken, Progress, reading_of, reading_after, read_after}
 use Rattle.pe_mem.proofs.PortCore.PortLemmas.{adds_join}
 use Rattle.pe_mem.specs.PortCall.Memory.{view_by}
 use Rattle.pe_mem.specs.PortCall.Piece.{IsIdle, IsGoodPiece, IsPiece, IsRestedPiece}
 use Rattle.pe_mem.specs.PortCall.Rest.{IsAtEase, StaysAtEase}
-use Rattle.pe_mem.specs.PortCall.Turn.{is_miss, is_turn_step, TakesTurn, GivesTurn}
+use Rattle.pe_mem.specs.PortCall.Turn.{is_miss, is_turn_step, AreReadsThen, TakesTurn, GivesTurn}
 use Rattle.pe_mem.proofs.PortCall.KnownLemmas.{maps_handed}
 use Rattle.pe_mem.proofs.PortCall.PieceLemmas.{seen_nil, piece_nil}
 use Rattle.pe_mem.proofs.PortCall.RestLemmas.{owes_none}
-use Rattle.pe_mem.proofs.PortCall.TurnLemmas.{events_then, reads_beside, not_taken}
+use Rattle.pe_mem.proofs.PortCall.TurnLemmas.{events_then, piece_then, reads_beside, not_taken}
 use Rattle.pe_mem.specs.ItsExec.Command.{IsItsWrite}
 use Rattle.pe_mem.specs.ItsExec.Known.{AgreeWith, first_step, queue_reads}
 use Rattle.pe_mem.specs.ItsExec.Plan.{IsFresh}
 use Rattle.pe_mem.specs.ItsExec.Queue.{Taken, AreTaken, HasIts, last_fault}
 use Rattle.pe_mem.specs.ItsExec.Run.{AgreeAll}
+use Rattle.pe_mem.specs.ItsExec.Shut.{ShutsAll}
 use Rattle.pe_mem.proofs.ItsExec.CommandLemmas.{write_stays}
 use Rattle.pe_mem.proofs.ItsExec.FrameLemmas.{maps_on}
 use Rattle.pe_mem.proofs.ItsExec.LookLemmas.{takes_by}
 use Rattle.pe_mem.proofs.ItsExec.PartLemmas.{good_then}
 use Rattle.pe_mem.proofs.ItsExec.RunLemmas.{taken_are_run, told_end}
+use Rattle.pe_mem.proofs.ItsExec.ShutLemmas.{shut_fresh, shut_within}
 use Rattle.pe_mem.specs.Call.{CanAccess, MakesAccess, IsPieceOf, access_of}
 use Rattle.pe_mem.proofs.CallLemmas.{can_ease, can_turn, can_after, proper_of}
 use Rattle.pe_mem.proofs.ServeLemmas.{one_made, none_made}
@@ -297,46 +299,7 @@ inside_home a b c d b_is d_is home inside =
           record { proper = good.proper; stays = good.stays; ends = record { local = good.ends.local; own = good.ends.own; scan = good.ends.scan } });
     }
 
--- The turn round it.
-
-record Round (old new : Seen) (offset size value : ℕ) (turn middle give : List Made) : Type 0 where
-  adds : Adds old new (turn ++ (middle ++ give))
-  piece : IsPieceOf old (access_of Its offset size (Some value)) (turn ++ (middle ++ give))
-  stays : StaysAtEase old.local new.local
-  tables : new.taken ≡ false
-  after : CanAccess new
-
-round : (old a d new : Seen) (offset size value : ℕ) → IsPort new → CanAccess old → (takes : TakesTurn old a) → (inside : Inside a d) → IsAtEase d.local → (gives : GivesTurn d new) → Round old new offset size value (takes.misses ++ takes.last ∷ []) inside.part (gives.last ∷ [])
-round old a d new offset size value is_new can takes inside ease gives =
-    let turn = takes.misses ++ takes.last ∷ [] in
-    let give = gives.last ∷ [] in
-    let part = turn ++ (inside.part ++ give) in
-    let adds = adds_join old a new turn (inside.part ++ give) takes.adds (adds_join a d new inside.part give inside.adds gives.adds) in
-    let Held : Local → Type 0 = λ l. record d.local { marks = l.marks } ≡ l in
-    let held : record d.local { marks = old.local.marks } ≡ record old.local { turn = true } = subst Held takes.local_is inside.local_is in
-    let without : Local → Local = λ l. record l { turn = false } in
-    let with_turn : Bool → Local = λ b. record old.local { turn = b } in
-    let marked : Local → Local = λ l. record l { marks = old.local.marks } in
-    let set : ℕ → Targets = λ n. record { 0 = n } in
-    let stays : StaysAtEase old.local new.local
-    = record {
-      same = ap marked gives.local_is ∙ ap without held ∙ ap with_turn (sym (can_turn old can));
-      marks = ap (λ (l : Local). l.marks.vcpus) gives.local_is ∙ ap set (eqb-true d.local.marks.vcpus.0 0 (owes_none d.local ease.owes).marks);
-    } in
-    let after = can_after old new part can adds stays in
-    record {
-      adds = adds;
-      piece = λ p idle is none.
-          good_then old a p turn (inside.part ++ give) takes.adds (takes.piece p idle)
-          (λ q stays_q idle_a.
-          good_then a d q inside.part give inside.adds
-          (inside.piece q idle_a (record { offset = offset; size = size; value = value; is = ap (λ r. r.operation) stays_q.same ∙ is }) (ap (λ r. r.wants) stays_q.same ∙ none)) (λ r stays_r idle_d. gives.piece r idle_d));
-      stays = stays;
-      tables = not_taken new is_new (can_turn new after);
-      after = after;
-    }
-
--- The call.
+-- The actor takes the ITS, and shuts all translation lines.
 
 none_is : (o : Option Maps) → IsTrue (is_none o) → o ≡ None
 none_is None h = refl
@@ -356,6 +319,81 @@ turn_maps misses last maps later missed handed =
     let turn : told (misses ++ last ∷ []) ≡ maps ∷ []
     = filter_map-append (λ (made : Made). made.tables) misses (last ∷ []) ∙ ap (λ all. all ++ cons_option last.tables []) (no_maps_missed misses missed) ∙ ap (λ tables. cons_option tables []) handed in
     ap (λ all. slice_index_or all 0 no_maps) (filter_map-append (λ (made : Made). made.tables) (misses ++ last ∷ []) later ∙ ap (λ all. all ++ told later) turn)
+
+pub record Begins (old new : Seen) : Type 0 where
+  pub turn : List Made
+  pub maps : Maps
+  pub adds : Adds old new turn
+  pub local_is : new.local ≡ record old.local { turn = true; shut = 2 ^ 64 - 1 }
+  pub tables : new.taken ≡ false
+  pub events : AreReadsThen ItsBegin (part_events old turn)
+  pub piece : IsPiece old turn
+  pub known : known_maps new.own ≡ maps
+  pub first : (later : List Made) → maps_taken (turn ++ later) ≡ maps
+  pub valid : IsValid (shape_of old) maps
+
+pub begins : (old mid new : Seen) → TakesTurn old mid → ShutsAll mid new → Begins old new
+begins old mid new takes shuts =
+    let lead = takes.misses ++ takes.last ∷ [] in
+    let shut = shuts.on.part in
+    let Reads : List Happened → Type 0 = λ events. AreReadsThen ItsBegin events in
+    let with_shut : Local → Local = λ l. record l { shut = 2 ^ 64 - 1 } in
+    let silent : part_events old (lead ++ shut) ≡ part_events old lead = events_then old mid lead shut takes.adds ∙ ap (λ events. part_events old lead ++ events) shuts.on.silent ∙ append-nil (part_events old lead) in
+    record {
+      turn = lead ++ shut;
+      maps = takes.maps;
+      adds = adds_join old mid new lead shut takes.adds shuts.on.adds;
+      local_is = shuts.local_is ∙ ap with_shut takes.local_is;
+      tables = ap (λ seen. seen.taken) shuts.on.adds.new_is ∙ takes.tables;
+      events = subst Reads (sym silent) takes.events;
+      piece = piece_then old mid lead shut takes.adds takes.piece shuts.on.piece;
+      known =
+          maps_on mid new shut shuts.on.adds (shut_within mid new shuts.on) ∙ ap (λ seen. known_maps seen.own) takes.adds.new_is ∙ maps_handed old.own takes.misses takes.last takes.maps takes.handed;
+      first = λ later. ap maps_taken (append_assoc lead shut later) ∙ turn_maps takes.misses takes.last takes.maps (shut ++ later) takes.missed takes.handed;
+      valid = takes.valid;
+    }
+
+-- The turn round it.
+
+record Round (old new : Seen) (offset size value : ℕ) (turn middle give : List Made) : Type 0 where
+  adds : Adds old new (turn ++ (middle ++ give))
+  piece : IsPieceOf old (access_of Its offset size (Some value)) (turn ++ (middle ++ give))
+  stays : StaysAtEase old.local new.local
+  tables : new.taken ≡ false
+  after : CanAccess new
+
+round : (old a d new : Seen) (offset size value : ℕ) → IsPort old → IsPort new → CanAccess old → (starts : Begins old a) → (inside : Inside a d) → IsAtEase d.local → (gives : GivesTurn d new) → Round old new offset size value starts.turn inside.part (gives.last ∷ [])
+round old a d new offset size value is_old is_new can starts inside ease gives =
+    let turn = starts.turn in
+    let give = gives.last ∷ [] in
+    let part = turn ++ (inside.part ++ give) in
+    let adds = adds_join old a new turn (inside.part ++ give) starts.adds (adds_join a d new inside.part give inside.adds gives.adds) in
+    let Held : Local → Type 0 = λ l. record d.local { marks = l.marks } ≡ l in
+    let held : record d.local { marks = old.local.marks } ≡ record old.local { turn = true; shut = 2 ^ 64 - 1 } = subst Held starts.local_is inside.local_is in
+    let without : Local → Local = λ l. record l { turn = false; shut = 0 } in
+    let with_turn : Bool → ℕ → Local = λ b shut. record old.local { turn = b; shut = shut } in
+    let idle = can_turn old can in
+    let marked : Local → Local = λ l. record l { marks = old.local.marks } in
+    let set : ℕ → Targets = λ n. record { 0 = n } in
+    let stays : StaysAtEase old.local new.local
+    = record {
+      same = ap marked gives.local_is ∙ ap without held ∙ ap (λ b. with_turn b 0) (sym idle) ∙ ap (with_turn old.local.turn) (sym (is_old.local.idle idle));
+      marks = ap (λ (l : Local). l.marks.vcpus) gives.local_is ∙ ap set (eqb-true d.local.marks.vcpus.0 0 (owes_none d.local ease.owes).marks);
+    } in
+    let after = can_after old new part can adds stays in
+    record {
+      adds = adds;
+      piece = λ p idle is none.
+          good_then old a p turn (inside.part ++ give) starts.adds (starts.piece p idle)
+          (λ q stays_q idle_a.
+          good_then a d q inside.part give inside.adds
+          (inside.piece q idle_a (record { offset = offset; size = size; value = value; is = ap (λ r. r.operation) stays_q.same ∙ is }) (ap (λ r. r.wants) stays_q.same ∙ none)) (λ r stays_r idle_d. gives.piece r idle_d));
+      stays = stays;
+      tables = not_taken new is_new (can_turn new after);
+      after = after;
+    }
+
+-- The call.
 
 -- what the register says of the access
 access_events_are : (shape : GuestShape) (view : View) (ref : RegRef) (reg : Reg) (half : Half) (value : ℕ) → ref ≡ Plain reg half → has_lpis shape ≡ true → its_events shape view ref (Some value) ≡ its_written view reg half value
@@ -409,31 +447,32 @@ its_call shape beside actor offset size value reg half view turn register comman
     }
 
 pub makes_write :
-    (old a b c d new : Seen) (offset size value : ℕ) (reg : Reg) (half : Half) → IsPort new → CanAccess old → decoded offset size ≡ Plain reg half → takes_turn (shape_of old) (decoded offset size) (Some value) ≡ true → TakesTurn old a
-    → b ≡ record a { taken = true } → ServesWrite b c reg half value → IsAtEase c.local → d ≡ record c { taken = false } → GivesTurn d new → MakesAccess old new Its offset size (Some value) None
+    (old a0 a b c d new : Seen) (offset size value : ℕ) (reg : Reg) (half : Half) → IsPort old → IsPort new → CanAccess old → decoded offset size ≡ Plain reg half → takes_turn (shape_of old) (decoded offset size) (Some value) ≡ true
+    → TakesTurn old a0 → ShutsAll a0 a → b ≡ record a { taken = true } → ServesWrite b c reg half value → IsAtEase c.local → d ≡ record c { taken = false } → GivesTurn d new → MakesAccess old new Its offset size (Some value) None
 unfolding inside_home targets_of
-makes_write old a b c d new offset size value reg half is_new can is takes_so takes b_is serves ease d_is gives =
+makes_write old a0 a b c d new offset size value reg half is_old is_new can is takes_so takes shuts b_is serves ease d_is gives =
+    let starts = begins old a0 a takes shuts in
     let made = inside_call b c reg half value serves in
-    let inside = inside_home a b c d b_is d_is takes.tables made.inside in
-    let all = round old a d new offset size value is_new can takes inside (subst (λ seen. IsAtEase seen.local) (sym d_is) ease) gives in
+    let inside = inside_home a b c d b_is d_is starts.tables made.inside in
+    let all = round old a d new offset size value is_old is_new can starts inside (subst (λ seen. IsAtEase seen.local) (sym d_is) ease) gives in
     let shape = shape_of old in
     let actor = old.actor in
-    let turn = takes.misses ++ takes.last ∷ [] in
+    let turn = starts.turn in
     let give = gives.last ∷ [] in
     let part = turn ++ (inside.part ++ give) in
     let has = (turn_parts shape (decoded offset size) reg half value is takes_so).0 in
-    let shape_b : shape_of b ≡ shape = ap shape_of b_is ∙ ap shape_of takes.adds.new_is in
-    let actor_b : b.actor ≡ actor = ap (λ seen. seen.actor) b_is ∙ ap (λ seen. seen.actor) takes.adds.new_is in
+    let shape_b : shape_of b ≡ shape = ap shape_of b_is ∙ ap shape_of starts.adds.new_is in
+    let actor_b : b.actor ≡ actor = ap (λ seen. seen.actor) b_is ∙ ap (λ seen. seen.actor) starts.adds.new_is in
     let view = made.view in
     let events = its_written view reg half value in
-    let known : known_maps b.own ≡ takes.maps = ap (λ seen. known_maps seen.own) b_is ∙ ap (λ seen. known_maps seen.own) takes.adds.new_is ∙ maps_handed old.own takes.misses takes.last takes.maps takes.handed in
-    let maps : view.maps ≡ maps_taken part = made.maps_are ∙ known ∙ sym (turn_maps takes.misses takes.last takes.maps (inside.part ++ give) takes.missed takes.handed) in
+    let known : known_maps b.own ≡ starts.maps = ap (λ seen. known_maps seen.own) b_is ∙ starts.known in
+    let maps : view.maps ≡ maps_taken part = made.maps_are ∙ known ∙ sym (starts.first (inside.part ++ give)) in
     let begin : Happened = record { event = ItsBegin; found = Nothing } in
     let end : Happened = record { event = ItsEnd; found = Nothing } in
     let Turn : List Happened → Type 0 = λ piece. Makes (Some actor) view (ItsBegin ∷ []) [] [] piece in
     let began : Turn (part_events old turn)
-    = subst Turn (sym takes.events.split)
-    (makes_then (Some actor) view [] (ItsBegin ∷ []) [] takes.events.reads (begin ∷ []) (makes_reads (Some actor) view takes.events.reads (reads_beside (Some actor) takes.events.reads takes.events.are_reads)) (one_made (Some actor) view begin refl refl)) in
+    = subst Turn (sym starts.events.split)
+    (makes_then (Some actor) view [] (ItsBegin ∷ []) [] starts.events.reads (begin ∷ []) (makes_reads (Some actor) view starts.events.reads (reads_beside (Some actor) starts.events.reads starts.events.are_reads)) (one_made (Some actor) view begin refl refl)) in
     let Give : List Happened → Type 0 = λ piece. Makes (Some actor) view (ItsEnd ∷ []) [] [] piece in
     let ended : Give (part_events d give) = subst Give (sym gives.events) (one_made (Some actor) view end refl refl) in
     let ByActor : ℕ → Type 0 = λ actor. Makes (Some actor) view events (its_write_places reg) [] made.register in
@@ -441,7 +480,7 @@ makes_write old a b c d new offset size value reg half is_new can is takes_so ta
     let t = part_events old turn in
     let l = part_events d give in
     let events_are : part_events old part ≡ ((t ++ made.register) ++ made.commands) ++ l
-    = events_then old a turn (inside.part ++ give) takes.adds
+    = events_then old a turn (inside.part ++ give) starts.adds
     ∙ ap (λ events. t ++ events) (events_then a d inside.part give inside.adds ∙ ap (λ events. events ++ l) middle)
     ∙ sym (append_assoc t (made.register ++ made.commands) l)
     ∙ ap (λ events. events ++ l) (sym (append_assoc t made.register made.commands)) in
@@ -461,7 +500,7 @@ makes_write old a b c d new offset size value reg half is_new can is takes_so ta
     subst By (sym is_actor) whole) in
     let own : Beside = record { maps = maps_taken part; targets = λ id. None; commands = map (λ (one : Taken). found_targets one.takes.last) made.took; signals = false } in
     let among : TookAmong old part made.took
-    = among_after old a turn (inside.part ++ give) made.took takes.adds (turn_before (part_events old turn) takes.events) (among_before a inside.part give made.took (among_home a b inside.part made.took b_is made.among)) in
+    = among_after old a turn (inside.part ++ give) made.took starts.adds (turn_before (part_events old turn) starts.events) (among_before a inside.part give made.took (among_home a b inside.part made.took b_is made.among)) in
     record {
       part = part;
       adds = all.adds;
@@ -476,18 +515,24 @@ makes_write old a b c d new offset size value reg half is_new can is takes_so ta
 
 -- The tables as they are taken.
 
-pub turn_has : (old a b : Seen) (tables : Maps) → CanAccess old → TakesTurn old a → b ≡ record a { taken = true } → tables ≡ known_maps a.own → HasIts b tables
-turn_has old a b tables can takes b_is tables_are =
+-- the guest has LPIs
+pub turn_lpis : (old a : Seen) (reg : Reg) (half : Half) (offset size value : ℕ) → decoded offset size ≡ Plain reg half → takes_turn (shape_of old) (decoded offset size) (Some value) ≡ true → TakesTurn old a → has_lpis (shape_of a) ≡ true
+turn_lpis old a reg half offset size value is takes_so takes = ap has_lpis (ap shape_of takes.adds.new_is) ∙ (turn_parts (shape_of old) (decoded offset size) reg half value is takes_so).0
+
+pub turn_has : (old a0 a b : Seen) (tables : Maps) → CanAccess old → TakesTurn old a0 → ShutsAll a0 a → b ≡ record a { taken = true } → tables ≡ known_maps a.own → HasIts b tables
+turn_has old a0 a b tables can takes shuts b_is tables_are =
+    let starts = begins old a0 a takes shuts in
     let was = can_ease old can in
-    let with_turn : Local = record old.local { turn = true } in
+    let with_turn : Local = record old.local { turn = true; shut = 2 ^ 64 - 1 } in
     let busy : IsAtEase with_turn = record { owes = was.owes; empty = was.empty } in
-    let known : known_maps a.own ≡ takes.maps = ap (λ seen. known_maps seen.own) takes.adds.new_is ∙ maps_handed old.own takes.misses takes.last takes.maps takes.handed in
-    let shape : shape_of b ≡ shape_of old = ap shape_of b_is ∙ ap shape_of takes.adds.new_is in
+    let local : b.local ≡ with_turn = ap (λ seen. seen.local) b_is ∙ starts.local_is in
+    let shape : shape_of b ≡ shape_of old = ap shape_of b_is ∙ ap shape_of starts.adds.new_is in
     record {
       taken = ap (λ seen. seen.taken) b_is;
-      ease = subst IsAtEase (sym (ap (λ seen. seen.local) b_is ∙ takes.local_is)) busy;
+      ease = subst IsAtEase (sym local) busy;
+      lines = ap has_all_shut local;
       maps = tables_are ∙ sym (ap (λ seen. known_maps seen.own) b_is);
-      valid = subst (λ shape. IsValid shape tables) (sym shape) (subst (IsValid (shape_of old)) (sym (tables_are ∙ known)) takes.valid);
+      valid = subst (λ shape. IsValid shape tables) (sym shape) (subst (IsValid (shape_of old)) (sym (tables_are ∙ starts.known)) starts.valid);
     }
 
 command_by : List Made → Made → List Made
@@ -506,13 +551,19 @@ turn_reading own misses last maps seen is handed =
     of None (Some maps) e h = ap (λ o. is_some (if is_some o then nothing_read else None)) e
     of (Some read) (Some maps) e h = ap (λ o. is_some (if is_some o then nothing_read else read_after last.step last read)) e
 
-pub turn_fresh : (old a b : Seen) → TakesTurn old a → b ≡ record a { taken = true } → IsFresh b
+turned_fresh : (old a : Seen) → TakesTurn old a → IsFresh a
 unfolding command_by
-turn_fresh old a b takes b_is =
+turned_fresh old a takes =
     let before = since_command (old.own ++ takes.misses) in
-    let since : since_command b.own ≡ []
-    = ap (λ seen. since_command seen.own) b_is ∙ ap (λ seen. since_command seen.own) takes.adds.new_is
+    let since : since_command a.own ≡ []
+    = ap (λ seen. since_command seen.own) takes.adds.new_is
     ∙ ap since_command (sym (append_assoc old.own takes.misses (takes.last ∷ [])))
     ∙ fold-append command_by [] (old.own ++ takes.misses) (takes.last ∷ [])
     ∙ ap (λ tables. if is_some tables || ends_command takes.last.step then [] else before ++ takes.last ∷ []) takes.handed in
-    record { reading = turn_reading old.own takes.misses takes.last takes.maps b (ap (λ seen. seen.own) b_is ∙ ap (λ seen. seen.own) takes.adds.new_is) takes.handed; each = λ id there. record { none = ap (find (is_on (shape_of b) b.actor (Irq (Lpi id)))) since } }
+    record { reading = turn_reading old.own takes.misses takes.last takes.maps a (ap (λ seen. seen.own) takes.adds.new_is) takes.handed; each = λ id there. record { none = ap (find (is_on (shape_of a) a.actor (Irq (Lpi id)))) since } }
+
+pub turn_fresh : (old a0 a b : Seen) → TakesTurn old a0 → ShutsAll a0 a → b ≡ record a { taken = true } → IsFresh b
+turn_fresh old a0 a b takes shuts b_is =
+    let fresh = shut_fresh a0 a shuts.on (turned_fresh old a0 takes) in
+    let Fresh : Seen → Type 0 = IsFresh in
+    subst Fresh (sym b_is) (record { reading = fresh.reading; each = λ id there. record { none = (fresh.each id there).none } })

@@ -1,8 +1,9 @@
 //! Stores of an ITS's register that go by what its plain word holds.
-ghost use Rattle.std.specs.Prelude.{◌≡◌, IsTrue, true};
+ghost use Rattle.std.specs.Prelude.{◌≡◌, IsTrue, true, false};
 ghost use Rattle.pe_mem.specs.Calls.{has_plain};
 ghost use Rattle.pe_mem.specs.Core.{shape_of};
 ghost use Rattle.pe_mem.specs.PortCall.Plain.{is_event_word};
+ghost use Rattle.pe_mem.specs.PortCall.Store.{is_its_ctlr};
 ghost use Rattle.pe_its.specs.Change.{changed_by, FitsChange, TriesChange, ChangesWord};
 
 use pe_mem::{
@@ -60,6 +61,7 @@ impl Change {
 fn try_change<P: Port>(port: &mut P, word: PlainWord, change: Change) -> Result<Option<u64>, Late>
     requires there { IsTrue (has_plain (shape_of (P.seen port.old)) word) }
     requires kept { is_event_word word ≡ true }
+    requires other { is_its_ctlr word ≡ false }
     requires fits { FitsChange change }
     ensures { TriesChange (P.seen port.old) (P.seen port.new) word (changed_by change) result }
 {
@@ -85,6 +87,7 @@ pub(crate) fn change_word<P: Port, R: Wait>(
 ) -> Option<u64>
     requires there { IsTrue (has_plain (shape_of (P.seen port.old)) word) }
     requires kept { is_event_word word ≡ true }
+    requires other { is_its_ctlr word ≡ false }
     requires fits { FitsChange change }
     ensures { ChangesWord (P.seen port.old) (P.seen port.new) word (changed_by change) result }
 {

@@ -12,7 +12,7 @@ ghost use Rattle.pe_its.specs.Write.{ServesWrite};
 
 use crate::register::write_register;
 use pe_mem::{
-    Half, ItsTables, Port, Reg, RegRef, give_turn, its_access, look_at_queue, run_commands,
+    Half, ItsTables, Port, Reg, RegRef, give_turn, its_access, look_at_queue, run_commands, shut,
     take_turn,
 };
 use std::sync::Wait;
@@ -42,7 +42,7 @@ fn serve<P: Port, R: Wait>(
 
 /// Makes a write of 4 or 8 bytes at a byte offset in the ITS, which takes the ITS: of GITS_CTLR, GITS_CBASER, GITS_CWRITER,
 /// GITS_BASER0 or GITS_BASER1, or of a half of one of the last four, in a guest with LPIs (IHI 0069, "The ITS register map").
-/// The value fits the size. It waits until nobody has the ITS. A write of GITS_CBASER or GITS_BASER is ignored while the ITS is
+/// The value fits the size. It waits until nobody has the ITS, and until no device is in a translation line. A write of GITS_CBASER or GITS_BASER is ignored while the ITS is
 /// enabled, and one of GITS_CWRITER where its offset is not below the queue's bytes. A write of GITS_CTLR, and one of
 /// GITS_CWRITER that is not ignored, takes the commands of the queue before it returns. The vCPU has nothing at its
 /// interface and owes nothing, before and after, and nobody has the ITS for it then.
@@ -57,6 +57,7 @@ pub fn its_write<P: Port, R: Wait>(rt: &R, port: &mut P, offset: u32, size: u32,
         unreachable!()
     };
     take_turn(rt, port);
+    shut(rt, port);
     let mut tables = port.take_tables();
     serve(rt, port, &mut tables, reg, half, value);
     port.put_tables(tables);

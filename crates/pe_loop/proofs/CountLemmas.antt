@@ -8,7 +8,7 @@ use Rattle.std.proofs.lemmas.List.Elements.{filter-append}
 use Rattle.std.proofs.lemmas.List.Folds.{list_all-append}
 use Rattle.std.proofs.lemmas.List.Sums.{sum_by-append}
 use Rattle.port_call.specs.Words.{has_bit}
-use Rattle.port_call.specs.Core.{Cands, Made, CoreStep, Look, Raise, Claim, GiveBack, Release, Poll, Kick, Touch, Want, WireUp, WireDown, EnableLpis, RamLook, RamPut, CtlrTake, CtlrEnd, TurnTake, CommandDone, TurnRelease, Mark, TakeIndex, Irq, Vcpu, Index, Queue, Ctlr, Plain, is_cand, with_cand_word}
+use Rattle.port_call.specs.Core.{Cands, Made, CoreStep, Look, Raise, Claim, GiveBack, Release, Poll, Kick, Touch, Want, WireUp, WireDown, EnableLpis, RamLook, RamPut, CtlrTake, CtlrEnd, TurnTake, CommandDone, TurnRelease, Mark, TakeIndex, LineEnter, LineLeave, LineFill, LineClose, Irq, Vcpu, Index, Queue, Ctlr, Plain, Line, is_cand, with_cand_word}
 use Rattle.pe_loop.specs.Counting.{count_from, is_irq_look, looks_in, bits_in, bits_found, bits_taken, is_quiet, are_quiet, AreTaken}
 
 -- Steps.
@@ -38,6 +38,7 @@ quiet_step (Look (Index v w)) found h = (refl, refl)
 quiet_step (Look Queue) found h = (refl, refl)
 quiet_step (Look Ctlr) found h = (refl, refl)
 quiet_step (Look (Plain i)) found h = (refl, refl)
+quiet_step (Look (Line n)) found h = (refl, refl)
 quiet_step (Raise key) found h = (refl, refl)
 quiet_step (Claim key seen) found h = (refl, refl)
 quiet_step (GiveBack key back) found h = (refl, refl)
@@ -57,6 +58,10 @@ quiet_step (TurnTake seen) found h = (refl, refl)
 quiet_step (CommandDone offset stalled ending) found h = (refl, refl)
 quiet_step TurnRelease found h = (refl, refl)
 quiet_step (Mark key v) found h = (refl, refl)
+quiet_step (LineEnter n seen) found h = (refl, refl)
+quiet_step (LineLeave n) found h = (refl, refl)
+quiet_step (LineFill n device event lpi) found h = (refl, refl)
+quiet_step (LineClose n) found h = (refl, refl)
 
 pub quiet_none : (part : List Made) → IsTrue (are_quiet part) → (looks_in part ≡ 0) × (bits_taken part ≡ 0)
 quiet_none [] h = (refl, refl)

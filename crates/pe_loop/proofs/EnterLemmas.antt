@@ -1,5 +1,5 @@
 -- A vCPU enters a PE.
-use Rattle.std.proofs.Common.{◌≡◌, ℕ, zero, suc, ◌+◌, ◌^◌, ◌<◌, ◌≤◌, ◌==◌, ◌&&◌, ◌||◌, not, Bool, true, false, if◌then◌else◌, IsTrue, List, [], ◌∷◌, ◌++◌, append-nil, map, Option, Some, None, Contains, replicate, slice_index_or, refl, sym, ap, subst, ◌∙◌, arith}
+use Rattle.std.proofs.Common.{◌≡◌, ℕ, zero, suc, ◌+◌, ◌^◌, ◌<◌, ◌≤◌, ◌==◌, ◌&&◌, ◌||◌, not, Bool, true, false, if◌then◌else◌, IsTrue, List, [], ◌∷◌, ◌++◌, append-nil, map, Option, Some, None, is_none, Contains, replicate, slice_index_or, refl, sym, ap, subst, ◌∙◌, arith}
 use Rattle.std.specs.List.{list_all}
 use Rattle.std.proofs.lemmas.List.{append_assoc}
 use Rattle.std.proofs.lemmas.Option.{none-some}
@@ -295,15 +295,17 @@ ends_so old mid mid2 new vcpu lrs cpu fill ready loaded failed off scans cpu_is 
     let owes = settled_owes old.local off.settled in
     let with_marks = and_parts (owes_no_kick old.local && owes_no_mark old.local) (has_no_cand old.local) owes in
     let parts = and_parts (owes_no_kick old.local) (owes_no_mark old.local) with_marks.0 in
-    let ctlr = and_parts (owes_nothing old.local && not old.local.turn) (not old.local.ctlr) off.settled in
+    let line = and_parts (owes_nothing old.local && not old.local.turn && not old.local.ctlr) (is_none old.local.line) off.settled in
+    let ctlr = and_parts (owes_nothing old.local && not old.local.turn) (not old.local.ctlr) line.0 in
     let turn = and_parts (owes_nothing old.local) (not old.local.turn) ctlr.0 in
     let kicks : IsTrue (owes_no_kick new.local) = over.owes (ap owes_no_kick claims.same ∙ ap owes_no_kick scans.same ∙ parts.0) in
     let marks : IsTrue (owes_no_mark new.local) = ap owes_no_mark over.same ∙ ap owes_no_mark claims.same ∙ ap owes_no_mark scans.same ∙ parts.1 in
     let no_turn : IsTrue (not new.local.turn) = ap (λ local. not local.turn) over.same ∙ ap (λ local. not local.turn) claims.same ∙ ap (λ local. not local.turn) scans.same ∙ turn.1 in
     let no_ctlr : IsTrue (not new.local.ctlr) = ap (λ local. not local.ctlr) over.same ∙ ap (λ local. not local.ctlr) claims.same ∙ ap (λ local. not local.ctlr) scans.same ∙ ctlr.1 in
+    let no_line : IsTrue (is_none new.local.line) = ap (λ local. is_none local.line) over.same ∙ ap (λ local. is_none local.line) claims.same ∙ ap (λ local. is_none local.line) scans.same ∙ line.1 in
     record {
       phase = ap (λ local. local.phase) over.same ∙ ap (λ local. local.phase) claims.same ∙ scans.phase;
-      settled = all_true (owes_no_kick new.local) (owes_no_mark new.local) (has_no_cand new.local) (not new.local.turn) (not new.local.ctlr) kicks marks over.none no_turn no_ctlr;
+      settled = all_true (owes_no_kick new.local) (owes_no_mark new.local) (has_no_cand new.local) (not new.local.turn) (not new.local.ctlr) (is_none new.local.line) kicks marks over.none no_turn no_ctlr no_line;
       base = ap (λ (one : Loaded). with_cpu one.base) claims.loaded ∙ ap with_cpu is_ready.base;
       stands = subst (StandFor loaded.regs loaded.held) (sym (ap interface_of over.same)) claims.stands;
       cpu =
@@ -320,13 +322,8 @@ ends_so old mid mid2 new vcpu lrs cpu fill ready loaded failed off scans cpu_is 
           none-some one.choice (sym (none_chosen mid scans.plan trapping held.place) ∙ one.chosen));
     }
   where
-    all_true : (a b c d e : Bool) → IsTrue a → IsTrue b → IsTrue c → IsTrue d → IsTrue e → IsTrue (((a && b) && c) && d && e)
-    all_true true true true true true h i j k l = refl
-    all_true false b c d e h i j k l = absurd (cc)
-    all_true true false c d e h i j k l = absurd (cc)
-    all_true true true false d e h i j k l = absurd (cc)
-    all_true true true true false e h i j k l = absurd (cc)
-    all_true true true true true false h i j k l = absurd (cc)
+    all_true : (a b c d e f : Bool) → IsTrue a → IsTrue b → IsTrue c → IsTrue d → IsTrue e → IsTrue f → IsTrue (((a && b) && c) && d && e && f)
+    all_true a b c d e f h i j k l m = rw (h, i, j, k, l, m) refl
 
 -- the part may end
 entered_ends : (new : Seen) (loaded : Loaded) (far : Option Bool) (p : Progress) → new.local.phase ≡ Claiming → IsTrue (is_settled new.local) → owed_after_scan p.debt ≡ paid → p.wants ≡ [] → IsProperEnd (entered new loaded far p)

@@ -1,5 +1,5 @@
 -- What a vCPU holds leaves, place by place.
-use Rattle.std.proofs.Common.{◌≡◌, ◌≢◌, ℕ, zero, suc, ◌+◌, ◌<◌, ◌&&◌, not, Bool, true, false, cond, if◌then◌else◌, IsTrue, List, [], ◌∷◌, ◌++◌, map, take, length, slice_index_or, All, Contains, Option, Some, None, refl, sym, ap, subst, ◌∙◌, arith}
+use Rattle.std.proofs.Common.{◌≡◌, ◌≢◌, ℕ, zero, suc, ◌+◌, ◌<◌, ◌&&◌, not, Bool, true, false, cond, if◌then◌else◌, IsTrue, List, [], ◌∷◌, ◌++◌, map, take, length, slice_index_or, All, Contains, Option, Some, None, is_none, refl, sym, ap, subst, ◌∙◌, arith}
 use Rattle.std.specs.List.{filter_map, list_all}
 use Rattle.std.specs.Option.{option_map}
 use Rattle.std.proofs.lemmas.Bool.{and_parts, eqb-true}
@@ -288,7 +288,8 @@ all_left seen vcpu on =
 
 pub settled_owes : (local : Local) → IsTrue (is_settled local) → IsTrue (owes_nothing local)
 settled_owes local h =
-    let ctlr = and_parts (owes_nothing local && not local.turn) (not local.ctlr) h in
+    let line = and_parts (owes_nothing local && not local.turn && not local.ctlr) (is_none local.line) h in
+    let ctlr = and_parts (owes_nothing local && not local.turn) (not local.ctlr) line.0 in
     (and_parts (owes_nothing local) (not local.turn) ctlr.0).0
 
 pub leaves : (old new : Seen) (vcpu : Loaded) (shelved : Shelved) → length vcpu.held ≡ 16 → IsOn old vcpu → shelved ≡ shelved_of vcpu → IsLeaving old new vcpu 16 → Leaves old new vcpu shelved
@@ -299,7 +300,7 @@ leaves old new vcpu shelved each on is so =
     let empty : new.local.at ≡ [] = so.at ∙ ap (λ keys. without_all keys old.local.at) keys ∙ all_left old vcpu on in
     let owes : IsTrue (owes_nothing new.local) = leaving_owes old new vcpu 16 (settled_owes old.local on.settled) so in
     let settled : IsTrue (is_settled new.local) =
-    ap (λ b. b && not new.local.turn && not new.local.ctlr) owes ∙ ap (λ local. not local.turn && not local.ctlr) so.same ∙ rest_settled old.local on.settled in
+    ap (λ b. b && not new.local.turn && not new.local.ctlr && is_none new.local.line) owes ∙ ap (λ local. not local.turn && not local.ctlr && is_none local.line) so.same ∙ rest_settled old.local on.settled in
     let none : named_of (Some old.actor) (part_events old so.part) ≡ [] = moves_unnamed old.actor (part_events old so.part) (ap (are_moves old.actor) events ∙ only_leave old.actor (held_keys vcpu)) in
     let is_vcpu_so : vcpu_of_actor shape old.actor ≡ Some old.actor = ap (λ b. if b then Some old.actor else None) on.actor.is_one in
     let answer : Option ℕ = None in
@@ -328,11 +329,9 @@ leaves old new vcpu shelved each on is so =
           };
     }
   where
-    rest_settled : (local : Local) → IsTrue (is_settled local) → (not local.turn && not local.ctlr) ≡ true
-    rest_settled local h = of (owes_nothing local) (not local.turn) (not local.ctlr) h
+    rest_settled : (local : Local) → IsTrue (is_settled local) → (not local.turn && not local.ctlr && is_none local.line) ≡ true
+    rest_settled local h = of (owes_nothing local) (not local.turn) (not local.ctlr) (is_none local.line) h
       where
-        of : (a b c : Bool) → IsTrue (a && b && c) → (b && c) ≡ true
-        of true true true h = refl
-        of true true false h = absurd (cc)
-        of true false c h = absurd (cc)
-        of false b c h = absurd (cc)
+        of : (a b c d : Bool) → IsTrue (a && b && c && d) → (b && c && d) ≡ true
+        of true b c d h = h
+        of false b c d h = absurd (cc)

@@ -1,5 +1,5 @@
 -- A piece of a memory-mapped access, as the whole call.
-use Rattle.std.proofs.Common.{◌≡◌, if◌then◌else◌, ℕ, ◌&&◌, ◌||◌, not, Bool, true, false, cond, IsTrue, List, [], ◌∷◌, map, Option, Some, None, refl, sym, ap, subst, ◌∙◌}
+use Rattle.std.proofs.Common.{◌≡◌, if◌then◌else◌, ℕ, ◌&&◌, ◌||◌, not, Bool, true, false, cond, IsTrue, List, [], ◌∷◌, map, Option, Some, None, is_none, refl, sym, ap, subst, ◌∙◌}
 use Rattle.std.proofs.lemmas.Bool.{and_from, and_parts}
 use Rattle.its_exec.specs.Words.{Frame, Dist, Redist, Its, Ram as Memory, Lpi, has_interrupt}
 use Rattle.its_exec.specs.GicImap.Map.{decoded as its_decoded}
@@ -24,27 +24,29 @@ use Rattle.pe_mem.proofs.TargetLemmas.{plain_with, value_with, with_targets}
 
 -- What a vCPU has that can make an access.
 
+can_parts : (seen : Seen) → CanAccess seen → IsTrue (owes_nothing seen.local && not seen.local.turn && not seen.local.ctlr) × IsTrue (is_none seen.local.line)
+can_parts seen can = and_parts (owes_nothing seen.local && not seen.local.turn && not seen.local.ctlr) (is_none seen.local.line) can.settled
+
 pub can_ease : (seen : Seen) → CanAccess seen → IsAtEase seen.local
 can_ease seen can =
-    let ctlr = and_parts (owes_nothing seen.local && not seen.local.turn) (not seen.local.ctlr) can.settled in
-    record { owes = (and_parts (owes_nothing seen.local) (not seen.local.turn) ctlr.0).0; empty = can.empty }
+    record { owes = (and_parts (owes_nothing seen.local) (not seen.local.turn) (and_parts (owes_nothing seen.local && not seen.local.turn) (not seen.local.ctlr) (can_parts seen can).0).0).0; empty = can.empty }
 
 not_is : (b : Bool) → IsTrue (not b) → b ≡ false
 not_is true h = absurd (cc)
 not_is false h = refl
 
 pub can_free : (seen : Seen) → CanAccess seen → seen.local.ctlr ≡ false
-can_free seen can = not_is seen.local.ctlr (and_parts (owes_nothing seen.local && not seen.local.turn) (not seen.local.ctlr) can.settled).1
+can_free seen can = not_is seen.local.ctlr (and_parts (owes_nothing seen.local && not seen.local.turn) (not seen.local.ctlr) (can_parts seen can).0).1
 
 pub can_turn : (seen : Seen) → CanAccess seen → seen.local.turn ≡ false
-can_turn seen can = not_is seen.local.turn (and_parts (owes_nothing seen.local) (not seen.local.turn) (and_parts (owes_nothing seen.local && not seen.local.turn) (not seen.local.ctlr) can.settled).0).1
+can_turn seen can = not_is seen.local.turn (and_parts (owes_nothing seen.local) (not seen.local.turn) (and_parts (owes_nothing seen.local && not seen.local.turn) (not seen.local.ctlr) (can_parts seen can).0).0).1
 
 -- and has the same after it
-settled_by : (local : Local) → IsTrue (owes_nothing local) → local.turn ≡ false → local.ctlr ≡ false → IsTrue (is_settled local)
-settled_by local owes turn ctlr = all (owes_nothing local) local.turn local.ctlr owes turn ctlr
+settled_by : (local : Local) → IsTrue (owes_nothing local) → local.turn ≡ false → local.ctlr ≡ false → IsTrue (is_none local.line) → IsTrue (is_settled local)
+settled_by local owes turn ctlr line = all (owes_nothing local) local.turn local.ctlr (is_none local.line) owes turn ctlr line
   where
-    all : (a b c : Bool) → IsTrue a → b ≡ false → c ≡ false → (a && not b && not c) ≡ true
-    all a b c ha hb hc = rw (ha, hb, hc) refl
+    all : (a b c d : Bool) → IsTrue a → b ≡ false → c ≡ false → IsTrue d → (a && not b && not c && d) ≡ true
+    all a b c d ha hb hc hd = rw (ha, hb, hc, hd) refl
 
 pub can_after : (old new : Seen) (part : List Made) → CanAccess old → Adds old new part → StaysAtEase old.local new.local → CanAccess new
 can_after old new part can adds stays =
@@ -52,7 +54,8 @@ can_after old new part can adds stays =
       vcpu = ap (λ seen. is_vcpu (shape_of seen) seen.actor) adds.new_is ∙ can.vcpu;
       empty = ap (λ l. l.at) stays.same ∙ can.empty;
       settled =
-          settled_by new.local (ease_owes old.local new.local stays (can_ease old can).owes) (ap (λ l. l.turn) stays.same ∙ can_turn old can) (ap (λ l. l.ctlr) stays.same ∙ can_free old can);
+          settled_by new.local (ease_owes old.local new.local stays (can_ease old can).owes) (ap (λ l. l.turn) stays.same ∙ can_turn old can) (ap (λ l. l.ctlr) stays.same ∙ can_free old can)
+          (ap (λ l. is_none l.line) stays.same ∙ (can_parts old can).1);
     }
 
 -- Proper parts.

@@ -1,15 +1,16 @@
 -- Accesses to the part of one interrupt.
-use Rattle.std.proofs.Common.{◌≡◌, ℕ, ◌^◌, nat_lt, IsTrue, Option, Some, None, refl, sym, ap, subst, ◌∙◌}
+use Rattle.std.proofs.Common.{◌≡◌, ℕ, ◌^◌, nat_lt, false, IsTrue, Option, Some, None, refl, sym, ap, subst, ◌∙◌}
 use Rattle.std.proofs.lemmas.Bool.{and_parts}
 use Rattle.its_exec.specs.Words.{Key, Private, Spi, Lpi, Kind, Routing, GuestShape, Irq, Route, Affinity, Target, is_routed_as, IsRecordOf, IsIrq, irq_of}
 use Rattle.its_exec.specs.Registers.{part_bits, has_part, shows_route, part_read}
 use Rattle.its_exec.specs.Calls.{Touching, CanTouch, has_shown_part}
 use Rattle.its_exec.proofs.GicCall.AccessLemmas.{can_read}
-use Rattle.its_exec.specs.Core.{Seen, shape_of, IsIrqWord}
+use Rattle.its_exec.specs.Core.{changes_lpi, Seen, shape_of, IsIrqWord}
 use Rattle.its_exec.specs.PortCall.declared.touching.Missed.{Missed}
 use Rattle.its_exec.specs.PortCall.Touch.{MissesTouch, Touches, Tries}
 use Rattle.its_exec.proofs.PortCall.TouchLemmas.{tries_then_touches}
 use Rattle.pe_mem.specs.declared.attempt.PartAccess.{PartAccess}
+use Rattle.pe_mem.specs.declared.attempt.PartAccess.TheVariants.{Reads, Writes, WritesHalf}
 use Rattle.pe_mem.specs.Part.{touching_of, touching_by, part_answer, FitsPart, CanAttempt, Attempts, Misses, Accesses}
 
 -- an interrupt's record shows the part that the interrupt has
@@ -52,6 +53,12 @@ tries_then_accesses old mid new key kind write answer tries one =
 -- The steps of a try.
 
 -- what it does to the record that was looked at
+-- an access changes no LPI as a command does
+pub quiet_part : (access : PartAccess) (kind : Kind) (irq : Irq) → changes_lpi (touching_by access kind irq) ≡ false
+quiet_part Reads kind irq = refl
+quiet_part (Writes value) kind irq = refl
+quiet_part (WritesHalf half value) kind irq = refl
+
 pub can_try : (shape : GuestShape) (key : Key) (kind : Kind) (access : PartAccess) (seen : ℕ) (irq : Irq) (touching : Touching) → CanAttempt shape key kind access → IsIrqWord shape key seen → irq ≡ irq_of seen → touching ≡ touching_by access kind irq
     → CanTouch shape key touching
 can_try shape key kind access seen irq touching can word is does = subst (CanTouch shape key) (sym (does ∙ ap (touching_by access kind) is)) (can.can (irq_of seen) word.irq)

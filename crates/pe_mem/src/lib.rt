@@ -18,6 +18,6 @@ pub use its_exec::{
     Missed, NoMemory, PIDR2, PlainWord, Port, QueueEnd, Table, WordId, baser, baser_after,
     cbaser_after, creadr, decode, enabled_in, give_turn, its_access, its_ctlr, its_typer as typer,
     look_at_queue, move_queue, offset_in, place_of_plain, put_plain, queue_bytes,
-    queue_unpack as unpack, raise, read_plain, retries, run_commands, run_queue, settle, take_turn,
-    touch,
+    queue_unpack as unpack, raise, read_plain, retries, run_commands, run_queue, settle, shut,
+    take_turn, touch,
 };

@@ -1,10 +1,11 @@
 //! Accesses of a redistributor.
-ghost use Rattle.std.specs.Prelude.{◌≡◌, ◌<◌, IsTrue, true, Some};
+ghost use Rattle.std.specs.Prelude.{◌≡◌, ◌<◌, IsTrue, true, false, Some};
 ghost use Rattle.its_exec.specs.Registers.{half_limit};
 ghost use Rattle.its_exec.specs.GicRmap.declared.map.Reg.TheVariants.{Ctlr};
 ghost use Rattle.its_exec.specs.Calls.{has_plain, FitsRedist};
 ghost use Rattle.its_exec.specs.Core.{shape_of};
 ghost use Rattle.its_exec.specs.PortCall.Plain.{is_event_word};
+ghost use Rattle.its_exec.specs.PortCall.Store.{is_its_ctlr};
 ghost use Rattle.its_exec.specs.PortCall.Rest.{IsAtEase};
 ghost use Rattle.pe_mem.specs.Redist.{LooksAtLpis, StoresTable, ReadsRedist, WritesRedist, ServesRedist};
 ghost use Rattle.pe_mem.specs.Store.{changed_by, FitsChange};
@@ -35,6 +36,7 @@ fn store_table<P: Port, R: Wait>(rt: &R, port: &mut P, vcpu: u32, word: PlainWor
     requires vcpu { vcpu < (shape_of (P.seen port.old)).vcpus }
     requires there { IsTrue (has_plain (shape_of (P.seen port.old)) word) }
     requires kept { is_event_word word ≡ true }
+    requires other { is_its_ctlr word ≡ false }
     requires fits { FitsChange change }
     requires ease { IsAtEase (P.seen port.old).local }
     ensures { StoresTable (P.seen port.old) (P.seen port.new) vcpu word (changed_by change) }

@@ -1,8 +1,9 @@
 //! Stores of plain words that go by what the word holds.
-ghost use Rattle.std.specs.Prelude.{◌≡◌, IsTrue, true};
+ghost use Rattle.std.specs.Prelude.{◌≡◌, IsTrue, true, false};
 ghost use Rattle.its_exec.specs.Calls.{has_plain};
 ghost use Rattle.its_exec.specs.Core.{shape_of};
 ghost use Rattle.its_exec.specs.PortCall.Plain.{is_event_word};
+ghost use Rattle.its_exec.specs.PortCall.Store.{is_its_ctlr};
 ghost use Rattle.pe_mem.specs.Store.{changed_by, FitsChange, TriesUpdate, Updates};
 
 use its_exec::{
@@ -44,6 +45,7 @@ impl Change {
 fn try_update<P: Port>(port: &mut P, word: PlainWord, change: Change) -> bool
     requires there { IsTrue (has_plain (shape_of (P.seen port.old)) word) }
     requires kept { is_event_word word ≡ true }
+    requires other { is_its_ctlr word ≡ false }
     requires fits { FitsChange change }
     ensures { TriesUpdate (P.seen port.old) (P.seen port.new) word (changed_by change) result }
 {
@@ -54,10 +56,11 @@ fn try_update<P: Port>(port: &mut P, word: PlainWord, change: Change) -> bool
 }
 
 /// Stores a plain word of the guest changed: it looks at the word, and stores what the write makes of it if nobody came
-/// between, again and again. It is no word that keeps a fault.
+/// between, again and again. It is neither the word that keeps a fault nor GITS_CTLR.
 pub(crate) fn update<P: Port, R: Wait>(rt: &R, port: &mut P, word: PlainWord, change: Change)
     requires there { IsTrue (has_plain (shape_of (P.seen port.old)) word) }
     requires kept { is_event_word word ≡ true }
+    requires other { is_its_ctlr word ≡ false }
     requires fits { FitsChange change }
     ensures { Updates (P.seen port.old) (P.seen port.new) word (changed_by change) }
 {

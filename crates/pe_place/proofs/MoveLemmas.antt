@@ -1,5 +1,5 @@
 -- Parts of a vCPU, one after the other.
-use Rattle.std.proofs.Common.{◌≡◌, ℕ, List, [], ◌∷◌, ◌++◌, map, None, append-nil, sym, ap, subst, ◌∙◌}
+use Rattle.std.proofs.Common.{◌≡◌, ℕ, inl, List, [], ◌∷◌, ◌++◌, map, None, append-nil, sym, ap, subst, ◌∙◌}
 use Rattle.std.proofs.lemmas.Grind.{flat_map-append}
 use Rattle.std.proofs.lemmas.List.{map-append}
 use Rattle.std.proofs.lemmas.List.Elements.{All-nil, All-cons, All-append}
@@ -37,7 +37,7 @@ moves_once Are old new before after part are registers adds call proper goes_on 
       are = are;
       registers = λ lrs one two. All-cons (λ (part : Part). part.lrs ≡ lrs) part [] (registers lrs one two) (All-nil (λ (part : Part). part.lrs ≡ lrs));
       adds = subst (Adds old new) (sym (append-nil part.steps)) adds;
-      calls = (call, tt);
+      calls = (inl call, tt);
       proper = λ p so. subst (IsProper (shape_of old) old.actor p) (sym (append-nil (acts_of part))) (proper p so);
       goes_on = λ p so. subst (λ acts. IsFollowed new after (progress_of (shape_of old) old.actor p acts)) (sym (append-nil (acts_of part))) (goes_on p so);
       at = at;

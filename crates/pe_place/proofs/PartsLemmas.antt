@@ -1,5 +1,5 @@
 -- Parts of several actors, one after the other.
-use Rattle.std.proofs.Common.{◌≡◌, ◌≢◌, ℕ, ◌==◌, Bool, IsTrue, if◌then◌else◌, List, [], ◌∷◌, ◌++◌, map, filter, Option, append-nil, refl, sym, ap, subst, ◌∙◌}
+use Rattle.std.proofs.Common.{◌≡◌, ◌≢◌, ℕ, inl, inr, ◌==◌, Bool, IsTrue, if◌then◌else◌, List, [], ◌∷◌, ◌++◌, map, filter, Option, append-nil, refl, sym, ap, subst, ◌∙◌}
 use Rattle.std.proofs.lemmas.Bool.{eq-eqb, ne_eqb}
 use Rattle.std.proofs.lemmas.Grind.{flat_map-append}
 use Rattle.std.proofs.lemmas.List.{map-append}
@@ -7,11 +7,11 @@ use Rattle.std.proofs.lemmas.List.Elements.{filter-append}
 use Rattle.law_serial_is_eager.specs.Histories.{IdealGuest}
 use Rattle.dev_port.specs.Calls.{Event, Beside, IsCall}
 use Rattle.dev_port.specs.Words.{target_in, irq_of}
-use Rattle.dev_port.specs.Core.{Local, Made, Seen, seen_after, local_by, events_of, part_events, MakesCall, vcpu_of_actor, entry_by}
+use Rattle.dev_port.specs.Core.{Local, Made, Seen, seen_after, local_by, events_of, part_events, MakesCall, MakesPost, vcpu_of_actor, entry_by}
 use Rattle.pe_op.specs.PeMem.Found.{are_before, Finding, by_looks, by_commands, IsFinding, takes_its_by, IsCallAsFound}
 use Rattle.pe_op.specs.PeMem.Looked.{IsLookedAt, all_events, comes_after, comes_before}
 use Rattle.law_serial_is_eager.specs.Serial.{WholePart}
-use Rattle.pe_place.specs.Parts.{Part, by_actor, part_in, steps_in, entries_in, parts_by, IsCallFound, AreCalls, IsSeatAfter}
+use Rattle.pe_place.specs.Parts.{Part, by_actor, part_in, steps_in, entries_in, parts_by, IsCallFound, IsPartFound, AreCalls, IsSeatAfter}
 
 -- Those of one actor.
 
@@ -162,6 +162,32 @@ after_same one other steps same =
 call_found_same : (one other : Seen) (part : Part) → TellsSame one other → IsCallFound one part → IsCallFound other part
 call_found_same one other part same is = record { made = call_same one other part same is.made; found = found_same one other part same is.found }
 
+events_same : (one other : Seen) (steps : List Made) → TellsSame one other → part_events other steps ≡ part_events one steps
+events_same one other steps same =
+    ap (λ (guest : IdealGuest). events_of guest.shape other.actor other.local other.own steps) same.guest
+    ∙ ap (λ actor. events_of one.guest.shape actor other.local other.own steps) same.actor
+    ∙ ap (λ local. events_of one.guest.shape one.actor local other.own steps) same.local
+    ∙ ap (λ own. events_of one.guest.shape one.actor one.local own steps) same.own
+
+post_same : (one other : Seen) (part : Part) → TellsSame one other → MakesPost one part.steps part.operation part.answer → MakesPost other part.steps part.operation part.answer
+post_same one other part same is = record {
+  entered = is.entered;
+  early = is.early;
+  raise = is.raise;
+  late = is.late;
+  split = is.split;
+  inside = ap (λ (local : Local). local.line) (after_same one other is.early same).local ∙ is.inside;
+  raises = is.raises;
+  message = is.message;
+  before = events_same one other is.early same ∙ is.before;
+  after = events_same (seen_after one (is.early ++ is.raise ∷ [])) (seen_after other (is.early ++ is.raise ∷ [])) is.late (after_same one other (is.early ++ is.raise ∷ []) same) ∙ is.after;
+  answers = is.answers;
+}
+
+part_found_same : (one other : Seen) (part : Part) → TellsSame one other → IsPartFound one part → IsPartFound other part
+part_found_same one other part same (inl is) = inl (call_found_same one other part same is)
+part_found_same one other part same (inr is) = inr (post_same one other part same is)
+
 pub calls_same : (one other : Seen) (parts : List Part) → TellsSame one other → AreCalls one parts → AreCalls other parts
 calls_same one other [] same calls = tt
-calls_same one other (part ∷ parts) same calls = (call_found_same one other part same calls.0, calls_same (seen_after one part.steps) (seen_after other part.steps) parts (after_same one other part.steps same) calls.1)
+calls_same one other (part ∷ parts) same calls = (part_found_same one other part same calls.0, calls_same (seen_after one part.steps) (seen_after other part.steps) parts (after_same one other part.steps same) calls.1)

@@ -1,9 +1,9 @@
 -- Parts of an actor, one after the other: each is what the actor did for one call (own choice).
-use Rattle.std.specs.Prelude.{◌≡◌, ℕ, ◌<◌, ◌==◌, if◌then◌else◌, List, [], ◌∷◌, ◌++◌, All, filter, map, Option, None}
+use Rattle.std.specs.Prelude.{◌≡◌, ℕ, ◌<◌, ◌⊎◌, ◌==◌, if◌then◌else◌, List, [], ◌∷◌, ◌++◌, All, filter, map, Option, None}
 use Rattle.std.specs.List.{flat_map}
 use Rattle.dev_port.specs.Calls.{Operation, Residence}
 use Rattle.dev_port.specs.Words.{GuestShape}
-use Rattle.dev_port.specs.Core.{Entry, Made, actor_count, is_vcpu, Seen, seen_after, MakesCall, Act, part_of, entry_by, Progress, progress_of}
+use Rattle.dev_port.specs.Core.{Entry, Made, actor_count, is_vcpu, Seen, seen_after, MakesCall, MakesPost, Act, part_of, entry_by, Progress, progress_of}
 use Rattle.pe_op.specs.PeMem.Found.{IsCallAsFound}
 use Rattle.law_serial_is_eager.specs.Serial.{WholePart}
 
@@ -33,10 +33,14 @@ pub record IsCallFound (seen : Seen) (part : Part) : Type 0 where
   pub made : MakesCall seen part.steps part.operation part.answer
   pub found : IsCallAsFound seen part.steps part.operation part.answer
 
+-- or it is a message's, whose device found in a translation line which LPI that becomes
+abbrev pub IsPartFound : Seen → Part → Type 0
+IsPartFound seen part = IsCallFound seen part ⊎ MakesPost seen part.steps part.operation part.answer
+
 -- so is each of them
 abbrev pub AreCalls : Seen → List Part → Type 0
 AreCalls seen [] = Unit {0}
-AreCalls seen (part ∷ parts) = IsCallFound seen part × AreCalls (seen_after seen part.steps) parts
+AreCalls seen (part ∷ parts) = IsPartFound seen part × AreCalls (seen_after seen part.steps) parts
 
 -- what an actor has for itself after some parts of it
 pub record IsSeatAfter (before after : Seen) (parts : List Part) : Type 0 where

@@ -7,7 +7,8 @@ ghost use Rattle.pe_mem.specs.Call.{CanAccess};
 use crate::entry::enter_told;
 use pe_icc::{Port, leave};
 use pe_mem::{
-    CoreStep, GuestShape, Missed, WordId, dist_op, memory_op, redist_op, settle, touch, try_access,
+    CoreStep, GuestShape, Missed, WordId, dist_op, give_turn, memory_op, redist_op, settle, shut,
+    take_turn, touch, try_access,
 };
 use port_rest::{is_off, one_guest, spi};
 use port_seq::{Key, Kind, Mode, Scenario, SeqPort, Touching, target_in};
@@ -136,7 +137,7 @@ fn state<P: Port>(port: &mut P) -> Option<State> {
     ))
 }
 
-/// LPI 8195 is mapped to vCPU 1. False where it may not.
+/// LPI 8195 is mapped to vCPU 1, by the actor that has the ITS and shut the translation lines. False where it may not.
 fn map_lpi<P: Port, R: Wait>(rt: &R, port: &mut P) -> bool {
     if port.shape() != SHAPE || !can_access(port) {
         return false;
@@ -146,7 +147,10 @@ fn map_lpi<P: Port, R: Wait>(rt: &R, port: &mut P) -> bool {
         enabled: true,
         prio: 0xA0,
     };
+    take_turn(rt, port);
+    shut(rt, port);
     touch(rt, port, Key::Lpi(8195), touching);
+    give_turn(port);
     true
 }
 

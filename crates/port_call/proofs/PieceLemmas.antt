@@ -3,7 +3,7 @@ use Rattle.std.proofs.Common.{◌≡◌, ℕ, ◌==◌, ◌&&◌, ◌||◌, not,
 use Rattle.std.proofs.lemmas.List.{map-append}
 use Rattle.std.proofs.lemmas.List.Sums.{fold-append}
 use Rattle.floor_core.specs.Words.{GuestShape}
-use Rattle.floor_core.specs.Core.{Local, Entry, Made, CoreStep, Look, Raise, Claim, GiveBack, Release, Poll, Kick, Touch, Want, WireUp, WireDown, EnableLpis, RamLook, RamPut, CtlrTake, CtlrEnd, TurnTake, CommandDone, TurnRelease, Mark, TakeIndex, Irq, Vcpu, Index, Queue, Ctlr, Plain, local_after, succeeds, Seen, shape_of, seen_after, IsAtRest, IsProperPart, begins, makes, ends, Progress, is_paid, scan_on, stepped, progressed, progress_of, is_empty, gives_back, wants_nothing, is_settled, IsProper, IsProperStep, IsProperEnd, keeps_scan, keeps_trap_scan, keeps_failed_claim, keeps_far_end, keeps_refill, keeps_want, keeps_seen, Scan, idle, taking, looking, claiming, is_idle, scan_allows}
+use Rattle.floor_core.specs.Core.{Local, Entry, Made, CoreStep, Look, Raise, Claim, GiveBack, Release, Poll, Kick, Touch, Want, WireUp, WireDown, EnableLpis, RamLook, RamPut, CtlrTake, CtlrEnd, TurnTake, CommandDone, TurnRelease, Mark, TakeIndex, LineEnter, LineLeave, LineFill, LineClose, Irq, Vcpu, Index, Queue, Ctlr, Plain, Line, local_after, succeeds, Seen, shape_of, seen_after, IsAtRest, IsProperPart, begins, makes, ends, Progress, is_paid, scan_on, stepped, progressed, progress_of, is_empty, gives_back, wants_nothing, is_settled, IsProper, IsProperStep, IsProperEnd, keeps_scan, keeps_trap_scan, keeps_failed_claim, keeps_far_end, keeps_refill, keeps_want, keeps_seen, Scan, idle, taking, looking, claiming, is_idle, scan_allows}
 use Rattle.floor_core.proofs.PortCore.PortLemmas.{seen_joins}
 use Rattle.floor_core.specs.Calls.{Operation}
 use Rattle.floor_core.specs.CoreProper.Progress.{changed_by}
@@ -43,6 +43,7 @@ plain_changes shape actor (Look (Index v w)) found done p h = unchanged p p refl
 plain_changes shape actor (Look Queue) found done p h = unchanged p p refl
 plain_changes shape actor (Look Ctlr) found done p h = unchanged p p refl
 plain_changes shape actor (Look (Plain i)) found done p h = unchanged p p refl
+plain_changes shape actor (Look (Line n)) found done p h = unchanged p p refl
 plain_changes shape actor (Claim key seen) found done p h = absurd (cc)
 plain_changes shape actor (Poll reg write) found done p h = absurd (cc)
 plain_changes shape actor (Touch key seen kind) found done p h = absurd (cc)
@@ -63,6 +64,10 @@ plain_changes shape actor (TurnTake seen) found done p h = unchanged p p refl
 plain_changes shape actor (CommandDone offset stalled ending) found done p h = absurd (cc)
 plain_changes shape actor TurnRelease found done p h = unchanged p p refl
 plain_changes shape actor (Mark key v) found done p h = unchanged p p refl
+plain_changes shape actor (LineEnter n seen) found done p h = unchanged p p refl
+plain_changes shape actor (LineLeave n) found done p h = unchanged p p refl
+plain_changes shape actor (LineFill n device event lpi) found done p h = unchanged p p refl
+plain_changes shape actor (LineClose n) found done p h = unchanged p p refl
 
 -- the conditions of a step, but for the scan and the seen word
 record IsFree (shape : GuestShape) (actor : ℕ) (p : Progress) (step : CoreStep) : Type 0 where
@@ -94,6 +99,10 @@ plain_is_free shape actor p (TurnTake seen) h = record { trap = refl; failed = r
 plain_is_free shape actor p (CommandDone offset stalled ending) h = absurd (cc)
 plain_is_free shape actor p TurnRelease h = record { trap = refl; failed = refl; far = refl; refill = refl; want = refl }
 plain_is_free shape actor p (Mark key v) h = record { trap = refl; failed = refl; far = refl; refill = refl; want = refl }
+plain_is_free shape actor p (LineEnter n seen) h = record { trap = refl; failed = refl; far = refl; refill = refl; want = refl }
+plain_is_free shape actor p (LineLeave n) h = record { trap = refl; failed = refl; far = refl; refill = refl; want = refl }
+plain_is_free shape actor p (LineFill n device event lpi) h = record { trap = refl; failed = refl; far = refl; refill = refl; want = refl }
+plain_is_free shape actor p (LineClose n) h = record { trap = refl; failed = refl; far = refl; refill = refl; want = refl }
 
 pub scan_free : (shape : GuestShape) (actor : ℕ) (p : Progress) (step : CoreStep) → p.scan ≡ idle → IsTrue (keeps_scan shape actor p step)
 scan_free shape actor p step e = let P : Scan → Type 0 = λ scan. IsTrue (scan_allows shape actor p.local scan step) in subst P (sym e) refl

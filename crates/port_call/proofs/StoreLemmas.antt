@@ -1,22 +1,22 @@
 -- Looks at a plain word, and tries to store it.
-use Rattle.std.proofs.Common.{◌≡◌, ℕ, ◌==◌, ◌&&◌, ◌+◌, not, Bool, true, false, if◌then◌else◌, IsTrue, List, [], ◌∷◌, ◌++◌, Some, None, is_none, append-nil, refl, sym, ap, subst, ◌∙◌, arith}
+use Rattle.std.proofs.Common.{◌≡◌, ℕ, ◌<◌, ◌^◌, ◌==◌, ◌&&◌, ◌+◌, not, Bool, true, false, if◌then◌else◌, IsTrue, List, [], ◌∷◌, ◌++◌, Some, None, is_none, append-nil, refl, sym, ap, subst, ◌∙◌, arith}
 use Rattle.std.specs.List.{list_all}
 use Rattle.std.specs.Option.{option_to_list}
 use Rattle.std.proofs.lemmas.Grind.{common_steps}
-use Rattle.std.proofs.lemmas.Bool.{eq-eqb, eqb-true, and_parts}
+use Rattle.std.proofs.lemmas.Bool.{both_ways, eq-eqb, eqb-true, and_parts}
 use Rattle.std.proofs.lemmas.List.{append_assoc}
 use Rattle.std.proofs.lemmas.List.Folds.{list_all-append}
 use Rattle.std.proofs.lemmas.List.Elements.{All-append, All-cons, All-nil}
 use Rattle.floor_core.specs.Words.{GuestShape, is_number, interrupt_count}
-use Rattle.floor_core.specs.Calls.{Put, Happened, PlainWord, Ram, Propbaser, Pendbaser, ItsCtlr, Cbaser, Cwriter, Baser0, Baser1, Fault, place_of_plain, has_plain, plain_at}
+use Rattle.floor_core.specs.Calls.{Put, Happened, PlainWord, Ram, Propbaser, Pendbaser, ItsCtlr, Cbaser, Cwriter, Baser0, Baser1, Fault, place_of_plain, plain_count, has_plain, plain_at}
 use Rattle.floor_core.specs.GicCall.declared.event.Event.TheVariants.{Read}
 use Rattle.floor_core.specs.GicCall.declared.event.Found.TheVariants.{Word as FoundWord}
 use Rattle.floor_core.specs.GicCall.declared.event.Place.TheVariants.{Word}
-use Rattle.floor_core.specs.Core.{Local, Made, CoreStep, RamLook, RamPut, Plain, Queue, CanPut, fault_place, is_on, known, place_of_word, word_of, Seen, Adds, AddsStep, made_by, shape_of, seen_after, part_events, stands_for, event_done, local_after}
+use Rattle.floor_core.specs.Core.{Local, Made, CoreStep, RamLook, RamPut, Plain, Queue, CanPut, CanPutWord, fault_place, has_all_shut, its_ctlr_place, is_on, known, place_of_word, word_of, Seen, Adds, AddsStep, CanMake, made_by, shape_of, seen_after, part_events, stands_for, event_done, local_after}
 use Rattle.floor_core.proofs.PortCore.PortLemmas.{adds_join}
 use Rattle.port_call.specs.Piece.{IsPiece, takes_none, goes_by_known}
 use Rattle.port_call.specs.Plain.{is_event_word}
-use Rattle.port_call.specs.Store.{MayStore, Stores, MissesStore, TriesStore, AreStoreEvents, AreMissEvents, is_store_miss, is_store_step, stores_not}
+use Rattle.port_call.specs.Store.{MayStore, is_its_ctlr, Stores, MissesStore, TriesStore, AreStoreEvents, AreMissEvents, is_store_miss, is_store_step, stores_not}
 use Rattle.port_call.proofs.KnownLemmas.{are_off, known_kept}
 use Rattle.port_call.proofs.PieceLemmas.{piece_one, piece_nil, seen_nil}
 use Rattle.port_call.proofs.SettleLemmas.{handed_none}
@@ -34,6 +34,18 @@ fault_is shape Cwriter h = grind (arith, common_steps)
 fault_is shape Baser0 h = grind (arith, common_steps)
 fault_is shape Baser1 h = grind (arith, common_steps)
 fault_is shape Fault h = eq-eqb (fault_place shape) (fault_place shape) refl
+
+-- and so has GITS_CTLR
+pub ctlr_is : (shape : GuestShape) (word : PlainWord) → IsTrue (has_plain shape word) → (place_of_plain shape word == its_ctlr_place shape) ≡ is_its_ctlr word
+ctlr_is shape (Ram i) h = grind (arith, common_steps, h)
+ctlr_is shape (Propbaser v) h = grind (arith, common_steps, h)
+ctlr_is shape (Pendbaser v) h = grind (arith, common_steps, h)
+ctlr_is shape ItsCtlr h = eq-eqb (its_ctlr_place shape) (its_ctlr_place shape) refl
+ctlr_is shape Cbaser h = grind (arith, common_steps)
+ctlr_is shape Cwriter h = grind (arith, common_steps)
+ctlr_is shape Baser0 h = grind (arith, common_steps)
+ctlr_is shape Baser1 h = grind (arith, common_steps)
+ctlr_is shape Fault h = grind (arith, common_steps)
 
 -- An event of the word, if it has any.
 
@@ -299,10 +311,39 @@ pub may_kept : (old now : Seen) (word : PlainWord) → MissesStore old now word 
 may_kept old now word misses may =
     let shape = shape_of old in
     let b = not (is_event_word word) in
-    let kept = may_by b shape old.actor old.local old.own misses.part (misses_off shape old.actor (place_of_plain shape word) misses.part misses.missed) may in
+    let kept = may_by b shape old.actor old.local old.own misses.part (misses_off shape old.actor (place_of_plain shape word) misses.part misses.missed) may.fault in
     let May : Local → Type 0 = λ local. CanPut b shape old.actor local (old.own ++ misses.part) in
     let local : (seen_after old misses.part).local ≡ old.local = ap (λ seen. seen.local) (sym misses.adds.new_is) ∙ misses.local_is in
-    subst (λ seen. MayStore seen word) (sym misses.adds.new_is) (subst May (sym local) kept)
+    subst (λ seen. MayStore seen word) (sym misses.adds.new_is) (record { fault = subst May (sym local) kept; lines = λ e. ap has_all_shut local ∙ may.lines e })
+
+-- a word that may be stored may be stored at its place
+pub put_may : (seen : Seen) (word : PlainWord) (index : ℕ) → IsTrue (has_plain (shape_of seen) word) → index ≡ place_of_plain (shape_of seen) word → MayStore seen word → CanPutWord (shape_of seen) seen.actor seen.local seen.own index
+put_may seen word index there is may =
+    let shape = shape_of seen in
+    let Put : Bool → Type 0 = λ b. CanPut b shape seen.actor seen.local seen.own in
+    record {
+      fault = subst Put (sym (ap (λ i. i == fault_place shape) is ∙ fault_is shape word there)) may.fault;
+      lines = λ e. may.lines (sym (ap (λ i. i == its_ctlr_place shape) is ∙ ctlr_is shape word there) ∙ e);
+    }
+
+-- a word that keeps no fault and is not GITS_CTLR may be stored by anyone
+pub may_any : (seen : Seen) (word : PlainWord) → is_event_word word ≡ true → is_its_ctlr word ≡ false → MayStore seen word
+may_any seen word kept other =
+    let Put : Bool → Type 0 = λ b. CanPut (not b) (shape_of seen) seen.actor seen.local seen.own in
+    record { fault = subst Put (sym kept) tt; lines = λ e. absurd (both_ways (is_its_ctlr word) other e) }
+
+-- the exchange after a look at it
+pub can_put :
+    (old mid : Seen) (word : PlainWord) (index found value : ℕ) → IsTrue (has_plain (shape_of old) word) → index ≡ place_of_plain (shape_of old) word → plain_at (shape_of old) index ≡ word → index < plain_count (shape_of old) → value < 2 ^ 64
+    → MayStore old word → AddsStep old mid (RamLook index) found → CanMake mid (RamPut index found value)
+can_put old mid word index found value there is back within fits may look =
+    let shape : shape_of old ≡ shape_of mid = sym (ap shape_of look.adds.new_is) in
+    record {
+      can = (subst (λ shape. index < plain_count shape) shape within, fits);
+      seen_is = tt;
+      meets = put_may mid word index (subst (λ shape. IsTrue (has_plain shape word)) shape there) (is ∙ ap (λ shape. place_of_plain shape word) shape) (may_kept old mid word (look_misses old mid word index found there is back look) may);
+      tables = refl;
+    }
 
 pub no_miss : (seen : Seen) (word : PlainWord) → MissesStore seen seen word
 no_miss seen word =

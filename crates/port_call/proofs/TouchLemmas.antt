@@ -2,14 +2,14 @@
 use Rattle.std.proofs.Common.{◌≡◌, inl, inr, ℕ, ◌==◌, ◌&&◌, not, Bool, true, false, cond, if◌then◌else◌, IsTrue, List, [], ◌∷◌, ◌++◌, map, filter, Option, Some, None, is_none, append-nil, refl, sym, ap, subst, ◌∙◌}
 use Rattle.std.specs.List.{list_all}
 use Rattle.std.specs.Option.{option_map_or, option_to_list}
-use Rattle.std.proofs.lemmas.Bool.{and_parts, eq-eqb, eqb-true, false_from_ne_true}
+use Rattle.std.proofs.lemmas.Bool.{and_parts, both_ways, eq-eqb, eqb-true, false_from_ne_true}
 use Rattle.std.proofs.lemmas.List.{append_assoc, map-append}
 use Rattle.std.proofs.lemmas.List.Sums.{fold-append}
 use Rattle.floor_core.specs.Words.{Key, has_interrupt, is_same_key, irq_of, is_number}
 use Rattle.floor_core.proofs.GicBase.KeyLemmas.{same_itself}
 use Rattle.floor_core.specs.Calls.{Touching, CanTouch, touched}
 use Rattle.floor_core.specs.Registers.{Maps}
-use Rattle.floor_core.specs.Core.{Local, Made, Look, Touch, Want, Kick, Mark, Irq, concerned_by, local_after, local_done, succeeds, known, IsIrqWord, owes_no_mark, owes_nothing, owing_both, without_vcpu, Seen, Adds, AddsStep, CanMake, shape_of, seen_after, made_by, part_events, event_done, makes, Progress, progressed, progress_of, scan_on, stepped, is_idle, IsProper}
+use Rattle.floor_core.specs.Core.{Local, Made, Look, Touch, Want, Kick, Mark, Irq, concerned_by, local_after, local_done, succeeds, known, IsIrqWord, changes_lpi, has_all_shut, owes_no_mark, owes_nothing, owing_both, without_vcpu, Seen, Adds, AddsStep, CanMake, shape_of, seen_after, made_by, part_events, event_done, makes, Progress, progressed, progress_of, scan_on, stepped, is_idle, IsProper}
 use Rattle.floor_core.proofs.PortCore.PortLemmas.{adds_join, seen_joins}
 use Rattle.floor_core.proofs.CoreProper.PartLemmas.{proper_append}
 use Rattle.port_call.specs.declared.touching.Missed.TheVariants.{Held, Changed}
@@ -17,7 +17,7 @@ use Rattle.port_call.specs.About.{is_about, are_about, IsNaming, IsServed, IsTry
 use Rattle.port_call.specs.Piece.{IsIdle, StaysSo, IsGoodPiece, IsPiece, goes_by_known, takes_none}
 use Rattle.port_call.specs.Rest.{IsAtEase, StaysAtEase}
 use Rattle.port_call.specs.Settle.{vcpus_in, marks_sent, kicks_sent, Settles}
-use Rattle.port_call.specs.Touch.{Asks, FindsHome, HasFoundHome, Tries, MissesTouch, TouchesLate, Touches}
+use Rattle.port_call.specs.Touch.{Asks, FindsHome, HasFoundHome, MayChange, Tries, MissesTouch, TouchesLate, Touches}
 use Rattle.port_call.proofs.MemoryLemmas.{on_own}
 use Rattle.port_call.proofs.PieceLemmas.{seen_nil, idle_is, idle_on, stays_on}
 use Rattle.port_call.proofs.RestLemmas.{owes_none, look_kept, kick_kept, told_at_ease}
@@ -400,8 +400,8 @@ tries_then_touches old mid new key kind found one two =
 pub looked_marks : (old mid : Seen) (key : Key) (seen : ℕ) → IsTrue (owes_nothing old.local) → AddsStep old mid (Look (Irq key)) seen → IsTrue (owes_no_mark mid.local)
 looked_marks old mid key seen owes look = ap owes_no_mark (look_tries old mid key seen owes look).local_is ∙ (owes_none old.local owes).marks
 
-pub can_touch : (old mid : Seen) (key : Key) (kind : Touching) (seen : ℕ) → IsAtEase old.local → CanTouch (shape_of old) key kind → IsIrqWord (shape_of old) key seen → AddsStep old mid (Look (Irq key)) seen → CanMake mid (Touch key seen kind)
-can_touch old mid key kind seen ease can word look =
+pub can_touch : (old mid : Seen) (key : Key) (kind : Touching) (seen : ℕ) → IsAtEase old.local → CanTouch (shape_of old) key kind → IsIrqWord (shape_of old) key seen → AddsStep old mid (Look (Irq key)) seen → MayChange mid kind → CanMake mid (Touch key seen kind)
+can_touch old mid key kind seen ease can word look may =
     let shape : shape_of mid ≡ shape_of old = ap shape_of look.adds.new_is in
     record {
       can = subst (λ shape. CanTouch shape key kind) (sym shape) can;
@@ -410,6 +410,7 @@ can_touch old mid key kind seen ease can word look =
           record {
             empty = ap (λ local. local.at) (look_tries old mid key seen ease.owes look).local_is ∙ ease.empty;
             marks = looked_marks old mid key seen ease.owes look;
+            lines = may;
           };
       tables = refl;
     }
@@ -423,13 +424,25 @@ pub there_still : (old new : Seen) (key : Key) (kind : Touching) (seen found : �
 there_still old new key kind seen found can add = ap (λ shape. has_interrupt shape key) (ap shape_of add.adds.new_is) ∙ can.there
 
 -- after a look that found nobody an actor may touch the interrupt
-pub found_can : (seen : Seen) (key : Key) (kind : Touching) (word : ℕ) → CanTouch (shape_of seen) key kind → HasFoundHome seen key word → CanMake seen (Touch key word kind)
-found_can seen key kind word can looked =
+pub found_can : (seen : Seen) (key : Key) (kind : Touching) (word : ℕ) → CanTouch (shape_of seen) key kind → HasFoundHome seen key word → MayChange seen kind → CanMake seen (Touch key word kind)
+found_can seen key kind word can looked may =
     let shape : shape_of seen ≡ shape_of looked.before = ap shape_of looked.finds.look.adds.new_is in
-    can_touch looked.before seen key kind word looked.ease (subst (λ shape. CanTouch shape key kind) shape can) looked.finds.word_is looked.finds.look
+    can_touch looked.before seen key kind word looked.ease (subst (λ shape. CanTouch shape key kind) shape can) looked.finds.word_is looked.finds.look may
 
 pub looked_can : (old mid : Seen) (key : Key) (kind : Touching) (word : ℕ) → CanTouch (shape_of old) key kind → FindsHome old mid key word → CanTouch (shape_of mid) key kind
 looked_can old mid key kind word can finds = subst (λ shape. CanTouch shape key kind) (sym (ap shape_of finds.look.adds.new_is)) can
+
+-- a touch that changes no LPI may always be made
+pub may_quiet : (seen : Seen) (kind : Touching) → changes_lpi kind ≡ false → MayChange seen kind
+may_quiet seen kind quiet = λ e. absurd (both_ways (changes_lpi kind) quiet e)
+
+-- it may still change what it may, after a look, and after tries
+pub may_look : (old mid : Seen) (key : Key) (kind : Touching) (word : ℕ) → IsAtEase old.local → FindsHome old mid key word → MayChange old kind → MayChange mid kind
+unfolding look_tries
+may_look old mid key kind word ease finds may = λ e. ap has_all_shut (look_tries old mid key word ease.owes finds.look).local_is ∙ may e
+
+pub may_try : (old mid : Seen) (key : Key) (kind : Touching) → Tries old mid key → MayChange old kind → MayChange mid kind
+may_try old mid key kind tries may = λ e. ap has_all_shut tries.local_is ∙ may e
 
 -- numbers that differ
 pub not_eq : (found seen : ℕ) → (found ≡ seen → ⊥) → (found == seen) ≡ false

@@ -1,17 +1,24 @@
 -- An actor stores a plain word, by a look and an exchange against what that found, again and again until nobody else came between.
 use Rattle.std.specs.Prelude.{◌≡◌, ℕ, ◌++◌, ◌==◌, ◌&&◌, not, Bool, true, false, IsTrue, List, [], ◌∷◌, All}
 use Rattle.std.specs.List.{list_all}
-use Rattle.floor_core.specs.Calls.{Put, Happened, PlainWord, place_of_plain}
+use Rattle.floor_core.specs.Calls.{Put, Happened, PlainWord, ItsCtlr, place_of_plain}
 use Rattle.floor_core.specs.GicCall.declared.event.Event.TheVariants.{Read}
 use Rattle.floor_core.specs.GicCall.declared.event.Found.TheVariants.{Word as FoundWord}
 use Rattle.floor_core.specs.GicCall.declared.event.Place.TheVariants.{Word}
-use Rattle.floor_core.specs.Core.{Made, CoreStep, RamLook, RamPut, CanPut, Seen, Adds, shape_of, part_events}
+use Rattle.floor_core.specs.Core.{Made, CoreStep, RamLook, RamPut, CanPut, has_all_shut, Seen, Adds, shape_of, part_events}
 use Rattle.port_call.specs.Piece.{takes_none, IsPiece}
 use Rattle.port_call.specs.Plain.{is_event_word}
 
--- the word may be stored: the number of a fault by the actor that has the ITS, of a queue that it knows to run
-abbrev pub MayStore : Seen → PlainWord → Type 0
-MayStore seen word = CanPut (not (is_event_word word)) (shape_of seen) seen.actor seen.local seen.own
+-- the word is GITS_CTLR
+abbrev pub is_its_ctlr : PlainWord → Bool
+is_its_ctlr ItsCtlr = true
+is_its_ctlr word = false
+
+-- the word may be stored: the number of a fault by the actor that has the ITS, of a queue that it knows to run, and GITS_CTLR by one that knows all
+-- translation lines to be shut
+pub record MayStore (seen : Seen) (word : PlainWord) : Type 0 where
+  pub fault : CanPut (not (is_event_word word)) (shape_of seen) seen.actor seen.local seen.own
+  pub lines : is_its_ctlr word ≡ true → IsTrue (has_all_shut seen.local)
 
 -- a look at the word at a place, or a try to store it
 abbrev pub is_store_step : ℕ → CoreStep → Bool

@@ -1,13 +1,17 @@
 -- An actor touches an interrupt, and asks the vCPU that holds it for it (own choice).
-use Rattle.std.specs.Prelude.{◌≡◌, ◌≢◌, ◌⊎◌, ℕ, ◌++◌, IsTrue, List, [], ◌∷◌, Some, None}
+use Rattle.std.specs.Prelude.{◌≡◌, ◌≢◌, ◌⊎◌, ℕ, ◌++◌, true, IsTrue, List, [], ◌∷◌, Some, None}
 use Rattle.floor_core.specs.Words.{Key, irq_of}
 use Rattle.floor_core.specs.Calls.{Touch as TouchEvent, Touching}
-use Rattle.floor_core.specs.Core.{Made, Look, Touch, Want, Kick, Irq, without_vcpu, Seen, Adds, AddsStep, part_events, shape_of, found_record, IsIrqWord}
+use Rattle.floor_core.specs.Core.{Made, Look, Touch, Want, Kick, Irq, without_vcpu, Seen, Adds, AddsStep, part_events, shape_of, found_record, IsIrqWord, changes_lpi, has_all_shut}
 use Rattle.port_call.specs.declared.touching.Missed.{Missed}
 use Rattle.port_call.specs.declared.touching.Missed.TheVariants.{Held, Changed}
 use Rattle.port_call.specs.About.{are_about, IsNamedPiece, IsTry}
 use Rattle.port_call.specs.Piece.{steps_of, takes_none}
 use Rattle.port_call.specs.Rest.{IsAtEase, StaysAtEase}
+
+-- a touch of this kind may be made: one that changes an LPI while the actor knows all translation lines to be shut
+abbrev pub MayChange : Seen → Touching → Type 0
+MayChange seen kind = changes_lpi kind ≡ true → IsTrue (has_all_shut seen.local)
 
 -- a look found the interrupt's word so
 pub record LooksOnly (key : Key) (word : ℕ) (tried : List Made) : Type 0 where

@@ -63,12 +63,12 @@ abbrev pub TriesTurn : Seen → Seen → Bool → Type 0
 TriesTurn old new true = TakesTurn old new
 TriesTurn old new false = Misses old new
 
--- an actor gave the ITS back
+-- an actor gave the ITS back, and knows no translation line to be shut any more
 pub record GivesTurn (old new : Seen) : Type 0 where
   pub last : Made
   pub adds : Adds old new (last ∷ [])
   pub last_is : last.step ≡ TurnRelease
-  pub local_is : new.local ≡ record old.local { turn = false }
+  pub local_is : new.local ≡ record old.local { turn = false; shut = 0 }
   pub none_taken : IsTrue (takes_none (last ∷ []))
   pub events : part_events old (last ∷ []) ≡ (record { event = ItsEnd; found = Nothing }) ∷ []
   pub piece : IsPiece old (last ∷ [])

@@ -4,7 +4,7 @@ ghost use Rattle.floor_core.specs.Calls.{Touching, CanTouch};
 ghost use Rattle.floor_core.specs.Words.{IsWord, irq_of, has_interrupt};
 ghost use Rattle.floor_core.specs.Core.{shape_of, owes_no_mark};
 ghost use Rattle.port_call.specs.Rest.{IsAtEase};
-ghost use Rattle.port_call.specs.Touch.{FindsHome, HasFoundHome, MissesHome, MissesTouch, Touches, TouchesHome};
+ghost use Rattle.port_call.specs.Touch.{FindsHome, HasFoundHome, MissesHome, MayChange, MissesTouch, Touches, TouchesHome};
 ghost use Rattle.port_call.specs.Touch.{Asks};
 
 use crate::send::settle;
@@ -60,10 +60,12 @@ pub fn look_home<P: Port>(port: &mut P, key: Key) -> Result<u64, Missed>
 
 /// Touches an interrupt that the actor just looked at, with the word that it found without a holder. Held exactly where a vCPU
 /// holds it by now: it is asked for it then. Changed exactly where its word is another one without a holder. The marks and kicks
-/// that are owed for a touch are sent before it returns. It takes no memory.
+/// that are owed for a touch are sent before it returns. It changes an LPI only while the actor knows all translation lines
+/// to be shut. It takes no memory.
 pub fn touch_seen<P: Port>(port: &mut P, key: Key, seen: u64, kind: Touching) -> Result<(), Missed>
     requires can { CanTouch (shape_of (P.seen port.old)) key kind }
     requires looked { HasFoundHome (P.seen port.old) key seen }
+    requires lines { MayChange (P.seen port.old) kind }
     ensures touched { OnOk result (TouchesHome (P.seen port.old) (P.seen port.new) key kind seen) }
     ensures missed { IfErr result (λ missed. MissesHome (P.seen port.old) (P.seen port.new) key kind seen missed) }
 {
@@ -85,11 +87,12 @@ pub fn touch_seen<P: Port>(port: &mut P, key: Key, seen: u64, kind: Touching) ->
 /// nobody holds it, with the word that was looked at. Held exactly where the last of these two found that a vCPU holds it;
 /// the vCPU is asked for it then. Changed exactly where the touch found a word without a holder that differs from the one
 /// that was looked at. Nothing of the interrupt changed then, but that an access waits for it after Held. The marks and kicks
-/// that are owed for a touch are sent before it returns. The actor owes nothing, and has nothing at its interface. It
-/// takes no memory.
+/// that are owed for a touch are sent before it returns. The actor owes nothing, and has nothing at its interface, and it
+/// changes an LPI only while it knows all translation lines to be shut. It takes no memory.
 pub fn try_touch<P: Port>(port: &mut P, key: Key, kind: Touching) -> Result<u64, Missed>
     requires can { CanTouch (shape_of (P.seen port.old)) key kind }
     requires ease { IsAtEase (P.seen port.old).local }
+    requires lines { MayChange (P.seen port.old) kind }
     ensures touched { IfOk result (λ found. Touches (P.seen port.old) (P.seen port.new) key kind found) }
     ensures missed { IfErr result (λ missed. MissesTouch (P.seen port.old) (P.seen port.new) key kind missed) }
 {
@@ -99,10 +102,12 @@ pub fn try_touch<P: Port>(port: &mut P, key: Key, kind: Touching) -> Result<u64,
 }
 
 /// Touches an interrupt of the guest, and answers the word that it found: it tries until nobody holds it, and asks who does
-/// for it. The actor owes nothing, and has nothing at its interface.
+/// for it. The actor owes nothing, and has nothing at its interface, and it changes an LPI only while it knows all
+/// translation lines to be shut.
 pub fn touch<P: Port, R: Wait>(rt: &R, port: &mut P, key: Key, kind: Touching) -> u64
     requires can { CanTouch (shape_of (P.seen port.old)) key kind }
     requires ease { IsAtEase (P.seen port.old).local }
+    requires lines { MayChange (P.seen port.old) kind }
     ensures { Touches (P.seen port.old) (P.seen port.new) key kind result }
 {
     for _ in rt.forever() {

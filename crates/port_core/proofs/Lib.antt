@@ -7,6 +7,7 @@ pub mod AccessLemmas
 pub mod SeatLemmas
 pub mod AdvanceLemmas
 pub mod AtomicLemmas
+pub mod LineLemmas
 pub mod PlaceLemmas
 pub mod FrameLemmas
 pub mod StepWords
@@ -18,6 +19,7 @@ pub mod StepMade
 pub mod StepCauses
 pub mod StepMoves
 pub mod StepShared
+pub mod StepLines
 pub mod StepMaps
 pub mod StepLemmas
 pub mod RunLemmas

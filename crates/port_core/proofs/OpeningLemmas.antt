@@ -1,5 +1,5 @@
 -- A guest that can open opens with valid words and actors.
-use Rattle.std.proofs.Common.{◌≡◌, ℕ, ◌<◌, ◌^◌, ◌||◌, inl, inr, true, false, is_none, IsTrue, Some, None, length, refl, sym, ap, subst, ◌∙◌, arith}
+use Rattle.std.proofs.Common.{◌≡◌, ℕ, ◌<◌, ◌^◌, ◌||◌, inl, inr, true, false, is_none, IsTrue, Some, None, length, lit<, refl, sym, ap, subst, ◌∙◌, arith}
 use Rattle.std.specs.Option.{option_map_or}
 use Rattle.std.proofs.lemmas.Bool.{cases_lt, ltb-true}
 use Rattle.std.proofs.lemmas.List.{get_or-replicate, get_or_past}
@@ -16,8 +16,8 @@ use Rattle.ideal_guest.specs.declared.guest.IdealGuest.{IdealGuest}
 use Rattle.ideal_guest.proofs.OpeningLemmas.{cpu_opening}
 use Rattle.port_core.specs.declared.words.CtlrWord.{CtlrWord}
 use Rattle.port_core.specs.declared.word_id.WordId.{WordId}
-use Rattle.port_core.specs.declared.word_id.WordId.TheVariants.{Irq, Vcpu, Index, Queue, Ctlr, Plain}
-use Rattle.port_core.specs.Forms.{packed_ctlr, ctlr_of, is_ctlr_word}
+use Rattle.port_core.specs.declared.word_id.WordId.TheVariants.{Irq, Vcpu, Index, Queue, Ctlr, Plain, Line}
+use Rattle.port_core.specs.Forms.{packed_ctlr, ctlr_of, is_ctlr_word, empty_line}
 use Rattle.port_core.specs.Known.{known_maps}
 use Rattle.port_core.specs.Laws.{OpeningIsSound}
 use Rattle.port_core.specs.Place.{has_word, word_count, place_of_word}
@@ -25,6 +25,7 @@ use Rattle.port_core.specs.Run.{opening, opening_word, opening_word_of, opening_
 use Rattle.port_core.specs.Actor.{actor_count}
 use Rattle.port_core.specs.Valid.{IsValid, IsIndexWord, IsLocal, Ties}
 use Rattle.port_core.proofs.IndexLemmas.{index_opens}
+use Rattle.port_core.proofs.LineLemmas.{none_inside}
 use Rattle.port_core.proofs.PlaceLemmas.{word_at_place, place_of_word_within}
 use Rattle.port_core.proofs.StepWords.{IsOwned, irq_word, vcpu_word, packed_is, queue_word, queue_back, ctlr_word, ctlr_back}
 use Rattle.port_core.proofs.StepLocals.{zero_index}
@@ -93,6 +94,7 @@ word_valid guest (Vcpu vcpu) good there = vcpu_word (record { lpis = (cpu_at gue
 word_valid guest (Index vcpu number) good there = index_opens guest vcpu number
 word_valid guest Queue good there = let is = queue_opens guest good in (is.0, λ a e. let none : None ≡ Some a = sym (ap (λ (q : QueueWord). q.turn) is.1) ∙ e in absurd (cc))
 word_valid guest Ctlr good there = let is = ctlr_opens guest in (is.0, λ a e. let none : None ≡ Some a = sym (ap (λ (c : CtlrWord). c.mark) is.1) ∙ e in absurd (cc))
+word_valid guest (Line line) good there = record { word_is = refl; lpi = λ pair e. absurd (cc); inside = pow_pos guest.shape.devices }
 word_valid guest (Plain index) good there = All-get_or (λ word. word < 2 ^ 64) guest.words index 0 (subst (λ n. index < n) (sym good.sound.words) (ltb-true index (plain_count guest.shape) there)) good.fits
 
 -- Actors.
@@ -122,6 +124,9 @@ local_valid guest number actor good =
       marks = refl;
       cands = record { each = refl; bits = λ n l. subst (IsIndexWord guest.shape n) (sym (get_or-replicate 96 n 0 0 l)) (zero_index guest.shape n) };
       device = λ e. record { at = refl; cands = refl };
+      line = λ one e. absurd (cc);
+      shut = lit< tt;
+      idle = λ e. refl;
     }
 
 ties_open : (guest : IdealGuest) (number actor : ℕ) (word : WordId) → CanOpen guest → IsTrue (has_word guest.shape word) → Ties guest.shape actor (opening_seat guest number actor).local word (opening_word_of guest word)
@@ -132,6 +137,7 @@ ties_open guest number actor Ctlr good there = ap (λ (c : CtlrWord). is_number 
 ties_open guest number actor (Vcpu vcpu) good there = tt
 ties_open guest number actor (Index vcpu word) good there = tt
 ties_open guest number actor (Plain index) good there = tt
+ties_open guest number actor (Line line) good there = none_inside guest.shape actor empty_line refl
 
 pub opens_sound : OpeningIsSound
 opens_sound guest number good =

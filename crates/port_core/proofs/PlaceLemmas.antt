@@ -5,13 +5,13 @@ use Rattle.std.proofs.lemmas.Option.{same_Some}
 use Rattle.std.proofs.Math.Nat.{div-lt_iff_lt-mul}
 use Rattle.std.proofs.lemmas.Nat.{div-mul-add, mod-mul-add, mul-add-lt}
 use Rattle.std.proofs.Math.Nat.{add-zero, mul_comm}
-use Rattle.std.proofs.lemmas.Bool.{lt-ltb, le-ltb, ne_eqb, le-leb, cond-true, cond-false, and_parts, ltb-true}
+use Rattle.std.proofs.lemmas.Bool.{lt-ltb, le-ltb, eq-eqb, ne_eqb, le-leb, cond-true, cond-false, and_parts, ltb-true}
 use Rattle.ideal_guest.specs.Words.{GuestShape, IsShape, interrupt_count, place_of}
 use Rattle.ideal_guest.specs.Calls.{plain_count}
 use Rattle.ideal_guest.proofs.GicOpen.KeyLemmas.{place_within, key_at_place}
 use Rattle.port_core.specs.declared.word_id.WordId.{WordId}
-use Rattle.port_core.specs.declared.word_id.WordId.TheVariants.{Irq, Vcpu, Index, Queue, Ctlr, Plain}
-use Rattle.port_core.specs.Place.{index_words, whole_lines, plain_from, blocks_from, block_words, block_of, word_count, has_word, place_of_word, word_in_block, word_in_blocks, word_at}
+use Rattle.port_core.specs.declared.word_id.WordId.TheVariants.{Irq, Vcpu, Index, Queue, Ctlr, Plain, Line}
+use Rattle.port_core.specs.Place.{index_words, whole_lines, plain_from, blocks_from, block_words, block_of, line_count, lines_from, word_count, has_word, place_of_word, word_in_block, word_in_blocks, word_in_lines, word_at}
 
 -- whole lines have all the words
 pub lines_hold : (n : ℕ) → n ≤ whole_lines n
@@ -19,21 +19,44 @@ lines_hold n = omega arith
 
 -- The word at a place.
 
+-- a place that is past the plain words
+past_plains : (shape : GuestShape) (p : ℕ) → blocks_from shape ≤ p → word_at shape p ≡ (if nat_lt p (lines_from shape) then word_in_blocks shape (p - blocks_from shape) else word_in_lines (p - lines_from shape))
+past_plains shape p past =
+    let hold = lines_hold (plain_from shape + plain_count shape) in
+    cond-false (nat_lt p (interrupt_count shape)) _ _ (le-ltb p (interrupt_count shape) (omega (arith, hold, past)))
+    ∙ cond-false (nat_eq p (interrupt_count shape)) _ _ (ne_eqb p (interrupt_count shape) (λ e. omega (arith, e, hold, past)))
+    ∙ cond-false (nat_eq p (interrupt_count shape + 1)) _ _ (ne_eqb p (interrupt_count shape + 1) (λ e. omega (arith, e, hold, past)))
+    ∙ cond-false (nat_lt p (plain_from shape + plain_count shape)) _ _ (le-ltb p (plain_from shape + plain_count shape) (omega (arith, hold, past)))
+    ∙ cond-false (nat_lt p (blocks_from shape)) _ _ (le-ltb p (blocks_from shape) past)
+
+-- a place in a block of a vCPU comes before the lines
+in_blocks : (shape : GuestShape) (vcpu within : ℕ) → vcpu < shape.vcpus → within < block_words shape → block_of shape vcpu + within < lines_from shape
+in_blocks shape vcpu within there h =
+    let lt = mul-add-lt vcpu (block_words shape) within shape.vcpus there h in
+    omega (arith, lt, mul_comm (block_words shape) shape.vcpus)
+
 -- a place among the blocks
-at_blocks : (shape : GuestShape) (vcpu within : ℕ) → within < block_words shape → word_at shape (block_of shape vcpu + within) ≡ word_in_block shape vcpu within
-at_blocks shape vcpu within h =
+at_blocks : (shape : GuestShape) (vcpu within : ℕ) → vcpu < shape.vcpus → within < block_words shape → word_at shape (block_of shape vcpu + within) ≡ word_in_block shape vcpu within
+at_blocks shape vcpu within there h =
     let size = block_words shape in
     let p = block_of shape vcpu + within in
-    let hold = lines_hold (plain_from shape + plain_count shape) in
     let back : p - blocks_from shape ≡ vcpu * size + within = omega arith in
-    cond-false (nat_lt p (interrupt_count shape)) _ _ (le-ltb p (interrupt_count shape) (omega (arith, hold)))
-    ∙ cond-false (nat_eq p (interrupt_count shape)) _ _ (ne_eqb p (interrupt_count shape) (λ e. omega (arith, e, hold)))
-    ∙ cond-false (nat_eq p (interrupt_count shape + 1)) _ _ (ne_eqb p (interrupt_count shape + 1) (λ e. omega (arith, e, hold)))
-    ∙ cond-false (nat_lt p (plain_from shape + plain_count shape)) _ _ (le-ltb p (plain_from shape + plain_count shape) (omega (arith, hold)))
-    ∙ cond-false (nat_lt p (blocks_from shape)) _ _ (le-ltb p (blocks_from shape) (omega arith))
+    past_plains shape p (omega arith)
+    ∙ cond-true (nat_lt p (lines_from shape)) _ _ (lt-ltb p (lines_from shape) (in_blocks shape vcpu within there h))
     ∙ ap (word_in_blocks shape) back
     ∙ ap (λ v. word_in_block shape v ((vcpu * size + within) % size)) (div-mul-add vcpu size within h)
     ∙ ap (word_in_block shape vcpu) (mod-mul-add vcpu size within h)
+
+-- a place among the lines
+at_lines : (shape : GuestShape) (line : ℕ) → word_at shape (lines_from shape + line * 8) ≡ Some (Line line)
+at_lines shape line =
+    let p = lines_from shape + line * 8 in
+    let back : p - lines_from shape ≡ line * 8 = omega arith in
+    past_plains shape p (omega arith)
+    ∙ cond-false (nat_lt p (lines_from shape)) _ _ (le-ltb p (lines_from shape) (omega arith))
+    ∙ ap word_in_lines back
+    ∙ cond-true (nat_eq (line * 8 % 8) 0) _ _ (eq-eqb (line * 8 % 8) 0 (omega arith))
+    ∙ ap (λ n. Some (Line n)) (omega arith)
 
 -- a word of an index in its vCPU's block
 index_there : (shape : GuestShape) (vcpu word : ℕ) → word < index_words shape → word_in_block shape vcpu (1 + word) ≡ Some (Index vcpu word)
@@ -48,18 +71,14 @@ word_at_place shape (Irq key) is there =
 word_at_place shape Queue is there = grind (arith, common_steps)
 word_at_place shape Ctlr is there = grind (arith, common_steps)
 word_at_place shape (Plain index) is there = grind (arith, common_steps)
-word_at_place shape (Vcpu vcpu) is there = ap (word_at shape) (sym (add-zero (block_of shape vcpu))) ∙ at_blocks shape vcpu 0 (omega (arith, lines_hold (1 + index_words shape)))
+word_at_place shape (Vcpu vcpu) is there = ap (word_at shape) (sym (add-zero (block_of shape vcpu))) ∙ at_blocks shape vcpu 0 (ltb-true vcpu shape.vcpus there) (omega (arith, lines_hold (1 + index_words shape)))
 word_at_place shape (Index vcpu word) is there =
-    let small : word < index_words shape = ltb-true word (index_words shape) (and_parts (nat_lt vcpu shape.vcpus) (nat_lt word (index_words shape)) there).1 in
-    at_blocks shape vcpu (1 + word) (omega (arith, small, lines_hold (1 + index_words shape))) ∙ index_there shape vcpu word small
+    let both = and_parts (nat_lt vcpu shape.vcpus) (nat_lt word (index_words shape)) there in
+    let small : word < index_words shape = ltb-true word (index_words shape) both.1 in
+    at_blocks shape vcpu (1 + word) (ltb-true vcpu shape.vcpus both.0) (omega (arith, small, lines_hold (1 + index_words shape))) ∙ index_there shape vcpu word small
+word_at_place shape (Line line) is there = at_lines shape line
 
 -- A word that is there has a place below the number of places.
-
--- a place in a block of a vCPU
-in_blocks : (shape : GuestShape) (vcpu within : ℕ) → vcpu < shape.vcpus → within < block_words shape → block_of shape vcpu + within < word_count shape
-in_blocks shape vcpu within there h =
-    let lt = mul-add-lt vcpu (block_words shape) within shape.vcpus there h in
-    omega (arith, lt, mul_comm (block_words shape) shape.vcpus)
 
 before_blocks : (shape : GuestShape) (place : ℕ) → place < plain_from shape + plain_count shape → place < word_count shape
 before_blocks shape place h = let hold = lines_hold (plain_from shape + plain_count shape) in omega (arith, hold)
@@ -74,7 +93,9 @@ place_of_word_within shape (Vcpu vcpu) is there =
 place_of_word_within shape (Index vcpu word) is there =
     let both = and_parts (nat_lt vcpu shape.vcpus) (nat_lt word (index_words shape)) there in
     let small : word < index_words shape = ltb-true word (index_words shape) both.1 in
-    in_blocks shape vcpu (1 + word) (ltb-true vcpu shape.vcpus both.0) (omega (arith, small, lines_hold (1 + index_words shape)))
+    let lt = in_blocks shape vcpu (1 + word) (ltb-true vcpu shape.vcpus both.0) (omega (arith, small, lines_hold (1 + index_words shape))) in
+    omega (arith, lt)
+place_of_word_within shape (Line line) is there = let lt = ltb-true line (line_count shape) there in omega (arith, lt)
 
 -- two words at one place are one
 pub word_same : (shape : GuestShape) (v w : WordId) → IsShape shape → IsTrue (has_word shape v) → IsTrue (has_word shape w) → place_of_word shape v ≡ place_of_word shape w → v ≡ w
@@ -97,3 +118,11 @@ blocks_there shape place is within = in_block (place / block_words shape) (place
         by_zero : (b : Bool) → (inner == 0) ≡ b → IfSome (if b then Some (Vcpu vcpu) else (if nat_le inner (index_words shape) then Some (Index vcpu (inner - 1)) else None)) (λ word. IsTrue (has_word shape word))
         by_zero true z = search rules
         by_zero false z = by_index (nat_le inner (index_words shape)) refl z
+
+-- and so the word at a place among the lines
+pub lines_there : (shape : GuestShape) (place : ℕ) → place < line_count shape * 8 → IfSome (word_in_lines place) (λ word. IsTrue (has_word shape word))
+lines_there shape place within = of (place % 8 == 0)
+  where
+    of : (b : Bool) → IfSome (if b then Some (Line (place / 8)) else None) (λ word. IsTrue (has_word shape word))
+    of true = lt-ltb (place / 8) (line_count shape) (omega (arith, within))
+    of false = tt

@@ -7,7 +7,7 @@ use Rattle.port_core.specs.declared.local.Local.{Local}
 use Rattle.port_core.specs.declared.run.Made.{Made}
 use Rattle.port_core.specs.declared.step.CoreStep.TheVariants.{Look, Raise, Touch, Want, WireUp, WireDown}
 use Rattle.port_core.specs.declared.word_id.WordId.{WordId}
-use Rattle.port_core.specs.declared.word_id.WordId.TheVariants.{Irq, Vcpu, Index, Queue, Ctlr, Plain}
+use Rattle.port_core.specs.declared.word_id.WordId.TheVariants.{Irq, Vcpu, Index, Queue, Ctlr, Plain, Line}
 use Rattle.port_core.specs.After.{is_settled_by_look, holder_or_active, concerned, concerned_by}
 use Rattle.port_core.specs.Local.{settled, owing, owing_both}
 use Rattle.port_core.specs.Valid.{IsLocal, CanFind}
@@ -17,10 +17,11 @@ use Rattle.port_core.proofs.OwnLemmas.{IsTold, told_active, told_holder, told_ta
 use Rattle.port_core.proofs.StepLocals.{none_kept, settled_device, AreTold, local_owing, cands_settled}
 use Rattle.port_core.proofs.StepTies.{SameTies, none_is, keeps_word, keeps_all, keeps_irq}
 use Rattle.port_core.proofs.StepMade.{IsMade, StepKeeps, keeps_tried}
+use Rattle.port_core.proofs.StepLines.{keeps_look_line}
 
 -- an actor that owes more has what it had
 owing_ties : (kicks : List (Option ℕ)) (key : Key) (marks : List (Option ℕ)) (local : Local) → SameTies local (owing kicks key marks local)
-owing_ties kicks key marks local = record { at = λ k. refl; turn = refl; ctlr = refl }
+owing_ties kicks key marks local = record { at = λ k. refl; turn = refl; ctlr = refl; line = λ n. refl }
 
 -- those whom a cause concerns
 told_holder_or_active : (shape : GuestShape) (key : Key) (irq : IrqRecord) → IsOwned shape key irq → IsTold shape key (holder_or_active irq)
@@ -63,7 +64,7 @@ pub keeps_want : (shape : GuestShape) (actor : ℕ) (local : Local) (own : List 
 keeps_want shape actor local own key found made =
     let irq : IrqRecord = record (irq_of found) { want = true } in
     keeps_irq shape actor local local key found irq (owned_as shape key (irq_of found) irq refl refl refl refl refl refl (owned_of shape key found made.find.valid)) refl made.find.ties made.valid
-    (record { at = λ k. refl; turn = refl; ctlr = refl })
+    (record { at = λ k. refl; turn = refl; ctlr = refl; line = λ n. refl })
 
 -- a touch tells both targets, and the vCPUs by which the interrupt is active
 pub keeps_touch : (shape : GuestShape) (actor : ℕ) (local : Local) (own : List Made) (key : Key) (seen : ℕ) (kind : Touching) (found : ℕ) → IsMade shape actor local own (Touch key seen kind) found → StepKeeps shape actor local (Touch key seen kind) found
@@ -94,10 +95,11 @@ keeps_look shape actor local own (Irq key) found made = of (is_settled_by_look s
     of true =
         let is = made.valid in
         keeps_word shape actor local (record local { cands = settled shape actor key local.cands }) (Irq key) found made.find
-        (record { points = is.points; levels = is.levels; at = is.at; once = is.once; room = is.room; owes = is.owes; marks_are = is.marks_are; marks = is.marks; cands = cands_settled shape actor key local.cands is.cands; device = λ e. none_kept local (record local { cands = settled shape actor key local.cands }) refl (settled_device shape actor key local.cands e) (is.device e) })
-        (record { at = λ k. refl; turn = refl; ctlr = refl })
+        (record { points = is.points; levels = is.levels; at = is.at; once = is.once; room = is.room; owes = is.owes; marks_are = is.marks_are; marks = is.marks; cands = cands_settled shape actor key local.cands is.cands; line = is.line; shut = is.shut; idle = is.idle; device = λ e. none_kept local (record local { cands = settled shape actor key local.cands }) refl (settled_device shape actor key local.cands e) (is.device e) })
+        (record { at = λ k. refl; turn = refl; ctlr = refl; line = λ n. refl })
 keeps_look shape actor local own Queue found made = keeps_all shape actor local Queue found made.find made.valid
 keeps_look shape actor local own Ctlr found made = keeps_all shape actor local Ctlr found made.find made.valid
 keeps_look shape actor local own (Vcpu vcpu) found made = keeps_all shape actor local (Vcpu vcpu) found made.find made.valid
 keeps_look shape actor local own (Index vcpu number) found made = keeps_all shape actor local (Index vcpu number) found made.find made.valid
 keeps_look shape actor local own (Plain index) found made = keeps_all shape actor local (Plain index) found made.find made.valid
+keeps_look shape actor local own (Line number) found made = keeps_look_line shape actor local own number found made

@@ -1,5 +1,5 @@
 -- Each step keeps words and actors valid, and so does each run.
-use Rattle.std.proofs.Common.{◌≡◌, is_some, IfSome, ap, ◌∙◌, ◌&&◌, ◌∙◌, ℕ, nat_lt, Bool, true, false, cond, Option, Some, None, IsTrue, List, [], ◌∷◌, ◌++◌, ◌/◌, refl, sym, subst, arith}
+use Rattle.std.proofs.Common.{◌≡◌, is_some, IfSome, ap, ◌∙◌, ◌&&◌, ◌∙◌, ℕ, nat_lt, not, Bool, true, false, cond, Option, Some, None, IsTrue, List, [], ◌∷◌, ◌++◌, ◌/◌, refl, sym, subst, arith}
 use Rattle.std.proofs.lemmas.Bool.{and_parts, and_from, lt-ltb}
 use Rattle.ideal_guest.specs.Words.{GuestShape, IsShape, has_interrupt, is_of_vcpu}
 use Rattle.ideal_guest.specs.Calls.{plain_count, has_wire}
@@ -8,7 +8,8 @@ use Rattle.port_core.specs.declared.local.Local.{Local}
 use Rattle.port_core.specs.declared.run.Entry.{Entry}
 use Rattle.port_core.specs.declared.run.Made.{Made}
 use Rattle.port_core.specs.declared.step.CoreStep.{CoreStep}
-use Rattle.port_core.specs.declared.step.CoreStep.TheVariants.{Look, Raise, Claim, GiveBack, Release, Poll, Kick, Touch, Want, WireUp, WireDown, EnableLpis, RamLook, RamPut, CtlrTake, CtlrEnd, TurnTake, CommandDone, TurnRelease, Mark, TakeIndex}
+use Rattle.port_core.specs.declared.step.CoreStep.TheVariants.{Look, Raise, Claim, GiveBack, Release, Poll, Kick, Touch, Want, WireUp, WireDown, EnableLpis, RamLook, RamPut, CtlrTake, CtlrEnd, TurnTake, CommandDone, TurnRelease, Mark, TakeIndex, LineEnter, LineLeave, LineFill, LineClose}
+use Rattle.port_core.specs.declared.word_id.WordId.TheVariants.{Line}
 use Rattle.port_core.specs.After.{local_after}
 use Rattle.port_core.specs.Effect.{succeeds}
 use Rattle.port_core.specs.Known.{maps_by_step}
@@ -24,6 +25,7 @@ use Rattle.port_core.proofs.StepMade.{IsMade, StepKeeps, all_three}
 use Rattle.port_core.proofs.StepCauses.{keeps_look, keeps_raise, keeps_touch, keeps_want, keeps_wire_up, keeps_wire_down}
 use Rattle.port_core.proofs.StepMoves.{keeps_claim, keeps_give_back, keeps_release}
 use Rattle.port_core.proofs.StepMaps.{keeps_maps}
+use Rattle.port_core.proofs.StepLines.{keeps_line_enter, keeps_line_leave, keeps_line_fill, keeps_line_close}
 use Rattle.port_core.proofs.StepShared.{keeps_poll, keeps_kick, keeps_enable, keeps_ram_look, keeps_ram_put, keeps_ctlr_take, keeps_ctlr_end, keeps_turn_take, keeps_command_done, keeps_turn_release, keeps_mark, keeps_take_index}
 
 -- each kind of step keeps its word and its actor valid
@@ -49,6 +51,10 @@ step_keeps shape actor local own (CommandDone offset stalled ending) found made 
 step_keeps shape actor local own TurnRelease found made = keeps_turn_release shape actor local own found made
 step_keeps shape actor local own (Mark key vcpu) found made = keeps_mark shape actor local own key vcpu found made
 step_keeps shape actor local own (TakeIndex word) found made = keeps_take_index shape actor local own word found made
+step_keeps shape actor local own (LineEnter line seen) found made = keeps_line_enter shape actor local own line seen found made
+step_keeps shape actor local own (LineLeave line) found made = keeps_line_leave shape actor local own line found made
+step_keeps shape actor local own (LineFill line device event lpi) found made = keeps_line_fill shape actor local own line device event lpi found made
+step_keeps shape actor local own (LineClose line) found made = keeps_line_close shape actor local own line found made
 
 -- the word of a step is there
 pub word_there : (shape : GuestShape) (actor : ℕ) (step : CoreStep) → IsShape shape → CanStep shape actor step → IsTrue (has_word shape (word_of shape actor step))
@@ -76,6 +82,10 @@ word_there shape actor (Mark key vcpu) is can =
     let bit = bit_there shape key is parts.2 in
     and_from (nat_lt vcpu shape.vcpus) (nat_lt (index_bit shape key / 64) (index_words shape)) parts.0 (lt-ltb (index_bit shape key / 64) (index_words shape) (omega (arith, bit)))
 word_there shape actor (TakeIndex word) is can = can
+word_there shape actor (LineEnter line seen) is can = (and_parts (not (is_vcpu shape actor)) (has_word shape (Line line)) can).1
+word_there shape actor (LineLeave line) is can = (and_parts (not (is_vcpu shape actor)) (has_word shape (Line line)) can).1
+word_there shape actor (LineFill line device event lpi) is can = can.there
+word_there shape actor (LineClose line) is can = can
 
 -- What a step hands out.
 

@@ -85,6 +85,9 @@ local_owing shape actor kicks key marks local there kicked marked is =
       marks_are = with_all_within shape key no_vcpus marks (pow_pos shape.vcpus) marked;
       marks = (there, with_all_own shape key no_vcpus marks (λ v l h. absurd (no_bit v h)) marked);
       cands = is.cands;
+      line = is.line;
+      shut = is.shut;
+      idle = is.idle;
       device = λ e. none_kept local (owing kicks key marks local) refl refl (is.device e);
     }
 

@@ -1,5 +1,5 @@
 -- Each step keeps the maps of the ITS valid, and known to the actor that has the ITS.
-use Rattle.std.proofs.Common.{◌≡◌, ◌≢◌, ℕ, ◌<◌, Bool, true, false, cond, ◌⊎◌, inl, inr, IsTrue, List, [], ◌∷◌, ◌++◌, Option, Some, None, Result, Ok, Err, option_map, unwrap_or, refl, sym, ap, subst, ◌∙◌}
+use Rattle.std.proofs.Common.{◌≡◌, ◌≢◌, ℕ, ◌<◌, ◌==◌, ◌&&◌, Bool, true, false, cond, ◌⊎◌, inl, inr, IsTrue, List, [], ◌∷◌, ◌++◌, Option, Some, None, Result, Ok, Err, option_map, unwrap_or, refl, sym, ap, subst, ◌∙◌}
 use Rattle.std.specs.Option.{option_map_or}
 use Rattle.std.proofs.lemmas.Grind.{fold-append}
 use Rattle.std.proofs.lemmas.Option.{same_Some}
@@ -14,15 +14,15 @@ use Rattle.port_core.specs.declared.local.Phase.TheVariants.{Folding}
 use Rattle.port_core.specs.declared.run.Entry.{Entry}
 use Rattle.port_core.specs.declared.run.Made.{Made}
 use Rattle.port_core.specs.declared.step.CoreStep.{CoreStep}
-use Rattle.port_core.specs.declared.step.CoreStep.TheVariants.{Look, Raise, Claim, GiveBack, Release, Poll, Kick, Touch, Want, WireUp, WireDown, EnableLpis, RamLook, RamPut, CtlrTake, CtlrEnd, TurnTake, CommandDone, TurnRelease, Mark, TakeIndex}
-use Rattle.port_core.specs.declared.word_id.WordId.TheVariants.{Irq, Vcpu, Index, Queue, Ctlr, Plain}
+use Rattle.port_core.specs.declared.step.CoreStep.TheVariants.{Look, Raise, Claim, GiveBack, Release, Poll, Kick, Touch, Want, WireUp, WireDown, EnableLpis, RamLook, RamPut, CtlrTake, CtlrEnd, TurnTake, CommandDone, TurnRelease, Mark, TakeIndex, LineEnter, LineLeave, LineFill, LineClose}
+use Rattle.port_core.specs.declared.word_id.WordId.TheVariants.{Irq, Vcpu, Index, Queue, Ctlr, Plain, Line}
 use Rattle.port_core.specs.After.{is_settled_by_look, accessed, local_done, local_after}
 use Rattle.port_core.specs.Condition.{EndsCommand, IsQueueStep, Meets}
 use Rattle.port_core.specs.Effect.{succeeds}
-use Rattle.port_core.specs.Forms.{vcpu_of}
+use Rattle.port_core.specs.Forms.{vcpu_of, line_of, is_empty_line}
 use Rattle.port_core.specs.Port.{keeps_tables}
 use Rattle.port_core.specs.Known.{no_maps, maps_by_step, maps_after, known_maps, known_view}
-use Rattle.port_core.specs.Local.{settled}
+use Rattle.port_core.specs.Local.{settled, with_shut}
 use Rattle.port_core.specs.Run.{CoreState, Takes, IsSound, seat_at, word_in, is_taking}
 use Rattle.port_core.specs.Actor.{actor_count}
 use Rattle.port_core.proofs.FrameLemmas.{KeepsMaps}
@@ -43,6 +43,7 @@ turn_same shape actor local (Look Ctlr) found e h = refl
 turn_same shape actor local (Look (Vcpu vcpu)) found e h = refl
 turn_same shape actor local (Look (Index vcpu word)) found e h = refl
 turn_same shape actor local (Look (Plain index)) found e h = refl
+turn_same shape actor local (Look (Line number)) found e h = turn_kept (local.turn && is_empty_line (line_of found)) (with_shut number local) local refl
 turn_same shape actor local (Raise key) found e h = refl
 turn_same shape actor local (Claim key seen) found e h = turn_kept (succeeds shape actor local (Claim key seen) found) (local_done shape actor local (Claim key seen) found) local refl
 turn_same shape actor local (GiveBack key back) found e h = refl
@@ -64,6 +65,11 @@ turn_same shape actor local (CommandDone offset stalled ending) found e h = refl
 turn_same shape actor local TurnRelease found e h = absurd (cc)
 turn_same shape actor local (Mark key vcpu) found e h = refl
 turn_same shape actor local (TakeIndex word) found e h = refl
+turn_same shape actor local (LineEnter line seen) found e h = turn_kept (succeeds shape actor local (LineEnter line seen) found) (local_done shape actor local (LineEnter line seen) found) local refl
+turn_same shape actor local (LineLeave line) found e h = refl
+turn_same shape actor local (LineFill line device event lpi) found e h =
+    turn_kept (succeeds shape actor local (LineFill line device event lpi) found) (local_done shape actor local (LineFill line device event lpi) found) local refl
+turn_same shape actor local (LineClose line) found e h = turn_kept ((line_of found).inside == 0) (with_shut line local) local refl
 
 turn_after : (shape : GuestShape) (actor : ℕ) (local : Local) (step : CoreStep) (found : ℕ) → is_taking step ≡ false → IsTrue (local_after shape actor local step found).turn → IsTrue local.turn
 turn_after shape actor local TurnRelease found e h = absurd (cc)

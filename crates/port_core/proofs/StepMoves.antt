@@ -94,26 +94,28 @@ claim_keeps shape key actor local found moved vcpu there own may is ties made tr
     (λ same. record { there = h.there; own = h.own; entry = subst (λ k. IsEntryOf k moved.entry) (sym (same_key entry.key key same)) made.entry }) h)
     (at_of shape actor local is) in
     keeps_moved shape actor local (record local { cands = settled shape actor key local.cands; at = map each local.at }) key found moved.irq made.owned
-    (record { points = is.points; levels = is.levels; at = at.each; once = at.once; room = at.room; owes = is.owes; marks_are = is.marks_are; marks = is.marks; cands = cands_settled shape actor key local.cands is.cands; device = vcpu_only shape actor _ vcpu })
+    (record { points = is.points; levels = is.levels; at = at.each; once = at.once; room = at.room; owes = is.owes; marks_are = is.marks_are; marks = is.marks; cands = cands_settled shape actor key local.cands is.cands; line = is.line; shut = is.shut; idle = is.idle; device = vcpu_only shape actor _ vcpu })
     (record {
       here = ap (is_number actor) made.held ∙ number_self actor ∙ sym e ∙ sym (is_at_mapped each keeps key local.at);
       others = λ other differ. ap (is_number other) made.held ∙ number_other other actor differ ∙ sym (made.others other differ);
       at = λ other differ. is_at_mapped each keeps other local.at;
       turn = refl;
       ctlr = refl;
+      line = λ n. refl;
     })
 claim_keeps shape key actor local found moved vcpu there own may is ties made false e =
     let entry : AtIrq = arrived key (irq_of found) moved.entry in
     let room : length local.at < 16 = ltb-true (length local.at) 16 (room_of (entry_for key local.at) (nat_lt (length local.at) 16) e may) in
     let at = are_added shape actor local.at entry (record { there = there; own = own; entry = made.entry }) e room (at_of shape actor local is) in
     keeps_moved shape actor local (record local { cands = settled shape actor key local.cands; at = local.at ++ entry ∷ [] }) key found moved.irq made.owned
-    (record { points = is.points; levels = is.levels; at = at.each; once = at.once; room = at.room; owes = is.owes; marks_are = is.marks_are; marks = is.marks; cands = cands_settled shape actor key local.cands is.cands; device = vcpu_only shape actor _ vcpu })
+    (record { points = is.points; levels = is.levels; at = at.each; once = at.once; room = at.room; owes = is.owes; marks_are = is.marks_are; marks = is.marks; cands = cands_settled shape actor key local.cands is.cands; line = is.line; shut = is.shut; idle = is.idle; device = vcpu_only shape actor _ vcpu })
     (record {
       here = ap (is_number actor) made.held ∙ number_self actor ∙ sym (is_at_added key local.at entry ∙ ap (λ b. b || is_same_key key key) e ∙ same_itself key);
       others = λ other differ. ap (is_number other) made.held ∙ number_other other actor differ ∙ sym (made.others other differ);
       at = λ other differ. is_at_added other local.at entry ∙ ap (λ b. is_at other local.at || b) (other_key key other (λ f. differ (sym f))) ∙ or_false (is_at other local.at);
       turn = refl;
       ctlr = refl;
+      line = λ n. refl;
     })
   where
     or_false : (b : Bool) → (b || false) ≡ b
@@ -148,8 +150,8 @@ keeps_give_back shape actor local own key back found made =
     (λ one h. at_kept shape actor (is_same_key one.key key) (record one { given = true }) one (λ same. record { there = h.there; own = h.own; entry = h.entry }) h) (at_of shape actor local is) in
     keeps_irq shape actor local (record local { at = map each local.at; phase = Folding }) key found (given_back actor back (irq_of found))
     (owned_given shape key actor back (irq_of found) made.good told kind held (owned_of shape key found made.find.valid)) refl made.find.ties
-    (record { points = is.points; levels = is.levels; at = at.each; once = at.once; room = at.room; owes = is.owes; marks_are = is.marks_are; marks = is.marks; cands = is.cands; device = vcpu_only shape actor _ can.0 })
-    (record { at = λ k. is_at_mapped each keeps k local.at; turn = refl; ctlr = refl })
+    (record { points = is.points; levels = is.levels; at = at.each; once = at.once; room = at.room; owes = is.owes; marks_are = is.marks_are; marks = is.marks; cands = is.cands; line = is.line; shut = is.shut; idle = is.idle; device = vcpu_only shape actor _ can.0 })
+    (record { at = λ k. is_at_mapped each keeps k local.at; turn = refl; ctlr = refl; line = λ n. refl })
 
 -- Releases.
 
@@ -182,7 +184,7 @@ keeps_release shape actor local own key found made =
     let at = are_without shape actor local.at key (at_of shape actor local is) in
     let left : Local = record local { at = without_at key local.at } in
     let valid : IsLocal shape actor left =
-    record { points = is.points; levels = is.levels; at = at.each; once = at.once; room = at.room; owes = is.owes; marks_are = is.marks_are; marks = is.marks; cands = is.cands; device = vcpu_only shape actor _ can.0 } in
+    record { points = is.points; levels = is.levels; at = at.each; once = at.once; room = at.room; owes = is.owes; marks_are = is.marks_are; marks = is.marks; cands = is.cands; line = is.line; shut = is.shut; idle = is.idle; device = vcpu_only shape actor _ can.0 } in
     keeps_moved shape actor local (release_at shape actor key irq active local) key found (released active irq) (owned_released shape key active irq made.good owned)
     (local_owing shape actor (told_of_release shape actor active irq) key (marked_of_release shape actor active irq) left can.1 (told_release shape key actor active irq can.1 owned) (marked_release shape key actor active irq can.1 told owned) valid)
     (record {
@@ -191,4 +193,5 @@ keeps_release shape actor local own key found made =
       at = λ other differ. is_at_without key other local.at differ;
       turn = refl;
       ctlr = refl;
+      line = λ n. refl;
     })

@@ -1,5 +1,5 @@
 -- Steps on the words that are no interrupt's: a vCPU's, its index, the queue's, GICD_CTLR's and the plain words.
-use Rattle.std.proofs.Common.{◌≡◌, ℕ, ◌/◌, ◌%◌, ◌^◌, ◌<◌, ◌==◌, Bool, true, false, cond, nat_lt, is_none, List, bit_or, Option, Some, None, refl, sym, ap, subst, ◌∙◌}
+use Rattle.std.proofs.Common.{◌≡◌, ℕ, ◌/◌, ◌%◌, ◌^◌, ◌<◌, ◌==◌, Bool, true, false, cond, nat_lt, is_none, List, bit_or, Option, Some, None, lit<, refl, sym, ap, subst, ◌∙◌}
 use Rattle.std.proofs.Math.Bool.{not-or_self}
 use Rattle.std.proofs.lemmas.Bool.{and_parts}
 use Rattle.std.specs.Int.{bit_not, w32}
@@ -65,16 +65,19 @@ keeps_poll shape actor local own None write found made =
       marks_are = is.marks_are;
       marks = is.marks;
       cands = is.cands;
+      line = is.line;
+      shut = is.shut;
+      idle = is.idle;
       device = vcpu_only shape actor _ (and_parts (is_vcpu shape actor) (is_poll None write) made.can).0;
     })
-    (record { at = λ k. refl; turn = refl; ctlr = refl })
+    (record { at = λ k. refl; turn = refl; ctlr = refl; line = λ n. refl })
 keeps_poll shape actor local own (Some reg) write found made = of (vcpu_of found).kick
   where
     of : (b : Bool) → Keeps shape actor local (cond b (record local { phase = Folding }) (accessed reg write local)) (Vcpu actor) found (packed_vcpu (record (vcpu_of found) { kick = false }))
     of true =
         let is = made.valid in
         keeps_vcpu shape actor local (record local { phase = Folding }) actor found (record (vcpu_of found) { kick = false })
-        (record { points = is.points; levels = is.levels; at = is.at; once = is.once; room = is.room; owes = is.owes; marks_are = is.marks_are; marks = is.marks; cands = is.cands; device = vcpu_only shape actor _ (and_parts (is_vcpu shape actor) (is_poll (Some reg) write) made.can).0 }) (record { at = λ k. refl; turn = refl; ctlr = refl })
+        (record { points = is.points; levels = is.levels; at = is.at; once = is.once; room = is.room; owes = is.owes; marks_are = is.marks_are; marks = is.marks; cands = is.cands; line = is.line; shut = is.shut; idle = is.idle; device = vcpu_only shape actor _ (and_parts (is_vcpu shape actor) (is_poll (Some reg) write) made.can).0 }) (record { at = λ k. refl; turn = refl; ctlr = refl; line = λ n. refl })
     of false =
         let is = made.valid in
         let among = candidates_at (interface_of local) in
@@ -92,9 +95,12 @@ keeps_poll shape actor local own (Some reg) write found made = of (vcpu_of found
           marks_are = is.marks_are;
           marks = is.marks;
           cands = is.cands;
+          line = is.line;
+          shut = is.shut;
+          idle = is.idle;
           device = vcpu_only shape actor _ (and_parts (is_vcpu shape actor) (is_poll (Some reg) write) made.can).0;
         })
-        (record { at = λ k. second.1 k ∙ first.1 k; turn = refl; ctlr = refl })
+        (record { at = λ k. second.1 k ∙ first.1 k; turn = refl; ctlr = refl; line = λ n. refl })
 
 pub keeps_kick : (shape : GuestShape) (actor : ℕ) (local : Local) (own : List Made) (vcpu found : ℕ) → IsMade shape actor local own (Kick vcpu) found → StepKeeps shape actor local (Kick vcpu) found
 keeps_kick shape actor local own vcpu found made =
@@ -110,12 +116,15 @@ keeps_kick shape actor local own vcpu found made =
       marks_are = is.marks_are;
       marks = is.marks;
       cands = is.cands;
+      line = is.line;
+      shut = is.shut;
+      idle = is.idle;
       device = λ e. none_kept local (record local { owes = without_vcpu local.owes vcpu }) refl refl (is.device e);
     })
-    (record { at = λ k. refl; turn = refl; ctlr = refl })
+    (record { at = λ k. refl; turn = refl; ctlr = refl; line = λ n. refl })
 
 pub keeps_enable : (shape : GuestShape) (actor : ℕ) (local : Local) (own : List Made) (vcpu found : ℕ) → IsMade shape actor local own (EnableLpis vcpu) found → StepKeeps shape actor local (EnableLpis vcpu) found
-keeps_enable shape actor local own vcpu found made = keeps_vcpu shape actor local local vcpu found (record { lpis = true; kick = true }) made.valid (record { at = λ k. refl; turn = refl; ctlr = refl })
+keeps_enable shape actor local own vcpu found made = keeps_vcpu shape actor local local vcpu found (record { lpis = true; kick = true }) made.valid (record { at = λ k. refl; turn = refl; ctlr = refl; line = λ n. refl })
 
 -- The words of an index.
 
@@ -136,9 +145,12 @@ keeps_mark shape actor local own key vcpu found made =
       marks_are = owed.0;
       marks = owed.1;
       cands = of (vcpu == actor);
+      line = is.line;
+      shut = is.shut;
+      idle = is.idle;
       device = λ e. none_kept local (marked shape actor key vcpu local) refl (same e (vcpu == actor)) (is.device e);
     })
-    (record { at = λ k. refl; turn = refl; ctlr = refl })
+    (record { at = λ k. refl; turn = refl; ctlr = refl; line = λ n. refl })
   where
     of : (b : Bool) → AreCands shape (cond b (settled shape actor key local.cands) local.cands).words
     of true = cands_settled shape actor key local.cands made.valid.cands
@@ -162,9 +174,12 @@ keeps_take_index shape actor local own word found made =
       marks_are = is.marks_are;
       marks = is.marks;
       cands = cands_taken shape local.cands word found made.find.valid is.cands;
+      line = is.line;
+      shut = is.shut;
+      idle = is.idle;
       device = vcpu_only shape actor _ (and_parts (is_vcpu shape actor) (nat_lt word (index_words shape)) made.can).0;
     })
-    (record { at = λ k. refl; turn = refl; ctlr = refl })
+    (record { at = λ k. refl; turn = refl; ctlr = refl; line = λ n. refl })
 
 -- The plain words.
 
@@ -188,7 +203,7 @@ keeps_turn_take shape actor local own seen found made =
     (λ h.
     let free : (queue_of found).turn ≡ None = none_is (queue_of found).turn (and_parts (found == seen) (is_none (queue_of found).turn) h).1 in
     let is = found_queue shape actor local found made.good made.find in
-    keeps_queue shape actor local true found (record (queue_of found) { turn = Some actor }) made.good (mine shape actor made.there)
+    keeps_queue shape actor local true local.shut found (record (queue_of found) { turn = Some actor }) made.valid.shut (λ e. absurd (cc)) made.good (mine shape actor made.there)
     (record { actor = few_actors shape (Some actor) made.good (mine shape actor made.there); command = is.command; within = is.within }) (number_self actor)
     (λ other differ. number_other other actor differ ∙ sym (ap (is_number other) free)) made.valid)
   where
@@ -199,7 +214,7 @@ pub keeps_turn_release : (shape : GuestShape) (actor : ℕ) (local : Local) (own
 keeps_turn_release shape actor local own found made =
     let held : (queue_of found).turn ≡ Some actor = number_is actor (queue_of found).turn (made.find.ties ∙ made.meets) in
     let is = found_queue shape actor local found made.good made.find in
-    keeps_queue shape actor local false found (record (queue_of found) { turn = None }) made.good (λ a e. absurd (cc)) (record { actor = λ a e. absurd (cc); command = is.command; within = is.within }) refl
+    keeps_queue shape actor local false 0 found (record (queue_of found) { turn = None }) (lit< tt) (λ e. refl) made.good (λ a e. absurd (cc)) (record { actor = λ a e. absurd (cc); command = is.command; within = is.within }) refl
     (λ other differ. sym (ap (is_number other) held ∙ number_other other actor differ)) made.valid
 
 pub keeps_command_done :
@@ -207,7 +222,7 @@ pub keeps_command_done :
     → StepKeeps shape actor local (CommandDone offset stalled ending) found
 keeps_command_done shape actor local own offset stalled ending found made =
     let is = found_queue shape actor local found made.good made.find in
-    keeps_queue shape actor local local.turn found (record (queue_of found) { offset = offset; stalled = stalled }) made.good made.find.valid.1 (record { actor = is.actor; command = made.can.0.place; within = made.can.0.within })
+    keeps_queue shape actor local local.turn local.shut found (record (queue_of found) { offset = offset; stalled = stalled }) made.valid.shut made.valid.idle made.good made.find.valid.1 (record { actor = is.actor; command = made.can.0.place; within = made.can.0.within })
     made.find.ties (λ other differ. refl) made.valid
 
 -- The word of GICD_CTLR.

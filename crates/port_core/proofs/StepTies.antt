@@ -1,19 +1,21 @@
 -- What words and actors' own states say of each other after steps.
-use Rattle.std.proofs.Common.{◌≡◌, ◌≢◌, ℕ, ◌<◌, Bool, true, false, is_none, Option, Some, None, refl, sym, ap, ◌∙◌, arith}
+use Rattle.std.proofs.Common.{◌≡◌, ◌≢◌, ℕ, ◌<◌, ◌^◌, Bool, IsTrue, true, false, is_none, Option, Some, None, refl, sym, ap, subst, ◌∙◌, arith}
 use Rattle.std.specs.Option.{ForSome}
 use Rattle.std.proofs.lemmas.Bool.{eqb-true, eq-eqb, ne_eqb}
-use Rattle.ideal_guest.specs.Words.{GuestShape, Key, IsShape, Irq as IrqRecord, is_number, packed, irq_of}
+use Rattle.ideal_guest.specs.Words.{GuestShape, Key, Lpi, IsShape, has_interrupt, Irq as IrqRecord, is_number, packed, irq_of}
 use Rattle.ideal_guest.specs.Registers.{QueueWord, IsQueue, queue_of, packed as packed_queue}
+use Rattle.port_core.specs.declared.line.Line.{Line as LineRecord}
 use Rattle.port_core.specs.declared.local.Local.{Local}
 use Rattle.port_core.specs.declared.words.VcpuWord.{VcpuWord}
 use Rattle.port_core.specs.declared.words.CtlrWord.{CtlrWord}
 use Rattle.port_core.specs.declared.word_id.WordId.{WordId}
-use Rattle.port_core.specs.declared.word_id.WordId.TheVariants.{Irq, Vcpu, Index, Queue, Ctlr, Plain}
-use Rattle.port_core.specs.Forms.{packed_vcpu, ctlr_of, packed_ctlr}
-use Rattle.port_core.specs.Local.{is_at}
+use Rattle.port_core.specs.declared.word_id.WordId.TheVariants.{Irq, Vcpu, Index, Queue, Ctlr, Plain, Line}
+use Rattle.port_core.specs.Forms.{packed_vcpu, ctlr_of, packed_ctlr, packed_line, line_of, IsLine}
+use Rattle.port_core.specs.Local.{is_at, is_in_line, is_inside}
 use Rattle.port_core.specs.Actor.{actor_count}
-use Rattle.port_core.specs.Valid.{IsActorOrNone, IsIndexWord, IsLocal, Ties, CanFind}
+use Rattle.port_core.specs.Valid.{IsActorOrNone, IsIndexWord, IsLineWord, IsLocal, Ties, CanFind}
 use Rattle.port_core.proofs.FrameLemmas.{Keeps}
+use Rattle.port_core.proofs.LineLemmas.{line_back, line_word}
 use Rattle.port_core.proofs.StepLocals.{none_kept}
 use Rattle.port_core.proofs.StepWords.{IsOwned, irq_word, packed_is, vcpu_word, queue_word, queue_back, ctlr_word, ctlr_back}
 
@@ -43,6 +45,7 @@ pub record SameTies (before after : Local) : Type 0 where
   pub at : (key : Key) → is_at key after.at ≡ is_at key before.at
   pub turn : after.turn ≡ before.turn
   pub ctlr : after.ctlr ≡ before.ctlr
+  pub line : (number : ℕ) → is_in_line number after ≡ is_in_line number before
 
 pub ties_kept : (shape : GuestShape) (actor : ℕ) (before after : Local) → SameTies before after → (word : WordId) (n : ℕ) → Ties shape actor before word n → Ties shape actor after word n
 ties_kept shape actor before after same (Irq key) n h = h ∙ sym (same.at key)
@@ -51,6 +54,7 @@ ties_kept shape actor before after same Ctlr n h = h ∙ sym same.ctlr
 ties_kept shape actor before after same (Vcpu vcpu) n h = tt
 ties_kept shape actor before after same (Index vcpu number) n h = tt
 ties_kept shape actor before after same (Plain index) n h = tt
+ties_kept shape actor before after same (Line number) n h = h ∙ sym (same.line number)
 
 -- the word stays as it was
 pub keeps_word : (shape : GuestShape) (actor : ℕ) (before after : Local) (word : WordId) (found : ℕ) → CanFind shape actor before word found → IsLocal shape actor after → SameTies before after → Keeps shape actor before after word found found
@@ -59,7 +63,7 @@ keeps_word shape actor before after word found find is same =
 
 -- nothing changes
 pub keeps_all : (shape : GuestShape) (actor : ℕ) (local : Local) (word : WordId) (found : ℕ) → CanFind shape actor local word found → IsLocal shape actor local → Keeps shape actor local local word found found
-keeps_all shape actor local word found find is = keeps_word shape actor local local word found find is (record { at = λ key. refl; turn = refl; ctlr = refl })
+keeps_all shape actor local word found find is = keeps_word shape actor local local word found find is (record { at = λ key. refl; turn = refl; ctlr = refl; line = λ n. refl })
 
 -- The words of which an actor's own state says nothing.
 
@@ -94,6 +98,7 @@ pub record Moves (key : Key) (actor : ℕ) (before after : Local) (found irq : I
   pub at : (other : Key) → other ≢ key → is_at other after.at ≡ is_at other before.at
   pub turn : after.turn ≡ before.turn
   pub ctlr : after.ctlr ≡ before.ctlr
+  pub line : (number : ℕ) → is_in_line number after ≡ is_in_line number before
 
 pub keeps_moved :
     (shape : GuestShape) (actor : ℕ) (before after : Local) (key : Key) (found : ℕ) (irq : IrqRecord) → IsOwned shape key irq → IsLocal shape actor after → Moves key actor before after (irq_of found) irq
@@ -112,6 +117,7 @@ keeps_moved shape actor before after key found irq owned is moves =
     else (Irq k) n differ h = h ∙ sym (moves.at k (λ e. differ (ap Irq e)))
     else Queue n differ h = h ∙ sym moves.turn
     else Ctlr n differ h = h ∙ sym moves.ctlr
+    else (Line number) n differ h = h ∙ sym (moves.line number)
     else (Vcpu vcpu) n differ h = tt
     else (Index vcpu number) n differ h = tt
     else (Plain index) n differ h = tt
@@ -119,22 +125,23 @@ keeps_moved shape actor before after key found irq owned is moves =
 -- The queue's word and GICD_CTLR's.
 
 pub keeps_queue :
-    (shape : GuestShape) (actor : ℕ) (before : Local) (turn : Bool) (found : ℕ) (left : QueueWord) → IsShape shape → IsActorOrNone shape left.turn → IsQueue left → is_number actor left.turn ≡ turn
-    → ((other : ℕ) → other ≢ actor → is_number other left.turn ≡ is_number other (queue_of found).turn) → IsLocal shape actor before → Keeps shape actor before (record before { turn = turn }) Queue found (packed_queue left)
-keeps_queue shape actor before turn found left good actors is here others local =
+    (shape : GuestShape) (actor : ℕ) (before : Local) (turn : Bool) (shut found : ℕ) (left : QueueWord) → shut < 2 ^ 64 → (turn ≡ false → shut ≡ 0) → IsShape shape → IsActorOrNone shape left.turn → IsQueue left → is_number actor left.turn ≡ turn
+    → ((other : ℕ) → other ≢ actor → is_number other left.turn ≡ is_number other (queue_of found).turn) → IsLocal shape actor before → Keeps shape actor before (record before { turn = turn; shut = shut }) Queue found (packed_queue left)
+keeps_queue shape actor before turn shut found left fits idle good actors is here others local =
     let back : (queue_of (packed_queue left)).turn ≡ left.turn = ap (λ q. q.turn) (queue_back left is) in
     record {
       valid = (queue_word left is, λ a e. actors a (sym back ∙ e));
-      local = record { points = local.points; levels = local.levels; at = local.at; once = local.once; room = local.room; owes = local.owes; marks_are = local.marks_are; marks = local.marks; cands = local.cands; device = λ e. none_kept before _ refl refl (local.device e) };
+      local = record { points = local.points; levels = local.levels; at = local.at; once = local.once; room = local.room; owes = local.owes; marks_are = local.marks_are; marks = local.marks; cands = local.cands; line = local.line; shut = fits; idle = idle; device = λ e. none_kept before _ refl refl (local.device e) };
       here = ap (is_number actor) back ∙ here;
       others = λ other l differ h. ap (is_number other) back ∙ others other differ ∙ h;
       elsewhere = else;
     }
   where
-    else : (w : WordId) (n : ℕ) → w ≢ Queue → Ties shape actor before w n → Ties shape actor (record before { turn = turn }) w n
+    else : (w : WordId) (n : ℕ) → w ≢ Queue → Ties shape actor before w n → Ties shape actor (record before { turn = turn; shut = shut }) w n
     else (Irq k) n differ h = h
     else Queue n differ h = absurd (differ refl)
     else Ctlr n differ h = h
+    else (Line number) n differ h = h
     else (Vcpu vcpu) n differ h = tt
     else (Index vcpu number) n differ h = tt
     else (Plain index) n differ h = tt
@@ -147,7 +154,7 @@ keeps_ctlr shape actor before mark found left good actors here others local =
     let back : (ctlr_of (packed_ctlr left)).mark ≡ left.mark = ap (λ c. c.mark) (ctlr_back left is) in
     record {
       valid = (ctlr_word left is, λ a e. actors a (sym back ∙ e));
-      local = record { points = local.points; levels = local.levels; at = local.at; once = local.once; room = local.room; owes = local.owes; marks_are = local.marks_are; marks = local.marks; cands = local.cands; device = λ e. none_kept before _ refl refl (local.device e) };
+      local = record { points = local.points; levels = local.levels; at = local.at; once = local.once; room = local.room; owes = local.owes; marks_are = local.marks_are; marks = local.marks; cands = local.cands; line = local.line; shut = local.shut; idle = local.idle; device = λ e. none_kept before _ refl refl (local.device e) };
       here = ap (is_number actor) back ∙ here;
       others = λ other l differ h. ap (is_number other) back ∙ others other differ ∙ h;
       elsewhere = else;
@@ -157,6 +164,55 @@ keeps_ctlr shape actor before mark found left good actors here others local =
     else (Irq k) n differ h = h
     else Queue n differ h = h
     else Ctlr n differ h = absurd (differ refl)
+    else (Line number) n differ h = h
     else (Vcpu vcpu) n differ h = tt
     else (Index vcpu number) n differ h = tt
+    else (Plain index) n differ h = tt
+
+-- The words of lines.
+
+-- what a line's word can say in this guest
+pub record IsLineIn (shape : GuestShape) (line : LineRecord) : Type 0 where
+  pub fits : IsLine line
+  pub lpi : ForSome line.pair (λ pair. IsTrue (has_interrupt shape (Lpi line.lpi)))
+  pub inside : line.inside < 2 ^ shape.devices
+
+pub line_in : (shape : GuestShape) (line : LineRecord) → IsLineIn shape line → IsLineWord shape (packed_line line)
+line_in shape line is =
+    let back = line_back line is.fits in
+    record {
+      word_is = line_word line is.fits;
+      lpi = subst (λ l. ForSome l.pair (λ pair. IsTrue (has_interrupt shape (Lpi l.lpi)))) (sym back) is.lpi;
+      inside = subst (λ l. l.inside < 2 ^ shape.devices) (sym back) is.inside;
+    }
+
+-- the actor gets into a line, stays there, or leaves it
+pub record MovesLine (shape : GuestShape) (number actor : ℕ) (before after : Local) (found left : LineRecord) : Type 0 where
+  pub here : is_inside shape actor left ≡ is_in_line number after
+  pub others : (other : ℕ) → other ≢ actor → is_inside shape other left ≡ is_inside shape other found
+  pub lines : (other : ℕ) → other ≢ number → is_in_line other after ≡ is_in_line other before
+  pub at : after.at ≡ before.at
+  pub turn : after.turn ≡ before.turn
+  pub ctlr : after.ctlr ≡ before.ctlr
+
+pub keeps_line :
+    (shape : GuestShape) (actor : ℕ) (before after : Local) (number found : ℕ) (left : LineRecord) → IsLineIn shape left → IsLocal shape actor after → MovesLine shape number actor before after (line_of found) left
+    → Keeps shape actor before after (Line number) found (packed_line left)
+keeps_line shape actor before after number found left in_guest is moves =
+    let back = line_back left in_guest.fits in
+    record {
+      valid = line_in shape left in_guest;
+      local = is;
+      here = ap (is_inside shape actor) back ∙ moves.here;
+      others = λ other local differ h. ap (is_inside shape other) back ∙ moves.others other differ ∙ h;
+      elsewhere = else;
+    }
+  where
+    else : (w : WordId) (n : ℕ) → w ≢ Line number → Ties shape actor before w n → Ties shape actor after w n
+    else (Irq key) n differ h = h ∙ ap (is_at key) (sym moves.at)
+    else Queue n differ h = h ∙ sym moves.turn
+    else Ctlr n differ h = h ∙ sym moves.ctlr
+    else (Line other) n differ h = h ∙ sym (moves.lines other (λ e. differ (ap Line e)))
+    else (Vcpu vcpu) n differ h = tt
+    else (Index vcpu word) n differ h = tt
     else (Plain index) n differ h = tt

@@ -5,17 +5,18 @@ use Rattle.ideal_guest.specs.Words.{IccReg, Key, GuestShape, intid_of, Irq, has_
 use Rattle.ideal_guest.specs.Registers.{Candidate, taken_by, deactivated_by, cpu_after, AtInterface, InterfaceState, candidates_at}
 use Rattle.ideal_guest.specs.Calls.{touched}
 use Rattle.port_core.specs.declared.at_list.AtIrq.{AtIrq}
+use Rattle.port_core.specs.declared.line.Line.{Line}
 use Rattle.port_core.specs.declared.local.Local.{Local}
 use Rattle.port_core.specs.declared.local.Phase.{Phase}
 use Rattle.port_core.specs.declared.local.Phase.TheVariants.{Scanning, Claiming, Loaded, Folding}
 use Rattle.port_core.specs.declared.step.CoreStep.{CoreStep}
-use Rattle.port_core.specs.declared.step.CoreStep.TheVariants.{Look, Raise, Claim, GiveBack, Release, Poll, Kick, Touch, Want, WireUp, WireDown, EnableLpis, RamLook, RamPut, CtlrTake, CtlrEnd, TurnTake, CommandDone, TurnRelease, Mark, TakeIndex}
+use Rattle.port_core.specs.declared.step.CoreStep.TheVariants.{Look, Raise, Claim, GiveBack, Release, Poll, Kick, Touch, Want, WireUp, WireDown, EnableLpis, RamLook, RamPut, CtlrTake, CtlrEnd, TurnTake, CommandDone, TurnRelease, Mark, TakeIndex, LineEnter, LineLeave, LineFill, LineClose}
 use Rattle.port_core.specs.declared.word_id.WordId.{WordId}
-use Rattle.port_core.specs.declared.word_id.WordId.TheVariants.{Irq as IrqWord}
+use Rattle.port_core.specs.declared.word_id.WordId.TheVariants.{Irq as IrqWord, Line as LineWord}
 use Rattle.port_core.specs.declared.words.VcpuWord.{VcpuWord}
-use Rattle.port_core.specs.Forms.{vcpu_of}
+use Rattle.port_core.specs.Forms.{vcpu_of, line_of, is_empty_line}
 use Rattle.port_core.specs.Place.{index_words}
-use Rattle.port_core.specs.Local.{without_vcpu, without_mark, with_cand_word, is_vcpu, settled, is_at, changed_at, without_at, with_entry, arrived, owing, owing_both}
+use Rattle.port_core.specs.Local.{without_vcpu, without_mark, with_cand_word, is_vcpu, settled, is_at, changed_at, without_at, with_entry, arrived, owing, owing_both, with_shut, without_shut}
 use Rattle.port_core.specs.Effect.{succeeds, moved_irq, is_active_at}
 
 -- Whom a change of an interrupt concerns.
@@ -96,9 +97,14 @@ is_settled_by_look shape actor irq = is_vcpu shape actor && not (is_ripe irq act
 abbrev pub looked_at : GuestShape → ℕ → Key → Irq → Local → Local
 looked_at shape actor key irq local = if is_settled_by_look shape actor irq then record local { cands = settled shape actor key local.cands } else local
 
+-- the actor that has the ITS knows a line to be shut once it looked at it and found it empty
+abbrev pub looked_at_line : ℕ → Line → Local → Local
+looked_at_line number line local = if local.turn && is_empty_line line then with_shut number local else local
+
 -- a look at any word
 abbrev pub looked : GuestShape → ℕ → WordId → ℕ → Local → Local
 looked shape actor (IrqWord key) found local = looked_at shape actor key (irq_of found) local
+looked shape actor (LineWord number) found local = looked_at_line number (line_of found) local
 looked shape actor word found local = local
 
 -- an interrupt got to the interface, or brought its causes
@@ -140,6 +146,14 @@ marked shape actor key vcpu local =
       cands = if vcpu == actor then settled shape actor key local.cands else local.cands;
     }
 
+-- a device that is in a line keeps the message and the LPI as it found them there
+abbrev pub entered_line : ℕ → Line → Local → Local
+entered_line number line local = record local { line = option_map_or (λ pair. Some (record { line = number; pair = pair; lpi = line.lpi })) line.pair None }
+
+-- a line that was closed is shut where no device was in it
+abbrev pub closed_line : ℕ → Line → Local → Local
+closed_line number line local = if line.inside == 0 then with_shut number local else local
+
 -- an actor after a step that does what it is for
 abbrev pub local_done : GuestShape → ℕ → Local → CoreStep → ℕ → Local
 local_done shape actor local (Look word) found = looked shape actor word found local
@@ -161,9 +175,13 @@ local_done shape actor local (CtlrTake seen value) found = record local { ctlr =
 local_done shape actor local CtlrEnd found = record local { ctlr = false }
 local_done shape actor local (TurnTake seen) found = record local { turn = true }
 local_done shape actor local (CommandDone offset stalled ending) found = local
-local_done shape actor local TurnRelease found = record local { turn = false }
+local_done shape actor local TurnRelease found = record local { turn = false; shut = 0 }
 local_done shape actor local (Mark key vcpu) found = marked shape actor key vcpu local
 local_done shape actor local (TakeIndex word) found = index_taken shape word found local
+local_done shape actor local (LineEnter line seen) found = entered_line line (line_of found) local
+local_done shape actor local (LineLeave line) found = record local { line = None }
+local_done shape actor local (LineFill line device event lpi) found = without_shut line local
+local_done shape actor local (LineClose line) found = closed_line line (line_of found) local
 
 -- an actor after a step: as it was where the step did not do what it is for
 abbrev pub local_after : GuestShape → ℕ → Local → CoreStep → ℕ → Local

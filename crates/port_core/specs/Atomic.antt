@@ -6,11 +6,11 @@ use Rattle.port_core.specs.declared.atomic.Atomic.{Atomic}
 use Rattle.port_core.specs.declared.atomic.Atomic.TheVariants.{Load, And, Or, Swap, Exchange}
 use Rattle.port_core.specs.declared.local.Local.{Local}
 use Rattle.port_core.specs.declared.step.CoreStep.{CoreStep}
-use Rattle.port_core.specs.declared.step.CoreStep.TheVariants.{Claim, Touch, CtlrTake, TurnTake}
+use Rattle.port_core.specs.declared.step.CoreStep.TheVariants.{Claim, Touch, CtlrTake, TurnTake, LineEnter}
 use Rattle.port_core.specs.Effect.{word_after}
 use Rattle.port_core.specs.Forms.{is_ctlr_word}
 use Rattle.port_core.specs.Step.{word_of}
-use Rattle.port_core.specs.Valid.{IsIrqWord, CanFind}
+use Rattle.port_core.specs.Valid.{IsIrqWord, IsLineWord, CanFind}
 
 -- the word after an operation that found it so
 abbrev pub applied : Atomic → ℕ → ℕ
@@ -20,12 +20,13 @@ applied (Or mask) found = bit_or found mask
 applied (Swap value) found = value
 applied (Exchange seen value) found = if found == seen then value else found
 
--- the word that a step expects is a valid one of its interrupt, of GICD_CTLR or of the queue, as each is that a step of the actor found or left
+-- the word that a step expects is a valid one of its interrupt, of GICD_CTLR, of the queue or of a line, as each is that a step of the actor found or left
 abbrev pub IsSeen : GuestShape → CoreStep → Type 0
 IsSeen shape (Claim key seen) = IsIrqWord shape key seen
 IsSeen shape (Touch key seen kind) = IsIrqWord shape key seen
 IsSeen shape (CtlrTake seen value) = IsTrue (is_ctlr_word seen)
 IsSeen shape (TurnTake seen) = IsTrue (is_queue_word seen)
+IsSeen shape (LineEnter line seen) = IsLineWord shape seen
 IsSeen shape step = Unit {0}
 
 -- the bits that give back what an interface has of an interrupt

@@ -1,21 +1,22 @@
 -- What a step asks of its actor: of what the actor has for itself, and of what its steps before handed out.
-use Rattle.std.specs.Prelude.{All, ◌≡◌, ℕ, ◌==◌, ◌&&◌, not, Bool, true, false, IsTrue, List, [], length, nat_lt, Option, Some, None, ◌∷◌}
+use Rattle.std.specs.Prelude.{All, ◌≡◌, ℕ, ◌==◌, ◌&&◌, not, Bool, true, false, IsTrue, List, [], length, nat_lt, Option, Some, None, is_none, ◌∷◌}
 use Rattle.std.specs.Option.{option_map_or}
 use Rattle.ideal_guest.specs.Words.{Key, GuestShape, Back}
-use Rattle.ideal_guest.specs.Calls.{Fault, Cbaser, place_of_plain, QueueChange, Runs, Done, Stalls, queue_event, command_places}
-use Rattle.ideal_guest.specs.Registers.{queue_of}
+use Rattle.ideal_guest.specs.Calls.{Touching, MapLpi, Fault, Cbaser, ItsCtlr, place_of_plain, QueueChange, Runs, Done, Stalls, queue_event, command_places, is_its_enabled}
+use Rattle.ideal_guest.specs.Registers.{queue_of, translated}
 use Rattle.ideal_guest.specs.GicCall.declared.event.Event.TheVariants.{Queue as QueueEvent}
 use Rattle.ideal_guest.specs.GicCall.declared.event.Place.TheVariants.{Word, Queue as QueuePlace}
+use Rattle.ideal_guest.specs.GicCall.declared.touch.Touching.TheVariants.{Retarget, Configure, Forget}
 use Rattle.port_core.specs.declared.at_list.AtIrq.{AtIrq}
 use Rattle.port_core.specs.declared.local.Local.{Local}
 use Rattle.port_core.specs.declared.local.Phase.{Phase}
 use Rattle.port_core.specs.declared.local.Phase.TheVariants.{Scanning, Claiming, Loaded}
 use Rattle.port_core.specs.declared.run.Made.{Made}
 use Rattle.port_core.specs.declared.step.CoreStep.{CoreStep}
-use Rattle.port_core.specs.declared.step.CoreStep.TheVariants.{Look, Raise, Claim, GiveBack, Release, Poll, Kick, Touch, Want, WireUp, WireDown, EnableLpis, RamLook, RamPut, CtlrTake, CtlrEnd, TurnTake, CommandDone, TurnRelease, Mark, TakeIndex}
+use Rattle.port_core.specs.declared.step.CoreStep.TheVariants.{Look, Raise, Claim, GiveBack, Release, Poll, Kick, Touch, Want, WireUp, WireDown, EnableLpis, RamLook, RamPut, CtlrTake, CtlrEnd, TurnTake, CommandDone, TurnRelease, Mark, TakeIndex, LineEnter, LineLeave, LineFill, LineClose}
 use Rattle.port_core.specs.declared.word_id.WordId.TheVariants.{Queue, Plain}
 use Rattle.port_core.specs.Known.{known, known_word, known_view, is_known, last_made}
-use Rattle.port_core.specs.Local.{entry_for, back_of, owes_no_kick, owes_no_mark}
+use Rattle.port_core.specs.Local.{entry_for, back_of, owes_no_kick, owes_no_mark, is_in_line, has_all_shut}
 
 -- an interrupt that is at the interface was not given back, or there is room for another one: an interface has 16 at most
 abbrev pub may_claim : Key → Local → Bool
@@ -53,10 +54,19 @@ may_take_index Claiming = true
 may_take_index Loaded = true
 may_take_index phase = false
 
--- the interface is empty, and no mark is owed: where the actor touches an interrupt
-pub record CanTouchNow (local : Local) : Type 0 where
+-- a touch changes what an LPI is for, or whether and how it is delivered
+abbrev pub changes_lpi : Touching → Bool
+changes_lpi (MapLpi target enabled prio) = true
+changes_lpi (Retarget target) = true
+changes_lpi (Configure enabled prio) = true
+changes_lpi Forget = true
+changes_lpi kind = false
+
+-- the interface is empty, and no mark is owed, where the actor touches an interrupt; and where it changes an LPI, it knows all lines to be shut
+pub record CanTouchNow (kind : Touching) (local : Local) : Type 0 where
   pub empty : local.at ≡ []
   pub marks : IsTrue (owes_no_mark local)
+  pub lines : changes_lpi kind ≡ true → IsTrue (has_all_shut local)
 
 -- the plain word that keeps the number of a fault
 abbrev pub fault_place : GuestShape → ℕ
@@ -73,10 +83,19 @@ pub record CanPutFault (shape : GuestShape) (actor : ℕ) (local : Local) (own :
   pub turn : IsTrue local.turn
   pub runs : IsKnownRunning shape actor own
 
--- a plain word may be stored
+-- a plain word may be stored, which keeps the number of a fault or does not
 abbrev pub CanPut : Bool → GuestShape → ℕ → Local → List Made → Type 0
 CanPut true shape actor local own = CanPutFault shape actor local own
 CanPut false shape actor local own = Unit {0}
+
+-- the plain word of GITS_CTLR
+abbrev pub its_ctlr_place : GuestShape → ℕ
+its_ctlr_place shape = place_of_plain shape ItsCtlr
+
+-- a plain word is stored so; and GITS_CTLR, by which messages are translated, by an actor that knows all lines to be shut
+pub record CanPutWord (shape : GuestShape) (actor : ℕ) (local : Local) (own : List Made) (index : ℕ) : Type 0 where
+  pub fault : CanPut (index == fault_place shape) shape actor local own
+  pub lines : (index == its_ctlr_place shape) ≡ true → IsTrue (has_all_shut local)
 
 -- the number of the fault that the actor stored last
 abbrev pub known_fault : GuestShape → ℕ → List Made → ℕ
@@ -108,11 +127,24 @@ IsQueueStep shape actor own offset false None = Unit {0}
 IsQueueStep shape actor own offset true None = EndsCommand shape actor own offset true None × HasPutFault shape own
 IsQueueStep shape actor own offset stalled (Some words) = EndsCommand shape actor own offset stalled (Some words)
 
--- a command ends, or a register's write moves the queue
+-- a command ends, or a register's write moves the queue: the actor knows all lines to be shut
 pub record CanEnd (shape : GuestShape) (actor : ℕ) (local : Local) (own : List Made) (offset : ℕ) (stalled : Bool) (done : Option (List ℕ)) : Type 0 where
   pub turn : IsTrue local.turn
   pub kicks : IsTrue (owes_no_kick local)
+  pub lines : IsTrue (has_all_shut local)
   pub queue : IsQueueStep shape actor own offset stalled done
+
+-- the LPI that a message becomes by the maps and by GITS_CTLR, as the actor that has the ITS knows them
+abbrev pub known_lpi : GuestShape → ℕ → List Made → ℕ → ℕ → Option ℕ
+known_lpi shape actor own device event = translated (known_view shape actor own).maps (is_its_enabled (known_view shape actor own)) device event
+
+-- a line is filled by the actor that has the ITS and knows GITS_CTLR since it took it, with the LPI that the message becomes; and not while it knows all
+-- lines to be shut, as it does where a command changes LPIs
+pub record CanFillNow (shape : GuestShape) (actor : ℕ) (local : Local) (own : List Made) (device event lpi : ℕ) : Type 0 where
+  pub turn : IsTrue local.turn
+  pub some_open : has_all_shut local ≡ false
+  pub looked : IsTrue (is_known shape actor own (Word ItsCtlr))
+  pub translates : known_lpi shape actor own device event ≡ Some lpi
 
 -- what a step asks of its actor
 abbrev pub Meets : GuestShape → ℕ → Local → List Made → CoreStep → Type 0
@@ -124,13 +156,13 @@ Meets shape actor local own (Release key) = CanRelease key local
 Meets shape actor local own (Poll None write) = local.at ≡ []
 Meets shape actor local own (Poll (Some reg) write) = IsTrue (is_ready local.phase)
 Meets shape actor local own (Kick vcpu) = IsTrue (owes_no_mark local)
-Meets shape actor local own (Touch key seen kind) = CanTouchNow local
+Meets shape actor local own (Touch key seen kind) = CanTouchNow kind local
 Meets shape actor local own (Want key) = Unit {0}
 Meets shape actor local own (WireUp key) = IsTrue (owes_no_mark local)
 Meets shape actor local own (WireDown key) = IsTrue (owes_no_mark local)
 Meets shape actor local own (EnableLpis vcpu) = Unit {0}
 Meets shape actor local own (RamLook index) = Unit {0}
-Meets shape actor local own (RamPut index seen value) = CanPut (index == fault_place shape) shape actor local own
+Meets shape actor local own (RamPut index seen value) = CanPutWord shape actor local own index
 Meets shape actor local own (CtlrTake seen value) = Unit {0}
 Meets shape actor local own CtlrEnd = IsTrue local.ctlr
 Meets shape actor local own (TurnTake seen) = Unit {0}
@@ -138,3 +170,7 @@ Meets shape actor local own (CommandDone offset stalled ending) = CanEnd shape a
 Meets shape actor local own TurnRelease = IsTrue local.turn
 Meets shape actor local own (Mark key vcpu) = Unit {0}
 Meets shape actor local own (TakeIndex word) = IsTrue (may_take_index local.phase && owes_no_mark local)
+Meets shape actor local own (LineEnter line seen) = IsTrue (is_none local.line)
+Meets shape actor local own (LineLeave line) = IsTrue (is_in_line line local)
+Meets shape actor local own (LineFill line device event lpi) = CanFillNow shape actor local own device event lpi
+Meets shape actor local own (LineClose line) = IsTrue local.turn

@@ -1,5 +1,5 @@
 -- What a step leaves of the word that it found.
-use Rattle.std.specs.Prelude.{ℕ, ◌%◌, ◌^◌, ◌==◌, ◌&&◌, ◌||◌, not, Bool, true, false, if◌then◌else◌, Some, None, is_none, bit_or}
+use Rattle.std.specs.Prelude.{ℕ, ◌%◌, ◌^◌, ◌==◌, ◌&&◌, ◌||◌, not, Bool, true, false, if◌then◌else◌, Some, None, is_none, is_some, bit_or}
 use Rattle.std.specs.Option.{option_map_or}
 use Rattle.ideal_guest.specs.Words.{Key, GuestShape, Back, Irq, raised, wire_up, wire_down, is_number, irq_of, packed}
 use Rattle.ideal_guest.specs.Registers.{enables_in, queue_of, packed as packed_queue}
@@ -7,9 +7,9 @@ use Rattle.ideal_guest.specs.Calls.{Moved, Touching, may_reach, reached, may_tak
 use Rattle.port_core.specs.declared.at_list.AtIrq.{AtIrq}
 use Rattle.port_core.specs.declared.local.Local.{Local}
 use Rattle.port_core.specs.declared.step.CoreStep.{CoreStep}
-use Rattle.port_core.specs.declared.step.CoreStep.TheVariants.{Look, Raise, Claim, GiveBack, Release, Poll, Kick, Touch, Want, WireUp, WireDown, EnableLpis, RamLook, RamPut, CtlrTake, CtlrEnd, TurnTake, CommandDone, TurnRelease, Mark, TakeIndex}
-use Rattle.port_core.specs.Forms.{vcpu_of, packed_vcpu, ctlr_of, packed_ctlr}
-use Rattle.port_core.specs.Local.{entry_for, entry_of}
+use Rattle.port_core.specs.declared.step.CoreStep.TheVariants.{Look, Raise, Claim, GiveBack, Release, Poll, Kick, Touch, Want, WireUp, WireDown, EnableLpis, RamLook, RamPut, CtlrTake, CtlrEnd, TurnTake, CommandDone, TurnRelease, Mark, TakeIndex, LineEnter, LineLeave, LineFill, LineClose}
+use Rattle.port_core.specs.Forms.{vcpu_of, packed_vcpu, ctlr_of, packed_ctlr, line_of, packed_line, is_empty_line}
+use Rattle.port_core.specs.Local.{entry_for, entry_of, with_inside, without_inside}
 use Rattle.port_core.specs.Place.{index_bit}
 
 -- Claims: an interrupt that nobody holds gets to the vCPU's interface, and one that the vCPU holds brings its causes.
@@ -52,6 +52,8 @@ succeeds shape actor local (Touch key seen kind) found = found == seen && is_non
 succeeds shape actor local (RamPut index seen value) found = found == seen
 succeeds shape actor local (CtlrTake seen value) found = found == seen && is_none (ctlr_of found).mark
 succeeds shape actor local (TurnTake seen) found = found == seen && is_none (queue_of found).turn
+succeeds shape actor local (LineEnter line seen) found = found == seen && is_some (line_of found).pair
+succeeds shape actor local (LineFill line device event lpi) found = is_empty_line (line_of found)
 succeeds shape actor local step found = true
 
 -- the record of an interrupt after what was at an interface is given back, and after its release
@@ -93,6 +95,10 @@ word_done shape actor local (CommandDone offset stalled ending) found = packed_q
 word_done shape actor local TurnRelease found = packed_queue (record (queue_of found) { turn = None })
 word_done shape actor local (Mark key vcpu) found = bit_or found (2 ^ (index_bit shape key % 64))
 word_done shape actor local (TakeIndex word) found = 0
+word_done shape actor local (LineEnter line seen) found = packed_line (with_inside shape actor (line_of found))
+word_done shape actor local (LineLeave line) found = packed_line (without_inside shape actor (line_of found))
+word_done shape actor local (LineFill line device event lpi) found = packed_line (record { pair = Some (device, event); lpi = lpi; inside = 0 })
+word_done shape actor local (LineClose line) found = packed_line (record { pair = None; lpi = 8192; inside = (line_of found).inside })
 
 -- the word after a step
 abbrev pub word_after : GuestShape → ℕ → Local → CoreStep → ℕ → ℕ

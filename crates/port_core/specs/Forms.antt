@@ -1,7 +1,8 @@
--- The forms of the words of vCPUs and of GICD_CTLR (own choice of the bits).
-use Rattle.std.specs.Prelude.{ℕ, ◌+◌, ◌*◌, ◌^◌, ◌<◌, Bool, nat_lt, if◌then◌else◌, Option, Some, None}
+-- The forms of the words of vCPUs, of GICD_CTLR and of translation lines (own choice of the bits).
+use Rattle.std.specs.Prelude.{◌≡◌, ℕ, ◌+◌, ◌-◌, ◌*◌, ◌^◌, ◌<◌, ◌≤◌, ◌==◌, ◌&&◌, Bool, nat_lt, if◌then◌else◌, Option, Some, None, is_none}
 use Rattle.std.specs.Option.{ForSome}
 use Rattle.ideal_guest.specs.Words.{bit_of, has_bit, field_at}
+use Rattle.port_core.specs.declared.line.Line.{Line}
 use Rattle.port_core.specs.declared.words.VcpuWord.{VcpuWord}
 use Rattle.port_core.specs.declared.words.CtlrWord.{CtlrWord}
 
@@ -41,3 +42,43 @@ IsCtlr ctlr = ForSome ctlr.mark (λ actor. actor < 64)
 -- the number is such a word
 abbrev pub is_ctlr_word : ℕ → Bool
 is_ctlr_word word = if has_bit word 2 then nat_lt word (2 ^ 9) else nat_lt word (2 ^ 2)
+
+-- A translation line of the ITS: a word that keeps which LPI one message of a device becomes, and which devices are about to raise it (own choice; the
+-- architecture lets an ITS cache what its tables say).
+
+-- no device is in it, and it translates nothing; 8192 stands for no LPI
+abbrev pub empty_line : Line
+empty_line = record { pair = None; lpi = 8192; inside = 0 }
+
+abbrev pub is_empty_line : Line → Bool
+is_empty_line line = is_none line.pair && line.inside == 0
+
+-- the message: bit 4 where there is one, with its EventID at [33:18] and its DeviceID at [49:34]
+abbrev pub pair_number : Option (ℕ × ℕ) → ℕ
+pair_number None = 0
+pair_number (Some pair) = 2 ^ 4 + pair.1 * 2 ^ 18 + pair.0 * 2 ^ 34
+
+-- a line's word: the devices in it at [3:0], a bit each; its LPI less 8192 at [17:5]; and the message
+abbrev pub packed_line : Line → ℕ
+packed_line line = line.inside + (line.lpi - 8192) * 2 ^ 5 + pair_number line.pair
+
+-- what such a word says
+abbrev pub line_of : ℕ → Line
+line_of word =
+    record {
+      pair = if has_bit word 4 then Some (field_at word 34 16, field_at word 18 16) else None;
+      lpi = 8192 + field_at word 5 13;
+      inside = field_at word 0 4;
+    }
+
+-- what a line's word can say: DeviceID and EventID below 65536, an LPI, 8192 where there is no message, and at most four devices
+pub record IsLine (line : Line) : Type 0 where
+  pub pair : ForSome line.pair (λ pair. (pair.0 < 65536) × (pair.1 < 65536))
+  pub from : 8192 ≤ line.lpi
+  pub lpi : line.lpi < 16384
+  pub none : line.pair ≡ None → line.lpi ≡ 8192
+  pub inside : line.inside < 16
+
+-- the number is such a word
+abbrev pub is_line_word : ℕ → Bool
+is_line_word word = if has_bit word 4 then nat_lt word (2 ^ 50) else nat_lt word (2 ^ 4)

@@ -1,5 +1,5 @@
 -- What an actor has for itself (own choice): the kicks and marks that it owes, its candidates, and the interrupts at its interface.
-use Rattle.std.specs.Prelude.{ℕ, ◌/◌, ◌%◌, ◌^◌, ◌&&◌, ◌==◌, not, Bool, false, List, [], map, fold, filter, find, replicate, nat_lt, if◌then◌else◌, Option, Some, None, is_some, bit_and, bit_or, slice_index_or, slice_set}
+use Rattle.std.specs.Prelude.{ℕ, ◌-◌, ◌/◌, ◌%◌, ◌^◌, ◌&&◌, ◌==◌, not, Bool, false, List, [], map, fold, filter, find, replicate, nat_lt, if◌then◌else◌, Option, Some, None, is_some, bit_and, bit_or, slice_index_or, slice_set}
 use Rattle.std.specs.Int.{bit_not, w32, w64}
 use Rattle.std.specs.List.{list_all}
 use Rattle.std.specs.Option.{option_map_or}
@@ -8,6 +8,7 @@ use Rattle.ideal_guest.specs.Registers.{Targets, CpuRec}
 use Rattle.ideal_guest.specs.Calls.{Entry}
 use Rattle.port_core.specs.declared.local.Phase.TheVariants.{Off}
 use Rattle.port_core.specs.declared.at_list.AtIrq.{AtIrq}
+use Rattle.port_core.specs.declared.line.Line.{Line}
 use Rattle.port_core.specs.declared.owed.MarkSet.{MarkSet}
 use Rattle.port_core.specs.declared.owed.Cands.{Cands}
 use Rattle.port_core.specs.declared.local.Local.{Local}
@@ -126,6 +127,34 @@ owing kicks key marks local = record local { owes = with_all local.owes kicks; m
 abbrev pub owing_both : Key → List (Option ℕ) → Local → Local
 owing_both key vcpus local = owing vcpus key vcpus local
 
+-- Translation lines of the ITS.
+
+-- the actor is in a line
+abbrev pub is_in_line : ℕ → Local → Bool
+is_in_line line local = option_map_or (λ entered. entered.line == line) local.line false
+
+-- a line's word says that the actor is in the line, which is true of devices alone
+abbrev pub is_inside : GuestShape → ℕ → Line → Bool
+is_inside shape actor line = not (is_vcpu shape actor) && has_bit line.inside (actor - shape.vcpus)
+
+-- the devices in a line with an actor, and without it
+abbrev pub with_inside : GuestShape → ℕ → Line → Line
+with_inside shape actor line = record line { inside = bit_or line.inside (2 ^ (actor - shape.vcpus)) }
+
+abbrev pub without_inside : GuestShape → ℕ → Line → Line
+without_inside shape actor line = record line { inside = bit_and line.inside (bit_not w64 (2 ^ (actor - shape.vcpus))) }
+
+-- the lines that an actor knows to be shut, with a line, and without it: no line of them has a message or a device since the actor found it so
+abbrev pub with_shut : ℕ → Local → Local
+with_shut line local = record local { shut = bit_or local.shut (2 ^ line) }
+
+abbrev pub without_shut : ℕ → Local → Local
+without_shut line local = record local { shut = bit_and local.shut (bit_not w64 (2 ^ line)) }
+
+-- it knows all lines to be shut
+abbrev pub has_all_shut : Local → Bool
+has_all_shut local = local.shut == 2 ^ 64 - 1
+
 -- an actor as a guest opens
 abbrev pub opening_local : Actor → CpuRec → Local
 opening_local actor cpu =
@@ -139,4 +168,6 @@ opening_local actor cpu =
       ctlr = false;
       marks = record { key = None; vcpus = no_vcpus };
       cands = no_cands;
+      line = None;
+      shut = 0;
     }

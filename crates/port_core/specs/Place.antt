@@ -1,10 +1,12 @@
 -- The words that the actors of a guest share, and their numbering (own choice): first the word of each interrupt in key order, then the queue's,
--- GICD_CTLR's and the plain words; then a block for each vCPU, of whole cache lines, so that no two vCPUs write one line.
+-- GICD_CTLR's and the plain words; then a block for each vCPU, of whole cache lines, so that no two vCPUs write one line; then, in a guest with LPIs, the
+-- translation lines of the ITS, each on a cache line of its own, so that messages of two lines do not meet.
 use Rattle.std.specs.Prelude.{ℕ, ◌+◌, ◌-◌, ◌*◌, ◌/◌, ◌%◌, ◌&&◌, ◌==◌, Bool, true, nat_lt, nat_le, if◌then◌else◌, Option, Some, None}
 use Rattle.ideal_guest.specs.Words.{Key, Private, Spi, Lpi, GuestShape, has_interrupt, interrupt_count, place_of, key_at}
 use Rattle.ideal_guest.specs.Calls.{plain_count}
+use Rattle.ideal_guest.specs.Registers.{has_lpis}
 use Rattle.port_core.specs.declared.word_id.WordId.{WordId}
-use Rattle.port_core.specs.declared.word_id.WordId.TheVariants.{Irq, Vcpu, Index, Queue, Ctlr, Plain}
+use Rattle.port_core.specs.declared.word_id.WordId.TheVariants.{Irq, Vcpu, Index, Queue, Ctlr, Plain, Line}
 
 -- The candidate index: a bit for each interrupt that a vCPU can have at its interface, those private to it by INTID, then the shared ones in key order.
 
@@ -56,9 +58,16 @@ block_words shape = whole_lines (1 + index_words shape)
 abbrev pub block_of : GuestShape → ℕ → ℕ
 block_of shape vcpu = blocks_from shape + vcpu * block_words shape
 
+-- how many translation lines the guest has, and where their places begin
+abbrev pub line_count : GuestShape → ℕ
+line_count shape = if has_lpis shape then 64 else 0
+
+abbrev pub lines_from : GuestShape → ℕ
+lines_from shape = block_of shape shape.vcpus
+
 -- how many places there are
 abbrev pub word_count : GuestShape → ℕ
-word_count shape = block_of shape shape.vcpus
+word_count shape = lines_from shape + line_count shape * 8
 
 -- the guest has the word
 abbrev pub has_word : GuestShape → WordId → Bool
@@ -68,6 +77,7 @@ has_word shape (Index vcpu word) = nat_lt vcpu shape.vcpus && nat_lt word (index
 has_word shape Queue = true
 has_word shape Ctlr = true
 has_word shape (Plain index) = nat_lt index (plain_count shape)
+has_word shape (Line line) = nat_lt line (line_count shape)
 
 -- the place of a word
 abbrev pub place_of_word : GuestShape → WordId → ℕ
@@ -77,6 +87,7 @@ place_of_word shape Ctlr = interrupt_count shape + 1
 place_of_word shape (Plain index) = plain_from shape + index
 place_of_word shape (Vcpu vcpu) = block_of shape vcpu
 place_of_word shape (Index vcpu word) = block_of shape vcpu + (1 + word)
+place_of_word shape (Line line) = lines_from shape + line * 8
 
 -- the word at a place in a vCPU's block
 abbrev pub word_in_block : GuestShape → ℕ → ℕ → Option WordId
@@ -89,7 +100,11 @@ word_in_block shape vcpu place =
 abbrev pub word_in_blocks : GuestShape → ℕ → Option WordId
 word_in_blocks shape place = word_in_block shape (place / block_words shape) (place % block_words shape)
 
--- the word at a place, if there is one: none where a line is filled up
+-- the word at a place among the translation lines
+abbrev pub word_in_lines : ℕ → Option WordId
+word_in_lines place = if place % 8 == 0 then Some (Line (place / 8)) else None
+
+-- the word at a place, if there is one: none where a cache line is filled up
 abbrev pub word_at : GuestShape → ℕ → Option WordId
 word_at shape place =
     if nat_lt place (interrupt_count shape) then Some (Irq (key_at shape place))
@@ -97,4 +112,5 @@ word_at shape place =
     else (if place == interrupt_count shape + 1 then Some Ctlr
     else (if nat_lt place (plain_from shape + plain_count shape) then Some (Plain (place - plain_from shape))
     else (if nat_lt place (blocks_from shape) then None
-    else word_in_blocks shape (place - blocks_from shape)))))
+    else (if nat_lt place (lines_from shape) then word_in_blocks shape (place - blocks_from shape)
+    else word_in_lines (place - lines_from shape))))))

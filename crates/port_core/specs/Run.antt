@@ -13,12 +13,12 @@ use Rattle.port_core.specs.declared.run.Made.{Made}
 use Rattle.port_core.specs.declared.step.CoreStep.{CoreStep}
 use Rattle.port_core.specs.declared.step.CoreStep.TheVariants.{TurnTake}
 use Rattle.port_core.specs.declared.word_id.WordId.{WordId}
-use Rattle.port_core.specs.declared.word_id.WordId.TheVariants.{Irq, Vcpu, Index, Queue, Ctlr, Plain}
+use Rattle.port_core.specs.declared.word_id.WordId.TheVariants.{Irq, Vcpu, Index, Queue, Ctlr, Plain, Line}
 use Rattle.port_core.specs.Actor.{actor_at, actor_count}
 use Rattle.port_core.specs.After.{local_after}
 use Rattle.port_core.specs.Condition.{Meets}
 use Rattle.port_core.specs.Effect.{succeeds, word_after}
-use Rattle.port_core.specs.Forms.{packed_vcpu, packed_ctlr}
+use Rattle.port_core.specs.Forms.{packed_vcpu, packed_ctlr, packed_line, empty_line}
 use Rattle.port_core.specs.Known.{maps_by_step, known_maps}
 use Rattle.port_core.specs.Local.{opening_local}
 use Rattle.port_core.specs.Place.{has_word, index_bits, key_of_bit, word_count, word_at, place_of_word}
@@ -50,7 +50,7 @@ is_asked guest vcpu bit = nat_lt bit (index_bits guest.shape) && concerns guest.
 abbrev pub opening_index : IdealGuest → ℕ → ℕ → ℕ
 opening_index guest vcpu number = fold (λ word bit. if is_asked guest vcpu (64 * number + bit) then bit_or word (2 ^ bit) else word) 0 (range_with_len 0 64)
 
--- a word as a guest opens: what the guest has, no vCPU is kicked, and nobody holds an interrupt, has the ITS or the mark of GICD_CTLR
+-- a word as a guest opens: what the guest has, no vCPU is kicked, nobody holds an interrupt, has the ITS or the mark of GICD_CTLR, and lines are empty
 abbrev pub opening_word_of : IdealGuest → WordId → ℕ
 opening_word_of guest (Irq key) = packed (irq_at guest key)
 opening_word_of guest (Vcpu vcpu) = packed_vcpu (record { lpis = (cpu_at guest vcpu).lpis; kick = false })
@@ -58,6 +58,7 @@ opening_word_of guest (Index vcpu number) = opening_index guest vcpu number
 opening_word_of guest Queue = packed_queue (record { offset = guest.offset; stalled = guest.is_stalled; turn = None })
 opening_word_of guest Ctlr = packed_ctlr (record { enables = guest.enables; mark = None })
 opening_word_of guest (Plain index) = slice_index_or guest.words index 0
+opening_word_of guest (Line line) = packed_line empty_line
 
 -- the word at a place; 0 where it only fills a line
 abbrev pub opening_word : IdealGuest → ℕ → ℕ

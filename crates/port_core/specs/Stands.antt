@@ -9,7 +9,7 @@ use Rattle.ideal_guest.specs.GicCall.declared.event.Found.TheVariants.{Nothing, 
 use Rattle.port_core.specs.declared.local.Local.{Local}
 use Rattle.port_core.specs.declared.run.Made.{Made}
 use Rattle.port_core.specs.declared.step.CoreStep.{CoreStep}
-use Rattle.port_core.specs.declared.step.CoreStep.TheVariants.{Look, Raise, Claim, GiveBack, Release, Poll, Kick, Touch, Want, WireUp, WireDown, EnableLpis, RamLook, RamPut, CtlrTake, CtlrEnd, TurnTake, CommandDone, TurnRelease, Mark, TakeIndex}
+use Rattle.port_core.specs.declared.step.CoreStep.TheVariants.{Look, Raise, Claim, GiveBack, Release, Poll, Kick, Touch, Want, WireUp, WireDown, EnableLpis, RamLook, RamPut, CtlrTake, CtlrEnd, TurnTake, CommandDone, TurnRelease, Mark, TakeIndex, LineEnter, LineLeave, LineFill, LineClose}
 use Rattle.port_core.specs.declared.word_id.WordId.{WordId}
 use Rattle.port_core.specs.declared.word_id.WordId.TheVariants.{Vcpu, Queue, Ctlr}
 use Rattle.port_core.specs.After.{interface_of}
@@ -83,6 +83,10 @@ event_done shape actor local own (CommandDone offset stalled ending) found = sil
 event_done shape actor local own TurnRelease found = silent ItsEnd
 event_done shape actor local own (Mark key vcpu) found = None
 event_done shape actor local own (TakeIndex word) found = None
+event_done shape actor local own (LineEnter line seen) found = None
+event_done shape actor local own (LineLeave line) found = None
+event_done shape actor local own (LineFill line device event lpi) found = None
+event_done shape actor local own (LineClose line) found = None
 
 -- what a step stands for: nothing where it does not do what it is for
 abbrev pub stands_for : GuestShape → ℕ → Local → List Made → CoreStep → ℕ → Option Happened

@@ -1,11 +1,11 @@
 -- What a step names: its word, and what of the guest has to be there.
-use Rattle.std.specs.Prelude.{◌≡◌, ℕ, ◌/◌, ◌^◌, ◌<◌, ◌&&◌, Bool, false, IsTrue, List, nat_lt, Option, Some, None, is_none, length}
-use Rattle.ideal_guest.specs.Words.{GuestShape, IccReg, has_interrupt, is_of_vcpu}
+use Rattle.std.specs.Prelude.{◌≡◌, ℕ, ◌/◌, ◌^◌, ◌<◌, ◌&&◌, not, Bool, false, IsTrue, List, nat_lt, Option, Some, None, is_none, length}
+use Rattle.ideal_guest.specs.Words.{GuestShape, IccReg, Lpi, has_interrupt, is_of_vcpu}
 use Rattle.ideal_guest.specs.Calls.{plain_count, CanTouch, IsOffset, has_wire, is_usable}
 use Rattle.port_core.specs.declared.word_id.WordId.{WordId}
-use Rattle.port_core.specs.declared.word_id.WordId.TheVariants.{Irq, Vcpu, Index, Queue, Ctlr, Plain}
+use Rattle.port_core.specs.declared.word_id.WordId.TheVariants.{Irq, Vcpu, Index, Queue, Ctlr, Plain, Line}
 use Rattle.port_core.specs.declared.step.CoreStep.{CoreStep}
-use Rattle.port_core.specs.declared.step.CoreStep.TheVariants.{Look, Raise, Claim, GiveBack, Release, Poll, Kick, Touch, Want, WireUp, WireDown, EnableLpis, RamLook, RamPut, CtlrTake, CtlrEnd, TurnTake, CommandDone, TurnRelease, Mark, TakeIndex}
+use Rattle.port_core.specs.declared.step.CoreStep.TheVariants.{Look, Raise, Claim, GiveBack, Release, Poll, Kick, Touch, Want, WireUp, WireDown, EnableLpis, RamLook, RamPut, CtlrTake, CtlrEnd, TurnTake, CommandDone, TurnRelease, Mark, TakeIndex, LineEnter, LineLeave, LineFill, LineClose}
 use Rattle.port_core.specs.Place.{has_word, index_bit, index_words}
 use Rattle.port_core.specs.Local.{is_vcpu}
 
@@ -32,6 +32,10 @@ word_of shape actor (CommandDone offset stalled ending) = Queue
 word_of shape actor TurnRelease = Queue
 word_of shape actor (Mark key vcpu) = Index vcpu (index_bit shape key / 64)
 word_of shape actor (TakeIndex word) = Index actor word
+word_of shape actor (LineEnter line seen) = Line line
+word_of shape actor (LineLeave line) = Line line
+word_of shape actor (LineFill line device event lpi) = Line line
+word_of shape actor (LineClose line) = Line line
 
 -- a vCPU's access of a register of its CPU interface, or a look without one
 abbrev pub is_poll : Option IccReg → Option ℕ → Bool
@@ -42,6 +46,13 @@ is_poll (Some reg) write = is_usable reg write
 abbrev pub IsEnd : Bool → Option (List ℕ) → Type 0
 IsEnd stalled None = Unit {0}
 IsEnd stalled (Some words) = (length words ≡ 4) × (stalled ≡ false)
+
+-- a line is filled with a message whose DeviceID and EventID fit it, and with an LPI of the guest
+pub record CanFill (shape : GuestShape) (line device event lpi : ℕ) : Type 0 where
+  pub there : IsTrue (has_word shape (Line line))
+  pub device_fits : device < 65536
+  pub event_fits : event < 65536
+  pub lpi_there : IsTrue (has_interrupt shape (Lpi lpi))
 
 -- what a step names is there, and its values are in range
 abbrev pub CanStep : GuestShape → ℕ → CoreStep → Type 0
@@ -66,3 +77,7 @@ CanStep shape actor (CommandDone offset stalled ending) = IsOffset offset × IsE
 CanStep shape actor TurnRelease = Unit {0}
 CanStep shape actor (Mark key vcpu) = IsTrue (nat_lt vcpu shape.vcpus && is_of_vcpu vcpu key && has_interrupt shape key)
 CanStep shape actor (TakeIndex word) = IsTrue (is_vcpu shape actor && nat_lt word (index_words shape))
+CanStep shape actor (LineEnter line seen) = IsTrue (not (is_vcpu shape actor) && has_word shape (Line line))
+CanStep shape actor (LineLeave line) = IsTrue (not (is_vcpu shape actor) && has_word shape (Line line))
+CanStep shape actor (LineFill line device event lpi) = CanFill shape line device event lpi
+CanStep shape actor (LineClose line) = IsTrue (has_word shape (Line line))

@@ -1,17 +1,18 @@
 -- What is kept of every word and of every actor's own state, by every step of every run.
 use Rattle.std.specs.Prelude.{◌≡◌, ℕ, ◌+◌, ◌*◌, ◌^◌, ◌<◌, ◌≤◌, ◌||◌, Bool, true, false, IsTrue, List, [], length, filter, All, Option, Some, None, is_none, slice_index_or}
 use Rattle.std.specs.Option.{option_map_or, ForSome}
-use Rattle.ideal_guest.specs.Words.{Key, GuestShape, has_interrupt, is_of_vcpu, is_same_key, has_bit, Irq as IrqRecord, is_number, IsWord, irq_of, IsRecordOf}
+use Rattle.ideal_guest.specs.Words.{Key, Lpi, GuestShape, has_interrupt, is_of_vcpu, is_same_key, has_bit, Irq as IrqRecord, is_number, IsWord, irq_of, IsRecordOf}
 use Rattle.ideal_guest.specs.Registers.{HasBinaryPoints, HasLevels, is_queue_word, queue_of}
 use Rattle.ideal_guest.specs.Calls.{IsEntryOf}
 use Rattle.ideal_guest.specs.CanOpen.{is_own}
 use Rattle.port_core.specs.declared.at_list.AtIrq.{AtIrq}
+use Rattle.port_core.specs.declared.line.Entered.{Entered}
 use Rattle.port_core.specs.declared.local.Local.{Local}
 use Rattle.port_core.specs.declared.word_id.WordId.{WordId}
-use Rattle.port_core.specs.declared.word_id.WordId.TheVariants.{Irq, Vcpu, Index, Queue, Ctlr, Plain}
-use Rattle.port_core.specs.Forms.{is_vcpu_word, is_ctlr_word, ctlr_of}
-use Rattle.port_core.specs.Local.{is_vcpu, is_at, entry_of, has_no_cand}
-use Rattle.port_core.specs.Place.{index_bits}
+use Rattle.port_core.specs.declared.word_id.WordId.TheVariants.{Irq, Vcpu, Index, Queue, Ctlr, Plain, Line}
+use Rattle.port_core.specs.Forms.{is_vcpu_word, is_ctlr_word, ctlr_of, is_line_word, line_of}
+use Rattle.port_core.specs.Local.{is_vcpu, is_at, entry_of, has_no_cand, is_in_line, is_inside}
+use Rattle.port_core.specs.Place.{index_bits, line_count}
 use Rattle.port_core.specs.Actor.{actor_count}
 
 -- Words.
@@ -38,6 +39,12 @@ pub record IsIndexWord (shape : GuestShape) (number word : ℕ) : Type 0 where
   pub fits : word < 2 ^ 64
   pub bits : (bit : ℕ) → bit < 64 → IsTrue (has_bit word bit) → 64 * number + bit < index_bits shape
 
+-- a translation line's word: its LPI is one of the guest where it has a message, and the guest has the devices that are in it
+pub record IsLineWord (shape : GuestShape) (word : ℕ) : Type 0 where
+  pub word_is : IsTrue (is_line_word word)
+  pub lpi : ForSome (line_of word).pair (λ pair. IsTrue (has_interrupt shape (Lpi (line_of word).lpi)))
+  pub inside : (line_of word).inside < 2 ^ shape.devices
+
 -- what a word can be
 abbrev pub IsValid : GuestShape → WordId → ℕ → Type 0
 IsValid shape (Irq key) word = IsIrqWord shape key word
@@ -46,6 +53,7 @@ IsValid shape (Index vcpu number) word = IsIndexWord shape number word
 IsValid shape Queue word = IsTrue (is_queue_word word) × IsActorOrNone shape (queue_of word).turn
 IsValid shape Ctlr word = IsTrue (is_ctlr_word word) × IsActorOrNone shape (ctlr_of word).mark
 IsValid shape (Plain index) word = word < 2 ^ 64
+IsValid shape (Line line) word = IsLineWord shape word
 
 -- An actor's own state.
 
@@ -81,7 +89,14 @@ pub record HasNone (local : Local) : Type 0 where
   pub at : local.at ≡ []
   pub cands : IsTrue (has_no_cand local)
 
--- only a vCPU has interrupts at an interface and candidates
+-- a device is in a line of the guest, with an LPI of the guest
+pub record IsEntered (shape : GuestShape) (entered : Entered) : Type 0 where
+  pub there : entered.line < line_count shape
+  pub device : entered.pair.0 < 65536
+  pub event : entered.pair.1 < 65536
+  pub lpi : IsTrue (has_interrupt shape (Lpi entered.lpi))
+
+-- only a vCPU has interrupts at an interface and candidates, and only the actor that has the ITS knows lines to be shut
 pub record IsLocal (shape : GuestShape) (actor : ℕ) (local : Local) : Type 0 where
   pub points : HasBinaryPoints local.cpu
   pub levels : HasLevels local.cpu
@@ -93,13 +108,17 @@ pub record IsLocal (shape : GuestShape) (actor : ℕ) (local : Local) : Type 0 w
   pub marks : AreMarks shape local.marks.key local.marks.vcpus.0
   pub cands : AreCands shape local.cands.words
   pub device : is_vcpu shape actor ≡ false → HasNone local
+  pub line : ForSome local.line (IsEntered shape)
+  pub shut : local.shut < 2 ^ 64
+  pub idle : local.turn ≡ false → local.shut ≡ 0
 
--- What a word and an actor's own state say of each other: who holds an interrupt, who has the ITS, and who has the mark of GICD_CTLR.
+-- What a word and an actor's own state say of each other: who holds an interrupt, who has the ITS, who has the mark of GICD_CTLR, and who is in a line.
 
 abbrev pub Ties : GuestShape → ℕ → Local → WordId → ℕ → Type 0
 Ties shape actor local (Irq key) word = is_number actor (irq_of word).holder ≡ is_at key local.at
 Ties shape actor local Queue word = is_number actor (queue_of word).turn ≡ local.turn
 Ties shape actor local Ctlr word = is_number actor (ctlr_of word).mark ≡ local.ctlr
+Ties shape actor local (Line line) word = is_inside shape actor (line_of word) ≡ is_in_line line local
 Ties shape actor local word found = Unit {0}
 
 -- what a step may find: a valid word that agrees with the actor's own state

@@ -1,18 +1,20 @@
 //! What a step leaves of its actor's own state.
-ghost use Rattle.std.specs.Prelude.{ℕ as Number, ◌≡◌, ◌<◌, ◌≤◌, ◌/◌, ◌+◌, ◌==◌, [], ◌∷◌, IsTrue, IfSome, All, Option, Some, None};
-ghost use Rattle.ideal_guest.specs.Words.{IsShape, max_vcpus, has_interrupt, irq_of, IsIrq, IsSeat, IsWord};
+ghost use Rattle.std.specs.Prelude.{ℕ as Number, ◌≡◌, ◌<◌, ◌≤◌, ◌/◌, ◌+◌, ◌==◌, [], ◌∷◌, IsTrue, IfSome, All, Option, Some, None, false, if◌then◌else◌};
+ghost use Rattle.ideal_guest.specs.Words.{GuestShape, IsShape, max_vcpus, has_interrupt, irq_of, IsIrq, IsSeat, IsWord};
 ghost use Rattle.ideal_guest.specs.Calls.{CanTouch};
 ghost use Rattle.ideal_guest.specs.Registers.{IsQueue, is_queue_word, queue_of, HasBinaryPoints};
-ghost use Rattle.port_core.specs.declared.step.CoreStep.TheVariants.{Claim, Touch};
-ghost use Rattle.port_core.specs.After.{concerned as concerned_of, concerned_by as concerned_of_touch, looked_at, claimed_at, given_at, release_at, polled_at, index_taken, marked, local_after};
+ghost use Rattle.port_core.specs.declared.step.CoreStep.TheVariants.{Claim, Touch, LineEnter};
+ghost use Rattle.port_core.specs.After.{concerned as concerned_of, concerned_by as concerned_of_touch, looked_at, claimed_at, given_at, release_at, polled_at, index_taken, marked, looked_at_line, closed_line, local_after};
 ghost use Rattle.port_core.specs.Condition.{may_claim as may_claim_at, has_room};
 ghost use Rattle.port_core.specs.Place.{index_words as words_of};
 ghost use Rattle.port_core.specs.Effect.{succeeds, is_active_at};
-ghost use Rattle.port_core.specs.Local.{owing, owing_both};
+ghost use Rattle.port_core.specs.Local.{owing, owing_both, with_shut, without_shut};
+ghost use Rattle.port_core.specs.Forms.{is_empty_line};
 ghost use Rattle.port_core.specs.Step.{CanStep, word_of};
 ghost use Rattle.port_core.specs.Valid.{IsLocal, CanFind, IsIrqWord};
 
 use crate::at_list::{AtIrq, Change, Which};
+use crate::line::{Entered, Line};
 use crate::local::{Local, Phase};
 use crate::owed::{MarkSet, NO_VCPUS, with_all, without_vcpu};
 use crate::step::CoreStep;
@@ -211,6 +213,66 @@ impl Local {
         }
     }
 
+    /// It knows a translation line to be shut.
+    fn with_shut(&mut self, line: u32)
+        requires { line < 64 }
+        ensures { self.new ≡ with_shut line self.old }
+    {
+        self.shut |= 1 << line;
+    }
+
+    /// It looked at a translation line.
+    fn look_at_line(&mut self, number: u32, line: &Line)
+        requires { number < 64 }
+        ensures { self.new ≡ looked_at_line number line.now self.old }
+    {
+        if self.turn && line.is_empty() {
+            self.with_shut(number);
+        }
+    }
+
+    /// It tried to get into a translation line.
+    fn enter_line(&mut self, number: u32, seen: u64, found: u64)
+        ensures { (shape : GuestShape) → (actor : Number) → self.new ≡ local_after shape actor self.old (LineEnter number seen) found }
+    {
+        let line = Line::of(found);
+        if let (true, Some(pair)) = (found == seen, line.pair) {
+            self.line = Some(Entered {
+                line: number,
+                pair,
+                lpi: line.lpi,
+            });
+        }
+    }
+
+    /// It tried to fill a translation line.
+    fn fill_line(&mut self, number: u32, line: &Line)
+        requires { number < 64 }
+        ensures { self.new ≡ (if is_empty_line line.now then without_shut number self.old else self.old) }
+    {
+        if line.is_empty() {
+            self.shut &= !(1 << number);
+        }
+    }
+
+    /// It closed a translation line.
+    fn close_line(&mut self, number: u32, line: &Line)
+        requires { number < 64 }
+        ensures { self.new ≡ closed_line number line.now self.old }
+    {
+        if line.inside == 0 {
+            self.with_shut(number);
+        }
+    }
+
+    /// It gave the ITS back.
+    fn release_turn(&mut self)
+        ensures { self.new ≡ record self.old { turn = false; shut = 0 } }
+    {
+        self.turn = false;
+        self.shut = 0;
+    }
+
     /// The actor's own state after a step of it that found its word so: a step of the guest, on a valid word that
     /// agrees with that state. No step copies the state.
     pub fn advance(&mut self, step: &CoreStep, found: u64, actor: u32, shape: &GuestShape)
@@ -239,9 +301,16 @@ impl Local {
             CoreStep::CtlrEnd => self.ctlr = false,
             CoreStep::TurnTake { seen } => self.turn |= found == seen
                 && queue_in(found).turn.is_none(),
-            CoreStep::TurnRelease => self.turn = false,
+            CoreStep::TurnRelease => self.release_turn(),
             CoreStep::Mark { key, vcpu } => self.mark(key, vcpu, actor, shape),
             CoreStep::TakeIndex { word } => self.take_index(word, found, shape),
+            CoreStep::Look {
+                word: WordId::Line(line),
+            } => self.look_at_line(line, &Line::of(found)),
+            CoreStep::LineEnter { line, seen } => self.enter_line(line, seen, found),
+            CoreStep::LineLeave { .. } => self.line = None,
+            CoreStep::LineFill { line, .. } => self.fill_line(line, &Line::of(found)),
+            CoreStep::LineClose { line } => self.close_line(line, &Line::of(found)),
             _ => {}
         }
     }

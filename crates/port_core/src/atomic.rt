@@ -1,19 +1,22 @@
 //! The one atomic operation on a word that makes a step.
-ghost use Rattle.std.specs.Prelude.{◌≡◌, ℕ, ◌<◌, ◌^◌, ◌/◌, ◌%◌, List, IsTrue, Some, is_none};
+ghost use Rattle.std.specs.Prelude.{◌≡◌, ℕ, ◌<◌, ◌≤◌, ◌^◌, ◌/◌, ◌%◌, ◌-◌, List, IsTrue, Some, is_none, is_some, false};
 ghost use Rattle.ideal_guest.specs.Words.{IsShape, max_vcpus, has_interrupt, irq_of};
 ghost use Rattle.ideal_guest.specs.Calls.{CanTouch, IsOffset};
 ghost use Rattle.ideal_guest.specs.Registers.{is_queue_word, queue_of, packed as packed_queue, enables_in as enables_of};
+ghost use Rattle.port_core.specs.declared.atomic.Atomic.TheVariants.{Exchange};
 ghost use Rattle.port_core.specs.declared.run.Made.{Made};
 ghost use Rattle.port_core.specs.Effect.{may_move as can_move, claimed_irq, touched_irq, changed};
-ghost use Rattle.port_core.specs.Forms.{ctlr_of, packed_ctlr};
+ghost use Rattle.port_core.specs.Forms.{ctlr_of, packed_ctlr, line_of, packed_line};
 ghost use Rattle.port_core.specs.Atomic.{IsSeen, Makes, back_bits, release_bits, exchange_by};
 ghost use Rattle.port_core.specs.Place.{index_bit as bit_of_key};
 ghost use Rattle.port_core.specs.Condition.{Meets};
 ghost use Rattle.port_core.specs.Actor.{actor_count};
 ghost use Rattle.port_core.specs.Step.{CanStep};
-ghost use Rattle.port_core.specs.Valid.{IsLocal, IsIrqWord};
+ghost use Rattle.port_core.specs.Local.{is_vcpu, with_inside};
+ghost use Rattle.port_core.specs.Valid.{IsLocal, IsIrqWord, IsLineWord};
 
 use crate::advance::{irq_in, queue_in};
+use crate::line::{Line, pack_line};
 use crate::local::Local;
 use crate::step::CoreStep;
 use crate::word_id::{WORD_BITS, index_bit};
@@ -35,6 +38,10 @@ const KICK: u64 = 0b10;
 const ENABLES: u64 = 0b11;
 /// What the queue's word says but for who has the ITS.
 const QUEUE: u64 = 0xFFFF_FFFF;
+/// The devices in a translation line.
+const INSIDE: u64 = 0b1111;
+/// The one word of a translation line with neither a message nor a device.
+const EMPTY_LINE: u64 = 0;
 
 /// One atomic operation on a word of 64 bits, which hands out the word as it found it.
 #[derive(Clone, Copy, Debug, PartialEq, Eq)]
@@ -141,6 +148,52 @@ fn index_mask(key: Key, shape: &GuestShape) -> u64
     1 << (index_bit(key, shape) % WORD_BITS)
 }
 
+/// The bit of a device in the set of the devices that are in a line.
+fn device_bit(actor: u32, shape: &GuestShape) -> u32
+    requires device { is_vcpu shape.now actor ≡ false }
+    requires actor { actor < actor_count shape.now }
+    requires shape { IsShape shape.now }
+    ensures value { result ≡ 2 ^ (actor - shape.now.vcpus) }
+    ensures bound { result < 16 }
+{
+    1 << (actor - shape.vcpus)
+}
+
+/// The compare-exchange by which a device gets into a line.
+fn line_enter_by(seen: u64, actor: u32, shape: &GuestShape) -> Atomic
+    requires device { is_vcpu shape.now actor ≡ false }
+    requires actor { actor < actor_count shape.now }
+    requires shape { IsShape shape.now }
+    requires valid { IsLineWord shape.now seen }
+    ensures { result ≡ exchange_by (is_some (line_of seen).pair) seen (packed_line (with_inside shape.now actor (line_of seen))) }
+{
+    let line = Line::of(seen);
+    let entered = Line {
+        inside: line.inside | device_bit(actor, shape),
+        ..line
+    };
+    exchange_if(line.pair.is_some(), seen, pack_line(&entered))
+}
+
+/// The compare-exchange that fills an empty line.
+fn line_fill_by(device: u32, event: u32, lpi: u32) -> Atomic
+    requires device { device < 65536 }
+    requires event { event < 65536 }
+    requires from { 8192 ≤ lpi }
+    requires lpi { lpi < 16384 }
+    ensures { result ≡ Exchange 0 (packed_line (record { pair = Some (device, event); lpi = lpi; inside = 0 })) }
+{
+    let filled = Line {
+        pair: Some((device, event)),
+        lpi,
+        inside: 0,
+    };
+    Atomic::Exchange {
+        seen: EMPTY_LINE,
+        value: pack_line(&filled),
+    }
+}
+
 impl Local {
     /// The compare-exchange of a claim.
     fn claim_by(&self, key: Key, seen: u64, actor: u32, shape: &GuestShape) -> Atomic
@@ -204,6 +257,17 @@ impl Local {
                 mask: index_mask(key, shape),
             },
             CoreStep::TakeIndex { .. } => Atomic::Swap { value: 0 },
+            CoreStep::LineEnter { seen, .. } => line_enter_by(seen, actor, shape),
+            CoreStep::LineLeave { .. } => Atomic::And {
+                mask: !u64::from(device_bit(actor, shape)),
+            },
+            CoreStep::LineFill {
+                device,
+                event,
+                lpi,
+                ..
+            } => line_fill_by(device, event, lpi),
+            CoreStep::LineClose { .. } => Atomic::And { mask: INSIDE },
         }
     }
 }

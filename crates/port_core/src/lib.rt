@@ -9,6 +9,7 @@ mod atomic;
 mod claim;
 mod end;
 mod laws;
+mod line;
 mod local;
 mod owed;
 mod port;
@@ -30,12 +31,14 @@ pub use ideal_guest::{
     plain_count, queue_pack, queue_unpack, ripe,
 };
 pub use laws::{opening_is_sound, parts_join, runs_are_sound, runs_join, steps_keep_sound};
+pub use line::{Entered, Line, pack_line, unpack_line};
 pub use local::{Local, Phase};
 pub use owed::{CAND_WORDS, Cands, MarkSet, NO_VCPUS, with_all, with_vcpu, without_vcpu};
 pub use port::Port;
 pub use run::{Entry, Made};
 pub use step::CoreStep;
 pub use word_id::{
-    WordId, index_bit, index_bits, index_words, key_of_bit, place_of_word, word_at, word_count,
+    LINES, WordId, index_bit, index_bits, index_words, key_of_bit, line_count, place_of_word,
+    word_at, word_count,
 };
 pub use words::{CtlrWord, VcpuWord};

@@ -3,6 +3,7 @@ ghost use Rattle.std.specs.Prelude.{◌≡◌};
 ghost use Rattle.port_core.specs.Local.{opening_local};
 
 use crate::at_list::AtList;
+use crate::line::Entered;
 use crate::owed::{Cands, MarkSet, NO_VCPUS};
 use ideal_guest::{Actor, CpuRec, Targets};
 
@@ -40,6 +41,11 @@ pub struct Local {
     pub marks: MarkSet,
     /// The candidates that it took and did not settle yet.
     pub cands: Cands,
+    /// The translation line that it is in, if it is a device and in one.
+    pub line: Option<Entered>,
+    /// The translation lines that it knows to be shut, a bit each: while it has the ITS, it closed each of them and found it
+    /// without a message and without a device.
+    pub shut: u64,
 }
 
 impl Local {
@@ -60,6 +66,8 @@ impl Local {
                 vcpus: NO_VCPUS,
             },
             cands: Cands::none(),
+            line: None,
+            shut: 0,
         }
     }
 
@@ -77,6 +85,8 @@ impl Local {
             ctlr: self.ctlr,
             marks: self.marks,
             cands: self.cands,
+            line: self.line,
+            shut: self.shut,
         }
     }
 }

@@ -102,6 +102,26 @@ pub enum CoreStep {
     TakeIndex {
         word: u32,
     },
+    /// A device gets into a translation line, if its word is still `seen` and has a message.
+    LineEnter {
+        line: u32,
+        seen: u64,
+    },
+    /// A device leaves the translation line that it is in.
+    LineLeave {
+        line: u32,
+    },
+    /// Stores a message and its LPI in a translation line, if that has neither a message nor a device.
+    LineFill {
+        line: u32,
+        device: u32,
+        event: u32,
+        lpi: u32,
+    },
+    /// Takes the message out of a translation line.
+    LineClose {
+        line: u32,
+    },
 }
 
 impl CoreStep {
@@ -133,6 +153,10 @@ impl CoreStep {
                 word: index_bit(key, shape) / WORD_BITS,
             },
             CoreStep::TakeIndex { word } => WordId::Index { vcpu: actor, word },
+            CoreStep::LineEnter { line, .. }
+            | CoreStep::LineLeave { line }
+            | CoreStep::LineFill { line, .. }
+            | CoreStep::LineClose { line } => WordId::Line(line),
         }
     }
 }

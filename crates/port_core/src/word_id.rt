@@ -1,8 +1,8 @@
 //! The words of a guest, and their numbering.
-ghost use Rattle.std.specs.Prelude.{◌≡◌, ℕ, ◌<◌, ◌≤◌, ◌^◌, IsTrue, IfSome, IfNone, Some};
+ghost use Rattle.std.specs.Prelude.{◌≡◌, ℕ, ◌+◌, ◌<◌, ◌≤◌, ◌^◌, IsTrue, IfSome, IfNone, Some};
 ghost use Rattle.std.specs.declared.option.Option.{Option};
 ghost use Rattle.ideal_guest.specs.Words.{IsShape, has_interrupt, is_of_vcpu};
-ghost use Rattle.port_core.specs.Place.{index_bits as bits_of, index_words as words_of, index_bit as bit_of_key, key_of_bit as key_of, has_word, word_count as count_of, place_of_word as place_in, word_at as word_in, whole_lines as lines_of, plain_from as plains_at, blocks_from as blocks_at, block_words as words_in_block, word_in_blocks as word_among_blocks};
+ghost use Rattle.port_core.specs.Place.{index_bits as bits_of, index_words as words_of, index_bit as bit_of_key, key_of_bit as key_of, has_word, word_count as count_of, place_of_word as place_in, word_at as word_in, whole_lines as lines_of, plain_from as plains_at, blocks_from as blocks_at, block_words as words_in_block, word_in_blocks as word_among_blocks, word_in_lines as word_among_lines, line_count as lines_in, lines_from as lines_at};
 
 use ideal_guest::{GuestShape, Key, interrupt_count, key_at, place_of, plain_count};
 
@@ -10,6 +10,8 @@ use ideal_guest::{GuestShape, Key, interrupt_count, key_at, place_of, plain_coun
 pub(crate) const WORD_BITS: u32 = 64;
 /// The words of a cache line.
 const LINE_WORDS: usize = 8;
+/// How many translation lines a guest with LPIs has.
+pub const LINES: u32 = 64;
 /// How many private interrupts a vCPU has; their INTIDs come first.
 const PRIVATE: u32 = 32;
 /// The INTID of the first extended SPI.
@@ -32,6 +34,8 @@ pub enum WordId {
     Plain(u32),
     /// A word of a vCPU's candidate index: a bit for each interrupt that the vCPU may have to look at.
     Index { vcpu: u32, word: u32 },
+    /// A translation line of the ITS, by its number from 0 to 63.
+    Line(u32),
 }
 
 /// How many interrupts a vCPU of the guest can have at its interface: its private ones and all shared ones.
@@ -128,13 +132,30 @@ fn block_words(shape: &GuestShape) -> usize
     whole_lines(1 + index_words(shape) as usize)
 }
 
+/// How many translation lines a guest has: 64 where it has LPIs, and else none.
+pub fn line_count(shape: &GuestShape) -> u32
+    ensures value { result ≡ lines_in shape.now }
+    ensures bound { result ≤ 64 }
+{
+    if shape.lpis == 0 { 0 } else { LINES }
+}
+
+/// Where the translation lines begin.
+fn lines_from(shape: &GuestShape) -> usize
+    requires { IsShape shape.now }
+    ensures value { result ≡ lines_at shape.now }
+    ensures bound { result < 2 ^ 23 + 2 ^ 12 }
+{
+    blocks_from(shape) + shape.vcpus as usize * block_words(shape)
+}
+
 /// How many places there are, those that only fill a line among them.
 pub fn word_count(shape: &GuestShape) -> usize
     requires { IsShape shape.now }
     ensures value { result ≡ count_of shape.now }
     ensures bound { result < 2 ^ 24 }
 {
-    blocks_from(shape) + shape.vcpus as usize * block_words(shape)
+    lines_from(shape) + line_count(shape) as usize * LINE_WORDS
 }
 
 /// The place of a word among all of the guest's, from 0.
@@ -154,6 +175,7 @@ pub fn place_of_word(word: WordId, shape: &GuestShape) -> usize
         WordId::Index { vcpu, word } => {
             blocks_from(shape) + vcpu as usize * block_words(shape) + (1 + word as usize)
         }
+        WordId::Line(line) => lines_from(shape) + line as usize * LINE_WORDS,
     }
 }
 
@@ -177,6 +199,14 @@ fn word_in_blocks(place: usize, shape: &GuestShape) -> Option<WordId>
     }
 }
 
+/// The word at a place among the translation lines.
+fn word_in_lines(place: usize) -> Option<WordId>
+    requires { place < 2 ^ 16 }
+    ensures { result ≡ word_among_lines place }
+{
+    (place % LINE_WORDS == 0).then_some(WordId::Line((place / LINE_WORDS) as u32))
+}
+
 /// The word at a place. None where the place only fills a cache line.
 pub fn word_at(place: usize, shape: &GuestShape) -> Option<WordId>
     requires shape { IsShape shape.now }
@@ -196,7 +226,9 @@ pub fn word_at(place: usize, shape: &GuestShape) -> Option<WordId>
         Some(WordId::Plain((place - plain_from(shape)) as u32))
     } else if place < blocks_from(shape) {
         None
-    } else {
+    } else if place < lines_from(shape) {
         word_in_blocks(place - blocks_from(shape), shape)
+    } else {
+        word_in_lines(place - lines_from(shape))
     }
 }

@@ -17,7 +17,8 @@ word_among shape words word = slice_index_or words (place_of_word shape word) 0
 abbrev pub words_among : GuestShape → List ℕ → (ℕ → WordId) → ℕ → List ℕ
 words_among shape words which count = map (λ number. word_among shape words (which number)) (range_with_len 0 count)
 
--- the words of a guest, and its maps, as they are told of at its end: each word that is not of a candidate index
+-- the words of a guest, and its maps, as they are told of at its end: each word that is neither of a candidate index
+-- nor a translation line
 abbrev pub words_at_end : GuestShape → List ℕ → Maps → GuestWords
 words_at_end shape words maps =
     record {

@@ -10,9 +10,9 @@ ghost use Rattle.port_ops.specs.Quiet.{is_quiet};
 ghost use Rattle.port_ops.specs.GuestWords.{word_among, words_among, words_at_end};
 
 use port_core::{
-    CtlrWord, GuestShape, GuestWords, IdealGuest, Irq, ItsTables, ListOf, QueueWord, VcpuWord,
-    WordId, WordList, index_bits, interrupt_count, key_at, key_of_bit, pack, pending,
-    place_of_word, plain_count, queue_pack, ripe, word_at, word_count,
+    CtlrWord, GuestShape, GuestWords, IdealGuest, Irq, ItsTables, Line, ListOf, QueueWord,
+    VcpuWord, WordId, WordList, index_bits, interrupt_count, key_at, key_of_bit, pack, pack_line,
+    pending, place_of_word, plain_count, queue_pack, ripe, word_at, word_count,
 };
 use std::alloc::{AllocError, Global};
 
@@ -90,6 +90,7 @@ fn word_of_guest(guest: &IdealGuest, are_quiet: bool, word: WordId) -> u64
         }
         .pack(),
         WordId::Plain(index) => guest.words.as_slice()[index as usize],
+        WordId::Line(_) => pack_line(&Line::EMPTY),
     }
 }
 

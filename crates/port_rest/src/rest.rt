@@ -25,11 +25,11 @@ pub fn owes_nothing(local: &Local) -> bool
     local.owes.0 == NO_VCPUS.0 && local.marks.vcpus.0 == NO_VCPUS.0 && has_no_cand(local)
 }
 
-/// Whether the actor owes nothing, and has neither the ITS nor the mark of GICD_CTLR.
+/// Whether the actor owes nothing, has neither the ITS nor the mark of GICD_CTLR, and is in no translation line.
 pub fn is_settled(local: &Local) -> bool
     ensures { result ≡ is_settled_in local.now }
 {
-    owes_nothing(local) && !local.turn && !local.ctlr
+    owes_nothing(local) && !local.turn && !local.ctlr && local.line.is_none()
 }
 
 /// Whether the actor owes nothing, and nothing is at its interface.
@@ -39,7 +39,7 @@ pub fn is_at_ease(local: &Local) -> bool
     owes_nothing(local) && has_none_at(local)
 }
 
-/// Whether the actor owes nothing, has neither the ITS nor the mark of GICD_CTLR, and nothing is at its interface: so are a
+/// Whether the actor owes nothing, has neither the ITS nor the mark of GICD_CTLR, is in no translation line, and nothing is at its interface: so are a
 /// device, and a vCPU on no PE, between two calls.
 pub fn is_off(local: &Local) -> bool
     ensures { IsTrue result ↔ (IsTrue (is_settled_in local.now) × local.now.at ≡ []) }

@@ -1,5 +1,5 @@
 -- The slot with the tables of the ITS: at home with the guest's maps while nobody has the ITS, and with the actor that has it.
-use Rattle.std.proofs.Common.{◌≡◌, ℕ, ◌<◌, ◌==◌, Bool, true, false, cond, IsTrue, List, [], ◌∷◌, ◌++◌, length, Option, Some, None, is_none, unwrap_or, refl, sym, ap, subst, ◌∙◌, arith}
+use Rattle.std.proofs.Common.{◌≡◌, ℕ, ◌<◌, ◌==◌, ◌&&◌, Bool, true, false, cond, IsTrue, List, [], ◌∷◌, ◌++◌, length, Option, Some, None, is_none, unwrap_or, refl, sym, ap, subst, ◌∙◌, arith}
 use Rattle.std.proofs.lemmas.Bool.{eq-eqb, and_parts}
 use Rattle.std.proofs.lemmas.Grind.{fold-append}
 use Rattle.std.proofs.lemmas.Option.{same_Some}
@@ -14,15 +14,15 @@ use Rattle.port_ops.specs.PortCore.declared.local.Local.{Local}
 use Rattle.port_ops.specs.PortCore.declared.local.Phase.TheVariants.{Folding}
 use Rattle.port_ops.specs.PortCore.declared.run.Made.{Made}
 use Rattle.port_ops.specs.PortCore.declared.step.CoreStep.{CoreStep}
-use Rattle.port_ops.specs.PortCore.declared.step.CoreStep.TheVariants.{Look, Claim, Poll, Touch, RamPut, CtlrTake, TurnTake, TurnRelease}
-use Rattle.port_ops.specs.PortCore.declared.word_id.WordId.TheVariants.{Irq, Queue}
+use Rattle.port_ops.specs.PortCore.declared.step.CoreStep.TheVariants.{Look, Claim, Poll, Touch, RamPut, CtlrTake, TurnTake, TurnRelease, LineEnter, LineFill, LineClose}
+use Rattle.port_ops.specs.PortCore.declared.word_id.WordId.TheVariants.{Irq, Queue, Line}
 use Rattle.port_ops.specs.PortCore.Actor.{actor_count}
 use Rattle.port_ops.specs.PortCore.After.{is_settled_by_look, accessed, local_done, local_after}
 use Rattle.port_ops.specs.PortCore.Condition.{Meets}
 use Rattle.port_ops.specs.PortCore.Effect.{succeeds}
-use Rattle.port_ops.specs.PortCore.Forms.{vcpu_of}
+use Rattle.port_ops.specs.PortCore.Forms.{vcpu_of, line_of, is_empty_line}
 use Rattle.port_ops.specs.PortCore.Known.{no_maps, maps_by_step, maps_after, known_maps}
-use Rattle.port_ops.specs.PortCore.Local.{settled}
+use Rattle.port_ops.specs.PortCore.Local.{settled, with_shut}
 use Rattle.port_ops.specs.PortCore.Port.{keeps_tables}
 use Rattle.port_ops.specs.PortCore.Run.{CoreState, Seat, Takes, IsSound, after, no_seat, seat_at, word_in, handed_maps}
 use Rattle.port_ops.specs.PortCore.Step.{word_of}
@@ -121,7 +121,15 @@ stays_idle shape state actor (Touch key seen kind) found e idle = let local = (s
 stays_idle shape state actor (RamPut index seen value) found e idle = let local = (seat_at state actor).local in kept_idle (succeeds shape actor local (RamPut index seen value) found) local local refl idle
 stays_idle shape state actor (CtlrTake seen value) found e idle = let local = (seat_at state actor).local in kept_idle (succeeds shape actor local (CtlrTake seen value) found) (record local { ctlr = true }) local refl idle
 stays_idle shape state actor TurnRelease found e idle = refl
+stays_idle shape state actor (Look (Line number)) found e idle =
+    let local = (seat_at state actor).local in
+    kept_idle (local.turn && is_empty_line (line_of found)) (with_shut number local) local refl idle
 stays_idle shape state actor (Look word) found e idle = idle
+stays_idle shape state actor (LineEnter number seen) found e idle = let local = (seat_at state actor).local in kept_idle (succeeds shape actor local (LineEnter number seen) found) (local_done shape actor local (LineEnter number seen) found) local refl idle
+stays_idle shape state actor (LineFill number device event lpi) found e idle =
+    let local = (seat_at state actor).local in
+    kept_idle (succeeds shape actor local (LineFill number device event lpi) found) (local_done shape actor local (LineFill number device event lpi) found) local refl idle
+stays_idle shape state actor (LineClose number) found e idle = let local = (seat_at state actor).local in kept_idle ((line_of found).inside == 0) (with_shut number local) local refl idle
 stays_idle shape state actor step found e idle = idle
 
 -- A step of an actor, whose seat holds the slot where the actor has the ITS.

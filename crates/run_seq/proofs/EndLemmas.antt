@@ -1,5 +1,5 @@
 -- How the guests of a run end.
-use Rattle.std.proofs.Common.{◌≡◌, ℕ, ◌<◌, ◌&&◌, not, Bool, true, false, IsTrue, All, List, [], ◌∷◌, length, map, Option, Some, None, refl, sym, ap, ◌∙◌, subst}
+use Rattle.std.proofs.Common.{◌≡◌, ℕ, ◌<◌, ◌&&◌, not, Bool, true, false, IsTrue, All, List, [], ◌∷◌, length, map, Option, Some, None, is_none, refl, sym, ap, ◌∙◌, subst}
 use Rattle.std.specs.Prelude.{slice_get, slice_set}
 use Rattle.std.specs.Option.{option_map_or}
 use Rattle.std.proofs.lemmas.List.Elements.{All-get_or}
@@ -100,10 +100,10 @@ module _ (told : GuestTold) (lrs : ℕ) (pes : List (Option VcpuName)) (steps : 
 
 -- All guests of a run.
 
-turn_off : (a t c : Bool) → IsTrue (a && not t && not c) → t ≡ false
-turn_off a false c h = refl
-turn_off true true c h = absurd (cc)
-turn_off false true c h = absurd (cc)
+turn_off : (a t c d : Bool) → IsTrue (a && not t && not c && d) → t ≡ false
+turn_off a false c d h = refl
+turn_off true true c d h = absurd (cc)
+turn_off false true c d h = absurd (cc)
 
 guest_each : (number : ℕ) (change : IdealGuest → IdealGuest) (ideals : List IdealGuest) → length (at_guest number change ideals) ≡ length ideals
 guest_each number change ideals = of (slice_get ideals number)
@@ -135,7 +135,7 @@ module _ (agenda : Agenda) (done : Done) (told : SeqTold) (run : IsDone agenda d
       let ideal = there_in last_ideals number (subst (λ n. number < n) (run.ports ∙ sym ideals_each) there) in
       let has = run.each number state.one ideal.one state.is ideal.is in
       let local = (seen_by (guest_at told number) actor).local in
-      turn_off _ local.turn local.ctlr (has.left.settled actor few)
+      turn_off _ local.turn local.ctlr (is_none local.line) (has.left.settled actor few)
 
   -- what comes out is what the ideal controller's steps give
   pub out_is : (guests : List GuestSpec) (ends : List End) → ends ≡ ends_of (map opening guests) last_ideals → (let out : RunOut = record { answers = done.answers; ends = ends } in out) ≡ record { answers = answers_by agenda; ends = ends_of (map opening guests) last_ideals }

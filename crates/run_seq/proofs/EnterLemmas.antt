@@ -8,7 +8,7 @@ use Rattle.std.proofs.lemmas.List.Folds.{list_any-append}
 use Rattle.std.proofs.lemmas.List.Sums.{fold-append}
 use Rattle.law_ends_agree.specs.Words.{GuestShape, Icc, IccReg, Irq as Record, Key, Mem, irq_of}
 use Rattle.law_ends_agree.specs.Calls.{Operation, Access, Device, Residence}
-use Rattle.law_ends_agree.specs.Core.{CoreStep, Look, Raise, Claim, GiveBack, Release, Poll, Kick, Touch, Want, WireUp, WireDown, EnableLpis, RamLook, RamPut, CtlrTake, CtlrEnd, TurnTake, CommandDone, TurnRelease, Mark, TakeIndex, Irq, Vcpu, Ctlr, Plain, Queue, Index, Made, local_after, succeeds, vcpu_of, Seen, IsAtRest, makes, begins, ends, Progress, Debt, paid, before_next, after_claim, after_icc, after_poll, is_to_scan, owed_after_part, owed_by_call, owing_after, progress_of, progressed, stepped, after_operation, Scan, idle, taking, looking, claiming}
+use Rattle.law_ends_agree.specs.Core.{CoreStep, Look, Raise, Claim, GiveBack, Release, Poll, Kick, Touch, Want, WireUp, WireDown, EnableLpis, RamLook, RamPut, CtlrTake, CtlrEnd, TurnTake, CommandDone, TurnRelease, Mark, TakeIndex, LineEnter, LineLeave, LineFill, LineClose, Irq, Vcpu, Ctlr, Plain, Queue, Index, Line, Made, local_after, succeeds, vcpu_of, Seen, IsAtRest, makes, begins, ends, Progress, Debt, paid, before_next, after_claim, after_icc, after_poll, is_to_scan, owed_after_part, owed_by_call, owing_after, progress_of, progressed, stepped, after_operation, Scan, idle, taking, looking, claiming}
 use Rattle.law_one_thread_is_eager.specs.LawSerialIsEager.CoreProper.Progress.{changed_by}
 use Rattle.law_one_thread_is_eager.specs.LawSerialIsEager.Lists.{misr_of}
 use Rattle.law_one_thread_is_eager.specs.PortSeq.Told.{GuestTold}
@@ -63,6 +63,7 @@ module _ (shape : GuestShape) (actor : ℕ) where
   change_owes (Look Ctlr) found done p none owes = owes
   change_owes (Look (Plain index)) found done p none owes = owes
   change_owes (Look (Index vcpu word)) found done p none owes = owes
+  change_owes (Look (Line line)) found done p none owes = owes
   change_owes (Raise key) found done p none owes = owes
   change_owes (Claim key seen) found done p none owes = claim_owes key (irq_of found) done p.scan p owes
   change_owes (GiveBack key back) found done p none owes = owes
@@ -84,6 +85,10 @@ module _ (shape : GuestShape) (actor : ℕ) where
   change_owes TurnRelease found done p none owes = owes
   change_owes (Mark key vcpu) found done p none owes = owes
   change_owes (TakeIndex word) found done p none owes = owes
+  change_owes (LineEnter line seen) found done p none owes = owes
+  change_owes (LineLeave line) found done p none owes = owes
+  change_owes (LineFill line device event lpi) found done p none owes = owes
+  change_owes (LineClose line) found done p none owes = owes
 
   step_owes : (made : Made) (p : Progress) → begins_scan made.step ≡ false → p.debt ≡ before_next → (stepped shape actor made p).debt ≡ before_next
   step_owes made p none owes =

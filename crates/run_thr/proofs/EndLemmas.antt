@@ -1,5 +1,5 @@
 -- A run ends: all steps of the scenario were done, by their own actors.
-use Rattle.std.proofs.Common.{◌≡◌, ℕ, ◌+◌, ◌-◌, ◌<◌, ◌&&◌, not, inl, inr, suc, true≢false, Bool, true, false, if◌then◌else◌, IsTrue, All, List, [], ◌∷◌, ◌++◌, length, map, Some, refl, sym, ap, subst, ◌∙◌, arith}
+use Rattle.std.proofs.Common.{◌≡◌, ℕ, ◌+◌, ◌-◌, ◌<◌, ◌&&◌, not, inl, inr, suc, true≢false, Bool, true, false, if◌then◌else◌, IsTrue, All, List, [], ◌∷◌, ◌++◌, length, map, Some, is_none, refl, sym, ap, subst, ◌∙◌, arith}
 use Rattle.std.specs.Prelude.{slice_get}
 use Rattle.std.proofs.Math.Logic.{∥∥₁_elim, ∥∥₁_map}
 use Rattle.std.proofs.Props.{props}
@@ -51,12 +51,12 @@ same_lists {X = X} (x ∷ xs) (y ∷ ys) long each =
 
 -- who owes nothing and has nothing has not the ITS
 settled_turn : (local : Local) → IsTrue (is_settled local) → local.turn ≡ false
-settled_turn local so = of (owes_nothing local) local.turn (not local.ctlr) so
+settled_turn local so = of (owes_nothing local) local.turn (not local.ctlr) (is_none local.line) so
   where
-    of : (a b c : Bool) → IsTrue (a && not b && c) → b ≡ false
-    of a false c e = refl
-    of true true c e = absurd (cc)
-    of false true c e = absurd (cc)
+    of : (a b c d : Bool) → IsTrue (a && not b && c && d) → b ≡ false
+    of a false c d e = refl
+    of true true c d e = absurd (cc)
+    of false true c d e = absurd (cc)
 
 module _ (scenario : Scenario) (words : List WordsTold) (devices : List DeviceTold) (trips : List TripTold) (roll : Roll scenario words devices trips) where
   -- What the vCPUs heard.

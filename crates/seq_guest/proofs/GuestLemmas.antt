@@ -316,7 +316,7 @@ device_goes told new vcpus actor op part past there at does =
       formed = All-cons (IsOfGuest told.guest.shape vcpus.lrs) (by_actor actor (device_part op part)) [] (device_formed told.guest.shape vcpus.lrs actor (device_part op part) past there refl) (All-nil (IsOfGuest told.guest.shape vcpus.lrs));
       world = later.world ∙ ap (λ entries. told.world ++ entries) (ap (map (entry_by actor)) (sym (append-nil part)) ∙ sym (entries_of_one actor parts));
       seats = seats_one old new parts adds;
-      calls = calls_one old parts (device_found (seen_of old) op part does.call, tt);
+      calls = calls_one old parts (inl (device_found (seen_of old) op part does.call), tt);
       proper = λ progress so other above.
           proper_one told.guest.shape actor other parts progress
           (subst (IsProper told.guest.shape actor (progress actor)) (sym (append-nil (acts_of (device_part op part)))) (does.proper (progress actor) (so.devices actor past there)));

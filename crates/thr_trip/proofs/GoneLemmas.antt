@@ -1,5 +1,5 @@
 -- An actor goes on by one part.
-use Rattle.std.proofs.Common.{◌≡◌, ℕ, IsTrue, List, [], ◌∷◌, ◌++◌, append-nil, refl, sym, ap, subst, ◌∙◌}
+use Rattle.std.proofs.Common.{◌≡◌, ℕ, inl, IsTrue, List, [], ◌∷◌, ◌++◌, append-nil, refl, sym, ap, subst, ◌∙◌}
 use Rattle.std.proofs.lemmas.Grind.{flat_map-append}
 use Rattle.std.proofs.lemmas.List.Elements.{All-nil, All-cons, All-append}
 use Rattle.std.proofs.lemmas.List.Sums.{fold-append}
@@ -32,7 +32,7 @@ goes_on_by lrs from old new Before After calls part on adds call proper goes_on 
       adds = subst (Adds from new) (sym steps) (adds_join from old new (steps_in gone.parts) part.steps gone.adds adds);
       registers = gone.registers;
       on = All-append On gone.parts more gone.on (All-cons On part [] on (All-nil On));
-      are = calls_join from gone.parts more gone.are (subst (λ seen. AreCalls seen more) here (call, tt));
+      are = calls_join from gone.parts more gone.are (subst (λ seen. AreCalls seen more) here (inl call, tt));
       proper =
           subst (IsProper shape actor start) (sym acts)
           ((proper_append shape actor start (acts_in gone.parts) (acts_of part)).1

@@ -1,8 +1,8 @@
 -- The look, the configuration, and the touch.
-use Rattle.std.proofs.Common.{refl}
+use Rattle.std.proofs.Common.{refl, ap, ◌∙◌}
 use Rattle.port_call.specs.GicCall.declared.command.Part.TheVariants.{Configure}
 use Rattle.port_call.specs.GicCall.declared.touch.Touching.TheVariants.{Configure as ConfigureLpi}
-use Rattle.port_call.specs.Core.{shape_of}
+use Rattle.port_call.specs.Core.{has_all_shut, shape_of}
 use Rattle.its_exec.proofs.PartLemmas.{configured, configuring_by, look_holds, part_there}
 use Rattle.its_exec.proofs.part.configure.Goals as goal
 
@@ -10,6 +10,9 @@ pub byte_for-requires-clause-holds : goal.byte_for-requires-clause-holds
 byte_for-requires-clause-holds g c =
     let old = g.P.Port.seen c.args.port.now in
     look_holds old (g.P.Port.seen c.look_at_target-target.new.port) c.args.fetched.now c.args.lpi c.look_at_target-target.result (part_there (shape_of old) (Configure c.args.lpi) c.args.lpi refl c.requires.part) c.look_at_target-target.ensures c.requires.holds
+
+pub touch-requires-clause-lines : goal.touch-requires-clause-lines
+touch-requires-clause-lines g c = λ e. ap has_all_shut c.byte_for.ensures.reading.local ∙ ap has_all_shut c.look_at_target-target.ensures.local_is ∙ c.requires.holds.lines
 
 pub returns : goal.returns
 returns g c =

@@ -7,6 +7,12 @@ use Rattle.its_exec.specs.Parts.{lpi_of}
 use Rattle.its_exec.proofs.PartLemmas.{as_part, part_there, raised_part, forgotten, retargeted, cleared}
 use Rattle.its_exec.proofs.part.do_part.Goals as goal
 
+pub touch-requires-clause-lines : goal.touch-requires-clause-lines
+touch-requires-clause-lines g c = λ e. c.requires.holds.lines
+
+pub touch-requires-in-Retarget-clause-lines : goal.touch-requires-in-Retarget-clause-lines
+touch-requires-in-Retarget-clause-lines g c = λ e. c.requires.holds.lines
+
 pub returns-in-Raise : goal.returns-in-Raise
 returns-in-Raise g c =
     let old = g.P.Port.seen c.args.port.now in

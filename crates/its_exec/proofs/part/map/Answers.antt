@@ -1,9 +1,12 @@
 -- The configuration, and the touch.
-use Rattle.std.proofs.Common.{refl}
+use Rattle.std.proofs.Common.{refl, ap, ◌∙◌}
 use Rattle.port_call.specs.Calls.{Map, MapLpi}
-use Rattle.port_call.specs.Core.{shape_of}
+use Rattle.port_call.specs.Core.{has_all_shut, shape_of}
 use Rattle.its_exec.proofs.PartLemmas.{mapped, mapping_by, part_there}
 use Rattle.its_exec.proofs.part.map.Goals as goal
+
+pub touch-requires-clause-lines : goal.touch-requires-clause-lines
+touch-requires-clause-lines g c = λ e. ap has_all_shut c.byte_for.ensures.reading.local ∙ c.requires.holds.lines
 
 pub returns : goal.returns
 returns g c =

@@ -7,7 +7,7 @@ pub run_commands-requires : goal.run_commands-requires
 run_commands-requires g c =
     record {
       ready =
-          looked_ready (g.P.Port.seen c.args.port.now) (g.P.Port.seen c.look_at_queue-queue.new.port) c.args.shape.now c.args.tables.now c.look_at_queue-queue.result c.requires.shape c.requires.taken c.requires.ease c.requires.known c.requires.valid
+          looked_ready (g.P.Port.seen c.args.port.now) (g.P.Port.seen c.look_at_queue-queue.new.port) c.args.shape.now c.args.tables.now c.look_at_queue-queue.result c.requires.shape c.requires.taken c.requires.ease c.requires.lines c.requires.known c.requires.valid
           c.requires.fresh c.look_at_queue-queue.ensures;
     }
 

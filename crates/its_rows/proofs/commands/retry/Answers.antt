@@ -1,7 +1,7 @@
 -- The ITS is taken with valid tables, its queue moved, and the ITS still had when its tables are put back.
 use Rattle.std.proofs.Common.{rules, ap, ◌∙◌}
 use Rattle.pe_op.proofs.ItsExec.QueueLemmas.{looked_ready}
-use Rattle.its_rows.proofs.TurnLemmas.{turn_valid, turn_fresh, fresh_same}
+use Rattle.its_rows.proofs.TurnLemmas.{shut_valid, shut_fresh_so}
 use Rattle.its_rows.proofs.commands.retry.Goals as goal
 
 pub run_commands-end-requires : goal.run_commands-end-requires
@@ -9,9 +9,9 @@ run_commands-end-requires g c =
     record {
       ready =
           c.move_queue.ensures.ready _ _
-          (looked_ready (g.P.Port.seen c.take_tables-tables.new.self) (g.P.Port.seen c.look_at_queue-queue.new.port) _ c.take_tables-tables.result c.look_at_queue-queue.result (search rules) (search rules) (search rules) (search rules)
-          (turn_valid (g.P.Port.seen c.args.port.now) (g.P.Port.seen c.take_turn.new.port) _ c.take_tables-tables.result (search rules) c.take_turn.ensures c.take_tables-tables.ensures.value)
-          (fresh_same (g.P.Port.seen c.take_turn.new.port) (g.P.Port.seen c.take_tables-tables.new.self) (search rules) (turn_fresh (g.P.Port.seen c.args.port.now) (g.P.Port.seen c.take_turn.new.port) c.take_turn.ensures)) c.look_at_queue-queue.ensures);
+          (looked_ready (g.P.Port.seen c.take_tables-tables.new.self) (g.P.Port.seen c.look_at_queue-queue.new.port) _ c.take_tables-tables.result c.look_at_queue-queue.result (search rules) (search rules) (search rules) (search rules) (search rules)
+          (shut_valid (g.P.Port.seen c.args.port.now) (g.P.Port.seen c.take_turn.new.port) (g.P.Port.seen c.shut.new.port) _ c.take_tables-tables.result (search rules) c.take_turn.ensures c.shut.ensures c.take_tables-tables.ensures.value)
+          (shut_fresh_so (g.P.Port.seen c.args.port.now) (g.P.Port.seen c.take_turn.new.port) (g.P.Port.seen c.shut.new.port) (g.P.Port.seen c.take_tables-tables.new.self) c.take_turn.ensures c.shut.ensures (search rules)) c.look_at_queue-queue.ensures);
     }
 
 pub give_turn-requires-clause-turn : goal.give_turn-requires-clause-turn

@@ -1,8 +1,17 @@
 -- The stores round the move of the queue, unless the ITS is enabled.
-use Rattle.std.proofs.Common.{sym, ap, ◌∙◌}
+use Rattle.std.proofs.Common.{refl, sym, ap, ◌∙◌}
 use Rattle.pe_mem.specs.Registers.{enabled_in}
+use Rattle.pe_mem.specs.Calls.{Cwriter}
+use Rattle.pe_mem.specs.Core.{has_all_shut}
+use Rattle.pe_mem.proofs.PortCall.StoreLemmas.{may_any}
 use Rattle.pe_its.proofs.RegisterLemmas.{low_enabled, cbaser_writes, cbaser_ignored, cbaser_has}
 use Rattle.pe_its.proofs.register.write_cbaser.Goals as goal
+
+pub put_plain-requires-clause-may : goal.put_plain-requires-clause-may
+put_plain-requires-clause-may g c = may_any (g.P.Port.seen c.args.port.now) Cwriter refl refl
+
+pub move_queue-requires-clause-lines : goal.move_queue-requires-clause-lines
+move_queue-requires-clause-lines g c = ap has_all_shut c.put_plain.ensures.local_is ∙ c.requires.ready.lines
 
 pub returns-then-enabled_in-clause-writes : goal.returns-then-enabled_in-clause-writes
 returns-then-enabled_in-clause-writes g c =

@@ -7,6 +7,9 @@ use Rattle.pe_its.proofs.RegisterLemmas.{low_enabled, control_writes}
 use Rattle.pe_its.proofs.StoredLemmas.{control_knows, stored_has, stored_ready, ready_has}
 use Rattle.pe_its.proofs.register.write_control.Goals as goal
 
+pub put_plain-requires-clause-may : goal.put_plain-requires-clause-may
+put_plain-requires-clause-may g c = record { fault = tt; lines = λ e. c.requires.ready.lines }
+
 pub returns-clause-writes : goal.returns-clause-writes
 returns-clause-writes g c =
     control_writes (g.P.Port.seen c.args.port.now) (g.P.Port.seen c.put_plain.new.port) c.args.queue c.args.value c.from-ctlr.result

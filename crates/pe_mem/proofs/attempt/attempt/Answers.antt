@@ -1,8 +1,9 @@
 -- The look, and the touch by the record that it found.
+use Rattle.std.proofs.Common.{ap, ◌∙◌}
 use Rattle.std.proofs.lemmas.Result.{err_from_is_err_and}
-use Rattle.its_exec.specs.Core.{shape_of}
-use Rattle.its_exec.proofs.PortCall.TouchLemmas.{looked_can}
-use Rattle.pe_mem.proofs.PartLemmas.{can_try, attempted, held_so, missed_so}
+use Rattle.its_exec.specs.Core.{changes_lpi, shape_of}
+use Rattle.its_exec.proofs.PortCall.TouchLemmas.{looked_can, may_quiet}
+use Rattle.pe_mem.proofs.PartLemmas.{can_try, attempted, held_so, missed_so, quiet_part}
 use Rattle.pe_mem.proofs.attempt.attempt.Goals as goal
 
 pub touch_seen-requires-clause-can : goal.touch_seen-requires-clause-can
@@ -14,6 +15,10 @@ touch_seen-requires-clause-can g c =
 
 pub touch_seen-requires-clause-looked : goal.touch_seen-requires-clause-looked
 touch_seen-requires-clause-looked g c = record { before = g.P.Port.seen c.args.port.now; ease = c.requires.ease; finds = c.in_ok-seen.ensures.home }
+
+pub touch_seen-requires-clause-lines : goal.touch_seen-requires-clause-lines
+touch_seen-requires-clause-lines g c =
+    may_quiet (g.P.Port.seen c.look_home.new.port) c.touching.result (ap changes_lpi c.touching.ensures ∙ quiet_part c.args.access c.args.kind c.record_in-irq.result)
 
 pub returns-clause-done : goal.returns-clause-done
 returns-clause-done g c =

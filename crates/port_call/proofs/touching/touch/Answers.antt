@@ -1,9 +1,12 @@
 -- Tries, one after the other.
-use Rattle.port_call.proofs.TouchLemmas.{no_try, tries_join, tries_then_touches}
+use Rattle.port_call.proofs.TouchLemmas.{may_try, no_try, tries_join, tries_then_touches}
 use Rattle.port_call.proofs.touching.touch.Goals as goal
 
 pub loop-init : goal.loop-init
 loop-init g c = (tt, tt, no_try (g.P.Port.seen c.args.port.now) c.args.key)
+
+pub try_touch-requires-clause-lines : goal.try_touch-requires-clause-lines
+try_touch-requires-clause-lines g c = may_try (g.P.Port.seen c.args.port.now) (g.P.Port.seen c.loop.port) c.args.key c.args.kind c.loop.invariant.2 c.requires.lines
 
 pub returns-in-Ok : goal.returns-in-Ok
 returns-in-Ok g c =

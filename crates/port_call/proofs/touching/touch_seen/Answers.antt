@@ -6,7 +6,7 @@ use Rattle.port_call.proofs.TouchLemmas.{found_can, late_marks, there_still, hel
 use Rattle.port_call.proofs.touching.touch_seen.Goals as goal
 
 pub step-found-requires : goal.step-found-requires
-step-found-requires g c = found_can (g.P.Port.seen c.args.port.now) c.args.key c.args.kind c.args.seen c.requires.can c.requires.looked
+step-found-requires g c = found_can (g.P.Port.seen c.args.port.now) c.args.key c.args.kind c.args.seen c.requires.can c.requires.looked c.requires.lines
 
 pub returns-then-found-seen-clause-touched : goal.returns-then-found-seen-clause-touched
 returns-then-found-seen-clause-touched g c = λ old ease finds.

@@ -3,7 +3,7 @@ use Rattle.port_core.specs.Place.{has_word}
 use Rattle.port_core.proofs.PlaceLemmas.{blocks_there}
 use Rattle.port_core.proofs.word_id.word_at.Goals as goal
 
-pub returns-else-place-blocks_from-clause-there : goal.returns-else-place-blocks_from-clause-there
-returns-else-place-blocks_from-clause-there c =
+pub returns-then-place-lines_from-clause-there : goal.returns-then-place-lines_from-clause-there
+returns-then-place-lines_from-clause-there c =
     subst (λ found. IfSome found (λ word. IsTrue (has_word c.args.shape.now word))) (sym c.word_in_blocks.ensures)
     (blocks_there c.args.shape.now _ c.requires.shape (search rules))

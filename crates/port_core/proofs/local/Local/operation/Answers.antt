@@ -1,8 +1,9 @@
-use Rattle.std.proofs.Common.{sym, ap, ◌∙◌, subst, rules}
+use Rattle.std.proofs.Common.{◌-◌, sym, ap, ◌∙◌, subst, rules}
 use Rattle.port_core.specs.declared.atomic.Atomic.TheVariants.{And, Or}
-use Rattle.port_core.specs.declared.step.CoreStep.TheVariants.{Claim, GiveBack, Release, Touch}
+use Rattle.port_core.specs.declared.step.CoreStep.TheVariants.{Claim, GiveBack, Release, Touch, LineLeave}
 use Rattle.port_core.specs.Atomic.{Makes, release_bits}
 use Rattle.port_core.proofs.AtomicLemmas.{makes_raise, makes_wire_up, makes_wire_down, makes_want, makes_release, makes_give_back, makes_claim, makes_touch}
+use Rattle.port_core.proofs.LineLemmas.{few_devices, makes_line_leave}
 use Rattle.port_core.proofs.local.Local.operation.Goals as goal
 
 pub returns-in-Raise : goal.returns-in-Raise
@@ -39,3 +40,9 @@ returns-in-WireUp c = subst (λ step. Makes c.args.shape.now c.args.actor c.args
 pub returns-in-WireDown : goal.returns-in-WireDown
 returns-in-WireDown c =
     subst (λ step. Makes c.args.shape.now c.args.actor c.args.self.now step (And 18446744073709551613)) (sym c.in-WireDown.is) (makes_wire_down c.args.shape.now c.args.actor c.args.self.now c.in-WireDown.key)
+
+pub returns-in-LineLeave : goal.returns-in-LineLeave
+returns-in-LineLeave c =
+    subst (λ step. Makes c.args.shape.now c.args.actor c.args.self.now step (And (18446744073709551615 - c.from.result))) (sym c.in-LineLeave.is)
+    (subst (λ bit. Makes c.args.shape.now c.args.actor c.args.self.now (LineLeave c.in-LineLeave.line) (And (18446744073709551615 - bit))) (sym (c.from.ensures ∙ c.device_bit.ensures.value))
+    (makes_line_leave c.args.shape.now c.args.actor c.args.self.now c.in-LineLeave.line (few_devices c.args.shape.now c.args.actor c.requires.shape c.requires.actor (search rules)).1))

@@ -1,0 +1,13 @@
+pub use Rattle.floor_core.proofs.CoreProper
+pub use Rattle.floor_core.proofs.GicBase
+pub use Rattle.floor_core.proofs.GicCall
+pub use Rattle.floor_core.proofs.GicHistory
+pub use Rattle.floor_core.proofs.GicIcv
+pub use Rattle.floor_core.proofs.GicWord
+pub use Rattle.floor_core.proofs.PortCore
+pub use Rattle.floor_core.proofs.VcpuRefill
+pub mod SetLemmas
+pub mod LineWords
+pub mod OwnSteps
+pub mod LineSteps
+pub mod LineRuns

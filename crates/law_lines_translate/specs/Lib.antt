@@ -1,0 +1,12 @@
+pub use Rattle.floor_core.specs.Calls
+pub use Rattle.floor_core.specs.Core
+pub use Rattle.floor_core.specs.Histories
+pub use Rattle.floor_core.specs.Lists
+pub use Rattle.floor_core.specs.Registers
+pub use Rattle.floor_core.specs.Words
+pub use Rattle.floor_core.specs.CoreProper
+pub use Rattle.floor_core.specs.GicBase
+pub use Rattle.floor_core.specs.GicCall
+pub use Rattle.floor_core.specs.GicHistory
+pub use Rattle.floor_core.specs.GicWord
+pub mod Lines
