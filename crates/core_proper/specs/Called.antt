@@ -3,7 +3,7 @@ use Rattle.std.specs.Prelude.{◌≡◌, ℕ, IsTrue, List, [], ◌∷◌, ◌++
 use Rattle.floor_histories.specs.Words.{GuestShape, Lpi, Msi}
 use Rattle.floor_histories.specs.Calls.{Operation, Device, Beside, IsCall}
 use Rattle.floor_histories.specs.Registers.{Maps}
-use Rattle.port_core.specs.declared.line.Entered.{Entered}
+use Rattle.port_core.specs.CoreWords.declared.line.Entered.{Entered}
 use Rattle.port_core.specs.declared.run.Made.{Made}
 use Rattle.port_core.specs.declared.step.CoreStep.TheVariants.{Raise}
 use Rattle.port_core.specs.Known.{no_maps}

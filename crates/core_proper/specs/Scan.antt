@@ -9,7 +9,7 @@ use Rattle.port_core.specs.declared.owed.Cands.{Cands}
 use Rattle.port_core.specs.declared.local.Local.{Local}
 use Rattle.port_core.specs.declared.step.CoreStep.{CoreStep}
 use Rattle.port_core.specs.declared.step.CoreStep.TheVariants.{Look, Claim, Kick, Mark, TakeIndex}
-use Rattle.port_core.specs.declared.word_id.WordId.TheVariants.{Irq as IrqWord}
+use Rattle.port_core.specs.CoreWords.declared.word_id.WordId.TheVariants.{Irq as IrqWord}
 use Rattle.port_core.specs.Local.{is_cand, has_no_cand}
 use Rattle.port_core.specs.Place.{index_bit, index_bits, key_of_bit}
 

@@ -9,7 +9,7 @@ use Rattle.floor_histories.specs.GicCall.declared.event.Moment.TheVariants.{End}
 use Rattle.floor_histories.specs.GicCall.declared.event.Place.TheVariants.{Lpis}
 use Rattle.port_core.specs.declared.step.CoreStep.{CoreStep}
 use Rattle.port_core.specs.declared.step.CoreStep.TheVariants.{Look, Raise, Claim, GiveBack, Release, Poll, Kick, Mark, TakeIndex}
-use Rattle.port_core.specs.declared.word_id.WordId.TheVariants.{Irq, Vcpu}
+use Rattle.port_core.specs.CoreWords.declared.word_id.WordId.TheVariants.{Irq, Vcpu}
 use Rattle.core_proper.specs.Parts.{Act, begins, makes, ends, CoreMoment}
 
 -- a vCPU and a device, and SPI 40, which is enabled, of group 1 and of priority 0xa0

@@ -8,7 +8,7 @@ use Rattle.floor_histories.specs.GicCall.declared.event.Event.TheVariants.{Raise
 use Rattle.floor_histories.specs.GicCall.declared.event.Found.TheVariants.{Nothing, Answer}
 use Rattle.floor_histories.specs.GicCall.declared.event.Moment.TheVariants.{End}
 use Rattle.port_core.specs.declared.step.CoreStep.TheVariants.{Look, Raise, Claim, GiveBack, Release, Poll, Kick, Touch, Want, Mark, TakeIndex}
-use Rattle.port_core.specs.declared.word_id.WordId.TheVariants.{Irq}
+use Rattle.port_core.specs.CoreWords.declared.word_id.WordId.TheVariants.{Irq}
 use Rattle.core_proper.specs.Parts.{Act, begins, ends, CoreMoment}
 use Rattle.core_proper.specs.Worked.{spi, opened_word, pending_word, held_word, vcpu_does, made, reads_iar}
 

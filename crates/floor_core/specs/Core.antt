@@ -20,8 +20,8 @@ pub use Rattle.core_proper.specs.PortCore.declared.at_list.AtIrq.{AtIrq}
 pub use Rattle.core_proper.specs.PortCore.declared.atomic.Atomic.{Atomic}
 pub use Rattle.core_proper.specs.PortCore.declared.atomic.Atomic.TheVariants.{And, Exchange, Load, Or, Swap}
 pub use Rattle.core_proper.specs.PortCore.declared.end.GuestWords.{GuestWords}
-pub use Rattle.core_proper.specs.PortCore.declared.line.Entered.{Entered}
-pub use Rattle.core_proper.specs.PortCore.declared.line.Line.{Line as LineRecord}
+pub use Rattle.core_proper.specs.PortCore.CoreWords.declared.line.Entered.{Entered}
+pub use Rattle.core_proper.specs.PortCore.CoreWords.declared.line.Line.{Line as LineRecord}
 pub use Rattle.core_proper.specs.PortCore.declared.local.Local.{Local}
 pub use Rattle.core_proper.specs.PortCore.declared.local.Phase.{Phase}
 pub use Rattle.core_proper.specs.PortCore.declared.local.Phase.TheVariants.{Claiming, Folding, Loaded, Off, Scanning}
@@ -31,10 +31,10 @@ pub use Rattle.core_proper.specs.PortCore.declared.run.Entry.{Entry}
 pub use Rattle.core_proper.specs.PortCore.declared.run.Made.{Made}
 pub use Rattle.core_proper.specs.PortCore.declared.step.CoreStep.{CoreStep}
 pub use Rattle.core_proper.specs.PortCore.declared.step.CoreStep.TheVariants.{Claim, CommandDone, CtlrEnd, CtlrTake, EnableLpis, GiveBack, Kick, LineClose, LineEnter, LineFill, LineLeave, Look, Mark, Poll, Raise, RamLook, RamPut, Release, TakeIndex, Touch, TurnRelease, TurnTake, Want, WireDown, WireUp}
-pub use Rattle.core_proper.specs.PortCore.declared.word_id.WordId.{WordId}
-pub use Rattle.core_proper.specs.PortCore.declared.word_id.WordId.TheVariants.{Ctlr, Index, Irq, Line, Plain, Queue, Vcpu}
-pub use Rattle.core_proper.specs.PortCore.declared.words.CtlrWord.{CtlrWord}
-pub use Rattle.core_proper.specs.PortCore.declared.words.VcpuWord.{VcpuWord}
+pub use Rattle.core_proper.specs.PortCore.CoreWords.declared.word_id.WordId.{WordId}
+pub use Rattle.core_proper.specs.PortCore.CoreWords.declared.word_id.WordId.TheVariants.{Ctlr, Index, Irq, Line, Plain, Queue, Vcpu}
+pub use Rattle.core_proper.specs.PortCore.CoreWords.declared.words.CtlrWord.{CtlrWord}
+pub use Rattle.core_proper.specs.PortCore.CoreWords.declared.words.VcpuWord.{VcpuWord}
 pub use Rattle.core_proper.specs.Called.{IsAtRest, IsProperPart, MakesCall, MakesPost, maps_taken, vcpu_of_actor}
 pub use Rattle.core_proper.specs.Ideal.{after_moment, end_of_moments, event_moments, ideal_moments, ideal_of}
 pub use Rattle.core_proper.specs.Laws.{AgainRunIsProper, ClearRunIsProper, ExitRunIsProper, IdealOfAppends, IsSeatOf, PartsKeepEnd, PartsRest, ProgressFollows, ProperExtends, WorkedRunIsProper}

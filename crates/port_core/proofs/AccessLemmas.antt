@@ -1,8 +1,8 @@
 use Rattle.std.proofs.Common.{◌≡◌, ◌<◌, ◌+◌, ℕ, false, List, [], ◌∷◌, ◌++◌, map, take, length, get_or, Option, filter_map, sym, ap, ◌∙◌}
 use Rattle.std.proofs.lemmas.List.{map-append, take_more}
 use Rattle.std.proofs.lemmas.List.Elements.{filter_map-append}
-use Rattle.ideal_guest.specs.Words.{Private, G0}
-use Rattle.ideal_guest.specs.Registers.{Candidate, CpuRec, first_of, candidate_of}
+use Rattle.core_words.specs.Words.{Private, G0}
+use Rattle.core_words.specs.Registers.{Candidate, CpuRec, first_of, candidate_of}
 use Rattle.port_core.specs.declared.at_list.AtIrq.{AtIrq}
 use Rattle.port_core.specs.After.{shown}
 

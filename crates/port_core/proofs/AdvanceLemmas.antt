@@ -1,5 +1,5 @@
 use Rattle.std.proofs.Common.{◌≡◌, ℕ, true, ◌==◌, ◌&&◌, if◌then◌else◌, sym, ap, ◌∙◌, rules}
-use Rattle.ideal_guest.specs.Words.{Key, GuestShape, irq_of}
+use Rattle.core_words.specs.Words.{Key, GuestShape, irq_of}
 use Rattle.port_core.specs.declared.local.Local.{Local}
 use Rattle.port_core.specs.declared.step.CoreStep.TheVariants.{Claim}
 use Rattle.port_core.specs.After.{claimed_at, local_after}

@@ -2,8 +2,8 @@
 use Rattle.std.proofs.Common.{◌≡◌, ◌≢◌, ℕ, suc, ◌+◌, ◌<◌, ◌≤◌, ◌||◌, not, Bool, true, false, cond, is_some, List, [], ◌∷◌, ◌++◌, map, filter, length, All, Option, Some, None, refl, sym, ap, subst, ◌∙◌, arith}
 use Rattle.std.proofs.lemmas.List.{length-append, length-map}
 use Rattle.std.proofs.lemmas.List.Elements.{All-head, All-tail, All-weaker, All-map, All-push, All-filter, filter-append}
-use Rattle.ideal_guest.specs.Words.{GuestShape, Key, is_same_key}
-use Rattle.ideal_guest.proofs.GicBase.KeyLemmas.{same_key, other_key}
+use Rattle.core_words.specs.Words.{GuestShape, Key, is_same_key}
+use Rattle.core_words.proofs.GicBase.KeyLemmas.{same_key, other_key}
 use Rattle.port_core.specs.declared.at_list.AtIrq.{AtIrq}
 use Rattle.port_core.specs.Local.{entry_for, is_at, without_at}
 use Rattle.port_core.specs.Valid.{IsAt, IsOnce}

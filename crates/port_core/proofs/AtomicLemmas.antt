@@ -5,11 +5,11 @@ use Rattle.std.specs.Option.{option_map_or}
 use Rattle.std.proofs.lemmas.Nat.{or_block, and_block, and_mask, or_lt}
 use Rattle.std.proofs.lemmas.Bool.{eqb-true}
 use Rattle.std.proofs.lemmas.Option.{none-some}
-use Rattle.ideal_guest.specs.Words.{Back, Key, GuestShape, max_vcpus, HELD_BY_NONE, ACTIVE_BY_NONE, RAISE, WIRE_UP, WIRE_DOWN, Irq, raised, wire_up, wire_down, IsChange, is_number, cause_bits_of, active_bits_of, IsWord, IsIrq, IsSeat, irq_of, packed, seat_at}
-use Rattle.ideal_guest.proofs.GicWord.CauseLemmas.{soft_set, wire_raised, line_cleared}
-use Rattle.ideal_guest.proofs.GicWord.ReleaseLemmas.{gives_back, activates, deactivates, releases}
-use Rattle.ideal_guest.proofs.GicWord.WordLemmas.{packed_back}
-use Rattle.ideal_guest.specs.Calls.{Touching, reached, taken}
+use Rattle.core_words.specs.Words.{Back, Key, GuestShape, max_vcpus, HELD_BY_NONE, ACTIVE_BY_NONE, RAISE, WIRE_UP, WIRE_DOWN, Irq, raised, wire_up, wire_down, IsChange, is_number, cause_bits_of, active_bits_of, IsWord, IsIrq, IsSeat, irq_of, packed, seat_at}
+use Rattle.core_words.proofs.GicWord.CauseLemmas.{soft_set, wire_raised, line_cleared}
+use Rattle.core_words.proofs.GicWord.ReleaseLemmas.{gives_back, activates, deactivates, releases}
+use Rattle.core_words.proofs.GicWord.WordLemmas.{packed_back}
+use Rattle.core_words.specs.Calls.{Touching, reached, taken}
 use Rattle.port_core.specs.declared.at_list.AtIrq.{AtIrq}
 use Rattle.port_core.specs.declared.atomic.Atomic.TheVariants.{And, Or}
 use Rattle.port_core.specs.declared.local.Local.{Local}
@@ -19,7 +19,7 @@ use Rattle.port_core.specs.Condition.{CanGiveBack}
 use Rattle.port_core.specs.Effect.{changed, given_back, released, is_active_at, may_move, moved_of, moved_irq, claimed_irq, touched_irq}
 use Rattle.port_core.specs.Local.{entry_for}
 use Rattle.port_core.specs.Valid.{IsIrqWord, is_active_by_holder}
-use Rattle.ideal_guest.proofs.GicWord.WantLemmas.{wanted}
+use Rattle.core_words.proofs.GicWord.WantLemmas.{wanted}
 use Rattle.port_core.proofs.AdvanceLemmas.{nat_same}
 
 -- a word that a change of its record made is the word of the changed record

@@ -2,16 +2,16 @@
 use Rattle.std.proofs.Common.{◌≡◌, ◌≢◌, ℕ, ◌<◌, IsTrue, List, length, get_or, set, inl, inr, sym, ap, subst, ◌∙◌}
 use Rattle.std.proofs.lemmas.List.{get_or-set_same, get_or-set_other, length-set}
 use Rattle.std.proofs.lemmas.Bool.{cases_eq}
-use Rattle.ideal_guest.specs.Words.{GuestShape, IsShape}
-use Rattle.ideal_guest.specs.Registers.{IsValid as IsValidMaps, Maps}
+use Rattle.core_words.specs.Words.{GuestShape, IsShape}
+use Rattle.core_words.specs.Registers.{IsValid as IsValidMaps, Maps}
 use Rattle.port_core.specs.declared.local.Local.{Local}
-use Rattle.port_core.specs.declared.word_id.WordId.{WordId}
+use Rattle.core_words.specs.declared.word_id.WordId.{WordId}
 use Rattle.port_core.specs.Known.{known_maps}
-use Rattle.port_core.specs.Place.{has_word, place_of_word, word_count}
+use Rattle.core_words.specs.Place.{has_word, place_of_word, word_count}
 use Rattle.port_core.specs.Actor.{actor_count}
 use Rattle.port_core.specs.Valid.{IsValid, IsLocal, Ties}
 use Rattle.port_core.specs.Run.{CoreState, Seat, no_seat, seat_at, word_in, IsSound}
-use Rattle.port_core.proofs.PlaceLemmas.{place_of_word_within, word_same}
+use Rattle.core_words.proofs.PlaceLemmas.{place_of_word_within, word_same}
 
 -- what a step of an actor on a word keeps: the word and the actor's own state are valid and agree, every other actor agrees with the word
 -- if it did before, and so does the actor with every other word

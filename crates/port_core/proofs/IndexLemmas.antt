@@ -5,10 +5,10 @@ use Rattle.std.specs.List.{range_with_len}
 use Rattle.std.proofs.lemmas.Bool.{and_parts, eqb-true, eq-eqb, ltb-true, cases_eq}
 use Rattle.std.proofs.lemmas.Nat.{or_lt, pow_below}
 use Rattle.std.proofs.lemmas.Nat.Bits.{bit_at_or, bit_at-lt, bit_at-pow_same}
-use Rattle.ideal_guest.specs.Words.{has_bit}
-use Rattle.ideal_guest.specs.Ideal.{irq_at}
-use Rattle.ideal_guest.specs.declared.guest.IdealGuest.{IdealGuest}
-use Rattle.port_core.specs.Place.{index_bits, key_of_bit}
+use Rattle.core_words.specs.Words.{has_bit}
+use Rattle.core_words.specs.IdealGuests.Ideal.{irq_at}
+use Rattle.core_words.specs.IdealGuests.declared.guest.IdealGuest.{IdealGuest}
+use Rattle.core_words.specs.Place.{index_bits, key_of_bit}
 use Rattle.port_core.specs.Run.{concerns, is_asked, opening_index}
 use Rattle.port_core.specs.Valid.{IsIndexWord}
 use Rattle.port_core.proofs.StepLocals.{or_bit, pow_bit, no_bit}

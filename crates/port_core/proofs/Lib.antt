@@ -1,14 +1,14 @@
-pub use Rattle.ideal_guest.proofs.GicBase
-pub use Rattle.ideal_guest.proofs.GicCall
-pub use Rattle.ideal_guest.proofs.GicFrame
-pub use Rattle.ideal_guest.proofs.GicOpen
-pub use Rattle.ideal_guest.proofs as IdealGuests
+pub use Rattle.core_words.proofs.GicBase
+pub use Rattle.core_words.proofs.GicCall
+pub use Rattle.core_words.proofs.GicFrame
+pub use Rattle.core_words.proofs.GicOpen
+pub use Rattle.core_words.proofs.IdealGuests
+pub use Rattle.core_words.proofs.PlaceLemmas
 pub mod AccessLemmas
 pub mod SeatLemmas
 pub mod AdvanceLemmas
 pub mod AtomicLemmas
 pub mod LineLemmas
-pub mod PlaceLemmas
 pub mod FrameLemmas
 pub mod StepWords
 pub mod OwnLemmas

@@ -7,15 +7,15 @@ use Rattle.std.proofs.lemmas.Option.{same_Some}
 use Rattle.std.proofs.Math.Nat.{div-eq_of_lt, pow-le-pow_right}
 use Rattle.std.proofs.lemmas.Nat.{and_le_l, and_block, and_mask, or_lt, pow_below}
 use Rattle.std.proofs.lemmas.Nat.Bits.{bit_at_and, bit_at_or, bit_at_not, bit_at-lt, bit_at-pow_same, bit_at-pow_other, bit_at-zero}
-use Rattle.ideal_guest.specs.Words.{has_bit, field_at, GuestShape, IsShape}
-use Rattle.ideal_guest.proofs.GicWord.WordLemmas.{is_one}
+use Rattle.core_words.specs.Words.{has_bit, field_at, GuestShape, IsShape}
+use Rattle.core_words.proofs.GicWord.WordLemmas.{is_one}
 use Rattle.port_core.specs.declared.atomic.Atomic.TheVariants.{And, Exchange}
-use Rattle.port_core.specs.declared.line.Line.{Line}
+use Rattle.core_words.specs.declared.line.Line.{Line}
 use Rattle.port_core.specs.declared.local.Local.{Local}
 use Rattle.port_core.specs.declared.step.CoreStep.TheVariants.{LineEnter, LineLeave, LineFill, LineClose}
 use Rattle.port_core.specs.Actor.{actor_count}
 use Rattle.port_core.specs.Atomic.{Makes, exchange_by}
-use Rattle.port_core.specs.Forms.{is_empty_line, packed_line, line_of, IsLine, is_line_word}
+use Rattle.core_words.specs.Forms.{is_empty_line, packed_line, line_of, IsLine, is_line_word}
 use Rattle.port_core.specs.Local.{is_vcpu, is_inside, with_inside, without_inside}
 use Rattle.port_core.proofs.AtomicLemmas.{by_seen}
 

@@ -6,27 +6,27 @@ use Rattle.std.proofs.lemmas.List.{get_or-replicate, get_or_past}
 use Rattle.std.proofs.lemmas.List.Elements.{All-get_or}
 use Rattle.std.proofs.lemmas.List.FromFn.{length-map-range_with_len, get_or-map-range_with_len}
 use Rattle.std.proofs.lemmas.Nat.{pow_pos}
-use Rattle.ideal_guest.specs.Words.{GuestShape, Key, has_interrupt, Irq as IrqRecord, is_number, packed, irq_of, IsRecordOf}
-use Rattle.ideal_guest.specs.Registers.{QueueWord, IsQueue, is_queue_word, queue_of, packed as packed_queue}
-use Rattle.ideal_guest.specs.Calls.{opening_cpu, plain_count}
-use Rattle.ideal_guest.specs.CanOpen.{is_own, CanOpen}
-use Rattle.ideal_guest.specs.Ideal.{irq_at, cpu_at}
-use Rattle.ideal_guest.specs.Sound.{IsIdealCpu}
-use Rattle.ideal_guest.specs.declared.guest.IdealGuest.{IdealGuest}
-use Rattle.ideal_guest.proofs.OpeningLemmas.{cpu_opening}
-use Rattle.port_core.specs.declared.words.CtlrWord.{CtlrWord}
-use Rattle.port_core.specs.declared.word_id.WordId.{WordId}
-use Rattle.port_core.specs.declared.word_id.WordId.TheVariants.{Irq, Vcpu, Index, Queue, Ctlr, Plain, Line}
-use Rattle.port_core.specs.Forms.{packed_ctlr, ctlr_of, is_ctlr_word, empty_line}
+use Rattle.core_words.specs.Words.{GuestShape, Key, has_interrupt, Irq as IrqRecord, is_number, packed, irq_of, IsRecordOf}
+use Rattle.core_words.specs.Registers.{QueueWord, IsQueue, is_queue_word, queue_of, packed as packed_queue}
+use Rattle.core_words.specs.Calls.{opening_cpu, plain_count}
+use Rattle.core_words.specs.IdealGuests.CanOpen.{is_own, CanOpen}
+use Rattle.core_words.specs.IdealGuests.Ideal.{irq_at, cpu_at}
+use Rattle.core_words.specs.IdealGuests.Sound.{IsIdealCpu}
+use Rattle.core_words.specs.IdealGuests.declared.guest.IdealGuest.{IdealGuest}
+use Rattle.core_words.proofs.IdealGuests.OpeningLemmas.{cpu_opening}
+use Rattle.core_words.specs.declared.words.CtlrWord.{CtlrWord}
+use Rattle.core_words.specs.declared.word_id.WordId.{WordId}
+use Rattle.core_words.specs.declared.word_id.WordId.TheVariants.{Irq, Vcpu, Index, Queue, Ctlr, Plain, Line}
+use Rattle.core_words.specs.Forms.{packed_ctlr, ctlr_of, is_ctlr_word, empty_line}
 use Rattle.port_core.specs.Known.{known_maps}
 use Rattle.port_core.specs.Laws.{OpeningIsSound}
-use Rattle.port_core.specs.Place.{has_word, word_count, place_of_word}
+use Rattle.core_words.specs.Place.{has_word, word_count, place_of_word}
 use Rattle.port_core.specs.Run.{opening, opening_word, opening_word_of, opening_seat, no_seat, seat_at, word_in}
 use Rattle.port_core.specs.Actor.{actor_count}
 use Rattle.port_core.specs.Valid.{IsValid, IsIndexWord, IsLocal, Ties}
 use Rattle.port_core.proofs.IndexLemmas.{index_opens}
 use Rattle.port_core.proofs.LineLemmas.{none_inside}
-use Rattle.port_core.proofs.PlaceLemmas.{word_at_place, place_of_word_within}
+use Rattle.core_words.proofs.PlaceLemmas.{word_at_place, place_of_word_within}
 use Rattle.port_core.proofs.StepWords.{IsOwned, irq_word, vcpu_word, packed_is, queue_word, queue_back, ctlr_word, ctlr_back}
 use Rattle.port_core.proofs.StepLocals.{zero_index}
 

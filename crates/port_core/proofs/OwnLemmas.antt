@@ -3,15 +3,15 @@ use Rattle.std.proofs.Common.{◌≡◌, ℕ, ◌<◌, ◌==◌, ◌||◌, not, 
 use Rattle.std.specs.Option.{option_map_or}
 use Rattle.std.proofs.lemmas.Grind.{common_steps}
 use Rattle.std.proofs.lemmas.Bool.{or_right, eqb-true, eq-eqb, lt-ltb}
-use Rattle.ideal_guest.specs.Words.{has_bit, GuestShape, Back, Key, Private, Spi, Lpi, Kind, SetEnable, ClearEnable, SetPending, ClearPending, SetActive, ClearActive, Priority, Config, Routing, IsShape, has_interrupt, is_of_vcpu, is_sgi, Irq, Route, Affinity, Target, is_number, target_in, raised, cleared, has_active_state, is_vcpu_or_none, is_routed_as, is_of_kind, IsRecordOf}
-use Rattle.ideal_guest.specs.GicBase.declared.operation.Kind.TheVariants.{Group}
-use Rattle.ideal_guest.specs.Registers.{part_written, activated, CpuRec}
-use Rattle.ideal_guest.specs.Calls.{Moved, Touching, Register, Enables, MapLpi, may_reach, reached, CanTouch, touched}
-use Rattle.ideal_guest.specs.GicCall.declared.touch.Touching.TheVariants.{Read, Retarget, Configure, Forget}
-use Rattle.ideal_guest.proofs.GicCall.MoveLemmas.{reached_valid}
-use Rattle.ideal_guest.proofs.GicCall.RecordLemmas.{seat, kind_kept, valid_as, valid_active}
-use Rattle.ideal_guest.proofs.GicCall.TouchLemmas.{touch_valid}
-use Rattle.ideal_guest.specs.CanOpen.{is_own}
+use Rattle.core_words.specs.Words.{has_bit, GuestShape, Back, Key, Private, Spi, Lpi, Kind, SetEnable, ClearEnable, SetPending, ClearPending, SetActive, ClearActive, Priority, Config, Routing, IsShape, has_interrupt, is_of_vcpu, is_sgi, Irq, Route, Affinity, Target, is_number, target_in, raised, cleared, has_active_state, is_vcpu_or_none, is_routed_as, is_of_kind, IsRecordOf}
+use Rattle.core_words.specs.GicBase.declared.operation.Kind.TheVariants.{Group}
+use Rattle.core_words.specs.Registers.{part_written, activated, CpuRec}
+use Rattle.core_words.specs.Calls.{Moved, Touching, Register, Enables, MapLpi, may_reach, reached, CanTouch, touched}
+use Rattle.core_words.specs.GicCall.declared.touch.Touching.TheVariants.{Read, Retarget, Configure, Forget}
+use Rattle.core_words.proofs.GicCall.MoveLemmas.{reached_valid}
+use Rattle.core_words.proofs.GicCall.RecordLemmas.{seat, kind_kept, valid_as, valid_active}
+use Rattle.core_words.proofs.GicCall.TouchLemmas.{touch_valid}
+use Rattle.core_words.specs.IdealGuests.CanOpen.{is_own}
 use Rattle.port_core.specs.Effect.{given_back, released}
 use Rattle.port_core.proofs.StepWords.{IsOwned}
 

@@ -3,7 +3,7 @@ use Rattle.std.proofs.Common.{◌≡◌, ℕ, ◌<◌, ◌==◌, Bool, true, fal
 use Rattle.std.proofs.lemmas.Bool.{eq-eqb, ne_eqb}
 use Rattle.std.proofs.lemmas.List.{append-nil, append_assoc, map-append, length-set}
 use Rattle.std.proofs.lemmas.List.Elements.{filter-append}
-use Rattle.ideal_guest.specs.Words.{GuestShape}
+use Rattle.core_words.specs.Words.{GuestShape}
 use Rattle.port_core.specs.declared.run.Entry.{Entry}
 use Rattle.port_core.specs.After.{local_after}
 use Rattle.port_core.specs.Laws.{RunsJoin}

@@ -1,5 +1,5 @@
 use Rattle.std.proofs.Common.{◌≡◌, ◌<◌, ℕ, Bool, true, false, [], ◌∷◌, All, Option, Some, None, nat_lt, is_none, ◌||◌, if◌then◌else◌, refl, rules}
-use Rattle.ideal_guest.specs.Words.{GuestShape, IsShape, max_vcpus, Irq, Route, Affinity, Target, target_in, is_number, IsIrq, IsSeat, IsRoute}
+use Rattle.core_words.specs.Words.{GuestShape, IsShape, max_vcpus, Irq, Route, Affinity, Target, target_in, is_number, IsIrq, IsSeat, IsRoute}
 use Rattle.port_core.specs.After.{target_of, holder_or_active, concerned, concerned_by, told_of_release, marked_of_release}
 
 -- the vCPU that an interrupt is for is none or has a number that a vCPU can have

@@ -1,13 +1,13 @@
 -- Steps on an interrupt's word that leave who holds it: looks, causes, touches and what an access waits for.
 use Rattle.std.proofs.Common.{◌≡◌, ℕ, ◌==◌, ◌&&◌, Bool, true, false, cond, IsTrue, is_none, List, Option, None, refl}
 use Rattle.std.proofs.lemmas.Bool.{and_parts}
-use Rattle.ideal_guest.specs.Words.{GuestShape, Key, has_interrupt, Irq as IrqRecord, raised, wire_up, wire_down, packed, irq_of}
-use Rattle.ideal_guest.specs.Calls.{Touching, touched, has_wire}
+use Rattle.core_words.specs.Words.{GuestShape, Key, has_interrupt, Irq as IrqRecord, raised, wire_up, wire_down, packed, irq_of}
+use Rattle.core_words.specs.Calls.{Touching, touched, has_wire}
 use Rattle.port_core.specs.declared.local.Local.{Local}
 use Rattle.port_core.specs.declared.run.Made.{Made}
 use Rattle.port_core.specs.declared.step.CoreStep.TheVariants.{Look, Raise, Touch, Want, WireUp, WireDown}
-use Rattle.port_core.specs.declared.word_id.WordId.{WordId}
-use Rattle.port_core.specs.declared.word_id.WordId.TheVariants.{Irq, Vcpu, Index, Queue, Ctlr, Plain, Line}
+use Rattle.core_words.specs.declared.word_id.WordId.{WordId}
+use Rattle.core_words.specs.declared.word_id.WordId.TheVariants.{Irq, Vcpu, Index, Queue, Ctlr, Plain, Line}
 use Rattle.port_core.specs.After.{is_settled_by_look, holder_or_active, concerned, concerned_by}
 use Rattle.port_core.specs.Local.{settled, owing, owing_both}
 use Rattle.port_core.specs.Valid.{IsLocal, CanFind}

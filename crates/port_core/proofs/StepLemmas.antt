@@ -1,21 +1,21 @@
 -- Each step keeps words and actors valid, and so does each run.
 use Rattle.std.proofs.Common.{◌≡◌, is_some, IfSome, ap, ◌∙◌, ◌&&◌, ◌∙◌, ℕ, nat_lt, not, Bool, true, false, cond, Option, Some, None, IsTrue, List, [], ◌∷◌, ◌++◌, ◌/◌, refl, sym, subst, arith}
 use Rattle.std.proofs.lemmas.Bool.{and_parts, and_from, lt-ltb}
-use Rattle.ideal_guest.specs.Words.{GuestShape, IsShape, has_interrupt, is_of_vcpu}
-use Rattle.ideal_guest.specs.Calls.{plain_count, has_wire}
-use Rattle.ideal_guest.specs.Registers.{IsValid as IsValidMaps, Maps}
+use Rattle.core_words.specs.Words.{GuestShape, IsShape, has_interrupt, is_of_vcpu}
+use Rattle.core_words.specs.Calls.{plain_count, has_wire}
+use Rattle.core_words.specs.Registers.{IsValid as IsValidMaps, Maps}
 use Rattle.port_core.specs.declared.local.Local.{Local}
 use Rattle.port_core.specs.declared.run.Entry.{Entry}
 use Rattle.port_core.specs.declared.run.Made.{Made}
 use Rattle.port_core.specs.declared.step.CoreStep.{CoreStep}
 use Rattle.port_core.specs.declared.step.CoreStep.TheVariants.{Look, Raise, Claim, GiveBack, Release, Poll, Kick, Touch, Want, WireUp, WireDown, EnableLpis, RamLook, RamPut, CtlrTake, CtlrEnd, TurnTake, CommandDone, TurnRelease, Mark, TakeIndex, LineEnter, LineLeave, LineFill, LineClose}
-use Rattle.port_core.specs.declared.word_id.WordId.TheVariants.{Line}
+use Rattle.core_words.specs.declared.word_id.WordId.TheVariants.{Line}
 use Rattle.port_core.specs.After.{local_after}
 use Rattle.port_core.specs.Effect.{succeeds}
 use Rattle.port_core.specs.Known.{maps_by_step}
 use Rattle.port_core.specs.Laws.{StepsKeepSound}
 use Rattle.port_core.specs.Local.{is_vcpu}
-use Rattle.port_core.specs.Place.{has_word, index_bit, index_words}
+use Rattle.core_words.specs.Place.{has_word, index_bit, index_words}
 use Rattle.port_core.specs.Run.{CoreState, Takes, IsRun, IsSound, seat_at, is_taking, after, end_of}
 use Rattle.port_core.specs.Step.{is_poll, word_of, CanStep}
 use Rattle.port_core.specs.Valid.{IsValid, IsLocal, Ties, CanFind}

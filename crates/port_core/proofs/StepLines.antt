@@ -6,18 +6,18 @@ use Rattle.std.proofs.lemmas.Bool.{and_parts, both_ways, eqb-true, eq-eqb, ne_eq
 use Rattle.std.proofs.lemmas.Grind.{common_steps}
 use Rattle.std.proofs.lemmas.Option.{same_Some}
 use Rattle.std.proofs.lemmas.Nat.{and_le_l, or_lt, pow_below, pow_pos}
-use Rattle.ideal_guest.specs.Words.{GuestShape, Lpi, IsShape, has_interrupt}
-use Rattle.ideal_guest.specs.Registers.{has_lpis}
-use Rattle.port_core.specs.declared.line.Entered.{Entered}
-use Rattle.port_core.specs.declared.line.Line.{Line as LineRecord}
+use Rattle.core_words.specs.Words.{GuestShape, Lpi, IsShape, has_interrupt}
+use Rattle.core_words.specs.Registers.{has_lpis}
+use Rattle.core_words.specs.declared.line.Entered.{Entered}
+use Rattle.core_words.specs.declared.line.Line.{Line as LineRecord}
 use Rattle.port_core.specs.declared.local.Local.{Local}
 use Rattle.port_core.specs.declared.run.Made.{Made}
 use Rattle.port_core.specs.declared.step.CoreStep.TheVariants.{Look, LineEnter, LineLeave, LineFill, LineClose}
-use Rattle.port_core.specs.declared.word_id.WordId.TheVariants.{Line}
+use Rattle.core_words.specs.declared.word_id.WordId.TheVariants.{Line}
 use Rattle.port_core.specs.After.{entered_line}
-use Rattle.port_core.specs.Forms.{is_empty_line, line_of, packed_line, IsLine}
+use Rattle.core_words.specs.Forms.{is_empty_line, line_of, packed_line, IsLine}
 use Rattle.port_core.specs.Local.{is_vcpu, is_inside, with_inside, without_inside, with_shut, without_shut}
-use Rattle.port_core.specs.Place.{has_word, line_count}
+use Rattle.core_words.specs.Place.{has_word, line_count}
 use Rattle.port_core.specs.Valid.{IsEntered, IsLocal}
 use Rattle.port_core.proofs.FrameLemmas.{Keeps}
 use Rattle.port_core.proofs.LineLemmas.{line_fits, few_devices, entered_fits, left_fits, inside_self, inside_other, outside_self, outside_other, none_inside, empty_is}

@@ -8,13 +8,13 @@ use Rattle.std.proofs.lemmas.Grind.{common_steps}
 use Rattle.std.proofs.lemmas.List.{get_or-set_same, get_or-set_other, length-set}
 use Rattle.std.proofs.lemmas.Nat.{and_le_l, or_lt, pow_pos, pow_below}
 use Rattle.std.proofs.lemmas.Nat.Bits.{bit_at_and, bit_at_or, bit_at-lt, bit_at-pow_other, bit_at-zero}
-use Rattle.ideal_guest.specs.Words.{has_bit, GuestShape, Key, Private, Spi, Lpi, IsShape, has_interrupt, is_of_vcpu, is_same_key}
-use Rattle.ideal_guest.specs.Registers.{Targets}
+use Rattle.core_words.specs.Words.{has_bit, GuestShape, Key, Private, Spi, Lpi, IsShape, has_interrupt, is_of_vcpu, is_same_key}
+use Rattle.core_words.specs.Registers.{Targets}
 use Rattle.port_core.specs.declared.owed.Cands.{Cands}
 use Rattle.port_core.specs.declared.local.Local.{Local}
 use Rattle.port_core.specs.declared.owed.MarkSet.{MarkSet}
 use Rattle.port_core.specs.Local.{without_vcpu, without_mark, no_vcpus, with_vcpu, with_all, is_vcpu, settled, with_cand_word, without_cand, owing}
-use Rattle.port_core.specs.Place.{index_bits, index_bit}
+use Rattle.core_words.specs.Place.{index_bits, index_bit}
 use Rattle.port_core.specs.Valid.{HasNone, IsIndexWord, AreVcpus, AreCands, AreMarks, IsLocal}
 use Rattle.port_core.proofs.AtLemmas.{AreAt}
 use Rattle.port_core.proofs.OwnLemmas.{IsTold}

@@ -1,6 +1,6 @@
 -- A step that an actor makes of a valid word.
 use Rattle.std.proofs.Common.{◌≡◌, ℕ, ◌<◌, ◌&&◌, Bool, true, false, cond, IsTrue, List, refl}
-use Rattle.ideal_guest.specs.Words.{GuestShape, IsShape}
+use Rattle.core_words.specs.Words.{GuestShape, IsShape}
 use Rattle.port_core.specs.declared.local.Local.{Local}
 use Rattle.port_core.specs.declared.run.Made.{Made}
 use Rattle.port_core.specs.declared.step.CoreStep.{CoreStep}

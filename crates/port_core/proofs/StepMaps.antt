@@ -3,23 +3,23 @@ use Rattle.std.proofs.Common.{◌≡◌, ◌≢◌, ℕ, ◌<◌, ◌==◌, ◌&
 use Rattle.std.specs.Option.{option_map_or}
 use Rattle.std.proofs.lemmas.Grind.{fold-append}
 use Rattle.std.proofs.lemmas.Option.{same_Some}
-use Rattle.ideal_guest.specs.Words.{GuestShape, irq_of}
-use Rattle.ideal_guest.specs.Registers.{Command, BadCommand, queue_of, CmdFault, IsValid as IsValidMaps, number_of, fault_of, fault_number, Maps}
-use Rattle.ideal_guest.specs.ItsCmd.Command.{decoded}
-use Rattle.ideal_guest.proofs.ItsTab.AfterLemmas.{kept_valid}
-use Rattle.ideal_guest.specs.GicCall.declared.event.Event.TheVariants.{Queue as QueueEvent}
-use Rattle.ideal_guest.specs.Calls.{Done, Stalls, maps_by, maps_done, command_words, next_offset, queue_event, View}
+use Rattle.core_words.specs.Words.{GuestShape, irq_of}
+use Rattle.core_words.specs.Registers.{Command, BadCommand, queue_of, CmdFault, IsValid as IsValidMaps, number_of, fault_of, fault_number, Maps}
+use Rattle.core_words.specs.ItsCmd.Command.{decoded}
+use Rattle.core_words.proofs.ItsTab.AfterLemmas.{kept_valid}
+use Rattle.core_words.specs.GicCall.declared.event.Event.TheVariants.{Queue as QueueEvent}
+use Rattle.core_words.specs.Calls.{Done, Stalls, maps_by, maps_done, command_words, next_offset, queue_event, View}
 use Rattle.port_core.specs.declared.local.Local.{Local}
 use Rattle.port_core.specs.declared.local.Phase.TheVariants.{Folding}
 use Rattle.port_core.specs.declared.run.Entry.{Entry}
 use Rattle.port_core.specs.declared.run.Made.{Made}
 use Rattle.port_core.specs.declared.step.CoreStep.{CoreStep}
 use Rattle.port_core.specs.declared.step.CoreStep.TheVariants.{Look, Raise, Claim, GiveBack, Release, Poll, Kick, Touch, Want, WireUp, WireDown, EnableLpis, RamLook, RamPut, CtlrTake, CtlrEnd, TurnTake, CommandDone, TurnRelease, Mark, TakeIndex, LineEnter, LineLeave, LineFill, LineClose}
-use Rattle.port_core.specs.declared.word_id.WordId.TheVariants.{Irq, Vcpu, Index, Queue, Ctlr, Plain, Line}
+use Rattle.core_words.specs.declared.word_id.WordId.TheVariants.{Irq, Vcpu, Index, Queue, Ctlr, Plain, Line}
 use Rattle.port_core.specs.After.{is_settled_by_look, accessed, local_done, local_after}
 use Rattle.port_core.specs.Condition.{EndsCommand, IsQueueStep, Meets}
 use Rattle.port_core.specs.Effect.{succeeds}
-use Rattle.port_core.specs.Forms.{vcpu_of, line_of, is_empty_line}
+use Rattle.core_words.specs.Forms.{vcpu_of, line_of, is_empty_line}
 use Rattle.port_core.specs.Port.{keeps_tables}
 use Rattle.port_core.specs.Known.{no_maps, maps_by_step, maps_after, known_maps, known_view}
 use Rattle.port_core.specs.Local.{settled, with_shut}

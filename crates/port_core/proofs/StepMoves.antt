@@ -2,15 +2,15 @@
 use Rattle.std.proofs.Common.{◌≡◌, ◌≢◌, ℕ, ◌<◌, ◌==◌, ◌&&◌, ◌||◌, not, Bool, true, false, cond, nat_lt, IsTrue, is_none, is_some, List, [], ◌∷◌, ◌++◌, length, map, Option, Some, None, refl, sym, ap, subst, ◌∙◌}
 use Rattle.std.specs.Option.{option_map_or}
 use Rattle.std.proofs.lemmas.Bool.{and_parts, ltb-true}
-use Rattle.ideal_guest.specs.Words.{GuestShape, Back, Key, IsShape, has_interrupt, is_of_vcpu, is_same_key, Irq as IrqRecord, cleared, has_active_state, is_number, packed, irq_of}
-use Rattle.ideal_guest.specs.Calls.{Moved, may_reach, reached, may_take, taken, IsEntryOf}
-use Rattle.ideal_guest.proofs.GicCall.MoveLemmas.{reached_valid}
+use Rattle.core_words.specs.Words.{GuestShape, Back, Key, IsShape, has_interrupt, is_of_vcpu, is_same_key, Irq as IrqRecord, cleared, has_active_state, is_number, packed, irq_of}
+use Rattle.core_words.specs.Calls.{Moved, may_reach, reached, may_take, taken, IsEntryOf}
+use Rattle.core_words.proofs.GicCall.MoveLemmas.{reached_valid}
 use Rattle.port_core.specs.declared.at_list.AtIrq.{AtIrq}
 use Rattle.port_core.specs.declared.local.Local.{Local}
 use Rattle.port_core.specs.declared.local.Phase.TheVariants.{Folding}
 use Rattle.port_core.specs.declared.run.Made.{Made}
 use Rattle.port_core.specs.declared.step.CoreStep.TheVariants.{Claim, GiveBack, Release}
-use Rattle.port_core.specs.declared.word_id.WordId.TheVariants.{Irq}
+use Rattle.core_words.specs.declared.word_id.WordId.TheVariants.{Irq}
 use Rattle.port_core.specs.After.{release_at, target_of, told_of_release, marked_of_release}
 use Rattle.port_core.specs.Condition.{may_claim}
 use Rattle.port_core.specs.Effect.{may_hold, may_move, moved_of, moved_irq, given_back, released, is_active_at}
@@ -19,7 +19,7 @@ use Rattle.port_core.specs.Valid.{IsAt, IsLocal}
 use Rattle.port_core.proofs.FrameLemmas.{Keeps}
 use Rattle.port_core.proofs.StepWords.{IsOwned, owned_of}
 use Rattle.port_core.proofs.OwnLemmas.{IsTold, told_none, told_some, told_target, owned_as, owned_given, owned_released, owned_reached}
-use Rattle.ideal_guest.proofs.GicBase.KeyLemmas.{same_key, same_itself, other_key}
+use Rattle.core_words.proofs.GicBase.KeyLemmas.{same_key, same_itself, other_key}
 use Rattle.port_core.proofs.AtLemmas.{entry_is, is_at_mapped, is_at_added, is_at_released, is_at_without, are_mapped, are_added, are_without}
 use Rattle.port_core.proofs.StepLocals.{vcpu_only, AreTold, local_owing, cands_settled, at_of}
 use Rattle.port_core.proofs.StepTies.{number_is, number_self, number_other, none_is, keeps_irq, keeps_moved}

@@ -3,19 +3,19 @@ use Rattle.std.proofs.Common.{◌≡◌, ℕ, ◌/◌, ◌%◌, ◌^◌, ◌<◌
 use Rattle.std.proofs.Math.Bool.{not-or_self}
 use Rattle.std.proofs.lemmas.Bool.{and_parts}
 use Rattle.std.specs.Int.{bit_not, w32}
-use Rattle.ideal_guest.specs.Words.{GuestShape, IccReg, Key, IsShape, has_interrupt, intid_of, is_of_vcpu, has_active_state, is_number}
-use Rattle.ideal_guest.specs.Registers.{enables_in, taken_by, deactivated_by, candidates_at, IsQueue, queue_of}
-use Rattle.ideal_guest.proofs.GicPrio.AccessLemmas.{points_after, levels_after}
+use Rattle.core_words.specs.Words.{GuestShape, IccReg, Key, IsShape, has_interrupt, intid_of, is_of_vcpu, has_active_state, is_number}
+use Rattle.core_words.specs.Registers.{enables_in, taken_by, deactivated_by, candidates_at, IsQueue, queue_of}
+use Rattle.core_words.proofs.GicPrio.AccessLemmas.{points_after, levels_after}
 use Rattle.port_core.specs.declared.at_list.AtIrq.{AtIrq}
 use Rattle.port_core.specs.declared.local.Local.{Local}
 use Rattle.port_core.specs.declared.local.Phase.TheVariants.{Folding}
 use Rattle.port_core.specs.declared.run.Made.{Made}
 use Rattle.port_core.specs.declared.step.CoreStep.TheVariants.{Poll, Kick, EnableLpis, RamLook, RamPut, CtlrTake, CtlrEnd, TurnTake, CommandDone, TurnRelease, Mark, TakeIndex}
-use Rattle.port_core.specs.declared.word_id.WordId.TheVariants.{Vcpu, Queue, Plain}
+use Rattle.core_words.specs.declared.word_id.WordId.TheVariants.{Vcpu, Queue, Plain}
 use Rattle.port_core.specs.After.{interface_of, acknowledged_entry, deactivated_entry, changed_id, id_of, accessed, polled, marked, index_taken}
-use Rattle.port_core.specs.Forms.{vcpu_of, packed_vcpu, ctlr_of}
+use Rattle.core_words.specs.Forms.{vcpu_of, packed_vcpu, ctlr_of}
 use Rattle.port_core.specs.Local.{is_vcpu, without_vcpu, is_at, settled}
-use Rattle.port_core.specs.Place.{index_bit, index_words}
+use Rattle.core_words.specs.Place.{index_bit, index_words}
 use Rattle.port_core.specs.Actor.{actor_count}
 use Rattle.port_core.specs.Step.{is_poll}
 use Rattle.port_core.specs.Valid.{IsAt, IsActorOrNone, AreCands, CanFind}

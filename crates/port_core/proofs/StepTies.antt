@@ -2,15 +2,15 @@
 use Rattle.std.proofs.Common.{◌≡◌, ◌≢◌, ℕ, ◌<◌, ◌^◌, Bool, IsTrue, true, false, is_none, Option, Some, None, refl, sym, ap, subst, ◌∙◌, arith}
 use Rattle.std.specs.Option.{ForSome}
 use Rattle.std.proofs.lemmas.Bool.{eqb-true, eq-eqb, ne_eqb}
-use Rattle.ideal_guest.specs.Words.{GuestShape, Key, Lpi, IsShape, has_interrupt, Irq as IrqRecord, is_number, packed, irq_of}
-use Rattle.ideal_guest.specs.Registers.{QueueWord, IsQueue, queue_of, packed as packed_queue}
-use Rattle.port_core.specs.declared.line.Line.{Line as LineRecord}
+use Rattle.core_words.specs.Words.{GuestShape, Key, Lpi, IsShape, has_interrupt, Irq as IrqRecord, is_number, packed, irq_of}
+use Rattle.core_words.specs.Registers.{QueueWord, IsQueue, queue_of, packed as packed_queue}
+use Rattle.core_words.specs.declared.line.Line.{Line as LineRecord}
 use Rattle.port_core.specs.declared.local.Local.{Local}
-use Rattle.port_core.specs.declared.words.VcpuWord.{VcpuWord}
-use Rattle.port_core.specs.declared.words.CtlrWord.{CtlrWord}
-use Rattle.port_core.specs.declared.word_id.WordId.{WordId}
-use Rattle.port_core.specs.declared.word_id.WordId.TheVariants.{Irq, Vcpu, Index, Queue, Ctlr, Plain, Line}
-use Rattle.port_core.specs.Forms.{packed_vcpu, ctlr_of, packed_ctlr, packed_line, line_of, IsLine}
+use Rattle.core_words.specs.declared.words.VcpuWord.{VcpuWord}
+use Rattle.core_words.specs.declared.words.CtlrWord.{CtlrWord}
+use Rattle.core_words.specs.declared.word_id.WordId.{WordId}
+use Rattle.core_words.specs.declared.word_id.WordId.TheVariants.{Irq, Vcpu, Index, Queue, Ctlr, Plain, Line}
+use Rattle.core_words.specs.Forms.{packed_vcpu, ctlr_of, packed_ctlr, packed_line, line_of, IsLine}
 use Rattle.port_core.specs.Local.{is_at, is_in_line, is_inside}
 use Rattle.port_core.specs.Actor.{actor_count}
 use Rattle.port_core.specs.Valid.{IsActorOrNone, IsIndexWord, IsLineWord, IsLocal, Ties, CanFind}

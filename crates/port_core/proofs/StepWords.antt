@@ -2,15 +2,15 @@
 use Rattle.std.proofs.Common.{◌≡◌, ℕ, ◌+◌, ◌*◌, ◌/◌, ◌%◌, ◌<◌, ◌&&◌, Bool, true, false, cond, if◌then◌else◌, nat_lt, nat_eq, IsTrue, Option, Some, None, refl, sym, ap, subst, ◌∙◌, arith}
 use Rattle.std.specs.Option.{ForSome}
 use Rattle.std.proofs.lemmas.Bool.{and_from, eq-eqb, lt-ltb}
-use Rattle.ideal_guest.specs.Words.{bit_of, field_at, GuestShape, Key, G0, G1, Irq, group_number, IsIrq, HasFlags, flags_number, packed, irq_of, IsRecordOf}
-use Rattle.ideal_guest.proofs.GicBits.BitLemmas.{flag_back, flag_small}
-use Rattle.ideal_guest.specs.GicWord.declared.record.Group.{Group}
-use Rattle.ideal_guest.proofs.GicWord.WordLemmas.{is_one, word_back, word_fits}
-use Rattle.ideal_guest.specs.Registers.{QueueWord, IsQueue, is_queue_word, queue_of, packed as packed_queue}
-use Rattle.ideal_guest.specs.CanOpen.{is_own}
-use Rattle.port_core.specs.declared.words.VcpuWord.{VcpuWord}
-use Rattle.port_core.specs.declared.words.CtlrWord.{CtlrWord}
-use Rattle.port_core.specs.Forms.{packed_vcpu, is_vcpu_word, packed_ctlr, ctlr_of, is_ctlr_word, IsCtlr}
+use Rattle.core_words.specs.Words.{bit_of, field_at, GuestShape, Key, G0, G1, Irq, group_number, IsIrq, HasFlags, flags_number, packed, irq_of, IsRecordOf}
+use Rattle.core_words.proofs.GicBits.BitLemmas.{flag_back, flag_small}
+use Rattle.core_words.specs.GicWord.declared.record.Group.{Group}
+use Rattle.core_words.proofs.GicWord.WordLemmas.{is_one, word_back, word_fits}
+use Rattle.core_words.specs.Registers.{QueueWord, IsQueue, is_queue_word, queue_of, packed as packed_queue}
+use Rattle.core_words.specs.IdealGuests.CanOpen.{is_own}
+use Rattle.core_words.specs.declared.words.VcpuWord.{VcpuWord}
+use Rattle.core_words.specs.declared.words.CtlrWord.{CtlrWord}
+use Rattle.core_words.specs.Forms.{packed_vcpu, is_vcpu_word, packed_ctlr, ctlr_of, is_ctlr_word, IsCtlr}
 use Rattle.port_core.specs.Valid.{is_active_by_holder, IsIrqWord}
 
 -- The word of an interrupt.

@@ -1,6 +1,6 @@
 -- The actors of a guest: the vCPUs come first, and then the devices.
 use Rattle.std.specs.Prelude.{ℕ, ◌+◌, ◌-◌, Bool, nat_lt, if◌then◌else◌}
-use Rattle.ideal_guest.specs.Words.{Actor, Vcpu as VcpuActor, Device, GuestShape}
+use Rattle.core_words.specs.Words.{Actor, Vcpu as VcpuActor, Device, GuestShape}
 
 -- how many actors a guest has
 abbrev pub actor_count : GuestShape → ℕ

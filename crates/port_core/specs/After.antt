@@ -1,21 +1,21 @@
 -- What a step leaves of its actor's own state.
 use Rattle.std.specs.Prelude.{ℕ, ◌+◌, ◌==◌, ◌&&◌, ◌||◌, not, Bool, true, false, List, [], ◌∷◌, ◌++◌, map, if◌then◌else◌, Option, Some, None, is_none}
 use Rattle.std.specs.Option.{option_map_or}
-use Rattle.ideal_guest.specs.Words.{IccReg, Key, GuestShape, intid_of, Irq, has_active_state, is_ripe, is_number, target_in, irq_of}
-use Rattle.ideal_guest.specs.Registers.{Candidate, taken_by, deactivated_by, cpu_after, AtInterface, InterfaceState, candidates_at}
-use Rattle.ideal_guest.specs.Calls.{touched}
+use Rattle.core_words.specs.Words.{IccReg, Key, GuestShape, intid_of, Irq, has_active_state, is_ripe, is_number, target_in, irq_of}
+use Rattle.core_words.specs.Registers.{Candidate, taken_by, deactivated_by, cpu_after, AtInterface, InterfaceState, candidates_at}
+use Rattle.core_words.specs.Calls.{touched}
 use Rattle.port_core.specs.declared.at_list.AtIrq.{AtIrq}
-use Rattle.port_core.specs.declared.line.Line.{Line}
+use Rattle.core_words.specs.declared.line.Line.{Line}
 use Rattle.port_core.specs.declared.local.Local.{Local}
 use Rattle.port_core.specs.declared.local.Phase.{Phase}
 use Rattle.port_core.specs.declared.local.Phase.TheVariants.{Scanning, Claiming, Loaded, Folding}
 use Rattle.port_core.specs.declared.step.CoreStep.{CoreStep}
 use Rattle.port_core.specs.declared.step.CoreStep.TheVariants.{Look, Raise, Claim, GiveBack, Release, Poll, Kick, Touch, Want, WireUp, WireDown, EnableLpis, RamLook, RamPut, CtlrTake, CtlrEnd, TurnTake, CommandDone, TurnRelease, Mark, TakeIndex, LineEnter, LineLeave, LineFill, LineClose}
-use Rattle.port_core.specs.declared.word_id.WordId.{WordId}
-use Rattle.port_core.specs.declared.word_id.WordId.TheVariants.{Irq as IrqWord, Line as LineWord}
-use Rattle.port_core.specs.declared.words.VcpuWord.{VcpuWord}
-use Rattle.port_core.specs.Forms.{vcpu_of, line_of, is_empty_line}
-use Rattle.port_core.specs.Place.{index_words}
+use Rattle.core_words.specs.declared.word_id.WordId.{WordId}
+use Rattle.core_words.specs.declared.word_id.WordId.TheVariants.{Irq as IrqWord, Line as LineWord}
+use Rattle.core_words.specs.declared.words.VcpuWord.{VcpuWord}
+use Rattle.core_words.specs.Forms.{vcpu_of, line_of, is_empty_line}
+use Rattle.core_words.specs.Place.{index_words}
 use Rattle.port_core.specs.Local.{without_vcpu, without_mark, with_cand_word, is_vcpu, settled, is_at, changed_at, without_at, with_entry, arrived, owing, owing_both, with_shut, without_shut}
 use Rattle.port_core.specs.Effect.{succeeds, moved_irq, is_active_at}
 

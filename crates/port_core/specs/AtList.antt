@@ -1,6 +1,6 @@
 -- What a change makes of the interrupts at an interface.
 use Rattle.std.specs.Prelude.{Bool, true, false, List, map, if◌then◌else◌}
-use Rattle.ideal_guest.specs.Words.{is_same_key, intid_of, is_number}
+use Rattle.core_words.specs.Words.{is_same_key, intid_of, is_number}
 use Rattle.port_core.specs.declared.at_list.AtIrq.{AtIrq}
 use Rattle.port_core.specs.declared.at_list.Which.{Which}
 use Rattle.port_core.specs.declared.at_list.Which.TheVariants.{Key as OfKey, Id as OfId}

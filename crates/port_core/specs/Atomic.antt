@@ -1,14 +1,14 @@
 -- The one atomic operation on a word that makes a step.
 use Rattle.std.specs.Prelude.{◌≡◌, ℕ, ◌+◌, ◌-◌, ◌*◌, ◌^◌, ◌==◌, Bool, true, false, IsTrue, if◌then◌else◌, bit_and, bit_or}
-use Rattle.ideal_guest.specs.Words.{GuestShape, Back, cause_bits_of, active_bits_of}
-use Rattle.ideal_guest.specs.Registers.{is_queue_word}
+use Rattle.core_words.specs.Words.{GuestShape, Back, cause_bits_of, active_bits_of}
+use Rattle.core_words.specs.Registers.{is_queue_word}
 use Rattle.port_core.specs.declared.atomic.Atomic.{Atomic}
 use Rattle.port_core.specs.declared.atomic.Atomic.TheVariants.{Load, And, Or, Swap, Exchange}
 use Rattle.port_core.specs.declared.local.Local.{Local}
 use Rattle.port_core.specs.declared.step.CoreStep.{CoreStep}
 use Rattle.port_core.specs.declared.step.CoreStep.TheVariants.{Claim, Touch, CtlrTake, TurnTake, LineEnter}
 use Rattle.port_core.specs.Effect.{word_after}
-use Rattle.port_core.specs.Forms.{is_ctlr_word}
+use Rattle.core_words.specs.Forms.{is_ctlr_word}
 use Rattle.port_core.specs.Step.{word_of}
 use Rattle.port_core.specs.Valid.{IsIrqWord, IsLineWord, CanFind}
 

@@ -1,12 +1,12 @@
 -- What a step asks of its actor: of what the actor has for itself, and of what its steps before handed out.
 use Rattle.std.specs.Prelude.{All, ◌≡◌, ℕ, ◌==◌, ◌&&◌, not, Bool, true, false, IsTrue, List, [], length, nat_lt, Option, Some, None, is_none, ◌∷◌}
 use Rattle.std.specs.Option.{option_map_or}
-use Rattle.ideal_guest.specs.Words.{Key, GuestShape, Back}
-use Rattle.ideal_guest.specs.Calls.{Touching, MapLpi, Fault, Cbaser, ItsCtlr, place_of_plain, QueueChange, Runs, Done, Stalls, queue_event, command_places, is_its_enabled}
-use Rattle.ideal_guest.specs.Registers.{queue_of, translated}
-use Rattle.ideal_guest.specs.GicCall.declared.event.Event.TheVariants.{Queue as QueueEvent}
-use Rattle.ideal_guest.specs.GicCall.declared.event.Place.TheVariants.{Word, Queue as QueuePlace}
-use Rattle.ideal_guest.specs.GicCall.declared.touch.Touching.TheVariants.{Retarget, Configure, Forget}
+use Rattle.core_words.specs.Words.{Key, GuestShape, Back}
+use Rattle.core_words.specs.Calls.{Touching, MapLpi, Fault, Cbaser, ItsCtlr, place_of_plain, QueueChange, Runs, Done, Stalls, queue_event, command_places, is_its_enabled}
+use Rattle.core_words.specs.Registers.{queue_of, translated}
+use Rattle.core_words.specs.GicCall.declared.event.Event.TheVariants.{Queue as QueueEvent}
+use Rattle.core_words.specs.GicCall.declared.event.Place.TheVariants.{Word, Queue as QueuePlace}
+use Rattle.core_words.specs.GicCall.declared.touch.Touching.TheVariants.{Retarget, Configure, Forget}
 use Rattle.port_core.specs.declared.at_list.AtIrq.{AtIrq}
 use Rattle.port_core.specs.declared.local.Local.{Local}
 use Rattle.port_core.specs.declared.local.Phase.{Phase}
@@ -14,7 +14,7 @@ use Rattle.port_core.specs.declared.local.Phase.TheVariants.{Scanning, Claiming,
 use Rattle.port_core.specs.declared.run.Made.{Made}
 use Rattle.port_core.specs.declared.step.CoreStep.{CoreStep}
 use Rattle.port_core.specs.declared.step.CoreStep.TheVariants.{Look, Raise, Claim, GiveBack, Release, Poll, Kick, Touch, Want, WireUp, WireDown, EnableLpis, RamLook, RamPut, CtlrTake, CtlrEnd, TurnTake, CommandDone, TurnRelease, Mark, TakeIndex, LineEnter, LineLeave, LineFill, LineClose}
-use Rattle.port_core.specs.declared.word_id.WordId.TheVariants.{Queue, Plain}
+use Rattle.core_words.specs.declared.word_id.WordId.TheVariants.{Queue, Plain}
 use Rattle.port_core.specs.Known.{known, known_word, known_view, is_known, last_made}
 use Rattle.port_core.specs.Local.{entry_for, back_of, owes_no_kick, owes_no_mark, is_in_line, has_all_shut}
 

@@ -1,16 +1,16 @@
 -- What a step leaves of the word that it found.
 use Rattle.std.specs.Prelude.{ℕ, ◌%◌, ◌^◌, ◌==◌, ◌&&◌, ◌||◌, not, Bool, true, false, if◌then◌else◌, Some, None, is_none, is_some, bit_or}
 use Rattle.std.specs.Option.{option_map_or}
-use Rattle.ideal_guest.specs.Words.{Key, GuestShape, Back, Irq, raised, wire_up, wire_down, is_number, irq_of, packed}
-use Rattle.ideal_guest.specs.Registers.{enables_in, queue_of, packed as packed_queue}
-use Rattle.ideal_guest.specs.Calls.{Moved, Touching, may_reach, reached, may_take, taken, touched}
+use Rattle.core_words.specs.Words.{Key, GuestShape, Back, Irq, raised, wire_up, wire_down, is_number, irq_of, packed}
+use Rattle.core_words.specs.Registers.{enables_in, queue_of, packed as packed_queue}
+use Rattle.core_words.specs.Calls.{Moved, Touching, may_reach, reached, may_take, taken, touched}
 use Rattle.port_core.specs.declared.at_list.AtIrq.{AtIrq}
 use Rattle.port_core.specs.declared.local.Local.{Local}
 use Rattle.port_core.specs.declared.step.CoreStep.{CoreStep}
 use Rattle.port_core.specs.declared.step.CoreStep.TheVariants.{Look, Raise, Claim, GiveBack, Release, Poll, Kick, Touch, Want, WireUp, WireDown, EnableLpis, RamLook, RamPut, CtlrTake, CtlrEnd, TurnTake, CommandDone, TurnRelease, Mark, TakeIndex, LineEnter, LineLeave, LineFill, LineClose}
-use Rattle.port_core.specs.Forms.{vcpu_of, packed_vcpu, ctlr_of, packed_ctlr, line_of, packed_line, is_empty_line}
+use Rattle.core_words.specs.Forms.{vcpu_of, packed_vcpu, ctlr_of, packed_ctlr, line_of, packed_line, is_empty_line}
 use Rattle.port_core.specs.Local.{entry_for, entry_of, with_inside, without_inside}
-use Rattle.port_core.specs.Place.{index_bit}
+use Rattle.core_words.specs.Place.{index_bit}
 
 -- Claims: an interrupt that nobody holds gets to the vCPU's interface, and one that the vCPU holds brings its causes.
 

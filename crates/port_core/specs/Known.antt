@@ -1,17 +1,17 @@
 -- What an actor knows of the guest's words by its own steps: each word as its last step on it left it.
 use Rattle.std.specs.Prelude.{is_some, ℕ, ◌==◌, ◌||◌, Bool, false, List, [], fold, find, if◌then◌else◌, Option, Some, None, unwrap_or, ◌∷◌, ◌++◌}
 use Rattle.std.specs.Option.{option_map_or}
-use Rattle.ideal_guest.specs.Words.{Lpi, GuestShape, target_in, irq_of}
-use Rattle.ideal_guest.specs.Calls.{place_of_plain, maps_done, Place, View}
-use Rattle.ideal_guest.specs.GicCall.declared.event.Place.TheVariants.{Word, Queue as QueuePlace, Ctlr as CtlrPlace, Lpis}
-use Rattle.ideal_guest.specs.Registers.{queue_of, Maps}
+use Rattle.core_words.specs.Words.{Lpi, GuestShape, target_in, irq_of}
+use Rattle.core_words.specs.Calls.{place_of_plain, maps_done, Place, View}
+use Rattle.core_words.specs.GicCall.declared.event.Place.TheVariants.{Word, Queue as QueuePlace, Ctlr as CtlrPlace, Lpis}
+use Rattle.core_words.specs.Registers.{queue_of, Maps}
 use Rattle.port_core.specs.declared.run.Made.{Made}
 use Rattle.port_core.specs.declared.step.CoreStep.{CoreStep}
 use Rattle.port_core.specs.declared.step.CoreStep.TheVariants.{CommandDone}
-use Rattle.port_core.specs.declared.word_id.WordId.{WordId}
-use Rattle.port_core.specs.declared.word_id.WordId.TheVariants.{Irq, Vcpu, Queue, Ctlr, Plain}
-use Rattle.port_core.specs.Forms.{vcpu_of, ctlr_of}
-use Rattle.port_core.specs.Place.{place_of_word}
+use Rattle.core_words.specs.declared.word_id.WordId.{WordId}
+use Rattle.core_words.specs.declared.word_id.WordId.TheVariants.{Irq, Vcpu, Queue, Ctlr, Plain}
+use Rattle.core_words.specs.Forms.{vcpu_of, ctlr_of}
+use Rattle.core_words.specs.Place.{place_of_word}
 use Rattle.port_core.specs.Step.{word_of}
 
 -- a step was on a word

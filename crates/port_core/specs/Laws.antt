@@ -1,8 +1,8 @@
 -- Laws of every run.
 use Rattle.std.specs.Prelude.{◌≡◌, ℕ, ◌++◌, List}
-use Rattle.ideal_guest.specs.Words.{GuestShape, IsShape}
-use Rattle.ideal_guest.specs.CanOpen.{CanOpen}
-use Rattle.ideal_guest.specs.declared.guest.IdealGuest.{IdealGuest}
+use Rattle.core_words.specs.Words.{GuestShape, IsShape}
+use Rattle.core_words.specs.IdealGuests.CanOpen.{CanOpen}
+use Rattle.core_words.specs.IdealGuests.declared.guest.IdealGuest.{IdealGuest}
 use Rattle.port_core.specs.declared.run.Entry.{Entry}
 use Rattle.port_core.specs.Run.{CoreState, opening, after, Takes, IsRun, end_of, IsSound}
 

@@ -1,16 +1,17 @@
-pub use Rattle.ideal_guest.specs.Calls
-pub use Rattle.ideal_guest.specs.Registers
-pub use Rattle.ideal_guest.specs.Words
-pub use Rattle.ideal_guest.specs.GicBase
-pub use Rattle.ideal_guest.specs.GicCall
-pub use Rattle.ideal_guest.specs.GicDmap
-pub use Rattle.ideal_guest.specs.GicGuest
-pub use Rattle.ideal_guest.specs.GicImap
-pub use Rattle.ideal_guest.specs.GicRmap
-pub use Rattle.ideal_guest.specs as IdealGuests
+pub use Rattle.core_words.specs.Calls
+pub use Rattle.core_words.specs.Registers
+pub use Rattle.core_words.specs.Words
+pub use Rattle.core_words.specs.GicBase
+pub use Rattle.core_words.specs.GicCall
+pub use Rattle.core_words.specs.GicDmap
+pub use Rattle.core_words.specs.GicGuest
+pub use Rattle.core_words.specs.GicImap
+pub use Rattle.core_words.specs.GicRmap
+pub use Rattle.core_words.specs.IdealGuests
+pub use Rattle.core_words.specs.Place
+pub use Rattle.core_words.specs.Forms
+pub use Rattle.core_words.specs as CoreWords
 pub mod Actor
-pub mod Place
-pub mod Forms
 pub mod Local
 pub mod Step
 pub mod Known

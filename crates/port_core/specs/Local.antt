@@ -3,16 +3,16 @@ use Rattle.std.specs.Prelude.{ℕ, ◌-◌, ◌/◌, ◌%◌, ◌^◌, ◌&&◌,
 use Rattle.std.specs.Int.{bit_not, w32, w64}
 use Rattle.std.specs.List.{list_all}
 use Rattle.std.specs.Option.{option_map_or}
-use Rattle.ideal_guest.specs.Words.{has_bit, Key, GuestShape, Back, Actor, is_of_vcpu, is_same_key, Irq}
-use Rattle.ideal_guest.specs.Registers.{Targets, CpuRec}
-use Rattle.ideal_guest.specs.Calls.{Entry}
+use Rattle.core_words.specs.Words.{has_bit, Key, GuestShape, Back, Actor, is_of_vcpu, is_same_key, Irq}
+use Rattle.core_words.specs.Registers.{Targets, CpuRec}
+use Rattle.core_words.specs.Calls.{Entry}
 use Rattle.port_core.specs.declared.local.Phase.TheVariants.{Off}
 use Rattle.port_core.specs.declared.at_list.AtIrq.{AtIrq}
-use Rattle.port_core.specs.declared.line.Line.{Line}
+use Rattle.core_words.specs.declared.line.Line.{Line}
 use Rattle.port_core.specs.declared.owed.MarkSet.{MarkSet}
 use Rattle.port_core.specs.declared.owed.Cands.{Cands}
 use Rattle.port_core.specs.declared.local.Local.{Local}
-use Rattle.port_core.specs.Place.{index_bit}
+use Rattle.core_words.specs.Place.{index_bit}
 
 -- Sets of vCPUs.
 

@@ -1,12 +1,12 @@
 -- What an actor's port tells of it.
 use Rattle.std.specs.Prelude.{◌≡◌, ℕ, ◌<◌, ◌||◌, not, Bool, true, IsTrue, List, [], ◌∷◌, ◌&&◌, ◌++◌, map, Option, option_map, IfSome, is_some, is_none}
 use Rattle.std.specs.Option.{option_to_list}
-use Rattle.ideal_guest.specs.Words.{GuestShape}
+use Rattle.core_words.specs.Words.{GuestShape}
 use Rattle.atomic_table.specs.Seated.{TableId}
-use Rattle.ideal_guest.specs.Calls.{Happened}
-use Rattle.ideal_guest.specs.CanOpen.{CanOpen}
-use Rattle.ideal_guest.specs.declared.guest.IdealGuest.{IdealGuest}
-use Rattle.ideal_guest.specs.Registers.{Maps, IsValid as IsValidMaps}
+use Rattle.core_words.specs.Calls.{Happened}
+use Rattle.core_words.specs.IdealGuests.CanOpen.{CanOpen}
+use Rattle.core_words.specs.IdealGuests.declared.guest.IdealGuest.{IdealGuest}
+use Rattle.core_words.specs.Registers.{Maps, IsValid as IsValidMaps}
 use Rattle.port_core.specs.declared.local.Local.{Local}
 use Rattle.port_core.specs.declared.run.Made.{Made}
 use Rattle.port_core.specs.declared.run.Entry.{Entry}
@@ -15,7 +15,7 @@ use Rattle.port_core.specs.declared.step.CoreStep.TheVariants.{CommandDone, Turn
 use Rattle.port_core.specs.After.{local_after}
 use Rattle.port_core.specs.Atomic.{IsSeen}
 use Rattle.port_core.specs.Condition.{Meets}
-use Rattle.port_core.specs.declared.word_id.WordId.{WordId}
+use Rattle.core_words.specs.declared.word_id.WordId.{WordId}
 use Rattle.port_core.specs.Effect.{succeeds, word_after}
 use Rattle.port_core.specs.Run.{is_taking, opening_local_of}
 use Rattle.port_core.specs.Stands.{stands_for}

@@ -2,26 +2,26 @@
 use Rattle.std.specs.Prelude.{◌≡◌, ℕ, ◌+◌, ◌*◌, ◌^◌, ◌<◌, ◌==◌, ◌&&◌, ◌||◌, Bool, true, false, IsTrue, List, [], ◌∷◌, ◌++◌, map, filter, fold, length, nat_lt, if◌then◌else◌, Option, Some, None, bit_or, slice_index_or, slice_set}
 use Rattle.std.specs.Option.{option_map_or}
 use Rattle.std.specs.List.{range_with_len}
-use Rattle.ideal_guest.specs.Words.{Vcpu as VcpuActor, GuestShape, Irq as IrqRecord, is_number, is_ripe, packed}
-use Rattle.ideal_guest.specs.Registers.{IsValid as IsValidMaps, Maps, packed as packed_queue}
-use Rattle.ideal_guest.specs.Calls.{opening_cpu}
-use Rattle.ideal_guest.specs.Ideal.{irq_at, cpu_at}
-use Rattle.ideal_guest.specs.declared.guest.IdealGuest.{IdealGuest}
+use Rattle.core_words.specs.Words.{Vcpu as VcpuActor, GuestShape, Irq as IrqRecord, is_number, is_ripe, packed}
+use Rattle.core_words.specs.Registers.{IsValid as IsValidMaps, Maps, packed as packed_queue}
+use Rattle.core_words.specs.Calls.{opening_cpu}
+use Rattle.core_words.specs.IdealGuests.Ideal.{irq_at, cpu_at}
+use Rattle.core_words.specs.IdealGuests.declared.guest.IdealGuest.{IdealGuest}
 use Rattle.port_core.specs.declared.local.Local.{Local}
 use Rattle.port_core.specs.declared.run.Entry.{Entry}
 use Rattle.port_core.specs.declared.run.Made.{Made}
 use Rattle.port_core.specs.declared.step.CoreStep.{CoreStep}
 use Rattle.port_core.specs.declared.step.CoreStep.TheVariants.{TurnTake}
-use Rattle.port_core.specs.declared.word_id.WordId.{WordId}
-use Rattle.port_core.specs.declared.word_id.WordId.TheVariants.{Irq, Vcpu, Index, Queue, Ctlr, Plain, Line}
+use Rattle.core_words.specs.declared.word_id.WordId.{WordId}
+use Rattle.core_words.specs.declared.word_id.WordId.TheVariants.{Irq, Vcpu, Index, Queue, Ctlr, Plain, Line}
 use Rattle.port_core.specs.Actor.{actor_at, actor_count}
 use Rattle.port_core.specs.After.{local_after}
 use Rattle.port_core.specs.Condition.{Meets}
 use Rattle.port_core.specs.Effect.{succeeds, word_after}
-use Rattle.port_core.specs.Forms.{packed_vcpu, packed_ctlr, packed_line, empty_line}
+use Rattle.core_words.specs.Forms.{packed_vcpu, packed_ctlr, packed_line, empty_line}
 use Rattle.port_core.specs.Known.{maps_by_step, known_maps}
 use Rattle.port_core.specs.Local.{opening_local}
-use Rattle.port_core.specs.Place.{has_word, index_bits, key_of_bit, word_count, word_at, place_of_word}
+use Rattle.core_words.specs.Place.{has_word, index_bits, key_of_bit, word_count, word_at, place_of_word}
 use Rattle.port_core.specs.Step.{word_of, CanStep}
 use Rattle.port_core.specs.Valid.{IsValid, IsLocal, Ties}
 

@@ -1,21 +1,21 @@
 -- Which event of the ideal controller a step stands for, with what that hands out.
 use Rattle.std.specs.Prelude.{ℕ, ◌==◌, false, List, if◌then◌else◌, Option, Some, None, is_some}
-use Rattle.ideal_guest.specs.Words.{IccReg, GuestShape, Key, irq_of}
-use Rattle.ideal_guest.specs.Registers.{interface_answer, enables_in, queue_of}
-use Rattle.ideal_guest.specs.Calls.{plain_at, Event, Up, Down, Enable, Touch as TouchEvent, Reach, Take, Leave, Cpu, Put, CtlrBegin, CtlrEnd as CtlrEndEvent, ItsBegin, Found, Record, Happened}
-use Rattle.ideal_guest.specs.GicCall.declared.event.Event.TheVariants.{Raise as RaiseEvent, Read, ItsEnd, Queue as QueueEvent}
-use Rattle.ideal_guest.specs.GicCall.declared.event.Place.TheVariants.{Word, Queue as QueuePlace, Ctlr as CtlrPlace, Lpis}
-use Rattle.ideal_guest.specs.GicCall.declared.event.Found.TheVariants.{Nothing, Answer, Word as FoundWord, Queue as FoundQueue, Ctlr as FoundCtlr, Lpis as FoundLpis}
+use Rattle.core_words.specs.Words.{IccReg, GuestShape, Key, irq_of}
+use Rattle.core_words.specs.Registers.{interface_answer, enables_in, queue_of}
+use Rattle.core_words.specs.Calls.{plain_at, Event, Up, Down, Enable, Touch as TouchEvent, Reach, Take, Leave, Cpu, Put, CtlrBegin, CtlrEnd as CtlrEndEvent, ItsBegin, Found, Record, Happened}
+use Rattle.core_words.specs.GicCall.declared.event.Event.TheVariants.{Raise as RaiseEvent, Read, ItsEnd, Queue as QueueEvent}
+use Rattle.core_words.specs.GicCall.declared.event.Place.TheVariants.{Word, Queue as QueuePlace, Ctlr as CtlrPlace, Lpis}
+use Rattle.core_words.specs.GicCall.declared.event.Found.TheVariants.{Nothing, Answer, Word as FoundWord, Queue as FoundQueue, Ctlr as FoundCtlr, Lpis as FoundLpis}
 use Rattle.port_core.specs.declared.local.Local.{Local}
 use Rattle.port_core.specs.declared.run.Made.{Made}
 use Rattle.port_core.specs.declared.step.CoreStep.{CoreStep}
 use Rattle.port_core.specs.declared.step.CoreStep.TheVariants.{Look, Raise, Claim, GiveBack, Release, Poll, Kick, Touch, Want, WireUp, WireDown, EnableLpis, RamLook, RamPut, CtlrTake, CtlrEnd, TurnTake, CommandDone, TurnRelease, Mark, TakeIndex, LineEnter, LineLeave, LineFill, LineClose}
-use Rattle.port_core.specs.declared.word_id.WordId.{WordId}
-use Rattle.port_core.specs.declared.word_id.WordId.TheVariants.{Vcpu, Queue, Ctlr}
+use Rattle.core_words.specs.declared.word_id.WordId.{WordId}
+use Rattle.core_words.specs.declared.word_id.WordId.TheVariants.{Vcpu, Queue, Ctlr}
 use Rattle.port_core.specs.After.{interface_of}
 use Rattle.port_core.specs.Condition.{change_of, fault_place}
 use Rattle.port_core.specs.Effect.{succeeds}
-use Rattle.port_core.specs.Forms.{vcpu_of, ctlr_of}
+use Rattle.core_words.specs.Forms.{vcpu_of, ctlr_of}
 use Rattle.port_core.specs.Local.{is_at}
 
 -- an event that hands out something, or nothing

@@ -1,12 +1,12 @@
 -- What a step names: its word, and what of the guest has to be there.
 use Rattle.std.specs.Prelude.{◌≡◌, ℕ, ◌/◌, ◌^◌, ◌<◌, ◌&&◌, not, Bool, false, IsTrue, List, nat_lt, Option, Some, None, is_none, length}
-use Rattle.ideal_guest.specs.Words.{GuestShape, IccReg, Lpi, has_interrupt, is_of_vcpu}
-use Rattle.ideal_guest.specs.Calls.{plain_count, CanTouch, IsOffset, has_wire, is_usable}
-use Rattle.port_core.specs.declared.word_id.WordId.{WordId}
-use Rattle.port_core.specs.declared.word_id.WordId.TheVariants.{Irq, Vcpu, Index, Queue, Ctlr, Plain, Line}
+use Rattle.core_words.specs.Words.{GuestShape, IccReg, Lpi, has_interrupt, is_of_vcpu}
+use Rattle.core_words.specs.Calls.{plain_count, CanTouch, IsOffset, has_wire, is_usable}
+use Rattle.core_words.specs.declared.word_id.WordId.{WordId}
+use Rattle.core_words.specs.declared.word_id.WordId.TheVariants.{Irq, Vcpu, Index, Queue, Ctlr, Plain, Line}
 use Rattle.port_core.specs.declared.step.CoreStep.{CoreStep}
 use Rattle.port_core.specs.declared.step.CoreStep.TheVariants.{Look, Raise, Claim, GiveBack, Release, Poll, Kick, Touch, Want, WireUp, WireDown, EnableLpis, RamLook, RamPut, CtlrTake, CtlrEnd, TurnTake, CommandDone, TurnRelease, Mark, TakeIndex, LineEnter, LineLeave, LineFill, LineClose}
-use Rattle.port_core.specs.Place.{has_word, index_bit, index_words}
+use Rattle.core_words.specs.Place.{has_word, index_bit, index_words}
 use Rattle.port_core.specs.Local.{is_vcpu}
 
 -- the word that a step of an actor is on

@@ -1,18 +1,18 @@
 -- What is kept of every word and of every actor's own state, by every step of every run.
 use Rattle.std.specs.Prelude.{◌≡◌, ℕ, ◌+◌, ◌*◌, ◌^◌, ◌<◌, ◌≤◌, ◌||◌, Bool, true, false, IsTrue, List, [], length, filter, All, Option, Some, None, is_none, slice_index_or}
 use Rattle.std.specs.Option.{option_map_or, ForSome}
-use Rattle.ideal_guest.specs.Words.{Key, Lpi, GuestShape, has_interrupt, is_of_vcpu, is_same_key, has_bit, Irq as IrqRecord, is_number, IsWord, irq_of, IsRecordOf}
-use Rattle.ideal_guest.specs.Registers.{HasBinaryPoints, HasLevels, is_queue_word, queue_of}
-use Rattle.ideal_guest.specs.Calls.{IsEntryOf}
-use Rattle.ideal_guest.specs.CanOpen.{is_own}
+use Rattle.core_words.specs.Words.{Key, Lpi, GuestShape, has_interrupt, is_of_vcpu, is_same_key, has_bit, Irq as IrqRecord, is_number, IsWord, irq_of, IsRecordOf}
+use Rattle.core_words.specs.Registers.{HasBinaryPoints, HasLevels, is_queue_word, queue_of}
+use Rattle.core_words.specs.Calls.{IsEntryOf}
+use Rattle.core_words.specs.IdealGuests.CanOpen.{is_own}
 use Rattle.port_core.specs.declared.at_list.AtIrq.{AtIrq}
-use Rattle.port_core.specs.declared.line.Entered.{Entered}
+use Rattle.core_words.specs.declared.line.Entered.{Entered}
 use Rattle.port_core.specs.declared.local.Local.{Local}
-use Rattle.port_core.specs.declared.word_id.WordId.{WordId}
-use Rattle.port_core.specs.declared.word_id.WordId.TheVariants.{Irq, Vcpu, Index, Queue, Ctlr, Plain, Line}
-use Rattle.port_core.specs.Forms.{is_vcpu_word, is_ctlr_word, ctlr_of, is_line_word, line_of}
+use Rattle.core_words.specs.declared.word_id.WordId.{WordId}
+use Rattle.core_words.specs.declared.word_id.WordId.TheVariants.{Irq, Vcpu, Index, Queue, Ctlr, Plain, Line}
+use Rattle.core_words.specs.Forms.{is_vcpu_word, is_ctlr_word, ctlr_of, is_line_word, line_of}
 use Rattle.port_core.specs.Local.{is_vcpu, is_at, entry_of, has_no_cand, is_in_line, is_inside}
-use Rattle.port_core.specs.Place.{index_bits, line_count}
+use Rattle.core_words.specs.Place.{index_bits, line_count}
 use Rattle.port_core.specs.Actor.{actor_count}
 
 -- Words.

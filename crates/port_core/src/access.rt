@@ -1,11 +1,11 @@
 //! A vCPU's access of its CPU interface, on what the vCPU has for itself.
 ghost use Rattle.std.specs.Prelude.{◌≡◌, ◌<◌, List, [], ◌∷◌, ◌++◌, filter_map, Some, None};
-ghost use Rattle.ideal_guest.specs.Registers.{Candidate as Seen, HasBinaryPoints, first_of, taken_by, deactivated_by, cpu_after, candidate_of, candidates_at};
+ghost use Rattle.core_words.specs.Registers.{Candidate as Seen, HasBinaryPoints, first_of, taken_by, deactivated_by, cpu_after, candidate_of, candidates_at};
 ghost use Rattle.port_core.specs.After.{shown, interface_of, id_of, accessed};
 
 use crate::at_list::{AtIrq, Change, Which};
 use crate::local::{Local, Phase};
-use ideal_guest::{
+use core_words::{
     Candidate, CpuRec, Group, IccReg, acknowledged, cpu_written, earlier, intid_deactivated,
     level_activated, listens,
 };

@@ -1,9 +1,9 @@
 //! The actors of a guest, and their numbering: the vCPUs come first, and then the devices.
 ghost use Rattle.std.specs.Prelude.{◌≡◌, ◌<◌, ◌≤◌, IsTrue};
-ghost use Rattle.ideal_guest.specs.Words.{IsShape};
+ghost use Rattle.core_words.specs.Words.{IsShape};
 ghost use Rattle.port_core.specs.Actor.{actor_count as count_of, actor_at as actor_in, guest_of as guest_in, number_of as number_in, has_actor};
 
-use ideal_guest::{Actor, GuestShape};
+use core_words::{Actor, GuestShape};
 
 /// How many actors a guest has, at most 36.
 pub fn actor_count(shape: &GuestShape) -> u32

@@ -1,27 +1,25 @@
 //! What a step leaves of its actor's own state.
 ghost use Rattle.std.specs.Prelude.{ℕ as Number, ◌≡◌, ◌<◌, ◌≤◌, ◌/◌, ◌+◌, ◌==◌, [], ◌∷◌, IsTrue, IfSome, All, Option, Some, None, false, if◌then◌else◌};
-ghost use Rattle.ideal_guest.specs.Words.{GuestShape, IsShape, max_vcpus, has_interrupt, irq_of, IsIrq, IsSeat, IsWord};
-ghost use Rattle.ideal_guest.specs.Calls.{CanTouch};
-ghost use Rattle.ideal_guest.specs.Registers.{IsQueue, is_queue_word, queue_of, HasBinaryPoints};
+ghost use Rattle.core_words.specs.Words.{GuestShape, IsShape, max_vcpus, has_interrupt, irq_of, IsIrq, IsSeat, IsWord};
+ghost use Rattle.core_words.specs.Calls.{CanTouch};
+ghost use Rattle.core_words.specs.Registers.{IsQueue, is_queue_word, queue_of, HasBinaryPoints};
 ghost use Rattle.port_core.specs.declared.step.CoreStep.TheVariants.{Claim, Touch, LineEnter};
 ghost use Rattle.port_core.specs.After.{concerned as concerned_of, concerned_by as concerned_of_touch, looked_at, claimed_at, given_at, release_at, polled_at, index_taken, marked, looked_at_line, closed_line, local_after};
 ghost use Rattle.port_core.specs.Condition.{may_claim as may_claim_at, has_room};
-ghost use Rattle.port_core.specs.Place.{index_words as words_of};
+ghost use Rattle.core_words.specs.Place.{index_words as words_of};
 ghost use Rattle.port_core.specs.Effect.{succeeds, is_active_at};
 ghost use Rattle.port_core.specs.Local.{owing, owing_both, with_shut, without_shut};
-ghost use Rattle.port_core.specs.Forms.{is_empty_line};
+ghost use Rattle.core_words.specs.Forms.{is_empty_line};
 ghost use Rattle.port_core.specs.Step.{CanStep, word_of};
 ghost use Rattle.port_core.specs.Valid.{IsLocal, CanFind, IsIrqWord};
 
 use crate::at_list::{AtIrq, Change, Which};
-use crate::line::{Entered, Line};
 use crate::local::{Local, Phase};
 use crate::owed::{MarkSet, NO_VCPUS, with_all, without_vcpu};
 use crate::step::CoreStep;
-use crate::word_id::{WordId, index_words};
-use crate::words::{CtlrWord, VcpuWord};
-use ideal_guest::{
-    GuestShape, IccReg, Irq, Key, QueueWord, Touching, irq_unpack as unpack, ripe, target_in,
+use core_words::{
+    CtlrWord, Entered, GuestShape, IccReg, Irq, Key, Line, QueueWord, Touching, VcpuWord, WordId,
+    index_words, irq_unpack as unpack, ripe, target_in,
 };
 
 /// Whom a cause that comes or goes concerns: the target, and the vCPU that holds the interrupt, or where nobody does
@@ -331,5 +329,5 @@ pub(crate) fn queue_in(word: u64) -> QueueWord
     ensures value { result ≡ queue_of word }
     ensures queue { IsQueue result }
 {
-    ideal_guest::queue_unpack(word).unwrap()
+    core_words::queue_unpack(word).unwrap()
 }

@@ -1,12 +1,12 @@
 //! The interrupts at a vCPU's interface.
 ghost use Rattle.std.specs.Prelude.{◌≡◌, ◌<◌, ◌≤◌, ◌∷◌, ◌++◌, [], length, Option, is_some};
-ghost use Rattle.ideal_guest.specs.Words.{is_same_key, intid_of, is_number};
+ghost use Rattle.core_words.specs.Words.{is_same_key, intid_of, is_number};
 ghost use Rattle.port_core.specs.Local.{entry_for, without_at, arrived as arrived_of, entry_of as entry_in, back_of as back_in};
 ghost use Rattle.port_core.specs.After.{acknowledged_entry, deactivated_entry, changed_id};
 ghost use Rattle.port_core.specs.AtList.{changed_by, changed_if, changed_where, is_which};
 
 use arrayvec::ArrayVec;
-use ideal_guest::{Back, Entry, Group, Irq, Key, MAX_LIST_REGISTERS, has_active_state};
+use core_words::{Back, Entry, Group, Irq, Key, MAX_LIST_REGISTERS, has_active_state};
 use std::marker::Model;
 
 /// An interrupt at a vCPU's interface, as the vCPU has it for itself.

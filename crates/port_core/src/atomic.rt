@@ -1,14 +1,14 @@
 //! The one atomic operation on a word that makes a step.
 ghost use Rattle.std.specs.Prelude.{◌≡◌, ℕ, ◌<◌, ◌≤◌, ◌^◌, ◌/◌, ◌%◌, ◌-◌, List, IsTrue, Some, is_none, is_some, false};
-ghost use Rattle.ideal_guest.specs.Words.{IsShape, max_vcpus, has_interrupt, irq_of};
-ghost use Rattle.ideal_guest.specs.Calls.{CanTouch, IsOffset};
-ghost use Rattle.ideal_guest.specs.Registers.{is_queue_word, queue_of, packed as packed_queue, enables_in as enables_of};
+ghost use Rattle.core_words.specs.Words.{IsShape, max_vcpus, has_interrupt, irq_of};
+ghost use Rattle.core_words.specs.Calls.{CanTouch, IsOffset};
+ghost use Rattle.core_words.specs.Registers.{is_queue_word, queue_of, packed as packed_queue, enables_in as enables_of};
 ghost use Rattle.port_core.specs.declared.atomic.Atomic.TheVariants.{Exchange};
 ghost use Rattle.port_core.specs.declared.run.Made.{Made};
 ghost use Rattle.port_core.specs.Effect.{may_move as can_move, claimed_irq, touched_irq, changed};
-ghost use Rattle.port_core.specs.Forms.{ctlr_of, packed_ctlr, line_of, packed_line};
+ghost use Rattle.core_words.specs.Forms.{ctlr_of, packed_ctlr, line_of, packed_line};
 ghost use Rattle.port_core.specs.Atomic.{IsSeen, Makes, back_bits, release_bits, exchange_by};
-ghost use Rattle.port_core.specs.Place.{index_bit as bit_of_key};
+ghost use Rattle.core_words.specs.Place.{index_bit as bit_of_key};
 ghost use Rattle.port_core.specs.Condition.{Meets};
 ghost use Rattle.port_core.specs.Actor.{actor_count};
 ghost use Rattle.port_core.specs.Step.{CanStep};
@@ -16,14 +16,12 @@ ghost use Rattle.port_core.specs.Local.{is_vcpu, with_inside};
 ghost use Rattle.port_core.specs.Valid.{IsLocal, IsIrqWord, IsLineWord};
 
 use crate::advance::{irq_in, queue_in};
-use crate::line::{Line, pack_line};
 use crate::local::Local;
 use crate::step::CoreStep;
-use crate::word_id::{WORD_BITS, index_bit};
-use crate::words::{CtlrWord, VcpuWord};
-use ideal_guest::{
-    Back, GuestShape, HELD_BY_NONE, Irq, Key, QueueWord, RAISE, Touching, WIRE_DOWN, WIRE_UP,
-    active_mask, cause_mask, enables_in, irq_pack as pack,
+use core_words::{
+    Back, CtlrWord, GuestShape, HELD_BY_NONE, Irq, Key, Line, QueueWord, RAISE, Touching, VcpuWord,
+    WIRE_DOWN, WIRE_UP, WORD_BITS, active_mask, cause_mask, enables_in, index_bit,
+    irq_pack as pack, pack_line,
 };
 
 /// An access waits for the interrupt.
@@ -123,7 +121,7 @@ fn turn_take_by(seen: u64, actor: u32) -> Atomic
         turn: Some(actor),
         ..queue
     };
-    exchange_if(queue.turn.is_none(), seen, ideal_guest::queue_pack(&taken))
+    exchange_if(queue.turn.is_none(), seen, core_words::queue_pack(&taken))
 }
 
 /// The word of a queue that an actor has.
@@ -132,7 +130,7 @@ fn queue_word(offset: u32, stalled: bool, actor: u32) -> u64
     requires offset { IsOffset offset }
     ensures { result ≡ packed_queue (record { turn = Some actor; offset = offset; stalled = stalled }) }
 {
-    ideal_guest::queue_pack(&QueueWord {
+    core_words::queue_pack(&QueueWord {
         turn: Some(actor),
         offset,
         stalled,

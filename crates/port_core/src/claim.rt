@@ -1,10 +1,10 @@
 //! Claims: an interrupt gets to a vCPU's interface, or brings its causes.
 ghost use Rattle.std.specs.Prelude.{◌≡◌, ◌<◌, IsTrue, IfSome};
-ghost use Rattle.ideal_guest.specs.Words.{max_vcpus, IsIrq};
+ghost use Rattle.core_words.specs.Words.{max_vcpus, IsIrq};
 ghost use Rattle.port_core.specs.Effect.{may_hold as can_hold, may_move as can_move, moved_irq};
 
 use crate::local::Local;
-use ideal_guest::{GuestShape, Irq, Key, Moved, may_reach, may_take};
+use core_words::{GuestShape, Irq, Key, Moved, may_reach, may_take};
 
 /// Whether nobody waits for an interrupt, or it is active by the vCPU, which alone can end it.
 fn may_hold(irq: &Irq, vcpu: u32) -> bool

@@ -1,5 +1,5 @@
 //! The words and tables of guests as a run leaves them.
-use ideal_guest::{ItsTables, ListOf};
+use core_words::{ItsTables, ListOf};
 
 /// Words, in the order of what they are of.
 pub type WordList = ListOf<u64>;

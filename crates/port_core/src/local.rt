@@ -3,9 +3,8 @@ ghost use Rattle.std.specs.Prelude.{◌≡◌};
 ghost use Rattle.port_core.specs.Local.{opening_local};
 
 use crate::at_list::AtList;
-use crate::line::Entered;
 use crate::owed::{Cands, MarkSet, NO_VCPUS};
-use ideal_guest::{Actor, CpuRec, Targets};
+use core_words::{Actor, CpuRec, Entered, Targets};
 
 /// How far a vCPU is with its CPU interface.
 #[derive(Clone, Copy, Debug, PartialEq, Eq, Hash)]

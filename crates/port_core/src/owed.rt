@@ -1,10 +1,9 @@
 //! Sets of vCPUs, and the candidates of a vCPU.
 ghost use Rattle.std.specs.Prelude.{◌≡◌, ◌<◌, ◌≤◌, ◌/◌, ◌^◌, IsTrue, List, length, All, Option};
-ghost use Rattle.ideal_guest.specs.Words.{IsSeat, IsShape, max_vcpus, has_interrupt};
+ghost use Rattle.core_words.specs.Words.{IsSeat, IsShape, max_vcpus, has_interrupt};
 ghost use Rattle.port_core.specs.Local.{no_vcpus, with_vcpu as set_with, with_some as set_with_some, with_all as set_with_all, without_vcpu as set_without, no_cands, without_cand, with_cand_word, is_cand, settled};
 
-use crate::word_id::{WORD_BITS, index_bit};
-use ideal_guest::{GuestShape, Key, Targets};
+use core_words::{GuestShape, Key, Targets, WORD_BITS, index_bit};
 
 /// The words of a vCPU's candidates.
 pub const CAND_WORDS: usize = 96;
@@ -70,7 +69,7 @@ impl Cands {
         requires { bit / 64 < 96 }
         ensures { result ≡ is_cand self.now bit }
     {
-        ideal_guest::has_bit(self.words[(bit / WORD_BITS) as usize], bit % WORD_BITS)
+        core_words::has_bit(self.words[(bit / WORD_BITS) as usize], bit % WORD_BITS)
     }
 
     /// Without the interrupt of a bit, below 6144.

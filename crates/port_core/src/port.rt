@@ -6,7 +6,7 @@ ghost use Rattle.port_core.specs.Valid.{CanFind};
 
 use crate::local::Local;
 use crate::step::CoreStep;
-use ideal_guest::{GuestShape, ItsTables};
+use core_words::{GuestShape, ItsTables};
 
 /// What an actor of a guest makes its atomic steps through: it has the words that all actors of the guest share, and
 /// what the actor has for itself.

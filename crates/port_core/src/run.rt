@@ -1,6 +1,6 @@
 //! What runs of steps are made of.
 use crate::step::CoreStep;
-use ideal_guest::ItsTables;
+use core_words::ItsTables;
 
 /// A step that an actor made, with what it handed out. It exists in proofs alone.
 #[derive(Drop)]

@@ -1,10 +1,9 @@
 //! The kinds of atomic steps.
 ghost use Rattle.std.specs.Prelude.{◌≡◌};
-ghost use Rattle.ideal_guest.specs.Words.{IsShape};
+ghost use Rattle.core_words.specs.Words.{IsShape};
 ghost use Rattle.port_core.specs.Step.{CanStep, word_of};
 
-use crate::word_id::{WORD_BITS, WordId, index_bit};
-use ideal_guest::{Back, GuestShape, IccReg, Key, Touching};
+use core_words::{Back, GuestShape, IccReg, Key, Touching, WORD_BITS, WordId, index_bit};
 
 /// One atomic step of an actor on one word.
 #[derive(Clone, Copy, Debug, PartialEq, Eq, Hash)]

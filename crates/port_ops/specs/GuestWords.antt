@@ -5,8 +5,8 @@ use Rattle.port_core.specs.Words.{GuestShape, interrupt_count, key_at}
 use Rattle.port_core.specs.Calls.{plain_count}
 use Rattle.port_core.specs.Registers.{Maps}
 use Rattle.port_core.specs.declared.end.GuestWords.{GuestWords}
-use Rattle.port_core.specs.declared.word_id.WordId.{WordId}
-use Rattle.port_core.specs.declared.word_id.WordId.TheVariants.{Irq, Vcpu, Queue, Ctlr, Plain}
+use Rattle.port_core.specs.CoreWords.declared.word_id.WordId.{WordId}
+use Rattle.port_core.specs.CoreWords.declared.word_id.WordId.TheVariants.{Irq, Vcpu, Queue, Ctlr, Plain}
 use Rattle.port_core.specs.Place.{place_of_word}
 
 -- a word among all of a guest's

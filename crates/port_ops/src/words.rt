@@ -3,7 +3,7 @@ ghost use Rattle.std.specs.Prelude.{◌≡◌, ◌↔◌, ℕ, ◌<◌, All, IsT
 ghost use Rattle.port_core.specs.Words.{GuestShape, IsShape, interrupt_count as count_of_irqs, key_at as key_in};
 ghost use Rattle.port_core.specs.Calls.{plain_count as count_of_plain};
 ghost use Rattle.port_core.specs.IdealGuests.CanOpen.{CanOpen};
-ghost use Rattle.port_core.specs.declared.word_id.WordId.TheVariants.{Irq as IrqWord, Vcpu, Plain};
+ghost use Rattle.port_core.specs.CoreWords.declared.word_id.WordId.TheVariants.{Irq as IrqWord, Vcpu, Plain};
 ghost use Rattle.port_core.specs.Place.{has_word, word_count as count_of};
 ghost use Rattle.port_core.specs.Run.{concerns as does_concern, is_asked, opening, opening_index as index_at_opening, opening_word as word_at_opening, opening_word_of};
 ghost use Rattle.port_ops.specs.Quiet.{is_quiet};

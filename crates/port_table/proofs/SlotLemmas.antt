@@ -15,7 +15,7 @@ use Rattle.port_ops.specs.PortCore.declared.local.Phase.TheVariants.{Folding}
 use Rattle.port_ops.specs.PortCore.declared.run.Made.{Made}
 use Rattle.port_ops.specs.PortCore.declared.step.CoreStep.{CoreStep}
 use Rattle.port_ops.specs.PortCore.declared.step.CoreStep.TheVariants.{Look, Claim, Poll, Touch, RamPut, CtlrTake, TurnTake, TurnRelease, LineEnter, LineFill, LineClose}
-use Rattle.port_ops.specs.PortCore.declared.word_id.WordId.TheVariants.{Irq, Queue, Line}
+use Rattle.port_ops.specs.PortCore.CoreWords.declared.word_id.WordId.TheVariants.{Irq, Queue, Line}
 use Rattle.port_ops.specs.PortCore.Actor.{actor_count}
 use Rattle.port_ops.specs.PortCore.After.{is_settled_by_look, accessed, local_done, local_after}
 use Rattle.port_ops.specs.PortCore.Condition.{Meets}

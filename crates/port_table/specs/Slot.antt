@@ -5,7 +5,7 @@ use Rattle.port_ops.specs.Words.{GuestShape}
 use Rattle.port_ops.specs.Registers.{queue_of, Maps}
 use Rattle.port_ops.specs.PortCore.declared.step.CoreStep.{CoreStep}
 use Rattle.port_ops.specs.PortCore.declared.step.CoreStep.TheVariants.{TurnRelease}
-use Rattle.port_ops.specs.PortCore.declared.word_id.WordId.TheVariants.{Queue}
+use Rattle.port_ops.specs.PortCore.CoreWords.declared.word_id.WordId.TheVariants.{Queue}
 use Rattle.port_ops.specs.PortCore.Run.{CoreState, word_in}
 
 -- nobody has the ITS, as the queue's word says

@@ -1,6 +1,6 @@
 use Rattle.std.proofs.Common.{ℕ, ◌-◌, ◌^◌, bit_or, sym, ap, subst, ◌∙◌}
-use Rattle.port_core.specs.declared.line.Line.{Line}
-use Rattle.port_core.specs.Forms.{IsLine, line_of}
+use Rattle.core_words.specs.declared.line.Line.{Line}
+use Rattle.core_words.specs.Forms.{IsLine, line_of}
 use Rattle.port_core.proofs.LineLemmas.{entered_fits, line_fits}
 use Rattle.port_core.proofs.atomic.line_enter_by.Goals as goal
 

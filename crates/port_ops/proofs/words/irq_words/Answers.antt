@@ -1,7 +1,7 @@
 use Rattle.std.proofs.Common.{ap, ◌∙◌}
 use Rattle.port_core.specs.Words.{key_at}
 use Rattle.port_core.proofs.GicOpen.RangeLemmas.{map_pushed}
-use Rattle.port_core.specs.declared.word_id.WordId.TheVariants.{Irq}
+use Rattle.port_core.specs.CoreWords.declared.word_id.WordId.TheVariants.{Irq}
 use Rattle.port_ops.specs.GuestWords.{word_among}
 use Rattle.port_ops.proofs.words.irq_words.Goals as goal
 

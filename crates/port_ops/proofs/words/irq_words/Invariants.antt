@@ -1,6 +1,6 @@
 use Rattle.std.proofs.Common.{◌≡◌}
 use Rattle.port_core.specs.Words.{interrupt_count, key_at}
-use Rattle.port_core.specs.declared.word_id.WordId.TheVariants.{Irq}
+use Rattle.port_core.specs.CoreWords.declared.word_id.WordId.TheVariants.{Irq}
 use Rattle.port_ops.specs.GuestWords.{words_among}
 use Rattle.port_ops.proofs.words.irq_words.Given as goal
 

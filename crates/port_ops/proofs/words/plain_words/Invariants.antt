@@ -1,6 +1,6 @@
 use Rattle.std.proofs.Common.{◌≡◌}
 use Rattle.port_core.specs.Calls.{plain_count}
-use Rattle.port_core.specs.declared.word_id.WordId.TheVariants.{Plain}
+use Rattle.port_core.specs.CoreWords.declared.word_id.WordId.TheVariants.{Plain}
 use Rattle.port_ops.specs.GuestWords.{words_among}
 use Rattle.port_ops.proofs.words.plain_words.Given as goal
 

@@ -1,5 +1,5 @@
 use Rattle.port_core.proofs.GicOpen.RangeLemmas.{map_pushed}
-use Rattle.port_core.specs.declared.word_id.WordId.TheVariants.{Vcpu}
+use Rattle.port_core.specs.CoreWords.declared.word_id.WordId.TheVariants.{Vcpu}
 use Rattle.port_ops.specs.GuestWords.{word_among}
 use Rattle.port_ops.proofs.words.vcpu_words.Goals as goal
 

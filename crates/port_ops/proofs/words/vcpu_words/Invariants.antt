@@ -1,5 +1,5 @@
 use Rattle.std.proofs.Common.{◌≡◌}
-use Rattle.port_core.specs.declared.word_id.WordId.TheVariants.{Vcpu}
+use Rattle.port_core.specs.CoreWords.declared.word_id.WordId.TheVariants.{Vcpu}
 use Rattle.port_ops.specs.GuestWords.{words_among}
 use Rattle.port_ops.proofs.words.vcpu_words.Given as goal
 

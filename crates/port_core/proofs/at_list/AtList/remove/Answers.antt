@@ -1,6 +1,6 @@
 use Rattle.std.proofs.Common.{not, rules, ap, ◌∙◌}
 use Rattle.arrayvec.proofs.ArrayVecLemmas.{filter-from_retain}
-use Rattle.ideal_guest.specs.Words.{is_same_key}
+use Rattle.core_words.specs.Words.{is_same_key}
 use Rattle.port_core.specs.Local.{without_at}
 use Rattle.port_core.proofs.at_list.AtList.remove.Goals as goal
 

@@ -1,5 +1,5 @@
 use Rattle.std.proofs.Common.{◌≡◌, take, map, filter_map}
-use Rattle.ideal_guest.specs.Registers.{first_of, candidate_of}
+use Rattle.core_words.specs.Registers.{first_of, candidate_of}
 use Rattle.port_core.specs.After.{shown}
 use Rattle.port_core.proofs.local.Local.first.Given as goal
 

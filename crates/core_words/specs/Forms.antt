@@ -2,9 +2,9 @@
 use Rattle.std.specs.Prelude.{◌≡◌, ℕ, ◌+◌, ◌-◌, ◌*◌, ◌^◌, ◌<◌, ◌≤◌, ◌==◌, ◌&&◌, Bool, nat_lt, if◌then◌else◌, Option, Some, None, is_none}
 use Rattle.std.specs.Option.{ForSome}
 use Rattle.ideal_guest.specs.Words.{bit_of, has_bit, field_at}
-use Rattle.port_core.specs.declared.line.Line.{Line}
-use Rattle.port_core.specs.declared.words.VcpuWord.{VcpuWord}
-use Rattle.port_core.specs.declared.words.CtlrWord.{CtlrWord}
+use Rattle.core_words.specs.declared.line.Line.{Line}
+use Rattle.core_words.specs.declared.words.VcpuWord.{VcpuWord}
+use Rattle.core_words.specs.declared.words.CtlrWord.{CtlrWord}
 
 -- a vCPU's: EnableLPIs at bit 0, and the kick at bit 1
 abbrev pub packed_vcpu : VcpuWord → ℕ

@@ -5,8 +5,8 @@ use Rattle.std.specs.Prelude.{ℕ, ◌+◌, ◌-◌, ◌*◌, ◌/◌, ◌%◌, 
 use Rattle.ideal_guest.specs.Words.{Key, Private, Spi, Lpi, GuestShape, has_interrupt, interrupt_count, place_of, key_at}
 use Rattle.ideal_guest.specs.Calls.{plain_count}
 use Rattle.ideal_guest.specs.Registers.{has_lpis}
-use Rattle.port_core.specs.declared.word_id.WordId.{WordId}
-use Rattle.port_core.specs.declared.word_id.WordId.TheVariants.{Irq, Vcpu, Index, Queue, Ctlr, Plain, Line}
+use Rattle.core_words.specs.declared.word_id.WordId.{WordId}
+use Rattle.core_words.specs.declared.word_id.WordId.TheVariants.{Irq, Vcpu, Index, Queue, Ctlr, Plain, Line}
 
 -- The candidate index: a bit for each interrupt that a vCPU can have at its interface, those private to it by INTID, then the shared ones in key order.
 

@@ -2,12 +2,12 @@
 ghost use Rattle.std.specs.Prelude.{◌≡◌, ℕ, ◌+◌, ◌<◌, ◌≤◌, ◌^◌, IsTrue, IfSome, IfNone, Some};
 ghost use Rattle.std.specs.declared.option.Option.{Option};
 ghost use Rattle.ideal_guest.specs.Words.{IsShape, has_interrupt, is_of_vcpu};
-ghost use Rattle.port_core.specs.Place.{index_bits as bits_of, index_words as words_of, index_bit as bit_of_key, key_of_bit as key_of, has_word, word_count as count_of, place_of_word as place_in, word_at as word_in, whole_lines as lines_of, plain_from as plains_at, blocks_from as blocks_at, block_words as words_in_block, word_in_blocks as word_among_blocks, word_in_lines as word_among_lines, line_count as lines_in, lines_from as lines_at};
+ghost use Rattle.core_words.specs.Place.{index_bits as bits_of, index_words as words_of, index_bit as bit_of_key, key_of_bit as key_of, has_word, word_count as count_of, place_of_word as place_in, word_at as word_in, whole_lines as lines_of, plain_from as plains_at, blocks_from as blocks_at, block_words as words_in_block, word_in_blocks as word_among_blocks, word_in_lines as word_among_lines, line_count as lines_in, lines_from as lines_at};
 
 use ideal_guest::{GuestShape, Key, interrupt_count, key_at, place_of, plain_count};
 
 /// The bits of a word.
-pub(crate) const WORD_BITS: u32 = 64;
+pub const WORD_BITS: u32 = 64;
 /// The words of a cache line.
 const LINE_WORDS: usize = 8;
 /// How many translation lines a guest with LPIs has.

@@ -1,7 +1,7 @@
 use Rattle.std.proofs.Common.{IfSome, IsTrue, subst, sym, rules}
-use Rattle.port_core.specs.Place.{has_word}
-use Rattle.port_core.proofs.PlaceLemmas.{blocks_there}
-use Rattle.port_core.proofs.word_id.word_at.Goals as goal
+use Rattle.core_words.specs.Place.{has_word}
+use Rattle.core_words.proofs.PlaceLemmas.{blocks_there}
+use Rattle.core_words.proofs.word_id.word_at.Goals as goal
 
 pub returns-then-place-lines_from-clause-there : goal.returns-then-place-lines_from-clause-there
 returns-then-place-lines_from-clause-there c =

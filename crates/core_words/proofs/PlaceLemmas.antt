@@ -9,9 +9,9 @@ use Rattle.std.proofs.lemmas.Bool.{lt-ltb, le-ltb, eq-eqb, ne_eqb, le-leb, cond-
 use Rattle.ideal_guest.specs.Words.{GuestShape, IsShape, interrupt_count, place_of}
 use Rattle.ideal_guest.specs.Calls.{plain_count}
 use Rattle.ideal_guest.proofs.GicOpen.KeyLemmas.{place_within, key_at_place}
-use Rattle.port_core.specs.declared.word_id.WordId.{WordId}
-use Rattle.port_core.specs.declared.word_id.WordId.TheVariants.{Irq, Vcpu, Index, Queue, Ctlr, Plain, Line}
-use Rattle.port_core.specs.Place.{index_words, whole_lines, plain_from, blocks_from, block_words, block_of, line_count, lines_from, word_count, has_word, place_of_word, word_in_block, word_in_blocks, word_in_lines, word_at}
+use Rattle.core_words.specs.declared.word_id.WordId.{WordId}
+use Rattle.core_words.specs.declared.word_id.WordId.TheVariants.{Irq, Vcpu, Index, Queue, Ctlr, Plain, Line}
+use Rattle.core_words.specs.Place.{index_words, whole_lines, plain_from, blocks_from, block_words, block_of, line_count, lines_from, word_count, has_word, place_of_word, word_in_block, word_in_blocks, word_in_lines, word_at}
 
 -- whole lines have all the words
 pub lines_hold : (n : ℕ) → n ≤ whole_lines n

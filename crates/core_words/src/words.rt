@@ -1,6 +1,6 @@
 //! The words of vCPUs and of GICD_CTLR.
 ghost use Rattle.std.specs.Prelude.{◌≡◌, ◌<◌, ◌^◌, IsTrue, IfSome};
-ghost use Rattle.port_core.specs.Forms.{vcpu_of, ctlr_of, packed_vcpu, packed_ctlr, IsCtlr, is_vcpu_word, is_ctlr_word};
+ghost use Rattle.core_words.specs.Forms.{vcpu_of, ctlr_of, packed_vcpu, packed_ctlr, IsCtlr, is_vcpu_word, is_ctlr_word};
 
 use ideal_guest::{Enables, Field, has_bit, put_bit};
 

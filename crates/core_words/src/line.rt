@@ -1,6 +1,6 @@
 //! The translation lines of the ITS.
 ghost use Rattle.std.specs.Prelude.{◌≡◌, ◌<◌, ◌≤◌, ◌^◌, IsSome, IfSome, IsTrue, ◌↔◌};
-ghost use Rattle.port_core.specs.Forms.{IsLine, is_line_word, line_of, packed_line, pair_number, is_empty_line};
+ghost use Rattle.core_words.specs.Forms.{IsLine, is_line_word, line_of, packed_line, pair_number, is_empty_line};
 
 use ideal_guest::{Field, has_bit, put_bit};
 
