@@ -23,20 +23,20 @@ const SHAPE: GuestShape = GuestShape {
 };
 
 /// The device.
-const DEVICE: u32 = 2;
+pub(crate) const DEVICE: u32 = 2;
 
 /// Up to three events that a call made.
 type Events = [Option<(Event, Found)>; 3];
 
 /// What a call made is nothing of it, its beginning, or all of it with this answer.
-const NO: Option<(bool, bool)> = Some((false, false));
+pub(crate) const NO: Option<(bool, bool)> = Some((false, false));
 
-const BEGUN: Option<(bool, bool)> = Some((true, false));
+pub(crate) const BEGUN: Option<(bool, bool)> = Some((true, false));
 
-const ENDED: Option<(bool, bool)> = Some((true, true));
+pub(crate) const ENDED: Option<(bool, bool)> = Some((true, true));
 
 /// Whether a vCPU can do an operation.
-fn is_good(shape: &GuestShape, operation: &Operation) -> bool
+pub(crate) fn is_good(shape: &GuestShape, operation: &Operation) -> bool
     requires { IsShape shape.now }
     ensures { result ≡ is_good_of shape.now operation.now }
 {
@@ -109,7 +109,7 @@ fn count_right(alloc: Global, rows: &[Entry]) -> Result<usize, AllocError> {
     Ok(rows.len())
 }
 
-fn message(spi: u32) -> Operation {
+pub(crate) fn message(spi: u32) -> Operation {
     let op = DeviceOp::Message { spi };
     Operation::Device { op }
 }
@@ -119,7 +119,7 @@ fn icc(reg: IccReg, write: Option<u64>) -> Operation {
     Operation::Access { op }
 }
 
-fn access(frame: Frame, offset: u32, size: u32, write: Option<u64>) -> Operation {
+pub(crate) fn access(frame: Frame, offset: u32, size: u32, write: Option<u64>) -> Operation {
     let op = GuestOp::Mem {
         frame,
         offset,
@@ -129,7 +129,7 @@ fn access(frame: Frame, offset: u32, size: u32, write: Option<u64>) -> Operation
     Operation::Access { op }
 }
 
-fn raise(key: Key) -> (Event, Found) {
+pub(crate) fn raise(key: Key) -> (Event, Found) {
     (Event::Raise { key }, Found::Nothing)
 }
 
@@ -141,11 +141,11 @@ fn irq() -> Irq {
     }
 }
 
-fn touch(key: Key, touching: Touching, irq: Irq) -> (Event, Found) {
+pub(crate) fn touch(key: Key, touching: Touching, irq: Irq) -> (Event, Found) {
     (Event::Touch { key, touching }, Found::Record { irq })
 }
 
-fn read(place: Place, found: Found) -> (Event, Found) {
+pub(crate) fn read(place: Place, found: Found) -> (Event, Found) {
     (Event::Read { place }, found)
 }
 

@@ -2,20 +2,20 @@
 use Rattle.std.proofs.Common.{◌≡◌, ℕ, ◌==◌, ◌&&◌, not, Bool, true, false, cond, if◌then◌else◌, IsTrue, List, [], ◌∷◌, map, All, Option, Some, None, is_none, refl, sym, ap, subst, ◌∙◌, arith}
 use Rattle.std.proofs.lemmas.List.Elements.{All-cons, All-nil}
 use Rattle.std.proofs.lemmas.Bool.{and_parts, eqb-true, both_ways}
-use Rattle.port_call.specs.Registers.{Targets}
-use Rattle.port_call.specs.Words.{Key, Spi, DeviceOp, Message, Wire, GuestShape}
-use Rattle.port_call.specs.Calls.{Event, Up, Down, Device, Happened, Beside, Makes, IsCall, IsDeviceCall, HandsOut, is_beside, held_at, named_of, IsLastRead, View, MakesDevice}
-use Rattle.port_call.specs.GicCall.declared.event.Event.TheVariants.{Raise as RaiseEvent}
-use Rattle.port_call.specs.GicCall.declared.event.Found.TheVariants.{Nothing}
-use Rattle.port_call.specs.Core.{Local, Made, CoreStep, Raise, known_view, is_vcpu, no_vcpus, owes_no_kick, owes_no_mark, has_no_cand, owes_nothing, Seen, IsPort, Adds, AddsStep, shape_of, seen_after, part_events, MakesCall, vcpu_of_actor, maps_taken, is_settled}
-use Rattle.port_call.specs.Piece.{IsPiece}
-use Rattle.port_call.specs.Settle.{Settles}
-use Rattle.port_call.proofs.PieceLemmas.{piece_is_part}
+use Rattle.its_exec.specs.Registers.{Targets}
+use Rattle.its_exec.specs.Words.{Key, Spi, DeviceOp, Message, Wire, GuestShape}
+use Rattle.its_exec.specs.Calls.{Event, Up, Down, Device, Happened, Beside, Makes, IsCall, IsDeviceCall, HandsOut, is_beside, held_at, named_of, IsLastRead, View, MakesDevice}
+use Rattle.its_exec.specs.GicCall.declared.event.Event.TheVariants.{Raise as RaiseEvent}
+use Rattle.its_exec.specs.GicCall.declared.event.Found.TheVariants.{Nothing}
+use Rattle.its_exec.specs.Core.{Local, Made, CoreStep, Raise, known_view, is_vcpu, no_vcpus, owes_no_kick, owes_no_mark, has_no_cand, owes_nothing, Seen, IsPort, Adds, AddsStep, shape_of, seen_after, part_events, MakesCall, IsProperPart, vcpu_of_actor, maps_taken, is_settled}
+use Rattle.its_exec.specs.PortCall.Piece.{IsPiece}
+use Rattle.its_exec.specs.PortCall.Settle.{Settles}
+use Rattle.its_exec.proofs.PortCall.PieceLemmas.{piece_is_part}
 use mathlib.Core.Bool.{beq}
 use Rattle.std.proofs.lemmas.Grind.{common_steps}
 use Rattle.dev_port.specs.declared.wire.Wire.{Wire as WireValue}
-use Rattle.port_call.specs.Tell.{TellsOf, Tells}
-use Rattle.port_call.proofs.TellLemmas.{IsCause, tells}
+use Rattle.its_exec.specs.PortCall.Tell.{TellsOf, Tells}
+use Rattle.its_exec.proofs.PortCall.TellLemmas.{IsCause, tells}
 use Rattle.dev_port.specs.Device.{CanCall, IsDevicePart, Changes, has_level, wire_step}
 
 -- What an actor that can make a call has.
@@ -101,22 +101,32 @@ settled_of local owes marks cands turn ctlr line =
     all : (a b c d e f : Bool) → a ≡ true → b ≡ true → c ≡ true → d ≡ false → e ≡ false → f ≡ true → (a && b && c && not d && not e && f) ≡ true
     all a b c d e f ha hb hc hd he hf = rw (ha, hb, hc, hd, he, hf) refl
 
--- a part after which the device has settled is its call, if it makes the call's events
-pub part_done : (old new : Seen) (op : DeviceOp) (part : List Made) → IsPort old → IsPort new → CanCall old → Adds old new part → MakesCall old part (Device op) None → IsPiece old part → (IsTrue (has_no_cand new.local) → IsTrue (is_settled new.local)) → new.taken ≡ false
-    → IsDevicePart old new op part
-part_done old new op part is_old is_new can adds call piece settles tables =
+-- a part is proper, and leaves a device that can make another call
+pub record EndsPart (old new : Seen) (op : DeviceOp) (part : List Made) : Type 0 where
+  pub proper : IsProperPart old part (Device op) 0 None
+  pub tables : new.taken ≡ false
+  pub after : CanCall new
+
+-- so is one after which the device has settled
+pub part_ends : (old new : Seen) (op : DeviceOp) (part : List Made) → IsPort old → IsPort new → CanCall old → Adds old new part → IsPiece old part → (IsTrue (has_no_cand new.local) → IsTrue (is_settled new.local)) → new.taken ≡ false → EndsPart old new op part
+part_ends old new op part is_old is_new can adds piece settles tables =
     let device : is_vcpu (shape_of new) new.actor ≡ false = ap (λ seen. is_vcpu (shape_of seen) seen.actor) adds.new_is ∙ can.device in
     let none = is_new.local.device device in
     let settled = settles none.cands in
     let same : new.local ≡ (seen_after old part).local = ap (λ seen. seen.local) adds.new_is in
     let Settled : Local → Type 0 = λ l. IsTrue (is_settled l) in
     record {
-      adds = adds;
-      call = call;
       proper = piece_is_part old part (Device op) 0 None piece (sym (ap (λ l. l.at) same) ∙ none.at) (subst Settled same settled);
       tables = tables;
       after = record { device = device; settled = settled };
     }
+
+-- and it is the device's call, if it makes the call's events
+pub part_done : (old new : Seen) (op : DeviceOp) (part : List Made) → IsPort old → IsPort new → CanCall old → Adds old new part → MakesCall old part (Device op) None → IsPiece old part → (IsTrue (has_no_cand new.local) → IsTrue (is_settled new.local)) → new.taken ≡ false
+    → IsDevicePart old new op part
+part_done old new op part is_old is_new can adds call piece settles tables =
+    let ends = part_ends old new op part is_old is_new can adds piece settles tables in
+    record { adds = adds; call = call; proper = ends.proper; tables = ends.tables; after = ends.after }
 
 -- the form of a part of a device that owed nothing
 pub form_clear : (shape : GuestShape) (owes : Targets) (step : CoreStep) (key : Key) (part : List Made) → owes ≡ no_vcpus → TellsOf shape owes step key part → TellsOf shape no_vcpus step key part

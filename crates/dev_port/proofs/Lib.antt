@@ -1,5 +1,6 @@
-pub use Rattle.port_call.proofs.CoreProper
-pub use Rattle.port_call.proofs as PortCall
-pub use Rattle.port_call.proofs.PortCore
+pub use Rattle.its_exec.proofs.CoreProper
+pub use Rattle.its_exec.proofs.PortCall
+pub use Rattle.its_exec.proofs.PortCore
+pub use Rattle.its_exec.proofs as ItsExec
 pub mod CallLemmas
 pub mod MsiLemmas

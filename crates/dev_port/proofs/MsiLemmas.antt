@@ -1,26 +1,26 @@
 -- A message to the ITS: the turn, a look at GITS_CTLR, an LPI, and the turn given back.
-use Rattle.std.proofs.Common.{◌≡◌, ℕ, ◌&&◌, true, false, IsTrue, List, [], ◌∷◌, ◌++◌, map, All, slice_index_or, Option, Some, None, is_none, refl, sym, ap, subst, ◌∙◌, inl}
+use Rattle.std.proofs.Common.{◌≡◌, ℕ, ◌&&◌, true, false, IsTrue, List, [], ◌∷◌, ◌++◌, map, All, slice_index_or, Option, Some, None, is_none, append-nil, refl, sym, ap, subst, ◌∙◌, inl}
 use Rattle.std.specs.Option.{option_map_or}
 use Rattle.std.specs.List.{list_all, filter_map, cons_option}
 use Rattle.std.proofs.lemmas.Bool.{and_parts}
 use Rattle.std.proofs.lemmas.List.{append_assoc}
 use Rattle.std.proofs.lemmas.List.Elements.{All-cons, All-nil, filter_map-append}
-use Rattle.port_call.specs.Words.{Lpi, Msi, GuestShape}
-use Rattle.port_call.specs.Registers.{enabled_in, Maps, translated}
-use Rattle.port_call.specs.Calls.{ItsCtlr, place_of_plain, ItsBegin, Device, Place, Happened, Beside, Makes, HandsOut, held_at, IsLastRead, View, MakesMsi, Event}
-use Rattle.port_call.specs.GicCall.declared.event.Event.TheVariants.{Raise as RaiseEvent, Read, ItsEnd}
-use Rattle.port_call.specs.GicCall.declared.event.Found.TheVariants.{Nothing, Word as FoundWord}
-use Rattle.port_call.specs.GicCall.declared.event.Place.TheVariants.{Word}
-use Rattle.port_call.specs.Core.{Local, Made, Raise, RamLook, no_maps, known_maps, known_view, no_vcpus, owes_no_mark, Seen, IsPort, Adds, shape_of, part_events, MakesCall, maps_taken}
-use Rattle.port_call.proofs.GicCall.ReadLemmas.{last_read}
-use Rattle.port_call.proofs.GicCall.TraceLemmas.{makes_then}
-use Rattle.port_call.proofs.PortCore.PortLemmas.{adds_join}
-use Rattle.port_call.specs.Piece.{IsPiece}
-use Rattle.port_call.specs.Turn.{is_miss, is_turn_step, is_queue_read, TakesTurn, GivesTurn}
-use Rattle.port_call.proofs.PieceLemmas.{seen_nil, piece_nil}
-use Rattle.port_call.proofs.KnownLemmas.{ends_none, are_endless, maps_kept, maps_handed}
-use Rattle.port_call.proofs.TurnLemmas.{piece_then, events_then, reads_beside}
-use Rattle.dev_port.specs.Device.{CanCall, RaisesLpi, SendsMsi, Translates, TellsLpi}
+use Rattle.its_exec.specs.Words.{Lpi, Msi, GuestShape}
+use Rattle.its_exec.specs.Registers.{enabled_in, Maps, translated}
+use Rattle.its_exec.specs.Calls.{ItsCtlr, place_of_plain, ItsBegin, Device, Place, Happened, Beside, Makes, HandsOut, held_at, IsLastRead, View, MakesMsi, Event}
+use Rattle.its_exec.specs.GicCall.declared.event.Event.TheVariants.{Raise as RaiseEvent, Read, ItsEnd}
+use Rattle.its_exec.specs.GicCall.declared.event.Found.TheVariants.{Nothing, Word as FoundWord}
+use Rattle.its_exec.specs.GicCall.declared.event.Place.TheVariants.{Word}
+use Rattle.its_exec.specs.Core.{Local, Made, Raise, RamLook, no_maps, known_maps, known_view, no_vcpus, owes_no_mark, Seen, IsPort, Adds, shape_of, part_events, MakesCall, maps_taken}
+use Rattle.its_exec.proofs.GicCall.ReadLemmas.{last_read}
+use Rattle.its_exec.proofs.GicCall.TraceLemmas.{makes_then}
+use Rattle.its_exec.proofs.PortCore.PortLemmas.{adds_join}
+use Rattle.its_exec.specs.PortCall.Piece.{IsPiece}
+use Rattle.its_exec.specs.PortCall.Turn.{is_miss, is_turn_step, is_queue_read, TakesTurn, GivesTurn}
+use Rattle.its_exec.proofs.PortCall.PieceLemmas.{seen_nil, piece_nil}
+use Rattle.its_exec.proofs.PortCall.KnownLemmas.{ends_none, are_endless, maps_kept, maps_handed}
+use Rattle.its_exec.proofs.PortCall.TurnLemmas.{piece_then, events_then, reads_beside}
+use Rattle.dev_port.specs.Device.{CanCall, GoesUnseen, RaisesLpi, SendsMsiBeside, Translates, TellsLpi}
 use Rattle.dev_port.proofs.CallLemmas.{clear, one_made, device_call, settled_of, part_done, form_clear}
 
 -- The device while it has the ITS.
@@ -48,6 +48,10 @@ pub busy_told : (old new : Seen) (id : Option ℕ) → IsBusy old.local → Tell
 busy_told old new None busy tells = busy_as old.local new.local (ap (λ seen. seen.local) tells) busy
 busy_told old new (Some id) busy tells =
     record { kicks = ap (λ l. l.owes) tells.local_is; marks = ap owes_no_mark tells.local_is; turn = ap (λ l. l.turn) tells.local_is ∙ busy.turn; ctlr = ap (λ l. l.ctlr) tells.local_is ∙ busy.ctlr; line = ap (λ l. is_none l.line) tells.local_is ∙ busy.line }
+
+-- steps that only change which lines it knows to be shut
+pub busy_shut : (local other : Local) → other ≡ record local { shut = other.shut } → IsBusy local → IsBusy other
+busy_shut local other e is = busy_as (record local { shut = other.shut }) other e (record { kicks = is.kicks; marks = is.marks; turn = is.turn; ctlr = is.ctlr; line = is.line })
 
 -- The tables are at home.
 
@@ -172,14 +176,15 @@ no_maps_missed (made ∷ misses) h =
 first_maps : (early late : List Made) (maps : Maps) (rest : List Maps) → filter_map (λ made. made.tables) early ≡ maps ∷ rest → filter_map (λ made. made.tables) (early ++ late) ≡ maps ∷ rest ++ filter_map (λ made. made.tables) late
 first_maps early late maps rest e = filter_map-append (λ made. made.tables) early late ∙ ap (λ all. all ++ filter_map (λ made. made.tables) late) e
 
-maps_of_part : (misses : List Made) (take look : Made) (raise : List Made) (give : Made) (maps : Maps) → IsTrue (list_all is_miss misses) → take.tables ≡ Some maps → maps_taken (misses ++ take ∷ [] ++ look ∷ [] ++ raise ++ give ∷ []) ≡ maps
-maps_of_part misses take look raise give maps missed handed =
+maps_of_part : (misses : List Made) (take look : Made) (raise unseen : List Made) (give : Made) (maps : Maps) → IsTrue (list_all is_miss misses) → take.tables ≡ Some maps → maps_taken (misses ++ take ∷ [] ++ look ∷ [] ++ raise ++ unseen ++ give ∷ []) ≡ maps
+maps_of_part misses take look raise unseen give maps missed handed =
     let one : filter_map (λ made. made.tables) (misses ++ take ∷ []) ≡ maps ∷ []
     = filter_map-append (λ made. made.tables) misses (take ∷ []) ∙ ap (λ all. all ++ cons_option take.tables []) (no_maps_missed misses missed) ∙ ap (λ tables. cons_option tables []) handed in
     let two = first_maps (misses ++ take ∷ []) (look ∷ []) maps [] one in
     let three = first_maps (misses ++ take ∷ [] ++ look ∷ []) raise maps _ two in
-    let four = first_maps (misses ++ take ∷ [] ++ look ∷ [] ++ raise) (give ∷ []) maps _ three in
-    ap (λ all. slice_index_or all 0 no_maps) four
+    let four = first_maps (misses ++ take ∷ [] ++ look ∷ [] ++ raise) unseen maps _ three in
+    let five = first_maps (misses ++ take ∷ [] ++ look ∷ [] ++ raise ++ unseen) (give ∷ []) maps _ four in
+    ap (λ all. slice_index_or all 0 no_maps) five
 
 -- what stands before in a part
 record IsPrefix (old new : Seen) (part : List Made) (events : List Happened) : Type 0 where
@@ -195,24 +200,46 @@ prefix_on old mid new early late before after one two =
       piece = piece_then old mid early late one.adds one.piece two.piece;
     }
 
+-- steps of which nothing is to be seen come after
+prefix_unseen : (old mid new : Seen) (early late : List Made) (before : List Happened) → IsPrefix old mid early before → GoesUnseen mid new late → IsPrefix old new (early ++ late) before
+prefix_unseen old mid new early late before one two =
+    record {
+      adds = adds_join old mid new early late one.adds two.adds;
+      events_are = events_then old mid early late one.adds ∙ ap (λ events. events ++ part_events mid late) one.events_are ∙ ap (λ events. before ++ events) two.silent ∙ append-nil before;
+      piece = piece_then old mid early late one.adds one.piece two.piece;
+    }
+
+-- no step
+pub unseen_none : (seen : Seen) → GoesUnseen seen seen []
+unseen_none seen = record { adds = record { new_is = sym (seen_nil seen) }; none_taken = refl; silent = refl; piece = piece_nil seen }
+
+-- the message was sent, and the LPI that it became is the one of the maps and of GITS_CTLR
+pub record MsiMade (old new : Seen) (device event : ℕ) (id : Option ℕ) (unseen : List Made) : Type 0 where
+  pub sends : SendsMsiBeside old new device event unseen
+  pub becomes : id ≡ translated sends.form.maps (enabled_in sends.form.look.found) device event
+
 pub msi_made :
-    (old a b c new : Seen) (device event : ℕ) (id : Option ℕ) → IsPort old → IsPort new → CanCall old → TakesTurn old a → Translates a b device event id → TellsLpi b c id → GivesTurn c new → SendsMsi old new device event
+    (old a b c d new : Seen) (device event : ℕ) (id : Option ℕ) (unseen : List Made) → IsPort old → IsPort new → CanCall old → TakesTurn old a → Translates a b device event id → TellsLpi b c id
+    → GoesUnseen c d unseen → d.local ≡ record c.local { shut = d.local.shut } → GivesTurn d new → MsiMade old new device event id unseen
 unfolding happened all_events
-msi_made old a b c new device event id is_old is_new can takes translates tells gives =
+msi_made old a b c d new device event id unseen is_old is_new can takes translates tells goes shuts gives =
     let reads = translates.reads in
     let busy_a = busy_taken old a can takes in
     let busy_b = busy_read a b device event id busy_a translates in
     let busy_c = busy_told b c id busy_b tells in
+    let busy_d = busy_shut c.local d.local shuts busy_c in
     let raise = lpi_part b c id busy_b tells in
-    let part = takes.misses ++ takes.last ∷ [] ++ reads.look ∷ [] ++ raise.part ++ gives.last ∷ [] in
+    let early = takes.misses ++ takes.last ∷ [] ++ reads.look ∷ [] ++ raise.part in
+    let part = early ++ unseen ++ gives.last ∷ [] in
     let first : IsPrefix old a (takes.misses ++ takes.last ∷ []) (takes.events.reads ++ happened ItsBegin ∷ []) = record { adds = takes.adds; events_are = takes.events.split; piece = takes.piece } in
     let looks : List Happened = (record { event = Read (Word ItsCtlr); found = FoundWord translates.ctlr }) ∷ [] in
     let second : IsPrefix a b (reads.look ∷ []) looks = record { adds = reads.adds; events_are = reads.events; piece = reads.piece } in
     let third : IsPrefix b c raise.part (lpi_events id) = record { adds = raise.adds; events_are = raise.events; piece = raise.piece } in
-    let fourth : IsPrefix c new (gives.last ∷ []) (happened ItsEnd ∷ []) = record { adds = gives.adds; events_are = gives.events; piece = gives.piece } in
+    let last : IsPrefix d new (gives.last ∷ []) (happened ItsEnd ∷ []) = record { adds = gives.adds; events_are = gives.events; piece = gives.piece } in
     let two = prefix_on old a b (takes.misses ++ takes.last ∷ []) (reads.look ∷ []) _ _ first second in
     let three = prefix_on old b c (takes.misses ++ takes.last ∷ [] ++ reads.look ∷ []) raise.part _ _ two third in
-    let whole : IsPrefix old new part (all_events takes.events.reads translates.ctlr id) = prefix_on old c new (takes.misses ++ takes.last ∷ [] ++ reads.look ∷ [] ++ raise.part) (gives.last ∷ []) _ _ three fourth in
+    let four = prefix_unseen old c d early unseen _ three goes in
+    let whole : IsPrefix old new part (all_events takes.events.reads translates.ctlr id) = prefix_on old d new (early ++ unseen) (gives.last ∷ []) _ _ four last in
     let is : id ≡ translated takes.maps (enabled_in translates.ctlr) device event
     = translates.id_is ∙ ap (λ maps. translated maps (enabled_in translates.ctlr) device event) (maps_known old a b device event id takes translates) in
     let shape : shape_of b ≡ shape_of old = ap shape_of reads.adds.new_is ∙ ap shape_of takes.adds.new_is in
@@ -226,28 +253,34 @@ msi_made old a b c new device event id is_old is_new can takes translates tells 
     let beside : Beside = record { maps = takes.maps; targets = view.targets; commands = []; signals = false } in
     let makes = subst (MakesMsi view device event) (sym whole.events_are) (msi_makes takes.events.reads id view device event takes.events.are_reads (sym is)) in
     let call : MakesCall old part (Device (Msi device event)) None
-    = device_call old part (Msi device event) None can.device beside (sym (maps_of_part takes.misses takes.last reads.look raise.part gives.last takes.maps takes.missed takes.handed)) refl (record { view = view; maps = refl; made = inl makes; answers = refl }) in
-    let home = home_told b c id (home_read a b device event id takes.tables translates) tells in
+    = device_call old part (Msi device event) None can.device beside (sym (maps_of_part takes.misses takes.last reads.look raise.part unseen gives.last takes.maps takes.missed takes.handed)) refl (record { view = view; maps = refl; made = inl makes; answers = refl }) in
+    let home_c = home_told b c id (home_read a b device event id takes.tables translates) tells in
+    let home_d : d.taken ≡ false = ap (λ seen. seen.taken) goes.adds.new_is ∙ home_c in
     record {
-      part = part;
-      form =
+      sends =
           record {
-            misses = takes.misses;
-            take = takes.last;
-            look = reads.look;
-            raise = raise.part;
-            give = gives.last;
-            maps = takes.maps;
-            part_is = refl;
-            missed = takes.missed;
-            take_is = takes.last_is;
-            handed = takes.handed;
-            look_is = looked;
-            raises = raised;
-            give_is = gives.last_is;
+            part = part;
+            form =
+                record {
+                  misses = takes.misses;
+                  take = takes.last;
+                  look = reads.look;
+                  raise = raise.part;
+                  give = gives.last;
+                  maps = takes.maps;
+                  part_is = refl;
+                  missed = takes.missed;
+                  take_is = takes.last_is;
+                  handed = takes.handed;
+                  look_is = looked;
+                  raises = raised;
+                  give_is = gives.last_is;
+                };
+            done =
+                part_done old new (Msi device event) part is_old is_new can whole.adds call whole.piece
+                (λ cands. settled_of new.local (ap (λ l. l.owes) gives.local_is ∙ busy_d.kicks) (ap owes_no_mark gives.local_is ∙ busy_d.marks) cands (ap (λ l. l.turn) gives.local_is) (ap (λ l. l.ctlr) gives.local_is ∙ busy_d.ctlr) (ap (λ l. is_none l.line) gives.local_is ∙ busy_d.line))
+                (ap (λ seen. seen.taken) gives.adds.new_is ∙ home_d);
+            piece = whole.piece;
           };
-      done =
-          part_done old new (Msi device event) part is_old is_new can whole.adds call whole.piece
-          (λ cands. settled_of new.local (ap (λ l. l.owes) gives.local_is ∙ busy_c.kicks) (ap owes_no_mark gives.local_is ∙ busy_c.marks) cands (ap (λ l. l.turn) gives.local_is) (ap (λ l. l.ctlr) gives.local_is ∙ busy_c.ctlr) (ap (λ l. is_none l.line) gives.local_is ∙ busy_c.line))
-          (ap (λ seen. seen.taken) gives.adds.new_is ∙ home);
+      becomes = is ∙ ap (λ n. translated takes.maps (enabled_in n) device event) (sym found);
     }

@@ -1,14 +1,15 @@
 -- The calls of a device over its port: what each makes.
 use Rattle.std.specs.Prelude.{◌≡◌, ℕ, ◌++◌, not, Bool, false, IsTrue, List, [], ◌∷◌, if◌then◌else◌, Option, Some, None}
 use Rattle.std.specs.List.{list_all}
-use Rattle.port_call.specs.Words.{Key, Lpi, DeviceOp, Msi, GuestShape}
-use Rattle.port_call.specs.GicCall.declared.event.Event.TheVariants.{Raise as RaiseEvent}
-use Rattle.port_call.specs.Calls.{Device, ItsCtlr, place_of_plain}
-use Rattle.port_call.specs.Registers.{enabled_in, Maps, translated}
-use Rattle.port_call.specs.Core.{Made, CoreStep, Raise, WireUp, WireDown, RamLook, TurnTake, TurnRelease, known_maps, is_vcpu, no_vcpus, Seen, Adds, shape_of, MakesCall, IsProperPart, is_settled}
-use Rattle.port_call.specs.Plain.{ReadsPlain}
-use Rattle.port_call.specs.Tell.{TellsOf, Tells}
-use Rattle.port_call.specs.Turn.{is_miss}
+use Rattle.its_exec.specs.Words.{Key, Lpi, DeviceOp, Msi, GuestShape}
+use Rattle.its_exec.specs.GicCall.declared.event.Event.TheVariants.{Raise as RaiseEvent}
+use Rattle.its_exec.specs.Calls.{Device, ItsCtlr, place_of_plain}
+use Rattle.its_exec.specs.Registers.{enabled_in, Maps, translated}
+use Rattle.its_exec.specs.Core.{Made, CoreStep, Raise, WireUp, WireDown, RamLook, TurnTake, TurnRelease, known_maps, is_vcpu, no_vcpus, Seen, Adds, shape_of, part_events, MakesCall, IsProperPart, is_settled}
+use Rattle.its_exec.specs.PortCall.Piece.{IsPiece, takes_none}
+use Rattle.its_exec.specs.PortCall.Plain.{ReadsPlain}
+use Rattle.its_exec.specs.PortCall.Tell.{TellsOf, Tells}
+use Rattle.its_exec.specs.PortCall.Turn.{is_miss}
 use Rattle.dev_port.specs.declared.wire.Wire.{Wire}
 
 -- an actor can make a call of a device: it is one, owes nothing, has neither the ITS nor the mark of GICD_CTLR, and is in no translation line
@@ -30,6 +31,13 @@ pub record Changes (old new : Seen) (op : DeviceOp) (step : CoreStep) (key : Key
   pub form : TellsOf (shape_of old) no_vcpus step key part
   pub done : IsDevicePart old new op part
 
+-- an actor made some steps, none of which takes the ITS: nothing is to be seen of them, and they are proper where no scan is in progress
+pub record GoesUnseen (old new : Seen) (part : List Made) : Type 0 where
+  pub adds : Adds old new part
+  pub none_taken : IsTrue (takes_none part)
+  pub silent : part_events old part ≡ []
+  pub piece : IsPiece old part
+
 -- Wires.
 
 -- a wire has a level
@@ -48,15 +56,15 @@ RaisesLpi shape None part = part ≡ []
 RaisesLpi shape (Some id) part = TellsOf shape no_vcpus (Raise (Lpi id)) (Lpi id) part
 
 -- the part of a message: looks at the ITS's word and tries that missed, the step that takes the ITS, a look at GITS_CTLR, what the ITS makes of the
--- message by its maps, and the step that gives the ITS back
-pub record IsMsiPart (shape : GuestShape) (device event : ℕ) (part : List Made) : Type 0 where
+-- message by its maps, some steps of which nothing is to be seen, and the step that gives the ITS back
+pub record IsMsiPart (shape : GuestShape) (device event : ℕ) (unseen part : List Made) : Type 0 where
   pub misses : List Made
   pub take : Made
   pub look : Made
   pub raise : List Made
   pub give : Made
   pub maps : Maps
-  pub part_is : part ≡ misses ++ take ∷ [] ++ look ∷ [] ++ raise ++ give ∷ []
+  pub part_is : part ≡ misses ++ take ∷ [] ++ look ∷ [] ++ raise ++ unseen ++ give ∷ []
   pub missed : IsTrue (list_all is_miss misses)
   pub take_is : take.step ≡ TurnTake take.found
   pub handed : take.tables ≡ Some maps
@@ -64,11 +72,16 @@ pub record IsMsiPart (shape : GuestShape) (device event : ℕ) (part : List Made
   pub raises : RaisesLpi shape (translated maps (enabled_in look.found) device event) raise
   pub give_is : give.step ≡ TurnRelease
 
--- a device sent a message to the ITS
-pub record SendsMsi (old new : Seen) (device event : ℕ) : Type 0 where
+-- a device sent a message to the ITS, with such steps before it gave the ITS back
+pub record SendsMsiBeside (old new : Seen) (device event : ℕ) (unseen : List Made) : Type 0 where
   pub part : List Made
-  pub form : IsMsiPart (shape_of old) device event part
+  pub form : IsMsiPart (shape_of old) device event unseen part
   pub done : IsDevicePart old new (Msi device event) part
+  pub piece : IsPiece old part
+
+-- a device sent a message to the ITS
+abbrev pub SendsMsi : Seen → Seen → ℕ → ℕ → Type 0
+SendsMsi old new device event = SendsMsiBeside old new device event []
 
 -- the actor that has the ITS looked at GITS_CTLR, and translated a message by the maps as it knows them
 pub record Translates (old new : Seen) (device event : ℕ) (id : Option ℕ) : Type 0 where

@@ -1,5 +1,8 @@
-pub use Rattle.port_call.specs.Calls
-pub use Rattle.port_call.specs.Core
-pub use Rattle.port_call.specs.Words
-pub use Rattle.port_call.specs as PortCall
+pub use Rattle.its_exec.specs.Calls
+pub use Rattle.its_exec.specs.Core
+pub use Rattle.its_exec.specs.Registers
+pub use Rattle.its_exec.specs.GicCall
+pub use Rattle.its_exec.specs as ItsExec
+pub use Rattle.its_exec.specs.Words
+pub use Rattle.its_exec.specs.PortCall
 pub mod Device

@@ -1,10 +1,10 @@
 //! A message-signalled interrupt, which the ITS makes an LPI.
 ghost use Rattle.std.specs.Prelude.{◌≡◌, ◌%◌, ◌^◌, IsTrue, IfSome, false};
-ghost use Rattle.port_call.specs.Words.{has_interrupt, Lpi};
-ghost use Rattle.port_call.specs.Core.{owes_no_mark, shape_of};
+ghost use Rattle.its_exec.specs.Words.{has_interrupt, Lpi};
+ghost use Rattle.its_exec.specs.Core.{owes_no_mark, shape_of};
 ghost use Rattle.dev_port.specs.Device.{CanCall, Translates, TellsLpi, SendsMsi};
 
-use port_call::{Key, PlainWord, Port, enabled_in, give_turn, raise, read_plain, take_turn};
+use its_exec::{Key, PlainWord, Port, enabled_in, give_turn, raise, read_plain, take_turn};
 use std::sync::Wait;
 
 /// The low half of a value, which has all of GITS_CTLR.
@@ -16,7 +16,7 @@ fn low(value: u64) -> u32
 
 /// The LPI that a message becomes, by the actor that has the ITS and has not taken its tables: it looks at GITS_CTLR, takes
 /// the tables, and puts them back.
-fn translate<P: Port>(port: &mut P, device: u32, event: u32) -> Option<u32>
+pub fn translate<P: Port>(port: &mut P, device: u32, event: u32) -> Option<u32>
     requires turn { IsTrue (P.seen port.old).local.turn }
     requires home { (P.seen port.old).taken ≡ false }
     ensures { Translates (P.seen port.old) (P.seen port.new) device event result }
@@ -29,7 +29,7 @@ fn translate<P: Port>(port: &mut P, device: u32, event: u32) -> Option<u32>
 }
 
 /// Raises an LPI of the guest, if there is one, by an actor that owes no mark.
-fn raise_lpi<P: Port>(port: &mut P, id: Option<u32>)
+pub fn raise_lpi<P: Port>(port: &mut P, id: Option<u32>)
     requires there { IfSome id (λ id. IsTrue (has_interrupt (shape_of (P.seen port.old)) (Lpi id))) }
     requires marks { IsTrue (owes_no_mark (P.seen port.old).local) }
     ensures { TellsLpi (P.seen port.old) (P.seen port.new) id }

@@ -1,10 +1,10 @@
 //! A message that makes an SPI pending.
 ghost use Rattle.std.specs.Prelude.{IsTrue};
-ghost use Rattle.port_call.specs.Words.{has_interrupt, Spi, Message};
-ghost use Rattle.port_call.specs.Core.{shape_of, Raise};
+ghost use Rattle.its_exec.specs.Words.{has_interrupt, Spi, Message};
+ghost use Rattle.its_exec.specs.Core.{shape_of, Raise};
 ghost use Rattle.dev_port.specs.Device.{CanCall, Changes};
 
-use port_call::{Key, Port, raise};
+use its_exec::{Key, Port, raise};
 
 /// Makes the SPI of an INTID pending, as a write of GICD_SETSPI_NSR does, and tells the vCPUs that it concerns before it
 /// returns. The guest has the SPI, and the device owes nothing. It takes no memory.

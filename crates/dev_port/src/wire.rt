@@ -1,11 +1,11 @@
 //! The wire of an interrupt.
 ghost use Rattle.std.specs.Prelude.{◌≡◌, ◌&&◌, IsTrue, IfOk, IfErr, if◌then◌else◌};
-ghost use Rattle.port_call.specs.Words.{has_interrupt, Wire as WireOp};
-ghost use Rattle.port_call.specs.Calls.{has_wire};
-ghost use Rattle.port_call.specs.Core.{shape_of};
+ghost use Rattle.its_exec.specs.Words.{has_interrupt, Wire as WireOp};
+ghost use Rattle.its_exec.specs.Calls.{has_wire};
+ghost use Rattle.its_exec.specs.Core.{shape_of};
 ghost use Rattle.dev_port.specs.Device.{CanCall, Changes, has_level, wire_step};
 
-use port_call::{CoreStep, Key, Port, settle};
+use its_exec::{CoreStep, Key, Port, settle};
 
 /// The wire of an SPI or a PPI, with its level.
 #[derive(Clone, Copy, Debug, PartialEq, Eq, Hash)]

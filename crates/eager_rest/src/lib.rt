@@ -4,6 +4,7 @@
 mod rest;
 mod told;
 
+pub use law_saves_go_on::saved;
 pub use rest::eager_saved;
 pub use saved_check as check;
 pub use told::all_told;

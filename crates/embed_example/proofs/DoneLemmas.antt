@@ -1,7 +1,7 @@
 -- A root to which the three actors of a guest by itself come back.
 use Rattle.std.proofs.Common.{◌≡◌, ℕ, zero, suc, ◌==◌, Bool, true, false, ◌||◌, IsTrue, List, [], ◌∷◌, map, length, slice_set, refl, sym, ap, subst, ◌∙◌, arith}
 use Rattle.std.proofs.lemmas.List.Elements.{All-nil, All-cons}
-use Rattle.dev_port.specs.Core.{Seen, shape_of, local_by, opening_local_of}
+use Rattle.gic_msi.specs.Core.{Seen, shape_of, local_by, opening_local_of}
 use Rattle.port_table.specs.Told.{WordsTold, RootTold, HasNoTurn, IsDone, AllDone, opening_root, opening_seen, words_at, root_at, joining_in, with_split, with_joined}
 use Rattle.vm_threads.specs.Rest.{Rests}
 

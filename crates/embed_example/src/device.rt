@@ -2,7 +2,7 @@
 use crate::fault::Fault;
 use crate::program::{DEVICE_ID, EVENT_ID, SPI};
 use crate::signals::Signals;
-use dev_port::{message, msi};
+use gic_msi::{message, send_msi};
 use port_seq::{CorePort as Port, Key, key_of};
 use std::sync::Wait;
 use vm_threads::{TakesTurns, can_call};
@@ -28,12 +28,13 @@ impl TakesTurns<Signals, Fault> for Device {
         port: &mut P,
         signals: &Signals,
     ) -> Result<(), Fault> {
-        let has_spi = key_of(SPI, 0, &port.shape()) == Some(Key::Spi(SPI));
-        if !can_call(port) || !has_spi {
+        let shape = port.shape();
+        let has_both = shape.lpis != 0 && key_of(SPI, 0, &shape) == Some(Key::Spi(SPI));
+        if !can_call(port) || !has_both {
             return Err(Fault::NotAtRest);
         }
         if !self.sent && signals.is_rung() {
-            msi(rt, port, DEVICE_ID, EVENT_ID);
+            send_msi(rt, port, DEVICE_ID, EVENT_ID);
             message(port, SPI);
             self.sent = true;
         }

@@ -1,6 +1,6 @@
 //! The machine: what its guest has, where the frames of the GIC are among the guest physical addresses, and why a vCPU leaves guest code.
 ghost use Rattle.std.specs.Prelude.{IsTrue, IfSome};
-ghost use Rattle.dev_port.specs.Words.{IsShape};
+ghost use Rattle.gic_msi.specs.Words.{IsShape};
 ghost use Rattle.port_table.specs.Calls.{is_good_op as is_good_op_of};
 
 use gic_vm::Layout;

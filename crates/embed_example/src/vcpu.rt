@@ -1,7 +1,7 @@
 //! The loop of a vCPU.
 ghost use Rattle.std.specs.Prelude.{◌≡◌, OnOk};
 ghost use Rattle.pe_op.specs.PeLoop.Stay.{IsUp};
-ghost use Rattle.dev_port.specs.Core.{IsSameActor};
+ghost use Rattle.gic_msi.specs.Core.{IsSameActor};
 
 use crate::fault::Fault;
 use crate::machine::{DOORBELL, Exit, LIST_REGISTERS, operation_of};

@@ -86,10 +86,10 @@ so_does shape actor (Access op) h = h
 so_does shape actor (Device op) h = h
 so_does shape actor Residence h = h
 
-ended_doer : (signals : Bool) (shape : GuestShape) (actor : ℕ) (call : Call) (answer : Option ℕ) → IsEndedAs signals shape actor call answer → is_doer shape actor call.operation ≡ true
+pub ended_doer : (signals : Bool) (shape : GuestShape) (actor : ℕ) (call : Call) (answer : Option ℕ) → IsEndedAs signals shape actor call answer → is_doer shape actor call.operation ≡ true
 ended_doer signals shape actor call answer is = so_does shape actor call.operation (call_does shape actor (nat_lt actor shape.vcpus) is.beside call.operation call.piece answer is.is_call)
 
-begun_doer : (signals : Bool) (shape : GuestShape) (actor : ℕ) (call : Call) → IsBegun signals shape actor call → is_doer shape actor call.operation ≡ true
+pub begun_doer : (signals : Bool) (shape : GuestShape) (actor : ℕ) (call : Call) → IsBegun signals shape actor call → is_doer shape actor call.operation ≡ true
 begun_doer signals shape actor call is =
     let last : Call = fold noting call is.notes in
     let goes : GoesOnAs call last = notes_as call is.notes in ap (is_doer shape actor) (sym goes.operation) ∙ ended_doer (fold signalling signals is.notes) shape actor last is.answer is.ended

@@ -15,7 +15,7 @@ events_in piece = map (λ (h : Happened). h.event) piece
 abbrev Hands : View → Happened → Type 0
 Hands view happened = HandsOut view happened.event happened.found
 
-named_more : (actor : Option ℕ) (one other : List Happened) → named_of actor (one ++ other) ≡ named_of actor one ++ named_of actor other
+pub named_more : (actor : Option ℕ) (one other : List Happened) → named_of actor (one ++ other) ≡ named_of actor one ++ named_of actor other
 named_more actor one other = filter-append (λ (h : Happened). not (is_beside actor h.event)) one other
 
 pub counted_none : (actor : Option ℕ) (view : View) (events : List Event) → IsCounted actor view events [] 0

@@ -22,21 +22,21 @@ use Rattle.history_calls.specs.Exact.{is_plain, is_told, is_doer, events_by, pla
 use Rattle.history_calls.proofs.FoundLemmas.{own_word, own_place, same_place, any_at, none_named, last_same, read_found, found_read, touch_found, store_found, word_found}
 use Rattle.history_calls.proofs.PlainLemmas.{Holds, Agrees, alike, AgreesFirst, alike_first, not_from, events_told}
 
-abbrev events_in : List Happened → List Event
+abbrev pub events_in : List Happened → List Event
 events_in piece = map (λ (h : Happened). h.event) piece
 
-abbrev Hands : View → Happened → Type 0
+abbrev pub Hands : View → Happened → Type 0
 Hands view happened = HandsOut view happened.event happened.found
 
 -- By another view that agrees.
 
-held_same : (view other : View) (place : Place) → Holds view other place → held_at other place ≡ held_at view place
+pub held_same : (view other : View) (place : Place) → Holds view other place → held_at other place ≡ held_at view place
 held_same view other (Word word) h = ap FoundWord h
 held_same view other QueuePlace h = ap₂ FoundQueue h.0 h.1
 held_same view other Ctlr h = ap₂ FoundCtlr h.0 h.1
 held_same view other (Lpis vcpu) h = ap FoundLpis h
 
-hands_same : (view other : View) (event : Event) (found : Found) → is_told event ≡ true → ((key : Key) → touches key event ≡ true → other.irqs key ≡ view.irqs key) → ((word : PlainWord) → stores word event ≡ true → other.words word ≡ view.words word) → HandsOut view event found
+pub hands_same : (view other : View) (event : Event) (found : Found) → is_told event ≡ true → ((key : Key) → touches key event ≡ true → other.irqs key ≡ view.irqs key) → ((word : PlainWord) → stores word event ≡ true → other.words word ≡ view.words word) → HandsOut view event found
     → HandsOut other event found
 hands_same view other (Raise key) found h irqs words is = is
 hands_same view other (Up key) found h irqs words is = is
@@ -48,7 +48,7 @@ hands_same view other (CtlrBegin enables) found h irqs words is = is
 hands_same view other CtlrEnd found h irqs words is = is
 hands_same view other event found h irqs words is = absurd (cc)
 
-hands_all : (view other : View) (named : List Happened) → list_all is_told (events_in named) ≡ true → ((key : Key) → list_any (touches key) (events_in named) ≡ true → other.irqs key ≡ view.irqs key) → ((word : PlainWord) → list_any (stores word) (events_in named) ≡ true → other.words word ≡ view.words word)
+pub hands_all : (view other : View) (named : List Happened) → list_all is_told (events_in named) ≡ true → ((key : Key) → list_any (touches key) (events_in named) ≡ true → other.irqs key ≡ view.irqs key) → ((word : PlainWord) → list_any (stores word) (events_in named) ≡ true → other.words word ≡ view.words word)
     → All (Hands view) named → All (Hands other) named
 hands_all view other [] h irqs words all = All-nil (Hands other)
 hands_all view other (one ∷ named) h irqs words all =
@@ -134,7 +134,7 @@ call_made shape actor false beside (Device (Msi device event)) piece answer h is
 call_made shape actor false beside Residence piece answer h is = absurd is
 
 -- the actor does so, whether it is a vCPU or a device
-abbrev does : Bool → Operation → Bool
+abbrev pub does : Bool → Operation → Bool
 does vcpu (Device op) = not vcpu
 does vcpu operation = vcpu
 
@@ -177,7 +177,7 @@ made_call shape actor false beside view (Device (Wire key up)) piece answer h d 
 made_call shape actor false beside view (Device (Msi device event)) piece answer h d t m is = absurd (cc)
 made_call shape actor false beside view Residence piece answer h d t m is = absurd (cc)
 
-does_so : (shape : GuestShape) (actor : ℕ) (operation : Operation) → is_doer shape actor operation ≡ true → does (nat_lt actor shape.vcpus) operation ≡ true
+pub does_so : (shape : GuestShape) (actor : ℕ) (operation : Operation) → is_doer shape actor operation ≡ true → does (nat_lt actor shape.vcpus) operation ≡ true
 does_so shape actor (Access op) h = h
 does_so shape actor (Device op) h = h
 does_so shape actor Residence h = h
@@ -205,7 +205,7 @@ module _ (shape : GuestShape) (actor : ℕ) (operation : Operation) (plain : is_
 
 -- Calls that go on: what they have made so far.
 
-first_of : (view : View) (one other : List Happened) → All (Hands view) (one ++ other) → All (Hands view) one
+pub first_of : (view : View) (one other : List Happened) → All (Hands view) (one ++ other) → All (Hands view) one
 first_of view [] other all = All-nil (Hands view)
 first_of view (x ∷ one) other all = All-cons (Hands view) x one (All-head (Hands view) x (one ++ other) all) (first_of view one other (All-tail (Hands view) x (one ++ other) all))
 
@@ -248,16 +248,16 @@ module _ (shape : GuestShape) (actor : ℕ) (operation : Operation) (plain : is_
 -- Calls that go on: what they may still make.
 
 -- what an event hands out that is still to come
-abbrev hands : View → Event → Found
+abbrev pub hands : View → Event → Found
 hands view (Cpu vcpu reg write) = Answer None
 hands view (Touch key touching) = Record (view.irqs key)
 hands view (Put word value) = FoundWord (view.words word)
 hands view event = Nothing
 
-abbrev coming : View → Event → Happened
+abbrev pub coming : View → Event → Happened
 coming view event = record { event = event; found = hands view event }
 
-abbrev reading : View → Place → Happened
+abbrev pub reading : View → Place → Happened
 reading view place = record { event = Read place; found = held_at view place }
 
 hands_out : (view : View) (event : Event) → is_told event ≡ true → HandsOut view event (hands view event)
@@ -291,7 +291,7 @@ told_named actor CtlrEnd h = refl
 told_named actor event h = absurd (cc)
 
 -- whatever the guest is then
-here : Ideal
+pub here : Ideal
 here = (opening_course worked_guest).ideal
 
 -- a call with more events, which has come to no LPI of a pending table
@@ -318,7 +318,7 @@ longer_one call (Touch key touching) found h none = record {
 }
 longer_one call event found h none = absurd (cc)
 
-abbrev notes_of : List Happened → List Note
+abbrev pub notes_of : List Happened → List Note
 notes_of more = map (λ (h : Happened). Made false here h.event h.found) more
 
 longer : (call : Call) (more : List Happened) → list_all is_quiet (events_in more) ≡ true → call.place ≡ None → IsLonger call (fold noting call (notes_of more)) more
@@ -340,11 +340,11 @@ coming_named view actor (event ∷ rest) h =
     let both = and_parts (is_told event) (list_all is_told rest) h in
     ap (λ b. cond (not b) (coming view event ∷ named_of actor (map (coming view) rest)) (named_of actor (map (coming view) rest))) (told_named actor event both.0) ∙ ap (λ xs. coming view event ∷ xs) (coming_named view actor rest both.1)
 
-reading_named : (view : View) (actor : Option ℕ) (places : List Place) → named_of actor (map (reading view) places) ≡ []
+pub reading_named : (view : View) (actor : Option ℕ) (places : List Place) → named_of actor (map (reading view) places) ≡ []
 reading_named view actor [] = refl
 reading_named view actor (place ∷ places) = reading_named view actor places
 
-coming_events : (view : View) (rest : List Event) → events_in (map (coming view) rest) ≡ rest
+pub coming_events : (view : View) (rest : List Event) → events_in (map (coming view) rest) ≡ rest
 coming_events view [] = refl
 coming_events view (event ∷ rest) = ap (λ xs. event ∷ xs) (coming_events view rest)
 
@@ -373,7 +373,7 @@ any_read : (view : View) (place : Place) (places : List Place) → list_any (λ 
 any_read view place [] = refl
 any_read view place (other ∷ places) = ap (λ b. reads place (Read other) || b) (any_read view place places)
 
-reads_last : (view : View) (places : List Place) (before : List Happened) → All (λ (place : Place). IsLastRead place (held_at view place) (before ++ map (reading view) places)) places
+pub reads_last : (view : View) (places : List Place) (before : List Happened) → All (λ (place : Place). IsLastRead place (held_at view place) (before ++ map (reading view) places)) places
 reads_last view places before k d lt = of (get_or places k d) (any_at (λ other. reads (get_or places k d) (Read other)) places k d lt (own_place (get_or places k d)))
   where
     of : (place : Place) → list_any (λ other. reads place (Read other)) places ≡ true → IsLastRead place (held_at view place) (before ++ map (reading view) places)
@@ -394,7 +394,7 @@ first_read view vcpu reg write events (one ∷ named) h all =
     same_head : (x y : Event) (xs ys : List Event) → x ∷ xs ≡ y ∷ ys → x ≡ y
     same_head x y xs ys h = cc
 
-kept_there : {X : Type 0} (p : X → Bool) (xs : List X) (x : X) → Contains (filter p xs) x → Contains xs x
+pub kept_there : {X : Type 0} (p : X → Bool) (xs : List X) (x : X) → Contains (filter p xs) x → Contains xs x
 kept_there p [] x h = h
 kept_there {X} p (y ∷ xs) x h = of (p y) h (kept_there p xs x)
   where

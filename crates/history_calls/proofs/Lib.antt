@@ -1,5 +1,8 @@
+pub use Rattle.legal_lists.proofs.CourseLemmas
 pub use Rattle.legal_lists.proofs.GicBase
 pub use Rattle.legal_lists.proofs.GicCall
+pub use Rattle.legal_lists.proofs.KeyLemmas
+pub use Rattle.legal_lists.proofs.MadeLemmas
 pub mod FoundLemmas
 pub mod PlainLemmas
 pub mod ExactLaw

@@ -17,14 +17,14 @@ use Rattle.history_calls.specs.Exact.{is_enable, IsOpen, CallsAreOpen}
 
 -- In a list of calls.
 
-set_cases : {X : Type 0} (xs : List (Option X)) (n : ℕ) (y : Option X) (m : ℕ) → (slice_index_or (slice_set xs n y) m None ≡ y) ⊎ (slice_index_or (slice_set xs n y) m None ≡ slice_index_or xs m None)
+pub set_cases : {X : Type 0} (xs : List (Option X)) (n : ℕ) (y : Option X) (m : ℕ) → (slice_index_or (slice_set xs n y) m None ≡ y) ⊎ (slice_index_or (slice_set xs n y) m None ≡ slice_index_or xs m None)
 set_cases [] n y m = inr refl
 set_cases (x ∷ xs) zero y zero = inl refl
 set_cases (x ∷ xs) zero y (suc m) = inr refl
 set_cases (x ∷ xs) (suc n) y zero = inr refl
 set_cases (x ∷ xs) (suc n) y (suc m) = set_cases xs n y m
 
-mapped : {X : Type 0} (f : X → X) (xs : List (Option X)) (n : ℕ) → slice_index_or (map (option_map f) xs) n None ≡ option_map f (slice_index_or xs n None)
+pub mapped : {X : Type 0} (f : X → X) (xs : List (Option X)) (n : ℕ) → slice_index_or (map (option_map f) xs) n None ≡ option_map f (slice_index_or xs n None)
 mapped f [] n = refl
 mapped f (x ∷ xs) zero = refl
 mapped f (x ∷ xs) (suc n) = mapped f xs n

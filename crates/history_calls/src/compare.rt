@@ -12,7 +12,7 @@ use crate::made::Made;
 use floor_calls::{Event, Found, Touching};
 
 /// Whether an event is one that calls are not told by: a read, or a move at the actor's own CPU interface.
-fn is_beside(actor: Option<u32>, event: &Event) -> bool
+pub fn is_beside(actor: Option<u32>, event: &Event) -> bool
     ensures { result ≡ is_beside_of actor event.now }
 {
     match *event {
@@ -133,7 +133,7 @@ fn is_so(piece: &[Made], is_open: bool, made: &Made, event: &Event) -> bool
 
 /// How many of these events the named ones of a piece are, from the first on, where each hands out what is there. None where
 /// they are others, or one hands out something else.
-pub(crate) fn count_made(
+pub fn count_made(
     actor: Option<u32>,
     piece: &[Made],
     is_open: bool,

@@ -371,7 +371,7 @@ fn device_event(shape: &GuestShape, op: DeviceOp) -> Option<Event>
 }
 
 /// The events of an operation.
-pub(crate) fn events_of(
+pub fn events_of(
     alloc: Global,
     shape: &GuestShape,
     actor: u32,

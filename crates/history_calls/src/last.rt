@@ -56,7 +56,7 @@ fn stores(word: PlainWord, event: &Event) -> bool
 }
 
 /// Whether an event reads a place.
-fn reads(place: Place, event: &Event) -> bool
+pub fn reads(place: Place, event: &Event) -> bool
     ensures { result ≡ reads_place place event.now }
 {
     match *event {
@@ -115,7 +115,7 @@ pub(crate) fn irq_at(piece: &[Made], key: Key) -> Irq
 }
 
 /// What a plain word held, as its store or the last read found.
-pub(crate) fn word_at(piece: &[Made], word: PlainWord) -> u64
+pub fn word_at(piece: &[Made], word: PlainWord) -> u64
     ensures { result ≡ (found_by piece.now).words word }
 {
     match last_store(piece, word).or(last_read(piece, Place::Word { word })) {

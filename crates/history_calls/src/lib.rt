@@ -16,11 +16,16 @@ mod values;
 
 pub use answers::is_plain;
 pub use calls::{call_begun, call_ended};
+pub use compare::{count_made, is_beside};
+pub use events::events_of;
 pub use floor_calls::{
-    DeviceOp, Enables, Event, Found, Frame, GuestOp, GuestShape, IccReg, Irq, Key, Kind, ListOf,
-    Operation, Place, PlainWord, Touching, opening_irq,
+    DeviceOp, Enables, Event, FIRST_LPI, Found, Frame, GuestOp, GuestShape, IccReg, Irq, Key, Kind,
+    ListOf, Operation, Place, PlainWord, Touching, has_bit, opening_irq, pending_address, split,
 };
 pub use found::is_same_found;
+pub use last::{reads, word_at};
 pub use laws::{calls_are_open, plain_calls_are_exact};
 pub use made::Made;
+pub use places::was_read;
 pub use records::are_records;
+pub use values::memory;

@@ -139,7 +139,7 @@ pub(crate) fn place_of(shape: &GuestShape, operation: &Operation) -> Option<Plac
 }
 
 /// Whether a place was read, the last time as the guest is found.
-pub(crate) fn was_read(piece: &[Made], place: Place) -> bool
+pub fn was_read(piece: &[Made], place: Place) -> bool
     ensures { IsTrue result ↔ (last_found (reads place) piece.now ≡ Some (held_at (found_by piece.now) place)) }
 {
     match (place, last_read(piece, place)) {

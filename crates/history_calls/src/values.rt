@@ -18,7 +18,7 @@ use floor_calls::{
 };
 
 /// What so many bytes of memory hold from an address on.
-fn memory(shape: &GuestShape, piece: &[Made], address: u64, size: u32) -> u64
+pub fn memory(shape: &GuestShape, piece: &[Made], address: u64, size: u32) -> u64
     requires shape { IsShape shape.now }
     requires size { IsTrue (is_size size) }
     ensures { result ≡ memory_at shape.now (found_by piece.now) address size }

@@ -2,11 +2,11 @@
 use Rattle.std.proofs.Common.{◌≡◌, IsTrue, List, [], ◌∷◌, ◌++◌, find, is_some, ◌||◌, Option, None, Some, if◌then◌else◌, refl, sym, ap, subst, ◌∙◌}
 use Rattle.std.proofs.lemmas.List.{append_assoc}
 use Rattle.std.proofs.lemmas.List.Sums.{fold-append}
-use Rattle.dev_port.specs.Words.{Lpi, GuestShape}
+use Rattle.gic_msi.specs.Words.{Lpi, GuestShape}
 use Rattle.port_seq.specs.Registers.{IsValid, Maps}
-use Rattle.dev_port.specs.Core.{Made, Irq, known_maps, is_on, read_after, reading_after, reading_of, since_command, ends_command, Seen, shape_of}
-use Rattle.dev_port.specs.PortCall.Turn.{TakesTurn}
-use Rattle.dev_port.proofs.PortCall.KnownLemmas.{maps_handed}
+use Rattle.gic_msi.specs.Core.{Made, Irq, known_maps, is_on, read_after, reading_after, reading_of, since_command, ends_command, Seen, shape_of}
+use Rattle.gic_msi.specs.PortCall.Turn.{TakesTurn}
+use Rattle.gic_msi.proofs.PortCall.KnownLemmas.{maps_handed}
 use Rattle.pe_op.specs.ItsExec.Plan.{IsFresh}
 use Rattle.pe_op.specs.ItsExec.Shut.{ShutsAll}
 use Rattle.pe_op.proofs.ItsExec.FrameLemmas.{maps_on}

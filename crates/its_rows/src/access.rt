@@ -1,11 +1,11 @@
 //! Accesses that a vCPU can make, and its stores of commands.
 ghost use Rattle.std.specs.Prelude.{IsTrue};
 ghost use Rattle.port_seq.specs.Registers.{is_size};
-ghost use Rattle.dev_port.specs.Calls.{fits as fits_in, has_frame};
+ghost use Rattle.gic_msi.specs.Calls.{fits as fits_in, has_frame};
 ghost use Rattle.pe_op.specs.PeMem.Call.{CanAccess};
 
 use crate::guest::address_of_place;
-use dev_port::{GuestOp, Port};
+use gic_msi::{GuestOp, Port};
 use pe_op::memory_op;
 use port_rest::{command_words, is_off};
 use port_seq::{Command, Frame, GuestShape, is_good_op};

@@ -4,7 +4,7 @@ use crate::guest::{
     CBASER, CONFIG, LATCHED, LpiState, MAPPED, MOVED, NO_COMMAND, NOTHING, PROPBASER, QUEUE_PLACES,
     SECOND_PLACE, SHAPE, TABLE, address_of_place, lpi_state, map_event, open_guest, queue_state,
 };
-use dev_port::{Port, give_turn, put_plain, take_turn};
+use gic_msi::{Port, give_turn, put_plain, take_turn};
 use pe_op::{QueueEnd, look_at_queue, move_queue, run_commands, run_queue, shut};
 use port_rest::{
     CLEAR, DEVICE_ID, DISCARD, EVENT_ID, INT, INV, LPI, MAP_LPI, MAPC, MOVI, OTHER_MAPC, SYNC,

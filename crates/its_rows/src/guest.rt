@@ -1,7 +1,7 @@
 //! The guest of the tests, where its queue and its tables are, and what becomes of its LPI.
 ghost use Rattle.std.specs.Prelude.{◌<◌};
 
-use dev_port::{CoreStep, Key, Port, WordId};
+use gic_msi::{CoreStep, Key, Port, WordId};
 use port_rest::{LPI, one_guest};
 use port_seq::{
     COMMAND_BYTES, Command, GuestShape, Mode, PlainWord, SeqPort, place_of_plain, target_in, unpack,
@@ -16,6 +16,12 @@ pub(crate) const SHAPE: GuestShape = GuestShape {
     devices: 1,
     lpis: 16,
     ram: 65536,
+};
+
+/// The same guest with a second device.
+pub(crate) const TWO_DEVICES: GuestShape = GuestShape {
+    devices: 2,
+    ..SHAPE
 };
 
 /// Where the queue is, and GITS_CBASER for it: 4096 bytes.

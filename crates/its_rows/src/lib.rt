@@ -4,9 +4,17 @@
 #[cfg(test)]
 mod access;
 #[cfg(test)]
+mod acts;
+#[cfg(test)]
 mod commands;
 #[cfg(test)]
 mod guest;
+#[cfg(test)]
+mod lines;
+#[cfg(test)]
+mod messages;
+#[cfg(test)]
+mod overtaken;
 #[cfg(test)]
 mod rows;
 #[cfg(test)]

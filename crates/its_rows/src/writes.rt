@@ -1,14 +1,14 @@
 //! The ITS's registers written one after the other, with commands in a guest's queue, and what they leave.
 ghost use Rattle.std.specs.Prelude.{◌≡◌, IsTrue, Some, true};
 ghost use Rattle.port_seq.specs.GicImap.Map.{decoded};
-ghost use Rattle.dev_port.specs.Calls.{takes_turn};
+ghost use Rattle.gic_msi.specs.Calls.{takes_turn};
 
 use crate::access::{can_access, is_good_access, store, store_command};
 use crate::guest::{
     CBASER, CONFIG, LpiState, MAPPED, MOVED, NO_COMMAND, NOTHING, PROPBASER, SECOND_PLACE, SHAPE,
     TABLE, lpi_state, open_guest, queue_state,
 };
-use dev_port::{Port, put_plain, read_plain};
+use gic_msi::{Port, put_plain, read_plain};
 use pe_op::its_write;
 use port_rest::{INT, MAPC, MAPD, MAPTI, MOVI, OTHER_MAPC, SYNC};
 use port_seq::{Command, Frame, GuestShape, PlainWord, Reg, RegRef, decode};
@@ -63,7 +63,7 @@ fn is_taking(shape: &GuestShape, offset: u32, size: u32, value: u64) -> bool
 }
 
 /// Writes a register of the ITS. None where the actor may not.
-fn write_register<P: Port, R: Wait>(
+pub(crate) fn write_register<P: Port, R: Wait>(
     rt: &R,
     port: &mut P,
     offset: u32,

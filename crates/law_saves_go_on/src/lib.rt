@@ -4,3 +4,4 @@
 mod law;
 
 pub use law::{alike_are_saved_alike, save_then_resume, saved_then_resumed, states_hold_own_bits};
+pub use saved_take::saved;

@@ -1,10 +1,10 @@
 //! Operations of two vCPUs and of a device of one guest, one after the other, and what they read.
 ghost use Rattle.std.specs.Prelude.{◌≡◌, IsTrue, IfSome, None};
-ghost use Rattle.dev_port.specs.Device.{CanCall};
+ghost use Rattle.gic_msi.specs.DevPort.Device.{CanCall};
 ghost use Rattle.port_seq.specs.Ports.{told};
 ghost use Rattle.pe_op.specs.PeLoop.Stay.{IsUp};
 
-use dev_port::{GuestOp, Key, Port, message, msi};
+use gic_msi::{GuestOp, Key, MsiMiss, Port, message, msi, msi_fill, post};
 use pe_op::{Loaded, Shelved, enter, guest_op, leave};
 use port_rest::{
     CLEAR, DEVICE_ID, DISCARD, EVENT_ID, INV, MAPC, MAPD, MAPTI, MOVI, OTHER_MAPC, SYNC,
@@ -60,6 +60,10 @@ enum Act {
     Message(u32),
     /// The device sends a message of an event under a number to the ITS.
     Msi(u32, u32),
+    /// It sends one of event 3 of device 8 through its translation line alone, and this comes of it.
+    Post(Result<(), MsiMiss>),
+    /// It sends it by the ITS, which fills the line.
+    Fill,
 }
 
 fn reads(reg: IccReg, value: u64) -> Does {
@@ -197,6 +201,33 @@ fn send_event<P: Port, R: Wait>(rt: &R, port: &mut P, device: u32, event: u32) -
     Some(())
 }
 
+/// The device sends a message through its translation line. None where it may not, or something else comes of it.
+#[tactic(auto, using(crate::proofs::PostLemmas::post_same))]
+fn post_event<P: Port>(port: &mut P, outcome: Result<(), MsiMiss>) -> Option<()>
+    requires { (P.seen port.old).number ≡ 0 }
+    ensures { IfSome result (λ done. (P.seen port.new).number ≡ 0) }
+{
+    if !is_device(port) || port.shape().lpis == 0 {
+        return None;
+    }
+    if post(port, DEVICE_ID, EVENT_ID) != outcome {
+        return None;
+    }
+    Some(())
+}
+
+/// The device sends a message to the ITS, and fills its line. None where it may not.
+fn fill_event<P: Port, R: Wait>(rt: &R, port: &mut P) -> Option<()>
+    requires { (P.seen port.old).number ≡ 0 }
+    ensures { IfSome result (λ done. (P.seen port.new).number ≡ 0) }
+{
+    if !is_device(port) {
+        return None;
+    }
+    msi_fill(rt, port, DEVICE_ID, EVENT_ID);
+    Some(())
+}
+
 /// Tells an actor of the guest: a vCPU, or the device after them. None where there is none.
 fn tell(guest: &mut GuestPort, actor: u32) -> Option<()>
     ensures { (told guest.new).number ≡ (told guest.old).number }
@@ -255,6 +286,14 @@ fn perform<R: Wait>(rt: &R, guest: &mut GuestPort, act: &Act) -> Option<()>
             tell(guest, device)?;
             send_event(rt, guest, *number, *event)
         }
+        Act::Post(outcome) => {
+            tell(guest, device)?;
+            post_event(guest, *outcome)
+        }
+        Act::Fill => {
+            tell(guest, device)?;
+            fill_event(rt, guest)
+        }
     }
 }
 
@@ -304,7 +343,7 @@ fn play_both<R: Wait>(
     }
 }
 
-use Act::{Message, Msi, Queue, Vcpu};
+use Act::{Fill, Message, Msi, Post, Queue, Vcpu};
 use Frame::{Dist, Its, Ram, Redist};
 use IccReg::{Bpr1, Ctlr, Eoir1, Hppir1, Iar1, Igrpen1, Pmr, Rpr, Sgi1r, Sre};
 
@@ -441,6 +480,57 @@ fn lpi_that_moves_or_goes(rt: HostRuntime) -> Result<(), Fail> {
             Vcpu(0, stores(Its, 0x88, 8, 0xA0)),
             Msi(DEVICE_ID, EVENT_ID),
             Vcpu(1, reads(Iar1, NONE)),
+        ],
+    ];
+    for acts in rows {
+        let scenario = ready(rt.alloc())?;
+        let other = play_both(&rt, rt.alloc(), scenario, first.as_slice(), acts)?;
+        assert_eq!(rt; other, None);
+    }
+    Ok(())
+}
+
+/// What comes of a message through its line: the line has it, or is empty.
+const SENT: Act = Post(Ok(()));
+
+const MISSED: Act = Post(Err(MsiMiss::NoLine { found: 0 }));
+
+#[test]
+fn lpi_by_its_line(rt: HostRuntime) -> Result<(), Fail> {
+    let first = set_up(0xA1);
+    let rows: [&[Act]; 2] = [
+        // Each message is acknowledged once, whichever way it went; after the DISCARD none is.
+        &[
+            MISSED,
+            Vcpu(1, reads(Iar1, NONE)),
+            Fill,
+            Vcpu(1, reads(Iar1, 8195)),
+            Vcpu(1, writes(Eoir1, 8195)),
+            SENT,
+            Vcpu(1, reads(Iar1, 8195)),
+            Vcpu(1, writes(Eoir1, 8195)),
+            Vcpu(1, reads(Iar1, NONE)),
+            Queue(4, DISCARD),
+            Vcpu(0, stores(Its, 0x88, 8, 0xA0)),
+            MISSED,
+            Vcpu(1, reads(Iar1, NONE)),
+        ],
+        // vCPU 0 gets tables as vCPU 1 has; then the event moves to it, which empties the line.
+        &[
+            Vcpu(0, stores(MINE, 0x70, 8, 0x300D)),
+            Vcpu(0, stores(MINE, 0x78, 8, 0x4000_0000_0001_0000)),
+            Vcpu(0, stores(MINE, 0x0, 4, 1)),
+            Fill,
+            Queue(4, OTHER_MAPC),
+            Queue(5, MOVI),
+            Vcpu(0, stores(Its, 0x88, 8, 0xC0)),
+            MISSED,
+            Fill,
+            Vcpu(1, reads(Iar1, NONE)),
+            Vcpu(0, reads(Iar1, 8195)),
+            Vcpu(0, writes(Eoir1, 8195)),
+            SENT,
+            Vcpu(0, reads(Iar1, 8195)),
         ],
     ];
     for acts in rows {

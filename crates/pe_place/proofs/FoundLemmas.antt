@@ -1,9 +1,10 @@
 -- A call that is no access goes by no vCPU that an LPI is for.
 use Rattle.std.proofs.Common.{◌≡◌, ℕ, List, Option, Some, None, refl, sym, ◌∙◌, ◌⊎◌, inl, inr, true, false}
-use Rattle.dev_port.specs.Words.{DeviceOp, GuestShape, Message, Wire, Msi}
-use Rattle.dev_port.specs.Calls.{Device, Residence, Beside, Happened, IsCall, MakesMsi, RaisesAlone}
-use Rattle.dev_port.specs.Core.{Made, Seen, shape_of, part_events, MakesCall, vcpu_of_actor}
+use Rattle.gic_msi.specs.Words.{DeviceOp, GuestShape, Message, Wire, Msi}
+use Rattle.gic_msi.specs.Calls.{Device, Residence, Beside, Happened, IsCall, MakesMsi, RaisesAlone}
+use Rattle.gic_msi.specs.Core.{Made, Seen, shape_of, part_events, MakesCall, MakesPost, vcpu_of_actor}
 use Rattle.pe_op.specs.PeMem.Found.{IsCallAsFound}
+use Rattle.pe_place.specs.Parts.{IsPartFound}
 use Rattle.pe_op.proofs.PeMem.FoundLemmas.{found_by_none}
 
 any_residence :
@@ -30,3 +31,9 @@ pub device_call : (seen : Seen) (op : DeviceOp) (steps : List Made) (answer : Op
 device_call seen op steps answer makes =
     found_by_none seen steps (Device op) answer refl
     (λ beside maps. same_device (shape_of seen) makes.beside beside (vcpu_of_actor (shape_of seen) seen.actor) op (part_events seen steps) answer (makes.maps ∙ sym maps) makes.signals makes.call)
+
+-- a part of a device, in either form
+pub device_found : (seen : Seen) (op : DeviceOp) (steps : List Made) → MakesCall seen steps (Device op) None ⊎ MakesPost seen steps (Device op) None
+    → IsPartFound seen (record { operation = Device op; lrs = 0; steps = steps; answer = None })
+device_found seen op steps (inl made) = inl (record { made = made; found = device_call seen op steps None made })
+device_found seen op steps (inr post) = inr post

@@ -4,7 +4,7 @@ use Rattle.law_serial_is_eager.specs.Histories.{IdealGuest}
 use Rattle.pe_op.specs.VcpuState.declared.shelved.Shelved.{Shelved}
 use Rattle.pe_op.specs.VcpuState.declared.loaded.Loaded.{Loaded}
 use Rattle.law_serial_is_eager.specs.Lists.{StandFor}
-use Rattle.dev_port.specs.Core.{Local, interface_of, is_ready, is_vcpu, Seen, IsAtRest, Progress, is_settled, AtIrq}
+use Rattle.gic_msi.specs.Core.{Local, interface_of, is_ready, is_vcpu, Seen, IsAtRest, Progress, is_settled, AtIrq}
 use Rattle.std.specs.List.{list_all}
 use Rattle.std.specs.Prelude.{not}
 use Rattle.pe_op.specs.PeLoop.Enter.{IsBetween}

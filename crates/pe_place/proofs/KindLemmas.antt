@@ -2,8 +2,8 @@
 use Rattle.std.proofs.Common.{◌≡◌, ℕ, List, [], ◌∷◌, ◌++◌, Option, refl, ap, ◌∙◌}
 use Rattle.std.proofs.lemmas.List.{append_assoc}
 use Rattle.std.proofs.lemmas.List.Elements.{All-nil, All-cons, All-append}
-use Rattle.dev_port.specs.Calls.{Operation, Residence}
-use Rattle.dev_port.specs.Core.{Made}
+use Rattle.gic_msi.specs.Calls.{Operation, Residence}
+use Rattle.gic_msi.specs.Core.{Made}
 use Rattle.law_serial_is_eager.specs.Serial.{WholePart}
 use Rattle.pe_place.specs.Parts.{Part, by_actor, residence, AreOneCall, AreResidences, HaveCall}
 

@@ -1,6 +1,6 @@
-pub use Rattle.dev_port.proofs.CoreProper
+pub use Rattle.gic_msi.proofs.CoreProper
 pub use Rattle.pe_op.proofs.PeIcc
-pub use Rattle.dev_port.proofs.PortCall
+pub use Rattle.gic_msi.proofs.PortCall
 pub mod FrameLemmas
 pub mod FoundLemmas
 pub mod KindLemmas

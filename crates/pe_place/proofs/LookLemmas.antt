@@ -3,12 +3,12 @@ use Rattle.std.proofs.Common.{◌≡◌, ℕ, ◌||◌, ◌&&◌, not, Bool, tru
 use Rattle.std.specs.Option.{option_to_list}
 use Rattle.std.proofs.lemmas.List.Sums.{fold-append}
 use Rattle.pe_op.specs.VcpuState.declared.loaded.Loaded.{Loaded}
-use Rattle.dev_port.specs.Calls.{Residence, Beside, IsCall, named_of}
-use Rattle.dev_port.specs.Core.{Local, Phase, Off, Scanning, Claiming, Loaded as LoadedPhase, Folding, Made, Look, Vcpu, local_after, is_ready, Seen, Adds, shape_of, part_events, stands_for, MakesCall, maps_taken, vcpu_of_actor, begins, makes, ends, part_of, Progress, paid, is_paid, owed_after_part, progressed, progress_of, IsProper, IsProperEnd, is_empty, gives_back, is_settled, wants_nothing}
-use Rattle.dev_port.proofs.CoreProper.PartLemmas.{proper_append}
-use Rattle.dev_port.proofs.CoreProper.RestLemmas.{rests_again}
-use Rattle.dev_port.specs.PortCall.Piece.{IsPiece, is_plain, goes_by_known}
-use Rattle.dev_port.proofs.PortCall.PieceLemmas.{piece_one}
+use Rattle.gic_msi.specs.Calls.{Residence, Beside, IsCall, named_of}
+use Rattle.gic_msi.specs.Core.{Local, Phase, Off, Scanning, Claiming, Loaded as LoadedPhase, Folding, Made, Look, Vcpu, local_after, is_ready, Seen, Adds, shape_of, part_events, stands_for, MakesCall, maps_taken, vcpu_of_actor, begins, makes, ends, part_of, Progress, paid, is_paid, owed_after_part, progressed, progress_of, IsProper, IsProperEnd, is_empty, gives_back, is_settled, wants_nothing}
+use Rattle.gic_msi.proofs.CoreProper.PartLemmas.{proper_append}
+use Rattle.gic_msi.proofs.CoreProper.RestLemmas.{rests_again}
+use Rattle.gic_msi.specs.PortCall.Piece.{IsPiece, is_plain, goes_by_known}
+use Rattle.gic_msi.proofs.PortCall.PieceLemmas.{piece_one}
 use Rattle.pe_op.specs.PeLoop.Stay.{IsUp}
 use Rattle.pe_op.specs.PeIcc.Amid.{IsRunning}
 use Rattle.pe_op.proofs.PeIcc.ReenterLemmas.{none_still}

@@ -4,13 +4,13 @@ use Rattle.std.proofs.lemmas.Grind.{flat_map-append}
 use Rattle.std.proofs.lemmas.List.{map-append}
 use Rattle.std.proofs.lemmas.List.Elements.{All-nil, All-cons, All-append}
 use Rattle.std.proofs.lemmas.List.Sums.{fold-append}
-use Rattle.dev_port.specs.Calls.{Residence}
+use Rattle.gic_msi.specs.Calls.{Residence}
 use Rattle.pe_op.specs.VcpuState.declared.shelved.Shelved.{Shelved}
 use Rattle.pe_op.specs.VcpuState.declared.loaded.Loaded.{Loaded}
-use Rattle.dev_port.specs.Core.{Made, Seen, Adds, shape_of, seen_after, MakesCall, Progress, progressed, progress_of, IsProper}
-use Rattle.dev_port.proofs.PortCore.PortLemmas.{adds_join, seen_joins}
-use Rattle.dev_port.proofs.CoreProper.PartLemmas.{proper_append}
-use Rattle.dev_port.proofs.PortCall.PieceLemmas.{seen_nil}
+use Rattle.gic_msi.specs.Core.{Made, Seen, Adds, shape_of, seen_after, MakesCall, Progress, progressed, progress_of, IsProper}
+use Rattle.gic_msi.proofs.PortCore.PortLemmas.{adds_join, seen_joins}
+use Rattle.gic_msi.proofs.CoreProper.PartLemmas.{proper_append}
+use Rattle.gic_msi.proofs.PortCall.PieceLemmas.{seen_nil}
 use Rattle.pe_op.specs.PeLoop.Enter.{Enters, IsBetween}
 use Rattle.pe_op.specs.PeLoop.Leave.{Leaves}
 use Rattle.pe_op.proofs.PeIcc.LawLemmas.{entry_runs, exit_rests}

@@ -1,9 +1,9 @@
 -- An operation of a vCPU, as a part of its own.
 use Rattle.std.proofs.Common.{Option, ℕ}
-use Rattle.dev_port.specs.Words.{GuestOp}
-use Rattle.dev_port.specs.Calls.{Access}
+use Rattle.gic_msi.specs.Words.{GuestOp}
+use Rattle.gic_msi.specs.Calls.{Access}
 use Rattle.pe_op.specs.VcpuState.declared.loaded.Loaded.{Loaded}
-use Rattle.dev_port.specs.Core.{Seen}
+use Rattle.gic_msi.specs.Core.{Seen}
 use Rattle.pe_op.specs.Operation.{DoesOperation}
 use Rattle.pe_place.specs.declared.place.Place.TheVariants.{Pe}
 use Rattle.pe_place.specs.Parts.{Part, AreOneCall}

@@ -5,9 +5,9 @@ use Rattle.std.proofs.lemmas.Grind.{flat_map-append}
 use Rattle.std.proofs.lemmas.List.{map-append}
 use Rattle.std.proofs.lemmas.List.Elements.{filter-append}
 use Rattle.law_serial_is_eager.specs.Histories.{IdealGuest}
-use Rattle.dev_port.specs.Calls.{Event, Beside, IsCall}
-use Rattle.dev_port.specs.Words.{target_in, irq_of}
-use Rattle.dev_port.specs.Core.{Local, Made, Seen, seen_after, local_by, events_of, part_events, MakesCall, MakesPost, vcpu_of_actor, entry_by}
+use Rattle.gic_msi.specs.Calls.{Event, Beside, IsCall}
+use Rattle.gic_msi.specs.Words.{target_in, irq_of}
+use Rattle.gic_msi.specs.Core.{Local, Made, Seen, seen_after, local_by, events_of, part_events, MakesCall, MakesPost, vcpu_of_actor, entry_by}
 use Rattle.pe_op.specs.PeMem.Found.{are_before, Finding, by_looks, by_commands, IsFinding, takes_its_by, IsCallAsFound}
 use Rattle.pe_op.specs.PeMem.Looked.{IsLookedAt, all_events, comes_after, comes_before}
 use Rattle.law_serial_is_eager.specs.Serial.{WholePart}

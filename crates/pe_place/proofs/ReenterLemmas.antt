@@ -1,12 +1,12 @@
 -- A vCPU that leaves its PE and enters it again, in one part.
 use Rattle.std.proofs.Common.{◌≡◌, ℕ, ◌&&◌, not, false, if◌then◌else◌, IsTrue, List, [], ◌∷◌, ◌++◌, map, Option, Some, None, append-nil, refl, sym, ap, subst, ◌∙◌}
 use Rattle.std.proofs.lemmas.List.Sums.{fold-append}
-use Rattle.dev_port.specs.Calls.{Residence, Beside, IsCall}
+use Rattle.gic_msi.specs.Calls.{Residence, Beside, IsCall}
 use Rattle.pe_op.specs.VcpuState.declared.loaded.Loaded.{Loaded}
 use Rattle.pe_op.specs.VcpuState.declared.shelved.Shelved.{Shelved}
-use Rattle.dev_port.specs.Core.{Local, Made, Seen, shape_of, part_events, MakesCall, maps_taken, vcpu_of_actor, begins, makes, ends, part_of, Progress, paid, is_paid, owed_after_part, progressed, progress_of, IsProper, IsProperEnd, is_empty, gives_back, is_settled, wants_nothing}
-use Rattle.dev_port.proofs.PortCore.PortLemmas.{adds_join}
-use Rattle.dev_port.proofs.CoreProper.PartLemmas.{proper_append}
+use Rattle.gic_msi.specs.Core.{Local, Made, Seen, shape_of, part_events, MakesCall, maps_taken, vcpu_of_actor, begins, makes, ends, part_of, Progress, paid, is_paid, owed_after_part, progressed, progress_of, IsProper, IsProperEnd, is_empty, gives_back, is_settled, wants_nothing}
+use Rattle.gic_msi.proofs.PortCore.PortLemmas.{adds_join}
+use Rattle.gic_msi.proofs.CoreProper.PartLemmas.{proper_append}
 use Rattle.pe_op.specs.PeLoop.Enter.{Enters, MayEnter}
 use Rattle.pe_op.specs.PeLoop.Leave.{Leaves}
 use Rattle.pe_op.specs.PeLoop.Moves.{are_moves}

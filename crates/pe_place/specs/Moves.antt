@@ -1,6 +1,6 @@
 -- What a vCPU did over its port, in whole parts (own choice).
 use Rattle.std.specs.Prelude.{◌≡◌, ℕ, Bool, false, List, [], ◌∷◌, ◌++◌, map, All}
-use Rattle.dev_port.specs.Core.{Made, Look, Vcpu, vcpu_of, Seen, Adds, shape_of, Progress, progress_of, IsProper}
+use Rattle.gic_msi.specs.Core.{Made, Look, Vcpu, vcpu_of, Seen, Adds, shape_of, Progress, progress_of, IsProper}
 use Rattle.pe_op.specs.PeLoop.Steps.{IsEntryPart}
 use Rattle.pe_op.specs.PeIcc.Amid.{IsRunning}
 use Rattle.pe_op.specs.VcpuState.declared.loaded.Loaded.{Loaded}

@@ -1,9 +1,10 @@
 -- Parts of an actor, one after the other: each is what the actor did for one call (own choice).
-use Rattle.std.specs.Prelude.{◌≡◌, ℕ, ◌<◌, ◌⊎◌, ◌==◌, if◌then◌else◌, List, [], ◌∷◌, ◌++◌, All, filter, map, Option, None}
+use Rattle.std.specs.Prelude.{◌≡◌, ℕ, ◌<◌, ◌⊎◌, ◌==◌, false, if◌then◌else◌, List, [], ◌∷◌, ◌++◌, All, filter, map, Option, None}
 use Rattle.std.specs.List.{flat_map}
-use Rattle.dev_port.specs.Calls.{Operation, Residence}
-use Rattle.dev_port.specs.Words.{GuestShape}
-use Rattle.dev_port.specs.Core.{Entry, Made, actor_count, is_vcpu, Seen, seen_after, MakesCall, MakesPost, Act, part_of, entry_by, Progress, progress_of}
+use Rattle.gic_msi.specs.Calls.{Operation, Device, Residence}
+use Rattle.gic_msi.specs.Words.{DeviceOp, GuestShape, Msi}
+use Rattle.gic_msi.specs.Core.{Entry, Made, actor_count, is_vcpu, Seen, seen_after, MakesCall, MakesPost, Act, part_of, entry_by, Progress, progress_of}
+use Rattle.gic_msi.specs.Send.{IsMessage}
 use Rattle.pe_op.specs.PeMem.Found.{IsCallAsFound}
 use Rattle.law_serial_is_eager.specs.Serial.{WholePart}
 
@@ -37,6 +38,16 @@ pub record IsCallFound (seen : Seen) (part : Part) : Type 0 where
 abbrev pub IsPartFound : Seen → Part → Type 0
 IsPartFound seen part = IsCallFound seen part ⊎ MakesPost seen part.steps part.operation part.answer
 
+-- the part of a message to the ITS: through its translation line, or by the ITS
+abbrev pub IsSentBy : GuestShape → DeviceOp → List Made → Type 0
+IsSentBy shape (Msi device event) steps = IsMessage shape device event steps
+IsSentBy shape op steps = Unit {0}
+
+-- of other operations this is not asked
+abbrev pub IsSent : GuestShape → Operation → List Made → Type 0
+IsSent shape (Device op) steps = IsSentBy shape op steps
+IsSent shape operation steps = Unit {0}
+
 -- so is each of them
 abbrev pub AreCalls : Seen → List Part → Type 0
 AreCalls seen [] = Unit {0}
@@ -64,10 +75,11 @@ entries_in parts = flat_map (λ one. map (entry_by one.actor) one.steps) parts
 abbrev pub parts_by : ℕ → List WholePart → List Part
 parts_by actor parts = map part_in (filter (λ one. one.actor == actor) parts)
 
--- one is of an actor of the guest; a vCPU is on a PE with so many list registers, and a device has none
+-- one is of an actor of the guest; a vCPU is on a PE with so many list registers, and a device has none; a device's message to the ITS goes one of its ways
 pub record IsOfGuest (shape : GuestShape) (lrs : ℕ) (one : WholePart) : Type 0 where
   pub there : one.actor < actor_count shape
   pub lrs_is : one.lrs ≡ (if is_vcpu shape one.actor then lrs else 0)
+  pub sent : is_vcpu shape one.actor ≡ false → IsSent shape one.operation one.steps
 
 -- all of them enter a PE, leave one, or look for a kick
 pub record AreResidences (parts : List WholePart) : Type 0 where

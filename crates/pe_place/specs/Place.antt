@@ -1,7 +1,7 @@
 -- Where a vCPU is, with what its port tells of it (own choice).
 use Rattle.std.specs.Prelude.{◌≡◌, ℕ, ◌<◌, List, [], ◌∷◌, take, vec_capacity}
 use Rattle.std.specs.declared.vec.Vec.{Vec}
-use Rattle.dev_port.specs.Core.{Seen, Progress}
+use Rattle.gic_msi.specs.Core.{Seen, Progress}
 use Rattle.pe_op.specs.PeLoop.Stay.{IsOff, IsUp}
 use Rattle.pe_op.specs.PeLoop.Enter.{IsBetween}
 use Rattle.pe_op.specs.PeIcc.Amid.{IsRunning}

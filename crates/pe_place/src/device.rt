@@ -1,12 +1,12 @@
 //! An operation of a device.
 ghost use Rattle.std.specs.Prelude.{◌&&◌, IsTrue};
-ghost use Rattle.dev_port.specs.Words.{has_interrupt, Wire as WireOp};
-ghost use Rattle.dev_port.specs.Core.{shape_of};
-ghost use Rattle.dev_port.specs.Calls.{has_wire, is_good_event};
-ghost use Rattle.dev_port.specs.Device.{CanCall};
+ghost use Rattle.gic_msi.specs.Words.{has_interrupt, Wire as WireOp};
+ghost use Rattle.gic_msi.specs.Core.{shape_of};
+ghost use Rattle.gic_msi.specs.Calls.{has_wire, is_good_event};
+ghost use Rattle.gic_msi.specs.DevPort.Device.{CanCall};
 ghost use Rattle.pe_place.specs.Device.{DoesEvent};
 
-use dev_port::{AlreadySo, DeviceOp, Key, Port, Wire, message, msi, set_wire};
+use gic_msi::{AlreadySo, DeviceOp, Key, Port, Wire, message, send_msi, set_wire};
 use std::sync::Wait;
 
 /// The device moves a wire, which has the other level.
@@ -22,7 +22,8 @@ fn move_wire<P: Port>(port: &mut P, key: Key, up: bool)
 }
 
 /// A device does an operation: it makes an SPI pending by a message, moves the wire of an interrupt, which has the other level, or
-/// sends a message to the ITS. It waits while another actor has the ITS. It takes no memory.
+/// sends a message to the ITS, through its translation line where that has it. It waits only where the message goes by the
+/// ITS, while another actor has it. It takes no memory.
 pub fn device_op<P: Port, R: Wait>(rt: &R, port: &mut P, op: &DeviceOp)
     requires ready { CanCall (P.seen port.old) }
     requires good { IsTrue (is_good_event (shape_of (P.seen port.old)) op.now) }
@@ -31,6 +32,6 @@ pub fn device_op<P: Port, R: Wait>(rt: &R, port: &mut P, op: &DeviceOp)
     match *op {
         DeviceOp::Message { spi } => message(port, spi),
         DeviceOp::Wire { key, up } => move_wire(port, key, up),
-        DeviceOp::Msi { device, event } => msi(rt, port, device, event),
+        DeviceOp::Msi { device, event } => send_msi(rt, port, device, event),
     }
 }

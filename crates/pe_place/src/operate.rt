@@ -1,13 +1,13 @@
 //! An operation of a vCPU that is on a PE.
 ghost use Rattle.std.specs.Prelude.{◌≡◌, ℕ, IsTrue};
-ghost use Rattle.dev_port.specs.Calls.{Access, is_good_op};
-ghost use Rattle.dev_port.specs.Core.{shape_of};
+ghost use Rattle.gic_msi.specs.Calls.{Access, is_good_op};
+ghost use Rattle.gic_msi.specs.Core.{shape_of};
 ghost use Rattle.pe_place.specs.Parts.{AreOneCall};
 ghost use Rattle.pe_place.specs.Place.{pe, spot_of, IsAt, HasRegisters};
 ghost use Rattle.pe_place.specs.Moves.{Moves};
 
 use crate::place::Place;
-use dev_port::{GuestOp, Port};
+use gic_msi::{GuestOp, Port};
 use pe_op::guest_op;
 use std::sync::Wait;
 

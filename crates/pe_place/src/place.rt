@@ -1,14 +1,14 @@
 //! Where a vCPU is, over a port that is the vCPU's.
 ghost use Rattle.std.specs.Prelude.{◌≡◌, ℕ, ◌≤◌, ◌∷◌, true, false, take};
-ghost use Rattle.dev_port.specs.Words.{MAX_LIST_REGISTERS};
-ghost use Rattle.dev_port.specs.Core.{is_vcpu, shape_of};
+ghost use Rattle.gic_msi.specs.Words.{MAX_LIST_REGISTERS};
+ghost use Rattle.gic_msi.specs.Core.{is_vcpu, shape_of};
 ghost use Rattle.pe_op.specs.PeLoop.Stay.{IsUp};
 ghost use Rattle.pe_place.specs.declared.place.Place.TheVariants.{Pe as OnPe};
 ghost use Rattle.pe_place.specs.Parts.{AreResidences};
 ghost use Rattle.pe_place.specs.Place.{pe, spot_of, entered, left, gone_aside, returned, IsAt, HasRegisters, IsShown, IsRoom};
 ghost use Rattle.pe_place.specs.Moves.{Moves, Reenters, ReentersAt, LooksForKick, WasNotKicked};
 
-use dev_port::{CoreStep, LrList, Port, VcpuWord, WordId};
+use gic_msi::{CoreStep, LrList, Port, VcpuWord, WordId};
 use pe_op::{Loaded, Shelved, copy_of, enter, leave};
 
 /// Where a vCPU is between two calls.

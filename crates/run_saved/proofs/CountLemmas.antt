@@ -8,7 +8,7 @@ use Rattle.run_seq.specs.GicIdeal.Eager.{after_steps}
 use Rattle.run_seq.specs.GicIdeal.ScnBase.declared.scenario.Scenario.{Scenario}
 use Rattle.run_seq.specs.GicIdeal.ScnBase.declared.standing.Standing.{Standing}
 use Rattle.run_seq.specs.GicIdeal.ScnBase.declared.step.Step.{Step}
-use Rattle.saved_take.specs.Taken.{all_taken, saved_of, standing_at}
+use Rattle.eager_rest.specs.LawSavesGoOn.SavedTake.Taken.{all_taken, saved_of, standing_at}
 use Rattle.eager_rest.specs.LawSavesGoOn.Resume.{reached}
 use Rattle.eager_rest.proofs.LawSavesGoOn.ShapeLemmas.{shapes_steps}
 

@@ -8,8 +8,8 @@ use Rattle.run_seq.specs.LawEndsAgree.GuestEnd.Ends.{AllEndAt, guests_of}
 use Rattle.run_seq.specs.GicIdeal.IdealGuests.declared.guest.IdealGuest.{IdealGuest}
 use Rattle.run_seq.specs.GicIdeal.ScnBase.declared.scenario.Scenario.{Scenario}
 use Rattle.run_seq.specs.GicIdeal.ScnBase.declared.standing.Standing.{Standing}
-use Rattle.saved_take.specs.Run.{AreStatesOf}
-use Rattle.saved_take.specs.Taken.{all_taken, saved_of, standing_at, taken_of, wires_at}
+use Rattle.eager_rest.specs.LawSavesGoOn.SavedTake.Run.{AreStatesOf}
+use Rattle.eager_rest.specs.LawSavesGoOn.SavedTake.Taken.{all_taken, saved_of, standing_at, taken_of, wires_at}
 use Rattle.eager_rest.proofs.LawSavesGoOn.AlikeLemmas.{alike_are_saved_alike}
 use Rattle.eager_rest.proofs.LawSavesGoOn.ResumeLemmas.{past_alike}
 

@@ -13,9 +13,9 @@ use Rattle.run_seq.specs.GicIdeal.ScnBase.declared.step.Mode.TheVariants.{Schedu
 use Rattle.run_seq.specs.Agenda.{Agenda, CanBeDone, agenda_on, states_in}
 use Rattle.run_seq.specs.PortSeq.Told.{SeqTold}
 use Rattle.run_seq.specs.GicIdeal.ScnBase.declared.step.Step.{Step}
-use Rattle.saved_take.specs.SavedGuest.ScnSaved.declared.saved.Saved.{Saved}
-use Rattle.saved_take.specs.SavedGuest.Standing.{standing_of}
-use Rattle.saved_take.specs.SavedGuest.Whole.{IsValidSaved, stand_once}
+use Rattle.eager_rest.specs.LawSavesGoOn.SavedTake.SavedGuest.ScnSaved.declared.saved.Saved.{Saved}
+use Rattle.eager_rest.specs.LawSavesGoOn.SavedTake.SavedGuest.Standing.{standing_of}
+use Rattle.eager_rest.specs.LawSavesGoOn.SavedTake.SavedGuest.Whole.{IsValidSaved, stand_once}
 use Rattle.eager_rest.specs.LawSavesGoOn.Resume.{states_of}
 use Rattle.eager_rest.proofs.ToldLemmas.{as_many, same_shapes}
 

@@ -1,6 +1,6 @@
 //! A run that goes on from what was saved.
 ghost use Rattle.std.specs.Prelude.{◌≡◌, IfOk};
-ghost use Rattle.saved_take.specs.SavedGuest.Whole.{IsValidSaved};
+ghost use Rattle.eager_rest.specs.LawSavesGoOn.SavedTake.SavedGuest.Whole.{IsValidSaved};
 ghost use Rattle.eager_rest.specs.LawSavesGoOn.Resume.{resumed};
 
 use eager_rest::all_told;

@@ -2,11 +2,12 @@
 ghost use Rattle.std.specs.Prelude.{◌≡◌, ◌≤◌, IfOk, length};
 ghost use Rattle.run_seq.specs.GicIdeal.ScnBase.declared.step.Mode.TheVariants.{Schedule};
 ghost use Rattle.run_seq.specs.GicIdeal.ScnBase.Good.{IsGood};
-ghost use Rattle.saved_take.specs.Taken.{saved_of};
+ghost use Rattle.eager_rest.specs.LawSavesGoOn.SavedTake.Taken.{saved_of};
 ghost use Rattle.eager_rest.specs.LawSavesGoOn.Resume.{reached};
 
+use eager_rest::check::Saved;
+use eager_rest::saved;
 use run_seq::{NoMemory, Scenario, SeqPort, Start, run_from, states_of};
-use saved_take::{Saved, saved};
 use std::alloc::Global;
 use std::sync::Wait;
 

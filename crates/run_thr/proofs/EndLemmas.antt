@@ -130,7 +130,7 @@ module _ (scenario : Scenario) (words : List WordsTold) (devices : List DeviceTo
           own_is = sym (trip_steps p trip e);
           gone =
               subst Gone registers
-              (let so : Gone scenario.lrs = record { parts = gone.parts; adds = gone.adds; registers = gone.registers; on = gone.on; are = gone.are; proper = gone.proper; calls_are = gone.calls_are ∙ sym calls; followed = tt } in so);
+              (let so : Gone scenario.lrs = record { parts = gone.parts; adds = gone.adds; registers = gone.registers; on = gone.on; sent = gone.sent; are = gone.are; proper = gone.proper; calls_are = gone.calls_are ∙ sym calls; followed = tt } in so);
           empty = λ vcpu. is_trip.off.empty;
           settled = is_trip.off.settled;
         })
@@ -164,7 +164,7 @@ module _ (scenario : Scenario) (words : List WordsTold) (devices : List DeviceTo
           own_is = sym (device_steps p device e);
           gone =
               subst Gone registers
-              (let so : Gone 0 = record { parts = gone.parts; adds = gone.adds; registers = gone.registers; on = gone.on; are = gone.are; proper = gone.proper; calls_are = gone.calls_are ∙ sym calls; followed = tt } in so);
+              (let so : Gone 0 = record { parts = gone.parts; adds = gone.adds; registers = gone.registers; on = gone.on; sent = gone.sent; are = gone.are; proper = gone.proper; calls_are = gone.calls_are ∙ sym calls; followed = tt } in so);
           empty = λ vcpu. absurd (true≢false (sym vcpu ∙ none));
           settled = is_device.ready.settled;
         })

@@ -16,4 +16,4 @@ received first mid new vcpus count device op all there at is does =
     let is_actor : actor ≡ first.guest.shape.vcpus + device = ap (λ n. n + device) all in
     let so = subst (λ (told : GuestTold). DoesEvent (seen_of told) (seen_of new) op) is does in
     subst (λ n. GoesOn (HaveCall n (Device op) None) first new vcpus vcpus) is_actor
-    (device_goes first new vcpus actor op so.part (omega (arith, all)) (omega (arith, all, there)) at so.done)
+    (device_goes first new vcpus actor op (omega (arith, all)) (omega (arith, all, there)) at so)

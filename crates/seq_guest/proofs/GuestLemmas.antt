@@ -1,7 +1,7 @@
 -- The vCPUs and the devices of a guest, one after the other.
-use Rattle.std.proofs.Common.{◌≡◌, ◌≢◌, ℕ, ◌+◌, ◌<◌, ◌≤◌, IsTrue, List, [], ◌∷◌, ◌++◌, map, length, set, get_or, All, if◌then◌else◌, Option, Some, None, inl, inr, append-nil, refl, sym, ap, subst, ◌∙◌, arith}
+use Rattle.std.proofs.Common.{◌≡◌, ◌≢◌, ℕ, ◌+◌, ◌<◌, ◌≤◌, IsTrue, List, [], ◌∷◌, ◌++◌, map, length, set, get_or, nat_lt, All, if◌then◌else◌, Option, Some, None, inl, inr, append-nil, refl, sym, ap, subst, ◌∙◌, arith}
 use Rattle.std.specs.Prelude.{slice_get}
-use Rattle.std.proofs.lemmas.Bool.{cases_eq, le-ltb, lt-ltb}
+use Rattle.std.proofs.lemmas.Bool.{both_ways, cases_eq, le-ltb, lt-ltb}
 use Rattle.std.proofs.lemmas.List.{length-set, append_assoc}
 use Rattle.std.proofs.lemmas.List.Elements.{All-nil, All-cons, All-head, All-tail, All-append}
 use Rattle.std.proofs.lemmas.List.Sums.{fold-append}
@@ -10,20 +10,21 @@ use Rattle.std.proofs.lemmas.Option.{slice_get_within, slice_get_read}
 use Rattle.guest_end.specs.Words.{DeviceOp, GuestShape}
 use Rattle.guest_end.specs.Calls.{Operation, Device}
 use Rattle.guest_end.specs.IdealGuests.declared.guest.IdealGuest.{IdealGuest}
-use Rattle.pe_place.specs.Core.{Made, actor_count, Seen, Adds, seen_after, local_by, Seat, IsAtRest, MakesCall, entry_by, Progress, progressed, progress_of, IsProper, is_settled}
+use Rattle.pe_place.specs.Core.{Made, actor_count, Seen, Adds, seen_after, local_by, Seat, IsAtRest, entry_by, Progress, progressed, progress_of, IsProper, is_settled}
 use Rattle.port_seq.proofs.PortCore.PortLemmas.{local_joins}
 use Rattle.pe_place.proofs.CoreProper.PartLemmas.{proper_append}
 use Rattle.pe_place.proofs.CoreProper.RestLemmas.{rests_again}
 use Rattle.port_seq.specs.Told.{GuestTold, seen_of}
-use Rattle.pe_place.specs.DevPort.Device.{CanCall, IsDevicePart}
+use Rattle.pe_place.specs.DevPort.Device.{CanCall}
+use Rattle.pe_place.specs.Device.{DoesEvent}
 use Rattle.law_entries_are_plans.specs.LawSerialIsEager.Serial.{WholePart}
 use Rattle.pe_place.specs.declared.place.Place.{Place}
 use Rattle.seq_guest.specs.declared.vcpus.Vcpus.{Vcpus}
-use Rattle.pe_place.specs.Parts.{Part, by_actor, steps_in, acts_of, acts_in, entries_in, parts_by, progress_after, IsCallFound, AreCalls, IsSeatAfter, IsOfGuest, AreOneCall, AreResidences, HaveCall}
+use Rattle.pe_place.specs.Parts.{Part, by_actor, steps_in, acts_of, acts_in, entries_in, parts_by, progress_after, AreCalls, IsSent, IsSeatAfter, IsOfGuest, AreOneCall, AreResidences, HaveCall}
 use Rattle.pe_place.specs.Place.{IsAt, IsFollowed, HasRegisters}
 use Rattle.pe_place.specs.Moves.{Moves}
 use Rattle.seq_guest.specs.Guest.{seen_by, AreAt, AreFollowed, IsSameGuest, GoesOn}
-use Rattle.pe_place.proofs.FoundLemmas.{device_call}
+use Rattle.pe_place.proofs.FoundLemmas.{device_found}
 use Rattle.pe_place.proofs.FrameLemmas.{at_same, followed_same, rest_same}
 use Rattle.pe_place.proofs.KindLemmas.{residences_none, residences_join, call_one, call_last, call_before}
 use Rattle.pe_place.proofs.MoveLemmas.{calls_join}
@@ -101,7 +102,11 @@ formed_one : (shape : GuestShape) (lrs vcpu : ℕ) (parts : List Part) → vcpu 
 formed_one shape lrs vcpu [] there all = All-nil (IsOfGuest shape lrs)
 formed_one shape lrs vcpu (part ∷ parts) there all =
     All-cons (IsOfGuest shape lrs) (by_actor vcpu part) (map (by_actor vcpu) parts)
-    (record { there = omega (arith, there); lrs_is = All-head (λ (part : Part). part.lrs ≡ lrs) part parts all ∙ ap (λ b. if b then lrs else 0) (sym (lt-ltb vcpu shape.vcpus there)) })
+    (record {
+      there = omega (arith, there);
+      lrs_is = All-head (λ (part : Part). part.lrs ≡ lrs) part parts all ∙ ap (λ b. if b then lrs else 0) (sym (lt-ltb vcpu shape.vcpus there));
+      sent = λ device. absurd (both_ways (nat_lt vcpu shape.vcpus) device (lt-ltb vcpu shape.vcpus there));
+    })
     (formed_one shape lrs vcpu parts there (All-tail (λ (part : Part). part.lrs ≡ lrs) part parts all))
 
 pub one_goes :
@@ -276,16 +281,13 @@ goes_about actor operation answer one two three four a b d e first call second =
 unfoldable device_part : DeviceOp → List Made → Part
 device_part op steps = record { operation = Device op; lrs = 0; steps = steps; answer = None }
 
-device_found : (seen : Seen) (op : DeviceOp) (steps : List Made) → MakesCall seen steps (Device op) None → IsCallFound seen (device_part op steps)
-unfolding device_part
-device_found seen op steps made = record { made = made; found = device_call seen op steps None made }
+device_formed : (shape : GuestShape) (lrs actor : ℕ) (part : Part) → shape.vcpus ≤ actor → actor < actor_count shape → part.lrs ≡ 0 → IsSent shape part.operation part.steps → IsOfGuest shape lrs (by_actor actor part)
+device_formed shape lrs actor part past there none sent = record { there = there; lrs_is = none ∙ ap (λ b. if b then lrs else 0) (sym (le-ltb actor shape.vcpus past)); sent = λ device. sent }
 
-device_formed : (shape : GuestShape) (lrs actor : ℕ) (part : Part) → shape.vcpus ≤ actor → actor < actor_count shape → part.lrs ≡ 0 → IsOfGuest shape lrs (by_actor actor part)
-device_formed shape lrs actor part past there none = record { there = there; lrs_is = none ∙ ap (λ b. if b then lrs else 0) (sym (le-ltb actor shape.vcpus past)) }
-
-pub device_goes : (told new : GuestTold) (vcpus : Vcpus) (actor : ℕ) (op : DeviceOp) (part : List Made) → told.guest.shape.vcpus ≤ actor → actor < actor_count told.guest.shape → AreAt told vcpus → IsDevicePart (seen_by told actor) (seen_of new) op part → GoesOn (HaveCall actor (Device op) None) told new vcpus vcpus
+pub device_goes : (told new : GuestTold) (vcpus : Vcpus) (actor : ℕ) (op : DeviceOp) → told.guest.shape.vcpus ≤ actor → actor < actor_count told.guest.shape → AreAt told vcpus → DoesEvent (seen_by told actor) (seen_of new) op → GoesOn (HaveCall actor (Device op) None) told new vcpus vcpus
 unfolding device_part
-device_goes told new vcpus actor op part past there at does =
+device_goes told new vcpus actor op past there at does =
+    let part = does.part in
     let old : GuestTold = record told { actor = actor } in
     let later = is_later old new part does.adds in
     let shape = ap (λ (guest : IdealGuest). guest.shape) later.same.guest in
@@ -313,10 +315,10 @@ device_goes told new vcpus actor op part past there at does =
           };
       parts = all;
       are = call_one actor (device_part op part);
-      formed = All-cons (IsOfGuest told.guest.shape vcpus.lrs) (by_actor actor (device_part op part)) [] (device_formed told.guest.shape vcpus.lrs actor (device_part op part) past there refl) (All-nil (IsOfGuest told.guest.shape vcpus.lrs));
+      formed = All-cons (IsOfGuest told.guest.shape vcpus.lrs) (by_actor actor (device_part op part)) [] (device_formed told.guest.shape vcpus.lrs actor (device_part op part) past there refl does.sent) (All-nil (IsOfGuest told.guest.shape vcpus.lrs));
       world = later.world ∙ ap (λ entries. told.world ++ entries) (ap (map (entry_by actor)) (sym (append-nil part)) ∙ sym (entries_of_one actor parts));
       seats = seats_one old new parts adds;
-      calls = calls_one old parts (inl (device_found (seen_of old) op part does.call), tt);
+      calls = calls_one old parts (device_found (seen_of old) op part does.call, tt);
       proper = λ progress so other above.
           proper_one told.guest.shape actor other parts progress
           (subst (IsProper told.guest.shape actor (progress actor)) (sym (append-nil (acts_of (device_part op part)))) (does.proper (progress actor) (so.devices actor past there)));

@@ -2,14 +2,14 @@
 use Rattle.std.proofs.Common.{◌≡◌, ℕ, ◌<◌, suc, All, true, false, IsTrue, List, length, take, None, Some, refl, sym, ap, subst, ◌∙◌}
 use Rattle.std.specs.Prelude.{slice_get}
 use Rattle.std.proofs.Math.Logic.{∥∥₁_map}
-use Rattle.pe_place.specs.Core.{IsAtRest, Seen}
+use Rattle.pe_place.specs.Core.{IsAtRest, Seen, shape_of}
 use Rattle.pe_place.proofs.CoreProper.RestLemmas.{rests_again}
-use Rattle.gic_io.specs.Words.{DeviceOp}
+use Rattle.gic_io.specs.Words.{DeviceOp, GuestShape}
 use Rattle.port_table.specs.Calls.{Device, is_good_event}
 use Rattle.port_table.specs.PortOps.PortCore.IdealGuests.declared.guest.IdealGuest.{IdealGuest}
 use Rattle.pe_place.specs.Device.{DoesEvent}
-use Rattle.pe_place.specs.Parts.{Part}
-use Rattle.pe_place.proofs.FoundLemmas.{device_call}
+use Rattle.pe_place.specs.Parts.{IsSent, Part}
+use Rattle.pe_place.proofs.FoundLemmas.{device_found}
 use Rattle.port_table.specs.Told.{WordsTold, words_at}
 use Rattle.port_table.specs.ScnBase.declared.step.Step.{Step}
 use Rattle.pe_place.specs.DevPort.Device.{CanCall}
@@ -29,14 +29,15 @@ pub receives_more : (script : List DeviceOp) (first old new : Seen) (done : ℕ)
 receives_more script first old new done op there so does =
     let part : Part = record { operation = Device op; lrs = 0; steps = does.part; answer = None } in
     record {
-      actor = same_twice first old new so.actor (same_after old new does.part does.done.adds);
-      ready = does.done.after;
+      actor = same_twice first old new so.actor (same_after old new does.part does.adds);
+      ready = does.after;
       goes_on = λ from gone.
           let here = so.goes_on from gone in
           let calls = calls_received (take done script) in
+          let SentIn : GuestShape → Type 0 = λ shape. IsSent shape (Device op) does.part in
           subst (HasGone 0 from new (IsAtRest new)) (sym (received_more script done op there))
-          (goes_on_by 0 from old new (IsAtRest old) (IsAtRest new) calls part refl does.done.adds (record { made = does.done.call; found = device_call old op does.part None does.done.call }) does.done.proper
-          (λ p rest. rests_again old new p does.part (Device op) 0 None rest (does.done.proper p rest) does.done.adds) here);
+          (goes_on_by 0 from old new (IsAtRest old) (IsAtRest new) calls part refl (subst SentIn (ap shape_of here.adds.new_is) does.sent) does.adds (device_found old op does.part does.call) does.proper
+          (λ p rest. rests_again old new p does.part (Device op) 0 None rest (does.proper p rest) does.adds) here);
     }
 
 -- All of its script.

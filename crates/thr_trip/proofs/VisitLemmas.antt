@@ -1,5 +1,5 @@
 -- A vCPU enters a PE, does operations there, and leaves it.
-use Rattle.std.proofs.Common.{◌≡◌, ℕ, ◌<◌, ◌≤◌, All, IsTrue, List, [], ◌∷◌, ◌++◌, append-nil, length, length-append, Option, Some, refl, sym, ap, subst, ◌∙◌, arith}
+use Rattle.std.proofs.Common.{◌≡◌, ℕ, ◌<◌, ◌≤◌, All, IsTrue, List, [], ◌∷◌, ◌++◌, append-nil, length, length-append, Option, Some, inl, refl, sym, ap, subst, ◌∙◌, arith}
 use Rattle.std.specs.Prelude.{slice_get}
 use Rattle.std.proofs.Math.Logic.{∥∥₁_map}
 use Rattle.std.proofs.lemmas.Option.{slice_get_within}
@@ -61,7 +61,7 @@ operates_more script first old new start before after answered answers op answer
       goes_on = λ from gone.
           let here = so.goes_on from gone in
           subst (HasGone start.regs.n from new (IsRunning new after)) (sym (answered_more script answers op answer there))
-          (goes_on_by start.regs.n from old new (IsRunning old before) (IsRunning new after) (calls_answered script answers) part so.same.lrs does.adds (record { made = does.call; found = does.found }) does.proper does.goes_on here);
+          (goes_on_by start.regs.n from old new (IsRunning old before) (IsRunning new after) (calls_answered script answers) part so.same.lrs tt does.adds (inl (record { made = does.call; found = does.found })) does.proper does.goes_on here);
     }
 
 -- The entry before them, and the exit after them.
@@ -69,13 +69,13 @@ operates_more script first old new start before after answered answers op answer
 pub enters_by : (lrs : ℕ) (from old new : Seen) (vcpu : Shelved) (loaded : Loaded) (calls : List Made) → Enters old new vcpu lrs loaded → HasGone lrs from old (IsBetween old) calls → HasGone lrs from new (IsRunning new loaded) calls
 enters_by lrs from old new vcpu loaded calls enters gone =
     subst (HasGone lrs from new (IsRunning new loaded)) (append-nil calls)
-    (goes_on_by lrs from old new (IsBetween old) (IsRunning new loaded) calls (residence lrs enters.part) refl enters.adds (residence_found old lrs enters.part enters.call) enters.whole_part (λ p between. entry_runs old new vcpu lrs loaded enters p between) gone)
+    (goes_on_by lrs from old new (IsBetween old) (IsRunning new loaded) calls (residence lrs enters.part) refl tt enters.adds (inl (residence_found old lrs enters.part enters.call)) enters.whole_part (λ p between. entry_runs old new vcpu lrs loaded enters p between) gone)
 
 pub leaves_by : (lrs : ℕ) (from old new : Seen) (vcpu : Loaded) (shelved : Shelved) (calls : List Made) → vcpu.regs.n ≡ lrs → Leaves old new vcpu shelved → HasGone lrs from old (IsRunning old vcpu) calls → HasGone lrs from new (IsBetween new) calls
 leaves_by lrs from old new vcpu shelved calls lrs_is leaves gone =
     let n = vcpu.regs.n in
     subst (HasGone lrs from new (IsBetween new)) (append-nil calls)
-    (goes_on_by lrs from old new (IsRunning old vcpu) (IsBetween new) calls (residence n leaves.part) lrs_is leaves.adds (residence_found old n leaves.part leaves.call) (λ p run. (exit_rests old new n vcpu shelved leaves p run).proper)
+    (goes_on_by lrs from old new (IsRunning old vcpu) (IsBetween new) calls (residence n leaves.part) lrs_is tt leaves.adds (inl (residence_found old n leaves.part leaves.call)) (λ p run. (exit_rests old new n vcpu shelved leaves p run).proper)
     (λ p run. (exit_rests old new n vcpu shelved leaves p run).between) gone)
 
 -- A whole visit.

@@ -1,14 +1,14 @@
 //! A guest that opens as no scenario's does: level 31 is active with nothing active, a line is up that no device moves, and its
 //! queue runs with a command left in it. What it does then it does as the ideal controller, that opens so too.
 ghost use Rattle.std.specs.Prelude.{◌≡◌, ◌<◌, IsTrue, IfOk, IfSome};
-ghost use Rattle.dev_port.specs.Words.{has_interrupt, Spi};
+ghost use Rattle.gic_msi.specs.Words.{has_interrupt, Spi};
 ghost use Rattle.port_seq.specs.Calls.{IsGoodGuest, has_plain, is_stored};
 ghost use Rattle.port_seq.specs.IdealGuests.CanOpen.{CanOpen};
 ghost use Rattle.port_seq.specs.IdealGuests.Sound.{IsSound};
 ghost use Rattle.port_seq.specs.Ports.{told};
 
 use super::{Does, loads, reads, stay, stores, writes};
-use dev_port::Key;
+use gic_msi::Key;
 use port_rest::{one_guest, spi};
 use port_seq::{
     Answer, DeviceOp, Frame, GuestPort, GuestShape, GuestSpec, IccReg, IdealGuest, Mode, PlainWord,

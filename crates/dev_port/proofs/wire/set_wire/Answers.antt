@@ -1,6 +1,6 @@
 -- A step of the wire, and what it owes.
 use Rattle.std.proofs.Common.{◌≡◌, if◌then◌else◌, Ok, Err, ap, sym, subst, ◌∙◌}
-use Rattle.port_call.specs.Core.{CoreStep, AddsStep}
+use Rattle.its_exec.specs.Core.{CoreStep, AddsStep}
 use Rattle.dev_port.specs.Device.{wire_step}
 use Rattle.dev_port.proofs.CallLemmas.{other_level, wire_made}
 use Rattle.dev_port.proofs.wire.set_wire.Goals as goal

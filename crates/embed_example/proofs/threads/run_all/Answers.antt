@@ -1,5 +1,5 @@
 use Rattle.std.proofs.Common.{◌≡◌, ◌+◌, map, refl, sym, ap, subst, ◌∙◌}
-use Rattle.dev_port.specs.Words.{Vcpu, Device}
+use Rattle.gic_msi.specs.Words.{Vcpu, Device}
 use Rattle.port_table.specs.All.{told_words, told_root}
 use Rattle.port_table.specs.Ports.{seen_of}
 use Rattle.port_table.specs.Told.{AllDone, words_at, opening_root, joining_in, splitting}

@@ -1,6 +1,6 @@
 -- It is on its PE.
 use Rattle.std.proofs.Common.{sym, subst}
-use Rattle.dev_port.specs.Calls.{Access}
+use Rattle.gic_msi.specs.Calls.{Access}
 use Rattle.pe_place.specs.declared.place.Place.TheVariants.{Pe}
 use Rattle.pe_place.specs.Parts.{AreOneCall}
 use Rattle.pe_place.specs.Moves.{Moves}

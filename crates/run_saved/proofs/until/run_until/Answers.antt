@@ -3,8 +3,8 @@ use Rattle.std.specs.Prelude.{IfOk}
 use Rattle.std.proofs.Common.{◌≡◌, map, take, sym, ap, subst, ◌∙◌}
 use Rattle.std.proofs.lemmas.List.{length-map}
 use Rattle.eager_rest.specs.LawSavesGoOn.Resume.{reached}
-use Rattle.saved_take.specs.Run.{AreStatesOf}
-use Rattle.saved_take.specs.Taken.{saved_of}
+use Rattle.eager_rest.specs.LawSavesGoOn.SavedTake.Run.{AreStatesOf}
+use Rattle.eager_rest.specs.LawSavesGoOn.SavedTake.Taken.{saved_of}
 use Rattle.run_seq.specs.Calls.{shapes_of}
 use Rattle.run_seq.specs.GicIdeal.IdealGuests.Opening.{opening as opening_guest}
 use Rattle.run_seq.specs.GicIdeal.ScnBase.Standing.{ResidentsExist}

@@ -1,6 +1,6 @@
 -- The vCPU is on its PE.
 use Rattle.pe_op.specs.PeLoop.Stay.{IsUp}
-use Rattle.dev_port.specs.Core.{IsSameActor}
+use Rattle.gic_msi.specs.Core.{IsSameActor}
 use Rattle.embed_example.proofs.vcpu.Vcpu.run.Given as goal
 
 abbrev pub invariant-loop-number : goal.invariant-loop-number

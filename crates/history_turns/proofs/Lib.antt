@@ -1,0 +1,15 @@
+pub mod WalkLemmas
+pub mod RiseLemmas
+pub mod RiseLaw
+pub mod RiseCalls
+pub mod RisingLemmas
+pub mod NoteLemmas
+pub mod RisingLaw
+pub mod MayLaw
+pub mod RiseSteps
+pub mod JudgeLemmas
+pub mod SignalLemmas
+pub mod SignalLaw
+pub mod SignalCalls
+pub mod PlaceLaw
+pub mod SeenLaw

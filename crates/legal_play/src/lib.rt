@@ -1,0 +1,21 @@
+//! A plain program that keeps, as a list of moments goes on, which interrupts wait for an answer and what each actor made in its call: fresh at an
+//! acknowledge with no look ahead.
+#![tactic(auto)]
+
+mod answer;
+mod board;
+mod laws;
+mod may;
+mod passed;
+mod pieces;
+#[cfg(test)]
+mod rows;
+mod waiting;
+
+pub use answer::may_all_be_answered;
+pub use board::Board;
+pub use laws::{calls_are_followed, parts_are_all};
+pub use may::may_make;
+pub use passed::waits_after;
+pub use pieces::{no_pieces, note, piece_of};
+pub use waiting::Waiting;

@@ -1,0 +1,12 @@
+pub use Rattle.legal_lists.proofs.CourseLemmas
+pub use Rattle.legal_lists.proofs.EventLemmas
+pub use Rattle.legal_lists.proofs.GicCall
+pub use Rattle.legal_lists.proofs.GicHistory
+pub use Rattle.legal_lists.proofs.OpenLemmas
+pub use Rattle.legal_lists.proofs.PartLaw
+pub use Rattle.legal_lists.proofs.WholeLaw
+pub use Rattle.legal_lists.proofs.WorkedLemmas
+pub mod ListLemmas
+pub mod PassLaw
+pub mod WiderLemmas
+pub mod StepLaw

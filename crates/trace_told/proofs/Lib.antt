@@ -1,0 +1,10 @@
+pub use Rattle.history_calls.proofs.GicBase
+pub use Rattle.history_calls.proofs.GicCall
+pub mod PartLemmas
+pub mod VerdictLemmas
+pub mod ReadLemmas
+pub mod GivenLemmas
+pub mod ToldLemmas
+pub mod GoLemmas
+pub mod WorkedLemmas
+pub mod FaultlessLaw

@@ -1,0 +1,12 @@
+pub use Rattle.history_calls.specs.Calls
+pub use Rattle.history_calls.specs.Histories
+pub use Rattle.history_calls.specs.Registers
+pub use Rattle.history_calls.specs.Words
+pub use Rattle.history_calls.specs.GicCall
+pub use Rattle.history_calls.specs.LegalLists
+pub mod Given
+pub mod Told
+pub mod Untold
+pub mod Verdict
+pub mod Laws
+pub mod Worked

@@ -1,0 +1,19 @@
+//! What a trace says of the moments of a guest, and what its verdict is; and laws of both.
+#![tactic(auto)]
+
+mod event;
+mod fetch;
+mod given;
+mod laws;
+#[cfg(test)]
+mod rows;
+mod told;
+mod verdict;
+
+pub use event::{actor_of, operation_of};
+pub use laws::{
+    only_reads_are_put_in, parts_can_be, told_ones_are_faultless, traces_are_judged, traces_go_on,
+    verdicts_are_one, whole_ones_are_fresh,
+};
+pub use told::moments_told;
+pub use verdict::Verdict;
