@@ -38,7 +38,7 @@ pub record IsCallFound (seen : Seen) (part : Part) : Type 0 where
 abbrev pub IsPartFound : Seen → Part → Type 0
 IsPartFound seen part = IsCallFound seen part ⊎ MakesPost seen part.steps part.operation part.answer
 
--- the part of a message to the ITS: through its translation line, or by the ITS
+-- the part of a message to the ITS goes one of its ways: through its translation line, or by the ITS
 abbrev pub IsSentBy : GuestShape → DeviceOp → List Made → Type 0
 IsSentBy shape (Msi device event) steps = IsMessage shape device event steps
 IsSentBy shape op steps = Unit {0}
@@ -48,7 +48,7 @@ abbrev pub IsSent : GuestShape → Operation → List Made → Type 0
 IsSent shape (Device op) steps = IsSentBy shape op steps
 IsSent shape operation steps = Unit {0}
 
--- so is each of them
+-- some parts, one after the other, are each found to be its call
 abbrev pub AreCalls : Seen → List Part → Type 0
 AreCalls seen [] = Unit {0}
 AreCalls seen (part ∷ parts) = IsPartFound seen part × AreCalls (seen_after seen part.steps) parts
