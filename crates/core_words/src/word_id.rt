@@ -159,6 +159,7 @@ pub fn word_count(shape: &GuestShape) -> usize
 }
 
 /// The place of a word among all of the guest's, from 0.
+#[inline(always)]
 pub fn place_of_word(word: WordId, shape: &GuestShape) -> usize
     requires shape { IsShape shape.now }
     requires there { IsTrue (has_word shape.now word) }

@@ -273,6 +273,7 @@ impl Local {
 
     /// The actor's own state after a step of it that found its word so: a step of the guest, on a valid word that
     /// agrees with that state. No step copies the state.
+    #[inline(always)]
     pub fn advance(&mut self, step: &CoreStep, found: u64, actor: u32, shape: &GuestShape)
         requires shape { IsShape shape.now }
         requires can { CanStep shape.now actor step.now }

@@ -211,6 +211,7 @@ impl Local {
 
     /// The one atomic operation that makes a step of an actor: of the guest, on what the actor's steps before found
     /// or left. It takes no memory.
+    #[inline(always)]
     pub fn operation(&self, step: &CoreStep, actor: u32, shape: &GuestShape) -> Atomic
         requires shape { IsShape shape.now }
         requires actor { actor < actor_count shape.now }

@@ -125,6 +125,7 @@ pub enum CoreStep {
 
 impl CoreStep {
     /// The word that a step of an actor is on.
+    #[inline(always)]
     pub fn word(&self, actor: u32, shape: &GuestShape) -> WordId
         requires shape { IsShape shape.now }
         requires can { CanStep shape.now actor self.now }

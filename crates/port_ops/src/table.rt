@@ -24,6 +24,7 @@ impl<S, V, T: Tells<S, V>> Play<S, V> for Telling<T> {
 
 /// Does one atomic operation on the word at a place, through a seat, under any rule that allows the word to become what
 /// the operation leaves of it. It answers the word as it was, and takes no memory.
+#[inline(always)]
 pub fn operate<S, V, K, P: TableRule<S, V, K>, T: Tells<S, V>>(
     table: &Shared<S, V, K, P>,
     seat: &mut Seat<S, V>,

@@ -90,6 +90,7 @@ impl GuestPort {
     }
 
     /// Makes a step of the actor that is told, and answers the word that it found.
+    #[inline(always)]
     pub(crate) fn make(&mut self, step: CoreStep) -> u64
         requires { CanMake (seen_of (told self.old)) step }
         ensures run { IsRun (told self.old).guest.shape (opening (told self.old).guest (told self.old).number) (told self.old).world }

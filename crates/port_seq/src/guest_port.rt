@@ -28,6 +28,7 @@ impl Port for GuestPort {
         self.own_local()
     }
 
+    #[inline(always)]
     fn step(&mut self, step: CoreStep) -> u64 {
         self.make(step)
     }

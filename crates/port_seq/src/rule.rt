@@ -34,6 +34,7 @@ impl<D: Doing> Tells<(), ListOf<Entry>> for Making<D> {
 }
 
 /// Makes a step, of which the proof has picked the names.
+#[inline(always)]
 fn make_as<D: Doing>(
     table: &Shared<(), ListOf<Entry>, Opened, OneThread>,
     seat: &mut Seat<(), ListOf<Entry>>,
@@ -58,6 +59,7 @@ fn make_as<D: Doing>(
 }
 
 /// Makes a step of an actor of a guest by its one atomic operation, and answers the word that it found.
+#[inline(always)]
 pub(crate) fn make(
     table: &Shared<(), ListOf<Entry>, Opened, OneThread>,
     seat: &mut Seat<(), ListOf<Entry>>,

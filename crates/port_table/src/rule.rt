@@ -43,6 +43,7 @@ impl<D: Doing> Tells<Option<ItsTables>, View> for Making<D> {
 }
 
 /// Makes a step, of which the proof has picked the names.
+#[inline(always)]
 fn make_as<D: Doing>(
     table: &Words,
     seat: &mut Place,
@@ -71,6 +72,7 @@ fn make_as<D: Doing>(
 }
 
 /// Makes a step of an actor of a guest by its one atomic operation, and answers the word that it found.
+#[inline(always)]
 pub(crate) fn make(
     table: &Words,
     seat: &mut Place,

@@ -28,6 +28,7 @@ impl<'a> Port for TablePort<'a> {
         &self.local
     }
 
+    #[inline(always)]
     fn step(&mut self, step: CoreStep) -> u64 {
         let shape = self.shape;
         let actor = self.actor;
