@@ -1,18 +1,17 @@
 -- The index stays exact as a record is put in the place of another, and as one more is looked at.
-use Rattle.std.proofs.Common.{◌≡◌, ◌≢◌, ℕ, zero, suc, ◌+◌, ◌<◌, ◌≤◌, Bool, true, false, cond, is_some, Some, None, Option, IfNone, List, [], ◌∷◌, length, slice_get, slice_set, slice_index, set, get_or, refl, sym, ap, ◌∙◌, subst, true≢false, ◌⊎◌, inl, inr, arith}
+use Rattle.std.proofs.Common.{◌≡◌, ◌≢◌, ℕ, ◌+◌, ◌<◌, ◌≤◌, Bool, true, false, cond, is_some, Some, None, Option, IfNone, List, [], length, slice_get, slice_set, set, get_or, refl, sym, ap, ◌∙◌, subst, true≢false, arith}
 use Rattle.std.specs.Ordering.{nat_cmp}
 use Rattle.std.specs.Cmp.{nat_cmp_total}
 use Rattle.std.specs.List.{AllByRecursion}
 use Rattle.std.specs.List.Sorted.{IsStrictlySortedBy}
-use Rattle.std.specs.Map.{lookup, keys_of, remove_entry}
-use Rattle.std.specs.BTreeMap.{is_at, insert_entry}
+use Rattle.std.specs.Map.{lookup, keys_of}
+use Rattle.std.specs.BTreeMap.{is_at}
 use Rattle.std.specs.Option.{option_map_or}
 use Rattle.std.proofs.lemmas.List.{get_or-set_same, get_or-set_other, length-set}
 use Rattle.std.proofs.lemmas.Option.{slice_get-get_or}
 use Rattle.floor_words.specs.Words.{Irq, is_pending}
-use Rattle.its_tab.proofs.MapLemmas.{lookup-insert_entry, lookup-removed, sorted-insert, sorted-remove}
-use Rattle.its_tab.proofs.RoomLemmas.{all_put, all_taken, room_for}
-use Rattle.its_tab.proofs.IndexLemmas.{same_number}
+use Rattle.sorted_pairs.proofs.MapLemmas.{same_number, lookup-insert_entry, lookup-removed, sorted-insert, sorted-remove}
+use Rattle.sorted_pairs.proofs.RoomLemmas.{all_put, all_taken, room_for}
 use Rattle.irq_records.specs.Pending.{is_pending_at}
 use Rattle.irq_records.specs.Index.{marked, is_listed, IsIndex, IsKept}
 use Rattle.irq_records.proofs.PlaceLemmas.{at_itself, weaker}

@@ -1,5 +1,5 @@
 -- What the index lists is what is pending.
-use Rattle.std.proofs.Common.{◌≡◌, ◌≢◌, ℕ, zero, suc, ◌+◌, ◌<◌, ◌≤◌, Bool, true, false, cond, is_some, Some, None, Option, List, [], ◌∷◌, length, map, slice_get, slice_index, get_or, refl, sym, ap, ◌∙◌, subst, true≢false, ◌⊎◌, inl, inr, arith}
+use Rattle.std.proofs.Common.{◌≡◌, ℕ, zero, suc, ◌+◌, ◌<◌, ◌≤◌, Bool, true, false, cond, is_some, Some, None, List, [], ◌∷◌, length, slice_index, get_or, refl, sym, ap, ◌∙◌, ◌⊎◌, inl, inr, arith}
 use Rattle.std.specs.declared.cmp.Ordering.TheVariants.{Less, Equal, Greater}
 use Rattle.std.specs.Ordering.{nat_cmp, is_eq}
 use Rattle.std.specs.Cmp.{nat_cmp_total, ranked, tied_itself}
@@ -8,9 +8,9 @@ use Rattle.std.specs.List.Sorted.{IsStrictlySortedBy}
 use Rattle.std.specs.Map.{lookup, keys_of}
 use Rattle.std.specs.BTreeMap.{is_at}
 use Rattle.floor_words.specs.Words.{Irq}
-use Rattle.its_tab.proofs.IndexLemmas.{same_number}
+use Rattle.sorted_pairs.proofs.MapLemmas.{same_number}
 use Rattle.irq_records.specs.Pending.{is_pending_at, pending_places}
-use Rattle.irq_records.specs.Index.{is_listed, IsIndex}
+use Rattle.irq_records.specs.Index.{IsIndex}
 
 pub at_itself : (n : ℕ) → is_at (nat_cmp n) n ≡ true
 at_itself n = ap is_eq (tied_itself nat_cmp_total n)

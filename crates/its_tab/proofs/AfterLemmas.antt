@@ -19,7 +19,7 @@ use Rattle.its_tab.specs.declared.fault.CmdFault.{CmdFault}
 use Rattle.its_tab.specs.Maps.{Maps, event_cmp, at_number, bits_of, pair_of, owner_of, first_event, with_device, with_event, with_collection, without_device, without_event, without_collection, IsSound}
 use Rattle.its_tab.specs.Fault.{first_fault, is_past_device, is_of_other, is_wrong_id, on_mapping, faults}
 use Rattle.its_tab.specs.After.{without_events, recollected, IsValid, GoodCommandsKeepMaps}
-use Rattle.its_tab.proofs.MapLemmas.{equal_from_test, keys_of-filter, lookup-insert_entry, lookup-removed, sorted-insert, sorted-remove}
+use Rattle.sorted_pairs.proofs.MapLemmas.{equal_from_test, keys_of-filter, lookup-insert_entry, lookup-removed, sorted-insert, sorted-remove}
 use Rattle.its_tab.proofs.TableLemmas.{same_event, put_or_there, was_there, pair_of-with_event, pair_of-without_event, sound-with_event, sound-without_event, sound-with_device, sound-without_device, not_of_device}
 use Rattle.its_tab.proofs.SearchLemmas.{OwnerFacts, owner_facts}
 

@@ -6,10 +6,9 @@ use Rattle.std.specs.Cmp.{tied_itself, nat_cmp_total}
 use Rattle.std.specs.Map.{lookup, keys_of, remove_entry}
 use Rattle.std.specs.List.Sorted.{IsStrictlySortedBy}
 use Rattle.std.specs.BTreeMap.{is_at, insert_entry}
-use Rattle.std.proofs.lemmas.Map.Lookups.{exact_unsigned}
 use Rattle.std.proofs.lemmas.Option.{none-some, same_Some}
 use Rattle.its_tab.specs.Maps.{Maps, event_cmp, pair_of, id_of, bits_of, owner_of, with_event, without_event, IsSound, IsIndex, IsIndexed}
-use Rattle.its_tab.proofs.MapLemmas.{equal_from_test, lookup-insert_entry, lookup-removed, sorted-insert, sorted-remove}
+use Rattle.sorted_pairs.proofs.MapLemmas.{same_number, lookup-insert_entry, lookup-removed, sorted-insert, sorted-remove}
 use Rattle.its_tab.proofs.TableLemmas.{event_order, same_event, sound-with_event, sound-without_event}
 use Rattle.its_tab.proofs.SearchLemmas.{OwnerFacts, owner_facts, pair_from_id}
 
@@ -51,9 +50,6 @@ at_itself event = ap is_eq (tied_itself event_order event)
 
 apart : (event other : ℕ × ℕ) → is_at (event_cmp event) other ≡ false → event ≢ other
 apart event other t same = true≢false (sym (at_itself event) ∙ ap (λ e. is_at (event_cmp event) e) same ∙ t)
-
-pub same_number : (x y : ℕ) → is_at (nat_cmp x) y ≡ true → x ≡ y
-same_number x y t = exact_unsigned x y (equal_from_test (nat_cmp x y) t)
 
 other_number : (x y : ℕ) → is_at (nat_cmp x) y ≡ false → x ≢ y
 other_number x y t same = true≢false (sym (ap is_eq (tied_itself nat_cmp_total x)) ∙ ap (λ n. is_at (nat_cmp x) n) same ∙ t)

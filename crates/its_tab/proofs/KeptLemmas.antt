@@ -13,10 +13,10 @@ use Rattle.its_tab.specs.Maps.{Maps, event_cmp, bits_of, pair_of, owner_of, firs
 use Rattle.its_cmd.specs.Words.{GuestShape}
 use Rattle.its_tab.specs.After.{IsValid}
 use Rattle.its_tab.specs.Room.{Room, IsLpi, IsEnough, Fit, IsKept}
-use Rattle.its_tab.proofs.MapLemmas.{lookup-insert_entry, sorted-insert, sorted-remove}
-use Rattle.its_tab.proofs.RoomLemmas.{found_count, length-put, length-taken, all_put, all_taken, room_for}
+use Rattle.sorted_pairs.proofs.MapLemmas.{same_number, lookup-insert_entry, sorted-insert, sorted-remove}
+use Rattle.sorted_pairs.proofs.RoomLemmas.{found_count, length-put, length-taken, all_put, all_taken, room_for}
 use Rattle.its_tab.proofs.TableLemmas.{event_order, sound-with_device, sound-without_device}
-use Rattle.its_tab.proofs.IndexLemmas.{indexed-put, indexed-moved, indexed-taken, owner_missing, owner_missing_other, owner_there, same_number}
+use Rattle.its_tab.proofs.IndexLemmas.{indexed-put, indexed-moved, indexed-taken, owner_missing, owner_missing_other, owner_there}
 
 from_zero : (high : ℕ) (ks : List ℕ) → AllByRecursion (λ y. y < high) ks → AllByRecursion (λ y. (0 ≤ y) × (y < high)) ks
 from_zero high [] h = tt

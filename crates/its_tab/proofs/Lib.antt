@@ -1,5 +1,4 @@
-pub mod MapLemmas
-pub mod RoomLemmas
+pub use Rattle.sorted_pairs.proofs.MapLemmas
 pub mod TableLemmas
 pub mod SearchLemmas
 pub mod AfterLemmas

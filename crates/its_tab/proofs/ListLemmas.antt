@@ -14,8 +14,7 @@ use Rattle.std.proofs.lemmas.Map.Views.{Contains-keys_from_lookup}
 use Rattle.std.proofs.lemmas.Bool.{eqb-true, eq-eqb}
 use Rattle.its_tab.specs.Maps.{Maps, pair_of, target_of, owner_of, IsIndex, IsIndexed}
 use Rattle.its_tab.specs.Collection.{collection_of, has_target}
-use Rattle.its_tab.proofs.MapLemmas.{keys_of-filter}
-use Rattle.its_tab.proofs.IndexLemmas.{same_number}
+use Rattle.sorted_pairs.proofs.MapLemmas.{keys_of-filter, same_number}
 
 module _ (p : ℕ → Bool) (whole ids : List ℕ) (id : ℕ) (rest left : List ℕ) (so_far : filter p whole ≡ ids ++ filter p left) (is : left ≡ id ∷ rest) where
   split : filter p whole ≡ ids ++ cond (p id) (id ∷ filter p rest) (filter p rest)

@@ -14,7 +14,7 @@ use Rattle.std.proofs.lemmas.Map.Keys.{ge_from_not_lt}
 use Rattle.std.proofs.lemmas.Bool.{eqb-true, eq-eqb}
 use Rattle.std.proofs.lemmas.Option.{none-some, same_Some}
 use Rattle.its_tab.specs.Maps.{Maps, event_cmp, pair_of, id_of, owner_of, first_event, IsSound}
-use Rattle.its_tab.proofs.MapLemmas.{lookup-found, lookup-unfound, lookup-no_key, not_before_found}
+use Rattle.sorted_pairs.proofs.MapLemmas.{lookup-found, lookup-unfound, lookup-no_key, not_before_found}
 use Rattle.its_tab.proofs.TableLemmas.{event_order, same_event}
 
 zero_first : (r : Ordering) (n : ℕ) → r ≡ nat_cmp 0 n → is_le r ≡ true

@@ -8,7 +8,7 @@ use Rattle.std.specs.BTreeMap.{is_at}
 use Rattle.std.proofs.lemmas.Map.Lookups.{exact_pairs, exact_unsigned}
 use Rattle.std.proofs.lemmas.Option.{none-some, same_Some}
 use Rattle.its_tab.specs.Maps.{Maps, event_cmp, bits_of, pair_of, owner_of, first_event, with_device, with_event, without_device, without_event, IsSound}
-use Rattle.its_tab.proofs.MapLemmas.{equal_from_test, lookup-insert_entry, lookup-removed, lookup-found, lookup-unfound, lookup-no_key, sorted-insert, sorted-remove}
+use Rattle.sorted_pairs.proofs.MapLemmas.{equal_from_test, lookup-insert_entry, lookup-removed, lookup-found, lookup-unfound, lookup-no_key, sorted-insert, sorted-remove}
 
 pub event_order : IsTotalOrder event_cmp
 event_order = then_total (on_total (λ (x : ℕ × ℕ). x.0) nat_cmp_total) (on_total (λ (x : ℕ × ℕ). x.1) nat_cmp_total)

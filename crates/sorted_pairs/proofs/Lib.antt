@@ -1,1 +1,3 @@
+pub mod MapLemmas
+pub mod RoomLemmas
 pub mod PlaceLemmas

@@ -1,4 +1,4 @@
-use Rattle.std.proofs.Common.{◌<◌, length, ap, subst, arith}
+use Rattle.std.proofs.Common.{length, arith}
 use Rattle.irq_records.proofs.IndexLemmas.{index_more, index_none, pending_there, room_at}
 use Rattle.irq_records.proofs.IrqRecords.of.Goals as goal
 

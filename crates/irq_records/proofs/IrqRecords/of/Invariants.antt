@@ -1,4 +1,4 @@
-use Rattle.std.proofs.Common.{◌≡◌, ◌≤◌, ◌<◌, length}
+use Rattle.std.proofs.Common.{◌≡◌, ◌≤◌, length}
 use Rattle.std.specs.VecDeque.{deque_capacity}
 use Rattle.irq_records.specs.Index.{IsIndex}
 use Rattle.irq_records.proofs.IrqRecords.of.Given as goal

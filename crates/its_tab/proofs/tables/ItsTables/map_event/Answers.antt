@@ -3,7 +3,7 @@ use Rattle.std.specs.Ordering.{nat_cmp}
 use Rattle.std.specs.Cmp.{nat_cmp_total}
 use Rattle.std.specs.List.Sorted.{IsStrictlySortedBy}
 use Rattle.std.specs.Map.{keys_of}
-use Rattle.its_tab.proofs.MapLemmas.{sorted-insert}
+use Rattle.sorted_pairs.proofs.MapLemmas.{sorted-insert}
 use Rattle.its_tab.proofs.KeptLemmas.{owner_room, event_room, kept-put, kept-moved}
 use Rattle.its_tab.proofs.tables.ItsTables.map_event.Goals as goal
 

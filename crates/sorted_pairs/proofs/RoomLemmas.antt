@@ -1,4 +1,4 @@
--- What is mapped fits the room that the tables have.
+-- How many entries a map has after a change, and that there is room where the keys are below a bound.
 use Rattle.std.proofs.Common.{◌≡◌, ℕ, suc, ◌+◌, ◌<◌, ◌≤◌, Bool, true, false, cond, Some, None, Option, List, [], ◌∷◌, length, refl, sym, ap, ◌∙◌, arith}
 use Rattle.std.specs.declared.cmp.Ordering.{Ordering}
 use Rattle.std.specs.declared.cmp.Ordering.TheVariants.{Less, Equal, Greater}
@@ -8,7 +8,7 @@ use Rattle.std.specs.List.{AllByRecursion}
 use Rattle.std.specs.List.Sorted.{IsStrictlySortedBy}
 use Rattle.std.specs.Map.{lookup, keys_of, remove_entry}
 use Rattle.std.specs.BTreeMap.{is_at, insert_entry}
-use Rattle.its_tab.proofs.MapLemmas.{sorted-insert}
+use Rattle.sorted_pairs.proofs.MapLemmas.{sorted-insert}
 
 -- how many values were found
 abbrev pub found_count : {X : Type 0} → Option X → ℕ
