@@ -92,10 +92,10 @@ def split(tokens, mark):
 
 
 class Source:
-    """A file: its tokens, its constants with their types, its macros, and from which file of the crate each name comes that it uses."""
+    """A file: its tokens, its constants with their types, its macros, and from which crate, and which file there, each name comes that it uses."""
 
-    def __init__(self, crate, text):
-        self.crate = crate
+    def __init__(self, crates, crate, text):
+        self.crates, self.crate = crates, crate
         self.tokens = tokens_of(text)
         self.constants, self.types, self.macros, self.imports = {}, {}, {}, {}
         for at, token in enumerate(self.tokens):
@@ -103,7 +103,7 @@ class Source:
                 self._add_constant(at + 1)
             elif token == ("name", "macro_rules"):
                 self._add_macro(at + 2)
-            elif token == ("name", "use") and self.tokens[at + 1] == ("name", "crate"):
+            elif token == ("name", "use"):
                 self._add_imports(at + 1)
 
     def _add_constant(self, at):
@@ -117,26 +117,31 @@ class Source:
         self.macros[self.tokens[at][1]] = [(arm[1:end_of(arm, 0)], arm[end_of(arm, 0) + 4:-1]) for arm in arms]
 
     def _add_imports(self, at):
-        names = [value for kind, value in self.tokens[at + 1:find(self.tokens, at, ";")] if kind == "name"]
-        for name in names[1:]:
-            self.imports[name] = names[0]
+        used = self.tokens[at:find(self.tokens, at, ";")]
+        opening = next((place for place in range(len(used)) if is_mark(used, place, "{")), len(used) - 1)
+        path = [value for kind, value in used[:opening] if kind == "name"]
+        for kind, name in used[opening:]:
+            if kind == "name":
+                self.imports[name] = path
 
     def constant(self, name):
         """The value of a constant that the file has or uses."""
-        if name in self.constants:
-            return self.value(self.constants[name])
-        return self._owner(name).constant(name)
+        owner = self if name in self.constants else self._owner(name, "constants")
+        return owner.value(owner.constants[name])
 
     def macro(self, name):
         """The arms of a macro that the file has or uses, and the file that has it."""
-        if name in self.macros:
-            return self.macros[name], self
-        return self._owner(name).macro(name)
+        owner = self if name in self.macros else self._owner(name, "macros")
+        return owner.macros[name], owner
 
-    def _owner(self, name):
-        if self.imports.get(name) not in self.crate:
-            raise NoData(f"{name} is not here")
-        return self.crate[self.imports[name]]
+    def _owner(self, name, kind):
+        """The file that has a name that is used: the one of its path, or where that names a crate alone any of it."""
+        crate, *modules = self.imports.get(name, [""])
+        files = self.crates.get(self.crate if crate == "crate" else crate, {})
+        for module, source in files.items():
+            if name in getattr(source, kind) and (not modules or module == modules[0]):
+                return source
+        raise NoData(f"{name} is not here")
 
     def value(self, tokens, known=None):
         """The value of an expression that is data; `known` has the values of names of its surroundings."""

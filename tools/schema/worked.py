@@ -19,8 +19,10 @@ LINKED_ROWS = "host_rows"
 SAVED = "save-"
 RESUMED = "resume-"
 IMAGE_ROWS = "image_rows"
+# The crate whose tests have traces.
+TRACE_ROWS = "trace_rows"
 # The crates whose tests have other inputs than scenarios.
-OTHER_ROWS = (LINKED_ROWS, IMAGE_ROWS)
+OTHER_ROWS = (LINKED_ROWS, IMAGE_ROWS, TRACE_ROWS)
 
 
 class Row(NamedTuple):
@@ -88,11 +90,12 @@ def is_linked(text):
 
 def sources(root):
     """The sources of all crates: each with the crate's and the module's name."""
+    crates = {}
     for crate in sorted((root / "crates").iterdir()):
-        modules = {}
-        for path in sorted((crate / "src").glob("*.rt")):
-            modules[path.stem] = Source(modules, path.read_text())
-        yield from ((crate.name, module, source) for module, source in modules.items())
+        paths = sorted((crate / "src").glob("*.rt"))
+        crates[crate.name] = {path.stem: Source(crates, crate.name, path.read_text()) for path in paths}
+    for crate, modules in crates.items():
+        yield from ((crate, module, source) for module, source in modules.items())
 
 
 def tests(root):
