@@ -11,8 +11,12 @@ mod example;
 #[cfg(test)]
 mod gates;
 #[cfg(test)]
+mod input;
+#[cfg(test)]
 mod lines;
 #[cfg(test)]
 mod many;
+#[cfg(test)]
+mod messages;
 #[cfg(test)]
 mod refused;

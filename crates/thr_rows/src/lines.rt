@@ -25,6 +25,12 @@ fn step_of(line: &str) -> Option<&str> {
     Some(step)
 }
 
+/// The digits of the value of a line where one is read; none of another line.
+pub(crate) fn value_of(line: &str) -> Option<&str> {
+    let (_, value) = line.split_once(" 0x")?;
+    Some(value)
+}
+
 /// How many lines of a text are of a value that is read.
 pub(crate) fn read_count(text: &str) -> usize {
     text.lines()

@@ -1,6 +1,7 @@
 //! One scenario on each number of PEs: an SPI that is routed to another vCPU, SGIs, wires, and an LPI with its tables.
 
 use crate::call::call;
+use crate::input::{SETUP, push_steps};
 use crate::lines::{ending, has_line, read_count, same_steps};
 use gic_top::{OK, OpenGate};
 use std::alloc::{AllocError, Global};
@@ -25,45 +26,9 @@ macro_rules! icc {
     };
 }
 
-/// vCPU 0 writes eight bytes of memory.
-macro_rules! store {
-    ($address:literal, $value:literal) => {
-        concat!(
-            r#"{"vcpu":[0,0],"ram":"#,
-            $address,
-            r#","size":8,"write":"#,
-            $value,
-            "}"
-        )
-    };
-}
-
 /// Four vCPUs and two devices. SGI 5 is of vCPU 3 alone, and nothing else is for it.
 const GUEST: &str =
     r#"{"pes":4,"lrs":2,"guests":[{"vcpus":4,"devices":2,"lpis":16,"ram":65536,"on":true,"irqs":[{"id":1,"vcpu":0},{"id":1,"vcpu":1},{"id":1,"vcpu":2},{"id":5,"vcpu":3},{"id":20,"vcpu":2,"edge":false},{"id":40},{"id":41},{"id":42,"to":1},{"id":43,"to":2},{"id":44,"to":2,"edge":false},{"id":45,"to":1},{"id":46,"to":1}]}],"steps":["#;
-
-/// vCPU 0 sets up LPI 8195: its configuration, the tables of vCPU 1, and a queue with the commands that map event 3 of DeviceID 8
-/// to it. At step 18 it reads how far the queue is.
-const SETUP: [&str; 18] = [
-    r#"{"vcpu":[0,0],"ram":"0x3003","size":1,"write":"0xA1"}"#,
-    r#"{"vcpu":[0,0],"gicr":"0x70","of":1,"size":8,"write":"0x300D"}"#,
-    r#"{"vcpu":[0,0],"gicr":"0x78","of":1,"size":8,"write":"0x4000000000010000"}"#,
-    r#"{"vcpu":[0,0],"gicr":"0x0","of":1,"size":4,"write":1}"#,
-    r#"{"vcpu":[0,0],"gits":"0x80","size":8,"write":"0x8000000000001000"}"#,
-    r#"{"vcpu":[0,0],"gits":"0x0","size":4,"write":1}"#,
-    store!(0x1000, 0x0000000800000008),
-    store!(0x1008, 4),
-    store!(0x1010, 0x8000000000002000),
-    store!(0x1020, 9),
-    store!(0x1030, 0x8000000000010001),
-    store!(0x1040, 0x000000080000000A),
-    store!(0x1048, 0x0000200300000003),
-    store!(0x1050, 1),
-    store!(0x1060, 5),
-    store!(0x1070, 0x10000),
-    r#"{"vcpu":[0,0],"gits":"0x88","size":8,"write":"0x80"}"#,
-    r#"{"vcpu":[0,0],"gits":"0x90","size":8}"#,
-];
 
 /// Messages, wires that go up, and SGIs between the first three vCPUs; vCPU 0 routes SPI 41 to vCPU 1.
 const SENT: [&str; 10] = [
@@ -160,7 +125,7 @@ const FIXED: [&str; 10] = [
     "\n35 0x00000000000000a0\n",
     "\n37 0x00000000000000ff\n",
     "\nits 0 ctlr=0x00000001 cbaser=0x8000000000001000 cwriter=0x0000000000000080 creadr=0x0000000000000080 fault=0\n",
-    "\ndev 0 8 bits=5\n",
+    "\ndev 0 8 bits=7\n",
     "\nevt 0 8 3 8195 1\n",
     "\ncol 0 1 1\n",
 ];
@@ -191,12 +156,7 @@ const RUNS: u32 = 8;
 fn input_of(alloc: Global) -> Result<String, AllocError> {
     let mut input = String::from_str(alloc, GUEST)?;
     for part in PARTS {
-        for step in part {
-            if !input.as_str().ends_with('[') {
-                input.push(',')?;
-            }
-            input.push_str(step)?;
-        }
+        push_steps(&mut input, part)?;
     }
     input.push_str("]}")?;
     Ok(input)
