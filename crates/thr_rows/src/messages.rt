@@ -87,9 +87,14 @@ const SECOND_LPI: &str = " 0x0000000000002004";
 /// How the maps end: as the last round leaves them.
 const MAPPED: &str = "\ndev 0 8 bits=7\nevt 0 8 3 8195 1\nevt 0 8 67 8196 1\ncol 0 1 1\n";
 
-/// The events of the messages of both devices, how many each sends, and how many are for each LPI.
+/// An event of the device that is never mapped.
+const NO_EVENT: u32 = 99;
+
+/// What both devices send: first so many messages of the event that is never mapped, so that some time goes by, and then so many of the
+/// event of each. How often each LPI is acknowledged at most: once for each message.
 #[derive(Clone, Copy)]
 struct Row {
+    before: u32,
     events: [u32; 2],
     messages: u32,
     most: [usize; 2],
@@ -98,21 +103,25 @@ struct Row {
 /// One pair, and two pairs of one line; many messages of each device, and a single one.
 const ROWS: [Row; 4] = [
     Row {
+        before: 0,
         events: [3, 3],
         messages: 1000,
         most: [2000, 0],
     },
     Row {
+        before: 0,
         events: [3, 67],
         messages: 1000,
         most: [1000, 1000],
     },
     Row {
+        before: 500,
         events: [3, 3],
         messages: 1,
         most: [2, 0],
     },
     Row {
+        before: 500,
         events: [3, 67],
         messages: 1,
         most: [1, 1],
@@ -120,8 +129,7 @@ const ROWS: [Row; 4] = [
 ];
 
 /// How many PEs, and how many operations a vCPU does at most while it is on one.
-const WORDS: [[&str; 3]; 4] = [
-    ["threads", "1", "1"],
+const WORDS: [[&str; 3]; 3] = [
     ["threads", "2", "1"],
     ["threads", "2", "7"],
     ["threads", "2", "1000"],
@@ -158,8 +166,9 @@ fn push_commands(alloc: Global, input: &mut String, round: u32) -> Result<(), Al
     Ok(())
 }
 
-/// vCPU 0 lets the ITS do the commands of a round.
+/// vCPU 0 stores the commands of a round, and lets the ITS do both halves of them.
 fn push_round(alloc: Global, input: &mut String, round: u32) -> Result<(), AllocError> {
+    push_commands(alloc, input, round)?;
     let before = WRITER + ROUND_BYTES * u64::from(round);
     push_writer(alloc, input, before + HALF_BYTES)?;
     for _ in 0..PAUSES {
@@ -187,9 +196,6 @@ fn push_messages(
 /// The scenario as JSON.
 fn input_of(alloc: Global, row: &Row) -> Result<String, AllocError> {
     let mut input = String::from_str(alloc, GUEST)?;
-    for round in 0..ROUNDS {
-        push_commands(alloc, &mut input, round)?;
-    }
     push_steps(&mut input, &SETUP)?;
     push_steps(&mut input, &OTHER_LPI)?;
     for round in 0..ROUNDS {
@@ -198,8 +204,16 @@ fn input_of(alloc: Global, row: &Row) -> Result<String, AllocError> {
     for _ in 0..LOOKS {
         push_steps(&mut input, &ROUND_OF_1)?;
     }
-    push_messages(alloc, &mut input, 0, row.events[0], row.messages)?;
-    push_messages(alloc, &mut input, 1, row.events[1], row.messages)?;
+    for device in 0..2 {
+        push_messages(alloc, &mut input, device, NO_EVENT, row.before)?;
+        push_messages(
+            alloc,
+            &mut input,
+            device,
+            row.events[device as usize],
+            row.messages,
+        )?;
+    }
     input.push_str("]}")?;
     Ok(input)
 }
