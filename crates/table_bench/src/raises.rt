@@ -1,77 +1,52 @@
-//! Messages of devices over words that threads share.
-ghost use Rattle.std.specs.Prelude.{◌≡◌, ◌≤◌, ◌*◌, IsTrue, IfOk, length, map};
+//! Messages of devices, and writes of a vCPU, over words that threads share.
+ghost use Rattle.std.specs.Prelude.{◌≡◌, ◌≤◌, ◌*◌, IfOk, length, map};
 ghost use Rattle.std.specs.Thread.{IsSync};
-ghost use Rattle.dev_port.specs.Words.{Device as DeviceActor, Spi, has_interrupt};
-ghost use Rattle.dev_port.specs.Core.{shape_of};
-ghost use Rattle.dev_port.specs.Device.{CanCall};
+ghost use Rattle.gic_msi.specs.Words.{Device as DeviceActor, Vcpu as VcpuActor};
 ghost use Rattle.port_table.specs.All.{told_words, told_root};
 ghost use Rattle.port_table.specs.Told.{AreRoots, opening_root, words_at};
 
-use dev_port::message;
-use port_rest::{is_settled, one_guest};
-use port_table::{
-    Actor, CorePort as Port, GuestShape, Key, Mode, RootSeat, SharedWords, TablePort, key_of,
-    split, start,
-};
+use crate::board::{try_set_up, writes};
+use crate::sends::{Job, Kind, send_all};
+use port_rest::one_guest;
+use port_table::{Actor, GuestShape, Mode, RootSeat, SharedWords, TablePort, split, start};
 use std::alloc::{AllocError, Global};
+use std::sync::Wait;
 use std::thread::{Threads, join_mut};
 
-/// A vCPU, SPIs 32 to 63, and four devices.
+/// Four vCPUs, SPIs 32 to 63, four devices, 16 LPIs, and 64 KiB of memory.
 const SHAPE: GuestShape = GuestShape {
-    vcpus: 1,
+    vcpus: 4,
     spis: 32,
     espis: 0,
     devices: 4,
-    lpis: 0,
-    ram: 0,
+    lpis: 16,
+    ram: 65536,
 };
 
-/// The interrupt of the first device; the others have the next ones.
-const FIRST: u32 = 32;
-
-/// A device that may make a call sends this many messages of an SPI of the guest.
-#[tactic(auto, using(crate::proofs::StillLemmas::still_there))]
-fn send_all<P: Port>(port: &mut P, spi: u32, messages: u32)
-    requires there { IsTrue (has_interrupt (shape_of (P.seen port.old)) (Spi spi)) }
-    requires ready { CanCall (P.seen port.old) }
-{
-    for _ in 0..messages {
-        message(port, spi);
-    }
-}
-
-/// Sends messages as any actor: how many it sends, which is none where it may not.
-fn try_all<P: Port>(port: &mut P, spi: u32, messages: u32) -> u64
-    ensures { result ≤ messages }
-{
-    let may = port.actor() >= port.shape().vcpus && is_settled(port.local_ref());
-    if !may || key_of(spi, 0, &port.shape()) != Some(Key::Spi(spi)) {
-        return 0;
-    }
-    send_all(port, spi, messages);
-    u64::from(messages)
-}
-
-/// Two devices do, each in a thread of its own.
-fn both<R: Threads + Sync>(
+/// Two devices that are next to each other send their messages, each in a thread of its own.
+fn both<R: Threads + Wait + Sync>(
     rt: &R,
     one: &mut TablePort<'_>,
     other: &mut TablePort<'_>,
-    spi: u32,
+    kind: Kind,
+    device: u32,
     messages: u32,
 ) -> u64
-    requires { spi ≤ 1000 }
+    requires { device ≤ 2 }
     ensures { result ≤ 2 * messages }
 {
     let (first, second) = join_mut(
         rt,
         &mut || -> u64
+            requires sync { IsSync R.row }
+            requires device { device ≤ 2 }
             ensures { result ≤ messages }
-        { try_all(one, spi, messages) },
+        { send_all(rt, one, kind, device, messages) },
         &mut || -> u64
-            requires { spi ≤ 1000 }
+            requires sync { IsSync R.row }
+            requires device { device ≤ 2 }
             ensures { result ≤ messages }
-        { try_all(other, spi + 1, messages) },
+        { send_all(rt, other, kind, device + 1, messages) },
     );
     first + second
 }
@@ -86,25 +61,38 @@ fn device(number: u32) -> Actor
     }
 }
 
-/// The first device sends its messages, or all four do, each in a thread of its own: how many are sent.
-fn raise<R: Threads + Sync>(
+/// The first vCPU of the guest.
+fn vcpu() -> Actor
+    ensures { result ≡ VcpuActor 0 0 }
+{
+    Actor::Vcpu { guest: 0, vcpu: 0 }
+}
+
+/// Does a job, with so many messages of each device or so many writes: how many there are.
+fn work<R: Threads + Wait + Sync>(
     rt: &R,
     words: &SharedWords,
     root: RootSeat,
-    is_four: bool,
-    messages: u32,
+    job: Job,
+    count: u32,
 ) -> u64
     requires one { length (told_words words.now) ≡ 1 }
-    requires vcpus { (words_at (told_words words.now) 0).guest.shape.vcpus ≡ 1 }
+    requires vcpus { (words_at (told_words words.now) 0).guest.shape.vcpus ≡ 4 }
     requires devices { (words_at (told_words words.now) 0).guest.shape.devices ≡ 4 }
     requires roots { AreRoots (told_words words.now) (told_root root) }
     requires fresh { told_root root ≡ map opening_root (told_words words.now) }
-    ensures { result ≤ 4 * messages }
+    ensures { result ≤ 4 * count }
 {
     let mut root = root;
+    let mut first = split(words, &mut root, vcpu());
+    let kind = match job {
+        Job::Write => return writes(rt, &mut first, count),
+        Job::One(kind) | Job::Four(kind) => kind,
+    };
+    try_set_up(rt, &mut first);
     let mut one = split(words, &mut root, device(0));
-    if !is_four {
-        return try_all(&mut one, FIRST, messages);
+    if matches!(job, Job::One(_)) {
+        return send_all(rt, &mut one, kind, 0, count);
     }
     let mut two = split(words, &mut root, device(1));
     let mut three = split(words, &mut root, device(2));
@@ -113,24 +101,24 @@ fn raise<R: Threads + Sync>(
         rt,
         &mut || -> u64
             requires { IsSync R.row }
-            ensures { result ≤ 2 * messages }
-        { both(rt, &mut one, &mut two, FIRST, messages) },
+            ensures { result ≤ 2 * count }
+        { both(rt, &mut one, &mut two, kind, 0, count) },
         &mut || -> u64
             requires { IsSync R.row }
-            ensures { result ≤ 2 * messages }
-        { both(rt, &mut three, &mut four, FIRST + 2, messages) },
+            ensures { result ≤ 2 * count }
+        { both(rt, &mut three, &mut four, kind, 2, count) },
     );
     early + late
 }
 
-/// How many messages are sent in a guest that just opened, by one device or by four. An error where memory is refused.
-pub(crate) fn all<R: Threads + Sync>(
+/// Does a job in a guest that just opened: how many messages or writes there are. An error where memory is refused.
+pub(crate) fn all<R: Threads + Wait + Sync>(
     rt: &R,
     alloc: Global,
-    is_four: bool,
-    messages: u32,
+    job: Job,
+    count: u32,
 ) -> Result<u64, AllocError>
-    ensures { IfOk result (λ sent. sent ≤ 4 * messages) }
+    ensures { IfOk result (λ done. done ≤ 4 * count) }
 {
     let scenario = one_guest(alloc, SHAPE, true, &[])?;
     let guests = scenario.guests.as_slice();
@@ -138,5 +126,5 @@ pub(crate) fn all<R: Threads + Sync>(
         return Ok(0);
     }
     let (words, root) = start(alloc, &scenario)?;
-    Ok(raise(rt, &words, root, is_four, messages))
+    Ok(work(rt, &words, root, job, count))
 }

@@ -1,8 +1,8 @@
 use Rattle.std.proofs.Common.{IsTrue}
-use Rattle.dev_port.specs.Words.{Spi, has_interrupt}
-use Rattle.dev_port.specs.Device.{CanCall}
-use Rattle.dev_port.specs.Core.{shape_of}
-use Rattle.table_bench.proofs.raises.send_all.Given as goal
+use Rattle.gic_msi.specs.Words.{Spi, has_interrupt}
+use Rattle.gic_msi.specs.DevPort.Device.{CanCall}
+use Rattle.gic_msi.specs.Core.{shape_of}
+use Rattle.table_bench.proofs.sends.send_spis.Given as goal
 
 -- the device may send the next one
 abbrev pub invariant-loop : goal.invariant-loop

@@ -1,0 +1,116 @@
+//! What a vCPU does to the ITS of the guest: it maps the events of the devices, or writes a register over and over.
+ghost use Rattle.std.specs.Prelude.{◌≤◌, IsTrue};
+ghost use Rattle.pe_its.specs.PeMem.Call.{CanAccess};
+
+use gic_msi::Port;
+use pe_its::{its_op, memory_op, redist_op};
+use port_rest::is_off;
+use std::sync::Wait;
+
+/// The configuration bytes of LPIs, and GICR_PROPBASER for them.
+const PROPBASER: u64 = 0x300D;
+
+/// GITS_CBASER for a queue at 0x1000, of 4096 bytes.
+const CBASER: u64 = 0x8000_0000_0000_1000;
+
+/// Eight bytes of memory each: the configuration bytes of the LPIs, and the commands MAPD of DeviceID 8 with 7 bits of EventID, MAPC of the
+/// collections 0 to 3, each of the vCPU of that number, and MAPTI of the events 3, 4, 5, 6 and 67.
+const STORES: [(u32, u64); 27] = [
+    (0x3000, 0xA1_A1A1_A1A1),
+    (0x1000, 0x8_0000_0008),
+    (0x1008, 6),
+    (0x1010, 0x8000_0000_0000_2000),
+    (0x1020, 9),
+    (0x1030, 0x8000_0000_0000_0000),
+    (0x1040, 9),
+    (0x1050, 0x8000_0000_0001_0001),
+    (0x1060, 9),
+    (0x1070, 0x8000_0000_0002_0002),
+    (0x1080, 9),
+    (0x1090, 0x8000_0000_0003_0003),
+    (0x10A0, 0x8_0000_000A),
+    (0x10A8, 0x2000_0000_0003),
+    (0x10B0, 0),
+    (0x10C0, 0x8_0000_000A),
+    (0x10C8, 0x2001_0000_0004),
+    (0x10D0, 1),
+    (0x10E0, 0x8_0000_000A),
+    (0x10E8, 0x2002_0000_0005),
+    (0x10F0, 2),
+    (0x1100, 0x8_0000_000A),
+    (0x1108, 0x2003_0000_0006),
+    (0x1110, 3),
+    (0x1120, 0x8_0000_000A),
+    (0x1128, 0x2004_0000_0043),
+    (0x1130, 0),
+];
+
+/// GITS_CWRITER behind the commands.
+const CWRITER: u64 = 0x140;
+
+/// Each vCPU has the configuration bytes.
+fn set_tables<P: Port, R: Wait>(rt: &R, port: &mut P)
+    requires { CanAccess (P.seen port.old) }
+    ensures { CanAccess (P.seen port.new) }
+{
+    for vcpu in 0..4 {
+        if vcpu < port.shape().vcpus {
+            redist_op(rt, port, vcpu, 0x70, 8, Some(PROPBASER));
+        }
+    }
+}
+
+/// Stores the configuration bytes and the commands.
+fn store_all<P: Port, R: Wait>(rt: &R, port: &mut P)
+    requires { CanAccess (P.seen port.old) }
+    ensures { CanAccess (P.seen port.new) }
+{
+    for (address, value) in STORES {
+        memory_op(rt, port, address, 8, Some(value));
+    }
+}
+
+/// Maps the events to the LPIs from 8192 on, which are enabled.
+fn set_up<P: Port, R: Wait>(rt: &R, port: &mut P)
+    requires { CanAccess (P.seen port.old) }
+{
+    set_tables(rt, port);
+    store_all(rt, port);
+    its_op(rt, port, 0x80, 8, Some(CBASER));
+    its_op(rt, port, 0x0, 4, Some(1));
+    its_op(rt, port, 0x88, 8, Some(CWRITER));
+}
+
+/// Writes GITS_CBASER so often, which starts no command.
+fn write_all<P: Port, R: Wait>(rt: &R, port: &mut P, writes: u32)
+    requires { CanAccess (P.seen port.old) }
+{
+    for _ in 0..writes {
+        its_op(rt, port, 0x80, 8, Some(CBASER));
+    }
+}
+
+/// The actor is a vCPU that can make an access.
+fn can_access<P: Port>(port: &P) -> bool
+    ensures { IsTrue result → CanAccess (P.seen port.now) }
+{
+    port.actor() < port.shape().vcpus && is_off(port.local_ref())
+}
+
+/// Maps the events as any actor that may.
+pub(crate) fn try_set_up<P: Port, R: Wait>(rt: &R, port: &mut P) {
+    if can_access(port) {
+        set_up(rt, port);
+    }
+}
+
+/// Writes GITS_CBASER as any actor: how often, which is never where it may not.
+pub(crate) fn writes<P: Port, R: Wait>(rt: &R, port: &mut P, count: u32) -> u64
+    ensures { result ≤ count }
+{
+    if !can_access(port) {
+        return 0;
+    }
+    write_all(rt, port, count);
+    u64::from(count)
+}
