@@ -60,13 +60,21 @@ fn set_tables<P: Port, R: Wait>(rt: &R, port: &mut P)
     }
 }
 
+/// Stores eight bytes.
+fn store<P: Port, R: Wait>(rt: &R, port: &mut P, address: u32, value: u64)
+    requires { CanAccess (P.seen port.old) }
+    ensures { CanAccess (P.seen port.new) }
+{
+    memory_op(rt, port, address, 8, Some(value));
+}
+
 /// Stores the configuration bytes and the commands.
 fn store_all<P: Port, R: Wait>(rt: &R, port: &mut P)
     requires { CanAccess (P.seen port.old) }
     ensures { CanAccess (P.seen port.new) }
 {
     for (address, value) in STORES {
-        memory_op(rt, port, address, 8, Some(value));
+        store(rt, port, address, value);
     }
 }
 

@@ -3,7 +3,7 @@ ghost use Rattle.std.specs.Prelude.{◌≡◌, ◌≤◌, ◌*◌, IfOk, length,
 ghost use Rattle.std.specs.Thread.{IsSync};
 ghost use Rattle.gic_msi.specs.Words.{Device as DeviceActor, Vcpu as VcpuActor};
 ghost use Rattle.port_table.specs.All.{told_words, told_root};
-ghost use Rattle.port_table.specs.Told.{AreRoots, opening_root, words_at};
+ghost use Rattle.port_table.specs.Told.{AreRoots, opening_root, splitting, words_at};
 
 use crate::board::{try_set_up, writes};
 use crate::sends::{Job, Kind, send_all};
@@ -68,30 +68,26 @@ fn vcpu() -> Actor
     Actor::Vcpu { guest: 0, vcpu: 0 }
 }
 
-/// Does a job, with so many messages of each device or so many writes: how many there are.
-fn work<R: Threads + Wait + Sync>(
+/// The first device sends its messages, or all four do, each in a thread of its own: how many are sent. Of the actors only the first vCPU
+/// has a port so far.
+fn send<R: Threads + Wait + Sync>(
     rt: &R,
     words: &SharedWords,
     root: RootSeat,
-    job: Job,
+    kind: Kind,
+    is_four: bool,
     count: u32,
 ) -> u64
     requires one { length (told_words words.now) ≡ 1 }
     requires vcpus { (words_at (told_words words.now) 0).guest.shape.vcpus ≡ 4 }
     requires devices { (words_at (told_words words.now) 0).guest.shape.devices ≡ 4 }
     requires roots { AreRoots (told_words words.now) (told_root root) }
-    requires fresh { told_root root ≡ map opening_root (told_words words.now) }
+    requires first { told_root root ≡ splitting (told_words words.now) (VcpuActor 0 0) (map opening_root (told_words words.now)) }
     ensures { result ≤ 4 * count }
 {
     let mut root = root;
-    let mut first = split(words, &mut root, vcpu());
-    let kind = match job {
-        Job::Write => return writes(rt, &mut first, count),
-        Job::One(kind) | Job::Four(kind) => kind,
-    };
-    try_set_up(rt, &mut first);
     let mut one = split(words, &mut root, device(0));
-    if matches!(job, Job::One(_)) {
+    if !is_four {
         return send_all(rt, &mut one, kind, 0, count);
     }
     let mut two = split(words, &mut root, device(1));
@@ -109,6 +105,32 @@ fn work<R: Threads + Wait + Sync>(
         { both(rt, &mut three, &mut four, kind, 2, count) },
     );
     early + late
+}
+
+/// Does a job, with so many messages of each device or so many writes: how many there are.
+fn work<R: Threads + Wait + Sync>(
+    rt: &R,
+    words: &SharedWords,
+    root: RootSeat,
+    job: Job,
+    count: u32,
+) -> u64
+    requires one { length (told_words words.now) ≡ 1 }
+    requires vcpus { (words_at (told_words words.now) 0).guest.shape.vcpus ≡ 4 }
+    requires devices { (words_at (told_words words.now) 0).guest.shape.devices ≡ 4 }
+    requires roots { AreRoots (told_words words.now) (told_root root) }
+    requires fresh { told_root root ≡ map opening_root (told_words words.now) }
+    ensures { result ≤ 4 * count }
+{
+    let mut root = root;
+    let mut first = split(words, &mut root, vcpu());
+    let (kind, is_four) = match job {
+        Job::Write => return writes(rt, &mut first, count),
+        Job::One(kind) => (kind, false),
+        Job::Four(kind) => (kind, true),
+    };
+    try_set_up(rt, &mut first);
+    send(rt, words, root, kind, is_four, count)
 }
 
 /// Does a job in a guest that just opened: how many messages or writes there are. An error where memory is refused.

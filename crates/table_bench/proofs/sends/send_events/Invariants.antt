@@ -5,5 +5,5 @@ use Rattle.gic_msi.specs.Core.{shape_of}
 use Rattle.table_bench.proofs.sends.send_events.Given as goal
 
 -- the device may send the next one
-abbrev pub invariant-loop : goal.invariant-loop
-invariant-loop g l = record { lpis : has_lpis (shape_of (g.P.Port.seen l.port)) ≡ true; ready : CanCall (g.P.Port.seen l.port) }
+abbrev pub invariant-loop-number : goal.invariant-loop-number
+invariant-loop-number g l = record { lpis : has_lpis (shape_of (g.P.Port.seen l.port)) ≡ true; ready : CanCall (g.P.Port.seen l.port) }
