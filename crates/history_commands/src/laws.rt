@@ -1,0 +1,26 @@
+//! Laws of calls that take the ITS and its commands.
+ghost use Rattle.history_commands.specs.Laws.{CommandsAreCounted, CommandsGoOn, ItsWritesAreExact, MapsGoOn};
+
+/// A law of writes of registers of the ITS that take it: what such a call made is the call exactly where its events are so, one
+/// after the other, by what it read, by the maps that it took, and by the vCPUs that the LPIs were for as each of its commands
+/// began; and it answers nothing.
+pub fn its_writes_are_exact()
+    ensures { ItsWritesAreExact }
+{}
+
+/// A law of each open call after moments of a guest: as many of its commands have begun as its own events say.
+pub fn commands_are_counted()
+    ensures { CommandsAreCounted }
+{}
+
+/// A law of what a call notes as its commands begin, for which vCPUs the LPIs are then: it begins with none, and notes them at each
+/// event of its own with which a command begins.
+pub fn commands_go_on()
+    ensures { CommandsGoOn }
+{}
+
+/// A law of what an ITS has mapped: what the commands did that were done so far, one after the other; and of what a call notes of
+/// it, as it takes the ITS.
+pub fn maps_go_on()
+    ensures { MapsGoOn }
+{}
