@@ -33,17 +33,17 @@ read_with place found piece one e is = found_read place found (piece ++ one ∷ 
 read_without : (place : Place) (found : Found) (piece : List Happened) (one : Happened) → reads place one.event ≡ false → IsLastRead place found (piece ++ one ∷ []) → IsLastRead place found piece
 read_without place found piece one e is = found_read place found piece (sym (last_more place piece one e) ∙ read_found place found (piece ++ one ∷ []) is)
 
-named_reads : (actor : Option ℕ) (view : View) (places : List Place) → named_of actor (map (read_at view) places) ≡ []
+pub named_reads : (actor : Option ℕ) (view : View) (places : List Place) → named_of actor (map (read_at view) places) ≡ []
 named_reads actor view [] = refl
 named_reads actor view (place ∷ places) = named_reads actor view places
 
 -- Events of parts and of the queue.
 
-record IsPlain (actor : Option ℕ) (event : Event) : Type 0 where
-  named : is_beside actor event ≡ false
-  no_read : (place : Place) → reads place event ≡ false
+pub record IsPlain (actor : Option ℕ) (event : Event) : Type 0 where
+  pub named : is_beside actor event ≡ false
+  pub no_read : (place : Place) → reads place event ≡ false
 
-part_plain : (actor : Option ℕ) (shape : GuestShape) (view : View) (targets : ℕ → Option ℕ) (part : Part) → IsPlain actor (lpi_event shape view targets part)
+pub part_plain : (actor : Option ℕ) (shape : GuestShape) (view : View) (targets : ℕ → Option ℕ) (part : Part) → IsPlain actor (lpi_event shape view targets part)
 part_plain actor shape view targets (Forget id) = record { named = refl; no_read = λ place. refl }
 part_plain actor shape view targets (Map id target) = record { named = refl; no_read = λ place. refl }
 part_plain actor shape view targets (Retarget id target) = record { named = refl; no_read = λ place. refl }

@@ -6,3 +6,5 @@ pub mod FollowLaw
 pub mod WriteLemmas
 pub mod WriteLaw
 pub mod BegunLaw
+pub mod EndLemmas
+pub mod OpenedLaw

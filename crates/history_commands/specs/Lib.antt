@@ -12,4 +12,5 @@ pub mod Known
 pub mod Stage
 pub mod Written
 pub mod Begun
+pub mod Opened
 pub mod Laws

@@ -1,11 +1,19 @@
 //! Laws of calls that take the ITS and its commands.
 ghost use Rattle.history_commands.specs.Laws.{CommandsAreCounted, CommandsGoOn, ItsWritesAreExact, MapsGoOn};
+ghost use Rattle.history_commands.specs.Opened.{ItsWritesMayGoOn};
 
 /// A law of writes of registers of the ITS that take it: what such a call made is the call exactly where its events are so, one
 /// after the other, by what it read, by the maps that it took, and by the vCPUs that the LPIs were for as each of its commands
 /// began; and it answers nothing.
 pub fn its_writes_are_exact()
     ensures { ItsWritesAreExact }
+{}
+
+/// A law of what may still become such a write, by the same maps and vCPUs: some further events make it one exactly where no event
+/// is named yet; or the ITS was taken first, and what follows is the beginning of the register's part in some guest, or all of it
+/// and then commands up to any event.
+pub fn its_writes_may_go_on()
+    ensures { ItsWritesMayGoOn }
 {}
 
 /// A law of each open call after moments of a guest: as many of its commands have begun as its own events say.

@@ -5,4 +5,6 @@ mod its;
 mod laws;
 
 pub use its::Its;
-pub use laws::{commands_are_counted, commands_go_on, its_writes_are_exact, maps_go_on};
+pub use laws::{
+    commands_are_counted, commands_go_on, its_writes_are_exact, its_writes_may_go_on, maps_go_on,
+};
