@@ -8,3 +8,4 @@ pub mod WriteLaw
 pub mod BegunLaw
 pub mod EndLemmas
 pub mod OpenedLaw
+pub mod TakingLaw

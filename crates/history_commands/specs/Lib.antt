@@ -13,4 +13,5 @@ pub mod Stage
 pub mod Written
 pub mod Begun
 pub mod Opened
+pub mod Taking
 pub mod Laws
