@@ -1,4 +1,4 @@
-"""The worked scenarios of the repository, the worked inputs of `host`, and the worked images, each with what the reader says of it."""
+"""The worked scenarios of the repository, the worked inputs of `host`, the worked images and the worked traces, each with what the reader says of it."""
 import json
 import re
 from typing import NamedTuple
@@ -19,8 +19,11 @@ LINKED_ROWS = "host_rows"
 SAVED = "save-"
 RESUMED = "resume-"
 IMAGE_ROWS = "image_rows"
-# The crate whose tests have traces.
+# The crate whose tests have traces with faults, its table of whole ones, how the texts of its events begin, and a trace in a document.
 TRACE_ROWS = "trace_rows"
+WHOLE_TRACES = "TRACES"
+EVENT = '{"by":'
+TRACE_BLOCK = re.compile(r"```json\n(\{.*?\})\n```", re.DOTALL)
 # The crates whose tests have other inputs than scenarios.
 OTHER_ROWS = (LINKED_ROWS, IMAGE_ROWS, TRACE_ROWS)
 
@@ -226,6 +229,12 @@ def many(source):
     yield "GUEST and PARTS", f'{source.constant("GUEST")}{steps}]}}', None
 
 
+def messages(source):
+    """The steps of a guest that are not made one by one."""
+    steps = ",".join(step for name in ("SETUP", "OTHER_LPI", "ROUND_OF_1") for step in source.constant(name))
+    yield "GUEST and its set-up", f'{source.constant("GUEST")}{steps}]}}', None
+
+
 def registers(source):
     """A read and a write of each register."""
     before = '{"guests":[{}],"steps":[{"vcpu":[0,0],"icc":"'
@@ -247,7 +256,7 @@ def hinted(source):
         yield "STEPS", f'{{"guests":[{{}}],"steps":[{steps}]}}', fault_told(line)
 
 
-MADE = {("thr_rows", "many"): many, ("scn_rows", "steps"): registers, ("scn_rows", "outside"): full, ("hint_rows", "steps"): hinted}
+MADE = {("thr_rows", "many"): many, ("thr_rows", "messages"): messages, ("scn_rows", "steps"): registers, ("scn_rows", "outside"): full, ("hint_rows", "steps"): hinted}
 
 
 def linked_tests(root):
@@ -275,6 +284,22 @@ def image_tests(root):
         for number, fault in ((stands + 1, more), (2**64 - 1, most)):
             text = "".join(f"{before}{number if place == at else stands}" for place, (before, stands, _, _) in enumerate(numbers))
             yield Row(f"crates/{IMAGE_ROWS}: NUMBERS", text + "}", fault)
+
+
+def trace_documented(root):
+    """The traces in the page on them."""
+    return (Row("docs/TRACES.md", block[1], None) for block in TRACE_BLOCK.finditer((root / "docs/TRACES.md").read_text()))
+
+
+def trace_tests(root):
+    """The traces of their tests: events in one of the guest of the tests, with the code and the step of their fault or none, and whole traces."""
+    files = {module: source for crate, module, source in sources(root) if crate == TRACE_ROWS}
+    faults, guest = files["faults"], files["table"].constant("GUEST")
+    rows = [(name, text, fault) for name in faults.constants for text, fault in faults.constant(name)]
+    rows += [("SAID", text, None) for kind, text in files["said"].tokens if kind == "text" and text.startswith(EVENT)]
+    for name, text, fault in rows:
+        whole = text if name == WHOLE_TRACES else f'{{"guest":{guest},"events":[{text}]}}'
+        yield Row(f"crates/{TRACE_ROWS}: {name}", whole, fault)
 
 
 def looks_like_part(text):
