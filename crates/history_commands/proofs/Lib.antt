@@ -9,3 +9,7 @@ pub mod BegunLaw
 pub mod EndLemmas
 pub mod OpenedLaw
 pub mod TakingLaw
+pub mod PlainLemmas
+pub mod SameLemmas
+pub mod NoteLemmas
+pub mod BeginLaw

@@ -27,18 +27,18 @@ use Rattle.history_commands.proofs.EndLemmas.{Runs, Ends, IsCalm, read_here, end
 
 -- Two ways to part a list.
 
-record IsLater (one early two late : List Happened) : Type 0 where
-  between : List Happened
-  first : one ≡ early ++ between
-  last : late ≡ between ++ two
+pub record IsLater (one early two late : List Happened) : Type 0 where
+  pub between : List Happened
+  pub first : one ≡ early ++ between
+  pub last : late ≡ between ++ two
 
-same_head : (x y : Happened) (xs ys : List Happened) → x ∷ xs ≡ y ∷ ys → x ≡ y
+pub same_head : (x y : Happened) (xs ys : List Happened) → x ∷ xs ≡ y ∷ ys → x ≡ y
 same_head x y xs ys h = cc
 
-same_tail : (x y : Happened) (xs ys : List Happened) → x ∷ xs ≡ y ∷ ys → xs ≡ ys
+pub same_tail : (x y : Happened) (xs ys : List Happened) → x ∷ xs ≡ y ∷ ys → xs ≡ ys
 same_tail x y xs ys h = cc
 
-parted : (one two early late : List Happened) → one ++ two ≡ early ++ late → IsLater one early two late ⊎ IsLater early one late two
+pub parted : (one two early late : List Happened) → one ++ two ≡ early ++ late → IsLater one early two late ⊎ IsLater early one late two
 parted one two [] late h = inl (record { between = one; first = refl; last = sym h })
 parted [] two (y ∷ early) late h = inr (record { between = y ∷ early; first = refl; last = h })
 parted (x ∷ one) two (y ∷ early) late h = of (parted one two early late (same_tail x y (one ++ two) (early ++ late) h))
@@ -102,11 +102,11 @@ module _ (shape : GuestShape) (maps : Maps) (targets : ℕ → ℕ → Option �
 
   -- Forth: further events make it the write.
 
-  record IsEnded (rest : List Happened) : Type 0 where
-    more : List Happened
-    is : IsWritten shape maps targets actor offset size value false (rest ++ more)
+  pub record IsEnded (rest : List Happened) : Type 0 where
+    pub more : List Happened
+    pub is : IsWritten shape maps targets actor offset size value false (rest ++ more)
 
-  write_ends : (rest : List Happened) → IsWriteBegun shape actor offset size value rest → IsEnded rest
+  pub write_ends : (rest : List Happened) → IsWriteBegun shape actor offset size value rest → IsEnded rest
   write_ends rest is =
       let view : View = is.view in
       let all : list_all is_of_its (events_in (named_of (Some actor) rest) ++ is.more) ≡ true = ap (list_all is_of_its) is.events_are ∙ write_of_its shape view ref value in
@@ -144,7 +144,7 @@ module _ (shape : GuestShape) (maps : Maps) (targets : ℕ → ℕ → Option �
         is = record { written = is.written; later = is.later ++ end.0; split = ap (λ xs. xs ++ end.0) is.split ∙ append_assoc is.written is.later end.0; made = is.made; follow = end.1 };
       }
 
-  rest_ends : (rest : List Happened) → IsWriteBegun shape actor offset size value rest ⊎ IsWritten shape maps targets actor offset size value true rest → IsEnded rest
+  pub rest_ends : (rest : List Happened) → IsWriteBegun shape actor offset size value rest ⊎ IsWritten shape maps targets actor offset size value true rest → IsEnded rest
   rest_ends rest (inl is) = write_ends rest is
   rest_ends rest (inr is) = written_ends rest is
 
@@ -152,7 +152,7 @@ module _ (shape : GuestShape) (maps : Maps) (targets : ℕ → ℕ → Option �
   IsSome piece = (more : List Happened) × IsItsMade shape maps targets actor offset size value (piece ++ more)
 
   -- nothing was written yet
-  nothing_begun : IsWriteBegun shape actor offset size value []
+  pub nothing_begun : IsWriteBegun shape actor offset size value []
   nothing_begun = record { view = found_by []; more = events_by (found_by []); events_are = refl; found = All-nil (Hands (found_by [])) }
 
   forth : (piece : List Happened) → IsItsBegun shape maps targets actor offset size value piece → IsSome piece
@@ -175,14 +175,14 @@ module _ (shape : GuestShape) (maps : Maps) (targets : ℕ → ℕ → Option �
 
   -- Back: what was made of the write is begun so.
 
-  named_left : (one two : List Happened) → named_of (Some actor) (one ++ two) ≡ [] → named_of (Some actor) one ≡ []
+  pub named_left : (one two : List Happened) → named_of (Some actor) (one ++ two) ≡ [] → named_of (Some actor) one ≡ []
   named_left one two h = none_left (named_of (Some actor) one) (named_of (Some actor) two) (sym (named_more (Some actor) one two) ∙ h)
     where
       none_left : (xs ys : List Happened) → xs ++ ys ≡ [] → xs ≡ []
       none_left [] ys k = refl
       none_left (x ∷ xs) ys k = absurd (cc)
 
-  written_back : (rest more : List Happened) → IsWritten shape maps targets actor offset size value false (rest ++ more) → IsWriteBegun shape actor offset size value rest ⊎ IsWritten shape maps targets actor offset size value true rest
+  pub written_back : (rest more : List Happened) → IsWritten shape maps targets actor offset size value false (rest ++ more) → IsWriteBegun shape actor offset size value rest ⊎ IsWritten shape maps targets actor offset size value true rest
   written_back rest more is = of (parted rest more is.written is.later is.split)
     where
       of : IsLater rest is.written more is.later ⊎ IsLater is.written rest is.later more → IsWriteBegun shape actor offset size value rest ⊎ IsWritten shape maps targets actor offset size value true rest

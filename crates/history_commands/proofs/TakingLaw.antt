@@ -30,8 +30,8 @@ module _ (shape : GuestShape) (actor offset size value : ℕ) (call : Call) (sig
         (subst (λ who. IsCall shape beside who (Access (Mem ItsFrame offset size (Some value))) call.piece answer) (sym is_vcpu)
         (subst (λ b. IsItsWrite b shape beside actor offset size value call.piece answer) (sym takes) is))
 
-    forth : IsEndedAs signals shape actor call answer → IsItsMade shape call.maps (targets_of call) actor offset size value call.piece × (answer ≡ None)
-    forth is =
+    pub ended_made : IsEndedAs signals shape actor call answer → IsItsMade shape call.maps (targets_of call) actor offset size value call.piece × (answer ≡ None)
+    ended_made is =
         let made = (writes_exact shape is.beside actor offset size value call.piece answer).0 (call_is is.beside is.is_call) in (
           subst (λ (commands : List (ℕ → Option ℕ)). IsItsMade shape call.maps (λ number. slice_index_or commands number (λ id. None)) actor offset size value call.piece) is.commands
               (subst (λ (maps : Maps). IsItsMade shape maps (λ number. slice_index_or is.beside.commands number (λ id. None)) actor offset size value call.piece) is.maps made.0),
@@ -51,4 +51,4 @@ module _ (shape : GuestShape) (actor offset size value : ℕ) (call : Call) (sig
         }
 
 pub taking_end : TakingCallsEnd
-taking_end shape actor offset size value call signals answer takes there same opened = (forth shape actor offset size value call signals answer takes there same, back shape actor offset size value call signals answer takes there same opened)
+taking_end shape actor offset size value call signals answer takes there same opened = (ended_made shape actor offset size value call signals answer takes there same, back shape actor offset size value call signals answer takes there same opened)

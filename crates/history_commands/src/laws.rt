@@ -1,7 +1,7 @@
 //! Laws of calls that take the ITS and its commands.
 ghost use Rattle.history_commands.specs.Laws.{CommandsAreCounted, CommandsGoOn, ItsWritesAreExact, MapsGoOn};
 ghost use Rattle.history_commands.specs.Opened.{ItsWritesMayGoOn};
-ghost use Rattle.history_commands.specs.Taking.{TakingCallsEnd};
+ghost use Rattle.history_commands.specs.Taking.{TakingCallsBegin, TakingCallsEnd};
 
 /// A law of writes of registers of the ITS that take it: what such a call made is the call exactly where its events are so, one
 /// after the other, by what it read, by the maps that it took, and by the vCPUs that the LPIs were for as each of its commands
@@ -21,6 +21,11 @@ pub fn its_writes_may_go_on()
 /// vCPUs that the LPIs were for as each of its commands began.
 pub fn taking_calls_end()
     ensures { TakingCallsEnd }
+{}
+
+/// A law of the same calls: one can still become such a write exactly where it is begun so, by what it took and noted till then.
+pub fn taking_calls_begin()
+    ensures { TakingCallsBegin }
 {}
 
 /// A law of each open call after moments of a guest: as many of its commands have begun as its own events say.

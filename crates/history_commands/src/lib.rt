@@ -7,5 +7,5 @@ mod laws;
 pub use its::Its;
 pub use laws::{
     commands_are_counted, commands_go_on, its_writes_are_exact, its_writes_may_go_on, maps_go_on,
-    taking_calls_end,
+    taking_calls_begin, taking_calls_end,
 };
