@@ -77,6 +77,13 @@ impl State {
         &self.guest.shape
     }
 
+    /// The actor that has the ITS, if one has it.
+    pub fn its_actor(&self) -> Option<u32>
+        ensures { result ≡ self.now.has_its }
+    {
+        self.has_its
+    }
+
     /// Whether an interrupt is at no interface.
     pub fn is_home(&self, key: Key) -> bool
         ensures { result ≡ is_home self.now key }

@@ -1,3 +1,4 @@
+pub use Rattle.history_calls.proofs as HistoryCalls
 pub mod CheckLemmas
 pub mod CourseLemmas
 pub mod PlayedLemmas

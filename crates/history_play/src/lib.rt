@@ -14,10 +14,15 @@ mod whole;
 
 pub use after::follow;
 pub use can::can_happen;
+pub use history_calls::{
+    Made, events_of, has_bit, is_beside, is_plain, is_same_found, reads, split,
+};
 pub use history_check::{
-    DeviceOp, Event, Found as CallFound, Frame, Group, GuestOp, GuestShape, GuestSpec, IccReg, Irq,
-    Key, Kind, ListOf, Moment, NoMemory, Operation, Place, PlainWord, Preset, PresetList,
-    QueueChange, Touching, opening_irq,
+    Candidate, DeviceOp, Doing, Event, Found as CallFound, Frame, Group, GuestOp, GuestShape,
+    GuestSpec, IccReg, Irq, Key, Kind, ListOf, Moment, NoMemory, Operation, Place, PlainWord,
+    Preset, PresetList, QueueChange, State, Table, Touching, Track, asks_first, baser, baser_after,
+    comes_first, creadr, dist_ctlr, extract, interrupt_count, its_ctlr, key_at, key_in,
+    opening_irq, queue_address, takes_commands,
 };
 pub use laws::histories_are_allowed;
 pub use track::{begins, ends, happens, opening_track};

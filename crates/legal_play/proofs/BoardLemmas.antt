@@ -10,8 +10,8 @@ use Rattle.legal_steps.specs.Histories.{IdealGuest, Ideal, Call, actor_count, op
 use Rattle.legal_steps.specs.Waiting.{Waiting, waits_after}
 use Rattle.legal_steps.specs.Step.{Pass, opening_pass, passed, actor_of}
 use Rattle.legal_steps.proofs.PassLaw.{state_after}
-use Rattle.history_check.specs.GicHistory.State.{opening}
-use Rattle.history_check.specs.Ready.{IsReady}
+use Rattle.history_play.specs.HistoryCheck.GicHistory.State.{opening}
+use Rattle.history_play.specs.HistoryCheck.Ready.{IsReady}
 use Rattle.history_play.specs.Coming.{is_unknown, CanFollow}
 use Rattle.history_play.specs.Kept.{IsKept}
 use Rattle.history_play.proofs.CheckLemmas.{opened as opens_kept}

@@ -30,7 +30,7 @@ seen f change keeps (x ∷ calls) (suc j) = seen f change keeps calls j
 
 -- What events leave.
 
-noted_operation : (ideal : Ideal) (event : Event) (call : Call) → (noted ideal event call).operation ≡ call.operation
+pub noted_operation : (ideal : Ideal) (event : Event) (call : Call) → (noted ideal event call).operation ≡ call.operation
 noted_operation ideal (Queue offset Runs) call = refl
 noted_operation ideal (Queue offset change) call = refl
 noted_operation ideal event call = refl

@@ -1,3 +1,5 @@
+pub use Rattle.legal_steps.proofs as LegalSteps
+pub use Rattle.history_play.proofs as HistoryPlay
 pub mod MayLemmas
 pub mod LoopLemmas
 pub mod CallsLaw

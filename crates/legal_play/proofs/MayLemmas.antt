@@ -14,8 +14,8 @@ use Rattle.legal_steps.specs.LegalLists.GicRmap.declared.map.Reg.TheVariants.{Ct
 use Rattle.legal_steps.specs.LegalLists.GicRmap.Map.{decoded as redist_decoded}
 use Rattle.legal_steps.specs.LegalLists.Legal.{keys_of, events_in_order, may_make_lpi, unseen}
 use Rattle.legal_steps.specs.Histories.{key_in}
-use Rattle.history_calls.specs.Exact.{events_by, is_plain}
-use Rattle.history_calls.specs.Found.{seen_by}
+use Rattle.history_play.specs.HistoryCalls.Exact.{events_by, is_plain}
+use Rattle.history_play.specs.HistoryCalls.Found.{seen_by}
 
 -- a call that made nothing is seen as nothing is
 pub plain_keys : (shape : GuestShape) (actor : ℕ) (operation : Operation) → events_by shape actor (seen_by true []) operation ≡ events_in_order shape actor operation

@@ -6,7 +6,7 @@ use Rattle.legal_steps.specs.GicCall.declared.event.Moment.TheVariants.{End}
 use Rattle.legal_steps.specs.Histories.{IdealGuest, Ideal, Course, call_of, gone_on, IsCallEnded, Track, actor_count, doing_of, is_allowed, handed_out, of_event, of_end, is_fresh_at_interface, is_fresh_at_end}
 use Rattle.legal_steps.specs.Waiting.{Waiting}
 use Rattle.legal_steps.specs.Step.{Pass, passed, may_all_be_answered, actor_of, IsActorBegun}
-use Rattle.history_check.specs.Ready.{IsReady}
+use Rattle.history_play.specs.HistoryCheck.Ready.{IsReady}
 use Rattle.history_play.specs.Kept.{IsKept}
 use Rattle.legal_play.specs.Pieces.{AreCalls}
 

@@ -3,6 +3,9 @@ pub use Rattle.legal_steps.specs.Histories
 pub use Rattle.legal_steps.specs.Words
 pub use Rattle.legal_steps.specs.GicCall
 pub use Rattle.legal_steps.specs.LegalLists
+pub use Rattle.legal_steps.specs.Registers
+pub use Rattle.legal_steps.specs as LegalSteps
+pub use Rattle.history_play.specs as HistoryPlay
 pub mod Passing
 pub mod Pieces
 pub mod Answering

@@ -8,17 +8,16 @@ ghost use Rattle.legal_steps.specs.LegalLists.Legal.{may_make as may_make_of};
 ghost use Rattle.legal_steps.specs.Waiting.{may_be_answered as may_be_answered_of};
 ghost use Rattle.legal_play.specs.Pieces.{AreCalls};
 ghost use Rattle.legal_play.specs.Answering.{AreGood};
-ghost use Rattle.history_check.specs.Track.{doing_in};
+ghost use Rattle.history_play.specs.HistoryCheck.Track.{doing_in};
 
 use crate::may::may_make;
 use crate::pieces::piece_of;
 use crate::waiting::Waiting;
-use history_calls::Made;
-use history_check::{Doing, GuestShape, Key, ListOf, Operation, Track};
+use history_play::{Doing, GuestShape, Key, ListOf, Made, Operation, Track};
 use std::alloc::{AllocError, Global};
 
 /// What an actor's call is for, if it is in one.
-fn operation_of(doings: &[Doing], actor: u32) -> Option<Operation>
+pub fn operation_of(doings: &[Doing], actor: u32) -> Option<Operation>
     ensures { result ≡ (doing_in doings.now actor).operation }
 {
     match doings.get(actor as usize) {

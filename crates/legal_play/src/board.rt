@@ -2,8 +2,8 @@
 ghost use Rattle.std.specs.Prelude.{◌≡◌, ◌<◌, ◌+◌, ◌^◌, ◌↔◌, IfOk, OnOk, IsTrue, is_some, false};
 ghost use Rattle.legal_steps.specs.Calls.{IsGoodGuest};
 ghost use Rattle.legal_steps.specs.Histories.{opening_guest};
-ghost use Rattle.history_check.specs.Ready.{IsReady};
-ghost use Rattle.history_check.specs.Track.{doing_in};
+ghost use Rattle.history_play.specs.HistoryCheck.Ready.{IsReady};
+ghost use Rattle.history_play.specs.HistoryCheck.Track.{doing_in};
 ghost use Rattle.legal_steps.specs.Step.{Pass, opening_pass, passed};
 ghost use Rattle.history_play.specs.Coming.{is_unknown};
 ghost use Rattle.legal_play.specs.Board.{HasRoom, IsOfPass, MayHappen, IsComingNext, IsFreshAt};
@@ -11,9 +11,10 @@ ghost use Rattle.legal_play.specs.Board.{HasRoom, IsOfPass, MayHappen, IsComingN
 use crate::passed::waits_after;
 use crate::pieces::{no_pieces, note};
 use crate::waiting::Waiting;
-use history_calls::{Made, is_same_found};
-use history_check::{Doing, Event, Found, GuestSpec, ListOf, Moment, NoMemory, State, Track};
-use history_play::{can_happen, follow, opening_track};
+use history_play::{
+    CallFound as Found, Doing, Event, GuestSpec, ListOf, Made, Moment, NoMemory, State, Track,
+    can_happen, follow, is_same_found, opening_track,
+};
 use std::alloc::Global;
 use std::marker::Model;
 
@@ -63,7 +64,8 @@ impl Board {
     #[tactic(auto, using(crate::proofs::BoardLemmas::opened))]
     pub fn open(alloc: Global, guest: &GuestSpec) -> Result<Board, NoMemory>
         requires { IsGoodGuest guest.now }
-        ensures { IfOk result (IsOfPass guest.now.shape (opening_pass (opening_guest guest.now))) }
+        ensures value { IfOk result (IsOfPass guest.now.shape (opening_pass (opening_guest guest.now))) }
+        ensures none { IfOk result (λ board. board.moments ≡ 0) }
     {
         let state = State::open(alloc, guest)?;
         let track = opening_track(alloc, &guest.shape)?;
@@ -124,7 +126,8 @@ impl Board {
         requires coming { IsComingNext self.old.state self.old.track moment.now }
         requires known { is_unknown self.old.state moment.now ≡ false }
         requires moments { self.old.moments + 1 < 2 ^ 64 }
-        ensures { (pass : Pass) → IsOfPass self.old.state.guest.shape pass self.old → OnOk result (IsOfPass self.old.state.guest.shape (passed pass moment.now) self.new) }
+        ensures count { OnOk result (self.new.moments ≡ self.old.moments + 1) }
+        ensures value { (pass : Pass) → IsOfPass self.old.state.guest.shape pass self.old → OnOk result (IsOfPass self.old.state.guest.shape (passed pass moment.now) self.new) }
     {
         let waits = waits_after(
             alloc,

@@ -12,8 +12,14 @@ mod pieces;
 mod rows;
 mod waiting;
 
-pub use answer::may_all_be_answered;
+pub use answer::{may_all_be_answered, operation_of};
 pub use board::Board;
+pub use history_play::{
+    CallFound, DeviceOp, Event, Frame, GuestOp, GuestShape, GuestSpec, Key, ListOf, Made, Moment,
+    NoMemory, Operation, Place, PlainWord, QueueChange, State, Table, Touching, Track, baser,
+    baser_after, can_happen, creadr, dist_ctlr, extract, has_bit, is_beside, is_plain, its_ctlr,
+    queue_address, reads, split, takes_commands,
+};
 pub use laws::{calls_are_followed, parts_are_all};
 pub use may::may_make;
 pub use passed::waits_after;

@@ -5,11 +5,12 @@ ghost use Rattle.legal_steps.specs.Words.{IsShape, Redist, is_same_key, intid_of
 ghost use Rattle.legal_steps.specs.Calls.{sets_lpis as sets_lpis_of};
 ghost use Rattle.legal_steps.specs.LegalLists.GicRmap.Map.{decoded as redist_decoded};
 ghost use Rattle.legal_steps.specs.LegalLists.Legal.{keys_of, gives_back, may_make_lpi as may_make_lpi_of, may_make_after, events_in_order};
-ghost use Rattle.history_calls.specs.Exact.{is_good};
+ghost use Rattle.history_play.specs.HistoryCalls.Exact.{is_good};
 
-use floor_calls::{DeviceOp, Frame, GuestOp};
-use history_calls::{Made, events_of, is_plain};
-use history_check::{Event, GuestShape, Key, Operation, key_in, takes_commands};
+use history_play::{
+    DeviceOp, Event, Frame, GuestOp, GuestShape, Key, Made, Operation, events_of, is_plain, key_in,
+    takes_commands,
+};
 use std::alloc::{AllocError, Global};
 
 /// How many events of a piece are of an interrupt.

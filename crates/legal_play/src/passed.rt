@@ -5,15 +5,14 @@ ghost use Rattle.legal_steps.specs.Registers.{first_of, candidates_at};
 ghost use Rattle.legal_steps.specs.Calls.{Cpu};
 ghost use Rattle.legal_play.specs.Passing.{CanPass};
 ghost use Rattle.legal_steps.specs.Histories.{doing_of, has_named, interface_at};
-ghost use Rattle.history_check.specs.Ready.{IsReady};
-ghost use Rattle.history_check.specs.Track.{HasPlaces, doing_in};
+ghost use Rattle.history_play.specs.HistoryCheck.Ready.{IsReady};
+ghost use Rattle.history_play.specs.HistoryCheck.Track.{HasPlaces, doing_in};
 ghost use Rattle.legal_steps.specs.Waiting.{named_actors as named_actors_of, is_passed_by as is_passed_by_of, waits_for, passed_by as passed_by_of, waits_after as waits_after_of};
 
 use crate::waiting::{Waiting, still_waiting};
-use floor_histories::{Candidate, key_at};
-use history_check::{
-    Doing, Event, GuestShape, IccReg, Key, ListOf, Moment, State, Track, asks_first, comes_first,
-    interrupt_count,
+use history_play::{
+    Candidate, Doing, Event, GuestShape, IccReg, Key, ListOf, Moment, State, Track, asks_first,
+    comes_first, interrupt_count, key_at,
 };
 use std::alloc::{AllocError, Global};
 

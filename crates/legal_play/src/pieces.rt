@@ -3,8 +3,7 @@ ghost use Rattle.std.specs.Prelude.{◌≡◌, ◌<◌, ◌++◌, ◌∷◌, [],
 ghost use Rattle.legal_steps.specs.Step.{actor_of};
 ghost use Rattle.legal_play.specs.Pieces.{piece_of as piece_in, pieces_after as pieces_after_of};
 
-use history_calls::Made;
-use history_check::{Event, Found, ListOf, Moment};
+use history_play::{CallFound as Found, Event, ListOf, Made, Moment};
 use std::alloc::{AllocError, Global};
 
 /// So many actors, none of which is in a call.

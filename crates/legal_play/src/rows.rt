@@ -1,8 +1,8 @@
 //! Tests of what open calls may yet make, worked out by hand: a message of SPI 40, and a write of ICPENDR1.
 use crate::may::may_make;
-use history_calls::Made;
-use history_check::{
-    DeviceOp, Event, Found, Frame, GuestOp, GuestShape, Key, Kind, Operation, Touching, opening_irq,
+use history_play::{
+    CallFound as Found, DeviceOp, Event, Frame, GuestOp, GuestShape, Key, Kind, Made, Operation,
+    Touching, opening_irq,
 };
 use std::alloc::Global;
 use std::test::Fail;

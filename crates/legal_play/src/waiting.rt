@@ -3,7 +3,7 @@ ghost use Rattle.std.specs.Prelude.{◌≡◌, ◌==◌, not, ◌++◌, filter, 
 ghost use Rattle.legal_steps.specs.Histories.{ends_turn as ends_turn_with, is_event_of as is_event_of_key};
 ghost use Rattle.legal_steps.specs.Waiting.{has_actor as has_actor_in, without_actor as without_actor_of, waiting_after as waiting_after_of};
 
-use history_check::{Event, Key, ListOf, Moment, key_in};
+use history_play::{Event, Key, ListOf, Moment, key_in};
 use std::alloc::{AllocError, Global};
 use std::marker::Model;
 

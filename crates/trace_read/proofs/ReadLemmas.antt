@@ -1,6 +1,7 @@
 -- What stands outside of the events of a trace, and what it is read as.
 use Rattle.std.proofs.Common.{◌≡◌, ℕ, suc, ◌+◌, ◌≤◌, ◌&&◌, not, List, [], ◌∷◌, length, map, min, Bool, true, false, Option, Some, None, Result, Ok, Err, Bor, nat_le, codes, is_some, unwrap_or, option_and_then, refl, ap, sym, ◌∙◌, subst, arith}
 use Rattle.std.specs.Result.{MatchResult}
+use Rattle.std.proofs.lemmas.List.Elements.{All-nil, All-cons}
 use Rattle.serde_json.specs.Data.{Data, null}
 use Rattle.serde_json.specs.Find.{get}
 use Rattle.serde_json.specs.View.{view}
@@ -18,7 +19,7 @@ use Rattle.scn_read.specs.Reading.{Refuses, before_steps, step_and_rest}
 use Rattle.scn_read.proofs.GoodLemmas.{good_guest}
 use Rattle.scn_read.proofs.ListLemmas.{ok_parts, err_is}
 use Rattle.trace_read.specs.declared.trace.TraceEvent.{TraceEvent}
-use Rattle.trace_read.specs.Reading.{AreEvents, trace_fields, own_fault, outside_fault, guest_at, guest_said, event_of, events_of, trace_or_fault, reading}
+use Rattle.trace_read.specs.Reading.{AreEvents, AreThere, event_fault, event_said, judged, trace_fields, own_fault, outside_fault, guest_at, guest_said, event_of, events_of, trace_or_fault, reading}
 
 -- ---- the guest
 
@@ -133,6 +134,31 @@ length-events_of shape number [] read e =
     let is : read ≡ [] = cc in
     ap length is
 length-events_of shape number (d ∷ ds) read e = more number (length ds) (event_of shape d) (events_of shape (number + 1) ds) read (length-events_of shape (number + 1) ds) e
+
+-- what is judged to be of the guest is
+
+abbrev IsThere : GuestShape → TraceEvent → Type 0
+IsThere shape event = event_fault shape event ≡ None
+
+judged_there : (shape : GuestShape) (said : Result TraceEvent ℕ) (event : TraceEvent) → judged shape said ≡ Ok event → IsThere shape event
+judged_there shape (Err code) event e = absurd cc
+judged_there shape (Ok one) event e =
+    let parts = ok_parts (event_fault shape one) one event (sym e) in
+    subst (IsThere shape) (sym parts.1) parts.0
+
+all_there : (shape : GuestShape) (number : ℕ) (said : Result TraceEvent ℕ) (rest : Result (List TraceEvent) Fault) (read : List TraceEvent) → ((r : List TraceEvent) → rest ≡ Ok r → AreThere shape r)
+    → (first : Result TraceEvent ℕ) → judged shape said ≡ first → step_and_rest number first (λ event. rest) ≡ Ok read → AreThere shape read
+all_there shape number said rest read later (Err code) is e = absurd cc
+all_there shape number said (Err fault) read later (Ok event) is e = absurd cc
+all_there shape number said (Ok r) read later (Ok event) is e =
+    let same : event ∷ r ≡ read = cc in
+    subst (AreThere shape) same (All-cons (IsThere shape) event r (judged_there shape said event is) (later r refl))
+
+pub are_there : (shape : GuestShape) (number : ℕ) (ds : List Data) (read : List TraceEvent) → events_of shape number ds ≡ Ok read → AreThere shape read
+are_there shape number [] read e =
+    let same : [] ≡ read = cc in
+    subst (AreThere shape) same (All-nil (IsThere shape))
+are_there shape number (d ∷ ds) read e = all_there shape number (event_said d) (events_of shape (number + 1) ds) read (are_there shape (number + 1) ds) (event_of shape d) refl e
 
 module _ (d : Data) (ds : List Data) (guest : GuestSpec) (outside : Outside d ds guest) where
   reading_is : reading d ≡ trace_or_fault guest (events_of guest.shape 1 ds)

@@ -1,5 +1,5 @@
 -- The trace that a JSON value is, or its fault (own choice).
-use Rattle.std.specs.Prelude.{◌≡◌, ◌≤◌, ℕ, ◌+◌, ◌*◌, ◌&&◌, not, true, List, [], ◌∷◌, length, map, nat_le, nat_lt, Bool, is_some, unwrap_or, option_map, option_and_then, find, Option, Some, None, Result, Ok, Err, if◌then◌else◌, codes}
+use Rattle.std.specs.Prelude.{◌≡◌, ◌≤◌, ℕ, All, ◌+◌, ◌*◌, ◌&&◌, not, true, List, [], ◌∷◌, length, map, nat_le, nat_lt, Bool, is_some, unwrap_or, option_map, option_and_then, find, Option, Some, None, Result, Ok, Err, if◌then◌else◌, codes}
 use Rattle.std.specs.Option.{option_map_or, option_zip}
 use Rattle.std.specs.Str.{bytes_eq}
 use Rattle.serde_json.specs.Data.{Data, null}
@@ -95,6 +95,10 @@ act_fault shape act = None
 
 abbrev pub event_fault : GuestShape → TraceEvent → Option ℕ
 event_fault shape event = first_code (first_met ((not (has_actor shape event.by), unknown_actor_code) ∷ [])) (act_fault shape event.act)
+
+-- what events are of is there: each is of an actor, an interrupt, a register, a place and an address that the guest has
+abbrev pub AreThere : GuestShape → List TraceEvent → Type 0
+AreThere shape events = All (λ event. event_fault shape event ≡ None) events
 
 -- an event that can be said is judged by its guest
 abbrev pub judged : GuestShape → Result TraceEvent ℕ → Result TraceEvent ℕ

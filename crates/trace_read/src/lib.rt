@@ -14,6 +14,7 @@ mod trace;
 mod what;
 
 pub use field::ActField;
+pub use floor_calls::{Actor, enables_in, target_in};
 pub use place::Place;
 pub use read::{MAX_EVENTS, read_trace};
 pub use scn_read::{Fault, ReadRefusal};

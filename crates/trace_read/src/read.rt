@@ -4,7 +4,7 @@ ghost use Rattle.serde_json.specs.View.{view};
 ghost use Rattle.scn_read.specs.ScnBase.Words.{IsShape};
 ghost use Rattle.scn_read.specs.GicGuest.Good.{IsGoodGuest};
 ghost use Rattle.scn_read.specs.Reading.{Refuses};
-ghost use Rattle.trace_read.specs.Reading.{AreEvents, guest_said, own_fault, events_of, reading};
+ghost use Rattle.trace_read.specs.Reading.{AreEvents, AreThere, guest_said, own_fault, events_of, reading};
 
 use crate::event::event;
 use crate::trace::{EventList, Trace};
@@ -94,6 +94,7 @@ pub fn read_trace(alloc: Global, value: &Value) -> Result<Trace, ReadRefusal>
     ensures ok { IfOk result (λ trace. reading (view value.now) ≡ Ok trace) }
     ensures good { IfOk result (λ trace. IsGoodGuest trace.guest) }
     ensures few { IfOk result (λ trace. length trace.events ≤ 100000) }
+    ensures there { IfOk result (λ trace. AreThere trace.guest.shape trace.events) }
     ensures bad { IfErr result (Refuses (reading (view value.now))) }
 {
     let guest = guest_in(alloc, value.get(GUEST))?;

@@ -4,13 +4,13 @@ use Rattle.std.specs.Option.{option_map_or}
 use Rattle.std.proofs.lemmas.Option.{none-some, same_Some, cond_some, option_and_then_some}
 use Rattle.trace_read.specs.declared.trace.Act.{Act}
 use Rattle.trace_read.specs.declared.trace.Act.TheVariants.{Begin as Begins, End as Ends, Reach as Reaches, Take as Takes, Leave as Leaves, Raise as Raises, Up as GoesUp, Down as GoesDown, Cpu as Accesses, Touch as Touches, Enable as Enables, Read as Reads, Put as Puts, CtlrBegin as BeginsCtlr, CtlrEnd as EndsCtlr, ItsBegin as BeginsIts, ItsEnd as EndsIts, Queue as MovesQueue}
-use Rattle.history_calls.specs.Words.{Redist, Mem}
-use Rattle.history_calls.specs.Registers.{fault_number}
-use Rattle.history_calls.specs.LegalLists.ItsCmd.Command.{decoded}
-use Rattle.history_calls.specs.Calls.{Event, Found, Moment, Happens, Operation, Access, Happened, Place, PlainWord, QueueChange, Runs, Done, Stalls, Put, command_words}
-use Rattle.history_calls.specs.GicCall.declared.event.Event.TheVariants.{Queue}
-use Rattle.history_calls.specs.Histories.{Ideal, Course, vcpu_of, call_of, gone_on, course_of, handed_out}
-use Rattle.history_play.specs.Coming.{is_unknown}
+use Rattle.legal_play.specs.Words.{Redist, Mem}
+use Rattle.legal_play.specs.Registers.{fault_number}
+use Rattle.legal_play.specs.LegalLists.ItsCmd.Command.{decoded}
+use Rattle.legal_play.specs.Calls.{Event, Found, Moment, Happens, Operation, Access, Happened, Place, PlainWord, QueueChange, Runs, Done, Stalls, Put, command_words}
+use Rattle.legal_play.specs.GicCall.declared.event.Event.TheVariants.{Queue}
+use Rattle.legal_play.specs.Histories.{Ideal, Course, vcpu_of, call_of, gone_on, course_of, handed_out}
+use Rattle.legal_play.specs.HistoryPlay.Coming.{is_unknown}
 use Rattle.trace_told.specs.Given.{word_at, stored_of, is_word, gives}
 use Rattle.trace_told.specs.Told.{actor_of, as_fetched, command_end, change_at, queue_told, enable_told, if_vcpu, event_told, reading, places_before, places_after, moments_round, with_reads, event_moments, moments_told, told_by}
 use Rattle.trace_told.specs.Laws.{AreFaultless, ToldOnesAreFaultless}

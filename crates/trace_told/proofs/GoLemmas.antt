@@ -3,13 +3,13 @@ use Rattle.std.proofs.Common.{◌≡◌, List, [], ◌∷◌, ◌++◌, Some, re
 use Rattle.std.proofs.lemmas.Grind.{fold-append}
 use Rattle.std.proofs.lemmas.Option.{same_Some, option_and_then_some}
 use Rattle.trace_read.specs.declared.trace.TraceEvent.{TraceEvent}
-use Rattle.history_calls.specs.Calls.{Moment}
-use Rattle.history_calls.specs.Histories.{IdealGuest, Course, opening_course, course_of}
-use Rattle.legal_steps.specs.LegalLists.Legal.{IsLegal}
-use Rattle.legal_steps.specs.Step.{opening_pass, passed, pass_of}
-use Rattle.legal_steps.proofs.PartLaw.{parts}
-use Rattle.legal_steps.proofs.PassLaw.{pass_course}
-use Rattle.legal_steps.proofs.StepLaw.{go_on}
+use Rattle.legal_play.specs.Calls.{Moment}
+use Rattle.legal_play.specs.Histories.{IdealGuest, Course, opening_course, course_of}
+use Rattle.legal_play.specs.LegalLists.Legal.{IsLegal}
+use Rattle.legal_play.specs.LegalSteps.Step.{opening_pass, passed, pass_of}
+use Rattle.legal_play.proofs.LegalSteps.PartLaw.{parts}
+use Rattle.legal_play.proofs.LegalSteps.PassLaw.{pass_course}
+use Rattle.legal_play.proofs.LegalSteps.StepLaw.{go_on}
 use Rattle.trace_told.specs.Told.{told, told_from}
 use Rattle.trace_told.specs.Verdict.{CanBe}
 use Rattle.trace_told.specs.Laws.{GoOnLegally, CanFollow, TracesGoOn}

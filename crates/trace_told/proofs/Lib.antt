@@ -1,5 +1,4 @@
-pub use Rattle.history_calls.proofs.GicBase
-pub use Rattle.history_calls.proofs.GicCall
+pub use Rattle.legal_play.proofs as LegalPlay
 pub mod PartLemmas
 pub mod VerdictLemmas
 pub mod ReadLemmas

@@ -3,12 +3,12 @@ use Rattle.std.proofs.Common.{◌≡◌, List, [], ◌∷◌, ◌++◌, Option, 
 use Rattle.std.specs.Prelude.{option_and_then}
 use Rattle.std.proofs.lemmas.Option.{none-some, same_Some, option_and_then_some}
 use Rattle.trace_read.specs.declared.trace.TraceEvent.{TraceEvent}
-use Rattle.history_calls.specs.Calls.{Moment}
-use Rattle.history_calls.specs.Histories.{Course, opening_course, course_of}
-use Rattle.legal_steps.specs.LegalLists.Legal.{IsLegal}
-use Rattle.legal_steps.proofs.PartLaw.{parts}
-use Rattle.legal_steps.proofs.WholeLaw.{whole}
-use Rattle.legal_steps.proofs.CourseLemmas.{course_both}
+use Rattle.legal_play.specs.Calls.{Moment}
+use Rattle.legal_play.specs.Histories.{Course, opening_course, course_of}
+use Rattle.legal_play.specs.LegalLists.Legal.{IsLegal}
+use Rattle.legal_play.proofs.LegalSteps.PartLaw.{parts}
+use Rattle.legal_play.proofs.LegalSteps.WholeLaw.{whole}
+use Rattle.legal_play.proofs.LegalSteps.CourseLemmas.{course_both}
 use Rattle.trace_told.specs.Told.{told, told_from}
 use Rattle.trace_told.specs.Laws.{PartsCanBe, WholeOnesAreFresh}
 

@@ -7,9 +7,9 @@ use Rattle.std.proofs.lemmas.Grind.{fold-append}
 use Rattle.std.proofs.lemmas.Option.{none-some, same_Some, cond_some, option_and_then_some}
 use Rattle.trace_read.specs.declared.trace.Act.{Act}
 use Rattle.trace_read.specs.declared.trace.Act.TheVariants.{Begin as Begins, End as Ends}
-use Rattle.history_calls.specs.Calls.{Event, Moment, Begin, Happens, Operation, Happened, Place}
-use Rattle.history_calls.specs.GicCall.declared.event.Moment.TheVariants.{End}
-use Rattle.history_calls.specs.Histories.{Ideal, Course, vcpu_of, call_of, gone_on, course_of, after_moment, handed_out}
+use Rattle.legal_play.specs.Calls.{Event, Moment, Begin, Happens, Operation, Happened, Place}
+use Rattle.legal_play.specs.GicCall.declared.event.Moment.TheVariants.{End}
+use Rattle.legal_play.specs.Histories.{Ideal, Course, vcpu_of, call_of, gone_on, course_of, after_moment, handed_out}
 use Rattle.trace_told.specs.Given.{gives}
 use Rattle.trace_told.specs.Told.{actor_of, told_by, event_told, reading, places_before, places_after, moments_round, with_reads, moments_told}
 use Rattle.trace_told.specs.Laws.{is_reading, IsOneAmongReads, OnlyReadsArePutIn}

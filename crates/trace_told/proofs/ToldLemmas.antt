@@ -3,9 +3,9 @@ use Rattle.std.proofs.Common.{◌≡◌, ℕ, true, false, List, ◌∷◌, map,
 use Rattle.std.specs.Prelude.{option_and_then}
 use Rattle.std.proofs.lemmas.Option.{cond_some}
 use Rattle.trace_read.specs.declared.trace.Act.{Act}
-use Rattle.history_calls.specs.Calls.{Event, Moment, Happens, Operation, Happened, CanHappen}
-use Rattle.history_calls.specs.Histories.{Ideal, vcpu_of, course_of, handed_out, GoesOn}
-use Rattle.legal_steps.proofs.CourseLemmas.{goes_before}
+use Rattle.legal_play.specs.Calls.{Event, Moment, Happens, Operation, Happened, CanHappen}
+use Rattle.legal_play.specs.Histories.{Ideal, vcpu_of, course_of, handed_out, GoesOn}
+use Rattle.legal_play.proofs.LegalSteps.CourseLemmas.{goes_before}
 use Rattle.trace_told.specs.Given.{gives}
 use Rattle.trace_told.specs.Told.{event_told, reading, places_before, places_after, moments_round, with_reads, event_moments}
 use Rattle.trace_told.specs.Untold.{IsEventUntold}

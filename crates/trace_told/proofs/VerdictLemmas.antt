@@ -2,7 +2,7 @@
 use Rattle.std.proofs.Common.{◌≡◌, ℕ, List, take, drop, refl, sym, ap, subst, inl, inr, arith, take-append-drop}
 use Rattle.std.proofs.lemmas.Bool.{cases_lt}
 use Rattle.trace_read.specs.declared.trace.TraceEvent.{TraceEvent}
-use Rattle.history_calls.specs.Histories.{IdealGuest}
+use Rattle.legal_play.specs.Histories.{IdealGuest}
 use Rattle.trace_told.specs.declared.verdict.Verdict.TheVariants.{Yes, No}
 use Rattle.trace_told.specs.Verdict.{CanBe, IsLeastRefused}
 use Rattle.trace_told.specs.Laws.{VerdictsAreOne}

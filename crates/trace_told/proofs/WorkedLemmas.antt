@@ -3,20 +3,20 @@ use Rattle.std.proofs.Common.{◌≡◌, ℕ, ◌+◌, ◌≤◌, zero, suc, Lis
 use Rattle.std.proofs.lemmas.List.Elements.{All-nil, All-from_recursion}
 use Rattle.std.proofs.lemmas.Option.{none-some, same_Some}
 use Rattle.trace_read.specs.declared.trace.TraceEvent.{TraceEvent}
-use Rattle.legal_steps.specs.LegalLists.Registers.{least_in, with_level, without_level}
-use Rattle.history_calls.specs.Words.{GuestShape, Iar1, Spi, Icc}
-use Rattle.history_calls.specs.Calls.{Reach, Cpu, Found, Moment, Begin, Happens, Access, Happened, IsCall}
-use Rattle.history_calls.specs.GicCall.declared.event.Event.TheVariants.{Raise}
-use Rattle.history_calls.specs.GicCall.declared.event.Found.TheVariants.{Nothing, Answer}
-use Rattle.history_calls.specs.GicCall.declared.event.Moment.TheVariants.{End}
-use Rattle.history_calls.specs.Histories.{IdealGuest, Call, opening_course, vcpu_of, IsHistory, IsFresh, IsEnded, worked_guest, message, overlooked, outdated}
-use Rattle.legal_steps.specs.LegalLists.Legal.{IsLegal, unseen}
-use Rattle.legal_steps.specs.LegalLists.Open.{read_twice, raises_another, raises_nothing}
-use Rattle.legal_steps.proofs.GicHistory.CallLemmas.{hands_one, beside_of, head_in, is_some_window}
-use Rattle.legal_steps.proofs.OpenLemmas.{open_refused}
-use Rattle.legal_steps.proofs.StepLaw.{go_on}
-use Rattle.legal_steps.proofs.WholeLaw.{whole}
-use Rattle.legal_steps.proofs.WorkedLemmas.{refused as unfresh_refused, IsOver, calls_after}
+use Rattle.legal_play.specs.LegalLists.Registers.{least_in, with_level, without_level}
+use Rattle.legal_play.specs.Words.{GuestShape, Iar1, Spi, Icc}
+use Rattle.legal_play.specs.Calls.{Reach, Cpu, Found, Moment, Begin, Happens, Access, Happened, IsCall}
+use Rattle.legal_play.specs.GicCall.declared.event.Event.TheVariants.{Raise}
+use Rattle.legal_play.specs.GicCall.declared.event.Found.TheVariants.{Nothing, Answer}
+use Rattle.legal_play.specs.GicCall.declared.event.Moment.TheVariants.{End}
+use Rattle.legal_play.specs.Histories.{IdealGuest, Call, opening_course, vcpu_of, IsHistory, IsFresh, IsEnded, worked_guest, message, overlooked, outdated}
+use Rattle.legal_play.specs.LegalLists.Legal.{IsLegal, unseen}
+use Rattle.legal_play.specs.LegalLists.Open.{read_twice, raises_another, raises_nothing}
+use Rattle.legal_play.proofs.LegalSteps.GicHistory.CallLemmas.{hands_one, beside_of, head_in, is_some_window}
+use Rattle.legal_play.proofs.LegalSteps.OpenLemmas.{open_refused}
+use Rattle.legal_play.proofs.LegalSteps.StepLaw.{go_on}
+use Rattle.legal_play.proofs.LegalSteps.WholeLaw.{whole}
+use Rattle.legal_play.proofs.LegalSteps.WorkedLemmas.{refused as unfresh_refused, IsOver, calls_after}
 use Rattle.trace_told.specs.Told.{told_from}
 use Rattle.trace_told.specs.Verdict.{CanBe, IsLeastRefused}
 use Rattle.trace_told.specs.Worked.{served, overlooked as overlooked_trace, read_twice as read_twice_trace, raises_another as raises_another_trace, raises_nothing as raises_nothing_trace, mistaken, answered, outdated as outdated_trace, outside, WorkedTraces}

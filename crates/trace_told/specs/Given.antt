@@ -5,13 +5,13 @@ use Rattle.trace_read.specs.declared.trace.Act.{Act}
 use Rattle.trace_read.specs.declared.trace.Act.TheVariants.{Cpu, Touch, Read}
 use Rattle.trace_read.specs.declared.place.Place.{Place as TracePlace}
 use Rattle.trace_read.specs.declared.place.Place.TheVariants.{Ram as RamAt, Propbaser as PropbaserOf, Pendbaser as PendbaserOf, ItsCtlr as ItsCtlrThere, Cbaser as CbaserThere, Cwriter as CwriterThere, Baser0 as Baser0There, Baser1 as Baser1There, Creadr as CreadrThere, Ctlr as CtlrThere, Lpis as LpisOf}
-use Rattle.history_calls.specs.Words.{bit_of, is_number}
-use Rattle.history_calls.specs.Registers.{enabled_in, baser_bits, baser_of, creadr_of, Devices, Collections}
-use Rattle.history_calls.specs.LegalLists.GicDmap.Contents.{ctlr_of as dist_ctlr_of}
-use Rattle.history_calls.specs.LegalLists.GicImap.Contents.{ctlr_of as its_ctlr_of}
-use Rattle.history_calls.specs.Calls.{Found, Record, Place, PlainWord, Ram, Propbaser, Pendbaser, ItsCtlr, Cbaser, Cwriter, Baser0, Baser1, touch_answer}
-use Rattle.history_calls.specs.GicCall.declared.event.Found.TheVariants.{Answer, Word as FoundWord, Queue as FoundQueue, Ctlr as FoundCtlr, Lpis as FoundLpis}
-use Rattle.history_calls.specs.GicCall.declared.event.Place.TheVariants.{Word, Queue as QueuePlace, Ctlr, Lpis}
+use Rattle.legal_play.specs.Words.{bit_of, is_number}
+use Rattle.legal_play.specs.Registers.{enabled_in, baser_bits, baser_of, creadr_of, Devices, Collections}
+use Rattle.legal_play.specs.LegalLists.GicDmap.Contents.{ctlr_of as dist_ctlr_of}
+use Rattle.legal_play.specs.LegalLists.GicImap.Contents.{ctlr_of as its_ctlr_of}
+use Rattle.legal_play.specs.Calls.{Found, Record, Place, PlainWord, Ram, Propbaser, Pendbaser, ItsCtlr, Cbaser, Cwriter, Baser0, Baser1, touch_answer}
+use Rattle.legal_play.specs.GicCall.declared.event.Found.TheVariants.{Answer, Word as FoundWord, Queue as FoundQueue, Ctlr as FoundCtlr, Lpis as FoundLpis}
+use Rattle.legal_play.specs.GicCall.declared.event.Place.TheVariants.{Word, Queue as QueuePlace, Ctlr, Lpis}
 
 -- Places.
 

@@ -2,11 +2,11 @@
 use Rattle.std.specs.Prelude.{◌≡◌, ◌↔◌, Bool, true, false, IsTrue, List, [], ◌∷◌, ◌++◌, Some}
 use Rattle.std.specs.List.{list_all}
 use Rattle.trace_read.specs.declared.trace.TraceEvent.{TraceEvent}
-use Rattle.history_calls.specs.Calls.{Moment, Happens}
-use Rattle.history_calls.specs.GicCall.declared.event.Event.TheVariants.{Read}
-use Rattle.history_calls.specs.Histories.{IdealGuest, Course, gone_on, course_of, IsHistory, IsWhole, IsFresh}
-use Rattle.legal_steps.specs.Step.{Pass, passed, pass_of, GoesOnLegally}
-use Rattle.history_play.specs.Coming.{is_unknown}
+use Rattle.legal_play.specs.Calls.{Moment, Happens}
+use Rattle.legal_play.specs.GicCall.declared.event.Event.TheVariants.{Read}
+use Rattle.legal_play.specs.Histories.{IdealGuest, Course, gone_on, course_of, IsHistory, IsWhole, IsFresh}
+use Rattle.legal_play.specs.LegalSteps.Step.{Pass, passed, pass_of, GoesOnLegally}
+use Rattle.legal_play.specs.HistoryPlay.Coming.{is_unknown}
 use Rattle.trace_told.specs.declared.verdict.Verdict.{Verdict}
 use Rattle.trace_told.specs.Told.{told}
 use Rattle.trace_told.specs.Verdict.{CanBe, IsVerdict}

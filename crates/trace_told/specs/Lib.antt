@@ -1,9 +1,11 @@
-pub use Rattle.history_calls.specs.Calls
-pub use Rattle.history_calls.specs.Histories
-pub use Rattle.history_calls.specs.Registers
-pub use Rattle.history_calls.specs.Words
-pub use Rattle.history_calls.specs.GicCall
-pub use Rattle.history_calls.specs.LegalLists
+pub use Rattle.legal_play.specs.Calls
+pub use Rattle.legal_play.specs.Histories
+pub use Rattle.legal_play.specs.Registers
+pub use Rattle.legal_play.specs.Words
+pub use Rattle.legal_play.specs.GicCall
+pub use Rattle.legal_play.specs.LegalLists
+pub use Rattle.legal_play.specs as LegalPlay
+pub use Rattle.trace_read.specs as TraceRead
 pub mod Given
 pub mod Told
 pub mod Untold

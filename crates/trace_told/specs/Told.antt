@@ -9,17 +9,17 @@ use Rattle.trace_read.specs.declared.trace.TraceCall.TheVariants.{Vcpu as VcpuCa
 use Rattle.trace_read.specs.declared.trace.TraceEvent.{TraceEvent}
 use Rattle.trace_read.specs.declared.place.Place.{Place as TracePlace}
 use Rattle.trace_read.specs.ScnRead.ScnBase.Words.{Actor, Vcpu as VcpuNumber, Device as DeviceNumber}
-use Rattle.history_calls.specs.Words.{GuestShape, Lpi, Redist, Mem}
-use Rattle.history_calls.specs.Registers.{enables_in, fault_number}
-use Rattle.history_calls.specs.LegalLists.ItsCmd.Command.{decoded}
-use Rattle.history_calls.specs.Calls.{Event, Up, Down, Touch, Reach, Take, Leave, Enable, Cpu, Put, CtlrBegin, CtlrEnd, ItsBegin, Found, Moment, Begin, Happens, Operation, Access, Device, Residence, MapLpi, Happened, View, Place, PlainWord, Ram, Propbaser, Pendbaser, ItsCtlr, Cbaser, Cwriter, QueueChange, Runs, Done, Stalls, held_at, is_beside, command_words}
-use Rattle.history_calls.specs.GicCall.declared.event.Event.TheVariants.{Raise, Read, ItsEnd, Queue}
-use Rattle.history_calls.specs.GicCall.declared.event.Found.TheVariants.{Lpis as FoundLpis}
-use Rattle.history_calls.specs.GicCall.declared.event.Moment.TheVariants.{End}
-use Rattle.history_calls.specs.GicCall.declared.event.Place.TheVariants.{Word, Queue as QueuePlace}
-use Rattle.history_calls.specs.GicCall.declared.touch.Touching.TheVariants.{Configure}
-use Rattle.history_calls.specs.Histories.{Ideal, Course, vcpu_of, call_of, course_of, handed_out, view_at, targets_in, takes_commands}
-use Rattle.history_calls.specs.Found.{reads, word_in}
+use Rattle.legal_play.specs.Words.{GuestShape, Lpi, Redist, Mem}
+use Rattle.legal_play.specs.Registers.{enables_in, fault_number}
+use Rattle.legal_play.specs.LegalLists.ItsCmd.Command.{decoded}
+use Rattle.legal_play.specs.Calls.{Event, Up, Down, Touch, Reach, Take, Leave, Enable, Cpu, Put, CtlrBegin, CtlrEnd, ItsBegin, Found, Moment, Begin, Happens, Operation, Access, Device, Residence, MapLpi, Happened, View, Place, PlainWord, Ram, Propbaser, Pendbaser, ItsCtlr, Cbaser, Cwriter, QueueChange, Runs, Done, Stalls, held_at, is_beside, command_words}
+use Rattle.legal_play.specs.GicCall.declared.event.Event.TheVariants.{Raise, Read, ItsEnd, Queue}
+use Rattle.legal_play.specs.GicCall.declared.event.Found.TheVariants.{Lpis as FoundLpis}
+use Rattle.legal_play.specs.GicCall.declared.event.Moment.TheVariants.{End}
+use Rattle.legal_play.specs.GicCall.declared.event.Place.TheVariants.{Word, Queue as QueuePlace}
+use Rattle.legal_play.specs.GicCall.declared.touch.Touching.TheVariants.{Configure}
+use Rattle.legal_play.specs.Histories.{Ideal, Course, vcpu_of, call_of, course_of, handed_out, view_at, targets_in, takes_commands}
+use Rattle.legal_play.specs.HistoryPlay.HistoryCalls.Found.{reads, word_in}
 use Rattle.trace_told.specs.Given.{word_at, place_at, stored_of, is_word, gives}
 
 -- Who acts, and what for.

@@ -1,8 +1,8 @@
 -- What an event of a trace is that says nothing which can be.
 use Rattle.std.specs.Prelude.{◌≡◌, ℕ, List, Option, Some}
 use Rattle.trace_read.specs.declared.trace.Act.{Act}
-use Rattle.history_calls.specs.Calls.{Operation, Moment, Happened}
-use Rattle.history_calls.specs.Histories.{Ideal, Course, GoesOn}
+use Rattle.legal_play.specs.Calls.{Operation, Moment, Happened}
+use Rattle.legal_play.specs.Histories.{Ideal, Course, GoesOn}
 use Rattle.trace_told.specs.Told.{event_moments, moments_told}
 
 -- it says no moments, or some that do not go on with any course in this state

@@ -1,9 +1,9 @@
 -- The verdict on a trace: whether it can be a record of a guest's actors (own choice).
 use Rattle.std.specs.Prelude.{◌≡◌, ℕ, ◌<◌, ◌≤◌, List, length, take, Some}
 use Rattle.trace_read.specs.declared.trace.TraceEvent.{TraceEvent}
-use Rattle.history_calls.specs.Calls.{Moment}
-use Rattle.history_calls.specs.Histories.{IdealGuest, opening_course}
-use Rattle.legal_steps.specs.LegalLists.Legal.{IsLegal}
+use Rattle.legal_play.specs.Calls.{Moment}
+use Rattle.legal_play.specs.Histories.{IdealGuest, opening_course}
+use Rattle.legal_play.specs.LegalLists.Legal.{IsLegal}
 use Rattle.trace_told.specs.declared.verdict.Verdict.{Verdict}
 use Rattle.trace_told.specs.declared.verdict.Verdict.TheVariants.{Yes, No}
 use Rattle.trace_told.specs.Told.{told_from}

@@ -5,8 +5,8 @@ use Rattle.trace_read.specs.declared.trace.Act.TheVariants.{Begin, End, Reach, R
 use Rattle.trace_read.specs.declared.trace.TraceCall.TheVariants.{Vcpu as VcpuCall, Device as DeviceCall, Enter}
 use Rattle.trace_read.specs.declared.trace.TraceEvent.{TraceEvent}
 use Rattle.trace_read.specs.ScnRead.ScnBase.Words.{Vcpu, Device}
-use Rattle.history_calls.specs.Words.{IccReg, Iar1, Rpr, Spi, Message, Icc}
-use Rattle.history_calls.specs.Histories.{worked_guest}
+use Rattle.legal_play.specs.Words.{IccReg, Iar1, Rpr, Spi, Message, Icc}
+use Rattle.legal_play.specs.Histories.{worked_guest}
 use Rattle.trace_told.specs.declared.verdict.Verdict.TheVariants.{Yes, No}
 use Rattle.trace_told.specs.Verdict.{CanBe, IsVerdict}
 

@@ -1,15 +1,13 @@
 //! Which event one of a trace is.
 ghost use Rattle.std.specs.Prelude.{◌≡◌};
-ghost use Rattle.history_calls.specs.Words.{IsShape};
-ghost use Rattle.history_check.specs.Ready.{IsReady};
+ghost use Rattle.legal_play.specs.Words.{IsShape};
+ghost use Rattle.legal_play.specs.HistoryPlay.HistoryCheck.Ready.{IsReady};
 ghost use Rattle.trace_told.specs.Told.{actor_of as actor_number, operation_of as operation_called, is_stall as is_stall_of, queue_told as queue_told_by, enable_told as enable_told_by, put_told as put_told_by, event_told as event_told_by};
 
 use crate::fetch::change_at;
 use crate::given::{is_word, place_at, stored_of, word_at};
-use floor_calls::{Actor, enables_in};
-use history_calls::Made;
-use history_check::{Event, Frame, GuestOp, GuestShape, Operation, QueueChange, State};
-use trace_read::{Act, Place, TraceCall};
+use legal_play::{Event, Frame, GuestOp, GuestShape, Made, Operation, QueueChange, State};
+use trace_read::{Act, Actor, Place, TraceCall, enables_in};
 
 /// The number of an actor in its guest, if it is there: the vCPUs come first, and then the devices.
 pub fn actor_of(shape: &GuestShape, by: Actor) -> Option<u32>

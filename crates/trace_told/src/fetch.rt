@@ -1,17 +1,16 @@
 //! What a call has read of the command of the ITS that it is at.
 ghost use Rattle.std.specs.Prelude.{◌≡◌, ◌<◌, Some, false};
 ghost use Rattle.std.specs.Option.{option_map_or};
-ghost use Rattle.history_calls.specs.Calls.{word_address, memory_at, command_words as command_words_of};
-ghost use Rattle.history_calls.specs.Found.{word_in};
-ghost use Rattle.history_calls.specs.Histories.{takes_commands as takes_commands_of};
-ghost use Rattle.history_check.specs.Ready.{IsReady};
+ghost use Rattle.legal_play.specs.Calls.{word_address, memory_at, command_words as command_words_of};
+ghost use Rattle.legal_play.specs.HistoryPlay.HistoryCalls.Found.{word_in};
+ghost use Rattle.legal_play.specs.Histories.{takes_commands as takes_commands_of};
+ghost use Rattle.legal_play.specs.HistoryPlay.HistoryCheck.Ready.{IsReady};
 ghost use Rattle.trace_told.specs.Told.{leads_on as leads_on_to, word_fetched as word_fetched_at, has_read as has_read_at, as_fetched, command_end as command_end_of, change_at as change_at_of};
 
-use floor_histories::{
-    Event, Operation, Place, PlainWord, QueueChange, extract, queue_address, split,
+use legal_play::{
+    CallFound as Found, Event, Made, Operation, Place, PlainWord, QueueChange, State, extract,
+    is_beside, queue_address, reads, split, takes_commands,
 };
-use history_calls::{Found, Made, is_beside, reads};
-use history_check::{State, takes_commands};
 
 /// The bytes of a doubleword.
 const DOUBLEWORD_BYTES: u32 = 8;

@@ -1,12 +1,13 @@
 //! The values that a trace gives, beside what is there.
 ghost use Rattle.std.specs.Prelude.{◌≡◌};
-ghost use Rattle.history_calls.specs.Calls.{touch_answer, is_shown};
-ghost use Rattle.history_calls.specs.Words.{IsIrq, IsRecordOf};
+ghost use Rattle.legal_play.specs.Calls.{touch_answer, is_shown};
+ghost use Rattle.legal_play.specs.Words.{IsIrq, IsRecordOf};
 ghost use Rattle.trace_told.specs.Given.{word_at as word_at_place, place_at as place_at_place, shown as shown_at, stored_of as stored_at, is_word as is_word_at, is_read_as as is_read_as_at, is_answer as is_answer_that};
 
-use floor_calls::has_bit;
-use floor_histories::{Table, baser, baser_after, creadr, dist_ctlr, its_ctlr};
-use history_check::{Found, Place, PlainWord};
+use legal_play::{
+    CallFound as Found, Place, PlainWord, Table, baser, baser_after, creadr, dist_ctlr, has_bit,
+    its_ctlr,
+};
 use trace_read::Place as TracePlace;
 
 /// The bit of GITS_CTLR that is Enabled.

@@ -15,5 +15,11 @@ pub use laws::{
     only_reads_are_put_in, parts_can_be, told_ones_are_faultless, traces_are_judged, traces_go_on,
     verdicts_are_one, whole_ones_are_fresh,
 };
-pub use told::moments_told;
+pub use legal_play::{
+    Board, DeviceOp, Event, Frame, GuestOp, GuestShape, GuestSpec, Key, ListOf, Made, Moment,
+    NoMemory, Operation, PlainWord, State, Touching, has_bit, is_plain, may_all_be_answered,
+    operation_of as operation_in, piece_of,
+};
+pub use told::{moments_told, target_of};
+pub use trace_read::{EventList, ReadRefusal, Trace, TraceEvent, read_trace};
 pub use verdict::Verdict;

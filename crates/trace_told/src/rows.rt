@@ -1,12 +1,12 @@
 //! Tests of what events say, each by itself as a guest opens, and of what a call goes by that has read a command, worked out by hand.
 ghost use Rattle.std.specs.Prelude.{IfOk};
-ghost use Rattle.history_calls.specs.Calls.{IsGoodGuest};
+ghost use Rattle.legal_play.specs.Calls.{IsGoodGuest};
 
 use crate::event::actor_of;
 use crate::told::moments_told;
-use history_calls::{Found, Made};
-use history_check::{
-    Event, Frame, GuestOp, ListOf, Moment, Operation, Place, PlainWord, QueueChange, State,
+use legal_play::{
+    CallFound as Found, Event, Frame, GuestOp, ListOf, Made, Moment, Operation, Place, PlainWord,
+    QueueChange, State,
 };
 use serde_json::Value;
 use std::alloc::Global;

@@ -1,11 +1,11 @@
 //! The moments that an event of a trace says.
 ghost use Rattle.std.specs.Prelude.{◌≡◌, ◌++◌, ◌∷◌, [], IfOk, IfSome, IfNone, OnOk, IsTrue, map, Some, None, ℕ, ◌<◌};
 ghost use Rattle.std.specs.Option.{option_map_or};
-ghost use Rattle.history_calls.specs.Calls.{ItsCtlr, Cbaser, Cwriter, Propbaser, CanHappen, CanTouch, has_place, touch_answer};
-ghost use Rattle.history_calls.specs.Histories.{handed_out, irq_at, vcpu_of as vcpu_that_is, targets_in};
-ghost use Rattle.history_calls.specs.Words.{has_interrupt, Lpi};
-ghost use Rattle.history_calls.specs.GicCall.declared.event.Place.TheVariants.{Queue, Word};
-ghost use Rattle.history_check.specs.Ready.{IsReady};
+ghost use Rattle.legal_play.specs.Calls.{ItsCtlr, Cbaser, Cwriter, Propbaser, CanHappen, CanTouch, has_place, touch_answer};
+ghost use Rattle.legal_play.specs.Histories.{handed_out, irq_at, vcpu_of as vcpu_that_is, targets_in};
+ghost use Rattle.legal_play.specs.Words.{has_interrupt, Lpi};
+ghost use Rattle.legal_play.specs.GicCall.declared.event.Place.TheVariants.{Queue, Word};
+ghost use Rattle.legal_play.specs.HistoryPlay.HistoryCheck.Ready.{IsReady};
 ghost use Rattle.trace_told.specs.Given.{gives as gives_what, is_answer as is_answer_that};
 ghost use Rattle.trace_told.specs.Told.{byte_place as byte_place_of, places_before as places_before_of, places_after as places_after_of, reading, moments_round, event_moments as event_moments_by, moments_told as moments_told_by, event_told as event_told_by};
 ghost use Rattle.trace_told.specs.Untold.{IsEventUntold, IsUntold};
@@ -13,15 +13,12 @@ ghost use Rattle.trace_told.specs.Untold.{IsEventUntold, IsUntold};
 use crate::event::{event_told, operation_of};
 use crate::fetch::has_read;
 use crate::given::{is_answer, is_read_as};
-use floor_calls::target_in;
-use floor_histories::Found;
-use history_calls::Made;
-use history_check::{
-    Event, GuestShape, Key, ListOf, Moment, Operation, Place, PlainWord, State, Touching,
+use legal_play::{
+    CallFound as Found, Event, GuestShape, Key, ListOf, Made, Moment, Operation, Place, PlainWord,
+    State, Touching, can_happen,
 };
-use history_play::can_happen;
 use std::alloc::{AllocError, Global};
-use trace_read::Act;
+use trace_read::{Act, target_in};
 
 /// The vCPU that an actor is, if it is one.
 fn vcpu_of(shape: &GuestShape, actor: u32) -> Option<u32>
@@ -88,7 +85,7 @@ fn read_at(state: &State, actor: u32, place: Place) -> Moment
 }
 
 /// The vCPU that an LPI is for, if it is for one.
-fn target_of(state: &State, key: Key) -> Option<u32>
+pub fn target_of(state: &State, key: Key) -> Option<u32>
     requires ready { IsReady state.now }
     requires there { IsTrue (has_interrupt state.now.guest.shape key) }
     ensures { (id : ℕ) → key ≡ Lpi id → result ≡ targets_in state.now id }

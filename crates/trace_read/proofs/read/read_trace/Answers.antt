@@ -2,7 +2,7 @@ use Rattle.std.proofs.Common.{◌≡◌, ◌≤◌, ◌∙◌, map, sym, subst, 
 use Rattle.std.proofs.lemmas.List.{length-map}
 use Rattle.std.proofs.lemmas.Result.{err_from_is_err_and}
 use Rattle.serde_json.specs.View.{view}
-use Rattle.trace_read.proofs.ReadLemmas.{outside_of, fault_of, refused, trace_is, trace_few, refuses}
+use Rattle.trace_read.proofs.ReadLemmas.{outside_of, fault_of, refused, trace_is, trace_few, refuses, are_there}
 use Rattle.trace_read.proofs.read.read_trace.Goals as goal
 
 pub events-requires-clause-shape : goal.events-requires-clause-shape
@@ -40,3 +40,6 @@ pub returns-clause-few : goal.returns-clause-few
 returns-clause-few c =
     let outside = outside_of (view c.args.value.now) c.events_at.result c.in_ok-guest.guest _ c.events_at.ensures c.in_ok-guest.ensures c.get.ensures c.in-Ok.parts c.in-Ok.ensures in
     trace_few (view c.args.value.now) (map view c.in-Ok.parts.0.now) c.in-Ok.parts.1 outside c.in_ok-events.events c.in_ok-events.ensures.ok
+
+pub returns-clause-there : goal.returns-clause-there
+returns-clause-there c = are_there c.in-Ok.parts.1.shape 1 (map view c.in-Ok.parts.0.now) c.in_ok-events.events c.in_ok-events.ensures.ok

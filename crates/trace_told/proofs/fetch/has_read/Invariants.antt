@@ -1,6 +1,6 @@
 use Rattle.std.proofs.Common.{◌≡◌, ◌&&◌, ◌||◌, false, drop, fold}
-use Rattle.history_calls.specs.Calls.{is_beside}
-use Rattle.history_calls.specs.Found.{reads}
+use Rattle.legal_play.specs.Calls.{is_beside}
+use Rattle.legal_play.specs.HistoryPlay.HistoryCalls.Found.{reads}
 use Rattle.trace_told.proofs.fetch.has_read.Given as goal
 
 -- the events so far and those that are left tell it

@@ -1,6 +1,6 @@
 use Rattle.std.proofs.Common.{◌≡◌, Some, sym, ap, ◌∙◌, subst, true≢false}
-use Rattle.history_calls.specs.Histories.{vcpu_of}
-use Rattle.history_calls.specs.Calls.{CanHappen}
+use Rattle.legal_play.specs.Histories.{vcpu_of}
+use Rattle.legal_play.specs.Calls.{CanHappen}
 use Rattle.trace_told.specs.Told.{event_told}
 use Rattle.trace_told.proofs.ToldLemmas.{cannot}
 use Rattle.trace_told.proofs.told.event_moments.Goals as goal

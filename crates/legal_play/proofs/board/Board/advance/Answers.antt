@@ -4,8 +4,8 @@ use Rattle.legal_play.specs.Board.{BoardOf, IsOfPass, IsComingNext}
 use Rattle.legal_play.proofs.BoardLemmas.{advanced}
 use Rattle.legal_play.proofs.board.Board.advance.Goals as goal
 
-pub returns : goal.returns
-returns c pass of =
+pub returns-clause-value : goal.returns-clause-value
+returns-clause-value c pass of =
     let moment = c.args.moment.now in
     let shape = c.args.self.now.state.guest.shape in
     let inside : BoardOf = record { state = c.self.inside.state; track = c.self.inside.track; pieces = c.self.inside.pieces; waits = c.self.inside.waits; moments = c.self.inside.moments } in

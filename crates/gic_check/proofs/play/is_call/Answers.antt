@@ -1,0 +1,32 @@
+use Rattle.std.proofs.Common.{◌↔◌, IsTrue, sym, ◌∙◌}
+use Rattle.std.proofs.lemmas.Result.{IfOk-weaker}
+use Rattle.trace_told.specs.Histories.{Call, IsEndedAs}
+use Rattle.trace_told.specs.GicCall.declared.event.Moment.TheVariants.{End}
+use Rattle.trace_told.specs.LegalPlay.LegalSteps.Step.{pass_of}
+use Rattle.trace_told.specs.LegalPlay.Board.{IsRightEnd}
+use Rattle.history_turns.specs.Noted.{IsNotedOf}
+use Rattle.gic_check.proofs.PlayLemmas.{judgeable, ended_by, ended_none, actor_there}
+use Rattle.gic_check.proofs.play.is_call.Goals as goal
+
+pub noted_of-noted-requires : goal.noted_of-noted-requires
+noted_of-noted-requires c =
+    let p = c.requires.play in
+    actor_there p.guest p.moments c.args.board.now c.args.notes.now p.is c.args.actor c.in-Some.operation (sym c.operation_at.ensures ∙ c.in-Some.is)
+
+pub call_ended-requires : goal.call_ended-requires
+call_ended-requires c =
+    let p = c.requires.play in
+    let j = judgeable p.guest p.moments c.args.board.now c.args.notes.now p.is c.shape_of-shape.result.now c.args.actor c.in-Some.operation c.piece_at-piece.result.now c.shape_of-shape.ensures (sym c.operation_at.ensures ∙ c.in-Some.is) c.piece_at-piece.ensures in
+    record { shape = j.shaped; records = j.records; good = j.good; judged = j.judged }
+
+pub returns-in-Some : goal.returns-in-Some
+returns-in-Some c guest moments is =
+    IfOk-weaker c.call_ended.result
+    (λ ended. (call : Call) → IsNotedOf c.shape_of-shape.result.now c.in-Some.operation c.piece_at-piece.result.now c.noted_of-noted.result.now call → IsTrue ended ↔ IsEndedAs c.noted_of-noted.result.now.signals c.shape_of-shape.result.now c.args.actor call c.args.answer)
+    (λ ended. IsTrue ended ↔ IsRightEnd (pass_of guest moments).course (End c.args.actor c.args.answer))
+    (λ ended so.
+    ended_by guest moments c.args.board.now c.args.notes.now is c.shape_of-shape.result.now c.args.actor c.in-Some.operation c.piece_at-piece.result.now c.noted_of-noted.result.now c.args.answer ended c.shape_of-shape.ensures (sym c.operation_at.ensures ∙ c.in-Some.is)
+    c.piece_at-piece.ensures c.noted_of-noted.ensures so) c.call_ended.ensures.value
+
+pub returns-in-None : goal.returns-in-None
+returns-in-None c guest moments is = ended_none guest moments c.args.board.now c.args.notes.now is c.args.actor c.args.answer (sym c.operation_at.ensures ∙ c.in-None.is)
