@@ -1,5 +1,5 @@
 //! Traces and their verdicts.
-use gic_check::{Trace, Verdict, check, read_trace};
+use gic_check::{Verdict, check, is_judged, read_trace};
 use serde_json::Value;
 use std::alloc::Global;
 use std::process::Abort;
@@ -30,7 +30,8 @@ fn verdict_of(alloc: Global, recorded: &Recorded, count: usize) -> Result<Verdic
     let text = text_of(alloc, recorded, count)?;
     let value = Value::from_str(alloc, text.as_str())?;
     match read_trace(alloc, &value) {
-        Ok(trace) => Ok(check(alloc, &trace)?),
+        Ok(trace) if is_judged(&trace) => Ok(check(alloc, &trace)?),
+        Ok(_) => Err(Fail::from("not judged")),
         Err(_) => Err(Fail::from("not read")),
     }
 }

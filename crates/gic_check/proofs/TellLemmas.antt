@@ -89,6 +89,10 @@ call_good shape (DeviceCall op) h = refl
 call_good shape Enter h = refl
 call_good shape Exit h = refl
 
+-- so is the one that an event begins, which is of what the guest has
+pub begun_good : (shape : GuestShape) (event : TraceEvent) (call : TraceCall) → event_fault shape event ≡ None → event.act ≡ Begins call → IsTrue (is_good shape (operation_of call))
+begun_good shape event call there is = call_good shape call (subst (λ act. act_fault shape act ≡ None) is (no_first _ (act_fault shape event.act) there))
+
 -- What is told is fit, and short.
 
 pub record IsModest (shape : GuestShape) (moments : List Moment) : Type 0 where

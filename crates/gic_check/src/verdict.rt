@@ -76,7 +76,8 @@ fn follows(play: &mut Play, alloc: Global, event: &TraceEvent) -> Result<bool, N
 /// events that cannot. A record can be where each event says moments of the guest which, one after the other, are a legal list: all calls go on as the ideal
 /// controller's, those that are open can still become calls, and each change comes in time, as far as what is still to come can be told.
 ///
-/// The events have to be of what the guest has, as `read_trace` gives them, at most 100,000. It takes memory linear in the events. Where memory is refused, the answer is
+/// The events have to be of what the guest has, as `read_trace` gives them, at most 100,000, and none of them may begin a write of a register of the ITS that takes it, which
+/// [`is_judged`](crate::is_judged) tests. It takes memory linear in the events. Where memory is refused, the answer is
 /// `NoMemory`, whatever the events are.
 pub fn check(alloc: Global, trace: &Trace) -> Result<Verdict, NoMemory>
     requires good { IsGoodGuest trace.now.guest }

@@ -21,5 +21,5 @@ pub use legal_play::{
     operation_of as operation_in, piece_of,
 };
 pub use told::{moments_told, target_of};
-pub use trace_read::{EventList, ReadRefusal, Trace, TraceEvent, read_trace};
+pub use trace_read::{Act, EventList, ReadRefusal, Trace, TraceCall, TraceEvent, read_trace};
 pub use verdict::Verdict;
