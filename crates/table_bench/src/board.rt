@@ -14,9 +14,13 @@ const PROPBASER: u64 = 0x300D;
 const CBASER: u64 = 0x8000_0000_0000_1000;
 
 /// Eight bytes of memory each: the configuration bytes of the LPIs, and the commands MAPD of DeviceID 8 with 7 bits of EventID, MAPC of the
-/// collections 0 to 3, each of the vCPU of that number, and MAPTI of the events 3, 4, 5, 6 and 67.
-const STORES: [(u32, u64); 27] = [
-    (0x3000, 0xA1_A1A1_A1A1),
+/// collections 0 to 3, each of the vCPU of that number, and MAPTI of the events 3, 4, 5, 6 and 67. The LPIs of the first four are eight apart, so that no two of their words share a
+/// cache line.
+const STORES: [(u32, u64); 30] = [
+    (0x3000, 0xA1_0000_00A1),
+    (0x3008, 0xA1),
+    (0x3010, 0xA1),
+    (0x3018, 0xA1),
     (0x1000, 0x8_0000_0008),
     (0x1008, 6),
     (0x1010, 0x8000_0000_0000_2000),
@@ -32,13 +36,13 @@ const STORES: [(u32, u64); 27] = [
     (0x10A8, 0x2000_0000_0003),
     (0x10B0, 0),
     (0x10C0, 0x8_0000_000A),
-    (0x10C8, 0x2001_0000_0004),
+    (0x10C8, 0x2008_0000_0004),
     (0x10D0, 1),
     (0x10E0, 0x8_0000_000A),
-    (0x10E8, 0x2002_0000_0005),
+    (0x10E8, 0x2010_0000_0005),
     (0x10F0, 2),
     (0x1100, 0x8_0000_000A),
-    (0x1108, 0x2003_0000_0006),
+    (0x1108, 0x2018_0000_0006),
     (0x1110, 3),
     (0x1120, 0x8_0000_000A),
     (0x1128, 0x2004_0000_0043),

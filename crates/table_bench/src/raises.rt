@@ -19,7 +19,7 @@ const SHAPE: GuestShape = GuestShape {
     spis: 32,
     espis: 0,
     devices: 4,
-    lpis: 16,
+    lpis: 32,
     ram: 65536,
 };
 
