@@ -52,7 +52,10 @@ pub(crate) fn expect_no(rt: &impl Abort, alloc: Global, recorded: &Recorded) -> 
         let verdict = verdict_of(alloc, recorded, count)?;
         assert_eq!(rt; verdict, Verdict::Yes, "{count}");
     }
+    let Ok(index) = u32::try_from(all) else {
+        return Err(Fail::from("too many events"));
+    };
     let verdict = verdict_of(alloc, recorded, all)?;
-    assert_eq!(rt; verdict, Verdict::No { index: all as u32 });
+    assert_eq!(rt; verdict, Verdict::No { index });
     Ok(())
 }
