@@ -31,8 +31,7 @@ pub(crate) fn no_notes(alloc: Global, actors: u32) -> Result<ListOf<Noted>, Allo
     ensures { IfOk result (λ notes. notes ≡ replicate actors nothing) }
 {
     let mut notes = ListOf::new(alloc);
-    for actor in 0..actors {
-        let _ = actor;
+    for _actor in 0..actors {
         notes.push(nothing_noted(alloc))?;
     }
     Ok(notes)

@@ -115,11 +115,10 @@ fn is_begun(alloc: Global, board: &Board, notes: &[Noted], actor: u32) -> Result
 }
 
 /// Whether each interrupt that waits may still be answered.
-fn may_be_answered(alloc: Global, board: &Board, notes: &[Noted]) -> Result<bool, AllocError>
-    requires play { IsSomePlay board.now notes.now }
-    ensures { (guest : IdealGuestOf) (moments : List MomentOf) → IsPlayed guest moments board.now notes.now → IfOk result (λ may. may ≡ may_all_be_answered_of guest (pass_of guest moments)) }
+fn may_be_answered(alloc: Global, board: &Board, _notes: &[Noted]) -> Result<bool, AllocError>
+    requires play { IsSomePlay board.now _notes.now }
+    ensures { (guest : IdealGuestOf) (moments : List MomentOf) → IsPlayed guest moments board.now _notes.now → IfOk result (λ may. may ≡ may_all_be_answered_of guest (pass_of guest moments)) }
 {
-    let _ = notes;
     may_all_be_answered(
         alloc,
         board.state.shape(),

@@ -38,14 +38,13 @@ fn go_on(play: &mut Play, alloc: Global, moments: &[Moment]) -> Result<bool, NoM
 fn told(
     alloc: Global,
     board: &Board,
-    notes: &[Noted],
+    _notes: &[Noted],
     event: &TraceEvent,
 ) -> Result<Option<ListOf<Moment>>, NoMemory>
-    requires play { IsSomePlay board.now notes.now }
-    ensures some { IfOk result (λ told. IfSome told (λ own. (guest : IdealGuestOf) (moments : List MomentOf) → IsPlayed guest moments board.now notes.now → told_after (pass_of guest moments).course event.now ≡ Some own)) }
-    ensures none { IfOk result (λ told. IfNone told ((guest : IdealGuestOf) (moments : List MomentOf) → IsPlayed guest moments board.now notes.now → CanFollow guest (pass_of guest moments) event.now → ⊥)) }
+    requires play { IsSomePlay board.now _notes.now }
+    ensures some { IfOk result (λ told. IfSome told (λ own. (guest : IdealGuestOf) (moments : List MomentOf) → IsPlayed guest moments board.now _notes.now → told_after (pass_of guest moments).course event.now ≡ Some own)) }
+    ensures none { IfOk result (λ told. IfNone told ((guest : IdealGuestOf) (moments : List MomentOf) → IsPlayed guest moments board.now _notes.now → CanFollow guest (pass_of guest moments) event.now → ⊥)) }
 {
-    let _ = notes;
     match actor_of(shape_of(board), event.by) {
         Some(actor) => {
             let operation = operation_at(board, actor);

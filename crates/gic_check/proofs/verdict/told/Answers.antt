@@ -9,13 +9,13 @@ use Rattle.gic_check.proofs.verdict.told.Goals as goal
 
 pub returns-in-None-clause-none : goal.returns-in-None-clause-none
 returns-in-None-clause-none c guest moments is =
-    none_told guest moments c.args.board.now c.args.notes.now is c.args.event.now (ap (λ s. actor_of s c.args.event.now.by) (sym c.shape_of.ensures) ∙ (sym c.actor_of.ensures ∙ c.in-None.is))
+    none_told guest moments c.args.board.now c.args._notes.now is c.args.event.now (ap (λ s. actor_of s c.args.event.now.by) (sym c.shape_of.ensures) ∙ (sym c.actor_of.ensures ∙ c.in-None.is))
 
 pub returns-in_ok-told-in-Some-clause-some : goal.returns-in_ok-told-in-Some-clause-some
 returns-in_ok-told-in-Some-clause-some c =
     IfSome_then c.in_ok-told-in-Some.told c.in_ok-told-in-Some.ensures.some
     (λ own so guest moments is.
-    told_is guest moments c.args.board.now c.args.notes.now is c.args.event.now c.in-Some.actor (ap (λ s. actor_of s c.args.event.now.by) (sym c.shape_of.ensures) ∙ (sym c.actor_of.ensures ∙ c.in-Some.is))
+    told_is guest moments c.args.board.now c.args._notes.now is c.args.event.now c.in-Some.actor (ap (λ s. actor_of s c.args.event.now.by) (sym c.shape_of.ensures) ∙ (sym c.actor_of.ensures ∙ c.in-Some.is))
     ∙ (ap (λ s. moments_told s c.in-Some.actor (doing_of c.args.board.now.track c.in-Some.actor).operation (piece_of c.args.board.now.pieces c.in-Some.actor) c.args.event.now.act) (sym c.state_of.ensures)
     ∙ (ap (λ op. moments_told c.state_of.result.now c.in-Some.actor op (piece_of c.args.board.now.pieces c.in-Some.actor) c.args.event.now.act) (sym c.operation_at-operation.ensures)
     ∙ (ap (λ p. moments_told c.state_of.result.now c.in-Some.actor c.operation_at-operation.result p c.args.event.now.act) (sym c.piece_at-piece.ensures) ∙ so))))
@@ -24,7 +24,7 @@ pub returns-in_ok-told-in-Some-clause-none : goal.returns-in_ok-told-in-Some-cla
 returns-in_ok-told-in-Some-clause-none c =
     IfNone_then c.in_ok-told-in-Some.told c.in_ok-told-in-Some.ensures.none
     (λ un guest moments is.
-    untold guest moments c.args.board.now c.args.notes.now is c.args.event.now c.in-Some.actor (ap (λ s. actor_of s c.args.event.now.by) (sym c.shape_of.ensures) ∙ (sym c.actor_of.ensures ∙ c.in-Some.is))
+    untold guest moments c.args.board.now c.args._notes.now is c.args.event.now c.in-Some.actor (ap (λ s. actor_of s c.args.event.now.by) (sym c.shape_of.ensures) ∙ (sym c.actor_of.ensures ∙ c.in-Some.is))
     (subst (λ s. IsUntold s c.in-Some.actor (doing_of c.args.board.now.track c.in-Some.actor).operation (piece_of c.args.board.now.pieces c.in-Some.actor) c.args.event.now.act) c.state_of.ensures
     (subst (λ op. IsUntold c.state_of.result.now c.in-Some.actor op (piece_of c.args.board.now.pieces c.in-Some.actor) c.args.event.now.act) c.operation_at-operation.ensures
     (subst (λ p. IsUntold c.state_of.result.now c.in-Some.actor c.operation_at-operation.result p c.args.event.now.act) c.piece_at-piece.ensures un))))
