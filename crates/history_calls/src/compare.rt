@@ -64,7 +64,7 @@ fn is_same_touching(one: Touching, other: Touching) -> bool
 }
 
 /// Whether an event is one that a call makes that neither takes the ITS nor sets EnableLPIs.
-fn is_same_event(one: &Event, other: &Event) -> bool
+pub fn is_same_event(one: &Event, other: &Event) -> bool
     requires { IsTrue (is_told one.now) }
     ensures { IsTrue result ↔ (one.now ≡ other.now) }
 {

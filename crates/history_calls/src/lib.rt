@@ -16,11 +16,14 @@ mod values;
 
 pub use answers::is_plain;
 pub use calls::{call_begun, call_ended};
-pub use compare::{count_made, is_beside};
+pub use compare::{count_made, is_beside, is_same_event};
 pub use events::events_of;
 pub use floor_calls::{
-    DeviceOp, Enables, Event, FIRST_LPI, Found, Frame, GuestOp, GuestShape, IccReg, Irq, Key, Kind,
-    ListOf, Operation, Place, PlainWord, Touching, has_bit, opening_irq, pending_address, split,
+    COMMAND_BYTES, CallPart, Command, DeviceOp, Enables, Event, FIRST_LPI, Field, Found, Frame,
+    GuestOp, GuestShape, Half, IccReg, Irq, ItsReg, ItsRegRef, ItsTables, Key, Kind, ListOf,
+    NoMemory, Operation, Place, PlainWord, QueueChange, Touching, baser_after, cbaser_after,
+    config_of, extract, has_bit, its_access, offset_in, opening_irq, pending_address, queue_bytes,
+    queue_decode, retries, split,
 };
 pub use found::is_same_found;
 pub use last::{reads, word_at};

@@ -1,5 +1,16 @@
+pub use Rattle.history_calls.proofs.CallLemmas
+pub use Rattle.history_calls.proofs.CountLemmas
+pub use Rattle.history_calls.proofs.CourseLemmas
+pub use Rattle.history_calls.proofs.ExactLaw
+pub use Rattle.history_calls.proofs.FoundLemmas
 pub use Rattle.history_calls.proofs.GicBase
 pub use Rattle.history_calls.proofs.GicCall
+pub use Rattle.history_calls.proofs.KeyLemmas
+pub use Rattle.history_calls.proofs.MadeLemmas
+pub use Rattle.history_calls.proofs.OpenLaw
+pub mod NamedLemmas
+pub mod RegisterLemmas
+pub mod TakenLemmas
 pub mod ViewLemmas
 pub mod StepLemmas
 pub mod FollowLaw
@@ -13,3 +24,8 @@ pub mod PlainLemmas
 pub mod SameLemmas
 pub mod NoteLemmas
 pub mod BeginLaw
+pub mod FetchLemmas
+pub mod PartLemmas
+pub mod WalkLemmas
+pub mod BegunNamed
+pub mod BegunWrites

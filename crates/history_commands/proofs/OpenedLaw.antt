@@ -22,7 +22,8 @@ use Rattle.history_commands.specs.Opened.{IsWriteBegun, IsTakenBegun, IsItsBegun
 use Rattle.history_commands.proofs.ViewLemmas.{all_left}
 use Rattle.history_commands.proofs.StepLemmas.{events_in, Hands, quiet_more, named_one}
 use Rattle.history_commands.proofs.FollowLaw.{named_reads}
-use Rattle.history_commands.proofs.WriteLemmas.{is_of_its, write_found, write_of_its}
+use Rattle.history_commands.specs.Writing.{is_of_its}
+use Rattle.history_commands.proofs.WriteLemmas.{write_found, write_of_its}
 use Rattle.history_commands.proofs.EndLemmas.{Runs, Ends, IsCalm, read_here, ends_any, goes_on, stops_before}
 
 -- Two ways to part a list.

@@ -16,7 +16,8 @@ use Rattle.history_commands.specs.Known.{view_by}
 use Rattle.history_commands.specs.Stage.{Stage, Between, Within, Ending, Over, FitsParts, FitsTaken, FitsNamed, FitsUnless, Follow, stage_after}
 use Rattle.history_commands.specs.Written.{starting, IsWritten}
 use Rattle.history_commands.proofs.StepLemmas.{events_in}
-use Rattle.history_commands.proofs.WriteLemmas.{is_of_its, write_of_its}
+use Rattle.history_commands.specs.Writing.{is_of_its}
+use Rattle.history_commands.proofs.WriteLemmas.{write_of_its}
 
 abbrev pub is_plain_event : Event → Bool
 is_plain_event ItsBegin = false

@@ -18,7 +18,8 @@ use Rattle.history_commands.specs.Written.{starting, IsWritten, IsFirstNamed, Is
 use Rattle.history_commands.specs.Laws.{ItsWritesAreExact}
 use Rattle.history_commands.proofs.ViewLemmas.{reads_more}
 use Rattle.history_commands.proofs.StepLemmas.{events_in, Hands, single, makes_single, goes_named, over_ending, over_over, over_between}
-use Rattle.history_commands.proofs.WriteLemmas.{is_of_its, IsFoundBy, write_found, write_of_its, written_left, written_maps, with_maps, events_mapped, starts_mapped, read_mapped, hands_mapped}
+use Rattle.history_commands.specs.Writing.{is_of_its}
+use Rattle.history_commands.proofs.WriteLemmas.{IsFoundBy, write_found, write_of_its, written_left, written_maps, with_maps, events_mapped, starts_mapped, read_mapped, hands_mapped}
 use Rattle.history_commands.proofs.FollowLaw.{fwd_all, bwd, none_in}
 
 module _ (shape : GuestShape) (beside : Beside) (actor offset size value : ℕ) where

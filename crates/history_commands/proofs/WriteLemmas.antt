@@ -19,14 +19,10 @@ use Rattle.history_calls.proofs.FoundLemmas.{own_word, store_found, word_found, 
 use Rattle.history_commands.specs.declared.its.Its.{Its}
 use Rattle.history_commands.specs.Known.{its_in}
 use Rattle.history_commands.specs.Stage.{AreReadBy}
+use Rattle.history_commands.specs.Writing.{is_of_its}
 use Rattle.history_commands.proofs.StepLemmas.{events_in, Hands}
 
 -- Which events and places there are.
-
-abbrev pub is_of_its : Event → Bool
-is_of_its (Put word value) = true
-is_of_its (Queue offset Runs) = true
-is_of_its event = false
 
 abbrev pub is_its_place : Place → Bool
 is_its_place (Word word) = true

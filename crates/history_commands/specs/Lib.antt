@@ -7,11 +7,15 @@ pub use Rattle.history_calls.specs.GicImap
 pub use Rattle.history_calls.specs.GicRmap
 pub use Rattle.history_calls.specs.LegalLists
 pub use Rattle.history_calls.specs as HistoryCalls
+pub mod Walked
 pub mod Mapped
 pub mod Known
 pub mod Stage
 pub mod Written
 pub mod Begun
 pub mod Opened
+pub mod Beginning
+pub mod Writing
 pub mod Taking
 pub mod Laws
+pub mod Followed
