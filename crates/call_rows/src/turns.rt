@@ -2,7 +2,7 @@
 use crate::tests::{BEGUN, DEVICE, ENDED, NO, access, is_good, message, raise, read, touch};
 use history_turns::{
     DeviceOp, Event, Found, Frame, GuestShape, Key, Kind, ListOf, Made, Noted, Operation, Place,
-    PlainWord, Seen, Touching, are_records, call_begun, call_ended, is_judged, opening_irq,
+    PlainWord, Seen, Touching, are_records, call_begun, call_ended, opening_irq,
 };
 use std::alloc::{AllocError, Global};
 use std::test::Fail;
@@ -62,6 +62,8 @@ fn noted(alloc: Global, row: &Entry) -> Result<Noted, AllocError> {
         signals: row.signals,
         lpi: row.lpi,
         targets,
+        done: ListOf::new(alloc),
+        commands: ListOf::new(alloc),
     })
 }
 
@@ -80,10 +82,7 @@ fn judged(
     let piece = piece.as_slice();
     let shape = &row.shape;
     let operation = &row.operation;
-    if !shape.is_in_range() || !is_good(shape, operation) || !is_judged(shape, operation) {
-        return Ok(None);
-    }
-    if !are_records(shape, piece) {
+    if !shape.is_in_range() || !is_good(shape, operation) || !are_records(shape, piece) {
         return Ok(None);
     }
     let noted = noted(alloc, row)?;
@@ -303,7 +302,7 @@ fn plain_calls_are_judged_too(rt: HostRuntime) -> Result<(), Fail> {
     let cwriter = Entry {
         actor: 0,
         operation: access(Frame::Its, 0x88, 8, Some(32)),
-        ..signalling([None, None, None, None, None], None)
+        ..signalling([None, None, None, None, None], BEGUN)
     };
     let rows = [plain, cwriter];
     assert_eq!(rt; count_right(rt.alloc(), &rows)?, rows.len());

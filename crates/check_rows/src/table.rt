@@ -1,7 +1,8 @@
 //! Traces and their verdicts.
-use gic_check::{Verdict, check, is_judged, read_trace};
+use gic_check::{Verdict, check, read_trace};
 use serde_json::Value;
 use std::alloc::Global;
+use std::convert::AsStr;
 use std::process::Abort;
 use std::test::Fail;
 
@@ -12,26 +13,31 @@ pub(crate) struct Recorded {
     pub(crate) events: &'static [&'static str],
 }
 
-/// The text of a trace with the first events of some, as many as are wanted.
-fn text_of(alloc: Global, recorded: &Recorded, count: usize) -> Result<String, Fail> {
-    let mut text = format!(in alloc; "{{\"guest\":{},\"events\":[", recorded.guest)?;
-    for (index, event) in recorded.events.iter().take(count).enumerate() {
+/// The text of a trace of a guest with these events.
+fn text_of<S: AsStr>(alloc: Global, guest: &str, events: &[S]) -> Result<String, Fail> {
+    let mut text = format!(in alloc; "{{\"guest\":{guest},\"events\":[")?;
+    for (index, event) in events.iter().enumerate() {
         if index > 0 {
             text.push(',')?;
         }
-        text.push_str(event)?;
+        text.push_str(event.as_str())?;
     }
     text.push_str("]}")?;
     Ok(text)
 }
 
-/// The verdict on a trace with the first events of some, as many as are wanted.
-fn verdict_of(alloc: Global, recorded: &Recorded, count: usize) -> Result<Verdict, Fail> {
-    let text = text_of(alloc, recorded, count)?;
+/// The verdict on a trace of a guest with the first of these events, as many as are wanted, or all.
+pub(crate) fn verdict_of<S: AsStr>(
+    alloc: Global,
+    guest: &str,
+    events: &[S],
+    count: usize,
+) -> Result<Verdict, Fail> {
+    let events = events.get(..count).unwrap_or(events);
+    let text = text_of(alloc, guest, events)?;
     let value = Value::from_str(alloc, text.as_str())?;
     match read_trace(alloc, &value) {
-        Ok(trace) if is_judged(&trace) => Ok(check(alloc, &trace)?),
-        Ok(_) => Err(Fail::from("not judged")),
+        Ok(trace) => Ok(check(alloc, &trace)?),
         Err(_) => Err(Fail::from("not read")),
     }
 }
@@ -39,7 +45,7 @@ fn verdict_of(alloc: Global, recorded: &Recorded, count: usize) -> Result<Verdic
 /// That a trace can be, cut off after any of its events.
 pub(crate) fn expect_yes(rt: &impl Abort, alloc: Global, recorded: &Recorded) -> Result<(), Fail> {
     for count in 0..recorded.events.len() + 1 {
-        let verdict = verdict_of(alloc, recorded, count)?;
+        let verdict = verdict_of(alloc, recorded.guest, recorded.events, count)?;
         assert_eq!(rt; verdict, Verdict::Yes, "{count}");
     }
     Ok(())
@@ -49,13 +55,13 @@ pub(crate) fn expect_yes(rt: &impl Abort, alloc: Global, recorded: &Recorded) ->
 pub(crate) fn expect_no(rt: &impl Abort, alloc: Global, recorded: &Recorded) -> Result<(), Fail> {
     let all = recorded.events.len();
     for count in 0..all {
-        let verdict = verdict_of(alloc, recorded, count)?;
+        let verdict = verdict_of(alloc, recorded.guest, recorded.events, count)?;
         assert_eq!(rt; verdict, Verdict::Yes, "{count}");
     }
     let Ok(index) = u32::try_from(all) else {
         return Err(Fail::from("too many events"));
     };
-    let verdict = verdict_of(alloc, recorded, all)?;
+    let verdict = verdict_of(alloc, recorded.guest, recorded.events, all)?;
     assert_eq!(rt; verdict, Verdict::No { index });
     Ok(())
 }

@@ -17,7 +17,8 @@ use Rattle.trace_told.proofs.LegalPlay.LegalSteps.StepLaw.{go_on}
 use Rattle.trace_told.proofs.GoLemmas.{traces_go_on}
 use Rattle.trace_told.proofs.PartLemmas.{told_more, joins, whole_ones}
 use Rattle.trace_told.proofs.VerdictLemmas.{first_can_be, verdicts_are_one}
-use Rattle.gic_check.specs.Play.{AreFitMoments, PlayOf, IsPlayed, Goes, GoOn, Follows, IsAfter, RefusesMore, IsFreshOnYes}
+use Rattle.gic_check.specs.Notes.{AreAllDone}
+use Rattle.gic_check.specs.Play.{AreGoodMoments, PlayOf, IsPlayed, Goes, GoOn, Follows, IsAfter, RefusesMore, IsFreshOnYes}
 use Rattle.gic_check.proofs.PlayLemmas.{one_more}
 
 -- Moments, one after the other.
@@ -26,21 +27,23 @@ use Rattle.gic_check.proofs.PlayLemmas.{one_more}
 pub record Going (guest : IdealGuest) (before moments : List Moment) (start : ℕ) (left : List Moment) (play : PlayOf) : Type 0 where
   pub passed : List Moment
   pub played : IsPlayed guest passed play.board play.notes
+  pub done : AreAllDone play.board.state play.done
   pub all : passed ++ left ≡ before ++ moments
   pub same : GoOnLegally guest (pass_of guest passed) left ↔ GoOnLegally guest (pass_of guest before) moments
   pub faultless : AreFaultless (pass_of guest passed).course left
-  pub fit : AreFitMoments guest.shape left
+  pub good : AreGoodMoments guest.shape left
   pub counted : play.board.moments + length left ≡ start + length moments
 
-pub going_first : (guest : IdealGuest) (before moments : List Moment) (play : PlayOf) → IsPlayed guest before play.board play.notes → AreFaultless (pass_of guest before).course moments → AreFitMoments play.board.state.guest.shape moments
+pub going_first : (guest : IdealGuest) (before moments : List Moment) (play : PlayOf) → IsPlayed guest before play.board play.notes → AreAllDone play.board.state play.done → AreFaultless (pass_of guest before).course moments → AreGoodMoments play.board.state.guest.shape moments
     → Going guest before moments play.board.moments moments play
-going_first guest before moments play is faultless fit = record {
+going_first guest before moments play is done faultless good = record {
   passed = before;
   played = is;
+  done = done;
   all = refl;
   same = (λ h. h, λ h. h);
   faultless = faultless;
-  fit = subst (λ s. AreFitMoments s moments) is.of.shape_is fit;
+  good = subst (λ s. AreGoodMoments s moments) is.of.shape_is good;
   counted = refl;
 }
 
@@ -53,13 +56,14 @@ module _ (guest : IdealGuest) (before moments : List Moment) (start : ℕ) (mome
       record {
         passed = so.passed ++ moment ∷ [];
         played = goes.played refl;
+        done = goes.done refl;
         all = append_assoc so.passed (moment ∷ []) left ∙ so.all;
         same = (
           λ h. so.same.0 (goes.value.0 refl, subst (λ (p : Pass). GoOnLegally guest p left) more h),
           λ h. subst (λ (p : Pass). GoOnLegally guest p left) (sym more) (so.same.1 h).1,
         );
         faultless = subst (λ (p : Pass). AreFaultless p.course left) (sym more) so.faultless.1;
-        fit = so.fit.1;
+        good = so.good.1;
         counted = omega (arith, one, counted);
       }
 
@@ -67,6 +71,7 @@ module _ (guest : IdealGuest) (before moments : List Moment) (start : ℕ) (mome
   going_stops goes = record {
     value = (λ h. absurd (true≢false (sym h)), λ h. goes.value.1 (so.same.1 h).0);
     played = λ h. absurd (true≢false (sym h));
+    done = λ h. absurd (true≢false (sym h));
     counted = λ h. absurd (true≢false (sym h));
   }
 
@@ -76,6 +81,7 @@ going_ends guest before moments start play so =
     record {
       value = (λ h. so.same.0 tt, λ h. refl);
       played = λ h. subst (λ ms. IsPlayed guest ms play.board play.notes) (sym (append-nil so.passed) ∙ so.all) so.played;
+      done = λ h. so.done;
       counted = λ h. omega (arith, counted);
     }
 
@@ -88,7 +94,7 @@ module _ (guest : IdealGuest) (moments : List Moment) (event : TraceEvent) (coun
       λ h. record { moments = own; told = is; legal = so.value.0 h },
       λ next. so.value.1 (subst (GoOnLegally guest (pass_of guest moments)) (same_Some _ _ (sym next.told ∙ is)) next.legal),
     );
-    followed = λ h. let counted = so.counted h in record { own = own; told = is; played = so.played h; few = omega (arith, counted, short) };
+    followed = λ h. let counted = so.counted h in record { own = own; told = is; played = so.played h; done = so.done h; few = omega (arith, counted, short) };
   }
 
   pub follows_not : (CanFollow guest (pass_of guest moments) event → ⊥) → Follows guest moments event count play false
@@ -96,8 +102,8 @@ module _ (guest : IdealGuest) (moments : List Moment) (event : TraceEvent) (coun
 
 -- Traces.
 
-pub after_none : (guest : IdealGuest) (play : PlayOf) → IsPlayed guest [] play.board play.notes → play.board.moments ≡ 0 → IsAfter guest [] 0 play
-after_none guest play is none = record { can = record { moments = []; told = refl; legal = go_on.none guest }; played = is; few = omega (arith, none) }
+pub after_none : (guest : IdealGuest) (play : PlayOf) → IsPlayed guest [] play.board play.notes → AreAllDone play.board.state play.done → play.board.moments ≡ 0 → IsAfter guest [] 0 play
+after_none guest play is done none = record { can = record { moments = []; told = refl; legal = go_on.none guest }; played = is; done = done; few = omega (arith, none) }
 
 module _ (guest : IdealGuest) (events : List TraceEvent) (event : TraceEvent) (n : ℕ) (play next : PlayOf) (so : IsAfter guest events n play) where
   abbrev course : Course
@@ -116,6 +122,7 @@ module _ (guest : IdealGuest) (events : List TraceEvent) (event : TraceEvent) (n
       record {
         can = record { moments = so.can.moments ++ own; told = all; legal = subst (IsLegal guest) (same_Some _ _ (sym more.told ∙ all)) more.legal };
         played = it.played;
+        done = it.done;
         few = omega (arith, few, one);
       }
 

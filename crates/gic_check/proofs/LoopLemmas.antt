@@ -2,19 +2,19 @@
 use Rattle.std.proofs.Common.{◌≡◌, ℕ, ◌+◌, ◌<◌, ◌≤◌, List, [], ◌∷◌, ◌++◌, map, fold, length, slice_set, Some, None, IsTrue, refl, sym, ap, ◌∙◌, subst, add-one, arith, inl, inr}
 use Rattle.std.specs.List.{range_with_len}
 use Rattle.std.specs.Option.{option_map_or}
-use Rattle.std.proofs.lemmas.Bool.{and_parts, cases_eq}
+use Rattle.std.proofs.lemmas.Bool.{cases_eq}
 use Rattle.std.proofs.lemmas.List.{map-append, length-set, get_or-set_same, get_or-set_other, set-get_or}
 use Rattle.trace_told.specs.Words.{GuestShape}
 use Rattle.trace_told.specs.Calls.{Event, Operation, Happened}
 use Rattle.trace_told.specs.Histories.{doing_of}
 use Rattle.trace_told.specs.LegalPlay.Board.{BoardOf}
 use Rattle.trace_told.specs.LegalPlay.Pieces.{piece_of}
+use Rattle.trace_told.specs.LegalPlay.Answering.{AreGood}
 use Rattle.trace_told.proofs.LegalPlay.LegalSteps.GicCall.RangeLemmas.{range_with_len_more}
 use Rattle.trace_told.specs.LegalPlay.HistoryPlay.HistoryCalls.Exact.{is_good}
-use Rattle.history_turns.specs.Judged.{is_judged}
 use Rattle.history_turns.specs.Noted.{NotedOf, place_by}
 use Rattle.gic_check.specs.Notes.{nothing_noted, noted_of, is_midway_in, of_each, rising_in, later_seen, seen_later, noted_made}
-use Rattle.gic_check.specs.Play.{AreFit, note_made, notes_made, note_seen, AreSeen}
+use Rattle.gic_check.specs.Play.{note_made, notes_made, note_seen, AreSeen}
 
 pub mapped_more : {X : Type 0} (f : ℕ → X) (n : ℕ) (all next : List X) → all ≡ map f (range_with_len 0 n) → next ≡ all ++ f n ∷ [] → next ≡ map f (range_with_len 0 (n + 1))
 mapped_more f n all next so more =
@@ -66,19 +66,19 @@ all_seen board before after count many so = record { rooms = so.rooms; each = λ
 
 -- What one actor notes.
 
-pub fit_good : (b : BoardOf) (s : GuestShape) (actor : ℕ) (operation : Operation) → AreFit b.state.guest.shape b.track → s ≡ b.state.guest.shape → (doing_of b.track actor).operation ≡ Some operation → IsTrue (is_good s operation)
-fit_good b s actor operation fit same busy = subst (λ x. IsTrue (is_good x operation)) (sym same) (and_parts (is_good b.state.guest.shape operation) (is_judged b.state.guest.shape operation) (fit actor operation busy)).0
+pub good_here : (b : BoardOf) (s : GuestShape) (actor : ℕ) (operation : Operation) → AreGood b.state.guest.shape b.track → s ≡ b.state.guest.shape → (doing_of b.track actor).operation ≡ Some operation → IsTrue (is_good s operation)
+good_here b s actor operation good same busy = subst (λ x. IsTrue (is_good x operation)) (sym same) (good actor operation busy)
 
 module _ (b : BoardOf) (notes after : List NotedOf) (actor : ℕ) where
-  pub made_none : (event : Event) → (doing_of b.track actor).operation ≡ None → notes ≡ notes_made b actor event notes
-  made_none event idle = sym (ap (λ o. option_map_or (λ operation. slice_set notes actor (note_made b actor event (noted_of notes actor) operation)) o notes) idle)
+  pub made_none : (all : List (List ℕ)) (event : Event) → (doing_of b.track actor).operation ≡ None → notes ≡ notes_made b all actor event notes
+  made_none all event idle = sym (ap (λ o. option_map_or (λ operation. slice_set notes actor (note_made b all actor event (noted_of notes actor) operation)) o notes) idle)
 
-  pub made_is : (event : Event) (operation : Operation) (piece : List Happened) (noted next : NotedOf) → (doing_of b.track actor).operation ≡ Some operation → piece ≡ piece_of b.pieces actor → noted ≡ noted_of notes actor
-      → next ≡ noted_made b.state (is_midway_in b.state b.pieces) operation piece event noted → after ≡ slice_set notes actor next → after ≡ notes_made b actor event notes
-  made_is event operation piece noted next busy made same is set =
+  pub made_is : (all : List (List ℕ)) (event : Event) (operation : Operation) (piece : List Happened) (noted next : NotedOf) → (doing_of b.track actor).operation ≡ Some operation → piece ≡ piece_of b.pieces actor → noted ≡ noted_of notes actor
+      → next ≡ noted_made b.state all (is_midway_in b.state b.pieces) operation piece event noted → after ≡ slice_set notes actor next → after ≡ notes_made b all actor event notes
+  made_is all event operation piece noted next busy made same is set =
       set
-      ∙ (ap (slice_set notes actor) (is ∙ (ap (λ p. noted_made b.state (is_midway_in b.state b.pieces) operation p event noted) made ∙ ap (noted_made b.state (is_midway_in b.state b.pieces) operation (piece_of b.pieces actor) event) same))
-      ∙ sym (ap (λ o. option_map_or (λ operation. slice_set notes actor (note_made b actor event (noted_of notes actor) operation)) o notes) busy))
+      ∙ (ap (slice_set notes actor) (is ∙ (ap (λ p. noted_made b.state all (is_midway_in b.state b.pieces) operation p event noted) made ∙ ap (noted_made b.state all (is_midway_in b.state b.pieces) operation (piece_of b.pieces actor) event) same))
+      ∙ sym (ap (λ o. option_map_or (λ operation. slice_set notes actor (note_made b all actor event (noted_of notes actor) operation)) o notes) busy))
 
   pub seen_is : (vcpu : ℕ) (piece : List Happened) (noted next : NotedOf) → rising_in b.state.guest.shape (doing_of b.track actor).operation ≡ Some vcpu → piece ≡ piece_of b.pieces actor → noted ≡ noted_of notes actor
       → next ≡ record noted { targets = of_each b.state.guest.shape (later_seen b.state vcpu (place_by piece) noted) } → after ≡ slice_set notes actor next → after ≡ slice_set notes actor (note_seen b actor (noted_of notes actor))

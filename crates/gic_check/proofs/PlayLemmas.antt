@@ -1,14 +1,13 @@
 -- What is known of a guest after some moments of it.
 use Rattle.std.proofs.Common.{◌≡◌, ◌↔◌, ℕ, ◌<◌, Bool, true, false, IsTrue, List, [], ◌∷◌, ◌++◌, length, replicate, Option, option_map, Some, None, is_some, refl, sym, ap, ◌∙◌, subst, true≢false}
 use Rattle.std.specs.Option.{option_map_or}
-use Rattle.std.proofs.lemmas.Bool.{and_parts}
 use Rattle.std.proofs.lemmas.Grind.{fold-append}
 use Rattle.std.proofs.lemmas.List.{length-replicate}
 use Rattle.std.proofs.lemmas.Option.{none-some, same_Some}
 use Rattle.trace_told.specs.Words.{GuestShape, IsShape}
-use Rattle.trace_told.specs.Calls.{Operation, Happened, Moment}
+use Rattle.trace_told.specs.Calls.{GuestSpec, Operation, Happened, Moment}
 use Rattle.trace_told.specs.GicCall.declared.event.Moment.TheVariants.{End}
-use Rattle.trace_told.specs.Histories.{IdealGuest, Ideal, Call, actor_count, call_of, course_of, opening_course, doing_of, IsEndedAs, IsCallEnded}
+use Rattle.trace_told.specs.Histories.{IdealGuest, Ideal, Call, opening_guest, actor_count, call_of, course_of, opening_course, doing_of, IsEndedAs, IsCallEnded}
 use Rattle.trace_told.specs.LegalLists.Legal.{IsBegun}
 use Rattle.trace_told.specs.LegalPlay.LegalSteps.Step.{opening_pass, passed, pass_of, IsActorBegun}
 use Rattle.trace_told.specs.LegalPlay.Board.{BoardOf, IsOfPass, HasRoom, IsRightEnd}
@@ -19,11 +18,12 @@ use Rattle.trace_told.proofs.LegalPlay.LegalSteps.CourseLemmas.{nobody_opens}
 use Rattle.trace_told.proofs.LegalPlay.LegalSteps.PassLaw.{pass_course}
 use Rattle.trace_told.proofs.LegalPlay.HistoryPlay.CourseLemmas.{busy_there}
 use Rattle.trace_told.proofs.LegalPlay.HistoryPlay.HistoryCalls.OpenLaw.{calls_open}
-use Rattle.history_turns.specs.Judged.{is_judged}
 use Rattle.history_turns.specs.Noted.{NotedOf, HasNoted, IsNotedOf}
+use Rattle.history_turns.specs.Begun.{begun_by as commands_by}
 use Rattle.history_turns.proofs.PlaceLaw.{calls_placed}
-use Rattle.gic_check.specs.Notes.{nothing_noted, noted_of}
-use Rattle.gic_check.specs.Play.{AreFit, IsPlayed}
+use Rattle.history_turns.proofs.BegunLaw.{commands_counted}
+use Rattle.gic_check.specs.Notes.{AreAllDone, nothing_noted, noted_of}
+use Rattle.gic_check.specs.Play.{IsPlayed}
 use Rattle.gic_check.proofs.NoteLemmas.{ArePlaced}
 
 -- Calls of a pass.
@@ -35,6 +35,9 @@ module _ (guest : IdealGuest) (moments : List Moment) where
   pub are_placed : ArePlaced (pass_of guest moments).course
   are_placed actor call is = calls_placed guest moments actor call (in_course actor call is)
 
+  are_counted : (actor : ℕ) (call : Call) → call_of (pass_of guest moments).course actor ≡ Some call → length call.commands ≡ commands_by call.piece
+  are_counted actor call is = commands_counted guest moments actor call (in_course actor call is)
+
   are_open : (actor : ℕ) (call : Call) → call_of (pass_of guest moments).course actor ≡ Some call → IsOpen call
   are_open actor call is = calls_open guest moments actor call (in_course actor call is)
 
@@ -44,12 +47,11 @@ one_more guest moments moment = fold-append passed (opening_pass guest) moments 
 
 -- What a board and notes say of an actor's call.
 
--- an operation and a piece that are judged
+-- an operation and a piece that can be judged
 pub record IsJudgeable (s : GuestShape) (operation : Operation) (piece : List Happened) : Type 0 where
   pub shaped : IsShape s
   pub records : IsTrue (are_records s piece)
   pub good : IsTrue (is_good s operation)
-  pub judged : IsTrue (is_judged s operation)
 
 pub record IsKnown (guest : IdealGuest) (moments : List Moment) (board : BoardOf) (notes : List NotedOf) (actor : ℕ) (operation : Operation) : Type 0 where
   pub call : Call
@@ -69,10 +71,7 @@ module _ (guest : IdealGuest) (moments : List Moment) (board : BoardOf) (notes :
   is_shape = is.of.ready.shape
 
   pub good : AreGood board.state.guest.shape board.track
-  good actor operation busy = subst (λ s. IsTrue (is_good s operation)) (sym is.of.shape_is) (and_parts (is_good guest.shape operation) (is_judged guest.shape operation) (is.fit actor operation busy)).0
-
-  pub fit_here : AreFit board.state.guest.shape board.track
-  fit_here = subst (λ s. AreFit s board.track) (sym is.of.shape_is) is.fit
+  good = subst (λ s. AreGood s board.track) (sym is.of.shape_is) is.good
 
   pub records_here : (actor : ℕ) → IsTrue (are_records board.state.guest.shape (piece_of board.pieces actor))
   records_here actor = subst (λ s. IsTrue (are_records s (piece_of board.pieces actor))) (sym is.of.shape_is) (is.records actor)
@@ -103,6 +102,7 @@ module _ (guest : IdealGuest) (moments : List Moment) (board : BoardOf) (notes :
                 opened = are_open guest moments actor call e;
               };
               place = are_placed guest moments actor call e;
+              counted = are_counted guest moments actor call e;
               has = subst (λ op. HasNoted guest.shape (noted_of notes actor) op call) (same_Some _ _ h) noted.has;
             };
             signals = noted.signals_is;
@@ -145,14 +145,11 @@ module _ (guest : IdealGuest) (moments : List Moment) (board : BoardOf) (notes :
 
   -- what the judges of calls ask for
   pub judgeable : (s : GuestShape) (actor : ℕ) (operation : Operation) (piece : List Happened) → s ≡ board.state.guest.shape → (doing_of board.track actor).operation ≡ Some operation → piece ≡ piece_of board.pieces actor → IsJudgeable s operation piece
-  judgeable s actor operation piece same busy made =
-      let both = and_parts (is_good board.state.guest.shape operation) (is_judged board.state.guest.shape operation) (fit_here actor operation busy) in
-      record {
-        shaped = subst IsShape (sym same) is_shape;
-        records = subst (λ x. IsTrue (are_records x piece)) (sym same) (subst (λ p. IsTrue (are_records board.state.guest.shape p)) (sym made) (records_here actor));
-        good = subst (λ x. IsTrue (is_good x operation)) (sym same) both.0;
-        judged = subst (λ x. IsTrue (is_judged x operation)) (sym same) both.1;
-      }
+  judgeable s actor operation piece same busy made = record {
+    shaped = subst IsShape (sym same) is_shape;
+    records = subst (λ x. IsTrue (are_records x piece)) (sym same) (subst (λ p. IsTrue (are_records board.state.guest.shape p)) (sym made) (records_here actor));
+    good = subst (λ x. IsTrue (is_good x operation)) (sym same) (good actor operation busy);
+  }
 
   -- by what the judges say of these
   pub ended_by : (s : GuestShape) (actor : ℕ) (operation : Operation) (piece : List Happened) (noted : NotedOf) (answer : Option ℕ) (ended : Bool) → s ≡ board.state.guest.shape → (doing_of board.track actor).operation ≡ Some operation
@@ -189,9 +186,13 @@ opened guest board notes of are = record {
     rooms = ap length are ∙ (length-replicate (actor_count guest.shape) nothing_noted ∙ sym (length-replicate (actor_count guest.shape) nobody_calls));
     of = λ actor call is. absurd (none-some call (sym (nobody_opens guest actor) ∙ is));
   };
-  fit = λ actor operation busy. absurd (none-some operation (ap operation_in (sym (nobody_opens guest actor)) ∙ (of.calls.operations actor ∙ busy)));
+  good = λ actor operation busy. absurd (none-some operation (ap operation_in (sym (nobody_opens guest actor)) ∙ (of.calls.operations actor ∙ busy)));
   records = λ actor. ap (are_records guest.shape) (sym (of.calls.made actor) ∙ ap piece_in (nobody_opens guest actor));
 }
   where
     nobody_calls : Option Call
     nobody_calls = None
+
+-- as none is mapped then, no command was done
+pub opened_done : (spec : GuestSpec) (board : BoardOf) → IsOfPass spec.shape (opening_pass (opening_guest spec)) board → AreAllDone board.state []
+opened_done spec board of = ap (λ (ideal : Ideal). ideal.guest.tables) (sym of.state_is)

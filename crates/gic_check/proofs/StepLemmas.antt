@@ -6,6 +6,7 @@ use Rattle.trace_told.specs.LegalPlay.LegalSteps.Step.{Pass, passed, pass_of, ac
 use Rattle.trace_told.specs.LegalPlay.Board.{BoardOf, GoesOnInParts}
 use Rattle.trace_told.proofs.LegalPlay.PartsLaw.{parts_are_all}
 use Rattle.history_turns.specs.Noted.{NotedOf}
+use Rattle.gic_check.specs.Notes.{AreAllDone}
 use Rattle.gic_check.specs.Play.{PlayOf, IsPlayed, MayCome, StaysLegal, Goes}
 use Rattle.gic_check.proofs.PlayLemmas.{one_more}
 
@@ -20,12 +21,13 @@ module _ (guest : IdealGuest) (moments : List Moment) (board : BoardOf) (notes :
       λ goes. let parts = in_parts.0 goes in absurd (true≢false (sym (so.1 (record { coming = parts.coming; right = parts.right; fresh = parts.fresh })) ∙ not)),
     );
     played = λ h. absurd (true≢false (sym h));
+    done = λ h. absurd (true≢false (sym h));
     counted = λ h. absurd (true≢false (sym h));
   }
 
-  pub goes_where : (may stays : Bool) (count : ℕ) (next : PlayOf) → may ≡ true → IsTrue may ↔ MayCome (pass_of guest moments) board moment → IsPlayed guest (moments ++ moment ∷ []) next.board next.notes → next.board.moments ≡ count + 1
-      → IsTrue stays ↔ StaysLegal guest (pass_of guest (moments ++ moment ∷ [])) (actor_of moment) → Goes guest moments moment count next stays
-  goes_where may stays count next on so played counted legal =
+  pub goes_where : (may stays : Bool) (count : ℕ) (next : PlayOf) → may ≡ true → IsTrue may ↔ MayCome (pass_of guest moments) board moment → IsPlayed guest (moments ++ moment ∷ []) next.board next.notes → AreAllDone next.board.state next.done
+      → next.board.moments ≡ count + 1 → IsTrue stays ↔ StaysLegal guest (pass_of guest (moments ++ moment ∷ [])) (actor_of moment) → Goes guest moments moment count next stays
+  goes_where may stays count next on so played done counted legal =
       let after : IsTrue stays ↔ StaysLegal guest (passed (pass_of guest moments) moment) (actor_of moment) = subst (λ (p : Pass). IsTrue stays ↔ StaysLegal guest p (actor_of moment)) (one_more guest moments moment) legal in
       let first = so.0 on in
       record {
@@ -34,5 +36,6 @@ module _ (guest : IdealGuest) (moments : List Moment) (board : BoardOf) (notes :
           λ goes. let parts = in_parts.0 goes in after.1 (record { begun = parts.begun; answered = parts.answered }),
         );
         played = λ h. played;
+        done = λ h. done;
         counted = λ h. counted;
       }

@@ -1,8 +1,7 @@
 -- The moments that an event of a trace says.
-use Rattle.std.proofs.Common.{◌≡◌, ℕ, suc, ◌+◌, ◌≤◌, ◌&&◌, not, Bool, true, false, cond, IsTrue, List, [], ◌∷◌, ◌++◌, map, length, Option, Some, None, refl, sym, ap, ◌∙◌, subst, arith}
+use Rattle.std.proofs.Common.{◌≡◌, ℕ, suc, ◌+◌, ◌≤◌, ◌&&◌, not, Bool, true, false, cond, List, [], ◌∷◌, ◌++◌, map, length, Option, Some, None, refl, sym, ap, ◌∙◌, subst, arith}
 use Rattle.std.specs.Prelude.{option_and_then, IfSome, IfNone}
 use Rattle.std.specs.Option.{option_map_or}
-use Rattle.std.proofs.lemmas.Bool.{and_from}
 use Rattle.std.proofs.lemmas.List.{length-append, length-map}
 use Rattle.std.proofs.lemmas.Option.{none-some, same_Some, cond_some, option_and_then_some}
 use Rattle.trace_told.specs.TraceRead.declared.trace.Act.{Act}
@@ -25,9 +24,8 @@ use Rattle.trace_told.specs.Given.{gives}
 use Rattle.trace_told.specs.Told.{actor_of, operation_of, event_told, reading, byte_place, unless_read, places_before, places_after, moments_round, with_reads, event_moments, moments_told, told_by, told}
 use Rattle.trace_told.specs.Untold.{IsUntold}
 use Rattle.trace_told.specs.Laws.{CanFollow, GoOnLegally}
-use Rattle.history_turns.specs.Judged.{is_judged}
 use Rattle.history_turns.specs.Noted.{NotedOf}
-use Rattle.gic_check.specs.Play.{AreFitMoments, is_judged_act, IsPlayed, IsSomePlay}
+use Rattle.gic_check.specs.Play.{AreGoodMoments, IsPlayed, IsSomePlay}
 use Rattle.gic_check.proofs.PlayLemmas.{operation_in, piece_in}
 
 -- It is told by what is known.
@@ -89,24 +87,20 @@ call_good shape (DeviceCall op) h = refl
 call_good shape Enter h = refl
 call_good shape Exit h = refl
 
--- so is the one that an event begins, which is of what the guest has
-pub begun_good : (shape : GuestShape) (event : TraceEvent) (call : TraceCall) → event_fault shape event ≡ None → event.act ≡ Begins call → IsTrue (is_good shape (operation_of call))
-begun_good shape event call there is = call_good shape call (subst (λ act. act_fault shape act ≡ None) is (no_first _ (act_fault shape event.act) there))
-
--- What is told is fit, and short.
+-- What is told can be done, and is short.
 
 pub record IsModest (shape : GuestShape) (moments : List Moment) : Type 0 where
-  pub fit : AreFitMoments shape moments
+  pub good : AreGoodMoments shape moments
   pub short : length moments ≤ 6
 
 module _ (shape : GuestShape) (ideal : Ideal) (actor : ℕ) where
-  reads_fit : (places : List Place) (moments : List Moment) → AreFitMoments shape moments → AreFitMoments shape (map (reading ideal actor) places ++ moments)
-  reads_fit [] moments h = h
-  reads_fit (place ∷ places) moments h = (refl, reads_fit places moments h)
+  reads_good : (places : List Place) (moments : List Moment) → AreGoodMoments shape moments → AreGoodMoments shape (map (reading ideal actor) places ++ moments)
+  reads_good [] moments h = h
+  reads_good (place ∷ places) moments h = (refl, reads_good places moments h)
 
-  only_reads_fit : (places : List Place) → AreFitMoments shape (map (reading ideal actor) places)
-  only_reads_fit [] = tt
-  only_reads_fit (place ∷ places) = (refl, only_reads_fit places)
+  only_reads_good : (places : List Place) → AreGoodMoments shape (map (reading ideal actor) places)
+  only_reads_good [] = tt
+  only_reads_good (place ∷ places) = (refl, only_reads_good places)
 
   few_before : (vcpu : Option ℕ) (piece : List Happened) (event : Event) → length (places_before ideal vcpu piece event) ≤ 1
   few_before vcpu piece event = of (byte_place ideal event)
@@ -134,23 +128,23 @@ module _ (shape : GuestShape) (ideal : Ideal) (actor : ℕ) where
       ∙ (ap (λ n. n + suc (length (map (reading ideal actor) after))) (length-map before (reading ideal actor)) ∙ ap (λ n. length before + suc n) (length-map after (reading ideal actor))) in
       let one = few_before (vcpu_of ideal.guest.shape actor) piece event in
       let four = few_after event found in
-      record { fit = reads_fit before (Happens actor event found ∷ map (reading ideal actor) after) (refl, only_reads_fit after); short = omega (arith, long, one, four) }
+      record { good = reads_good before (Happens actor event found ∷ map (reading ideal actor) after) (refl, only_reads_good after); short = omega (arith, long, one, four) }
 
   event_modest : (operation : Option Operation) (piece : List Happened) (act : Act) (moments : List Moment) → event_moments ideal actor operation piece act ≡ Some moments → IsModest shape moments
   event_modest operation piece act moments h =
       option_and_then_some (with_reads ideal actor piece act) (event_told ideal (vcpu_of ideal.guest.shape actor) operation piece act) moments h
       (λ event is k. subst (IsModest shape) (cond_some (gives act (handed_out ideal event)) (moments_round ideal actor piece event) moments k).1 (round_modest piece event))
 
-  act_modest : (operation : Option Operation) (piece : List Happened) (act : Act) (moments : List Moment) → act_fault shape act ≡ None → IsTrue (is_judged_act shape act) → moments_told ideal actor operation piece act ≡ Some moments → IsModest shape moments
-  act_modest operation piece (Begins call) moments good judged h =
-      subst (IsModest shape) (same_Some _ _ h) (record { fit = (and_from (is_good shape (operation_of call)) (is_judged shape (operation_of call)) (call_good shape call good) judged, tt); short = omega arith })
-  act_modest operation piece (Ends answer) moments good judged h = subst (IsModest shape) (same_Some _ _ h) (record { fit = (refl, tt); short = omega arith })
-  act_modest operation piece act moments good judged h = event_modest operation piece act moments h
+  act_modest : (operation : Option Operation) (piece : List Happened) (act : Act) (moments : List Moment) → act_fault shape act ≡ None → moments_told ideal actor operation piece act ≡ Some moments → IsModest shape moments
+  act_modest operation piece (Begins call) moments good h =
+      subst (IsModest shape) (same_Some _ _ h) (record { good = (call_good shape call good, tt); short = omega arith })
+  act_modest operation piece (Ends answer) moments good h = subst (IsModest shape) (same_Some _ _ h) (record { good = (refl, tt); short = omega arith })
+  act_modest operation piece act moments good h = event_modest operation piece act moments h
 
-pub told_modest : (course : Course) (event : TraceEvent) (moments : List Moment) (shape : GuestShape) → event_fault shape event ≡ None → IsTrue (is_judged_act shape event.act) → told course event ≡ Some moments → IsModest shape moments
-told_modest course event moments shape good judged h =
+pub told_modest : (course : Course) (event : TraceEvent) (moments : List Moment) (shape : GuestShape) → event_fault shape event ≡ None → told course event ≡ Some moments → IsModest shape moments
+told_modest course event moments shape good h =
     option_and_then_some (told_by course event.act) (actor_of course.ideal.guest.shape event.by) moments h
-    (λ actor there. act_modest shape course.ideal actor (operation_in (call_of course actor)) (piece_in (call_of course actor)) event.act moments (no_first _ (act_fault shape event.act) good) judged)
+    (λ actor there. act_modest shape course.ideal actor (operation_in (call_of course actor)) (piece_in (call_of course actor)) event.act moments (no_first _ (act_fault shape event.act) good))
 
 pub IfNone_then : {X Q : Type 0} {P : Type 0} (o : Option X) → IfNone o P → (P → Q) → IfNone o Q
 IfNone_then None h f = f h
@@ -163,6 +157,6 @@ IsToldOf board notes event own = (guest : IdealGuest) (moments : List Moment) �
 pub told_some : (o : Option (List Moment)) (own : List Moment) (P : List Moment → Type 0) → o ≡ Some own → IfSome o P → P own
 told_some o own P is h = subst (λ x. IfSome x P) is h
 
-pub modest_here : (board : BoardOf) (notes : List NotedOf) (event : TraceEvent) (own : List Moment) → IsSomePlay board notes → event_fault board.state.guest.shape event ≡ None → IsTrue (is_judged_act board.state.guest.shape event.act)
+pub modest_here : (board : BoardOf) (notes : List NotedOf) (event : TraceEvent) (own : List Moment) → IsSomePlay board notes → event_fault board.state.guest.shape event ≡ None
     → ((guest : IdealGuest) (moments : List Moment) → IsPlayed guest moments board notes → told (pass_of guest moments).course event ≡ Some own) → IsModest board.state.guest.shape own
-modest_here board notes event own p there judged said = told_modest (pass_of p.guest p.moments).course event own board.state.guest.shape there judged (said p.guest p.moments p.is)
+modest_here board notes event own p there said = told_modest (pass_of p.guest p.moments).course event own board.state.guest.shape there (said p.guest p.moments p.is)

@@ -1,58 +1,45 @@
 -- What the program knows after some moments of a guest, and when one more goes on with them (own choice).
-use Rattle.std.specs.Prelude.{◌≡◌, ◌↔◌, ℕ, ◌+◌, ◌≤◌, ◌<◌, ◌*◌, ◌&&◌, Bool, true, IsTrue, List, [], ◌∷◌, ◌++◌, length, Some, slice_set, take}
+use Rattle.std.specs.Prelude.{◌≡◌, ◌↔◌, ℕ, ◌+◌, ◌≤◌, ◌<◌, ◌*◌, Bool, true, IsTrue, List, [], ◌∷◌, ◌++◌, length, Some, slice_set, take}
 use Rattle.std.specs.Option.{option_map_or}
-use Rattle.trace_told.specs.TraceRead.declared.trace.Act.{Act}
-use Rattle.trace_told.specs.TraceRead.declared.trace.Act.TheVariants.{Begin as Begins}
 use Rattle.trace_told.specs.TraceRead.declared.trace.TraceEvent.{TraceEvent}
 use Rattle.trace_told.specs.Words.{GuestShape}
 use Rattle.trace_told.specs.Calls.{Operation, Moment, Begin, Happens, Event}
 use Rattle.trace_told.specs.GicCall.declared.event.Moment.TheVariants.{End}
-use Rattle.trace_told.specs.Histories.{IdealGuest, Track, actor_count, doing_of}
+use Rattle.trace_told.specs.Histories.{IdealGuest, actor_count, doing_of}
 use Rattle.trace_told.specs.LegalPlay.LegalSteps.Step.{Pass, pass_of, actor_of, GoesOnLegally, IsActorBegun, may_all_be_answered}
 use Rattle.trace_told.specs.LegalPlay.Board.{BoardOf, IsOfPass, IsComingNext, IsRightEnd, IsFreshAt}
 use Rattle.trace_told.specs.LegalPlay.Pieces.{piece_of}
+use Rattle.trace_told.specs.LegalPlay.Answering.{AreGood}
 use Rattle.trace_told.specs.LegalPlay.HistoryPlay.HistoryCalls.Exact.{is_good, are_records}
 use Rattle.trace_told.specs.LegalPlay.HistoryPlay.HistoryCheck.Ready.{IsReady}
-use Rattle.trace_told.specs.Told.{told, operation_of}
+use Rattle.trace_told.specs.Told.{told}
 use Rattle.trace_told.specs.Verdict.{CanBe}
 use Rattle.trace_told.specs.declared.verdict.Verdict.{Verdict}
 use Rattle.trace_told.specs.declared.verdict.Verdict.TheVariants.{Yes, No}
 use Rattle.trace_told.specs.Laws.{CanFollow, GoOnLegally, IsFreshOnceWhole}
-use Rattle.history_turns.specs.Judged.{is_judged}
 use Rattle.history_turns.specs.Noted.{NotedOf}
-use Rattle.gic_check.specs.Notes.{AreNoted, is_midway_in, nothing_noted, noted_of, noted_first, noted_made, noted_later}
+use Rattle.gic_check.specs.Notes.{AreNoted, AreAllDone, is_midway_in, nothing_noted, noted_of, noted_first, noted_made, noted_later}
 
--- an operation is one that its guest can do, and the program judges its calls
-abbrev pub is_fit : GuestShape → Operation → Bool
-is_fit shape operation = is_good shape operation && is_judged shape operation
+-- the operation that a moment begins is one that its guest can do
+abbrev pub is_good_moment : GuestShape → Moment → Bool
+is_good_moment shape (Begin actor operation) = is_good shape operation
+is_good_moment shape moment = true
 
-abbrev pub AreFit : GuestShape → Track → Type 0
-AreFit shape track = (actor : ℕ) (operation : Operation) → (doing_of track actor).operation ≡ Some operation → IsTrue (is_fit shape operation)
+abbrev pub AreGoodMoments : GuestShape → List Moment → Type 0
+AreGoodMoments shape [] = Unit {0}
+AreGoodMoments shape (moment ∷ moments) = IsTrue (is_good_moment shape moment) × AreGoodMoments shape moments
 
--- so is the one that a moment begins
-abbrev pub is_fit_moment : GuestShape → Moment → Bool
-is_fit_moment shape (Begin actor operation) = is_fit shape operation
-is_fit_moment shape moment = true
-
-abbrev pub AreFitMoments : GuestShape → List Moment → Type 0
-AreFitMoments shape [] = Unit {0}
-AreFitMoments shape (moment ∷ moments) = IsTrue (is_fit_moment shape moment) × AreFitMoments shape moments
-
--- and the one that an event of a trace begins
-abbrev pub is_judged_act : GuestShape → Act → Bool
-is_judged_act shape (Begins call) = is_judged shape (operation_of call)
-is_judged_act shape act = true
-
--- a board, and what is noted of each actor's call
+-- a board, what is noted of each actor's call, and the doublewords of all commands that were done
 pub record PlayOf : Type 0 where
   pub board : BoardOf
   pub notes : List NotedOf
+  pub done : List (List ℕ)
 
 -- these are of moments of a guest
 pub record IsPlayed (guest : IdealGuest) (moments : List Moment) (board : BoardOf) (notes : List NotedOf) : Type 0 where
   pub of : IsOfPass guest.shape (pass_of guest moments) board
   pub noted : AreNoted guest.shape (pass_of guest moments).course notes
-  pub fit : AreFit guest.shape board.track
+  pub good : AreGood guest.shape board.track
   pub records : (actor : ℕ) → IsTrue (are_records guest.shape (piece_of board.pieces actor))
 
 -- or of some of some guest
@@ -66,27 +53,27 @@ pub record IsSomePlay (board : BoardOf) (notes : List NotedOf) : Type 0 where
 -- a moment can be noted
 pub record CanNote (board : BoardOf) (notes : List NotedOf) (moment : Moment) : Type 0 where
   pub ready : IsReady board.state
-  pub fit : AreFit board.state.guest.shape board.track
-  pub begins : IsTrue (is_fit_moment board.state.guest.shape moment)
+  pub good : AreGood board.state.guest.shape board.track
+  pub begins : IsTrue (is_good_moment board.state.guest.shape moment)
   pub there : actor_of moment < length notes
 
 -- and what calls see after it
 pub record CanSee (board : BoardOf) (notes : List NotedOf) : Type 0 where
   pub ready : IsReady board.state
-  pub fit : AreFit board.state.guest.shape board.track
+  pub good : AreGood board.state.guest.shape board.track
   pub rooms : length notes ≡ actor_count board.state.guest.shape
 
--- what is noted before a moment
-abbrev pub note_made : BoardOf → ℕ → Event → NotedOf → Operation → NotedOf
-note_made board actor event noted operation = noted_made board.state (is_midway_in board.state board.pieces) operation (piece_of board.pieces actor) event noted
+-- what is noted before a moment, after all these commands
+abbrev pub note_made : BoardOf → List (List ℕ) → ℕ → Event → NotedOf → Operation → NotedOf
+note_made board all actor event noted operation = noted_made board.state all (is_midway_in board.state board.pieces) operation (piece_of board.pieces actor) event noted
 
-abbrev pub notes_made : BoardOf → ℕ → Event → List NotedOf → List NotedOf
-notes_made board actor event notes = option_map_or (λ operation. slice_set notes actor (note_made board actor event (noted_of notes actor) operation)) (doing_of board.track actor).operation notes
+abbrev pub notes_made : BoardOf → List (List ℕ) → ℕ → Event → List NotedOf → List NotedOf
+notes_made board all actor event notes = option_map_or (λ operation. slice_set notes actor (note_made board all actor event (noted_of notes actor) operation)) (doing_of board.track actor).operation notes
 
-abbrev pub notes_before : BoardOf → Moment → List NotedOf → List NotedOf
-notes_before board (Begin actor operation) notes = slice_set notes actor (noted_first board.state operation)
-notes_before board (Happens actor event found) notes = notes_made board actor event notes
-notes_before board (End actor answer) notes = slice_set notes actor nothing_noted
+abbrev pub notes_before : BoardOf → List (List ℕ) → Moment → List NotedOf → List NotedOf
+notes_before board all (Begin actor operation) notes = slice_set notes actor (noted_first board.state operation)
+notes_before board all (Happens actor event found) notes = notes_made board all actor event notes
+notes_before board all (End actor answer) notes = slice_set notes actor nothing_noted
 
 -- and after an event, of each actor
 abbrev pub note_seen : BoardOf → ℕ → NotedOf → NotedOf
@@ -117,12 +104,14 @@ pub record StaysLegal (guest : IdealGuest) (pass : Pass) (actor : ℕ) : Type 0 
 pub record Goes (guest : IdealGuest) (moments : List Moment) (moment : Moment) (count : ℕ) (play : PlayOf) (goes : Bool) : Type 0 where
   pub value : IsTrue goes ↔ GoesOnLegally guest (pass_of guest moments) moment
   pub played : IsTrue goes → IsPlayed guest (moments ++ moment ∷ []) play.board play.notes
+  pub done : IsTrue goes → AreAllDone play.board.state play.done
   pub counted : IsTrue goes → play.board.moments ≡ count + 1
 
 -- and so of moments, one after the other
 pub record GoOn (guest : IdealGuest) (before moments : List Moment) (count : ℕ) (play : PlayOf) (go : Bool) : Type 0 where
   pub value : IsTrue go ↔ GoOnLegally guest (pass_of guest before) moments
   pub played : IsTrue go → IsPlayed guest (before ++ moments) play.board play.notes
+  pub done : IsTrue go → AreAllDone play.board.state play.done
   pub counted : IsTrue go → play.board.moments ≡ count + length moments
 
 -- Events.
@@ -132,6 +121,7 @@ pub record IsFollowed (guest : IdealGuest) (moments : List Moment) (event : Trac
   pub own : List Moment
   pub told : told (pass_of guest moments).course event ≡ Some own
   pub played : IsPlayed guest (moments ++ own) play.board play.notes
+  pub done : AreAllDone play.board.state play.done
   pub few : play.board.moments ≤ count + 6
 
 -- whether an event can come next; and if it can, what is known after it
@@ -143,6 +133,7 @@ pub record Follows (guest : IdealGuest) (moments : List Moment) (event : TraceEv
 pub record IsAfter (guest : IdealGuest) (events : List TraceEvent) (count : ℕ) (play : PlayOf) : Type 0 where
   pub can : CanBe guest events
   pub played : IsPlayed guest can.moments play.board play.notes
+  pub done : AreAllDone play.board.state play.done
   pub few : play.board.moments ≤ 6 * count
 
 -- Verdicts.

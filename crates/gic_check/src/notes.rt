@@ -1,13 +1,15 @@
 //! What is noted of each actor's call as moments go on.
-ghost use Rattle.std.specs.Prelude.{◌≡◌, ◌<◌, IfOk, OnOk, IsTrue, length, replicate, slice_set};
+ghost use Rattle.std.specs.Prelude.{◌≡◌, ◌<◌, ℕ, false, IfOk, OnOk, IsTrue, List, length, replicate, slice_set};
 ghost use Rattle.trace_told.specs.Words.{IsShape};
+ghost use Rattle.trace_told.specs.LegalPlay.Answering.{AreGood};
 ghost use Rattle.trace_told.specs.LegalPlay.HistoryPlay.HistoryCalls.Exact.{is_good};
 ghost use Rattle.trace_told.specs.LegalPlay.HistoryPlay.HistoryCheck.Ready.{IsReady};
 ghost use Rattle.trace_told.specs.Histories.{doing_of};
 ghost use Rattle.history_turns.specs.Noted.{place_by};
-ghost use Rattle.gic_check.specs.Notes.{nothing_noted as nothing, noted_of as noted_in, is_midway_in, of_each, rising_of as rising_of_op, rising_in as rising_by, later_seen as later_seen_of, seen_first, seen_made, noted_first, noted_made};
-ghost use Rattle.gic_check.specs.Play.{AreFit, AreSeen, AreSeenAfter, CanNote, CanSee, note_seen, notes_before, notes_made};
+ghost use Rattle.gic_check.specs.Notes.{nothing_noted as nothing, noted_of as noted_in, is_midway_in, is_taking as is_taking_in, of_each, rising_of as rising_of_op, rising_in as rising_by, later_seen as later_seen_of, seen_first, seen_made, noted_first, noted_made};
+ghost use Rattle.gic_check.specs.Play.{AreSeen, AreSeenAfter, CanNote, CanSee, note_seen, notes_before, notes_made};
 
+use crate::its::{copy_commands, copy_done, is_taking, take_at};
 use crate::known::{operation_at, piece_at, shape_of, state_of};
 use crate::seen::{first_seen, later_seen, made_seen, rising_of};
 use crate::signal::{is_signal, lpi_after};
@@ -23,6 +25,8 @@ pub(crate) fn nothing_noted(alloc: Global) -> Noted
         signals: false,
         lpi: None,
         targets: ListOf::new(alloc),
+        done: ListOf::new(alloc),
+        commands: ListOf::new(alloc),
     }
 }
 
@@ -63,6 +67,8 @@ fn first(alloc: Global, state: &State, operation: &Operation) -> Result<Noted, A
         signals: false,
         lpi: None,
         targets: first_targets(alloc, state, operation)?,
+        done: ListOf::new(alloc),
+        commands: ListOf::new(alloc),
     })
 }
 
@@ -85,7 +91,7 @@ fn made_targets(
     }
 }
 
-/// What is noted at an event of a call's own, before that.
+/// What is noted at an event of a call's own, before that, of one that goes by no commands.
 fn made(
     alloc: Global,
     board: &Board,
@@ -96,7 +102,8 @@ fn made(
 ) -> Result<Noted, AllocError>
     requires ready { IsReady board.now.state }
     requires good { IsTrue (is_good board.now.state.guest.shape operation.now) }
-    ensures { IfOk result (λ after. after ≡ noted_made board.now.state (is_midway_in board.now.state board.now.pieces) operation.now piece.now event.now noted.now) }
+    requires other { is_taking_in board.now.state.guest.shape operation.now ≡ false }
+    ensures { (all : List (List ℕ)) → IfOk result (λ after. after ≡ noted_made board.now.state all (is_midway_in board.now.state board.now.pieces) operation.now piece.now event.now noted.now) }
 {
     let state = &board.state;
     let targets = made_targets(alloc, state.shape(), operation, piece, event, noted)?;
@@ -105,6 +112,8 @@ fn made(
         signals: noted.signals || signals,
         lpi: lpi_after(state, operation, event, noted.lpi),
         targets,
+        done: copy_done(alloc, noted.done.as_slice())?,
+        commands: copy_commands(alloc, noted.commands.as_slice())?,
     })
 }
 
@@ -134,21 +143,25 @@ fn begin(
     Ok(())
 }
 
-/// Notes what an actor's call notes at an event of its own, before that.
+/// Notes what an actor's call notes at an event of its own, before that and after all these commands.
 fn make(
     notes: &mut ListOf<Noted>,
     alloc: Global,
     board: &Board,
+    all: &[[u64; 4]],
     actor: u32,
     event: &Event,
 ) -> Result<(), AllocError>
     requires ready { IsReady board.now.state }
-    requires fit { AreFit board.now.state.guest.shape board.now.track }
+    requires good { AreGood board.now.state.guest.shape board.now.track }
     requires there { actor < length notes.old }
-    ensures { OnOk result (notes.new ≡ notes_made board.now actor event.now notes.old) }
+    ensures { OnOk result (notes.new ≡ notes_made board.now all.now actor event.now notes.old) }
 {
     match operation_at(board, actor) {
         Some(operation) => {
+            if is_taking(shape_of(board), &operation) {
+                return take_at(notes, alloc, state_of(board), all, actor, event);
+            }
             let piece = piece_at(board, actor);
             let noted = noted_of(notes.as_slice(), actor);
             let next = made(alloc, board, &operation, piece, event, noted)?;
@@ -159,19 +172,20 @@ fn make(
     }
 }
 
-/// Notes what an actor's call begins with, or notes at an event of its own, before a moment of it. `AllocError` where memory is refused: then nothing is noted.
+/// Notes what an actor's call begins with, or notes at an event of its own, before a moment of it and after all these commands. `AllocError` where memory is refused: then they are of no further use.
 pub(crate) fn note_before(
     notes: &mut ListOf<Noted>,
     alloc: Global,
     board: &Board,
+    all: &[[u64; 4]],
     moment: &Moment,
 ) -> Result<(), AllocError>
     requires roomy { CanNote board.now notes.old moment.now }
-    ensures { OnOk result (notes.new ≡ notes_before board.now moment.now notes.old) }
+    ensures { OnOk result (notes.new ≡ notes_before board.now all.now moment.now notes.old) }
 {
     match *moment {
         Moment::Begin { actor, operation } => begin(notes, alloc, &board.state, actor, &operation),
-        Moment::Happens { actor, event, .. } => make(notes, alloc, board, actor, &event),
+        Moment::Happens { actor, event, .. } => make(notes, alloc, board, all, actor, &event),
         Moment::End { actor, .. } => {
             notes.set(actor as usize, nothing_noted(alloc));
             Ok(())
@@ -194,12 +208,14 @@ fn seen(
         signals: noted.signals,
         lpi: noted.lpi,
         targets: later_seen(alloc, state, vcpu, piece, noted)?,
+        done: copy_done(alloc, noted.done.as_slice())?,
+        commands: copy_commands(alloc, noted.commands.as_slice())?,
     })
 }
 
 /// The vCPU whose EnableLPIs an actor's call sets, if it is in one that does.
 fn rising_in(board: &Board, actor: u32) -> Option<u32>
-    requires fit { AreFit board.now.state.guest.shape board.now.track }
+    requires good { AreGood board.now.state.guest.shape board.now.track }
     ensures { result ≡ rising_by board.now.state.guest.shape (doing_of board.now.track actor).operation }
 {
     match operation_at(board, actor) {
@@ -216,7 +232,7 @@ fn see(
     actor: u32,
 ) -> Result<(), AllocError>
     requires ready { IsReady board.now.state }
-    requires fit { AreFit board.now.state.guest.shape board.now.track }
+    requires good { AreGood board.now.state.guest.shape board.now.track }
     requires there { actor < length notes.old }
     ensures { OnOk result (notes.new ≡ slice_set notes.old actor (note_seen board.now actor (noted_in notes.old actor))) }
 {

@@ -5,8 +5,10 @@ ghost use Rattle.trace_told.specs.Histories.{IdealGuest as IdealGuestOf, opening
 ghost use Rattle.trace_told.specs.LegalPlay.LegalSteps.Step.{pass_of, actor_of, IsActorBegun, may_all_be_answered as may_all_be_answered_of};
 ghost use Rattle.trace_told.specs.LegalPlay.HistoryPlay.Coming.{is_unknown};
 ghost use Rattle.trace_told.specs.LegalPlay.Board.{IsComingNext, IsRightEnd};
-ghost use Rattle.gic_check.specs.Play.{is_fit_moment, Goes, IsPlayed, IsSomePlay, MayCome, StaysLegal};
+ghost use Rattle.gic_check.specs.Notes.{AreAllDone};
+ghost use Rattle.gic_check.specs.Play.{is_good_moment, Goes, IsPlayed, IsSomePlay, MayCome, StaysLegal};
 
+use crate::its::note_done;
 use crate::known::{operation_at, piece_at, shape_of};
 use crate::notes::{no_notes, note_after, note_before, noted_of};
 use history_turns::{Noted, call_begun, call_ended};
@@ -14,11 +16,12 @@ use std::alloc::{AllocError, Global};
 use std::marker::Model;
 use trace_told::{Board, GuestSpec, ListOf, Moment, NoMemory, may_all_be_answered};
 
-/// A board, and what is noted of each actor's call.
+/// A board, what is noted of each actor's call, and the doublewords of all commands that were done, oldest first.
 #[derive(Drop)]
 pub(crate) struct Play {
     pub(crate) board: Board,
     pub(crate) notes: ListOf<Noted>,
+    pub(crate) done: ListOf<[u64; 4]>,
 }
 
 impl Model for Play {
@@ -26,7 +29,7 @@ impl Model for Play {
 
     ghost Value = { PlayOf };
 
-    ghost view = { λ p. record { board = p.board; notes = p.notes } };
+    ghost view = { λ p. record { board = p.board; notes = p.notes; done = p.done } };
 }
 
 /// The actor of a moment.
@@ -149,23 +152,31 @@ impl Play {
     /// What is known of a guest as it opens. `NoMemory` where memory is refused.
     pub(crate) fn open(alloc: Global, guest: &GuestSpec) -> Result<Play, NoMemory>
         requires { IsGoodGuest guest.now }
-        ensures { IfOk result (λ play. IsPlayed (opening_guest guest.now) [] play.board play.notes × (play.board.moments ≡ 0)) }
+        ensures played { IfOk result (λ play. IsPlayed (opening_guest guest.now) [] play.board play.notes) }
+        ensures done { IfOk result (λ play. AreAllDone play.board.state play.done) }
+        ensures none { IfOk result (λ play. play.board.moments ≡ 0) }
     {
         let board = Board::open(alloc, guest)?;
         let notes = no_notes(alloc, guest.shape.vcpus + guest.shape.devices)?;
-        Ok(Play { board, notes })
+        let done = ListOf::new(alloc);
+        Ok(Play { board, notes, done })
     }
 
     /// What is known after a moment that comes next.
     fn advance(&mut self, alloc: Global, moment: &Moment) -> Result<(), NoMemory>
         requires play { IsSomePlay self.old.board self.old.notes }
-        requires fit { IsTrue (is_fit_moment self.old.board.state.guest.shape moment.now) }
+        requires done { AreAllDone self.old.board.state self.old.done }
+        requires good { IsTrue (is_good_moment self.old.board.state.guest.shape moment.now) }
         requires coming { IsComingNext self.old.board.state self.old.board.track moment.now }
         requires known { is_unknown self.old.board.state moment.now ≡ false }
         requires moments { self.old.board.moments + 1 < 2 ^ 64 }
-        ensures { (guest : IdealGuestOf) (moments : List MomentOf) → IsPlayed guest moments self.old.board self.old.notes → OnOk result (IsPlayed guest (moments ++ moment.now ∷ []) self.new.board self.new.notes × (self.new.board.moments ≡ self.old.board.moments + 1)) }
+        ensures played { (guest : IdealGuestOf) (moments : List MomentOf) → IsPlayed guest moments self.old.board self.old.notes → OnOk result (IsPlayed guest (moments ++ moment.now ∷ []) self.new.board self.new.notes) }
+        ensures all { OnOk result (AreAllDone self.new.board.state self.new.done) }
+        ensures count { OnOk result (self.new.board.moments ≡ self.old.board.moments + 1) }
     {
-        note_before(&mut self.notes, alloc, &self.board, moment)?;
+        let all = self.done.as_slice();
+        note_before(&mut self.notes, alloc, &self.board, all, moment)?;
+        note_done(&mut self.done, moment)?;
         self.board.advance(alloc, moment)?;
         note_after(&mut self.notes, alloc, &self.board, moment)?;
         Ok(())
@@ -175,7 +186,8 @@ impl Play {
     /// `NoMemory` where memory is refused: then it is of no further use.
     pub(crate) fn goes_on(&mut self, alloc: Global, moment: &Moment) -> Result<bool, NoMemory>
         requires play { IsSomePlay self.old.board self.old.notes }
-        requires fit { IsTrue (is_fit_moment self.old.board.state.guest.shape moment.now) }
+        requires done { AreAllDone self.old.board.state self.old.done }
+        requires good { IsTrue (is_good_moment self.old.board.state.guest.shape moment.now) }
         requires known { is_unknown self.old.board.state moment.now ≡ false }
         requires moments { self.old.board.moments + 1 < 2 ^ 64 }
         ensures { (guest : IdealGuestOf) (moments : List MomentOf) → IsPlayed guest moments self.old.board self.old.notes → IfOk result (Goes guest moments moment.now self.old.board.moments self.new) }

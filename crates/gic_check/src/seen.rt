@@ -127,7 +127,7 @@ fn seen_on(vcpu: u32, place: Option<u32>, id: u32, target: Option<u32>, seen: Se
 }
 
 /// The vCPU that the LPI of a number is for, if it is for one.
-fn target(state: &State, number: u32) -> Option<u32>
+pub(crate) fn target(state: &State, number: u32) -> Option<u32>
     requires ready { IsReady state.now }
     requires there { number < state.now.guest.shape.lpis }
     ensures { result ≡ targets_in state.now (8192 + number) }

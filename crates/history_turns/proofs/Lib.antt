@@ -1,4 +1,5 @@
-pub mod WalkLemmas
+pub use Rattle.history_commands.proofs.NamedLemmas
+pub use Rattle.history_commands.proofs.BegunLaw
 pub mod RiseLemmas
 pub mod RiseLaw
 pub mod RiseCalls

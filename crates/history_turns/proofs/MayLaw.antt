@@ -15,16 +15,16 @@ use Rattle.history_turns.specs.Calls.{Enable, Access, Happened, View, Place, Pla
 use Rattle.history_turns.specs.GicCall.declared.event.Found.TheVariants.{Lpis as FoundLpis}
 use Rattle.history_turns.specs.Histories.{Ideal, Call, seeing, targets_in, is_passed}
 use Rattle.history_turns.specs.LegalLists.Legal.{Note, Made, Sees, noting, signalling, IsBegun, unseen}
-use Rattle.history_calls.proofs.GicCall.GicBits.SetLemmas.{has_bit-set_of}
+use Rattle.history_commands.proofs.GicCall.GicBits.SetLemmas.{has_bit-set_of}
 use Rattle.history_turns.specs.HistoryCalls.Exact.{is_told}
 use Rattle.history_turns.specs.HistoryCalls.Found.{stores, found_by}
-use Rattle.history_calls.proofs.CountLemmas.{named_more}
-use Rattle.history_calls.proofs.ExactLaw.{events_in, Hands, hands_all, here, reading, notes_of, reading_named, reads_last}
+use Rattle.history_commands.proofs.CountLemmas.{named_more}
+use Rattle.history_commands.proofs.ExactLaw.{events_in, Hands, hands_all, here, reading, notes_of, reading_named, reads_last}
 use Rattle.history_turns.specs.Laws.{EnablingCallsAreExact}
 use Rattle.history_turns.specs.Noted.{NotedOf, seen_at, place_by, IsSeen}
-use Rattle.history_turns.specs.Risen.{is_touched, stored_in, place_after, touch_in, may_be_touched, IsRising, IsRisingFrom, MayRise, is_idle}
-use Rattle.history_turns.specs.Walked.{from_named}
-use Rattle.history_turns.proofs.WalkLemmas.{from_append, from_later, idle_none}
+use Rattle.history_turns.specs.Risen.{is_touched, stored_in, place_after, touch_in, may_be_touched, IsRising, IsRisingFrom, MayRise}
+use Rattle.history_turns.specs.Walked.{from_named, is_idle}
+use Rattle.history_turns.proofs.NamedLemmas.{from_append, from_later, idle_none}
 use Rattle.history_turns.proofs.RiseLemmas.{touch_of, touch_if, rises, rest_of, none_stored, filter_map_same, range_all, all_told}
 use Rattle.history_turns.proofs.RiseLaw.{IsChosen, number_own, below_or}
 use Rattle.history_turns.proofs.RiseCalls.{IsAfter, chosen_after, after_ended, ended_rises, rises_ended, stored_as, as_stored}

@@ -7,8 +7,8 @@ use Rattle.history_turns.specs.Calls.{Event, Reach, Take, Leave, Happened, is_be
 use Rattle.history_turns.specs.GicCall.declared.event.Event.TheVariants.{Read}
 use Rattle.history_turns.specs.Histories.{Ideal, Call, made, seeing, noted as noted_by, is_passed, is_ahead, come_to, targets_in}
 use Rattle.history_turns.specs.LegalLists.Legal.{Note, Made, Sees, noting}
-use Rattle.history_calls.proofs.CourseLemmas.{noted_piece}
-use Rattle.history_calls.proofs.ExactLaw.{events_in}
+use Rattle.history_commands.proofs.CourseLemmas.{noted_piece}
+use Rattle.history_commands.proofs.ExactLaw.{events_in}
 use Rattle.history_turns.proofs.RiseLemmas.{touch_of, touch_if}
 use Rattle.history_turns.proofs.RisingLemmas.{event_head, event_tail}
 

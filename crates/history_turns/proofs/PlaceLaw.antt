@@ -7,9 +7,9 @@ use Rattle.history_turns.specs.Calls.{Event, Enable, Touch, ItsBegin, Done, Runs
 use Rattle.history_turns.specs.GicCall.declared.event.Event.TheVariants.{Queue}
 use Rattle.history_turns.specs.GicCall.declared.event.Moment.TheVariants.{End}
 use Rattle.history_turns.specs.Histories.{Ideal, Call, Course, call_of, course_of, opening_course, gone_on, happened, begun, made, seeing, noted as noted_by}
-use Rattle.history_calls.proofs.CourseLemmas.{nobody_opens, noted_piece}
-use Rattle.history_calls.proofs.ExactLaw.{events_in}
-use Rattle.history_calls.proofs.OpenLaw.{set_cases, mapped}
+use Rattle.history_commands.proofs.CourseLemmas.{nobody_opens, noted_piece}
+use Rattle.history_commands.proofs.ExactLaw.{events_in}
+use Rattle.history_commands.proofs.OpenLaw.{set_cases, mapped}
 use Rattle.history_turns.specs.Laws.{CallsArePlaced}
 use Rattle.history_turns.specs.Noted.{placing, place_by}
 

@@ -10,12 +10,12 @@ use Rattle.history_turns.specs.GicRmap.declared.map.Reg.TheVariants.{Ctlr as Red
 use Rattle.history_turns.specs.Calls.{Event, Enable, Found, Happened, Beside, View, Place, HandsOut, IsLastRead, Makes, MakesAfter, MakesPlain, IsCall, IsPlainCall, Operation, Access, held_at, named_of, pended_events, redist_places, table_places, access_places, access_value, enabled_by, read_answer, sets_lpis}
 use Rattle.history_turns.specs.GicCall.declared.event.Found.TheVariants.{Lpis as FoundLpis}
 use Rattle.history_turns.specs.Histories.{Call, vcpu_of, IsEndedAs}
-use Rattle.history_calls.proofs.CountLemmas.{named_more}
-use Rattle.history_calls.proofs.ExactLaw.{events_in, Hands}
+use Rattle.history_commands.proofs.CountLemmas.{named_more}
+use Rattle.history_commands.proofs.ExactLaw.{events_in, Hands}
 use Rattle.history_turns.specs.Noted.{NotedOf, seen_at, IsSeen}
 use Rattle.history_turns.specs.Risen.{stored_in, RisesFrom, Rises}
 use Rattle.history_turns.specs.Walked.{from_named}
-use Rattle.history_turns.proofs.WalkLemmas.{from_first, alone, reads_more}
+use Rattle.history_turns.proofs.NamedLemmas.{from_first, alone, reads_more}
 use Rattle.history_turns.proofs.RiseLaw.{risen, IsChosen, choice}
 
 -- What such a write reads and answers.

@@ -12,8 +12,8 @@ use Rattle.history_turns.specs.GicCall.declared.event.Place.TheVariants.{Word, Q
 use Rattle.history_turns.specs.GicCall.declared.event.Found.TheVariants.{Word as FoundWord}
 use Rattle.history_turns.specs.HistoryCalls.Exact.{is_told}
 use Rattle.history_turns.specs.HistoryCalls.Found.{found_by}
-use Rattle.history_calls.proofs.ExactLaw.{hands_all}
-use Rattle.history_calls.proofs.FoundLemmas.{touch_found, store_found}
+use Rattle.history_commands.proofs.ExactLaw.{hands_all}
+use Rattle.history_commands.proofs.FoundLemmas.{touch_found, store_found}
 use Rattle.history_turns.specs.Noted.{NotedOf, seen_at, IsSeen}
 use Rattle.history_turns.specs.Risen.{is_touched, rising_by, stays, rising_places, IsReadSo, is_settled, are_settled, IsRisen}
 use Rattle.history_turns.proofs.RiseLemmas.{all_range, range_all, flat_all, all_flat, table_same, rises, still_of, pended_same, touched_rises, word_is, all_told}

@@ -13,9 +13,9 @@ use Rattle.history_turns.specs.GicCall.declared.event.Place.TheVariants.{Word}
 use Rattle.history_turns.specs.GicCall.declared.event.Found.TheVariants.{Word as FoundWord}
 use Rattle.history_turns.specs.HistoryCalls.Exact.{is_told}
 use Rattle.history_turns.specs.HistoryCalls.Found.{touches, stores, found_by}
-use Rattle.history_calls.proofs.ExactLaw.{events_in}
-use Rattle.history_calls.proofs.FoundLemmas.{any_named, none_named, word_found}
-use Rattle.history_calls.proofs.KeyLemmas.{own_key}
+use Rattle.history_commands.proofs.ExactLaw.{events_in}
+use Rattle.history_commands.proofs.FoundLemmas.{any_named, none_named, word_found}
+use Rattle.history_commands.proofs.KeyLemmas.{own_key}
 use Rattle.history_turns.specs.Risen.{is_touched}
 
 -- Ranges.

@@ -12,9 +12,9 @@ use Rattle.history_turns.specs.GicCall.declared.event.Found.TheVariants.{Word as
 use Rattle.history_turns.specs.HistoryCalls.Counted.{IsUncounted}
 use Rattle.history_turns.specs.HistoryCalls.Found.{found_by, last_found, reads}
 use Rattle.history_turns.specs.HistoryCalls.Exact.{is_told}
-use Rattle.history_calls.proofs.CallLemmas.{read_decided}
-use Rattle.history_calls.proofs.ExactLaw.{events_in, hands_all}
-use Rattle.history_calls.proofs.FoundLemmas.{read_found, found_read}
+use Rattle.history_commands.proofs.CallLemmas.{read_decided}
+use Rattle.history_commands.proofs.ExactLaw.{events_in, hands_all}
+use Rattle.history_commands.proofs.FoundLemmas.{read_found, found_read}
 use Rattle.history_turns.specs.Noted.{NotedOf}
 use Rattle.history_turns.specs.Risen.{is_touched, rising_by, rising_places, stays, IsReadSo, IsMadeOf, are_settled, IsRisen, stored_in, RisesFrom, Rises, touch_in, touched_events, may_be_touched, IsRising, MayRiseFrom, IsRisingFrom, MayRise}
 use Rattle.history_turns.specs.Walked.{from_named}

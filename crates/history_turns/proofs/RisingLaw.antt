@@ -14,16 +14,16 @@ use Rattle.history_turns.specs.GicRmap.Map.{decoded as redist_decoded}
 use Rattle.history_turns.specs.Calls.{Event, Enable, Access, Happened, View, Ram, Pendbaser, Makes, named_of, is_in_table, is_table_zero, pended_events, table_places, sets_lpis}
 use Rattle.history_turns.specs.Histories.{Call}
 use Rattle.history_turns.specs.LegalLists.Legal.{noting, signalling, IsBegun}
-use Rattle.history_calls.proofs.MadeLemmas.{notes_as}
+use Rattle.history_commands.proofs.MadeLemmas.{notes_as}
 use Rattle.history_turns.specs.HistoryCalls.Exact.{is_told}
 use Rattle.history_turns.specs.HistoryCalls.Found.{found_by}
-use Rattle.history_calls.proofs.CountLemmas.{named_more}
-use Rattle.history_calls.proofs.ExactLaw.{events_in, Hands, hands_all, first_of}
-use Rattle.history_calls.proofs.FoundLemmas.{touch_found, store_found}
+use Rattle.history_commands.proofs.CountLemmas.{named_more}
+use Rattle.history_commands.proofs.ExactLaw.{events_in, Hands, hands_all, first_of}
+use Rattle.history_commands.proofs.FoundLemmas.{touch_found, store_found}
 use Rattle.history_turns.specs.Noted.{NotedOf, seen_at, IsSeen, place_by, placing}
 use Rattle.history_turns.specs.Risen.{is_touched, stored_in, place_after, may_be_touched, MayRiseFrom, IsRisingFrom, MayRise}
 use Rattle.history_turns.specs.Walked.{from_named}
-use Rattle.history_turns.proofs.WalkLemmas.{from_first, from_append, none_idle}
+use Rattle.history_turns.proofs.NamedLemmas.{from_first, from_append, none_idle}
 use Rattle.history_turns.proofs.RiseLemmas.{rises, still_of, rest_of, all_range, all_told}
 use Rattle.history_turns.proofs.RiseLaw.{number_is}
 use Rattle.history_turns.proofs.RiseCalls.{IsAfter, IsSplit, split_after, ended_after, as_stored}

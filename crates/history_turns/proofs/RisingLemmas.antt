@@ -7,7 +7,7 @@ use Rattle.history_turns.specs.Words.{Private, Spi, Lpi, GuestShape}
 use Rattle.history_turns.specs.Calls.{Event, Enable, Touch, Reach, Take, Leave, Happened, View, is_beside, named_of, pended_events}
 use Rattle.history_turns.specs.GicCall.declared.event.Event.TheVariants.{Read}
 use Rattle.history_turns.specs.HistoryCalls.Found.{touches}
-use Rattle.history_calls.proofs.ExactLaw.{events_in}
+use Rattle.history_commands.proofs.ExactLaw.{events_in}
 use Rattle.history_turns.specs.Noted.{placing}
 use Rattle.history_turns.specs.Risen.{coming_to, is_touched, touch_in, touched_events}
 use Rattle.history_turns.proofs.RiseLemmas.{touch_of, touch_if, touches_own, touches_other, none_below, touched_at, filter_map_same, any_same, rises, still_of, rest_of}

@@ -12,15 +12,15 @@ use Rattle.history_turns.specs.GicCall.declared.event.Place.TheVariants.{Word}
 use Rattle.history_turns.specs.GicCall.declared.event.Found.TheVariants.{Nothing, Word as FoundWord}
 use Rattle.history_turns.specs.Histories.{Call, vcpu_of, IsEndedAs, noted as noted_by, made, seeing}
 use Rattle.history_turns.specs.LegalLists.Legal.{Note, Made, Sees, noting, signalling, raises_lpi, IsBegun, unseen}
-use Rattle.history_calls.proofs.MadeLemmas.{notes_as}
-use Rattle.history_calls.proofs.ExactLaw.{here}
+use Rattle.history_commands.proofs.MadeLemmas.{notes_as}
+use Rattle.history_commands.proofs.ExactLaw.{here}
 use Rattle.history_turns.specs.HistoryCalls.Found.{last_found, reads}
 use Rattle.history_turns.specs.Laws.{SignallingCallsAreExact}
 use Rattle.history_turns.specs.Noted.{takes}
-use Rattle.history_turns.specs.Risen.{is_idle}
+use Rattle.history_turns.specs.Walked.{is_idle}
 use Rattle.history_turns.specs.Signalled.{is_taken, is_given_back, raised_in, is_enabled_by, finds_enabled, finds_none, after_raise, after_take, signals_from, is_signalled}
 use Rattle.history_turns.specs.Walked.{from_named, before_named}
-use Rattle.history_turns.proofs.WalkLemmas.{from_none, from_append, from_later, before_append, before_later, before_idle, split_named, idle_none}
+use Rattle.history_turns.proofs.NamedLemmas.{from_none, from_append, from_later, before_append, before_later, before_idle, split_named, idle_none}
 use Rattle.history_turns.proofs.NoteLemmas.{events_noted, noted_all}
 use Rattle.history_turns.proofs.SignalLemmas.{taken_is, given_back_is, raised_is}
 use Rattle.history_turns.proofs.SignalLaw.{turn_signalled, lone_signalled, IsMsi, signalled_made}

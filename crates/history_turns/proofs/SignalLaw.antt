@@ -14,13 +14,13 @@ use Rattle.history_turns.specs.GicCall.declared.event.Event.TheVariants.{Raise, 
 use Rattle.history_turns.specs.GicCall.declared.event.Found.TheVariants.{Nothing, Word as FoundWord}
 use Rattle.history_turns.specs.LegalLists.Legal.{unseen}
 use Rattle.history_turns.specs.HistoryCalls.Found.{last_found, reads, telling}
-use Rattle.history_calls.proofs.CountLemmas.{named_more}
-use Rattle.history_calls.proofs.ExactLaw.{events_in, Hands}
-use Rattle.history_calls.proofs.FoundLemmas.{read_found, found_read}
-use Rattle.history_turns.specs.Risen.{is_idle}
+use Rattle.history_commands.proofs.CountLemmas.{named_more}
+use Rattle.history_commands.proofs.ExactLaw.{events_in, Hands}
+use Rattle.history_commands.proofs.FoundLemmas.{read_found, found_read}
+use Rattle.history_turns.specs.Walked.{is_idle}
 use Rattle.history_turns.specs.Signalled.{is_taken, is_given_back, raised_in, is_enabled_by, finds_enabled, finds_none, after_raise, after_take, signals_from, is_signalled}
 use Rattle.history_turns.specs.Walked.{from_named, before_named}
-use Rattle.history_turns.proofs.WalkLemmas.{IsFirstOf, from_first, first_named, none_from, from_later, before_idle, before_later, before_append, split_named, alone, IsAlone, none_idle, idle_none, reads_more}
+use Rattle.history_turns.proofs.NamedLemmas.{IsFirstOf, from_first, first_named, none_from, from_later, before_idle, before_later, before_append, split_named, alone, IsAlone, none_idle, idle_none, reads_more}
 use Rattle.history_turns.proofs.RiseLaw.{number_is}
 use Rattle.history_turns.proofs.RiseCalls.{IsOne, only_one}
 use Rattle.history_turns.proofs.SignalLemmas.{ctlr, taken_is, given_back_is, raised_is, last_in, any_split, enabled_word, enabled_read, none_read, finds_none_so, finds_enabled_so, signals_enabled, number_so}

@@ -11,7 +11,7 @@ use Rattle.history_turns.specs.GicCall.declared.event.Event.TheVariants.{Raise, 
 use Rattle.history_turns.specs.GicCall.declared.event.Place.TheVariants.{Word}
 use Rattle.history_turns.specs.GicCall.declared.event.Found.TheVariants.{Nothing, Word as FoundWord}
 use Rattle.history_turns.specs.HistoryCalls.Found.{reads, telling}
-use Rattle.history_calls.proofs.FoundLemmas.{same_place}
+use Rattle.history_commands.proofs.FoundLemmas.{same_place}
 use Rattle.history_turns.specs.Signalled.{is_taken, is_given_back, raised_in, enabled_by, is_enabled_by, finds_enabled, finds_none}
 
 abbrev pub ctlr : Place

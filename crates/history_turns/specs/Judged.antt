@@ -1,19 +1,19 @@
--- Which calls are judged.
-use Rattle.std.specs.Prelude.{ℕ, ◌&&◌, not, nat_lt, Bool, true, false, Option, Some, None, if◌then◌else◌}
+-- Which of the calls that take the ITS or set EnableLPIs one is.
+use Rattle.std.specs.Prelude.{ℕ, ◌&&◌, not, nat_lt, Bool, false, Option, Some, None, if◌then◌else◌}
 use Rattle.history_turns.specs.Words.{GuestShape, Redist, Its, Mem, Msi}
-use Rattle.history_turns.specs.GicImap.Map.{decoded as its_decoded}
 use Rattle.history_turns.specs.GicRmap.Map.{decoded as redist_decoded}
-use Rattle.history_turns.specs.Calls.{Operation, Access, Device, sets_lpis, takes_turn}
-
--- the operation is no write of a register of the ITS that takes it
-abbrev pub is_judged : GuestShape → Operation → Bool
-is_judged shape (Access (Mem Its offset size write)) = not (takes_turn shape (its_decoded offset size) write)
-is_judged shape operation = true
+use Rattle.history_turns.specs.Calls.{Operation, Access, Device, sets_lpis}
+use Rattle.history_turns.specs.declared.calls.ItsWrite.{ItsWrite}
 
 -- the vCPU whose EnableLPIs a vCPU's operation sets
 abbrev pub rising_vcpu : GuestShape → ℕ → Operation → Option ℕ
 rising_vcpu shape actor (Access (Mem (Redist vcpu) offset size write)) = if nat_lt actor shape.vcpus && sets_lpis shape (redist_decoded offset size) write then Some vcpu else None
 rising_vcpu shape actor operation = None
+
+-- the write of a register of the ITS that a vCPU's operation is
+abbrev pub its_write : GuestShape → ℕ → Operation → Option ItsWrite
+its_write shape actor (Access (Mem Its offset size (Some value))) = if nat_lt actor shape.vcpus then Some (record { offset = offset; size = size; value = value }) else None
+its_write shape actor operation = None
 
 -- a device's operation is a message-signalled interrupt
 abbrev pub is_message : GuestShape → ℕ → Operation → Bool

@@ -1,20 +1,26 @@
 -- What a call is judged by beside its own events: what it noted of its guest as they happened.
-use Rattle.std.specs.Prelude.{◌≡◌, ◌↔◌, ℕ, ◌+◌, ◌<◌, Bool, true, false, IsTrue, List, map, fold, Contains, Option, Some, None, slice_get, unwrap_or, if◌then◌else◌}
+use Rattle.std.specs.Prelude.{◌≡◌, ◌↔◌, ℕ, ◌+◌, ◌<◌, Bool, true, false, IsTrue, List, map, fold, length, Contains, Option, Some, None, slice_get, unwrap_or, if◌then◌else◌}
 use Rattle.std.specs.List.{list_any}
-use Rattle.history_turns.specs.Words.{GuestShape, Redist, Mem, Msi, is_number}
+use Rattle.history_turns.specs.Words.{GuestShape, Redist, Its, Mem, Msi, is_number}
 use Rattle.history_turns.specs.Registers.{translated}
+use Rattle.history_turns.specs.GicImap.Map.{decoded as its_decoded}
 use Rattle.history_turns.specs.GicRmap.Map.{decoded as redist_decoded}
-use Rattle.history_turns.specs.Calls.{Event, Enable, Touch, ItsBegin, Operation, Access, Device, Happened, sets_lpis}
+use Rattle.history_turns.specs.Calls.{Event, Enable, Touch, ItsBegin, Operation, Access, Device, Happened, sets_lpis, takes_turn}
 use Rattle.history_turns.specs.Histories.{Call, come_to, is_ahead, is_passed}
 use Rattle.history_turns.specs.HistoryCalls.Exact.{IsCallOf}
+use Rattle.history_turns.specs.Mapped.{mapped_by}
+use Rattle.history_turns.specs.Begun.{AreTargets, begun_by}
 use Rattle.history_turns.specs.declared.noted.Seen.{Seen}
 
--- whether a message-signalled interrupt has raised what it signals; the LPI that it signals while the ITS is enabled, by the maps as its call took that; and
--- of a call that sets EnableLPIs for which vCPUs each LPI was, in rising INTID
+-- whether a message-signalled interrupt has raised what it signals; the LPI that it signals while the ITS is enabled, by the maps as its call took that; of a
+-- call that sets EnableLPIs for which vCPUs each LPI was, in rising INTID; and of a write of a register of the ITS that takes it the doublewords of all commands
+-- that were done before that, oldest first, and for which vCPU each LPI was as each of its own commands began, in rising INTID
 pub record NotedOf : Type 0 where
   pub signals : Bool
   pub lpi : Option ℕ
   pub targets : List Seen
+  pub done : List (List ℕ)
+  pub commands : List (List (Option ℕ))
 
 -- what is noted of the LPI of a number from 0
 abbrev pub seen_at : NotedOf → ℕ → Seen
@@ -29,11 +35,18 @@ abbrev pub takes : Event → Bool
 takes ItsBegin = true
 takes event = false
 
--- a call noted that: of one that sets EnableLPIs for which vCPUs the LPIs were, and of a message-signalled interrupt that took the ITS what it signals
+-- those commands left the maps that a call took, and the LPIs were for these vCPUs as its own commands began
+pub record HasTaken (shape : GuestShape) (noted : NotedOf) (call : Call) : Type 0 where
+  pub maps : call.maps ≡ mapped_by shape noted.done
+  pub commands : AreTargets call.commands noted.commands
+
+-- a call noted that: of one that sets EnableLPIs for which vCPUs the LPIs were, of a message-signalled interrupt that took the ITS what it signals, and of a
+-- write of a register of the ITS that takes it the commands before and the vCPUs of its own
 abbrev pub HasNoted : GuestShape → NotedOf → Operation → Call → Type 0
 HasNoted shape noted (Access (Mem (Redist vcpu) offset size write)) call =
     sets_lpis shape (redist_decoded offset size) write ≡ true → (number : ℕ) → number < shape.lpis → IsSeen vcpu (call.targets (8192 + number)) (seen_at noted number)
 HasNoted shape noted (Device (Msi device event)) call = list_any (λ happened. takes happened.event) call.piece ≡ true → noted.lpi ≡ translated call.maps true device event
+HasNoted shape noted (Access (Mem Its offset size write)) call = takes_turn shape (its_decoded offset size) write ≡ true → HasTaken shape noted call
 HasNoted shape noted operation call = Unit {0}
 
 -- the LPI of the pending table to which a call has come, by its own events
@@ -45,10 +58,11 @@ placing place event = place
 abbrev pub place_by : List Happened → Option ℕ
 place_by piece = fold placing None (map (λ happened. happened.event) piece)
 
--- a call of a course that is for this, made this so far and noted that
+-- a call of a course that is for this, made this so far and noted that; as many commands of it began as its own events say
 pub record IsNotedOf (shape : GuestShape) (operation : Operation) (piece : List Happened) (noted : NotedOf) (call : Call) : Type 0 where
   pub of : IsCallOf operation piece call
   pub place : call.place ≡ place_by call.piece
+  pub counted : length call.commands ≡ begun_by call.piece
   pub has : HasNoted shape noted operation call
 
 -- How that goes on.

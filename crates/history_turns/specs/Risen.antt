@@ -2,11 +2,11 @@
 use Rattle.std.specs.Prelude.{◌≡◌, ℕ, ◌+◌, ◌*◌, ◌==◌, ◌&&◌, ◌||◌, not, nat_lt, Bool, true, false, IsTrue, List, [], ◌∷◌, map, fold, All, Option, Some, None, if◌then◌else◌}
 use Rattle.std.specs.List.{list_all, list_any, filter_map, range_with_len}
 use Rattle.history_turns.specs.Words.{GuestShape, Lpi, SetPending}
-use Rattle.history_turns.specs.Calls.{Event, Enable, Touch, Register, Found, Happened, View, Place, Pendbaser, Makes, HandsOut, IsLastRead, held_at, is_beside, named_of, is_in_table, is_table_zero, pended_events, table_places}
+use Rattle.history_turns.specs.Calls.{Event, Enable, Touch, Register, Found, Happened, View, Place, Pendbaser, Makes, HandsOut, IsLastRead, held_at, named_of, is_in_table, is_table_zero, pended_events, table_places}
 use Rattle.history_turns.specs.GicCall.declared.event.Found.TheVariants.{Lpis as FoundLpis}
 use Rattle.history_turns.specs.HistoryCalls.Found.{found_by, touches}
 use Rattle.history_turns.specs.Noted.{NotedOf, seen_at}
-use Rattle.history_turns.specs.Walked.{from_named}
+use Rattle.history_turns.specs.Walked.{from_named, is_idle}
 
 -- What is made after EnableLPIs is stored.
 
@@ -89,10 +89,6 @@ may_be_touched shape noted piece number =
 pub record IsRising (shape : GuestShape) (actor : ℕ) (noted : NotedOf) (piece : List Happened) : Type 0 where
   pub made : IsMadeOf (Some actor) (found_by piece) (touched_events shape piece) piece
   pub may : IsTrue (list_all (may_be_touched shape noted piece) (range_with_len 0 shape.lpis))
-
--- no event is named
-abbrev pub is_idle : Option ℕ → List Happened → Bool
-is_idle actor piece = list_all (λ happened. is_beside actor happened.event) piece
 
 abbrev pub MayRiseFrom : GuestShape → ℕ → NotedOf → Bool → List Happened → Type 0
 MayRiseFrom shape actor noted true piece = IsTrue (is_idle (Some actor) piece)

@@ -10,8 +10,7 @@ use Rattle.history_turns.specs.GicCall.declared.event.Event.TheVariants.{Raise, 
 use Rattle.history_turns.specs.GicCall.declared.event.Place.TheVariants.{Word}
 use Rattle.history_turns.specs.GicCall.declared.event.Found.TheVariants.{Nothing, Word as FoundWord}
 use Rattle.history_turns.specs.HistoryCalls.Found.{last_found, reads}
-use Rattle.history_turns.specs.Risen.{is_idle}
-use Rattle.history_turns.specs.Walked.{from_named, before_named}
+use Rattle.history_turns.specs.Walked.{from_named, before_named, is_idle}
 
 -- Single events.
 

@@ -1,5 +1,5 @@
-//! Calls in progress that set EnableLPIs or are message-signalled interrupts, judged like all others: when what they made is
-//! the call, and when it can still become it.
+//! Calls in progress that set EnableLPIs, write registers of the ITS or are message-signalled interrupts, judged like all others: when
+//! what they made is the call, and when it can still become it.
 #![tactic(auto)]
 
 mod calls;
@@ -7,10 +7,9 @@ mod laws;
 mod noted;
 mod rise;
 mod signal;
-mod walk;
 
-pub use calls::{call_begun, call_ended, is_judged};
-pub use history_calls::{
+pub use calls::{call_begun, call_ended};
+pub use history_commands::{
     DeviceOp, Enables, Event, Found, Frame, GuestOp, GuestShape, IccReg, Irq, Key, Kind, ListOf,
     Made, Operation, Place, PlainWord, Touching, are_records, is_same_found, opening_irq,
 };

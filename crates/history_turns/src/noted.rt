@@ -2,7 +2,7 @@
 ghost use Rattle.std.specs.Prelude.{◌≡◌};
 ghost use Rattle.history_turns.specs.Noted.{seen_at as seen_in, with_target as with_target_in};
 
-use history_calls::ListOf;
+use history_commands::ListOf;
 use std::marker::Model;
 
 /// For which vCPUs an LPI was while a call that sets EnableLPIs of one went on, or, once that came to the LPIs of its pending
@@ -49,6 +49,10 @@ pub struct Noted {
     pub lpi: Option<u32>,
     /// Of a call that sets EnableLPIs: for which vCPUs each LPI was, in rising INTID.
     pub targets: ListOf<Seen>,
+    /// Of a write of a register of the ITS that takes it: the doublewords of all commands that were done before that, oldest first.
+    pub done: ListOf<[u64; 4]>,
+    /// And for which vCPU each LPI was as each of its own commands began, in rising INTID.
+    pub commands: ListOf<ListOf<Option<u32>>>,
 }
 
 impl Model for Noted {
@@ -56,7 +60,7 @@ impl Model for Noted {
 
     ghost Value = { NotedOf };
 
-    ghost view = { λ n. record { signals = n.signals; lpi = n.lpi; targets = n.targets } };
+    ghost view = { λ n. record { signals = n.signals; lpi = n.lpi; targets = n.targets; done = n.done; commands = n.commands } };
 }
 
 /// What is noted of the LPI of a number from 0.

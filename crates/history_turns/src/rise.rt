@@ -9,10 +9,9 @@ ghost use Rattle.history_turns.specs.HistoryCalls.Found.{found_by, touches as to
 ghost use Rattle.history_turns.specs.Risen.{is_touched as is_touched_in, rising_by, rising_places, stays as stays_by, is_settled as is_settled_of, are_settled as are_settled_of, IsReadSo, IsMadeOf, IsRisen, Rises, stored_in as stored_of, place_after as place_of, touched_events as touched_events_of, may_be_touched as may_be_touched_of, IsRising, MayRise};
 
 use crate::noted::{Noted, seen_at};
-use crate::walk::{from_named, is_idle};
-use history_calls::{
+use history_commands::{
     Event, FIRST_LPI, Found, GuestShape, Key, Kind, ListOf, Made, Place, PlainWord, Touching,
-    count_made, has_bit, memory, pending_address, split, was_read, word_at,
+    count_made, from_named, has_bit, is_idle, memory, pending_address, split, was_read, word_at,
 };
 use std::alloc::{AllocError, Global};
 

@@ -8,8 +8,9 @@ ghost use Rattle.history_turns.specs.HistoryCalls.Found.{last_found, reads as re
 ghost use Rattle.history_turns.specs.Signalled.{is_taken as is_taken_in, is_given_back as is_given_back_in, raised_in as raised_of, enabled_by as enabled_of, is_enabled_by, finds_enabled as finds_enabled_in, finds_none as finds_none_in, after_raise as after_raise_of, after_take as after_take_of, is_signalled as is_signalled_by};
 ghost use Rattle.history_turns.specs.Walked.{from_named as from_named_of};
 
-use crate::walk::{before_named, from_named, is_idle};
-use history_calls::{Event, Found, Key, Made, Place, PlainWord, has_bit};
+use history_commands::{
+    Event, Found, Key, Made, Place, PlainWord, before_named, from_named, has_bit, is_idle,
+};
 
 /// Enabled, in what GITS_CTLR stores.
 const ENABLED: u32 = 0;

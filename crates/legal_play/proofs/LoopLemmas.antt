@@ -1,9 +1,9 @@
 -- Loops that keep what passes a test.
-use Rattle.std.proofs.Common.{◌≡◌, ℕ, ◌+◌, ◌<◌, Bool, true, false, cond, List, [], ◌∷◌, ◌++◌, map, filter, drop, length, get_or, Option, Some, None, sym, ap, ◌∙◌, append_assoc, append-nil, add-one, arith}
+use Rattle.std.proofs.Common.{◌≡◌, ℕ, ◌+◌, ◌<◌, Bool, true, false, cond, List, [], ◌∷◌, ◌++◌, filter, drop, length, get_or, Option, Some, None, sym, ap, ◌∙◌, append_assoc, append-nil, add-one, arith}
 use Rattle.std.specs.Prelude.{filter_map}
 use Rattle.std.specs.List.{range_with_len, cons_option}
 use Rattle.std.proofs.lemmas.List.Elements.{filter-append}
-use Rattle.std.proofs.lemmas.List.{drop_more, map-append}
+use Rattle.std.proofs.lemmas.List.{drop_more}
 use Rattle.legal_steps.proofs.GicCall.RangeLemmas.{range_with_len_more}
 
 -- what a list leaves, with one more
@@ -29,14 +29,3 @@ picked p n h = ap (filter p) (one_further n) ∙ (filter_one p (range_with_len 0
 
 pub skipped : (p : ℕ → Bool) (n : ℕ) → p n ≡ false → filter p (range_with_len 0 (n + 1)) ≡ filter p (range_with_len 0 n)
 skipped p n h = ap (filter p) (one_further n) ∙ (filter_one p (range_with_len 0 n) n ∙ (ap (λ b. filter p (range_with_len 0 n) ++ cond b (n ∷ []) []) h ∙ append-nil (filter p (range_with_len 0 n))))
-
-module _ {X Y : Type 0} (f : ℕ → X) (q : X → Bool) (g : X → Y) where
-  keys_further : (n : ℕ) → map f (range_with_len 0 (n + 1)) ≡ map f (range_with_len 0 n) ++ f n ∷ []
-  keys_further n = ap (map f) (one_further n) ∙ map-append f (range_with_len 0 n) (n ∷ [])
-
-  kept_one : (n : ℕ) → map g (filter q (map f (range_with_len 0 (n + 1)))) ≡ map g (filter q (map f (range_with_len 0 n))) ++ map g (cond (q (f n)) (f n ∷ []) [])
-  kept_one n = ap (λ xs. map g (filter q xs)) (keys_further n) ∙ (ap (map g) (filter_one q (map f (range_with_len 0 n)) (f n)) ∙ map-append g (filter q (map f (range_with_len 0 n))) (cond (q (f n)) (f n ∷ []) []))
-
-  pub kept_more : (n : ℕ) (before waits next : List Y) → waits ≡ before ++ map g (filter q (map f (range_with_len 0 n))) → next ≡ waits ++ map g (cond (q (f n)) (f n ∷ []) []) → next ≡ before ++ map g (filter q (map f (range_with_len 0 (n + 1))))
-  kept_more n before waits next so more =
-      more ∙ (ap (λ ys. ys ++ map g (cond (q (f n)) (f n ∷ []) [])) so ∙ (append_assoc before (map g (filter q (map f (range_with_len 0 n)))) (map g (cond (q (f n)) (f n ∷ []) [])) ∙ ap (λ ys. before ++ ys) (sym (kept_one n))))

@@ -8,8 +8,6 @@ mod laws;
 mod may;
 mod passed;
 mod pieces;
-#[cfg(test)]
-mod rows;
 mod waiting;
 
 pub use answer::{may_all_be_answered, operation_of};

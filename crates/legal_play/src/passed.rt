@@ -12,7 +12,7 @@ ghost use Rattle.legal_steps.specs.Waiting.{named_actors as named_actors_of, is_
 use crate::waiting::{Waiting, still_waiting};
 use history_play::{
     Candidate, Doing, Event, GuestShape, IccReg, Key, ListOf, Moment, State, Track, asks_first,
-    comes_first, interrupt_count, key_at,
+    comes_first, key_at,
 };
 use std::alloc::{AllocError, Global};
 
@@ -90,7 +90,7 @@ fn push_if_passed(
     Ok(())
 }
 
-/// Notes the interrupts that an access of a CPU interface passes by, where it asks for the first one. `AllocError` where memory is
+/// Notes the interrupts that an access of a CPU interface passes by, where it asks for the first one: it looks at those that are pending alone. `AllocError` where memory is
 /// refused: then some of them may be noted.
 fn push_passed(
     waits: &mut ListOf<Waiting>,
@@ -110,7 +110,9 @@ fn push_passed(
         return Ok(());
     }
     let first = state.first_at(vcpu);
-    for place in 0..interrupt_count(state.shape()) {
+    let irqs = &state.guest().irqs;
+    for index in 0..irqs.pending_count() {
+        let place = irqs.pending_at(index);
         push_if_passed(waits, alloc, state, track, vcpu, first, place)?;
     }
     Ok(())

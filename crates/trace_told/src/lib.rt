@@ -5,8 +5,6 @@ mod event;
 mod fetch;
 mod given;
 mod laws;
-#[cfg(test)]
-mod rows;
 mod told;
 mod verdict;
 
@@ -17,8 +15,8 @@ pub use laws::{
 };
 pub use legal_play::{
     Board, DeviceOp, Event, Frame, GuestOp, GuestShape, GuestSpec, Key, ListOf, Made, Moment,
-    NoMemory, Operation, PlainWord, State, Touching, has_bit, is_plain, may_all_be_answered,
-    operation_of as operation_in, piece_of,
+    NoMemory, Operation, PlainWord, QueueChange, State, Touching, has_bit, is_plain,
+    may_all_be_answered, operation_of as operation_in, piece_of,
 };
 pub use told::{moments_told, target_of};
 pub use trace_read::{Act, EventList, ReadRefusal, Trace, TraceCall, TraceEvent, read_trace};

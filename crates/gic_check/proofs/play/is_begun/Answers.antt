@@ -16,7 +16,7 @@ pub call_begun-requires : goal.call_begun-requires
 call_begun-requires c =
     let p = c.requires.play in
     let j = judgeable p.guest p.moments c.args.board.now c.args.notes.now p.is c.shape_of-shape.result.now c.args.actor c.in-Some.operation c.piece_at-piece.result.now c.shape_of-shape.ensures (sym c.operation_at.ensures ∙ c.in-Some.is) c.piece_at-piece.ensures in
-    record { shape = j.shaped; records = j.records; good = j.good; judged = j.judged }
+    record { shape = j.shaped; records = j.records; good = j.good }
 
 pub returns-in-Some : goal.returns-in-Some
 returns-in-Some c guest moments is =

@@ -5,7 +5,7 @@ use Rattle.gic_check.proofs.CheckLemmas.{after_none, ends_with, goes_further, st
 use Rattle.gic_check.proofs.verdict.check.Goals as goal
 
 pub loop-index-init : goal.loop-index-init
-loop-index-init c = after_none (opening_guest c.args.trace.now.guest) c.in_ok-play.play c.in_ok-play.ensures.0 c.in_ok-play.ensures.1
+loop-index-init c = after_none (opening_guest c.args.trace.now.guest) c.in_ok-play.play c.in_ok-play.ensures.played c.in_ok-play.ensures.done c.in_ok-play.ensures.none
 
 pub loop-index-preserved : goal.loop-index-preserved
 loop-index-preserved c =

@@ -15,7 +15,7 @@ returns-then-is_plain c = record {
 }
 
 pub returns-in-Some : goal.returns-in-Some
-returns-in-Some c = record { value = ended_answered c.args.shape.now c.args.actor c.args.operation.now c.args.piece.now c.args.noted.now (sym c.is_plain.ensures ∙ c.if-is_plain.false) c.requires.judged c.args.answer _ c.in-Some.is }
+returns-in-Some c = record { value = ended_answered c.args.shape.now c.args.actor c.args.operation.now c.args.piece.now c.args.noted.now (sym c.is_plain.ensures ∙ c.if-is_plain.false) c.args.answer _ c.in-Some.is }
 
 pub returns-in-None : goal.returns-in-None
 returns-in-None c = record {

@@ -1,7 +1,7 @@
 use Rattle.std.proofs.Common.{◌↔◌, ◌-◌, IsTrue, Some, true, false, take, drop, length, sym, ap, ◌∙◌}
 use Rattle.std.proofs.lemmas.Result.{IfOk-weaker}
 use Rattle.history_turns.specs.Risen.{IsRising, MayRise}
-use Rattle.history_turns.proofs.WalkLemmas.{none_left, some_left}
+use Rattle.history_turns.proofs.NamedLemmas.{none_left, some_left}
 use Rattle.history_turns.proofs.RiseSteps.{may_none, may_other, may_so_far}
 use Rattle.history_turns.proofs.rise.may_rise.Goals as goal
 

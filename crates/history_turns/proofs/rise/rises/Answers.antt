@@ -1,7 +1,7 @@
 use Rattle.std.proofs.Common.{◌↔◌, ◌-◌, IsTrue, take, drop, length, sym, ◌∙◌}
 use Rattle.std.proofs.lemmas.Result.{IfOk-weaker}
 use Rattle.history_turns.specs.Risen.{IsRisen, Rises}
-use Rattle.history_turns.proofs.WalkLemmas.{none_left, some_left}
+use Rattle.history_turns.proofs.NamedLemmas.{none_left, some_left}
 use Rattle.history_turns.proofs.RiseSteps.{rises_none, rises_other, rises_so_far}
 use Rattle.history_turns.proofs.rise.rises.Goals as goal
 

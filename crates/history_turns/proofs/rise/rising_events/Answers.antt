@@ -1,6 +1,6 @@
 use Rattle.std.proofs.Common.{◌≡◌, Some, None, true, false, cond, sym, ap, ◌∙◌, arith}
 use Rattle.std.specs.List.{filter_map, range_with_len}
-use Rattle.history_calls.proofs.GicCall.RangeLemmas.{filter_map_pushed, filter_map_kept}
+use Rattle.history_commands.proofs.GicCall.RangeLemmas.{filter_map_pushed, filter_map_kept}
 use Rattle.history_turns.specs.Risen.{rising_by}
 use Rattle.history_turns.proofs.RiseLemmas.{touch_of, touch_if, rises}
 use Rattle.history_turns.proofs.RiseSteps.{rises_so, risen_events}

@@ -1,6 +1,6 @@
 use Rattle.std.proofs.Common.{◌≡◌, Some, None, cond, sym, ap, ◌∙◌, arith}
 use Rattle.std.specs.List.{filter_map, range_with_len}
-use Rattle.history_calls.proofs.GicCall.RangeLemmas.{filter_map_pushed, filter_map_kept}
+use Rattle.history_commands.proofs.GicCall.RangeLemmas.{filter_map_pushed, filter_map_kept}
 use Rattle.history_turns.specs.Risen.{touch_in}
 use Rattle.history_turns.proofs.RiseLemmas.{touch_of}
 use Rattle.history_turns.proofs.rise.touched_events.Goals.{then-is_touched+in_ok-push, else-is_touched}

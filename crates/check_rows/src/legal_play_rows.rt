@@ -1,9 +1,9 @@
 //! Tests of what open calls may yet make, worked out by hand: a message of SPI 40, and a write of ICPENDR1.
-use crate::may::may_make;
 use history_play::{
     CallFound as Found, DeviceOp, Event, Frame, GuestOp, GuestShape, Key, Kind, Made, Operation,
     Touching, opening_irq,
 };
+use legal_play::may_make;
 use std::alloc::Global;
 use std::test::Fail;
 

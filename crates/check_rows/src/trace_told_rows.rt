@@ -2,8 +2,6 @@
 ghost use Rattle.std.specs.Prelude.{IfOk};
 ghost use Rattle.legal_play.specs.Calls.{IsGoodGuest};
 
-use crate::event::actor_of;
-use crate::told::moments_told;
 use legal_play::{
     CallFound as Found, Event, Frame, GuestOp, ListOf, Made, Moment, Operation, Place, PlainWord,
     QueueChange, State,
@@ -12,7 +10,7 @@ use serde_json::Value;
 use std::alloc::Global;
 use std::process::Abort;
 use std::test::Fail;
-use trace_read::{Act, Trace, TraceEvent, read_trace};
+use trace_told::{Act, Trace, TraceEvent, actor_of, moments_told, read_trace};
 
 /// Two vCPUs, a device, LPIs and eight words of memory; the distributor is on, and nothing is preset.
 const GUEST: &str = r#"{"vcpus":2,"devices":1,"lpis":16,"ram":64,"on":true}"#;
