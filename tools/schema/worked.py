@@ -19,6 +19,8 @@ LINKED_ROWS = "host_rows"
 SAVED = "save-"
 RESUMED = "resume-"
 IMAGE_ROWS = "image_rows"
+# How the name of an example of `check` begins.
+JUDGED = "check-"
 # The crate whose tests have traces with faults, its table of whole ones, how the texts of its events begin, and a trace in a document.
 TRACE_ROWS = "trace_rows"
 WHOLE_TRACES = "TRACES"
@@ -55,12 +57,17 @@ def all_examples(root):
 
 def examples(root):
     """The scenarios of examples/."""
-    return (row for name, row in all_examples(root) if not name.startswith((LINKED, RESUMED)))
+    return (row for name, row in all_examples(root) if not name.startswith((LINKED, RESUMED, JUDGED)))
 
 
 def linked_examples(root):
     """The inputs of `host` of examples/."""
     return (row for name, row in all_examples(root) if name.startswith(LINKED))
+
+
+def trace_examples(root):
+    """The traces of examples/."""
+    return (row for name, row in all_examples(root) if name.startswith(JUDGED))
 
 
 def image_examples(root):

@@ -1,4 +1,4 @@
-//! Runs each scenario of a folder, and compares what is written with the text beside it; saves and resumes each that is run in order after each number of its
+//! Runs each scenario of a folder, or judges each trace, and compares what is written with the text beside it; saves and resumes each that is run in order after each number of its
 //! steps; and compares its picture with the SVG, where there is one.
 #![tactic(auto)]
 
@@ -33,6 +33,9 @@ const SAVED: &str = "save-";
 /// How the name of an image begins.
 const RESUMED: &str = "resume-";
 
+/// How the name of a trace begins.
+const JUDGED: &str = "check-";
+
 /// The words for these, and those for every other one.
 const THREADS: [&str; 3] = ["threads", "3", "2"];
 
@@ -41,6 +44,8 @@ const HOST: [&str; 1] = ["host"];
 const SAVE: [&str; 2] = ["save", "1"];
 
 const RESUME: [&str; 1] = ["resume"];
+
+const CHECK: [&str; 1] = ["check"];
 
 const IN_ORDER: [&str; 1] = ["run"];
 
@@ -54,6 +59,8 @@ fn words_for(name: &str) -> &'static [&'static str] {
         &SAVE
     } else if name.starts_with(RESUMED) {
         &RESUME
+    } else if name.starts_with(JUDGED) {
+        &CHECK
     } else {
         &IN_ORDER
     }

@@ -1,4 +1,4 @@
-//! Worked scenarios through the whole tool: of each the status and all that is written; and runs that are saved and resumed.
+//! Worked scenarios through the whole tool: of each the status and all that is written; runs that are saved and resumed; and traces.
 //!
 //! What is written was worked out by hand, from the architecture and the rules of `docs/`, and never taken from a
 //! run.
@@ -14,3 +14,5 @@ mod runs;
 mod saves;
 #[cfg(test)]
 mod sweep;
+#[cfg(test)]
+mod traces;

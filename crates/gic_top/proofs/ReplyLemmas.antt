@@ -14,12 +14,15 @@ use Rattle.gic_host.specs.ScnRead.ScnBase.declared.step.Mode.{Mode}
 use Rattle.gic_host.specs.ScnRead.ScnBase.declared.step.Mode.TheVariants.{Schedule, Threads as OnThreads}
 use Rattle.gic_host.specs.declared.scenario.HostScenario.{HostScenario}
 use Rattle.image_read.specs.GicResume.GicSave.ScnSaved.declared.saved.Saved.{Saved}
+use Rattle.gic_check.specs.TraceRead.declared.trace.Trace.{Trace}
+use Rattle.gic_check.specs.TraceRead.Reading.{reading as trace_in}
 use Rattle.gic_top.specs.declared.command.Command.{Command}
-use Rattle.gic_top.specs.declared.command.Command.TheVariants.{Run, Threads, Soak, Host, Save, Resume}
+use Rattle.gic_top.specs.declared.command.Command.TheVariants.{Run, Threads, Soak, Host, Save, Resume, Check}
 use Rattle.gic_top.specs.declared.tool.Reply.{Reply}
-use Rattle.gic_top.specs.declared.tool.Reply.TheVariants.{Ran, Usage, BadJson, BadScenario, ReadFault, TooLong, NoMemory}
-use Rattle.gic_top.specs.Tool.{max_input, statuses, Reading, scenarios, first_steps, links, images, Said, Says, Lacks, first_steps_in, input_reading, line, HasInput, IsNoJson, Spells, SpellsSaid, SpellsFault, IsRun, IsHosted, IsSave, IsResumed, IsOk, IsUsage, IsBadJson, IsBadScenario, IsReadFault, IsWriteFault, IsTooLong, IsNoMemory, IsRow, IsOutcome, IsWritten, IsRefusal, HasItsAnswer, WasShown}
-use Rattle.gic_top.specs.Reply.{status_of, text_of, AreApart, SpellsOnly, SpellsNothing, IsTextOf, IsValueReply, IsReplyTo, IsReplyOf, IsSoakReply, IsReplyFor, IsUnrun}
+use Rattle.gic_top.specs.declared.tool.Reply.TheVariants.{Ran, Refused, Usage, BadJson, BadScenario, ReadFault, TooLong, NoMemory}
+use Rattle.gic_check.specs.TraceTold.declared.verdict.Verdict.TheVariants.{Yes, No}
+use Rattle.gic_top.specs.Tool.{max_input, statuses, HasVerdict, Reading, scenarios, first_steps, links, images, traces, Said, Says, Lacks, first_steps_in, input_reading, line, HasInput, IsNoJson, Spells, SpellsSaid, SpellsFault, IsRun, IsHosted, IsSave, IsResumed, IsAccepted, IsRefused, IsOk, IsUsage, IsBadJson, IsBadScenario, IsReadFault, IsWriteFault, IsTooLong, IsNoMemory, IsRow, IsOutcome, IsWritten, IsRefusal, IsAnswered, HasItsAnswer, WasShown}
+use Rattle.gic_top.specs.Reply.{status_of, text_of, AreApart, SpellsOnly, SpellsNothing, IsRefusalOf, IsTextOf, IsValueReply, IsReplyTo, IsReplyOf, IsSoakReply, IsReplyFor, IsUnrun}
 
 -- one more run was shown, and where the watch tells of which scenario, it tells this
 pub shown_once : {A E : Type 0} (result : Result A E) (before after : ℕ) (last : Option Scenario) (scenario : Scenario) → OnOk result (after ≡ before + 1) → OnOk result (IfSome last (λ shown. shown ≡ scenario))
@@ -35,6 +38,27 @@ as_input before after P Q gives read = record { input = each before read.input; 
     each None holds = tt
     each (Some bytes) holds = gives bytes holds
 
+-- only `check` reads a trace
+asks_check : (command : Option Command) → input_reading command ≡ Some traces → command ≡ Some Check
+asks_check None is = let clash : ◌≡◌ {A = Option Reading} None (Some traces) = is in absurd cc
+asks_check (Some Run) is = let clash : ◌≡◌ {A = Option Reading} (Some (scenarios Schedule)) (Some traces) = is in absurd cc
+asks_check (Some (Threads pes per_turn)) is = let clash : ◌≡◌ {A = Option Reading} (Some (scenarios OnThreads)) (Some traces) = is in absurd cc
+asks_check (Some (Soak number steps)) is = let clash : ◌≡◌ {A = Option Reading} None (Some traces) = is in absurd cc
+asks_check (Some Host) is = let clash : ◌≡◌ {A = Option Reading} (Some links) (Some traces) = is in absurd cc
+asks_check (Some (Save steps)) is = let clash : ◌≡◌ {A = Option Reading} (Some (first_steps steps)) (Some traces) = is in absurd cc
+asks_check (Some Resume) is = let clash : ◌≡◌ {A = Option Reading} (Some images) (Some traces) = is in absurd cc
+asks_check (Some Check) is = refl
+
+-- a text that refuses what was read is the row of a trace that cannot be
+refusal_row : (reading : Reading) (command : Option Command) (before after : Option (List ℕ)) (wrote : List ℕ → Type 0) (what : Said reading) (text : List ℕ) → input_reading command ≡ Some reading
+    → HasInput before after (λ bytes. SpellsSaid reading bytes what) → IsRefusalOf reading what text → wrote text → IsRefused command before after wrote
+refusal_row (scenarios mode) command before after wrote what text asked read is written = absurd is
+refusal_row (first_steps steps) command before after wrote what text asked read is written = absurd is
+refusal_row links command before after wrote what text asked read is written = absurd is
+refusal_row images command before after wrote what text asked read is written = absurd is
+refusal_row traces command before after wrote what text asked read is written =
+    record { trace = what; index = is.index; asked = asks_check command asked; read = read; verdict = is.verdict; written = subst wrote is.text_is written }
+
 -- a reply to an input is the row of its status, where the command reads it so, and what it does with what was read is that
 read_row : (reading : Reading) (command : Option Command) (before after : Option (List ℕ)) (faults_before faults_after : ℕ) (wrote : List ℕ → Type 0) (showed : Mode → Scenario → Type 0) (reply : Reply) → input_reading command ≡ Some reading
     → ((what : Said reading) (text : List ℕ) → HasInput before after (λ bytes. SpellsSaid reading bytes what) → IsTextOf reading showed what text → wrote text → IsOk command before after wrote showed)
@@ -46,14 +70,17 @@ read_row reading command before after fb fa wrote showed reply asked ok is writt
 
     row : (reply : Reply) → IsReplyOf reading showed before after fb fa reply → wrote (text_of reply) → IsRow command before after fb fa wrote showed (status_of reply)
     row (Ran text) is written = inl (refl, ok is.0 text (as_input before after (λ bytes. SpellsOnly reading bytes is.0) (λ bytes. SpellsSaid reading bytes is.0) (λ bytes only. only.spelled) is.1) is.2 written)
+    row (Refused text) is written =
+        let read = as_input before after (λ bytes. SpellsOnly reading bytes is.0) (λ bytes. SpellsSaid reading bytes is.0) (λ bytes only. only.spelled) is.1 in
+        inr (inl (refl, refusal_row reading command before after wrote is.0 text asked read is.2 written))
     row Usage is written = absurd is
-    row BadJson is written = inr (inr (inl (refl, record { asked = reads; read = is; written = written })))
+    row BadJson is written = inr (inr (inr (inl (refl, record { asked = reads; read = is; written = written }))))
     row (BadScenario text) is written =
         let read = as_input before after (λ bytes. SpellsNothing reading bytes is.0) (λ bytes. SpellsFault reading bytes is.0) (λ bytes only. only.spelled) is.1 in
-        inr (inr (inr (inl (refl, record { reading = reading; fault = is.0; asked = asked; read = read; written = subst wrote is.2 written }))))
-    row ReadFault is written = inr (inr (inr (inr (inl (refl, record { asked = reads; risen = is; written = written })))))
-    row TooLong is written = inr (inr (inr (inr (inr (inl (refl, record { asked = reads; taken = is; written = written }))))))
-    row NoMemory is written = inr (inr (inr (inr (inr (inr (refl, record { asked = some command asked; taken = is; written = written }))))))
+        inr (inr (inr (inr (inl (refl, record { reading = reading; fault = is.0; asked = asked; read = read; written = subst wrote is.2 written })))))
+    row ReadFault is written = inr (inr (inr (inr (inr (inl (refl, record { asked = reads; risen = is; written = written }))))))
+    row TooLong is written = inr (inr (inr (inr (inr (inr (inl (refl, record { asked = reads; taken = is; written = written })))))))
+    row NoMemory is written = inr (inr (inr (inr (inr (inr (inr (refl, record { asked = some command asked; taken = is; written = written })))))))
       where
         some : (asked : Option Command) → input_reading asked ≡ Some reading → IsSome asked
         some None is = let none : ◌≡◌ {A = Option Reading} None (Some reading) = is in absurd cc
@@ -77,6 +104,10 @@ rest_run : (before after : Option (List ℕ)) (wrote : List ℕ → Type 0) (sho
     → IsTextOf images showed saved text → wrote text → IsResumed before after wrote
 rest_run before after wrote showed saved text read is written = record { saved = saved; read = read; written = subst wrote is written }
 
+trace_row : (before after : Option (List ℕ)) (wrote : List ℕ → Type 0) (showed : Mode → Scenario → Type 0) (trace : Trace) (text : List ℕ) → HasInput before after (λ bytes. SpellsSaid traces bytes trace)
+    → IsTextOf traces showed trace text → wrote text → IsAccepted before after wrote
+trace_row before after wrote showed trace text read is written = record { trace = trace; read = read; verdict = is.verdict; written = subst wrote is.text_is written }
+
 -- where a source tells what it told before, nothing was read
 none_told : (before : Option (List ℕ)) → IfSome before (λ all. IsSomeAnd before (λ rest. all ≡ [] ++ rest))
 none_told None = tt
@@ -94,12 +125,13 @@ none_read before after same =
 soak_row : (number steps : ℕ) (before after : Option (List ℕ)) (faults_before faults_after : ℕ) (wrote : List ℕ → Type 0) (showed : Mode → Scenario → Type 0) (reply : Reply) → after ≡ before → IsSoakReply (showed Schedule) number steps reply → wrote (text_of reply)
     → IsRow (Some (Soak number steps)) before after faults_before faults_after wrote showed (status_of reply)
 soak_row number steps before after fb fa wrote showed (Ran text) same is written = inl (refl, record { unread = same; shown = is.0; written = subst wrote is.1 written })
+soak_row number steps before after fb fa wrote showed (Refused text) same is written = absurd is
 soak_row number steps before after fb fa wrote showed Usage same is written = absurd is
 soak_row number steps before after fb fa wrote showed BadJson same is written = absurd is
 soak_row number steps before after fb fa wrote showed (BadScenario text) same is written = absurd is
 soak_row number steps before after fb fa wrote showed ReadFault same is written = absurd is
 soak_row number steps before after fb fa wrote showed TooLong same is written = absurd is
-soak_row number steps before after fb fa wrote showed NoMemory same is written = inr (inr (inr (inr (inr (inr (refl, record { asked = refl; taken = none_read before after same; written = written }))))))
+soak_row number steps before after fb fa wrote showed NoMemory same is written = inr (inr (inr (inr (inr (inr (inr (refl, record { asked = refl; taken = none_read before after same; written = written })))))))
 
 -- a reply is the row of its status
 row_of : (command : Option Command) (before after : Option (List ℕ)) (faults_before faults_after : ℕ) (wrote : List ℕ → Type 0) (showed : Mode → Scenario → Type 0) (reply : Reply) → IsReplyFor showed command before after faults_before faults_after reply → wrote (text_of reply)
@@ -112,8 +144,9 @@ row_of (Some Host) before after fb fa wrote showed reply is written = read_row l
 row_of (Some (Save steps)) before after fb fa wrote showed reply is written =
     read_row (first_steps steps) (Some (Save steps)) before after fb fa wrote showed reply refl (save_run steps before after wrote showed) is written
 row_of (Some Resume) before after fb fa wrote showed reply is written = read_row images (Some Resume) before after fb fa wrote showed reply refl (rest_run before after wrote showed) is written
+row_of (Some Check) before after fb fa wrote showed reply is written = read_row traces (Some Check) before after fb fa wrote showed reply refl (trace_row before after wrote showed) is written
 row_of (Some (Soak number steps)) before after fb fa wrote showed reply is written = soak_row number steps before after fb fa wrote showed reply is.0 is.1 written
-row_of None before after fb fa wrote showed reply is written = inr (inl (ap status_of is, record { asked = refl; written = subst (λ r. wrote (text_of r)) is written }))
+row_of None before after fb fa wrote showed reply is written = inr (inr (inl (ap status_of is, record { asked = refl; written = subst (λ r. wrote (text_of r)) is written })))
 
 -- a reply that was written is an outcome
 written_row : (command : Option Command) (before after : Option (List ℕ)) (faults_before faults_after : ℕ) (taken_before taken_after : Option (List ℕ)) (sink_before sink_after : ℕ) (showed : Mode → Scenario → Type 0) (reply : Reply) (status : ℕ)
@@ -139,17 +172,18 @@ row_closed command before after fb fa wrote showed status (inr (inl row)) = subs
 row_closed command before after fb fa wrote showed status (inr (inr (inl row))) = subst (Contains statuses) (sym row.0) (2, lit< tt, refl)
 row_closed command before after fb fa wrote showed status (inr (inr (inr (inl row)))) = subst (Contains statuses) (sym row.0) (3, lit< tt, refl)
 row_closed command before after fb fa wrote showed status (inr (inr (inr (inr (inl row))))) = subst (Contains statuses) (sym row.0) (4, lit< tt, refl)
-row_closed command before after fb fa wrote showed status (inr (inr (inr (inr (inr (inl row)))))) = subst (Contains statuses) (sym row.0) (6, lit< tt, refl)
-row_closed command before after fb fa wrote showed status (inr (inr (inr (inr (inr (inr row)))))) = subst (Contains statuses) (sym row.0) (7, lit< tt, refl)
+row_closed command before after fb fa wrote showed status (inr (inr (inr (inr (inr (inl row)))))) = subst (Contains statuses) (sym row.0) (5, lit< tt, refl)
+row_closed command before after fb fa wrote showed status (inr (inr (inr (inr (inr (inr (inl row))))))) = subst (Contains statuses) (sym row.0) (7, lit< tt, refl)
+row_closed command before after fb fa wrote showed status (inr (inr (inr (inr (inr (inr (inr row))))))) = subst (Contains statuses) (sym row.0) (8, lit< tt, refl)
 
 outcome_closed : (command : Option Command) (before after : Option (List ℕ)) (faults_before faults_after : ℕ) (wrote : List ℕ → Type 0) (showed : Mode → Scenario → Type 0) (part : Type 0) (status : ℕ) → IsRow command before after faults_before faults_after wrote showed status ⊎ ((status ≡ 6) × part) → Contains statuses status
 outcome_closed command before after fb fa wrote showed part status (inl row) = row_closed command before after fb fa wrote showed status row
-outcome_closed command before after fb fa wrote showed part status (inr fault) = subst (Contains statuses) (sym fault.0) (5, lit< tt, refl)
+outcome_closed command before after fb fa wrote showed part status (inr fault) = subst (Contains statuses) (sym fault.0) (6, lit< tt, refl)
 
 -- the status where memory for the words was refused
 written_closed : (tb ta : Option (List ℕ)) (kb ka : ℕ) (text : List ℕ) (status : ℕ) → ((status ≡ 9) × Grew tb ta text) ⊎ ((status ≡ 6) × HasRisen kb ka × GrewByPrefix tb ta text) → Contains statuses status
-written_closed tb ta kb ka text status (inl whole) = subst (Contains statuses) (sym whole.0) (7, lit< tt, refl)
-written_closed tb ta kb ka text status (inr part) = subst (Contains statuses) (sym part.0) (5, lit< tt, refl)
+written_closed tb ta kb ka text status (inl whole) = subst (Contains statuses) (sym whole.0) (8, lit< tt, refl)
+written_closed tb ta kb ka text status (inr part) = subst (Contains statuses) (sym part.0) (6, lit< tt, refl)
 
 pub refused_closed : (tb ta : Option (List ℕ)) (kb ka : ℕ) (status : ℕ) → IsRefusal tb ta kb ka status → Contains statuses status
 refused_closed tb ta kb ka status done = written_closed tb ta kb ka (line (codes "no memory")) status done.written
@@ -160,6 +194,9 @@ closed {command = command} {before = before} {after = after} {fb = fb} {fa = fa}
 
 pub ok_row : {command : Option Command} {before after : Option (List ℕ)} {fb fa : ℕ} {tb ta : Option (List ℕ)} {kb ka : ℕ} {showed : Mode → Scenario → Type 0} (status : ℕ) → IsOutcome command before after fb fa tb ta kb ka showed status → status ≡ 0 → IsOk command before after (Grew tb ta) showed
 ok_row status o e = let row = o.row in grind arith
+
+pub refused_row : {command : Option Command} {before after : Option (List ℕ)} {fb fa : ℕ} {tb ta : Option (List ℕ)} {kb ka : ℕ} {showed : Mode → Scenario → Type 0} (status : ℕ) → IsOutcome command before after fb fa tb ta kb ka showed status → status ≡ 1 → IsRefused command before after (Grew tb ta)
+refused_row status o e = let row = o.row in grind arith
 
 pub usage_row : {command : Option Command} {before after : Option (List ℕ)} {fb fa : ℕ} {tb ta : Option (List ℕ)} {kb ka : ℕ} {showed : Mode → Scenario → Type 0} (status : ℕ) → IsOutcome command before after fb fa tb ta kb ka showed status → status ≡ 2 → IsUsage command (Grew tb ta)
 usage_row status o e = let row = o.row in grind arith
@@ -208,6 +245,38 @@ first_steps_apart steps value what fault s f = is_apart Scenario (first_steps_in
 pub links_apart : (value : Data) → AreApart links value
 links_apart value what fault s f = is_apart HostScenario (links_in value) what fault s f
 
+pub traces_apart : (value : Data) → AreApart traces value
+traces_apart value what fault s f = is_apart Trace (trace_in value) what fault s f
+
+-- bytes spell one trace
+one_trace : (bytes : List ℕ) (a b : Trace) → SpellsSaid traces bytes a → SpellsSaid traces bytes b → a ≡ b
+one_trace bytes a b x y =
+    let says = subst (λ d. Says traces d a) (one_value bytes x.value y.value x.spelled y.spelled) x.said_is in
+    let same : ◌≡◌ {A = Result Trace Fault} (Ok a) (Ok b) = sym says ∙ y.said_is in
+    cc
+
+-- the answer to what bytes say, where what was read was run, or refused, or where memory was
+ran_answer : (reading : Reading) (showed : Mode → Scenario → Type 0) (bytes : List ℕ) (what other : Said reading) (text : List ℕ) → SpellsSaid reading bytes what → SpellsSaid reading bytes other → IsTextOf reading showed what text → IsAnswered reading other 0
+ran_answer (scenarios mode) showed bytes what other text one two is = inl refl
+ran_answer (first_steps steps) showed bytes what other text one two is = inl refl
+ran_answer links showed bytes what other text one two is = inl refl
+ran_answer images showed bytes what other text one two is = inl refl
+ran_answer traces showed bytes what other text one two is = inl (refl, subst (λ trace. HasVerdict trace Yes) (one_trace bytes what other one two) is.verdict)
+
+refused_answer : (reading : Reading) (bytes : List ℕ) (what other : Said reading) (text : List ℕ) → SpellsSaid reading bytes what → SpellsSaid reading bytes other → IsRefusalOf reading what text → IsAnswered reading other 1
+refused_answer (scenarios mode) bytes what other text one two is = absurd is
+refused_answer (first_steps steps) bytes what other text one two is = absurd is
+refused_answer links bytes what other text one two is = absurd is
+refused_answer images bytes what other text one two is = absurd is
+refused_answer traces bytes what other text one two is = inr (inl (refl, is.index, subst (λ trace. HasVerdict trace (No is.index)) (one_trace bytes what other one two) is.verdict))
+
+memory_answer : (reading : Reading) (what : Said reading) → IsAnswered reading what 9
+memory_answer (scenarios mode) what = inr refl
+memory_answer (first_steps steps) what = inr refl
+memory_answer links what = inr refl
+memory_answer images what = inr refl
+memory_answer traces what = inr (inr refl)
+
 -- more bytes than the limit were taken, so there were more
 taken_past : (bytes : List ℕ) (after : Option (List ℕ)) → HasReadCount (Some bytes) after (max_input + 1) → max_input < length bytes
 taken_past bytes None taken = absurd taken.read.told
@@ -219,7 +288,15 @@ told_answer : (reading : Reading) (showed : Mode → Scenario → Type 0) (bytes
 told_answer reading showed bytes after fb fa (Ran text) sure is =
     let input = is.1 in
     record {
-      accepted = λ what other within. inl refl;
+      accepted = λ what other within. ran_answer reading showed bytes is.0 what text input.input.spelled other is.2;
+      no_json = λ none within. absurd (none input.input.spelled.value input.input.spelled.spelled);
+      faulty = λ fault other within. absurd (input.input.alone fault other);
+      too_long = λ past. absurd (omega (arith, past, input.within));
+    }
+told_answer reading showed bytes after fb fa (Refused text) sure is =
+    let input = is.1 in
+    record {
+      accepted = λ what other within. refused_answer reading bytes is.0 what text input.input.spelled other is.2;
       no_json = λ none within. absurd (none input.input.spelled.value input.input.spelled.spelled);
       faulty = λ fault other within. absurd (input.input.alone fault other);
       too_long = λ past. absurd (omega (arith, past, input.within));
@@ -251,7 +328,7 @@ told_answer reading showed bytes after fb fa TooLong sure is =
     }
 told_answer reading showed bytes after fb fa NoMemory sure is =
     record {
-      accepted = λ what other within. inr refl;
+      accepted = λ what other within. memory_answer reading what;
       no_json = λ none within. inr refl;
       faulty = λ fault other within. inr refl;
       too_long = λ past. inr refl;
@@ -271,6 +348,7 @@ for_its_answer showed (Some (Soak number steps)) before after fb fa reply sure i
 for_its_answer showed (Some Host) before after fb fa reply sure is = for_reading links showed before after fb fa reply sure is
 for_its_answer showed (Some (Save steps)) before after fb fa reply sure is = for_reading (first_steps steps) showed before after fb fa reply sure is
 for_its_answer showed (Some Resume) before after fb fa reply sure is = for_reading images showed before after fb fa reply sure is
+for_its_answer showed (Some Check) before after fb fa reply sure is = for_reading traces showed before after fb fa reply sure is
 for_its_answer showed None before after fb fa reply sure is = tt
 
 -- the status where neither the source nor the sink had a fault
@@ -299,6 +377,7 @@ unrun_there tb ta kb ka text own status whole (inr part) = absurd (whole part.0)
 
 unrun_of : (reply : Reply) → (status_of reply ≡ 0 → ⊥) → (status_of reply ≡ 9 → ⊥) → IsUnrun reply
 unrun_of (Ran text) written refused = absurd (written refl)
+unrun_of (Refused text) written refused = tt
 unrun_of Usage written refused = tt
 unrun_of BadJson written refused = tt
 unrun_of (BadScenario text) written refused = tt
@@ -331,6 +410,7 @@ module _ (reading : Reading) (showed : Mode → Scenario → Type 0) (before aft
 
   reply_is : (reply : Reply) → IsReplyTo reading showed bytes reply → IsReplyOf reading showed before after faults_before faults_after reply
   reply_is (Ran text) is = (is.0, input (λ all. SpellsOnly reading all is.0) is.1, is.2)
+  reply_is (Refused text) is = (is.0, input (λ all. SpellsOnly reading all is.0) is.1, is.2)
   reply_is Usage is = absurd is
   reply_is BadJson is = input IsNoJson is
   reply_is (BadScenario text) is = (is.0, input (λ all. SpellsNothing reading all is.0) is.1, is.2)
@@ -360,6 +440,7 @@ module _ (reading : Reading) (showed : Mode → Scenario → Type 0) (bytes : Li
 
   spelled_is : (reply : Reply) → IsValueReply reading (IsTextOf reading showed) value reply → IsReplyTo reading showed bytes reply
   spelled_is (Ran text) is = (is.0, only_said is.0 is.1, is.2)
+  spelled_is (Refused text) is = (is.0, only_said is.0 is.1, is.2)
   spelled_is Usage is = absurd is
   spelled_is BadJson is = absurd is
   spelled_is (BadScenario text) is = (is.0, only_fault is.0 is.1, is.2)

@@ -3,7 +3,7 @@ use Rattle.std.specs.Prelude.{◌≡◌, ℕ, ◌-◌, ◌^◌, ◌<◌, ◌≤�
 use Rattle.std.specs.Str.Parse.{digits_value}
 use Rattle.std.specs.declared.alloc.Global.{Global}
 use Rattle.gic_top.specs.declared.command.Command.{Command}
-use Rattle.gic_top.specs.declared.command.Command.TheVariants.{Run, Threads, Soak, Host, Save, Resume}
+use Rattle.gic_top.specs.declared.command.Command.TheVariants.{Run, Threads, Soak, Host, Save, Resume, Check}
 
 -- the number, of at most so much, whose decimal digits a word is: without a sign, and without zeros before them
 abbrev pub number_in : ℕ → List ℕ → Option ℕ
@@ -27,7 +27,7 @@ IsCount most count = 1 ≤ count × count ≤ most
 abbrev pub IsPadded : List ℕ → Type 0
 IsPadded word = (slice_index word 0 ≡ 43) ⊎ ((slice_index word 0 ≡ 48) × (1 < length word))
 
--- a command that stands alone, as `run`, `host` and `resume` do
+-- a command that stands alone, as `run`, `host`, `resume` and `check` do
 abbrev pub alone : Command → List (List ℕ) → Option Command
 alone command [] = Some command
 alone command (argument ∷ arguments) = None
@@ -79,7 +79,8 @@ command_of (name ∷ arguments) =
     else (if bytes_eq name (codes "host") then alone Host arguments
     else (if bytes_eq name (codes "save") then save_with arguments
     else (if bytes_eq name (codes "resume") then alone Resume arguments
-    else None)))))
+    else (if bytes_eq name (codes "check") then alone Check arguments
+    else None))))))
 
 -- the command that the words of a command line are
 abbrev pub command_in : List (String Global) → Option Command
@@ -93,3 +94,4 @@ IsInBounds (Soak number steps) = steps ≤ 100000
 IsInBounds Host = ⊤
 IsInBounds (Save steps) = steps ≤ 100000
 IsInBounds Resume = ⊤
+IsInBounds Check = ⊤

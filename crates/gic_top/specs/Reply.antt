@@ -13,16 +13,20 @@ use Rattle.gic_host.specs.GicReport.Text.{text as text_in}
 use Rattle.gic_host.specs.Text.{text as host_text}
 use Rattle.gic_host.specs.declared.scenario.HostScenario.{HostScenario}
 use Rattle.image_read.specs.GicResume.GicSave.ScnSaved.declared.saved.Saved.{Saved}
+use Rattle.gic_check.specs.TraceRead.declared.trace.Trace.{Trace}
+use Rattle.gic_check.specs.TraceTold.declared.verdict.Verdict.TheVariants.{Yes, No}
 use Rattle.gic_top.specs.declared.command.Command.{Command}
-use Rattle.gic_top.specs.declared.command.Command.TheVariants.{Run, Threads, Soak, Host, Save, Resume}
+use Rattle.gic_top.specs.declared.command.Command.TheVariants.{Run, Threads, Soak, Host, Save, Resume, Check}
 use Rattle.gic_top.specs.Command.{IsCount}
+use Rattle.gic_top.specs.declared.judge.Judged.{Judged}
+use Rattle.gic_top.specs.declared.judge.Judged.TheVariants.{Yes as JudgedYes, No as JudgedNo}
 use Rattle.gic_top.specs.declared.tool.Way.{Way}
 use Rattle.gic_top.specs.declared.tool.Way.TheVariants.{InOrder, OnPes}
 use Rattle.gic_top.specs.declared.tool.Asked.{Asked}
-use Rattle.gic_top.specs.declared.tool.Asked.TheVariants.{ScenarioRun, FirstSteps, LinksRun, ImageRun}
+use Rattle.gic_top.specs.declared.tool.Asked.TheVariants.{ScenarioRun, FirstSteps, LinksRun, ImageRun, TraceCheck}
 use Rattle.gic_top.specs.declared.tool.Reply.{Reply}
-use Rattle.gic_top.specs.declared.tool.Reply.TheVariants.{Ran, Usage, BadJson, BadScenario, ReadFault, TooLong, NoMemory}
-use Rattle.gic_top.specs.Tool.{Reading, scenarios, first_steps, links, images, Said, Says, Lacks, SpellsSaid, SpellsFault, IsNoJson, HasInput, MayAnswer, max_input, soak_text, save_text, resume_text, fault_line, line}
+use Rattle.gic_top.specs.declared.tool.Reply.TheVariants.{Ran, Refused, Usage, BadJson, BadScenario, ReadFault, TooLong, NoMemory}
+use Rattle.gic_top.specs.Tool.{Reading, scenarios, first_steps, links, images, traces, Said, Says, Lacks, SpellsSaid, SpellsFault, IsNoJson, HasInput, MayAnswer, max_input, soak_text, save_text, resume_text, HasVerdict, yes_line, no_line, fault_line, line}
 
 -- the mode of a way to run
 abbrev pub mode_of : Way → Mode
@@ -40,6 +44,7 @@ reading_of (ScenarioRun way) = scenarios (mode_of way)
 reading_of (FirstSteps steps) = first_steps steps
 reading_of LinksRun = links
 reading_of ImageRun = images
+reading_of TraceCheck = traces
 
 -- so it is asked for
 abbrev pub IsAsked : Asked → Type 0
@@ -47,6 +52,7 @@ IsAsked (ScenarioRun way) = IsWay way
 IsAsked (FirstSteps steps) = ⊤
 IsAsked LinksRun = ⊤
 IsAsked ImageRun = ⊤
+IsAsked TraceCheck = ⊤
 
 -- whether a run of it is shown to the watch
 abbrev pub is_watched : Asked → Bool
@@ -54,6 +60,7 @@ is_watched (ScenarioRun way) = true
 is_watched (FirstSteps steps) = false
 is_watched LinksRun = false
 is_watched ImageRun = false
+is_watched TraceCheck = false
 
 -- the text is that of what a run of the scenario in this mode, which was shown, may answer
 pub record IsRunText (mode : Mode) (showed : Mode → Scenario → Type 0) (scenario : Scenario) (text : List ℕ) : Type 0 where
@@ -74,16 +81,42 @@ IsSaveText steps scenario text = text ≡ save_text steps scenario
 abbrev pub IsResumeText : Saved → List ℕ → Type 0
 IsResumeText saved text = text ≡ resume_text saved
 
+-- the text is the line of a trace that can be
+pub record IsYesText (trace : Trace) (text : List ℕ) : Type 0 where
+  pub verdict : HasVerdict trace Yes
+  pub text_is : text ≡ yes_line trace
+
+-- the text is the line of a trace that cannot
+pub record IsNoText (trace : Trace) (text : List ℕ) : Type 0 where
+  pub index : ℕ
+  pub verdict : HasVerdict trace (No index)
+  pub text_is : text ≡ no_line index
+
+-- the line is that of a trace's verdict
+abbrev pub IsLineOf : Trace → Judged → Type 0
+IsLineOf trace (JudgedYes line) = IsYesText trace line
+IsLineOf trace (JudgedNo line) = IsNoText trace line
+
+-- the text refuses what was read so: a trace that cannot be, and nothing else
+abbrev pub IsRefusalOf : (reading : Reading) → Said reading → List ℕ → Type 0
+IsRefusalOf (scenarios mode) scenario text = ⊥
+IsRefusalOf (first_steps steps) scenario text = ⊥
+IsRefusalOf links scenario text = ⊥
+IsRefusalOf images saved text = ⊥
+IsRefusalOf traces trace text = IsNoText trace text
+
 -- the text is one that a run of what was read may give
 abbrev pub IsTextOf : (reading : Reading) → (Mode → Scenario → Type 0) → Said reading → List ℕ → Type 0
 IsTextOf (scenarios mode) showed = IsRunText mode showed
 IsTextOf (first_steps steps) showed = IsSaveText steps
 IsTextOf links showed = IsHostText
 IsTextOf images showed = IsResumeText
+IsTextOf traces showed = IsYesText
 
 -- the status of a reply
 abbrev pub status_of : Reply → ℕ
 status_of (Ran text) = 0
+status_of (Refused text) = 1
 status_of Usage = 2
 status_of BadJson = 3
 status_of (BadScenario text) = 4
@@ -94,6 +127,7 @@ status_of NoMemory = 9
 -- what is written of it
 abbrev pub text_of : Reply → List ℕ
 text_of (Ran text) = text
+text_of (Refused text) = text
 text_of Usage = line (codes "usage")
 text_of BadJson = line (codes "bad json")
 text_of (BadScenario text) = text
@@ -104,6 +138,7 @@ text_of NoMemory = line (codes "no memory")
 -- no run is made before such a reply
 abbrev pub IsUnrun : Reply → Type 0
 IsUnrun (Ran text) = ⊥
+IsUnrun (Refused text) = ⊤
 IsUnrun Usage = ⊤
 IsUnrun BadJson = ⊤
 IsUnrun (BadScenario text) = ⊤
@@ -128,6 +163,7 @@ pub record SpellsNothing (reading : Reading) (bytes : List ℕ) (fault : Fault) 
 -- the reply is the one to a value that is read so; `Gives` says which texts a run of what was read may give
 abbrev pub IsValueReply : (reading : Reading) → (Said reading → List ℕ → Type 0) → Data → Reply → Type 0
 IsValueReply reading Gives value (Ran text) = (what : Said reading) × Says reading value what × Gives what text
+IsValueReply reading Gives value (Refused text) = (what : Said reading) × Says reading value what × IsRefusalOf reading what text
 IsValueReply reading Gives value Usage = ⊥
 IsValueReply reading Gives value BadJson = ⊥
 IsValueReply reading Gives value (BadScenario text) = (fault : Fault) × Lacks reading value fault × (text ≡ fault_line fault)
@@ -138,6 +174,7 @@ IsValueReply reading Gives value NoMemory = ⊥
 -- the reply is the one to these bytes, read so; `showed` says the run of which scenario the watch was shown, in which mode
 abbrev pub IsReplyTo : (reading : Reading) → (Mode → Scenario → Type 0) → List ℕ → Reply → Type 0
 IsReplyTo reading showed bytes (Ran text) = (what : Said reading) × SpellsOnly reading bytes what × IsTextOf reading showed what text
+IsReplyTo reading showed bytes (Refused text) = (what : Said reading) × SpellsOnly reading bytes what × IsRefusalOf reading what text
 IsReplyTo reading showed bytes Usage = ⊥
 IsReplyTo reading showed bytes BadJson = IsNoJson bytes
 IsReplyTo reading showed bytes (BadScenario text) = (fault : Fault) × SpellsNothing reading bytes fault × (text ≡ fault_line fault)
@@ -149,6 +186,8 @@ IsReplyTo reading showed bytes NoMemory = ⊤
 abbrev pub IsReplyOf : (reading : Reading) → (Mode → Scenario → Type 0) → Option (List ℕ) → Option (List ℕ) → ℕ → ℕ → Reply → Type 0
 IsReplyOf reading showed before after faults_before faults_after (Ran text) =
     (what : Said reading) × HasInput before after (λ bytes. SpellsOnly reading bytes what) × IsTextOf reading showed what text
+IsReplyOf reading showed before after faults_before faults_after (Refused text) =
+    (what : Said reading) × HasInput before after (λ bytes. SpellsOnly reading bytes what) × IsRefusalOf reading what text
 IsReplyOf reading showed before after faults_before faults_after Usage = ⊥
 IsReplyOf reading showed before after faults_before faults_after BadJson = HasInput before after IsNoJson
 IsReplyOf reading showed before after faults_before faults_after (BadScenario text) =
@@ -160,6 +199,7 @@ IsReplyOf reading showed before after faults_before faults_after NoMemory = HasR
 -- the reply is the one to `soak`
 abbrev pub IsSoakReply : (Scenario → Type 0) → ℕ → ℕ → Reply → Type 0
 IsSoakReply showed number steps (Ran text) = showed (generated number steps) × (text ≡ soak_text number steps)
+IsSoakReply showed number steps (Refused text) = ⊥
 IsSoakReply showed number steps Usage = ⊥
 IsSoakReply showed number steps BadJson = ⊥
 IsSoakReply showed number steps (BadScenario text) = ⊥
@@ -176,4 +216,5 @@ IsReplyFor showed (Some (Soak number steps)) before after faults_before faults_a
 IsReplyFor showed (Some Host) before after faults_before faults_after reply = IsReplyOf links showed before after faults_before faults_after reply
 IsReplyFor showed (Some (Save steps)) before after faults_before faults_after reply = IsReplyOf (first_steps steps) showed before after faults_before faults_after reply
 IsReplyFor showed (Some Resume) before after faults_before faults_after reply = IsReplyOf images showed before after faults_before faults_after reply
+IsReplyFor showed (Some Check) before after faults_before faults_after reply = IsReplyOf traces showed before after faults_before faults_after reply
 IsReplyFor showed None before after faults_before faults_after reply = reply ≡ Usage

@@ -1,5 +1,5 @@
 -- What the top call answers to words and an input (own choice).
-use Rattle.std.specs.Prelude.{◌≡◌, ℕ, ◌+◌, ◌-◌, ◌^◌, ◌<◌, ◌≤◌, ◌⊎◌, nat_le, List, [], ◌∷◌, ◌++◌, length, codes, IsUtf8, Bool, true, false, if◌then◌else◌, Option, Some, None, IfSome, OnSome, IsSome, Result, Ok, Err}
+use Rattle.std.specs.Prelude.{◌≡◌, ℕ, ◌+◌, ◌-◌, ◌^◌, ◌<◌, ◌≤◌, ◌⊎◌, nat_le, List, [], ◌∷◌, ◌++◌, length, codes, decimal, IsUtf8, Bool, true, false, if◌then◌else◌, Option, Some, None, IfSome, OnSome, IsSome, Result, Ok, Err}
 use Rattle.serde_json.specs.Data.{Data}
 use Rattle.serde_json.specs.Read.{read}
 use Rattle.serde_json.specs.Written.{compact_text}
@@ -27,8 +27,14 @@ use Rattle.image_read.specs.GicResume.GicSave.Image.{image_of}
 use Rattle.image_read.specs.GicResume.Reading.{IsImage, IsNoImage}
 use Rattle.run_saved.specs.SavedTake.Taken.{saved_of}
 use Rattle.run_saved.specs.SavesGoOn.Resume.{reached, resumed}
+use Rattle.gic_check.specs.Histories.{opening_guest}
+use Rattle.gic_check.specs.TraceRead.declared.trace.Trace.{Trace}
+use Rattle.gic_check.specs.TraceRead.Reading.{reading as trace_in}
+use Rattle.gic_check.specs.TraceTold.Verdict.{IsVerdict}
+use Rattle.gic_check.specs.TraceTold.declared.verdict.Verdict.{Verdict}
+use Rattle.gic_check.specs.TraceTold.declared.verdict.Verdict.TheVariants.{Yes, No}
 use Rattle.gic_top.specs.declared.command.Command.{Command}
-use Rattle.gic_top.specs.declared.command.Command.TheVariants.{Run, Threads, Soak, Host, Save, Resume}
+use Rattle.gic_top.specs.declared.command.Command.TheVariants.{Run, Threads, Soak, Host, Save, Resume, Check}
 
 -- the bytes are UTF-8, and JSON that reads as this value
 pub record Spells (bytes : List ℕ) (value : Data) : Type 0 where
@@ -39,12 +45,13 @@ pub record Spells (bytes : List ℕ) (value : Data) : Type 0 where
 abbrev pub IsNoJson : List ℕ → Type 0
 IsNoJson bytes = (value : Data) → Spells bytes value → ⊥
 
--- what an input is read as: a scenario, to be run in a mode or of which so many steps are to be done, links of physical interrupts, or an image
+-- what an input is read as: a scenario, to be run in a mode or of which so many steps are to be done, links of physical interrupts, an image, or a trace
 pub data Reading : Type 0 where
   scenarios : Mode → Reading
   first_steps : ℕ → Reading
   links : Reading
   images : Reading
+  traces : Reading
 
 -- what is read so
 abbrev pub Said : Reading → Type 0
@@ -52,6 +59,7 @@ Said (scenarios mode) = Scenario
 Said (first_steps steps) = Scenario
 Said links = HostScenario
 Said images = Saved
+Said traces = Trace
 
 -- the fault of a scenario that has fewer steps than are to be done
 abbrev pub step_range : Fault
@@ -71,6 +79,7 @@ Says (scenarios mode) value scenario = scenario_in mode value ≡ Ok scenario
 Says (first_steps steps) value scenario = first_steps_in steps value ≡ Ok scenario
 Says links value scenario = links_in value ≡ Ok scenario
 Says images value saved = IsImage value saved
+Says traces value trace = trace_in value ≡ Ok trace
 
 -- a value has this fault, read so
 abbrev pub Lacks : Reading → Data → Fault → Type 0
@@ -78,6 +87,7 @@ Lacks (scenarios mode) value fault = scenario_in mode value ≡ Err fault
 Lacks (first_steps steps) value fault = first_steps_in steps value ≡ Err fault
 Lacks links value fault = links_in value ≡ Err fault
 Lacks images value fault = IsNoImage value fault
+Lacks traces value fault = trace_in value ≡ Err fault
 
 -- the bytes spell a value that says this, read so
 pub record SpellsSaid (reading : Reading) (bytes : List ℕ) (what : Said reading) : Type 0 where
@@ -107,6 +117,10 @@ SpellsFirst steps bytes scenario = SpellsSaid (first_steps steps) bytes scenario
 abbrev pub SpellsImage : List ℕ → Saved → Type 0
 SpellsImage bytes saved = SpellsSaid images bytes saved
 
+-- the bytes spell this trace
+abbrev pub SpellsTrace : List ℕ → Trace → Type 0
+SpellsTrace bytes trace = SpellsSaid traces bytes trace
+
 -- what a run may answer: where steps are done in order, what the ideal controller answers; on threads, what it answers in a fresh history that holds each actor's steps in order
 abbrev pub MayAnswer : Mode → Scenario → RunOut → Type 0
 MayAnswer Schedule scenario out = out ≡ eager scenario
@@ -128,6 +142,18 @@ save_text steps scenario = line (compact_text (image_of (saved_of scenario steps
 unfoldable pub resume_text : Saved → List ℕ
 resume_text saved = text_saved saved (resumed saved)
 
+-- a trace has this verdict: whether it can be a record of what the actors of its guest did
+abbrev pub HasVerdict : Trace → Verdict → Type 0
+HasVerdict trace verdict = IsVerdict (opening_guest trace.guest) trace.events verdict
+
+-- the line of a trace that can be, with how many events it has
+abbrev pub yes_line : Trace → List ℕ
+yes_line trace = line (codes "yes " ++ decimal (length trace.events))
+
+-- and that of one that cannot, with the least number of its first events that cannot
+abbrev pub no_line : ℕ → List ℕ
+no_line index = line (codes "no " ++ decimal index)
+
 -- the message of a fault
 abbrev pub fault_line : Fault → List ℕ
 fault_line fault = line (codes "bad scenario: " ++ fault_text fault)
@@ -138,7 +164,7 @@ max_input = 16777216
 
 -- the statuses of the table of answers, beside which there are none
 abbrev pub statuses : List ℕ
-statuses = 0 ∷ 2 ∷ 3 ∷ 4 ∷ 5 ∷ 6 ∷ 7 ∷ 9 ∷ []
+statuses = 0 ∷ 1 ∷ 2 ∷ 3 ∷ 4 ∷ 5 ∷ 6 ∷ 7 ∷ 9 ∷ []
 
 -- a watch that was shown `before` runs was shown one more, the last; where it tells the scenario of that, it is this one
 pub record WasShown (before after : ℕ) (last : Option Scenario) (scenario : Scenario) : Type 0 where
@@ -167,6 +193,7 @@ input_reading (Some (Soak number steps)) = None
 input_reading (Some Host) = Some links
 input_reading (Some (Save steps)) = Some (first_steps steps)
 input_reading (Some Resume) = Some images
+input_reading (Some Check) = Some traces
 input_reading None = None
 
 -- whether the run that a command makes is shown to the watch
@@ -177,6 +204,7 @@ is_shown (Some (Soak number steps)) = true
 is_shown (Some Host) = false
 is_shown (Some (Save steps)) = false
 is_shown (Some Resume) = false
+is_shown (Some Check) = false
 is_shown None = false
 
 -- The rows of the table of answers to a command, or to words that are none. Where the source told the bytes that it had left before the call, they are `before`, and
@@ -221,6 +249,13 @@ pub record IsResumed (before after : Option (List ℕ)) (wrote : List ℕ → Ty
   pub read : HasInput before after (λ bytes. SpellsImage bytes saved)
   pub written : wrote (resume_text saved)
 
+-- a trace was read that can be, and its line written
+pub record IsAccepted (before after : Option (List ℕ)) (wrote : List ℕ → Type 0) : Type 0 where
+  pub trace : Trace
+  pub read : HasInput before after (λ bytes. SpellsTrace bytes trace)
+  pub verdict : HasVerdict trace Yes
+  pub written : wrote (yes_line trace)
+
 -- what a command asks for was done
 abbrev pub IsOk : Option Command → Option (List ℕ) → Option (List ℕ) → (List ℕ → Type 0) → (Mode → Scenario → Type 0) → Type 0
 IsOk (Some Run) before after wrote showed = IsRun Schedule before after wrote showed
@@ -229,7 +264,17 @@ IsOk (Some (Soak number steps)) before after wrote showed = IsSoak number steps 
 IsOk (Some Host) before after wrote showed = IsHosted before after wrote
 IsOk (Some (Save steps)) before after wrote showed = IsSave steps before after wrote
 IsOk (Some Resume) before after wrote showed = IsResumed before after wrote
+IsOk (Some Check) before after wrote showed = IsAccepted before after wrote
 IsOk None before after wrote showed = ⊥
+
+-- a trace was read that cannot be, and its line written
+pub record IsRefused (command : Option Command) (before after : Option (List ℕ)) (wrote : List ℕ → Type 0) : Type 0 where
+  pub trace : Trace
+  pub index : ℕ
+  pub asked : command ≡ Some Check
+  pub read : HasInput before after (λ bytes. SpellsTrace bytes trace)
+  pub verdict : HasVerdict trace (No index)
+  pub written : wrote (no_line index)
 
 -- the words are no command
 pub record IsUsage (command : Option Command) (wrote : List ℕ → Type 0) : Type 0 where
@@ -272,12 +317,13 @@ pub record IsNoMemory (command : Option Command) (before after : Option (List �
 abbrev pub IsRow : Option Command → Option (List ℕ) → Option (List ℕ) → ℕ → ℕ → (List ℕ → Type 0) → (Mode → Scenario → Type 0) → ℕ → Type 0
 IsRow command before after faults_before faults_after wrote showed status =
     ((status ≡ 0) × IsOk command before after wrote showed)
+    ⊎ (((status ≡ 1) × IsRefused command before after wrote)
     ⊎ (((status ≡ 2) × IsUsage command wrote)
     ⊎ (((status ≡ 3) × IsBadJson command before after wrote)
     ⊎ (((status ≡ 4) × IsBadScenario command before after wrote)
     ⊎ (((status ≡ 5) × IsReadFault command faults_before faults_after wrote)
     ⊎ (((status ≡ 7) × IsTooLong command before after wrote)
-    ⊎ ((status ≡ 9) × IsNoMemory command before after wrote))))))
+    ⊎ ((status ≡ 9) × IsNoMemory command before after wrote)))))))
 
 -- the sink's count of faults rose, and the sink took some first bytes of what another row gives
 pub record IsWriteFault (command : Option Command) (before after : Option (List ℕ)) (faults_before faults_after : ℕ) (taken_before taken_after : Option (List ℕ)) (sink_before sink_after : ℕ) (showed : Mode → Scenario → Type 0) : Type 0 where
@@ -300,9 +346,21 @@ abbrev pub IsRefusal : Option (List ℕ) → Option (List ℕ) → ℕ → ℕ �
 IsRefusal taken_before taken_after sink_before sink_after status =
     IsWritten taken_before taken_after sink_before sink_after (line (codes "no memory")) 9 status
 
+-- a trace has the status of its verdict, where memory is not refused
+abbrev pub IsJudged : Trace → ℕ → Type 0
+IsJudged trace status = ((status ≡ 0) × HasVerdict trace Yes) ⊎ (((status ≡ 1) × (index : ℕ) × HasVerdict trace (No index)) ⊎ (status ≡ 9))
+
+-- what was read so has this status: a trace that of its verdict, and all else that of a run
+abbrev pub IsAnswered : (reading : Reading) → Said reading → ℕ → Type 0
+IsAnswered (scenarios mode) scenario status = (status ≡ 0) ⊎ (status ≡ 9)
+IsAnswered (first_steps steps) scenario status = (status ≡ 0) ⊎ (status ≡ 9)
+IsAnswered links scenario status = (status ≡ 0) ⊎ (status ≡ 9)
+IsAnswered images saved status = (status ≡ 0) ⊎ (status ≡ 9)
+IsAnswered traces trace status = IsJudged trace status
+
 -- every input that is read so has its answer, where memory is not refused
 pub record HasItsAnswer (reading : Reading) (bytes : List ℕ) (status : ℕ) : Type 0 where
-  pub accepted : (what : Said reading) → SpellsSaid reading bytes what → length bytes ≤ max_input → (status ≡ 0) ⊎ (status ≡ 9)
+  pub accepted : (what : Said reading) → SpellsSaid reading bytes what → length bytes ≤ max_input → IsAnswered reading what status
   pub no_json : IsNoJson bytes → length bytes ≤ max_input → (status ≡ 3) ⊎ (status ≡ 9)
   pub faulty : (fault : Fault) → SpellsFault reading bytes fault → length bytes ≤ max_input → (status ≡ 4) ⊎ (status ≡ 9)
   pub too_long : max_input < length bytes → (status ≡ 7) ⊎ (status ≡ 9)

@@ -35,6 +35,8 @@ pub enum Command {
     },
     /// `resume`: reads an image, does the steps that are left, and writes the rest of the text.
     Resume,
+    /// `check`: reads a trace of a guest, and writes whether it can be.
+    Check,
 }
 
 /// Whether a word begins with a plus, or with a zero before another character.
@@ -127,6 +129,7 @@ impl Command {
             "host" => alone(Command::Host, arguments),
             "save" => save_with(arguments),
             "resume" => alone(Command::Resume, arguments),
+            "check" => alone(Command::Check, arguments),
             _ => None,
         }
     }

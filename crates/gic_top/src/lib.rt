@@ -2,11 +2,13 @@
 #![tactic(auto)]
 
 mod command;
+mod judge;
 mod save;
 mod shown;
 mod tool;
 
 pub use command::Command;
+pub use gic_check::{EventList, Trace, TraceEvent, Verdict, check, read_trace};
 pub use gic_host as host;
 pub use gic_host::report::{
     Bytes, Failed, Gate, MemSink, MemSource, OpenGate, Sink, Source, StdSink, StdSource, SureSink,
@@ -22,6 +24,6 @@ pub use run_thr::{ThrWatch, run as run_thr_run};
 pub use save::STEP_RANGE;
 pub use shown::{NOTHING_SHOWN, Shown};
 pub use tool::{
-    BAD_JSON, BAD_SCENARIO, MAX_INPUT, NO_MEMORY, OK, READ_FAULT, TOO_LONG, USAGE, WRITE_FAULT,
-    refuse_words, run_tool,
+    BAD_JSON, BAD_SCENARIO, CANNOT_BE, MAX_INPUT, NO_MEMORY, OK, READ_FAULT, TOO_LONG, USAGE,
+    WRITE_FAULT, refuse_words, run_tool,
 };

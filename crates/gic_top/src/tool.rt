@@ -8,11 +8,13 @@ ghost use Rattle.gic_host.specs.ScnRead.ScnBase.Good.{IsGood};
 ghost use Rattle.gic_host.specs.GicReport.GicSoak.Generated.{generated};
 ghost use Rattle.gic_top.specs.declared.command.Command.TheVariants.{Host};
 ghost use Rattle.gic_top.specs.Command.{command_in, IsInBounds};
-ghost use Rattle.gic_top.specs.Tool.{statuses, scenarios, first_steps, links, images, input_reading, is_shown, soak_text, fault_line as line_of, MayAnswer, Showed, most_runs, IsOk, IsUsage, IsBadJson, IsBadScenario, IsReadFault, IsWriteFault, IsTooLong, IsNoMemory, IsOutcome, IsWritten, IsRefusal, HasItsAnswer, WasShown};
-ghost use Rattle.gic_top.specs.Reply.{mode_of, reading_of, is_watched, status_of, text_of, IsWay, IsAsked, IsRunText, IsSaveText, IsHostText, IsResumeText, AreApart, IsValueReply, IsReplyTo, IsReplyOf, IsSoakReply, IsReplyFor, IsUnrun};
+ghost use Rattle.gic_top.specs.Tool.{statuses, scenarios, first_steps, links, images, traces, input_reading, is_shown, soak_text, fault_line as line_of, MayAnswer, Showed, most_runs, IsOk, IsRefused, IsUsage, IsBadJson, IsBadScenario, IsReadFault, IsWriteFault, IsTooLong, IsNoMemory, IsOutcome, IsWritten, IsRefusal, HasItsAnswer, WasShown};
+ghost use Rattle.gic_top.specs.Reply.{mode_of, reading_of, is_watched, status_of, text_of, IsWay, IsAsked, IsRunText, IsSaveText, IsHostText, IsResumeText, IsYesText, AreApart, IsValueReply, IsReplyTo, IsReplyOf, IsSoakReply, IsReplyFor, IsUnrun};
 
 use crate::command::Command;
+use crate::judge::{Judged, judge};
 use crate::save::{read_first, resumed_text, saved_line};
+use gic_check::read_trace;
 use gic_host::report::{
     Bytes, Gate, ReadError, Sink, Source, generate, read_all, soak_line, text, write_all,
 };
@@ -29,8 +31,10 @@ use std::thread::Threads;
 /// The most bytes of an input.
 pub const MAX_INPUT: usize = 16_777_216;
 
-/// The status of a run whose text was written.
+/// The status of a run whose text was written, and of a trace that can be.
 pub const OK: u8 = 0;
+/// The status of a trace that cannot be.
+pub const CANNOT_BE: u8 = 1;
 /// The status where the words are no command.
 pub const USAGE: u8 = 2;
 /// The status where the input is no JSON.
@@ -49,8 +53,10 @@ pub const NO_MEMORY: u8 = 9;
 /// What the tool has to write.
 #[derive(Drop)]
 enum Reply {
-    /// The text of a run or of the rest of one, the line of a generated scenario's, or an image.
+    /// The text of a run or of the rest of one, the line of a generated scenario's, an image, or the line of a trace that can be.
     Ran(Bytes),
+    /// The line of a trace that cannot be.
+    Refused(Bytes),
     Usage,
     BadJson,
     /// The line of a scenario's fault.
@@ -66,6 +72,7 @@ impl Reply {
     {
         match self {
             Reply::Ran(_) => OK,
+            Reply::Refused(_) => CANNOT_BE,
             Reply::Usage => USAGE,
             Reply::BadJson => BAD_JSON,
             Reply::BadScenario(_) => BAD_SCENARIO,
@@ -79,7 +86,7 @@ impl Reply {
         ensures { result.now ≡ text_of self.now }
     {
         match self {
-            Reply::Ran(text) | Reply::BadScenario(text) => text.as_slice(),
+            Reply::Ran(text) | Reply::Refused(text) | Reply::BadScenario(text) => text.as_slice(),
             Reply::Usage => b"usage\n",
             Reply::BadJson => b"bad json\n",
             Reply::ReadFault => b"read fault\n",
@@ -214,6 +221,8 @@ enum Asked {
     LinksRun,
     /// An image, of which the rest is done.
     ImageRun,
+    /// A trace, to be judged.
+    TraceCheck,
 }
 
 /// The reply to a value that is read as a scenario. A run is shown to the watch.
@@ -273,6 +282,23 @@ fn resume_reply<R: Wait>(rt: &R, alloc: Global, value: &Value) -> Result<Reply, 
     }
 }
 
+/// The reply to a value that is read as a trace.
+fn check_reply(alloc: Global, value: &Value) -> Result<Reply, NoMemory>
+    ensures { IfOk result (IsValueReply traces IsYesText (view value.now)) }
+{
+    let trace = match read_trace(alloc, value) {
+        Ok(trace) => trace,
+        Err(ReadRefusal::Bad(fault)) => {
+            return Ok(Reply::BadScenario(fault_line(alloc, fault)?));
+        }
+        Err(ReadRefusal::NoMemory) => return Err(NoMemory),
+    };
+    match judge(alloc, &trace)? {
+        Judged::Yes(line) => Ok(Reply::Ran(line)),
+        Judged::No(line) => Ok(Reply::Refused(line)),
+    }
+}
+
 /// The reply to the bytes of an input. A run of a whole scenario is shown to the watch, and no other.
 fn reply_to<R: Threads + Wait + Sync, G: Gate + Sync, W: SeqWatch + ThrWatch>(
     rt: &R,
@@ -299,6 +325,7 @@ fn reply_to<R: Threads + Wait + Sync, G: Gate + Sync, W: SeqWatch + ThrWatch>(
         Asked::FirstSteps(steps) => save_reply(rt, alloc, steps, &value),
         Asked::LinksRun => links_reply(alloc, &value),
         Asked::ImageRun => resume_reply(rt, alloc, &value),
+        Asked::TraceCheck => check_reply(alloc, &value),
     }
 }
 
@@ -362,6 +389,7 @@ fn reply_for<R: Threads + Wait + Sync, S: Source, G: Gate + Sync, W: SeqWatch + 
             reply_of(rt, alloc, Asked::FirstSteps(steps), source, gate, watch)
         }
         Some(Command::Resume) => reply_of(rt, alloc, Asked::ImageRun, source, gate, watch),
+        Some(Command::Check) => reply_of(rt, alloc, Asked::TraceCheck, source, gate, watch),
         None => Reply::Usage,
     }
 }
@@ -394,7 +422,9 @@ pub fn refuse_words<K: Sink>(sink: &mut K) -> u8
 /// with their links to virtual ones from the source, does the steps with them on list registers, and writes their text; it is shown to no
 /// watch. `save STEP` reads a scenario, does its first steps as `run` does, and writes one line, the image of what is saved then; where it has
 /// fewer steps, that is its fault, with the code [`STEP_RANGE`](crate::STEP_RANGE). `resume` reads an image, and writes what `run` would have
-/// written after those steps. Both are shown to no watch. A text or a message is built whole before its first byte is written. The words are those after the program's name. The status is [`OK`] or another of this module's.
+/// written after those steps. Both are shown to no watch. `check` reads a trace of one guest, and writes `yes` and the number of its events where it can
+/// be a record of what the guest's actors did, with the status [`OK`], and else `no` and the least number of its first events that cannot, with
+/// [`CANNOT_BE`]; it makes no run. A text or a message is built whole before its first byte is written. The words are those after the program's name. The status is [`OK`] or another of this module's.
 pub fn run_tool<
     R: Threads + Wait + Sync,
     S: Source,
@@ -423,6 +453,8 @@ pub fn run_tool<
     ensures ok { result ≡ 0 →
         IsOk (command_in words.now) (S.left source.old) (S.left source.new) (Grew (K.taken sink.old) (K.taken sink.new))
         (Showed W.scheduled W.last_schedule W.threaded W.last_threads watch.old watch.new) }
+    ensures refused { result ≡ 1 →
+        IsRefused (command_in words.now) (S.left source.old) (S.left source.new) (Grew (K.taken sink.old) (K.taken sink.new)) }
     ensures usage { result ≡ 2 → IsUsage (command_in words.now) (Grew (K.taken sink.old) (K.taken sink.new)) }
     ensures bad_json { result ≡ 3 →
         IsBadJson (command_in words.now) (S.left source.old) (S.left source.new) (Grew (K.taken sink.old) (K.taken sink.new)) }

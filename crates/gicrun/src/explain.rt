@@ -1,12 +1,12 @@
 //! What is told to people, on the standard error, beside what the sink takes.
-use gic_top::{BAD_IMAGE, BAD_JSON, BAD_SCENARIO, Command, USAGE, read_image};
+use gic_top::{BAD_IMAGE, BAD_JSON, BAD_SCENARIO, Command, USAGE, read_image, read_trace};
 use scn_hint::{Cause, Mode, ReadRefusal, code_name, hint_of, host_hint_of, read, read_host};
 use serde_json::Value;
 use std::alloc::Global;
 use std::io::{Eprint, Result};
 
 const HOW: &str =
-    "usage: gicrun run | gicrun threads P Q | gicrun soak N STEPS | gicrun host | gicrun save STEP | gicrun resume (decimal numbers: P PEs, 1 to 8, with up to Q operations of a vCPU while it is on one, 1 to 1000; N from 0 to 2^64 - 1, STEPS and STEP from 0 to 100000; run, threads and save read a scenario from the standard input, host links of physical interrupts and their steps, resume what save wrote)";
+    "usage: gicrun run | gicrun threads P Q | gicrun soak N STEPS | gicrun host | gicrun save STEP | gicrun resume | gicrun check (decimal numbers: P PEs, 1 to 8, with up to Q operations of a vCPU while it is on one, 1 to 1000; N from 0 to 2^64 - 1, STEPS and STEP from 0 to 100000; run, threads and save read a scenario from the standard input, host links of physical interrupts and their steps, resume what save wrote, check a trace)";
 
 /// Tells why a value is no scenario in this mode.
 fn explain_scenario(rt: &impl Eprint, alloc: Global, mode: Mode, value: &Value) -> Result<()> {
@@ -53,6 +53,18 @@ fn explain_image(rt: &impl Eprint, alloc: Global, value: &Value) -> Result<()> {
     }
 }
 
+/// Tells why a value is no trace.
+fn explain_trace(rt: &impl Eprint, alloc: Global, value: &Value) -> Result<()> {
+    let Err(ReadRefusal::Bad(fault)) = read_trace(alloc, value) else {
+        return Ok(());
+    };
+    let name = code_name(fault.code);
+    match fault.step {
+        0 => eprintln!(rt; "gicrun: the trace: {name}"),
+        event => eprintln!(rt; "gicrun: event {event}: {name}"),
+    }
+}
+
 /// Tells why these bytes are not what a command reads.
 fn explain_input(rt: &impl Eprint, alloc: Global, command: Command, bytes: &[u8]) -> Result<()> {
     let value = match Value::from_slice(alloc, bytes) {
@@ -70,6 +82,7 @@ fn explain_input(rt: &impl Eprint, alloc: Global, command: Command, bytes: &[u8]
         Command::Host => explain_links(rt, alloc, &value),
         Command::Save { steps } => explain_first(rt, alloc, steps, &value),
         Command::Resume => explain_image(rt, alloc, &value),
+        Command::Check => explain_trace(rt, alloc, &value),
         Command::Soak { .. } => Ok(()),
     }
 }

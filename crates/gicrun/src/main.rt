@@ -1,5 +1,5 @@
 //! Runs a scenario of guests, devices and interrupts, or of physical interrupts that are linked to virtual ones, and writes what the guests read; or saves a
-//! run in its middle, and goes on with one that was saved.
+//! run in its middle, and goes on with one that was saved; or judges a record of what a guest's actors did.
 #![tactic(auto)]
 
 ghost use Rattle.std.specs.Prelude.{◌≡◌, ◌≢◌, ◌<◌, ◌⊎◌, ℕ, Some, None, Contains, IfOk, IfErr, IfSome};

@@ -2,7 +2,7 @@ use Rattle.std.proofs.Common.{◌≡◌, Some, None, false, ap, subst}
 use Rattle.gic_top.specs.Command.{command_in}
 use Rattle.gic_top.specs.Reply.{IsReplyFor}
 use Rattle.gic_top.specs.Tool.{input_reading, is_shown, Showed}
-use Rattle.gic_top.proofs.ReplyLemmas.{outcome, closed, ok_row, usage_row, bad_json_row, bad_scenario_row, read_fault_row, write_fault_row, too_long_row, no_memory_row, no_command_status, soak_status, its_answer, unrun}
+use Rattle.gic_top.proofs.ReplyLemmas.{outcome, closed, ok_row, refused_row, usage_row, bad_json_row, bad_scenario_row, read_fault_row, write_fault_row, too_long_row, no_memory_row, no_command_status, soak_status, its_answer, unrun}
 use Rattle.gic_top.proofs.tool.run_tool.Goals as goal
 
 pub returns : goal.returns
@@ -22,6 +22,7 @@ returns g c =
       closed = closed status o;
       outcome = o;
       ok = ok_row status o;
+      refused = refused_row status o;
       usage = usage_row status o;
       bad_json = bad_json_row status o;
       bad_scenario = bad_scenario_row status o;
