@@ -3,7 +3,7 @@ ghost use Rattle.std.specs.Prelude.{◌≤◌, IsTrue};
 ghost use Rattle.pe_its.specs.PeMem.Call.{CanAccess};
 
 use gic_msi::Port;
-use pe_its::{its_op, memory_op, redist_op};
+use pe_its::{dist_op, its_op, memory_op, redist_op};
 use port_rest::is_off;
 use std::sync::Wait;
 
@@ -52,6 +52,24 @@ const STORES: [(u32, u64); 30] = [
 /// GITS_CWRITER behind the commands.
 const CWRITER: u64 = 0x140;
 
+/// GICD_ISENABLER1 and GICD_ICENABLER1, and all of the SPIs 32 to 63 in them.
+const ISENABLER1: u32 = 0x104;
+
+const ICENABLER1: u32 = 0x184;
+
+const ALL: u64 = 0xFFFF_FFFF;
+
+/// What a vCPU writes over and over.
+#[derive(Clone, Copy)]
+pub(crate) enum Written {
+    /// GITS_CBASER, which starts no command.
+    Cbaser,
+    /// GICD_ISENABLER1 and GICD_ICENABLER1 in turn, each of which changes 32 interrupts.
+    Enables,
+    /// GICD_ICENABLER1, which changes none.
+    Kept,
+}
+
 /// Each vCPU has the configuration bytes.
 fn set_tables<P: Port, R: Wait>(rt: &R, port: &mut P)
     requires { CanAccess (P.seen port.old) }
@@ -93,12 +111,24 @@ fn set_up<P: Port, R: Wait>(rt: &R, port: &mut P)
     its_op(rt, port, 0x88, 8, Some(CWRITER));
 }
 
-/// Writes GITS_CBASER so often, which starts no command.
-fn write_all<P: Port, R: Wait>(rt: &R, port: &mut P, writes: u32)
+/// Makes the write of this number.
+fn write<P: Port, R: Wait>(rt: &R, port: &mut P, written: Written, number: u32)
+    requires { CanAccess (P.seen port.old) }
+    ensures { CanAccess (P.seen port.new) }
+{
+    match written {
+        Written::Cbaser => its_op(rt, port, 0x80, 8, Some(CBASER)),
+        Written::Enables if number % 2 == 0 => dist_op(rt, port, ISENABLER1, 4, Some(ALL)),
+        Written::Enables | Written::Kept => dist_op(rt, port, ICENABLER1, 4, Some(ALL)),
+    };
+}
+
+/// Writes so often.
+fn write_all<P: Port, R: Wait>(rt: &R, port: &mut P, written: Written, writes: u32)
     requires { CanAccess (P.seen port.old) }
 {
-    for _ in 0..writes {
-        its_op(rt, port, 0x80, 8, Some(CBASER));
+    for number in 0..writes {
+        write(rt, port, written, number);
     }
 }
 
@@ -116,13 +146,13 @@ pub(crate) fn try_set_up<P: Port, R: Wait>(rt: &R, port: &mut P) {
     }
 }
 
-/// Writes GITS_CBASER as any actor: how often, which is never where it may not.
-pub(crate) fn writes<P: Port, R: Wait>(rt: &R, port: &mut P, count: u32) -> u64
+/// Writes as any actor: how often, which is never where it may not.
+pub(crate) fn writes<P: Port, R: Wait>(rt: &R, port: &mut P, written: Written, count: u32) -> u64
     ensures { result ≤ count }
 {
     if !can_access(port) {
         return 0;
     }
-    write_all(rt, port, count);
+    write_all(rt, port, written, count);
     u64::from(count)
 }

@@ -125,7 +125,7 @@ fn work<R: Threads + Wait + Sync>(
     let mut root = root;
     let mut first = split(words, &mut root, vcpu());
     let (kind, is_four) = match job {
-        Job::Write => return writes(rt, &mut first, count),
+        Job::Write(written) => return writes(rt, &mut first, written, count),
         Job::One(kind) => (kind, false),
         Job::Four(kind) => (kind, true),
     };

@@ -5,6 +5,7 @@ ghost use Rattle.gic_msi.specs.Words.{Spi, has_interrupt};
 ghost use Rattle.gic_msi.specs.Core.{shape_of};
 ghost use Rattle.gic_msi.specs.DevPort.Device.{CanCall};
 
+use crate::board::Written;
 use gic_msi::{Key, Port, message, msi, send_msi};
 use port_rest::is_settled;
 use port_table::key_of;
@@ -30,8 +31,8 @@ pub(crate) enum Job {
     One(Kind),
     /// All four devices do.
     Four(Kind),
-    /// A vCPU writes GITS_CBASER.
-    Write,
+    /// A vCPU writes a register.
+    Write(Written),
 }
 
 /// The SPI and the event of the first device; the others have the next ones.
