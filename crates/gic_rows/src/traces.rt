@@ -17,19 +17,22 @@ struct Judged {
 
 /// A trace of a vCPU, SPI 40 in group 1 at priority 0xa0, and a device, with these events.
 macro_rules! of_one {
-    ($events:expr) => {
+    ($($events:literal),*) => {
         concat!(
             r#"{"guest":{"vcpus":1,"spis":32,"on":true,"irqs":[{"id":40}]},"events":["#,
-            $events,
+            $($events,)*
             "]}"
         )
     };
 }
 
-/// A message for SPI 40 that has ended, and a read of ICC_IAR1_EL1 that begins.
+/// The same, where a message for SPI 40 has ended and a read of ICC_IAR1_EL1 begins before these events.
 macro_rules! sent {
-    () => {
-        r#"{"by":["d",0],"begin":{"message":40}},{"by":["d",0],"raise":"40"},{"by":["d",0],"end":null},{"by":["v",0],"begin":{"icc":"IAR1"}}"#
+    ($events:literal) => {
+        of_one!(
+            r#"{"by":["d",0],"begin":{"message":40}},{"by":["d",0],"raise":"40"},{"by":["d",0],"end":null},{"by":["v",0],"begin":{"icc":"IAR1"}},"#,
+            $events
+        )
     };
 }
 
@@ -37,11 +40,11 @@ macro_rules! sent {
 const TRACES: [Judged; 9] = [
     Judged {
         shows: "a message that is acknowledged", status: OK, text: "yes 7\n",
-        input: of_one!(concat!(sent!(), r#",{"by":["v",0],"reach":"40"},{"by":["v",0],"cpu":["IAR1",null,40]},{"by":["v",0],"end":40}"#)),
+        input: sent!(r#"{"by":["v",0],"reach":"40"},{"by":["v",0],"cpu":["IAR1",null,40]},{"by":["v",0],"end":40}"#),
     },
     Judged {
         shows: "one that is overlooked", status: CANNOT_BE, text: "no 5\n",
-        input: of_one!(concat!(sent!(), r#",{"by":["v",0],"cpu":["IAR1",null,1023]}"#)),
+        input: sent!(r#"{"by":["v",0],"cpu":["IAR1",null,1023]}"#),
     },
     Judged {
         shows: "no events", status: OK, text: "yes 0\n", input: of_one!(""),
